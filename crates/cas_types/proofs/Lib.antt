@@ -1,0 +1,4 @@
+pub mod OrderLaws
+pub mod Fronts
+pub mod Totals
+pub mod Utf8

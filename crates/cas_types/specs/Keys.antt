@@ -1,0 +1,36 @@
+-- The bytes of a partition key, and the shard that it belongs to.
+-- CQL documentation, "Data definition: the partition key"; the spelling of a key of several columns is Cassandra's composite, the shard is own.
+use Rattle.std.specs.Prelude.{ℕ, ◌==◌, ◌^◌, ◌-◌, ◌%◌, nat_lt, List, [], ◌∷◌, ◌++◌, length, min, Option, None, Some, if◌then◌else◌}
+use Rattle.std.specs.List.{flat_map, sum}
+use Rattle.std.specs.Int.{w16, to_be_bytes}
+use Rattle.cas_types.specs.declared.key.KeyFault.{KeyFault}
+use Rattle.cas_types.specs.declared.key.KeyFault.TheVariants.{Empty, TooLong}
+
+-- the values of a key's columns so far, and how many columns there are
+pub record KeyParts : Type 0 where
+  pub parts : ℕ
+  pub values : List (List ℕ)
+
+-- one column of several: its length in two bytes, most significant first, the value, and a zero byte
+abbrev pub component : List ℕ → List ℕ
+component value = to_be_bytes w16 (length value) ++ (value ++ (0 ∷ []))
+
+abbrev pub composite_key : List (List ℕ) → List ℕ
+composite_key values = flat_map component values
+
+-- a key of one column is that column's value
+abbrev pub key_of : List (List ℕ) → List ℕ
+key_of [] = composite_key []
+key_of (v ∷ []) = v
+key_of (v ∷ w ∷ vs) = composite_key (v ∷ w ∷ vs)
+
+-- a key has 1 to 65,535 bytes
+abbrev pub refusal : List ℕ → Option KeyFault
+refusal key =
+    if length key == 0 then Some Empty
+    else if nat_lt 65535 (length key) then Some (TooLong (min (length key) (2 ^ 64 - 1)))
+    else None
+
+-- the sum of a key's bytes, modulo the number of shards
+abbrev pub shard_of : List ℕ → ℕ → ℕ
+shard_of key shards = sum key % shards

@@ -1,0 +1,4 @@
+pub mod Values
+pub mod Orders
+pub mod Keys
+pub mod Laws

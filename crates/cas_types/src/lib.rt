@@ -1,0 +1,28 @@
+//! The values that every layer speaks of: byte strings, texts, lists, the native types with their
+//! order, a table's schema, the bytes of a partition key and the shard that a key belongs to.
+#![tactic(auto)]
+
+mod bytes;
+mod key;
+mod laws;
+mod list;
+mod mem;
+mod schema;
+mod shard;
+mod tag;
+#[cfg(test)]
+mod tests;
+mod text;
+mod uuid_order;
+mod values;
+
+pub use bytes::{Bytes, compare_bytes};
+pub use key::{KEY_LIMIT, KeyBuilder, KeyFault};
+pub use laws::value_orders;
+pub use list::List;
+pub use mem::Mem;
+pub use schema::{Column, Kind, Options, Shape, Strategy, TableSchema, Unit};
+pub use shard::shard_of;
+pub use tag::TypeTag;
+pub use text::Text;
+pub use values::{BadValue, check, compare};

@@ -1,0 +1,17 @@
+use std::alloc::{AllocError, AllocFailed};
+
+/// The call wanted more memory than there was.
+#[derive(Clone, Copy, Debug, PartialEq, Eq)]
+pub struct Mem;
+
+impl From<AllocError> for Mem {
+    fn from(_: AllocError) -> Self {
+        Mem
+    }
+}
+
+impl<T: Drop> From<AllocFailed<T>> for Mem {
+    fn from(_: AllocFailed<T>) -> Self {
+        Mem
+    }
+}

@@ -1,0 +1,17 @@
+/// A native type of CQL.
+#[derive(Clone, Copy, Debug, PartialEq, Eq)]
+pub enum TypeTag {
+    Ascii,
+    BigInt,
+    Blob,
+    Boolean,
+    Date,
+    Int,
+    SmallInt,
+    Text,
+    Time,
+    Timestamp,
+    TimeUuid,
+    TinyInt,
+    Uuid,
+}

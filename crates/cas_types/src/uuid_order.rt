@@ -1,0 +1,46 @@
+//! The order of uuids, and what it goes by.
+
+ghost use Rattle.std.specs.Prelude.{◌≡◌};
+ghost use Rattle.cas_types.specs.Values.{by_version, uuid_version as uuid_version_of, uuid_time as uuid_time_of};
+
+use crate::bytes::compare_bytes;
+use std::cmp::Ordering;
+
+/// By version, then for version 1 by time, then by bytes.
+pub(crate) fn compare_uuids(a: &[u8], b: &[u8]) -> Ordering
+    ensures { result ≡ by_version a.now b.now }
+{
+    let versions = uuid_version(a).cmp(&uuid_version(b));
+    let times = uuid_time(a).cmp(&uuid_time(b));
+    versions.then(times.then(compare_bytes(a, b)))
+}
+
+/// The version number of a uuid, where there are 16 bytes.
+pub(crate) fn uuid_version(bytes: &[u8]) -> Option<u8>
+    ensures { result ≡ uuid_version_of bytes.now }
+{
+    if bytes.len() == 16 {
+        Some(bytes[6] / 16)
+    } else {
+        None
+    }
+}
+
+/// The 60-bit time of a uuid of version 1.
+pub(crate) fn uuid_time(bytes: &[u8]) -> Option<u64>
+    ensures { result ≡ uuid_time_of bytes.now }
+{
+    match uuid_version(bytes) {
+        Some(1) => Some(u64::from_be_bytes([
+            bytes[6] % 16,
+            bytes[7],
+            bytes[4],
+            bytes[5],
+            bytes[0],
+            bytes[1],
+            bytes[2],
+            bytes[3],
+        ])),
+        _ => None,
+    }
+}

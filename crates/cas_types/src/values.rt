@@ -1,0 +1,132 @@
+//! Which bytes are a value of a native type, and the order of two values.
+
+ghost use Rattle.std.specs.Prelude.{◌≡◌, is_ok};
+ghost use Rattle.std.specs.Int.{w8, w16, w32, w64};
+ghost use Rattle.cas_types.specs.Values.{is_value as is_value_of, value_cmp, number, day_number, is_ascii_text, is_time as is_time_of};
+ghost use Rattle.std.specs.Str.{is_utf8};
+
+use crate::bytes::compare_bytes;
+use crate::tag::TypeTag;
+use crate::uuid_order::{compare_uuids, uuid_version};
+use std::cmp::Ordering;
+
+/// The bytes are no value of the type.
+#[derive(Clone, Copy, Debug, PartialEq, Eq)]
+pub struct BadValue;
+
+/// Whether the bytes are a value of the type.
+pub fn check(tag: TypeTag, bytes: &[u8]) -> Result<(), BadValue>
+    ensures { is_ok result ≡ is_value_of tag bytes.now }
+{
+    if is_value(tag, bytes) {
+        Ok(())
+    } else {
+        Err(BadValue)
+    }
+}
+
+fn is_value(tag: TypeTag, bytes: &[u8]) -> bool
+    ensures { result ≡ is_value_of tag bytes.now }
+{
+    match tag {
+        TypeTag::Ascii => is_ascii(bytes),
+        TypeTag::Blob => true,
+        TypeTag::Boolean => matches!(bytes, [0] | [1]),
+        TypeTag::TinyInt => bytes.len() == 1,
+        TypeTag::SmallInt => bytes.len() == 2,
+        TypeTag::Date | TypeTag::Int => bytes.len() == 4,
+        TypeTag::BigInt | TypeTag::Timestamp => bytes.len() == 8,
+        TypeTag::Time => is_time(bytes),
+        TypeTag::Text => is_text(bytes),
+        TypeTag::TimeUuid => uuid_version(bytes) == Some(1),
+        TypeTag::Uuid => bytes.len() == 16,
+    }
+}
+
+/// The order of two values of the type. Bytes that are no value of it have their place too, so
+/// that the order is total on all bytes.
+pub fn compare(tag: TypeTag, a: &[u8], b: &[u8]) -> Ordering
+    ensures { result ≡ value_cmp tag a.now b.now }
+{
+    match tag {
+        TypeTag::Ascii | TypeTag::Blob | TypeTag::Boolean | TypeTag::Text => compare_bytes(a, b),
+        TypeTag::TinyInt => tiny(a).cmp(&tiny(b)).then(compare_bytes(a, b)),
+        TypeTag::SmallInt => small(a).cmp(&small(b)).then(compare_bytes(a, b)),
+        TypeTag::Int => int(a).cmp(&int(b)).then(compare_bytes(a, b)),
+        TypeTag::BigInt | TypeTag::Time | TypeTag::Timestamp => {
+            big(a).cmp(&big(b)).then(compare_bytes(a, b))
+        }
+        TypeTag::Date => day(a).cmp(&day(b)).then(compare_bytes(a, b)),
+        TypeTag::TimeUuid | TypeTag::Uuid => compare_uuids(a, b),
+    }
+}
+
+fn is_ascii(bytes: &[u8]) -> bool
+    ensures { result ≡ is_ascii_text bytes.now }
+{
+    bytes.iter().all(|byte| *byte < 128)
+}
+
+fn is_text(bytes: &[u8]) -> bool
+    ensures { result ≡ is_utf8 bytes.now }
+{
+    std::str::from_utf8(bytes).is_ok()
+}
+
+fn is_time(bytes: &[u8]) -> bool
+    ensures { result ≡ is_time_of bytes.now }
+{
+    match bytes {
+        [a, b, c, d, e, f, g, h] => {
+            u64::from_be_bytes([*a, *b, *c, *d, *e, *f, *g, *h]) <= 86_399_999_999_999
+        }
+        _ => false,
+    }
+}
+
+fn tiny(bytes: &[u8]) -> Option<i8>
+    ensures { result ≡ number w8 bytes.now }
+{
+    match bytes {
+        [a] => Some(i8::from_be_bytes([*a])),
+        _ => None,
+    }
+}
+
+fn small(bytes: &[u8]) -> Option<i16>
+    ensures { result ≡ number w16 bytes.now }
+{
+    match bytes {
+        [a, b] => Some(i16::from_be_bytes([*a, *b])),
+        _ => None,
+    }
+}
+
+fn int(bytes: &[u8]) -> Option<i32>
+    ensures { result ≡ number w32 bytes.now }
+{
+    match bytes {
+        [a, b, c, d] => Some(i32::from_be_bytes([*a, *b, *c, *d])),
+        _ => None,
+    }
+}
+
+fn big(bytes: &[u8]) -> Option<i64>
+    ensures { result ≡ number w64 bytes.now }
+{
+    match bytes {
+        [a, b, c, d, e, f, g, h] => {
+            Some(i64::from_be_bytes([*a, *b, *c, *d, *e, *f, *g, *h]))
+        }
+        _ => None,
+    }
+}
+
+fn day(bytes: &[u8]) -> Option<u32>
+    ensures { result ≡ day_number bytes.now }
+{
+    match bytes {
+        [a, b, c, d] => Some(u32::from_be_bytes([*a, *b, *c, *d])),
+        _ => None,
+    }
+}
