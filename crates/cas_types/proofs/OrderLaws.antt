@@ -1,16 +1,15 @@
 -- The order of the values of each type is total, and only equal values tie.
-use Rattle.std.proofs.Common.{◌≡◌, ℕ, ℤ, List, Option, None, Some, true, refl, ap}
+use Rattle.std.proofs.Common.{◌≡◌, ℕ, List, ap}
 use Rattle.std.proofs.lemmas.Bool.{true≢false}
 use Rattle.std.specs.declared.cmp.Ordering.{Ordering}
 use Rattle.std.specs.declared.cmp.Ordering.TheVariants.{Less, Equal, Greater}
-use Rattle.std.specs.Ordering.{is_lt, is_gt, ordering_then, on, then_cmp, nat_cmp, int_cmp}
-use Rattle.std.specs.Option.{option_cmp}
+use Rattle.std.specs.Ordering.{is_lt, is_gt, ordering_then, on, then_cmp}
 use Rattle.std.specs.Cmp.{IsTotalOrder}
 use Rattle.std.specs.Cmp.Lexicographic.{options_total}
 use Rattle.std.proofs.lemmas.Cmp.{then_total, on_total, nat_cmp_total, int_cmp_total, nat_list_cmp_total}
-use Rattle.std.specs.FinMap.{IsAntisymmetric, nat_cmp-IsAntisymmetric, slice_cmp-IsAntisymmetric}
+use Rattle.std.specs.FinMap.{nat_cmp-IsAntisymmetric, slice_cmp-IsAntisymmetric}
 use Rattle.std.specs.Int.{w8, w16, w32, w64}
-use Rattle.cas_types.specs.Values.{bytes_cmp, number, day_number, uuid_version, uuid_time, value_cmp}
+use Rattle.cas_types.specs.Values.{bytes_cmp, number, day_number, uuid_version, uuid_time}
 use Rattle.cas_types.specs.Orders.{Orders}
 use Rattle.cas_types.specs.Laws.{ValueOrders}
 use Rattle.cas_types.specs.declared.tag.TypeTag.TheVariants.{Ascii, BigInt, Blob, Boolean, Date, Int, SmallInt, Text, Time, Timestamp, TimeUuid, TinyInt, Uuid}

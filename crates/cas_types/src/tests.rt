@@ -34,7 +34,11 @@ fn each_type_takes_its_values_alone(rt: HostRuntime) {
         (TypeTag::Text, b"", true),
         (TypeTag::Text, b"a\0\x7f", true),
         (TypeTag::Text, b"\xc2\x80\xdf\xbf", true),
-        (TypeTag::Text, b"\xe0\xa0\x80\xed\x9f\xbf\xee\x80\x80\xef\xbf\xbf", true),
+        (
+            TypeTag::Text,
+            b"\xe0\xa0\x80\xed\x9f\xbf\xee\x80\x80\xef\xbf\xbf",
+            true,
+        ),
         (TypeTag::Text, b"\xf0\x90\x80\x80\xf4\x8f\xbf\xbf", true),
         (TypeTag::Text, b"\x80", false),
         (TypeTag::Text, b"\xc3", false),
@@ -51,16 +55,36 @@ fn each_type_takes_its_values_alone(rt: HostRuntime) {
         (TypeTag::Time, b"\0\0\0\0\0\0\0", false),
         (TypeTag::Timestamp, b"\x80\0\0\0\0\0\0\0", true),
         (TypeTag::Timestamp, b"\0\0\0\0\0\0\0", false),
-        (TypeTag::TimeUuid, b"\0\0\0\0\0\0\x1f\0\0\0\0\0\0\0\0\0", true),
-        (TypeTag::TimeUuid, b"\0\0\0\0\0\0\x40\0\0\0\0\0\0\0\0\0", false),
-        (TypeTag::TimeUuid, b"\0\0\0\0\0\0\x01\0\0\0\0\0\0\0\0\0", false),
-        (TypeTag::TimeUuid, b"\0\0\0\0\0\0\x10\0\0\0\0\0\0\0\0", false),
+        (
+            TypeTag::TimeUuid,
+            b"\0\0\0\0\0\0\x1f\0\0\0\0\0\0\0\0\0",
+            true,
+        ),
+        (
+            TypeTag::TimeUuid,
+            b"\0\0\0\0\0\0\x40\0\0\0\0\0\0\0\0\0",
+            false,
+        ),
+        (
+            TypeTag::TimeUuid,
+            b"\0\0\0\0\0\0\x01\0\0\0\0\0\0\0\0\0",
+            false,
+        ),
+        (
+            TypeTag::TimeUuid,
+            b"\0\0\0\0\0\0\x10\0\0\0\0\0\0\0\0",
+            false,
+        ),
         (TypeTag::TinyInt, b"\xff", true),
         (TypeTag::TinyInt, b"", false),
         (TypeTag::TinyInt, b"\0\0", false),
         (TypeTag::Uuid, b"\0\0\0\0\0\0\x40\0\0\0\0\0\0\0\0\0", true),
         (TypeTag::Uuid, b"\0\0\0\0\0\0\x40\0\0\0\0\0\0\0\0", false),
-        (TypeTag::Uuid, b"\0\0\0\0\0\0\x40\0\0\0\0\0\0\0\0\0\0", false),
+        (
+            TypeTag::Uuid,
+            b"\0\0\0\0\0\0\x40\0\0\0\0\0\0\0\0\0\0",
+            false,
+        ),
     ];
     for (tag, bytes, wanted) in cases {
         assert_eq!(rt; check(tag, bytes).is_ok(), wanted, "{tag:?} {bytes:?}");
@@ -72,7 +96,11 @@ fn each_type_takes_its_values_alone(rt: HostRuntime) {
 fn values_stand_in_their_order(rt: HostRuntime) {
     let cases: [(TypeTag, &[u8], &[u8]); 20] = [
         (TypeTag::Ascii, b"Z", b"a"),
-        (TypeTag::BigInt, b"\xff\xff\xff\xff\xff\xff\xff\xff", b"\0\0\0\0\0\0\0\0"),
+        (
+            TypeTag::BigInt,
+            b"\xff\xff\xff\xff\xff\xff\xff\xff",
+            b"\0\0\0\0\0\0\0\0",
+        ),
         (TypeTag::Blob, b"\x7f", b"\x80"),
         (TypeTag::Blob, b"\x01", b"\x01\0"),
         (TypeTag::Boolean, b"\0", b"\x01"),
@@ -81,8 +109,16 @@ fn values_stand_in_their_order(rt: HostRuntime) {
         (TypeTag::Int, b"\xff\xff\xff\xff", b"\0\0\0\0"),
         (TypeTag::SmallInt, b"\xff\xff", b"\0\0"),
         (TypeTag::Text, b"z", b"\xc3\xa9"),
-        (TypeTag::Time, b"\0\0\0\0\0\0\x01\0", b"\0\0\0\0\0\0\x01\x01"),
-        (TypeTag::Timestamp, b"\x80\0\0\0\0\0\0\0", b"\x7f\0\0\0\0\0\0\0"),
+        (
+            TypeTag::Time,
+            b"\0\0\0\0\0\0\x01\0",
+            b"\0\0\0\0\0\0\x01\x01",
+        ),
+        (
+            TypeTag::Timestamp,
+            b"\x80\0\0\0\0\0\0\0",
+            b"\x7f\0\0\0\0\0\0\0",
+        ),
         (TypeTag::TinyInt, b"\x80", b"\x7f"),
         // ffffffff-ffff-1fff-bfff-ffffffffffff stands before 00000000-0000-4000-8000-000000000000
         (
@@ -123,8 +159,16 @@ fn values_stand_in_their_order(rt: HostRuntime) {
         ),
     ];
     for (tag, low, high) in cases {
-        assert_eq!(rt; compare(tag, low, high), Ordering::Less, "{tag:?} {low:?} {high:?}");
-        assert_eq!(rt; compare(tag, high, low), Ordering::Greater, "{tag:?} {high:?} {low:?}");
+        assert_eq!(rt;
+            compare(tag, low, high),
+            Ordering::Less,
+            "{tag:?} {low:?} {high:?}"
+        );
+        assert_eq!(rt;
+            compare(tag, high, low),
+            Ordering::Greater,
+            "{tag:?} {high:?} {low:?}"
+        );
         assert_eq!(rt; compare(tag, low, low), Ordering::Equal, "{tag:?} {low:?}");
     }
 }
@@ -150,7 +194,10 @@ fn a_key_has_the_bytes_of_its_columns(rt: HostRuntime) -> Result<(), Fail> {
     composite.push(b"\0\0\0\x01")?;
     composite.push(b"x")?;
     let key = composite.finish()?;
-    assert_eq!(rt; key.as_slice(), b"\0\x04\0\0\0\x01\0\0\x01\x78\0".as_slice());
+    assert_eq!(rt;
+        key.as_slice(),
+        b"\0\x04\0\0\0\x01\0\0\x01\x78\0".as_slice()
+    );
     assert_eq!(rt; shard_of(&key, 4), 2);
     let mut single = KeyBuilder::new(alloc, 1);
     single.push(b"x")?;

@@ -115,9 +115,7 @@ fn big(bytes: &[u8]) -> Option<i64>
     ensures { result ≡ number w64 bytes.now }
 {
     match bytes {
-        [a, b, c, d, e, f, g, h] => {
-            Some(i64::from_be_bytes([*a, *b, *c, *d, *e, *f, *g, *h]))
-        }
+        [a, b, c, d, e, f, g, h] => { Some(i64::from_be_bytes([*a, *b, *c, *d, *e, *f, *g, *h])) }
         _ => None,
     }
 }

@@ -1,4 +1,4 @@
-use Rattle.std.proofs.Common.{◌≡◌, take, length, ◌*◌, ◌≤◌}
+use Rattle.std.proofs.Common.{◌≡◌, take, ◌*◌, ◌≤◌}
 use Rattle.std.specs.List.{sum}
 use Rattle.cas_types.proofs.shard.shard_of.Given as goal
 
