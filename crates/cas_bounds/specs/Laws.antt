@@ -1,0 +1,33 @@
+-- What the orders of rows and of cuts keep, for every order of the clustering columns.
+use Rattle.std.specs.Prelude.{◌≡◌, ◌↔◌, ℕ, Bool, true, false, IsTrue, List, length, take}
+use Rattle.std.specs.Ordering.{is_gt}
+use Rattle.cas_types.specs.Orders.{Orders}
+use Rattle.cas_bounds.specs.Orders.{values_cmp}
+use Rattle.cas_bounds.specs.Cuts.{is_past, is_inside, cut_cmp}
+use Rattle.cas_bounds.specs.declared.order.Ordered.{Ordered}
+use Rattle.cas_bounds.specs.declared.cuts.Cut.{Cut}
+
+-- a cut, without the order of its table
+pub record Place : Type 0 where
+  pub prefix : List (List ℕ)
+  pub after : Bool
+
+abbrev pub cut_at : List Ordered → Place → Cut
+cut_at order p = record { prefix = p.prefix; after = p.after; order = order }
+
+-- rows: any two compare, and only the same values tie
+abbrev pub RowOrders : Type 0
+RowOrders = (order : List Ordered) → Orders (values_cmp order)
+
+-- cuts of one order: any two compare, and only the same place ties
+abbrev pub CutOrders : Type 0
+CutOrders = (order : List Ordered) → Orders (λ p q. cut_cmp (cut_at order p) (cut_at order q))
+
+-- a row past a cut is past each cut that is not above it
+abbrev pub CutsDivideRows : Type 0
+CutsDivideRows = (a b : Cut) (d : List (List ℕ)) → a.order ≡ b.order → is_gt (cut_cmp a b) ≡ false → IsTrue (is_past b d) → IsTrue (is_past a d)
+
+-- between the cuts before and after a prefix lie the rows that begin with it
+abbrev pub OwnPlaces : Type 0
+OwnPlaces = (order : List Ordered) (q d : List (List ℕ)) →
+    IsTrue (is_inside (cut_at order (record { prefix = q; after = false })) (cut_at order (record { prefix = q; after = true })) d) ↔ (take (length q) d ≡ q)

@@ -1,0 +1,98 @@
+//! Cuts between the rows of a partition, and the slices between two cuts.
+
+ghost use Rattle.std.specs.Prelude.{◌≡◌};
+ghost use Rattle.cas_bounds.specs.Cuts.{is_past as is_past_of, is_inside, prefixes_cmp, cut_cmp};
+
+use crate::order::{Ordered, compare_first, compare_values, later};
+use cas_types::{Bytes, List};
+use std::cmp::Ordering;
+
+/// Where a row stands in its partition: the values of its clustering columns.
+#[derive(Clone, Drop)]
+pub struct Clustering {
+    pub values: List<Bytes>,
+    pub order: List<Ordered>,
+}
+
+/// A place between rows. It stands before, or after, every clustering that begins with the prefix;
+/// with the empty prefix it is one of the partition's two ends.
+#[derive(Clone, Drop)]
+pub struct Cut {
+    pub prefix: List<Bytes>,
+    pub after: bool,
+    pub order: List<Ordered>,
+}
+
+/// What lies between two cuts, as a SELECT or a range DELETE names it.
+#[derive(Clone, Drop)]
+pub struct Slice {
+    pub lo: Cut,
+    pub hi: Cut,
+}
+
+/// The order of two cuts of one partition.
+pub fn cmp_cut(a: &Cut, b: &Cut) -> Ordering
+    requires { a.now.order ≡ b.now.order }
+    ensures { result ≡ cut_cmp a.now b.now }
+{
+    compare_prefixes(
+        a.order.as_slice(),
+        a.prefix.as_slice(),
+        a.after,
+        b.prefix.as_slice(),
+        b.after,
+    )
+}
+
+fn compare_prefixes(
+    order: &[Ordered],
+    a: &[Bytes],
+    a_after: bool,
+    b: &[Bytes],
+    b_after: bool,
+) -> Ordering
+    ensures { result ≡ prefixes_cmp order.now a.now a_after b.now b_after }
+{
+    match (a, b) {
+        ([], []) => a_after.cmp(&b_after),
+        ([], [_y, _ys @ ..]) => {
+            if a_after {
+                Ordering::Greater
+            } else {
+                Ordering::Less
+            }
+        }
+        ([_x, _xs @ ..], []) => {
+            if b_after {
+                Ordering::Less
+            } else {
+                Ordering::Greater
+            }
+        }
+        ([x, xs @ ..], [y, ys @ ..]) => compare_first(order, x.as_slice(), y.as_slice()).then(
+            compare_prefixes(later(order), xs, a_after, ys, b_after),
+        ),
+    }
+}
+
+/// Whether the row lies in the slice: past its low cut, and not past its high one.
+pub fn inside(c: &Clustering, s: &Slice) -> bool
+    ensures { result ≡ is_inside s.now.lo s.now.hi c.now.values }
+{
+    let values = c.values.as_slice();
+    is_past(&s.lo, values) && !is_past(&s.hi, values)
+}
+
+// Whether the row stands past the cut.
+fn is_past(cut: &Cut, values: &[Bytes]) -> bool
+    ensures { result ≡ is_past_of cut.now values.now }
+{
+    let prefix = cut.prefix.as_slice();
+    let front = &values[..prefix.len().min(values.len())];
+    let order = compare_values(cut.order.as_slice(), front, prefix);
+    if cut.after {
+        order == Ordering::Greater
+    } else {
+        order != Ordering::Less
+    }
+}
