@@ -1,0 +1,4 @@
+pub mod Deletions
+pub mod Lives
+pub mod Cells
+pub mod Laws
