@@ -1,3 +1,4 @@
 pub mod Causes
 pub mod Plans
 pub mod Told
+pub mod Shown

@@ -23,6 +23,8 @@ pub struct MemSource {
 }
 
 impl MemSource {
+    ghost use Rattle.cas_io.specs.Shown.{given_of, fails_after_of, gives_at_most};
+
     /// Gives the bytes, as many at once as there is room for, and never fails.
     pub fn new(bytes: Vec<u8>) -> Self
         ensures left { ⟦<MemSource as Source>⟧.left result ≡ Some bytes.items }
@@ -36,8 +38,8 @@ impl MemSource {
     pub fn with_plan(bytes: Vec<u8>, fails_after: Option<u64>, at_most: u64) -> Self
         ensures left { ⟦<MemSource as Source>⟧.left result ≡ Some bytes.items }
         ensures faults { ⟦<MemSource as Source>⟧.faults result ≡ 0 }
-        ensures fails_after { result.fails_after ≡ fails_after }
-        ensures at_most { result.at_most ≡ at_most }
+        ensures fails_after { fails_after_of result ≡ fails_after }
+        ensures at_most { gives_at_most result ≡ at_most }
     {
         MemSource {
             bytes,
@@ -57,7 +59,7 @@ impl MemSource {
 
     // How many bytes the next read may give; None where it fails.
     fn next_piece(&self) -> Option<u64>
-        ensures { result ≡ next_piece self.now.fails_after self.now.at_most self.now.given }
+        ensures { result ≡ next_piece (fails_after_of self.now) (gives_at_most self.now) (given_of self.now) }
     {
         let given = self.given as u64;
         let most = self.at_most.max(1);
@@ -80,18 +82,20 @@ fn copy_front(from: &[u8], into: &mut [u8], most: u64) -> usize
 }
 
 impl Source for MemSource {
-    ghost left = { λ s. Some (drop s.given s.bytes.items) };
+    ghost use Rattle.cas_io.specs.Shown.{rest_of, given_of, fails_after_of, gives_at_most, read_faults};
 
-    ghost faults = { λ s. s.faults };
+    ghost left = { λ s. Some (rest_of s) };
+
+    ghost faults = { λ s. read_faults s };
 
     fn read(&mut self, into: &mut [u8]) -> Result<usize, Failed>
         ensures bound { ReadsAtMost result into.new }
-        ensures bytes { ReadConsumes (Some (drop self.old.given self.old.bytes.items)) (Some (drop self.new.given self.new.bytes.items)) result into.new }
-        ensures kept { self.old.faults ≤ self.new.faults }
-        ensures cause { OnErr result (Rose self.old.faults self.new.faults) }
-        ensures planned { AsPlanned (next_piece self.old.fails_after self.old.at_most self.old.given) (min (length self.old.bytes.items - self.old.given) (length into.old)) result }
-        ensures counted { OnErr result (self.new.faults ≡ one_more self.old.faults) }
-        ensures plan { (self.new.fails_after ≡ self.old.fails_after) × (self.new.at_most ≡ self.old.at_most) }
+        ensures bytes { ReadConsumes (Some (rest_of self.old)) (Some (rest_of self.new)) result into.new }
+        ensures kept { read_faults self.old ≤ read_faults self.new }
+        ensures cause { OnErr result (Rose (read_faults self.old) (read_faults self.new)) }
+        ensures planned { AsPlanned (next_piece (fails_after_of self.old) (gives_at_most self.old) (given_of self.old)) (min (length (rest_of self.old)) (length into.old)) result }
+        ensures counted { OnErr result (read_faults self.new ≡ one_more (read_faults self.old)) }
+        ensures plan { (fails_after_of self.new ≡ fails_after_of self.old) × (gives_at_most self.new ≡ gives_at_most self.old) }
     {
         let Some(most) = self.next_piece() else {
             self.faults = self.faults.saturating_add(1);
@@ -115,6 +119,8 @@ pub struct MemSink {
 }
 
 impl MemSink {
+    ghost use Rattle.cas_io.specs.Shown.{failing_calls, takes_at_most, calls_of};
+
     /// Takes whole pieces, and fails for want of memory alone.
     pub fn new(alloc: Global) -> Self
         ensures took { ⟦<MemSink as Sink>⟧.took result ≡ Some [] }
@@ -130,9 +136,9 @@ impl MemSink {
         ensures took { ⟦<MemSink as Sink>⟧.took result ≡ Some [] }
         ensures faults { ⟦<MemSink as Sink>⟧.faults result ≡ 0 }
         ensures stalls { ⟦<MemSink as Sink>⟧.stalls result ≡ 0 }
-        ensures failing { result.failing.items ≡ failing.items }
-        ensures at_most { result.at_most ≡ at_most }
-        ensures calls { result.calls ≡ 0 }
+        ensures failing { failing_calls result ≡ failing.items }
+        ensures at_most { takes_at_most result ≡ at_most }
+        ensures calls { calls_of result ≡ 0 }
     {
         MemSink {
             taken: Vec::new(alloc),
@@ -167,24 +173,26 @@ impl MemSink {
 }
 
 impl Sink for MemSink {
-    ghost took = { λ s. Some s.taken.items };
+    ghost use Rattle.cas_io.specs.Shown.{taken_of, failing_calls, takes_at_most, calls_of, write_faults, write_stalls};
 
-    ghost faults = { λ s. s.faults };
+    ghost took = { λ s. Some (taken_of s) };
 
-    ghost stalls = { λ s. s.stalls };
+    ghost faults = { λ s. write_faults s };
+
+    ghost stalls = { λ s. write_stalls s };
 
     fn write(&mut self, bytes: &[u8]) -> Result<usize, Failed>
         ensures bound { WritesAtMost result bytes.now }
-        ensures bytes { WriteAppends (Some self.old.taken.items) (Some self.new.taken.items) result bytes.now }
-        ensures kept { self.old.faults ≤ self.new.faults }
-        ensures cause { OnErr result (Rose self.old.faults self.new.faults) }
-        ensures stalls_kept { self.old.stalls ≤ self.new.stalls }
-        ensures stalled { IfOk result (λ n. n ≡ 0 → 0 < length bytes.now → Rose self.old.stalls self.new.stalls) }
-        ensures listed { IsTrue (list_any (λ n. n == one_more self.old.calls) self.old.failing.items) → OnOk result ⊥ }
-        ensures planned { IfOk result (λ n. n ≡ min self.old.at_most (length bytes.now)) }
-        ensures counted { OnErr result (self.new.faults ≡ one_more self.old.faults) }
-        ensures calls { self.new.calls ≡ one_more self.old.calls }
-        ensures plan { (self.new.failing.items ≡ self.old.failing.items) × (self.new.at_most ≡ self.old.at_most) }
+        ensures bytes { WriteAppends (Some (taken_of self.old)) (Some (taken_of self.new)) result bytes.now }
+        ensures kept { write_faults self.old ≤ write_faults self.new }
+        ensures cause { OnErr result (Rose (write_faults self.old) (write_faults self.new)) }
+        ensures stalls_kept { write_stalls self.old ≤ write_stalls self.new }
+        ensures stalled { IfOk result (λ n. n ≡ 0 → 0 < length bytes.now → Rose (write_stalls self.old) (write_stalls self.new)) }
+        ensures listed { IsTrue (list_any (λ n. n == one_more (calls_of self.old)) (failing_calls self.old)) → OnOk result ⊥ }
+        ensures planned { IfOk result (λ n. n ≡ min (takes_at_most self.old) (length bytes.now)) }
+        ensures counted { OnErr result (write_faults self.new ≡ one_more (write_faults self.old)) }
+        ensures calls { calls_of self.new ≡ one_more (calls_of self.old) }
+        ensures plan { (failing_calls self.new ≡ failing_calls self.old) × (takes_at_most self.new ≡ takes_at_most self.old) }
     {
         self.calls = self.calls.saturating_add(1);
         let count = self.at_most.min(bytes.len() as u64) as usize;

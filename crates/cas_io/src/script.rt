@@ -1,12 +1,11 @@
 //! Reads a whole script, up to a limit.
 ghost use Rattle.std.specs.Prelude.{◌≡◌, ◌+◌, ◌≤◌, length, ℕ, IfOk, IfErr};
 ghost use Rattle.cas_io.specs.Causes.{Rose};
-ghost use Rattle.cas_io.specs.declared.script.ScriptFault.TheVariants.{Mem as MemOf};
-ghost use Rattle.cas_io.specs.Told.{ReadToEnd, TookCount, WhyNoScript};
+ghost use Rattle.cas_io.specs.Told.{ReadToEnd, TookCount, TookAtMost, WhyNoScript};
 
 use crate::fault::Failed;
 use crate::source::Source;
-use std::alloc::{AllocError, Global};
+use std::alloc::Global;
 
 /// Why a script wasn't read.
 #[derive(Clone, Copy, Debug, PartialEq, Eq)]
@@ -17,14 +16,6 @@ pub enum ScriptFault {
     TooLong { taken: u64 },
     /// Want of memory.
     Mem,
-}
-
-impl From<AllocError> for ScriptFault {
-    ghost from_gives = { λ _ fault. fault ≡ MemOf };
-
-    fn from(_: AllocError) -> Self {
-        ScriptFault::Mem
-    }
 }
 
 /// How many bytes are read at once.
@@ -40,7 +31,7 @@ pub fn read_script<S: Source>(
     ensures script { IfOk result (λ v. ReadToEnd (S.left source.old) (S.left source.new) v.items) }
     ensures short { IfOk result (λ v. length v.items ≤ limit) }
     ensures kept { S.faults source.old ≤ S.faults source.new }
-    ensures why { IfErr result (λ e. WhyNoScript e (Rose (S.faults source.old) (S.faults source.new)) (TookCount (S.left source.old) (S.left source.new)) limit) }
+    ensures why { IfErr result (λ e. WhyNoScript e (Rose (S.faults source.old) (S.faults source.new)) (TookCount (S.left source.old) (S.left source.new)) (TookAtMost (S.left source.old) (S.left source.new)) limit) }
 {
     let mut script = Vec::new(alloc);
     let mut piece = [0u8; PIECE];
@@ -60,6 +51,8 @@ pub fn read_script<S: Source>(
                 taken: taken + count as u64,
             });
         }
-        script.extend_from_slice(&into[..count])?;
+        let Ok(()) = script.extend_from_slice(&into[..count]) else {
+            return Err(ScriptFault::Mem);
+        };
     }
 }
