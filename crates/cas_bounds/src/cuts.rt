@@ -1,10 +1,11 @@
 //! Cuts between the rows of a partition, and the slices between two cuts.
 
-ghost use Rattle.std.specs.Prelude.{◌≡◌};
+ghost use Rattle.std.specs.Prelude.{◌≡◌, IfOk};
 ghost use Rattle.cas_bounds.specs.Cuts.{is_past as is_past_of, is_inside, prefixes_cmp, cut_cmp};
 
 use crate::order::{Ordered, compare_first, compare_values, later};
 use cas_types::{Bytes, List};
+use std::alloc::AllocError;
 use std::cmp::Ordering;
 
 /// Where a row stands in its partition: the values of its clustering columns.
@@ -14,6 +15,15 @@ pub struct Clustering {
     pub order: List<Ordered>,
 }
 
+impl Clustering {
+    /// The same clustering once more.
+    pub fn copied(&self) -> Result<Self, AllocError>
+        ensures { IfOk result (λ c. c ≡ self.now) }
+    {
+        self.clone()
+    }
+}
+
 /// A place between rows. It stands before, or after, every clustering that begins with the prefix;
 /// with the empty prefix it is one of the partition's two ends.
 #[derive(Clone, Drop)]
@@ -21,6 +31,15 @@ pub struct Cut {
     pub prefix: List<Bytes>,
     pub after: bool,
     pub order: List<Ordered>,
+}
+
+impl Cut {
+    /// The same cut once more.
+    pub fn copied(&self) -> Result<Self, AllocError>
+        ensures { IfOk result (λ c. c ≡ self.now) }
+    {
+        self.clone()
+    }
 }
 
 /// What lies between two cuts, as a SELECT or a range DELETE names it.
@@ -79,8 +98,15 @@ fn compare_prefixes(
 pub fn inside(c: &Clustering, s: &Slice) -> bool
     ensures { result ≡ is_inside s.now.lo s.now.hi c.now.values }
 {
-    let values = c.values.as_slice();
-    is_past(&s.lo, values) && !is_past(&s.hi, values)
+    between(&s.lo, &s.hi, c.values.as_slice())
+}
+
+/// Whether a row of these values lies between the cuts: past the low one, and not past the high
+/// one.
+pub fn between(lo: &Cut, hi: &Cut, values: &[Bytes]) -> bool
+    ensures { result ≡ is_inside lo.now hi.now values.now }
+{
+    is_past(lo, values) && !is_past(hi, values)
 }
 
 // Whether the row stands past the cut.

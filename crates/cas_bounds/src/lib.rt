@@ -8,6 +8,6 @@ mod order;
 #[cfg(test)]
 mod tests;
 
-pub use cuts::{Clustering, Cut, Slice, cmp_cut, inside};
+pub use cuts::{Clustering, Cut, Slice, between, cmp_cut, inside};
 pub use laws::{cut_orders, cuts_divide_rows, own_places, row_orders};
 pub use order::{Ordered, compare_values};

@@ -1,9 +1,10 @@
-ghost use Rattle.std.specs.Prelude.{◌≡◌};
+ghost use Rattle.std.specs.Prelude.{◌≡◌, IfOk};
 ghost use Rattle.std.specs.Ordering.{is_gt, on, then_cmp, nat_cmp};
 ghost use Rattle.cas_types.specs.Values.{bytes_cmp};
 ghost use Rattle.cas_cell.specs.Cells.{cell_at, cell_rank, cell_second, cell_ttl, cell_value, cell_cmp, cell_lives};
 
 use cas_types::{Bytes, compare_bytes};
+use std::alloc::AllocError;
 use std::cmp::Ordering;
 
 /// What a write or a `DELETE` of one column of a row leaves behind.
@@ -29,6 +30,13 @@ pub enum Cell {
 }
 
 impl Cell {
+    /// The same cell once more.
+    pub fn copied(&self) -> Result<Self, AllocError>
+        ensures { IfOk result (λ c. c ≡ self.now) }
+    {
+        self.clone()
+    }
+
     /// The timestamp of the write or the `DELETE`.
     pub fn at(&self) -> i64
         ensures { result ≡ cell_at self.now }
@@ -69,7 +77,8 @@ impl Cell {
         }
     }
 
-    fn value(&self) -> &[u8]
+    /// The bytes that were written, of which a `DELETE` has none.
+    pub fn value(&self) -> &[u8]
         ensures { result.now ≡ cell_value self.now }
     {
         match self {

@@ -25,4 +25,6 @@ pub use schema::{Column, Kind, Options, Shape, Strategy, TableSchema, Unit};
 pub use shard::shard_of;
 pub use tag::TypeTag;
 pub use text::Text;
-pub use values::{BadValue, check, compare};
+pub use values::{
+    BadValue, bigint_value, check, compare, date_value, int_value, smallint_value, tinyint_value,
+};

@@ -50,13 +50,19 @@ pub fn compare(tag: TypeTag, a: &[u8], b: &[u8]) -> Ordering
 {
     match tag {
         TypeTag::Ascii | TypeTag::Blob | TypeTag::Boolean | TypeTag::Text => compare_bytes(a, b),
-        TypeTag::TinyInt => tiny(a).cmp(&tiny(b)).then(compare_bytes(a, b)),
-        TypeTag::SmallInt => small(a).cmp(&small(b)).then(compare_bytes(a, b)),
-        TypeTag::Int => int(a).cmp(&int(b)).then(compare_bytes(a, b)),
+        TypeTag::TinyInt => tinyint_value(a)
+            .cmp(&tinyint_value(b))
+            .then(compare_bytes(a, b)),
+        TypeTag::SmallInt => smallint_value(a)
+            .cmp(&smallint_value(b))
+            .then(compare_bytes(a, b)),
+        TypeTag::Int => int_value(a).cmp(&int_value(b)).then(compare_bytes(a, b)),
         TypeTag::BigInt | TypeTag::Time | TypeTag::Timestamp => {
-            big(a).cmp(&big(b)).then(compare_bytes(a, b))
+            bigint_value(a)
+                .cmp(&bigint_value(b))
+                .then(compare_bytes(a, b))
         }
-        TypeTag::Date => day(a).cmp(&day(b)).then(compare_bytes(a, b)),
+        TypeTag::Date => date_value(a).cmp(&date_value(b)).then(compare_bytes(a, b)),
         TypeTag::TimeUuid | TypeTag::Uuid => compare_uuids(a, b),
     }
 }
@@ -84,7 +90,8 @@ fn is_time(bytes: &[u8]) -> bool
     }
 }
 
-fn tiny(bytes: &[u8]) -> Option<i8>
+/// The number that a `tinyint`'s one byte is.
+pub fn tinyint_value(bytes: &[u8]) -> Option<i8>
     ensures { result ≡ number w8 bytes.now }
 {
     match bytes {
@@ -93,7 +100,8 @@ fn tiny(bytes: &[u8]) -> Option<i8>
     }
 }
 
-fn small(bytes: &[u8]) -> Option<i16>
+/// The number that a `smallint`'s two bytes are, most significant first.
+pub fn smallint_value(bytes: &[u8]) -> Option<i16>
     ensures { result ≡ number w16 bytes.now }
 {
     match bytes {
@@ -102,7 +110,8 @@ fn small(bytes: &[u8]) -> Option<i16>
     }
 }
 
-fn int(bytes: &[u8]) -> Option<i32>
+/// The number that an `int`'s four bytes are, most significant first.
+pub fn int_value(bytes: &[u8]) -> Option<i32>
     ensures { result ≡ number w32 bytes.now }
 {
     match bytes {
@@ -111,7 +120,9 @@ fn int(bytes: &[u8]) -> Option<i32>
     }
 }
 
-fn big(bytes: &[u8]) -> Option<i64>
+/// The number that the eight bytes of a `bigint`, a `time` or a `timestamp` are, most significant
+/// first.
+pub fn bigint_value(bytes: &[u8]) -> Option<i64>
     ensures { result ≡ number w64 bytes.now }
 {
     match bytes {
@@ -120,7 +131,8 @@ fn big(bytes: &[u8]) -> Option<i64>
     }
 }
 
-fn day(bytes: &[u8]) -> Option<u32>
+/// The number of the day that a `date`'s four bytes are, most significant first; 2^31 is 1970-01-01.
+pub fn date_value(bytes: &[u8]) -> Option<u32>
     ensures { result ≡ day_number bytes.now }
 {
     match bytes {
