@@ -1,0 +1,9 @@
+pub mod Greatest
+pub mod Coordinates
+pub mod Winners
+pub mod Paths
+pub mod Keys
+pub mod Picks
+pub mod Answers
+pub mod LogLength
+pub mod Laws

@@ -1,0 +1,196 @@
+//! The live view: what a list of atoms answers to a query at a moment.
+
+ghost use Rattle.std.specs.Prelude.{◌≡◌, ◌<◌, ◌≤ℤ◌, ◌^◌, pos, [], map, length, IfOk};
+ghost use Rattle.std.specs.Option.{option_copied};
+ghost use Rattle.cas_atoms.specs.Coordinates.{key_of, clustered};
+ghost use Rattle.cas_atoms.specs.Answers.{order_by_kind as order_by_kind_of, order_of as order_of_columns, is_answered as is_answered_of, answered as answered_of, turned as turned_of, is_whole as is_whole_of, with_static as with_static_of, limited as limited_of, row_shown as row_shown_of, answer as answer_of};
+
+use crate::atom::Atom;
+use crate::lives::{has_cell, is_shown};
+use crate::paths::{copy_values, rows_of};
+use crate::picks::picked;
+use crate::query::{LiveRow, Query};
+use cas_bounds::{Ordered, Slice, between};
+use cas_types::{Bytes, Column, Kind, List, Mem, TypeTag};
+use std::alloc::{AllocError, Global};
+
+// How a clustering column is ordered.
+fn order_by_kind(kind: Kind, tag: TypeTag) -> Option<Ordered>
+    ensures { result ≡ order_by_kind_of kind tag }
+{
+    match kind {
+        Kind::Ascending => Some(Ordered {
+            tag,
+            descending: false,
+        }),
+        Kind::Descending => Some(Ordered {
+            tag,
+            descending: true,
+        }),
+        Kind::Partition | Kind::Static | Kind::Regular => None,
+    }
+}
+
+// How the rows of the table are ordered.
+fn order_of(alloc: Global, columns: &[Column]) -> Result<Vec<Ordered>, AllocError>
+    ensures { IfOk result (λ v. v.items ≡ order_of_columns columns.now) }
+{
+    columns
+        .iter()
+        .filter_map(|c| order_by_kind(c.kind, c.tag))
+        .collect(alloc)
+}
+
+// Whether the row is in the slice, and shown.
+fn is_answered(
+    alloc: Global,
+    query: &Query,
+    atoms: &[Atom],
+    now: i64,
+    values: &List<Bytes>,
+) -> Result<bool, AllocError>
+    requires { length query.now.columns < 2 ^ 16 }
+    ensures { IfOk result (λ b. b ≡ is_answered_of query.now atoms.now now values.now) }
+{
+    if !between(&query.slice.lo, &query.slice.hi, values.as_slice()) {
+        return Ok(false);
+    }
+    is_shown(alloc, atoms, now, query.columns.as_slice(), values)
+}
+
+// The rows that answer, in the table's order.
+#[tactic(auto, unfolding(crate::specs::Answers::answered))]
+fn answered(
+    alloc: Global,
+    query: &Query,
+    atoms: &[Atom],
+    now: i64,
+) -> Result<Vec<List<Bytes>>, AllocError>
+    requires { length query.now.columns < 2 ^ 16 }
+    ensures { IfOk result (λ v. v.items ≡ answered_of query.now atoms.now now) }
+{
+    let order = order_of(alloc, query.columns.as_slice())?;
+    let rows = rows_of(alloc, &order, atoms)?;
+    let mut kept = Vec::new(alloc);
+    for values in &rows {
+        if is_answered(alloc, query, atoms, now, values)? {
+            kept.push(copy_values(values)?)?;
+        }
+    }
+    Ok(kept)
+}
+
+fn turned(reversed: bool, rows: Vec<List<Bytes>>) -> Vec<List<Bytes>>
+    ensures { result.items ≡ turned_of reversed rows.items }
+{
+    let mut rows = rows;
+    if reversed {
+        rows.reverse();
+    }
+    rows
+}
+
+// Whether the slice restricts no clustering column.
+fn is_whole(slice: &Slice) -> bool
+    ensures { result ≡ is_whole_of slice.now }
+{
+    let begins = slice.lo.prefix.as_slice().is_empty() && !slice.lo.after;
+    let ends = slice.hi.prefix.as_slice().is_empty() && slice.hi.after;
+    begins && ends
+}
+
+// The rows by their keys, of which the static row's is `None`.
+fn keys(alloc: Global, rows: &[List<Bytes>]) -> Result<Vec<Option<List<Bytes>>>, AllocError>
+    ensures { IfOk result (λ v. map key_of v.items ≡ map clustered rows.now) }
+{
+    let mut keys = Vec::new(alloc);
+    for values in rows {
+        keys.push(Some(copy_values(values)?))?;
+    }
+    Ok(keys)
+}
+
+// The static row, where it has an alive cell and the query restricts no clustering column.
+fn static_alone(
+    alloc: Global,
+    query: &Query,
+    atoms: &[Atom],
+    now: i64,
+) -> Result<Vec<Option<List<Bytes>>>, AllocError>
+    requires { length query.now.columns < 2 ^ 16 }
+    ensures { IfOk result (λ v. map key_of v.items ≡ with_static_of query.now atoms.now now []) }
+{
+    if !is_whole(&query.slice) {
+        return Ok(Vec::new(alloc));
+    }
+    if !has_cell(alloc, atoms, now, None, 0, query.columns.as_slice())? {
+        return Ok(Vec::new(alloc));
+    }
+    Ok(vec![in alloc; None]?)
+}
+
+// The rows that answer, or where there is none maybe the static row.
+fn with_static(
+    alloc: Global,
+    query: &Query,
+    atoms: &[Atom],
+    now: i64,
+    rows: &[List<Bytes>],
+) -> Result<Vec<Option<List<Bytes>>>, AllocError>
+    requires { length query.now.columns < 2 ^ 16 }
+    ensures { IfOk result (λ v. map key_of v.items ≡ with_static_of query.now atoms.now now rows.now) }
+{
+    match rows {
+        [] => static_alone(alloc, query, atoms, now),
+        [_row, _rest @ ..] => keys(alloc, rows),
+    }
+}
+
+fn limited(limit: Option<u32>, rows: Vec<Option<List<Bytes>>>) -> Vec<Option<List<Bytes>>>
+    ensures { map key_of result.items ≡ limited_of limit (map key_of rows.items) }
+{
+    let mut rows = rows;
+    if let Some(count) = limit {
+        rows.truncate(count as usize);
+    }
+    rows
+}
+
+// What the row shows: a value for each pick.
+#[tactic(auto, unfolding(crate::specs::Answers::row_shown))]
+fn row_shown(
+    alloc: Global,
+    query: &Query,
+    atoms: &[Atom],
+    now: i64,
+    row: Option<&List<Bytes>>,
+) -> Result<LiveRow, AllocError>
+    requires { pos 0 ≤ℤ now }
+    ensures { IfOk result (λ r. r ≡ row_shown_of query.now atoms.now now (key_of (option_copied row.entry))) }
+{
+    let mut values = Vec::new(alloc);
+    for pick in query.picks.as_slice() {
+        values.push(picked(alloc, query, atoms, now, row, *pick)?)?;
+    }
+    Ok(LiveRow {
+        values: List::from_vec(values),
+    })
+}
+
+/// What the atoms of a partition answer to the query at the moment, in seconds: the rows of the
+/// slice that are shown, in the table's order or its reverse, as many as the limit says, and of
+/// each a value for each pick.
+#[tactic(auto, unfolding(crate::specs::Answers::answer))]
+pub fn answer(alloc: Global, atoms: &[Atom], query: &Query, now: i64) -> Result<Vec<LiveRow>, Mem>
+    requires begun { pos 0 ≤ℤ now }
+    requires columns { length query.now.columns < 2 ^ 16 }
+    ensures { IfOk result (λ v. v.items ≡ answer_of query.now atoms.now now) }
+{
+    let rows = turned(query.reversed, answered(alloc, query, atoms, now)?);
+    let keys = limited(query.limit, with_static(alloc, query, atoms, now, &rows)?);
+    let mut shown = Vec::new(alloc);
+    for key in &keys {
+        shown.push(row_shown(alloc, query, atoms, now, key.as_ref())?)?;
+    }
+    Ok(shown)
+}

@@ -1,0 +1,92 @@
+//! Which rows are shown.
+
+ghost use Rattle.std.specs.Prelude.{◌≡◌, ◌+◌, ◌<◌, ◌^◌, ◌&&◌, not, length, IfOk};
+ghost use Rattle.std.specs.Option.{option_copied};
+ghost use Rattle.cas_atoms.specs.Coordinates.{key_of};
+ghost use Rattle.cas_atoms.specs.Paths.{alive_paths as alive_paths_of};
+ghost use Rattle.cas_atoms.specs.Answers.{is_empty, has_kind as has_kind_of, has_cell as has_cell_of, is_living as is_living_of, is_shown as is_shown_of};
+
+use crate::atom::Atom;
+use crate::paths::alive_paths;
+use crate::winners::live_winner;
+use cas_cell::{Liveness, live_alive};
+use cas_types::{Bytes, Column, Kind, List};
+use std::alloc::{AllocError, Global};
+
+// Whether the row has columns of that kind.
+fn has_kind(row: Option<&List<Bytes>>, kind: Kind) -> bool
+    ensures { result ≡ has_kind_of (key_of (option_copied row.entry)) kind }
+{
+    match row {
+        Some(_) => kind == Kind::Regular,
+        None => kind == Kind::Static,
+    }
+}
+
+// Whether the column of that number is one of the row's and has an alive cell there.
+fn column_has_cell(
+    alloc: Global,
+    atoms: &[Atom],
+    now: i64,
+    row: Option<&List<Bytes>>,
+    number: u16,
+    column: &Column,
+) -> Result<bool, AllocError>
+    ensures { IfOk result (λ b. b ≡ (has_kind_of (key_of (option_copied row.entry)) column.now.kind && not (is_empty (alive_paths_of atoms.now now (key_of (option_copied row.entry)) number column.now)))) }
+{
+    if !has_kind(row, column.kind) {
+        return Ok(false);
+    }
+    let paths = alive_paths(alloc, atoms, now, row, number, column)?;
+    Ok(!paths.is_empty())
+}
+
+/// Whether some column of the row, of those from that number on, has an alive cell.
+pub(crate) fn has_cell(
+    alloc: Global,
+    atoms: &[Atom],
+    now: i64,
+    row: Option<&List<Bytes>>,
+    number: u16,
+    columns: &[Column],
+) -> Result<bool, AllocError>
+    requires { number + length columns.now < 2 ^ 16 }
+    ensures { IfOk result (λ b. b ≡ has_cell_of atoms.now now (key_of (option_copied row.entry)) number columns.now) }
+{
+    match columns {
+        [] => Ok(false),
+        [c, rest @ ..] => {
+            if column_has_cell(alloc, atoms, now, row, number, c)? {
+                Ok(true)
+            } else {
+                has_cell(alloc, atoms, now, row, number + 1, rest)
+            }
+        }
+    }
+}
+
+fn is_living(now: i64, live: Option<Liveness>) -> bool
+    ensures { result ≡ is_living_of now live }
+{
+    match live {
+        Some(live) => live_alive(&live, now),
+        None => false,
+    }
+}
+
+/// Whether the row lives by its `INSERT` or has an alive cell.
+pub(crate) fn is_shown(
+    alloc: Global,
+    atoms: &[Atom],
+    now: i64,
+    columns: &[Column],
+    values: &List<Bytes>,
+) -> Result<bool, AllocError>
+    requires { length columns.now < 2 ^ 16 }
+    ensures { IfOk result (λ b. b ≡ is_shown_of atoms.now now columns.now values.now) }
+{
+    if is_living(now, live_winner(atoms, values)) {
+        return Ok(true);
+    }
+    has_cell(alloc, atoms, now, Some(values), 0, columns)
+}

@@ -1,0 +1,233 @@
+//! The rows that atoms write in, and the paths that they write in a column of a row, each once and
+//! in order.
+
+ghost use Rattle.std.specs.Prelude.{◌≡◌, ◌≤◌, length, insert, filter, IfOk, OnOk, MatchOption};
+ghost use Rattle.std.specs.Option.{option_copied};
+ghost use Rattle.cas_bounds.specs.Orders.{values_cmp};
+ghost use Rattle.cas_atoms.specs.Coordinates.{path, key_of, where_true};
+ghost use Rattle.cas_atoms.specs.Winners.{cell_winner as cell_winner_of};
+ghost use Rattle.cas_atoms.specs.Paths.{put, put_some, ordered, written_row as written_row_of, written_path as written_path_of, rows_of as rows_of_list, path_cmp, is_alive as is_alive_of, alive_paths as alive_paths_of};
+
+use crate::atom::Atom;
+use crate::coordinates::same_row;
+use crate::winners::cell_winner;
+use cas_bounds::{Ordered, compare_values};
+use cas_cell::{Cell, alive};
+use cas_types::{Bytes, Column, List, Shape, TypeTag, compare, compare_bytes};
+use std::alloc::{AllocError, Global};
+use std::cmp::Ordering;
+
+// Where the row is to be put, if it isn't there.
+fn place_of_row(order: &[Ordered], rows: &[List<Bytes>], key: &List<Bytes>) -> Option<usize>
+    ensures { MatchOption result (put (values_cmp order.now) key.now rows.now ≡ rows.now)
+        (λ i. (i ≤ length rows.now) × (put (values_cmp order.now) key.now rows.now ≡ insert rows.now i key.now)) }
+{
+    for (i, row) in rows.iter().enumerate() {
+        match compare_values(order, key.as_slice(), row.as_slice()) {
+            Ordering::Less => return Some(i),
+            Ordering::Equal => return None,
+            Ordering::Greater => {}
+        }
+    }
+    Some(rows.len())
+}
+
+/// The same values once more.
+pub(crate) fn copy_values(values: &List<Bytes>) -> Result<List<Bytes>, AllocError>
+    ensures { IfOk result (λ v. v ≡ values.now) }
+{
+    values.clone()
+}
+
+fn put_row(
+    order: &[Ordered],
+    rows: &mut Vec<List<Bytes>>,
+    key: &List<Bytes>,
+) -> Result<(), AllocError>
+    ensures { OnOk result (rows.new.items ≡ put (values_cmp order.now) key.now rows.old.items) }
+{
+    if let Some(i) = place_of_row(order, rows, key) {
+        let copy = copy_values(key)?;
+        rows.insert(i, copy)?;
+    }
+    Ok(())
+}
+
+// The row that the atom writes in.
+fn written_row(atom: &Atom) -> Option<&List<Bytes>>
+    ensures { option_copied result ≡ written_row_of atom.now }
+{
+    match atom {
+        Atom::Live(c, _) => Some(&c.values),
+        Atom::Write(c, _, _, _) => Some(&c.values),
+        _ => None,
+    }
+}
+
+fn put_written_row(
+    order: &[Ordered],
+    rows: &mut Vec<List<Bytes>>,
+    atom: &Atom,
+) -> Result<(), AllocError>
+    ensures { OnOk result (rows.new.items ≡ put_some (values_cmp order.now) rows.old.items (written_row_of atom.now)) }
+{
+    match written_row(atom) {
+        Some(values) => put_row(order, rows, values),
+        None => Ok(()),
+    }
+}
+
+/// The rows that the atoms write in, in the table's order.
+pub(crate) fn rows_of(
+    alloc: Global,
+    order: &[Ordered],
+    atoms: &[Atom],
+) -> Result<Vec<List<Bytes>>, AllocError>
+    ensures { IfOk result (λ v. v.items ≡ rows_of_list order.now atoms.now) }
+{
+    let mut rows = Vec::new(alloc);
+    for atom in atoms {
+        put_written_row(order, &mut rows, atom)?;
+    }
+    Ok(rows)
+}
+
+// The order of the paths of a column of that shape and type.
+fn compare_paths(shape: Shape, tag: TypeTag, a: &[u8], b: &[u8]) -> Ordering
+    ensures { result ≡ path_cmp shape tag a.now b.now }
+{
+    match shape {
+        Shape::One | Shape::List => compare_bytes(a, b),
+        Shape::Set | Shape::Map => compare(tag, a, b),
+    }
+}
+
+// Where the path is to be put, if it isn't there.
+fn place_of_path(shape: Shape, tag: TypeTag, paths: &[Bytes], key: &Bytes) -> Option<usize>
+    ensures { MatchOption result (put (path_cmp shape tag) key.now paths.now ≡ paths.now)
+        (λ i. (i ≤ length paths.now) × (put (path_cmp shape tag) key.now paths.now ≡ insert paths.now i key.now)) }
+{
+    for (i, other) in paths.iter().enumerate() {
+        match compare_paths(shape, tag, key.as_slice(), other.as_slice()) {
+            Ordering::Less => return Some(i),
+            Ordering::Equal => return None,
+            Ordering::Greater => {}
+        }
+    }
+    Some(paths.len())
+}
+
+fn put_path(
+    shape: Shape,
+    tag: TypeTag,
+    paths: &mut Vec<Bytes>,
+    key: &Bytes,
+) -> Result<(), AllocError>
+    ensures { OnOk result (paths.new.items ≡ put (path_cmp shape tag) key.now paths.old.items) }
+{
+    if let Some(i) = place_of_path(shape, tag, paths, key) {
+        let copy = key.clone()?;
+        paths.insert(i, copy)?;
+    }
+    Ok(())
+}
+
+fn path_where(holds: bool, bytes: &Bytes) -> Option<&Bytes>
+    ensures { option_copied result ≡ where_true holds bytes.now }
+{
+    if holds { Some(bytes) } else { None }
+}
+
+// The path that the atom writes in that column of the row.
+fn written_path<'a>(row: Option<&List<Bytes>>, number: u16, atom: &'a Atom) -> Option<&'a Bytes>
+    ensures { option_copied result ≡ written_path_of (key_of (option_copied row.entry)) number atom.now }
+{
+    match atom {
+        Atom::Write(c, column, bytes, _) => {
+            path_where(
+                same_row(Some(&c.values), row) && column.number == number,
+                bytes,
+            )
+        }
+        Atom::StaticWrite(column, bytes, _) => {
+            path_where(same_row(None, row) && column.number == number, bytes)
+        }
+        _ => None,
+    }
+}
+
+fn put_written_path(
+    column: &Column,
+    paths: &mut Vec<Bytes>,
+    row: Option<&List<Bytes>>,
+    number: u16,
+    atom: &Atom,
+) -> Result<(), AllocError>
+    ensures { OnOk result (paths.new.items ≡ put_some (path_cmp column.now.shape column.now.tag) paths.old.items (written_path_of (key_of (option_copied row.entry)) number atom.now)) }
+{
+    match written_path(row, number, atom) {
+        Some(bytes) => put_path(column.shape, column.tag, paths, bytes),
+        None => Ok(()),
+    }
+}
+
+// The paths that the atoms write in that column of the row, in order.
+fn written_paths(
+    alloc: Global,
+    atoms: &[Atom],
+    row: Option<&List<Bytes>>,
+    number: u16,
+    column: &Column,
+) -> Result<Vec<Bytes>, AllocError>
+    ensures { IfOk result (λ v. v.items ≡ ordered (path_cmp column.now.shape column.now.tag) (written_path_of (key_of (option_copied row.entry)) number) atoms.now) }
+{
+    let mut paths = Vec::new(alloc);
+    for atom in atoms {
+        put_written_path(column, &mut paths, row, number, atom)?;
+    }
+    Ok(paths)
+}
+
+// Whether there is a cell that shows its value at the moment.
+fn is_alive(now: i64, cell: Option<&Cell>) -> bool
+    ensures { result ≡ is_alive_of now (option_copied cell.entry) }
+{
+    match cell {
+        Some(cell) => alive(cell, now),
+        None => false,
+    }
+}
+
+// Whether an alive cell wins at the path.
+fn path_lives(
+    atoms: &[Atom],
+    now: i64,
+    row: Option<&List<Bytes>>,
+    number: u16,
+    bytes: &Bytes,
+) -> bool
+    ensures { result ≡ is_alive_of now (cell_winner_of atoms.now (path (key_of (option_copied row.entry)) number bytes.now)) }
+{
+    is_alive(now, cell_winner(atoms, row, number, bytes.as_slice()))
+}
+
+/// The paths of that column of the row at which an alive cell wins, in order.
+pub(crate) fn alive_paths(
+    alloc: Global,
+    atoms: &[Atom],
+    now: i64,
+    row: Option<&List<Bytes>>,
+    number: u16,
+    column: &Column,
+) -> Result<Vec<Bytes>, AllocError>
+    ensures { IfOk result (λ v. v.items ≡ alive_paths_of atoms.now now (key_of (option_copied row.entry)) number column.now) }
+{
+    let written = written_paths(alloc, atoms, row, number, column)?;
+    let mut paths = Vec::new(alloc);
+    for bytes in &written {
+        if path_lives(atoms, now, row, number, bytes) {
+            paths.push(bytes.clone()?)?;
+        }
+    }
+    Ok(paths)
+}

@@ -1,0 +1,237 @@
+//! What a row shows for a pick: a column's value, the timestamp of its write, the seconds that it
+//! has left.
+
+ghost use Rattle.std.specs.Prelude.{◌≡◌, ◌≤ℤ◌, pos, IsTrue, take, slice_get, IfOk, IfSome};
+ghost use Rattle.std.specs.List.{count_by};
+ghost use Rattle.std.specs.Option.{option_copied, option_map};
+ghost use Rattle.cas_cell.specs.Cells.{cell_at, cell_lives};
+ghost use Rattle.cas_atoms.specs.Coordinates.{key_of};
+ghost use Rattle.cas_atoms.specs.Picks.{is_partition, is_clustering, number_or_null as number_or_null_of, partition_value as partition_value_of, clustering_value as clustering_value_of, regular_value as regular_value_of, value_by_kind as value_by_kind_of, column_value as column_value_of, cell_by_kind as cell_by_kind_of, picked_cell as picked_cell_of, left_of as left_of_cell, picked as picked_of};
+
+use crate::atom::Atom;
+use crate::keys::key_values;
+use crate::query::{Datum, Pick, Query};
+use crate::shown::{one_or_null, plain_cell, shown_value};
+use cas_cell::Cell;
+use cas_types::{Bytes, Column, Kind, List, TypeTag};
+use std::alloc::{AllocError, Global};
+
+fn partition_count(columns: &[Column]) -> usize
+    ensures { result ≡ count_by (λ c. is_partition c.kind) columns.now }
+{
+    columns
+        .iter()
+        .filter(|c| matches!(c.kind, Kind::Partition))
+        .count()
+}
+
+// How many of the first columns, as many as the number says, are clustering columns.
+fn clustering_count(columns: &[Column], number: usize) -> usize
+    ensures { result ≡ count_by (λ c. is_clustering c.kind) (take number columns.now) }
+{
+    columns[..number.min(columns.len())]
+        .iter()
+        .filter(|c| matches!(c.kind, Kind::Ascending | Kind::Descending))
+        .count()
+}
+
+fn value_at(values: &[Bytes], place: usize) -> Option<&[u8]>
+    ensures { option_copied result ≡ slice_get values.now place }
+{
+    if place < values.len() {
+        Some(values[place].as_slice())
+    } else {
+        None
+    }
+}
+
+fn number_or_null(number: Option<i64>) -> Datum
+    ensures { result ≡ number_or_null_of number }
+{
+    match number {
+        Some(number) => Datum::Number(number),
+        None => Datum::Null,
+    }
+}
+
+// The value of the partition key's column of that number.
+fn partition_value(
+    alloc: Global,
+    query: &Query,
+    number: u16,
+    tag: TypeTag,
+) -> Result<Datum, AllocError>
+    ensures { IfOk result (λ d. d ≡ partition_value_of query.now number tag) }
+{
+    let count = partition_count(query.columns.as_slice());
+    let values = key_values(alloc, count, query.key.as_slice())?;
+    one_or_null(alloc, tag, value_at(&values, number as usize))
+}
+
+// The value of the clustering column of that number, of which the static row has none.
+fn clustering_value(
+    alloc: Global,
+    query: &Query,
+    row: Option<&List<Bytes>>,
+    number: u16,
+    tag: TypeTag,
+) -> Result<Datum, AllocError>
+    ensures { IfOk result (λ d. d ≡ clustering_value_of query.now (key_of (option_copied row.entry)) number tag) }
+{
+    match row {
+        Some(values) => {
+            let place = clustering_count(query.columns.as_slice(), number as usize);
+            one_or_null(alloc, tag, value_at(values.as_slice(), place))
+        }
+        None => Ok(Datum::Null),
+    }
+}
+
+// A regular column's value, of which the static row has none.
+fn regular_value(
+    alloc: Global,
+    atoms: &[Atom],
+    now: i64,
+    row: Option<&List<Bytes>>,
+    number: u16,
+    column: &Column,
+) -> Result<Datum, AllocError>
+    ensures { IfOk result (λ d. d ≡ regular_value_of atoms.now now (key_of (option_copied row.entry)) number column.now) }
+{
+    match row {
+        Some(_) => shown_value(alloc, atoms, now, row, number, column),
+        None => Ok(Datum::Null),
+    }
+}
+
+fn value_by_kind(
+    alloc: Global,
+    query: &Query,
+    atoms: &[Atom],
+    now: i64,
+    row: Option<&List<Bytes>>,
+    number: u16,
+    column: &Column,
+) -> Result<Datum, AllocError>
+    ensures { IfOk result (λ d. d ≡ value_by_kind_of column.now.kind query.now atoms.now now (key_of (option_copied row.entry)) number column.now) }
+{
+    match column.kind {
+        Kind::Partition => partition_value(alloc, query, number, column.tag),
+        Kind::Ascending => clustering_value(alloc, query, row, number, column.tag),
+        Kind::Descending => clustering_value(alloc, query, row, number, column.tag),
+        Kind::Static => shown_value(alloc, atoms, now, None, number, column),
+        Kind::Regular => regular_value(alloc, atoms, now, row, number, column),
+    }
+}
+
+fn column_at(query: &Query, number: u16) -> Option<&Column>
+    ensures { option_copied result ≡ slice_get query.now.columns number }
+{
+    query.columns.as_slice().get(number as usize)
+}
+
+fn column_value(
+    alloc: Global,
+    query: &Query,
+    atoms: &[Atom],
+    now: i64,
+    row: Option<&List<Bytes>>,
+    number: u16,
+    column: Option<&Column>,
+) -> Result<Datum, AllocError>
+    ensures { IfOk result (λ d. d ≡ column_value_of query.now atoms.now now (key_of (option_copied row.entry)) number (option_copied column.entry)) }
+{
+    match column {
+        Some(column) => value_by_kind(alloc, query, atoms, now, row, number, column),
+        None => Ok(Datum::Null),
+    }
+}
+
+fn cell_by_kind<'a>(
+    kind: Kind,
+    atoms: &'a [Atom],
+    now: i64,
+    row: Option<&List<Bytes>>,
+    number: u16,
+) -> Option<&'a Cell>
+    ensures cell { option_copied result ≡ cell_by_kind_of kind atoms.now now (key_of (option_copied row.entry)) number }
+    ensures alive { IfSome result (λ c. IsTrue (cell_lives now c.now)) }
+{
+    match (kind, row) {
+        (Kind::Static, _) => plain_cell(atoms, now, None, number),
+        (Kind::Regular, Some(_)) => plain_cell(atoms, now, row, number),
+        _ => None,
+    }
+}
+
+// The alive cell that writetime and ttl speak of.
+fn picked_cell<'a>(
+    query: &Query,
+    atoms: &'a [Atom],
+    now: i64,
+    row: Option<&List<Bytes>>,
+    number: u16,
+) -> Option<&'a Cell>
+    ensures cell { option_copied result ≡ picked_cell_of query.now atoms.now now (key_of (option_copied row.entry)) number (slice_get query.now.columns number) }
+    ensures alive { IfSome result (λ c. IsTrue (cell_lives now c.now)) }
+{
+    match column_at(query, number) {
+        Some(column) => cell_by_kind(column.kind, atoms, now, row, number),
+        None => None,
+    }
+}
+
+// The seconds until the cell expires, of which one with no TTL has none.
+fn seconds_left(now: i64, cell: Option<&Cell>) -> Option<i64>
+    requires begun { pos 0 ≤ℤ now }
+    requires alive { IfSome cell (λ c. IsTrue (cell_lives now c.now)) }
+    ensures { result ≡ left_of_cell now (option_copied cell.entry) }
+{
+    match cell {
+        Some(Cell::Expiring { expiry, .. }) => Some(*expiry - now),
+        _ => None,
+    }
+}
+
+fn write_time(cell: Option<&Cell>) -> Option<i64>
+    ensures { result ≡ option_map cell_at (option_copied cell.entry) }
+{
+    match cell {
+        Some(cell) => Some(cell.at()),
+        None => None,
+    }
+}
+
+/// What the row shows for a pick.
+#[tactic(auto, unfolding(crate::specs::Picks::picked))]
+pub(crate) fn picked(
+    alloc: Global,
+    query: &Query,
+    atoms: &[Atom],
+    now: i64,
+    row: Option<&List<Bytes>>,
+    pick: Pick,
+) -> Result<Datum, AllocError>
+    requires { pos 0 ≤ℤ now }
+    ensures { IfOk result (λ d. d ≡ picked_of query.now atoms.now now (key_of (option_copied row.entry)) pick) }
+{
+    match pick {
+        Pick::Value(number) => {
+            column_value(
+                alloc,
+                query,
+                atoms,
+                now,
+                row,
+                number,
+                column_at(query, number),
+            )
+        }
+        Pick::WriteTime(number) => {
+            Ok(number_or_null(write_time(picked_cell(query, atoms, now, row, number))))
+        }
+        Pick::Ttl(number) => {
+            Ok(number_or_null(seconds_left(now, picked_cell(query, atoms, now, row, number))))
+        }
+    }
+}

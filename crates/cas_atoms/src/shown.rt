@@ -1,0 +1,215 @@
+//! What a row shows of a column that isn't of the primary key.
+
+ghost use Rattle.std.specs.Prelude.{◌≡◌, IsTrue, map, IfOk, IfSome};
+ghost use Rattle.std.specs.Option.{option_copied};
+ghost use Rattle.cas_types.specs.declared.schema.Shape.TheVariants as shape;
+ghost use Rattle.cas_cell.specs.Cells.{cell_lives};
+ghost use Rattle.cas_atoms.specs.Coordinates.{key_of};
+ghost use Rattle.cas_atoms.specs.Picks.{one_or_null as one_or_null_of, set_or_null as set_or_null_of, list_or_null as list_or_null_of, map_or_null as map_or_null_of, living as living_of, plain_cell as plain_cell_of, element_value as element_value_of, type_or_blob, shown_by_shape, shown_value as shown_value_of};
+
+use crate::atom::Atom;
+use crate::paths::alive_paths;
+use crate::query::Datum;
+use crate::winners::cell_winner;
+use cas_cell::{Cell, alive};
+use cas_types::{Bytes, Column, List, Shape, TypeTag};
+use std::alloc::{AllocError, Global};
+
+/// A value that is there, or null.
+pub(crate) fn one_or_null(
+    alloc: Global,
+    tag: TypeTag,
+    value: Option<&[u8]>,
+) -> Result<Datum, AllocError>
+    ensures { IfOk result (λ d. d ≡ one_or_null_of tag (option_copied value.entry)) }
+{
+    match value {
+        Some(bytes) => Ok(Datum::One(tag, Bytes::copy_of(alloc, bytes)?)),
+        None => Ok(Datum::Null),
+    }
+}
+
+fn set_or_null(tag: TypeTag, values: Vec<Bytes>) -> Datum
+    ensures { result ≡ set_or_null_of tag values.items }
+{
+    if values.is_empty() {
+        Datum::Null
+    } else {
+        Datum::Set(tag, List::from_vec(values))
+    }
+}
+
+fn list_or_null(tag: TypeTag, values: Vec<Bytes>) -> Datum
+    ensures { result ≡ list_or_null_of tag values.items }
+{
+    if values.is_empty() {
+        Datum::Null
+    } else {
+        Datum::List(tag, List::from_vec(values))
+    }
+}
+
+fn map_or_null(keys: TypeTag, values: TypeTag, entries: Vec<(Bytes, Bytes)>) -> Datum
+    ensures { result ≡ map_or_null_of keys values entries.items }
+{
+    if entries.is_empty() {
+        Datum::Null
+    } else {
+        Datum::Map(keys, values, List::from_vec(entries))
+    }
+}
+
+// The cell, where it is alive at the moment.
+fn living(now: i64, cell: Option<&Cell>) -> Option<&Cell>
+    ensures cell { option_copied result ≡ living_of now (option_copied cell.entry) }
+    ensures alive { IfSome result (λ c. IsTrue (cell_lives now c.now)) }
+{
+    match cell {
+        Some(cell) if alive(cell, now) => Some(cell),
+        _ => None,
+    }
+}
+
+/// The alive cell of a plain column of the row.
+pub(crate) fn plain_cell<'a>(
+    atoms: &'a [Atom],
+    now: i64,
+    row: Option<&List<Bytes>>,
+    number: u16,
+) -> Option<&'a Cell>
+    ensures cell { option_copied result ≡ plain_cell_of atoms.now now (key_of (option_copied row.entry)) number }
+    ensures alive { IfSome result (λ c. IsTrue (cell_lives now c.now)) }
+{
+    living(now, cell_winner(atoms, row, number, &[]))
+}
+
+// The value of an element of a list, or of a key of a map.
+fn element_value<'a>(
+    atoms: &'a [Atom],
+    row: Option<&List<Bytes>>,
+    number: u16,
+    bytes: &[u8],
+) -> &'a [u8]
+    ensures { result.now ≡ element_value_of atoms.now (key_of (option_copied row.entry)) number bytes.now }
+{
+    match cell_winner(atoms, row, number, bytes) {
+        Some(cell) => cell.value(),
+        None => &[],
+    }
+}
+
+// The values of the elements of a list.
+fn element_values(
+    alloc: Global,
+    atoms: &[Atom],
+    row: Option<&List<Bytes>>,
+    number: u16,
+    paths: &[Bytes],
+) -> Result<Vec<Bytes>, AllocError>
+    ensures { IfOk result (λ v. v.items ≡ map (element_value_of atoms.now (key_of (option_copied row.entry)) number) paths.now) }
+{
+    let mut values = Vec::new(alloc);
+    for bytes in paths {
+        let value = element_value(atoms, row, number, bytes.as_slice());
+        values.push(Bytes::copy_of(alloc, value)?)?;
+    }
+    Ok(values)
+}
+
+// The keys of a map with their values.
+fn map_entries(
+    alloc: Global,
+    atoms: &[Atom],
+    row: Option<&List<Bytes>>,
+    number: u16,
+    paths: &[Bytes],
+) -> Result<Vec<(Bytes, Bytes)>, AllocError>
+    ensures { IfOk result (λ v. v.items ≡ map (λ p. (p, element_value_of atoms.now (key_of (option_copied row.entry)) number p)) paths.now) }
+{
+    let mut entries = Vec::new(alloc);
+    for bytes in paths {
+        let value = element_value(atoms, row, number, bytes.as_slice());
+        entries.push((bytes.clone()?, Bytes::copy_of(alloc, value)?))?;
+    }
+    Ok(entries)
+}
+
+fn shown_list(
+    alloc: Global,
+    atoms: &[Atom],
+    now: i64,
+    row: Option<&List<Bytes>>,
+    number: u16,
+    column: &Column,
+) -> Result<Datum, AllocError>
+    ensures { IfOk result (λ d. d ≡ shown_by_shape shape.List atoms.now now (key_of (option_copied row.entry)) number column.now) }
+{
+    let paths = alive_paths(alloc, atoms, now, row, number, column)?;
+    Ok(list_or_null(
+        column.tag,
+        element_values(alloc, atoms, row, number, &paths)?,
+    ))
+}
+
+fn shown_map(
+    alloc: Global,
+    atoms: &[Atom],
+    now: i64,
+    row: Option<&List<Bytes>>,
+    number: u16,
+    column: &Column,
+) -> Result<Datum, AllocError>
+    ensures { IfOk result (λ d. d ≡ shown_by_shape shape.Map atoms.now now (key_of (option_copied row.entry)) number column.now) }
+{
+    let paths = alive_paths(alloc, atoms, now, row, number, column)?;
+    let entries = map_entries(alloc, atoms, row, number, &paths)?;
+    Ok(map_or_null(column.tag, value_type(column.second), entries))
+}
+
+// The type of a map's values.
+fn value_type(second: Option<TypeTag>) -> TypeTag
+    ensures { result ≡ type_or_blob second }
+{
+    match second {
+        Some(tag) => tag,
+        None => TypeTag::Blob,
+    }
+}
+
+fn shown_one(
+    alloc: Global,
+    atoms: &[Atom],
+    now: i64,
+    row: Option<&List<Bytes>>,
+    number: u16,
+    column: &Column,
+) -> Result<Datum, AllocError>
+    ensures { IfOk result (λ d. d ≡ shown_by_shape shape.One atoms.now now (key_of (option_copied row.entry)) number column.now) }
+{
+    match plain_cell(atoms, now, row, number) {
+        Some(cell) => one_or_null(alloc, column.tag, Some(cell.value())),
+        None => Ok(Datum::Null),
+    }
+}
+
+/// What the row shows of the column of that number.
+pub(crate) fn shown_value(
+    alloc: Global,
+    atoms: &[Atom],
+    now: i64,
+    row: Option<&List<Bytes>>,
+    number: u16,
+    column: &Column,
+) -> Result<Datum, AllocError>
+    ensures { IfOk result (λ d. d ≡ shown_value_of atoms.now now (key_of (option_copied row.entry)) number column.now) }
+{
+    match column.shape {
+        Shape::One => shown_one(alloc, atoms, now, row, number, column),
+        Shape::Set => {
+            let paths = alive_paths(alloc, atoms, now, row, number, column)?;
+            Ok(set_or_null(column.tag, paths))
+        }
+        Shape::List => shown_list(alloc, atoms, now, row, number, column),
+        Shape::Map => shown_map(alloc, atoms, now, row, number, column),
+    }
+}
