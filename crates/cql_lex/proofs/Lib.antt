@@ -1,0 +1,12 @@
+pub mod Rests
+pub mod Fronts
+pub mod Symbols
+pub mod Sizes
+pub mod Spelled
+pub mod Turns
+pub mod RoundTrip
+pub mod Inner
+pub mod Longest
+pub mod Pieces
+pub mod Spans
+pub mod Reached

@@ -1,0 +1,10 @@
+use Rattle.std.proofs.Common.{◌≡◌, ◌+◌, ◌-◌, length, drop}
+use Rattle.std.specs.Option.{option_map}
+use Rattle.cql_lex.specs.Quotes.{closing_size}
+use Rattle.cql_lex.proofs.closings.closing_size.Given as goal
+
+abbrev pub invariant-loop-at : goal.invariant-loop-at
+invariant-loop-at l = option_map (λ n. l.at + n) (closing_size l.quote (drop l.at l.text)) ≡ closing_size l.quote l.text
+
+abbrev pub decreases-loop-at : goal.decreases-loop-at
+decreases-loop-at l = length l.text - l.at

@@ -1,0 +1,113 @@
+-- What holds of the tokens of a line.
+use Rattle.std.specs.Prelude.{◌≡◌, ◌↔◌, ℕ, Bool, true, false, ◌-◌, ◌<◌, ◌≤◌, List, [], ◌∷◌, length, take, drop, codes, Some, is_some, IsTrue, IsUtf8}
+use Rattle.std.specs.List.{AllByRecursion}
+use Rattle.cql_lex.specs.Characters.{is_word, begins}
+use Rattle.cql_lex.specs.Numbers.{number_value, is_ratio}
+use Rattle.cql_lex.specs.Quotes.{name_quote, string_quote, quoted_value, quoted_text, in_quotes}
+use Rattle.cql_lex.specs.Constants.{name_value, uuid_value, blob_value}
+use Rattle.cql_lex.specs.Lexes.{Lexes}
+use Rattle.cql_lex.specs.declared.token.Token.{Token}
+use Rattle.cql_lex.specs.declared.token.TokenKind.{TokenKind}
+use Rattle.cql_lex.specs.declared.token.TokenKind.TheVariants.{Uuid, Blob, Number, Ratio, Name, QuotedName, String, AtMost, AtLeast, OpenParen, CloseParen, OpenBracket, CloseBracket, OpenBrace, CloseBrace, Less, Greater, Equals, Comma, Semicolon, Colon, Dot, Plus, Minus, Star}
+
+-- the spans stand one after another, from this place up to the end
+abbrev pub Ascend : ℕ → List Token → ℕ → Type 0
+Ascend from [] end = from ≤ end
+Ascend from (t ∷ ts) end = (from ≤ t.start) × (t.start < t.end) × Ascend t.end ts end
+
+-- the text of a span
+abbrev pub text_of : List ℕ → Token → List ℕ
+text_of source t = take (t.end - t.start) (drop t.start source)
+
+-- the text is a token of the kind
+abbrev pub HasForm : TokenKind → List ℕ → Type 0
+HasForm Uuid text = IsTrue (is_some (uuid_value text))
+HasForm Blob text = IsTrue (is_some (blob_value text))
+HasForm Number text = IsTrue (is_some (number_value text))
+HasForm Ratio text = IsTrue (is_ratio text)
+HasForm Name text = IsTrue (is_some (name_value text))
+HasForm QuotedName text = IsTrue (is_some (quoted_text name_quote text))
+HasForm String text = IsTrue (is_some (quoted_text string_quote text))
+HasForm AtMost text = text ≡ codes "<="
+HasForm AtLeast text = text ≡ codes ">="
+HasForm OpenParen text = text ≡ codes "("
+HasForm CloseParen text = text ≡ codes ")"
+HasForm OpenBracket text = text ≡ codes "["
+HasForm CloseBracket text = text ≡ codes "]"
+HasForm OpenBrace text = text ≡ codes "{"
+HasForm CloseBrace text = text ≡ codes "}"
+HasForm Less text = text ≡ codes "<"
+HasForm Greater text = text ≡ codes ">"
+HasForm Equals text = text ≡ codes "="
+HasForm Comma text = text ≡ codes ","
+HasForm Semicolon text = text ≡ codes ";"
+HasForm Colon text = text ≡ codes ":"
+HasForm Dot text = text ≡ codes "."
+HasForm Plus text = text ≡ codes "+"
+HasForm Minus text = text ≡ codes "-"
+HasForm Star text = text ≡ codes "*"
+
+-- each token's text is one of its kind
+abbrev pub HaveForms : List ℕ → List Token → Type 0
+HaveForms source tokens = AllByRecursion (λ t. HasForm t.kind (text_of source t)) tokens
+
+-- no longer text from the same place is one of the kind: a token takes as much as its form says
+abbrev pub IsLongest : List ℕ → Token → Type 0
+IsLongest source t = (end : ℕ) → t.end < end → end ≤ length source → ¬ (HasForm t.kind (take (end - t.start) (drop t.start source)))
+
+abbrev pub AreLongest : List ℕ → List Token → Type 0
+AreLongest source tokens = AllByRecursion (IsLongest source) tokens
+
+-- a name, a number, a ratio or a uuid
+abbrev pub is_wordlike : TokenKind → Bool
+is_wordlike Uuid = true
+is_wordlike Blob = false
+is_wordlike Number = true
+is_wordlike Ratio = true
+is_wordlike Name = true
+is_wordlike QuotedName = false
+is_wordlike String = false
+is_wordlike AtMost = false
+is_wordlike AtLeast = false
+is_wordlike OpenParen = false
+is_wordlike CloseParen = false
+is_wordlike OpenBracket = false
+is_wordlike CloseBracket = false
+is_wordlike OpenBrace = false
+is_wordlike CloseBrace = false
+is_wordlike Less = false
+is_wordlike Greater = false
+is_wordlike Equals = false
+is_wordlike Comma = false
+is_wordlike Semicolon = false
+is_wordlike Colon = false
+is_wordlike Dot = false
+is_wordlike Plus = false
+is_wordlike Minus = false
+is_wordlike Star = false
+
+-- no letter, digit or `_` follows one of these at once
+abbrev pub IsApart : List ℕ → Token → Type 0
+IsApart source t = IsTrue (is_wordlike t.kind) → begins is_word (drop t.end source) ≡ false
+
+abbrev pub AreApart : List ℕ → List Token → Type 0
+AreApart source tokens = AllByRecursion (IsApart source) tokens
+
+-- what holds of the places of a line's tokens
+pub record ArePlaced (source : List ℕ) (tokens : List Token) : Type 0 where
+  pub spans : Ascend 0 tokens (length source)
+  pub forms : HaveForms source tokens
+  pub longest : AreLongest source tokens
+  pub apart : AreApart source tokens
+
+-- a line has one list of tokens at most
+abbrev pub OneReading : Type 0
+OneReading = (source : List ℕ) (tokens others : List Token) → Lexes source tokens → Lexes source others → tokens ≡ others
+
+-- it holds of each line
+abbrev pub WellPlaced : Type 0
+WellPlaced = (source : List ℕ) (tokens : List Token) → IsUtf8 source → Lexes source tokens → ArePlaced source tokens
+
+-- a text in quotes stands for exactly the text that is written so
+abbrev pub QuotesRoundTrip : Type 0
+QuotesRoundTrip = (quote : ℕ) (text inner : List ℕ) → (quoted_value quote text ≡ Some inner) ↔ (text ≡ in_quotes quote inner)

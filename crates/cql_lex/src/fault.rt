@@ -1,0 +1,38 @@
+ghost use Rattle.cql_lex.specs.declared.fault.LexFault.TheVariants.{Mem as MemOf};
+ghost use Rattle.std.specs.Prelude.{◌≡◌};
+
+use cas_types::Mem;
+use std::alloc::{AllocError, AllocFailed};
+
+/// Why a line has no tokens.
+#[derive(Clone, Copy, PartialEq, Eq, Debug)]
+pub enum LexFault {
+    /// The rules give none.
+    Syntax,
+    /// Want of memory.
+    Mem,
+}
+
+impl From<AllocError> for LexFault {
+    ghost from_gives = { λ _ fault. fault ≡ MemOf };
+
+    fn from(_: AllocError) -> Self {
+        LexFault::Mem
+    }
+}
+
+impl<T: Drop> From<AllocFailed<T>> for LexFault {
+    ghost from_gives = { λ _ fault. fault ≡ MemOf };
+
+    fn from(_: AllocFailed<T>) -> Self {
+        LexFault::Mem
+    }
+}
+
+impl From<Mem> for LexFault {
+    ghost from_gives = { λ _ fault. fault ≡ MemOf };
+
+    fn from(_: Mem) -> Self {
+        LexFault::Mem
+    }
+}

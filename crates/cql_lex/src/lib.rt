@@ -1,0 +1,28 @@
+//! The lexer of CQL: which tokens a line has, where each stands, and what its text means.
+#![tactic(auto)]
+
+mod characters;
+mod closings;
+mod constants;
+mod fault;
+mod gaps;
+mod laws;
+mod lexer;
+mod names;
+mod numbers;
+mod piece;
+mod quotes;
+mod rules;
+#[cfg(test)]
+mod tests;
+mod texts;
+mod token;
+
+pub use constants::{blob_of, uuid_of};
+pub use fault::LexFault;
+pub use laws::{one_reading, quotes_round_trip, well_placed};
+pub use lexer::tokens;
+pub use names::name_of;
+pub use numbers::{number_of, ratio_of};
+pub use quotes::{quoted_name_of, string_of};
+pub use token::{Token, TokenKind};

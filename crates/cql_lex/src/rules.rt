@@ -1,0 +1,180 @@
+//! What stands at the front of a text.
+
+ghost use Rattle.std.specs.Prelude.{◌≡◌, ◌<◌, ◌≤◌, length, Some, IfSome};
+ghost use Rattle.cql_lex.specs.Rules.{token as token_of_size, token_at as token_at_of, piece_at as piece_at_of, begins_uuid as begins_uuid_of, begins_number as begins_number_of, whole_size as whole_size_of, fraction_size as fraction_size_of, number_of_sizes, number_at as number_at_of, quoted_at as quoted_at_of, symbol as symbol_of, symbol_at as symbol_at_of, single_at as single_at_of};
+
+use crate::characters::{
+    begins_byte, begins_digit, begins_letter, begins_pair, begins_word, digits_size,
+    hex_pairs_size, word_size,
+};
+use crate::closings::closing_size;
+use crate::constants::{begins_blob, uuid_of};
+use crate::gaps::gap_size;
+use crate::numbers::{is_negative, number_of, unsigned};
+use crate::piece::Piece;
+use crate::token::TokenKind;
+
+fn token(kind: TokenKind, size: usize) -> Option<Piece>
+    ensures { result ≡ Some (token_of_size kind size) }
+{
+    Some(Piece {
+        kind: Some(kind),
+        size,
+    })
+}
+
+/// Whether the text begins with a uuid that no letter, digit or `_` follows.
+fn begins_uuid(text: &[u8]) -> bool
+    ensures { result ≡ begins_uuid_of text.now }
+{
+    if text.len() < 36 {
+        return false;
+    }
+    let (front, rest) = text.split_at(36);
+    uuid_of(front).is_some() && !begins_word(rest)
+}
+
+fn begins_number(text: &[u8]) -> bool
+    ensures { result ≡ begins_number_of text.now }
+{
+    begins_digit(unsigned(text))
+}
+
+/// The size of the `-` and the digits that a number begins with.
+#[tactic(auto, using(crate::proofs::Sizes::whole_within))]
+fn whole_size(text: &[u8]) -> usize
+    ensures size { result ≡ whole_size_of text.now }
+    ensures within { result ≤ length text.now }
+{
+    if is_negative(text) {
+        1 + digits_size(unsigned(text))
+    } else {
+        digits_size(unsigned(text))
+    }
+}
+
+/// The size of a point and the one or two digits after it; 0 where there are none.
+#[tactic(auto, using(crate::proofs::Sizes::fraction_within))]
+fn fraction_size(text: &[u8]) -> usize
+    ensures size { result ≡ fraction_size_of text.now }
+    ensures within { result ≤ length text.now }
+{
+    match text {
+        [point, digit, rest @ ..] if *point == b'.' && digit.is_ascii_digit() => {
+            if begins_digit(rest) { 3 } else { 2 }
+        }
+        _ => 0,
+    }
+}
+
+/// The number or ratio that the text begins with, unless it is refused.
+fn number_at(text: &[u8]) -> Option<Piece>
+    ensures { result ≡ number_at_of text.now }
+{
+    let whole = whole_size(text);
+    let fraction = fraction_size(&text[whole..]);
+    if begins_word(&text[whole + fraction..]) {
+        None
+    } else if fraction > 0 {
+        token(TokenKind::Ratio, whole + fraction)
+    } else if number_of(&text[..whole]).is_some() {
+        token(TokenKind::Number, whole)
+    } else {
+        None
+    }
+}
+
+/// The text in quotes that begins the text, up to the closing one.
+fn quoted_at(kind: TokenKind, quote: u8, text: &[u8]) -> Option<Piece>
+    ensures { result ≡ quoted_at_of kind quote text.now }
+{
+    match text {
+        [_quote, rest @ ..] => match closing_size(quote, rest) {
+            Some(size) => token(kind, 1 + size),
+            None => None,
+        },
+        _ => None,
+    }
+}
+
+fn symbol(byte: u8) -> Option<TokenKind>
+    ensures { result ≡ symbol_of byte }
+{
+    match byte {
+        b'(' => Some(TokenKind::OpenParen),
+        b')' => Some(TokenKind::CloseParen),
+        b'[' => Some(TokenKind::OpenBracket),
+        b']' => Some(TokenKind::CloseBracket),
+        b'{' => Some(TokenKind::OpenBrace),
+        b'}' => Some(TokenKind::CloseBrace),
+        b'<' => Some(TokenKind::Less),
+        b'>' => Some(TokenKind::Greater),
+        b'=' => Some(TokenKind::Equals),
+        b',' => Some(TokenKind::Comma),
+        b';' => Some(TokenKind::Semicolon),
+        b':' => Some(TokenKind::Colon),
+        b'.' => Some(TokenKind::Dot),
+        b'+' => Some(TokenKind::Plus),
+        b'-' => Some(TokenKind::Minus),
+        b'*' => Some(TokenKind::Star),
+        _ => None,
+    }
+}
+
+fn single_at(text: &[u8]) -> Option<Piece>
+    ensures { result ≡ single_at_of text.now }
+{
+    match text {
+        [byte, _rest @ ..] => match symbol(*byte) {
+            Some(kind) => token(kind, 1),
+            None => None,
+        },
+        _ => None,
+    }
+}
+
+fn symbol_at(text: &[u8]) -> Option<Piece>
+    ensures { result ≡ symbol_at_of text.now }
+{
+    if begins_pair(text, b'<', b'=') {
+        token(TokenKind::AtMost, 2)
+    } else if begins_pair(text, b'>', b'=') {
+        token(TokenKind::AtLeast, 2)
+    } else {
+        single_at(text)
+    }
+}
+
+/// The token that the text begins with: the first rule that it begins as decides.
+#[tactic(auto, unfolding(crate::specs::Rules::token_at))]
+fn token_at(text: &[u8]) -> Option<Piece>
+    ensures { result ≡ token_at_of text.now }
+{
+    if begins_uuid(text) {
+        token(TokenKind::Uuid, 36)
+    } else if begins_blob(text) {
+        token(TokenKind::Blob, 2 + hex_pairs_size(&text[2..]))
+    } else if begins_number(text) {
+        number_at(text)
+    } else if begins_letter(text) {
+        token(TokenKind::Name, word_size(text))
+    } else if begins_byte(text, b'"') {
+        quoted_at(TokenKind::QuotedName, b'"', text)
+    } else if begins_byte(text, b'\'') {
+        quoted_at(TokenKind::String, b'\'', text)
+    } else {
+        symbol_at(text)
+    }
+}
+
+/// The blank, the comment or the token that the text begins with.
+#[tactic(auto, unfolding(crate::specs::Rules::piece_at))]
+pub(crate) fn piece_at(text: &[u8]) -> Option<Piece>
+    ensures piece { result ≡ piece_at_of text.now }
+    ensures size { IfSome result (λ p. (0 < p.size) × (p.size ≤ length text.now)) }
+{
+    match gap_size(text) {
+        Some(size) => Some(Piece { kind: None, size }),
+        None => token_at(text),
+    }
+}

@@ -1,0 +1,37 @@
+/// What kind of token a span of a statement is.
+#[derive(Clone, Copy, PartialEq, Eq, Debug)]
+pub enum TokenKind {
+    Uuid,
+    Blob,
+    Number,
+    Ratio,
+    Name,
+    QuotedName,
+    String,
+    AtMost,
+    AtLeast,
+    OpenParen,
+    CloseParen,
+    OpenBracket,
+    CloseBracket,
+    OpenBrace,
+    CloseBrace,
+    Less,
+    Greater,
+    Equals,
+    Comma,
+    Semicolon,
+    Colon,
+    Dot,
+    Plus,
+    Minus,
+    Star,
+}
+
+/// A token: its kind, and the span of the source that it stands in, in bytes.
+#[derive(Clone, Copy, PartialEq, Eq, Debug)]
+pub struct Token {
+    pub kind: TokenKind,
+    pub start: usize,
+    pub end: usize,
+}
