@@ -1,0 +1,12 @@
+pub mod Loop
+pub mod Walks
+pub mod Meanings
+pub mod Agree
+pub mod Tokens
+pub mod Clauses
+pub mod Nesting
+pub mod TermAgree
+pub mod ChangeAgree
+pub mod SelectAgree
+pub mod DefineAgree
+pub mod StatementAgree

@@ -1,0 +1,423 @@
+-- Reading statements and their clauses.
+use Rattle.std.specs.Prelude.{ℕ, ℤ, Bool, true, false, not, List, [], ◌∷◌, Option, None, Some, if◌then◌else◌}
+use Rattle.cas_types.specs.declared.tag.TypeTag.{TypeTag}
+use Rattle.cas_types.specs.declared.tag.TypeTag.TheVariants as tag
+use Rattle.cql_parse.specs.declared.lexeme.Lexeme.{Lexeme}
+use Rattle.cql_parse.specs.declared.lexeme.Lexeme.TheVariants as lexeme
+use Rattle.cql_parse.specs.declared.symbol.Keyword.{Keyword}
+use Rattle.cql_parse.specs.declared.symbol.Keyword.TheVariants as word
+use Rattle.cql_parse.specs.declared.symbol.Mark.TheVariants as mark
+use Rattle.cql_parse.specs.declared.lists.Separator.TheVariants as separator
+use Rattle.cql_parse.specs.declared.term.Term.TheVariants as term
+use Rattle.cql_parse.specs.declared.syntax.TableName.{TableName}
+use Rattle.cql_parse.specs.declared.syntax.CreateTable.{CreateTable}
+use Rattle.cql_parse.specs.declared.syntax.AlterTable.{AlterTable}
+use Rattle.cql_parse.specs.declared.syntax.Item.{Item}
+use Rattle.cql_parse.specs.declared.syntax.Item.TheVariants as item
+use Rattle.cql_parse.specs.declared.syntax.DefinedColumn.{DefinedColumn}
+use Rattle.cql_parse.specs.declared.syntax.AddedColumn.{AddedColumn}
+use Rattle.cql_parse.specs.declared.syntax.PrimaryKey.{PrimaryKey}
+use Rattle.cql_parse.specs.declared.syntax.ColumnType.{ColumnType}
+use Rattle.cql_parse.specs.declared.syntax.ColumnType.TheVariants as column_type
+use Rattle.cql_parse.specs.declared.syntax.TableOption.{TableOption}
+use Rattle.cql_parse.specs.declared.syntax.TableOption.TheVariants as table_option
+use Rattle.cql_parse.specs.declared.syntax.OptionValue.{OptionValue}
+use Rattle.cql_parse.specs.declared.syntax.OptionValue.TheVariants as option_value
+use Rattle.cql_parse.specs.declared.syntax.Suboption.{Suboption}
+use Rattle.cql_parse.specs.declared.syntax.ColumnOrder.{ColumnOrder}
+use Rattle.cql_parse.specs.declared.syntax.Insert.{Insert}
+use Rattle.cql_parse.specs.declared.syntax.Use.{Use}
+use Rattle.cql_parse.specs.declared.syntax.Use.TheVariants as «use»
+use Rattle.cql_parse.specs.declared.syntax.Update.{Update}
+use Rattle.cql_parse.specs.declared.syntax.Assignment.{Assignment}
+use Rattle.cql_parse.specs.declared.syntax.Assigned.{Assigned}
+use Rattle.cql_parse.specs.declared.syntax.Assigned.TheVariants as assigned
+use Rattle.cql_parse.specs.declared.syntax.Delete.{Delete}
+use Rattle.cql_parse.specs.declared.syntax.Target.{Target}
+use Rattle.cql_parse.specs.declared.syntax.Select.{Select}
+use Rattle.cql_parse.specs.declared.syntax.Picks.{Picks}
+use Rattle.cql_parse.specs.declared.syntax.Picks.TheVariants as picks
+use Rattle.cql_parse.specs.declared.syntax.Pick.{Pick}
+use Rattle.cql_parse.specs.declared.syntax.Pick.TheVariants as pick
+use Rattle.cql_parse.specs.declared.syntax.Relation.{Relation}
+use Rattle.cql_parse.specs.declared.syntax.Operator.{Operator}
+use Rattle.cql_parse.specs.declared.syntax.Operator.TheVariants as operator
+use Rattle.cql_parse.specs.declared.syntax.Statement.{Statement}
+use Rattle.cql_parse.specs.declared.syntax.Statement.TheVariants as statement
+use Rattle.cql_parse.specs.Symbols.{is_reserved}
+use Rattle.cql_parse.specs.Reading.{Reader, done, and_then, ◌>>=◌, chosen, after_word, after_mark, after_open_bracket, word_at, mark_at, close_brace_at, close_bracket_at, name_at, number_at, from_at, list_at, in_parens, list_behind, number_behind, blob_behind, flag_at}
+use Rattle.cql_parse.specs.TermReading.{constant_at, opens, literal_at, term_at, setting_at}
+
+unfoldable pub table_at : Reader TableName
+table_at = do
+  first ← name_at
+  λ l. chosen (after_mark mark.Dot l) (do
+    second ← name_at
+    done (record { keyspace = Some first; name = second })) (Some (record { keyspace = None; name = first }, l))
+
+-- ---- INSERT
+
+unfoldable pub use_at : Reader Use
+use_at l =
+    chosen (after_word word.Timestamp l) (do
+      n ← number_at
+      done («use».Timestamp n)) (and_then (word_at word.Ttl l) (λ _. do
+        n ← number_at
+        done («use».Ttl n)))
+
+-- each behind its first word
+unfoldable pub insert_at : Reader Insert
+insert_at = do
+  _ ← word_at word.Into
+  table ← table_at
+  columns ← in_parens name_at
+  _ ← word_at word.Values
+  values ← in_parens term_at
+  uses ← list_behind word.Using separator.And use_at
+  done (record { table = table; columns = columns; values = values; uses = uses })
+
+-- ---- UPDATE and DELETE
+
+unfoldable pub operator_at : Reader Operator
+operator_at (lexeme.Mark mark.Equals ∷ l) = Some (operator.Equal, l)
+operator_at (lexeme.Mark mark.Less ∷ l) = Some (operator.Less, l)
+operator_at (lexeme.Mark mark.AtMost ∷ l) = Some (operator.AtMost, l)
+operator_at (lexeme.Mark mark.Greater ∷ l) = Some (operator.Greater, l)
+operator_at (lexeme.Mark mark.AtLeast ∷ l) = Some (operator.AtLeast, l)
+operator_at _ = None
+
+unfoldable pub relation_at : Reader Relation
+relation_at = do
+  column ← name_at
+  operator ← operator_at
+  value ← term_at
+  done (record { column = column; operator = operator; value = value })
+
+unfoldable pub is_name : List Lexeme → Bool
+is_name (lexeme.Word text ∷ l) = not (is_reserved text)
+is_name (lexeme.Quoted text ∷ l) = true
+is_name _ = false
+
+unfoldable pub entry_assigned : Reader Assigned
+entry_assigned = do
+  key ← constant_at
+  _ ← close_bracket_at
+  _ ← mark_at mark.Equals
+  value ← term_at
+  done (assigned.Entry key value)
+
+unfoldable pub literal_assigned : Reader Assigned
+literal_assigned = do
+  x ← literal_at
+  λ l. chosen (after_mark mark.Plus l) (do
+    name ← name_at
+    done (assigned.Prepend x name)) (Some (assigned.Whole (term.Literal x), l))
+
+unfoldable pub changed : List ℕ → Reader Assigned
+changed name l =
+    chosen (after_mark mark.Plus l) (do
+      x ← literal_at
+      done (assigned.Append name x)) (and_then (mark_at mark.Minus l) (λ _. do
+        x ← literal_at
+        done (assigned.Remove name x)))
+
+unfoldable pub name_assigned : Reader Assigned
+name_assigned = do
+  name ← name_at
+  changed name
+
+unfoldable pub term_assigned : Reader Assigned
+term_assigned = do
+  t ← term_at
+  done (assigned.Whole t)
+
+unfoldable pub right_side : Reader Assigned
+right_side l = if opens l then literal_assigned l else if is_name l then name_assigned l else term_assigned l
+
+unfoldable pub assigned_at : Reader Assigned
+assigned_at l = chosen (after_open_bracket l) entry_assigned (and_then (mark_at mark.Equals l) (λ _. right_side))
+
+unfoldable pub assignment_at : Reader Assignment
+assignment_at = do
+  column ← name_at
+  value ← assigned_at
+  done (record { column = column; value = value })
+
+unfoldable pub update_at : Reader Update
+update_at = do
+  table ← table_at
+  uses ← list_behind word.Using separator.And use_at
+  _ ← word_at word.Set
+  assignments ← list_at separator.Comma assignment_at
+  _ ← word_at word.Where
+  relations ← list_at separator.And relation_at
+  done (record { table = table; uses = uses; assignments = assignments; relations = relations })
+
+unfoldable pub target_at : Reader Target
+target_at = do
+  column ← name_at
+  λ l. chosen (after_open_bracket l) (do
+    key ← constant_at
+    _ ← close_bracket_at
+    done (record { column = column; key = Some key })) (Some (record { column = column; key = None }, l))
+
+unfoldable pub targets_at : Reader (List Target)
+targets_at l = chosen (after_word word.From l) (λ r. Some ([], l)) (list_at separator.Comma target_at l)
+
+unfoldable pub timestamp_at : Reader (Option ℤ)
+timestamp_at l =
+    chosen (after_word word.Using l) (do
+      _ ← word_at word.Timestamp
+      n ← number_at
+      done (Some n)) (Some (None, l))
+
+unfoldable pub delete_at : Reader Delete
+delete_at = do
+  targets ← targets_at
+  _ ← word_at word.From
+  table ← table_at
+  timestamp ← timestamp_at
+  _ ← word_at word.Where
+  relations ← list_at separator.And relation_at
+  done (record { targets = targets; table = table; timestamp = timestamp; relations = relations })
+
+-- ---- SELECT
+
+unfoldable pub column_order_at : Reader ColumnOrder
+column_order_at = do
+  name ← name_at
+  λ l. chosen (after_word word.Desc l) (done (record { name = name; descending = true })) (chosen (after_word word.Asc l) (done (record { name = name; descending = false })) (Some (record { name = name; descending = false }, l)))
+
+-- a word with a parenthesis behind it
+unfoldable pub after_call : Keyword → List Lexeme → Option (List Lexeme)
+after_call k l = elim (after_word k l) [ None ↦ None | Some r ↦ after_mark mark.OpenParen r ]
+
+unfoldable pub called : Reader (List ℕ)
+called = do
+  name ← name_at
+  _ ← mark_at mark.CloseParen
+  done name
+
+unfoldable pub pick_at : Reader Pick
+pick_at l =
+    chosen (after_call word.WriteTime l) (do
+      name ← called
+      done (pick.WriteTime name)) (chosen (after_call word.Ttl l) (do
+        name ← called
+        done (pick.Ttl name)) (and_then (name_at l) (λ name. done (pick.Value name))))
+
+unfoldable pub picks_at : Reader Picks
+picks_at l = chosen (after_mark mark.Star l) (done picks.All) (and_then (list_at separator.Comma pick_at l) (λ xs. done (picks.These xs)))
+
+unfoldable pub order_at : Reader (List ColumnOrder)
+order_at l =
+    chosen (after_word word.Order l) (do
+      _ ← word_at word.By
+      list_at separator.Comma column_order_at) (Some ([], l))
+
+unfoldable pub select_at : Reader Select
+select_at = do
+  picks ← picks_at
+  _ ← word_at word.From
+  table ← table_at
+  relations ← list_behind word.Where separator.And relation_at
+  order ← order_at
+  after ← blob_behind word.After
+  page ← number_behind word.Page
+  limit ← number_behind word.Limit
+  done (record { picks = picks; table = table; relations = relations; order = order; after = after; page = page; limit = limit })
+
+-- ---- CREATE TABLE and ALTER TABLE
+
+-- the words of the types
+abbrev pub natives : List (Keyword × TypeTag)
+natives =
+    (word.Ascii, tag.Ascii) ∷
+    (word.BigInt, tag.BigInt) ∷
+    (word.Blob, tag.Blob) ∷
+    (word.Boolean, tag.Boolean) ∷
+    (word.Date, tag.Date) ∷
+    (word.Int, tag.Int) ∷
+    (word.SmallInt, tag.SmallInt) ∷
+    (word.Text, tag.Text) ∷
+    (word.Time, tag.Time) ∷
+    (word.Timestamp, tag.Timestamp) ∷
+    (word.TimeUuid, tag.TimeUuid) ∷
+    (word.TinyInt, tag.TinyInt) ∷
+    (word.Uuid, tag.Uuid) ∷
+    (word.VarChar, tag.Text) ∷ []
+
+unfoldable pub first_of : List (Keyword × TypeTag) → Reader TypeTag
+first_of [] l = None
+first_of (n ∷ ns) l = chosen (after_word n.0 l) (done n.1) (first_of ns l)
+
+unfoldable pub native_at : Reader TypeTag
+native_at l = first_of natives l
+
+unfoldable pub one_in_angles : Reader TypeTag
+one_in_angles = do
+  _ ← mark_at mark.Less
+  t ← native_at
+  _ ← mark_at mark.Greater
+  done t
+
+unfoldable pub two_in_angles : Reader ColumnType
+two_in_angles = do
+  _ ← mark_at mark.Less
+  key ← native_at
+  _ ← mark_at mark.Comma
+  value ← native_at
+  _ ← mark_at mark.Greater
+  done (column_type.MapOf key value)
+
+unfoldable pub type_at : Reader ColumnType
+type_at l =
+    chosen (after_word word.Set l) (do
+      t ← one_in_angles
+      done (column_type.SetOf t)) (chosen (after_word word.List l) (do
+        t ← one_in_angles
+        done (column_type.ListOf t)) (chosen (after_word word.Map l) two_in_angles (and_then (native_at l) (λ t. done (column_type.One t)))))
+
+unfoldable pub key_flag : Reader Bool
+key_flag l =
+    chosen (after_word word.Primary l) (do
+      _ ← word_at word.Key
+      done true) (Some (false, l))
+
+unfoldable pub defined_at : Reader DefinedColumn
+defined_at = do
+  name ← name_at
+  type ← type_at
+  is_static ← flag_at word.Static
+  is_key ← key_flag
+  done (record { name = name; column_type = type; is_static = is_static; is_key = is_key })
+
+unfoldable pub added_at : Reader AddedColumn
+added_at = do
+  name ← name_at
+  type ← type_at
+  is_static ← flag_at word.Static
+  done (record { name = name; column_type = type; is_static = is_static })
+
+unfoldable pub names_closed : Reader (List (List ℕ))
+names_closed = do
+  names ← list_at separator.Comma name_at
+  _ ← mark_at mark.CloseParen
+  done names
+
+unfoldable pub partition_at : Reader (List (List ℕ))
+partition_at l = chosen (after_mark mark.OpenParen l) names_closed (and_then (name_at l) (λ name. done (name ∷ [])))
+
+unfoldable pub key_at : Reader PrimaryKey
+key_at = do
+  _ ← word_at word.Key
+  _ ← mark_at mark.OpenParen
+  partition ← partition_at
+  clustering ← from_at separator.Comma name_at []
+  _ ← mark_at mark.CloseParen
+  done (record { partition = partition; clustering = clustering })
+
+unfoldable pub item_at : Reader Item
+item_at l =
+    chosen (after_word word.Primary l) (do
+      key ← key_at
+      done (item.PrimaryKey key)) (and_then (defined_at l) (λ c. done (item.Column c)))
+
+unfoldable pub suboption_at : Reader Suboption
+suboption_at = do
+  key ← setting_at
+  _ ← mark_at mark.Colon
+  value ← setting_at
+  done (record { key = key; value = value })
+
+unfoldable pub suboptions : Reader OptionValue
+suboptions = do
+  xs ← list_at separator.Comma suboption_at
+  _ ← close_brace_at
+  done (option_value.Suboptions xs)
+
+abbrev pub constant_value : Reader OptionValue
+constant_value = do
+  c ← constant_at
+  done (option_value.Constant c)
+
+unfoldable pub option_value_at : Reader OptionValue
+option_value_at [] = None
+option_value_at (lexeme.Ratio n ∷ l) = Some (option_value.Ratio n, l)
+option_value_at (lexeme.OpenBrace at ∷ l) = suboptions l
+option_value_at (x ∷ l) = constant_value (x ∷ l)
+
+unfoldable pub named_option : Reader TableOption
+named_option = do
+  name ← name_at
+  _ ← mark_at mark.Equals
+  value ← option_value_at
+  done (table_option.Named (record { name = name; value = value }))
+
+unfoldable pub after_words : Keyword → Keyword → List Lexeme → Option (List Lexeme)
+after_words j k l = elim (after_word j l) [ None ↦ None | Some r ↦ after_word k r ]
+
+unfoldable pub clustering_order : Reader TableOption
+clustering_order = do
+  _ ← word_at word.By
+  columns ← in_parens column_order_at
+  done (table_option.ClusteringOrder columns)
+
+unfoldable pub option_at : Reader TableOption
+option_at l = chosen (after_words word.Clustering word.Order l) clustering_order (named_option l)
+
+unfoldable pub create_at : Reader CreateTable
+create_at = do
+  _ ← word_at word.Table
+  table ← table_at
+  items ← in_parens item_at
+  options ← list_behind word.With separator.And option_at
+  done (record { table = table; items = items; options = options })
+
+unfoldable pub alter_at : Reader AlterTable
+alter_at = do
+  _ ← word_at word.Table
+  table ← table_at
+  _ ← word_at word.Add
+  added ← list_at separator.Comma added_at
+  done (record { table = table; added = added })
+
+-- ---- statements
+
+unfoldable pub definition_at : Reader Statement
+definition_at l =
+    chosen (after_word word.Create l) (do
+      x ← create_at
+      done (statement.Create x)) (chosen (after_word word.Alter l) (do
+        x ← alter_at
+        done (statement.Alter x)) None)
+
+unfoldable pub change_at : Reader Statement
+change_at l =
+    chosen (after_word word.Insert l) (do
+      x ← insert_at
+      done (statement.Insert x)) (chosen (after_word word.Update l) (do
+        x ← update_at
+        done (statement.Update x)) (chosen (after_word word.Delete l) (do
+          x ← delete_at
+          done (statement.Delete x)) (definition_at l)))
+
+unfoldable pub statement_at : Reader Statement
+statement_at l =
+    chosen (after_word word.Select l) (do
+      x ← select_at
+      done (statement.Select x)) (change_at l)
+
+unfoldable pub semicolon_at : Reader (Unit {0})
+semicolon_at l = chosen (after_mark mark.Semicolon l) (done tt) (Some (tt, l))
+
+-- with no lexeme left
+abbrev pub ended : Option (Statement × List Lexeme) → Option Statement
+ended None = None
+ended (Some (s, [])) = Some s
+ended (Some (s, x ∷ l)) = None
+
+unfoldable pub whole : List Lexeme → Option Statement
+whole l = ended (and_then (statement_at l) (λ s. do
+  _ ← semicolon_at
+  done s))

@@ -1,0 +1,330 @@
+//! CREATE TABLE and ALTER TABLE, each behind its first word.
+
+ghost use Rattle.std.specs.Prelude.{◌≡◌, [], option_map};
+ghost use Rattle.cql_parse.specs.Reading.{Gives};
+ghost use Rattle.cql_parse.specs.StatementReading.{first_of, native_at, one_in_angles, two_in_angles, type_at, key_flag, names_closed, partition_at, key_at, suboptions, option_value_at, named_option, after_words, clustering_order, create_at, alter_at};
+
+use crate::fault::ParseFault;
+use crate::lexeme::Lexeme;
+use crate::lists::{Part, Separator, in_parens, list, list_behind, list_from, only};
+use crate::names::table;
+use crate::symbol::{Keyword, Mark};
+use crate::syntax::{
+    AddedColumn, AlterTable, ColumnOrder, ColumnType, CreateTable, DefinedColumn, Item,
+    NamedOption, OptionValue, PrimaryKey, Suboption, TableOption,
+};
+use crate::take::{after_mark, after_word, close_brace, flag, mark, name, word};
+use crate::terms::{constant, setting};
+use cas_types::{List, Text, TypeTag};
+use std::alloc::Global;
+
+/// The words of the types.
+const NATIVES: [(Keyword, TypeTag); 14] = [
+    (Keyword::Ascii, TypeTag::Ascii),
+    (Keyword::BigInt, TypeTag::BigInt),
+    (Keyword::Blob, TypeTag::Blob),
+    (Keyword::Boolean, TypeTag::Boolean),
+    (Keyword::Date, TypeTag::Date),
+    (Keyword::Int, TypeTag::Int),
+    (Keyword::SmallInt, TypeTag::SmallInt),
+    (Keyword::Text, TypeTag::Text),
+    (Keyword::Time, TypeTag::Time),
+    (Keyword::Timestamp, TypeTag::Timestamp),
+    (Keyword::TimeUuid, TypeTag::TimeUuid),
+    (Keyword::TinyInt, TypeTag::TinyInt),
+    (Keyword::Uuid, TypeTag::Uuid),
+    (Keyword::VarChar, TypeTag::Text),
+];
+
+/// The type of the first of the table's words that stands here. The table is of a fixed length.
+#[tactic(auto, unfolding(crate::specs::StatementReading::first_of))]
+fn first_of<'a>(
+    table: &[(Keyword, TypeTag)],
+    input: &'a [Lexeme],
+) -> Result<(TypeTag, &'a [Lexeme]), ParseFault>
+    ensures { Gives (λ x. (x.0, x.1.now)) result (first_of table.now input.now) }
+{
+    match table {
+        [] => Err(ParseFault::Syntax),
+        [(keyword, tag), others @ ..] => match after_word(input, *keyword) {
+            Some(rest) => Ok((*tag, rest)),
+            None => first_of(others, input),
+        },
+    }
+}
+
+#[tactic(auto, unfolding(crate::specs::StatementReading::native_at))]
+fn native(input: &[Lexeme]) -> Result<(TypeTag, &[Lexeme]), ParseFault>
+    ensures { Gives (λ x. (x.0, x.1.now)) result (native_at input.now) }
+{
+    first_of(&NATIVES, input)
+}
+
+#[tactic(auto, unfolding(crate::specs::StatementReading::one_in_angles))]
+fn one_in_angles(input: &[Lexeme]) -> Result<(TypeTag, &[Lexeme]), ParseFault>
+    ensures { Gives (λ x. (x.0, x.1.now)) result (one_in_angles input.now) }
+{
+    let rest = mark(input, Mark::Less)?;
+    let (tag, rest) = native(rest)?;
+    let rest = mark(rest, Mark::Greater)?;
+    Ok((tag, rest))
+}
+
+#[tactic(auto, unfolding(crate::specs::StatementReading::two_in_angles))]
+fn two_in_angles(input: &[Lexeme]) -> Result<(ColumnType, &[Lexeme]), ParseFault>
+    ensures { Gives (λ x. (x.0, x.1.now)) result (two_in_angles input.now) }
+{
+    let rest = mark(input, Mark::Less)?;
+    let (key, rest) = native(rest)?;
+    let rest = mark(rest, Mark::Comma)?;
+    let (value, rest) = native(rest)?;
+    let rest = mark(rest, Mark::Greater)?;
+    Ok((ColumnType::MapOf(key, value), rest))
+}
+
+#[tactic(auto, unfolding(crate::specs::StatementReading::type_at))]
+fn column_type(input: &[Lexeme]) -> Result<(ColumnType, &[Lexeme]), ParseFault>
+    ensures { Gives (λ x. (x.0, x.1.now)) result (type_at input.now) }
+{
+    if let Some(rest) = after_word(input, Keyword::Set) {
+        let (tag, rest) = one_in_angles(rest)?;
+        return Ok((ColumnType::SetOf(tag), rest));
+    }
+    if let Some(rest) = after_word(input, Keyword::List) {
+        let (tag, rest) = one_in_angles(rest)?;
+        return Ok((ColumnType::ListOf(tag), rest));
+    }
+    if let Some(rest) = after_word(input, Keyword::Map) {
+        return two_in_angles(rest);
+    }
+    let (tag, rest) = native(input)?;
+    Ok((ColumnType::One(tag), rest))
+}
+
+/// Whether PRIMARY KEY stands behind a column.
+#[tactic(auto, unfolding(crate::specs::StatementReading::key_flag))]
+fn key_flag(input: &[Lexeme]) -> Result<(bool, &[Lexeme]), ParseFault>
+    ensures { Gives (λ x. (x.0, x.1.now)) result (key_flag input.now) }
+{
+    match after_word(input, Keyword::Primary) {
+        Some(after) => {
+            let rest = word(after, Keyword::Key)?;
+            Ok((true, rest))
+        }
+        None => Ok((false, input)),
+    }
+}
+
+impl Part for DefinedColumn {
+    ghost use Rattle.cql_parse.specs.StatementReading.{defined_at};
+
+    ghost reads = { defined_at };
+
+    #[tactic(auto, unfolding(crate::specs::StatementReading::defined_at))]
+    fn read(alloc: Global, input: &[Lexeme]) -> Result<(Self, &[Lexeme]), ParseFault> {
+        let (name, rest) = name(alloc, input)?;
+        let (column_type, rest) = column_type(rest)?;
+        let (is_static, rest) = flag(rest, Keyword::Static);
+        let (is_key, rest) = key_flag(rest)?;
+        let column = DefinedColumn {
+            name,
+            column_type,
+            is_static,
+            is_key,
+        };
+        Ok((column, rest))
+    }
+}
+
+impl Part for AddedColumn {
+    ghost use Rattle.cql_parse.specs.StatementReading.{added_at};
+
+    ghost reads = { added_at };
+
+    #[tactic(auto, unfolding(crate::specs::StatementReading::added_at))]
+    fn read(alloc: Global, input: &[Lexeme]) -> Result<(Self, &[Lexeme]), ParseFault> {
+        let (name, rest) = name(alloc, input)?;
+        let (column_type, rest) = column_type(rest)?;
+        let (is_static, rest) = flag(rest, Keyword::Static);
+        let column = AddedColumn {
+            name,
+            column_type,
+            is_static,
+        };
+        Ok((column, rest))
+    }
+}
+
+/// Names, and the closing parenthesis.
+#[tactic(auto, unfolding(crate::specs::StatementReading::names_closed))]
+fn names_closed(alloc: Global, input: &[Lexeme]) -> Result<(List<Text>, &[Lexeme]), ParseFault>
+    ensures { Gives (λ x. (x.0, x.1.now)) result (names_closed input.now) }
+{
+    let (names, rest) = list::<Text>(alloc, Separator::Comma, input)?;
+    let rest = mark(rest, Mark::CloseParen)?;
+    Ok((names, rest))
+}
+
+/// The columns of a partition key: one name, or some in parentheses.
+#[tactic(auto, unfolding(crate::specs::StatementReading::partition_at))]
+fn partition(alloc: Global, input: &[Lexeme]) -> Result<(List<Text>, &[Lexeme]), ParseFault>
+    ensures { Gives (λ x. (x.0, x.1.now)) result (partition_at input.now) }
+{
+    match after_mark(input, Mark::OpenParen) {
+        Some(rest) => names_closed(alloc, rest),
+        None => {
+            let (name, rest) = name(alloc, input)?;
+            Ok((List::from_vec(only(alloc, name)?), rest))
+        }
+    }
+}
+
+/// What follows PRIMARY.
+#[tactic(auto, unfolding(crate::specs::StatementReading::key_at))]
+fn primary_key(alloc: Global, input: &[Lexeme]) -> Result<(PrimaryKey, &[Lexeme]), ParseFault>
+    ensures { Gives (λ x. (x.0, x.1.now)) result (key_at input.now) }
+{
+    let rest = word(input, Keyword::Key)?;
+    let rest = mark(rest, Mark::OpenParen)?;
+    let (partition, rest) = partition(alloc, rest)?;
+    let (clustering, rest) = list_from::<Text>(alloc, Separator::Comma, Vec::new(alloc), rest)?;
+    let rest = mark(rest, Mark::CloseParen)?;
+    let key = PrimaryKey {
+        partition,
+        clustering,
+    };
+    Ok((key, rest))
+}
+
+impl Part for Item {
+    ghost use Rattle.cql_parse.specs.StatementReading.{item_at};
+
+    ghost reads = { item_at };
+
+    #[tactic(auto, unfolding(crate::specs::StatementReading::item_at))]
+    fn read(alloc: Global, input: &[Lexeme]) -> Result<(Self, &[Lexeme]), ParseFault> {
+        match after_word(input, Keyword::Primary) {
+            Some(rest) => {
+                let (key, rest) = primary_key(alloc, rest)?;
+                Ok((Item::PrimaryKey(key), rest))
+            }
+            None => {
+                let (column, rest) = DefinedColumn::read(alloc, input)?;
+                Ok((Item::Column(column), rest))
+            }
+        }
+    }
+}
+
+impl Part for Suboption {
+    ghost use Rattle.cql_parse.specs.StatementReading.{suboption_at};
+
+    ghost reads = { suboption_at };
+
+    #[tactic(auto, unfolding(crate::specs::StatementReading::suboption_at))]
+    fn read(alloc: Global, input: &[Lexeme]) -> Result<(Self, &[Lexeme]), ParseFault> {
+        let (key, rest) = setting(alloc, input)?;
+        let rest = mark(rest, Mark::Colon)?;
+        let (value, rest) = setting(alloc, rest)?;
+        Ok((Suboption { key, value }, rest))
+    }
+}
+
+/// What follows the opening brace of an option's map.
+#[tactic(auto, unfolding(crate::specs::StatementReading::suboptions))]
+fn suboptions(alloc: Global, input: &[Lexeme]) -> Result<(OptionValue, &[Lexeme]), ParseFault>
+    ensures { Gives (λ x. (x.0, x.1.now)) result (suboptions input.now) }
+{
+    let (all, rest) = list::<Suboption>(alloc, Separator::Comma, input)?;
+    let rest = close_brace(rest)?;
+    Ok((OptionValue::Suboptions(all), rest))
+}
+
+#[tactic(auto, unfolding(crate::specs::StatementReading::option_value_at))]
+fn option_value(alloc: Global, input: &[Lexeme]) -> Result<(OptionValue, &[Lexeme]), ParseFault>
+    ensures { Gives (λ x. (x.0, x.1.now)) result (option_value_at input.now) }
+{
+    match input {
+        [] => Err(ParseFault::Syntax),
+        [Lexeme::Ratio(n), rest @ ..] => Ok((OptionValue::Ratio(*n), rest)),
+        [Lexeme::OpenBrace(_at), rest @ ..] => suboptions(alloc, rest),
+        [_first, _rest @ ..] => {
+            let (value, rest) = constant(alloc, input)?;
+            Ok((OptionValue::Constant(value), rest))
+        }
+    }
+}
+
+#[tactic(auto, unfolding(crate::specs::StatementReading::named_option))]
+fn named_option(alloc: Global, input: &[Lexeme]) -> Result<(TableOption, &[Lexeme]), ParseFault>
+    ensures { Gives (λ x. (x.0, x.1.now)) result (named_option input.now) }
+{
+    let (name, rest) = name(alloc, input)?;
+    let rest = mark(rest, Mark::Equals)?;
+    let (value, rest) = option_value(alloc, rest)?;
+    Ok((TableOption::Named(NamedOption { name, value }), rest))
+}
+
+/// What follows two words, where they stand first.
+#[tactic(auto, unfolding(crate::specs::StatementReading::after_words))]
+fn after_words(input: &[Lexeme], first: Keyword, second: Keyword) -> Option<&[Lexeme]>
+    ensures { option_map (λ r. r.now) result ≡ after_words first second input.now }
+{
+    match after_word(input, first) {
+        Some(rest) => after_word(rest, second),
+        None => None,
+    }
+}
+
+/// What follows CLUSTERING ORDER.
+#[tactic(auto, unfolding(crate::specs::StatementReading::clustering_order))]
+fn clustering_order(alloc: Global, input: &[Lexeme]) -> Result<(TableOption, &[Lexeme]), ParseFault>
+    ensures { Gives (λ x. (x.0, x.1.now)) result (clustering_order input.now) }
+{
+    let rest = word(input, Keyword::By)?;
+    let (columns, rest) = in_parens::<ColumnOrder>(alloc, rest)?;
+    Ok((TableOption::ClusteringOrder(columns), rest))
+}
+
+impl Part for TableOption {
+    ghost use Rattle.cql_parse.specs.StatementReading.{option_at};
+
+    ghost reads = { option_at };
+
+    #[tactic(auto, unfolding(crate::specs::StatementReading::option_at))]
+    fn read(alloc: Global, input: &[Lexeme]) -> Result<(Self, &[Lexeme]), ParseFault> {
+        match after_words(input, Keyword::Clustering, Keyword::Order) {
+            Some(rest) => clustering_order(alloc, rest),
+            None => named_option(alloc, input),
+        }
+    }
+}
+
+/// What follows CREATE.
+#[tactic(auto, unfolding(crate::specs::StatementReading::create_at))]
+pub fn create(alloc: Global, input: &[Lexeme]) -> Result<(CreateTable, &[Lexeme]), ParseFault>
+    ensures { Gives (λ x. (x.0, x.1.now)) result (create_at input.now) }
+{
+    let rest = word(input, Keyword::Table)?;
+    let (table, rest) = table(alloc, rest)?;
+    let (items, rest) = in_parens::<Item>(alloc, rest)?;
+    let (options, rest) = list_behind::<TableOption>(alloc, Keyword::With, Separator::And, rest)?;
+    let create = CreateTable {
+        table,
+        items,
+        options,
+    };
+    Ok((create, rest))
+}
+
+/// What follows ALTER.
+#[tactic(auto, unfolding(crate::specs::StatementReading::alter_at))]
+pub fn alter(alloc: Global, input: &[Lexeme]) -> Result<(AlterTable, &[Lexeme]), ParseFault>
+    ensures { Gives (λ x. (x.0, x.1.now)) result (alter_at input.now) }
+{
+    let rest = word(input, Keyword::Table)?;
+    let (table, rest) = table(alloc, rest)?;
+    let rest = word(rest, Keyword::Add)?;
+    let (added, rest) = list::<AddedColumn>(alloc, Separator::Comma, rest)?;
+    Ok((AlterTable { table, added }, rest))
+}

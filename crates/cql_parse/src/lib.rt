@@ -1,0 +1,31 @@
+//! The parser of CQL statements. It stands on the tokens of `cql_lex`, and leaves all that hangs on
+//! a schema to the binder: which names there are, which stand twice, which constants fit.
+#![tactic(auto)]
+
+mod changes;
+mod define;
+mod fault;
+mod lexeme;
+mod lexemes;
+mod lists;
+mod names;
+mod nested;
+mod parse;
+mod select;
+mod symbol;
+mod syntax;
+mod take;
+mod term;
+mod terms;
+#[cfg(test)]
+mod tests;
+
+pub use fault::ParseFault;
+pub use parse::{one_statement, statement};
+pub use syntax::{
+    AddedColumn, AlterTable, Assigned, Assignment, ColumnOrder, ColumnType, CreateTable,
+    DefinedColumn, Delete, Insert, Item, NamedOption, Operator, OptionValue, Pick, Picks,
+    PrimaryKey, Relation, Select, Statement, Suboption, TableName, TableOption, Target, Update,
+    Use,
+};
+pub use term::{Constant, Element, Entry, Literal, Nested, Setting, Term};

@@ -1,0 +1,112 @@
+//! A whole statement.
+
+ghost use Rattle.std.specs.Prelude.{◌≡◌, IfOk};
+ghost use Rattle.cql_parse.specs.Reading.{Gives};
+ghost use Rattle.cql_parse.specs.StatementReading.{definition_at, change_at, statement_at, semicolon_at, whole};
+ghost use Rattle.cql_parse.specs.Means.{Means, IsAnswer, OneStatement, statement_of};
+ghost use Rattle.cql_parse.specs.declared.syntax.Statement.{Statement};
+
+use crate::changes::{delete, insert, update};
+use crate::define::{alter, create};
+use crate::fault::ParseFault;
+use crate::lexeme::Lexeme;
+use crate::lexemes::lexemes;
+use crate::select::select;
+use crate::symbol::{Keyword, Mark};
+use crate::syntax::Statement;
+use crate::take::{after_mark, after_word};
+use cql_lex::Token;
+use std::alloc::Global;
+
+#[tactic(auto, unfolding(crate::specs::StatementReading::definition_at))]
+fn definition(alloc: Global, input: &[Lexeme]) -> Result<(Statement, &[Lexeme]), ParseFault>
+    ensures { Gives (λ x. (x.0, x.1.now)) result (definition_at input.now) }
+{
+    if let Some(rest) = after_word(input, Keyword::Create) {
+        let (create, rest) = create(alloc, rest)?;
+        return Ok((Statement::Create(create), rest));
+    }
+    match after_word(input, Keyword::Alter) {
+        Some(rest) => {
+            let (alter, rest) = alter(alloc, rest)?;
+            Ok((Statement::Alter(alter), rest))
+        }
+        None => Err(ParseFault::Syntax),
+    }
+}
+
+#[tactic(auto, unfolding(crate::specs::StatementReading::change_at))]
+fn change(alloc: Global, input: &[Lexeme]) -> Result<(Statement, &[Lexeme]), ParseFault>
+    ensures { Gives (λ x. (x.0, x.1.now)) result (change_at input.now) }
+{
+    if let Some(rest) = after_word(input, Keyword::Insert) {
+        let (insert, rest) = insert(alloc, rest)?;
+        return Ok((Statement::Insert(insert), rest));
+    }
+    if let Some(rest) = after_word(input, Keyword::Update) {
+        let (update, rest) = update(alloc, rest)?;
+        return Ok((Statement::Update(update), rest));
+    }
+    if let Some(rest) = after_word(input, Keyword::Delete) {
+        let (delete, rest) = delete(alloc, rest)?;
+        return Ok((Statement::Delete(delete), rest));
+    }
+    definition(alloc, input)
+}
+
+#[tactic(auto, unfolding(crate::specs::StatementReading::statement_at))]
+fn any(alloc: Global, input: &[Lexeme]) -> Result<(Statement, &[Lexeme]), ParseFault>
+    ensures { Gives (λ x. (x.0, x.1.now)) result (statement_at input.now) }
+{
+    if let Some(rest) = after_word(input, Keyword::Select) {
+        let (select, rest) = select(alloc, rest)?;
+        return Ok((Statement::Select(select), rest));
+    }
+    change(alloc, input)
+}
+
+#[tactic(auto, unfolding(crate::specs::StatementReading::semicolon_at))]
+fn after_semicolon(input: &[Lexeme]) -> &[Lexeme]
+    ensures { semicolon_at input.now ≡ Some (tt, result.now) }
+{
+    match after_mark(input, Mark::Semicolon) {
+        Some(rest) => rest,
+        None => input,
+    }
+}
+
+/// The statement that the lexemes spell, all of them.
+#[tactic(auto, unfolding(crate::specs::StatementReading::whole))]
+fn whole(alloc: Global, input: &[Lexeme]) -> Result<Statement, ParseFault>
+    ensures { Gives (λ s. s) result (whole input.now) }
+{
+    let (statement, rest) = any(alloc, input)?;
+    match after_semicolon(rest) {
+        [] => Ok(statement),
+        [_first, _rest @ ..] => Err(ParseFault::Syntax),
+    }
+}
+
+#[tactic(auto, unfolding(crate::specs::Means::statement_of))]
+fn parsed(alloc: Global, tokens: &[Token], source: &str) -> Result<Statement, ParseFault>
+    ensures { Gives (λ s. s) result (statement_of source.now tokens.now) }
+{
+    let lexemes = lexemes(alloc, tokens, source.as_bytes())?;
+    whole(alloc, &lexemes)
+}
+
+/// The statement that the tokens of the source spell, all of them. A literal within a literal is
+/// kept as its span.
+pub fn statement(alloc: Global, tokens: &[Token], source: &str) -> Result<Statement, ParseFault>
+    // What is read is in the grammar, and is this statement.
+    ensures found { IfOk result (λ s. Means source.now tokens.now s) }
+    // What is in the grammar is read, as the one statement that it spells.
+    ensures only { (s : Statement) → Means source.now tokens.now s → IsAnswer s result }
+{
+    parsed(alloc, tokens, source)
+}
+
+/// Tokens spell at most one statement.
+pub fn one_statement()
+    ensures { OneStatement }
+{}
