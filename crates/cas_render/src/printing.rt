@@ -1,0 +1,132 @@
+//! The lines of a reply.
+
+ghost use Rattle.std.specs.Prelude.{◌≡◌, ◌++◌, codes, OnOk, OnErr};
+ghost use Rattle.std.specs.List.{flat_map, join_by};
+ghost use Rattle.cas_render.specs.Text.{datum_text, row_text, trailer, failure_text, reply_text};
+
+use crate::collections::append_datum;
+use crate::pieces::{append, append_number, append_signed};
+use crate::reply::{Failure, Reply};
+use cas_atoms::{Datum, LiveRow};
+use cas_types::Mem;
+use std::alloc::Global;
+
+fn append_further_datum(alloc: Global, out: &mut Vec<u8>, datum: &Datum) -> Result<(), Mem>
+    ensures { OnOk result (out.new.items ≡ out.old.items ++ (codes " | " ++ datum_text datum.now)) }
+{
+    append(out, b" | ")?;
+    append_datum(alloc, out, datum)
+}
+
+fn append_further_data(alloc: Global, out: &mut Vec<u8>, values: &[Datum]) -> Result<(), Mem>
+    ensures { OnOk result (out.new.items ≡ out.old.items ++ flat_map (λ d. codes " | " ++ datum_text d) values.now) }
+{
+    for datum in values {
+        append_further_datum(alloc, out, datum)?;
+    }
+    Ok(())
+}
+
+fn append_joined(alloc: Global, out: &mut Vec<u8>, values: &[Datum]) -> Result<(), Mem>
+    ensures { OnOk result (out.new.items ≡ out.old.items ++ join_by datum_text (codes " | ") values.now) }
+{
+    match values {
+        [] => Ok(()),
+        [first, rest @ ..] => {
+            append_datum(alloc, out, first)?;
+            append_further_data(alloc, out, rest)
+        }
+    }
+}
+
+#[tactic(auto, unfolding(crate::specs::Text::row_text))]
+fn append_row(alloc: Global, out: &mut Vec<u8>, row: &LiveRow) -> Result<(), Mem>
+    ensures { OnOk result (out.new.items ≡ out.old.items ++ row_text row.now) }
+{
+    append_joined(alloc, out, row.values.as_slice())?;
+    append(out, b"\n")
+}
+
+fn append_rows(alloc: Global, out: &mut Vec<u8>, rows: &[LiveRow]) -> Result<(), Mem>
+    ensures { OnOk result (out.new.items ≡ out.old.items ++ flat_map row_text rows.now) }
+{
+    for row in rows {
+        append_row(alloc, out, row)?;
+    }
+    Ok(())
+}
+
+#[tactic(auto, unfolding(crate::specs::Text::trailer))]
+fn append_trailer(
+    alloc: Global,
+    out: &mut Vec<u8>,
+    rows: u64,
+    shard: u8,
+    front: u64,
+    now: i64,
+) -> Result<(), Mem>
+    ensures { OnOk result (out.new.items ≡ out.old.items ++ trailer rows shard front now) }
+{
+    append(out, b"-- ")?;
+    append_number(alloc, out, rows)?;
+    append(out, b" rows, shard ")?;
+    append_number(alloc, out, u64::from(shard))?;
+    append(out, b", front ")?;
+    append_number(alloc, out, front)?;
+    append(out, b", now ")?;
+    append_signed(alloc, out, now)?;
+    append(out, b"\n")
+}
+
+fn append_failure(out: &mut Vec<u8>, failure: Failure) -> Result<(), Mem>
+    ensures { OnOk result (out.new.items ≡ out.old.items ++ failure_text failure) }
+{
+    match failure {
+        Failure::Memory => append(out, b"failed memory\n"),
+        Failure::Stopped => append(out, b"failed stopped\n"),
+        Failure::Disk => append(out, b"failed disk\n"),
+        Failure::Read => append(out, b"failed read\n"),
+        Failure::Block => append(out, b"failed block\n"),
+    }
+}
+
+#[tactic(auto, unfolding(crate::specs::Text::reply_text))]
+fn append_reply(alloc: Global, out: &mut Vec<u8>, reply: &Reply) -> Result<(), Mem>
+    ensures { OnOk result (out.new.items ≡ out.old.items ++ reply_text reply.now) }
+{
+    match reply {
+        Reply::Done => append(out, b"ok\n"),
+        Reply::Wrote { number } => {
+            append(out, b"ok ")?;
+            append_number(alloc, out, *number)?;
+            append(out, b"\n")
+        }
+        Reply::Rows {
+            rows,
+            shard,
+            front,
+            now,
+        } => {
+            append_rows(alloc, out, rows.as_slice())?;
+            append_trailer(alloc, out, rows.len() as u64, *shard, *front, *now)
+        }
+        Reply::Refused(number) => {
+            append(out, b"refused S")?;
+            append_number(alloc, out, u64::from(*number))?;
+            append(out, b"\n")
+        }
+        Reply::Failed(failure) => append_failure(out, *failure),
+    }
+}
+
+/// Appends what the program prints of a reply. On want of memory nothing is appended.
+pub fn render(alloc: Global, reply: &Reply, out: &mut Vec<u8>) -> Result<(), Mem>
+    ensures ok { OnOk result (out.new.items ≡ out.old.items ++ reply_text reply.now) }
+    ensures err { OnErr result (out.new.items ≡ out.old.items) }
+{
+    let mut text = Vec::new(alloc);
+    match append_reply(alloc, &mut text, reply) {
+        Ok(()) => append(out, &text),
+        Err(Mem) => Err(Mem),
+    }
+}

@@ -1,0 +1,42 @@
+//! What a line of a script is answered. A line that says nothing has no reply.
+
+use cas_atoms::LiveRow;
+use cas_types::List;
+
+/// Why a statement that wasn't refused came to nothing, or isn't known to have come to something.
+#[derive(Clone, Copy, Debug, PartialEq, Eq)]
+pub enum Failure {
+    /// Want of memory.
+    Memory,
+    /// An earlier write to the disk failed, and nothing is written any more.
+    Stopped,
+    /// A write to the disk failed.
+    Disk,
+    /// A read of a file failed.
+    Read,
+    /// A file's bytes aren't as they must be.
+    Block,
+}
+
+/// What a line is answered.
+#[derive(Drop)]
+pub enum Reply {
+    /// Done, as a definition is.
+    Done,
+    /// The mutation was accepted, with this number of its shard.
+    Wrote {
+        number: u64,
+    },
+    /// The rows of a slice of the shard, as of the mutation of the number `front` and the moment
+    /// `now` in seconds.
+    Rows {
+        rows: List<LiveRow>,
+        shard: u8,
+        front: u64,
+        now: i64,
+    },
+    /// Refused, with the refusal's number.
+    Refused(u8),
+    /// Neither done nor refused.
+    Failed(Failure),
+}
