@@ -1,0 +1,4 @@
+pub mod LineLemmas
+pub mod Quotes
+pub mod Runs
+pub mod SessionLemmas

@@ -1,0 +1,13 @@
+-- The text of a run, line by line (own).
+use Rattle.std.specs.Prelude.{ℕ, List, [], Option, None, Some}
+use Rattle.std.specs.List.{flat_map}
+use Rattle.cas_render.specs.Text.{reply_text}
+use Rattle.cas_render.specs.declared.reply.Reply.{Reply}
+
+-- what a line prints: the text of its reply, or nothing where it has none
+abbrev pub line_text : Option Reply → List ℕ
+line_text None = []
+line_text (Some r) = reply_text r
+
+abbrev pub output : List (Option Reply) → List ℕ
+output replies = flat_map line_text replies

@@ -1,0 +1,47 @@
+-- One line's turn, and how a run ends by what its lines came to. The top call's definitions don't stand on these.
+use Rattle.std.specs.Prelude.{◌≡◌, ℕ, Bool, true, false, Option, List, ⊤}
+use Rattle.std.specs.Io.KnownBytes.{Appends}
+use Rattle.cas_io.specs.Told.{AppendsFront}
+use Rattle.cas_io.specs.declared.script.ScriptFault.{ScriptFault}
+use Rattle.cas_io.specs.declared.script.ScriptFault.TheVariants as fault
+use Rattle.cas_render.specs.declared.reply.Reply.{Reply}
+use Rattle.cas_node.specs.declared.cause.Cause.{Cause}
+use Rattle.cas_node.specs.declared.cause.Cause.TheVariants as cause
+use Rattle.cas_node.specs.History.{History, Answers, is_starved}
+use Rattle.cas_node.specs.Text.{line_text}
+use Rattle.cas_node.specs.Ran.{is_refused}
+
+-- one line was answered, and its reply was written, or a front of it
+pub record Turned (before : History) (line : List ℕ) (after : History) (old new : Option (List ℕ)) (refused starved printed : Bool) : Type 0 where
+  pub reply : Option Reply
+  pub answers : Answers before line reply after
+  pub refusal : refused ≡ is_refused reply
+  pub want : starved ≡ is_starved reply
+  pub whole : printed ≡ true → Appends old new (line_text reply)
+  pub written : AppendsFront old new (line_text reply)
+
+-- the causes where a reply wasn't written
+abbrev pub EndsEarly : Bool → Cause → Type 0
+EndsEarly starved cause.Write = starved ≡ false
+EndsEarly starved cause.Mem = ⊤
+EndsEarly starved cause.Good = ⊥
+EndsEarly starved cause.Refused = ⊥
+EndsEarly starved cause.Words = ⊥
+EndsEarly starved cause.Read = ⊥
+EndsEarly starved (cause.TooLong taken) = ⊥
+
+-- the causes where all replies were written
+abbrev pub EndsWhole : Bool → Bool → Cause → Type 0
+EndsWhole refused starved cause.Good = (refused ≡ false) × (starved ≡ false)
+EndsWhole refused starved cause.Refused = (refused ≡ true) × (starved ≡ false)
+EndsWhole refused starved cause.Mem = starved ≡ true
+EndsWhole refused starved cause.Write = ⊥
+EndsWhole refused starved cause.Words = ⊥
+EndsWhole refused starved cause.Read = ⊥
+EndsWhole refused starved (cause.TooLong taken) = ⊥
+
+-- why a run ends whose script wasn't read
+abbrev pub cause_of_fault : ScriptFault → Cause
+cause_of_fault fault.Read = cause.Read
+cause_of_fault (fault.TooLong taken) = cause.TooLong taken
+cause_of_fault fault.Mem = cause.Mem

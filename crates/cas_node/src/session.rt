@@ -1,0 +1,144 @@
+//! Runs the lines of a script one after another, and writes what they answer.
+
+ghost use Rattle.std.specs.Prelude.{◌≡◌, ◌≤◌, ◌<◌, ◌^◌, ◌+◌, length, vec_len, IfOk, OnOk, OnErr, IsErrOf, Some, is_none, ◌||◌};
+ghost use Rattle.std.specs.Io.KnownBytes.{Appends};
+ghost use Rattle.cas_io.specs.Told.{AppendsFront};
+ghost use Rattle.cas_node.specs.Text.{line_text};
+ghost use Rattle.cas_node.specs.Turns.{Turned, EndsEarly, EndsWhole};
+ghost use Rattle.cas_node.specs.Ran.{Ran, SinkRose, is_refused as is_refused_of};
+ghost use Rattle.cas_node.specs.Stored.{stored};
+ghost use Rattle.cas_node.specs.History.{is_starved as is_starved_of};
+
+use crate::cause::Cause;
+use crate::lines::next_line;
+use crate::store::Store;
+use cas_io::{Sink, write_all};
+use cas_render::{Failure, Reply, render};
+use cas_types::Mem;
+use std::alloc::Global;
+
+/// Why a reply wasn't written.
+#[derive(Clone, Copy, Debug, PartialEq, Eq)]
+pub(crate) enum PrintFault {
+    Mem,
+    Write,
+}
+
+fn is_starved(reply: &Option<Reply>) -> bool
+    ensures { result ≡ is_starved_of reply.now }
+{
+    matches!(reply, Some(Reply::Failed(Failure::Memory)))
+}
+
+fn is_refused(reply: &Option<Reply>) -> bool
+    ensures { result ≡ is_refused_of reply.now }
+{
+    matches!(reply, Some(Reply::Refused(_)))
+}
+
+fn text_of(alloc: Global, reply: &Option<Reply>) -> Result<Vec<u8>, Mem>
+    ensures { IfOk result (λ v. v.items ≡ line_text reply.now) }
+{
+    let mut text = Vec::new(alloc);
+    if let Some(reply) = reply {
+        render(alloc, reply, &mut text)?;
+    }
+    Ok(text)
+}
+
+fn print<K: Sink>(alloc: Global, reply: &Option<Reply>, sink: &mut K) -> Result<(), PrintFault>
+    ensures ok { OnOk result (Appends (K.took sink.old) (K.took sink.new) (line_text reply.now)) }
+    ensures err { OnErr result (AppendsFront (K.took sink.old) (K.took sink.new) (line_text reply.now)) }
+    ensures faults { K.faults sink.old ≤ K.faults sink.new }
+    ensures stalls { K.stalls sink.old ≤ K.stalls sink.new }
+    ensures write { IsErrOf result PrintFault.Write → SinkRose (K.faults sink.old) (K.faults sink.new) (K.stalls sink.old) (K.stalls sink.new) }
+{
+    let text = match text_of(alloc, reply) {
+        Ok(text) => text,
+        Err(Mem) => return Err(PrintFault::Mem),
+    };
+    match write_all(sink, &text) {
+        Ok(()) => Ok(()),
+        Err(_) => Err(PrintFault::Write),
+    }
+}
+
+// Why a run ends where a reply wasn't written.
+fn cut_short(fault: PrintFault, starved: bool) -> Cause
+    ensures cause { EndsEarly starved result }
+    ensures write { result ≡ Cause.Write → fault ≡ PrintFault.Write }
+{
+    match fault {
+        PrintFault::Write if !starved => Cause::Write,
+        _ => Cause::Mem,
+    }
+}
+
+// Why a run ends where all lines are answered.
+fn verdict(refused: bool, starved: bool) -> Cause
+    ensures { EndsWhole refused starved result }
+{
+    if starved {
+        Cause::Mem
+    } else if refused {
+        Cause::Refused
+    } else {
+        Cause::Good
+    }
+}
+
+/// What one line came to.
+#[derive(Clone, Copy)]
+struct Turn {
+    refused: bool,
+    starved: bool,
+    fault: Option<PrintFault>,
+}
+
+fn take_turn<K: Sink>(alloc: Global, store: &mut Store, sink: &mut K, line: &[u8]) -> Turn
+    requires { vec_len store.old.entries < 2 ^ 60 }
+    ensures turned { Turned (stored store.old) line.now (stored store.new) (K.took sink.old) (K.took sink.new) result.refused result.starved (is_none result.fault) }
+    ensures more { vec_len store.new.entries ≤ vec_len store.old.entries + 1 }
+    ensures faults { K.faults sink.old ≤ K.faults sink.new }
+    ensures stalls { K.stalls sink.old ≤ K.stalls sink.new }
+    ensures write { result.fault ≡ Some PrintFault.Write → SinkRose (K.faults sink.old) (K.faults sink.new) (K.stalls sink.old) (K.stalls sink.new) }
+{
+    let reply = store.answer_line(alloc, line);
+    let printed = print(alloc, &reply, sink);
+    Turn {
+        refused: is_refused(&reply),
+        starved: is_starved(&reply),
+        fault: printed.err(),
+    }
+}
+
+fn either(a: bool, b: bool) -> bool
+    ensures { result ≡ (a || b) }
+{
+    a || b
+}
+
+/// Runs the lines of a script one after another, and writes what they answer.
+pub(crate) fn session<K: Sink>(alloc: Global, script: &[u8], sink: &mut K) -> (Store, Cause)
+    requires { length script.now < 2 ^ 60 }
+    ensures ran { Ran script.now (K.took sink.old) (K.took sink.new) result.0.entries.items result.1 }
+    ensures faults { K.faults sink.old ≤ K.faults sink.new }
+    ensures stalls { K.stalls sink.old ≤ K.stalls sink.new }
+    ensures write { result.1 ≡ Cause.Write → SinkRose (K.faults sink.old) (K.faults sink.new) (K.stalls sink.old) (K.stalls sink.new) }
+{
+    let mut store = Store::new(alloc);
+    let mut rest = script;
+    let mut refused = false;
+    let mut starved = false;
+    while !rest.is_empty() {
+        let (line, after) = next_line(rest);
+        let turn = take_turn(alloc, &mut store, sink, line);
+        refused = either(turn.refused, refused);
+        starved = either(turn.starved, starved);
+        if let Some(fault) = turn.fault {
+            return (store, cut_short(fault, starved));
+        }
+        rest = after;
+    }
+    (store, verdict(refused, starved))
+}

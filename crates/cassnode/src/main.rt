@@ -1,0 +1,49 @@
+//! The program `cassnode`: runs a script from standard input over the folder that its words name.
+#![tactic(auto)]
+
+use cas_disk::MemFolder;
+use cas_io::{FreeGate, StdSink, StdSource, SystemClock};
+use cas_node::{Cause, Outcome, run};
+use std::process::ExitCode;
+use std::{env, io};
+
+fn words(rt: &HostRuntime) -> io::Result<Vec<String>> {
+    let mut words = Vec::new(rt.alloc());
+    for word in env::args(rt)?.skip(1) {
+        words.push(word)?;
+    }
+    Ok(words)
+}
+
+fn refuse(rt: &HostRuntime) -> ExitCode {
+    let _ = rt.eprintln("usage: cassnode [options] FOLDER");
+    ExitCode::from(Cause::Words.status())
+}
+
+fn main(rt: HostRuntime) -> ExitCode {
+    let Ok(words) = words(&rt) else {
+        return refuse(&rt);
+    };
+    let mut source = StdSource::new(rt.reader());
+    let mut sink = StdSink::new(io::writer(&rt));
+    let clock = SystemClock::new(&rt);
+    let Outcome {
+        status,
+        cause,
+        pass: _pass,
+        folder: _folder,
+        tally: _tally,
+    } = run(
+        rt.alloc(),
+        &words,
+        &mut source,
+        &mut sink,
+        MemFolder,
+        &clock,
+        &FreeGate,
+    );
+    if cause == Cause::Words {
+        return refuse(&rt);
+    }
+    ExitCode::from(status)
+}
