@@ -1,0 +1,29 @@
+-- A key that is too long is refused as such.
+use Rattle.std.proofs.Common.{◌≡◌, ℕ, ◌^◌, ◌-◌, ◌==◌, nat_lt, min, Bool, true, false, cond, List, ◌∷◌, length, Option, None, Some, Result, Ok, Err, IfErr, option_map, refl, sym, ap, ◌∙◌}
+use Rattle.std.specs.List.{find}
+use Rattle.cas_types.specs.Keys.{refusal}
+use Rattle.cas_types.specs.declared.key.KeyFault.{KeyFault}
+use Rattle.cas_types.specs.declared.key.KeyFault.TheVariants.{Empty, TooLong, Mem}
+use Rattle.cas_bind.specs.Refusals.{too_large}
+use Rattle.cas_bind.specs.declared.refusal.Refusal.{Refusal}
+use Rattle.cas_bind.specs.declared.refusal.Refusal.TheVariants.{TooLarge}
+
+told : (m n : ℕ) (key : List ℕ) (rest : Option (List ℕ)) (f : List ℕ → Refusal) (b c : Bool) → f key ≡ TooLarge m 65535
+    → cond b (Some Empty) (cond c (Some (TooLong m)) None) ≡ Some (TooLong n) → option_map f (cond c (Some key) rest) ≡ Some (TooLarge n 65535)
+told m n key rest f true c is e = cc
+told m n key rest f false true is e = cc
+told m n key rest f false false is e = cc
+
+as_refused : (key : List ℕ) (n : ℕ) (others : List (List ℕ)) → refusal key ≡ Some (TooLong n) → too_large (key ∷ others) ≡ Some (TooLarge n 65535)
+unfolding too_large
+as_refused key n others e =
+    told (min (length key) (2 ^ 64 - 1)) n key (find (λ v. nat_lt 65535 (length v)) others) (λ v. TooLarge (min (length v) (2 ^ 64 - 1)) 65535) (length key == 0) (nat_lt 65535 (length key)) refl e
+
+is_long : {X : Type 0} (r : Option KeyFault) (n : ℕ) (result : Result X KeyFault) → result ≡ Err (TooLong n) → ((f : KeyFault) → r ≡ Some f → result ≡ Err f) → (r ≡ None → IfErr result (λ f. f ≡ Mem)) → r ≡ Some (TooLong n)
+is_long None n (Ok x) is refused memory = cc
+is_long None n (Err f) is refused memory = let same : f ≡ Mem = memory refl in cc
+is_long (Some f) n result is refused memory = let same : result ≡ Err f = refused f refl in cc
+
+pub too_long : {X : Type 0} (key : List ℕ) (n : ℕ) (result : Result X KeyFault) → result ≡ Err (TooLong n) → ((f : KeyFault) → refusal key ≡ Some f → result ≡ Err f) → (refusal key ≡ None → IfErr result (λ f. f ≡ Mem))
+    → (others : List (List ℕ)) → too_large (key ∷ others) ≡ Some (TooLarge n 65535)
+too_long key n result is refused memory others = as_refused key n others (is_long (refusal key) n result is refused memory)
