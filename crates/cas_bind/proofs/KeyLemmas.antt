@@ -1,5 +1,5 @@
 -- A key that is too long is refused as such.
-use Rattle.std.proofs.Common.{◌≡◌, ℕ, ◌^◌, ◌-◌, ◌==◌, nat_lt, min, Bool, true, false, cond, List, ◌∷◌, length, Option, None, Some, Result, Ok, Err, IfErr, option_map, refl, sym, ap, ◌∙◌}
+use Rattle.std.proofs.Common.{◌≡◌, ℕ, ◌^◌, ◌-◌, ◌==◌, nat_lt, min, Bool, true, false, cond, List, ◌∷◌, length, Option, None, Some, Result, Ok, Err, IfErr, option_map, refl}
 use Rattle.std.specs.List.{find}
 use Rattle.cas_types.specs.Keys.{refusal}
 use Rattle.cas_types.specs.declared.key.KeyFault.{KeyFault}

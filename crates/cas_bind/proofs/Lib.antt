@@ -1,2 +1,11 @@
 pub mod Steps
+pub mod Parts
+pub mod NameLemmas
 pub mod KeyLemmas
+pub mod LargeValues
+pub mod Reasoning
+pub mod ReadReasoning
+pub mod CreateReasoning
+pub mod TableLemmas
+pub mod KeptTables
+pub mod Kept

@@ -2,7 +2,12 @@ pub mod Refusals
 pub mod Constants
 pub mod Columns
 pub mod Terms
+pub mod Where
 pub mod Options
 pub mod Schemas
 pub mod Shown
+pub mod Effects
 pub mod AtomsOf
+pub mod Reasons
+pub mod Meaning
+pub mod Tables

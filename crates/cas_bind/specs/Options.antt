@@ -1,6 +1,6 @@
 -- The options of a table, and none where one of them is unknown or out of range.
 -- CQL documentation, "Data definition: table options, compaction options". A ratio is told in whole hundredths; ranges and defaults are in part own.
-use Rattle.std.specs.Prelude.{ℕ, ℤ, pos, ◌*ℤ◌, ◌^◌, nat_le, Bool, true, false, ◌||◌, List, [], ◌∷◌, ◌++◌, Option, None, Some, option_map, unsigned_abs, reverse, codes, if◌then◌else◌}
+use Rattle.std.specs.Prelude.{ℕ, ℤ, pos, ◌*ℤ◌, ◌^◌, nat_le, Bool, false, ◌||◌, List, [], ◌∷◌, ◌++◌, Option, None, Some, option_map, unsigned_abs, reverse, codes, if◌then◌else◌}
 use Rattle.std.specs.Option.{option_and_then, option_or}
 use Rattle.std.specs.List.{find, filter_map, list_all, list_any}
 use Rattle.std.specs.Str.{bytes_eq}
@@ -10,7 +10,6 @@ use Rattle.cas_types.specs.declared.schema.Strategy.TheVariants as strategy
 use Rattle.cas_types.specs.declared.schema.Unit.{Unit as WindowUnit}
 use Rattle.cas_types.specs.declared.schema.Unit.TheVariants as unit
 use Rattle.cql_lex.specs.Numbers.{number_value, ratio_value}
-use Rattle.cql_parse.specs.declared.term.Constant.{Constant}
 use Rattle.cql_parse.specs.declared.term.Constant.TheVariants as constant
 use Rattle.cql_parse.specs.declared.term.Setting.{Setting}
 use Rattle.cql_parse.specs.declared.term.Setting.TheVariants as setting
@@ -145,33 +144,47 @@ whole ss n least greatest default = whole_or least greatest default (setting_nam
 abbrev pub hundredths : List Suboption → List ℕ → ℕ → ℕ → ℕ → Option ℕ
 hundredths ss n least greatest default = hundredths_or least greatest default (setting_named n ss)
 
--- all suboptions in their ranges, each that isn't given by its default
-unfoldable pub suboptions : Strategy → List Suboption → Option Options
-suboptions s ss = do
+-- the options of a table that says its strategy alone
+abbrev pub default_options : Strategy → Options
+default_options s = record {
+  gc_grace_seconds = 864000;
+  default_time_to_live = 0;
+  strategy = s;
+  min_threshold = 4;
+  max_threshold = 32;
+  bucket_low = 50;
+  bucket_high = 150;
+  min_sstable_size = 52428800;
+  sstable_size_in_mb = 160;
+  fanout_size = 10;
+  unit = unit.Days;
+  window = 1;
+}
+
+-- with the suboptions of size-tiered compaction
+unfoldable pub sized_options : Options → List Suboption → Option Options
+sized_options o ss = do
   min ← whole ss (codes "min_threshold") 2 64 4
   max ← whole ss (codes "max_threshold") 2 64 32
   low ← hundredths ss (codes "bucket_low") 1 99 50
   high ← hundredths ss (codes "bucket_high") 101 10000 150
   size ← whole ss (codes "min_sstable_size") 0 (2 ^ 40) 52428800
+  if nat_le min max then Some (record o { min_threshold = min; max_threshold = max; bucket_low = low; bucket_high = high; min_sstable_size = size }) else None
+
+-- with those of leveled and of time-window compaction
+unfoldable pub other_options : Options → List Suboption → Option Options
+other_options o ss = do
   mb ← whole ss (codes "sstable_size_in_mb") 1 1024 160
   fanout ← whole ss (codes "fanout_size") 2 100 10
   of ← unit_or_days (setting_named (codes "compaction_window_unit") ss)
   window ← whole ss (codes "compaction_window_size") 1 65535 1
-  if nat_le min max then Some (record {
-    gc_grace_seconds = 864000;
-    default_time_to_live = 0;
-    strategy = s;
-    min_threshold = min;
-    max_threshold = max;
-    bucket_low = low;
-    bucket_high = high;
-    min_sstable_size = size;
-    sstable_size_in_mb = mb;
-    fanout_size = fanout;
-    unit = of;
-    window = window;
-  })
-      else None
+  Some (record o { sstable_size_in_mb = mb; fanout_size = fanout; unit = of; window = window })
+
+-- all suboptions in their ranges, each that isn't given by its default
+unfoldable pub suboptions : Strategy → List Suboption → Option Options
+suboptions s ss = do
+  sized ← sized_options (default_options s) ss
+  other_options sized ss
 
 -- of the strategy's own suboptions alone
 unfoldable pub compaction_of : List Suboption → Option Options

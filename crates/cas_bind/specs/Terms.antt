@@ -1,12 +1,11 @@
 -- What terms are as values of columns, and which fit.
 -- CQL documentation, "Data types: constants; collections" and "Data manipulation: UPDATE".
-use Rattle.std.specs.Prelude.{ℕ, ◌==◌, ℤ, Bool, true, false, not, ◌&&◌, ◌||◌, List, [], ◌∷◌, ◌++◌, map, fold, Option, None, Some, is_some}
+use Rattle.std.specs.Prelude.{ℕ, Bool, true, false, ◌&&◌, List, [], ◌∷◌, map, fold, Option, None, Some, is_some}
 use Rattle.std.specs.List.{list_all, filter_map}
 use Rattle.std.specs.BTreeMap.{insert_entry}
 use Rattle.cas_types.specs.Values.{bytes_cmp}
 use Rattle.cas_types.specs.declared.tag.TypeTag.{TypeTag}
 use Rattle.cas_types.specs.declared.schema.Column.{Column}
-use Rattle.cas_types.specs.declared.schema.Shape.{Shape}
 use Rattle.cas_types.specs.declared.schema.Shape.TheVariants as shape
 use Rattle.cas_atoms.specs.Picks.{type_or_blob}
 use Rattle.cql_parse.specs.declared.term.Constant.{Constant}

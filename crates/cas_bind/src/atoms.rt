@@ -190,7 +190,7 @@ fn element_atoms(
     elements: &Elements,
 ) -> Result<Vec<Atom>, AllocError>
     requires moment { stamp.moment ≤ℤ pos 253402300799 }
-    requires number { stamp.number ≤ 2 ^ 60 }
+    requires number { stamp.number ≤ 2 ^ 62 }
     ensures { IfOk result (λ v. v.items ≡ element_atoms_of stamp row.now column elements.now) }
 {
     match elements {
@@ -246,7 +246,7 @@ fn whole_atoms(
     elements: &Elements,
 ) -> Result<Vec<Atom>, AllocError>
     requires moment { stamp.moment ≤ℤ pos 253402300799 }
-    requires number { stamp.number ≤ 2 ^ 60 }
+    requires number { stamp.number ≤ 2 ^ 62 }
     requires at { (pos 0 -ℤ pos (2 ^ 63 - 3)) ≤ℤ stamp.at }
     ensures { IfOk result (λ v. v.items ≡ effect_atoms_of stamp (effects.Whole row.now column elements.now)) }
 {
@@ -259,7 +259,7 @@ fn whole_atoms(
 #[tactic(auto, unfolding(crate::specs::AtomsOf::effect_atoms))]
 fn effect_atoms(alloc: Global, stamp: Stamp, effect: &Effect) -> Result<Vec<Atom>, AllocError>
     requires moment { stamp.moment ≤ℤ pos 253402300799 }
-    requires number { stamp.number ≤ 2 ^ 60 }
+    requires number { stamp.number ≤ 2 ^ 62 }
     requires at { (pos 0 -ℤ pos (2 ^ 63 - 3)) ≤ℤ stamp.at }
     ensures { IfOk result (λ v. v.items ≡ effect_atoms_of stamp effect.now) }
 {
@@ -288,7 +288,7 @@ fn push_effect(
     atoms: &mut Vec<Atom>,
 ) -> Result<(), AllocError>
     requires moment { stamp.moment ≤ℤ pos 253402300799 }
-    requires number { stamp.number ≤ 2 ^ 60 }
+    requires number { stamp.number ≤ 2 ^ 62 }
     requires at { (pos 0 -ℤ pos (2 ^ 63 - 3)) ≤ℤ stamp.at }
     ensures { OnOk result (atoms.new.items ≡ atoms.old.items ++ effect_atoms_of stamp effect.now) }
 {
@@ -299,7 +299,7 @@ fn push_effect(
 
 fn all_atoms(alloc: Global, stamp: Stamp, effects: &[Effect]) -> Result<Vec<Atom>, AllocError>
     requires moment { stamp.moment ≤ℤ pos 253402300799 }
-    requires number { stamp.number ≤ 2 ^ 60 }
+    requires number { stamp.number ≤ 2 ^ 62 }
     requires at { (pos 0 -ℤ pos (2 ^ 63 - 3)) ≤ℤ stamp.at }
     ensures { IfOk result (λ v. v.items ≡ flat_map (effect_atoms_of stamp) effects.now) }
 {
@@ -341,7 +341,7 @@ pub fn atoms_of(
     number: u64,
 ) -> Result<Mutation, Mem>
     requires moment { moment ≤ℤ pos 253402300799 }
-    requires number { number ≤ 2 ^ 60 }
+    requires number { number ≤ 2 ^ 62 }
     requires at { (pos 0 -ℤ pos (2 ^ 63 - 3)) ≤ℤ unwrap_or write.now.timestamp drawn }
     ensures { IfOk result (λ m. m ≡ mutation_of write.now drawn moment number) }
 {

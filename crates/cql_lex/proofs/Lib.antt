@@ -10,3 +10,4 @@ pub mod Longest
 pub mod Pieces
 pub mod Spans
 pub mod Reached
+pub mod Backslash
