@@ -1,121 +1,130 @@
 -- What each line answers, and what it adds to the history of the run.
--- CQL documentation, "Data manipulation: INSERT, SELECT" and "Data definition: CREATE TABLE"; numbers, timestamps and moments are own. So far every reading of the clock is 0.
-use Rattle.std.specs.Prelude.{◌≡◌, ℕ, ◌+◌, ◌*◌, ◌-◌, pos, ℤ, Bool, true, false, None, List, [], ◌∷◌, ◌++◌, length, codes, if◌then◌else◌, Option, Some}
-use Rattle.std.specs.List.{flat_map}
-use Rattle.std.specs.Int.{w32, to_be_bytes, cast_unsigned}
-use Rattle.cas_types.specs.declared.schema.Column.{Column}
-use Rattle.cas_types.specs.declared.schema.Kind.TheVariants as kind
-use Rattle.cas_types.specs.declared.schema.Shape.TheVariants as shape
-use Rattle.cas_types.specs.declared.tag.TypeTag.TheVariants as tag
-use Rattle.cas_cell.specs.declared.liveness.Liveness.TheVariants as live
-use Rattle.cas_cell.specs.declared.cell.Cell.TheVariants as cell
-use Rattle.cas_bounds.specs.declared.cuts.Clustering.{Clustering}
-use Rattle.cas_bounds.specs.declared.order.Ordered.{Ordered}
+-- CQL documentation, "Data definition" and "Data manipulation"; numbers, timestamps, moments and the command are own.
+use Rattle.std.specs.Prelude.{◌≡◌, ℕ, ◌+◌, ◌/◌, ◌^◌, ◌⊎◌, ◌==◌, nat_lt, ℤ, pos, neg_ℤ, ◌+ℤ◌, ◌*ℤ◌, int_lt, int_div, Bool, true, false, ◌&&◌, ◌||◌, List, [], ◌∷◌, ◌++◌, length, reverse, replicate, slice_index_or, slice_set, Option, None, Some, option_map, unwrap_or, Result, Ok, Err, if◌then◌else◌}
+use Rattle.std.specs.List.{flat_map, find}
+use Rattle.std.specs.Int.{int_max, int_min}
+use Rattle.cas_types.specs.declared.schema.TableSchema.{TableSchema}
 use Rattle.cas_atoms.specs.declared.atom.Atom.{Atom}
-use Rattle.cas_atoms.specs.declared.atom.Atom.TheVariants.{Live, Write}
 use Rattle.cas_atoms.specs.declared.atom.Mutation.{Mutation}
-use Rattle.cas_atoms.specs.declared.query.Query.{Query}
-use Rattle.cas_atoms.specs.declared.query.Pick.TheVariants.{Value}
 use Rattle.cas_atoms.specs.Coordinates.{same_bytes}
 use Rattle.cas_atoms.specs.Answers.{answer}
+use Rattle.cas_atoms.specs.LogLength.{record_length}
+use Rattle.cas_bind.specs.declared.bound.Bound.{Bound}
+use Rattle.cas_bind.specs.declared.bound.Bound.TheVariants as bound
+use Rattle.cas_bind.specs.declared.bound.BoundWrite.{BoundWrite}
+use Rattle.cas_bind.specs.declared.bound.BoundRead.{BoundRead}
+use Rattle.cas_bind.specs.declared.refusal.Refusal.{Refusal}
+use Rattle.cas_bind.specs.AtomsOf.{mutation_of}
+use Rattle.cas_bind.specs.Meaning.{meaning}
+use Rattle.cas_bind.specs.Refusals.{number}
+use Rattle.cas_bind.specs.Tables.{tables_after}
 use Rattle.cas_render.specs.declared.reply.Failure.{Failure}
 use Rattle.cas_render.specs.declared.reply.Failure.TheVariants as failure
 use Rattle.cas_render.specs.declared.reply.Reply.{Reply}
 use Rattle.cas_render.specs.declared.reply.Reply.TheVariants as reply
-use Rattle.cas_node.specs.declared.statement.Line.{Line}
-use Rattle.cas_node.specs.declared.statement.Line.TheVariants.{Blank, Create, Insert, Select, Syntax}
-use Rattle.cas_node.specs.Grammar.{line_of}
+use Rattle.cas_node.specs.declared.line.Line.{Line}
+use Rattle.cas_node.specs.declared.line.Line.TheVariants as line
+use Rattle.cas_node.specs.declared.shard.ShardHistory.{ShardHistory}
+use Rattle.cas_node.specs.declared.words.ClockKind.{ClockKind}
+use Rattle.cas_node.specs.declared.words.ClockKind.TheVariants as clock
+use Rattle.cas_node.specs.declared.words.Command.{Command}
+use Rattle.cas_node.specs.Lines.{Says}
 
--- whether the table is there, and the mutations that were accepted, in order
+-- the tables, of each shard the mutations that were accepted and the last moment, and the seconds that the last `\clock` set
 pub record History : Type 0 where
-  pub made : Bool
-  pub entries : List Mutation
+  pub tables : List TableSchema
+  pub shards : List ShardHistory
+  pub clock : ℤ
 
--- an int's four bytes, most significant first
-abbrev pub int_bytes : ℤ → List ℕ
-int_bytes n = to_be_bytes w32 (cast_unsigned w32 n)
-
--- the table's one clustering column is an ascending int
-abbrev pub ascending : List Ordered
-ascending = record { tag = tag.Int; descending = false } ∷ []
-
--- the columns k int, c int, v text, with PRIMARY KEY (k, c)
-abbrev pub columns : List Column
-columns =
-    record { name = codes "k"; kind = kind.Partition; shape = shape.One; tag = tag.Int; second = None }
-    ∷ record { name = codes "c"; kind = kind.Ascending; shape = shape.One; tag = tag.Int; second = None }
-    ∷ record { name = codes "v"; kind = kind.Regular; shape = shape.One; tag = tag.Text; second = None } ∷ []
-
--- timestamps are drawn: the first is 0, and each is 2 above the last
-abbrev pub drawn_at : ℕ → ℤ
-drawn_at number = pos (2 * (number - 1))
-
--- the atoms of an INSERT of (k, c, v): that the row lives, and the value of its column v
-unfoldable pub atoms_of : ℤ → ℤ → List ℕ → List Atom
-atoms_of at c v =
-    let place : Clustering = record { values = int_bytes c ∷ []; order = ascending } in
-    Live place (live.Plain at) ∷ Write place (record { number = 2; path = None }) [] (cell.Plain at v) ∷ []
-
--- the mutation of that number
-unfoldable pub mutation_of : ℕ → ℤ → ℤ → List ℕ → Mutation
-mutation_of number k c v = record {
-  table = 0;
-  shard = 0;
-  number = number;
-  drawn = true;
-  at = drawn_at number;
-  moment = pos 0;
-  key = int_bytes k;
-  atoms = atoms_of (drawn_at number) c v;
-}
-
--- all of a partition's rows and columns
-unfoldable pub query_of : ℤ → Query
-query_of k = record {
-  table = 0;
-  columns = columns;
-  key = int_bytes k;
-  slice = record { lo = record { prefix = []; after = false; order = ascending }; hi = record { prefix = []; after = true; order = ascending } };
-  reversed = false;
-  limit = None;
-  picks = Value 0 ∷ Value 1 ∷ Value 2 ∷ [];
-}
-
--- the atoms of the mutation, if it is of the partition
-abbrev pub atoms_if : List ℕ → Mutation → List Atom
-atoms_if key m = if same_bytes m.key key then m.atoms else []
-
--- the atoms of a partition's mutations, joined
-unfoldable pub atoms_under : List ℕ → List Mutation → List Atom
-atoms_under key entries = flat_map (atoms_if key) entries
+-- a shard without a mutation
+abbrev pub empty_shard : ShardHistory
+empty_shard = record { entries = []; moment = pos 0 }
 
 -- the opening history
-unfoldable pub start : History
-start = record { made = false; entries = [] }
+unfoldable pub start : Command → History
+start c = record { tables = []; shards = replicate c.limits.shards empty_shard; clock = pos 0 }
 
--- the number of the next mutation is one above the last one's
-abbrev pub next_number : History → ℕ
-next_number h = length h.entries + 1
+abbrev pub shard_at : History → ℕ → ShardHistory
+shard_at h n = slice_index_or h.shards n empty_shard
+
+abbrev pub with_shard : History → ℕ → ShardHistory → History
+with_shard h n s = record h { shards = slice_set h.shards n s }
+
+-- ---- readings, moments, timestamps, numbers
+
+-- a reading in microseconds is put between the start of 1970 and the end of the year 9999
+abbrev pub clamped : ℤ → ℤ
+clamped raw = int_min (int_max raw (pos 0)) (pos 253402300799999999)
+
+-- a reading of the manual clock is what `\clock` set, one of the system's is one that the clock may give
+abbrev pub IsReading : ClockKind → (ℤ → Type 0) → ℤ → ℤ → Type 0
+IsReading clock.Manual Gives seconds reading = reading ≡ seconds *ℤ pos 1000000
+IsReading clock.System Gives seconds reading = (raw : ℤ) × Gives raw × (reading ≡ clamped raw)
+
+-- a moment is the greater of the reading's whole seconds and the shard's last moment
+abbrev pub moment_at : ℤ → ShardHistory → ℤ
+moment_at reading s = int_max (int_div reading (pos 1000000)) s.moment
+
+-- the shard's last timestamp that was drawn; before the first it is -2
+abbrev pub last_drawn : List Mutation → ℤ
+last_drawn entries = unwrap_or (option_map (λ m. m.at) (find (λ m. m.drawn) (reverse entries))) (neg_ℤ (pos 2))
+
+-- a timestamp is drawn as the greater of the reading and the last drawn one plus 2
+abbrev pub drawn_at : ℤ → ShardHistory → ℤ
+drawn_at reading s = int_max reading (last_drawn s.entries +ℤ pos 2)
+
+-- mutations of a shard are numbered from 1
+abbrev pub next_number : ShardHistory → ℕ
+next_number s = length s.entries + 1
+
+-- ---- a mutation
+
+-- the mutation that a write makes
+unfoldable pub mutation_at : ℤ → ShardHistory → BoundWrite → Mutation
+mutation_at reading s w = mutation_of w (drawn_at reading s) (moment_at reading s) (next_number s)
+
+-- why a shard doesn't take a mutation: its record is longer than half a segment; the shard has 2^60 mutations, or drew its last timestamp
+unfoldable pub take_refusal : ℕ → Mutation → Option ℕ
+take_refusal segment m =
+    if nat_lt (segment / 2) (record_length m) then Some 10
+    else if nat_lt (2 ^ 60) m.number || (m.drawn && int_lt (pos (2 ^ 62)) m.at) then Some 14
+    else None
+
+-- only the moment has changed
+abbrev pub moved : ℤ → ShardHistory → ShardHistory
+moved reading s = record s { moment = moment_at reading s }
+
+abbrev pub taken_unless : Option ℕ → ℤ → ShardHistory → Mutation → ShardHistory
+taken_unless None reading s m = record { entries = s.entries ++ m ∷ []; moment = moment_at reading s }
+taken_unless (Some refused) reading s m = moved reading s
+
+unfoldable pub shard_after : ℕ → ℤ → ShardHistory → BoundWrite → ShardHistory
+shard_after segment reading s w = taken_unless (take_refusal segment (mutation_at reading s w)) reading s (mutation_at reading s w)
+
+abbrev pub wrote_unless : Option ℕ → ℕ → Reply
+wrote_unless None number = reply.Wrote number
+wrote_unless (Some refused) number = reply.Refused refused
+
+unfoldable pub write_reply : ℕ → ℤ → ShardHistory → BoundWrite → Reply
+write_reply segment reading s w = wrote_unless (take_refusal segment (mutation_at reading s w)) (next_number s)
+
+-- ---- a slice
+
+abbrev pub is_of : ℕ → List ℕ → Mutation → Bool
+is_of table key m = (m.table == table) && same_bytes m.key key
+
+abbrev pub atoms_if : ℕ → List ℕ → Mutation → List Atom
+atoms_if table key m = if is_of table key m then m.atoms else []
+
+-- the atoms of a partition's mutations, joined
+unfoldable pub atoms_under : ℕ → List ℕ → List Mutation → List Atom
+atoms_under table key entries = flat_map (atoms_if table key) entries
 
 -- a SELECT shows the live view of all mutations accepted so far; its front is the last one's number
-unfoldable pub slice_of : History → ℤ → Reply
-slice_of h k = reply.Rows (answer (query_of k) (atoms_under (int_bytes k) h.entries) (pos 0)) 0 (length h.entries) (pos 0)
+unfoldable pub read_reply : ℤ → ShardHistory → BoundRead → Reply
+read_reply reading s r = reply.Rows (answer r.query (atoms_under r.query.table r.query.key s.entries) (moment_at reading s)) r.shard (length s.entries) (moment_at reading s)
 
--- what a line answers where memory isn't wanting; a line that says nothing isn't answered
-abbrev pub reply_to : History → Line → Option Reply
-reply_to h Blank = None
-reply_to h Syntax = Some (reply.Refused 1)
-reply_to h Create = Some (if h.made then reply.Refused 8 else reply.Done)
-reply_to h (Insert k c v) = Some (if h.made then reply.Wrote (next_number h) else reply.Refused 2)
-reply_to h (Select k) = Some (if h.made then slice_of h k else reply.Refused 2)
-
--- the history after a line where memory isn't wanting
-abbrev pub history_after : History → Line → History
-history_after h Blank = h
-history_after h Syntax = h
-history_after h Create = record { made = true; entries = h.entries }
-history_after h (Insert k c v) = if h.made then record { made = true; entries = h.entries ++ mutation_of (next_number h) k c v ∷ [] } else h
-history_after h (Select k) = h
+-- ---- a line
 
 abbrev pub is_memory : Failure → Bool
 is_memory failure.Memory = true
@@ -125,31 +134,57 @@ is_memory failure.Read = false
 is_memory failure.Block = false
 
 -- the reply tells of want of memory
+abbrev pub tells_want : Reply → Bool
+tells_want reply.Done = false
+tells_want (reply.Wrote n) = false
+tells_want (reply.Rows rows shard front now) = false
+tells_want (reply.Refused n) = false
+tells_want (reply.Failed f) = is_memory f
+
 abbrev pub is_starved : Option Reply → Bool
 is_starved None = false
-is_starved (Some reply.Done) = false
-is_starved (Some (reply.Wrote n)) = false
-is_starved (Some (reply.Rows rows shard front now)) = false
-is_starved (Some (reply.Refused n)) = false
-is_starved (Some (reply.Failed f)) = is_memory f
+is_starved (Some r) = tells_want r
 
--- one line: its reply, and the history after it; or want of memory, and then nothing changes
-pub record Answers (h : History) (line : List ℕ) (r : Option Reply) (after : History) : Type 0 where
-  pub reply : is_starved r ≡ false → r ≡ reply_to h (line_of line)
-  pub history : after ≡ (if is_starved r then h else history_after h (line_of line))
+-- a shard's answer at a reading; or want of memory, and then only its moment changes
+pub record InShard (h : History) (n : ℕ) (reading : ℤ) (expected : Reply) (done : ShardHistory) (r : Reply) (after : History) : Type 0 where
+  pub reply : tells_want r ≡ false → r ≡ expected
+  pub history : after ≡ with_shard h n (if tells_want r then moved reading (shard_at h n) else done)
+
+-- a definition changes the tables
+abbrev pub Defines : History → Bound → Reply → History → Type 0
+Defines h b r after = (r ≡ reply.Done) × (after ≡ record h { tables = tables_after h.tables b })
+
+-- a statement that means this is answered so; one that is refused changes nothing
+abbrev pub Does : Command → (ℤ → Type 0) → History → Result Bound Refusal → Reply → History → Type 0
+Does c Gives h (Err x) r after = (r ≡ reply.Refused (number x)) × (after ≡ h)
+Does c Gives h (Ok (bound.Create t)) r after = Defines h (bound.Create t) r after
+Does c Gives h (Ok (bound.Alter a)) r after = Defines h (bound.Alter a) r after
+Does c Gives h (Ok (bound.Write w)) r after =
+    (reading : ℤ) × IsReading c.clock Gives h.clock reading
+    × InShard h w.shard reading (write_reply c.limits.segment reading (shard_at h w.shard) w) (shard_after c.limits.segment reading (shard_at h w.shard) w) r after
+Does c Gives h (Ok (bound.Read q)) r after =
+    (reading : ℤ) × IsReading c.clock Gives h.clock reading
+    × InShard h q.shard reading (read_reply reading (shard_at h q.shard) q) (moved reading (shard_at h q.shard)) r after
+
+-- `\clock` sets the manual clock, and is refused where the clock is the system's
+abbrev pub SetsClock : ClockKind → History → ℤ → Reply → History → Type 0
+SetsClock clock.Manual h n r after = (r ≡ reply.Done) × (after ≡ record h { clock = n })
+SetsClock clock.System h n r after = (r ≡ reply.Refused 13) × (after ≡ h)
+
+-- a line that says this is answered so; one that says nothing isn't answered
+abbrev pub Answered : Command → (ℤ → Type 0) → History → Line → Option Reply → History → Type 0
+Answered c Gives h line.Blank r after = (r ≡ None) × (after ≡ h)
+Answered c Gives h line.Syntax r after = (r ≡ Some (reply.Refused 1)) × (after ≡ h)
+Answered c Gives h (line.Clock n) r after = (answer : Reply) × (r ≡ Some answer) × SetsClock c.clock h n answer after
+Answered c Gives h (line.Statement s) r after = (answer : Reply) × (r ≡ Some answer) × Does c Gives h (meaning c.limits.shards h.tables s) answer after
+
+-- one line is answered, or memory is wanting before it has changed anything
+abbrev pub Answers : Command → (ℤ → Type 0) → History → List ℕ → Option Reply → History → Type 0
+Answers c Gives h text r after = ((r ≡ Some (reply.Failed failure.Memory)) × (after ≡ h)) ⊎ ((l : Line) × Says text l × Answered c Gives h l r after)
 
 -- the lines one after another
-abbrev pub Runs : History → List (List ℕ) → List (Option Reply) → History → Type 0
-Runs h [] [] after = after ≡ h
-Runs h [] (r ∷ rs) after = ⊥
-Runs h (l ∷ ls) [] after = ⊥
-Runs h (l ∷ ls) (r ∷ rs) after = (between : History) × Answers h l r between × Runs between ls rs after
-
--- the replies to the lines, and the history after them, where memory isn't wanting
-abbrev pub replies_to : History → List (List ℕ) → List (Option Reply)
-replies_to h [] = []
-replies_to h (l ∷ ls) = reply_to h (line_of l) ∷ replies_to (history_after h (line_of l)) ls
-
-abbrev pub history_of : History → List (List ℕ) → History
-history_of h [] = h
-history_of h (l ∷ ls) = history_of (history_after h (line_of l)) ls
+abbrev pub Runs : Command → (ℤ → Type 0) → History → List (List ℕ) → List (Option Reply) → History → Type 0
+Runs c Gives h [] [] after = after ≡ h
+Runs c Gives h [] (r ∷ rs) after = ⊥
+Runs c Gives h (l ∷ ls) [] after = ⊥
+Runs c Gives h (l ∷ ls) (r ∷ rs) after = (between : History) × Answers c Gives h l r between × Runs c Gives between ls rs after

@@ -1,8 +1,8 @@
 -- What a pass tells.
 use Rattle.std.specs.Prelude.{List}
-use Rattle.cas_atoms.specs.declared.atom.Mutation.{Mutation}
 use Rattle.cas_node.specs.declared.program.Pass.{Pass}
+use Rattle.cas_node.specs.declared.shard.ShardHistory.{ShardHistory}
 
--- the mutations that were accepted, in order
-abbrev pub entries_of : Pass → List Mutation
-entries_of p = p.entries
+-- of each shard, the mutations that were accepted and the last moment
+abbrev pub shards_of : Pass → List ShardHistory
+shards_of p = p.shards

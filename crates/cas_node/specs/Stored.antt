@@ -3,4 +3,4 @@ use Rattle.cas_node.specs.History.{History}
 use Rattle.cas_node.specs.declared.store.Store.{Store}
 
 abbrev pub stored : Store → History
-stored s = record { made = s.made; entries = s.entries.items }
+stored s = record { tables = s.tables.items; shards = s.shards.items; clock = s.clock }

@@ -1,5 +1,5 @@
 -- One line's turn, and how a run ends by what its lines came to. The top call's definitions don't stand on these.
-use Rattle.std.specs.Prelude.{◌≡◌, ℕ, Bool, true, false, Option, List, ⊤}
+use Rattle.std.specs.Prelude.{◌≡◌, ℕ, ℤ, Bool, true, false, Option, List, ⊤}
 use Rattle.std.specs.Io.KnownBytes.{Appends}
 use Rattle.cas_io.specs.Told.{AppendsFront}
 use Rattle.cas_io.specs.declared.script.ScriptFault.{ScriptFault}
@@ -7,14 +7,15 @@ use Rattle.cas_io.specs.declared.script.ScriptFault.TheVariants as fault
 use Rattle.cas_render.specs.declared.reply.Reply.{Reply}
 use Rattle.cas_node.specs.declared.cause.Cause.{Cause}
 use Rattle.cas_node.specs.declared.cause.Cause.TheVariants as cause
+use Rattle.cas_node.specs.declared.words.Command.{Command}
 use Rattle.cas_node.specs.History.{History, Answers, is_starved}
 use Rattle.cas_node.specs.Text.{line_text}
 use Rattle.cas_node.specs.Ran.{is_refused}
 
 -- one line was answered, and its reply was written, or a front of it
-pub record Turned (before : History) (line : List ℕ) (after : History) (old new : Option (List ℕ)) (refused starved printed : Bool) : Type 0 where
+pub record Turned (c : Command) (Gives : ℤ → Type 0) (before : History) (line : List ℕ) (after : History) (old new : Option (List ℕ)) (refused starved printed : Bool) : Type 0 where
   pub reply : Option Reply
-  pub answers : Answers before line reply after
+  pub answers : Answers c Gives before line reply after
   pub refusal : refused ≡ is_refused reply
   pub want : starved ≡ is_starved reply
   pub whole : printed ≡ true → Appends old new (line_text reply)

@@ -3,16 +3,28 @@
 
 mod cause;
 #[cfg(test)]
-mod line_tests;
+mod language_tests;
+mod laws;
+mod line;
 mod lines;
-mod parts;
 mod program;
-mod reader;
+#[cfg(test)]
+mod row_tests;
+#[cfg(test)]
+mod script_runs;
 mod session;
-mod statement;
+mod shard;
 mod store;
 #[cfg(test)]
 mod tests;
+#[cfg(test)]
+mod type_tests;
+#[cfg(test)]
+mod word_tests;
+mod words;
 
 pub use cause::Cause;
+pub use laws::one_outcome;
 pub use program::{Outcome, Pass, SCRIPT_LIMIT, run};
+pub use shard::ShardHistory;
+pub use words::path_of;

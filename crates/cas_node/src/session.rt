@@ -1,18 +1,20 @@
 //! Runs the lines of a script one after another, and writes what they answer.
 
-ghost use Rattle.std.specs.Prelude.{◌≡◌, ◌≤◌, ◌<◌, ◌^◌, ◌+◌, length, vec_len, IfOk, OnOk, OnErr, IsErrOf, Some, is_none, ◌||◌};
+ghost use Rattle.std.specs.Prelude.{◌≡◌, ◌≤◌, IfOk, OnOk, OnErr, IsErrOf, Some, is_none, ◌||◌};
 ghost use Rattle.std.specs.Io.KnownBytes.{Appends};
 ghost use Rattle.cas_io.specs.Told.{AppendsFront};
 ghost use Rattle.cas_node.specs.Text.{line_text};
 ghost use Rattle.cas_node.specs.Turns.{Turned, EndsEarly, EndsWhole};
 ghost use Rattle.cas_node.specs.Ran.{Ran, SinkRose, is_refused as is_refused_of};
 ghost use Rattle.cas_node.specs.Stored.{stored};
-ghost use Rattle.cas_node.specs.History.{is_starved as is_starved_of};
+ghost use Rattle.cas_node.specs.Sound.{IsCommand, IsSound};
+ghost use Rattle.cas_node.specs.History.{is_starved as is_starved_of, start};
 
 use crate::cause::Cause;
 use crate::lines::next_line;
 use crate::store::Store;
-use cas_io::{Sink, write_all};
+use crate::words::Command;
+use cas_io::{Clock, Sink, write_all};
 use cas_render::{Failure, Reply, render};
 use cas_types::Mem;
 use std::alloc::Global;
@@ -95,15 +97,23 @@ struct Turn {
     fault: Option<PrintFault>,
 }
 
-fn take_turn<K: Sink>(alloc: Global, store: &mut Store, sink: &mut K, line: &[u8]) -> Turn
-    requires { vec_len store.old.entries < 2 ^ 60 }
-    ensures turned { Turned (stored store.old) line.now (stored store.new) (K.took sink.old) (K.took sink.new) result.refused result.starved (is_none result.fault) }
-    ensures more { vec_len store.new.entries ≤ vec_len store.old.entries + 1 }
+fn take_turn<K: Sink, C: Clock>(
+    alloc: Global,
+    command: &Command,
+    clock: &C,
+    store: &mut Store,
+    sink: &mut K,
+    line: &[u8],
+) -> Turn
+    requires command { IsCommand command.now }
+    requires sound { IsSound command.now (stored store.old) }
+    ensures turned { Turned command.now (C.may_give clock.now) (stored store.old) line.now (stored store.new) (K.took sink.old) (K.took sink.new) result.refused result.starved (is_none result.fault) }
+    ensures sound { IsSound command.now (stored store.new) }
     ensures faults { K.faults sink.old ≤ K.faults sink.new }
     ensures stalls { K.stalls sink.old ≤ K.stalls sink.new }
     ensures write { result.fault ≡ Some PrintFault.Write → SinkRose (K.faults sink.old) (K.faults sink.new) (K.stalls sink.old) (K.stalls sink.new) }
 {
-    let reply = store.answer_line(alloc, line);
+    let reply = store.answer_line(alloc, command, clock, line);
     let printed = print(alloc, &reply, sink);
     Turn {
         refused: is_refused(&reply),
@@ -118,21 +128,29 @@ fn either(a: bool, b: bool) -> bool
     a || b
 }
 
-/// Runs the lines of a script one after another, and writes what they answer.
-pub(crate) fn session<K: Sink>(alloc: Global, script: &[u8], sink: &mut K) -> (Store, Cause)
-    requires { length script.now < 2 ^ 60 }
-    ensures ran { Ran script.now (K.took sink.old) (K.took sink.new) result.0.entries.items result.1 }
+/// Runs the lines of a script one after another in a store just made, and writes what they answer.
+pub(crate) fn session<K: Sink, C: Clock>(
+    alloc: Global,
+    command: &Command,
+    clock: &C,
+    mut store: Store,
+    script: &[u8],
+    sink: &mut K,
+) -> (Store, Cause)
+    requires command { IsCommand command.now }
+    requires start { stored store ≡ start command.now }
+    requires sound { IsSound command.now (stored store) }
+    ensures ran { Ran command.now (C.may_give clock.now) script.now (K.took sink.old) (K.took sink.new) result.0.shards.items result.1 }
     ensures faults { K.faults sink.old ≤ K.faults sink.new }
     ensures stalls { K.stalls sink.old ≤ K.stalls sink.new }
     ensures write { result.1 ≡ Cause.Write → SinkRose (K.faults sink.old) (K.faults sink.new) (K.stalls sink.old) (K.stalls sink.new) }
 {
-    let mut store = Store::new(alloc);
     let mut rest = script;
     let mut refused = false;
     let mut starved = false;
     while !rest.is_empty() {
         let (line, after) = next_line(rest);
-        let turn = take_turn(alloc, &mut store, sink, line);
+        let turn = take_turn(alloc, command, clock, &mut store, sink, line);
         refused = either(turn.refused, refused);
         starved = either(turn.starved, starved);
         if let Some(fault) = turn.fault {

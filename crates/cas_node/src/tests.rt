@@ -1,115 +1,84 @@
-use crate::{Cause, Outcome, SCRIPT_LIMIT, run};
-use cas_disk::MemFolder;
-use cas_io::{Failed, FreeGate, ManualClock, MemSink, MemSource, Source};
-use std::alloc::Global;
+use crate::script_runs::{Case, USUAL, expect, expect_each, run_over, run_script, text_of, words};
+use crate::{Cause, SCRIPT_LIMIT};
+use cas_io::{Failed, MemSink, MemSource, Source};
+use std::fmt::Write;
 use std::test::Fail;
 
-const WORDS: [&str; 5] = ["--clock", "manual", "--shards", "1", "d"];
+const CREATE: &str = "CREATE TABLE t (k int, c int, v text, PRIMARY KEY (k, c));";
 
-const CREATE: &str = "CREATE TABLE t (k int, c int, v text, PRIMARY KEY (k, c));\n";
+const INSERT: &str = "INSERT INTO t (k, c, v) VALUES (1, 1, 'a');";
 
-// What a run came to: how it ended, what it wrote, and the numbers of its mutations.
-#[derive(Drop)]
-struct Ran {
-    status: u8,
-    cause: Cause,
-    output: Vec<u8>,
-    was_run: bool,
-    numbers: Vec<u64>,
-}
+const SELECT: &str = "SELECT * FROM t WHERE k = 1";
 
-fn words(alloc: Global, words: &[&str]) -> Result<Vec<String>, Fail> {
-    let mut list = Vec::new(alloc);
-    for word in words {
-        list.push(String::from_str(alloc, word)?)?;
-    }
-    Ok(list)
-}
-
-fn run_over<S: Source>(
-    alloc: Global,
-    command: &[&str],
-    source: &mut S,
-    mut sink: MemSink,
-) -> Result<Ran, Fail> {
-    let command = words(alloc, command)?;
-    let clock = ManualClock { reading: 7 };
-    let Outcome {
-        status,
-        cause,
-        pass,
-        folder: _folder,
-        tally: _tally,
-    } = run(
-        alloc, &command, source, &mut sink, MemFolder, &clock, &FreeGate,
-    );
-    let mut numbers = Vec::new(alloc);
-    if let Some(pass) = &pass {
-        for entry in pass.entries.as_slice() {
-            numbers.push(entry.number)?;
-        }
-    }
-    Ok(Ran {
-        status,
-        cause,
-        output: sink.taken().to_vec(alloc)?,
-        was_run: pass.is_some(),
-        numbers,
-    })
-}
-
-fn run_script(alloc: Global, script: &str) -> Result<Ran, Fail> {
-    let mut source = MemSource::new(script.as_bytes().to_vec(alloc)?);
-    run_over(alloc, &WORDS, &mut source, MemSink::new(alloc))
-}
+const SCRIPTS: [Case; 8] = [
+    (&[], &[], 0),
+    (&["", " \t\r", "", "-- c", "// c", " /* c */"], &[], 0),
+    (
+        &[CREATE, INSERT, "SELECT * FROM t WHERE k = 1;"],
+        &[
+            "ok",
+            "ok 1",
+            "1 | 1 | 'a'",
+            "-- 1 rows, shard 0, front 1, now 0",
+        ],
+        0,
+    ),
+    (
+        &[
+            CREATE,
+            INSERT,
+            "\r",
+            "INSERT INTO t (k, c, v) VALUES (1, -1, 'it''s');\r",
+            INSERT,
+            SELECT,
+        ],
+        &[
+            "ok",
+            "ok 1",
+            "ok 2",
+            "ok 3",
+            "1 | -1 | 'it''s'",
+            "1 | 1 | 'a'",
+            "-- 2 rows, shard 0, front 3, now 0",
+        ],
+        0,
+    ),
+    (
+        &[CREATE, INSERT, "SELECT * FROM t WHERE k = 2"],
+        &["ok", "ok 1", "-- 0 rows, shard 0, front 1, now 0"],
+        0,
+    ),
+    (&["INSERT INTO t (k"], &["refused S1"], 2),
+    (
+        &["\\clock", "\\clock 253402300800", "\\clock 1 2"],
+        &["refused S1", "refused S1", "refused S1"],
+        2,
+    ),
+    (
+        &[
+            INSERT,
+            CREATE,
+            "@1 INSERT INTO t (k, c, v) VALUES (1, 1, 'a');",
+            CREATE,
+            INSERT,
+            SELECT,
+        ],
+        &[
+            "refused S2",
+            "ok",
+            "refused S1",
+            "refused S8",
+            "ok 1",
+            "1 | 1 | 'a'",
+            "-- 1 rows, shard 0, front 1, now 0",
+        ],
+        2,
+    ),
+];
 
 #[test]
 fn scripts_print_what_their_lines_answer(rt: HostRuntime) -> Result<(), Fail> {
-    let alloc = rt.alloc();
-    let insert = "INSERT INTO t (k, c, v) VALUES (1, 1, 'a');\n";
-    let select = "SELECT * FROM t WHERE k = 1";
-    let table: [(&[&str], &str, u8); 7] = [
-        (&[], "", 0),
-        (&["\n", " \t\r\n", "\n"], "", 0),
-        (
-            &[CREATE, insert, select, ";"],
-            "ok\nok 1\n1 | 1 | 'a'\n-- 1 rows, shard 0, front 1, now 0\n",
-            0,
-        ),
-        (
-            &[
-                CREATE,
-                insert,
-                "\r\n",
-                "INSERT INTO t (k, c, v) VALUES (1, -1, 'it''s');\r\n",
-                insert,
-                select,
-            ],
-            "ok\nok 1\nok 2\nok 3\n1 | -1 | 'it''s'\n1 | 1 | 'a'\n-- 2 rows, shard 0, front 3, now 0\n",
-            0,
-        ),
-        (
-            &[CREATE, insert, "SELECT * FROM t WHERE k = 2"],
-            "ok\nok 1\n-- 0 rows, shard 0, front 1, now 0\n",
-            0,
-        ),
-        (&["INSERT INTO t (k"], "refused S1\n", 2),
-        (
-            &[insert, CREATE, "@1 ", insert, CREATE, insert, select],
-            "refused S2\nok\nrefused S1\nrefused S8\nok 1\n1 | 1 | 'a'\n-- 1 rows, shard 0, front 1, now 0\n",
-            2,
-        ),
-    ];
-    for (lines, output, status) in &table {
-        let mut script = String::new(alloc);
-        for line in *lines {
-            script.push_str(line)?;
-        }
-        let ran = run_script(alloc, &script)?;
-        assert_eq!(rt; ran.output.as_slice(), output.as_bytes());
-        assert_eq!(rt; ran.status, *status);
-    }
-    Ok(())
+    expect_each(&rt, rt.alloc(), &SCRIPTS)
 }
 
 // Want of memory is an answer that needs no cause, so that a body which always gives it is refused
@@ -117,9 +86,8 @@ fn scripts_print_what_their_lines_answer(rt: HostRuntime) -> Result<(), Fail> {
 #[test]
 fn always_out_of_memory(rt: HostRuntime) -> Result<(), Fail> {
     let alloc = rt.alloc();
-    let mut script = String::from_str(alloc, CREATE)?;
-    script.push_str("INSERT INTO t (k, c, v) VALUES (1, 1, 'a')")?;
-    let ran = run_script(alloc, &script)?;
+    let script = text_of(alloc, &[CREATE, INSERT])?;
+    let ran = run_script(alloc, USUAL, &script)?;
     assert_eq!(rt; ran.cause, Cause::Good);
     assert!(rt; ran.was_run);
     assert_eq!(rt; ran.numbers.as_slice(), [1].as_slice());
@@ -127,59 +95,94 @@ fn always_out_of_memory(rt: HostRuntime) -> Result<(), Fail> {
 }
 
 #[test]
-fn other_words_are_refused(rt: HostRuntime) -> Result<(), Fail> {
+fn words_of_the_command_are_taken(rt: HostRuntime) -> Result<(), Fail> {
     let alloc = rt.alloc();
-    let table: [&[&str]; 7] = [
-        &[],
-        &["d"],
-        &["--clock", "manual", "--shards", "0", "d"],
-        &["--clock", "manual", "--shards", "1"],
-        &["--clock", "manual", "--shards", "1", ""],
-        &["--clock", "manual", "--shards", "1", "-d"],
-        &["--clock", "manual", "--shards", "1", "d", "e"],
+    let table: [&str; 5] = [
+        "d",
+        "--clock manual --shards 1 d",
+        "d --clock=system --shards=16",
+        "--segment 4096 --memtable 4096 --compactors 0 d",
+        "--segment 33554432 --memtable 1073741824 --compactors 4 d",
     ];
     for command in &table {
-        let mut source = MemSource::new(CREATE.as_bytes().to_vec(alloc)?);
-        let ran = run_over(alloc, command, &mut source, MemSink::new(alloc))?;
-        assert_eq!(rt; ran.status, 1);
-        assert_eq!(rt; ran.output.len(), 0);
-        assert!(rt; !ran.was_run);
+        expect(&rt, alloc, command, &[CREATE], &["ok"], 0)?;
     }
+    Ok(())
+}
+
+#[test]
+fn other_words_are_refused(rt: HostRuntime) -> Result<(), Fail> {
+    let alloc = rt.alloc();
+    let table: [&str; 13] = [
+        "",
+        "-d",
+        "d e",
+        "--help",
+        "--clock manual --shards 1",
+        "--clock none d",
+        "--shards 0 d",
+        "--shards 17 d",
+        "--shards 1 --shards 1 d",
+        "--segment 4095 d",
+        "--memtable 4095 d",
+        "--compactors 5 d",
+        "--gen 1 d",
+    ];
+    for command in &table {
+        let ran = run_script(alloc, command, CREATE)?;
+        assert_eq!(rt; ran.status, 1, "{command}");
+        assert_eq!(rt; ran.output.len(), 0, "{command}");
+        assert!(rt; !ran.was_run, "{command}");
+    }
+    Ok(())
+}
+
+#[test]
+fn no_words_are_refused(rt: HostRuntime) -> Result<(), Fail> {
+    let alloc = rt.alloc();
+    let mut source = MemSource::new(Vec::new(alloc));
+    let ran = run_over(alloc, &[], &mut source, MemSink::new(alloc))?;
+    assert_eq!(rt; ran.status, 1);
+    assert!(rt; !ran.was_run);
     Ok(())
 }
 
 #[test]
 fn a_source_that_fails_is_not_run(rt: HostRuntime) -> Result<(), Fail> {
     let alloc = rt.alloc();
+    let command = words(alloc, USUAL)?;
     let mut source = MemSource::with_plan(CREATE.as_bytes().to_vec(alloc)?, Some(10), 7);
-    let ran = run_over(alloc, &WORDS, &mut source, MemSink::new(alloc))?;
+    let ran = run_over(alloc, &command, &mut source, MemSink::new(alloc))?;
     assert_eq!(rt; ran.status, 3);
     assert_eq!(rt; ran.output.len(), 0);
     assert!(rt; !ran.was_run);
     Ok(())
 }
 
+// The third write fails, and each takes at most nine bytes.
 #[test]
-fn a_sink_that_fails_after_three_bytes_ends_the_run(rt: HostRuntime) -> Result<(), Fail> {
+fn a_sink_that_fails_ends_the_run(rt: HostRuntime) -> Result<(), Fail> {
     let alloc = rt.alloc();
-    let mut script = String::from_str(alloc, CREATE)?;
-    script.push_str("INSERT INTO t (k, c, v) VALUES (1, 1, 'a')\n")?;
-    script.push_str("INSERT INTO t (k, c, v) VALUES (1, 2, 'b')\n")?;
-    let mut source = MemSource::new(script.as_bytes().to_vec(alloc)?);
+    let command = words(alloc, USUAL)?;
+    let script = text_of(alloc, &[CREATE, INSERT, INSERT])?;
+    let mut source = MemSource::new(script.into_bytes());
     let failing = vec![in alloc; 2]?;
-    let ran = run_over(
-        alloc,
-        &WORDS,
-        &mut source,
-        MemSink::with_plan(alloc, failing, 9),
-    )?;
+    let sink = MemSink::with_plan(alloc, failing, 9);
+    let ran = run_over(alloc, &command, &mut source, sink)?;
     assert_eq!(rt; ran.status, 4);
     assert_eq!(rt; ran.output.as_slice(), b"ok\n".as_slice());
     assert!(rt; ran.was_run);
     assert_eq!(rt; ran.numbers.as_slice(), [1].as_slice());
-    let mut source = MemSource::new(script.as_bytes().to_vec(alloc)?);
+    Ok(())
+}
+
+#[test]
+fn a_sink_that_takes_nothing_ends_the_run(rt: HostRuntime) -> Result<(), Fail> {
+    let alloc = rt.alloc();
+    let command = words(alloc, USUAL)?;
+    let mut source = MemSource::new(CREATE.as_bytes().to_vec(alloc)?);
     let stalling = MemSink::with_plan(alloc, Vec::new(alloc), 0);
-    let ran = run_over(alloc, &WORDS, &mut source, stalling)?;
+    let ran = run_over(alloc, &command, &mut source, stalling)?;
     assert_eq!(rt; ran.status, 4);
     assert_eq!(rt; ran.output.len(), 0);
     Ok(())
@@ -209,10 +212,11 @@ impl Source for Feeds {
 #[test]
 fn a_script_above_the_limit_is_not_run(rt: HostRuntime) -> Result<(), Fail> {
     let alloc = rt.alloc();
+    let command = words(alloc, USUAL)?;
     let mut source = Feeds {
         left: SCRIPT_LIMIT + 1,
     };
-    let ran = run_over(alloc, &WORDS, &mut source, MemSink::new(alloc))?;
+    let ran = run_over(alloc, &command, &mut source, MemSink::new(alloc))?;
     assert_eq!(rt; ran.status, 8);
     assert_eq!(rt; ran.cause, Cause::TooLong { taken: 67_108_865 });
     assert!(rt; !ran.was_run);
@@ -222,9 +226,37 @@ fn a_script_above_the_limit_is_not_run(rt: HostRuntime) -> Result<(), Fail> {
 #[test]
 fn the_longest_script_of_empty_lines_is_run(rt: HostRuntime) -> Result<(), Fail> {
     let alloc = rt.alloc();
+    let command = words(alloc, USUAL)?;
     let mut source = Feeds { left: SCRIPT_LIMIT };
-    let ran = run_over(alloc, &WORDS, &mut source, MemSink::new(alloc))?;
+    let ran = run_over(alloc, &command, &mut source, MemSink::new(alloc))?;
     assert_eq!(rt; ran.status, 0);
     assert_eq!(rt; ran.output.len(), 0);
+    Ok(())
+}
+
+// Statements over 8 partitions, every 100th of them a SELECT.
+fn many_statements(script: &mut String, count: u32) -> Result<(), Fail> {
+    for i in 1..=count {
+        let key = i % 8;
+        if i % 100 == 0 {
+            writeln!(script, "SELECT * FROM t WHERE k = {key}")?;
+        } else {
+            writeln!(script, "INSERT INTO t (k, c, v) VALUES ({key}, {i}, 'a')")?;
+        }
+    }
+    Ok(())
+}
+
+// The last SELECT shows partition 0: of its 1,250 statements 50 are SELECTs.
+#[test]
+fn ten_thousand_statements_end(rt: HostRuntime) -> Result<(), Fail> {
+    let alloc = rt.alloc();
+    let mut script = text_of(alloc, &[CREATE])?;
+    many_statements(&mut script, 10_000)?;
+    let ran = run_script(alloc, USUAL, &script)?;
+    assert_eq!(rt; ran.status, 0);
+    assert_eq!(rt; ran.numbers.len(), 9_900);
+    let last = b"\n0 | 9992 | 'a'\n-- 1200 rows, shard 0, front 9900, now 0\n".as_slice();
+    assert!(rt; ran.output.ends_with(last));
     Ok(())
 }

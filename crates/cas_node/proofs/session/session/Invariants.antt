@@ -1,12 +1,13 @@
-use Rattle.std.proofs.Common.{◌≤◌, ◌+◌, length, vec_len}
+use Rattle.std.proofs.Common.{◌≤◌, length}
+use Rattle.cas_node.specs.Sound.{IsSound}
 use Rattle.cas_node.specs.Stored.{stored}
 use Rattle.cas_node.proofs.SessionLemmas.{SoFar}
 use Rattle.cas_node.proofs.session.session.Given as goal
 
 abbrev pub invariant-loop-rest : goal.invariant-loop-rest
 invariant-loop-rest g l = record {
-  so_far : SoFar l.fn.script l.rest (g.K.Sink.took l.initial.sink) (g.K.Sink.took l.sink) (stored l.store) l.refused l.starved;
-  room : vec_len l.store.entries + length l.rest ≤ length l.fn.script;
+  so_far : SoFar l.fn.command (g.C.Clock.may_give l.fn.clock) l.fn.script l.rest (g.K.Sink.took l.initial.sink) (g.K.Sink.took l.sink) (stored l.store) l.refused l.starved;
+  sound : IsSound l.fn.command (stored l.store);
   faults : g.K.Sink.faults l.initial.sink ≤ g.K.Sink.faults l.sink;
   stalls : g.K.Sink.stalls l.initial.sink ≤ g.K.Sink.stalls l.sink;
 }
