@@ -3,6 +3,7 @@
 use Rattle.std.specs.Prelude.{ℕ, ◌==◌, ◌^◌, ◌-◌, ◌%◌, nat_lt, List, [], ◌∷◌, ◌++◌, length, min, Option, None, Some, if◌then◌else◌}
 use Rattle.std.specs.List.{flat_map, sum}
 use Rattle.std.specs.Int.{w16, to_be_bytes}
+use Rattle.cas_types.specs.declared.limits.TheConstants.{KEY_LIMIT}
 use Rattle.cas_types.specs.declared.key.KeyFault.{KeyFault}
 use Rattle.cas_types.specs.declared.key.KeyFault.TheVariants.{Empty, TooLong}
 
@@ -28,7 +29,7 @@ key_of (v ∷ w ∷ vs) = composite_key (v ∷ w ∷ vs)
 abbrev pub refusal : List ℕ → Option KeyFault
 refusal key =
     if length key == 0 then Some Empty
-    else if nat_lt 65535 (length key) then Some (TooLong (min (length key) (2 ^ 64 - 1)))
+    else if nat_lt KEY_LIMIT (length key) then Some (TooLong (min (length key) (2 ^ 64 - 1)))
     else None
 
 -- the sum of a key's bytes, modulo the number of shards

@@ -2,16 +2,15 @@
 
 ghost use Rattle.std.specs.Prelude.{◌≡◌, ◌+◌, ◌-◌, ◌^◌, ◌≤◌, ◌++◌, ◌∷◌, [], length, Some, None, Err, IfOk, IfErr, min, flat_map};
 ghost use Rattle.cas_types.specs.Keys.{key_of, component, composite_key, refusal};
+ghost use Rattle.cas_types.specs.declared.limits.TheConstants.{KEY_LIMIT};
 ghost use Rattle.cas_types.specs.declared.key.KeyFault.TheVariants as fault;
 ghost use Rattle.cas_types.specs.declared.key.KeyFault.{KeyFault as Fault};
 
 use crate::bytes::Bytes;
+use crate::limits::KEY_LIMIT;
 use crate::mem::Mem;
 use std::alloc::{AllocError, Global};
 use std::marker::Model;
-
-/// The greatest number of bytes of a partition key.
-pub const KEY_LIMIT: u64 = 65_535;
 
 /// Why there is no key. The length is that of the key's bytes, and stands at 2^64-1 where it is
 /// greater.
@@ -109,7 +108,7 @@ fn composite_length(values: &[Bytes]) -> u64
 }
 
 fn encode(alloc: Global, values: &[Bytes]) -> Result<Vec<u8>, AllocError>
-    requires { length (key_of values.now) ≤ 65535 }
+    requires { length (key_of values.now) ≤ KEY_LIMIT }
     ensures { IfOk result (λ key. key.items ≡ key_of values.now) }
 {
     match values {
@@ -119,7 +118,7 @@ fn encode(alloc: Global, values: &[Bytes]) -> Result<Vec<u8>, AllocError>
 }
 
 fn encode_composite(alloc: Global, values: &[Bytes]) -> Result<Vec<u8>, AllocError>
-    requires { length (composite_key values.now) ≤ 65535 }
+    requires { length (composite_key values.now) ≤ KEY_LIMIT }
     ensures { IfOk result (λ key. key.items ≡ composite_key values.now) }
 {
     let mut key = Vec::new(alloc);
@@ -130,7 +129,7 @@ fn encode_composite(alloc: Global, values: &[Bytes]) -> Result<Vec<u8>, AllocErr
 }
 
 fn append_component(key: &mut Vec<u8>, value: &[u8]) -> Result<(), AllocError>
-    requires { length value.now ≤ 65535 }
+    requires { length value.now ≤ KEY_LIMIT }
     ensures { IfOk result (λ _. key.new.items ≡ key.old.items ++ component value.now) }
 {
     key.extend_from_slice(&(value.len() as u16).to_be_bytes())?;

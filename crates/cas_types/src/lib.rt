@@ -5,6 +5,7 @@
 mod bytes;
 mod key;
 mod laws;
+mod limits;
 mod list;
 mod mem;
 mod schema;
@@ -17,8 +18,12 @@ mod uuid_order;
 mod values;
 
 pub use bytes::{Bytes, compare_bytes};
-pub use key::{KEY_LIMIT, KeyBuilder, KeyFault};
+pub use key::{KeyBuilder, KeyFault};
 pub use laws::value_orders;
+pub use limits::{
+    COLUMN_LIMIT, GREATEST_TIMESTAMP, KEY_LIMIT, LAST_MICROSECOND, LAST_SECOND, LEAST_TIMESTAMP,
+    SHARD_LIMIT, TTL_LIMIT,
+};
 pub use list::List;
 pub use mem::Mem;
 pub use schema::{Column, Kind, Options, Shape, Strategy, TableSchema, Unit};
