@@ -26,7 +26,7 @@ use Rattle.cas_bounds.specs.ClusteringOrder.{clustering_order}
 use Rattle.cas_bounds.proofs.CutLaws.{row_orders}
 use Rattle.cas_atoms.specs.Coordinates.{RowKey, clustered, static_row, row, path, same_values, same_bytes, same_row, is_at, live_at_row, cell_at_path}
 use Rattle.cas_atoms.specs.Winners.{cover, standing, live_winner, cell_winner, Same}
-use Rattle.cas_atoms.specs.Paths.{ordered, written_row, written_path, path_cmp, is_alive, alive_paths}
+use Rattle.cas_atoms.specs.RowsAndPaths.{ordered, written_row, written_path, path_cmp, is_alive, alive_paths}
 use Rattle.cas_atoms.specs.Picks.{living, plain_cell, cell_bytes, one_or_null, set_or_null, list_or_null, map_or_null, number_or_null, shown_by_shape, value_by_kind, column_value, cell_by_kind, picked_cell, left_of, picked}
 use Rattle.cas_atoms.specs.Answers.{is_empty, has_kind, has_cell, is_living, is_shown, is_answered, answered, turned, is_whole, with_static, limited, row_shown, answer}
 use Rattle.cas_atoms.specs.Laws.{SameAnswers}

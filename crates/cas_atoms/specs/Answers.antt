@@ -11,7 +11,7 @@ use Rattle.cas_bounds.specs.ClusteringOrder.{clustering_order}
 use Rattle.cas_bounds.specs.declared.cuts.Slice.{Slice}
 use Rattle.cas_atoms.specs.Coordinates.{RowKey, clustered, static_row}
 use Rattle.cas_atoms.specs.Winners.{live_winner}
-use Rattle.cas_atoms.specs.Paths.{rows_of, alive_paths}
+use Rattle.cas_atoms.specs.RowsAndPaths.{rows_of, alive_paths}
 use Rattle.cas_atoms.specs.Picks.{picked}
 use Rattle.cas_atoms.specs.declared.atom.Atom.{Atom}
 use Rattle.cas_atoms.specs.declared.query.Query.{Query}

@@ -16,8 +16,8 @@ use Rattle.cas_cell.specs.declared.cell.Cell.{Cell}
 use Rattle.cas_cell.specs.declared.cell.Cell.TheVariants.{Expiring}
 use Rattle.cas_atoms.specs.Coordinates.{RowKey, clustered, static_row, path}
 use Rattle.cas_atoms.specs.Winners.{cell_winner}
-use Rattle.cas_atoms.specs.Paths.{alive_paths}
-use Rattle.cas_atoms.specs.Keys.{key_values}
+use Rattle.cas_atoms.specs.RowsAndPaths.{alive_paths}
+use Rattle.cas_atoms.specs.PartitionKeys.{key_values}
 use Rattle.cas_atoms.specs.declared.atom.Atom.{Atom}
 use Rattle.cas_atoms.specs.declared.query.Query.{Query}
 use Rattle.cas_atoms.specs.declared.query.Pick.{Pick}

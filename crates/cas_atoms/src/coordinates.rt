@@ -1,12 +1,14 @@
 //! The places that a statement writes to, and which of them an atom writes or deletes. Where a row
 //! is asked for by its values, no values mean the static row.
 
-ghost use Rattle.std.specs.Prelude.{◌≡◌, ◌==◌};
+ghost use Rattle.std.specs.Prelude.{◌≡◌, ◌==◌, ◌&&◌};
 ghost use Rattle.std.specs.Bool.{then_some};
 ghost use Rattle.std.specs.Option.{option_copied};
 ghost use Rattle.cas_atoms.specs.Coordinates.{row, path, row_key, same_values, same_bytes, same_row, lies_between, is_at, deletion_at, live_at_row, cell_at_path};
+ghost use Rattle.cas_atoms.specs.Inner.Places.{row_at};
 
 use crate::atom::Atom;
+use crate::place::Place;
 use cas_bounds::{Cut, between};
 use cas_cell::{Cell, Deletion, Liveness};
 use cas_types::{Bytes, List, compare_bytes};
@@ -36,6 +38,13 @@ pub(crate) fn same_row(a: Option<&List<Bytes>>, b: Option<&List<Bytes>>) -> bool
         (None, Some(_)) => false,
         (None, None) => true,
     }
+}
+
+/// Whether both are one column of one row.
+pub(crate) fn same_column(a: Place<'_>, b: Place<'_>) -> bool
+    ensures { result ≡ (same_row (row_at a.entry) (row_at b.entry) && (a.entry.number == b.entry.number)) }
+{
+    same_row(a.row, b.row) && a.number == b.number
 }
 
 /// Whether the row lies between the cuts. The static row lies between none.
@@ -74,26 +83,29 @@ pub(crate) fn deletion_at_row(values: &List<Bytes>, atom: &Atom) -> Option<Delet
 }
 
 /// The deletion, where the atom is one that has that path of that column of the row in its scope.
-pub(crate) fn deletion_at_path(
-    row: Option<&List<Bytes>>,
-    number: u16,
-    bytes: &[u8],
-    atom: &Atom,
-) -> Option<Deletion>
-    ensures { result ≡ deletion_at (path (row_key (option_copied row.entry)) number bytes.now) atom.now }
+pub(crate) fn deletion_at_path(place: Place<'_>, bytes: &[u8], atom: &Atom) -> Option<Deletion>
+    ensures { result ≡ deletion_at (path (row_at place.entry) place.entry.number bytes.now) atom.now }
 {
     match atom {
         Atom::PartitionDeletion(d) => Some(*d),
-        Atom::RangeDeletion(lo, hi, d) => deletion_where(lies_between(lo, hi, row), d),
-        Atom::RowDeletion(c, d) => deletion_where(same_row(Some(&c.values), row), d),
+        Atom::RangeDeletion(lo, hi, d) => deletion_where(lies_between(lo, hi, place.row), d),
+        Atom::RowDeletion(c, d) => deletion_where(same_row(Some(&c.values), place.row), d),
         Atom::CollectionDeletion(c, column, d) => {
-            deletion_where(same_row(Some(&c.values), row) && column.number == number, d)
+            let written = Place {
+                row: Some(&c.values),
+                number: column.number,
+            };
+            deletion_where(same_column(written, place), d)
         }
         Atom::Live(_, _) => None,
         Atom::Write(_, _, _, _) => None,
         Atom::StaticWrite(_, _, _) => None,
         Atom::StaticCollectionDeletion(column, d) => {
-            deletion_where(row.is_none() && column.number == number, d)
+            let written = Place {
+                row: None,
+                number: column.number,
+            };
+            deletion_where(same_column(written, place), d)
         }
     }
 }
@@ -114,18 +126,11 @@ pub(crate) fn live_at_row(values: &List<Bytes>, atom: &Atom) -> Option<Liveness>
     }
 }
 
-// Whether what was written there was written at that path of that column of the row.
-fn is_at(
-    written: Option<&List<Bytes>>,
-    column: u16,
-    at: &[u8],
-    row: Option<&List<Bytes>>,
-    number: u16,
-    bytes: &[u8],
-) -> bool
-    ensures { result ≡ is_at (row_key (option_copied written.entry)) column at.now (path (row_key (option_copied row.entry)) number bytes.now) }
+// Whether what was written to that path of a column was written to this path of the place.
+fn is_at(written: Place<'_>, at: &[u8], place: Place<'_>, bytes: &[u8]) -> bool
+    ensures { result ≡ is_at (row_at written.entry) written.entry.number at.now (path (row_at place.entry) place.entry.number bytes.now) }
 {
-    same_row(written, row) && column == number && same_bytes(at, bytes)
+    same_column(written, place) && same_bytes(at, bytes)
 }
 
 fn cell_where(holds: bool, cell: &Cell) -> Option<&Cell>
@@ -135,31 +140,23 @@ fn cell_where(holds: bool, cell: &Cell) -> Option<&Cell>
 }
 
 /// The cell that the atom writes at that path of that column of the row.
-pub(crate) fn cell_at_path<'a>(
-    row: Option<&List<Bytes>>,
-    number: u16,
-    bytes: &[u8],
-    atom: &'a Atom,
-) -> Option<&'a Cell>
-    ensures { option_copied result ≡ cell_at_path (path (row_key (option_copied row.entry)) number bytes.now) atom.now }
+pub(crate) fn cell_at_path<'a>(place: Place<'_>, bytes: &[u8], atom: &'a Atom) -> Option<&'a Cell>
+    ensures { option_copied result ≡ cell_at_path (path (row_at place.entry) place.entry.number bytes.now) atom.now }
 {
     match atom {
-        Atom::Write(c, column, p, cell) => cell_where(
-            is_at(
-                Some(&c.values),
-                column.number,
-                p.as_slice(),
-                row,
-                number,
-                bytes,
-            ),
-            cell,
-        ),
+        Atom::Write(c, column, p, cell) => {
+            let written = Place {
+                row: Some(&c.values),
+                number: column.number,
+            };
+            cell_where(is_at(written, p.as_slice(), place, bytes), cell)
+        }
         Atom::StaticWrite(column, p, cell) => {
-            cell_where(
-                is_at(None, column.number, p.as_slice(), row, number, bytes),
-                cell,
-            )
+            let written = Place {
+                row: None,
+                number: column.number,
+            };
+            cell_where(is_at(written, p.as_slice(), place, bytes), cell)
         }
         _ => None,
     }

@@ -4,12 +4,13 @@ ghost use Rattle.std.specs.Prelude.{◌≡◌, IsTrue, map, IfOk, IfSome};
 ghost use Rattle.std.specs.Option.{option_copied};
 ghost use Rattle.cas_types.specs.declared.schema.Shape.TheVariants as shape;
 ghost use Rattle.cas_cell.specs.Cells.{cell_lives};
-ghost use Rattle.cas_atoms.specs.Coordinates.{row_key};
 ghost use Rattle.cas_atoms.specs.Picks.{one_or_null, set_or_null, list_or_null, map_or_null, living, plain_cell, shown_element, shown_by_shape, shown_value};
+ghost use Rattle.cas_atoms.specs.Inner.Places.{row_at};
 
 use crate::atom::Atom;
-use crate::paths::alive_paths;
+use crate::place::{Partition, Place};
 use crate::query::Datum;
+use crate::rows_and_paths::alive_paths;
 use crate::winners::cell_winner;
 use cas_cell::{Cell, alive};
 use cas_types::{Bytes, Column, List, Shape, TypeTag};
@@ -71,28 +72,18 @@ fn living(now: i64, cell: Option<&Cell>) -> Option<&Cell>
 }
 
 /// The alive cell of a plain column of the row.
-pub(crate) fn plain_cell<'a>(
-    atoms: &'a [Atom],
-    now: i64,
-    row: Option<&List<Bytes>>,
-    number: u16,
-) -> Option<&'a Cell>
-    ensures cell { option_copied result ≡ plain_cell atoms.now now (row_key (option_copied row.entry)) number }
-    ensures alive { IfSome result (λ c. IsTrue (cell_lives now c.now)) }
+pub(crate) fn plain_cell<'a>(partition: Partition<'a>, place: Place<'_>) -> Option<&'a Cell>
+    ensures cell { option_copied result ≡ plain_cell partition.entry.atoms.now partition.entry.now (row_at place.entry) place.entry.number }
+    ensures alive { IfSome result (λ c. IsTrue (cell_lives partition.entry.now c.now)) }
 {
-    living(now, cell_winner(atoms, row, number, &[]))
+    living(partition.now, cell_winner(partition.atoms, place, &[]))
 }
 
 // The value of an element of a list, or of a key of a map.
-fn shown_element<'a>(
-    atoms: &'a [Atom],
-    row: Option<&List<Bytes>>,
-    number: u16,
-    bytes: &[u8],
-) -> &'a [u8]
-    ensures { result.now ≡ shown_element atoms.now (row_key (option_copied row.entry)) number bytes.now }
+fn shown_element<'a>(atoms: &'a [Atom], place: Place<'_>, bytes: &[u8]) -> &'a [u8]
+    ensures { result.now ≡ shown_element atoms.now (row_at place.entry) place.entry.number bytes.now }
 {
-    match cell_winner(atoms, row, number, bytes) {
+    match cell_winner(atoms, place, bytes) {
         Some(cell) => cell.value(),
         None => &[],
     }
@@ -102,15 +93,14 @@ fn shown_element<'a>(
 fn element_values(
     alloc: Global,
     atoms: &[Atom],
-    row: Option<&List<Bytes>>,
-    number: u16,
+    place: Place<'_>,
     paths: &[Bytes],
 ) -> Result<Vec<Bytes>, AllocError>
-    ensures { IfOk result (λ v. v.items ≡ map (shown_element atoms.now (row_key (option_copied row.entry)) number) paths.now) }
+    ensures { IfOk result (λ v. v.items ≡ map (shown_element atoms.now (row_at place.entry) place.entry.number) paths.now) }
 {
     let mut values = Vec::new(alloc);
     for bytes in paths {
-        let value = shown_element(atoms, row, number, bytes.as_slice());
+        let value = shown_element(atoms, place, bytes.as_slice());
         values.push(Bytes::copy_of(alloc, value)?)?;
     }
     Ok(values)
@@ -120,15 +110,14 @@ fn element_values(
 fn map_entries(
     alloc: Global,
     atoms: &[Atom],
-    row: Option<&List<Bytes>>,
-    number: u16,
+    place: Place<'_>,
     paths: &[Bytes],
 ) -> Result<Vec<(Bytes, Bytes)>, AllocError>
-    ensures { IfOk result (λ v. v.items ≡ map (λ p. (p, shown_element atoms.now (row_key (option_copied row.entry)) number p)) paths.now) }
+    ensures { IfOk result (λ v. v.items ≡ map (λ p. (p, shown_element atoms.now (row_at place.entry) place.entry.number p)) paths.now) }
 {
     let mut entries = Vec::new(alloc);
     for bytes in paths {
-        let value = shown_element(atoms, row, number, bytes.as_slice());
+        let value = shown_element(atoms, place, bytes.as_slice());
         entries.push((bytes.clone()?, Bytes::copy_of(alloc, value)?))?;
     }
     Ok(entries)
@@ -136,47 +125,41 @@ fn map_entries(
 
 fn shown_list(
     alloc: Global,
-    atoms: &[Atom],
-    now: i64,
-    row: Option<&List<Bytes>>,
-    number: u16,
+    partition: Partition<'_>,
+    place: Place<'_>,
     column: &Column,
 ) -> Result<Datum, AllocError>
-    ensures { IfOk result (λ d. d ≡ shown_by_shape shape.List atoms.now now (row_key (option_copied row.entry)) number column.now) }
+    ensures { IfOk result (λ d. d ≡ shown_by_shape shape.List partition.entry.atoms.now partition.entry.now (row_at place.entry) place.entry.number column.now) }
 {
-    let paths = alive_paths(alloc, atoms, now, row, number, column)?;
+    let paths = alive_paths(alloc, partition, place, column)?;
     Ok(list_or_null(
         column.tag,
-        element_values(alloc, atoms, row, number, &paths)?,
+        element_values(alloc, partition.atoms, place, &paths)?,
     ))
 }
 
 fn shown_map(
     alloc: Global,
-    atoms: &[Atom],
-    now: i64,
-    row: Option<&List<Bytes>>,
-    number: u16,
+    partition: Partition<'_>,
+    place: Place<'_>,
     column: &Column,
 ) -> Result<Datum, AllocError>
-    ensures { IfOk result (λ d. d ≡ shown_by_shape shape.Map atoms.now now (row_key (option_copied row.entry)) number column.now) }
+    ensures { IfOk result (λ d. d ≡ shown_by_shape shape.Map partition.entry.atoms.now partition.entry.now (row_at place.entry) place.entry.number column.now) }
 {
-    let paths = alive_paths(alloc, atoms, now, row, number, column)?;
-    let entries = map_entries(alloc, atoms, row, number, &paths)?;
+    let paths = alive_paths(alloc, partition, place, column)?;
+    let entries = map_entries(alloc, partition.atoms, place, &paths)?;
     Ok(map_or_null(column.tag, column.value_type(), entries))
 }
 
 fn shown_one(
     alloc: Global,
-    atoms: &[Atom],
-    now: i64,
-    row: Option<&List<Bytes>>,
-    number: u16,
+    partition: Partition<'_>,
+    place: Place<'_>,
     column: &Column,
 ) -> Result<Datum, AllocError>
-    ensures { IfOk result (λ d. d ≡ shown_by_shape shape.One atoms.now now (row_key (option_copied row.entry)) number column.now) }
+    ensures { IfOk result (λ d. d ≡ shown_by_shape shape.One partition.entry.atoms.now partition.entry.now (row_at place.entry) place.entry.number column.now) }
 {
-    match plain_cell(atoms, now, row, number) {
+    match plain_cell(partition, place) {
         Some(cell) => one_or_null(alloc, column.tag, Some(cell.value())),
         None => Ok(Datum::Null),
     }
@@ -185,21 +168,19 @@ fn shown_one(
 /// What the row shows of the column of that number.
 pub(crate) fn shown_value(
     alloc: Global,
-    atoms: &[Atom],
-    now: i64,
-    row: Option<&List<Bytes>>,
-    number: u16,
+    partition: Partition<'_>,
+    place: Place<'_>,
     column: &Column,
 ) -> Result<Datum, AllocError>
-    ensures { IfOk result (λ d. d ≡ shown_value atoms.now now (row_key (option_copied row.entry)) number column.now) }
+    ensures { IfOk result (λ d. d ≡ shown_value partition.entry.atoms.now partition.entry.now (row_at place.entry) place.entry.number column.now) }
 {
     match column.shape {
-        Shape::One => shown_one(alloc, atoms, now, row, number, column),
+        Shape::One => shown_one(alloc, partition, place, column),
         Shape::Set => {
-            let paths = alive_paths(alloc, atoms, now, row, number, column)?;
+            let paths = alive_paths(alloc, partition, place, column)?;
             Ok(set_or_null(column.tag, paths))
         }
-        Shape::List => shown_list(alloc, atoms, now, row, number, column),
-        Shape::Map => shown_map(alloc, atoms, now, row, number, column),
+        Shape::List => shown_list(alloc, partition, place, column),
+        Shape::Map => shown_map(alloc, partition, place, column),
     }
 }

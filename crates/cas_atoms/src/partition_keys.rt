@@ -2,7 +2,7 @@
 
 ghost use Rattle.std.specs.Prelude.{◌≡◌, take, drop, IfOk};
 ghost use Rattle.std.specs.Int.{w16, from_be_bytes};
-ghost use Rattle.cas_atoms.specs.Keys.{components, key_values};
+ghost use Rattle.cas_atoms.specs.PartitionKeys.{components, key_values};
 
 use cas_types::Bytes;
 use std::alloc::{AllocError, Global};

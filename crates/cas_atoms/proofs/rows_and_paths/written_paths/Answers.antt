@@ -1,6 +1,6 @@
 use Rattle.std.proofs.Common.{◌∙◌, sym}
 use Rattle.cas_atoms.proofs.Folds.{ordered_none, ordered_step}
-use Rattle.cas_atoms.proofs.paths.written_paths.Goals as goal
+use Rattle.cas_atoms.proofs.rows_and_paths.written_paths.Goals as goal
 
 pub loop-atom-init : goal.loop-atom-init
 loop-atom-init c = c.new-paths.ensures.items ∙ sym (ordered_none _ _)

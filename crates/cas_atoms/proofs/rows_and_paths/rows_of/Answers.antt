@@ -1,6 +1,6 @@
 use Rattle.std.proofs.Common.{◌∙◌, sym}
 use Rattle.cas_atoms.proofs.Folds.{ordered_none, ordered_step}
-use Rattle.cas_atoms.proofs.paths.rows_of.Goals as goal
+use Rattle.cas_atoms.proofs.rows_and_paths.rows_of.Goals as goal
 
 pub loop-atom-init : goal.loop-atom-init
 loop-atom-init c = c.new-rows.ensures.items ∙ sym (ordered_none _ _)

@@ -6,12 +6,14 @@ ghost use Rattle.std.specs.Bool.{then_some};
 ghost use Rattle.std.specs.Option.{option_copied};
 ghost use Rattle.cas_types.specs.Schemas.{path_type};
 ghost use Rattle.cas_bounds.specs.Orders.{values_cmp};
-ghost use Rattle.cas_atoms.specs.Coordinates.{path, row_key};
+ghost use Rattle.cas_atoms.specs.Coordinates.{path};
 ghost use Rattle.cas_atoms.specs.Winners.{cell_winner};
-ghost use Rattle.cas_atoms.specs.Paths.{put, put_some, ordered, written_row, written_path, rows_of, path_cmp, is_alive, alive_paths};
+ghost use Rattle.cas_atoms.specs.RowsAndPaths.{put, put_some, ordered, written_row, written_path, rows_of, path_cmp, is_alive, alive_paths};
+ghost use Rattle.cas_atoms.specs.Inner.Places.{row_at};
 
 use crate::atom::Atom;
-use crate::coordinates::same_row;
+use crate::coordinates::same_column;
+use crate::place::{Partition, Place};
 use crate::winners::cell_winner;
 use cas_bounds::{Ordered, compare_values};
 use cas_cell::{Cell, alive};
@@ -119,11 +121,7 @@ fn place_of_path(tag: Option<TypeTag>, paths: &[Bytes], key: &Bytes) -> Option<u
     Some(paths.len())
 }
 
-fn put_path(
-    tag: Option<TypeTag>,
-    paths: &mut Vec<Bytes>,
-    key: &Bytes,
-) -> Result<(), AllocError>
+fn put_path(tag: Option<TypeTag>, paths: &mut Vec<Bytes>, key: &Bytes) -> Result<(), AllocError>
     ensures { OnOk result (paths.new.items ≡ put (path_cmp tag) key.now paths.old.items) }
 {
     if let Some(i) = place_of_path(tag, paths, key) {
@@ -140,18 +138,23 @@ fn path_where(holds: bool, bytes: &Bytes) -> Option<&Bytes>
 }
 
 // The path that the atom writes in that column of the row.
-fn written_path<'a>(row: Option<&List<Bytes>>, number: u16, atom: &'a Atom) -> Option<&'a Bytes>
-    ensures { option_copied result ≡ written_path (row_key (option_copied row.entry)) number atom.now }
+fn written_path<'a>(place: Place<'_>, atom: &'a Atom) -> Option<&'a Bytes>
+    ensures { option_copied result ≡ written_path (row_at place.entry) place.entry.number atom.now }
 {
     match atom {
         Atom::Write(c, column, bytes, _) => {
-            path_where(
-                same_row(Some(&c.values), row) && column.number == number,
-                bytes,
-            )
+            let written = Place {
+                row: Some(&c.values),
+                number: column.number,
+            };
+            path_where(same_column(written, place), bytes)
         }
         Atom::StaticWrite(column, bytes, _) => {
-            path_where(same_row(None, row) && column.number == number, bytes)
+            let written = Place {
+                row: None,
+                number: column.number,
+            };
+            path_where(same_column(written, place), bytes)
         }
         _ => None,
     }
@@ -160,13 +163,12 @@ fn written_path<'a>(row: Option<&List<Bytes>>, number: u16, atom: &'a Atom) -> O
 fn put_written_path(
     column: &Column,
     paths: &mut Vec<Bytes>,
-    row: Option<&List<Bytes>>,
-    number: u16,
+    place: Place<'_>,
     atom: &Atom,
 ) -> Result<(), AllocError>
-    ensures { OnOk result (paths.new.items ≡ put_some (path_cmp (path_type column.now.shape column.now.tag)) paths.old.items (written_path (row_key (option_copied row.entry)) number atom.now)) }
+    ensures { OnOk result (paths.new.items ≡ put_some (path_cmp (path_type column.now.shape column.now.tag)) paths.old.items (written_path (row_at place.entry) place.entry.number atom.now)) }
 {
-    match written_path(row, number, atom) {
+    match written_path(place, atom) {
         Some(bytes) => put_path(column.path_type(), paths, bytes),
         None => Ok(()),
     }
@@ -176,15 +178,14 @@ fn put_written_path(
 fn written_paths(
     alloc: Global,
     atoms: &[Atom],
-    row: Option<&List<Bytes>>,
-    number: u16,
+    place: Place<'_>,
     column: &Column,
 ) -> Result<Vec<Bytes>, AllocError>
-    ensures { IfOk result (λ v. v.items ≡ ordered (path_cmp (path_type column.now.shape column.now.tag)) (written_path (row_key (option_copied row.entry)) number) atoms.now) }
+    ensures { IfOk result (λ v. v.items ≡ ordered (path_cmp (path_type column.now.shape column.now.tag)) (written_path (row_at place.entry) place.entry.number) atoms.now) }
 {
     let mut paths = Vec::new(alloc);
     for atom in atoms {
-        put_written_path(column, &mut paths, row, number, atom)?;
+        put_written_path(column, &mut paths, place, atom)?;
     }
     Ok(paths)
 }
@@ -200,33 +201,28 @@ fn is_alive(now: i64, cell: Option<&Cell>) -> bool
 }
 
 // Whether an alive cell wins at the path.
-fn path_lives(
-    atoms: &[Atom],
-    now: i64,
-    row: Option<&List<Bytes>>,
-    number: u16,
-    bytes: &Bytes,
-) -> bool
-    ensures { result ≡ is_alive now (cell_winner atoms.now (path (row_key (option_copied row.entry)) number bytes.now)) }
+fn path_lives(partition: Partition<'_>, place: Place<'_>, bytes: &Bytes) -> bool
+    ensures { result ≡ is_alive partition.entry.now (cell_winner partition.entry.atoms.now (path (row_at place.entry) place.entry.number bytes.now)) }
 {
-    is_alive(now, cell_winner(atoms, row, number, bytes.as_slice()))
+    is_alive(
+        partition.now,
+        cell_winner(partition.atoms, place, bytes.as_slice()),
+    )
 }
 
 /// The paths of that column of the row at which an alive cell wins, in order.
 pub(crate) fn alive_paths(
     alloc: Global,
-    atoms: &[Atom],
-    now: i64,
-    row: Option<&List<Bytes>>,
-    number: u16,
+    partition: Partition<'_>,
+    place: Place<'_>,
     column: &Column,
 ) -> Result<Vec<Bytes>, AllocError>
-    ensures { IfOk result (λ v. v.items ≡ alive_paths atoms.now now (row_key (option_copied row.entry)) number column.now) }
+    ensures { IfOk result (λ v. v.items ≡ alive_paths partition.entry.atoms.now partition.entry.now (row_at place.entry) place.entry.number column.now) }
 {
-    let written = written_paths(alloc, atoms, row, number, column)?;
+    let written = written_paths(alloc, partition.atoms, place, column)?;
     let mut paths = Vec::new(alloc);
     for bytes in &written {
-        if path_lives(atoms, now, row, number, bytes) {
+        if path_lives(partition, place, bytes) {
             paths.push(bytes.clone()?)?;
         }
     }

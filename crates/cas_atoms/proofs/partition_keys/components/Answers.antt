@@ -1,5 +1,5 @@
 use Rattle.cas_atoms.proofs.Components.{component_step}
-use Rattle.cas_atoms.proofs.keys.components.Goals as goal
+use Rattle.cas_atoms.proofs.partition_keys.components.Goals as goal
 
 pub loop-column-preserved : goal.loop-column-preserved
 loop-column-preserved c =
