@@ -1,6 +1,7 @@
 -- The live view: what a list of atoms answers to a query at a moment. It knows no storage.
 -- CQL documentation, "Data manipulation: SELECT; WHERE, ORDER BY, LIMIT" and "Data definition: static columns".
-use Rattle.std.specs.Prelude.{ℕ, ◌+◌, ◌^◌, ◌<◌, ℤ, Bool, true, false, not, ◌&&◌, ◌||◌, Option, None, Some, List, [], ◌∷◌, length, map, filter, take, reverse, if◌then◌else◌}
+use Rattle.std.specs.Prelude.{ℕ, ◌+◌, ◌^◌, ◌<◌, ℤ, Bool, true, false, not, ◌&&◌, ◌||◌}
+use Rattle.std.specs.Prelude.{Option, None, Some, List, [], ◌∷◌, length, map, filter, take, reverse, if◌then◌else◌}
 use Rattle.cas_types.specs.Schemas.{is_static, is_regular}
 use Rattle.cas_types.specs.declared.schema.Column.{Column}
 use Rattle.cas_types.specs.declared.schema.Kind.{Kind}

@@ -1,5 +1,6 @@
 -- The places that a statement writes to, and which of them an atom writes or deletes.
--- CQL documentation, "Data definition: the primary key; static columns" and "Data manipulation: INSERT / UPDATE / DELETE"; the words "coordinate" and "scope" are own.
+-- CQL documentation, "Data definition: the primary key; static columns" and "Data manipulation: INSERT / UPDATE / DELETE"; the words
+-- "coordinate" and "scope" are own.
 use Rattle.std.specs.Prelude.{ℕ, ◌==◌, Bool, true, false, ◌&&◌, Option, None, Some, List}
 use Rattle.std.specs.Bool.{then_some}
 use Rattle.std.specs.Ordering.{eq_by_cmp}
@@ -11,14 +12,16 @@ use Rattle.cas_cell.specs.declared.cell.Cell.{Cell}
 use Rattle.cas_bounds.specs.Cuts.{is_inside}
 use Rattle.cas_bounds.specs.declared.cuts.Cut.{Cut}
 use Rattle.cas_atoms.specs.declared.atom.Atom.{Atom}
-use Rattle.cas_atoms.specs.declared.atom.Atom.TheVariants.{PartitionDeletion, RangeDeletion, RowDeletion, CollectionDeletion, Live, Write, StaticWrite, StaticCollectionDeletion}
+use Rattle.cas_atoms.specs.declared.atom.Atom.TheVariants.{PartitionDeletion, RangeDeletion, RowDeletion, CollectionDeletion}
+use Rattle.cas_atoms.specs.declared.atom.Atom.TheVariants.{Live, Write, StaticWrite, StaticCollectionDeletion}
 
 -- a row of a partition: one with the values of its clustering columns, or the one static row that all of them share
 pub data RowKey : Type 0 where
   clustered : List (List ℕ) → RowKey
   static_row : RowKey
 
--- a coordinate: a row's own place, where an INSERT leaves that the row lives; or, in a row, a path of the column of that number, which for a plain column is empty
+-- a coordinate: a row's own place, where an INSERT leaves that the row lives; or, in a row, a path of the column of that number, which for a
+-- plain column is empty
 pub data Coordinate : Type 0 where
   row : List (List ℕ) → Coordinate
   path : RowKey → ℕ → List ℕ → Coordinate
@@ -57,7 +60,8 @@ abbrev pub is_at : RowKey → ℕ → List ℕ → Coordinate → Bool
 is_at r column p (row c) = false
 is_at r column p (path s other q) = same_row r s && ((column == other) && same_bytes p q)
 
--- the deletion, where the atom is one that has the coordinate in its scope: a partition's has all, a range's the rows between its cuts, a row's its row, a collection's the paths of its column
+-- the deletion, where the atom is one that has the coordinate in its scope: a partition's has all, a range's the rows between its cuts, a
+-- row's its row, a collection's the paths of its column
 abbrev pub deletion_at : Coordinate → Atom → Option Deletion
 deletion_at x (PartitionDeletion d) = Some d
 deletion_at x (RangeDeletion lo hi d) = then_some (lies_between lo hi (row_of x)) d

@@ -47,7 +47,8 @@ written_path r n (Write c column p v) = then_some (same_row (clustered c.values)
 written_path r n (StaticWrite column p v) = then_some (same_row static_row r && (column.number == n)) p
 written_path r n _ = None
 
--- the order of the paths of a column, which has a type of paths or none: a set's elements and a map's keys go by that type, a list's paths, which are numbers of one length, by their bytes
+-- the order of the paths of a column, which has a type of paths or none: a set's elements and a map's keys go by that type, a list's paths,
+-- which are numbers of one length, by their bytes
 abbrev pub path_cmp : Option TypeTag → List ℕ → List ℕ → Ordering
 path_cmp None = bytes_cmp
 path_cmp (Some tag) = value_cmp tag

@@ -129,7 +129,8 @@ fn shown_list(
     place: Place<'_>,
     column: &Column,
 ) -> Result<Datum, AllocError>
-    ensures { IfOk result (λ d. d ≡ shown_by_shape shape.List partition.entry.atoms.now partition.entry.now (row_at place.entry) place.entry.number column.now) }
+    ensures { IfOk result (λ d. d ≡
+        shown_by_shape shape.List partition.entry.atoms.now partition.entry.now (row_at place.entry) place.entry.number column.now) }
 {
     let paths = alive_paths(alloc, partition, place, column)?;
     Ok(list_or_null(
@@ -144,7 +145,8 @@ fn shown_map(
     place: Place<'_>,
     column: &Column,
 ) -> Result<Datum, AllocError>
-    ensures { IfOk result (λ d. d ≡ shown_by_shape shape.Map partition.entry.atoms.now partition.entry.now (row_at place.entry) place.entry.number column.now) }
+    ensures { IfOk result (λ d. d ≡
+        shown_by_shape shape.Map partition.entry.atoms.now partition.entry.now (row_at place.entry) place.entry.number column.now) }
 {
     let paths = alive_paths(alloc, partition, place, column)?;
     let entries = map_entries(alloc, partition.atoms, place, &paths)?;
@@ -157,7 +159,8 @@ fn shown_one(
     place: Place<'_>,
     column: &Column,
 ) -> Result<Datum, AllocError>
-    ensures { IfOk result (λ d. d ≡ shown_by_shape shape.One partition.entry.atoms.now partition.entry.now (row_at place.entry) place.entry.number column.now) }
+    ensures { IfOk result (λ d. d ≡
+        shown_by_shape shape.One partition.entry.atoms.now partition.entry.now (row_at place.entry) place.entry.number column.now) }
 {
     match plain_cell(partition, place) {
         Some(cell) => one_or_null(alloc, column.tag, Some(cell.value())),

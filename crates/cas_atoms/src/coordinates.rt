@@ -4,7 +4,8 @@
 ghost use Rattle.std.specs.Prelude.{◌≡◌, ◌==◌, ◌&&◌};
 ghost use Rattle.std.specs.Bool.{then_some};
 ghost use Rattle.std.specs.Option.{option_copied};
-ghost use Rattle.cas_atoms.specs.Coordinates.{row, path, row_key, same_values, same_bytes, same_row, lies_between, is_at, deletion_at, live_at_row, cell_at_path};
+ghost use Rattle.cas_atoms.specs.Coordinates.{row, path, row_key, same_values, same_bytes};
+ghost use Rattle.cas_atoms.specs.Coordinates.{same_row, lies_between, is_at, deletion_at, live_at_row, cell_at_path};
 ghost use Rattle.cas_atoms.specs.Inner.Places.{row_at};
 
 use crate::atom::Atom;

@@ -7,7 +7,8 @@ ghost use Rattle.std.specs.Option.{option_copied, option_map};
 ghost use Rattle.cas_types.specs.Schemas.{is_partition, is_clustering};
 ghost use Rattle.cas_cell.specs.Cells.{cell_at, cell_lives};
 ghost use Rattle.cas_atoms.specs.Coordinates.{row_key};
-ghost use Rattle.cas_atoms.specs.Picks.{number_or_null, partition_value, clustering_value, regular_value, value_by_kind, column_value, cell_by_kind, picked_cell, left_of, picked};
+ghost use Rattle.cas_atoms.specs.Picks.{number_or_null, partition_value, clustering_value, regular_value, value_by_kind};
+ghost use Rattle.cas_atoms.specs.Picks.{column_value, cell_by_kind, picked_cell, left_of, picked};
 ghost use Rattle.cas_atoms.specs.Inner.Places.{row_at};
 
 use crate::atom::Atom;
@@ -108,7 +109,8 @@ fn value_by_kind(
     place: Place<'_>,
     column: &Column,
 ) -> Result<Datum, AllocError>
-    ensures { IfOk result (λ d. d ≡ value_by_kind column.now.kind query.now partition.entry.atoms.now partition.entry.now (row_at place.entry) place.entry.number column.now) }
+    ensures { IfOk result (λ d. d ≡
+        value_by_kind column.now.kind query.now partition.entry.atoms.now partition.entry.now (row_at place.entry) place.entry.number column.now) }
 {
     let in_static_row = Place {
         row: None,
@@ -136,7 +138,8 @@ fn column_value(
     place: Place<'_>,
     column: Option<&Column>,
 ) -> Result<Datum, AllocError>
-    ensures { IfOk result (λ d. d ≡ column_value query.now partition.entry.atoms.now partition.entry.now (row_at place.entry) place.entry.number (option_copied column.entry)) }
+    ensures { IfOk result (λ d. d ≡
+        column_value query.now partition.entry.atoms.now partition.entry.now (row_at place.entry) place.entry.number (option_copied column.entry)) }
 {
     match column {
         Some(column) => value_by_kind(alloc, query, partition, place, column),
@@ -161,7 +164,9 @@ fn cell_by_kind<'a>(kind: Kind, partition: Partition<'a>, place: Place<'_>) -> O
 
 // The alive cell that writetime and ttl speak of.
 fn picked_cell<'a>(query: &Query, partition: Partition<'a>, place: Place<'_>) -> Option<&'a Cell>
-    ensures cell { option_copied result ≡ picked_cell query.now partition.entry.atoms.now partition.entry.now (row_at place.entry) place.entry.number (slice_get query.now.columns place.entry.number) }
+    ensures cell { option_copied result ≡
+        picked_cell query.now partition.entry.atoms.now partition.entry.now (row_at place.entry) place.entry.number
+        (slice_get query.now.columns place.entry.number) }
     ensures alive { IfSome result (λ c. IsTrue (cell_lives partition.entry.now c.now)) }
 {
     match column_at(query, place.number) {

@@ -166,7 +166,8 @@ fn put_written_path(
     place: Place<'_>,
     atom: &Atom,
 ) -> Result<(), AllocError>
-    ensures { OnOk result (paths.new.items ≡ put_some (path_cmp (path_type column.now.shape column.now.tag)) paths.old.items (written_path (row_at place.entry) place.entry.number atom.now)) }
+    ensures { OnOk result (paths.new.items ≡
+        put_some (path_cmp (path_type column.now.shape column.now.tag)) paths.old.items (written_path (row_at place.entry) place.entry.number atom.now)) }
 {
     match written_path(place, atom) {
         Some(bytes) => put_path(column.path_type(), paths, bytes),
@@ -181,7 +182,8 @@ fn written_paths(
     place: Place<'_>,
     column: &Column,
 ) -> Result<Vec<Bytes>, AllocError>
-    ensures { IfOk result (λ v. v.items ≡ ordered (path_cmp (path_type column.now.shape column.now.tag)) (written_path (row_at place.entry) place.entry.number) atoms.now) }
+    ensures { IfOk result (λ v. v.items ≡
+        ordered (path_cmp (path_type column.now.shape column.now.tag)) (written_path (row_at place.entry) place.entry.number) atoms.now) }
 {
     let mut paths = Vec::new(alloc);
     for atom in atoms {

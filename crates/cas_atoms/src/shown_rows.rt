@@ -32,7 +32,8 @@ fn column_has_cell(
     place: Place<'_>,
     column: &Column,
 ) -> Result<bool, AllocError>
-    ensures { IfOk result (λ b. b ≡ (has_kind (row_at place.entry) column.now.kind && not (is_empty (alive_paths partition.entry.atoms.now partition.entry.now (row_at place.entry) place.entry.number column.now)))) }
+    ensures { IfOk result (λ b. b ≡ (has_kind (row_at place.entry) column.now.kind
+        && not (is_empty (alive_paths partition.entry.atoms.now partition.entry.now (row_at place.entry) place.entry.number column.now)))) }
 {
     if !has_kind(place.row, column.kind) {
         return Ok(false);

@@ -93,7 +93,8 @@ impl Source for MemSource {
         ensures bytes { ReadConsumes (Some (source_left self.old)) (Some (source_left self.new)) result into.new }
         ensures kept { source_faults self.old ≤ source_faults self.new }
         ensures cause { OnErr result (Rose (source_faults self.old) (source_faults self.new)) }
-        ensures planned { AsPlanned (next_piece (source_fails_after self.old) (source_at_most self.old) (source_given self.old)) (min (length (source_left self.old)) (length into.old)) result }
+        ensures planned { AsPlanned (next_piece (source_fails_after self.old) (source_at_most self.old) (source_given self.old))
+            (min (length (source_left self.old)) (length into.old)) result }
         ensures counted { OnErr result (source_faults self.new ≡ one_more (source_faults self.old)) }
         ensures plan { (source_fails_after self.new ≡ source_fails_after self.old) × (source_at_most self.new ≡ source_at_most self.old) }
     {

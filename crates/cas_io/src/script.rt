@@ -31,7 +31,8 @@ pub fn read_script<S: Source>(
     ensures script { IfOk result (λ v. ReadToEnd (S.left source.old) (S.left source.new) v.items) }
     ensures short { IfOk result (λ v. length v.items ≤ limit) }
     ensures kept { S.faults source.old ≤ S.faults source.new }
-    ensures why { IfErr result (λ e. WhyNoScript e (Rose (S.faults source.old) (S.faults source.new)) (TookCount (S.left source.old) (S.left source.new)) (TookAtMost (S.left source.old) (S.left source.new)) limit) }
+    ensures why { IfErr result (λ e. WhyNoScript e (Rose (S.faults source.old) (S.faults source.new))
+        (TookCount (S.left source.old) (S.left source.new)) (TookAtMost (S.left source.old) (S.left source.new)) limit) }
 {
     let mut script = Vec::new(alloc);
     let mut piece = [0u8; PIECE];

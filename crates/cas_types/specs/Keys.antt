@@ -20,7 +20,8 @@ component value = to_be_bytes w16 (length value) ++ (value ++ (0 ∷ []))
 abbrev pub composite_key : List (List ℕ) → List ℕ
 composite_key values = flat_map component values
 
--- a key of one column is that column's value, one of several is composite: `PRIMARY KEY ((k, l))` with k = 1 and l = 'x' has the key 0x0004 00000001 00 0001 78 00
+-- a key of one column is that column's value, one of several is composite: `PRIMARY KEY ((k, l))` with k = 1 and l = 'x' has the key 0x0004
+-- 00000001 00 0001 78 00
 abbrev pub key_of : List (List ℕ) → List ℕ
 key_of (v ∷ []) = v
 key_of values = composite_key values

@@ -1,6 +1,7 @@
 -- The values of the native types, as bytes, and their order.
 -- CQL documentation, "Data types: native types"; the order of uuids and the bytes of a value are own.
-use Rattle.std.specs.Prelude.{ℕ, ◌==◌, ℤ, Bool, true, false, ◌&&◌, ◌||◌, nat_lt, nat_le, List, [], ◌∷◌, length, slice_index, Option, None, Some, if◌then◌else◌, ◌/◌, ◌%◌}
+use Rattle.std.specs.Prelude.{ℕ, ◌==◌, ℤ, Bool, true, false, ◌&&◌, ◌||◌, nat_lt, nat_le}
+use Rattle.std.specs.Prelude.{List, [], ◌∷◌, length, slice_index, Option, None, Some, if◌then◌else◌, ◌/◌, ◌%◌}
 use Rattle.std.specs.List.{list_all}
 use Rattle.std.specs.Option.{option_cmp}
 use Rattle.std.specs.Int.{Width, w8, w16, w32, w64, byte_len, from_be_bytes, cast_signed}
@@ -37,7 +38,8 @@ is_version_one (Some v) = v == 1
 abbrev pub uuid_time : List ℕ → Option ℕ
 uuid_time bytes =
     if is_version_one (uuid_version bytes) then
-    Some (from_be_bytes w64 (slice_index bytes 6 % 16 ∷ slice_index bytes 7 ∷ slice_index bytes 4 ∷ slice_index bytes 5 ∷ slice_index bytes 0 ∷ slice_index bytes 1 ∷ slice_index bytes 2 ∷ slice_index bytes 3 ∷ []))
+    Some (from_be_bytes w64 (slice_index bytes 6 % 16 ∷ slice_index bytes 7 ∷ slice_index bytes 4 ∷ slice_index bytes 5
+    ∷ slice_index bytes 0 ∷ slice_index bytes 1 ∷ slice_index bytes 2 ∷ slice_index bytes 3 ∷ []))
     else None
 
 -- an `ascii` text: each byte is below 128
