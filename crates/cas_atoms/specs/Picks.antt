@@ -59,7 +59,7 @@ living now (Some c) = then_some (cell_lives now c) c
 abbrev pub plain_cell : List Atom → ℤ → RowKey → ℕ → Option Cell
 plain_cell atoms now r n = living now (cell_winner atoms (path r n []))
 
--- the bytes of a cell, of which none has none
+-- the bytes of a cell, and no bytes where there is no cell
 abbrev pub cell_bytes : Option Cell → List ℕ
 cell_bytes None = []
 cell_bytes (Some c) = cell_value c

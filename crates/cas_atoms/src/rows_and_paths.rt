@@ -36,7 +36,7 @@ fn place_of_row(order: &[Ordered], rows: &[List<Bytes>], key: &List<Bytes>) -> O
     Some(rows.len())
 }
 
-/// The same values once more.
+/// A copy of the values.
 pub(crate) fn copy_values(values: &List<Bytes>) -> Result<List<Bytes>, AllocError>
     ensures { IfOk result (λ v. v ≡ values.now) }
 {

@@ -16,7 +16,7 @@ pub struct Clustering {
 }
 
 impl Clustering {
-    /// The same clustering once more.
+    /// A copy of the clustering.
     pub fn copied(&self) -> Result<Self, AllocError>
         ensures { IfOk result (λ c. c ≡ self.now) }
     {
@@ -34,7 +34,7 @@ pub struct Cut {
 }
 
 impl Cut {
-    /// The same cut once more.
+    /// A copy of the cut.
     pub fn copied(&self) -> Result<Self, AllocError>
         ensures { IfOk result (λ c. c ≡ self.now) }
     {
