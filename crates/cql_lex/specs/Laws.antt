@@ -1,14 +1,17 @@
 -- What holds of the tokens of a line.
-use Rattle.std.specs.Prelude.{◌≡◌, ◌↔◌, ℕ, Bool, true, false, ◌-◌, ◌<◌, ◌≤◌, List, [], ◌∷◌, length, take, drop, codes, Some, is_some, IsTrue, IsUtf8}
+use Rattle.std.specs.Prelude.{◌≡◌, ◌↔◌, ℕ, Bool, true, false, ◌-◌, ◌<◌, ◌≤◌, List, [], ◌∷◌, length, take, drop, codes}
+use Rattle.std.specs.Prelude.{Some, is_some, IsTrue, IsUtf8}
 use Rattle.std.specs.List.{AllByRecursion}
-use Rattle.cql_lex.specs.Characters.{is_word, begins}
+use Rattle.cql_lex.specs.Characters.{is_word, first_is}
 use Rattle.cql_lex.specs.Numbers.{number_value, is_ratio}
 use Rattle.cql_lex.specs.Quotes.{name_quote, string_quote, quoted_value, quoted_text, in_quotes}
 use Rattle.cql_lex.specs.Constants.{name_value, uuid_value, blob_value}
 use Rattle.cql_lex.specs.Lexes.{Lexes}
 use Rattle.cql_lex.specs.declared.token.Token.{Token}
 use Rattle.cql_lex.specs.declared.token.TokenKind.{TokenKind}
-use Rattle.cql_lex.specs.declared.token.TokenKind.TheVariants.{Uuid, Blob, Number, Ratio, Name, QuotedName, String, AtMost, AtLeast, OpenParen, CloseParen, OpenBracket, CloseBracket, OpenBrace, CloseBrace, Less, Greater, Equals, Comma, Semicolon, Colon, Dot, Plus, Minus, Star}
+use Rattle.cql_lex.specs.declared.token.TokenKind.TheVariants.{Uuid, Blob, Number, Ratio, Name, QuotedName, String, AtMost, AtLeast, OpenParen}
+use Rattle.cql_lex.specs.declared.token.TokenKind.TheVariants.{CloseParen, OpenBracket, CloseBracket, OpenBrace, CloseBrace, Less, Greater}
+use Rattle.cql_lex.specs.declared.token.TokenKind.TheVariants.{Equals, Comma, Semicolon, Colon, Dot, Plus, Minus, Star}
 
 -- the spans stand one after another, from this place up to the end
 abbrev pub Ascend : ℕ → List Token → ℕ → Type 0
@@ -19,7 +22,7 @@ Ascend from (t ∷ ts) end = (from ≤ t.start) × (t.start < t.end) × Ascend t
 abbrev pub text_of : List ℕ → Token → List ℕ
 text_of source t = take (t.end - t.start) (drop t.start source)
 
--- the text is a token of the kind
+-- the text is a token of the kind: `Ab_1` is a name, `1.5` a ratio, `<=` AtMost
 abbrev pub HasForm : TokenKind → List ℕ → Type 0
 HasForm Uuid text = IsTrue (is_some (uuid_value text))
 HasForm Blob text = IsTrue (is_some (blob_value text))
@@ -55,41 +58,23 @@ HaveForms source tokens = AllByRecursion (λ t. HasForm t.kind (text_of source t
 abbrev pub IsLongest : List ℕ → Token → Type 0
 IsLongest source t = (end : ℕ) → t.end < end → end ≤ length source → ¬ (HasForm t.kind (take (end - t.start) (drop t.start source)))
 
+-- each of the tokens is the longest of its kind at its place
 abbrev pub AreLongest : List ℕ → List Token → Type 0
 AreLongest source tokens = AllByRecursion (IsLongest source) tokens
 
 -- a name, a number, a ratio or a uuid
 abbrev pub is_wordlike : TokenKind → Bool
 is_wordlike Uuid = true
-is_wordlike Blob = false
 is_wordlike Number = true
 is_wordlike Ratio = true
 is_wordlike Name = true
-is_wordlike QuotedName = false
-is_wordlike String = false
-is_wordlike AtMost = false
-is_wordlike AtLeast = false
-is_wordlike OpenParen = false
-is_wordlike CloseParen = false
-is_wordlike OpenBracket = false
-is_wordlike CloseBracket = false
-is_wordlike OpenBrace = false
-is_wordlike CloseBrace = false
-is_wordlike Less = false
-is_wordlike Greater = false
-is_wordlike Equals = false
-is_wordlike Comma = false
-is_wordlike Semicolon = false
-is_wordlike Colon = false
-is_wordlike Dot = false
-is_wordlike Plus = false
-is_wordlike Minus = false
-is_wordlike Star = false
+is_wordlike _ = false
 
 -- no letter, digit or `_` follows one of these at once
 abbrev pub IsApart : List ℕ → Token → Type 0
-IsApart source t = IsTrue (is_wordlike t.kind) → begins is_word (drop t.end source) ≡ false
+IsApart source t = IsTrue (is_wordlike t.kind) → first_is is_word (drop t.end source) ≡ false
 
+-- and so for each of the tokens: `12 a` is two tokens, `12a` is none
 abbrev pub AreApart : List ℕ → List Token → Type 0
 AreApart source tokens = AllByRecursion (IsApart source) tokens
 
@@ -104,7 +89,7 @@ pub record ArePlaced (source : List ℕ) (tokens : List Token) : Type 0 where
 abbrev pub OneReading : Type 0
 OneReading = (source : List ℕ) (tokens others : List Token) → Lexes source tokens → Lexes source others → tokens ≡ others
 
--- it holds of each line
+-- so are the tokens of each line placed
 abbrev pub WellPlaced : Type 0
 WellPlaced = (source : List ℕ) (tokens : List Token) → IsUtf8 source → Lexes source tokens → ArePlaced source tokens
 

@@ -3,14 +3,16 @@
 use Rattle.std.specs.Prelude.{ℕ, Bool, not, ◌==◌, ◌&&◌, ◌+◌, nat_lt, List, [], ◌∷◌, take, drop, Option, None, Some, option_map, is_some, if◌then◌else◌}
 use Rattle.std.specs.Option.{option_or}
 use Rattle.std.specs.Char.{is_ascii_digit, is_ascii_alphabetic}
-use Rattle.cql_lex.specs.Characters.{is_word, begins, begins_pair, word_size, digits_size, hex_pairs_size}
+use Rattle.cql_lex.specs.Characters.{is_word, first_is, begins_pair, word_size, digits_size, hex_pairs_size}
 use Rattle.cql_lex.specs.Numbers.{is_negative, unsigned, number_value}
 use Rattle.cql_lex.specs.Quotes.{name_quote, string_quote, closing_size}
 use Rattle.cql_lex.specs.Constants.{uuid_value, begins_blob}
 use Rattle.cql_lex.specs.Gaps.{gap_size}
 use Rattle.cql_lex.specs.declared.piece.Piece.{Piece}
 use Rattle.cql_lex.specs.declared.token.TokenKind.{TokenKind}
-use Rattle.cql_lex.specs.declared.token.TokenKind.TheVariants.{Uuid, Blob, Number, Ratio, Name, QuotedName, String, AtMost, AtLeast, OpenParen, CloseParen, OpenBracket, CloseBracket, OpenBrace, CloseBrace, Less, Greater, Equals, Comma, Semicolon, Colon, Dot, Plus, Minus, Star}
+use Rattle.cql_lex.specs.declared.token.TokenKind.TheVariants.{Uuid, Blob, Number, Ratio, Name, QuotedName, String, AtMost, AtLeast, OpenParen}
+use Rattle.cql_lex.specs.declared.token.TokenKind.TheVariants.{CloseParen, OpenBracket, CloseBracket, OpenBrace, CloseBrace, Less, Greater}
+use Rattle.cql_lex.specs.declared.token.TokenKind.TheVariants.{Equals, Comma, Semicolon, Colon, Dot, Plus, Minus, Star}
 
 -- a token of a kind and of a size
 abbrev pub token : TokenKind → ℕ → Piece
@@ -22,11 +24,11 @@ gap size = record { kind = None; size = size }
 
 -- a uuid, which no letter, digit or `_` follows: `550e8400-e29b-41d4-a716-446655440000,` begins as one, with an `x` in the comma's place it doesn't
 abbrev pub begins_uuid : List ℕ → Bool
-begins_uuid text = is_some (uuid_value (take 36 text)) && not (begins is_word (drop 36 text))
+begins_uuid text = is_some (uuid_value (take 36 text)) && not (first_is is_word (drop 36 text))
 
 -- a digit, perhaps after a `-`: `-1` and `1x`, and not `-a`
 abbrev pub begins_number : List ℕ → Bool
-begins_number text = begins is_ascii_digit (unsigned text)
+begins_number text = first_is is_ascii_digit (unsigned text)
 
 -- the `-` and the digits: of `-12.5` it is 3
 abbrev pub whole_size : List ℕ → ℕ
@@ -37,16 +39,18 @@ abbrev pub fraction_size : List ℕ → ℕ
 fraction_size [] = 0
 fraction_size (p ∷ []) = 0
 fraction_size (p ∷ d ∷ cs) =
-    if (p == 46) && is_ascii_digit d then (if begins is_ascii_digit cs then 3 else 2) else 0
+    if (p == 46) && is_ascii_digit d then (if first_is is_ascii_digit cs then 3 else 2) else 0
 
--- a number of this whole part and fraction, unless a letter, digit or `_` follows or it is wider than 128 bits: `12,` begins with a number, `1.5 ` with a ratio; `12a`, `1.234` and `1_` are refused
+-- a number of this whole part and fraction, unless a letter, digit or `_` follows or it is wider than 128 bits: `12,`
+-- begins with a number, `1.5 ` with a ratio; `12a`, `1.234` and `1_` are refused
 abbrev pub number_of_sizes : List ℕ → ℕ → ℕ → Option Piece
 number_of_sizes text whole fraction =
-    if begins is_word (drop (whole + fraction) text) then None
+    if first_is is_word (drop (whole + fraction) text) then None
     else if nat_lt 0 fraction then Some (token Ratio (whole + fraction))
     else if is_some (number_value (take whole text)) then Some (token Number whole)
     else None
 
+-- the number or ratio that a text begins with, unless it is refused: `-12.5,` begins with a ratio of 5 bytes
 abbrev pub number_at : List ℕ → Option Piece
 number_at text = number_of_sizes text (whole_size text) (fraction_size (drop (whole_size text) text))
 
@@ -75,6 +79,7 @@ symbol c =
     else if c == 42 then Some Star
     else None
 
+-- the token of one character that a text begins with: `(a` begins with OpenParen
 abbrev pub single_at : List ℕ → Option Piece
 single_at [] = None
 single_at (c ∷ cs) = option_map (λ kind. token kind 1) (symbol c)
@@ -86,15 +91,16 @@ symbol_at text =
     else if begins_pair 62 61 text then Some (token AtLeast 2)
     else single_at text
 
--- the token that a text begins with: the first rule that it begins as decides, and may refuse it. `0x1F` is a blob, `0y` is refused by the rule of numbers, `0-1` begins with a number
+-- the token that a text begins with: the first rule that it begins as decides, and may refuse it. `0x1F` is a blob,
+-- `0y` is refused by the rule of numbers, `0-1` begins with a number
 unfoldable pub token_at : List ℕ → Option Piece
 token_at text =
     if begins_uuid text then Some (token Uuid 36)
     else if begins_blob text then Some (token Blob (2 + hex_pairs_size (drop 2 text)))
     else if begins_number text then number_at text
-    else if begins is_ascii_alphabetic text then Some (token Name (word_size text))
-    else if begins (λ c. c == name_quote) text then quoted_at QuotedName name_quote text
-    else if begins (λ c. c == string_quote) text then quoted_at String string_quote text
+    else if first_is is_ascii_alphabetic text then Some (token Name (word_size text))
+    else if first_is (λ c. c == name_quote) text then quoted_at QuotedName name_quote text
+    else if first_is (λ c. c == string_quote) text then quoted_at String string_quote text
     else symbol_at text
 
 -- the blank, the comment or the token that a text begins with, in this order: `--1` is a comment, and no minus sign

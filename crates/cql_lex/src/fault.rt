@@ -1,4 +1,4 @@
-ghost use Rattle.cql_lex.specs.declared.fault.LexFault.TheVariants.{Mem as MemOf};
+ghost use Rattle.cql_lex.specs.declared.fault.LexFault.TheVariants as faults;
 ghost use Rattle.std.specs.Prelude.{◌≡◌};
 
 use cas_types::Mem;
@@ -14,7 +14,7 @@ pub enum LexFault {
 }
 
 impl From<AllocError> for LexFault {
-    ghost from_gives = { λ _ fault. fault ≡ MemOf };
+    ghost from_gives = { λ _ fault. fault ≡ faults.Mem };
 
     fn from(_: AllocError) -> Self {
         LexFault::Mem
@@ -22,7 +22,7 @@ impl From<AllocError> for LexFault {
 }
 
 impl<T: Drop> From<AllocFailed<T>> for LexFault {
-    ghost from_gives = { λ _ fault. fault ≡ MemOf };
+    ghost from_gives = { λ _ fault. fault ≡ faults.Mem };
 
     fn from(_: AllocFailed<T>) -> Self {
         LexFault::Mem
@@ -30,7 +30,7 @@ impl<T: Drop> From<AllocFailed<T>> for LexFault {
 }
 
 impl From<Mem> for LexFault {
-    ghost from_gives = { λ _ fault. fault ≡ MemOf };
+    ghost from_gives = { λ _ fault. fault ≡ faults.Mem };
 
     fn from(_: Mem) -> Self {
         LexFault::Mem

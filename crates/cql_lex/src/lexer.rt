@@ -1,7 +1,7 @@
 //! The tokens of a line.
 
 ghost use Rattle.std.specs.Prelude.{◌≡◌, ◌+◌, ◌<◌, ◌^◌, ◌++◌, IfOk, IfErr, OnOk, Err};
-ghost use Rattle.cql_lex.specs.declared.fault.LexFault.TheVariants.{Syntax as SyntaxOf, Mem as MemOf};
+ghost use Rattle.cql_lex.specs.declared.fault.LexFault.TheVariants as faults;
 ghost use Rattle.cql_lex.specs.Lexes.{Lexes, IsRefused, token_of};
 ghost use Rattle.cql_lex.specs.Laws.{ArePlaced};
 
@@ -15,7 +15,7 @@ use std::alloc::Global;
 fn add(found: &mut Vec<Token>, from: usize, piece: Piece) -> Result<(), LexFault>
     requires { from + piece.size < 2 ^ 64 }
     ensures ok { OnOk result (found.new.items ≡ found.old.items ++ token_of from piece.kind piece.size) }
-    ensures err { IfErr result (λ e. e ≡ MemOf) }
+    ensures err { IfErr result (λ e. e ≡ faults.Mem) }
 {
     match piece.kind {
         Some(kind) => {
@@ -35,7 +35,7 @@ pub fn tokens(alloc: Global, source: &str) -> Result<Vec<Token>, LexFault>
     // The tokens are those that the rules give,
     ensures lexed { IfOk result (λ tokens. Lexes source.now tokens.items) }
     // and where there are none, the rules give none.
-    ensures refused { result ≡ Err SyntaxOf → IsRefused source.now }
+    ensures refused { result ≡ Err faults.Syntax → IsRefused source.now }
     // Their spans ascend, each text is one of its kind, and the longest one there.
     ensures placed { IfOk result (λ tokens. ArePlaced source.now tokens.items) }
 {

@@ -164,7 +164,10 @@ fn texts_have_their_meaning(rt: HostRuntime) -> Result<(), Fail> {
         (b"\"a\"", None),
     ];
     for (text, wanted) in names {
-        let found = name_of(alloc, text)?;
+        let found = match name_of(text) {
+            Some(name) => Some(name.text(alloc)?),
+            None => None,
+        };
         assert!(rt;
             found.as_ref().map(|name| name.as_str()) == wanted,
             "{text:?}"
