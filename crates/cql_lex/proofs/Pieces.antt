@@ -18,7 +18,10 @@ use Rattle.cql_lex.specs.Rules.{piece_at, token_at, token, gap, begins_uuid, beg
 use Rattle.cql_lex.specs.Laws.{HasForm, is_wordlike}
 use Rattle.cql_lex.specs.declared.piece.Piece.{Piece}
 use Rattle.cql_lex.specs.declared.token.TokenKind.{TokenKind}
-use Rattle.cql_lex.specs.declared.token.TokenKind.TheVariants.{Uuid, Blob, Number, Ratio, Name, QuotedName, String, AtMost, AtLeast}
+use Rattle.cql_lex.specs.declared.token.TokenKind.TheVariants.{Uuid, Blob, Number, Ratio, Name, QuotedName, String}
+use Rattle.cql_lex.specs.declared.token.TokenKind.TheVariants as kind
+use Rattle.cql_lex.specs.declared.token.Mark.{Mark}
+use Rattle.cql_lex.specs.declared.token.Mark.TheVariants as mark
 use Rattle.cql_lex.proofs.Symbols.{IsSymbol, symbol_is}
 use Rattle.std.proofs.lemmas.Option.{none-some}
 use Rattle.cql_lex.proofs.Fronts.{all_front, pairs_decode, uuid_long, front_again, run_stops}
@@ -185,10 +188,10 @@ pair_good kind a b (c ∷ d ∷ cs) form short plain e =
     (λ m h l f. longer (c ∷ d ∷ cs) m 2 h l (short (take m (c ∷ d ∷ cs)) f))
     (λ w. absurd (false≢true (sym plain ∙ w)))
 
-single_by : (c : ℕ) (cs : List ℕ) (o : Option TokenKind) → IfSome o (IsSymbol c) → Goods (c ∷ cs) (option_map (λ kind. token kind 1) o)
+single_by : (c : ℕ) (cs : List ℕ) (o : Option Mark) → IfSome o (IsSymbol c) → Goods (c ∷ cs) (option_map (λ m. token (kind.Mark m) 1) o)
 single_by c cs None h = tt
-single_by c cs (Some kind) h =
-    token_good kind 1 (c ∷ cs) (omega arith) (omega arith)
+single_by c cs (Some m) h =
+    token_good (kind.Mark m) 1 (c ∷ cs) (omega arith) (omega arith)
     (λ _ _. h.form)
     (λ m more l f. longer (c ∷ cs) m 1 more l (h.short (take m (c ∷ cs)) f))
     (λ w. absurd (false≢true (sym h.plain ∙ w)))
@@ -199,8 +202,8 @@ single_good (c ∷ cs) = single_by c cs (symbol c) (symbol_is c)
 
 symbol_good : (text : List ℕ) → Goods text (symbol_at text)
 symbol_good text =
-    choose text (begins_pair 60 61 text) _ _ (pair_good AtMost 60 61 text (λ t e. e) (λ t h. ap length h) refl) (λ _.
-    choose text (begins_pair 62 61 text) _ _ (pair_good AtLeast 62 61 text (λ t e. e) (λ t h. ap length h) refl) (λ _. single_good text))
+    choose text (begins_pair 60 61 text) _ _ (pair_good (kind.Mark mark.AtMost) 60 61 text (λ t e. e) (λ t h. ap length h) refl) (λ _.
+    choose text (begins_pair 62 61 text) _ _ (pair_good (kind.Mark mark.AtLeast) 62 61 text (λ t e. e) (λ t h. ap length h) refl) (λ _. single_good text))
 
 -- a blank or a comment
 begun : (test : ℕ → Bool) (text : List ℕ) → first_is test text ≡ true → 0 < length text

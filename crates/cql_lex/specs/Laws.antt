@@ -7,11 +7,11 @@ use Rattle.cql_lex.specs.Numbers.{number_value, is_ratio}
 use Rattle.cql_lex.specs.Quotes.{name_quote, string_quote, quoted_value, quoted_text, in_quotes}
 use Rattle.cql_lex.specs.Constants.{name_value, uuid_value, blob_value}
 use Rattle.cql_lex.specs.Lexes.{Lexes}
+use Rattle.cql_lex.specs.declared.token.Mark.{Mark}
+use Rattle.cql_lex.specs.declared.token.Mark.TheVariants as mark
 use Rattle.cql_lex.specs.declared.token.Token.{Token}
 use Rattle.cql_lex.specs.declared.token.TokenKind.{TokenKind}
-use Rattle.cql_lex.specs.declared.token.TokenKind.TheVariants.{Uuid, Blob, Number, Ratio, Name, QuotedName, String, AtMost, AtLeast, OpenParen}
-use Rattle.cql_lex.specs.declared.token.TokenKind.TheVariants.{CloseParen, OpenBracket, CloseBracket, OpenBrace, CloseBrace, Less, Greater}
-use Rattle.cql_lex.specs.declared.token.TokenKind.TheVariants.{Equals, Comma, Semicolon, Colon, Dot, Plus, Minus, Star}
+use Rattle.cql_lex.specs.declared.token.TokenKind.TheVariants as kind
 
 -- the spans stand one after another, from this place up to the end
 abbrev pub Ascend : ℕ → List Token → ℕ → Type 0
@@ -22,33 +22,37 @@ Ascend from (t ∷ ts) end = (from ≤ t.start) × (t.start < t.end) × Ascend t
 abbrev pub text_of : List ℕ → Token → List ℕ
 text_of source t = take (t.end - t.start) (drop t.start source)
 
--- the text is a token of the kind: `Ab_1` is a name, `1.5` a ratio, `<=` AtMost
+-- how a mark is written
+abbrev pub mark_text : Mark → List ℕ
+mark_text mark.AtMost = codes "<="
+mark_text mark.AtLeast = codes ">="
+mark_text mark.OpenParen = codes "("
+mark_text mark.CloseParen = codes ")"
+mark_text mark.OpenBracket = codes "["
+mark_text mark.CloseBracket = codes "]"
+mark_text mark.OpenBrace = codes "{"
+mark_text mark.CloseBrace = codes "}"
+mark_text mark.Less = codes "<"
+mark_text mark.Greater = codes ">"
+mark_text mark.Equals = codes "="
+mark_text mark.Comma = codes ","
+mark_text mark.Semicolon = codes ";"
+mark_text mark.Colon = codes ":"
+mark_text mark.Dot = codes "."
+mark_text mark.Plus = codes "+"
+mark_text mark.Minus = codes "-"
+mark_text mark.Star = codes "*"
+
+-- the text is a token of the kind: `Ab_1` is a name, `1.5` a ratio, `<=` the mark AtMost
 abbrev pub HasForm : TokenKind → List ℕ → Type 0
-HasForm Uuid text = IsTrue (is_some (uuid_value text))
-HasForm Blob text = IsTrue (is_some (blob_value text))
-HasForm Number text = IsTrue (is_some (number_value text))
-HasForm Ratio text = IsTrue (is_ratio text)
-HasForm Name text = IsTrue (is_some (name_value text))
-HasForm QuotedName text = IsTrue (is_some (quoted_text name_quote text))
-HasForm String text = IsTrue (is_some (quoted_text string_quote text))
-HasForm AtMost text = text ≡ codes "<="
-HasForm AtLeast text = text ≡ codes ">="
-HasForm OpenParen text = text ≡ codes "("
-HasForm CloseParen text = text ≡ codes ")"
-HasForm OpenBracket text = text ≡ codes "["
-HasForm CloseBracket text = text ≡ codes "]"
-HasForm OpenBrace text = text ≡ codes "{"
-HasForm CloseBrace text = text ≡ codes "}"
-HasForm Less text = text ≡ codes "<"
-HasForm Greater text = text ≡ codes ">"
-HasForm Equals text = text ≡ codes "="
-HasForm Comma text = text ≡ codes ","
-HasForm Semicolon text = text ≡ codes ";"
-HasForm Colon text = text ≡ codes ":"
-HasForm Dot text = text ≡ codes "."
-HasForm Plus text = text ≡ codes "+"
-HasForm Minus text = text ≡ codes "-"
-HasForm Star text = text ≡ codes "*"
+HasForm kind.Uuid text = IsTrue (is_some (uuid_value text))
+HasForm kind.Blob text = IsTrue (is_some (blob_value text))
+HasForm kind.Number text = IsTrue (is_some (number_value text))
+HasForm kind.Ratio text = IsTrue (is_ratio text)
+HasForm kind.Name text = IsTrue (is_some (name_value text))
+HasForm kind.QuotedName text = IsTrue (is_some (quoted_text name_quote text))
+HasForm kind.String text = IsTrue (is_some (quoted_text string_quote text))
+HasForm (kind.Mark m) text = text ≡ mark_text m
 
 -- each token's text is one of its kind
 abbrev pub HaveForms : List ℕ → List Token → Type 0
@@ -64,10 +68,10 @@ AreLongest source tokens = AllByRecursion (IsLongest source) tokens
 
 -- a name, a number, a ratio or a uuid
 abbrev pub is_wordlike : TokenKind → Bool
-is_wordlike Uuid = true
-is_wordlike Number = true
-is_wordlike Ratio = true
-is_wordlike Name = true
+is_wordlike kind.Uuid = true
+is_wordlike kind.Number = true
+is_wordlike kind.Ratio = true
+is_wordlike kind.Name = true
 is_wordlike _ = false
 
 -- no letter, digit or `_` follows one of these at once

@@ -25,4 +25,4 @@ pub use lexer::tokens;
 pub use names::{Name, name_of};
 pub use numbers::{number_of, ratio_of};
 pub use quotes::{quoted_name_of, string_of};
-pub use token::{Token, TokenKind};
+pub use token::{Mark, Token, TokenKind};

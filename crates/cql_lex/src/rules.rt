@@ -13,7 +13,7 @@ use crate::constants::{begins_blob, uuid_of};
 use crate::gaps::gap_size;
 use crate::numbers::{is_negative, number_of, unsigned};
 use crate::piece::Piece;
-use crate::token::TokenKind;
+use crate::token::{Mark, TokenKind};
 
 fn token(kind: TokenKind, size: usize) -> Option<Piece>
     ensures { result ≡ Some (token kind size) }
@@ -98,26 +98,26 @@ fn quoted_at(kind: TokenKind, quote: u8, text: &[u8]) -> Option<Piece>
     }
 }
 
-fn symbol(byte: u8) -> Option<TokenKind>
+fn symbol(byte: u8) -> Option<Mark>
     ensures { result ≡ symbol byte }
 {
     match byte {
-        b'(' => Some(TokenKind::OpenParen),
-        b')' => Some(TokenKind::CloseParen),
-        b'[' => Some(TokenKind::OpenBracket),
-        b']' => Some(TokenKind::CloseBracket),
-        b'{' => Some(TokenKind::OpenBrace),
-        b'}' => Some(TokenKind::CloseBrace),
-        b'<' => Some(TokenKind::Less),
-        b'>' => Some(TokenKind::Greater),
-        b'=' => Some(TokenKind::Equals),
-        b',' => Some(TokenKind::Comma),
-        b';' => Some(TokenKind::Semicolon),
-        b':' => Some(TokenKind::Colon),
-        b'.' => Some(TokenKind::Dot),
-        b'+' => Some(TokenKind::Plus),
-        b'-' => Some(TokenKind::Minus),
-        b'*' => Some(TokenKind::Star),
+        b'(' => Some(Mark::OpenParen),
+        b')' => Some(Mark::CloseParen),
+        b'[' => Some(Mark::OpenBracket),
+        b']' => Some(Mark::CloseBracket),
+        b'{' => Some(Mark::OpenBrace),
+        b'}' => Some(Mark::CloseBrace),
+        b'<' => Some(Mark::Less),
+        b'>' => Some(Mark::Greater),
+        b'=' => Some(Mark::Equals),
+        b',' => Some(Mark::Comma),
+        b';' => Some(Mark::Semicolon),
+        b':' => Some(Mark::Colon),
+        b'.' => Some(Mark::Dot),
+        b'+' => Some(Mark::Plus),
+        b'-' => Some(Mark::Minus),
+        b'*' => Some(Mark::Star),
         _ => None,
     }
 }
@@ -127,7 +127,7 @@ fn single_at(text: &[u8]) -> Option<Piece>
 {
     match text {
         [byte, _rest @ ..] => match symbol(*byte) {
-            Some(kind) => token(kind, 1),
+            Some(mark) => token(TokenKind::Mark(mark), 1),
             None => None,
         },
         _ => None,
@@ -138,9 +138,9 @@ fn symbol_at(text: &[u8]) -> Option<Piece>
     ensures { result ≡ symbol_at text.now }
 {
     if begins_pair(text, b'<', b'=') {
-        token(TokenKind::AtMost, 2)
+        token(TokenKind::Mark(Mark::AtMost), 2)
     } else if begins_pair(text, b'>', b'=') {
-        token(TokenKind::AtLeast, 2)
+        token(TokenKind::Mark(Mark::AtLeast), 2)
     } else {
         single_at(text)
     }
