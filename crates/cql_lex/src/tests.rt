@@ -164,7 +164,7 @@ fn texts_have_their_meaning(rt: HostRuntime) -> Result<(), Fail> {
         (b"\"a\"", None),
     ];
     for (text, wanted) in names {
-        let found = match name_of(text) {
+        let found = match name_of(alloc, text)? {
             Some(name) => Some(name.text(alloc)?),
             None => None,
         };

@@ -1,13 +1,14 @@
--- The grammar of CQL statements. A phrase goes from the lexemes that come to those that are left behind it: `IsName n l r` says that l is the name n, spelt out, and then r.
+-- The grammar of CQL statements. A phrase goes from the lexemes that come to those that are left behind it: `IsName n l
+-- r` says that l is the name n, spelt out, and then r.
 -- CQL documentation, "Data definition" and "Data manipulation"; AFTER and PAGE are own.
 use Rattle.std.specs.Prelude.{◌≡◌, ℕ, ℤ, ◌⊎◌, Bool, true, false, List, [], ◌∷◌, Option, None, Some}
 use Rattle.cas_types.specs.declared.tag.TypeTag.{TypeTag}
 use Rattle.cas_types.specs.declared.tag.TypeTag.TheVariants as tag
 use Rattle.cql_parse.specs.declared.lexeme.Lexeme.{Lexeme}
 use Rattle.cql_parse.specs.declared.lexeme.Lexeme.TheVariants as lexeme
-use Rattle.cql_parse.specs.declared.symbol.Keyword.{Keyword}
-use Rattle.cql_parse.specs.declared.symbol.Keyword.TheVariants as word
-use Rattle.cql_parse.specs.declared.symbol.Mark.TheVariants as mark
+use Rattle.cql_parse.specs.declared.keyword.Keyword.{Keyword}
+use Rattle.cql_parse.specs.declared.keyword.Keyword.TheVariants as word
+use Rattle.cql_lex.specs.declared.token.Mark.TheVariants as mark
 use Rattle.cql_parse.specs.declared.lists.Separator.TheVariants as separator
 use Rattle.cql_parse.specs.declared.term.Constant.{Constant}
 use Rattle.cql_parse.specs.declared.term.Literal.{Literal}
@@ -49,7 +50,7 @@ use Rattle.cql_parse.specs.declared.syntax.Operator.TheVariants as operator
 use Rattle.cql_parse.specs.declared.syntax.Statement.{Statement}
 use Rattle.cql_parse.specs.declared.syntax.Statement.TheVariants as statement
 use Rattle.cql_parse.specs.declared.lists.Separator.{Separator}
-use Rattle.cql_parse.specs.declared.symbol.Mark.{Mark}
+use Rattle.cql_lex.specs.declared.token.Mark.{Mark}
 use Rattle.cql_parse.specs.declared.term.Constant.TheVariants as constant
 use Rattle.cql_parse.specs.declared.term.Literal.TheVariants as literal
 use Rattle.cql_parse.specs.declared.term.Element.{Element}
