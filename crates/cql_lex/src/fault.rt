@@ -1,3 +1,5 @@
+//! Why a line has no tokens.
+
 ghost use Rattle.cql_lex.specs.declared.fault.LexFault.TheVariants as faults;
 ghost use Rattle.std.specs.Prelude.{◌≡◌};
 
@@ -9,7 +11,7 @@ use std::alloc::{AllocError, AllocFailed};
 pub enum LexFault {
     /// The rules give none.
     Syntax,
-    /// Want of memory.
+    /// Out of memory.
     Mem,
 }
 

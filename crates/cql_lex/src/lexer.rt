@@ -11,6 +11,9 @@ use crate::rules::piece_at;
 use crate::token::Token;
 use std::alloc::Global;
 
+/// Room for the tokens of most lines.
+const USUAL: usize = 32;
+
 /// Adds the token that a piece is, which stands from this place on.
 fn add(found: &mut Vec<Token>, from: usize, piece: Piece) -> Result<(), LexFault>
     requires { from + piece.size < 2 ^ 64 }
@@ -40,7 +43,7 @@ pub fn tokens(alloc: Global, source: &str) -> Result<Vec<Token>, LexFault>
     ensures placed { IfOk result (λ tokens. ArePlaced source.now tokens.items) }
 {
     let bytes = source.as_bytes();
-    let mut found = Vec::new(alloc);
+    let mut found = Vec::with_capacity(alloc, USUAL)?;
     let mut at = 0;
     while at < bytes.len() {
         let Some(piece) = piece_at(&bytes[at..]) else {

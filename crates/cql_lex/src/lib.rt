@@ -13,8 +13,6 @@ mod numbers;
 mod piece;
 mod quotes;
 mod rules;
-#[cfg(test)]
-mod tests;
 mod texts;
 mod token;
 

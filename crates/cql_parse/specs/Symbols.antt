@@ -62,7 +62,10 @@ spelling word.WriteTime = codes "writetime"
 -- the words that are no names unless they are quoted
 abbrev pub reserved_words : List Keyword
 reserved_words =
-    word.Add ∷ word.Alter ∷ word.And ∷ word.Asc ∷ word.By ∷ word.Create ∷ word.Delete ∷ word.Desc ∷ word.False ∷ word.From ∷ word.In ∷ word.Insert ∷ word.Into ∷ word.Limit ∷ word.Null ∷ word.Order ∷ word.Primary ∷ word.Select ∷ word.Set ∷ word.Table ∷ word.To ∷ word.True ∷ word.Update ∷ word.Using ∷ word.Where ∷ word.With ∷ []
+    word.Add ∷ word.Alter ∷ word.And ∷ word.Asc ∷ word.By ∷ word.Create ∷ word.Delete ∷ word.Desc ∷
+    word.False ∷ word.From ∷ word.In ∷ word.Insert ∷ word.Into ∷ word.Limit ∷ word.Null ∷ word.Order ∷
+    word.Primary ∷ word.Select ∷ word.Set ∷ word.Table ∷ word.To ∷ word.True ∷ word.Update ∷
+    word.Using ∷ word.Where ∷ word.With ∷ []
 
 -- whether a word, in small letters, is reserved: `select` is, `timestamp` is not
 unfoldable pub is_reserved : List ℕ → Bool

@@ -1,4 +1,4 @@
-//! INSERT, UPDATE and DELETE, each behind its first word.
+//! INSERT, UPDATE and DELETE, each after its first word.
 
 ghost use Rattle.std.specs.Prelude.{◌≡◌};
 ghost use Rattle.cql_parse.specs.Inner.Reading.{Gives};

@@ -1,4 +1,4 @@
-//! CREATE TABLE and ALTER TABLE, each behind its first word.
+//! CREATE TABLE and ALTER TABLE, each after its first word.
 
 ghost use Rattle.std.specs.Prelude.{◌≡◌, [], option_map};
 ghost use Rattle.cql_parse.specs.Inner.Reading.{Gives};
@@ -104,7 +104,7 @@ fn column_type(input: &[Lexeme]) -> Result<(ColumnType, &[Lexeme]), ParseFault>
     Ok((ColumnType::One(tag), rest))
 }
 
-/// Whether PRIMARY KEY stands behind a column.
+/// Whether PRIMARY KEY stands after a column.
 #[tactic(auto, unfolding(crate::specs::Inner::StatementReading::key_flag))]
 fn key_flag(input: &[Lexeme]) -> Result<(bool, &[Lexeme]), ParseFault>
     ensures { Gives (λ x. (x.0, x.1.now)) result (key_flag input.now) }

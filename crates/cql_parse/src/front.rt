@@ -227,7 +227,7 @@ pub fn blob(alloc: Global, input: &[Lexeme]) -> Result<(Bytes, &[Lexeme]), Parse
     }
 }
 
-/// A number behind a word, or none.
+/// A number after a word, or none.
 #[tactic(auto, unfolding(crate::specs::Inner::Reading::number_behind))]
 pub fn number_behind(
     input: &[Lexeme],
@@ -244,7 +244,7 @@ pub fn number_behind(
     }
 }
 
-/// A blob behind a word, or none.
+/// A blob after a word, or none.
 #[tactic(auto, unfolding(crate::specs::Inner::Reading::blob_behind))]
 pub fn blob_behind(
     alloc: Global,

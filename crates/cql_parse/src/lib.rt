@@ -17,8 +17,6 @@ mod select;
 mod syntax;
 mod term;
 mod terms;
-#[cfg(test)]
-mod tests;
 
 pub use fault::ParseFault;
 pub use parse::{one_statement, statement};

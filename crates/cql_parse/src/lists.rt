@@ -50,7 +50,7 @@ impl Part for Text {
     }
 }
 
-/// The things of which some are read already and the others follow, each behind a separator. There
+/// The things of which some are read already and the others follow, each after a separator. There
 /// are fewer than lexemes.
 #[tactic(auto, unfolding(crate::specs::Inner::Reading::from_at))]
 pub fn list_from<X: Part + Drop>(
@@ -98,7 +98,7 @@ pub fn list<X: Part + Drop>(
     list_from(alloc, separator, only(alloc, first)?, rest)
 }
 
-/// A list behind a word, or none.
+/// A list after a word, or none.
 #[tactic(auto, unfolding(crate::specs::Inner::Reading::list_behind))]
 pub fn list_behind<X: Part + Drop>(
     alloc: Global,

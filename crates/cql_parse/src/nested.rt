@@ -23,7 +23,7 @@ pub enum Frame {
     List,
     /// `{` with at most one term, so that it may be a set or a map.
     Braces,
-    /// `{` with a comma behind its first term.
+    /// `{` with a comma after its first term.
     Set,
     /// A map's `{` whose last term is a key.
     Key,
@@ -49,7 +49,7 @@ pub enum Move {
     Go(Wants, Frame),
     /// It opens a bracket.
     Open(Frame),
-    /// It closes the innermost one; the place behind it.
+    /// It closes the innermost one; the place after it.
     Close(usize),
     /// It isn't in the grammar there.
     Wrong,
@@ -172,7 +172,7 @@ fn step(wants: Wants, frame: Frame, lexeme: &Lexeme) -> Move
     }
 }
 
-/// The place behind the bracket that closes the first one, and the lexemes that follow it.
+/// The place after the bracket that closes the first one, and the lexemes that follow it.
 fn walk(alloc: Global, first: Frame, input: &[Lexeme]) -> Result<(usize, &[Lexeme]), ParseFault>
     ensures { Gives (λ x. (x.0, x.1.now)) result (walk Wants.First first [] input.now) }
 {

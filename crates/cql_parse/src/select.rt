@@ -1,4 +1,4 @@
-//! SELECT, behind its first word.
+//! SELECT, after its first word.
 
 ghost use Rattle.std.specs.Prelude.{◌≡◌, option_map};
 ghost use Rattle.cql_parse.specs.Inner.Reading.{Gives};

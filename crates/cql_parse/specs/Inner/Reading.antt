@@ -1,4 +1,5 @@
--- Reading from left to right: each reader answers what it read and the lexemes behind it. That this is reading by the grammar is proved apart.
+-- Reading from left to right: each reader answers what it read and the lexemes after it. That this is reading by the
+-- grammar is proved apart.
 use Rattle.std.specs.Prelude.{◌≡◌, ℕ, ℤ, zero, suc, ◌==◌, Bool, true, false, List, [], ◌∷◌, ◌++◌, length, Option, None, Some, Result, Ok, Err}
 use Rattle.std.specs.Prelude.{if◌then◌else◌}
 use Rattle.std.specs.Str.{bytes_eq}
@@ -28,7 +29,7 @@ infixl 10 ◌>>=◌
 abbrev pub ◌>>=◌ : {A B : Type 0} → Reader A → (A → Reader B) → Reader B
 p >>= f = λ l. and_then (p l) f
 
--- where the first is there, the reader behind it; else the other answer
+-- where the first is there, the reader after it; else the other answer
 abbrev pub chosen : {B : Type 0} → Option (List Lexeme) → Reader B → Option (B × List Lexeme) → Option (B × List Lexeme)
 chosen None f other = other
 chosen (Some r) f other = f r
@@ -144,7 +145,7 @@ in_parens read = do
   _ ← mark_at mark.CloseParen
   done xs
 
--- a list behind a word, or none
+-- a list after a word, or none
 unfoldable pub list_behind : {A : Type 0} → Keyword → Separator → Reader A → Reader (List A)
 list_behind k s read l = chosen (after_word k l) (list_at s read) (Some ([], l))
 

@@ -69,7 +69,7 @@ use_at l =
         n ← whole_number_at
         done («use».Ttl n)))
 
--- each behind its first word
+-- each after its first word
 unfoldable pub insert_at : Reader Insert
 insert_at = do
   _ ← word_at word.Into
@@ -190,9 +190,10 @@ delete_at = do
 unfoldable pub column_order_at : Reader ColumnOrder
 column_order_at = do
   name ← name_at
-  λ l. chosen (after_word word.Desc l) (done (record { name = name; descending = true })) (chosen (after_word word.Asc l) (done (record { name = name; descending = false })) (Some (record { name = name; descending = false }, l)))
+  λ l. chosen (after_word word.Desc l) (done (record { name = name; descending = true }))
+    (chosen (after_word word.Asc l) (done (record { name = name; descending = false })) (Some (record { name = name; descending = false }, l)))
 
--- a word with a parenthesis behind it
+-- a word with a parenthesis after it
 unfoldable pub after_call : Keyword → List Lexeme → Option (List Lexeme)
 after_call k l = elim (after_word k l) [ None ↦ None | Some r ↦ after_mark mark.OpenParen r ]
 

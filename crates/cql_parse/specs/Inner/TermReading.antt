@@ -155,7 +155,7 @@ pair_at = do
   value ← element_at
   done (record { key = key; value = value })
 
--- the elements behind the first one, and the closing bracket
+-- the elements after the first one, and the closing bracket
 unfoldable pub set_from : Element → Reader Literal
 set_from first = do
   elements ← from_at separator.Comma element_at (first ∷ [])

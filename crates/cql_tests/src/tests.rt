@@ -1,7 +1,8 @@
-use crate::{
-    LexFault, TokenKind as Kind, blob_of, name_of, number_of, one_reading, quoted_name_of,
-    quotes_round_trip, ratio_of, string_of, tokens, uuid_of, well_placed,
+use cql_lex::{
+    LexFault, blob_of, name_of, number_of, one_reading, quoted_name_of, quotes_round_trip,
+    ratio_of, string_of, tokens, uuid_of, well_placed,
 };
+use cql_parse::{Element, Literal, ParseFault, Statement, Term, one_statement, statement};
 use std::alloc::Global;
 use std::fmt::Write;
 use std::test::Fail;
@@ -291,4 +292,64 @@ fn a_uuid_has_its_hyphens(rt: HostRuntime) {
     one_reading();
     well_placed();
     quotes_round_trip();
+}
+
+// The span of the literal within the one that the only relation of a SELECT compares with.
+fn inner_span(alloc: Global, source: &str) -> Result<Option<(usize, usize)>, Fail> {
+    let Ok(Statement::Select(select)) = statement(alloc, &tokens(alloc, source)?, source) else {
+        return Ok(None);
+    };
+    let [relation] = select.relations.as_slice() else {
+        return Ok(None);
+    };
+    let Term::Literal(Literal::ListOf(elements)) = &relation.value else {
+        return Ok(None);
+    };
+    match elements.as_slice() {
+        [Element::Nested(span)] => Ok(Some((span.start, span.end))),
+        _ => Ok(None),
+    }
+}
+
+// A line of that many brackets, each within the one before.
+fn brackets(alloc: Global, opening: usize, closing: usize) -> Result<String, Fail> {
+    let mut line = String::new(alloc);
+    line.push_str("SELECT k FROM t WHERE k = ")?;
+    for _ in 0..opening {
+        line.push_str("[")?;
+    }
+    for _ in 0..closing {
+        line.push_str("]")?;
+    }
+    Ok(line)
+}
+
+#[test]
+fn brackets_at_great_depth(rt: HostRuntime) -> Result<(), Fail> {
+    let cases = [
+        (100_000, 100_000, Some((27, 200_025))),
+        (100_000, 99_999, None),
+        (100_000, 100_001, None),
+    ];
+    for (opening, closing, wanted) in cases {
+        let line = brackets(rt.alloc(), opening, closing)?;
+        assert!(rt; inner_span(rt.alloc(), &line)? == wanted, "{opening} {closing}");
+    }
+    one_statement();
+    Ok(())
+}
+
+// A token that isn't the source's own is no statement.
+#[test]
+fn tokens_of_another_source(rt: HostRuntime) -> Result<(), Fail> {
+    let found = tokens(rt.alloc(), "SELECT * FROM t")?;
+    for source in ["SELECT", "SELECT * FROM 1", ""] {
+        assert!(rt;
+            matches!(
+                statement(rt.alloc(), &found, source),
+                Err(ParseFault::Syntax)
+            )
+        );
+    }
+    Ok(())
 }
