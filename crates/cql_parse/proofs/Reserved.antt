@@ -1,11 +1,10 @@
 -- Only the reserved words of a text's own length need be compared with it.
 use Rattle.std.proofs.Common.{◌≡◌, ◌≢◌, ℕ, Bool, true, false, cond, eqb, List, [], ◌∷◌, length, refl, sym, ap, ◌∙◌, ◌||◌, arith}
 use Rattle.std.specs.Str.{bytes_eq}
-use Rattle.std.specs.List.{list_any}
+use Rattle.std.specs.List.{list_any, list_all}
 use Rattle.std.proofs.lemmas.Slice.Eq.{bytes_eq-Decides}
-use Rattle.std.proofs.lemmas.Bool.{ne_eqb}
+use Rattle.std.proofs.lemmas.Bool.{ne_eqb, eqb-true, and_parts}
 use Rattle.cql_parse.specs.declared.keyword.Keyword.{Keyword}
-use Rattle.cql_parse.specs.declared.keyword.Keyword.TheVariants as word
 use Rattle.cql_parse.specs.Symbols.{spelling, reserved_words, is_reserved}
 
 -- the words of this length
@@ -35,41 +34,48 @@ pub of_its_size : (text : List ℕ) (n : ℕ) → length text ≡ n → is_reser
 unfolding is_reserved
 of_its_size text n e = sized text reserved_words ∙ ap (λ m. any_is text (of_size m reserved_words)) e
 
-past : (k : Keyword) (ks : List Keyword) (n : ℕ) → eqb (length (spelling k)) n ≡ false → of_size n ks ≡ [] → of_size n (k ∷ ks) ≡ []
-past k ks n e h = ap (λ b. cond b (k ∷ of_size n ks) (of_size n ks)) e ∙ h
+-- the lengths of reserved words
+abbrev from_7 : ℕ → Bool
+from_7 m = eqb m 7
 
-none_of_size : (n : ℕ) → eqb 2 n ≡ false → eqb 3 n ≡ false → eqb 4 n ≡ false → eqb 5 n ≡ false → eqb 6 n ≡ false → eqb 7 n ≡ false → of_size n reserved_words ≡ []
+abbrev from_6 : ℕ → Bool
+from_6 m = eqb m 6 || from_7 m
+
+abbrev from_5 : ℕ → Bool
+from_5 m = eqb m 5 || from_6 m
+
+abbrev from_4 : ℕ → Bool
+from_4 m = eqb m 4 || from_5 m
+
+abbrev from_3 : ℕ → Bool
+from_3 m = eqb m 3 || from_4 m
+
+abbrev from_2 : ℕ → Bool
+from_2 m = eqb m 2 || from_3 m
+
+pick_by : (m k n : ℕ) (b c : Bool) → eqb m k ≡ c → (c || b) ≡ true → eqb k n ≡ false → (b ≡ true → eqb m n ≡ false) → eqb m n ≡ false
+pick_by m k n b true h e d other = ap (λ (x : ℕ). eqb x n) (eqb-true m k h) ∙ d
+pick_by m k n b false h e d other = other e
+
+none_of_size : (n : ℕ) (ks : List Keyword) → list_all (λ k. from_2 (length (spelling k))) ks ≡ true → ((m : ℕ) → from_2 m ≡ true → eqb m n ≡ false) → of_size n ks ≡ []
+none_of_size n [] e h = refl
+none_of_size n (k ∷ ks) e h =
+    let p = and_parts (from_2 (length (spelling k))) (list_all (λ j. from_2 (length (spelling j))) ks) e in
+    ap (λ b. cond b (k ∷ of_size n ks) (of_size n ks)) (h (length (spelling k)) p.0) ∙ none_of_size n ks p.1 h
+
+differs : (n : ℕ) → n ≢ 2 → n ≢ 3 → n ≢ 4 → n ≢ 5 → n ≢ 6 → n ≢ 7 → (m : ℕ) → from_2 m ≡ true → eqb m n ≡ false
+differs n n2 n3 n4 n5 n6 n7 m e =
+    pick_by m 2 n (from_3 m) (eqb m 2) refl e (ne_eqb 2 n (λ h. n2 (sym h))) (λ e3.
+    pick_by m 3 n (from_4 m) (eqb m 3) refl e3 (ne_eqb 3 n (λ h. n3 (sym h))) (λ e4.
+    pick_by m 4 n (from_5 m) (eqb m 4) refl e4 (ne_eqb 4 n (λ h. n4 (sym h))) (λ e5.
+    pick_by m 5 n (from_6 m) (eqb m 5) refl e5 (ne_eqb 5 n (λ h. n5 (sym h))) (λ e6.
+    pick_by m 6 n (from_7 m) (eqb m 6) refl e6 (ne_eqb 6 n (λ h. n6 (sym h))) (λ e7.
+    ap (λ (x : ℕ). eqb x n) (eqb-true m 7 e7) ∙ ne_eqb 7 n (λ h. n7 (sym h)))))))
+
+all_known : list_all (λ k. from_2 (length (spelling k))) reserved_words ≡ true
 unfolding spelling
-none_of_size n e2 e3 e4 e5 e6 e7 =
-    past word.Add _ n e3 (
-    past word.Alter _ n e5 (
-    past word.And _ n e3 (
-    past word.Asc _ n e3 (
-    past word.By _ n e2 (
-    past word.Create _ n e6 (
-    past word.Delete _ n e6 (
-    past word.Desc _ n e4 (
-    past word.False _ n e5 (
-    past word.From _ n e4 (
-    past word.In _ n e2 (
-    past word.Insert _ n e6 (
-    past word.Into _ n e4 (
-    past word.Limit _ n e5 (
-    past word.Null _ n e4 (
-    past word.Order _ n e5 (
-    past word.Primary _ n e7 (
-    past word.Select _ n e6 (
-    past word.Set _ n e3 (
-    past word.Table _ n e5 (
-    past word.To _ n e2 (
-    past word.True _ n e4 (
-    past word.Update _ n e6 (
-    past word.Using _ n e5 (
-    past word.Where _ n e5 (
-    past word.With _ n e4 (
-    refl))))))))))))))))))))))))))
+all_known = refl
 
 pub of_no_size : (text : List ℕ) (n : ℕ) → n ≡ length text → n ≢ 2 → n ≢ 3 → n ≢ 4 → n ≢ 5 → n ≢ 6 → n ≢ 7 → false ≡ is_reserved text
 of_no_size text n e n2 n3 n4 n5 n6 n7 =
-    let none = none_of_size n (ne_eqb 2 n (λ h. n2 (sym h))) (ne_eqb 3 n (λ h. n3 (sym h))) (ne_eqb 4 n (λ h. n4 (sym h))) (ne_eqb 5 n (λ h. n5 (sym h))) (ne_eqb 6 n (λ h. n6 (sym h))) (ne_eqb 7 n (λ h. n7 (sym h))) in
-    sym (of_its_size text n (sym e) ∙ ap (any_is text) none)
+    sym (of_its_size text n (sym e) ∙ ap (any_is text) (none_of_size n reserved_words all_known (differs n n2 n3 n4 n5 n6 n7)))
