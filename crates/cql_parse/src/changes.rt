@@ -5,20 +5,20 @@ ghost use Rattle.cql_parse.specs.Inner.Reading.{Gives};
 ghost use Rattle.cql_parse.specs.Inner.StatementReading.{insert_at, name_comes, entry_assigned, literal_assigned, changed, name_assigned};
 ghost use Rattle.cql_parse.specs.Inner.StatementReading.{term_assigned, right_side, assigned_at, update_at, targets_at, timestamp_at, delete_at};
 
-use crate::fault::ParseFault;
-use crate::lexeme::Lexeme;
-use crate::lists::{Part, Separator, in_parens, list, list_behind};
 use crate::clauses::table;
-use crate::keyword::Keyword;
-use cql_lex::Mark;
-use crate::syntax::{Assigned, Assignment, Delete, Insert, Relation, Target, Update, Use};
+use crate::fault::ParseFault;
 use crate::front::{
     after_mark, after_open_bracket, after_word, close_bracket, is_reserved, mark, name, number,
     word,
 };
+use crate::keyword::Keyword;
+use crate::lexeme::Lexeme;
+use crate::lists::{Part, Separator, in_parens, list, list_behind};
+use crate::syntax::{Assigned, Assignment, Delete, Insert, Relation, Target, Update, Use};
 use crate::term::Term;
 use crate::terms::{constant, literal, opens};
 use cas_types::{List, Text};
+use cql_lex::Mark;
 use std::alloc::Global;
 
 /// What follows INSERT.

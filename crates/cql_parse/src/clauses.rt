@@ -5,13 +5,13 @@ ghost use Rattle.cql_parse.specs.Inner.Reading.{Gives};
 ghost use Rattle.cql_parse.specs.Inner.StatementReading.{table_at, operator_at, use_at};
 
 use crate::fault::ParseFault;
+use crate::front::{after_mark, after_word, name, number, word};
+use crate::keyword::Keyword;
 use crate::lexeme::Lexeme;
 use crate::lists::Part;
-use crate::keyword::Keyword;
-use cql_lex::Mark;
 use crate::syntax::{ColumnOrder, Operator, Relation, TableName, Use};
-use crate::front::{after_mark, after_word, name, number, word};
 use crate::term::Term;
+use cql_lex::Mark;
 use std::alloc::Global;
 
 /// A table, perhaps with its keyspace.

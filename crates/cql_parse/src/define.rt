@@ -6,19 +6,19 @@ ghost use Rattle.cql_parse.specs.Inner.StatementReading.{first_type_of, native_a
 ghost use Rattle.cql_parse.specs.Inner.StatementReading.{partition_at, key_at, suboptions_closed, option_value_at, named_option_at, after_words};
 ghost use Rattle.cql_parse.specs.Inner.StatementReading.{clustering_order_at, create_at, alter_at};
 
+use crate::clauses::table;
 use crate::fault::ParseFault;
+use crate::front::{after_mark, after_word, close_brace, flag, mark, name, word};
+use crate::keyword::Keyword;
 use crate::lexeme::Lexeme;
 use crate::lists::{Part, Separator, in_parens, list, list_behind, list_from, only};
-use crate::clauses::table;
-use crate::keyword::Keyword;
-use cql_lex::Mark;
 use crate::syntax::{
     AddedColumn, AlterTable, ColumnOrder, ColumnType, CreateTable, DefinedColumn, Item,
     NamedOption, OptionValue, PrimaryKey, Suboption, TableOption,
 };
-use crate::front::{after_mark, after_word, close_brace, flag, mark, name, word};
 use crate::terms::{constant, setting};
 use cas_types::{List, Text, TypeTag};
+use cql_lex::Mark;
 use std::alloc::Global;
 
 /// The words of the types.
@@ -235,7 +235,10 @@ impl Part for Suboption {
 
 /// What follows the opening brace of an option's map.
 #[tactic(auto, unfolding(crate::specs::Inner::StatementReading::suboptions_closed))]
-fn suboptions_closed(alloc: Global, input: &[Lexeme]) -> Result<(OptionValue, &[Lexeme]), ParseFault>
+fn suboptions_closed(
+    alloc: Global,
+    input: &[Lexeme],
+) -> Result<(OptionValue, &[Lexeme]), ParseFault>
     ensures { Gives (λ x. (x.0, x.1.now)) result (suboptions_closed input.now) }
 {
     let (all, rest) = list::<Suboption>(alloc, Separator::Comma, input)?;
@@ -281,7 +284,10 @@ fn after_words(input: &[Lexeme], first: Keyword, second: Keyword) -> Option<&[Le
 
 /// What follows CLUSTERING ORDER.
 #[tactic(auto, unfolding(crate::specs::Inner::StatementReading::clustering_order_at))]
-fn clustering_order_at(alloc: Global, input: &[Lexeme]) -> Result<(TableOption, &[Lexeme]), ParseFault>
+fn clustering_order_at(
+    alloc: Global,
+    input: &[Lexeme],
+) -> Result<(TableOption, &[Lexeme]), ParseFault>
     ensures { Gives (λ x. (x.0, x.1.now)) result (clustering_order_at input.now) }
 {
     let rest = word(input, Keyword::By)?;

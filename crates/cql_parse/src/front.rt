@@ -9,10 +9,10 @@ ghost use Rattle.cql_parse.specs.Inner.Reading.{name_at, whole_number_at, blob_a
 ghost use Rattle.cql_parse.specs.Inner.Reading.{number_behind, blob_behind, flag_at};
 
 use crate::fault::ParseFault;
-use crate::lexeme::Lexeme;
 use crate::keyword::{Keyword, spelling};
-use cql_lex::{Mark, Name};
+use crate::lexeme::Lexeme;
 use cas_types::{Bytes, Text};
+use cql_lex::{Mark, Name};
 use std::alloc::Global;
 
 /// Whether the name is the word.
@@ -35,7 +35,10 @@ pub fn is_reserved(name: &Name) -> bool
 {
     match name.len() {
         2 => is_one_of(name, &[Keyword::By, Keyword::In, Keyword::To]),
-        3 => is_one_of(name, &[Keyword::Add, Keyword::And, Keyword::Asc, Keyword::Set]),
+        3 => is_one_of(
+            name,
+            &[Keyword::Add, Keyword::And, Keyword::Asc, Keyword::Set],
+        ),
         4 => is_one_of(
             name,
             &[

@@ -10,7 +10,8 @@ ghost use Rattle.cql_parse.specs.declared.lexeme.Lexeme.TheVariants as lexemes;
 use crate::fault::ParseFault;
 use crate::lexeme::Lexeme;
 use cql_lex::{
-    Mark, Token, TokenKind, blob_of, name_of, number_of, quoted_name_of, ratio_of, string_of, uuid_of,
+    Mark, Token, TokenKind, blob_of, name_of, number_of, quoted_name_of, ratio_of, string_of,
+    uuid_of,
 };
 use std::alloc::Global;
 

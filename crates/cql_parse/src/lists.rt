@@ -4,11 +4,11 @@ ghost use Rattle.std.specs.Prelude.{◌≡◌, [], ◌∷◌, option_map, IfOk};
 ghost use Rattle.cql_parse.specs.Inner.Reading.{Gives, after_separator, from_at, in_parens, list_at, list_behind};
 
 use crate::fault::ParseFault;
-use crate::lexeme::Lexeme;
-use crate::keyword::Keyword;
-use cql_lex::Mark;
 use crate::front::{after_mark, after_word, mark, name};
+use crate::keyword::Keyword;
+use crate::lexeme::Lexeme;
 use cas_types::{List, Mem, Text};
+use cql_lex::Mark;
 use std::alloc::Global;
 
 /// What stands between the things of a list.

@@ -9,11 +9,11 @@ ghost use Rattle.cql_parse.specs.Inner.TermReading.{stands_alone, opening, start
 ghost use Rattle.cql_parse.specs.Inner.TermReading.{step, walk, nested_at};
 
 use crate::fault::ParseFault;
-use crate::lexeme::Lexeme;
-use crate::keyword::Keyword;
-use cql_lex::{Mark, Name};
 use crate::front::is_spelt;
+use crate::keyword::Keyword;
+use crate::lexeme::Lexeme;
 use crate::term::Nested;
+use cql_lex::{Mark, Name};
 use std::alloc::Global;
 
 /// An open bracket, by what stands in it up to now.

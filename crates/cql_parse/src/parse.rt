@@ -9,14 +9,13 @@ ghost use Rattle.cql_parse.specs.declared.syntax.Statement.{Statement};
 use crate::changes::{delete, insert, update};
 use crate::define::{alter, create};
 use crate::fault::ParseFault;
+use crate::front::{after_mark, after_word};
+use crate::keyword::Keyword;
 use crate::lexeme::Lexeme;
 use crate::lexemes::lexemes;
 use crate::select::select;
-use crate::keyword::Keyword;
-use cql_lex::Mark;
 use crate::syntax::Statement;
-use crate::front::{after_mark, after_word};
-use cql_lex::Token;
+use cql_lex::{Mark, Token};
 use std::alloc::Global;
 
 #[tactic(auto, unfolding(crate::specs::Inner::StatementReading::definition_at))]

@@ -6,17 +6,17 @@ ghost use Rattle.cql_parse.specs.Inner.TermReading.{truth_of, constant_at, opens
 ghost use Rattle.cql_parse.specs.Inner.TermReading.{some_elements, brackets_at, literal_at, term_at, setting_at};
 
 use crate::fault::ParseFault;
-use crate::lexeme::Lexeme;
-use crate::lists::{Part, Separator, list, list_from, only};
-use crate::nested::nested;
-use crate::keyword::Keyword;
-use cql_lex::{Mark, Name};
 use crate::front::{
     after_close_brace, after_close_bracket, after_mark, after_word, close_brace, close_bracket,
     is_spelt, mark,
 };
+use crate::keyword::Keyword;
+use crate::lexeme::Lexeme;
+use crate::lists::{Part, Separator, list, list_from, only};
+use crate::nested::nested;
 use crate::term::{Constant, Element, Entry, Literal, Setting, Term};
 use cas_types::List;
+use cql_lex::{Mark, Name};
 use std::alloc::Global;
 
 #[tactic(auto, unfolding(crate::specs::Inner::TermReading::truth_of))]

@@ -191,7 +191,7 @@ unfoldable pub column_order_at : Reader ColumnOrder
 column_order_at = do
   name ← name_at
   λ l. chosen (after_word word.Desc l) (done (record { name = name; descending = true }))
-    (chosen (after_word word.Asc l) (done (record { name = name; descending = false })) (Some (record { name = name; descending = false }, l)))
+      (chosen (after_word word.Asc l) (done (record { name = name; descending = false })) (Some (record { name = name; descending = false }, l)))
 
 -- a word with a parenthesis after it
 unfoldable pub after_call : Keyword → List Lexeme → Option (List Lexeme)
