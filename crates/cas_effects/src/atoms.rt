@@ -1,85 +1,19 @@
 //! The atoms of a mutation.
 
-ghost use Rattle.std.specs.Prelude.{◌≡◌, ◌≤◌, ◌^◌, ◌-◌, ◌+◌, ℕ, ℤ, pos, ◌-ℤ◌, ◌≤ℤ◌, List, [], ◌∷◌, ◌++◌, map, Some, unwrap_or, IfOk, OnOk};
-ghost use Rattle.cas_bind.specs.declared.bound.Effect.TheVariants as effects;
+ghost use Rattle.std.specs.Prelude.{◌≡◌, ◌≤◌, ◌≤ℤ◌, List, [], ◌∷◌, ◌++◌, map, Some, unwrap_or, IfOk, OnOk};
 ghost use Rattle.std.specs.List.{enumerate_from, flat_map};
-ghost use Rattle.cas_bind.specs.AtomsOf.{live_of, cell_of as cell_of_value, deletion_of as deletion_of_stamp, deletion_before as deletion_before_stamp, write_at as write_at_row, emptied_at as emptied_at_row, list_path as list_path_of, placed_at, element_atom as element_atom_of, element_atoms as element_atoms_of, effect_atoms as effect_atoms_of, stamp_of as stamp_of_write, mutation_of};
+ghost use Rattle.cas_types.specs.declared.limits.TheConstants.{LAST_SECOND, LEAST_TIMESTAMP};
+ghost use Rattle.cas_effects.specs.declared.effect.Effect.TheVariants as effects;
+ghost use Rattle.cas_effects.specs.declared.stamped.TheConstants.{NUMBER_LIMIT};
+ghost use Rattle.cas_effects.specs.AtomsOf.{write_at, emptied_at, list_path, placed_at, element_atom, element_atoms, effect_atoms, stamp_of, mutation_of};
 
-use crate::bound::{BoundWrite, Effect, Elements};
-use crate::stamp::Stamp;
+use crate::effect::{BoundWrite, Effect, Elements};
+use crate::stamped::{Stamp, cell_of, deletion_before, deletion_of, liveness, written_cell};
 use cas_atoms::{Atom, ColumnRef, Mutation};
 use cas_bounds::{Clustering, Cut, Ordered, cmp_cut};
-use cas_cell::{Cell, Deletion, Liveness};
+use cas_cell::{Cell, Deletion};
 use cas_types::{Bytes, List, Mem};
 use std::alloc::{AllocError, Global};
-use std::cmp::Ordering;
-
-fn liveness(stamp: Stamp) -> Liveness
-    requires { stamp.moment ≤ℤ pos 253402300799 }
-    ensures { result ≡ live_of stamp }
-{
-    if stamp.ttl == 0 {
-        Liveness::Plain { at: stamp.at }
-    } else {
-        Liveness::Expiring {
-            at: stamp.at,
-            expiry: stamp.moment + i64::from(stamp.ttl),
-            ttl: stamp.ttl,
-        }
-    }
-}
-
-fn written_cell(stamp: Stamp, value: &Bytes) -> Result<Cell, AllocError>
-    requires { stamp.moment ≤ℤ pos 253402300799 }
-    ensures { IfOk result (λ c. c ≡ cell_of_value stamp (Some value.now)) }
-{
-    let value = value.clone()?;
-    if stamp.ttl == 0 {
-        Ok(Cell::Plain {
-            at: stamp.at,
-            value,
-        })
-    } else {
-        Ok(Cell::Expiring {
-            at: stamp.at,
-            expiry: stamp.moment + i64::from(stamp.ttl),
-            ttl: stamp.ttl,
-            value,
-        })
-    }
-}
-
-fn cell_of(stamp: Stamp, value: &Option<Bytes>) -> Result<Cell, AllocError>
-    requires { stamp.moment ≤ℤ pos 253402300799 }
-    ensures { IfOk result (λ c. c ≡ cell_of_value stamp value.now) }
-{
-    match value {
-        Some(value) => written_cell(stamp, value),
-        None => Ok(Cell::Tombstone {
-            at: stamp.at,
-            second: stamp.moment,
-        }),
-    }
-}
-
-fn deletion_of(stamp: Stamp) -> Deletion
-    ensures { result ≡ deletion_of_stamp stamp }
-{
-    Deletion {
-        at: stamp.at,
-        second: stamp.moment,
-    }
-}
-
-fn deletion_before(stamp: Stamp) -> Deletion
-    requires { (pos 0 -ℤ pos (2 ^ 63 - 3)) ≤ℤ stamp.at }
-    ensures { result ≡ deletion_before_stamp stamp }
-{
-    Deletion {
-        at: stamp.at - 1,
-        second: stamp.moment,
-    }
-}
 
 fn write_at(
     row: &Option<Clustering>,
@@ -87,7 +21,7 @@ fn write_at(
     path: Bytes,
     cell: Cell,
 ) -> Result<Atom, AllocError>
-    ensures { IfOk result (λ a. a ≡ write_at_row row.now column path cell) }
+    ensures { IfOk result (λ a. a ≡ write_at row.now column path cell) }
 {
     match row {
         Some(row) => Ok(Atom::Write(row.copied()?, column, path, cell)),
@@ -100,7 +34,7 @@ fn emptied_at(
     column: ColumnRef,
     deletion: Deletion,
 ) -> Result<Atom, AllocError>
-    ensures { IfOk result (λ a. a ≡ emptied_at_row row.now column deletion) }
+    ensures { IfOk result (λ a. a ≡ emptied_at row.now column deletion) }
 {
     match row {
         Some(row) => Ok(Atom::CollectionDeletion(row.copied()?, column, deletion)),
@@ -109,7 +43,7 @@ fn emptied_at(
 }
 
 fn list_path(alloc: Global, order: u64, index: u64) -> Result<Bytes, AllocError>
-    ensures { IfOk result (λ p. p ≡ list_path_of order index) }
+    ensures { IfOk result (λ p. p ≡ list_path order index) }
 {
     let mut path = Vec::new(alloc);
     path.extend_from_slice(&order.to_be_bytes())?;
@@ -123,8 +57,8 @@ fn element_atom(
     column: ColumnRef,
     element: &(Bytes, Option<Bytes>),
 ) -> Result<Atom, AllocError>
-    requires { stamp.moment ≤ℤ pos 253402300799 }
-    ensures { IfOk result (λ a. a ≡ element_atom_of stamp row.now column element.now) }
+    requires { stamp.moment ≤ℤ LAST_SECOND }
+    ensures { IfOk result (λ a. a ≡ element_atom stamp row.now column element.now) }
 {
     write_at(row, column, element.0.clone()?, cell_of(stamp, &element.1)?)
 }
@@ -136,8 +70,8 @@ fn path_atoms(
     column: ColumnRef,
     elements: &[(Bytes, Option<Bytes>)],
 ) -> Result<Vec<Atom>, AllocError>
-    requires { stamp.moment ≤ℤ pos 253402300799 }
-    ensures { IfOk result (λ v. v.items ≡ map (element_atom_of stamp row.now column) elements.now) }
+    requires { stamp.moment ≤ℤ LAST_SECOND }
+    ensures { IfOk result (λ v. v.items ≡ map (element_atom stamp row.now column) elements.now) }
 {
     let mut atoms = Vec::new(alloc);
     for element in elements {
@@ -155,8 +89,8 @@ fn placed_atom(
     index: u64,
     value: &Bytes,
 ) -> Result<Atom, AllocError>
-    requires { stamp.moment ≤ℤ pos 253402300799 }
-    ensures { IfOk result (λ a. a ≡ element_atom_of stamp row.now column (placed_at order (index, value.now))) }
+    requires { stamp.moment ≤ℤ LAST_SECOND }
+    ensures { IfOk result (λ a. a ≡ element_atom stamp row.now column (placed_at order (index, value.now))) }
 {
     let path = list_path(alloc, order, index)?;
     write_at(row, column, path, written_cell(stamp, value)?)
@@ -170,8 +104,8 @@ fn list_atoms(
     order: u64,
     values: &[Bytes],
 ) -> Result<Vec<Atom>, AllocError>
-    requires { stamp.moment ≤ℤ pos 253402300799 }
-    ensures { IfOk result (λ v. v.items ≡ map (element_atom_of stamp row.now column) (map (placed_at order) (enumerate_from 0 values.now))) }
+    requires { stamp.moment ≤ℤ LAST_SECOND }
+    ensures { IfOk result (λ v. v.items ≡ map (element_atom stamp row.now column) (map (placed_at order) (enumerate_from 0 values.now))) }
 {
     let mut atoms = Vec::new(alloc);
     for (index, value) in values.iter().enumerate() {
@@ -189,9 +123,9 @@ fn element_atoms(
     column: ColumnRef,
     elements: &Elements,
 ) -> Result<Vec<Atom>, AllocError>
-    requires moment { stamp.moment ≤ℤ pos 253402300799 }
-    requires number { stamp.number ≤ 2 ^ 62 }
-    ensures { IfOk result (λ v. v.items ≡ element_atoms_of stamp row.now column elements.now) }
+    requires moment { stamp.moment ≤ℤ LAST_SECOND }
+    requires number { stamp.number ≤ NUMBER_LIMIT }
+    ensures { IfOk result (λ v. v.items ≡ element_atoms stamp row.now column elements.now) }
 {
     match elements {
         Elements::At(elements) => path_atoms(alloc, stamp, row, column, elements.as_slice()),
@@ -227,7 +161,7 @@ fn in_order(cut: &Cut, order: &List<Ordered>) -> Result<Cut, AllocError>
 
 #[tactic(auto, unfolding(crate::specs::AtomsOf::effect_atoms))]
 fn range_atoms(alloc: Global, stamp: Stamp, lo: &Cut, hi: &Cut) -> Result<Vec<Atom>, AllocError>
-    ensures { IfOk result (λ v. v.items ≡ effect_atoms_of stamp (effects.Range lo.now hi.now)) }
+    ensures { IfOk result (λ v. v.items ≡ effect_atoms stamp (effects.Range lo.now hi.now)) }
 {
     if cmp_cut(lo, &in_order(hi, &lo.order)?).is_lt() {
         let range = Atom::RangeDeletion(lo.copied()?, hi.copied()?, deletion_of(stamp));
@@ -245,10 +179,10 @@ fn whole_atoms(
     column: ColumnRef,
     elements: &Elements,
 ) -> Result<Vec<Atom>, AllocError>
-    requires moment { stamp.moment ≤ℤ pos 253402300799 }
-    requires number { stamp.number ≤ 2 ^ 62 }
-    requires at { (pos 0 -ℤ pos (2 ^ 63 - 3)) ≤ℤ stamp.at }
-    ensures { IfOk result (λ v. v.items ≡ effect_atoms_of stamp (effects.Whole row.now column elements.now)) }
+    requires moment { stamp.moment ≤ℤ LAST_SECOND }
+    requires number { stamp.number ≤ NUMBER_LIMIT }
+    requires at { LEAST_TIMESTAMP ≤ℤ stamp.at }
+    ensures { IfOk result (λ v. v.items ≡ effect_atoms stamp (effects.Whole row.now column elements.now)) }
 {
     let mut atoms = one(alloc, emptied_at(row, column, deletion_before(stamp))?)?;
     let mut written = element_atoms(alloc, stamp, row, column, elements)?;
@@ -258,10 +192,10 @@ fn whole_atoms(
 
 #[tactic(auto, unfolding(crate::specs::AtomsOf::effect_atoms))]
 fn effect_atoms(alloc: Global, stamp: Stamp, effect: &Effect) -> Result<Vec<Atom>, AllocError>
-    requires moment { stamp.moment ≤ℤ pos 253402300799 }
-    requires number { stamp.number ≤ 2 ^ 62 }
-    requires at { (pos 0 -ℤ pos (2 ^ 63 - 3)) ≤ℤ stamp.at }
-    ensures { IfOk result (λ v. v.items ≡ effect_atoms_of stamp effect.now) }
+    requires moment { stamp.moment ≤ℤ LAST_SECOND }
+    requires number { stamp.number ≤ NUMBER_LIMIT }
+    requires at { LEAST_TIMESTAMP ≤ℤ stamp.at }
+    ensures { IfOk result (λ v. v.items ≡ effect_atoms stamp effect.now) }
 {
     match effect {
         Effect::Live(row) => one(alloc, Atom::Live(row.copied()?, liveness(stamp))),
@@ -287,10 +221,10 @@ fn push_effect(
     effect: &Effect,
     atoms: &mut Vec<Atom>,
 ) -> Result<(), AllocError>
-    requires moment { stamp.moment ≤ℤ pos 253402300799 }
-    requires number { stamp.number ≤ 2 ^ 62 }
-    requires at { (pos 0 -ℤ pos (2 ^ 63 - 3)) ≤ℤ stamp.at }
-    ensures { OnOk result (atoms.new.items ≡ atoms.old.items ++ effect_atoms_of stamp effect.now) }
+    requires moment { stamp.moment ≤ℤ LAST_SECOND }
+    requires number { stamp.number ≤ NUMBER_LIMIT }
+    requires at { LEAST_TIMESTAMP ≤ℤ stamp.at }
+    ensures { OnOk result (atoms.new.items ≡ atoms.old.items ++ effect_atoms stamp effect.now) }
 {
     let mut more = effect_atoms(alloc, stamp, effect)?;
     atoms.append(&mut more)?;
@@ -298,10 +232,10 @@ fn push_effect(
 }
 
 fn all_atoms(alloc: Global, stamp: Stamp, effects: &[Effect]) -> Result<Vec<Atom>, AllocError>
-    requires moment { stamp.moment ≤ℤ pos 253402300799 }
-    requires number { stamp.number ≤ 2 ^ 62 }
-    requires at { (pos 0 -ℤ pos (2 ^ 63 - 3)) ≤ℤ stamp.at }
-    ensures { IfOk result (λ v. v.items ≡ flat_map (effect_atoms_of stamp) effects.now) }
+    requires moment { stamp.moment ≤ℤ LAST_SECOND }
+    requires number { stamp.number ≤ NUMBER_LIMIT }
+    requires at { LEAST_TIMESTAMP ≤ℤ stamp.at }
+    ensures { IfOk result (λ v. v.items ≡ flat_map (effect_atoms stamp) effects.now) }
 {
     let mut atoms = Vec::new(alloc);
     for effect in effects {
@@ -320,7 +254,7 @@ fn time_of(write: &BoundWrite, drawn: i64) -> i64
 }
 
 fn stamp_of(write: &BoundWrite, drawn: i64, moment: i64, number: u64) -> Stamp
-    ensures { result ≡ stamp_of_write write.now drawn moment number }
+    ensures { result ≡ stamp_of write.now drawn moment number }
 {
     Stamp {
         at: time_of(write, drawn),
@@ -340,9 +274,9 @@ pub fn atoms_of(
     moment: i64,
     number: u64,
 ) -> Result<Mutation, Mem>
-    requires moment { moment ≤ℤ pos 253402300799 }
-    requires number { number ≤ 2 ^ 62 }
-    requires at { (pos 0 -ℤ pos (2 ^ 63 - 3)) ≤ℤ unwrap_or write.now.timestamp drawn }
+    requires moment { moment ≤ℤ LAST_SECOND }
+    requires number { number ≤ NUMBER_LIMIT }
+    requires at { LEAST_TIMESTAMP ≤ℤ unwrap_or write.now.timestamp drawn }
     ensures { IfOk result (λ m. m ≡ mutation_of write.now drawn moment number) }
 {
     let stamp = stamp_of(write, drawn, moment, number);

@@ -1,11 +1,23 @@
 //! Why a statement isn't done.
 
 ghost use Rattle.std.specs.Prelude.{◌≡◌};
-ghost use Rattle.cas_bind.specs.Refusals.{number as number_of};
-ghost use Rattle.cas_bind.specs.declared.refusal.BindFault.TheVariants as faults;
+ghost use Rattle.cas_effects.specs.Refusals.{refusal_number};
+ghost use Rattle.cas_effects.specs.declared.refusal.BindFault.TheVariants as faults;
 
 use cas_types::Mem;
 use std::alloc::{AllocError, AllocFailed};
+
+/// The number of a statement that isn't one of the language.
+pub const SYNTAX: u8 = 1;
+
+/// The number of a key, a value or a statement that is too large.
+pub const TOO_LARGE: u8 = 10;
+
+/// The number of a statement that can't be done here.
+pub const NOT_HERE: u8 = 13;
+
+/// The number of what there is too many of: tables, columns, mutations.
+pub const TOO_MANY: u8 = 14;
 
 /// Why a statement isn't done.
 #[derive(Clone, Copy, Debug, PartialEq, Eq)]
@@ -44,9 +56,9 @@ pub enum Counted {
 }
 
 impl Refusal {
-    /// The number by which a refusal is told.
+    /// The number that a refusal is reported with.
     pub fn number(&self) -> u8
-        ensures { result ≡ number_of self.now }
+        ensures { result ≡ refusal_number self.now }
     {
         match self {
             Refusal::NoTable => 2,
@@ -57,10 +69,10 @@ impl Refusal {
             Refusal::BadOption => 7,
             Refusal::TableExists => 8,
             Refusal::EmptyKey => 9,
-            Refusal::TooLarge { .. } => 10,
+            Refusal::TooLarge { .. } => TOO_LARGE,
             Refusal::TtlTooLarge => 11,
             Refusal::BadDefinition => 12,
-            Refusal::TooMany { .. } => 14,
+            Refusal::TooMany { .. } => TOO_MANY,
         }
     }
 }

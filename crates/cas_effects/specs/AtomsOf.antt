@@ -15,12 +15,12 @@ use Rattle.cas_atoms.specs.declared.atom.ColumnRef.{ColumnRef}
 use Rattle.cas_atoms.specs.declared.atom.Atom.{Atom}
 use Rattle.cas_atoms.specs.declared.atom.Atom.TheVariants as atom
 use Rattle.cas_atoms.specs.declared.atom.Mutation.{Mutation}
-use Rattle.cas_bind.specs.declared.stamp.Stamp.{Stamp}
-use Rattle.cas_bind.specs.declared.bound.BoundWrite.{BoundWrite}
-use Rattle.cas_bind.specs.declared.bound.Effect.{Effect}
-use Rattle.cas_bind.specs.declared.bound.Effect.TheVariants as effect
-use Rattle.cas_bind.specs.declared.bound.Elements.{Elements}
-use Rattle.cas_bind.specs.declared.bound.Elements.TheVariants as elements
+use Rattle.cas_effects.specs.declared.stamped.Stamp.{Stamp}
+use Rattle.cas_effects.specs.declared.effect.BoundWrite.{BoundWrite}
+use Rattle.cas_effects.specs.declared.effect.Effect.{Effect}
+use Rattle.cas_effects.specs.declared.effect.Effect.TheVariants as effect
+use Rattle.cas_effects.specs.declared.effect.Elements.{Elements}
+use Rattle.cas_effects.specs.declared.effect.Elements.TheVariants as elements
 
 -- an INSERT of a row, which with a TTL expires so many seconds after the moment
 abbrev pub live_of : Stamp → Liveness

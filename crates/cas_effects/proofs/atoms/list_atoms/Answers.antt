@@ -1,6 +1,6 @@
 use Rattle.std.proofs.Common.{◌∙◌, ap, ◌++◌, ◌∷◌, []}
-use Rattle.cas_bind.proofs.Steps.{enumerate_step}
-use Rattle.cas_bind.proofs.atoms.list_atoms.Goals as goal
+use Rattle.cas_effects.proofs.Steps.{enumerate_step}
+use Rattle.cas_effects.proofs.atoms.list_atoms.Goals as goal
 
 pub loop-index-preserved : goal.loop-index-preserved
 loop-index-preserved c =

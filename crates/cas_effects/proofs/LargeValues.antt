@@ -3,11 +3,11 @@ use Rattle.std.proofs.Common.{◌≡◌, ℕ, ◌^◌, ◌-◌, ◌+◌, ◌<◌
 use Rattle.std.specs.List.{find, flat_map}
 use Rattle.std.specs.Option.{option_or}
 use Rattle.std.proofs.lemmas.List.{at_drop_more}
-use Rattle.cas_bind.specs.Reasons.{limited_values}
-use Rattle.cas_bind.specs.Refusals.{too_large}
-use Rattle.cas_bind.specs.declared.bound.Effect.{Effect}
-use Rattle.cas_bind.specs.declared.refusal.Refusal.{Refusal}
-use Rattle.cas_bind.specs.declared.refusal.Refusal.TheVariants.{TooLarge}
+use Rattle.cas_types.specs.declared.limits.TheConstants.{KEY_LIMIT}
+use Rattle.cas_effects.specs.TooLarge.{limited_values, too_large}
+use Rattle.cas_effects.specs.declared.effect.Effect.{Effect}
+use Rattle.cas_effects.specs.declared.refusal.Refusal.{Refusal}
+use Rattle.cas_effects.specs.declared.refusal.Refusal.TheVariants.{TooLarge}
 
 chosen : {X Y : Type 0} (f : X → Y) (b : Bool) (v : X) (o : Option X) → option_map f (cond b (Some v) o) ≡ option_or (option_map f (cond b (Some v) None)) (option_map f o)
 chosen f true v o = refl
@@ -19,7 +19,7 @@ or_assoc (Some x) p q = refl
 
 pub too_large_cons : (v : List ℕ) (vs : List (List ℕ)) → too_large (v ∷ vs) ≡ option_or (too_large (v ∷ [])) (too_large vs)
 unfolding too_large
-too_large_cons v vs = chosen (λ v. TooLarge (min (length v) (2 ^ 64 - 1)) 65535) (nat_lt 65535 (length v)) v (find (λ v. nat_lt 65535 (length v)) vs)
+too_large_cons v vs = chosen (λ v. TooLarge (min (length v) (2 ^ 64 - 1)) KEY_LIMIT) (nat_lt KEY_LIMIT (length v)) v (find (λ v. nat_lt KEY_LIMIT (length v)) vs)
 
 no_value : too_large [] ≡ None
 unfolding too_large
@@ -45,9 +45,9 @@ found : {X Y : Type 0} (f : X → Y) (b : Bool) (x : X) (o : Option X) (p : Opti
 found f true x o p e = refl
 found f false x o p e = e
 
-pub find_path : (es : List (List ℕ × Option (List ℕ))) → find (λ v. nat_lt 65535 (length v)) (map (λ e. e.0) es) ≡ option_map (λ e. e.0) (find (λ e. nat_lt 65535 (length e.0)) es)
+pub find_path : (es : List (List ℕ × Option (List ℕ))) → find (λ v. nat_lt KEY_LIMIT (length v)) (map (λ e. e.0) es) ≡ option_map (λ e. e.0) (find (λ e. nat_lt KEY_LIMIT (length e.0)) es)
 find_path [] = refl
-find_path (e ∷ es) = found (λ e. e.0) (nat_lt 65535 (length e.0)) e (find (λ e. nat_lt 65535 (length e.0)) es) _ (find_path es)
+find_path (e ∷ es) = found (λ e. e.0) (nat_lt KEY_LIMIT (length e.0)) e (find (λ e. nat_lt KEY_LIMIT (length e.0)) es) _ (find_path es)
 
 -- an effect of small values leaves the decision to those behind it
 pub passes_effect : (A : List Effect) (i : ℕ) (e : Effect) (all : Option Refusal) → i < length A → e ≡ get_or A i e → too_large (limited_values e) ≡ None

@@ -1,5 +1,5 @@
-use Rattle.cas_bind.proofs.Steps.{flat_map_step}
-use Rattle.cas_bind.proofs.atoms.all_atoms.Goals as goal
+use Rattle.cas_effects.proofs.Steps.{flat_map_step}
+use Rattle.cas_effects.proofs.atoms.all_atoms.Goals as goal
 
 pub loop-effect-preserved : goal.loop-effect-preserved
 loop-effect-preserved c =

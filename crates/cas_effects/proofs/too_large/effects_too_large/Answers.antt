@@ -1,6 +1,6 @@
 use Rattle.std.proofs.Common.{sym, ◌∙◌}
-use Rattle.cas_bind.proofs.LargeValues.{passes_effect, stops_at_effect}
-use Rattle.cas_bind.proofs.sizes.effects_too_large.Goals as goal
+use Rattle.cas_effects.proofs.LargeValues.{passes_effect, stops_at_effect}
+use Rattle.cas_effects.proofs.too_large.effects_too_large.Goals as goal
 
 pub returns-in-Some : goal.returns-in-Some
 returns-in-Some c =

@@ -3,19 +3,20 @@
 ghost use Rattle.std.specs.Prelude.{◌≡◌, ◌∷◌, [], ◌^◌, ◌-◌, min, nat_lt, length, map, option_map};
 ghost use Rattle.std.specs.List.{find, flat_map};
 ghost use Rattle.std.specs.Option.{option_copied, option_or};
-ghost use Rattle.cas_bind.specs.Refusals.{too_large as too_large_of};
-ghost use Rattle.cas_bind.specs.Reasons.{limited_elements as limited_elements_of, row_values as row_values_of, limited_values as limited_values_of, write_too_large as write_too_large_of};
-ghost use Rattle.cas_bind.specs.declared.refusal.Refusal.TheVariants.{TooLarge};
+ghost use Rattle.cas_types.specs.declared.limits.TheConstants.{KEY_LIMIT};
+ghost use Rattle.cas_effects.specs.TooLarge.{too_large, limited_elements, row_values, limited_values, write_too_large};
+ghost use Rattle.cas_effects.specs.declared.refusal.Refusal.TheVariants.{TooLarge};
 
-use crate::bound::{BoundWrite, Effect, Elements};
+use crate::effect::{BoundWrite, Effect, Elements};
+use crate::reasons::either;
 use crate::refusal::Refusal;
 use cas_bounds::Clustering;
 use cas_types::{Bytes, KEY_LIMIT};
 
 /// The refusal of the value if it is too large.
-#[tactic(auto, unfolding(crate::specs::Refusals::too_large))]
-pub(crate) fn one_too_large(bytes: &[u8]) -> Option<Refusal>
-    ensures { result ≡ too_large_of (bytes.now ∷ []) }
+#[tactic(auto, unfolding(crate::specs::TooLarge::too_large))]
+pub fn one_too_large(bytes: &[u8]) -> Option<Refusal>
+    ensures { result ≡ too_large (bytes.now ∷ []) }
 {
     if bytes.len() as u64 > KEY_LIMIT {
         Some(Refusal::TooLarge {
@@ -28,13 +29,13 @@ pub(crate) fn one_too_large(bytes: &[u8]) -> Option<Refusal>
 }
 
 fn first_long(values: &[Bytes]) -> Option<&Bytes>
-    ensures { option_copied result ≡ find (λ v. nat_lt 65535 (length v)) values.now }
+    ensures { option_copied result ≡ find (λ v. nat_lt KEY_LIMIT (length v)) values.now }
 {
-    values.iter().find(|v| v.as_slice().len() > 65_535)
+    values.iter().find(|v| v.as_slice().len() as u64 > KEY_LIMIT)
 }
 
 fn refusal_of(long: Option<&Bytes>) -> Option<Refusal>
-    ensures { result ≡ option_map (λ v. TooLarge (min (length v) (2 ^ 64 - 1)) 65535) (option_copied long.entry) }
+    ensures { result ≡ option_map (λ v. TooLarge (min (length v) (2 ^ 64 - 1)) KEY_LIMIT) (option_copied long.entry) }
 {
     match long {
         Some(value) => Some(Refusal::TooLarge {
@@ -46,38 +47,28 @@ fn refusal_of(long: Option<&Bytes>) -> Option<Refusal>
 }
 
 /// The refusal of the first of the values that is too large.
-#[tactic(auto, unfolding(crate::specs::Refusals::too_large))]
-pub(crate) fn any_too_large(values: &[Bytes]) -> Option<Refusal>
-    ensures { result ≡ too_large_of values.now }
+#[tactic(auto, unfolding(crate::specs::TooLarge::too_large))]
+pub fn any_too_large(values: &[Bytes]) -> Option<Refusal>
+    ensures { result ≡ too_large values.now }
 {
     refusal_of(first_long(values))
 }
 
-/// Of two, the first counts.
-pub(crate) fn either(first: Option<Refusal>, second: Option<Refusal>) -> Option<Refusal>
-    ensures { result ≡ option_or first second }
-{
-    match first {
-        Some(refusal) => Some(refusal),
-        None => second,
-    }
-}
-
-#[tactic(auto, unfolding(crate::specs::Refusals::too_large))]
+#[tactic(auto, unfolding(crate::specs::TooLarge::too_large))]
 fn no_value() -> Option<Refusal>
-    ensures { result ≡ too_large_of [] }
+    ensures { result ≡ too_large [] }
 {
     None
 }
 
 fn first_long_element(elements: &[(Bytes, Option<Bytes>)]) -> Option<&(Bytes, Option<Bytes>)>
-    ensures { option_copied result ≡ find (λ e. nat_lt 65535 (length e.0)) elements.now }
+    ensures { option_copied result ≡ find (λ e. nat_lt KEY_LIMIT (length e.0)) elements.now }
 {
-    elements.iter().find(|e| e.0.as_slice().len() > 65_535)
+    elements.iter().find(|e| e.0.as_slice().len() as u64 > KEY_LIMIT)
 }
 
 fn first_long_path(elements: &[(Bytes, Option<Bytes>)]) -> Option<&Bytes>
-    ensures { option_copied result ≡ find (λ v. nat_lt 65535 (length v)) (map (λ e. e.0) elements.now) }
+    ensures { option_copied result ≡ find (λ v. nat_lt KEY_LIMIT (length v)) (map (λ e. e.0) elements.now) }
 {
     match first_long_element(elements) {
         Some(element) => Some(&element.0),
@@ -85,16 +76,16 @@ fn first_long_path(elements: &[(Bytes, Option<Bytes>)]) -> Option<&Bytes>
     }
 }
 
-#[tactic(auto, unfolding(crate::specs::Refusals::too_large))]
+#[tactic(auto, unfolding(crate::specs::TooLarge::too_large))]
 fn any_path_too_large(elements: &[(Bytes, Option<Bytes>)]) -> Option<Refusal>
-    ensures { result ≡ too_large_of (map (λ e. e.0) elements.now) }
+    ensures { result ≡ too_large (map (λ e. e.0) elements.now) }
 {
     refusal_of(first_long_path(elements))
 }
 
-#[tactic(auto, unfolding(crate::specs::Reasons::limited_elements))]
+#[tactic(auto, unfolding(crate::specs::TooLarge::limited_elements))]
 fn elements_too_large(elements: &Elements) -> Option<Refusal>
-    ensures { result ≡ too_large_of (limited_elements_of elements.now) }
+    ensures { result ≡ too_large (limited_elements elements.now) }
 {
     match elements {
         Elements::At(elements) => any_path_too_large(elements.as_slice()),
@@ -104,7 +95,7 @@ fn elements_too_large(elements: &Elements) -> Option<Refusal>
 }
 
 fn row_too_large(row: &Option<Clustering>) -> Option<Refusal>
-    ensures { result ≡ too_large_of (row_values_of row.now) }
+    ensures { result ≡ too_large (row_values row.now) }
 {
     match row {
         Some(row) => any_too_large(row.values.as_slice()),
@@ -112,9 +103,9 @@ fn row_too_large(row: &Option<Clustering>) -> Option<Refusal>
     }
 }
 
-#[tactic(auto, using(crate::proofs::LargeValues::too_large_append), unfolding(crate::specs::Reasons::limited_values))]
+#[tactic(auto, using(crate::proofs::LargeValues::too_large_append), unfolding(crate::specs::TooLarge::limited_values))]
 fn effect_too_large(effect: &Effect) -> Option<Refusal>
-    ensures { result ≡ too_large_of (limited_values_of effect.now) }
+    ensures { result ≡ too_large (limited_values effect.now) }
 {
     match effect {
         Effect::Live(row) => any_too_large(row.values.as_slice()),
@@ -132,7 +123,7 @@ fn effect_too_large(effect: &Effect) -> Option<Refusal>
 }
 
 fn effects_too_large(effects: &[Effect]) -> Option<Refusal>
-    ensures { result ≡ too_large_of (flat_map limited_values_of effects.now) }
+    ensures { result ≡ too_large (flat_map limited_values effects.now) }
 {
     for effect in effects {
         if let Some(refusal) = effect_too_large(effect) {
@@ -144,9 +135,9 @@ fn effects_too_large(effects: &[Effect]) -> Option<Refusal>
 
 /// The refusal of the first of the write's values that is too large: the key, then those of its
 /// effects.
-#[tactic(auto, using(crate::proofs::LargeValues::too_large_cons), unfolding(crate::specs::Reasons::write_too_large))]
-pub(crate) fn write_too_large(write: &BoundWrite) -> Option<Refusal>
-    ensures { result ≡ write_too_large_of write.now }
+#[tactic(auto, using(crate::proofs::LargeValues::too_large_cons), unfolding(crate::specs::TooLarge::write_too_large))]
+pub fn write_too_large(write: &BoundWrite) -> Option<Refusal>
+    ensures { result ≡ write_too_large write.now }
 {
     either(
         one_too_large(write.key.as_slice()),
