@@ -15,8 +15,8 @@ use cas_cell::{Cell, Deletion};
 use cas_types::{Bytes, List, Mem};
 use std::alloc::{AllocError, Global};
 
-/// The order number before which and after which the values of a list are placed.
-const MIDDLE: u64 = 1 << 63;
+/// The order number in the middle of a list: values are appended after it, and prepended before it.
+const LIST_MIDDLE: u64 = 1 << 63;
 
 fn write_at(row: Option<Clustering>, column: ColumnRef, path: Bytes, cell: Cell) -> Atom
     ensures { result ≡ write_at row column path cell }
@@ -119,8 +119,8 @@ fn placed(
 {
     match elements {
         Elements::At(elements) => Ok(elements.into_vec()),
-        Elements::Appended(values) => placed_from(alloc, MIDDLE + number, values.as_slice()),
-        Elements::Prepended(values) => placed_from(alloc, MIDDLE - number, values.as_slice()),
+        Elements::Appended(values) => placed_from(alloc, LIST_MIDDLE + number, values.as_slice()),
+        Elements::Prepended(values) => placed_from(alloc, LIST_MIDDLE - number, values.as_slice()),
     }
 }
 
