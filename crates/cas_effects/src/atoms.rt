@@ -186,7 +186,10 @@ fn push_whole(
     requires at { LEAST_TIMESTAMP ≤ℤ stamp.at }
     ensures { OnOk result (atoms.new.items ≡ atoms.old.items ++ effect_atoms stamp (effects.Whole row column elements)) }
 {
-    push(atoms, emptied_at(copied_row(&row)?, column, deletion_before(stamp)))?;
+    push(
+        atoms,
+        emptied_at(copied_row(&row)?, column, deletion_before(stamp)),
+    )?;
     push_parts(alloc, stamp, &row, column, elements, atoms)
 }
 

@@ -14,8 +14,6 @@ mod too_large;
 pub use atoms::atoms_of;
 pub use effect::{BoundWrite, Effect, Elements};
 pub use reasons::{Reasons, either};
-pub use refusal::{
-    BindFault, Counted, NOT_HERE, Refusal, SYNTAX, TOO_LARGE, TOO_MANY,
-};
+pub use refusal::{BindFault, Counted, NOT_HERE, Refusal, SYNTAX, TOO_LARGE, TOO_MANY};
 pub use stamped::NUMBER_LIMIT;
 pub use too_large::{any_too_large, one_too_large, write_too_large};

@@ -1,5 +1,7 @@
 //! The atoms of each effect, at worked timestamps, and which refusal comes.
 
+ghost use Rattle.std.specs.Prelude.{◌≡◌, pos, Some};
+
 use crate::{BoundWrite, Counted, Effect, Elements, Reasons, Refusal, atoms_of, write_too_large};
 use cas_atoms::{Atom, ColumnRef};
 use cas_bounds::{Clustering, Cut};
@@ -49,7 +51,9 @@ fn one_element(alloc: Global) -> Result<List<(Bytes, Option<Bytes>)>, AllocError
     Ok(List::from_vec(elements))
 }
 
-fn write(key: Bytes, effects: Vec<Effect>) -> BoundWrite {
+fn write(key: Bytes, effects: Vec<Effect>) -> BoundWrite
+    ensures { result.timestamp ≡ Some (pos 10) }
+{
     BoundWrite {
         table: 0,
         shard: 0,
@@ -74,10 +78,27 @@ fn values_expire_and_deletions_do_not(rt: HostRuntime) -> Result<(), Fail> {
     let is_so = matches!(
         mutation.atoms.as_slice(),
         [
-            Atom::Live(_, Liveness::Expiring { at: 10, expiry: 8, ttl: 5 }),
+            Atom::Live(
+                _,
+                Liveness::Expiring {
+                    at: 10,
+                    expiry: 8,
+                    ttl: 5
+                }
+            ),
             Atom::StaticWrite(_, _, Cell::Tombstone { at: 10, second: 3 }),
             Atom::CollectionDeletion(_, _, Deletion { at: 9, second: 3 }),
-            Atom::Write(_, _, _, Cell::Expiring { at: 10, expiry: 8, ttl: 5, .. }),
+            Atom::Write(
+                _,
+                _,
+                _,
+                Cell::Expiring {
+                    at: 10,
+                    expiry: 8,
+                    ttl: 5,
+                    ..
+                }
+            ),
             Atom::RangeDeletion(_, _, Deletion { at: 10, second: 3 }),
             Atom::PartitionDeletion(Deletion { at: 10, second: 3 }),
         ]
@@ -104,7 +125,9 @@ fn the_values_of_a_list_have_places_in_their_order(rt: HostRuntime) -> Result<()
     let after = Bytes::copy_of(alloc, &[128, 0, 0, 0, 0, 0, 0, 1, 0, 0, 0, 0, 0, 0, 0, 1])?;
     assert!(rt; appended == Some(after));
     let prepended = second_path(alloc, Elements::Prepended(two_values(alloc)?))?;
-    let before = [127, 255, 255, 255, 255, 255, 255, 255, 0, 0, 0, 0, 0, 0, 0, 1];
+    let before = [
+        127, 255, 255, 255, 255, 255, 255, 255, 0, 0, 0, 0, 0, 0, 0, 1,
+    ];
     assert!(rt; prepended == Some(Bytes::copy_of(alloc, &before)?));
     Ok(())
 }

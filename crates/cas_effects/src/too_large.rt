@@ -31,7 +31,9 @@ pub fn one_too_large(bytes: &[u8]) -> Option<Refusal>
 fn first_long(values: &[Bytes]) -> Option<&Bytes>
     ensures { option_copied result ≡ find (λ v. nat_lt KEY_LIMIT (length v)) values.now }
 {
-    values.iter().find(|v| v.as_slice().len() as u64 > KEY_LIMIT)
+    values
+        .iter()
+        .find(|v| v.as_slice().len() as u64 > KEY_LIMIT)
 }
 
 fn refusal_of(long: Option<&Bytes>) -> Option<Refusal>
@@ -64,7 +66,9 @@ fn no_value() -> Option<Refusal>
 fn first_long_element(elements: &[(Bytes, Option<Bytes>)]) -> Option<&(Bytes, Option<Bytes>)>
     ensures { option_copied result ≡ find (λ e. nat_lt KEY_LIMIT (length e.0)) elements.now }
 {
-    elements.iter().find(|e| e.0.as_slice().len() as u64 > KEY_LIMIT)
+    elements
+        .iter()
+        .find(|e| e.0.as_slice().len() as u64 > KEY_LIMIT)
 }
 
 fn first_long_path(elements: &[(Bytes, Option<Bytes>)]) -> Option<&Bytes>

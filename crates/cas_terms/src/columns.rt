@@ -34,10 +34,7 @@ fn find_table<'a>(tables: &'a [TableSchema], name: &str) -> Option<&'a TableSche
 
 /// The table of that name.
 #[tactic(auto, unfolding(crate::specs::Columns::table_named))]
-pub fn table_named<'a>(
-    tables: &'a [TableSchema],
-    name: &TableName,
-) -> Option<&'a TableSchema>
+pub fn table_named<'a>(tables: &'a [TableSchema], name: &TableName) -> Option<&'a TableSchema>
     ensures { option_copied result ≡ table_named tables.now name.now }
 {
     if is_local(&name.keyspace) {

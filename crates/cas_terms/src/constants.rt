@@ -190,10 +190,7 @@ pub fn spell<'a>(tag: TypeTag, constant: &'a Constant) -> Option<Spelled<'a>>
 }
 
 /// The value in memory of its own.
-pub(crate) fn copied(
-    alloc: Global,
-    value: Option<Spelled<'_>>,
-) -> Result<Option<Bytes>, AllocError>
+pub(crate) fn copied(alloc: Global, value: Option<Spelled<'_>>) -> Result<Option<Bytes>, AllocError>
     ensures { IfOk result (λ v. v ≡ option_map spelled_bytes value.entry) }
 {
     match value {

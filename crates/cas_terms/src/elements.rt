@@ -73,7 +73,11 @@ fn element_of_set(alloc: Global, is_there: bool) -> Option<Bytes>
     }
 }
 
-fn with_path(alloc: Global, are_there: bool, paths: Vec<Bytes>) -> Result<Vec<(Bytes, Option<Bytes>)>, AllocError>
+fn with_path(
+    alloc: Global,
+    are_there: bool,
+    paths: Vec<Bytes>,
+) -> Result<Vec<(Bytes, Option<Bytes>)>, AllocError>
     ensures { IfOk result (λ v. v.items ≡ map (λ p. (p, then_some are_there [])) paths.items) }
 {
     paths
@@ -171,12 +175,7 @@ pub fn given_elements(
             let values = literal_values(alloc, column.tag, elements_in(literal))?;
             Ok(Elements::Appended(List::from_vec(values)))
         }
-        Shape::Map => map_elements(
-            alloc,
-            column.tag,
-            column.value_type(),
-            entries_in(literal),
-        ),
+        Shape::Map => map_elements(alloc, column.tag, column.value_type(), entries_in(literal)),
     }
 }
 

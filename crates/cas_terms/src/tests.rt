@@ -27,7 +27,11 @@ fn numbers_have_the_width_of_their_type(rt: HostRuntime) {
         (TypeTag::SmallInt, 32_768, None),
         (TypeTag::Int, -2, Some(&[0xff, 0xff, 0xff, 0xfe])),
         (TypeTag::Int, 2_147_483_648, None),
-        (TypeTag::BigInt, -9_223_372_036_854_775_808, Some(&[0x80, 0, 0, 0, 0, 0, 0, 0])),
+        (
+            TypeTag::BigInt,
+            -9_223_372_036_854_775_808,
+            Some(&[0x80, 0, 0, 0, 0, 0, 0, 0]),
+        ),
         (TypeTag::BigInt, 9_223_372_036_854_775_808, None),
         (TypeTag::Timestamp, -1, Some(&[0xff; 8])),
         (TypeTag::Timestamp, 9_223_372_036_854_775_808, None),
@@ -35,13 +39,20 @@ fn numbers_have_the_width_of_their_type(rt: HostRuntime) {
         (TypeTag::Date, 0, Some(&[0; 4])),
         (TypeTag::Date, -1, None),
         (TypeTag::Date, 4_294_967_296, None),
-        (TypeTag::Time, 86_399_999_999_999, Some(&[0, 0, 0x4e, 0x94, 0x91, 0x4e, 0xff, 0xff])),
+        (
+            TypeTag::Time,
+            86_399_999_999_999,
+            Some(&[0, 0, 0x4e, 0x94, 0x91, 0x4e, 0xff, 0xff]),
+        ),
         (TypeTag::Time, 86_400_000_000_000, None),
         (TypeTag::Time, -1, None),
         (TypeTag::Text, 1, None),
     ];
     for (tag, number, wanted) in cases {
-        assert!(rt; is_spelled(tag, &Constant::Number(number), wanted), "{tag:?} {number}");
+        assert!(rt;
+            is_spelled(tag, &Constant::Number(number), wanted),
+            "{tag:?} {number}"
+        );
     }
 }
 
@@ -97,7 +108,8 @@ fn the_later_of_two_equal_entries_counts(rt: HostRuntime) -> Result<(), Fail> {
     let found = given_elements(alloc, &map, &literal)?;
     let is_so = match &found {
         Elements::At(entries) => match entries.as_slice() {
-            [(key, Some(value))] => matches!(key.as_slice(), [1]) && matches!(value.as_slice(), [1]),
+            [(key, Some(value))] => matches!(key.as_slice(), [1])
+                && matches!(value.as_slice(), [1]),
             _ => false,
         },
         _ => false,
