@@ -3,7 +3,8 @@
 use Rattle.std.specs.Prelude.{ℕ, Bool, true, false, List, [], ◌∷◌, Option, None, Some}
 use Rattle.std.specs.Bool.{then_some}
 use Rattle.cas_effects.specs.declared.refusal.Refusal.{Refusal}
-use Rattle.cas_effects.specs.declared.refusal.Refusal.TheVariants.{NoTable, NoColumn, WrongType, MissingKey, BadRestriction, BadOption, TableExists, EmptyKey, TooLarge, TtlTooLarge, BadDefinition, TooMany}
+use Rattle.cas_effects.specs.declared.refusal.Refusal.TheVariants.{NoTable, NoColumn, WrongType, MissingKey, BadRestriction, BadOption}
+use Rattle.cas_effects.specs.declared.refusal.Refusal.TheVariants.{TableExists, EmptyKey, TooLarge, TtlTooLarge, BadDefinition, TooMany}
 use Rattle.cas_effects.specs.declared.refusal.TheConstants as refused
 use Rattle.cas_effects.specs.declared.reasons.Reasons.{Reasons}
 

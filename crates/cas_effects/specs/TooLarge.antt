@@ -1,5 +1,5 @@
 -- Which values of a statement are held to 65,535 bytes, and the refusal of the first that has more.
--- CQL documentation, "Appendix: limitations": keys, values of clustering columns and elements of collections; that a list's elements count too, and the order, are own.
+-- CQL documentation, "Data definition: the primary key" and "Data types: collections"; the limit as it is here, and which value is told first, are own.
 use Rattle.std.specs.Prelude.{ℕ, ◌^◌, ◌-◌, min, nat_lt, List, [], ◌∷◌, ◌++◌, map, length, Option, None, Some, option_map}
 use Rattle.std.specs.List.{find, flat_map}
 use Rattle.cas_types.specs.declared.limits.TheConstants.{KEY_LIMIT}

@@ -5,7 +5,8 @@ ghost use Rattle.std.specs.List.{enumerate_from, flat_map};
 ghost use Rattle.cas_types.specs.declared.limits.TheConstants.{LAST_SECOND, LEAST_TIMESTAMP};
 ghost use Rattle.cas_effects.specs.declared.effect.Effect.TheVariants as effects;
 ghost use Rattle.cas_effects.specs.declared.stamped.TheConstants.{NUMBER_LIMIT};
-ghost use Rattle.cas_effects.specs.AtomsOf.{write_at, emptied_at, list_path, placed_at, placed, element_atom, element_atoms, effect_atoms, stamp_of, mutation_of};
+ghost use Rattle.cas_effects.specs.AtomsOf.{write_at, emptied_at, list_path, placed_at, placed, element_atom, element_atoms, effect_atoms};
+ghost use Rattle.cas_effects.specs.AtomsOf.{stamp_of, mutation_of};
 
 use crate::effect::{BoundWrite, Effect, Elements};
 use crate::stamped::{Stamp, cell_of, deletion_before, deletion_of, liveness};

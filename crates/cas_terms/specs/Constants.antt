@@ -10,24 +10,25 @@ use Rattle.cas_types.specs.declared.tag.TypeTag.TheVariants.{Ascii, BigInt, Blob
 use Rattle.cql_parse.specs.declared.term.Constant.{Constant}
 use Rattle.cql_parse.specs.declared.term.Constant.TheVariants as constant
 
+-- neither below the least nor above the greatest
 abbrev pub is_in_range : ℤ → ℤ → ℤ → Bool
 is_in_range least greatest n = int_le least n && int_le n greatest
 
--- a signed number that fits the width, most significant byte first
+-- a signed number in the width of its type, most significant byte first, where it fits: of a tinyint -1 is the byte ff, and 128 is no value
 abbrev pub signed_bytes : Width → ℕ → ℤ → Option (List ℕ)
 signed_bytes w half n = then_some (is_in_range (pos 0 -ℤ pos half) (pos half -ℤ pos 1) n) (to_be_bytes w (cast_unsigned w n))
 
--- a number from 0 to the greatest, most significant byte first
+-- a number from 0 to the greatest one, most significant byte first
 abbrev pub unsigned_bytes : Width → ℕ → ℤ → Option (List ℕ)
 unsigned_bytes w greatest n = then_some (is_in_range (pos 0) (pos greatest) n) (to_be_bytes w (cast_unsigned w n))
 
--- a string is an ascii, where each of its bytes is one, or a text
+-- the value of `'..'` is its UTF-8 bytes, as a text, and as an ascii where each of them is ASCII
 unfoldable pub text_bytes : TypeTag → List ℕ → Option (List ℕ)
 text_bytes Ascii t = then_some (is_ascii_text t) t
 text_bytes Text t = Some t
 text_bytes _ t = None
 
--- a number is a signed one of the type's width, an unsigned day of a date, or a nanosecond of a day
+-- a whole number is a signed number of the type's width; as a date it is the number of a day, of which 2^31 is 1970-01-01; as a time the nanosecond of a day
 unfoldable pub number_bytes : TypeTag → ℤ → Option (List ℕ)
 number_bytes TinyInt n = signed_bytes w8 (2 ^ 7) n
 number_bytes SmallInt n = signed_bytes w16 (2 ^ 15) n
@@ -38,22 +39,23 @@ number_bytes Date n = unsigned_bytes w32 (2 ^ 32 - 1) n
 number_bytes Time n = unsigned_bytes w64 LAST_NANOSECOND n
 number_bytes _ n = None
 
+-- `0x0aff` is a blob of its two bytes, and a value of no other type
 unfoldable pub blob_bytes : TypeTag → List ℕ → Option (List ℕ)
 blob_bytes Blob b = Some b
 blob_bytes _ b = None
 
--- a uuid is a timeuuid where its version is 1
+-- a uuid is its sixteen bytes, and a timeuuid where its version is 1
 unfoldable pub uuid_bytes : TypeTag → List ℕ → Option (List ℕ)
 uuid_bytes Uuid u = Some u
 uuid_bytes TimeUuid u = then_some (is_version_one (uuid_version u)) u
 uuid_bytes _ u = None
 
--- false is the byte 0, true the byte 1
+-- `false` is the byte 0, `true` the byte 1
 unfoldable pub boolean_bytes : TypeTag → Bool → Option (List ℕ)
 boolean_bytes Boolean b = Some ((if b then 1 else 0) ∷ [])
 boolean_bytes _ b = None
 
--- the constant as a value of the type
+-- the bytes of the constant as a value of the type, and none where it is no value of it, as `1` of a text
 unfoldable pub constant_bytes : TypeTag → Constant → Option (List ℕ)
 constant_bytes tag (constant.Text t) = text_bytes tag t
 constant_bytes tag (constant.Number n) = number_bytes tag n

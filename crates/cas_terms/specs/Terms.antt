@@ -108,7 +108,8 @@ entry_elements (Some k) v = elements.At ((k, v) ∷ [])
 
 -- ---- what fits
 
--- the literal is one of a collection of that shape, with the column's types: `{1}` of a set, `[1]` of a list, `{1: 'a'}` of a map, `{}` of a set or a map; null has no place in it
+-- the literal is one of a collection of that shape, with the column's types: `{1}` of a set, `[1]` of a list, `{1: 'a'}` of a map, `{}` of a set or a map;
+-- null has no place in it
 unfoldable pub is_literal_of : Shape → Column → Literal → Bool
 is_literal_of shape.Set c literal.Braces = true
 is_literal_of shape.Set c (literal.SetOf xs) = list_all (λ x. is_some (literal_value c.tag x)) xs

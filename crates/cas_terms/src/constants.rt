@@ -4,7 +4,8 @@ ghost use Rattle.std.specs.Prelude.{◌≡◌, ◌^◌, ◌-◌, is_some, option
 ghost use Rattle.std.specs.Bool.{then_some};
 ghost use Rattle.std.specs.Int.{w8, w16, w32, w64};
 ghost use Rattle.cas_types.specs.declared.limits.TheConstants.{LAST_NANOSECOND};
-ghost use Rattle.cas_terms.specs.Constants.{is_in_range, signed_bytes, unsigned_bytes, text_bytes, number_bytes, blob_bytes, uuid_bytes, boolean_bytes, constant_bytes};
+ghost use Rattle.cas_terms.specs.Constants.{is_in_range, signed_bytes, unsigned_bytes, text_bytes, number_bytes, blob_bytes, uuid_bytes, boolean_bytes};
+ghost use Rattle.cas_terms.specs.Constants.{constant_bytes};
 ghost use Rattle.cas_terms.specs.Inner.SpelledBytes.{spelled_bytes};
 
 use cas_types::{Bytes, LAST_NANOSECOND, TypeTag, check};

@@ -3,7 +3,8 @@
 ghost use Rattle.std.specs.Prelude.{◌≡◌, is_some};
 ghost use Rattle.std.specs.List.{list_all};
 ghost use Rattle.cas_types.specs.declared.schema.Shape.TheVariants as shapes;
-ghost use Rattle.cas_terms.specs.Terms.{literal_value, entry_value, is_literal_of, literal_fits, term_fits, removal_fits, map_value_fits, key_fits, assigned_fits};
+ghost use Rattle.cas_terms.specs.Terms.{literal_value, entry_value, is_literal_of, literal_fits, term_fits, removal_fits};
+ghost use Rattle.cas_terms.specs.Terms.{map_value_fits, key_fits, assigned_fits};
 
 use crate::constants::fits;
 use crate::terms::{has_value, is_value};
