@@ -7,7 +7,6 @@ use Rattle.cas_types.specs.Values.{bytes_cmp}
 use Rattle.cas_types.specs.declared.tag.TypeTag.{TypeTag}
 use Rattle.cas_types.specs.declared.schema.Column.{Column}
 use Rattle.cas_types.specs.declared.schema.Shape.TheVariants as shape
-use Rattle.cas_atoms.specs.Picks.{type_or_blob}
 use Rattle.cql_parse.specs.declared.term.Constant.{Constant}
 use Rattle.cql_parse.specs.declared.term.Term.{Term}
 use Rattle.cql_parse.specs.declared.term.Term.TheVariants as term
@@ -18,35 +17,35 @@ use Rattle.cql_parse.specs.declared.term.Element.TheVariants as element
 use Rattle.cql_parse.specs.declared.term.Entry.{Entry}
 use Rattle.cql_parse.specs.declared.syntax.Assigned.{Assigned}
 use Rattle.cql_parse.specs.declared.syntax.Assigned.TheVariants as assigned
-use Rattle.cas_bind.specs.Constants.{value_of}
-use Rattle.cas_bind.specs.Columns.{is_plain, is_map, is_list}
-use Rattle.cas_bind.specs.declared.bound.Elements.{Elements}
-use Rattle.cas_bind.specs.declared.bound.Elements.TheVariants as elements
+use Rattle.cas_terms.specs.Constants.{constant_bytes}
+use Rattle.cas_types.specs.Schemas.{is_plain, is_map, is_list, type_or_blob}
+use Rattle.cas_effects.specs.declared.effect.Elements.{Elements}
+use Rattle.cas_effects.specs.declared.effect.Elements.TheVariants as elements
 
 -- ---- values
 
 -- null has no value, and a literal none of a native type
 unfoldable pub term_value : TypeTag → Term → Option (List ℕ)
 term_value tag term.Null = None
-term_value tag (term.Constant c) = value_of tag c
+term_value tag (term.Constant c) = constant_bytes tag c
 term_value tag (term.Literal x) = None
 
-unfoldable pub element_value : TypeTag → Element → Option (List ℕ)
-element_value tag element.Null = None
-element_value tag (element.Constant c) = value_of tag c
-element_value tag (element.Nested n) = None
+unfoldable pub literal_value : TypeTag → Element → Option (List ℕ)
+literal_value tag element.Null = None
+literal_value tag (element.Constant c) = constant_bytes tag c
+literal_value tag (element.Nested n) = None
 
 -- the values of the elements of a set or a list
-abbrev pub element_values : TypeTag → List Element → List (List ℕ)
-element_values tag xs = filter_map (element_value tag) xs
+abbrev pub literal_values : TypeTag → List Element → List (List ℕ)
+literal_values tag xs = filter_map (literal_value tag) xs
 
-abbrev pub both : Option (List ℕ) → Option (List ℕ) → Option (List ℕ × Option (List ℕ))
-both None v = None
-both (Some k) None = None
-both (Some k) (Some v) = Some (k, Some v)
+abbrev pub entry_from : Option (List ℕ) → Option (List ℕ) → Option (List ℕ × Option (List ℕ))
+entry_from None v = None
+entry_from (Some k) None = None
+entry_from (Some k) (Some v) = Some (k, Some v)
 
 unfoldable pub entry_value : TypeTag → TypeTag → Entry → Option (List ℕ × Option (List ℕ))
-entry_value keys values e = both (element_value keys e.key) (element_value values e.value)
+entry_value keys values e = entry_from (literal_value keys e.key) (literal_value values e.value)
 
 abbrev pub with_entry : List (List ℕ × Option (List ℕ)) → List ℕ × Option (List ℕ) → List (List ℕ × Option (List ℕ))
 with_entry es e = insert_entry bytes_cmp es e.0 e.1
@@ -69,20 +68,20 @@ entries_in (literal.ListOf xs) = []
 entries_in (literal.MapOf es) = es
 
 -- each with no value
-unfoldable pub set_of : TypeTag → List Element → Elements
-set_of tag xs = elements.At (by_path (map (λ v. (v, Some [])) (element_values tag xs)))
+unfoldable pub set_elements : TypeTag → List Element → Elements
+set_elements tag xs = elements.At (by_path (map (λ v. (v, Some [])) (literal_values tag xs)))
 
-unfoldable pub map_of : TypeTag → TypeTag → List Entry → Elements
-map_of keys values es = elements.At (by_path (filter_map (entry_value keys values) es))
+unfoldable pub map_elements : TypeTag → TypeTag → List Entry → Elements
+map_elements keys values es = elements.At (by_path (filter_map (entry_value keys values) es))
 
 -- what a column is given by a literal: elements of a set, entries of a map, values of a list
 unfoldable pub given_elements : Column → Literal → Elements
 given_elements c x =
     elim c.shape [
       | shape.One ↦ elements.At []
-      | shape.Set ↦ set_of c.tag (elements_in x)
-      | shape.List ↦ elements.Appended (element_values c.tag (elements_in x))
-      | shape.Map ↦ map_of c.tag (type_or_blob c.second) (entries_in x)
+      | shape.Set ↦ set_elements c.tag (elements_in x)
+      | shape.List ↦ elements.Appended (literal_values c.tag (elements_in x))
+      | shape.Map ↦ map_elements c.tag (type_or_blob c.second) (entries_in x)
     ]
 
 -- a collection that is given null is given no element
@@ -93,23 +92,23 @@ whole_elements c (term.Literal x) = given_elements c x
 
 -- the values of a literal, put before a list's front
 unfoldable pub prepended_elements : TypeTag → Literal → Elements
-prepended_elements tag x = elements.Prepended (element_values tag (elements_in x))
+prepended_elements tag x = elements.Prepended (literal_values tag (elements_in x))
 
 -- elements of a set, or keys of a map, that are taken out
 unfoldable pub removed_elements : TypeTag → Literal → Elements
-removed_elements tag x = elements.At (by_path (map (λ v. (v, None)) (element_values tag (elements_in x))))
+removed_elements tag x = elements.At (by_path (map (λ v. (v, None)) (literal_values tag (elements_in x))))
 
 -- the entry of a map at a key, where null deletes it
-abbrev pub entry_at : Option (List ℕ) → Option (List ℕ) → Elements
-entry_at None v = elements.At []
-entry_at (Some k) v = elements.At ((k, v) ∷ [])
+abbrev pub entry_elements : Option (List ℕ) → Option (List ℕ) → Elements
+entry_elements None v = elements.At []
+entry_elements (Some k) v = elements.At ((k, v) ∷ [])
 
 -- ---- what fits
 
 -- there is no null in a collection, and no collection
 unfoldable pub element_fits : TypeTag → Element → Bool
 element_fits tag element.Null = false
-element_fits tag (element.Constant c) = is_some (value_of tag c)
+element_fits tag (element.Constant c) = is_some (constant_bytes tag c)
 element_fits tag (element.Nested n) = false
 
 unfoldable pub entry_fits : TypeTag → TypeTag → Entry → Bool
@@ -146,7 +145,7 @@ literal_fits c x =
 -- null fits each column, a constant a plain one, a literal a collection
 unfoldable pub term_fits : Column → Term → Bool
 term_fits c term.Null = true
-term_fits c (term.Constant k) = is_plain c.shape && is_some (value_of c.tag k)
+term_fits c (term.Constant k) = is_plain c.shape && is_some (constant_bytes c.tag k)
 term_fits c (term.Literal x) = literal_fits c x
 
 -- what can be taken out of a set, or be the keys taken out of a map, is a set
@@ -162,12 +161,12 @@ removal_fits c x =
 -- a map's value is a constant or null
 unfoldable pub map_value_fits : TypeTag → Term → Bool
 map_value_fits tag term.Null = true
-map_value_fits tag (term.Constant c) = is_some (value_of tag c)
+map_value_fits tag (term.Constant c) = is_some (constant_bytes tag c)
 map_value_fits tag (term.Literal x) = false
 
 -- the key is one of a map's
 unfoldable pub key_fits : Column → Constant → Bool
-key_fits c k = is_map c.shape && is_some (value_of c.tag k)
+key_fits c k = is_map c.shape && is_some (constant_bytes c.tag k)
 
 -- what an assignment gives is of the column's shape and type
 unfoldable pub assigned_fits : Column → Assigned → Bool

@@ -21,7 +21,7 @@ AppendsFront old new bytes = (front : List ℕ) × (back : List ℕ) × (front +
 abbrev pub TookAtMost : Option (List ℕ) → Option (List ℕ) → ℕ → Type 0
 TookAtMost old new limit = (bytes : List ℕ) × Consumes old new bytes × (length bytes ≤ limit)
 
--- why no script was read: the source's count rose, one byte above the limit was taken, or memory was wanting; but for the second, no more than the limit was taken
+-- why no script was read: the source's count rose, one byte above the limit was taken, or memory ran out; but for the second, no more than the limit was taken
 abbrev pub WhyNoScript : ScriptFault → Type 0 → (ℕ → Type 0) → (ℕ → Type 0) → ℕ → Type 0
 WhyNoScript Read rose took took_at_most limit = rose × took_at_most limit
 WhyNoScript (TooLong taken) rose took took_at_most limit = (taken ≡ limit + 1) × took taken

@@ -1,0 +1,21 @@
+//! Tables and columns by name, constants and literals as values and elements of columns, and which
+//! of them fit.
+#![tactic(auto)]
+
+mod columns;
+mod constants;
+mod names;
+mod optional;
+mod terms;
+
+pub use columns::{
+    clustering_order, column_named, column_ref, is_local, is_unknown, located, names_key,
+    names_partition, names_static, table_named,
+};
+pub use constants::{Spelled, constant_bytes, fits, is_in_range, spell};
+pub use names::{has_name, same_name, stands_twice};
+pub use optional::push_some;
+pub use terms::{
+    assigned_fits, entry_elements, given_elements, has_empty_value, has_value, key_fits,
+    prepended_elements, removed_elements, term_fits, term_value, whole_elements,
+};
