@@ -1,6 +1,6 @@
 -- What is wrong with the primary key that a statement gives: an empty partition key, null, or a column without a value.
 -- CQL documentation, "Data definition: the primary key" and "Data manipulation: the WHERE clause".
-use Rattle.std.specs.Prelude.{ℕ, Bool, true, false, ◌&&◌, ◌||◌, List, [], ◌∷◌, Option, None, Some}
+use Rattle.std.specs.Prelude.{ℕ, ◌==◌, length, if◌then◌else◌, Bool, true, false, ◌&&◌, ◌||◌, List, [], ◌∷◌, Option, None, Some}
 use Rattle.std.specs.List.{list_any}
 use Rattle.std.specs.Str.{bytes_eq}
 use Rattle.cas_types.specs.declared.schema.Column.{Column}
@@ -14,8 +14,8 @@ use Rattle.cas_terms.specs.Terms.{term_value}
 
 -- the column of a partition key of one column; a key of several columns has bytes even where none of its values has any
 unfoldable pub sole_column : List Column → Option Column
-sole_column (c ∷ []) = Some c
-sole_column _ = None
+sole_column [] = None
+sole_column (c ∷ cs) = if length cs == 0 then Some c else None
 
 -- a WHERE says that the column is empty, by any of its `=`
 unfoldable pub restricts_to_empty : List Relation → Column → Bool

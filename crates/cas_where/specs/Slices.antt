@@ -13,7 +13,8 @@ use Rattle.cql_parse.specs.declared.syntax.Operator.TheVariants as operator
 use Rattle.cql_parse.specs.declared.syntax.Relation.{Relation}
 use Rattle.cql_parse.specs.declared.syntax.ColumnOrder.{ColumnOrder}
 use Rattle.cas_types.specs.Schemas.{is_descending}
-use Rattle.cas_terms.specs.Columns.{clustering_columns, clustering_order}
+use Rattle.cas_bounds.specs.ClusteringOrder.{clustering_order}
+use Rattle.cas_terms.specs.Columns.{clustering_columns}
 use Rattle.cas_where.specs.KeyTerms.{term_in_where, prefix_values, first_missing}
 use Rattle.cas_terms.specs.Terms.{term_value}
 use Rattle.cas_where.specs.Where.{is_lower, is_upper}

@@ -71,7 +71,6 @@ fn term_in_insert<'a>(names: &[Text], terms: &'a [Term], name: &str) -> Option<&
 }
 
 /// The term that the name is given.
-#[tactic(auto, unfolding(crate::specs::Inner::Sources::terms_of))]
 pub(crate) fn term_of<'a>(terms: KeyTerms<'a>, name: &str) -> Option<&'a Term>
     ensures { option_copied result ≡ terms_of terms.entry name.now }
 {

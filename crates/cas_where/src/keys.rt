@@ -1,10 +1,8 @@
 //! What is wrong with the primary key that a statement gives.
 
-ghost use Rattle.std.specs.Prelude.{◌≡◌, ◌&&◌};
+ghost use Rattle.std.specs.Prelude.{◌≡◌, ◌&&◌, length};
 ghost use Rattle.std.specs.Str.{bytes_eq};
-ghost use Rattle.std.specs.List.{list_any};
 ghost use Rattle.std.specs.Option.{option_copied};
-ghost use Rattle.cas_types.specs.Schemas.{is_partition};
 ghost use Rattle.cas_terms.specs.Columns.{partition_columns, names_key};
 ghost use Rattle.cas_terms.specs.Constants.{gives_no_bytes};
 ghost use Rattle.cas_terms.specs.Terms.{term_value};
@@ -41,14 +39,14 @@ pub fn is_given_empty(terms: KeyTerms<'_>, column: &Column) -> bool
     }
 }
 
-fn has_partition(columns: &[Column]) -> bool
-    ensures { result ≡ list_any (λ c. is_partition c.kind) columns.now }
+fn partition_count(columns: &[Column]) -> usize
+    ensures { result ≡ length (partition_columns columns.now) }
 {
-    columns.iter().any(|c| c.kind.is_partition())
+    columns.iter().filter(|c| c.kind.is_partition()).count()
 }
 
 /// The column of the partition key, where it has only one.
-#[tactic(auto, using(crate::proofs::KeyLemmas::sole_last, crate::proofs::KeyLemmas::sole_of_more), unfolding(crate::specs::Keys::sole_column))]
+#[tactic(auto, unfolding(crate::specs::Keys::sole_column))]
 pub fn sole_column(columns: &[Column]) -> Option<&Column>
     ensures { option_copied result ≡ sole_column (partition_columns columns.now) }
 {
@@ -58,10 +56,10 @@ pub fn sole_column(columns: &[Column]) -> Option<&Column>
             if !column.kind.is_partition() {
                 return sole_column(rest);
             }
-            if has_partition(rest) {
-                None
-            } else {
+            if partition_count(rest) == 0 {
                 Some(column)
+            } else {
+                None
             }
         }
     }

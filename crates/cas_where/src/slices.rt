@@ -9,8 +9,8 @@ ghost use Rattle.cas_where.specs.Slices.{is_strict, is_at_begin, is_at_end, boun
 
 use crate::key_terms::{KeyTerms, first_missing, prefix_values};
 use crate::restrictions::{is_lower, is_upper};
-use cas_bounds::{Cut, Ordered, Slice};
-use cas_terms::{clustering_order, push_some, same_name, term_value};
+use cas_bounds::{Cut, Ordered, Slice, clustering_order};
+use cas_terms::{push_some, same_name, term_value};
 use cas_types::{Bytes, Column, List};
 use cql_parse::{Operator, Relation};
 use std::alloc::{AllocError, Global};
@@ -159,7 +159,7 @@ fn slice_with(
 }
 
 /// The rows that a WHERE leaves of its partition.
-#[tactic(auto, unfolding(crate::specs::Slices::slice_of, crate::specs::Inner::Sources::terms_of))]
+#[tactic(auto, unfolding(crate::specs::Slices::slice_of))]
 pub fn slice_of(
     alloc: Global,
     columns: &[Column],

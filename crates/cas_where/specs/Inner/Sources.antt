@@ -8,7 +8,7 @@ use Rattle.cas_where.specs.declared.key_terms.KeyTerms.{KeyTerms}
 use Rattle.cas_where.specs.declared.key_terms.KeyTerms.TheVariants as key_terms
 
 -- the terms that a WHERE, or the names and values of an INSERT, give
-unfoldable pub terms_of : KeyTerms → TermOf
+abbrev pub terms_of : KeyTerms → TermOf
 terms_of (key_terms.Where rs) = term_in_where rs.now
 terms_of (key_terms.Insert names terms) = term_in_insert names.now terms.now
 
