@@ -10,8 +10,6 @@ use Rattle.cql_parse.specs.declared.syntax.Select.{Select}
 use Rattle.cql_parse.specs.declared.syntax.Statement.{Statement}
 use Rattle.cql_parse.specs.declared.syntax.Statement.TheVariants as statement
 use Rattle.cas_terms.specs.Columns.{table_named}
-use Rattle.cas_bind.specs.Options.{options_of}
-use Rattle.cas_bind.specs.Schemas.{schema_of, addition_of}
 use Rattle.cas_bind.specs.Changes.{bound_change}
 use Rattle.cas_bind.specs.Selects.{bound_select, read_too_large}
 use Rattle.cas_effects.specs.TooLarge.{write_too_large}
@@ -20,7 +18,7 @@ use Rattle.cas_effects.specs.Refusals.{refusal_for}
 use Rattle.cas_bind.specs.declared.bound.Bound.{Bound}
 use Rattle.cas_bind.specs.declared.bound.Bound.TheVariants as bound
 use Rattle.cas_effects.specs.declared.refusal.Refusal.{Refusal}
-use Rattle.cas_effects.specs.declared.refusal.Refusal.TheVariants.{NoTable, BadOption}
+use Rattle.cas_effects.specs.declared.refusal.Refusal.TheVariants.{NoTable}
 use Rattle.cas_effects.specs.declared.refusal.BindFault.{BindFault}
 use Rattle.cas_effects.specs.declared.refusal.BindFault.TheVariants as fault
 
@@ -28,17 +26,6 @@ use Rattle.cas_effects.specs.declared.refusal.BindFault.TheVariants as fault
 abbrev pub outcome : Option Refusal → Bound → Result Bound Refusal
 outcome None b = Ok b
 outcome (Some r) b = Err r
-
-abbrev pub created : List TableSchema → CreateTable → Option Refusal → Option Options → Result Bound Refusal
-created tables c (Some r) options = Err r
-created tables c None None = Err BadOption
-created tables c None (Some options) = Ok (bound.Create (schema_of tables c options))
-
-unfoldable pub create_means : List TableSchema → CreateTable → Result Bound Refusal
-create_means tables c = created tables c (refusal_for (create_reasons tables c)) (options_of c.options)
-
-unfoldable pub alter_means : TableSchema → AlterTable → Result Bound Refusal
-alter_means t a = outcome (refusal_for (alter_reasons t a)) (bound.Alter (addition_of t a))
 
 -- an INSERT, UPDATE or DELETE
 unfoldable pub change_means : ℕ → TableSchema → Statement → Result Bound Refusal
@@ -52,14 +39,6 @@ select_means shards t s =
 abbrev pub of_table : Option TableSchema → (TableSchema → Result Bound Refusal) → Result Bound Refusal
 of_table None means = Err NoTable
 of_table (Some t) means = means t
-
-unfoldable pub meaning : ℕ → List TableSchema → Statement → Result Bound Refusal
-meaning shards tables (statement.Create c) = create_means tables c
-meaning shards tables (statement.Alter a) = of_table (table_named tables a.table) (λ t. alter_means t a)
-meaning shards tables (statement.Insert i) = of_table (table_named tables i.table) (λ t. change_means shards t (statement.Insert i))
-meaning shards tables (statement.Update u) = of_table (table_named tables u.table) (λ t. change_means shards t (statement.Update u))
-meaning shards tables (statement.Delete d) = of_table (table_named tables d.table) (λ t. change_means shards t (statement.Delete d))
-meaning shards tables (statement.Select s) = of_table (table_named tables s.table) (λ t. select_means shards t s)
 
 -- what is answered is what is meant, unless memory ran out
 abbrev pub Binds : Result Bound BindFault → Result Bound Refusal → Type 0

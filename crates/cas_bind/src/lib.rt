@@ -15,4 +15,4 @@ mod using;
 mod writes;
 
 pub use bound::{Addition, Bound, BoundRead, Limits};
-pub use meaning::bind;
+
