@@ -1,12 +1,14 @@
 -- A key that is too long is refused as such.
-use Rattle.std.proofs.Common.{◌≡◌, ℕ, ◌^◌, ◌-◌, ◌==◌, nat_lt, min, Bool, true, false, cond, List, [], ◌∷◌, length, Option, None, Some, Result, Ok, Err, IfErr, option_map, refl}
+use Rattle.std.proofs.Common.{◌≡◌, ℕ, ◌^◌, ◌-◌, ◌==◌, nat_lt, min, Bool, true, false, cond, List, [], ◌∷◌, length, Option, None, Some, Result, Ok, Err, IfErr, option_map, refl, sym, eqb-true, arith}
 use Rattle.std.specs.List.{find}
 use Rattle.cas_types.specs.Keys.{key_fault}
 use Rattle.cas_types.specs.declared.key.KeyFault.{KeyFault}
 use Rattle.cas_types.specs.declared.key.KeyFault.TheVariants.{Empty, TooLong, Mem}
+use Rattle.cas_types.specs.declared.schema.Column.{Column}
 use Rattle.cas_effects.specs.TooLarge.{too_large}
 use Rattle.cas_effects.specs.declared.refusal.Refusal.{Refusal}
 use Rattle.cas_effects.specs.declared.refusal.Refusal.TheVariants.{TooLarge}
+use Rattle.cas_where.specs.Keys.{sole_column}
 
 told : (m n : ℕ) (key : List ℕ) (rest : Option (List ℕ)) (f : List ℕ → Refusal) (b c : Bool) → f key ≡ TooLarge m 65535
     → cond b (Some Empty) (cond c (Some (TooLong m)) None) ≡ Some (TooLong n) → option_map f (cond c (Some key) rest) ≡ Some (TooLarge n 65535)
@@ -36,3 +38,16 @@ first_told f key rest r false e = cc
 pub first_too_large : (key : List ℕ) (r : Refusal) → too_large (key ∷ []) ≡ Some r → (others : List (List ℕ)) → too_large (key ∷ others) ≡ Some r
 unfolding too_large
 first_too_large key r e others = first_told _ key (find (λ v. nat_lt 65535 (length v)) others) r (nat_lt 65535 (length key)) e
+
+-- ---- the only column of a partition key
+
+only_one : (b : Bool) (n : ℕ) (c d : Column) (cs : List Column) → b ≡ (length cs == n) → n ≡ 0 → cond b (Some c) None ≡ Some d → c ∷ cs ≡ d ∷ []
+only_one true n c d [] is zero_is e = cc
+only_one true n c d (x ∷ xs) is zero_is e = let none : length (x ∷ xs) ≡ n = eqb-true (length (x ∷ xs)) n (sym is) in absurd (omega arith)
+only_one false n c d cs is zero_is e = cc
+
+-- it is all of the partition key
+pub sole_is : (cs : List Column) (d : Column) → sole_column cs ≡ Some d → cs ≡ d ∷ []
+unfolding sole_column
+sole_is [] d e = cc
+sole_is (c ∷ cs) d e = only_one (length cs == 0) 0 c d cs refl refl e

@@ -10,6 +10,7 @@ ghost use Rattle.cas_where.specs.Inner.Sources.{terms_of, KeyGives};
 ghost use Rattle.cas_where.specs.KeyTerms.{is_equal, term_in_where, term_in_insert, value_of_term, value_in};
 ghost use Rattle.cas_where.specs.KeyTerms.{is_missing, first_missing, prefix_values, partition_key};
 
+use crate::keys::sole_column;
 use cas_effects::{BindFault, Refusal, one_too_large};
 use cas_terms::{has_value, same_name, term_value};
 use cas_types::{Bytes, Column, KEY_LIMIT, KeyBuilder, KeyFault, Mem, Text};
@@ -247,16 +248,17 @@ fn sole_key(value: Bytes) -> Result<Bytes, BindFault>
     }
 }
 
-fn key_bytes(alloc: Global, values: Vec<Bytes>) -> Result<Bytes, BindFault>
-    ensures { KeyGives result (key_of values.items) }
+// The key of one column.
+fn key_of_column(
+    alloc: Global,
+    terms: KeyTerms<'_>,
+    column: &Column,
+) -> Result<Bytes, BindFault>
+    ensures { KeyGives result (key_of (filter_map (value_in (terms_of terms.entry)) (column.now ∷ []))) }
 {
-    let mut values = values;
-    if values.len() != 1 {
-        return joined_key(alloc, &values);
-    }
-    match values.pop() {
+    match value_in(alloc, terms, column)? {
         Some(value) => sole_key(value),
-        None => joined_key(alloc, &[]),
+        None => Ok(Bytes::from_vec(Vec::new(alloc))),
     }
 }
 
@@ -269,6 +271,8 @@ pub fn partition_key(
 ) -> Result<Bytes, BindFault>
     ensures { KeyGives result (partition_key (terms_of terms.entry) columns.now) }
 {
-    let values = partition_values(alloc, terms, columns)?;
-    key_bytes(alloc, values)
+    match sole_column(columns) {
+        Some(column) => key_of_column(alloc, terms, column),
+        None => joined_key(alloc, &partition_values(alloc, terms, columns)?),
+    }
 }
