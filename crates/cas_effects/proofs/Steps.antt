@@ -34,10 +34,8 @@ module _ {X : Type 0} where
       ∙ enumerate_append 0 (take i A) x
       ∙ ap (λ m. enumerate_from 0 (take i A) ++ (m, x) ∷ []) (omega arith)
 
-  pub enumerate_step : {Y Z : Type 0} (f : Y → Z) (p : ℕ × X → Y) (A : List X) (i : ℕ) (x : X) (before after : List Z) → i < length A → x ≡ get_or A i x
-      → before ≡ map f (map p (enumerate_from 0 (take i A))) → after ≡ before ++ f (p (i, x)) ∷ [] → after ≡ map f (map p (enumerate_from 0 (take (i + 1) A)))
-  enumerate_step f p A i x before after h e b a =
-      a ∙ ap (λ l. l ++ f (p (i, x)) ∷ []) b
-      ∙ sym (ap (λ l. map f (map p l)) (enumerate_more A i x h e)
-      ∙ ap (map f) (map-append p (enumerate_from 0 (take i A)) ((i, x) ∷ []))
-      ∙ map-append f (map p (enumerate_from 0 (take i A))) (p (i, x) ∷ []))
+  pub enumerate_step : {Y : Type 0} (f : ℕ × X → Y) (A : List X) (i : ℕ) (x : X) (before after : List Y) → i < length A → x ≡ get_or A i x
+      → before ≡ map f (enumerate_from 0 (take i A)) → after ≡ before ++ f (i, x) ∷ [] → after ≡ map f (enumerate_from 0 (take (i + 1) A))
+  enumerate_step f A i x before after h e b a =
+      a ∙ ap (λ l. l ++ f (i, x) ∷ []) b
+      ∙ sym (ap (map f) (enumerate_more A i x h e) ∙ map-append f (enumerate_from 0 (take i A)) ((i, x) ∷ []))

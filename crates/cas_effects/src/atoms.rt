@@ -5,47 +5,50 @@ ghost use Rattle.std.specs.List.{enumerate_from, flat_map};
 ghost use Rattle.cas_types.specs.declared.limits.TheConstants.{LAST_SECOND, LEAST_TIMESTAMP};
 ghost use Rattle.cas_effects.specs.declared.effect.Effect.TheVariants as effects;
 ghost use Rattle.cas_effects.specs.declared.stamped.TheConstants.{NUMBER_LIMIT};
-ghost use Rattle.cas_effects.specs.AtomsOf.{write_at, emptied_at, list_path, placed_at, element_atom, element_atoms, effect_atoms, stamp_of, mutation_of};
+ghost use Rattle.cas_effects.specs.AtomsOf.{write_at, emptied_at, list_path, placed_at, placed, element_atom, element_atoms, effect_atoms, stamp_of, mutation_of};
 
 use crate::effect::{BoundWrite, Effect, Elements};
-use crate::stamped::{Stamp, cell_of, deletion_before, deletion_of, liveness, written_cell};
+use crate::stamped::{Stamp, cell_of, deletion_before, deletion_of, liveness};
 use cas_atoms::{Atom, ColumnRef, Mutation};
 use cas_bounds::{Clustering, Cut, Ordered, cmp_cut};
 use cas_cell::{Cell, Deletion};
 use cas_types::{Bytes, List, Mem};
 use std::alloc::{AllocError, Global};
 
-fn write_at(
-    row: &Option<Clustering>,
-    column: ColumnRef,
-    path: Bytes,
-    cell: Cell,
-) -> Result<Atom, AllocError>
-    ensures { IfOk result (λ a. a ≡ write_at row.now column path cell) }
+/// The order number in the middle of a list: values are appended after it, and prepended before it.
+const LIST_MIDDLE: u64 = 1 << 63;
+
+fn write_at(row: Option<Clustering>, column: ColumnRef, path: Bytes, cell: Cell) -> Atom
+    ensures { result ≡ write_at row column path cell }
 {
     match row {
-        Some(row) => Ok(Atom::Write(row.copied()?, column, path, cell)),
-        None => Ok(Atom::StaticWrite(column, path, cell)),
+        Some(row) => Atom::Write(row, column, path, cell),
+        None => Atom::StaticWrite(column, path, cell),
     }
 }
 
-fn emptied_at(
-    row: &Option<Clustering>,
-    column: ColumnRef,
-    deletion: Deletion,
-) -> Result<Atom, AllocError>
-    ensures { IfOk result (λ a. a ≡ emptied_at row.now column deletion) }
+fn emptied_at(row: Option<Clustering>, column: ColumnRef, deletion: Deletion) -> Atom
+    ensures { result ≡ emptied_at row column deletion }
 {
     match row {
-        Some(row) => Ok(Atom::CollectionDeletion(row.copied()?, column, deletion)),
-        None => Ok(Atom::StaticCollectionDeletion(column, deletion)),
+        Some(row) => Atom::CollectionDeletion(row, column, deletion),
+        None => Atom::StaticCollectionDeletion(column, deletion),
+    }
+}
+
+fn copied_row(row: &Option<Clustering>) -> Result<Option<Clustering>, AllocError>
+    ensures { IfOk result (λ r. r ≡ row.now) }
+{
+    match row {
+        Some(row) => Ok(Some(row.copied()?)),
+        None => Ok(None),
     }
 }
 
 fn list_path(alloc: Global, order: u64, index: u64) -> Result<Bytes, AllocError>
     ensures { IfOk result (λ p. p ≡ list_path order index) }
 {
-    let mut path = Vec::new(alloc);
+    let mut path = Vec::with_capacity(alloc, 16)?;
     path.extend_from_slice(&order.to_be_bytes())?;
     path.extend_from_slice(&index.to_be_bytes())?;
     Ok(Bytes::from_vec(path))
@@ -55,97 +58,77 @@ fn element_atom(
     stamp: Stamp,
     row: &Option<Clustering>,
     column: ColumnRef,
-    element: &(Bytes, Option<Bytes>),
+    element: (Bytes, Option<Bytes>),
 ) -> Result<Atom, AllocError>
     requires { stamp.moment ≤ℤ LAST_SECOND }
-    ensures { IfOk result (λ a. a ≡ element_atom stamp row.now column element.now) }
+    ensures { IfOk result (λ a. a ≡ element_atom stamp row.now column element) }
 {
-    write_at(row, column, element.0.clone()?, cell_of(stamp, &element.1)?)
+    let (path, value) = element;
+    Ok(write_at(copied_row(row)?, column, path, cell_of(stamp, value)))
 }
 
-fn path_atoms(
+fn written_at(
     alloc: Global,
     stamp: Stamp,
     row: &Option<Clustering>,
     column: ColumnRef,
-    elements: &[(Bytes, Option<Bytes>)],
+    elements: Vec<(Bytes, Option<Bytes>)>,
 ) -> Result<Vec<Atom>, AllocError>
     requires { stamp.moment ≤ℤ LAST_SECOND }
-    ensures { IfOk result (λ v. v.items ≡ map (element_atom stamp row.now column) elements.now) }
+    ensures { IfOk result (λ v. v.items ≡ map (element_atom stamp row.now column) elements.items) }
 {
-    let mut atoms = Vec::new(alloc);
+    let mut atoms = Vec::with_capacity(alloc, elements.len())?;
     for element in elements {
         atoms.push(element_atom(stamp, row, column, element)?)?;
     }
     Ok(atoms)
 }
 
-fn placed_atom(
+fn placed_at(
     alloc: Global,
-    stamp: Stamp,
-    row: &Option<Clustering>,
-    column: ColumnRef,
     order: u64,
     index: u64,
     value: &Bytes,
-) -> Result<Atom, AllocError>
-    requires { stamp.moment ≤ℤ LAST_SECOND }
-    ensures { IfOk result (λ a. a ≡ element_atom stamp row.now column (placed_at order (index, value.now))) }
+) -> Result<(Bytes, Option<Bytes>), AllocError>
+    ensures { IfOk result (λ e. e ≡ placed_at order (index, value.now)) }
 {
-    let path = list_path(alloc, order, index)?;
-    write_at(row, column, path, written_cell(stamp, value)?)
+    Ok((list_path(alloc, order, index)?, Some(value.clone()?)))
 }
 
-fn list_atoms(
+fn placed_from(
     alloc: Global,
-    stamp: Stamp,
-    row: &Option<Clustering>,
-    column: ColumnRef,
     order: u64,
     values: &[Bytes],
-) -> Result<Vec<Atom>, AllocError>
-    requires { stamp.moment ≤ℤ LAST_SECOND }
-    ensures { IfOk result (λ v. v.items ≡ map (element_atom stamp row.now column) (map (placed_at order) (enumerate_from 0 values.now))) }
+) -> Result<Vec<(Bytes, Option<Bytes>)>, AllocError>
+    ensures { IfOk result (λ v. v.items ≡ map (placed_at order) (enumerate_from 0 values.now)) }
 {
-    let mut atoms = Vec::new(alloc);
+    let mut elements = Vec::with_capacity(alloc, values.len())?;
     for (index, value) in values.iter().enumerate() {
-        let atom = placed_atom(alloc, stamp, row, column, order, index as u64, value)?;
-        atoms.push(atom)?;
+        elements.push(placed_at(alloc, order, index as u64, value)?)?;
     }
-    Ok(atoms)
+    Ok(elements)
 }
 
-#[tactic(auto, unfolding(crate::specs::AtomsOf::element_atoms))]
-fn element_atoms(
+fn placed(
     alloc: Global,
-    stamp: Stamp,
-    row: &Option<Clustering>,
-    column: ColumnRef,
-    elements: &Elements,
-) -> Result<Vec<Atom>, AllocError>
-    requires moment { stamp.moment ≤ℤ LAST_SECOND }
-    requires number { stamp.number ≤ NUMBER_LIMIT }
-    ensures { IfOk result (λ v. v.items ≡ element_atoms stamp row.now column elements.now) }
+    number: u64,
+    elements: Elements,
+) -> Result<Vec<(Bytes, Option<Bytes>)>, AllocError>
+    requires { number ≤ NUMBER_LIMIT }
+    ensures { IfOk result (λ v. v.items ≡ placed number elements) }
 {
     match elements {
-        Elements::At(elements) => path_atoms(alloc, stamp, row, column, elements.as_slice()),
-        Elements::Appended(values) => {
-            let order = (1 << 63) + stamp.number;
-            list_atoms(alloc, stamp, row, column, order, values.as_slice())
-        }
-        Elements::Prepended(values) => {
-            let order = (1 << 63) - stamp.number;
-            list_atoms(alloc, stamp, row, column, order, values.as_slice())
-        }
+        Elements::At(elements) => Ok(elements.into_vec()),
+        Elements::Appended(values) => placed_from(alloc, LIST_MIDDLE + number, values.as_slice()),
+        Elements::Prepended(values) => placed_from(alloc, LIST_MIDDLE - number, values.as_slice()),
     }
 }
 
-fn one(alloc: Global, atom: Atom) -> Result<Vec<Atom>, AllocError>
-    ensures { IfOk result (λ v. v.items ≡ atom ∷ []) }
+fn push(atoms: &mut Vec<Atom>, atom: Atom) -> Result<(), AllocError>
+    ensures { OnOk result (atoms.new.items ≡ atoms.old.items ++ atom ∷ []) }
 {
-    let mut atoms = Vec::new(alloc);
     atoms.push(atom)?;
-    Ok(atoms)
+    Ok(())
 }
 
 // The cut, in the order of another one's table.
@@ -160,104 +143,102 @@ fn in_order(cut: &Cut, order: &List<Ordered>) -> Result<Cut, AllocError>
 }
 
 #[tactic(auto, unfolding(crate::specs::AtomsOf::effect_atoms))]
-fn range_atoms(alloc: Global, stamp: Stamp, lo: &Cut, hi: &Cut) -> Result<Vec<Atom>, AllocError>
-    ensures { IfOk result (λ v. v.items ≡ effect_atoms stamp (effects.Range lo.now hi.now)) }
+fn push_range(stamp: Stamp, lo: Cut, hi: Cut, atoms: &mut Vec<Atom>) -> Result<(), AllocError>
+    ensures { OnOk result (atoms.new.items ≡ atoms.old.items ++ effect_atoms stamp (effects.Range lo hi)) }
 {
-    if cmp_cut(lo, &in_order(hi, &lo.order)?).is_lt() {
-        let range = Atom::RangeDeletion(lo.copied()?, hi.copied()?, deletion_of(stamp));
-        one(alloc, range)
+    if cmp_cut(&lo, &in_order(&hi, &lo.order)?).is_lt() {
+        push(atoms, Atom::RangeDeletion(lo, hi, deletion_of(stamp)))
     } else {
-        Ok(Vec::new(alloc))
+        Ok(())
     }
 }
 
-#[tactic(auto, unfolding(crate::specs::AtomsOf::effect_atoms))]
-fn whole_atoms(
+#[tactic(auto, unfolding(crate::specs::AtomsOf::element_atoms))]
+fn push_parts(
     alloc: Global,
     stamp: Stamp,
     row: &Option<Clustering>,
     column: ColumnRef,
-    elements: &Elements,
-) -> Result<Vec<Atom>, AllocError>
+    elements: Elements,
+    atoms: &mut Vec<Atom>,
+) -> Result<(), AllocError>
     requires moment { stamp.moment ≤ℤ LAST_SECOND }
     requires number { stamp.number ≤ NUMBER_LIMIT }
-    requires at { LEAST_TIMESTAMP ≤ℤ stamp.at }
-    ensures { IfOk result (λ v. v.items ≡ effect_atoms stamp (effects.Whole row.now column elements.now)) }
+    ensures { OnOk result (atoms.new.items ≡ atoms.old.items ++ element_atoms stamp row.now column elements) }
 {
-    let mut atoms = one(alloc, emptied_at(row, column, deletion_before(stamp))?)?;
-    let mut written = element_atoms(alloc, stamp, row, column, elements)?;
+    let placed = placed(alloc, stamp.number, elements)?;
+    let mut written = written_at(alloc, stamp, row, column, placed)?;
     atoms.append(&mut written)?;
-    Ok(atoms)
+    Ok(())
 }
 
 #[tactic(auto, unfolding(crate::specs::AtomsOf::effect_atoms))]
-fn effect_atoms(alloc: Global, stamp: Stamp, effect: &Effect) -> Result<Vec<Atom>, AllocError>
-    requires moment { stamp.moment ≤ℤ LAST_SECOND }
-    requires number { stamp.number ≤ NUMBER_LIMIT }
-    requires at { LEAST_TIMESTAMP ≤ℤ stamp.at }
-    ensures { IfOk result (λ v. v.items ≡ effect_atoms stamp effect.now) }
-{
-    match effect {
-        Effect::Live(row) => one(alloc, Atom::Live(row.copied()?, liveness(stamp))),
-        Effect::Plain(row, column, value) => {
-            let path = Bytes::from_vec(Vec::new(alloc));
-            one(alloc, write_at(row, *column, path, cell_of(stamp, value)?)?)
-        }
-        Effect::Whole(row, column, elements) => whole_atoms(alloc, stamp, row, *column, elements),
-        Effect::Parts(row, column, elements) => element_atoms(alloc, stamp, row, *column, elements),
-        Effect::Emptied(row, column) => one(alloc, emptied_at(row, *column, deletion_of(stamp))?),
-        Effect::Row(row) => {
-            let deletion = Atom::RowDeletion(row.copied()?, deletion_of(stamp));
-            one(alloc, deletion)
-        }
-        Effect::Range(lo, hi) => range_atoms(alloc, stamp, lo, hi),
-        Effect::Partition => one(alloc, Atom::PartitionDeletion(deletion_of(stamp))),
-    }
-}
-
-fn push_effect(
+fn push_whole(
     alloc: Global,
     stamp: Stamp,
-    effect: &Effect,
+    row: Option<Clustering>,
+    column: ColumnRef,
+    elements: Elements,
     atoms: &mut Vec<Atom>,
 ) -> Result<(), AllocError>
     requires moment { stamp.moment ≤ℤ LAST_SECOND }
     requires number { stamp.number ≤ NUMBER_LIMIT }
     requires at { LEAST_TIMESTAMP ≤ℤ stamp.at }
-    ensures { OnOk result (atoms.new.items ≡ atoms.old.items ++ effect_atoms stamp effect.now) }
+    ensures { OnOk result (atoms.new.items ≡ atoms.old.items ++ effect_atoms stamp (effects.Whole row column elements)) }
 {
-    let mut more = effect_atoms(alloc, stamp, effect)?;
-    atoms.append(&mut more)?;
-    Ok(())
+    push(atoms, emptied_at(copied_row(&row)?, column, deletion_before(stamp)))?;
+    push_parts(alloc, stamp, &row, column, elements, atoms)
 }
 
-fn all_atoms(alloc: Global, stamp: Stamp, effects: &[Effect]) -> Result<Vec<Atom>, AllocError>
+#[tactic(auto, unfolding(crate::specs::AtomsOf::effect_atoms))]
+fn push_effect(
+    alloc: Global,
+    stamp: Stamp,
+    effect: Effect,
+    atoms: &mut Vec<Atom>,
+) -> Result<(), AllocError>
     requires moment { stamp.moment ≤ℤ LAST_SECOND }
     requires number { stamp.number ≤ NUMBER_LIMIT }
     requires at { LEAST_TIMESTAMP ≤ℤ stamp.at }
-    ensures { IfOk result (λ v. v.items ≡ flat_map (effect_atoms stamp) effects.now) }
+    ensures { OnOk result (atoms.new.items ≡ atoms.old.items ++ effect_atoms stamp effect) }
 {
-    let mut atoms = Vec::new(alloc);
+    match effect {
+        Effect::Live(row) => push(atoms, Atom::Live(row, liveness(stamp))),
+        Effect::Plain(row, column, value) => {
+            let path = Bytes::from_vec(Vec::new(alloc));
+            push(atoms, write_at(row, column, path, cell_of(stamp, value)))
+        }
+        Effect::Whole(row, column, elements) => {
+            push_whole(alloc, stamp, row, column, elements, atoms)
+        }
+        Effect::Parts(row, column, elements) => {
+            push_parts(alloc, stamp, &row, column, elements, atoms)
+        }
+        Effect::Emptied(row, column) => push(atoms, emptied_at(row, column, deletion_of(stamp))),
+        Effect::Row(row) => push(atoms, Atom::RowDeletion(row, deletion_of(stamp))),
+        Effect::Range(lo, hi) => push_range(stamp, lo, hi, atoms),
+        Effect::Partition => push(atoms, Atom::PartitionDeletion(deletion_of(stamp))),
+    }
+}
+
+fn all_atoms(alloc: Global, stamp: Stamp, effects: Vec<Effect>) -> Result<Vec<Atom>, AllocError>
+    requires moment { stamp.moment ≤ℤ LAST_SECOND }
+    requires number { stamp.number ≤ NUMBER_LIMIT }
+    requires at { LEAST_TIMESTAMP ≤ℤ stamp.at }
+    ensures { IfOk result (λ v. v.items ≡ flat_map (effect_atoms stamp) effects.items) }
+{
+    let mut atoms = Vec::with_capacity(alloc, effects.len())?;
     for effect in effects {
         push_effect(alloc, stamp, effect, &mut atoms)?;
     }
     Ok(atoms)
 }
 
-fn time_of(write: &BoundWrite, drawn: i64) -> i64
-    ensures { result ≡ unwrap_or write.now.timestamp drawn }
-{
-    match write.timestamp {
-        Some(at) => at,
-        None => drawn,
-    }
-}
-
 fn stamp_of(write: &BoundWrite, drawn: i64, moment: i64, number: u64) -> Stamp
     ensures { result ≡ stamp_of write.now drawn moment number }
 {
     Stamp {
-        at: time_of(write, drawn),
+        at: write.timestamp.unwrap_or(drawn),
         moment,
         number,
         ttl: write.ttl,
@@ -269,27 +250,26 @@ fn stamp_of(write: &BoundWrite, drawn: i64, moment: i64, number: u64) -> Stamp
 #[tactic(auto, unfolding(crate::specs::AtomsOf::mutation_of))]
 pub fn atoms_of(
     alloc: Global,
-    write: &BoundWrite,
+    write: BoundWrite,
     drawn: i64,
     moment: i64,
     number: u64,
 ) -> Result<Mutation, Mem>
     requires moment { moment ≤ℤ LAST_SECOND }
     requires number { number ≤ NUMBER_LIMIT }
-    requires at { LEAST_TIMESTAMP ≤ℤ unwrap_or write.now.timestamp drawn }
-    ensures { IfOk result (λ m. m ≡ mutation_of write.now drawn moment number) }
+    requires at { LEAST_TIMESTAMP ≤ℤ unwrap_or write.timestamp drawn }
+    ensures { IfOk result (λ m. m ≡ mutation_of write drawn moment number) }
 {
-    let stamp = stamp_of(write, drawn, moment, number);
-    let key = write.key.clone()?;
-    let atoms = List::from_vec(all_atoms(alloc, stamp, write.effects.as_slice())?);
+    let stamp = stamp_of(&write, drawn, moment, number);
+    let atoms = all_atoms(alloc, stamp, write.effects.into_vec())?;
     Ok(Mutation {
         table: write.table,
         shard: write.shard,
         number,
         drawn: write.timestamp.is_none(),
-        at: time_of(write, drawn),
+        at: stamp.at,
         moment,
-        key,
-        atoms,
+        key: write.key,
+        atoms: List::from_vec(atoms),
     })
 }

@@ -7,6 +7,8 @@ mod effect;
 mod reasons;
 mod refusal;
 mod stamped;
+#[cfg(test)]
+mod tests;
 mod too_large;
 
 pub use atoms::atoms_of;

@@ -1,12 +1,11 @@
 //! What is written at a stamp: livenesses, cells and deletions.
 
-ghost use Rattle.std.specs.Prelude.{◌≡◌, ◌≤ℤ◌, Some, IfOk};
+ghost use Rattle.std.specs.Prelude.{◌≡◌, ◌≤ℤ◌};
 ghost use Rattle.cas_types.specs.declared.limits.TheConstants.{LAST_SECOND, LEAST_TIMESTAMP};
 ghost use Rattle.cas_effects.specs.AtomsOf.{live_of, cell_of, deletion_of, deletion_before};
 
 use cas_cell::{Cell, Deletion, Liveness};
 use cas_types::Bytes;
-use std::alloc::AllocError;
 
 /// The greatest number of a mutation in its shard, up to which the places in lists don't overflow.
 pub const NUMBER_LIMIT: u64 = 1 << 62;
@@ -36,36 +35,30 @@ pub(crate) fn liveness(stamp: Stamp) -> Liveness
     }
 }
 
-pub(crate) fn written_cell(stamp: Stamp, value: &Bytes) -> Result<Cell, AllocError>
+pub(crate) fn cell_of(stamp: Stamp, value: Option<Bytes>) -> Cell
     requires { stamp.moment ≤ℤ LAST_SECOND }
-    ensures { IfOk result (λ c. c ≡ cell_of stamp (Some value.now)) }
-{
-    let value = value.clone()?;
-    if stamp.ttl == 0 {
-        Ok(Cell::Plain {
-            at: stamp.at,
-            value,
-        })
-    } else {
-        Ok(Cell::Expiring {
-            at: stamp.at,
-            expiry: stamp.moment + i64::from(stamp.ttl),
-            ttl: stamp.ttl,
-            value,
-        })
-    }
-}
-
-pub(crate) fn cell_of(stamp: Stamp, value: &Option<Bytes>) -> Result<Cell, AllocError>
-    requires { stamp.moment ≤ℤ LAST_SECOND }
-    ensures { IfOk result (λ c. c ≡ cell_of stamp value.now) }
+    ensures { result ≡ cell_of stamp value }
 {
     match value {
-        Some(value) => written_cell(stamp, value),
-        None => Ok(Cell::Tombstone {
+        Some(value) => {
+            if stamp.ttl == 0 {
+                Cell::Plain {
+                    at: stamp.at,
+                    value,
+                }
+            } else {
+                Cell::Expiring {
+                    at: stamp.at,
+                    expiry: stamp.moment + i64::from(stamp.ttl),
+                    ttl: stamp.ttl,
+                    value,
+                }
+            }
+        }
+        None => Cell::Tombstone {
             at: stamp.at,
             second: stamp.moment,
-        }),
+        },
     }
 }
 

@@ -1,8 +1,9 @@
 -- The bytes that a constant is as a value of a type, and none where it is no value of it.
 -- CQL documentation, "Data types: native types; constants"; the bytes are own.
-use Rattle.std.specs.Prelude.{ℕ, ℤ, pos, ◌-ℤ◌, ◌^◌, int_le, Bool, true, false, ◌&&◌, List, [], ◌∷◌, Option, None, Some, if◌then◌else◌}
+use Rattle.std.specs.Prelude.{ℕ, ℤ, pos, ◌-ℤ◌, ◌-◌, ◌^◌, int_le, Bool, true, false, ◌&&◌, List, [], ◌∷◌, Option, None, Some, if◌then◌else◌}
 use Rattle.std.specs.Bool.{then_some}
 use Rattle.std.specs.Int.{Width, w8, w16, w32, w64, cast_unsigned, to_be_bytes}
+use Rattle.cas_types.specs.declared.limits.TheConstants.{LAST_NANOSECOND}
 use Rattle.cas_types.specs.Values.{is_ascii_text, is_version_one, uuid_version}
 use Rattle.cas_types.specs.declared.tag.TypeTag.{TypeTag}
 use Rattle.cas_types.specs.declared.tag.TypeTag.TheVariants.{Ascii, BigInt, Blob, Boolean, Date, Int, SmallInt, Text, Time, Timestamp, TimeUuid, TinyInt, Uuid}
@@ -33,8 +34,8 @@ number_bytes SmallInt n = signed_bytes w16 (2 ^ 15) n
 number_bytes Int n = signed_bytes w32 (2 ^ 31) n
 number_bytes BigInt n = signed_bytes w64 (2 ^ 63) n
 number_bytes Timestamp n = signed_bytes w64 (2 ^ 63) n
-number_bytes Date n = unsigned_bytes w32 4294967295 n
-number_bytes Time n = unsigned_bytes w64 86399999999999 n
+number_bytes Date n = unsigned_bytes w32 (2 ^ 32 - 1) n
+number_bytes Time n = unsigned_bytes w64 LAST_NANOSECOND n
 number_bytes _ n = None
 
 unfoldable pub blob_bytes : TypeTag → List ℕ → Option (List ℕ)

@@ -1,20 +1,17 @@
 //! Tables and columns, by name.
 
-ghost use Rattle.std.specs.Prelude.{◌≡◌, ◌≤◌, ◌+◌, length, option_map, IfOk};
+ghost use Rattle.std.specs.Prelude.{◌≡◌, ◌≤◌, ◌+◌, length, option_map};
 ghost use Rattle.std.specs.Str.{bytes_eq};
-ghost use Rattle.std.specs.List.{find, filter_map};
+ghost use Rattle.std.specs.List.{find};
 ghost use Rattle.std.specs.Option.{option_copied};
 ghost use Rattle.cas_types.specs.Limits.{IsNarrow};
 ghost use Rattle.cas_terms.specs.Columns.{is_local, table_named, column_named, is_unknown, names_static, names_partition, names_key};
-ghost use Rattle.cas_terms.specs.Columns.{ordered_as, order_in, clustering_order, column_ref, located_from, located};
+ghost use Rattle.cas_terms.specs.Columns.{column_ref, located_from, located};
 
 use crate::names::same_name;
-use crate::optional::push_some;
 use cas_atoms::ColumnRef;
-use cas_bounds::Ordered;
-use cas_types::{Column, List, TableSchema, Text};
+use cas_types::{Column, TableSchema, Text};
 use cql_parse::TableName;
-use std::alloc::{AllocError, Global};
 
 /// The one keyspace.
 const KEYSPACE: &str = "local";
@@ -99,15 +96,6 @@ pub fn names_key(columns: &[Column], name: &str) -> bool
     }
 }
 
-pub fn ordered_as(column: &Column) -> Ordered
-    ensures { result ≡ ordered_as column.now }
-{
-    Ordered {
-        tag: column.tag,
-        descending: column.kind.is_descending(),
-    }
-}
-
 /// The column as atoms name it: its number and the type of its paths.
 pub fn column_ref(number: u16, column: &Column) -> ColumnRef
     ensures { result ≡ column_ref number column.now }
@@ -116,38 +104,6 @@ pub fn column_ref(number: u16, column: &Column) -> ColumnRef
         number,
         path: column.path_type(),
     }
-}
-
-#[tactic(auto, unfolding(crate::specs::Columns::order_in))]
-fn order_in(column: &Column) -> Option<Ordered>
-    ensures { result ≡ order_in column.now }
-{
-    if column.kind.is_clustering() {
-        Some(ordered_as(column))
-    } else {
-        None
-    }
-}
-
-fn orders(alloc: Global, columns: &[Column]) -> Result<Vec<Ordered>, AllocError>
-    ensures { IfOk result (λ v. v.items ≡ filter_map order_in columns.now) }
-{
-    let mut orders = Vec::new(alloc);
-    for column in columns {
-        push_some(&mut orders, order_in(column))?;
-    }
-    Ok(orders)
-}
-
-/// How the table orders its rows.
-#[tactic(auto, unfolding(crate::specs::Columns::clustering_order))]
-pub fn clustering_order(
-    alloc: Global,
-    columns: &[Column],
-) -> Result<List<Ordered>, AllocError>
-    ensures { IfOk result (λ l. l ≡ clustering_order columns.now) }
-{
-    Ok(List::from_vec(orders(alloc, columns)?))
 }
 
 #[tactic(auto, unfolding(crate::specs::Columns::located_from))]

@@ -1,17 +1,15 @@
 //! The bytes that constants are as values of types.
 
-ghost use Rattle.std.specs.Prelude.{◌≡◌, ◌^◌, is_some, option_map, IfOk};
+ghost use Rattle.std.specs.Prelude.{◌≡◌, ◌^◌, ◌-◌, is_some, option_map, IfOk};
 ghost use Rattle.std.specs.Bool.{then_some};
 ghost use Rattle.std.specs.Int.{w8, w16, w32, w64};
-ghost use Rattle.cas_terms.specs.Constants.{is_in_range, signed_bytes, unsigned_bytes, text_bytes, number_bytes, blob_bytes, uuid_bytes, boolean_bytes, constant_bytes, gives_no_bytes};
+ghost use Rattle.cas_types.specs.declared.limits.TheConstants.{LAST_NANOSECOND};
+ghost use Rattle.cas_terms.specs.Constants.{is_in_range, signed_bytes, unsigned_bytes, text_bytes, number_bytes, blob_bytes, uuid_bytes, boolean_bytes, constant_bytes};
 ghost use Rattle.cas_terms.specs.Inner.SpelledBytes.{spelled_bytes};
 
-use cas_types::{Bytes, TypeTag, check};
+use cas_types::{Bytes, LAST_NANOSECOND, TypeTag, check};
 use cql_parse::Constant;
 use std::alloc::{AllocError, Global};
-
-/// The most nanoseconds that a time has.
-const LAST_NANOSECOND: i128 = 86_399_999_999_999;
 
 /// The bytes of a value, without memory of their own: those of a text, a blob or a uuid where the
 /// constant has them, those of a number in the width of its type.
@@ -96,9 +94,9 @@ fn big<'a>(number: i128) -> Option<Spelled<'a>>
 }
 
 fn day<'a>(number: i128) -> Option<Spelled<'a>>
-    ensures { option_map spelled_bytes result ≡ unsigned_bytes w32 4294967295 number }
+    ensures { option_map spelled_bytes result ≡ unsigned_bytes w32 (2 ^ 32 - 1) number }
 {
-    if is_in_range(0, 4_294_967_295, number) {
+    if is_in_range(0, (1 << 32) - 1, number) {
         Some(Spelled::Four((number as u32).to_be_bytes()))
     } else {
         None
@@ -106,9 +104,9 @@ fn day<'a>(number: i128) -> Option<Spelled<'a>>
 }
 
 fn nanosecond<'a>(number: i128) -> Option<Spelled<'a>>
-    ensures { option_map spelled_bytes result ≡ unsigned_bytes w64 86399999999999 number }
+    ensures { option_map spelled_bytes result ≡ unsigned_bytes w64 LAST_NANOSECOND number }
 {
-    if is_in_range(0, LAST_NANOSECOND, number) {
+    if is_in_range(0, i128::from(LAST_NANOSECOND), number) {
         Some(Spelled::Eight((number as u64).to_be_bytes()))
     } else {
         None
@@ -191,7 +189,20 @@ pub fn spell<'a>(tag: TypeTag, constant: &'a Constant) -> Option<Spelled<'a>>
     }
 }
 
-/// The constant as a value of the type, where it is one.
+/// The value in memory of its own.
+pub(crate) fn copied(
+    alloc: Global,
+    value: Option<Spelled<'_>>,
+) -> Result<Option<Bytes>, AllocError>
+    ensures { IfOk result (λ v. v ≡ option_map spelled_bytes value.entry) }
+{
+    match value {
+        Some(value) => Ok(Some(Bytes::copy_of(alloc, value.as_slice())?)),
+        None => Ok(None),
+    }
+}
+
+/// The bytes of the constant as a value of the type, where it is one, in memory of their own.
 pub fn constant_bytes(
     alloc: Global,
     tag: TypeTag,
@@ -199,10 +210,7 @@ pub fn constant_bytes(
 ) -> Result<Option<Bytes>, AllocError>
     ensures { IfOk result (λ v. v ≡ constant_bytes tag constant.now) }
 {
-    match spell(tag, constant) {
-        Some(value) => Ok(Some(Bytes::copy_of(alloc, value.as_slice())?)),
-        None => Ok(None),
-    }
+    copied(alloc, spell(tag, constant))
 }
 
 /// Whether the constant is a value of the type.
@@ -210,14 +218,4 @@ pub fn fits(tag: TypeTag, constant: &Constant) -> bool
     ensures { result ≡ is_some (constant_bytes tag constant.now) }
 {
     spell(tag, constant).is_some()
-}
-
-/// Whether the constant is a value of the type, and one without bytes.
-pub(crate) fn is_empty_constant(tag: TypeTag, constant: &Constant) -> bool
-    ensures { result ≡ gives_no_bytes (constant_bytes tag constant.now) }
-{
-    match spell(tag, constant) {
-        Some(value) => value.as_slice().is_empty(),
-        None => false,
-    }
 }

@@ -4,18 +4,23 @@
 
 mod columns;
 mod constants;
+mod elements;
+mod fitting;
 mod names;
 mod optional;
 mod terms;
+#[cfg(test)]
+mod tests;
 
 pub use columns::{
-    clustering_order, column_named, column_ref, is_local, is_unknown, located, names_key,
-    names_partition, names_static, table_named,
+    column_named, column_ref, is_local, is_unknown, located, names_key, names_partition,
+    names_static, table_named,
 };
 pub use constants::{Spelled, constant_bytes, fits, is_in_range, spell};
+pub use elements::{
+    entry_elements, given_elements, prepended_elements, removed_elements, whole_elements,
+};
+pub use fitting::{assigned_fits, key_fits, term_fits};
 pub use names::{has_name, same_name, stands_twice};
 pub use optional::push_some;
-pub use terms::{
-    assigned_fits, entry_elements, given_elements, has_empty_value, has_value, key_fits,
-    prepended_elements, removed_elements, term_fits, term_value, whole_elements,
-};
+pub use terms::{has_empty_value, has_value, spell_term, term_value};

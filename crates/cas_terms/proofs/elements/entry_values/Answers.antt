@@ -1,7 +1,7 @@
 use Rattle.std.proofs.Common.{◌∙◌, ap, ◌++◌}
 use Rattle.std.specs.Option.{option_to_list}
 use Rattle.cas_effects.proofs.Steps.{filter_map_step}
-use Rattle.cas_terms.proofs.terms.entry_values.Goals as goal
+use Rattle.cas_terms.proofs.elements.entry_values.Goals as goal
 
 pub loop-entry-preserved : goal.loop-entry-preserved
 loop-entry-preserved c =
