@@ -2,44 +2,17 @@
 
 ghost use Rattle.std.specs.Prelude.{◌≡◌, ◌<◌, ◌≤ℤ◌, ◌^◌, pos, [], map, length, IfOk};
 ghost use Rattle.std.specs.Option.{option_copied};
-ghost use Rattle.cas_atoms.specs.Coordinates.{key_of, clustered};
-ghost use Rattle.cas_atoms.specs.Answers.{order_by_kind as order_by_kind_of, order_of as order_of_columns, is_answered as is_answered_of, answered as answered_of, turned as turned_of, is_whole as is_whole_of, with_static as with_static_of, limited as limited_of, row_shown as row_shown_of, answer as answer_of};
+ghost use Rattle.cas_atoms.specs.Coordinates.{row_key, clustered};
+ghost use Rattle.cas_atoms.specs.Answers.{AreNumbered, is_answered, answered, turned, is_whole, with_static, limited, row_shown, answer};
 
 use crate::atom::Atom;
 use crate::lives::{has_cell, is_shown};
 use crate::paths::{copy_values, rows_of};
 use crate::picks::picked;
 use crate::query::{LiveRow, Query};
-use cas_bounds::{Ordered, Slice, between};
+use cas_bounds::{Slice, between, clustering_order};
 use cas_types::{Bytes, Column, Kind, List, Mem, TypeTag};
 use std::alloc::{AllocError, Global};
-
-// How a clustering column is ordered.
-fn order_by_kind(kind: Kind, tag: TypeTag) -> Option<Ordered>
-    ensures { result ≡ order_by_kind_of kind tag }
-{
-    match kind {
-        Kind::Ascending => Some(Ordered {
-            tag,
-            descending: false,
-        }),
-        Kind::Descending => Some(Ordered {
-            tag,
-            descending: true,
-        }),
-        Kind::Partition | Kind::Static | Kind::Regular => None,
-    }
-}
-
-// How the rows of the table are ordered.
-fn order_of(alloc: Global, columns: &[Column]) -> Result<Vec<Ordered>, AllocError>
-    ensures { IfOk result (λ v. v.items ≡ order_of_columns columns.now) }
-{
-    columns
-        .iter()
-        .filter_map(|c| order_by_kind(c.kind, c.tag))
-        .collect(alloc)
-}
 
 // Whether the row is in the slice, and shown.
 fn is_answered(
@@ -49,8 +22,8 @@ fn is_answered(
     now: i64,
     values: &List<Bytes>,
 ) -> Result<bool, AllocError>
-    requires { length query.now.columns < 2 ^ 16 }
-    ensures { IfOk result (λ b. b ≡ is_answered_of query.now atoms.now now values.now) }
+    requires { AreNumbered query.now.columns }
+    ensures { IfOk result (λ b. b ≡ is_answered query.now atoms.now now values.now) }
 {
     if !between(&query.slice.lo, &query.slice.hi, values.as_slice()) {
         return Ok(false);
@@ -66,11 +39,11 @@ fn answered(
     atoms: &[Atom],
     now: i64,
 ) -> Result<Vec<List<Bytes>>, AllocError>
-    requires { length query.now.columns < 2 ^ 16 }
-    ensures { IfOk result (λ v. v.items ≡ answered_of query.now atoms.now now) }
+    requires { AreNumbered query.now.columns }
+    ensures { IfOk result (λ v. v.items ≡ answered query.now atoms.now now) }
 {
-    let order = order_of(alloc, query.columns.as_slice())?;
-    let rows = rows_of(alloc, &order, atoms)?;
+    let order = clustering_order(alloc, query.columns.as_slice())?;
+    let rows = rows_of(alloc, order.as_slice(), atoms)?;
     let mut kept = Vec::new(alloc);
     for values in &rows {
         if is_answered(alloc, query, atoms, now, values)? {
@@ -81,7 +54,7 @@ fn answered(
 }
 
 fn turned(reversed: bool, rows: Vec<List<Bytes>>) -> Vec<List<Bytes>>
-    ensures { result.items ≡ turned_of reversed rows.items }
+    ensures { result.items ≡ turned reversed rows.items }
 {
     let mut rows = rows;
     if reversed {
@@ -92,7 +65,7 @@ fn turned(reversed: bool, rows: Vec<List<Bytes>>) -> Vec<List<Bytes>>
 
 // Whether the slice restricts no clustering column.
 fn is_whole(slice: &Slice) -> bool
-    ensures { result ≡ is_whole_of slice.now }
+    ensures { result ≡ is_whole slice.now }
 {
     let begins = slice.lo.prefix.as_slice().is_empty() && !slice.lo.after;
     let ends = slice.hi.prefix.as_slice().is_empty() && slice.hi.after;
@@ -101,7 +74,7 @@ fn is_whole(slice: &Slice) -> bool
 
 // The rows by their keys, of which the static row's is `None`.
 fn keys(alloc: Global, rows: &[List<Bytes>]) -> Result<Vec<Option<List<Bytes>>>, AllocError>
-    ensures { IfOk result (λ v. map key_of v.items ≡ map clustered rows.now) }
+    ensures { IfOk result (λ v. map row_key v.items ≡ map clustered rows.now) }
 {
     let mut keys = Vec::new(alloc);
     for values in rows {
@@ -117,8 +90,8 @@ fn static_alone(
     atoms: &[Atom],
     now: i64,
 ) -> Result<Vec<Option<List<Bytes>>>, AllocError>
-    requires { length query.now.columns < 2 ^ 16 }
-    ensures { IfOk result (λ v. map key_of v.items ≡ with_static_of query.now atoms.now now []) }
+    requires { AreNumbered query.now.columns }
+    ensures { IfOk result (λ v. map row_key v.items ≡ with_static query.now atoms.now now []) }
 {
     if !is_whole(&query.slice) {
         return Ok(Vec::new(alloc));
@@ -137,8 +110,8 @@ fn with_static(
     now: i64,
     rows: &[List<Bytes>],
 ) -> Result<Vec<Option<List<Bytes>>>, AllocError>
-    requires { length query.now.columns < 2 ^ 16 }
-    ensures { IfOk result (λ v. map key_of v.items ≡ with_static_of query.now atoms.now now rows.now) }
+    requires { AreNumbered query.now.columns }
+    ensures { IfOk result (λ v. map row_key v.items ≡ with_static query.now atoms.now now rows.now) }
 {
     match rows {
         [] => static_alone(alloc, query, atoms, now),
@@ -147,7 +120,7 @@ fn with_static(
 }
 
 fn limited(limit: Option<u32>, rows: Vec<Option<List<Bytes>>>) -> Vec<Option<List<Bytes>>>
-    ensures { map key_of result.items ≡ limited_of limit (map key_of rows.items) }
+    ensures { map row_key result.items ≡ limited limit (map row_key rows.items) }
 {
     let mut rows = rows;
     if let Some(count) = limit {
@@ -166,7 +139,7 @@ fn row_shown(
     row: Option<&List<Bytes>>,
 ) -> Result<LiveRow, AllocError>
     requires { pos 0 ≤ℤ now }
-    ensures { IfOk result (λ r. r ≡ row_shown_of query.now atoms.now now (key_of (option_copied row.entry))) }
+    ensures { IfOk result (λ r. r ≡ row_shown query.now atoms.now now (row_key (option_copied row.entry))) }
 {
     let mut values = Vec::new(alloc);
     for pick in query.picks.as_slice() {
@@ -183,8 +156,8 @@ fn row_shown(
 #[tactic(auto, unfolding(crate::specs::Answers::answer))]
 pub fn answer(alloc: Global, atoms: &[Atom], query: &Query, now: i64) -> Result<Vec<LiveRow>, Mem>
     requires begun { pos 0 ≤ℤ now }
-    requires columns { length query.now.columns < 2 ^ 16 }
-    ensures { IfOk result (λ v. v.items ≡ answer_of query.now atoms.now now) }
+    requires columns { AreNumbered query.now.columns }
+    ensures { IfOk result (λ v. v.items ≡ answer query.now atoms.now now) }
 {
     let rows = turned(query.reversed, answered(alloc, query, atoms, now)?);
     let keys = limited(query.limit, with_static(alloc, query, atoms, now, &rows)?);

@@ -2,7 +2,7 @@
 
 ghost use Rattle.std.specs.Prelude.{◌≡◌, take, drop, IfOk};
 ghost use Rattle.std.specs.Int.{w16, from_be_bytes};
-ghost use Rattle.cas_atoms.specs.Keys.{components as components_of, key_values as key_values_of};
+ghost use Rattle.cas_atoms.specs.Keys.{components, key_values};
 
 use cas_types::Bytes;
 use std::alloc::{AllocError, Global};
@@ -33,7 +33,7 @@ fn length_in_front(key: &[u8]) -> u16
 }
 
 fn components(alloc: Global, count: usize, key: &[u8]) -> Result<Vec<Bytes>, AllocError>
-    ensures { IfOk result (λ v. v.items ≡ components_of count key.now) }
+    ensures { IfOk result (λ v. v.items ≡ components count key.now) }
 {
     let mut values = Vec::new(alloc);
     let mut rest = key;
@@ -47,7 +47,7 @@ fn components(alloc: Global, count: usize, key: &[u8]) -> Result<Vec<Bytes>, All
 
 /// The values of a key of so many columns.
 pub(crate) fn key_values(alloc: Global, count: usize, key: &[u8]) -> Result<Vec<Bytes>, AllocError>
-    ensures { IfOk result (λ v. v.items ≡ key_values_of count key.now) }
+    ensures { IfOk result (λ v. v.items ≡ key_values count key.now) }
 {
     match count {
         0 => Ok(Vec::new(alloc)),

@@ -2,9 +2,9 @@
 
 ghost use Rattle.std.specs.Prelude.{◌≡◌, ◌+◌, ◌<◌, ◌^◌, ◌&&◌, not, length, IfOk};
 ghost use Rattle.std.specs.Option.{option_copied};
-ghost use Rattle.cas_atoms.specs.Coordinates.{key_of};
-ghost use Rattle.cas_atoms.specs.Paths.{alive_paths as alive_paths_of};
-ghost use Rattle.cas_atoms.specs.Answers.{is_empty, has_kind as has_kind_of, has_cell as has_cell_of, is_living as is_living_of, is_shown as is_shown_of};
+ghost use Rattle.cas_atoms.specs.Coordinates.{row_key};
+ghost use Rattle.cas_atoms.specs.Paths.{alive_paths};
+ghost use Rattle.cas_atoms.specs.Answers.{AreNumbered, is_empty, has_kind, has_cell, is_living, is_shown};
 
 use crate::atom::Atom;
 use crate::paths::alive_paths;
@@ -15,11 +15,11 @@ use std::alloc::{AllocError, Global};
 
 // Whether the row has columns of that kind.
 fn has_kind(row: Option<&List<Bytes>>, kind: Kind) -> bool
-    ensures { result ≡ has_kind_of (key_of (option_copied row.entry)) kind }
+    ensures { result ≡ has_kind (row_key (option_copied row.entry)) kind }
 {
     match row {
-        Some(_) => kind == Kind::Regular,
-        None => kind == Kind::Static,
+        Some(_) => kind.is_regular(),
+        None => kind.is_static(),
     }
 }
 
@@ -32,7 +32,7 @@ fn column_has_cell(
     number: u16,
     column: &Column,
 ) -> Result<bool, AllocError>
-    ensures { IfOk result (λ b. b ≡ (has_kind_of (key_of (option_copied row.entry)) column.now.kind && not (is_empty (alive_paths_of atoms.now now (key_of (option_copied row.entry)) number column.now)))) }
+    ensures { IfOk result (λ b. b ≡ (has_kind (row_key (option_copied row.entry)) column.now.kind && not (is_empty (alive_paths atoms.now now (row_key (option_copied row.entry)) number column.now)))) }
 {
     if !has_kind(row, column.kind) {
         return Ok(false);
@@ -51,7 +51,7 @@ pub(crate) fn has_cell(
     columns: &[Column],
 ) -> Result<bool, AllocError>
     requires { number + length columns.now < 2 ^ 16 }
-    ensures { IfOk result (λ b. b ≡ has_cell_of atoms.now now (key_of (option_copied row.entry)) number columns.now) }
+    ensures { IfOk result (λ b. b ≡ has_cell atoms.now now (row_key (option_copied row.entry)) number columns.now) }
 {
     match columns {
         [] => Ok(false),
@@ -66,7 +66,7 @@ pub(crate) fn has_cell(
 }
 
 fn is_living(now: i64, live: Option<Liveness>) -> bool
-    ensures { result ≡ is_living_of now live }
+    ensures { result ≡ is_living now live }
 {
     match live {
         Some(live) => live_alive(&live, now),
@@ -82,8 +82,8 @@ pub(crate) fn is_shown(
     columns: &[Column],
     values: &List<Bytes>,
 ) -> Result<bool, AllocError>
-    requires { length columns.now < 2 ^ 16 }
-    ensures { IfOk result (λ b. b ≡ is_shown_of atoms.now now columns.now values.now) }
+    requires { AreNumbered columns.now }
+    ensures { IfOk result (λ b. b ≡ is_shown atoms.now now columns.now values.now) }
 {
     if is_living(now, live_winner(atoms, values)) {
         return Ok(true);

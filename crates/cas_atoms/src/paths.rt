@@ -2,18 +2,20 @@
 //! in order.
 
 ghost use Rattle.std.specs.Prelude.{◌≡◌, ◌≤◌, length, insert, filter, IfOk, OnOk, MatchOption};
+ghost use Rattle.std.specs.Bool.{then_some};
 ghost use Rattle.std.specs.Option.{option_copied};
+ghost use Rattle.cas_types.specs.Schemas.{path_type};
 ghost use Rattle.cas_bounds.specs.Orders.{values_cmp};
-ghost use Rattle.cas_atoms.specs.Coordinates.{path, key_of, where_true};
-ghost use Rattle.cas_atoms.specs.Winners.{cell_winner as cell_winner_of};
-ghost use Rattle.cas_atoms.specs.Paths.{put, put_some, ordered, written_row as written_row_of, written_path as written_path_of, rows_of as rows_of_list, path_cmp, is_alive as is_alive_of, alive_paths as alive_paths_of};
+ghost use Rattle.cas_atoms.specs.Coordinates.{path, row_key};
+ghost use Rattle.cas_atoms.specs.Winners.{cell_winner};
+ghost use Rattle.cas_atoms.specs.Paths.{put, put_some, ordered, written_row, written_path, rows_of, path_cmp, is_alive, alive_paths};
 
 use crate::atom::Atom;
 use crate::coordinates::same_row;
 use crate::winners::cell_winner;
 use cas_bounds::{Ordered, compare_values};
 use cas_cell::{Cell, alive};
-use cas_types::{Bytes, Column, List, Shape, TypeTag, compare, compare_bytes};
+use cas_types::{Bytes, Column, List, TypeTag, compare, compare_bytes};
 use std::alloc::{AllocError, Global};
 use std::cmp::Ordering;
 
@@ -55,7 +57,7 @@ fn put_row(
 
 // The row that the atom writes in.
 fn written_row(atom: &Atom) -> Option<&List<Bytes>>
-    ensures { option_copied result ≡ written_row_of atom.now }
+    ensures { option_copied result ≡ written_row atom.now }
 {
     match atom {
         Atom::Live(c, _) => Some(&c.values),
@@ -69,7 +71,7 @@ fn put_written_row(
     rows: &mut Vec<List<Bytes>>,
     atom: &Atom,
 ) -> Result<(), AllocError>
-    ensures { OnOk result (rows.new.items ≡ put_some (values_cmp order.now) rows.old.items (written_row_of atom.now)) }
+    ensures { OnOk result (rows.new.items ≡ put_some (values_cmp order.now) rows.old.items (written_row atom.now)) }
 {
     match written_row(atom) {
         Some(values) => put_row(order, rows, values),
@@ -83,7 +85,7 @@ pub(crate) fn rows_of(
     order: &[Ordered],
     atoms: &[Atom],
 ) -> Result<Vec<List<Bytes>>, AllocError>
-    ensures { IfOk result (λ v. v.items ≡ rows_of_list order.now atoms.now) }
+    ensures { IfOk result (λ v. v.items ≡ rows_of order.now atoms.now) }
 {
     let mut rows = Vec::new(alloc);
     for atom in atoms {
@@ -92,23 +94,23 @@ pub(crate) fn rows_of(
     Ok(rows)
 }
 
-// The order of the paths of a column of that shape and type.
-fn compare_paths(shape: Shape, tag: TypeTag, a: &[u8], b: &[u8]) -> Ordering
-    ensures { result ≡ path_cmp shape tag a.now b.now }
+// The order of the paths of a column that has that type of paths, or none.
+fn compare_paths(tag: Option<TypeTag>, a: &[u8], b: &[u8]) -> Ordering
+    ensures { result ≡ path_cmp tag a.now b.now }
 {
-    match shape {
-        Shape::One | Shape::List => compare_bytes(a, b),
-        Shape::Set | Shape::Map => compare(tag, a, b),
+    match tag {
+        None => compare_bytes(a, b),
+        Some(tag) => compare(tag, a, b),
     }
 }
 
 // Where the path is to be put, if it isn't there.
-fn place_of_path(shape: Shape, tag: TypeTag, paths: &[Bytes], key: &Bytes) -> Option<usize>
-    ensures { MatchOption result (put (path_cmp shape tag) key.now paths.now ≡ paths.now)
-        (λ i. (i ≤ length paths.now) × (put (path_cmp shape tag) key.now paths.now ≡ insert paths.now i key.now)) }
+fn place_of_path(tag: Option<TypeTag>, paths: &[Bytes], key: &Bytes) -> Option<usize>
+    ensures { MatchOption result (put (path_cmp tag) key.now paths.now ≡ paths.now)
+        (λ i. (i ≤ length paths.now) × (put (path_cmp tag) key.now paths.now ≡ insert paths.now i key.now)) }
 {
     for (i, other) in paths.iter().enumerate() {
-        match compare_paths(shape, tag, key.as_slice(), other.as_slice()) {
+        match compare_paths(tag, key.as_slice(), other.as_slice()) {
             Ordering::Less => return Some(i),
             Ordering::Equal => return None,
             Ordering::Greater => {}
@@ -118,14 +120,13 @@ fn place_of_path(shape: Shape, tag: TypeTag, paths: &[Bytes], key: &Bytes) -> Op
 }
 
 fn put_path(
-    shape: Shape,
-    tag: TypeTag,
+    tag: Option<TypeTag>,
     paths: &mut Vec<Bytes>,
     key: &Bytes,
 ) -> Result<(), AllocError>
-    ensures { OnOk result (paths.new.items ≡ put (path_cmp shape tag) key.now paths.old.items) }
+    ensures { OnOk result (paths.new.items ≡ put (path_cmp tag) key.now paths.old.items) }
 {
-    if let Some(i) = place_of_path(shape, tag, paths, key) {
+    if let Some(i) = place_of_path(tag, paths, key) {
         let copy = key.clone()?;
         paths.insert(i, copy)?;
     }
@@ -133,14 +134,14 @@ fn put_path(
 }
 
 fn path_where(holds: bool, bytes: &Bytes) -> Option<&Bytes>
-    ensures { option_copied result ≡ where_true holds bytes.now }
+    ensures { option_copied result ≡ then_some holds bytes.now }
 {
     if holds { Some(bytes) } else { None }
 }
 
 // The path that the atom writes in that column of the row.
 fn written_path<'a>(row: Option<&List<Bytes>>, number: u16, atom: &'a Atom) -> Option<&'a Bytes>
-    ensures { option_copied result ≡ written_path_of (key_of (option_copied row.entry)) number atom.now }
+    ensures { option_copied result ≡ written_path (row_key (option_copied row.entry)) number atom.now }
 {
     match atom {
         Atom::Write(c, column, bytes, _) => {
@@ -163,10 +164,10 @@ fn put_written_path(
     number: u16,
     atom: &Atom,
 ) -> Result<(), AllocError>
-    ensures { OnOk result (paths.new.items ≡ put_some (path_cmp column.now.shape column.now.tag) paths.old.items (written_path_of (key_of (option_copied row.entry)) number atom.now)) }
+    ensures { OnOk result (paths.new.items ≡ put_some (path_cmp (path_type column.now.shape column.now.tag)) paths.old.items (written_path (row_key (option_copied row.entry)) number atom.now)) }
 {
     match written_path(row, number, atom) {
-        Some(bytes) => put_path(column.shape, column.tag, paths, bytes),
+        Some(bytes) => put_path(column.path_type(), paths, bytes),
         None => Ok(()),
     }
 }
@@ -179,7 +180,7 @@ fn written_paths(
     number: u16,
     column: &Column,
 ) -> Result<Vec<Bytes>, AllocError>
-    ensures { IfOk result (λ v. v.items ≡ ordered (path_cmp column.now.shape column.now.tag) (written_path_of (key_of (option_copied row.entry)) number) atoms.now) }
+    ensures { IfOk result (λ v. v.items ≡ ordered (path_cmp (path_type column.now.shape column.now.tag)) (written_path (row_key (option_copied row.entry)) number) atoms.now) }
 {
     let mut paths = Vec::new(alloc);
     for atom in atoms {
@@ -190,7 +191,7 @@ fn written_paths(
 
 // Whether there is a cell that shows its value at the moment.
 fn is_alive(now: i64, cell: Option<&Cell>) -> bool
-    ensures { result ≡ is_alive_of now (option_copied cell.entry) }
+    ensures { result ≡ is_alive now (option_copied cell.entry) }
 {
     match cell {
         Some(cell) => alive(cell, now),
@@ -206,7 +207,7 @@ fn path_lives(
     number: u16,
     bytes: &Bytes,
 ) -> bool
-    ensures { result ≡ is_alive_of now (cell_winner_of atoms.now (path (key_of (option_copied row.entry)) number bytes.now)) }
+    ensures { result ≡ is_alive now (cell_winner atoms.now (path (row_key (option_copied row.entry)) number bytes.now)) }
 {
     is_alive(now, cell_winner(atoms, row, number, bytes.as_slice()))
 }
@@ -220,7 +221,7 @@ pub(crate) fn alive_paths(
     number: u16,
     column: &Column,
 ) -> Result<Vec<Bytes>, AllocError>
-    ensures { IfOk result (λ v. v.items ≡ alive_paths_of atoms.now now (key_of (option_copied row.entry)) number column.now) }
+    ensures { IfOk result (λ v. v.items ≡ alive_paths atoms.now now (row_key (option_copied row.entry)) number column.now) }
 {
     let written = written_paths(alloc, atoms, row, number, column)?;
     let mut paths = Vec::new(alloc);

@@ -4,9 +4,10 @@
 ghost use Rattle.std.specs.Prelude.{◌≡◌, ◌≤ℤ◌, pos, IsTrue, take, slice_get, IfOk, IfSome};
 ghost use Rattle.std.specs.List.{count_by};
 ghost use Rattle.std.specs.Option.{option_copied, option_map};
+ghost use Rattle.cas_types.specs.Schemas.{is_partition, is_clustering};
 ghost use Rattle.cas_cell.specs.Cells.{cell_at, cell_lives};
-ghost use Rattle.cas_atoms.specs.Coordinates.{key_of};
-ghost use Rattle.cas_atoms.specs.Picks.{is_partition, is_clustering, number_or_null as number_or_null_of, partition_value as partition_value_of, clustering_value as clustering_value_of, regular_value as regular_value_of, value_by_kind as value_by_kind_of, column_value as column_value_of, cell_by_kind as cell_by_kind_of, picked_cell as picked_cell_of, left_of as left_of_cell, picked as picked_of};
+ghost use Rattle.cas_atoms.specs.Coordinates.{row_key};
+ghost use Rattle.cas_atoms.specs.Picks.{number_or_null, partition_value, clustering_value, regular_value, value_by_kind, column_value, cell_by_kind, picked_cell, left_of, picked};
 
 use crate::atom::Atom;
 use crate::keys::key_values;
@@ -21,7 +22,7 @@ fn partition_count(columns: &[Column]) -> usize
 {
     columns
         .iter()
-        .filter(|c| matches!(c.kind, Kind::Partition))
+        .filter(|c| c.kind.is_partition())
         .count()
 }
 
@@ -31,7 +32,7 @@ fn clustering_count(columns: &[Column], number: usize) -> usize
 {
     columns[..number.min(columns.len())]
         .iter()
-        .filter(|c| matches!(c.kind, Kind::Ascending | Kind::Descending))
+        .filter(|c| c.kind.is_clustering())
         .count()
 }
 
@@ -46,7 +47,7 @@ fn value_at(values: &[Bytes], place: usize) -> Option<&[u8]>
 }
 
 fn number_or_null(number: Option<i64>) -> Datum
-    ensures { result ≡ number_or_null_of number }
+    ensures { result ≡ number_or_null number }
 {
     match number {
         Some(number) => Datum::Number(number),
@@ -61,7 +62,7 @@ fn partition_value(
     number: u16,
     tag: TypeTag,
 ) -> Result<Datum, AllocError>
-    ensures { IfOk result (λ d. d ≡ partition_value_of query.now number tag) }
+    ensures { IfOk result (λ d. d ≡ partition_value query.now number tag) }
 {
     let count = partition_count(query.columns.as_slice());
     let values = key_values(alloc, count, query.key.as_slice())?;
@@ -76,7 +77,7 @@ fn clustering_value(
     number: u16,
     tag: TypeTag,
 ) -> Result<Datum, AllocError>
-    ensures { IfOk result (λ d. d ≡ clustering_value_of query.now (key_of (option_copied row.entry)) number tag) }
+    ensures { IfOk result (λ d. d ≡ clustering_value query.now (row_key (option_copied row.entry)) number tag) }
 {
     match row {
         Some(values) => {
@@ -96,7 +97,7 @@ fn regular_value(
     number: u16,
     column: &Column,
 ) -> Result<Datum, AllocError>
-    ensures { IfOk result (λ d. d ≡ regular_value_of atoms.now now (key_of (option_copied row.entry)) number column.now) }
+    ensures { IfOk result (λ d. d ≡ regular_value atoms.now now (row_key (option_copied row.entry)) number column.now) }
 {
     match row {
         Some(_) => shown_value(alloc, atoms, now, row, number, column),
@@ -113,7 +114,7 @@ fn value_by_kind(
     number: u16,
     column: &Column,
 ) -> Result<Datum, AllocError>
-    ensures { IfOk result (λ d. d ≡ value_by_kind_of column.now.kind query.now atoms.now now (key_of (option_copied row.entry)) number column.now) }
+    ensures { IfOk result (λ d. d ≡ value_by_kind column.now.kind query.now atoms.now now (row_key (option_copied row.entry)) number column.now) }
 {
     match column.kind {
         Kind::Partition => partition_value(alloc, query, number, column.tag),
@@ -139,7 +140,7 @@ fn column_value(
     number: u16,
     column: Option<&Column>,
 ) -> Result<Datum, AllocError>
-    ensures { IfOk result (λ d. d ≡ column_value_of query.now atoms.now now (key_of (option_copied row.entry)) number (option_copied column.entry)) }
+    ensures { IfOk result (λ d. d ≡ column_value query.now atoms.now now (row_key (option_copied row.entry)) number (option_copied column.entry)) }
 {
     match column {
         Some(column) => value_by_kind(alloc, query, atoms, now, row, number, column),
@@ -154,7 +155,7 @@ fn cell_by_kind<'a>(
     row: Option<&List<Bytes>>,
     number: u16,
 ) -> Option<&'a Cell>
-    ensures cell { option_copied result ≡ cell_by_kind_of kind atoms.now now (key_of (option_copied row.entry)) number }
+    ensures cell { option_copied result ≡ cell_by_kind kind atoms.now now (row_key (option_copied row.entry)) number }
     ensures alive { IfSome result (λ c. IsTrue (cell_lives now c.now)) }
 {
     match (kind, row) {
@@ -172,7 +173,7 @@ fn picked_cell<'a>(
     row: Option<&List<Bytes>>,
     number: u16,
 ) -> Option<&'a Cell>
-    ensures cell { option_copied result ≡ picked_cell_of query.now atoms.now now (key_of (option_copied row.entry)) number (slice_get query.now.columns number) }
+    ensures cell { option_copied result ≡ picked_cell query.now atoms.now now (row_key (option_copied row.entry)) number (slice_get query.now.columns number) }
     ensures alive { IfSome result (λ c. IsTrue (cell_lives now c.now)) }
 {
     match column_at(query, number) {
@@ -185,7 +186,7 @@ fn picked_cell<'a>(
 fn seconds_left(now: i64, cell: Option<&Cell>) -> Option<i64>
     requires begun { pos 0 ≤ℤ now }
     requires alive { IfSome cell (λ c. IsTrue (cell_lives now c.now)) }
-    ensures { result ≡ left_of_cell now (option_copied cell.entry) }
+    ensures { result ≡ left_of now (option_copied cell.entry) }
 {
     match cell {
         Some(Cell::Expiring { expiry, .. }) => Some(*expiry - now),
@@ -213,7 +214,7 @@ pub(crate) fn picked(
     pick: Pick,
 ) -> Result<Datum, AllocError>
     requires { pos 0 ≤ℤ now }
-    ensures { IfOk result (λ d. d ≡ picked_of query.now atoms.now now (key_of (option_copied row.entry)) pick) }
+    ensures { IfOk result (λ d. d ≡ picked query.now atoms.now now (row_key (option_copied row.entry)) pick) }
 {
     match pick {
         Pick::Value(number) => {

@@ -4,8 +4,8 @@ ghost use Rattle.std.specs.Prelude.{◌≡◌, IsTrue, map, IfOk, IfSome};
 ghost use Rattle.std.specs.Option.{option_copied};
 ghost use Rattle.cas_types.specs.declared.schema.Shape.TheVariants as shape;
 ghost use Rattle.cas_cell.specs.Cells.{cell_lives};
-ghost use Rattle.cas_atoms.specs.Coordinates.{key_of};
-ghost use Rattle.cas_atoms.specs.Picks.{one_or_null as one_or_null_of, set_or_null as set_or_null_of, list_or_null as list_or_null_of, map_or_null as map_or_null_of, living as living_of, plain_cell as plain_cell_of, element_value as element_value_of, type_or_blob, shown_by_shape, shown_value as shown_value_of};
+ghost use Rattle.cas_atoms.specs.Coordinates.{row_key};
+ghost use Rattle.cas_atoms.specs.Picks.{one_or_null, set_or_null, list_or_null, map_or_null, living, plain_cell, shown_element, shown_by_shape, shown_value};
 
 use crate::atom::Atom;
 use crate::paths::alive_paths;
@@ -21,7 +21,7 @@ pub(crate) fn one_or_null(
     tag: TypeTag,
     value: Option<&[u8]>,
 ) -> Result<Datum, AllocError>
-    ensures { IfOk result (λ d. d ≡ one_or_null_of tag (option_copied value.entry)) }
+    ensures { IfOk result (λ d. d ≡ one_or_null tag (option_copied value.entry)) }
 {
     match value {
         Some(bytes) => Ok(Datum::One(tag, Bytes::copy_of(alloc, bytes)?)),
@@ -30,7 +30,7 @@ pub(crate) fn one_or_null(
 }
 
 fn set_or_null(tag: TypeTag, values: Vec<Bytes>) -> Datum
-    ensures { result ≡ set_or_null_of tag values.items }
+    ensures { result ≡ set_or_null tag values.items }
 {
     if values.is_empty() {
         Datum::Null
@@ -40,7 +40,7 @@ fn set_or_null(tag: TypeTag, values: Vec<Bytes>) -> Datum
 }
 
 fn list_or_null(tag: TypeTag, values: Vec<Bytes>) -> Datum
-    ensures { result ≡ list_or_null_of tag values.items }
+    ensures { result ≡ list_or_null tag values.items }
 {
     if values.is_empty() {
         Datum::Null
@@ -50,7 +50,7 @@ fn list_or_null(tag: TypeTag, values: Vec<Bytes>) -> Datum
 }
 
 fn map_or_null(keys: TypeTag, values: TypeTag, entries: Vec<(Bytes, Bytes)>) -> Datum
-    ensures { result ≡ map_or_null_of keys values entries.items }
+    ensures { result ≡ map_or_null keys values entries.items }
 {
     if entries.is_empty() {
         Datum::Null
@@ -61,7 +61,7 @@ fn map_or_null(keys: TypeTag, values: TypeTag, entries: Vec<(Bytes, Bytes)>) -> 
 
 // The cell, where it is alive at the moment.
 fn living(now: i64, cell: Option<&Cell>) -> Option<&Cell>
-    ensures cell { option_copied result ≡ living_of now (option_copied cell.entry) }
+    ensures cell { option_copied result ≡ living now (option_copied cell.entry) }
     ensures alive { IfSome result (λ c. IsTrue (cell_lives now c.now)) }
 {
     match cell {
@@ -77,20 +77,20 @@ pub(crate) fn plain_cell<'a>(
     row: Option<&List<Bytes>>,
     number: u16,
 ) -> Option<&'a Cell>
-    ensures cell { option_copied result ≡ plain_cell_of atoms.now now (key_of (option_copied row.entry)) number }
+    ensures cell { option_copied result ≡ plain_cell atoms.now now (row_key (option_copied row.entry)) number }
     ensures alive { IfSome result (λ c. IsTrue (cell_lives now c.now)) }
 {
     living(now, cell_winner(atoms, row, number, &[]))
 }
 
 // The value of an element of a list, or of a key of a map.
-fn element_value<'a>(
+fn shown_element<'a>(
     atoms: &'a [Atom],
     row: Option<&List<Bytes>>,
     number: u16,
     bytes: &[u8],
 ) -> &'a [u8]
-    ensures { result.now ≡ element_value_of atoms.now (key_of (option_copied row.entry)) number bytes.now }
+    ensures { result.now ≡ shown_element atoms.now (row_key (option_copied row.entry)) number bytes.now }
 {
     match cell_winner(atoms, row, number, bytes) {
         Some(cell) => cell.value(),
@@ -106,11 +106,11 @@ fn element_values(
     number: u16,
     paths: &[Bytes],
 ) -> Result<Vec<Bytes>, AllocError>
-    ensures { IfOk result (λ v. v.items ≡ map (element_value_of atoms.now (key_of (option_copied row.entry)) number) paths.now) }
+    ensures { IfOk result (λ v. v.items ≡ map (shown_element atoms.now (row_key (option_copied row.entry)) number) paths.now) }
 {
     let mut values = Vec::new(alloc);
     for bytes in paths {
-        let value = element_value(atoms, row, number, bytes.as_slice());
+        let value = shown_element(atoms, row, number, bytes.as_slice());
         values.push(Bytes::copy_of(alloc, value)?)?;
     }
     Ok(values)
@@ -124,11 +124,11 @@ fn map_entries(
     number: u16,
     paths: &[Bytes],
 ) -> Result<Vec<(Bytes, Bytes)>, AllocError>
-    ensures { IfOk result (λ v. v.items ≡ map (λ p. (p, element_value_of atoms.now (key_of (option_copied row.entry)) number p)) paths.now) }
+    ensures { IfOk result (λ v. v.items ≡ map (λ p. (p, shown_element atoms.now (row_key (option_copied row.entry)) number p)) paths.now) }
 {
     let mut entries = Vec::new(alloc);
     for bytes in paths {
-        let value = element_value(atoms, row, number, bytes.as_slice());
+        let value = shown_element(atoms, row, number, bytes.as_slice());
         entries.push((bytes.clone()?, Bytes::copy_of(alloc, value)?))?;
     }
     Ok(entries)
@@ -142,7 +142,7 @@ fn shown_list(
     number: u16,
     column: &Column,
 ) -> Result<Datum, AllocError>
-    ensures { IfOk result (λ d. d ≡ shown_by_shape shape.List atoms.now now (key_of (option_copied row.entry)) number column.now) }
+    ensures { IfOk result (λ d. d ≡ shown_by_shape shape.List atoms.now now (row_key (option_copied row.entry)) number column.now) }
 {
     let paths = alive_paths(alloc, atoms, now, row, number, column)?;
     Ok(list_or_null(
@@ -159,21 +159,11 @@ fn shown_map(
     number: u16,
     column: &Column,
 ) -> Result<Datum, AllocError>
-    ensures { IfOk result (λ d. d ≡ shown_by_shape shape.Map atoms.now now (key_of (option_copied row.entry)) number column.now) }
+    ensures { IfOk result (λ d. d ≡ shown_by_shape shape.Map atoms.now now (row_key (option_copied row.entry)) number column.now) }
 {
     let paths = alive_paths(alloc, atoms, now, row, number, column)?;
     let entries = map_entries(alloc, atoms, row, number, &paths)?;
-    Ok(map_or_null(column.tag, value_type(column.second), entries))
-}
-
-// The type of a map's values.
-fn value_type(second: Option<TypeTag>) -> TypeTag
-    ensures { result ≡ type_or_blob second }
-{
-    match second {
-        Some(tag) => tag,
-        None => TypeTag::Blob,
-    }
+    Ok(map_or_null(column.tag, column.value_type(), entries))
 }
 
 fn shown_one(
@@ -184,7 +174,7 @@ fn shown_one(
     number: u16,
     column: &Column,
 ) -> Result<Datum, AllocError>
-    ensures { IfOk result (λ d. d ≡ shown_by_shape shape.One atoms.now now (key_of (option_copied row.entry)) number column.now) }
+    ensures { IfOk result (λ d. d ≡ shown_by_shape shape.One atoms.now now (row_key (option_copied row.entry)) number column.now) }
 {
     match plain_cell(atoms, now, row, number) {
         Some(cell) => one_or_null(alloc, column.tag, Some(cell.value())),
@@ -201,7 +191,7 @@ pub(crate) fn shown_value(
     number: u16,
     column: &Column,
 ) -> Result<Datum, AllocError>
-    ensures { IfOk result (λ d. d ≡ shown_value_of atoms.now now (key_of (option_copied row.entry)) number column.now) }
+    ensures { IfOk result (λ d. d ≡ shown_value atoms.now now (row_key (option_copied row.entry)) number column.now) }
 {
     match column.shape {
         Shape::One => shown_one(alloc, atoms, now, row, number, column),

@@ -6,8 +6,8 @@ ghost use Rattle.cas_cell.specs.Deletions.{deletion_cmp};
 ghost use Rattle.cas_cell.specs.Lives.{live_at, live_cmp};
 ghost use Rattle.cas_cell.specs.Cells.{cell_at, cell_cmp};
 ghost use Rattle.cas_atoms.specs.Greatest.{greater};
-ghost use Rattle.cas_atoms.specs.Coordinates.{row, path, key_of};
-ghost use Rattle.cas_atoms.specs.Winners.{cover, standing, live_winner as live_winner_of, cell_winner as cell_winner_of};
+ghost use Rattle.cas_atoms.specs.Coordinates.{row, path, row_key};
+ghost use Rattle.cas_atoms.specs.Winners.{cover, standing, live_winner, cell_winner};
 
 use crate::atom::Atom;
 use crate::coordinates::{cell_at_path, deletion_at_path, deletion_at_row, live_at_row};
@@ -80,7 +80,7 @@ fn path_cover(
     number: u16,
     bytes: &[u8],
 ) -> Option<Deletion>
-    ensures { result ≡ cover atoms.now (path (key_of (option_copied row.entry)) number bytes.now) }
+    ensures { result ≡ cover atoms.now (path (row_key (option_copied row.entry)) number bytes.now) }
 {
     let mut best = None;
     for atom in atoms {
@@ -91,7 +91,7 @@ fn path_cover(
 
 /// What tells that a row lives: the greatest liveness at it that isn't covered.
 pub(crate) fn live_winner(atoms: &[Atom], values: &List<Bytes>) -> Option<Liveness>
-    ensures { result ≡ live_winner_of atoms.now values.now }
+    ensures { result ≡ live_winner atoms.now values.now }
 {
     let over = row_cover(atoms, values);
     let mut best = None;
@@ -109,7 +109,7 @@ pub(crate) fn cell_winner<'a>(
     number: u16,
     bytes: &[u8],
 ) -> Option<&'a Cell>
-    ensures { option_copied result ≡ cell_winner_of atoms.now (path (key_of (option_copied row.entry)) number bytes.now) }
+    ensures { option_copied result ≡ cell_winner atoms.now (path (row_key (option_copied row.entry)) number bytes.now) }
 {
     let over = path_cover(atoms, row, number, bytes);
     let mut best = None;

@@ -1,7 +1,7 @@
 //! Reads a whole script, up to a limit.
 ghost use Rattle.std.specs.Prelude.{◌≡◌, ◌+◌, ◌≤◌, length, ℕ, IfOk, IfErr};
 ghost use Rattle.cas_io.specs.Causes.{Rose};
-ghost use Rattle.cas_io.specs.Told.{ReadToEnd, TookCount, TookAtMost, WhyNoScript};
+ghost use Rattle.cas_io.specs.Streams.{ReadToEnd, TookCount, TookAtMost, WhyNoScript};
 
 use crate::fault::Failed;
 use crate::source::Source;
@@ -14,7 +14,7 @@ pub enum ScriptFault {
     Read,
     /// More bytes came than the limit: `taken` of them were taken, which is one more.
     TooLong { taken: u64 },
-    /// Want of memory.
+    /// Out of memory.
     Mem,
 }
 
