@@ -8,10 +8,10 @@ use Rattle.cas_types.specs.declared.schema.TableSchema.{TableSchema}
 use Rattle.cas_types.specs.declared.schema.Column.{Column}
 use Rattle.cql_parse.specs.declared.syntax.CreateTable.{CreateTable}
 use Rattle.cql_parse.specs.declared.syntax.AlterTable.{AlterTable}
-use Rattle.cas_define.specs.Refusals.{first_of, refusal_for}
-use Rattle.cas_define.specs.declared.reasons.Reasons.{Reasons}
-use Rattle.cas_define.specs.declared.refusal.Refusal.{Refusal}
-use Rattle.cas_define.specs.declared.refusal.Refusal.TheVariants.{NoTable, NoColumn, WrongType, MissingKey, BadRestriction, BadOption, TableExists, EmptyKey, TtlTooLarge, BadDefinition}
+use Rattle.cas_effects.specs.Refusals.{first_of, refusal_for}
+use Rattle.cas_effects.specs.declared.reasons.Reasons.{Reasons}
+use Rattle.cas_effects.specs.declared.refusal.Refusal.{Refusal}
+use Rattle.cas_effects.specs.declared.refusal.Refusal.TheVariants.{NoTable, NoColumn, WrongType, MissingKey, BadRestriction, BadOption, TableExists, EmptyKey, TtlTooLarge, BadDefinition}
 use Rattle.cas_define.specs.Limits.{too_many_tables, too_many_columns}
 use Rattle.cas_define.specs.Schemas.{columns_of, added_column}
 use Rattle.cas_define.specs.CreateReasons.{create_reasons}

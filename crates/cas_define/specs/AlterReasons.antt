@@ -6,11 +6,11 @@ use Rattle.cas_types.specs.declared.schema.Column.{Column}
 use Rattle.cas_types.specs.declared.schema.TableSchema.{TableSchema}
 use Rattle.cql_parse.specs.declared.syntax.AddedColumn.{AddedColumn}
 use Rattle.cql_parse.specs.declared.syntax.AlterTable.{AlterTable}
-use Rattle.cas_define.specs.Refusals.{no_reason, refusal_for}
-use Rattle.cas_define.specs.declared.reasons.Reasons.{Reasons}
-use Rattle.cas_define.specs.declared.refusal.Refusal.{Refusal}
-use Rattle.cas_define.specs.Names.{stands_twice}
-use Rattle.cas_define.specs.Columns.{is_unknown, clustering_columns}
+use Rattle.cas_effects.specs.Refusals.{no_reason, refusal_for}
+use Rattle.cas_effects.specs.declared.reasons.Reasons.{Reasons}
+use Rattle.cas_effects.specs.declared.refusal.Refusal.{Refusal}
+use Rattle.cas_terms.specs.Names.{stands_twice}
+use Rattle.cas_terms.specs.Columns.{is_unknown, clustering_columns}
 use Rattle.cas_define.specs.Outcomes.{outcome}
 use Rattle.cas_define.specs.Limits.{has_name_length, too_many_columns}
 use Rattle.cas_define.specs.Schemas.{addition_of}

@@ -6,10 +6,10 @@ use Rattle.std.specs.Option.{option_or}
 use Rattle.std.specs.Str.{bytes_eq}
 use Rattle.cas_types.specs.declared.schema.TableSchema.{TableSchema}
 use Rattle.cql_parse.specs.declared.syntax.CreateTable.{CreateTable}
-use Rattle.cas_define.specs.Refusals.{no_reason, refusal_for}
-use Rattle.cas_define.specs.declared.reasons.Reasons.{Reasons}
-use Rattle.cas_define.specs.declared.refusal.Refusal.{Refusal}
-use Rattle.cas_define.specs.Columns.{is_local}
+use Rattle.cas_effects.specs.Refusals.{no_reason, refusal_for}
+use Rattle.cas_effects.specs.declared.reasons.Reasons.{Reasons}
+use Rattle.cas_effects.specs.declared.refusal.Refusal.{Refusal}
+use Rattle.cas_terms.specs.Columns.{is_local}
 use Rattle.cas_define.specs.Outcomes.{outcome}
 use Rattle.cas_define.specs.CreateTests.{create_is_malformed}
 use Rattle.cas_define.specs.Options.{options_fit}

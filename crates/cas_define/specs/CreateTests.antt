@@ -10,7 +10,7 @@ use Rattle.cql_parse.specs.declared.syntax.DefinedColumn.{DefinedColumn}
 use Rattle.cql_parse.specs.declared.syntax.PrimaryKey.{PrimaryKey}
 use Rattle.cql_parse.specs.declared.syntax.TableOption.{TableOption}
 use Rattle.cql_parse.specs.declared.syntax.TableOption.TheVariants as table_option
-use Rattle.cas_define.specs.Names.{stands_twice}
+use Rattle.cas_terms.specs.Names.{stands_twice}
 use Rattle.cas_define.specs.Limits.{has_name_length, is_table_name}
 use Rattle.cas_define.specs.Schemas.{shape_of, columns_defined, defined_named, keys_said, key_names}
 

@@ -1,6 +1,3 @@
-pub mod Refusals
-pub mod Names
-pub mod Columns
 pub mod CreateReasons
 pub mod CreateTests
 pub mod AlterReasons

@@ -6,9 +6,9 @@ use Rattle.std.specs.Char.{is_ascii_alphanumeric}
 use Rattle.std.specs.List.{list_all}
 use Rattle.cas_types.specs.declared.limits.TheConstants.{COLUMN_LIMIT}
 use Rattle.cas_define.specs.declared.limits.TheConstants.{NAME_LIMIT, TABLE_LIMIT}
-use Rattle.cas_define.specs.declared.refusal.Refusal.{Refusal}
-use Rattle.cas_define.specs.declared.refusal.Refusal.TheVariants.{TooMany}
-use Rattle.cas_define.specs.declared.refusal.Counted.TheVariants as counted
+use Rattle.cas_effects.specs.declared.refusal.Refusal.{Refusal}
+use Rattle.cas_effects.specs.declared.refusal.Refusal.TheVariants.{TooMany}
+use Rattle.cas_effects.specs.declared.refusal.Counted.TheVariants as counted
 
 -- 1 to 48 bytes: `""` has none, and `"ä"` two
 unfoldable pub has_name_length : List ℕ → Bool

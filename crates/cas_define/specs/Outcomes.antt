@@ -1,9 +1,9 @@
 -- What a statement comes to, or why it is refused.
 -- Own: a refused statement changes nothing, and running out of memory is no refusal.
 use Rattle.std.specs.Prelude.{◌≡◌, Option, None, Some, Result, Ok, Err}
-use Rattle.cas_define.specs.declared.refusal.Refusal.{Refusal}
-use Rattle.cas_define.specs.declared.refusal.BindFault.{BindFault}
-use Rattle.cas_define.specs.declared.refusal.BindFault.TheVariants as fault
+use Rattle.cas_effects.specs.declared.refusal.Refusal.{Refusal}
+use Rattle.cas_effects.specs.declared.refusal.BindFault.{BindFault}
+use Rattle.cas_effects.specs.declared.refusal.BindFault.TheVariants as fault
 
 -- what the statement comes to, unless there is a refusal
 abbrev pub outcome : {X : Type 0} → Option Refusal → X → Result X Refusal

@@ -11,7 +11,7 @@ use Rattle.cas_types.specs.declared.schema.Unit.TheVariants as unit
 use Rattle.cql_lex.specs.Numbers.{number_value, ratio_value}
 use Rattle.cql_parse.specs.declared.term.Setting.{Setting}
 use Rattle.cql_parse.specs.declared.term.Setting.TheVariants as setting
-use Rattle.cas_define.specs.Columns.{is_in_range}
+use Rattle.cas_terms.specs.Constants.{is_in_range}
 use Rattle.cas_define.specs.declared.ranges.OptionRange.{OptionRange}
 
 -- what is given, where it can be read, and else the default

@@ -3,18 +3,16 @@
 ghost use Rattle.std.specs.Prelude.{◌≡◌, ◌+◌, ◌++◌, map, length, IfOk};
 ghost use Rattle.std.specs.List.{list_all, list_any};
 ghost use Rattle.cas_types.specs.Limits.{IsNarrow};
-ghost use Rattle.cas_define.specs.Columns.{clustering_columns};
+ghost use Rattle.cas_terms.specs.Columns.{clustering_columns};
 ghost use Rattle.cas_define.specs.AlterReasons.{is_new_name, alter_is_malformed, alter_reasons, alter_means};
 ghost use Rattle.cas_define.specs.Limits.{too_many_columns};
 ghost use Rattle.cas_define.specs.Outcomes.{Binds};
 
 use crate::addition::Addition;
-use crate::columns::is_unknown;
 use crate::limits::{has_name_length, too_many_columns};
-use crate::names::stands_twice;
-use crate::reasons::Reasons;
-use crate::refusal::{BindFault, Refusal};
 use crate::schemas::addition_of;
+use cas_effects::{BindFault, Reasons, Refusal};
+use cas_terms::{is_unknown, stands_twice};
 use cas_types::{Column, TableSchema, Text};
 use cql_parse::{AddedColumn, AlterTable};
 use std::alloc::{AllocError, Global};
@@ -65,8 +63,10 @@ fn alter_is_malformed(
     let columns = table.columns.as_slice();
     let added = alter.added.as_slice();
     let names = names_added(alloc, added)?;
-    Ok(stands_twice(&names)
-        || (!are_new(columns, added) || (adds_static(added) && clustering_count(columns) == 0)))
+    Ok(
+        stands_twice(&names)
+            || (!are_new(columns, added) || (adds_static(added) && clustering_count(columns) == 0)),
+    )
 }
 
 #[tactic(auto, unfolding(crate::specs::Limits::too_many_columns))]

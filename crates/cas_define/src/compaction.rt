@@ -7,12 +7,12 @@ ghost use Rattle.cas_types.specs.declared.schema.Unit.TheVariants as unit;
 ghost use Rattle.cas_define.specs.Settings.{value_or, is_readable, unit_setting, strategy_setting};
 ghost use Rattle.cas_define.specs.Options.{is_keyed, suboption_named, suboption_number, suboption_fits, strategy_given, is_suboption, thresholds_fit, sized_fit, leveled_fit, window_fits, compaction_fits};
 
-use crate::names::same_name;
 use crate::ranges::{
     BUCKET_HIGH, BUCKET_LOW, COMPACTION_WINDOW_SIZE, FANOUT_SIZE, MAX_THRESHOLD, MIN_SSTABLE_SIZE,
     MIN_THRESHOLD, OptionRange, SSTABLE_SIZE_IN_MB,
 };
 use crate::settings::{number_setting, strategy_setting, unit_setting};
+use cas_terms::same_name;
 use cas_types::{Strategy, Unit};
 use cql_parse::{Setting, Suboption};
 

@@ -11,15 +11,12 @@ ghost use Rattle.cas_define.specs.CreateTests.{names_defined, option_name, optio
 ghost use Rattle.cas_define.specs.CreateReasons.{create_reasons, create_means};
 ghost use Rattle.cas_define.specs.Outcomes.{Binds};
 
-use crate::columns::is_local;
 use crate::limits::{has_name_length, is_table_name, too_many_columns, too_many_tables};
-use crate::names::{same_name, stands_twice};
-use crate::optional::push_some;
 use crate::options::options_fit;
 use crate::parts::{columns_defined, defined_named, key_names, keys_said};
-use crate::reasons::{Reasons, either};
-use crate::refusal::BindFault;
 use crate::schemas::{columns_of, schema_of, shape_of};
+use cas_effects::{BindFault, Reasons, either};
+use cas_terms::{is_local, push_some, same_name, stands_twice};
 use cas_types::{TableSchema, Text};
 use cql_parse::{ColumnOrder, CreateTable, DefinedColumn, PrimaryKey, TableOption};
 use std::alloc::{AllocError, Global};
@@ -112,9 +109,11 @@ fn key_fits_table(
     let names = key_names(key)?;
     let clustering = key.clustering.as_slice();
     let options = create.options.as_slice();
-    Ok(all_may_be_key(columns, &names)
-        && (!stands_twice(&names)
-            && (orders_fit(clustering, options) && statics_fit(clustering, columns))))
+    Ok(
+        all_may_be_key(columns, &names)
+            && (!stands_twice(&names)
+                && (orders_fit(clustering, options) && statics_fit(clustering, columns))),
+    )
 }
 
 #[tactic(auto, unfolding(crate::specs::CreateTests::one_key_fits))]
@@ -179,10 +178,12 @@ fn create_is_malformed(alloc: Global, create: &CreateTable) -> Result<bool, Allo
     let key_fits = one_key_fits(create, &columns, &keys)?;
     let names = names_defined(alloc, &columns)?;
     let options = option_names(alloc, create.options.as_slice())?;
-    Ok(!key_fits
-        || (stands_twice(&names)
-            || (stands_twice(&options)
-                || (!is_table_name(create.table.name.as_str()) || !have_name_length(&names)))))
+    Ok(
+        !key_fits
+            || (stands_twice(&names)
+                || (stands_twice(&options)
+                    || (!is_table_name(create.table.name.as_str()) || !have_name_length(&names)))),
+    )
 }
 
 fn table_exists(tables: &[TableSchema], name: &Text) -> bool

@@ -4,17 +4,12 @@
 
 mod addition;
 mod alter;
-mod columns;
 mod compaction;
 mod create;
 mod limits;
-mod names;
-mod optional;
 mod options;
 mod parts;
 mod ranges;
-mod reasons;
-mod refusal;
 mod schemas;
 mod settings;
 
@@ -22,6 +17,3 @@ pub use addition::Addition;
 pub use alter::bind_alter;
 pub use create::bind_create;
 pub use limits::{NAME_LIMIT, TABLE_LIMIT};
-pub use ranges::OptionRange;
-pub use reasons::Reasons;
-pub use refusal::{BindFault, Counted, Refusal};

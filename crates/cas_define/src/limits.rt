@@ -5,7 +5,7 @@ ghost use Rattle.std.specs.Char.{is_ascii_alphanumeric};
 ghost use Rattle.std.specs.List.{list_all};
 ghost use Rattle.cas_define.specs.Limits.{has_name_length, is_table_name, too_many_tables, too_many_columns};
 
-use crate::refusal::{Counted, Refusal};
+use cas_effects::{Counted, Refusal};
 use cas_types::COLUMN_LIMIT;
 
 /// The most tables.

@@ -7,13 +7,13 @@ ghost use Rattle.cas_define.specs.Settings.{value_or, is_readable};
 ghost use Rattle.cas_define.specs.Options.{is_option_named, value_given, option_given, is_known_option, whole_option, map_option, compaction_given, options_fit, options_of, suboption_number};
 
 use crate::compaction::{compaction_fits, strategy_given, suboption_number, unit_given};
-use crate::names::same_name;
 use crate::ranges::{
     BUCKET_HIGH, BUCKET_LOW, COMPACTION_WINDOW_SIZE, DEFAULT_TIME_TO_LIVE, FANOUT_SIZE,
     GC_GRACE_SECONDS, MAX_THRESHOLD, MIN_SSTABLE_SIZE, MIN_THRESHOLD, OptionRange,
     SSTABLE_SIZE_IN_MB,
 };
 use crate::settings::number_in_range;
+use cas_terms::same_name;
 use cas_types::Options;
 use cql_parse::{Constant, OptionValue, Suboption, TableOption};
 
@@ -162,11 +162,7 @@ pub(crate) fn options_of(options: &[TableOption]) -> Options
     let given = compaction_given(options);
     Options {
         gc_grace_seconds: seconds_given(options, "gc_grace_seconds", &GC_GRACE_SECONDS),
-        default_time_to_live: seconds_given(
-            options,
-            "default_time_to_live",
-            &DEFAULT_TIME_TO_LIVE,
-        ),
+        default_time_to_live: seconds_given(options, "default_time_to_live", &DEFAULT_TIME_TO_LIVE),
         strategy: strategy_given(given),
         min_threshold: small(given, "min_threshold", &MIN_THRESHOLD),
         max_threshold: small(given, "max_threshold", &MAX_THRESHOLD),

@@ -6,8 +6,7 @@ ghost use Rattle.std.specs.List.{list_any};
 ghost use Rattle.std.specs.Option.{option_copied};
 ghost use Rattle.cas_define.specs.Schemas.{column_item, columns_defined, defined_named, key_item, keys_said, key_names, orders_descending};
 
-use crate::names::same_name;
-use crate::optional::push_some;
+use cas_terms::{push_some, same_name};
 use cas_types::{List, Text};
 use cql_parse::{ColumnOrder, DefinedColumn, Item, PrimaryKey, TableOption};
 use std::alloc::{AllocError, Global};

@@ -8,10 +8,9 @@ ghost use Rattle.cas_define.specs.Schemas.{shape_of, first_type, second_type, co
 ghost use Rattle.cas_define.specs.Schemas.{key_names, other_column, columns_with, columns_of, schema_of, added_column, addition_of};
 
 use crate::addition::Addition;
-use crate::names::has_name;
-use crate::optional::push_some;
 use crate::options::options_of;
 use crate::parts::{columns_defined, defined_named, key_names, keys_said, orders_descending};
+use cas_terms::{has_name, push_some};
 use cas_types::{Column, Kind, List, Shape, TableSchema, Text, TypeTag};
 use cql_parse::{
     AddedColumn, AlterTable, ColumnType, CreateTable, DefinedColumn, PrimaryKey, TableOption,
@@ -66,7 +65,11 @@ fn column_of(kind: Kind, name: &Text, column_type: ColumnType) -> Result<Column,
 fn other_kind(is_static: bool) -> Kind
     ensures { result ≡ other_kind is_static }
 {
-    if is_static { Kind::Static } else { Kind::Regular }
+    if is_static {
+        Kind::Static
+    } else {
+        Kind::Regular
+    }
 }
 
 fn is_descending(options: &[TableOption], name: &str) -> bool

@@ -5,8 +5,8 @@ ghost use Rattle.std.specs.Option.{option_and_then, option_or};
 ghost use Rattle.cql_lex.specs.Numbers.{number_value, ratio_value};
 ghost use Rattle.cas_define.specs.Settings.{number_in_range, whole_setting, ratio_setting, number_setting, unit_setting, strategy_setting};
 
-use crate::columns::is_in_range;
 use crate::ranges::OptionRange;
+use cas_terms::is_in_range;
 use cas_types::{Strategy, Unit};
 use cql_lex::{number_of, ratio_of};
 use cql_parse::Setting;

@@ -1,5 +1,5 @@
 use Rattle.std.proofs.Common.{◌∙◌, sym, ap}
-use Rattle.cas_define.specs.Refusals.{refusal_for}
+use Rattle.cas_effects.specs.Refusals.{refusal_for}
 use Rattle.cas_define.specs.Schemas.{addition_of}
 use Rattle.cas_define.specs.AlterReasons.{alter_means}
 use Rattle.cas_define.specs.Outcomes.{outcome}
