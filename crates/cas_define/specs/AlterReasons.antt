@@ -1,5 +1,6 @@
 -- What an ALTER TABLE ADD is refused for, and what it comes to.
--- CQL documentation, "Data definition: ALTER TABLE". Of several reasons the first in the order of `refusal_for` counts; that there is no such table is told before.
+-- CQL documentation, "Data definition: ALTER TABLE". Of several reasons the first in the order of `refusal_for` counts; that there is no such table
+-- is told before.
 use Rattle.std.specs.Prelude.{ℕ, ◌+◌, ◌==◌, Bool, not, ◌&&◌, ◌||◌, List, map, length, Result}
 use Rattle.std.specs.List.{list_all, list_any}
 use Rattle.cas_types.specs.declared.schema.Column.{Column}
@@ -16,17 +17,18 @@ use Rattle.cas_define.specs.Limits.{has_name_length, too_many_columns}
 use Rattle.cas_define.specs.Schemas.{addition_of}
 use Rattle.cas_define.specs.declared.addition.Addition.{Addition}
 
--- the table has no column of the name, which is one that a column can have
+-- the table has no column of the name, and the name is neither empty nor too long
 unfoldable pub is_new_name : List Column → List ℕ → Bool
 is_new_name cs n = is_unknown cs n && has_name_length n
 
--- a column that stands twice or that isn't new, or a static one in a table without clustering columns
+-- a name stands twice or isn't new, or a column is static in a table without clustering columns
 unfoldable pub alter_is_malformed : TableSchema → AlterTable → Bool
 alter_is_malformed t a =
     stands_twice (map (λ c. c.name) a.added) || (not (list_all (λ c. is_new_name t.columns c.name) a.added)
     || (list_any (λ c. c.is_static) a.added && (length (clustering_columns t.columns) == 0)))
 
--- a bad definition, or more columns than a table may have
+-- bad_definition: `ALTER TABLE t ADD v int` where there is a `v`, or `ALTER TABLE t ADD n int, n text`
+-- too_many: with the columns that are added the table has more than 256
 unfoldable pub alter_reasons : TableSchema → AlterTable → Reasons
 alter_reasons t a =
     record no_reason {

@@ -16,7 +16,11 @@ use Rattle.cas_define.specs.Options.{options_fit}
 use Rattle.cas_define.specs.Limits.{too_many_tables, too_many_columns}
 use Rattle.cas_define.specs.Schemas.{columns_of, schema_of}
 
--- another keyspace than `local`; a table that is there; a bad definition; an option that the table can't have; one table or column too many
+-- no_table: the keyspace isn't `local`, as in `CREATE TABLE other.t ..`
+-- table_exists: there is a table of the name
+-- bad_definition: the definition contradicts itself, as `CREATE TABLE t (k int)`, which has no key
+-- bad_option: `WITH comment = 'a'`, which there isn't here, or `WITH gc_grace_seconds = -1`, which is out of range
+-- too_many: there are 64 tables already, or the table has more than 256 columns
 unfoldable pub create_reasons : List TableSchema → CreateTable → Reasons
 create_reasons tables c =
     record no_reason {

@@ -1,4 +1,4 @@
--- What makes the definition of a CREATE TABLE a bad one. `CreateReasons` says which of it is refused, and as what.
+-- What makes the definition of a CREATE TABLE a bad one, which `CreateReasons` refuses.
 -- CQL documentation, "Data definition: CREATE TABLE, the primary key, static columns, clustering order".
 use Rattle.std.specs.Prelude.{ℕ, ◌==◌, nat_lt, nat_le, Bool, true, false, not, ◌&&◌, ◌||◌, List, [], ◌∷◌, map, filter, length, Option, None, Some}
 use Rattle.std.specs.List.{filter_map, list_all, list_any, zip}
@@ -18,7 +18,7 @@ use Rattle.cas_define.specs.Schemas.{shape_of, columns_defined, defined_named, k
 unfoldable pub may_be_key : List DefinedColumn → List ℕ → Bool
 may_be_key ds n = option_map_or (λ d. is_plain (shape_of d.column_type) && not d.is_static) (defined_named ds n) false
 
--- a CLUSTERING ORDER BY names all clustering columns in their order: of the key (k, c, d) `(c DESC, d)`, and neither `(c)` nor `(d, c)`
+-- a CLUSTERING ORDER BY names all clustering columns in their order: `(c DESC, d)` of the key (k, c, d), and neither `(c)` nor `(d, c)`
 unfoldable pub order_fits : List (List ℕ) → TableOption → Bool
 order_fits ns (table_option.ClusteringOrder os) = (length os == length ns) && list_all (λ p. bytes_eq p.0.name p.1) (zip os ns)
 order_fits ns (table_option.Named o) = true
@@ -60,7 +60,8 @@ option_name (table_option.ClusteringOrder os) = None
 unfoldable pub option_names : List TableOption → List (List ℕ)
 option_names os = filter_map option_name os
 
--- not one key that fits, a column or an option that stands twice, or a name that a table or a column can't have
+-- there isn't one key that fits, as in `(k int)`; a column or an option stands twice, as in `(k int PRIMARY KEY, v int, v text)`;
+-- or a table or a column has a name that it can't have
 unfoldable pub create_is_malformed : CreateTable → Bool
 create_is_malformed c =
     not (one_key_fits c (keys_said c.items)) || (stands_twice (names_defined (columns_defined c.items)) || (stands_twice (option_names c.options)

@@ -28,11 +28,11 @@ unfoldable pub is_keyed : List ℕ → Setting → Bool
 is_keyed n (setting.Text t) = bytes_eq t n
 is_keyed n _ = false
 
--- what the suboption of the name is given; of two with one name the later counts
+-- what the suboption of the name is given; of two with one name the later counts, as of `{'min_threshold': 4, 'min_threshold': 8}`
 unfoldable pub suboption_named : List ℕ → List Suboption → Option Setting
 suboption_named n ss = option_map (λ s. s.value) (find (λ s. is_keyed n s.key) (reverse ss))
 
--- the suboption is as it is given, and else as its default
+-- the number that the suboption is given, and without one its default
 unfoldable pub suboption_number : List Suboption → List ℕ → OptionRange → ℕ
 suboption_number ss n r = value_or (number_setting r) r.default (suboption_named n ss)
 
@@ -40,13 +40,14 @@ suboption_number ss n r = value_or (number_setting r) r.default (suboption_named
 unfoldable pub suboption_fits : List Suboption → List ℕ → OptionRange → Bool
 suboption_fits ss n r = is_readable (number_setting r) (suboption_named n ss)
 
--- the strategy is that of `class`, and without it size-tiered
+-- the strategy that `class` names, and without it size-tiered
 abbrev pub strategy_given : List Suboption → Strategy
 strategy_given ss = value_or strategy_setting strategy.SizeTiered (suboption_named (codes "class") ss)
 
--- the suboptions that size-tiered compaction has
+-- the suboptions that size-tiered compaction has, and time-window compaction with it
 abbrev pub sized_names : List (List ℕ)
-sized_names = codes "class" ∷ codes "min_threshold" ∷ codes "max_threshold" ∷ codes "bucket_low" ∷ codes "bucket_high" ∷ codes "min_sstable_size" ∷ []
+sized_names =
+    codes "class" ∷ codes "min_threshold" ∷ codes "max_threshold" ∷ codes "bucket_low" ∷ codes "bucket_high" ∷ codes "min_sstable_size" ∷ []
 
 -- the suboptions that a strategy has
 abbrev pub suboption_names : Strategy → List (List ℕ)
@@ -87,7 +88,7 @@ compaction_fits ss =
 
 -- ---- options
 
--- the option of the name; CLUSTERING ORDER BY has none
+-- the option has the name; CLUSTERING ORDER BY has none
 unfoldable pub is_option_named : List ℕ → TableOption → Bool
 is_option_named n (table_option.Named o) = bytes_eq o.name n
 is_option_named n (table_option.ClusteringOrder os) = false
@@ -117,7 +118,7 @@ unfoldable pub map_option : OptionValue → Option (List Suboption)
 map_option (value.Suboptions ss) = Some ss
 map_option _ = None
 
--- what `compaction` is given, and else nothing
+-- the suboptions that `compaction` is given
 abbrev pub compaction_given : List TableOption → List Suboption
 compaction_given os = value_or map_option [] (option_given (codes "compaction") os)
 

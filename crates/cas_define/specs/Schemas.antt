@@ -1,5 +1,6 @@
 -- The table that a CREATE TABLE makes, and the columns that an ALTER TABLE adds.
--- CQL documentation, "Data definition: CREATE TABLE, the primary key, static columns, clustering order; ALTER TABLE". Columns stand in the order: partition key, clustering columns, the others (own).
+-- CQL documentation, "Data definition: CREATE TABLE, the primary key, static columns, clustering order; ALTER TABLE".
+-- That the key's columns stand before the others is own.
 use Rattle.std.specs.Prelude.{ℕ, Bool, false, ◌&&◌, List, [], ◌∷◌, ◌++◌, map, length, Option, None, Some, option_map, slice_get, if◌then◌else◌}
 use Rattle.std.specs.List.{find, filter_map, list_any}
 use Rattle.std.specs.Option.{option_map_or}
@@ -112,7 +113,7 @@ columns_with options ds k = filter_map (key_column options ds k) (key_names k) +
 unfoldable pub columns_of : CreateTable → List Column
 columns_of c = option_map_or (columns_with c.options (columns_defined c.items)) (slice_get (keys_said c.items) 0) []
 
--- the next table
+-- the table, whose number is that of the tables before it
 unfoldable pub schema_of : List TableSchema → CreateTable → TableSchema
 schema_of tables c = record { number = length tables; name = c.table.name; columns = columns_of c; options = options_of c.options }
 

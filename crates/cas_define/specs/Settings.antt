@@ -1,6 +1,7 @@
 -- How the value of an option is read: a number in its range, a strategy, a unit.
 -- CQL documentation, "Data definition: table options, compaction options". That a ratio counts in whole hundredths is own.
-use Rattle.std.specs.Prelude.{ℕ, ℤ, pos, ◌*ℤ◌, Bool, true, ◌||◌, List, ◌++◌, Option, None, Some, option_map, is_some, unwrap_or, unsigned_abs, codes, if◌then◌else◌}
+use Rattle.std.specs.Prelude.{ℕ, ℤ, pos, ◌*ℤ◌, unsigned_abs, Bool, true, ◌||◌, List, ◌++◌, codes, if◌then◌else◌}
+use Rattle.std.specs.Prelude.{Option, None, Some, option_map, is_some, unwrap_or}
 use Rattle.std.specs.Bool.{then_some}
 use Rattle.std.specs.Option.{option_and_then, option_or, option_map_or}
 use Rattle.std.specs.Str.{bytes_eq}

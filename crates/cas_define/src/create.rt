@@ -222,7 +222,7 @@ fn create_reasons(
 
 /// The table that the CREATE TABLE makes, or why it is refused. The table stands at its number, and it
 /// has no more columns than a table may have.
-#[tactic(auto, unfolding(crate::specs::CreateReasons::create_means, crate::specs::Schemas::schema_of), using(crate::proofs::Reasoning::few_tables, crate::proofs::Reasoning::few_columns))]
+#[tactic(auto, unfolding(crate::specs::CreateReasons::create_means), using(crate::proofs::Reasoning::few_tables, crate::proofs::Reasoning::few_columns))]
 pub fn bind_create(
     alloc: Global,
     tables: &[TableSchema],

@@ -1,10 +1,11 @@
 //! The options of a table.
 
-ghost use Rattle.std.specs.Prelude.{◌≡◌, ◌≤◌, ◌<◌, ◌^◌, IfSome};
+ghost use Rattle.std.specs.Prelude.{◌≡◌, ◌≤◌, ◌<◌, ◌^◌, codes, IfSome};
 ghost use Rattle.std.specs.Option.{option_copied};
 ghost use Rattle.std.specs.List.{find, list_all};
 ghost use Rattle.cas_define.specs.Settings.{value_or, is_readable};
-ghost use Rattle.cas_define.specs.Options.{is_option_named, value_given, option_given, is_known_option, whole_option, map_option, compaction_given, options_fit, options_of, suboption_number};
+ghost use Rattle.cas_define.specs.Options.{is_option_named, value_given, option_given, is_known_option, whole_option, map_option};
+ghost use Rattle.cas_define.specs.Options.{compaction_given, options_fit, options_of, suboption_number};
 
 use crate::compaction::{compaction_fits, strategy_given, suboption_number, unit_given};
 use crate::ranges::{
@@ -118,7 +119,7 @@ fn compaction_given(options: &[TableOption]) -> &[Suboption]
 
 #[tactic(auto, unfolding(crate::specs::Options::map_option))]
 fn is_map_given(options: &[TableOption]) -> bool
-    ensures { result ≡ is_readable map_option (option_given (Rattle.std.specs.Prelude.codes "compaction") options.now) }
+    ensures { result ≡ is_readable map_option (option_given (codes "compaction") options.now) }
 {
     match option_given("compaction", options) {
         Some(OptionValue::Suboptions(_)) => true,

@@ -194,7 +194,9 @@ pub(crate) fn schema_of(
 ) -> Result<TableSchema, AllocError>
     requires few { length tables.now < 2 ^ 16 }
     requires columns { columns.items ≡ columns_of create.now }
-    ensures { IfOk result (λ t. t ≡ schema_of tables.now create.now) }
+    ensures made { IfOk result (λ t. t ≡ schema_of tables.now create.now) }
+    ensures numbered { IfOk result (λ t. t.number ≡ length tables.now) }
+    ensures columns { IfOk result (λ t. t.columns ≡ columns_of create.now) }
 {
     Ok(TableSchema {
         number: tables.len() as u16,

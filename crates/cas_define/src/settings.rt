@@ -49,7 +49,8 @@ fn hundreds_in_range(range: &OptionRange, number: i128) -> Option<u64>
 }
 
 fn spelled_in_range(range: &OptionRange, text: &[u8]) -> Option<u64>
-    ensures number { result ≡ option_and_then (number_in_range range.now) (option_or (ratio_value text.now) (option_map (λ n. n *ℤ pos 100) (number_value text.now))) }
+    ensures number { result ≡ option_and_then (number_in_range range.now)
+        (option_or (ratio_value text.now) (option_map (λ n. n *ℤ pos 100) (number_value text.now))) }
     ensures within { IfSome result (λ n. n ≤ range.now.greatest) }
 {
     match ratio_of(text) {
