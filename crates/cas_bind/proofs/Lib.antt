@@ -3,3 +3,6 @@ pub mod UsingLemmas
 pub mod Changed
 pub mod EffectLemmas
 pub mod RowLemmas
+pub mod TableLemmas
+pub mod KeptTables
+pub mod Kept

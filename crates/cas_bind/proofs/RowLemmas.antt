@@ -4,6 +4,7 @@ use Rattle.std.specs.Bool.{then_some}
 use Rattle.std.specs.Option.{option_or}
 use Rattle.cas_types.specs.declared.limits.TheConstants.{LEAST_TIMESTAMP, GREATEST_TIMESTAMP, TTL_LIMIT}
 use Rattle.cas_types.specs.declared.schema.TableSchema.{TableSchema}
+use Rattle.cas_define.specs.Outcomes.{outcome}
 use Rattle.cas_effects.specs.Refusals.{first_of, refusal_for}
 use Rattle.cas_effects.specs.TooLarge.{too_large, write_too_large}
 use Rattle.cas_effects.specs.declared.reasons.Reasons.{Reasons}
@@ -21,7 +22,7 @@ use Rattle.cql_parse.specs.declared.syntax.Statement.{Statement}
 use Rattle.cql_parse.specs.declared.syntax.Statement.TheVariants as statement
 use Rattle.cas_bind.specs.Changes.{bound_change}
 use Rattle.cas_bind.specs.Inner.Gives.{WriteGives, ReadGives}
-use Rattle.cas_bind.specs.Meaning.{outcome, change_means, select_means}
+use Rattle.cas_bind.specs.Meaning.{change_means, select_means}
 use Rattle.cas_bind.specs.RowFaults.{is_outside, orders_otherwise, reads_otherwise, restricts_otherwise}
 use Rattle.cas_bind.specs.RowReasons.{row_reasons}
 use Rattle.cas_bind.specs.Selects.{bound_select, read_too_large}

@@ -1,8 +1,9 @@
 //! What a statement is to do, once its names and constants are those of a table.
 
 use cas_atoms::Query;
+use cas_define::Addition;
 use cas_effects::BoundWrite;
-use cas_types::{Column, List, TableSchema};
+use cas_types::TableSchema;
 
 /// The limits that a store was opened with: its number of shards, the bytes of a log segment and of
 /// a memtable, and how many compactors there are.
@@ -21,13 +22,6 @@ pub enum Bound {
     Alter(Addition),
     Write(BoundWrite),
     Read(BoundRead),
-}
-
-/// The columns that an ALTER TABLE adds to a table.
-#[derive(Drop)]
-pub struct Addition {
-    pub table: u16,
-    pub columns: List<Column>,
 }
 
 /// A SELECT of one partition, which lies in the shard.

@@ -289,32 +289,33 @@ fn deletion_effect(
     Ok(Effect::Range(slice.lo, slice.hi))
 }
 
-fn live_effect(
-    alloc: Global,
+fn with_live(
     is_static: bool,
-    row: &Clustering,
+    row: Clustering,
+    effects: Vec<Effect>,
 ) -> Result<Vec<Effect>, AllocError>
-    ensures { IfOk result (λ v. v.items ≡ live_effect is_static row.now) }
+    ensures { IfOk result (λ v. v.items ≡ live_effect is_static row ++ effects.items) }
 {
-    let mut effects = Vec::new(alloc);
+    let mut effects = effects;
     if !is_static {
-        effects.push(Effect::Live(row.copied()?))?;
+        effects.insert(0, Effect::Live(row))?;
     }
     Ok(effects)
 }
 
-fn deletion_of(
+fn with_deletion(
     alloc: Global,
     columns: &[Column],
     targets: &[Target],
     relations: &[Relation],
+    effects: Vec<Effect>,
 ) -> Result<Vec<Effect>, AllocError>
-    ensures { IfOk result (λ v. v.items ≡ deletion_of targets.now (deletion_effect columns.now relations.now)) }
+    ensures { IfOk result (λ v. v.items ≡ deletion_of targets.now (deletion_effect columns.now relations.now) ++ effects.items) }
 {
-    let mut effects = Vec::new(alloc);
+    let mut effects = effects;
     match targets {
         [] => {
-            effects.push(deletion_effect(alloc, columns, relations)?)?;
+            effects.insert(0, deletion_effect(alloc, columns, relations)?)?;
             Ok(effects)
         }
         [_target, _more @ ..] => Ok(effects),
@@ -322,29 +323,32 @@ fn deletion_of(
 }
 
 #[tactic(auto, unfolding(crate::specs::Changes::row_effects))]
-fn row_effects(
+fn with_row_effects(
     alloc: Global,
     columns: &[Column],
-    row: &Clustering,
+    row: Clustering,
     statement: &Statement,
+    effects: Vec<Effect>,
 ) -> Result<Vec<Effect>, AllocError>
-    requires { row.now ≡ clustered_row (key_terms_of statement.now) columns.now }
-    ensures { IfOk result (λ v. v.items ≡ row_effects columns.now statement.now) }
+    requires { row ≡ clustered_row (key_terms_of statement.now) columns.now }
+    ensures { IfOk result (λ v. v.items ≡ row_effects columns.now statement.now ++ effects.items) }
 {
     match statement {
         Statement::Insert(insert) => {
-            live_effect(alloc, inserts_static(columns, insert.columns.as_slice()), row)
+            let is_static = inserts_static(columns, insert.columns.as_slice());
+            with_live(is_static, row, effects)
         }
-        Statement::Delete(delete) => deletion_of(
+        Statement::Delete(delete) => with_deletion(
             alloc,
             columns,
             delete.targets.as_slice(),
             delete.relations.as_slice(),
+            effects,
         ),
-        Statement::Create(_) => Ok(Vec::new(alloc)),
-        Statement::Alter(_) => Ok(Vec::new(alloc)),
-        Statement::Update(_) => Ok(Vec::new(alloc)),
-        Statement::Select(_) => Ok(Vec::new(alloc)),
+        Statement::Create(_) => Ok(effects),
+        Statement::Alter(_) => Ok(effects),
+        Statement::Update(_) => Ok(effects),
+        Statement::Select(_) => Ok(effects),
     }
 }
 
@@ -359,7 +363,8 @@ pub(crate) fn effects_of(
     ensures { IfOk result (λ v. v ≡ effects_of columns.now statement.now) }
 {
     let row = clustered_row(alloc, key_terms_of(statement), columns)?;
-    let mut effects = row_effects(alloc, columns, &row, statement)?;
+    let mut effects = Vec::new(alloc);
     push_changes(alloc, columns, &row, statement, &mut effects)?;
+    let effects = with_row_effects(alloc, columns, row, statement, effects)?;
     Ok(List::from_vec(effects))
 }

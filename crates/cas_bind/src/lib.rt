@@ -10,9 +10,12 @@ mod reads;
 mod row_reasons;
 mod selects;
 mod statements;
+#[cfg(test)]
+mod tests;
 mod types_used;
 mod using;
 mod writes;
 
-pub use bound::{Addition, Bound, BoundRead, Limits};
+pub use bound::{Bound, BoundRead, Limits};
+pub use meaning::bind;
 

@@ -1,20 +1,23 @@
 //! What a SELECT asks of a partition, and whether it is done.
 
-ghost use Rattle.std.specs.Prelude.{◌≡◌, pos, not, false, option_map, unsigned_abs, IfOk};
+ghost use Rattle.std.specs.Prelude.{◌≡◌, None, pos, not, false, option_map, unsigned_abs, IfOk};
 ghost use Rattle.cas_types.specs.Limits.{IsNarrow, IsShardCount};
+ghost use Rattle.cas_define.specs.Outcomes.{Binds, outcome};
 ghost use Rattle.cas_terms.specs.Columns.{clustering_columns};
 ghost use Rattle.cas_where.specs.KeyTerms.{term_in_where, partition_key};
 ghost use Rattle.cas_where.specs.Slices.{follows_order};
 ghost use Rattle.cas_bind.specs.Inner.Gives.{ReadGives};
-ghost use Rattle.cas_bind.specs.Meaning.{Binds, outcome, select_means};
+ghost use Rattle.cas_bind.specs.Meaning.{select_means};
 ghost use Rattle.cas_bind.specs.RowFaults.{is_outside};
+ghost use Rattle.cas_bind.specs.RowReasons.{row_reasons};
+ghost use Rattle.cas_effects.specs.Refusals.{refusal_for};
 ghost use Rattle.cas_bind.specs.Selects.{bound_select, read_too_large};
 ghost use Rattle.cas_bind.specs.declared.bound.Bound.TheVariants as bounds;
 ghost use Rattle.cas_bind.specs.declared.selects.TheConstants.{GREATEST_LIMIT};
 ghost use Rattle.cql_parse.specs.declared.syntax.Statement.TheVariants as statements;
 
 use crate::bound::{Bound, BoundRead};
-use crate::row_reasons::row_reasons;
+use crate::row_reasons::row_refusal;
 use crate::selects::asked_by;
 use cas_atoms::Query;
 use cas_effects::{BindFault, Refusal, any_too_large, either, one_too_large};
@@ -116,6 +119,14 @@ fn if_small(read: BoundRead) -> Result<Bound, BindFault>
     }
 }
 
+// Why the statement, which is the SELECT, is refused.
+fn select_refusal(table: &TableSchema, statement: &Statement, select: &Select) -> Option<Refusal>
+    requires { statement.now ≡ statements.Select select.now }
+    ensures { result ≡ refusal_for (row_reasons table.now None (statements.Select select.now)) }
+{
+    row_refusal(table, statement)
+}
+
 /// What the statement, which is the SELECT, means to its table.
 #[tactic(auto, using(crate::proofs::RowLemmas::select_good, crate::proofs::RowLemmas::select_refused, crate::proofs::RowLemmas::select_decided))]
 pub(crate) fn bind_select(
@@ -130,7 +141,7 @@ pub(crate) fn bind_select(
     requires select { statement.now ≡ statements.Select select.now }
     ensures { Binds result (select_means shards table.now select.now) }
 {
-    match row_reasons(table, statement).refusal() {
+    match select_refusal(table, statement, select) {
         Some(refusal) => Err(BindFault::Refused(refusal)),
         None => if_small(bound_select(alloc, shards, table, select)?),
     }

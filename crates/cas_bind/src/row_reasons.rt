@@ -3,6 +3,7 @@
 ghost use Rattle.std.specs.Prelude.{◌≡◌, ◌||◌, None, is_some};
 ghost use Rattle.std.specs.List.{list_any};
 ghost use Rattle.std.specs.Option.{option_copied};
+ghost use Rattle.cas_effects.specs.Refusals.{refusal_for};
 ghost use Rattle.cas_terms.specs.Columns.{names_key};
 ghost use Rattle.cas_where.specs.Where.{restricts};
 ghost use Rattle.cas_bind.specs.Changes.{extent_of};
@@ -16,7 +17,7 @@ use crate::selects::GREATEST_LIMIT;
 use crate::statements::{has_other_count, key_terms_of, other_name, relations_of, uses_unknown};
 use crate::types_used::{changes_twice, uses_another_type};
 use crate::using::{has_use_twice, is_outside, stated_timestamp, stated_ttl};
-use cas_effects::Reasons;
+use cas_effects::{Reasons, Refusal};
 use cas_terms::{names_key, same_name};
 use cas_types::{Column, GREATEST_TIMESTAMP, LEAST_TIMESTAMP, TTL_LIMIT, TableSchema};
 use cas_where::{
@@ -163,7 +164,7 @@ fn restricts_otherwise(columns: &[Column], statement: &Statement) -> bool
 
 /// What the statement is refused for.
 #[tactic(auto, unfolding(crate::specs::RowReasons::row_reasons))]
-pub(crate) fn row_reasons(table: &TableSchema, statement: &Statement) -> Reasons
+fn row_reasons(table: &TableSchema, statement: &Statement) -> Reasons
     ensures { result ≡ row_reasons table.now None statement.now }
 {
     let columns = table.columns.as_slice();
@@ -186,4 +187,11 @@ pub(crate) fn row_reasons(table: &TableSchema, statement: &Statement) -> Reasons
         too_large: None,
         too_many: None,
     }
+}
+
+/// Why the statement is refused, what is too large aside.
+pub(crate) fn row_refusal(table: &TableSchema, statement: &Statement) -> Option<Refusal>
+    ensures { result ≡ refusal_for (row_reasons table.now None statement.now) }
+{
+    row_reasons(table, statement).refusal()
 }

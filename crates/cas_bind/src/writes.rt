@@ -3,19 +3,20 @@
 ghost use Rattle.std.specs.Prelude.{◌≡◌, pos, false, IfOk};
 ghost use Rattle.cas_types.specs.Limits.{IsNarrow, IsShardCount};
 ghost use Rattle.cas_types.specs.declared.limits.TheConstants.{LEAST_TIMESTAMP, GREATEST_TIMESTAMP, TTL_LIMIT};
+ghost use Rattle.cas_define.specs.Outcomes.{Binds, outcome};
 ghost use Rattle.cas_effects.specs.TooLarge.{write_too_large};
 ghost use Rattle.cas_where.specs.KeyTerms.{partition_key};
 ghost use Rattle.cas_where.specs.Inner.Sources.{terms_of};
 ghost use Rattle.cas_bind.specs.Changes.{bound_change};
 ghost use Rattle.cas_bind.specs.Inner.Gives.{WriteGives};
-ghost use Rattle.cas_bind.specs.Meaning.{Binds, outcome, change_means};
+ghost use Rattle.cas_bind.specs.Meaning.{change_means};
 ghost use Rattle.cas_bind.specs.RowFaults.{is_outside};
 ghost use Rattle.cas_bind.specs.Statements.{key_terms_of, uses_of, timestamp_in, ttl_in};
 ghost use Rattle.cas_bind.specs.declared.bound.Bound.TheVariants as bounds;
 
 use crate::bound::Bound;
 use crate::effects::effects_of;
-use crate::row_reasons::row_reasons;
+use crate::row_reasons::row_refusal;
 use crate::statements::key_terms_of;
 use crate::using::{stated_timestamp, time_to_live, timestamp_in_range};
 use cas_effects::{BindFault, BoundWrite, write_too_large};
@@ -91,7 +92,7 @@ pub(crate) fn bind_change(
     requires narrow { IsNarrow table.now.columns }
     ensures { Binds result (change_means shards table.now statement.now) }
 {
-    match row_reasons(table, statement).refusal() {
+    match row_refusal(table, statement) {
         Some(refusal) => Err(BindFault::Refused(refusal)),
         None => if_small(bound_change(alloc, shards, table, statement)?),
     }

@@ -1,0 +1,85 @@
+-- Tables keep their numbers and stay narrow, where one is added and where one gets more columns.
+use Rattle.std.proofs.Common.{◌≡◌, ℕ, ◌+◌, ◌≤◌, ◌<◌, ◌==◌, Bool, true, false, cond, List, [], ◌∷◌, ◌++◌, length, map, Option, Some, find, refl, sym, ap, subst, ◌∙◌, eqb-true, arith}
+use Rattle.std.specs.List.{AllByRecursion}
+use Rattle.cas_types.specs.declared.schema.TableSchema.{TableSchema}
+use Rattle.cas_types.specs.Limits.{IsNarrow}
+use Rattle.cas_bind.specs.Tables.{AreNumbered, with_added}
+use Rattle.cas_define.specs.declared.addition.Addition.{Addition}
+
+abbrev pub HasFew : TableSchema → Type 0
+HasFew t = IsNarrow t.columns
+
+-- ---- the one that is found
+
+module _ {X : Type 0} (P : X → Type 0) where
+  chosen : (o : Option X) (b : Bool) (y x : X) → P y → (o ≡ Some x → P x) → cond b (Some y) o ≡ Some x → P x
+  chosen o true y x its others e = let same : y ≡ x = cc in subst P same its
+  chosen o false y x its others e = others e
+
+  holds_of_found : (test : X → Bool) (xs : List X) (x : X) → AllByRecursion P xs → find test xs ≡ Some x → P x
+  holds_of_found test [] x all e = cc
+  holds_of_found test (y ∷ ys) x all e = chosen (find test ys) (test y) y x all.0 (λ f. holds_of_found test ys x all.1 f) e
+
+-- ---- numbers
+
+-- the numbers of tables that are numbered from n on are n and more
+numbers_from : (n m : ℕ) (ts : List TableSchema) → m ≤ n → AreNumbered n ts → AllByRecursion (λ t. m ≤ t.number) ts
+numbers_from n m [] below numbered = tt
+numbers_from n m (t ∷ ts) below numbered = (let is : t.number ≡ n = numbered.0 in omega arith, numbers_from (n + 1) m ts (omega arith) numbered.1)
+
+-- what holds of a table that is found holds of each that has its number, since there is no other
+module _ (P : TableSchema → Type 0) (test : TableSchema → Bool) (t : TableSchema) (holds : P t) where
+  none_has : (m : ℕ) (ts : List TableSchema) → t.number < m → AllByRecursion (λ u. m ≤ u.number) ts → AllByRecursion (λ u. u.number ≡ t.number → P u) ts
+  none_has m [] below above = tt
+  none_has m (u ∷ us) below above = ((λ same. let over : m ≤ u.number = above.0 in absurd (omega arith)), none_has m us below above.1)
+
+  first_or_later : (n : ℕ) (u : TableSchema) (us : List TableSchema) → AreNumbered n (u ∷ us) → (o : Option TableSchema) (b : Bool)
+      → (o ≡ Some t → n + 1 ≤ t.number) → (o ≡ Some t → AllByRecursion (λ v. v.number ≡ t.number → P v) us)
+      → cond b (Some u) o ≡ Some t → AllByRecursion (λ v. v.number ≡ t.number → P v) (u ∷ us)
+  first_or_later n u us numbered o true above others e =
+      let same : u ≡ t = cc in
+      let is : u.number ≡ n = numbered.0 in
+      let its : t.number ≡ n = ap (λ v. v.number) (sym same) ∙ is in
+      ((λ numbers. subst P (sym same) holds), none_has (n + 1) us (omega arith) (numbers_from (n + 1) (n + 1) us (omega arith) numbered.1))
+  first_or_later n u us numbered o false above others e =
+      let is : u.number ≡ n = numbered.0 in
+      let its : n + 1 ≤ t.number = above e in
+      ((λ numbers. absurd (omega arith)), others e)
+
+  pub holds_of_number : (n : ℕ) (ts : List TableSchema) → AreNumbered n ts → find test ts ≡ Some t → AllByRecursion (λ u. u.number ≡ t.number → P u) ts
+  holds_of_number n [] numbered e = tt
+  holds_of_number n (u ∷ us) numbered e =
+      first_or_later n u us numbered (find test us) (test u)
+      (λ f. holds_of_found (λ v. n + 1 ≤ v.number) test us t (numbers_from (n + 1) (n + 1) us (omega arith) numbered.1) f)
+      (λ f. holds_of_number (n + 1) us numbered.1 f) e
+
+-- ---- one more table
+
+pub narrow_with : (ts : List TableSchema) (t : TableSchema) → AllByRecursion HasFew ts → HasFew t → AllByRecursion HasFew (ts ++ t ∷ [])
+narrow_with [] t narrow its = (its, tt)
+narrow_with (u ∷ us) t narrow its = (narrow.0, narrow_with us t narrow.1 its)
+
+pub numbered_with : (n : ℕ) (ts : List TableSchema) (t : TableSchema) → AreNumbered n ts → t.number ≡ n + length ts → AreNumbered n (ts ++ t ∷ [])
+numbered_with n [] t numbered its = (omega arith, tt)
+numbered_with n (u ∷ us) t numbered its = (numbered.0, numbered_with (n + 1) us t numbered.1 (omega arith))
+
+-- ---- more columns
+
+module _ (a : Addition) where
+  keeps_number : (b : Bool) (t : TableSchema) → (cond b (record t { columns = t.columns ++ a.columns }) t).number ≡ t.number
+  keeps_number true t = refl
+  keeps_number false t = refl
+
+  pub numbered_after : (n : ℕ) (ts : List TableSchema) → AreNumbered n ts → AreNumbered n (map (with_added a) ts)
+  numbered_after n [] numbered = tt
+  numbered_after n (t ∷ ts) numbered = (keeps_number (t.number == a.table) t ∙ numbered.0, numbered_after (n + 1) ts numbered.1)
+
+  stays_narrow : (t : TableSchema) (b : Bool) → b ≡ (t.number == a.table) → HasFew t → (t.number ≡ a.table → IsNarrow (t.columns ++ a.columns))
+      → HasFew (cond b (record t { columns = t.columns ++ a.columns }) t)
+  stays_narrow t true is narrow sum = sum (eqb-true t.number a.table (sym is))
+  stays_narrow t false is narrow sum = narrow
+
+  pub narrow_after : (ts : List TableSchema) → AllByRecursion HasFew ts → AllByRecursion (λ t. t.number ≡ a.table → IsNarrow (t.columns ++ a.columns)) ts
+      → AllByRecursion HasFew (map (with_added a) ts)
+  narrow_after [] narrow sums = tt
+  narrow_after (t ∷ ts) narrow sums = (stays_narrow t (t.number == a.table) refl narrow.0 sums.0, narrow_after ts narrow.1 sums.1)
