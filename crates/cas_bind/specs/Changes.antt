@@ -36,6 +36,7 @@ use Rattle.cas_effects.specs.declared.effect.Effect.TheVariants as effect
 unfoldable pub inserts_static : List Column → List (List ℕ) → Bool
 inserts_static cs names = list_any (names_static cs) names && list_all (λ n. if names_partition cs n then true else names_static cs n) names
 
+-- of the static row, or of one row
 abbrev pub static_or_row : Bool → Extent
 static_or_row true = extent.StaticRow
 static_or_row false = extent.Row
@@ -79,10 +80,12 @@ deleted_effect row n c None =
     if is_plain c.shape then effect.Plain (row_for row c) (column_ref n c) None else effect.Emptied (row_for row c) (column_ref n c)
 deleted_effect row n c (Some k) = effect.Parts (row_for row c) (column_ref n c) (entry_elements (constant_bytes c.tag k) None)
 
+-- what a change does to its column, which has that number
 unfoldable pub column_effect : Clustering → ℕ → Column → Change → Effect
 column_effect row n c (assigns a) = assigned_effect row n c a
 column_effect row n c (deletes k) = deleted_effect row n c k
 
+-- nothing where there is no such column or it is of the primary key
 abbrev pub outside_key : (ℕ → Column → Effect) → Option (ℕ × Column) → List Effect
 outside_key f None = []
 outside_key f (Some l) = if is_key l.1.kind then [] else f l.0 l.1 ∷ []
@@ -104,10 +107,12 @@ deletion_effect cs rs =
     else if is_clustering_fixed rs cs then effect.Row (clustered_row (term_in_where rs) cs)
     else (let s : Slice = slice_of cs rs in effect.Range s.lo s.hi)
 
+-- a DELETE that names columns deletes no row
 abbrev pub deletion_of : List Target → Effect → List Effect
 deletion_of [] e = e ∷ []
 deletion_of (t ∷ ts) e = []
 
+-- the row lives; the static row has no such mark
 abbrev pub live_effect : Bool → Clustering → List Effect
 live_effect is_static row = if is_static then [] else effect.Live row ∷ []
 

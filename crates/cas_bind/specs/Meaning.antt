@@ -33,6 +33,7 @@ abbrev pub of_table : Option TableSchema → (TableSchema → Result Bound Refus
 of_table None means = Err NoTable
 of_table (Some t) means = means t
 
+-- what comes of a definition, as what is to be done
 abbrev pub bound_as : {X : Type 0} → (X → Bound) → Result X Refusal → Result Bound Refusal
 bound_as kind (Ok x) = Ok (kind x)
 bound_as kind (Err r) = Err r

@@ -35,6 +35,7 @@ use Rattle.cas_where.specs.declared.restrictions.Extent.TheVariants as extent
 
 -- ---- what is said twice
 
+-- constants of one kind that are equal: 1 and 01, but not 1 and '1'
 unfoldable pub is_same_constant : Constant → Constant → Bool
 is_same_constant (constant.Text t) (constant.Text u) = bytes_eq t u
 is_same_constant (constant.Number m) (constant.Number n) = int_eq m n
@@ -55,6 +56,7 @@ entry_key (assigns (assigned.Entry k t)) = Some k
 entry_key (assigns _) = None
 entry_key (deletes k) = k
 
+-- the name is that of a map
 abbrev pub names_map : List Column → List ℕ → Bool
 names_map cs n = option_map_or (λ c. is_map c.shape) (column_named cs n) false
 
@@ -93,6 +95,7 @@ target_fits c (Some k) = key_fits c k
 abbrev pub has_writetime : Column → Bool
 has_writetime c = is_plain c.shape && not (is_key c.kind)
 
+-- each column has a value to be shown
 unfoldable pub pick_fits : Column → Pick → Bool
 pick_fits c (pick.Value n) = true
 pick_fits c _ = has_writetime c
@@ -119,6 +122,7 @@ gives_empty s c = restricts_to_empty (relations_of s) c
 unfoldable pub gives_empty_key : List Column → Statement → Bool
 gives_empty_key cs s = option_map_or (gives_empty s) (sole_column (partition_columns cs)) false
 
+-- of one row
 abbrev pub is_row : Extent → Bool
 is_row extent.Row = true
 is_row _ = false

@@ -1,5 +1,6 @@
 -- What a SELECT asks of a partition: which columns, in which order, and of which rows.
--- CQL documentation, "Data manipulation: SELECT"; the order of `*` is own: partition key, clustering columns, then the static ones and then the others, each by name.
+-- CQL documentation, "Data manipulation: SELECT"; the order of `*` is own: partition key, clustering columns, then the static ones
+-- and then the others, each by name.
 use Rattle.std.specs.Prelude.{ℕ, Bool, false, not, List, [], ◌∷◌, ◌++◌, map, filter, Option, option_map, unsigned_abs}
 use Rattle.std.specs.List.{enumerate_from, position_or_len}
 use Rattle.std.specs.Str.{bytes_eq}
@@ -39,6 +40,7 @@ by_name (p ∷ ps) = insert_entry bytes_cmp (by_name ps) p.1.name p.0
 unfoldable pub named_numbers : (Kind → Bool) → List Column → List ℕ
 named_numbers test cs = map (λ e. e.1) (by_name (numbered test cs))
 
+-- the numbers of the columns of the primary key, in the key's order
 unfoldable pub key_numbers : List Column → List ℕ
 key_numbers cs = map (λ p. p.0) (numbered is_partition cs) ++ map (λ p. p.0) (numbered is_clustering cs)
 
@@ -58,6 +60,7 @@ asked_of cs (pick.Value n) = asked.Value (number_named cs n)
 asked_of cs (pick.WriteTime n) = asked.WriteTime (number_named cs n)
 asked_of cs (pick.Ttl n) = asked.Ttl (number_named cs n)
 
+-- `*`, or what is named, in the order in which it is named
 unfoldable pub asked_by : List Column → Picks → List Asked
 asked_by cs picks.All = map (λ n. asked.Value n) (all_numbers cs)
 asked_by cs (picks.These ps) = map (asked_of cs) ps

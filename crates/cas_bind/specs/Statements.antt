@@ -33,6 +33,7 @@ unfoldable pub picks_in : Picks → List Pick
 picks_in picks.All = []
 picks_in (picks.These ps) = ps
 
+-- `USING TIMESTAMP n`
 abbrev pub at_timestamp : Option ℤ → List Use
 at_timestamp None = []
 at_timestamp (Some n) = using.Timestamp n ∷ []
@@ -44,10 +45,12 @@ uses_of (statement.Update u) = u.uses
 uses_of (statement.Delete d) = at_timestamp d.timestamp
 uses_of _ = []
 
+-- `TIMESTAMP n`
 unfoldable pub timestamp_of : Use → Option ℤ
 timestamp_of (using.Timestamp n) = Some n
 timestamp_of (using.Ttl n) = None
 
+-- `TTL n`
 unfoldable pub ttl_of : Use → Option ℤ
 ttl_of (using.Timestamp n) = None
 ttl_of (using.Ttl n) = Some n
@@ -93,9 +96,11 @@ other_name (assigned.Prepend x n) = Some n
 other_name (assigned.Remove n x) = Some n
 other_name _ = None
 
+-- `c = d + x` names c and d
 abbrev pub assignment_names : Assignment → List (List ℕ)
 assignment_names a = a.column ∷ option_to_list (other_name a.value)
 
+-- v in `v`, `WRITETIME(v)` and `TTL(v)`
 unfoldable pub picked_name : Pick → List ℕ
 picked_name (pick.Value n) = n
 picked_name (pick.WriteTime n) = n

@@ -12,6 +12,7 @@ use Rattle.cas_bind.specs.declared.bound.Bound.TheVariants as bound
 abbrev pub with_added : Addition → TableSchema → TableSchema
 with_added a t = if t.number == a.table then record t { columns = t.columns ++ a.columns } else t
 
+-- a CREATE TABLE puts its table after the others; only ALTER TABLE changes one
 unfoldable pub tables_after : List TableSchema → Bound → List TableSchema
 tables_after ts (bound.Create t) = ts ++ t ∷ []
 tables_after ts (bound.Alter a) = map (with_added a) ts

@@ -212,7 +212,8 @@ fn push_assigned(
     effects: &mut Vec<Effect>,
 ) -> Result<(), AllocError>
     requires { IsNarrow columns.now }
-    ensures { OnOk result (effects.new.items ≡ effects.old.items ++ flat_map (λ a. change_effects columns.now row.now (a.column, assigns a.value)) assignments.now) }
+    ensures { OnOk result (effects.new.items
+        ≡ effects.old.items ++ flat_map (λ a. change_effects columns.now row.now (a.column, assigns a.value)) assignments.now) }
 {
     for assignment in assignments {
         let change = RowChange::Assign(&assignment.value);

@@ -5,14 +5,14 @@ ghost use Rattle.std.specs.List.{enumerate_from, position_or_len};
 ghost use Rattle.std.specs.Str.{bytes_eq};
 ghost use Rattle.std.specs.BTreeMap.{insert_entry};
 ghost use Rattle.cas_types.specs.Limits.{IsNarrow};
-ghost use Rattle.cas_types.specs.Schemas.{is_partition, is_clustering, is_static, is_regular};
 ghost use Rattle.cas_types.specs.Values.{bytes_cmp};
 ghost use Rattle.cas_atoms.specs.declared.query.Pick.TheVariants as asked;
+ghost use Rattle.cas_bind.specs.Inner.Parts.{is_of_part};
 ghost use Rattle.cas_bind.specs.Selects.{by_name, named_numbers, key_numbers, all_numbers, number_named, asked_of, asked_by};
 
 use cas_atoms::Pick as Asked;
 use cas_terms::same_name;
-use cas_types::{Bytes, Column, List};
+use cas_types::{Bytes, Column, Kind, List};
 use cql_parse::{Pick, Picks};
 use std::alloc::{AllocError, Global};
 use std::collections::BTreeMap;
@@ -67,40 +67,42 @@ fn asked_of_each(
     picks.iter().map(|p| asked_of(columns, p)).collect(alloc)
 }
 
-fn push_partition_numbers(
-    number: u16,
-    columns: &[Column],
-    numbers: &mut Vec<u16>,
-) -> Result<(), AllocError>
-    requires { number + length columns.now ≤ 65535 }
-    ensures { OnOk result (numbers.new.items ≡ numbers.old.items ++ map (λ p. p.0) (filter (λ p. is_partition p.1.kind) (enumerate_from number columns.now))) }
+/// The columns of `*` come in four parts.
+#[derive(Clone, Copy)]
+pub(crate) enum Part {
+    Partition,
+    Clustering,
+    Static,
+    Regular,
+}
+
+fn is_of_part(part: Part, kind: Kind) -> bool
+    ensures { result ≡ is_of_part part kind }
 {
-    match columns {
-        [] => Ok(()),
-        [column, rest @ ..] => {
-            if column.kind.is_partition() {
-                numbers.push(number)?;
-            }
-            push_partition_numbers(number + 1, rest, numbers)
-        }
+    match part {
+        Part::Partition => kind.is_partition(),
+        Part::Clustering => kind.is_clustering(),
+        Part::Static => kind.is_static(),
+        Part::Regular => kind.is_regular(),
     }
 }
 
-fn push_clustering_numbers(
+fn push_numbers(
+    part: Part,
     number: u16,
     columns: &[Column],
     numbers: &mut Vec<u16>,
 ) -> Result<(), AllocError>
     requires { number + length columns.now ≤ 65535 }
-    ensures { OnOk result (numbers.new.items ≡ numbers.old.items ++ map (λ p. p.0) (filter (λ p. is_clustering p.1.kind) (enumerate_from number columns.now))) }
+    ensures { OnOk result (numbers.new.items ≡ numbers.old.items ++ map (λ p. p.0) (filter (λ p. is_of_part part p.1.kind) (enumerate_from number columns.now))) }
 {
     match columns {
         [] => Ok(()),
         [column, rest @ ..] => {
-            if column.kind.is_clustering() {
+            if is_of_part(part, column.kind) {
                 numbers.push(number)?;
             }
-            push_clustering_numbers(number + 1, rest, numbers)
+            push_numbers(part, number + 1, rest, numbers)
         }
     }
 }
@@ -118,39 +120,20 @@ fn put_name(
     Ok(())
 }
 
-fn static_names(
+fn names_of(
     alloc: Global,
+    part: Part,
     number: u16,
     columns: &[Column],
 ) -> Result<BTreeMap<Bytes, u16>, AllocError>
     requires { number + length columns.now ≤ 65535 }
-    ensures { IfOk result (λ m. m.entries ≡ by_name (filter (λ p. is_static p.1.kind) (enumerate_from number columns.now))) }
+    ensures { IfOk result (λ m. m.entries ≡ by_name (filter (λ p. is_of_part part p.1.kind) (enumerate_from number columns.now))) }
 {
     match columns {
         [] => Ok(BTreeMap::new(alloc)),
         [column, rest @ ..] => {
-            let mut names = static_names(alloc, number + 1, rest)?;
-            if column.kind.is_static() {
-                put_name(alloc, &mut names, column, number)?;
-            }
-            Ok(names)
-        }
-    }
-}
-
-fn regular_names(
-    alloc: Global,
-    number: u16,
-    columns: &[Column],
-) -> Result<BTreeMap<Bytes, u16>, AllocError>
-    requires { number + length columns.now ≤ 65535 }
-    ensures { IfOk result (λ m. m.entries ≡ by_name (filter (λ p. is_regular p.1.kind) (enumerate_from number columns.now))) }
-{
-    match columns {
-        [] => Ok(BTreeMap::new(alloc)),
-        [column, rest @ ..] => {
-            let mut names = regular_names(alloc, number + 1, rest)?;
-            if column.kind.is_regular() {
+            let mut names = names_of(alloc, part, number + 1, rest)?;
+            if is_of_part(part, column.kind) {
                 put_name(alloc, &mut names, column, number)?;
             }
             Ok(names)
@@ -165,20 +148,11 @@ fn numbers_in(alloc: Global, names: BTreeMap<Bytes, u16>) -> Result<Vec<u16>, Al
 }
 
 #[tactic(auto, unfolding(crate::specs::Selects::named_numbers))]
-fn static_numbers(alloc: Global, columns: &[Column]) -> Result<Vec<u16>, AllocError>
+fn named_numbers(alloc: Global, part: Part, columns: &[Column]) -> Result<Vec<u16>, AllocError>
     requires { IsNarrow columns.now }
-    ensures { IfOk result (λ v. v.items ≡ named_numbers is_static columns.now) }
+    ensures { IfOk result (λ v. v.items ≡ named_numbers (is_of_part part) columns.now) }
 {
-    let names = static_names(alloc, 0, columns)?;
-    numbers_in(alloc, names)
-}
-
-#[tactic(auto, unfolding(crate::specs::Selects::named_numbers))]
-fn regular_numbers(alloc: Global, columns: &[Column]) -> Result<Vec<u16>, AllocError>
-    requires { IsNarrow columns.now }
-    ensures { IfOk result (λ v. v.items ≡ named_numbers is_regular columns.now) }
-{
-    let names = regular_names(alloc, 0, columns)?;
+    let names = names_of(alloc, part, 0, columns)?;
     numbers_in(alloc, names)
 }
 
@@ -188,8 +162,8 @@ fn key_numbers(alloc: Global, columns: &[Column]) -> Result<Vec<u16>, AllocError
     ensures { IfOk result (λ v. v.items ≡ key_numbers columns.now) }
 {
     let mut numbers = Vec::new(alloc);
-    push_partition_numbers(0, columns, &mut numbers)?;
-    push_clustering_numbers(0, columns, &mut numbers)?;
+    push_numbers(Part::Partition, 0, columns, &mut numbers)?;
+    push_numbers(Part::Clustering, 0, columns, &mut numbers)?;
     Ok(numbers)
 }
 
@@ -200,8 +174,8 @@ fn all_numbers(alloc: Global, columns: &[Column]) -> Result<Vec<u16>, AllocError
     ensures { IfOk result (λ v. v.items ≡ all_numbers columns.now) }
 {
     let mut numbers = key_numbers(alloc, columns)?;
-    numbers.extend_from_slice(&static_numbers(alloc, columns)?)?;
-    numbers.extend_from_slice(&regular_numbers(alloc, columns)?)?;
+    numbers.extend_from_slice(&named_numbers(alloc, Part::Static, columns)?)?;
+    numbers.extend_from_slice(&named_numbers(alloc, Part::Regular, columns)?)?;
     Ok(numbers)
 }
 

@@ -171,7 +171,7 @@ fn an_insert_is_bound_to_its_row_and_its_columns(rt: HostRuntime) -> Result<(), 
     let source = "INSERT INTO t (k, c, v) VALUES (1, 'a', null) USING TIMESTAMP -7 AND TTL 5";
     match bound(alloc, &tables, source)? {
         Ok(Bound::Write(write)) => {
-            assert_eq!(rt; write.key.as_slice(), &[0, 0, 0, 1]);
+            assert_eq!(rt; write.key.as_slice(), [0, 0, 0, 1].as_slice());
             assert_eq!(rt; (write.shard, write.ttl), (1, 5));
             assert!(rt; write.timestamp == Some(-7));
             let effects = write.effects.as_slice();

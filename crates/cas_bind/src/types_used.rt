@@ -232,7 +232,8 @@ fn change_the_same(
 }
 
 fn assigned_again(columns: &[Column], assignment: &Assignment, others: &[Assignment]) -> bool
-    ensures { result ≡ list_any (λ b. change_the_same columns.now (assignment.now.column, assigns assignment.now.value) (b.column, assigns b.value)) others.now }
+    ensures { result ≡ list_any (λ b. change_the_same columns.now (assignment.now.column, assigns assignment.now.value)
+        (b.column, assigns b.value)) others.now }
 {
     others.iter().any(|b| {
         change_the_same(

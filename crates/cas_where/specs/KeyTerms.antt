@@ -16,6 +16,7 @@ use Rattle.cas_terms.specs.Terms.{term_value}
 abbrev pub TermOf : Type 0
 TermOf = List ℕ → Option Term
 
+-- `=`
 unfoldable pub is_equal : Operator → Bool
 is_equal operator.Equal = true
 is_equal _ = false
@@ -30,6 +31,7 @@ term_in_insert [] ts n = None
 term_in_insert (m ∷ ms) [] n = None
 term_in_insert (m ∷ ms) (t ∷ ts) n = if bytes_eq m n then Some t else term_in_insert ms ts n
 
+-- null, a literal and a constant of another type are no value
 abbrev pub value_of_term : Column → Option Term → Option (List ℕ)
 value_of_term c None = None
 value_of_term c (Some t) = term_value c.tag t
@@ -46,6 +48,7 @@ is_missing terms c = is_none (value_in terms c)
 unfoldable pub partition_key : TermOf → List Column → List ℕ
 partition_key terms cs = key_of (filter_map (value_in terms) (partition_columns cs))
 
+-- where there is no value the others count no more
 abbrev pub in_front : Option (List ℕ) → List (List ℕ) → List (List ℕ)
 in_front None vs = []
 in_front (Some v) vs = v ∷ vs

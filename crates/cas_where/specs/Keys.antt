@@ -21,6 +21,7 @@ sole_column (c ∷ cs) = if length cs == 0 then Some c else None
 unfoldable pub restricts_to_empty : List Relation → Column → Bool
 restricts_to_empty rs c = list_any (λ r. (bytes_eq r.column c.name && is_equal r.operator) && gives_no_bytes (term_value c.tag r.value)) rs
 
+-- `null`
 unfoldable pub is_null : Term → Bool
 is_null term.Null = true
 is_null _ = false

@@ -1,5 +1,6 @@
 -- The slice of rows that a WHERE makes, and the order of a SELECT's rows.
--- CQL documentation, "Data manipulation: SELECT, the WHERE clause, ordering results". A bound by value is a bound by place, the other way round where the column is DESC.
+-- CQL documentation, "Data manipulation: SELECT, the WHERE clause, ordering results". A bound by value is a bound by place,
+-- the other way round where the column is DESC.
 use Rattle.std.specs.Prelude.{ℕ, Bool, true, false, not, ◌&&◌, List, [], ◌∷◌, ◌++◌, Option, None, Some, if◌then◌else◌}
 use Rattle.std.specs.Str.{bytes_eq}
 use Rattle.std.specs.Option.{option_to_list}
@@ -33,9 +34,11 @@ is_at_begin descending o = if descending then is_upper o else is_lower o
 unfoldable pub is_at_end : Bool → Operator → Bool
 is_at_end descending o = if descending then is_lower o else is_upper o
 
+-- the cut before or after all rows that begin with the prefix
 abbrev pub cut : List Ordered → List (List ℕ) → Bool → Cut
 cut order prefix after = record { prefix = prefix; after = after; order = order }
 
+-- the value that a bound compares with, after the prefix
 abbrev pub bound_value : Column → Relation → List (List ℕ)
 bound_value c r = option_to_list (term_value c.tag r.value)
 
@@ -62,6 +65,7 @@ slice_of cs rs =
 
 -- ---- ORDER BY
 
+-- both or neither
 abbrev pub same_truth : Bool → Bool → Bool
 same_truth true b = b
 same_truth false b = not b

@@ -28,6 +28,7 @@ is_upper _ = false
 unfoldable pub count_on : (Operator → Bool) → List Relation → List ℕ → ℕ
 count_on sort rs n = count_by (λ r. bytes_eq r.column n && sort r.operator) rs
 
+-- how many restrictions the name has
 unfoldable pub count_all : List Relation → List ℕ → ℕ
 count_all rs n = count_by (λ r. bytes_eq r.column n) rs
 

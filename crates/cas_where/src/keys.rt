@@ -16,7 +16,8 @@ use cas_types::Column;
 use cql_parse::{Relation, Term};
 
 fn is_empty_equal(column: &Column, relation: &Relation) -> bool
-    ensures { result ≡ ((bytes_eq relation.now.column column.now.name && is_equal relation.now.operator) && gives_no_bytes (term_value column.now.tag relation.now.value)) }
+    ensures { result ≡ ((bytes_eq relation.now.column column.now.name && is_equal relation.now.operator)
+        && gives_no_bytes (term_value column.now.tag relation.now.value)) }
 {
     equals(relation, column.name.as_str()) && has_empty_value(column.tag, &relation.value)
 }
