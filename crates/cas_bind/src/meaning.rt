@@ -1,6 +1,6 @@
 //! What a statement means to the tables that there are.
 
-ghost use Rattle.std.specs.Prelude.{◌≡◌, Some, IfOk};
+ghost use Rattle.std.specs.Prelude.{◌≡◌, ℕ, IfOk};
 ghost use Rattle.std.specs.List.{All};
 ghost use Rattle.std.specs.Option.{IfSome, option_copied};
 ghost use Rattle.cas_types.specs.Limits.{IsNarrow, IsShardCount};
@@ -69,6 +69,7 @@ fn alter_table(
     }
 }
 
+#[tactic(auto, using(crate::proofs::Kept::change_keeps, crate::proofs::Kept::change_fits))]
 fn change_rows(
     alloc: Global,
     shards: u8,
@@ -77,9 +78,9 @@ fn change_rows(
     statement: &Statement,
 ) -> Result<Bound, BindFault>
     requires shards { IsShardCount shards }
-    requires narrow { All (λ t. IsNarrow t.columns) tables.now }
+    requires tables { AreTables tables.now }
     ensures means { Binds result (of_table (table_named tables.now name.now) (λ t. change_means shards t statement.now)) }
-    ensures kept { IfOk result (λ b. tables_after tables.now b ≡ tables.now) }
+    ensures kept { IfOk result (λ b. AreTables (tables_after tables.now b)) }
     ensures within { IfOk result (λ b. IsWithin shards b) }
 {
     match narrow_table(tables, name) {
@@ -88,6 +89,7 @@ fn change_rows(
     }
 }
 
+#[tactic(auto, using(crate::proofs::Kept::select_keeps, crate::proofs::Kept::select_fits))]
 fn select_rows(
     alloc: Global,
     shards: u8,
@@ -96,10 +98,10 @@ fn select_rows(
     select: &Select,
 ) -> Result<Bound, BindFault>
     requires shards { IsShardCount shards }
-    requires narrow { All (λ t. IsNarrow t.columns) tables.now }
+    requires tables { AreTables tables.now }
     requires select { statement.now ≡ statements.Select select.now }
     ensures means { Binds result (of_table (table_named tables.now select.now.table) (λ t. select_means shards t select.now)) }
-    ensures kept { IfOk result (λ b. tables_after tables.now b ≡ tables.now) }
+    ensures kept { IfOk result (λ b. AreTables (tables_after tables.now b)) }
     ensures within { IfOk result (λ b. IsWithin shards b) }
 {
     match narrow_table(tables, &select.table) {
