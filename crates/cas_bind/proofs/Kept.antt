@@ -110,7 +110,7 @@ alter_keeps tables n t a are f its few =
     record {
       narrow = All-from_recursion HasFew _ (narrow_after a tables (recursion_from_All HasFew tables are.narrow)
           (subst (λ m. AllByRecursion (λ u. u.number ≡ m → IsNarrow (u.columns ++ a.columns)) tables) (sym its)
-            (holds_of_number (λ u. IsNarrow (u.columns ++ a.columns)) (λ t. bytes_eq t.name n.name) t few 0 tables are.numbered here)));
+          (holds_of_number (λ u. IsNarrow (u.columns ++ a.columns)) (λ t. bytes_eq t.name n.name) t few 0 tables are.numbered here)));
       numbered = numbered_after a 0 tables are.numbered;
     }
 

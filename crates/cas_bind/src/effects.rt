@@ -18,9 +18,7 @@ use cas_terms::{
     removed_elements, term_value, whole_elements,
 };
 use cas_types::{Column, List, Text};
-use cas_where::{
-    KeyTerms, is_clustering_fixed, is_clustering_free, prefix_values, slice_of,
-};
+use cas_where::{KeyTerms, is_clustering_fixed, is_clustering_free, prefix_values, slice_of};
 use cql_parse::{Assigned, Assignment, Constant, Relation, Statement, Target, Term};
 use std::alloc::{AllocError, Global};
 
@@ -217,7 +215,14 @@ fn push_assigned(
 {
     for assignment in assignments {
         let change = RowChange::Assign(&assignment.value);
-        push_change(alloc, columns, row, assignment.column.as_str(), change, effects)?;
+        push_change(
+            alloc,
+            columns,
+            row,
+            assignment.column.as_str(),
+            change,
+            effects,
+        )?;
     }
     Ok(())
 }

@@ -32,7 +32,6 @@ fn narrow_table<'a>(tables: &'a [TableSchema], name: &TableName) -> Option<&'a T
     table_named(tables, name)
 }
 
-#[tactic(auto, using(crate::proofs::Kept::create_keeps))]
 fn create_table(
     alloc: Global,
     tables: &[TableSchema],
@@ -49,7 +48,6 @@ fn create_table(
     }
 }
 
-#[tactic(auto, using(crate::proofs::Kept::alter_keeps))]
 fn alter_table(
     alloc: Global,
     tables: &[TableSchema],
@@ -69,7 +67,6 @@ fn alter_table(
     }
 }
 
-#[tactic(auto, using(crate::proofs::Kept::change_keeps, crate::proofs::Kept::change_fits))]
 fn change_rows(
     alloc: Global,
     shards: u8,
@@ -89,7 +86,6 @@ fn change_rows(
     }
 }
 
-#[tactic(auto, using(crate::proofs::Kept::select_keeps, crate::proofs::Kept::select_fits))]
 fn select_rows(
     alloc: Global,
     shards: u8,
