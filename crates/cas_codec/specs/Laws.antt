@@ -1,0 +1,2 @@
+-- What is proved of each field. Own.
+use Rattle.std.specs.Prelude.{ℕ}

@@ -1,0 +1,102 @@
+-- Reading fields from left to right, up to the first that isn't there.
+-- Own. The place of a refusal is that of the refused field's first byte.
+use Rattle.std.specs.Prelude.{◌≡◌, ℕ, ℤ, ◌+◌, ◌<◌, ◌==◌, nat_lt, Bool, true, false, List, [], ◌∷◌, ◌++◌, length, take, drop, Option, None, Some, Result, Ok, Err, if◌then◌else◌}
+use Rattle.std.specs.Int.{Width, w8, w16, w32, w64, byte_len, from_be_bytes, cast_signed}
+use Rattle.cas_codec.specs.declared.fault.ReadFault.{ReadFault}
+use Rattle.cas_codec.specs.declared.fault.ReadFault.TheVariants.{Short, Bad, Mem}
+
+-- the bytes that are left to be read, and where in the file the first of them stands
+pub record Left : Type 0 where
+  pub bytes : List ℕ
+  pub at : ℕ
+
+-- a value and what is left after it, or the first fault
+abbrev pub Read : Type 0 → Type 0
+Read A = Result (A × Left) ReadFault
+
+infixl 10 ◌>>=◌
+abbrev pub ◌>>=◌ : {A B : Type 0} → Result A ReadFault → (A → Result B ReadFault) → Result B ReadFault
+(Ok x) >>= f = f x
+(Err e) >>= f = Err e
+
+-- the next n bytes; where fewer are left, the field at place is short
+unfoldable pub bytes_at : ℕ → ℕ → Left → Read (List ℕ)
+bytes_at place n left =
+    if nat_lt (length left.bytes) n then Err (Short place)
+    else Ok (take n left.bytes, record { bytes = drop n left.bytes; at = left.at + n })
+
+-- the number that the next bytes spell, the most significant first
+unfoldable pub unsigned_at : Width → Left → Read ℕ
+unsigned_at w left = do
+  front ← bytes_at left.at (byte_len w) left
+  Ok (from_be_bytes w front.0, front.1)
+
+unfoldable pub u8_at : Left → Read ℕ
+u8_at left = unsigned_at w8 left
+
+unfoldable pub u16_at : Left → Read ℕ
+u16_at left = unsigned_at w16 left
+
+unfoldable pub u32_at : Left → Read ℕ
+u32_at left = unsigned_at w32 left
+
+unfoldable pub u64_at : Left → Read ℕ
+u64_at left = unsigned_at w64 left
+
+unfoldable pub i64_at : Left → Read ℤ
+i64_at left = do
+  number ← u64_at left
+  Ok (cast_signed w64 number.0, number.1)
+
+unfoldable pub bytes16_at : Left → Read (List ℕ)
+bytes16_at left = do
+  count ← u16_at left
+  bytes_at left.at count.0 count.1
+
+unfoldable pub bytes32_at : Left → Read (List ℕ)
+bytes32_at left = do
+  count ← u32_at left
+  bytes_at left.at count.0 count.1
+
+-- a field whose value passes the test; another value isn't allowed there
+unfoldable pub checked : {A : Type 0} → (A → Bool) → (Left → Read A) → Left → Read A
+checked test reading left = do
+  found ← reading left
+  if test found.0 then Ok found else Err (Bad left.at)
+
+unfoldable pub flag_at : Left → Read Bool
+flag_at left = do
+  byte ← checked (λ b. nat_lt b 2) u8_at left
+  Ok (byte.0 == 1, byte.1)
+
+-- a value that may be there
+abbrev pub there_at : {A : Type 0} → (Left → Read A) → Bool → Left → Read (Option A)
+there_at reading false left = Ok (None, left)
+there_at reading true left = do
+  found ← reading left
+  Ok (Some found.0, found.1)
+
+unfoldable pub maybe_at : {A : Type 0} → (Left → Read A) → Left → Read (Option A)
+maybe_at reading left = do
+  there ← flag_at left
+  there_at reading there.0 there.1
+
+-- How a reader ends that then stands at new, its value seen by view: as the reading does, unless memory ran out.
+abbrev pub Gives : {X Y : Type 0} → (X → Y) → Result X ReadFault → Left → Read Y → Type 0
+Gives view (Ok x) new read = read ≡ Ok (view x, new)
+Gives view (Err (Short at)) new read = read ≡ Err (Short at)
+Gives view (Err (Bad at)) new read = read ≡ Err (Bad at)
+Gives view (Err Mem) new read = Unit {0}
+
+abbrev pub Answers : {X Y : Type 0} → (X → Y) → Result X ReadFault → Left → Read Y → Type 0
+Answers view (Ok x) new read = read ≡ Ok (view x, new)
+Answers view (Err f) new read = read ≡ Err f
+
+unfoldable pub test_at : Left → Read (ℕ × List ℕ × ℕ × ℕ × Option ℤ)
+test_at left = do
+  a ← u32_at left
+  b ← bytes16_at a.1
+  c ← u16_at b.1
+  d ← u8_at c.1
+  e ← maybe_at i64_at d.1
+  Ok ((a.0, b.0, c.0, d.0, e.0), e.1)
