@@ -44,31 +44,33 @@ Begins-then a b x y z p q = record {
   at = simp length-append (omega arith)
 }
 
--- One field after another: the whole is spelled as the field, and then the rest. `body` reads the rest, and is told
--- what was left before the field, the field's value and what is left after it.
+-- One field after another: the whole is spelled as the field, and then the rest. `IsPart a b` says that a is the
+-- field's value in b. `body` reads the rest, and is told what was left before the field, the field's value and what is
+-- left after it.
 pub exact_then : {A B : Type 0} (FitsPart : A → Type 0) (part : A → List ℕ) (part_at : Left → Read A)
-  (Fits : B → Type 0) (spelling : B → List ℕ) (body : Left → A → Left → Read B) (part_of : B → A) (suffix : A → B → List ℕ)
+  (Fits : B → Type 0) (spelling : B → List ℕ) (IsPart : A → B → Type 0) (suffix : A → B → List ℕ) (body : Left → A → Left → Read B)
   → IsExact FitsPart part part_at
-  → ((before : Left) (a : A) → FitsPart a → IsExact (λ b. Fits b × (part_of b ≡ a)) (suffix a) (body before a))
-  → ((b : B) → Fits b → FitsPart (part_of b))
-  → ((b : B) → Fits b → spelling b ≡ part (part_of b) ++ suffix (part_of b) b)
+  → ((before : Left) (a : A) → FitsPart a → IsExact (λ b. Fits b × IsPart a b) (suffix a) (body before a))
+  → ((b : B) → Fits b → (a : A) × FitsPart a × IsPart a b)
+  → ((a : A) (b : B) → Fits b → IsPart a b → spelling b ≡ part a ++ suffix a b)
   → IsExact Fits spelling (λ left. part_at left >>= λ a. body left a.0 a.1)
-exact_then {A} {B} FitsPart part part_at Fits spelling body part_of suffix first others fits spelled = record {
+exact_then {A} {B} FitsPart part part_at Fits spelling IsPart suffix body first others part_of spelled = record {
   found = λ old new b are e.
     let p = bind_ok (part_at old) (λ (a : A × Left). body old a.0 a.1) (b, new) e in
     let f = first.found old p.0.1 p.0.0 are p.1 in
     let o = (others old p.0.0 f.0).found p.0.1 new b (AreBytes-rest _ _ _ are f.1.bytes) p.2 in
-    (o.0.0, rw (spelled b o.0.0, o.0.1) (Begins-then _ _ _ _ _ f.1 o.1));
+    (o.0.0, rw (spelled p.0.0 b o.0.0 o.0.1) (Begins-then _ _ _ _ _ f.1 o.1));
   again = λ b rest at fit.
-    let whole : spelling b ++ rest ≡ part (part_of b) ++ (suffix (part_of b) b ++ rest) =
-      ap (λ (t : List ℕ). t ++ rest) (spelled b fit) ∙ append_assoc _ _ rest in
-    let long : length (spelling b) ≡ length (part (part_of b)) + length (suffix (part_of b) b) =
-      ap length (spelled b fit) ∙ length-append (part (part_of b)) (suffix (part_of b) b) in
+    let (a, fits-a, is) = part_of b fit in
+    let whole : spelling b ++ rest ≡ part a ++ (suffix a b ++ rest) =
+      ap (λ (t : List ℕ). t ++ rest) (spelled a b fit is) ∙ append_assoc _ _ rest in
+    let long : length (spelling b) ≡ length (part a) + length (suffix a b) =
+      ap length (spelled a b fit is) ∙ length-append (part a) (suffix a b) in
     let before : Left = record { bytes = spelling b ++ rest; at = at } in
-    let front : part_at before ≡ Ok (part_of b, record { bytes = suffix (part_of b) b ++ rest; at = at + length (part (part_of b)) }) =
-      rw whole (first.again (part_of b) (suffix (part_of b) b ++ rest) at (fits b fit)) in
-    let back = (others before (part_of b) (fits b fit)).again b rest (at + length (part (part_of b))) (fit, refl) in
-    let place : at + length (part (part_of b)) + length (suffix (part_of b) b) ≡ at + length (spelling b) = omega arith in
+    let front : part_at before ≡ Ok (a, record { bytes = suffix a b ++ rest; at = at + length (part a) }) =
+      rw whole (first.again a (suffix a b ++ rest) at fits-a) in
+    let back = (others before a fits-a).again b rest (at + length (part a)) (fit, is) in
+    let place : at + length (part a) + length (suffix a b) ≡ at + length (spelling b) = omega arith in
     ap (λ (r : Read A). r >>= λ (a : A × Left). body before a.0 a.1) front ∙ back ∙ ap (λ (n : ℕ). done (b, read_left rest n)) place
 }
 
@@ -115,21 +117,23 @@ exact_as Fits Fits' spelling spelling' reading reading' exact there back same re
   again = λ x rest at fit. rw (same x) (reads _ ∙ exact.again x rest at (back x fit))
 }
 
--- A field whose values are others' by a function and back.
-pub exact_map : {A B : Type 0} (FitsA : A → Type 0) (part : A → List ℕ) (part_at : Left → Read A)
-  (Fits : B → Type 0) (spelling : B → List ℕ) (there : A → B) (back : B → A)
-  → IsExact FitsA part part_at → ((a : A) → FitsA a → Fits (there a) × (back (there a) ≡ a)) → ((b : B) → Fits b → FitsA (back b) × (there (back b) ≡ b) × (spelling b ≡ part (back b)))
-  → IsExact Fits spelling (λ left. part_at left >>= λ a. Ok (there a.0, a.1))
-exact_map {A} {B} FitsA part part_at Fits spelling there back first into out = record {
+-- A field whose values are made of another's.
+pub exact_map : {A B : Type 0} (FitsPart : A → Type 0) (part : A → List ℕ) (part_at : Left → Read A)
+  (Fits : B → Type 0) (spelling : B → List ℕ) (make : A → B)
+  → IsExact FitsPart part part_at
+  → ((a : A) → FitsPart a → Fits (make a) × (spelling (make a) ≡ part a))
+  → ((b : B) → Fits b → (a : A) × FitsPart a × (make a ≡ b))
+  → IsExact Fits spelling (λ left. part_at left >>= λ a. Ok (make a.0, a.1))
+exact_map {A} {B} FitsPart part part_at Fits spelling make first made made_of = record {
   found = λ old new b are e.
-    let p = bind_ok (part_at old) (λ (a : A × Left). Ok (there a.0, a.1)) (b, new) e in
+    let p = bind_ok (part_at old) (λ (a : A × Left). Ok (make a.0, a.1)) (b, new) e in
     let f = first.found old p.0.1 p.0.0 are p.1 in
-    let i = into p.0.0 f.0 in
-    let spelled : spelling (there p.0.0) ≡ part p.0.0 = (out (there p.0.0) i.0).2 ∙ ap part i.1 in
-    subst (λ (y : B × Left). Fits y.0 × Begins (spelling y.0) old y.1) (ok_is (there p.0.0, p.0.1) (b, new) p.2) (i.0, rw spelled f.1);
+    let m = made p.0.0 f.0 in
+    subst (λ (y : B × Left). Fits y.0 × Begins (spelling y.0) old y.1) (ok_is (make p.0.0, p.0.1) (b, new) p.2) (m.0, rw (m.1) f.1);
   again = λ b rest at fit.
-    let o = out b fit in
-    rw (o.2, first.again (back b) rest at o.0, o.1) refl
+    let (a, fits-a, is) = made_of b fit in
+    let spelled : spelling b ≡ part a = ap spelling (sym is) ∙ (made a fits-a).1 in
+    rw (spelled, first.again a rest at fits-a, is) refl
 }
 
 -- Where a spelling is read whatever follows it, none begins another.

@@ -1,1 +1,2 @@
 pub mod Exactness
+pub mod FieldLaws

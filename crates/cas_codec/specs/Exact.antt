@@ -40,9 +40,10 @@ Refuses Fits spelling left (Short at) = (at ≡ left.at) × IsCutShort Fits spel
 Refuses Fits spelling left (Bad at) = (at ≡ left.at) × HasNone Fits spelling left.bytes
 Refuses Fits spelling left Mem = ⊥
 
--- a field: its reading is exact, and where it refuses, the field isn't there
+-- a field: its reading is exact, its spellings tell where they end, and where the reading refuses the field isn't there
 pub record IsField {A : Type 0} (Fits : A → Type 0) (spelling : A → List ℕ) (reading : Left → Read A) : Type 0 where
   pub exact : IsExact Fits spelling reading
+  pub alone : IsPrefixFree Fits spelling
   pub refused : (left : Left) (f : ReadFault) → AreBytes left.bytes → reading left ≡ Err f → Refuses Fits spelling left f
 
 -- How a reader of a field ends, which stood at old and stands at new: with a value whose spelling stood there, or

@@ -1,7 +1,7 @@
 -- The fields that the files are made of, and the one spelling of each value.
 -- Own format. The most significant byte of a number comes first.
-use Rattle.std.specs.Prelude.{ℕ, ℤ, ◌<◌, ◌^◌, Bool, true, false, List, [], ◌∷◌, ◌++◌, length, Option, None, Some}
-use Rattle.std.specs.Int.{w8, w16, w32, w64, to_be_bytes, cast_unsigned}
+use Rattle.std.specs.Prelude.{ℕ, ℤ, Bool, true, false, List, [], ◌∷◌, ◌++◌, length, Option, None, Some}
+use Rattle.std.specs.Int.{w16, w32, w64, to_be_bytes, cast_unsigned}
 
 -- a number below 256 is one byte
 unfoldable pub u8 : ℕ → List ℕ
@@ -21,7 +21,7 @@ u64 n = to_be_bytes w64 n
 
 -- a signed number has eight bytes, in two's complement: -1 is ff ff ff ff ff ff ff ff
 unfoldable pub i64 : ℤ → List ℕ
-i64 z = to_be_bytes w64 (cast_unsigned w64 z)
+i64 z = u64 (cast_unsigned w64 z)
 
 -- at most 65,535 bytes: their number in two bytes, and they: "hi" is 00 02 68 69
 unfoldable pub bytes16 : List ℕ → List ℕ
