@@ -1,6 +1,6 @@
 -- Each field is read exactly.
-use Rattle.std.proofs.Common.{◌≡◌, ℕ, ℤ, zero, suc, ◌+◌, ◌-◌, ◌^◌, ◌<◌, ◌≤◌, ◌⊎◌, Bool, true, false, cond, ltb, List, [], ◌∷◌, ◌++◌, length, get_or, take, drop, Option, Some, None, Result, Ok, Err, refl, sym, ap, subst, ◌∙◌, append_assoc, arith, inl, inr}
-use Rattle.std.specs.Prelude.{All, replicate, FitsSigned, IfSome}
+use Rattle.std.proofs.Common.{◌≡◌, ℕ, ℤ, zero, suc, ◌+◌, ◌-◌, ◌^◌, ◌<◌, ◌≤◌, ◌⊎◌, Bool, true, false, cond, ltb, eqb, List, [], ◌∷◌, ◌++◌, length, get_or, take, drop, Option, Some, None, Result, Ok, Err, refl, sym, ap, subst, ◌∙◌, append_assoc, arith, inl, inr}
+use Rattle.std.specs.Prelude.{All, replicate, FitsSigned, IfSome, is_some}
 use Rattle.std.specs.Int.{Width, w8, w16, w32, w64, byte_len, from_be_bytes, to_be_bytes, cast_signed, cast_unsigned}
 use Rattle.std.proofs.Math.Nat.{add-zero}
 use Rattle.std.proofs.lemmas.Bool.{cases_lt, ltb-false, le-ltb, ltb-true}
@@ -72,6 +72,26 @@ length-padded bytes n short = simp (length-append, length-replicate) (omega arit
 AreBytes-padded : (bytes : List ℕ) (n : ℕ) → AreBytes bytes → AreBytes (padded bytes n)
 unfolding padded
 AreBytes-padded bytes n are = record { each = All-append (λ b. b < 256) bytes _ are.each (All-replicate (λ b. b < 256) _ 0 (omega arith)) }
+
+-- the beginning of n bytes
+bytes_cut_short : (n : ℕ) (bytes : List ℕ) → length bytes < n → IsCutShort (λ x. length x ≡ n) (λ x. x) bytes
+unfolding padded
+bytes_cut_short n bytes short = record {
+  value = padded bytes n;
+  more = replicate (n - length bytes) 0;
+  fits = length-padded bytes n short;
+  lacks = simp length-replicate (omega arith);
+  spelled = refl
+}
+
+pub bytes_field : (n : ℕ) → IsField (λ x. length x ≡ n) (λ x. x) (λ left. bytes_at left.at n left)
+bytes_field n = record {
+  exact = exact_bytes (λ left. left.at) n;
+  alone = exact_alone _ _ _ (exact_bytes (λ left. left.at) n);
+  refused = λ left f are e.
+    let r = bytes_refused left.at n left f e in
+    rw (r.0) (refl, bytes_cut_short n left.bytes r.1)
+}
 
 -- ---- unsigned numbers
 
@@ -330,3 +350,147 @@ bytes16_field = counted_field (2 ^ 16) u16 u16_at u16_field u16_short
 pub bytes32_field : IsField (λ bytes. length bytes < 2 ^ 32) bytes32 bytes32_at
 unfolding bytes32 bytes32_at counted counted_at
 bytes32_field = counted_field (2 ^ 32) u32 u32_at u32_field u32_short
+
+-- ---- flags
+
+true_false : true ≡ false → ⊥
+true_false e = cc
+
+test_err : {A : Type 0} (b : Bool) (d f : ReadFault) (x : A) → cond b (Ok x) (Err d) ≡ Err f → (b ≡ false) × (d ≡ f)
+test_err true d f x e = absurd cc
+test_err false d f x e = (refl, cc)
+
+-- why a field that must pass a test isn't read
+checked_refused : {A : Type 0} (test : A → Bool) (reading : Left → Read A) (left : Left) (f : ReadFault) → checked test reading left ≡ Err f
+  → (reading left ≡ Err f) ⊎ ((x : A × Left) × (reading left ≡ Ok x) × (test x.0 ≡ false) × (Bad left.at ≡ f))
+unfolding checked
+checked_refused {A} test reading left f e =
+  elim (bind_err (reading left) (λ (x : A × Left). cond (test x.0) (Ok x) (Err (Bad left.at))) f e) [
+    | inl r ↦ inl r
+    | inr s ↦ let t = test_err (test s.0.0) (Bad left.at) f s.0 s.2 in inr (s.0, s.1, t.0, t.1)
+  ]
+
+byte_of : Bool → ℕ
+byte_of false = 0
+byte_of true = 1
+
+abbrev below_2 : ℕ → Bool
+below_2 b = ltb b 2
+
+flag_is : (x : Bool) → flag x ≡ u8 (byte_of x)
+unfolding byte_of
+flag_is false = refl
+flag_is true = refl
+
+made_flag : (b : ℕ) → (b < 2 ^ 8) × (below_2 b ≡ true) → Unit {0} × (flag (eqb b 1) ≡ u8 b)
+made_flag zero h = (tt, refl)
+made_flag (suc zero) h = (tt, refl)
+made_flag (suc (suc b)) h = absurd (omega (arith, ltb-true _ _ h.1))
+
+flag_made : (x : Bool) → (b : ℕ) × ((b < 2 ^ 8) × (below_2 b ≡ true)) × (eqb b 1 ≡ x)
+flag_made false = (0, (omega arith, refl), refl)
+flag_made true = (1, (omega arith, refl), refl)
+
+flag_exact : IsExact (λ x. Unit {0}) flag flag_at
+unfolding flag_at
+flag_exact = exact_map (λ b. (b < 2 ^ 8) × (below_2 b ≡ true)) u8 (checked below_2 u8_at) (λ x. Unit {0}) flag (λ b. eqb b 1)
+  (exact_checked (λ b. b < 2 ^ 8) u8 u8_at below_2 u8_field.exact)
+  made_flag
+  (λ x fit. flag_made x)
+
+none_of : (xs : List ℕ) → length xs < 1 → xs ≡ []
+none_of [] short = refl
+none_of (x ∷ xs) short = absurd (omega arith)
+
+flag_short : (left : Left) → IsCutShort (λ n. n < 2 ^ 8) u8 left.bytes → IsCutShort (λ x. Unit {0}) flag left.bytes
+unfolding u8
+flag_short left cut =
+  let long : length left.bytes + length cut.more ≡ 1 = sym (length-append left.bytes cut.more) ∙ ap length cut.spelled in
+  let some : 0 < length cut.more = cut.lacks in
+  let none : left.bytes ≡ [] = none_of left.bytes (omega arith) in
+  record { value = false; more = 0 ∷ []; fits = tt; lacks = omega arith; spelled = rw none refl }
+
+byte_below : (x : Bool) → byte_of x < 2
+unfolding byte_of
+byte_below false = omega arith
+byte_below true = omega arith
+
+flag_bad : (left after : Left) (b : ℕ) → (b < 2 ^ 8) × Begins (u8 b) left after → below_2 b ≡ false → HasNone (λ x. Unit {0}) flag left.bytes
+flag_bad left after b found large x more rest fit e =
+  let two : 2 ≤ b = ltb-false _ _ large in
+  let same = u8_field.alone b (byte_of x) (after.bytes ++ more) rest found.0 (omega (arith, byte_below x))
+    (sym (append_assoc (u8 b) after.bytes more) ∙ ap (λ (text : List ℕ). text ++ more) (sym (found.1.bytes)) ∙ e ∙ ap (λ (text : List ℕ). text ++ rest) (flag_is x)) in
+  omega (arith, byte_below x, same.0)
+
+flag_checked : (left : Left) (f : ReadFault) → flag_at left ≡ Err f → checked below_2 u8_at left ≡ Err f
+unfolding flag_at
+flag_checked left f e =
+  elim (bind_err (checked below_2 u8_at left) (λ (b : ℕ × Left). Ok (eqb b.0 1, b.1)) f e) [
+    | inl r ↦ r
+    | inr s ↦ absurd (not_both _ f s.2)
+  ]
+
+u8_short : (left : Left) (f : ReadFault) → u8_at left ≡ Err f → f ≡ Short left.at
+unfolding u8_at
+u8_short left f e = (number_refused w8 left f e).0
+
+flag_refused : (left : Left) (f : ReadFault) → AreBytes left.bytes
+  → (u8_at left ≡ Err f) ⊎ ((x : ℕ × Left) × (u8_at left ≡ Ok x) × (below_2 x.0 ≡ false) × (Bad left.at ≡ f))
+  → Refuses (λ x. Unit {0}) flag left f
+flag_refused left f are (inl r) =
+  let why : f ≡ Short left.at = u8_short left f r in
+  let refused : Refuses (λ n. n < 2 ^ 8) u8 left (Short left.at) = u8_field.refused left (Short left.at) are (r ∙ ap (λ (g : ReadFault). Err g) why) in
+  rw why (refl, flag_short left refused.1)
+flag_refused left f are (inr s) =
+  rw (← s.3) (refl, flag_bad left s.0.1 s.0.0 (u8_field.exact.found left s.0.1 s.0.0 are s.1) s.2)
+
+pub flag_field : IsField (λ x. Unit {0}) flag flag_at
+flag_field = record {
+  exact = flag_exact;
+  alone = exact_alone _ _ _ flag_exact;
+  refused = λ left f are e. flag_refused left f are (checked_refused below_2 u8_at left f (flag_checked left f e))
+}
+
+-- ---- what may be there
+
+-- what stands after the flag
+rest_of : {A : Type 0} → (A → List ℕ) → Option A → List ℕ
+rest_of spelling None = []
+rest_of spelling (Some x) = spelling x
+
+maybe_is : {A : Type 0} (spelling : A → List ℕ) (o : Option A) → maybe spelling o ≡ flag (is_some o) ++ rest_of spelling o
+unfolding u8 rest_of
+maybe_is spelling None = refl
+maybe_is spelling (Some x) = refl
+
+none_alone : {A : Type 0} (Fits : A → Type 0) (spelling : A → List ℕ) (o : Option A) → IfSome o Fits × (is_some o ≡ false) → (o ≡ None) × (rest_of spelling o ≡ [])
+unfolding rest_of
+none_alone Fits spelling None fit = (refl, refl)
+none_alone Fits spelling (Some x) fit = absurd (true_false fit.1)
+
+some_of : {A : Type 0} (Fits : A → Type 0) (o : Option A) → IfSome o Fits × (is_some o ≡ true) → (x : A) × Fits x × (Some x ≡ o)
+some_of Fits None fit = absurd (true_false (sym fit.1))
+some_of Fits (Some x) fit = (x, fit.0, refl)
+
+there_exact : {A : Type 0} (Fits : A → Type 0) (spelling : A → List ℕ) (reading : Left → Read A) → IsExact Fits spelling reading
+  → (a : Bool) → IsExact (λ o. IfSome o Fits × (is_some o ≡ a)) (rest_of spelling) (there_at reading a)
+unfolding rest_of
+there_exact {A} Fits spelling reading exact false =
+  exact_done (λ o. IfSome o Fits × (is_some o ≡ false)) (rest_of spelling) None (tt, refl) (λ o fit. none_alone Fits spelling o fit)
+there_exact {A} Fits spelling reading exact true =
+  exact_map Fits spelling reading (λ o. IfSome o Fits × (is_some o ≡ true)) (rest_of spelling) (λ x. Some x) exact
+    (λ x fits. ((fits, refl), refl)) (λ o fit. some_of Fits o fit)
+
+pub maybe_exact : {A : Type 0} (Fits : A → Type 0) (spelling : A → List ℕ) (reading : Left → Read A) → IsExact Fits spelling reading
+  → IsExact (λ o. IfSome o Fits) (maybe spelling) (maybe_at reading)
+unfolding maybe_at
+maybe_exact {A} Fits spelling reading exact =
+  exact_then (λ x. Unit {0}) flag flag_at (λ o. IfSome o Fits) (maybe spelling)
+    (λ a o. is_some o ≡ a) (λ a o. rest_of spelling o) (λ before a left. there_at reading a left)
+    flag_exact
+    (λ before a fit. there_exact Fits spelling reading exact a)
+    (λ o fit. (is_some o, tt, refl))
+    (λ a o fit e. rw (← e) (maybe_is spelling o))
+
+pub maybe_i64_exact : IsExact (λ o. IfSome o (FitsSigned w64)) (maybe i64) (maybe_at i64_at)
+maybe_i64_exact = maybe_exact (FitsSigned w64) i64 i64_at i64_field.exact

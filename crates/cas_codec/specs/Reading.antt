@@ -1,6 +1,6 @@
 -- Reading fields from left to right, up to the first that isn't there.
 -- Own. The place of a refusal is that of the refused field's first byte.
-use Rattle.std.specs.Prelude.{◌≡◌, ℕ, ℤ, ◌+◌, ◌<◌, ◌==◌, nat_lt, Bool, true, false, List, [], ◌∷◌, ◌++◌, length, take, drop, Option, None, Some, Result, Ok, Err, if◌then◌else◌}
+use Rattle.std.specs.Prelude.{◌≡◌, ℕ, ℤ, ◌+◌, ◌==◌, nat_lt, int_le, ◌&&◌, Bool, true, false, List, length, take, drop, Option, None, Some, Result, Ok, Err, if◌then◌else◌}
 use Rattle.std.specs.Int.{Width, w8, w16, w32, w64, byte_len, from_be_bytes, cast_signed}
 use Rattle.cas_codec.specs.declared.fault.ReadFault.{ReadFault}
 use Rattle.cas_codec.specs.declared.fault.ReadFault.TheVariants.{Short, Bad, Mem}
@@ -64,6 +64,10 @@ checked test reading left = do
   found ← reading left
   if test found.0 then Ok found else Err (Bad left.at)
 
+-- a signed number from least to greatest
+abbrev pub is_within : ℤ → ℤ → ℤ → Bool
+is_within least greatest z = int_le least z && int_le z greatest
+
 unfoldable pub flag_at : Left → Read Bool
 flag_at left = do
   byte ← checked (λ b. nat_lt b 2) u8_at left
@@ -87,16 +91,3 @@ Gives view (Ok x) new read = read ≡ Ok (view x, new)
 Gives view (Err (Short at)) new read = read ≡ Err (Short at)
 Gives view (Err (Bad at)) new read = read ≡ Err (Bad at)
 Gives view (Err Mem) new read = Unit {0}
-
-abbrev pub Answers : {X Y : Type 0} → (X → Y) → Result X ReadFault → Left → Read Y → Type 0
-Answers view (Ok x) new read = read ≡ Ok (view x, new)
-Answers view (Err f) new read = read ≡ Err f
-
-unfoldable pub test_at : Left → Read (ℕ × List ℕ × ℕ × ℕ × Option ℤ)
-test_at left = do
-  a ← u32_at left
-  b ← bytes16_at a.1
-  c ← u16_at b.1
-  d ← u8_at c.1
-  e ← maybe_at i64_at d.1
-  Ok ((a.0, b.0, c.0, d.0, e.0), e.1)

@@ -1,2 +1,0 @@
--- What is proved of each field. Own.
-use Rattle.std.specs.Prelude.{ℕ}
