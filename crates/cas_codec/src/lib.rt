@@ -5,6 +5,8 @@
 mod fault;
 mod laws;
 mod reader;
+#[cfg(test)]
+mod tests;
 mod writing;
 
 pub use fault::ReadFault;
