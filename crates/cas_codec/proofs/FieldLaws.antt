@@ -28,7 +28,7 @@ guard_err false d f x e = absurd cc
 
 -- which of two steps failed
 bind_err : {A B : Type 0} (r : Result A ReadFault) (g : A → Result B ReadFault) (f : ReadFault) → (r >>= g) ≡ Err f
-  → (r ≡ Err f) ⊎ ((x : A) × (r ≡ Ok x) × (g x ≡ Err f))
+    → (r ≡ Err f) ⊎ ((x : A) × (r ≡ Ok x) × (g x ≡ Err f))
 bind_err (Ok x) g f e = inr (x, refl, e)
 bind_err (Err d) g f e = inl cc
 
@@ -41,7 +41,7 @@ bytes_found place n old new x e =
     let long : n ≤ length old.bytes = ltb-false _ _ g.0 in
     let len : length (take n old.bytes) ≡ n = length-take-le n old.bytes long in
     subst (λ (y : List ℕ × Left). (length y.0 ≡ n) × Begins y.0 old y.1) g.1
-      (len, record { bytes = sym (take-append-drop n old.bytes); at = rw len refl })
+    (len, record { bytes = sym (take-append-drop n old.bytes); at = rw len refl })
 
 bytes_again : (place n : ℕ) (x rest : List ℕ) (at : ℕ) → length x ≡ n → bytes_at place n (read_left (x ++ rest) at) ≡ Ok (x, read_left rest (at + n))
 unfolding bytes_at
@@ -58,7 +58,7 @@ bytes_refused place n left f e =
 pub exact_bytes : (place : Left → ℕ) (n : ℕ) → IsExact (λ x. length x ≡ n) (λ x. x) (λ left. bytes_at (place left) n left)
 exact_bytes place n = record {
   found = λ old new x are e. bytes_found (place old) n old new x e;
-  again = λ x rest at fit. rw fit (bytes_again (place (read_left (x ++ rest) at)) n x rest at fit)
+  again = λ x rest at fit. rw fit (bytes_again (place (read_left (x ++ rest) at)) n x rest at fit);
 }
 
 -- bytes and as many zeros as lack
@@ -81,7 +81,7 @@ bytes_cut_short n bytes short = record {
   more = replicate (n - length bytes) 0;
   fits = length-padded bytes n short;
   lacks = simp length-replicate (omega arith);
-  spelled = refl
+  spelled = refl;
 }
 
 pub bytes_field : (n : ℕ) → IsField (λ x. length x ≡ n) (λ x. x) (λ left. bytes_at left.at n left)
@@ -89,8 +89,8 @@ bytes_field n = record {
   exact = exact_bytes (λ left. left.at) n;
   alone = exact_alone _ _ _ (exact_bytes (λ left. left.at) n);
   refused = λ left f are e.
-    let r = bytes_refused left.at n left f e in
-    rw (r.0) (refl, bytes_cut_short n left.bytes r.1)
+      let r = bytes_refused left.at n left f e in
+      rw (r.0) (refl, bytes_cut_short n left.bytes r.1);
 }
 
 -- ---- unsigned numbers
@@ -120,7 +120,7 @@ wide8 = record {
   len = λ n. refl;
   back = λ bytes len are. one_byte bytes len;
   again = λ n lt. refl;
-  below = λ bytes len are. below_256 bytes are 0
+  below = λ bytes len are. below_256 bytes are 0;
 }
 
 wide16 : IsWide w16 (2 ^ 16) u16
@@ -129,7 +129,7 @@ wide16 = record {
   len = λ n. refl;
   back = λ bytes len are. be_bytes_2 bytes _ len (below_256 bytes are) refl;
   again = λ n lt. from_be_bytes-to_be_bytes_2 n lt;
-  below = λ bytes len are. let fits = below_256 bytes are in omega (arith, fits 0, fits 1)
+  below = λ bytes len are. let fits = below_256 bytes are in omega (arith, fits 0, fits 1);
 }
 
 wide32 : IsWide w32 (2 ^ 32) u32
@@ -138,7 +138,7 @@ wide32 = record {
   len = λ n. refl;
   back = λ bytes len are. be_bytes_4 bytes _ len (below_256 bytes are) refl;
   again = λ n lt. from_be_bytes-to_be_bytes_4 n lt;
-  below = λ bytes len are. let fits = below_256 bytes are in omega (arith, fits 0, fits 1, fits 2, fits 3)
+  below = λ bytes len are. let fits = below_256 bytes are in omega (arith, fits 0, fits 1, fits 2, fits 3);
 }
 
 wide64 : IsWide w64 (2 ^ 64) u64
@@ -148,32 +148,32 @@ wide64 = record {
   back = λ bytes len are. be_bytes_8 bytes _ len (below_256 bytes are) refl;
   again = λ n lt. from_be_bytes-to_be_bytes_8 n lt;
   below = λ bytes len are. let fits = below_256 bytes are in
-    omega (arith, fits 0, fits 1, fits 2, fits 3, fits 4, fits 5, fits 6, fits 7)
+      omega (arith, fits 0, fits 1, fits 2, fits 3, fits 4, fits 5, fits 6, fits 7);
 }
 
 number_exact : (w : Width) (limit : ℕ) (spelling : ℕ → List ℕ) → IsWide w limit spelling → IsExact (λ n. n < limit) spelling (unsigned_at w)
 unfolding unsigned_at
 number_exact w limit spelling wide = record {
   found = λ old new n are e.
-    let p = bind_ok (bytes_at old.at (byte_len w) old) (λ (front : List ℕ × Left). Ok (from_be_bytes w front.0, front.1)) (n, new) e in
-    let f = bytes_found old.at (byte_len w) old p.0.1 p.0.0 p.1 in
-    let front : AreBytes p.0.0 = AreBytes-front _ _ _ are f.1.bytes in
-    subst (λ (y : ℕ × Left). (y.0 < limit) × Begins (spelling y.0) old y.1) (ok_is (from_be_bytes w p.0.0, p.0.1) (n, new) p.2)
+      let p = bind_ok (bytes_at old.at (byte_len w) old) (λ (front : List ℕ × Left). Ok (from_be_bytes w front.0, front.1)) (n, new) e in
+      let f = bytes_found old.at (byte_len w) old p.0.1 p.0.0 p.1 in
+      let front : AreBytes p.0.0 = AreBytes-front _ _ _ are f.1.bytes in
+      subst (λ (y : ℕ × Left). (y.0 < limit) × Begins (spelling y.0) old y.1) (ok_is (from_be_bytes w p.0.0, p.0.1) (n, new) p.2)
       (wide.below p.0.0 f.0 front, rw (wide.back p.0.0 f.0 front) f.1);
   again = λ n rest at lt.
-    rw (bytes_again at (byte_len w) (spelling n) rest at (wide.len n), wide.again n lt, wide.len n) refl
+      rw (bytes_again at (byte_len w) (spelling n) rest at (wide.len n), wide.again n lt, wide.len n) refl;
 }
 
 -- the beginning of a number's spelling, with zeros in place of what lacks
 number_cut : (w : Width) (limit : ℕ) (spelling : ℕ → List ℕ) → IsWide w limit spelling → (bytes : List ℕ) → AreBytes bytes → length bytes < byte_len w
-  → IsCutShort (λ n. n < limit) spelling bytes
+    → IsCutShort (λ n. n < limit) spelling bytes
 unfolding padded
 number_cut w limit spelling wide bytes are short = record {
   value = from_be_bytes w (padded bytes (byte_len w));
   more = replicate (byte_len w - length bytes) 0;
   fits = wide.below _ (length-padded bytes (byte_len w) short) (AreBytes-padded bytes (byte_len w) are);
   lacks = simp length-replicate (omega arith);
-  spelled = sym (wide.back (padded bytes (byte_len w)) (length-padded bytes (byte_len w) short) (AreBytes-padded bytes (byte_len w) are))
+  spelled = sym (wide.back (padded bytes (byte_len w)) (length-padded bytes (byte_len w) short) (AreBytes-padded bytes (byte_len w) are));
 }
 
 not_both : {A : Type 0} (x : A) (f : ReadFault) → done x ≡ Err f → ⊥
@@ -192,8 +192,8 @@ number_field w limit spelling wide = record {
   exact = number_exact w limit spelling wide;
   alone = exact_alone _ _ _ (number_exact w limit spelling wide);
   refused = λ left f are e.
-    let r = number_refused w left f e in
-    rw (r.0) (refl, number_cut w limit spelling wide left.bytes are r.1)
+      let r = number_refused w left f e in
+      rw (r.0) (refl, number_cut w limit spelling wide left.bytes are r.1);
 }
 
 pub u8_field : IsField (λ n. n < 2 ^ 8) u8 u8_at
@@ -215,37 +215,43 @@ u64_field = number_field w64 (2 ^ 64) u64 wide64
 -- ---- a field whose values are made of another's
 
 refuses_made : {A B : Type 0} (FitsPart : A → Type 0) (part : A → List ℕ) (Fits : B → Type 0) (spelling : B → List ℕ) (make : A → B)
-  → ((a : A) → FitsPart a → Fits (make a) × (spelling (make a) ≡ part a))
-  → ((b : B) → Fits b → (a : A) × FitsPart a × (make a ≡ b))
-  → (left : Left) (f : ReadFault) → Refuses FitsPart part left f → Refuses Fits spelling left f
-refuses_made FitsPart part Fits spelling make made made_of left (Short at) r = (r.0, record {
-  value = make r.1.value;
-  more = r.1.more;
-  fits = (made r.1.value r.1.fits).0;
-  lacks = r.1.lacks;
-  spelled = r.1.spelled ∙ sym ((made r.1.value r.1.fits).1)
-})
-refuses_made FitsPart part Fits spelling make made made_of left (Bad at) r = (r.0, λ b more rest fit e.
-  let (a, fits-a, is) = made_of b fit in
-  r.1 a more rest fits-a (e ∙ ap (λ (text : List ℕ). text ++ rest) (ap spelling (sym is) ∙ (made a fits-a).1)))
+    → ((a : A) → FitsPart a → Fits (make a) × (spelling (make a) ≡ part a))
+    → ((b : B) → Fits b → (a : A) × FitsPart a × (make a ≡ b))
+    → (left : Left) (f : ReadFault) → Refuses FitsPart part left f → Refuses Fits spelling left f
+refuses_made FitsPart part Fits spelling make made made_of left (Short at) r = (
+  r.0,
+  record {
+    value = make r.1.value;
+    more = r.1.more;
+    fits = (made r.1.value r.1.fits).0;
+    lacks = r.1.lacks;
+    spelled = r.1.spelled ∙ sym ((made r.1.value r.1.fits).1);
+  },
+)
+refuses_made FitsPart part Fits spelling make made made_of left (Bad at) r = (
+  r.0,
+  λ b more rest fit e.
+      let (a, fits-a, is) = made_of b fit in
+      r.1 a more rest fits-a (e ∙ ap (λ (text : List ℕ). text ++ rest) (ap spelling (sym is) ∙ (made a fits-a).1)),
+)
 refuses_made FitsPart part Fits spelling make made made_of left Mem r = r
 
 field_map : {A B : Type 0} (FitsPart : A → Type 0) (part : A → List ℕ) (part_at : Left → Read A)
-  (Fits : B → Type 0) (spelling : B → List ℕ) (make : A → B)
-  → IsField FitsPart part part_at
-  → ((a : A) → FitsPart a → Fits (make a) × (spelling (make a) ≡ part a))
-  → ((b : B) → Fits b → (a : A) × FitsPart a × (make a ≡ b))
-  → IsField Fits spelling (λ left. part_at left >>= λ a. Ok (make a.0, a.1))
+    (Fits : B → Type 0) (spelling : B → List ℕ) (make : A → B)
+    → IsField FitsPart part part_at
+    → ((a : A) → FitsPart a → Fits (make a) × (spelling (make a) ≡ part a))
+    → ((b : B) → Fits b → (a : A) × FitsPart a × (make a ≡ b))
+    → IsField Fits spelling (λ left. part_at left >>= λ a. Ok (make a.0, a.1))
 field_map {A} {B} FitsPart part part_at Fits spelling make first made made_of =
     let exact = exact_map FitsPart part part_at Fits spelling make first.exact made made_of in
     record {
       exact = exact;
       alone = exact_alone _ _ _ exact;
       refused = λ left f are e.
-        elim (bind_err (part_at left) (λ (a : A × Left). Ok (make a.0, a.1)) f e) [
-          | inl r ↦ refuses_made FitsPart part Fits spelling make made made_of left f (first.refused left f are r)
-          | inr s ↦ absurd (not_both _ f s.2)
-        ]
+          elim (bind_err (part_at left) (λ (a : A × Left). Ok (make a.0, a.1)) f e) [
+            | inl r ↦ refuses_made FitsPart part Fits spelling make made made_of left f (first.refused left f are r)
+            | inr s ↦ absurd (not_both _ f s.2)
+          ];
     }
 
 -- ---- signed numbers
@@ -256,8 +262,8 @@ signed_fits n lt = sfits_to_z (Fits-of_lt lt)
 pub i64_field : IsField (FitsSigned w64) i64 i64_at
 unfolding i64_at i64
 i64_field = field_map (λ n. n < 2 ^ 64) u64 u64_at (FitsSigned w64) i64 (cast_signed w64) u64_field
-  (λ n lt. (signed_fits n lt, ap u64 (of_z-to_z w64 n lt)))
-  (λ z fits. (cast_unsigned w64 z, Fits-lt-pow (Fits-of_z fits), to_z-of_z w64 z fits))
+    (λ n lt. (signed_fits n lt, ap u64 (of_z-to_z w64 n lt)))
+    (λ z fits. (cast_unsigned w64 z, Fits-lt-pow (Fits-of_z fits), to_z-of_z w64 z fits))
 
 -- ---- bytes and their number
 
@@ -268,71 +274,71 @@ counted_at : (Left → Read ℕ) → Left → Read (List ℕ)
 counted_at number_at left = number_at left >>= λ count. bytes_at left.at count.0 count.1
 
 counted_exact : (limit : ℕ) (number : ℕ → List ℕ) (number_at : Left → Read ℕ) → IsExact (λ n. n < limit) number number_at
-  → IsExact (λ bytes. length bytes < limit) (counted number) (counted_at number_at)
+    → IsExact (λ bytes. length bytes < limit) (counted number) (counted_at number_at)
 unfolding counted counted_at
 counted_exact limit number number_at first =
-  exact_then (λ n. n < limit) number number_at (λ bytes. length bytes < limit) (λ bytes. number (length bytes) ++ bytes)
+    exact_then (λ n. n < limit) number number_at (λ bytes. length bytes < limit) (λ bytes. number (length bytes) ++ bytes)
     (λ n bytes. length bytes ≡ n) (λ n bytes. bytes) (λ before n left. bytes_at before.at n left)
     first
     (λ before n lt. exact_as (λ bytes. length bytes ≡ n) (λ bytes. (length bytes < limit) × (length bytes ≡ n)) (λ bytes. bytes) (λ bytes. bytes) _ _
-      (exact_bytes (λ left. before.at) n) (λ bytes e. (omega arith, e)) (λ bytes e. e.1) (λ bytes. refl) (λ left. refl))
+    (exact_bytes (λ left. before.at) n) (λ bytes e. (omega arith, e)) (λ bytes e. e.1) (λ bytes. refl) (λ left. refl))
     (λ bytes fit. (length bytes, fit, refl))
     (λ n bytes fit e. rw e refl)
 
 -- what a number or the bytes after it lack
 counted_cut : (limit : ℕ) (number : ℕ → List ℕ) (left : Left) → IsCutShort (λ n. n < limit) number left.bytes
-  → IsCutShort (λ bytes. length bytes < limit) (counted number) left.bytes
+    → IsCutShort (λ bytes. length bytes < limit) (counted number) left.bytes
 unfolding counted
 counted_cut limit number left cut =
-  let zeros : List ℕ = replicate cut.value 0 in
-  let long : length zeros ≡ cut.value = length-replicate cut.value 0 in
-  record {
-    value = zeros;
-    more = cut.more ++ zeros;
-    fits = rw long cut.fits;
-    lacks = let some = cut.lacks in simp length-append (omega arith);
-    spelled = sym (append_assoc left.bytes cut.more zeros) ∙ ap (λ (text : List ℕ). text ++ zeros) cut.spelled
-      ∙ ap (λ (n : ℕ). number n ++ zeros) (sym long)
-  }
+    let zeros : List ℕ = replicate cut.value 0 in
+    let long : length zeros ≡ cut.value = length-replicate cut.value 0 in
+    record {
+      value = zeros;
+      more = cut.more ++ zeros;
+      fits = rw long cut.fits;
+      lacks = let some = cut.lacks in simp length-append (omega arith);
+      spelled = sym (append_assoc left.bytes cut.more zeros) ∙ ap (λ (text : List ℕ). text ++ zeros) cut.spelled
+          ∙ ap (λ (n : ℕ). number n ++ zeros) (sym long);
+    }
 
 bytes_cut : (limit : ℕ) (number : ℕ → List ℕ) (left after : Left) (n : ℕ) → n < limit → Begins (number n) left after → length after.bytes < n
-  → IsCutShort (λ bytes. length bytes < limit) (counted number) left.bytes
+    → IsCutShort (λ bytes. length bytes < limit) (counted number) left.bytes
 unfolding counted padded
 bytes_cut limit number left after n lt begins short =
-  let long : length (padded after.bytes n) ≡ n = length-padded after.bytes n short in
-  record {
-    value = padded after.bytes n;
-    more = replicate (n - length after.bytes) 0;
-    fits = rw long lt;
-    lacks = simp length-replicate (omega arith);
-    spelled = ap (λ (text : List ℕ). text ++ replicate (n - length after.bytes) 0) begins.bytes
-      ∙ append_assoc (number n) after.bytes (replicate (n - length after.bytes) 0)
-      ∙ ap (λ (m : ℕ). number m ++ padded after.bytes n) (sym long)
-  }
+    let long : length (padded after.bytes n) ≡ n = length-padded after.bytes n short in
+    record {
+      value = padded after.bytes n;
+      more = replicate (n - length after.bytes) 0;
+      fits = rw long lt;
+      lacks = simp length-replicate (omega arith);
+      spelled = ap (λ (text : List ℕ). text ++ replicate (n - length after.bytes) 0) begins.bytes
+          ∙ append_assoc (number n) after.bytes (replicate (n - length after.bytes) 0)
+          ∙ ap (λ (m : ℕ). number m ++ padded after.bytes n) (sym long);
+    }
 
 counted_refused : (limit : ℕ) (number : ℕ → List ℕ) (number_at : Left → Read ℕ) → IsField (λ n. n < limit) number number_at
-  → ((left : Left) (f : ReadFault) → number_at left ≡ Err f → f ≡ Short left.at)
-  → (left : Left) (f : ReadFault) → AreBytes left.bytes → counted_at number_at left ≡ Err f → Refuses (λ bytes. length bytes < limit) (counted number) left f
+    → ((left : Left) (f : ReadFault) → number_at left ≡ Err f → f ≡ Short left.at)
+    → (left : Left) (f : ReadFault) → AreBytes left.bytes → counted_at number_at left ≡ Err f → Refuses (λ bytes. length bytes < limit) (counted number) left f
 unfolding counted_at
 counted_refused limit number number_at first short left f are e =
-  elim (bind_err (number_at left) (λ (count : ℕ × Left). bytes_at left.at count.0 count.1) f e) [
-    | inl r ↦
-      let why : f ≡ Short left.at = short left f r in
-      let refused : Refuses (λ n. n < limit) number left (Short left.at) = first.refused left (Short left.at) are (r ∙ ap (λ (g : ReadFault). Err g) why) in
-      rw why (refl, counted_cut limit number left refused.1)
-    | inr s ↦
-      let b = bytes_refused left.at s.0.0 s.0.1 f s.2 in
-      let found = first.exact.found left s.0.1 s.0.0 are s.1 in
-      rw (b.0) (refl, bytes_cut limit number left s.0.1 s.0.0 found.0 found.1 b.1)
-  ]
+    elim (bind_err (number_at left) (λ (count : ℕ × Left). bytes_at left.at count.0 count.1) f e) [
+      | inl r ↦
+          let why : f ≡ Short left.at = short left f r in
+          let refused : Refuses (λ n. n < limit) number left (Short left.at) = first.refused left (Short left.at) are (r ∙ ap (λ (g : ReadFault). Err g) why) in
+          rw why (refl, counted_cut limit number left refused.1)
+      | inr s ↦
+          let b = bytes_refused left.at s.0.0 s.0.1 f s.2 in
+          let found = first.exact.found left s.0.1 s.0.0 are s.1 in
+          rw (b.0) (refl, bytes_cut limit number left s.0.1 s.0.0 found.0 found.1 b.1)
+    ]
 
 counted_field : (limit : ℕ) (number : ℕ → List ℕ) (number_at : Left → Read ℕ) → IsField (λ n. n < limit) number number_at
-  → ((left : Left) (f : ReadFault) → number_at left ≡ Err f → f ≡ Short left.at)
-  → IsField (λ bytes. length bytes < limit) (counted number) (counted_at number_at)
+    → ((left : Left) (f : ReadFault) → number_at left ≡ Err f → f ≡ Short left.at)
+    → IsField (λ bytes. length bytes < limit) (counted number) (counted_at number_at)
 counted_field limit number number_at first short = record {
   exact = counted_exact limit number number_at first.exact;
   alone = exact_alone _ _ _ (counted_exact limit number number_at first.exact);
-  refused = counted_refused limit number number_at first short
+  refused = counted_refused limit number number_at first short;
 }
 
 u16_short : (left : Left) (f : ReadFault) → u16_at left ≡ Err f → f ≡ Short left.at
@@ -362,13 +368,13 @@ test_err false d f x e = (refl, cc)
 
 -- why a field that must pass a test isn't read
 checked_refused : {A : Type 0} (test : A → Bool) (reading : Left → Read A) (left : Left) (f : ReadFault) → checked test reading left ≡ Err f
-  → (reading left ≡ Err f) ⊎ ((x : A × Left) × (reading left ≡ Ok x) × (test x.0 ≡ false) × (Bad left.at ≡ f))
+    → (reading left ≡ Err f) ⊎ ((x : A × Left) × (reading left ≡ Ok x) × (test x.0 ≡ false) × (Bad left.at ≡ f))
 unfolding checked
 checked_refused {A} test reading left f e =
-  elim (bind_err (reading left) (λ (x : A × Left). cond (test x.0) (Ok x) (Err (Bad left.at))) f e) [
-    | inl r ↦ inl r
-    | inr s ↦ let t = test_err (test s.0.0) (Bad left.at) f s.0 s.2 in inr (s.0, s.1, t.0, t.1)
-  ]
+    elim (bind_err (reading left) (λ (x : A × Left). cond (test x.0) (Ok x) (Err (Bad left.at))) f e) [
+      | inl r ↦ inl r
+      | inr s ↦ let t = test_err (test s.0.0) (Bad left.at) f s.0 s.2 in inr (s.0, s.1, t.0, t.1)
+    ]
 
 byte_of : Bool → ℕ
 byte_of false = 0
@@ -394,9 +400,9 @@ flag_made true = (1, (omega arith, refl), refl)
 flag_exact : IsExact (λ x. Unit {0}) flag flag_at
 unfolding flag_at
 flag_exact = exact_map (λ b. (b < 2 ^ 8) × (below_2 b ≡ true)) u8 (checked below_2 u8_at) (λ x. Unit {0}) flag (λ b. eqb b 1)
-  (exact_checked (λ b. b < 2 ^ 8) u8 u8_at below_2 u8_field.exact)
-  made_flag
-  (λ x fit. flag_made x)
+    (exact_checked (λ b. b < 2 ^ 8) u8 u8_at below_2 u8_field.exact)
+    made_flag
+    (λ x fit. flag_made x)
 
 none_of : (xs : List ℕ) → length xs < 1 → xs ≡ []
 none_of [] short = refl
@@ -405,10 +411,10 @@ none_of (x ∷ xs) short = absurd (omega arith)
 flag_short : (left : Left) → IsCutShort (λ n. n < 2 ^ 8) u8 left.bytes → IsCutShort (λ x. Unit {0}) flag left.bytes
 unfolding u8
 flag_short left cut =
-  let long : length left.bytes + length cut.more ≡ 1 = sym (length-append left.bytes cut.more) ∙ ap length cut.spelled in
-  let some : 0 < length cut.more = cut.lacks in
-  let none : left.bytes ≡ [] = none_of left.bytes (omega arith) in
-  record { value = false; more = 0 ∷ []; fits = tt; lacks = omega arith; spelled = rw none refl }
+    let long : length left.bytes + length cut.more ≡ 1 = sym (length-append left.bytes cut.more) ∙ ap length cut.spelled in
+    let some : 0 < length cut.more = cut.lacks in
+    let none : left.bytes ≡ [] = none_of left.bytes (omega arith) in
+    record { value = false; more = 0 ∷ []; fits = tt; lacks = omega arith; spelled = rw none refl }
 
 byte_below : (x : Bool) → byte_of x < 2
 unfolding byte_of
@@ -417,38 +423,38 @@ byte_below true = omega arith
 
 flag_bad : (left after : Left) (b : ℕ) → (b < 2 ^ 8) × Begins (u8 b) left after → below_2 b ≡ false → HasNone (λ x. Unit {0}) flag left.bytes
 flag_bad left after b found large x more rest fit e =
-  let two : 2 ≤ b = ltb-false _ _ large in
-  let same = u8_field.alone b (byte_of x) (after.bytes ++ more) rest found.0 (omega (arith, byte_below x))
+    let two : 2 ≤ b = ltb-false _ _ large in
+    let same = u8_field.alone b (byte_of x) (after.bytes ++ more) rest found.0 (omega (arith, byte_below x))
     (sym (append_assoc (u8 b) after.bytes more) ∙ ap (λ (text : List ℕ). text ++ more) (sym (found.1.bytes)) ∙ e ∙ ap (λ (text : List ℕ). text ++ rest) (flag_is x)) in
-  omega (arith, byte_below x, same.0)
+    omega (arith, byte_below x, same.0)
 
 flag_checked : (left : Left) (f : ReadFault) → flag_at left ≡ Err f → checked below_2 u8_at left ≡ Err f
 unfolding flag_at
 flag_checked left f e =
-  elim (bind_err (checked below_2 u8_at left) (λ (b : ℕ × Left). Ok (eqb b.0 1, b.1)) f e) [
-    | inl r ↦ r
-    | inr s ↦ absurd (not_both _ f s.2)
-  ]
+    elim (bind_err (checked below_2 u8_at left) (λ (b : ℕ × Left). Ok (eqb b.0 1, b.1)) f e) [
+      | inl r ↦ r
+      | inr s ↦ absurd (not_both _ f s.2)
+    ]
 
 u8_short : (left : Left) (f : ReadFault) → u8_at left ≡ Err f → f ≡ Short left.at
 unfolding u8_at
 u8_short left f e = (number_refused w8 left f e).0
 
 flag_refused : (left : Left) (f : ReadFault) → AreBytes left.bytes
-  → (u8_at left ≡ Err f) ⊎ ((x : ℕ × Left) × (u8_at left ≡ Ok x) × (below_2 x.0 ≡ false) × (Bad left.at ≡ f))
-  → Refuses (λ x. Unit {0}) flag left f
+    → (u8_at left ≡ Err f) ⊎ ((x : ℕ × Left) × (u8_at left ≡ Ok x) × (below_2 x.0 ≡ false) × (Bad left.at ≡ f))
+    → Refuses (λ x. Unit {0}) flag left f
 flag_refused left f are (inl r) =
-  let why : f ≡ Short left.at = u8_short left f r in
-  let refused : Refuses (λ n. n < 2 ^ 8) u8 left (Short left.at) = u8_field.refused left (Short left.at) are (r ∙ ap (λ (g : ReadFault). Err g) why) in
-  rw why (refl, flag_short left refused.1)
+    let why : f ≡ Short left.at = u8_short left f r in
+    let refused : Refuses (λ n. n < 2 ^ 8) u8 left (Short left.at) = u8_field.refused left (Short left.at) are (r ∙ ap (λ (g : ReadFault). Err g) why) in
+    rw why (refl, flag_short left refused.1)
 flag_refused left f are (inr s) =
-  rw (← s.3) (refl, flag_bad left s.0.1 s.0.0 (u8_field.exact.found left s.0.1 s.0.0 are s.1) s.2)
+    rw (← s.3) (refl, flag_bad left s.0.1 s.0.0 (u8_field.exact.found left s.0.1 s.0.0 are s.1) s.2)
 
 pub flag_field : IsField (λ x. Unit {0}) flag flag_at
 flag_field = record {
   exact = flag_exact;
   alone = exact_alone _ _ _ flag_exact;
-  refused = λ left f are e. flag_refused left f are (checked_refused below_2 u8_at left f (flag_checked left f e))
+  refused = λ left f are e. flag_refused left f are (checked_refused below_2 u8_at left f (flag_checked left f e));
 }
 
 -- ---- what may be there
@@ -473,19 +479,19 @@ some_of Fits None fit = absurd (true_false (sym fit.1))
 some_of Fits (Some x) fit = (x, fit.0, refl)
 
 there_exact : {A : Type 0} (Fits : A → Type 0) (spelling : A → List ℕ) (reading : Left → Read A) → IsExact Fits spelling reading
-  → (a : Bool) → IsExact (λ o. IfSome o Fits × (is_some o ≡ a)) (rest_of spelling) (there_at reading a)
+    → (a : Bool) → IsExact (λ o. IfSome o Fits × (is_some o ≡ a)) (rest_of spelling) (there_at reading a)
 unfolding rest_of
 there_exact {A} Fits spelling reading exact false =
-  exact_done (λ o. IfSome o Fits × (is_some o ≡ false)) (rest_of spelling) None (tt, refl) (λ o fit. none_alone Fits spelling o fit)
+    exact_done (λ o. IfSome o Fits × (is_some o ≡ false)) (rest_of spelling) None (tt, refl) (λ o fit. none_alone Fits spelling o fit)
 there_exact {A} Fits spelling reading exact true =
-  exact_map Fits spelling reading (λ o. IfSome o Fits × (is_some o ≡ true)) (rest_of spelling) (λ x. Some x) exact
+    exact_map Fits spelling reading (λ o. IfSome o Fits × (is_some o ≡ true)) (rest_of spelling) (λ x. Some x) exact
     (λ x fits. ((fits, refl), refl)) (λ o fit. some_of Fits o fit)
 
 pub maybe_exact : {A : Type 0} (Fits : A → Type 0) (spelling : A → List ℕ) (reading : Left → Read A) → IsExact Fits spelling reading
-  → IsExact (λ o. IfSome o Fits) (maybe spelling) (maybe_at reading)
+    → IsExact (λ o. IfSome o Fits) (maybe spelling) (maybe_at reading)
 unfolding maybe_at
 maybe_exact {A} Fits spelling reading exact =
-  exact_then (λ x. Unit {0}) flag flag_at (λ o. IfSome o Fits) (maybe spelling)
+    exact_then (λ x. Unit {0}) flag flag_at (λ o. IfSome o Fits) (maybe spelling)
     (λ a o. is_some o ≡ a) (λ a o. rest_of spelling o) (λ before a left. there_at reading a left)
     flag_exact
     (λ before a fit. there_exact Fits spelling reading exact a)

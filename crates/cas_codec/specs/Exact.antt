@@ -16,11 +16,13 @@ pub record Begins (text : List ℕ) (old new : Left) : Type 0 where
 -- What is read stands there, spelled as it must be; and what is spelled so is read, whatever follows.
 pub record IsExact {A : Type 0} (Fits : A → Type 0) (spelling : A → List ℕ) (reading : Left → Read A) : Type 0 where
   pub found : (old new : Left) (x : A) → AreBytes old.bytes → reading old ≡ Ok (x, new) → Fits x × Begins (spelling x) old new
-  pub again : (x : A) (rest : List ℕ) (at : ℕ) → Fits x → reading (record { bytes = spelling x ++ rest; at = at }) ≡ Ok (x, record { bytes = rest; at = at + length (spelling x) })
+  pub again : (x : A) (rest : List ℕ) (at : ℕ) → Fits x
+      → reading (record { bytes = spelling x ++ rest; at = at }) ≡ Ok (x, record { bytes = rest; at = at + length (spelling x) })
 
 -- no spelling begins another: where two stand at one place they are one, and so is what follows
 abbrev pub IsPrefixFree : {A : Type 0} → (A → Type 0) → (A → List ℕ) → Type 0
-IsPrefixFree {A} Fits spelling = (x y : A) (rest others : List ℕ) → Fits x → Fits y → spelling x ++ rest ≡ spelling y ++ others → (x ≡ y) × (rest ≡ others)
+IsPrefixFree {A} Fits spelling = (x y : A) (rest others : List ℕ) → Fits x → Fits y
+    → spelling x ++ rest ≡ spelling y ++ others → (x ≡ y) × (rest ≡ others)
 
 -- the bytes are the beginning of a spelling, and not the whole of it
 pub record IsCutShort {A : Type 0} (Fits : A → Type 0) (spelling : A → List ℕ) (bytes : List ℕ) : Type 0 where

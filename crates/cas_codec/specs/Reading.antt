@@ -1,6 +1,7 @@
 -- Reading fields from left to right, up to the first that isn't there.
 -- Own. The place of a refusal is that of the refused field's first byte.
-use Rattle.std.specs.Prelude.{◌≡◌, ℕ, ℤ, ◌+◌, ◌==◌, nat_lt, int_le, ◌&&◌, Bool, true, false, List, length, take, drop, Option, None, Some, Result, Ok, Err, if◌then◌else◌}
+use Rattle.std.specs.Prelude.{◌≡◌, ℕ, ℤ, ◌+◌, ◌==◌, nat_lt, int_le, ◌&&◌, if◌then◌else◌, Bool, true, false}
+use Rattle.std.specs.Prelude.{List, length, take, drop, Option, None, Some, Result, Ok, Err}
 use Rattle.std.specs.Int.{Width, w8, w16, w32, w64, byte_len, from_be_bytes, cast_signed}
 use Rattle.cas_codec.specs.declared.fault.ReadFault.{ReadFault}
 use Rattle.cas_codec.specs.declared.fault.ReadFault.TheVariants.{Short, Bad, Mem}

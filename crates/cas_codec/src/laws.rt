@@ -18,5 +18,4 @@ pub fn fields_are_exact()
     ensures bytes16 { IsField (λ b. length b < 2 ^ 16) bytes16 bytes16_at }
     ensures bytes32 { IsField (λ b. length b < 2 ^ 32) bytes32 bytes32_at }
     ensures maybe { IsExact (λ number. IfSome number (FitsSigned w64)) (maybe i64) (maybe_at i64_at) }
-{
-}
+{}

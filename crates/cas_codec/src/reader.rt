@@ -41,6 +41,7 @@ fn know_bytes(bytes: &[u8])
 
 // What the readers of fields are made of.
 impl<'a> Reader<'a> {
+    // The same of the bytes that are left.
     fn know_left(&self)
         ensures { AreBytes self.now.bytes }
     {
@@ -108,60 +109,54 @@ impl<'a> Reader<'a> {
         Ok(number.cast_signed())
     }
 
-    #[tactic(auto, unfolding(crate::specs::Reading::flag_at, crate::specs::Reading::checked, crate::specs::Reading::u8_at, crate::specs::Reading::unsigned_at, crate::specs::Reading::bytes_at))]
+    #[tactic(auto, unfolding(crate::specs::Reading::flag_at, crate::specs::Reading::checked))]
     fn take_flag(&mut self) -> Result<bool, ReadFault>
         ensures answer { Answers (λ there. there) result self.new (flag_at self.old) }
         ensures unchanged { OnErr result (self.new ≡ self.old) }
     {
-        let at = self.at;
-        let Some((byte, rest)) = self.left.split_first() else {
-            return Err(ReadFault::Short { at });
-        };
-        if *byte >= 2 {
-            return Err(ReadFault::Bad { at });
+        let (left, at) = (self.left, self.at);
+        let byte = self.take_u8()?;
+        if byte < 2 {
+            return Ok(byte == 1);
         }
-        self.left = rest;
-        self.at = at + 1;
-        Ok(*byte == 1)
+        self.left = left;
+        self.at = at;
+        Err(ReadFault::Bad { at })
     }
 
-    #[tactic(auto, unfolding(crate::specs::Reading::bytes16_at, crate::specs::Reading::u16_at, crate::specs::Reading::unsigned_at, crate::specs::Reading::bytes_at))]
+    #[tactic(auto, unfolding(crate::specs::Reading::bytes16_at, crate::specs::Reading::bytes_at))]
     fn take_bytes16(&mut self) -> Result<&'a [u8], ReadFault>
         ensures answer { Answers (λ b. b.now) result self.new (bytes16_at self.old) }
         ensures unchanged { OnErr result (self.new ≡ self.old) }
     {
-        let at = self.at;
-        if self.left.len() < 2 {
+        let (left, at) = (self.left, self.at);
+        let count = self.take_u16()? as usize;
+        if self.left.len() < count {
+            self.left = left;
+            self.at = at;
             return Err(ReadFault::Short { at });
         }
-        let (count, rest) = self.left.split_at(2);
-        let length = u16::from_be_bytes([count[0], count[1]]) as usize;
-        if rest.len() < length {
-            return Err(ReadFault::Short { at });
-        }
-        let (bytes, rest) = rest.split_at(length);
+        let (bytes, rest) = self.left.split_at(count);
         self.left = rest;
-        self.at = at + 2 + length as u64;
+        self.at += count as u64;
         Ok(bytes)
     }
 
-    #[tactic(auto, unfolding(crate::specs::Reading::bytes32_at, crate::specs::Reading::u32_at, crate::specs::Reading::unsigned_at, crate::specs::Reading::bytes_at))]
+    #[tactic(auto, unfolding(crate::specs::Reading::bytes32_at, crate::specs::Reading::bytes_at))]
     fn take_bytes32(&mut self) -> Result<&'a [u8], ReadFault>
         ensures answer { Answers (λ b. b.now) result self.new (bytes32_at self.old) }
         ensures unchanged { OnErr result (self.new ≡ self.old) }
     {
-        let at = self.at;
-        if self.left.len() < 4 {
+        let (left, at) = (self.left, self.at);
+        let count = self.take_u32()? as usize;
+        if self.left.len() < count {
+            self.left = left;
+            self.at = at;
             return Err(ReadFault::Short { at });
         }
-        let (count, rest) = self.left.split_at(4);
-        let length = u32::from_be_bytes([count[0], count[1], count[2], count[3]]) as usize;
-        if rest.len() < length {
-            return Err(ReadFault::Short { at });
-        }
-        let (bytes, rest) = rest.split_at(length);
+        let (bytes, rest) = self.left.split_at(count);
         self.left = rest;
-        self.at = at + 4 + length as u64;
+        self.at += count as u64;
         Ok(bytes)
     }
 
@@ -217,28 +212,28 @@ impl<'a> Reader<'a> {
     }
 
     /// The next bytes, so many.
-    pub fn bytes(&mut self, length: usize) -> Result<&'a [u8], ReadFault>
-        ensures field { Reads (λ b. b.now) (λ b. Rattle.std.specs.Prelude.length b ≡ length) (λ b. b) result self.old self.new }
-        ensures exact { Gives (λ b. b.now) result self.new (bytes_at self.old.at length self.old) }
+    pub fn bytes(&mut self, count: usize) -> Result<&'a [u8], ReadFault>
+        ensures field { Reads (λ b. b.now) (λ b. length b ≡ count) (λ b. b) result self.old self.new }
+        ensures exact { Gives (λ b. b.now) result self.new (bytes_at self.old.at count self.old) }
     {
         self.know_left();
-        self.take(length)
+        self.take(count)
     }
 
     /// A reader of the next bytes, so many; this one goes on after them.
     #[tactic(auto, unfolding(crate::specs::Reading::bytes_at))]
-    pub fn part(&mut self, length: usize) -> Result<Reader<'a>, ReadFault>
-        ensures exact { Gives (λ part. part.bytes) result self.new (bytes_at self.old.at length self.old) }
+    pub fn part(&mut self, count: usize) -> Result<Reader<'a>, ReadFault>
+        ensures exact { Gives (λ part. part.bytes) result self.new (bytes_at self.old.at count self.old) }
         ensures at { IfOk result (λ part. part.at ≡ self.old.at) }
         ensures unchanged { OnErr result (self.new ≡ self.old) }
     {
         let at = self.at;
-        if self.left.len() < length {
+        if self.left.len() < count {
             return Err(ReadFault::Short { at });
         }
-        let (front, rest) = self.left.split_at(length);
+        let (front, rest) = self.left.split_at(count);
         self.left = rest;
-        self.at = at + length as u64;
+        self.at = at + count as u64;
         Ok(Reader { left: front, at })
     }
 

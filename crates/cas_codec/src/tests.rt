@@ -88,8 +88,17 @@ fn a_refusal_names_the_first_byte_of_the_field(rt: HostRuntime) {
     for (bytes, fault) in cases {
         assert_eq!(rt; Reader::new(bytes, 8).maybe_i64(), Err(fault));
     }
-    assert_eq!(rt; Reader::new(b"\0\x03hi", 8).bytes16(), Err(ReadFault::Short { at: 8 }));
-    assert_eq!(rt; Reader::new(b"\0\0\0\x02!", 8).bytes32(), Err(ReadFault::Short { at: 8 }));
-    assert_eq!(rt; Reader::new(b"\x09", 8).u8_within(0, 8), Err(ReadFault::Bad { at: 8 }));
+    assert_eq!(rt;
+        Reader::new(b"\0\x03hi", 8).bytes16(),
+        Err(ReadFault::Short { at: 8 })
+    );
+    assert_eq!(rt;
+        Reader::new(b"\0\0\0\x02!", 8).bytes32(),
+        Err(ReadFault::Short { at: 8 })
+    );
+    assert_eq!(rt;
+        Reader::new(b"\x09", 8).u8_within(0, 8),
+        Err(ReadFault::Bad { at: 8 })
+    );
     assert_eq!(rt; Reader::new(b"\x08", 8).u8_within(0, 8), Ok(8));
 }

@@ -1,6 +1,6 @@
 //! Writes fields after what a vector holds.
 
-ghost use Rattle.std.specs.Prelude.{◌≡◌, ◌+◌, ◌^◌, ◌<◌, ◌≤◌, ◌++◌, length, OnOk, OnErr, IfSome, vec_len};
+ghost use Rattle.std.specs.Prelude.{◌≡◌, ◌+◌, ◌^◌, ◌<◌, ◌≤◌, ◌++◌, length, OnOk, OnErr, is_some, if◌then◌else◌, vec_len};
 ghost use Rattle.std.specs.Vec.{vec_capacity};
 ghost use Rattle.cas_codec.specs.Fields.{u8, u16, u32, u64, i64, bytes16, bytes32, flag, maybe};
 
@@ -120,8 +120,9 @@ pub fn put_bytes32(out: &mut Vec<u8>, bytes: &[u8]) -> Result<(), Mem>
 /// Adds a signed number that may be there.
 pub fn put_maybe_i64(out: &mut Vec<u8>, number: Option<i64>) -> Result<(), Mem>
     ensures written { OnOk result (out.new.items ≡ out.old.items ++ maybe i64 number) }
+    ensures length { OnOk result (vec_len out.new ≡ vec_len out.old + (if is_some number then 9 else 1)) }
     ensures unchanged { OnErr result (out.new.items ≡ out.old.items) }
-    ensures full { OnErr result (vec_capacity out.old < vec_len out.old + 9) }
+    ensures full { OnErr result (vec_capacity out.old < vec_len out.old + (if is_some number then 9 else 1)) }
     ensures capacity { vec_capacity out.old ≤ vec_capacity out.new }
 {
     let Some(number) = number else {

@@ -11,5 +11,5 @@ returns c = record {
   flag = flag_field;
   bytes16 = bytes16_field;
   bytes32 = bytes32_field;
-  maybe = maybe_i64_exact
+  maybe = maybe_i64_exact;
 }
