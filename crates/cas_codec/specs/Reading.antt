@@ -15,6 +15,7 @@ pub record Left : Type 0 where
 abbrev pub Read : Type 0 → Type 0
 Read A = Result (A × Left) ReadFault
 
+-- what a step read is given to the next step; a fault ends the reading
 infixl 10 ◌>>=◌
 abbrev pub ◌>>=◌ : {A B : Type 0} → Result A ReadFault → (A → Result B ReadFault) → Result B ReadFault
 (Ok x) >>= f = f x
@@ -32,6 +33,7 @@ unsigned_at w left = do
   front ← bytes_at left.at (byte_len w) left
   Ok (from_be_bytes w front.0, front.1)
 
+-- the numbers of one, two, four and eight bytes
 unfoldable pub u8_at : Left → Read ℕ
 u8_at left = unsigned_at w8 left
 
@@ -44,11 +46,13 @@ u32_at left = unsigned_at w32 left
 unfoldable pub u64_at : Left → Read ℕ
 u64_at left = unsigned_at w64 left
 
+-- a signed number, from its two's complement
 unfoldable pub i64_at : Left → Read ℤ
 i64_at left = do
   number ← u64_at left
   Ok (cast_signed w64 number.0, number.1)
 
+-- bytes after their number; where too few follow it, the field is short at the number's first byte
 unfoldable pub bytes16_at : Left → Read (List ℕ)
 bytes16_at left = do
   count ← u16_at left
@@ -69,18 +73,20 @@ checked test reading left = do
 abbrev pub is_within : ℤ → ℤ → ℤ → Bool
 is_within least greatest z = int_le least z && int_le z greatest
 
+-- yes or no: a byte above 1 isn't allowed there
 unfoldable pub flag_at : Left → Read Bool
 flag_at left = do
   byte ← checked (λ b. nat_lt b 2) u8_at left
   Ok (byte.0 == 1, byte.1)
 
--- a value that may be there
+-- what follows a flag: nothing after a no, a value after a yes
 abbrev pub there_at : {A : Type 0} → (Left → Read A) → Bool → Left → Read (Option A)
 there_at reading false left = Ok (None, left)
 there_at reading true left = do
   found ← reading left
   Ok (Some found.0, found.1)
 
+-- a value that may be there; where it is short, the place is its own
 unfoldable pub maybe_at : {A : Type 0} → (Left → Read A) → Left → Read (Option A)
 maybe_at reading left = do
   there ← flag_at left

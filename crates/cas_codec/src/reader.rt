@@ -186,7 +186,9 @@ impl<'a> Reader<'a> {
         requires { at + length bytes.now < 2 ^ 64 }
         ensures bytes { result.bytes ≡ bytes.now }
         ensures at { result.at ≡ at }
+        ensures are_bytes { AreBytes bytes.now }
     {
+        know_bytes(bytes);
         Reader { left: bytes, at }
     }
 
@@ -199,8 +201,10 @@ impl<'a> Reader<'a> {
 
     /// The bytes that are left.
     pub fn left(&self) -> &'a [u8]
-        ensures { result.now ≡ self.now.bytes }
+        ensures left { result.now ≡ self.now.bytes }
+        ensures are_bytes { AreBytes self.now.bytes }
     {
+        self.know_left();
         self.left
     }
 
