@@ -1,7 +1,7 @@
 -- Reading fields from left to right, up to the first that isn't there.
 -- Own. The place of a refusal is that of the refused field's first byte.
 use Rattle.std.specs.Prelude.{◌≡◌, ℕ, ℤ, ◌+◌, ◌==◌, nat_lt, int_le, ◌&&◌, if◌then◌else◌, Bool, true, false}
-use Rattle.std.specs.Prelude.{List, length, take, drop, Option, None, Some, Result, Ok, Err}
+use Rattle.std.specs.Prelude.{zero, suc, List, [], ◌∷◌, length, take, drop, Option, None, Some, Result, Ok, Err}
 use Rattle.std.specs.Int.{Width, w8, w16, w32, w64, byte_len, from_be_bytes, cast_signed}
 use Rattle.cas_codec.specs.declared.fault.ReadFault.{ReadFault}
 use Rattle.cas_codec.specs.declared.fault.ReadFault.TheVariants.{Short, Bad, Mem}
@@ -91,6 +91,14 @@ unfoldable pub maybe_at : {A : Type 0} → (Left → Read A) → Left → Read (
 maybe_at reading left = do
   there ← flag_at left
   there_at reading there.0 there.1
+
+-- so many items, one after another
+unfoldable pub times_at : {A : Type 0} → ℕ → (Left → Read A) → Left → Read (List A)
+times_at zero reading left = Ok ([], left)
+times_at (suc n) reading left = do
+  first ← reading left
+  others ← times_at n reading first.1
+  Ok (first.0 ∷ others.0, others.1)
 
 -- How a reader ends that then stands at new, its value seen by view: as the reading does, unless memory ran out.
 abbrev pub Gives : {X Y : Type 0} → (X → Y) → Result X ReadFault → Left → Read Y → Type 0
