@@ -1,0 +1,4 @@
+pub mod Exactness
+pub mod FieldLaws
+pub mod ReadsLaws
+pub mod Times

@@ -1,0 +1,6 @@
+use Rattle.cas_codec.proofs.FieldLaws.{bytes16_field}
+use Rattle.cas_codec.proofs.ReadsLaws.{reads_from}
+use Rattle.cas_codec.proofs.reader.Reader.bytes16.Goals as goal
+
+pub returns-clause-field : goal.returns-clause-field
+returns-clause-field c = reads_from _ _ _ _ c.take_bytes16.result _ _ bytes16_field c.know_left.ensures c.take_bytes16.ensures.answer c.take_bytes16.ensures.unchanged

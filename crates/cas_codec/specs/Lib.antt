@@ -1,0 +1,4 @@
+pub mod Fields
+pub mod Reading
+pub mod Exact
+pub mod Inner
