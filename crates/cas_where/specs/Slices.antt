@@ -47,9 +47,11 @@ abbrev pub cut_by : List Ordered → List (List ℕ) → Column → Bool → Opt
 cut_by order prefix c is_end None = cut order prefix is_end
 cut_by order prefix c is_end (Some r) = cut order (prefix ++ bound_value c r) (if is_end then not (is_strict r.operator) else is_strict r.operator)
 
+-- where the slice begins: by the first bound of the column that is one at its begin, as `c > 1`
 unfoldable pub begin_cut : List Ordered → List Relation → List (List ℕ) → Column → Cut
 begin_cut order rs prefix c = cut_by order prefix c false (find (λ r. bytes_eq r.column c.name && is_at_begin (is_descending c.kind) r.operator) rs)
 
+-- where the slice ends: by the first bound of the column that is one at its end, as `c <= 5`
 unfoldable pub end_cut : List Ordered → List Relation → List (List ℕ) → Column → Cut
 end_cut order rs prefix c = cut_by order prefix c true (find (λ r. bytes_eq r.column c.name && is_at_end (is_descending c.kind) r.operator) rs)
 
