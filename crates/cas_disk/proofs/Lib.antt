@@ -1,0 +1,2 @@
+mod Mixing
+mod ImageLaws
