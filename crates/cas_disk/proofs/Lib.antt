@@ -1,2 +1,6 @@
 mod Mixing
 mod ImageLaws
+mod FileLemmas
+mod Listings
+mod ReadLemmas
+mod Settling

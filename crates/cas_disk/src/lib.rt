@@ -4,15 +4,27 @@
 mod count;
 mod event;
 mod fault;
+mod files;
 mod folder;
+mod image;
 mod laws;
+mod listing;
+mod mem_folder;
+mod memory;
 mod name;
+mod plan;
 
 pub use count::{Count, FaultCount};
 pub use event::{Choice, Event, Stored};
 pub use fault::{DraftFault, FolderFault};
 pub use folder::{Draft, Folder, Sealed};
 pub use laws::{
-    admitted_is_in_every_image, images_mix, images_of_images_are_images, removed_is_in_no_image, synced_is_in_every_image, writes_change_no_other_file,
+    admitted_is_in_every_image, images_mix, images_of_images_are_images, removed_is_in_no_image,
+    synced_is_in_every_image, writes_change_no_other_file,
 };
+pub use memory::{MemDraft, MemFolder, MemSealed};
 pub use name::{Entry, Name, same_name};
+pub use plan::FaultPlan;
+
+#[cfg(test)]
+mod tests;

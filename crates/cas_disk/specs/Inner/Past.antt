@@ -65,20 +65,25 @@ abbrev pub lasts : Name → Image → Name → Bool
 lasts Manifest read k = same_name Manifest k || is_none (read k)
 lasts n _ k = same_name n k
 
--- the one image of a choice after an event
-abbrev pub chosen_after : Choice → Event → Image → Image → Image
-chosen_after _ (Sync n) read c = mixed (lasts n read) read c
-chosen_after _ (Admit number bytes) _ c = with_file (Table number) (Some bytes.items) c
-chosen_after Old (Create n) _ c = with_file n None c
-chosen_after Old _ _ c = c
-chosen_after New event _ c = after event c
-chosen_after (Fill byte) (Write n at bytes) _ c = with_file n (written at (replicate (length bytes.items) byte) (c n)) c
-chosen_after (Fill byte) (Draft number) _ c = with_file (Table number) (Some (byte ∷ [])) c
-chosen_after (Fill _) event _ c = after event c
+-- what a sync, and no other event, makes last
+abbrev pub settled : Event → Image → Image → Image
+settled (Sync n) read c = mixed (lasts n read) read c
+settled _ _ c = c
 
+-- the one image of a choice after a change: as before it, as after it, or after it with the written range filled with this byte, and a draft there with this one byte
+abbrev pub changed : Choice → Event → Image → Image
+changed Old (Create n) c = with_file n None c
+changed Old (Admit number bytes) c = with_file (Table number) (Some bytes.items) c
+changed Old _ c = c
+changed New event c = after event c
+changed (Fill byte) (Write n at bytes) c = with_file n (written at (replicate (length bytes.items) byte) (c n)) c
+changed (Fill byte) (Draft number) c = with_file (Table number) (Some (byte ∷ [])) c
+changed (Fill _) event c = after event c
+
+-- what a crash leaves by this choice for each change that isn't synced
 abbrev pub chosen : Choice → Image → List Event → Image
 chosen _ start [] = start
-chosen choice start (event ∷ past) = chosen_after choice event (now start past) (chosen choice start past)
+chosen choice start (event ∷ past) = settled event (now start past) (changed choice event (chosen choice start past))
 
 -- writes to this file alone, none of them synced
 abbrev pub WritesTo : Name → List Event → Type 0
