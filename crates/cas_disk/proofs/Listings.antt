@@ -73,7 +73,7 @@ listed_too files entries f size long none is k = sizes_of-push k entries (record
         ∙ ap (λ (l : List ℕ). l ++ size ∷ []) gone
         ∙ ap (λ (n : ℕ). n ∷ []) long
         ∙ sym (ap (λ (b : Bool). size_of (or_else (image_of files k) (if b then Some f.bytes.items else None))) here
-            ∙ ap (λ (x : Option (List ℕ)). size_of (or_else x (Some f.bytes.items))) absent)
+        ∙ ap (λ (x : Option (List ℕ)). size_of (or_else x (Some f.bytes.items))) absent)
     same false other =
         ap (λ (b : Bool). sizes_of k entries ++ (if b then size ∷ [] else [])) other
         ∙ append-nil (sizes_of k entries)

@@ -42,14 +42,15 @@ or_true false = refl
 gone_at : (n : Name) (read c : Image) (k : Name) → n ≡ Manifest → read k ≡ None → mixed (lasts n read) read c k ≡ None
 gone_at n read c k is none = ap (λ (m : Name). mixed (lasts m read) read c k) is ∙ ap (λ (b : Bool). if b then read k else c k) (ap (λ (x : Option (List ℕ)). same_name Manifest k || is_none x) none ∙ or_true (same_name Manifest k)) ∙ none
 
-
 synced : (n : Name) (start : Image) (past : List Event) (d : Image) → Left start past d → Left start (Sync n ∷ past) (mixed (lasts n (now start past)) (now start past) d)
 synced n start past d left =
-    let read = now start past in
-    (mix (lasts n read) start past read d (now_left start past) left, record {
-      here = ap (λ (b : Bool). if b then read n else d n) (lasts_here n read);
-      removed = λ is k other none. gone_at n read d k is none;
-    })
+    let read = now start past in (
+      mix (lasts n read) start past read d (now_left start past) left,
+      record {
+        here = ap (λ (b : Bool). if b then read n else d n) (lasts_here n read);
+        removed = λ is k other none. gone_at n read d k is none;
+      },
+    )
 
 unchanged : (n : Name) (change : Option (List ℕ) → Option (List ℕ) → Type 0) (d : Image) → change (d n) (d n) → Changed n change d d
 unchanged n change d here = record { here = here; others = λ k other. refl }
@@ -57,7 +58,6 @@ unchanged n change d here = record { here = here; others = λ k other. refl }
 may_not_tear : (at n : ℕ) (file : Option (List ℕ)) → MayTear at n file file
 may_not_tear at n None = refl
 may_not_tear at n (Some file) = (file, refl, not_torn at n file)
-
 
 filled : (at : ℕ) (bytes : List ℕ) (byte : ℕ) (file : Option (List ℕ)) → MayTear at (length bytes) file (written at (replicate (length bytes) byte) file)
 filled at bytes byte file = subst (λ (n : ℕ). MayTear at n file (written at (replicate (length bytes) byte) file)) (length-replicate (length bytes) byte) (written_tears at (replicate (length bytes) byte) file)

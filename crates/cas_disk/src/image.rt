@@ -119,12 +119,7 @@ fn copy_file(
 }
 
 // What a sync makes last is as it is read.
-fn settle(
-    alloc: Global,
-    kept: &mut Vec<Stored>,
-    read: &[Stored],
-    n: Name,
-) -> Result<(), AllocError>
+fn settle(alloc: Global, kept: &mut Vec<Stored>, read: &[Stored], n: Name) -> Result<(), AllocError>
     ensures { OnOk result (image_of kept.new.items ≡ mixed (lasts n (image_of read.now)) (image_of read.now) (image_of kept.old.items)) }
 {
     match n {

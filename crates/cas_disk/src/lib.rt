@@ -7,6 +7,7 @@ mod fault;
 mod files;
 mod folder;
 mod image;
+mod lasting;
 mod laws;
 mod listing;
 mod mem_folder;
@@ -18,6 +19,7 @@ pub use count::{Count, FaultCount};
 pub use event::{Choice, Event, Stored};
 pub use fault::{DraftFault, FolderFault};
 pub use folder::{Draft, Folder, Sealed};
+pub use lasting::{make, put};
 pub use laws::{
     admitted_is_in_every_image, images_mix, images_of_images_are_images, removed_is_in_no_image,
     synced_is_in_every_image, writes_change_no_other_file,

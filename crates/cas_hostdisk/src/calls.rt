@@ -46,11 +46,7 @@ pub fn try_make_folder(files: &impl Files<File = File>, folder: &str) -> io::Res
 }
 
 /// Makes a file that isn't there, and makes its name last.
-pub fn try_create(
-    files: &impl Files<File = File>,
-    folder: &str,
-    path: &str,
-) -> io::Result<File> {
+pub fn try_create(files: &impl Files<File = File>, folder: &str, path: &str) -> io::Result<File> {
     let file = File::create_new(files, path)?;
     sync_folder(files, folder)?;
     Ok(file)

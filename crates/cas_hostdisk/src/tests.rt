@@ -37,7 +37,11 @@ fn each_call_over_a_real_folder(rt: HostRuntime) -> Result<(), Fail> {
         panic!(rt; "no list");
     };
     assert_eq!(rt; entries.len(), 3);
-    assert!(rt; has(&entries, Name::Manifest, 0) && has(&entries, log, 5) && has(&entries, Name::Import(10), 3));
+    assert!(rt;
+        has(&entries, Name::Manifest, 0)
+            && has(&entries, log, 5)
+            && has(&entries, Name::Import(10), 3)
+    );
     assert_eq!(rt; folder.remove(log), Ok(()));
     assert_eq!(rt; folder.remove(log), Err(Failed));
     assert_eq!(rt; folder.sync(Name::Manifest), Ok(()));
@@ -70,7 +74,11 @@ fn a_draft_a_table_and_an_import(rt: HostRuntime) -> Result<(), Fail> {
     };
     assert_eq!(rt; import.read_at(0, &mut into, &mut tally), Ok(3));
     assert_eq!(rt; (tally.faults(), folder.faults()), (0, 1));
-    let mut unmade = HostFolder::new(&rt, alloc, String::from_str(alloc, "b_folder/import-0000000000000001/a")?);
+    let mut unmade = HostFolder::new(
+        &rt,
+        alloc,
+        String::from_str(alloc, "b_folder/import-0000000000000001/a")?,
+    );
     assert!(rt; unmade.list().is_err());
     assert_eq!(rt; unmade.faults(), 1);
     fs::remove_dir_all(&rt, "b_folder")?;

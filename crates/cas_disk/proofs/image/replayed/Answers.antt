@@ -14,9 +14,9 @@ loop-left-preserved c =
     let event = c.index-event.result.now in
     let n : i + 1 ≡ c.loop-left.left = omega arith in
     let next : drop i past ≡ event ∷ drop c.loop-left.left past =
-        drop_more past i event (omega (arith, c.loop-left.invariant.in_range))
-        ∙ ap (λ (m : ℕ). get_or past i event ∷ drop m past) n
-        ∙ ap (λ (e : Event). e ∷ drop c.loop-left.left past) (sym c.index-event.ensures) in
+    drop_more past i event (omega (arith, c.loop-left.invariant.in_range))
+    ∙ ap (λ (m : ℕ). get_or past i event ∷ drop m past) n
+    ∙ ap (λ (e : Event). e ∷ drop c.loop-left.left past) (sym c.index-event.ensures) in
     let read = c.loop-left.invariant.read in
     record {
       in_range = omega (arith, c.loop-left.invariant.in_range);

@@ -12,7 +12,7 @@ returns-in-Manifest c =
     let kept = c.args.kept.now.items in
     let Copied : Type 0 = image_of c.copy_file.new.kept.items ≡ with_file Manifest (read Manifest) (image_of c.drop_missing.new.kept.items) in
     on_ok c.copy_file.result c.copy_file.ensures (λ (copied : Copied).
-        copied
-        ∙ ap (λ (l : List Stored). with_file Manifest (read Manifest) (image_of l)) c.drop_missing.ensures
-        ∙ settled_manifest read kept
-        ∙ ap (λ (n : Name). mixed (lasts n read) read (image_of kept)) (sym c.in-Manifest.is))
+    copied
+    ∙ ap (λ (l : List Stored). with_file Manifest (read Manifest) (image_of l)) c.drop_missing.ensures
+    ∙ settled_manifest read kept
+    ∙ ap (λ (n : Name). mixed (lasts n read) read (image_of kept)) (sym c.in-Manifest.is))
