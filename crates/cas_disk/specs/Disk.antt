@@ -1,5 +1,6 @@
 -- A folder of files on a disk: what its calls read, and what a crash may leave of it. Own.
-use Rattle.std.specs.Prelude.{◌≡◌, ◌≢◌, ◌⊎◌, ℕ, ◌+◌, ◌-◌, ◌≤◌, max, Bool, false, List, [], ◌∷◌, ◌++◌, length, take, drop, Option, None, Some, unwrap_or, if◌then◌else◌}
+use Rattle.std.specs.Prelude.{◌≡◌, ◌≢◌, ◌⊎◌, ℕ, ◌+◌, ◌-◌, ◌≤◌, max, Bool, false}
+use Rattle.std.specs.Prelude.{List, [], ◌∷◌, ◌++◌, length, take, drop, Option, None, Some, unwrap_or, if◌then◌else◌}
 use Rattle.cas_disk.specs.declared.name.Name.{Name}
 use Rattle.cas_disk.specs.declared.name.Name.TheVariants.{Manifest}
 use Rattle.cas_disk.specs.declared.name.Entry.{Entry}
@@ -26,7 +27,8 @@ pub record Disk : Type 1 where
   pub counts_now : (t : ℕ) (c : Image) → t ≤ moment → may_leave c → left_since t c
   pub only_now : (c : Image) → left_since moment c → may_leave c
 
--- At every moment of a call each image is one from before it after this step; what might be left at earlier moments still might have been, and a folder that tells what it reads goes on telling it.
+-- At every moment of a call each image is one from before it after this step. What might be left at
+-- earlier moments still might have been, and a folder that tells what it reads goes on telling it.
 pub record During (step : Image → Image → Type 0) (old new : Disk) : Type 0 where
   pub later : old.moment ≤ new.moment
   pub each : (t : ℕ) (c : Image) → t ≤ old.moment → new.left_since t c → old.left_since t c ⊎ ((d : Image) × old.may_leave d × step d c)
@@ -54,7 +56,8 @@ bytes_of file = unwrap_or file []
 abbrev pub put_at : ℕ → List ℕ → List ℕ → List ℕ
 put_at at bytes file = take at file ++ bytes ++ drop (at + length bytes) file
 
--- A write of n bytes that isn't synced: the range may hold any bytes, as may all past the old end; all else stays, and the length lies between the old and the new.
+-- A write of n bytes that isn't synced: the range may hold any bytes, as may all past the old end; all
+-- else stays, and the length lies between the old and the new.
 pub record Torn (at n : ℕ) (old new : List ℕ) : Type 0 where
   pub before : take (length (take at old)) new ≡ take at old
   pub after : take (length (drop (at + n) old)) (drop (at + n) new) ≡ drop (at + n) old
@@ -97,7 +100,8 @@ abbrev pub Holds : ℕ → List ℕ → Option (List ℕ) → Option (List ℕ) 
 Holds _ _ None _ = Unit {0}
 Holds at bytes (Some old) new = at ≤ length old → new ≡ Some (put_at at bytes old)
 
--- A sync of n: under n a crash leaves what is read. That of the manifest makes removals last too; of tables it says nothing, since one that isn't read may be a draft.
+-- A sync of n: under n a crash leaves what is read. That of the manifest makes removals last too; of
+-- tables it says nothing, since one that isn't read may be a draft.
 pub record IsSynced (n : Name) (read c : Image) : Type 0 where
   pub here : c n ≡ read n
   pub removed : n ≡ Manifest → (k : Name) → is_table k ≡ false → read k ≡ None → c k ≡ None

@@ -125,14 +125,16 @@ pub trait Folder {
         requires synced { Self.Draft.is_synced draft }
         requires absent { (c : Image) → (disk self.old).reads c → c (Name.Table (Self.Draft.number draft)) ≡ None }
         ensures holds { IfOk result (λ file. (b : List ℕ) → Self.Sealed.holds file b → Self.Draft.written draft b) }
-        ensures stands { OnOk result ((c : Image) → (disk self.new).may_leave c → (b : List ℕ) × Self.Draft.written draft b × (c (Name.Table (Self.Draft.number draft)) ≡ Some b)) }
+        ensures stands { OnOk result ((c : Image) → (disk self.new).may_leave c
+            → (b : List ℕ) × Self.Draft.written draft b × (c (Name.Table (Self.Draft.number draft)) ≡ Some b)) }
         ensures reads { OnOk result (Follows (Changed (Name.Table (Self.Draft.number draft)) MayBeAnything) (disk self.old).reads (disk self.new).reads) }
         ensures during { During (Changed (Name.Table (Self.Draft.number draft)) MayBeAnything) (disk self.old) (disk self.new) }
         ensures count { Counted (faults_of self.old) (faults_of self.new) (IsErrOf result FolderFault.Failed) };
 
     /// A table's file that is there.
     fn sealed(&mut self, number: u64) -> Result<Self::Sealed, FolderFault>
-        ensures holds { IfOk result (λ file. (c : Image) → (disk self.old).reads c → (b : List ℕ) → Self.Sealed.holds file b → c (Name.Table number) ≡ Some b) }
+        ensures holds { IfOk result (λ file. (c : Image) → (disk self.old).reads c
+            → (b : List ℕ) → Self.Sealed.holds file b → c (Name.Table number) ≡ Some b) }
         ensures reads { Follows Same (disk self.old).reads (disk self.new).reads }
         ensures during { During Same (disk self.old) (disk self.new) }
         ensures count { Counted (faults_of self.old) (faults_of self.new) (IsErrOf result FolderFault.Failed) };
@@ -140,7 +142,8 @@ pub trait Folder {
     /// A table's file of another store, which the list has.
     fn import(&mut self, number: u64) -> Result<Self::Sealed, FolderFault>
         requires { (c : Image) → (disk self.old).reads c → c (Name.Import number) ≢ None }
-        ensures holds { IfOk result (λ file. (c : Image) → (disk self.old).reads c → (b : List ℕ) → Self.Sealed.holds file b → c (Name.Import number) ≡ Some b) }
+        ensures holds { IfOk result (λ file. (c : Image) → (disk self.old).reads c
+            → (b : List ℕ) → Self.Sealed.holds file b → c (Name.Import number) ≡ Some b) }
         ensures reads { Follows Same (disk self.old).reads (disk self.new).reads }
         ensures during { During Same (disk self.old) (disk self.new) }
         ensures count { Counted (faults_of self.old) (faults_of self.new) (IsErrOf result FolderFault.Failed) };

@@ -181,7 +181,8 @@ impl MemFolder {
     pub fn image(&self, choice: Choice) -> Result<MemFolder, AllocError>
         ensures reads { IfOk result (λ m. (⟦<MemFolder as Folder>⟧.disk m).reads (chosen choice (start_of self.now) (past_of self.now))) }
         // An image, and one whose images are images too.
-        ensures image { IfOk result (λ m. (c : Image) → (⟦<MemFolder as Folder>⟧.disk m).may_leave c → (⟦<MemFolder as Folder>⟧.disk self.now).may_leave c) }
+        ensures image { IfOk result (λ m. (c : Image) → (⟦<MemFolder as Folder>⟧.disk m).may_leave c
+            → (⟦<MemFolder as Folder>⟧.disk self.now).may_leave c) }
         ensures faults { IfOk result (λ m. ⟦<MemFolder as Folder>⟧.faults_of m ≡ 0) }
     {
         let start = replayed(self.alloc, choice, &self.start, &self.past)?;

@@ -10,7 +10,8 @@ use cas_io::Failed;
 
 /// Writes, and makes it last.
 pub fn put<F: Folder>(folder: &mut F, n: Name, at: u64, bytes: &[u8]) -> Result<(), Failed>
-    ensures kept { (file : List ℕ) → at ≤ length file → IsKept n file (F.disk folder.old) → OnOk result (IsKept n (put_at at bytes.now file) (F.disk folder.new)) }
+    ensures kept { (file : List ℕ) → at ≤ length file → IsKept n file (F.disk folder.old)
+        → OnOk result (IsKept n (put_at at bytes.now file) (F.disk folder.new)) }
     ensures during { During (Changed n (MayTear at (length bytes.now))) (F.disk folder.old) (F.disk folder.new) }
     ensures count { Counted (F.faults_of folder.old) (F.faults_of folder.new) (IsErr result) }
 {

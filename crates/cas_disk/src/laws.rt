@@ -19,7 +19,8 @@ pub fn images_of_images_are_images()
 /// Of two images some files of one with the others of the other are an image: what a crash leaves of
 /// one file doesn't depend on what it leaves of another.
 pub fn images_mix()
-    ensures { (p : Name → Bool) (start : Image) (past : List Event) (c d : Image) → Left start past c → Left start past d → Left start past (mixed p c d) }
+    ensures { (p : Name → Bool) (start : Image) (past : List Event) (c d : Image) → Left start past c
+        → Left start past d → Left start past (mixed p c d) }
 {}
 
 /// Writing where nothing is synced changes no other file.
@@ -30,8 +31,8 @@ pub fn writes_change_no_other_file()
 
 /// What is synced is in every image, until it is changed.
 pub fn synced_is_in_every_image()
-    ensures { (n : Name) (start : Image) (past later : List Event) (c : Image) → list_any (touches n) later ≡ false → Left start (later ++ event.Sync n ∷ past) c
-        → c n ≡ now start past n }
+    ensures { (n : Name) (start : Image) (past later : List Event) (c : Image) → list_any (touches n) later ≡ false
+        → Left start (later ++ event.Sync n ∷ past) c → c n ≡ now start past n }
 {}
 
 /// A file, no table's, that isn't there when the manifest is synced is in no image, until it is made.
@@ -42,6 +43,7 @@ pub fn removed_is_in_no_image()
 
 /// An admitted table is in every image with its bytes, until it is removed.
 pub fn admitted_is_in_every_image()
-    ensures { (number : ℕ) (bytes : Vec ℕ Global) (start : Image) (past later : List Event) (c : Image) → list_any (touches (name.Table number)) later ≡ false
+    ensures { (number : ℕ) (bytes : Vec ℕ Global) (start : Image) (past later : List Event) (c : Image)
+        → list_any (touches (name.Table number)) later ≡ false
         → Left start (later ++ event.Admit number bytes ∷ past) c → c (name.Table number) ≡ Some bytes.items }
 {}

@@ -25,7 +25,8 @@ fn is_listed(entries: &[Entry], n: Name) -> bool
 
 // Lists one file more, unless one of its name is listed, which then is the one that is read.
 fn list_file(entries: &mut Vec<Entry>, file: &Stored) -> Result<(), AllocError>
-    ensures { (files : List Stored) → IsListing (image_of files) entries.old.items → OnOk result (IsListing (image_of (files ++ file.now ∷ [])) entries.new.items) }
+    ensures { (files : List Stored) → IsListing (image_of files) entries.old.items
+        → OnOk result (IsListing (image_of (files ++ file.now ∷ [])) entries.new.items) }
 {
     if is_listed(entries, file.name) {
         return Ok(());

@@ -1,5 +1,6 @@
 -- What was done to a folder in memory, the latest first: what its calls read then, and what a crash may leave. Own.
-use Rattle.std.specs.Prelude.{◌≡◌, ◌⊎◌, ◌||◌, ◌&&◌, ℕ, ◌≤◌, nat_le, Bool, true, false, List, [], ◌∷◌, length, replicate, Option, None, Some, is_none, if◌then◌else◌}
+use Rattle.std.specs.Prelude.{◌≡◌, ◌⊎◌, ◌||◌, ◌&&◌, ℕ, ◌≤◌, nat_le, Bool, true, false}
+use Rattle.std.specs.Prelude.{List, [], ◌∷◌, length, replicate, Option, None, Some, is_none, if◌then◌else◌}
 use Rattle.cas_disk.specs.declared.name.Name.{Name}
 use Rattle.cas_disk.specs.declared.name.Name.TheVariants.{Manifest, Table}
 use Rattle.cas_disk.specs.declared.event.Stored.{Stored}
@@ -70,7 +71,8 @@ abbrev pub settled : Event → Image → Image → Image
 settled (Sync n) read c = mixed (lasts n read) read c
 settled _ _ c = c
 
--- the one image of a choice after a change: as before it, as after it, or after it with the written range filled with this byte, and a draft there with this one byte
+-- the one image of a choice after a change: as before it, as after it, or after it with the written
+-- range filled with this byte, and a draft there with this one byte
 abbrev pub changed : Choice → Event → Image → Image
 changed Old (Create n) c = with_file n None c
 changed Old (Admit number bytes) c = with_file (Table number) (Some bytes.items) c

@@ -1,5 +1,7 @@
 -- Laws of what was done to a folder in memory: as it reads it is one of its images, and moments go on. Own.
-use Rattle.std.proofs.Common.{◌≡◌, ◌≢◌, inl, inr, ⊎_elim, ◌||◌, Bool, true, false, if◌then◌else◌, ℕ, zero, suc, ◌+◌, ◌≤◌, List, [], ◌∷◌, ◌++◌, length, take, drop, Option, None, Some, refl, sym, ◌∙◌, ap, subst, arith, length-append, length-take, length-drop, append_assoc, nat_le}
+use Rattle.std.proofs.Common.{◌≡◌, ◌≢◌, inl, inr, ⊎_elim, ◌||◌, Bool, true, false, if◌then◌else◌, ℕ, zero, suc, ◌+◌, ◌≤◌}
+use Rattle.std.proofs.Common.{List, [], ◌∷◌, ◌++◌, length, take, drop, Option, None, Some}
+use Rattle.std.proofs.Common.{refl, sym, ◌∙◌, ap, subst, arith, length-append, length-take, length-drop, append_assoc, nat_le}
 use Rattle.std.proofs.lemmas.Bool.{cases_Bool}
 use Rattle.std.proofs.lemmas.Bool.Decides.{nat_tests}
 use Rattle.std.proofs.lemmas.List.{take_at, drop_at, take_all}
@@ -46,7 +48,8 @@ with_file_other n file c k other = elim (cases_Bool (same_name n k)) [
   | inr isnt ↦ ap (λ (b : Bool). if b then file else c k) isnt
 ]
 
-pub with_file_changed : (n : Name) (change : Option (List ℕ) → Option (List ℕ) → Type 0) (file : Option (List ℕ)) (c : Image) → change (c n) file → Changed n change c (with_file n file c)
+pub with_file_changed : (n : Name) (change : Option (List ℕ) → Option (List ℕ) → Type 0) (file : Option (List ℕ)) (c : Image)
+    → change (c n) file → Changed n change c (with_file n file c)
 with_file_changed n change file c here = record {
   here = subst (λ (x : Option (List ℕ)). change (c n) x) (sym (with_file_here n file c)) here;
   others = λ k other. with_file_other n file c k other;
@@ -70,16 +73,20 @@ put_torn : (at : ℕ) (bytes file : List ℕ) → at ≤ length file → Torn at
 put_torn at bytes file reaches =
     let rest = drop (at + length bytes) file in
     let front : length (take at file) ≡ at = omega (arith, length-take at file) in
-    let whole : length (put_at at bytes file) ≡ at + length bytes + length rest = omega (arith, length-append (take at file ++ bytes) rest, length-append (take at file) bytes, front) in
-    let back : drop (at + length bytes) (put_at at bytes file) ≡ rest = drop_at (take at file ++ bytes) rest (at + length bytes) (omega (arith, length-append (take at file) bytes, front)) in
+    let whole : length (put_at at bytes file) ≡ at + length bytes + length rest =
+        omega (arith, length-append (take at file ++ bytes) rest, length-append (take at file) bytes, front) in
+    let back : drop (at + length bytes) (put_at at bytes file) ≡ rest =
+        drop_at (take at file ++ bytes) rest (at + length bytes) (omega (arith, length-append (take at file) bytes, front)) in
     record {
-      before = ap (λ (l : List ℕ). take (length (take at file)) l) (append_assoc (take at file) bytes rest) ∙ take_at (take at file) (bytes ++ rest) (length (take at file)) refl;
+      before = ap (λ (l : List ℕ). take (length (take at file)) l) (append_assoc (take at file) bytes rest)
+          ∙ take_at (take at file) (bytes ++ rest) (length (take at file)) refl;
       after = ap (λ (l : List ℕ). take (length rest) l) back ∙ take_all (length rest) rest (omega arith);
       no_shorter = omega (arith, whole, length-drop (at + length bytes) file);
       no_longer = omega (arith, whole, length-drop (at + length bytes) file);
     }
 
-written_if : (at : ℕ) (bytes file : List ℕ) (b : Bool) → nat_le at (length file) ≡ b → MayTear at (length bytes) (Some file) (if b then Some (put_at at bytes file) else Some file)
+written_if : (at : ℕ) (bytes file : List ℕ) (b : Bool) → nat_le at (length file) ≡ b
+    → MayTear at (length bytes) (Some file) (if b then Some (put_at at bytes file) else Some file)
 written_if at bytes file true e = (put_at at bytes file, refl, put_torn at bytes file (grind (arith, nat_tests)))
 written_if at bytes file false e = (file, refl, not_torn at (length bytes) file)
 
