@@ -1,13 +1,13 @@
 -- What of a file is in every image, and the one image of a choice.
-use Rattle.std.proofs.Common.{◌≡◌, ◌≢◌, ◌∙◌, ap, sym, refl, inl, inr, ⊎_elim, ◌||◌, Bool, true, false, if◌then◌else◌, List, [], ◌∷◌, ◌++◌, ℕ, Option, None, Some, length, subst, replicate}
+use Rattle.std.proofs.Common.{◌≡◌, ◌≢◌, ◌∙◌, ap, refl, ◌||◌, Bool, true, false, List, [], ◌∷◌, ◌++◌, ℕ, Option}
 use Rattle.std.specs.List.{list_any}
 use Rattle.cas_disk.specs.declared.name.Name.{Name}
-use Rattle.cas_disk.specs.declared.name.Name.TheVariants.{Manifest, Table}
+use Rattle.cas_disk.specs.declared.name.Name.TheVariants.{Table}
 use Rattle.cas_disk.specs.declared.event.Event.{Event}
 use Rattle.cas_disk.specs.declared.event.Event.TheVariants.{Create, Write, Sync, Remove, Draft, Admit}
 use Rattle.cas_disk.specs.Disk.{Image, Changed}
 use Rattle.cas_disk.specs.Names.{same_name}
-use Rattle.cas_disk.specs.Inner.Past.{now, Left, WritesTo, touches}
+use Rattle.cas_disk.specs.Inner.Past.{Left, WritesTo, touches}
 use Rattle.cas_disk.specs.Inner.PastLaws.{same_self}
 
 apart : (m n : Name) → same_name m n ≡ false → n ≢ m

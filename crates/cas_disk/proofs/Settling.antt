@@ -1,5 +1,5 @@
 -- What a sync makes last, and that what is kept by a choice is an image.
-use Rattle.std.proofs.Common.{◌≡◌, ◌≢◌, inl, inr, ◌||◌, Bool, true, false, if◌then◌else◌, ℕ, List, [], ◌∷◌, length, replicate, Option, None, Some, is_some, is_none, Result, Ok, Err, OnOk, refl, sym, ◌∙◌, ap, subst, arith}
+use Rattle.std.proofs.Common.{◌≡◌, inl, inr, ◌||◌, Bool, true, false, if◌then◌else◌, ℕ, List, [], ◌∷◌, length, replicate, Option, None, Some, is_some, is_none, Result, Ok, Err, OnOk, refl, sym, ◌∙◌, ap, subst}
 use Rattle.cas_disk.specs.declared.name.Name.{Name}
 use Rattle.cas_disk.specs.declared.name.Name.TheVariants.{Manifest, Log, Table, Import}
 use Rattle.cas_disk.specs.declared.event.Stored.{Stored}
@@ -7,8 +7,8 @@ use Rattle.cas_disk.specs.declared.event.Event.{Event}
 use Rattle.cas_disk.specs.declared.event.Event.TheVariants.{Create, Write, Sync, Remove, Draft, Admit}
 use Rattle.cas_disk.specs.declared.event.Choice.{Choice}
 use Rattle.cas_disk.specs.declared.event.Choice.TheVariants.{Old, New, Fill}
-use Rattle.cas_disk.specs.Names.{same_name, is_table}
-use Rattle.cas_disk.specs.Disk.{Image, Changed, MayTear, IsSynced, Is}
+use Rattle.cas_disk.specs.Names.{same_name}
+use Rattle.cas_disk.specs.Disk.{Image, Changed, MayTear, Is}
 use Rattle.cas_disk.specs.Inner.Past.{image_of, with_file, written, now, Left, mixed, lasts, chosen}
 use Rattle.cas_disk.specs.Inner.PastLaws.{same_self, same_is, with_file_changed, written_tears, not_torn, now_left}
 use Rattle.std.proofs.lemmas.List.{length-replicate}

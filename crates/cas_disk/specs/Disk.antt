@@ -1,5 +1,5 @@
 -- A folder of files on a disk: what its calls read, and what a crash may leave of it. Own.
-use Rattle.std.specs.Prelude.{◌≡◌, ◌≢◌, ◌⊎◌, ℕ, ◌+◌, ◌-◌, ◌≤◌, max, Bool, false}
+use Rattle.std.specs.Prelude.{◌≡◌, ◌≢◌, ◌⊎◌, ℕ, ◌+◌, ◌-◌, ◌≤◌, max, false}
 use Rattle.std.specs.Prelude.{List, [], ◌∷◌, ◌++◌, length, take, drop, Option, None, Some, unwrap_or, if◌then◌else◌}
 use Rattle.cas_disk.specs.declared.name.Name.{Name}
 use Rattle.cas_disk.specs.declared.name.Name.TheVariants.{Manifest}

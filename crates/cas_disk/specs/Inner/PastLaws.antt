@@ -1,5 +1,5 @@
 -- Laws of what was done to a folder in memory: as it reads it is one of its images, and moments go on. Own.
-use Rattle.std.proofs.Common.{◌≡◌, ◌≢◌, inl, inr, ⊎_elim, ◌||◌, Bool, true, false, if◌then◌else◌, ℕ, zero, suc, ◌+◌, ◌≤◌}
+use Rattle.std.proofs.Common.{◌≡◌, ◌≢◌, inl, inr, ⊎_elim, Bool, true, false, if◌then◌else◌, ℕ, zero, suc, ◌+◌, ◌≤◌}
 use Rattle.std.proofs.Common.{List, [], ◌∷◌, ◌++◌, length, take, drop, Option, None, Some}
 use Rattle.std.proofs.Common.{refl, sym, ◌∙◌, ap, subst, arith, length-append, length-take, length-drop, append_assoc, nat_le}
 use Rattle.std.proofs.lemmas.Bool.{cases_Bool}
@@ -74,9 +74,9 @@ put_torn at bytes file reaches =
     let rest = drop (at + length bytes) file in
     let front : length (take at file) ≡ at = omega (arith, length-take at file) in
     let whole : length (put_at at bytes file) ≡ at + length bytes + length rest =
-        omega (arith, length-append (take at file ++ bytes) rest, length-append (take at file) bytes, front) in
+    omega (arith, length-append (take at file ++ bytes) rest, length-append (take at file) bytes, front) in
     let back : drop (at + length bytes) (put_at at bytes file) ≡ rest =
-        drop_at (take at file ++ bytes) rest (at + length bytes) (omega (arith, length-append (take at file) bytes, front)) in
+    drop_at (take at file ++ bytes) rest (at + length bytes) (omega (arith, length-append (take at file) bytes, front)) in
     record {
       before = ap (λ (l : List ℕ). take (length (take at file)) l) (append_assoc (take at file) bytes rest)
           ∙ take_at (take at file) (bytes ++ rest) (length (take at file)) refl;
