@@ -1,9 +1,9 @@
-//! A count of faults, which those who call a folder's files carry along and add up at the end.
-ghost use Rattle.std.specs.Prelude.{◌≡◌, ◌+◌, ℕ};
-ghost use Rattle.cas_disk.specs.Counts.{sum_in_range};
+//! A count of faults, which whoever calls a folder's files carries along and adds up at the end.
+ghost use Rattle.std.specs.Prelude.{◌≡◌, ℕ, ⊤};
+ghost use Rattle.cas_disk.specs.Counts.{sum_in_range, Counted};
 
 /// A count of faults. It stands at the greatest `u64` once it is there.
-pub trait Count {
+pub trait Count: Drop {
     /// How many faults are counted.
     ghost number: { Self → ℕ };
 
@@ -24,6 +24,15 @@ pub trait Count {
 #[derive(Debug, Drop)]
 pub struct FaultCount {
     faults: u64,
+}
+
+impl FaultCount {
+    /// Counts a fault. Only who implements a draft or a sealed file has one to count.
+    pub fn fault(&mut self)
+        ensures { Counted (⟦<FaultCount as Count>⟧.number self.old) (⟦<FaultCount as Count>⟧.number self.new) ⊤ }
+    {
+        self.faults = self.faults.saturating_add(1);
+    }
 }
 
 impl Count for FaultCount {
