@@ -6,8 +6,8 @@ use Rattle.cas_bind.specs.declared.bound.Limits.{Limits}
 use Rattle.cas_node.specs.declared.words.Command.{Command}
 use Rattle.cas_node.specs.declared.words.Setting.{Setting}
 use Rattle.cas_node.specs.declared.words.Setting.TheVariants as setting
-use Rattle.cas_node.specs.Words.{Text, given, is_once, command_of, command_in, limits_in, number_or, is_numeral, in_range, folder_in, clock_or, text_for}
-use Rattle.cas_node.specs.Sound.{IsCommand}
+use Rattle.cas_node.specs.Words.{Text, arguments, is_once, command_of, command_in, limits_in, number_or, is_numeral, number_between, folder_in, clock_or, text_for}
+use Rattle.cas_node.specs.Inner.Sound.{IsCommand}
 
 -- what is given by two steps is given by the first
 then_some : {X Y : Type 0} (f : X → Option Y) (o : Option X) (y : Y) → option_and_then f o ≡ Some y → (x : X) × (o ≡ Some x) × (f x ≡ Some y)
@@ -18,10 +18,10 @@ map_some : {X Y : Type 0} (f : X → Y) (o : Option X) (y : Y) → option_map f 
 map_some f None y e = cc
 map_some f (Some x) y e = (x, refl, e)
 
-range_is : (least most n m : ℕ) → in_range least most n ≡ Some m → (least ≤ m) × (m ≤ most)
+range_is : (least most n m : ℕ) → number_between least most n ≡ Some m → (least ≤ m) × (m ≤ most)
 range_is least most n m e = grind (arith, nat_tests, e)
 
-numeral_is : (b : Bool) (least most n m : ℕ) → (if b then in_range least most n else None) ≡ Some m → (least ≤ m) × (m ≤ most)
+numeral_is : (b : Bool) (least most n m : ℕ) → (if b then number_between least most n else None) ≡ Some m → (least ≤ m) × (m ≤ most)
 numeral_is true least most n m e = range_is least most n m e
 numeral_is false least most n m e = cc
 
@@ -53,7 +53,7 @@ once_is false o c e = cc
 pub command_is : (words : List Text) (c : Command) → command_of words ≡ Some c → IsCommand c
 unfolding command_of
 command_is words c e =
-    let g = then_some _ (given words None) c e in
+    let g = then_some _ (arguments words None) c e in
     commands_are (text_for g.0) c (once_is (is_once g.0) (command_in (text_for g.0)) c g.2)
 
 pub each_command : (words : List Text) (o : Option Command) → o ≡ command_of words → IfSome o IsCommand

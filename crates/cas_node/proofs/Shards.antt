@@ -11,7 +11,7 @@ use Rattle.cas_bind.specs.declared.bound.BoundWrite.{BoundWrite}
 use Rattle.cas_bind.specs.AtomsOf.{mutation_of}
 use Rattle.cas_node.specs.declared.shard.ShardHistory.{ShardHistory}
 use Rattle.cas_node.specs.History.{shard_after, write_reply, mutation_at, take_refusal, tells_want, wrote_unless, taken_unless, moved, moment_at, next_number, last_drawn}
-use Rattle.cas_node.specs.Sound.{IsShard, IsTime, IsMoment}
+use Rattle.cas_node.specs.Inner.Sound.{IsShard, IsTime, IsMoment}
 
 answered : (o : Option ℕ) (n : ℕ) → tells_want (wrote_unless o n) ≡ false
 answered None n = refl

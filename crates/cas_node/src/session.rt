@@ -4,11 +4,11 @@ ghost use Rattle.std.specs.Prelude.{◌≡◌, ◌≤◌, IfOk, OnOk, OnErr, IsE
 ghost use Rattle.std.specs.Io.KnownBytes.{Appends};
 ghost use Rattle.cas_io.specs.Told.{AppendsFront};
 ghost use Rattle.cas_node.specs.Text.{line_text};
-ghost use Rattle.cas_node.specs.Turns.{Turned, EndsEarly, EndsWhole};
-ghost use Rattle.cas_node.specs.Ran.{Ran, SinkRose, is_refused as is_refused_of};
-ghost use Rattle.cas_node.specs.Stored.{stored};
-ghost use Rattle.cas_node.specs.Sound.{IsCommand, IsSound};
-ghost use Rattle.cas_node.specs.History.{is_starved as is_starved_of, start};
+ghost use Rattle.cas_node.specs.Inner.Turns.{Turned, EndsEarly, EndsWhole};
+ghost use Rattle.cas_node.specs.Ran.{Ran, SinkRose, is_refused};
+ghost use Rattle.cas_node.specs.Inner.Stored.{stored};
+ghost use Rattle.cas_node.specs.Inner.Sound.{IsCommand, IsSound};
+ghost use Rattle.cas_node.specs.History.{is_starved, start};
 
 use crate::cause::Cause;
 use crate::lines::next_line;
@@ -27,13 +27,13 @@ pub(crate) enum PrintFault {
 }
 
 fn is_starved(reply: &Option<Reply>) -> bool
-    ensures { result ≡ is_starved_of reply.now }
+    ensures { result ≡ is_starved reply.now }
 {
     matches!(reply, Some(Reply::Failed(Failure::Memory)))
 }
 
 fn is_refused(reply: &Option<Reply>) -> bool
-    ensures { result ≡ is_refused_of reply.now }
+    ensures { result ≡ is_refused reply.now }
 {
     matches!(reply, Some(Reply::Refused(_)))
 }
@@ -53,7 +53,8 @@ fn print<K: Sink>(alloc: Global, reply: &Option<Reply>, sink: &mut K) -> Result<
     ensures err { OnErr result (AppendsFront (K.took sink.old) (K.took sink.new) (line_text reply.now)) }
     ensures faults { K.faults sink.old ≤ K.faults sink.new }
     ensures stalls { K.stalls sink.old ≤ K.stalls sink.new }
-    ensures write { IsErrOf result PrintFault.Write → SinkRose (K.faults sink.old) (K.faults sink.new) (K.stalls sink.old) (K.stalls sink.new) }
+    ensures write { IsErrOf result PrintFault.Write
+        → SinkRose (K.faults sink.old) (K.faults sink.new) (K.stalls sink.old) (K.stalls sink.new) }
 {
     let text = match text_of(alloc, reply) {
         Ok(text) => text,
@@ -107,11 +108,13 @@ fn take_turn<K: Sink, C: Clock>(
 ) -> Turn
     requires command { IsCommand command.now }
     requires sound { IsSound command.now (stored store.old) }
-    ensures turned { Turned command.now (C.may_give clock.now) (stored store.old) line.now (stored store.new) (K.took sink.old) (K.took sink.new) result.refused result.starved (is_none result.fault) }
+    ensures turned { Turned command.now (C.may_give clock.now) (stored store.old) line.now (stored store.new)
+        (K.took sink.old) (K.took sink.new) result.refused result.starved (is_none result.fault) }
     ensures sound { IsSound command.now (stored store.new) }
     ensures faults { K.faults sink.old ≤ K.faults sink.new }
     ensures stalls { K.stalls sink.old ≤ K.stalls sink.new }
-    ensures write { result.fault ≡ Some PrintFault.Write → SinkRose (K.faults sink.old) (K.faults sink.new) (K.stalls sink.old) (K.stalls sink.new) }
+    ensures write { result.fault ≡ Some PrintFault.Write
+        → SinkRose (K.faults sink.old) (K.faults sink.new) (K.stalls sink.old) (K.stalls sink.new) }
 {
     let reply = store.answer_line(alloc, command, clock, line);
     let printed = print(alloc, &reply, sink);
@@ -140,10 +143,12 @@ pub(crate) fn session<K: Sink, C: Clock>(
     requires command { IsCommand command.now }
     requires start { stored store ≡ start command.now }
     requires sound { IsSound command.now (stored store) }
-    ensures ran { Ran command.now (C.may_give clock.now) script.now (K.took sink.old) (K.took sink.new) result.0.shards.items result.1 }
+    ensures ran { Ran command.now (C.may_give clock.now) script.now (K.took sink.old) (K.took sink.new)
+        result.0.shards.items result.1 }
     ensures faults { K.faults sink.old ≤ K.faults sink.new }
     ensures stalls { K.stalls sink.old ≤ K.stalls sink.new }
-    ensures write { result.1 ≡ Cause.Write → SinkRose (K.faults sink.old) (K.faults sink.new) (K.stalls sink.old) (K.stalls sink.new) }
+    ensures write { result.1 ≡ Cause.Write
+        → SinkRose (K.faults sink.old) (K.faults sink.new) (K.stalls sink.old) (K.stalls sink.new) }
 {
     let mut rest = script;
     let mut refused = false;

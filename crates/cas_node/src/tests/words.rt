@@ -1,4 +1,6 @@
-use crate::script_runs::words;
+//! The words of the command, and words that are none.
+
+use super::words_of;
 use crate::words::{ClockKind, Command, path_of, read_words};
 use cas_bind::Limits;
 use std::test::Fail;
@@ -57,7 +59,7 @@ fn words_of_the_command(rt: HostRuntime) -> Result<(), Fail> {
         ("+", USUAL, ClockKind::System, "+"),
     ];
     for (text, limits, clock, folder) in &cases {
-        let words = words(alloc, text)?;
+        let words = words_of(alloc, text)?;
         match read_words(alloc, &words)? {
             Some(
                 Command {
@@ -128,7 +130,7 @@ fn other_words(rt: HostRuntime) -> Result<(), Fail> {
         "--clock Manual store",
     ];
     for text in &cases {
-        let words = words(alloc, text)?;
+        let words = words_of(alloc, text)?;
         assert!(rt; path_of(alloc, &words)?.is_none(), "{text}");
     }
     Ok(())
