@@ -34,16 +34,16 @@ fn first_difference(alloc: Global, wanted: &[u8], found: &[u8]) -> Result<Option
 }
 
 /// What differs between the runs of a file and what the file says, a line each.
-pub(crate) fn report(alloc: Global, name: &str, trials: &[Trial], found: &[Found]) -> Result<Vec<String>, AllocError> {
+pub(crate) fn report(alloc: Global, path: &str, trials: &[Trial], found: &[Found]) -> Result<Vec<String>, AllocError> {
     let mut lines = Vec::new(alloc);
     for (i, (trial, found)) in trials.iter().zip(found).enumerate() {
         let run = i.saturating_add(1);
         if let Some(difference) = first_difference(alloc, &trial.output, &found.output)? {
-            lines.push(format!(in alloc; "{name}, run {run}: {difference}")?)?;
+            lines.push(format!(in alloc; "{path}, run {run}: {difference}")?)?;
         }
         if trial.status != found.status {
             let (wanted, found) = (trial.status, found.status);
-            lines.push(format!(in alloc; "{name}, run {run}: the status is {found}, and should be {wanted}")?)?;
+            lines.push(format!(in alloc; "{path}, run {run}: the status is {found}, and should be {wanted}")?)?;
         }
     }
     Ok(lines)

@@ -7,12 +7,15 @@ mod compare;
 mod row;
 mod trial;
 
+#[cfg(test)]
+mod tests;
+
 
 use crate::compare::report;
 use crate::row::{RowFault, Trial, trials};
 use crate::trial::run_each;
 use std::process::ExitCode;
-use std::{fs, io};
+use std::{env, fs, io};
 
 /// How many files agree with what they print, and how many don't.
 #[derive(Clone, Copy, Debug, PartialEq, Eq)]
@@ -21,35 +24,42 @@ struct Tally {
     differ: u64,
 }
 
-// The names of the folder's files that end in `.row`, in order.
-fn row_names(rt: &HostRuntime) -> io::Result<Vec<String>> {
-    let mut names = Vec::new(rt.alloc());
-    for entry in fs::read_dir(rt, ".")? {
+// The folder of the rows: the first word, and where there is none the folder where the program runs.
+fn folder(rt: &HostRuntime) -> io::Result<String> {
+    match env::args(rt)?.nth(1) {
+        Some(folder) => Ok(folder),
+        None => Ok(String::from_str(rt.alloc(), ".")?),
+    }
+}
+
+// The paths of the folder's files that end in `.row`, in order.
+fn row_paths(rt: &HostRuntime) -> io::Result<Vec<String>> {
+    let mut paths = Vec::new(rt.alloc());
+    for entry in fs::read_dir(rt, folder(rt)?.as_str())? {
         let entry = entry?;
-        let name = entry.file_name();
-        if name.ends_with(".row") {
-            names.push(String::from_str(rt.alloc(), name)?)?;
+        if entry.file_name().ends_with(".row") {
+            paths.push(String::from_str(rt.alloc(), entry.path().to_string_lossy())?)?;
         }
     }
-    names.sort()?;
-    Ok(names)
+    paths.sort()?;
+    Ok(paths)
 }
 
 // Runs the trials of a file, prints what differs, and tells whether nothing does.
-fn agrees(rt: &HostRuntime, name: &str, trials: &[Trial]) -> io::Result<bool> {
-    let differences = report(rt.alloc(), name, trials, &run_each(rt.alloc(), trials)?)?;
+fn agrees(rt: &HostRuntime, path: &str, trials: &[Trial]) -> io::Result<bool> {
+    let differences = report(rt.alloc(), path, trials, &run_each(rt.alloc(), trials)?)?;
     for line in &differences {
         println!(rt; "{line}")?;
     }
     Ok(differences.is_empty())
 }
 
-fn is_right(rt: &HostRuntime, name: &str) -> io::Result<bool> {
-    let text = fs::read(rt, name)?;
+fn is_right(rt: &HostRuntime, path: &str) -> io::Result<bool> {
+    let text = fs::read(rt, path)?;
     match trials(rt.alloc(), &text) {
-        Ok(trials) => agrees(rt, name, &trials),
+        Ok(trials) => agrees(rt, path, &trials),
         Err(RowFault::Line(line)) => {
-            println!(rt; "{name}: line {line} isn't one of the format")?;
+            println!(rt; "{path}: line {line} isn't one of the format")?;
             Ok(false)
         }
         Err(RowFault::Mem(error)) => Err(io::Error::from(error)),
@@ -61,8 +71,8 @@ fn count_files(rt: &HostRuntime) -> io::Result<Tally> {
         agree: 0,
         differ: 0,
     };
-    for name in &row_names(rt)? {
-        if is_right(rt, name)? {
+    for path in &row_paths(rt)? {
+        if is_right(rt, path)? {
             tally.agree = tally.agree.saturating_add(1);
         } else {
             tally.differ = tally.differ.saturating_add(1);
