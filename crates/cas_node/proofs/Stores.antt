@@ -16,7 +16,8 @@ use Rattle.cas_node.specs.declared.words.ClockKind.TheVariants as clock
 use Rattle.cas_render.specs.declared.reply.Reply.{Reply}
 use Rattle.cas_render.specs.declared.reply.Reply.TheVariants as reply
 use Rattle.cas_node.specs.Lines.{clock_of}
-use Rattle.cas_node.specs.Inner.Sound.{IsSound, IsMoment}
+use Rattle.cas_types.specs.Limits.{IsMoment}
+use Rattle.cas_node.specs.Inner.Sound.{IsSound}
 
 -- ---- the shards of a new store
 

@@ -1,6 +1,6 @@
 //! Runs the lines of a script one after another, and writes what they answer.
 
-ghost use Rattle.std.specs.Prelude.{◌≡◌, ◌≤◌, IfOk, OnOk, OnErr, IsErrOf, Some, is_none, ◌||◌};
+ghost use Rattle.std.specs.Prelude.{◌≡◌, ◌≤◌, OnOk, OnErr, IsErrOf, Some, is_none, ◌||◌};
 ghost use Rattle.std.specs.Io.KnownBytes.{Appends};
 ghost use Rattle.cas_io.specs.Told.{AppendsFront};
 ghost use Rattle.cas_node.specs.Text.{line_text};
@@ -38,17 +38,23 @@ fn is_refused(reply: &Option<Reply>) -> bool
     matches!(reply, Some(Reply::Refused(_)))
 }
 
-fn text_of(alloc: Global, reply: &Option<Reply>) -> Result<Vec<u8>, Mem>
-    ensures { IfOk result (λ v. v.items ≡ line_text reply.now) }
+// Puts the text of a reply in the place of what is there.
+fn write_text(alloc: Global, reply: &Option<Reply>, text: &mut Vec<u8>) -> Result<(), Mem>
+    ensures { OnOk result (text.new.items ≡ line_text reply.now) }
 {
-    let mut text = Vec::new(alloc);
-    if let Some(reply) = reply {
-        render(alloc, reply, &mut text)?;
+    text.clear();
+    match reply {
+        Some(reply) => render(alloc, reply, text),
+        None => Ok(()),
     }
-    Ok(text)
 }
 
-fn print<K: Sink>(alloc: Global, reply: &Option<Reply>, sink: &mut K) -> Result<(), PrintFault>
+fn print<K: Sink>(
+    alloc: Global,
+    reply: &Option<Reply>,
+    text: &mut Vec<u8>,
+    sink: &mut K,
+) -> Result<(), PrintFault>
     ensures ok { OnOk result (Appends (K.took sink.old) (K.took sink.new) (line_text reply.now)) }
     ensures err { OnErr result (AppendsFront (K.took sink.old) (K.took sink.new) (line_text reply.now)) }
     ensures faults { K.faults sink.old ≤ K.faults sink.new }
@@ -56,11 +62,11 @@ fn print<K: Sink>(alloc: Global, reply: &Option<Reply>, sink: &mut K) -> Result<
     ensures write { IsErrOf result PrintFault.Write
         → SinkRose (K.faults sink.old) (K.faults sink.new) (K.stalls sink.old) (K.stalls sink.new) }
 {
-    let text = match text_of(alloc, reply) {
-        Ok(text) => text,
+    match write_text(alloc, reply, text) {
+        Ok(()) => {}
         Err(Mem) => return Err(PrintFault::Mem),
-    };
-    match write_all(sink, &text) {
+    }
+    match write_all(sink, text) {
         Ok(()) => Ok(()),
         Err(_) => Err(PrintFault::Write),
     }
@@ -103,6 +109,7 @@ fn take_turn<K: Sink, C: Clock>(
     command: &Command,
     clock: &C,
     store: &mut Store,
+    text: &mut Vec<u8>,
     sink: &mut K,
     line: &[u8],
 ) -> Turn
@@ -117,7 +124,7 @@ fn take_turn<K: Sink, C: Clock>(
         → SinkRose (K.faults sink.old) (K.faults sink.new) (K.stalls sink.old) (K.stalls sink.new) }
 {
     let reply = store.answer_line(alloc, command, clock, line);
-    let printed = print(alloc, &reply, sink);
+    let printed = print(alloc, &reply, text, sink);
     Turn {
         refused: is_refused(&reply),
         starved: is_starved(&reply),
@@ -153,9 +160,10 @@ pub(crate) fn session<K: Sink, C: Clock>(
     let mut rest = script;
     let mut refused = false;
     let mut starved = false;
+    let mut text = Vec::new(alloc);
     while !rest.is_empty() {
         let (line, after) = next_line(rest);
-        let turn = take_turn(alloc, command, clock, &mut store, sink, line);
+        let turn = take_turn(alloc, command, clock, &mut store, &mut text, sink, line);
         refused = either(turn.refused, refused);
         starved = either(turn.starved, starved);
         if let Some(fault) = turn.fault {

@@ -128,15 +128,15 @@ impl ShardHistory {
     }
 
     #[tactic(auto, unfolding(crate::specs::History::mutation_at))]
-    fn mutation_at(&self, alloc: Global, reading: i64, write: &BoundWrite) -> Result<Mutation, Mem>
+    fn mutation_at(&self, alloc: Global, reading: i64, write: BoundWrite) -> Result<Mutation, Mem>
         requires shard { IsShard self.now }
         requires time { IsTime reading }
-        requires stated { IfSome write.now.timestamp (λ at. LEAST_TIMESTAMP ≤ℤ at) }
-        ensures { IfOk result (λ m. m ≡ mutation_at reading self.now write.now) }
+        requires stated { IfSome write.timestamp (λ at. LEAST_TIMESTAMP ≤ℤ at) }
+        ensures { IfOk result (λ m. m ≡ mutation_at reading self.now write) }
     {
         let drawn = self.drawn_at(reading);
         let moment = self.moment_at(reading);
-        atoms_of(alloc, write, drawn, moment, self.next_number())
+        atoms_of(alloc, &write, drawn, moment, self.next_number())
     }
 }
 
@@ -147,13 +147,13 @@ impl ShardHistory {
         alloc: Global,
         segment: u64,
         reading: i64,
-        write: &BoundWrite,
+        write: BoundWrite,
     ) -> Result<Reply, Mem>
         requires shard { IsShard self.old }
         requires time { IsTime reading }
-        requires stated { IfSome write.now.timestamp (λ at. LEAST_TIMESTAMP ≤ℤ at) }
-        ensures reply { IfOk result (λ r. r ≡ write_reply segment reading self.old write.now) }
-        ensures ok { OnOk result (self.new ≡ shard_after segment reading self.old write.now) }
+        requires stated { IfSome write.timestamp (λ at. LEAST_TIMESTAMP ≤ℤ at) }
+        ensures reply { IfOk result (λ r. r ≡ write_reply segment reading self.old write) }
+        ensures ok { OnOk result (self.new ≡ shard_after segment reading self.old write) }
         ensures err { OnErr result (self.new ≡ moved reading self.old) }
     {
         let mutation = self.mutation_at(alloc, reading, write);
@@ -175,14 +175,14 @@ impl ShardHistory {
         alloc: Global,
         segment: u64,
         reading: i64,
-        write: &BoundWrite,
+        write: BoundWrite,
     ) -> Reply
         requires shard { IsShard self.old }
         requires time { IsTime reading }
-        requires stated { IfSome write.now.timestamp (λ at. LEAST_TIMESTAMP ≤ℤ at) }
-        ensures reply { tells_want result ≡ false → result ≡ write_reply segment reading self.old write.now }
+        requires stated { IfSome write.timestamp (λ at. LEAST_TIMESTAMP ≤ℤ at) }
+        ensures reply { tells_want result ≡ false → result ≡ write_reply segment reading self.old write }
         ensures history { self.new ≡
-            (if tells_want result then moved reading self.old else shard_after segment reading self.old write.now) }
+            (if tells_want result then moved reading self.old else shard_after segment reading self.old write) }
         ensures shard { IsShard self.new }
     {
         match self.try_take(alloc, segment, reading, write) {

@@ -126,11 +126,11 @@ impl Store {
         alloc: Global,
         command: &Command,
         clock: &C,
-        write: &BoundWrite,
+        write: BoundWrite,
     ) -> Reply
         requires sound { IsSound command.now (stored self.old) }
-        requires within { IsWithin command.now.limits.shards (bounds.Write write.now) }
-        ensures does { Does command.now (C.may_give clock.now) (stored self.old) (OkOf (bounds.Write write.now))
+        requires within { IsWithin command.now.limits.shards (bounds.Write write) }
+        ensures does { Does command.now (C.may_give clock.now) (stored self.old) (OkOf (bounds.Write write))
             result (stored self.new) }
         ensures sound { IsSound command.now (stored self.new) }
     {
@@ -174,7 +174,7 @@ impl Store {
         match bound {
             Bound::Create(table) => self.define(table),
             Bound::Alter(addition) => self.alter(alloc, addition),
-            Bound::Write(write) => self.write(alloc, command, clock, &write),
+            Bound::Write(write) => self.write(alloc, command, clock, write),
             Bound::Read(read) => self.read(alloc, command, clock, &read),
         }
     }

@@ -87,7 +87,10 @@ fn a_run_ends_well_and_hands_back_its_mutations(rt: HostRuntime) -> Result<(), F
     let ran = ran(alloc, &mut source, MemSink::new(alloc))?;
     assert_eq!(rt; ran.cause, Cause::Good);
     assert_eq!(rt; ran.output.as_slice(), b"ok\nok 1\nok 2\n".as_slice());
-    assert!(rt; ran.numbers.is_some_and(|numbers| numbers.as_slice() == [1, 2].as_slice()));
+    assert!(rt;
+        ran.numbers
+            .is_some_and(|numbers| numbers.as_slice() == [1, 2].as_slice())
+    );
     Ok(())
 }
 
@@ -111,7 +114,11 @@ fn a_sink_that_fails_or_takes_nothing_ends_the_run(rt: HostRuntime) -> Result<()
     let failed = ran(alloc, &mut source_of(alloc, &script)?, failing)?;
     assert_eq!(rt; failed.status, 4);
     assert_eq!(rt; failed.output.as_slice(), b"ok\n".as_slice());
-    assert!(rt; failed.numbers.is_some_and(|numbers| numbers.as_slice() == [1].as_slice()));
+    assert!(rt;
+        failed
+            .numbers
+            .is_some_and(|numbers| numbers.as_slice() == [1].as_slice())
+    );
     let stalling = MemSink::with_plan(alloc, Vec::new(alloc), 0);
     let stalled = ran(alloc, &mut source_of(alloc, &script)?, stalling)?;
     assert_eq!(rt; (stalled.status, stalled.output.len()), (4, 0));

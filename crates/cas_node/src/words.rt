@@ -211,10 +211,34 @@ fn number_of(
 fn limits_of(matches: &ArgMatches<'_>) -> Option<Limits>
     ensures { result ≡ limits_in (found_in matches.now) }
 {
-    let shards = number_of(matches, Setting::Shards, 1, u64::from(SHARD_LIMIT), SHARDS_USUAL)?;
-    let segment = number_of(matches, Setting::Segment, SEGMENT_LEAST, SEGMENT_LIMIT, SEGMENT_LIMIT)?;
-    let memtable = number_of(matches, Setting::Memtable, MEMTABLE_LEAST, MEMTABLE_LIMIT, MEMTABLE_USUAL)?;
-    let compactors = number_of(matches, Setting::Compactors, 0, COMPACTOR_LIMIT, COMPACTORS_USUAL)?;
+    let shards = number_of(
+        matches,
+        Setting::Shards,
+        1,
+        u64::from(SHARD_LIMIT),
+        SHARDS_USUAL,
+    )?;
+    let segment = number_of(
+        matches,
+        Setting::Segment,
+        SEGMENT_LEAST,
+        SEGMENT_LIMIT,
+        SEGMENT_LIMIT,
+    )?;
+    let memtable = number_of(
+        matches,
+        Setting::Memtable,
+        MEMTABLE_LEAST,
+        MEMTABLE_LIMIT,
+        MEMTABLE_USUAL,
+    )?;
+    let compactors = number_of(
+        matches,
+        Setting::Compactors,
+        0,
+        COMPACTOR_LIMIT,
+        COMPACTORS_USUAL,
+    )?;
     Some(Limits {
         shards: shards as u8,
         segment,
