@@ -17,7 +17,11 @@ fn shown(alloc: Global, line: Option<&[u8]>) -> Result<String, AllocError> {
 }
 
 // The first line that differs, where one does: what it is to be, and what was found.
-fn first_difference(alloc: Global, wanted: &[u8], found: &[u8]) -> Result<Option<String>, AllocError> {
+fn first_difference(
+    alloc: Global,
+    wanted: &[u8],
+    found: &[u8],
+) -> Result<Option<String>, AllocError> {
     let mut wanted = wanted.split(is_feed);
     let mut found = found.split(is_feed);
     for number in 1..u64::MAX {
@@ -27,14 +31,21 @@ fn first_difference(alloc: Global, wanted: &[u8], found: &[u8]) -> Result<Option
         }
         if a != b {
             let (a, b) = (shown(alloc, a)?, shown(alloc, b)?);
-            return Ok(Some(format!(in alloc; "line {number} of the output is {b}, and should be {a}")?));
+            return Ok(Some(format!(in alloc;
+                "line {number} of the output is {b}, and should be {a}"
+            )?));
         }
     }
     Ok(None)
 }
 
 /// What differs between the runs of a file and what the file says, a line each.
-pub(crate) fn report(alloc: Global, path: &str, trials: &[Trial], found: &[Found]) -> Result<Vec<String>, AllocError> {
+pub(crate) fn report(
+    alloc: Global,
+    path: &str,
+    trials: &[Trial],
+    found: &[Found],
+) -> Result<Vec<String>, AllocError> {
     let mut lines = Vec::new(alloc);
     for (i, (trial, found)) in trials.iter().zip(found).enumerate() {
         let run = i.saturating_add(1);
@@ -43,7 +54,9 @@ pub(crate) fn report(alloc: Global, path: &str, trials: &[Trial], found: &[Found
         }
         if trial.status != found.status {
             let (wanted, found) = (trial.status, found.status);
-            lines.push(format!(in alloc; "{path}, run {run}: the status is {found}, and should be {wanted}")?)?;
+            lines.push(format!(in alloc;
+                "{path}, run {run}: the status is {found}, and should be {wanted}"
+            )?)?;
         }
     }
     Ok(lines)

@@ -7,12 +7,8 @@ mod compare;
 mod row;
 mod trial;
 
-#[cfg(test)]
-mod tests;
-
-
 use crate::compare::report;
-use crate::row::{RowFault, Trial, trials};
+use crate::row::{RowFault, trials};
 use crate::trial::run_each;
 use std::process::ExitCode;
 use std::{env, fs, io};
@@ -32,12 +28,16 @@ fn folder(rt: &HostRuntime) -> io::Result<String> {
     }
 }
 
-// The paths of the folder's files that end in `.row`, in order.
-fn row_paths(rt: &HostRuntime) -> io::Result<Vec<String>> {
+fn is_of_rows(name: &str) -> bool {
+    name.ends_with(".row") || name.ends_with(".wrong")
+}
+
+// The paths of the folder's files of rows, in order.
+fn paths(rt: &HostRuntime) -> io::Result<Vec<String>> {
     let mut paths = Vec::new(rt.alloc());
     for entry in fs::read_dir(rt, folder(rt)?.as_str())? {
         let entry = entry?;
-        if entry.file_name().ends_with(".row") {
+        if is_of_rows(entry.file_name()) {
             paths.push(String::from_str(rt.alloc(), entry.path().to_string_lossy())?)?;
         }
     }
@@ -45,24 +45,43 @@ fn row_paths(rt: &HostRuntime) -> io::Result<Vec<String>> {
     Ok(paths)
 }
 
-// Runs the trials of a file, prints what differs, and tells whether nothing does.
-fn agrees(rt: &HostRuntime, path: &str, trials: &[Trial]) -> io::Result<bool> {
-    let differences = report(rt.alloc(), path, trials, &run_each(rt.alloc(), trials)?)?;
+// What differs between a file and what its runs come to, a line each.
+fn differences(rt: &HostRuntime, path: &str) -> io::Result<Vec<String>> {
+    let alloc = rt.alloc();
+    let text = fs::read(rt, path)?;
+    match trials(alloc, &text) {
+        Ok(trials) => Ok(report(alloc, path, &trials, &run_each(alloc, &trials)?)?),
+        Err(RowFault::Line(line)) => {
+            let told = format!(in alloc; "{path}: line {line} isn't one of the format")?;
+            Ok(vec![in alloc; told]?)
+        }
+        Err(RowFault::Mem(error)) => Err(io::Error::from(error)),
+    }
+}
+
+// Whether nothing differs; what does is printed.
+fn agrees(rt: &HostRuntime, path: &str) -> io::Result<bool> {
+    let differences = differences(rt, path)?;
     for line in &differences {
         println!(rt; "{line}")?;
     }
     Ok(differences.is_empty())
 }
 
+// Whether something differs, as it should in a file that is wrong on purpose.
+fn is_noticed(rt: &HostRuntime, path: &str) -> io::Result<bool> {
+    let is_noticed = !differences(rt, path)?.is_empty();
+    if !is_noticed {
+        println!(rt; "{path}: nothing differs, and something should")?;
+    }
+    Ok(is_noticed)
+}
+
 fn is_right(rt: &HostRuntime, path: &str) -> io::Result<bool> {
-    let text = fs::read(rt, path)?;
-    match trials(rt.alloc(), &text) {
-        Ok(trials) => agrees(rt, path, &trials),
-        Err(RowFault::Line(line)) => {
-            println!(rt; "{path}: line {line} isn't one of the format")?;
-            Ok(false)
-        }
-        Err(RowFault::Mem(error)) => Err(io::Error::from(error)),
+    if path.ends_with(".wrong") {
+        is_noticed(rt, path)
+    } else {
+        agrees(rt, path)
     }
 }
 
@@ -71,7 +90,7 @@ fn count_files(rt: &HostRuntime) -> io::Result<Tally> {
         agree: 0,
         differ: 0,
     };
-    for path in &row_paths(rt)? {
+    for path in &paths(rt)? {
         if is_right(rt, path)? {
             tally.agree = tally.agree.saturating_add(1);
         } else {

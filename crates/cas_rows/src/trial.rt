@@ -14,7 +14,11 @@ pub(crate) struct Found {
     pub status: u8,
 }
 
-fn run_trial(alloc: Global, trial: &Trial, folder: MemFolder) -> Result<(Found, MemFolder), AllocError> {
+fn run_trial(
+    alloc: Global,
+    trial: &Trial,
+    folder: MemFolder,
+) -> Result<(Found, MemFolder), AllocError> {
     let mut source = MemSource::new(trial.script.as_slice().to_vec(alloc)?);
     let mut sink = MemSink::new(alloc);
     let clock = ListedClock::new(&trial.readings);
