@@ -3,7 +3,7 @@
 
 mod words;
 
-use crate::{Cause, Outcome, SCRIPT_LIMIT, run};
+use crate::{Cause, Outcome, Pass, SCRIPT_LIMIT, run};
 use cas_disk::MemFolder;
 use cas_io::{Failed, FreeGate, ManualClock, MemSink, MemSource, Source};
 use std::alloc::Global;
@@ -33,8 +33,8 @@ fn words_of(alloc: Global, text: &str) -> Result<Vec<String>, Fail> {
     Ok(list)
 }
 
-fn numbers_of(alloc: Global, outcome: &Outcome<MemFolder>) -> Result<Option<Vec<u64>>, Fail> {
-    let Some(pass) = &outcome.pass else {
+fn numbers_of(alloc: Global, pass: &Option<Pass>) -> Result<Option<Vec<u64>>, Fail> {
+    let Some(pass) = pass else {
         return Ok(None);
     };
     let mut numbers = Vec::new(alloc);
@@ -50,17 +50,16 @@ fn numbers_of(alloc: Global, outcome: &Outcome<MemFolder>) -> Result<Option<Vec<
 fn ran<S: Source>(alloc: Global, source: &mut S, mut sink: MemSink) -> Result<Ran, Fail> {
     let words = words_of(alloc, "--clock manual --shards 1 d")?;
     let clock = ManualClock { reading: 7 };
-    let outcome = run(
-        alloc, &words, source, &mut sink, MemFolder, &clock, &FreeGate,
-    );
-    let numbers = numbers_of(alloc, &outcome)?;
     let Outcome {
         status,
         cause,
+        pass,
         folder: _folder,
-        pass: _pass,
         tally: _tally,
-    } = outcome;
+    } = run(
+        alloc, &words, source, &mut sink, MemFolder, &clock, &FreeGate,
+    );
+    let numbers = numbers_of(alloc, &pass)?;
     let output = sink.taken().to_vec(alloc)?;
     Ok(Ran {
         status,
@@ -147,18 +146,23 @@ impl Source for Feeds {
 }
 
 #[test]
-fn a_script_of_up_to_64_mebibytes_is_run(rt: HostRuntime) -> Result<(), Fail> {
+fn the_longest_script_of_empty_lines_is_run(rt: HostRuntime) -> Result<(), Fail> {
     let alloc = rt.alloc();
-    let mut longest = Feeds { left: SCRIPT_LIMIT };
-    let whole = ran(alloc, &mut longest, MemSink::new(alloc))?;
-    assert_eq!(rt; (whole.status, whole.output.len()), (0, 0));
-    let mut longer = Feeds {
+    let mut source = Feeds { left: SCRIPT_LIMIT };
+    let ran = ran(alloc, &mut source, MemSink::new(alloc))?;
+    assert_eq!(rt; (ran.status, ran.output.len()), (0, 0));
+    Ok(())
+}
+
+#[test]
+fn a_script_above_the_limit_is_not_run(rt: HostRuntime) -> Result<(), Fail> {
+    let alloc = rt.alloc();
+    let mut source = Feeds {
         left: SCRIPT_LIMIT + 1,
     };
-    let refused = ran(alloc, &mut longer, MemSink::new(alloc))?;
-    assert_eq!(rt; refused.status, 8);
-    assert_eq!(rt; refused.cause, Cause::TooLong { taken: 67_108_865 });
-    assert!(rt; refused.numbers.is_none());
+    let ran = ran(alloc, &mut source, MemSink::new(alloc))?;
+    assert_eq!(rt; ran.cause, Cause::TooLong { taken: 67_108_865 });
+    assert!(rt; ran.numbers.is_none());
     Ok(())
 }
 
