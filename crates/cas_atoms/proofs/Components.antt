@@ -1,7 +1,7 @@
 -- One more component of a key.
 use Rattle.std.proofs.Common.{◌≡◌, ℕ, suc, ◌+◌, ◌-◌, ◌<◌, List, [], ◌∷◌, ◌++◌, take, drop, sym, ap, ◌∙◌, arith, append_assoc}
 use Rattle.std.specs.Int.{w16, from_be_bytes}
-use Rattle.cas_atoms.specs.Keys.{components}
+use Rattle.cas_atoms.specs.PartitionKeys.{components}
 
 pub component_step : (count i size : ℕ) (key rest behind value copy next : List ℕ) (before after : List (List ℕ)) → i < count
     → size ≡ from_be_bytes w16 (take 2 rest) → behind ≡ drop 2 rest → value ≡ take size behind → copy ≡ value → next ≡ drop (size + 3) rest

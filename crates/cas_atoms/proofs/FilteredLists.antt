@@ -9,7 +9,7 @@ use Rattle.std.specs.FinMap.Entries.{by_order, is_sorted, find, where_key, is_so
 use Rattle.std.specs.FinMap.Entries as entries
 use Rattle.cas_types.specs.Orders.{Orders}
 use Rattle.cas_atoms.specs.Greatest.{greater, greatest}
-use Rattle.cas_atoms.specs.Paths.{put, put_some, ordered}
+use Rattle.cas_atoms.specs.RowsAndPaths.{put, put_some, ordered}
 use Rattle.cas_atoms.specs.Answers.{is_empty}
 
 -- some element of the list gives that value

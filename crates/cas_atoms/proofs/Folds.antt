@@ -2,7 +2,7 @@
 use Rattle.std.proofs.Common.{◌≡◌, ℕ, ◌+◌, ◌<◌, Option, List, [], length, take, get_or, refl, sym, ap, ◌∙◌}
 use Rattle.std.proofs.lemmas.List.Sums.{fold_more}
 use Rattle.std.specs.declared.cmp.Ordering.{Ordering}
-use Rattle.cas_atoms.specs.Paths.{put_some, ordered}
+use Rattle.cas_atoms.specs.RowsAndPaths.{put_some, ordered}
 
 module _ {X K : Type 0} (cmp : K → K → Ordering) (given : X → Option K) where
   pub ordered_none : ordered cmp given [] ≡ []

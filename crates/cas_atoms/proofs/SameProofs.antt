@@ -1,11 +1,13 @@
 -- Lists that are the same answer alike: what is shown is written, and what is written and shown in one is so in the other.
 use Rattle.std.proofs.Common.{◌≡◌, ℕ, ◌==◌, ℤ, Bool, true, false, cond, not, ◌&&◌, ◌||◌, Option, None, Some, is_some, ◌+◌, List, [], ◌∷◌, map, slice_get, ◌⊎◌, inl, inr, option_map, refl, sym, ap, ◌∙◌}
 use Rattle.std.proofs.lemmas.Bool.{true≢false}
+use Rattle.std.specs.Bool.{then_some}
 use Rattle.std.specs.Cmp.{Equal-is}
 use Rattle.std.specs.FinMap.{slice_cmp-IsAntisymmetric}
 use Rattle.std.specs.Cmp.Lexicographic.{slice_cmp}
 use Rattle.cas_types.specs.Orders.{Orders}
 use Rattle.cas_types.specs.Values.{bytes_cmp}
+use Rattle.cas_types.specs.Schemas.{path_type, type_or_blob}
 use Rattle.cas_types.specs.declared.tag.TypeTag.{TypeTag}
 use Rattle.cas_types.specs.declared.schema.Column.{Column}
 use Rattle.cas_types.specs.declared.schema.Kind.{Kind}
@@ -20,12 +22,13 @@ use Rattle.cas_cell.specs.declared.liveness.Liveness.{Liveness}
 use Rattle.cas_cell.specs.declared.cell.Cell.{Cell}
 use Rattle.cas_bounds.specs.Orders.{values_cmp}
 use Rattle.cas_bounds.specs.Cuts.{is_inside}
+use Rattle.cas_bounds.specs.ClusteringOrder.{clustering_order}
 use Rattle.cas_bounds.proofs.CutLaws.{row_orders}
-use Rattle.cas_atoms.specs.Coordinates.{RowKey, clustered, static_row, row, path, same_values, same_bytes, same_row, is_at, where_true, live_at_row, cell_at_path}
+use Rattle.cas_atoms.specs.Coordinates.{RowKey, clustered, static_row, row, path, same_values, same_bytes, same_row, is_at, live_at_row, cell_at_path}
 use Rattle.cas_atoms.specs.Winners.{cover, standing, live_winner, cell_winner, Same}
-use Rattle.cas_atoms.specs.Paths.{ordered, written_row, written_path, path_cmp, is_alive, alive_paths}
-use Rattle.cas_atoms.specs.Picks.{living, plain_cell, value_of, one_or_null, set_or_null, list_or_null, map_or_null, number_or_null, type_or_blob, shown_by_shape, value_by_kind, column_value, cell_by_kind, picked_cell, left_of, picked}
-use Rattle.cas_atoms.specs.Answers.{order_of, is_empty, has_kind, has_cell, is_living, is_shown, is_answered, answered, turned, is_whole, with_static, limited, row_shown, answer}
+use Rattle.cas_atoms.specs.RowsAndPaths.{ordered, written_row, written_path, path_cmp, is_alive, alive_paths}
+use Rattle.cas_atoms.specs.Picks.{living, plain_cell, cell_bytes, one_or_null, set_or_null, list_or_null, map_or_null, number_or_null, shown_by_shape, value_by_kind, column_value, cell_by_kind, picked_cell, left_of, picked}
+use Rattle.cas_atoms.specs.Answers.{is_empty, has_kind, has_cell, is_living, is_shown, is_answered, answered, turned, is_whole, with_static, limited, row_shown, answer}
 use Rattle.cas_atoms.specs.Laws.{SameAnswers}
 use Rattle.cas_atoms.specs.declared.atom.Atom.{Atom}
 use Rattle.cas_atoms.specs.declared.atom.Atom.TheVariants.{PartitionDeletion, RangeDeletion, RowDeletion, CollectionDeletion, Live, Write, StaticWrite, StaticCollectionDeletion}
@@ -70,7 +73,7 @@ module _ {Y : Type 0} (at : Y → ℤ) where
   nothing_stands None y e = no_none y e
   nothing_stands (Some d) y e = no_none y e
 
-  stands_where_true : (d : Option Deletion) (b : Bool) (x y : Y) → standing at d (where_true b x) ≡ Some y → b ≡ true
+  stands_where_true : (d : Option Deletion) (b : Bool) (x y : Y) → standing at d (then_some b x) ≡ Some y → b ≡ true
   stands_where_true d true x y e = refl
   stands_where_true d false x y e = nothing_stands d y e
 
@@ -91,10 +94,10 @@ at_place s r m n q p e =
     let (in_column, there) = both_hold (m == n) (same_bytes q p) rest in
     (in_row, in_column, equal_bytes q p there)
 
-written_there : (s r : RowKey) (m n : ℕ) (q p : List ℕ) → is_at s m q (path r n p) ≡ true → where_true (same_row s r && (m == n)) q ≡ Some p
+written_there : (s r : RowKey) (m n : ℕ) (q p : List ℕ) → is_at s m q (path r n p) ≡ true → then_some (same_row s r && (m == n)) q ≡ Some p
 written_there s r m n q p e =
     let (in_row, in_column, there) = at_place s r m n q p e in
-    λ i. where_true (in_row i && in_column i) (there i)
+    λ i. then_some (in_row i && in_column i) (there i)
 
 cell_writes_path : (d : Option Deletion) (r : RowKey) (n : ℕ) (p : List ℕ) (w : Cell) (a : Atom) → standing cell_at d (cell_at_path (path r n p) a) ≡ Some w → written_path r n a ≡ Some p
 cell_writes_path d r n p w (Write c column q v) e = written_there (clustered c.values) r column.number n q p (stands_where_true cell_at d _ v w e)
@@ -143,7 +146,7 @@ row_written_by_insert atoms now r e =
 
 row_written_in_column : (atoms : List Atom) (now : ℤ) (r : List (List ℕ)) (n : ℕ) (c : Column) → is_empty (alive_paths atoms now (clustered r) n c) ≡ false → Gives written_row atoms r
 row_written_in_column atoms now r n c e =
-    let (p, is) = passes (λ p. is_alive now (cell_winner atoms (path (clustered r) n p))) (ordered (path_cmp c.shape c.tag) (written_path (clustered r) n) atoms) e in
+    let (p, is) = passes (λ p. is_alive now (cell_winner atoms (path (clustered r) n p))) (ordered (path_cmp (path_type c.shape c.tag)) (written_path (clustered r) n) atoms) e in
     row_written_by_cell atoms now r n p is
 
 row_written_in : (atoms : List Atom) (now : ℤ) (r : List (List ℕ)) (n : ℕ) (columns : List Column) → has_cell atoms now (clustered r) n columns ≡ true → Gives written_row atoms r
@@ -162,18 +165,16 @@ row_written atoms now columns r e =
       | inr cell ↦ row_written_in atoms now r 0 columns cell
     ]
 
-path_orders : (s : Shape) (tag : TypeTag) → Orders (path_cmp s tag)
-path_orders shape.One tag = bytes_orders
-path_orders shape.Set tag = value_orders tag
-path_orders shape.List tag = bytes_orders
-path_orders shape.Map tag = value_orders tag
+path_orders : (tag : Option TypeTag) → Orders (path_cmp tag)
+path_orders None = bytes_orders
+path_orders (Some tag) = value_orders tag
 
 -- ---- what two lists that are the same show
 
 module _ (A B : List Atom) (same : Same A B) (now : ℤ) where
   same_alive : (r : RowKey) (n : ℕ) (c : Column) → alive_paths A now r n c ≡ alive_paths B now r n c
   same_alive r n c =
-      same_filtered (path_cmp c.shape c.tag) (path_orders c.shape c.tag) (written_path r n) (written_path r n)
+      same_filtered (path_cmp (path_type c.shape c.tag)) (path_orders (path_type c.shape c.tag)) (written_path r n) (written_path r n)
       (λ p. is_alive now (cell_winner A (path r n p))) (λ p. is_alive now (cell_winner B (path r n p))) A B
       (λ p. ap (is_alive now) (same.cells (path r n p))) (path_written A now r n) (path_written B now r n)
 
@@ -187,7 +188,7 @@ module _ (A B : List Atom) (same : Same A B) (now : ℤ) where
   same_answered : (q : Query) → answered q A now ≡ answered q B now
   unfolding answered
   same_answered q =
-      same_filtered (values_cmp (order_of q.columns)) (row_orders (order_of q.columns)) written_row written_row (is_answered q A now) (is_answered q B now) A B
+      same_filtered (values_cmp (clustering_order q.columns)) (row_orders (clustering_order q.columns)) written_row written_row (is_answered q A now) (is_answered q B now) A B
       (λ c. ap (λ b. is_inside q.slice.lo q.slice.hi c && b) (same_shown q.columns c))
       (λ c e. row_written A now q.columns c (both_hold _ _ e).1)
       (λ c e. row_written B now q.columns c (both_hold _ _ e).1)
@@ -202,8 +203,8 @@ module _ (A B : List Atom) (same : Same A B) (now : ℤ) where
   same_shape : (s : Shape) (r : RowKey) (n : ℕ) (c : Column) → shown_by_shape s A now r n c ≡ shown_by_shape s B now r n c
   same_shape shape.One r n c = ap (λ v. one_or_null c.tag (option_map cell_value v)) (same_plain r n)
   same_shape shape.Set r n c = ap (set_or_null c.tag) (same_alive r n c)
-  same_shape shape.List r n c = λ i. list_or_null c.tag (map (λ p. value_of (same.cells (path r n p) i)) (same_alive r n c i))
-  same_shape shape.Map r n c = λ i. map_or_null c.tag (type_or_blob c.second) (map (λ p. (p, value_of (same.cells (path r n p) i))) (same_alive r n c i))
+  same_shape shape.List r n c = λ i. list_or_null c.tag (map (λ p. cell_bytes (same.cells (path r n p) i)) (same_alive r n c i))
+  same_shape shape.Map r n c = λ i. map_or_null c.tag (type_or_blob c.second) (map (λ p. (p, cell_bytes (same.cells (path r n p) i))) (same_alive r n c i))
 
   same_by_kind : (k : Kind) (q : Query) (r : RowKey) (n : ℕ) (c : Column) → value_by_kind k q A now r n c ≡ value_by_kind k q B now r n c
   same_by_kind Partition q r n c = refl

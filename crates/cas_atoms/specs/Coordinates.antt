@@ -1,6 +1,8 @@
 -- The places that a statement writes to, and which of them an atom writes or deletes.
--- CQL documentation, "Data definition: the primary key; static columns" and "Data manipulation: INSERT / UPDATE / DELETE"; the words "coordinate" and "scope" are own.
-use Rattle.std.specs.Prelude.{ℕ, ◌==◌, Bool, true, false, ◌&&◌, Option, None, Some, List, if◌then◌else◌}
+-- CQL documentation, "Data definition: the primary key; static columns" and "Data manipulation: INSERT / UPDATE / DELETE"; the words
+-- "coordinate" and "scope" are own.
+use Rattle.std.specs.Prelude.{ℕ, ◌==◌, Bool, true, false, ◌&&◌, Option, None, Some, List}
+use Rattle.std.specs.Bool.{then_some}
 use Rattle.std.specs.Ordering.{eq_by_cmp}
 use Rattle.std.specs.Cmp.Lexicographic.{slice_cmp}
 use Rattle.cas_types.specs.Values.{bytes_cmp}
@@ -10,14 +12,16 @@ use Rattle.cas_cell.specs.declared.cell.Cell.{Cell}
 use Rattle.cas_bounds.specs.Cuts.{is_inside}
 use Rattle.cas_bounds.specs.declared.cuts.Cut.{Cut}
 use Rattle.cas_atoms.specs.declared.atom.Atom.{Atom}
-use Rattle.cas_atoms.specs.declared.atom.Atom.TheVariants.{PartitionDeletion, RangeDeletion, RowDeletion, CollectionDeletion, Live, Write, StaticWrite, StaticCollectionDeletion}
+use Rattle.cas_atoms.specs.declared.atom.Atom.TheVariants.{PartitionDeletion, RangeDeletion, RowDeletion, CollectionDeletion}
+use Rattle.cas_atoms.specs.declared.atom.Atom.TheVariants.{Live, Write, StaticWrite, StaticCollectionDeletion}
 
 -- a row of a partition: one with the values of its clustering columns, or the one static row that all of them share
 pub data RowKey : Type 0 where
   clustered : List (List ℕ) → RowKey
   static_row : RowKey
 
--- a coordinate: a row's own place, where an INSERT leaves that the row lives; or, in a row, a path of the column of that number, which for a plain column is empty
+-- a coordinate: a row's own place, where an INSERT leaves that the row lives; or, in a row, a path of the column of that number, which for a
+-- plain column is empty
 pub data Coordinate : Type 0 where
   row : List (List ℕ) → Coordinate
   path : RowKey → ℕ → List ℕ → Coordinate
@@ -27,22 +31,24 @@ abbrev pub row_of : Coordinate → RowKey
 row_of (row c) = clustered c
 row_of (path r column p) = r
 
+-- the values of one row: as many, and equal each
 abbrev pub same_values : List (List ℕ) → List (List ℕ) → Bool
 same_values = eq_by_cmp (slice_cmp bytes_cmp)
 
+-- the same bytes
 abbrev pub same_bytes : List ℕ → List ℕ → Bool
 same_bytes = eq_by_cmp bytes_cmp
 
+-- one row; the static row is none but itself
 abbrev pub same_row : RowKey → RowKey → Bool
 same_row (clustered c) (clustered d) = same_values c d
-same_row (clustered c) static_row = false
-same_row static_row (clustered d) = false
 same_row static_row static_row = true
+same_row _ _ = false
 
 -- the row lies between the cuts; the static row lies between none
-abbrev pub is_between : Cut → Cut → RowKey → Bool
-is_between lo hi (clustered c) = is_inside lo hi c
-is_between lo hi static_row = false
+abbrev pub lies_between : Cut → Cut → RowKey → Bool
+lies_between lo hi (clustered c) = is_inside lo hi c
+lies_between lo hi static_row = false
 
 -- the coordinate is a path of that column of that row
 abbrev pub is_in_column : RowKey → ℕ → Coordinate → Bool
@@ -54,43 +60,28 @@ abbrev pub is_at : RowKey → ℕ → List ℕ → Coordinate → Bool
 is_at r column p (row c) = false
 is_at r column p (path s other q) = same_row r s && ((column == other) && same_bytes p q)
 
-abbrev pub where_true : {X : Type 0} → Bool → X → Option X
-where_true b x = if b then Some x else None
-
--- the deletion, where the atom is one that has the coordinate in its scope: a partition's has all, a range's the rows between its cuts, a row's its row, a collection's the paths of its column
+-- the deletion, where the atom is one that has the coordinate in its scope: a partition's has all, a range's the rows between its cuts, a
+-- row's its row, a collection's the paths of its column
 abbrev pub deletion_at : Coordinate → Atom → Option Deletion
 deletion_at x (PartitionDeletion d) = Some d
-deletion_at x (RangeDeletion lo hi d) = where_true (is_between lo hi (row_of x)) d
-deletion_at x (RowDeletion c d) = where_true (same_row (clustered c.values) (row_of x)) d
-deletion_at x (CollectionDeletion c column d) = where_true (is_in_column (clustered c.values) column.number x) d
-deletion_at x (Live c l) = None
-deletion_at x (Write c column p v) = None
-deletion_at x (StaticWrite column p v) = None
-deletion_at x (StaticCollectionDeletion column d) = where_true (is_in_column static_row column.number x) d
+deletion_at x (RangeDeletion lo hi d) = then_some (lies_between lo hi (row_of x)) d
+deletion_at x (RowDeletion c d) = then_some (same_row (clustered c.values) (row_of x)) d
+deletion_at x (CollectionDeletion c column d) = then_some (is_in_column (clustered c.values) column.number x) d
+deletion_at x (StaticCollectionDeletion column d) = then_some (is_in_column static_row column.number x) d
+deletion_at x _ = None
 
 -- what the atom, if it is an INSERT's, leaves of the row itself
 abbrev pub live_at_row : List (List ℕ) → Atom → Option Liveness
-live_at_row r (Live c l) = where_true (same_values c.values r) l
-live_at_row r (PartitionDeletion d) = None
-live_at_row r (RangeDeletion lo hi d) = None
-live_at_row r (RowDeletion c d) = None
-live_at_row r (CollectionDeletion c column d) = None
-live_at_row r (Write c column p v) = None
-live_at_row r (StaticWrite column p v) = None
-live_at_row r (StaticCollectionDeletion column d) = None
+live_at_row r (Live c l) = then_some (same_values c.values r) l
+live_at_row r _ = None
 
 -- the cell that the atom writes at the coordinate
 abbrev pub cell_at_path : Coordinate → Atom → Option Cell
-cell_at_path x (Write c column p v) = where_true (is_at (clustered c.values) column.number p x) v
-cell_at_path x (StaticWrite column p v) = where_true (is_at static_row column.number p x) v
-cell_at_path x (PartitionDeletion d) = None
-cell_at_path x (RangeDeletion lo hi d) = None
-cell_at_path x (RowDeletion c d) = None
-cell_at_path x (CollectionDeletion c column d) = None
-cell_at_path x (Live c l) = None
-cell_at_path x (StaticCollectionDeletion column d) = None
+cell_at_path x (Write c column p v) = then_some (is_at (clustered c.values) column.number p x) v
+cell_at_path x (StaticWrite column p v) = then_some (is_at static_row column.number p x) v
+cell_at_path x _ = None
 
 -- a row by the values of its clustering columns, of which the static row has none
-abbrev pub key_of : Option (List (List ℕ)) → RowKey
-key_of None = static_row
-key_of (Some c) = clustered c
+abbrev pub row_key : Option (List (List ℕ)) → RowKey
+row_key None = static_row
+row_key (Some c) = clustered c

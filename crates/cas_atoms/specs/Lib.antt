@@ -1,9 +1,10 @@
 pub mod Greatest
 pub mod Coordinates
 pub mod Winners
-pub mod Paths
-pub mod Keys
+pub mod RowsAndPaths
+pub mod PartitionKeys
 pub mod Picks
 pub mod Answers
 pub mod LogLength
 pub mod Laws
+pub mod Inner

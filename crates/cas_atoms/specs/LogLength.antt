@@ -7,7 +7,8 @@ use Rattle.cas_cell.specs.declared.liveness.Liveness.{Liveness}
 use Rattle.cas_cell.specs.declared.liveness.Liveness.TheVariants as live
 use Rattle.cas_bounds.specs.declared.cuts.Cut.{Cut}
 use Rattle.cas_atoms.specs.declared.atom.Atom.{Atom}
-use Rattle.cas_atoms.specs.declared.atom.Atom.TheVariants.{PartitionDeletion, RangeDeletion, RowDeletion, CollectionDeletion, Live, Write, StaticWrite, StaticCollectionDeletion}
+use Rattle.cas_atoms.specs.declared.atom.Atom.TheVariants.{PartitionDeletion, RangeDeletion, RowDeletion, CollectionDeletion}
+use Rattle.cas_atoms.specs.declared.atom.Atom.TheVariants.{Live, Write, StaticWrite, StaticCollectionDeletion}
 use Rattle.cas_atoms.specs.declared.atom.Mutation.{Mutation}
 
 -- bytes with their length in two bytes
@@ -26,7 +27,8 @@ cut_length c = 1 + values_length c.prefix
 abbrev pub deletion_length : ℕ
 deletion_length = 16
 
--- the rank in one byte and the timestamp in eight, then the expiry in eight, the TTL in four, the value with its length in four, or the second of a DELETE in eight
+-- the rank in one byte and the timestamp in eight, then the expiry in eight, the TTL in four, the value with its length in four, or the second
+-- of a DELETE in eight
 abbrev pub cell_length : Cell → ℕ
 cell_length (cell.Plain at value) = 13 + length value
 cell_length (cell.Expiring at expiry ttl value) = 25 + length value
@@ -48,6 +50,7 @@ atom_length (Write c column p v) = 1 + (values_length c.values + (2 + (short_len
 atom_length (StaticWrite column p v) = 1 + (2 + (short_length p + cell_length v))
 atom_length (StaticCollectionDeletion column d) = 1 + (2 + deletion_length)
 
--- the record's own length in four bytes, the table in two, the shard in one, the number in eight, whether the timestamp was drawn in one, the timestamp and the moment in eight each, the key with its length in two, the number of atoms in four, and the atoms
+-- the record's own length in four bytes, the table in two, the shard in one, the number in eight, whether the timestamp was drawn in one, the
+-- timestamp and the moment in eight each, the key with its length in two, the number of atoms in four, and the atoms
 abbrev pub record_length : Mutation → ℕ
 record_length m = 36 + (short_length m.key + sum_by atom_length m.atoms)

@@ -1,5 +1,6 @@
 -- What covers a coordinate, what wins there, and when two lists of atoms are the same.
--- CQL documentation, "Data manipulation: INSERT / UPDATE / DELETE, USING TIMESTAMP"; Cassandra documentation, "Operating: Compaction, tombstones". A list of atoms has no order: its greatest decide.
+-- CQL documentation, "Data manipulation: INSERT / UPDATE / DELETE, USING TIMESTAMP"; Cassandra documentation, "Operating: Compaction,
+-- tombstones". A list of atoms has no order: its greatest decide.
 use Rattle.std.specs.Prelude.{◌≡◌, ℕ, ℤ, Option, None, Some, List, if◌then◌else◌}
 use Rattle.cas_cell.specs.Deletions.{deletion_cmp, covered}
 use Rattle.cas_cell.specs.Lives.{live_at, live_cmp}

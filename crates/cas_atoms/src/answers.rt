@@ -1,61 +1,34 @@
 //! The live view: what a list of atoms answers to a query at a moment.
 
-ghost use Rattle.std.specs.Prelude.{◌≡◌, ◌<◌, ◌≤ℤ◌, ◌^◌, pos, [], map, length, IfOk};
+ghost use Rattle.std.specs.Prelude.{◌≡◌, ◌≤ℤ◌, pos, [], map, IfOk};
 ghost use Rattle.std.specs.Option.{option_copied};
-ghost use Rattle.cas_atoms.specs.Coordinates.{key_of, clustered};
-ghost use Rattle.cas_atoms.specs.Answers.{order_by_kind as order_by_kind_of, order_of as order_of_columns, is_answered as is_answered_of, answered as answered_of, turned as turned_of, is_whole as is_whole_of, with_static as with_static_of, limited as limited_of, row_shown as row_shown_of, answer as answer_of};
+ghost use Rattle.cas_atoms.specs.Coordinates.{row_key, clustered};
+ghost use Rattle.cas_atoms.specs.Answers.{AreNumbered, is_answered, answered, turned, is_whole, with_static, limited, row_shown, answer};
 
 use crate::atom::Atom;
-use crate::lives::{has_cell, is_shown};
-use crate::paths::{copy_values, rows_of};
 use crate::picks::picked;
+use crate::place::{Partition, Place};
 use crate::query::{LiveRow, Query};
-use cas_bounds::{Ordered, Slice, between};
-use cas_types::{Bytes, Column, Kind, List, Mem, TypeTag};
+use crate::rows_and_paths::{copy_values, rows_of};
+use crate::shown_rows::{has_cell, is_shown};
+use cas_bounds::{Slice, between, clustering_order};
+use cas_types::{Bytes, List, Mem};
 use std::alloc::{AllocError, Global};
-
-// How a clustering column is ordered.
-fn order_by_kind(kind: Kind, tag: TypeTag) -> Option<Ordered>
-    ensures { result ≡ order_by_kind_of kind tag }
-{
-    match kind {
-        Kind::Ascending => Some(Ordered {
-            tag,
-            descending: false,
-        }),
-        Kind::Descending => Some(Ordered {
-            tag,
-            descending: true,
-        }),
-        Kind::Partition | Kind::Static | Kind::Regular => None,
-    }
-}
-
-// How the rows of the table are ordered.
-fn order_of(alloc: Global, columns: &[Column]) -> Result<Vec<Ordered>, AllocError>
-    ensures { IfOk result (λ v. v.items ≡ order_of_columns columns.now) }
-{
-    columns
-        .iter()
-        .filter_map(|c| order_by_kind(c.kind, c.tag))
-        .collect(alloc)
-}
 
 // Whether the row is in the slice, and shown.
 fn is_answered(
     alloc: Global,
     query: &Query,
-    atoms: &[Atom],
-    now: i64,
+    partition: Partition<'_>,
     values: &List<Bytes>,
 ) -> Result<bool, AllocError>
-    requires { length query.now.columns < 2 ^ 16 }
-    ensures { IfOk result (λ b. b ≡ is_answered_of query.now atoms.now now values.now) }
+    requires { AreNumbered query.now.columns }
+    ensures { IfOk result (λ b. b ≡ is_answered query.now partition.entry.atoms.now partition.entry.now values.now) }
 {
     if !between(&query.slice.lo, &query.slice.hi, values.as_slice()) {
         return Ok(false);
     }
-    is_shown(alloc, atoms, now, query.columns.as_slice(), values)
+    is_shown(alloc, partition, query.columns.as_slice(), values)
 }
 
 // The rows that answer, in the table's order.
@@ -63,17 +36,16 @@ fn is_answered(
 fn answered(
     alloc: Global,
     query: &Query,
-    atoms: &[Atom],
-    now: i64,
+    partition: Partition<'_>,
 ) -> Result<Vec<List<Bytes>>, AllocError>
-    requires { length query.now.columns < 2 ^ 16 }
-    ensures { IfOk result (λ v. v.items ≡ answered_of query.now atoms.now now) }
+    requires { AreNumbered query.now.columns }
+    ensures { IfOk result (λ v. v.items ≡ answered query.now partition.entry.atoms.now partition.entry.now) }
 {
-    let order = order_of(alloc, query.columns.as_slice())?;
-    let rows = rows_of(alloc, &order, atoms)?;
+    let order = clustering_order(alloc, query.columns.as_slice())?;
+    let rows = rows_of(alloc, order.as_slice(), partition.atoms)?;
     let mut kept = Vec::new(alloc);
     for values in &rows {
-        if is_answered(alloc, query, atoms, now, values)? {
+        if is_answered(alloc, query, partition, values)? {
             kept.push(copy_values(values)?)?;
         }
     }
@@ -81,7 +53,7 @@ fn answered(
 }
 
 fn turned(reversed: bool, rows: Vec<List<Bytes>>) -> Vec<List<Bytes>>
-    ensures { result.items ≡ turned_of reversed rows.items }
+    ensures { result.items ≡ turned reversed rows.items }
 {
     let mut rows = rows;
     if reversed {
@@ -92,7 +64,7 @@ fn turned(reversed: bool, rows: Vec<List<Bytes>>) -> Vec<List<Bytes>>
 
 // Whether the slice restricts no clustering column.
 fn is_whole(slice: &Slice) -> bool
-    ensures { result ≡ is_whole_of slice.now }
+    ensures { result ≡ is_whole slice.now }
 {
     let begins = slice.lo.prefix.as_slice().is_empty() && !slice.lo.after;
     let ends = slice.hi.prefix.as_slice().is_empty() && slice.hi.after;
@@ -101,7 +73,7 @@ fn is_whole(slice: &Slice) -> bool
 
 // The rows by their keys, of which the static row's is `None`.
 fn keys(alloc: Global, rows: &[List<Bytes>]) -> Result<Vec<Option<List<Bytes>>>, AllocError>
-    ensures { IfOk result (λ v. map key_of v.items ≡ map clustered rows.now) }
+    ensures { IfOk result (λ v. map row_key v.items ≡ map clustered rows.now) }
 {
     let mut keys = Vec::new(alloc);
     for values in rows {
@@ -114,16 +86,23 @@ fn keys(alloc: Global, rows: &[List<Bytes>]) -> Result<Vec<Option<List<Bytes>>>,
 fn static_alone(
     alloc: Global,
     query: &Query,
-    atoms: &[Atom],
-    now: i64,
+    partition: Partition<'_>,
 ) -> Result<Vec<Option<List<Bytes>>>, AllocError>
-    requires { length query.now.columns < 2 ^ 16 }
-    ensures { IfOk result (λ v. map key_of v.items ≡ with_static_of query.now atoms.now now []) }
+    requires { AreNumbered query.now.columns }
+    ensures { IfOk result (λ v. map row_key v.items ≡ with_static query.now partition.entry.atoms.now partition.entry.now []) }
 {
     if !is_whole(&query.slice) {
         return Ok(Vec::new(alloc));
     }
-    if !has_cell(alloc, atoms, now, None, 0, query.columns.as_slice())? {
+    if !has_cell(
+        alloc,
+        partition,
+        Place {
+            row: None,
+            number: 0,
+        },
+        query.columns.as_slice(),
+    )? {
         return Ok(Vec::new(alloc));
     }
     Ok(vec![in alloc; None]?)
@@ -133,21 +112,20 @@ fn static_alone(
 fn with_static(
     alloc: Global,
     query: &Query,
-    atoms: &[Atom],
-    now: i64,
+    partition: Partition<'_>,
     rows: &[List<Bytes>],
 ) -> Result<Vec<Option<List<Bytes>>>, AllocError>
-    requires { length query.now.columns < 2 ^ 16 }
-    ensures { IfOk result (λ v. map key_of v.items ≡ with_static_of query.now atoms.now now rows.now) }
+    requires { AreNumbered query.now.columns }
+    ensures { IfOk result (λ v. map row_key v.items ≡ with_static query.now partition.entry.atoms.now partition.entry.now rows.now) }
 {
     match rows {
-        [] => static_alone(alloc, query, atoms, now),
+        [] => static_alone(alloc, query, partition),
         [_row, _rest @ ..] => keys(alloc, rows),
     }
 }
 
 fn limited(limit: Option<u32>, rows: Vec<Option<List<Bytes>>>) -> Vec<Option<List<Bytes>>>
-    ensures { map key_of result.items ≡ limited_of limit (map key_of rows.items) }
+    ensures { map row_key result.items ≡ limited limit (map row_key rows.items) }
 {
     let mut rows = rows;
     if let Some(count) = limit {
@@ -161,16 +139,15 @@ fn limited(limit: Option<u32>, rows: Vec<Option<List<Bytes>>>) -> Vec<Option<Lis
 fn row_shown(
     alloc: Global,
     query: &Query,
-    atoms: &[Atom],
-    now: i64,
+    partition: Partition<'_>,
     row: Option<&List<Bytes>>,
 ) -> Result<LiveRow, AllocError>
-    requires { pos 0 ≤ℤ now }
-    ensures { IfOk result (λ r. r ≡ row_shown_of query.now atoms.now now (key_of (option_copied row.entry))) }
+    requires { pos 0 ≤ℤ partition.now }
+    ensures { IfOk result (λ r. r ≡ row_shown query.now partition.entry.atoms.now partition.entry.now (row_key (option_copied row.entry))) }
 {
     let mut values = Vec::new(alloc);
     for pick in query.picks.as_slice() {
-        values.push(picked(alloc, query, atoms, now, row, *pick)?)?;
+        values.push(picked(alloc, query, partition, row, *pick)?)?;
     }
     Ok(LiveRow {
         values: List::from_vec(values),
@@ -183,14 +160,15 @@ fn row_shown(
 #[tactic(auto, unfolding(crate::specs::Answers::answer))]
 pub fn answer(alloc: Global, atoms: &[Atom], query: &Query, now: i64) -> Result<Vec<LiveRow>, Mem>
     requires begun { pos 0 ≤ℤ now }
-    requires columns { length query.now.columns < 2 ^ 16 }
-    ensures { IfOk result (λ v. v.items ≡ answer_of query.now atoms.now now) }
+    requires columns { AreNumbered query.now.columns }
+    ensures { IfOk result (λ v. v.items ≡ answer query.now atoms.now now) }
 {
-    let rows = turned(query.reversed, answered(alloc, query, atoms, now)?);
-    let keys = limited(query.limit, with_static(alloc, query, atoms, now, &rows)?);
+    let partition = Partition { atoms, now };
+    let rows = turned(query.reversed, answered(alloc, query, partition)?);
+    let keys = limited(query.limit, with_static(alloc, query, partition, &rows)?);
     let mut shown = Vec::new(alloc);
     for key in &keys {
-        shown.push(row_shown(alloc, query, atoms, now, key.as_ref())?)?;
+        shown.push(row_shown(alloc, query, partition, key.as_ref())?)?;
     }
     Ok(shown)
 }

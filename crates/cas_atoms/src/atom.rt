@@ -32,7 +32,7 @@ pub enum Atom {
 }
 
 impl Atom {
-    /// The same atom once more.
+    /// A copy of the atom.
     pub fn copied(&self) -> Result<Self, AllocError>
         ensures { IfOk result (λ a. a ≡ self.now) }
     {

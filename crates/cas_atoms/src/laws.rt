@@ -1,3 +1,5 @@
+//! What holds of lists of atoms, joined and the same.
+
 ghost use Rattle.cas_atoms.specs.Laws.{JoinLaws, SameAnswers};
 
 /// Lists of atoms joined end to end are the same whatever the order, the repeats and the grouping.

@@ -3,16 +3,17 @@
 
 mod answers;
 mod atom;
+mod column_values;
 mod coordinates;
-mod keys;
 mod laws;
-mod lives;
 mod log_length;
-mod paths;
+mod partition_keys;
 mod picks;
+mod place;
 mod query;
 mod row;
-mod shown;
+mod rows_and_paths;
+mod shown_rows;
 #[cfg(test)]
 mod tests;
 mod winners;

@@ -4,14 +4,18 @@
 ghost use Rattle.std.specs.Prelude.{◌≡◌, ◌≤ℤ◌, pos, IsTrue, take, slice_get, IfOk, IfSome};
 ghost use Rattle.std.specs.List.{count_by};
 ghost use Rattle.std.specs.Option.{option_copied, option_map};
+ghost use Rattle.cas_types.specs.Schemas.{is_partition, is_clustering};
 ghost use Rattle.cas_cell.specs.Cells.{cell_at, cell_lives};
-ghost use Rattle.cas_atoms.specs.Coordinates.{key_of};
-ghost use Rattle.cas_atoms.specs.Picks.{is_partition, is_clustering, number_or_null as number_or_null_of, partition_value as partition_value_of, clustering_value as clustering_value_of, regular_value as regular_value_of, value_by_kind as value_by_kind_of, column_value as column_value_of, cell_by_kind as cell_by_kind_of, picked_cell as picked_cell_of, left_of as left_of_cell, picked as picked_of};
+ghost use Rattle.cas_atoms.specs.Coordinates.{row_key};
+ghost use Rattle.cas_atoms.specs.Picks.{number_or_null, partition_value, clustering_value, regular_value, value_by_kind};
+ghost use Rattle.cas_atoms.specs.Picks.{column_value, cell_by_kind, picked_cell, left_of, picked};
+ghost use Rattle.cas_atoms.specs.Inner.Places.{row_at};
 
 use crate::atom::Atom;
-use crate::keys::key_values;
+use crate::column_values::{one_or_null, plain_cell, shown_value};
+use crate::partition_keys::key_values;
+use crate::place::{Partition, Place};
 use crate::query::{Datum, Pick, Query};
-use crate::shown::{one_or_null, plain_cell, shown_value};
 use cas_cell::Cell;
 use cas_types::{Bytes, Column, Kind, List, TypeTag};
 use std::alloc::{AllocError, Global};
@@ -19,10 +23,7 @@ use std::alloc::{AllocError, Global};
 fn partition_count(columns: &[Column]) -> usize
     ensures { result ≡ count_by (λ c. is_partition c.kind) columns.now }
 {
-    columns
-        .iter()
-        .filter(|c| matches!(c.kind, Kind::Partition))
-        .count()
+    columns.iter().filter(|c| c.kind.is_partition()).count()
 }
 
 // How many of the first columns, as many as the number says, are clustering columns.
@@ -31,7 +32,7 @@ fn clustering_count(columns: &[Column], number: usize) -> usize
 {
     columns[..number.min(columns.len())]
         .iter()
-        .filter(|c| matches!(c.kind, Kind::Ascending | Kind::Descending))
+        .filter(|c| c.kind.is_clustering())
         .count()
 }
 
@@ -46,7 +47,7 @@ fn value_at(values: &[Bytes], place: usize) -> Option<&[u8]>
 }
 
 fn number_or_null(number: Option<i64>) -> Datum
-    ensures { result ≡ number_or_null_of number }
+    ensures { result ≡ number_or_null number }
 {
     match number {
         Some(number) => Datum::Number(number),
@@ -61,7 +62,7 @@ fn partition_value(
     number: u16,
     tag: TypeTag,
 ) -> Result<Datum, AllocError>
-    ensures { IfOk result (λ d. d ≡ partition_value_of query.now number tag) }
+    ensures { IfOk result (λ d. d ≡ partition_value query.now number tag) }
 {
     let count = partition_count(query.columns.as_slice());
     let values = key_values(alloc, count, query.key.as_slice())?;
@@ -72,16 +73,15 @@ fn partition_value(
 fn clustering_value(
     alloc: Global,
     query: &Query,
-    row: Option<&List<Bytes>>,
-    number: u16,
+    place: Place<'_>,
     tag: TypeTag,
 ) -> Result<Datum, AllocError>
-    ensures { IfOk result (λ d. d ≡ clustering_value_of query.now (key_of (option_copied row.entry)) number tag) }
+    ensures { IfOk result (λ d. d ≡ clustering_value query.now (row_at place.entry) place.entry.number tag) }
 {
-    match row {
+    match place.row {
         Some(values) => {
-            let place = clustering_count(query.columns.as_slice(), number as usize);
-            one_or_null(alloc, tag, value_at(values.as_slice(), place))
+            let before = clustering_count(query.columns.as_slice(), place.number as usize);
+            one_or_null(alloc, tag, value_at(values.as_slice(), before))
         }
         None => Ok(Datum::Null),
     }
@@ -90,16 +90,14 @@ fn clustering_value(
 // A regular column's value, of which the static row has none.
 fn regular_value(
     alloc: Global,
-    atoms: &[Atom],
-    now: i64,
-    row: Option<&List<Bytes>>,
-    number: u16,
+    partition: Partition<'_>,
+    place: Place<'_>,
     column: &Column,
 ) -> Result<Datum, AllocError>
-    ensures { IfOk result (λ d. d ≡ regular_value_of atoms.now now (key_of (option_copied row.entry)) number column.now) }
+    ensures { IfOk result (λ d. d ≡ regular_value partition.entry.atoms.now partition.entry.now (row_at place.entry) place.entry.number column.now) }
 {
-    match row {
-        Some(_) => shown_value(alloc, atoms, now, row, number, column),
+    match place.row {
+        Some(_) => shown_value(alloc, partition, place, column),
         None => Ok(Datum::Null),
     }
 }
@@ -107,20 +105,23 @@ fn regular_value(
 fn value_by_kind(
     alloc: Global,
     query: &Query,
-    atoms: &[Atom],
-    now: i64,
-    row: Option<&List<Bytes>>,
-    number: u16,
+    partition: Partition<'_>,
+    place: Place<'_>,
     column: &Column,
 ) -> Result<Datum, AllocError>
-    ensures { IfOk result (λ d. d ≡ value_by_kind_of column.now.kind query.now atoms.now now (key_of (option_copied row.entry)) number column.now) }
+    ensures { IfOk result (λ d. d ≡
+        value_by_kind column.now.kind query.now partition.entry.atoms.now partition.entry.now (row_at place.entry) place.entry.number column.now) }
 {
+    let in_static_row = Place {
+        row: None,
+        number: place.number,
+    };
     match column.kind {
-        Kind::Partition => partition_value(alloc, query, number, column.tag),
-        Kind::Ascending => clustering_value(alloc, query, row, number, column.tag),
-        Kind::Descending => clustering_value(alloc, query, row, number, column.tag),
-        Kind::Static => shown_value(alloc, atoms, now, None, number, column),
-        Kind::Regular => regular_value(alloc, atoms, now, row, number, column),
+        Kind::Partition => partition_value(alloc, query, place.number, column.tag),
+        Kind::Ascending => clustering_value(alloc, query, place, column.tag),
+        Kind::Descending => clustering_value(alloc, query, place, column.tag),
+        Kind::Static => shown_value(alloc, partition, in_static_row, column),
+        Kind::Regular => regular_value(alloc, partition, place, column),
     }
 }
 
@@ -133,50 +134,43 @@ fn column_at(query: &Query, number: u16) -> Option<&Column>
 fn column_value(
     alloc: Global,
     query: &Query,
-    atoms: &[Atom],
-    now: i64,
-    row: Option<&List<Bytes>>,
-    number: u16,
+    partition: Partition<'_>,
+    place: Place<'_>,
     column: Option<&Column>,
 ) -> Result<Datum, AllocError>
-    ensures { IfOk result (λ d. d ≡ column_value_of query.now atoms.now now (key_of (option_copied row.entry)) number (option_copied column.entry)) }
+    ensures { IfOk result (λ d. d ≡
+        column_value query.now partition.entry.atoms.now partition.entry.now (row_at place.entry) place.entry.number (option_copied column.entry)) }
 {
     match column {
-        Some(column) => value_by_kind(alloc, query, atoms, now, row, number, column),
+        Some(column) => value_by_kind(alloc, query, partition, place, column),
         None => Ok(Datum::Null),
     }
 }
 
-fn cell_by_kind<'a>(
-    kind: Kind,
-    atoms: &'a [Atom],
-    now: i64,
-    row: Option<&List<Bytes>>,
-    number: u16,
-) -> Option<&'a Cell>
-    ensures cell { option_copied result ≡ cell_by_kind_of kind atoms.now now (key_of (option_copied row.entry)) number }
-    ensures alive { IfSome result (λ c. IsTrue (cell_lives now c.now)) }
+fn cell_by_kind<'a>(kind: Kind, partition: Partition<'a>, place: Place<'_>) -> Option<&'a Cell>
+    ensures cell { option_copied result ≡ cell_by_kind kind partition.entry.atoms.now partition.entry.now (row_at place.entry) place.entry.number }
+    ensures alive { IfSome result (λ c. IsTrue (cell_lives partition.entry.now c.now)) }
 {
-    match (kind, row) {
-        (Kind::Static, _) => plain_cell(atoms, now, None, number),
-        (Kind::Regular, Some(_)) => plain_cell(atoms, now, row, number),
+    let in_static_row = Place {
+        row: None,
+        number: place.number,
+    };
+    match (kind, place.row) {
+        (Kind::Static, _) => plain_cell(partition, in_static_row),
+        (Kind::Regular, Some(_)) => plain_cell(partition, place),
         _ => None,
     }
 }
 
 // The alive cell that writetime and ttl speak of.
-fn picked_cell<'a>(
-    query: &Query,
-    atoms: &'a [Atom],
-    now: i64,
-    row: Option<&List<Bytes>>,
-    number: u16,
-) -> Option<&'a Cell>
-    ensures cell { option_copied result ≡ picked_cell_of query.now atoms.now now (key_of (option_copied row.entry)) number (slice_get query.now.columns number) }
-    ensures alive { IfSome result (λ c. IsTrue (cell_lives now c.now)) }
+fn picked_cell<'a>(query: &Query, partition: Partition<'a>, place: Place<'_>) -> Option<&'a Cell>
+    ensures cell { option_copied result ≡
+        picked_cell query.now partition.entry.atoms.now partition.entry.now (row_at place.entry) place.entry.number
+        (slice_get query.now.columns place.entry.number) }
+    ensures alive { IfSome result (λ c. IsTrue (cell_lives partition.entry.now c.now)) }
 {
-    match column_at(query, number) {
-        Some(column) => cell_by_kind(column.kind, atoms, now, row, number),
+    match column_at(query, place.number) {
+        Some(column) => cell_by_kind(column.kind, partition, place),
         None => None,
     }
 }
@@ -185,7 +179,7 @@ fn picked_cell<'a>(
 fn seconds_left(now: i64, cell: Option<&Cell>) -> Option<i64>
     requires begun { pos 0 ≤ℤ now }
     requires alive { IfSome cell (λ c. IsTrue (cell_lives now c.now)) }
-    ensures { result ≡ left_of_cell now (option_copied cell.entry) }
+    ensures { result ≡ left_of now (option_copied cell.entry) }
 {
     match cell {
         Some(Cell::Expiring { expiry, .. }) => Some(*expiry - now),
@@ -207,31 +201,25 @@ fn write_time(cell: Option<&Cell>) -> Option<i64>
 pub(crate) fn picked(
     alloc: Global,
     query: &Query,
-    atoms: &[Atom],
-    now: i64,
+    partition: Partition<'_>,
     row: Option<&List<Bytes>>,
     pick: Pick,
 ) -> Result<Datum, AllocError>
-    requires { pos 0 ≤ℤ now }
-    ensures { IfOk result (λ d. d ≡ picked_of query.now atoms.now now (key_of (option_copied row.entry)) pick) }
+    requires { pos 0 ≤ℤ partition.now }
+    ensures { IfOk result (λ d. d ≡ picked query.now partition.entry.atoms.now partition.entry.now (row_key (option_copied row.entry)) pick) }
 {
     match pick {
         Pick::Value(number) => {
-            column_value(
-                alloc,
-                query,
-                atoms,
-                now,
-                row,
-                number,
-                column_at(query, number),
-            )
+            let place = Place { row, number };
+            column_value(alloc, query, partition, place, column_at(query, number))
         }
         Pick::WriteTime(number) => {
-            Ok(number_or_null(write_time(picked_cell(query, atoms, now, row, number))))
+            let place = Place { row, number };
+            Ok(number_or_null(write_time(picked_cell(query, partition, place))))
         }
         Pick::Ttl(number) => {
-            Ok(number_or_null(seconds_left(now, picked_cell(query, atoms, now, row, number))))
+            let cell = picked_cell(query, partition, Place { row, number });
+            Ok(number_or_null(seconds_left(partition.now, cell)))
         }
     }
 }

@@ -25,7 +25,7 @@ pub struct Query {
     pub picks: List<Pick>,
 }
 
-/// One value of a row, as it is to be printed: `null`, a timestamp or a number of seconds, a value
+/// One value of a row, as a reply shows it: `null`, a timestamp or a number of seconds, a value
 /// of a type, or a collection with the types of its elements.
 #[derive(Drop)]
 pub enum Datum {

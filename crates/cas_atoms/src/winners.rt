@@ -6,11 +6,13 @@ ghost use Rattle.cas_cell.specs.Deletions.{deletion_cmp};
 ghost use Rattle.cas_cell.specs.Lives.{live_at, live_cmp};
 ghost use Rattle.cas_cell.specs.Cells.{cell_at, cell_cmp};
 ghost use Rattle.cas_atoms.specs.Greatest.{greater};
-ghost use Rattle.cas_atoms.specs.Coordinates.{row, path, key_of};
-ghost use Rattle.cas_atoms.specs.Winners.{cover, standing, live_winner as live_winner_of, cell_winner as cell_winner_of};
+ghost use Rattle.cas_atoms.specs.Coordinates.{row, path};
+ghost use Rattle.cas_atoms.specs.Inner.Places.{row_at};
+ghost use Rattle.cas_atoms.specs.Winners.{cover, standing, live_winner, cell_winner};
 
 use crate::atom::Atom;
 use crate::coordinates::{cell_at_path, deletion_at_path, deletion_at_row, live_at_row};
+use crate::place::Place;
 use cas_cell::{Cell, Deletion, Liveness, covers, del_wins, live_wins, wins};
 use cas_types::{Bytes, List};
 
@@ -74,24 +76,19 @@ fn row_cover(atoms: &[Atom], values: &List<Bytes>) -> Option<Deletion>
 }
 
 // The greatest deletion that has that path of that column of the row in its scope.
-fn path_cover(
-    atoms: &[Atom],
-    row: Option<&List<Bytes>>,
-    number: u16,
-    bytes: &[u8],
-) -> Option<Deletion>
-    ensures { result ≡ cover atoms.now (path (key_of (option_copied row.entry)) number bytes.now) }
+fn path_cover(atoms: &[Atom], place: Place<'_>, bytes: &[u8]) -> Option<Deletion>
+    ensures { result ≡ cover atoms.now (path (row_at place.entry) place.entry.number bytes.now) }
 {
     let mut best = None;
     for atom in atoms {
-        best = greater_deletion(best, deletion_at_path(row, number, bytes, atom));
+        best = greater_deletion(best, deletion_at_path(place, bytes, atom));
     }
     best
 }
 
 /// What tells that a row lives: the greatest liveness at it that isn't covered.
 pub(crate) fn live_winner(atoms: &[Atom], values: &List<Bytes>) -> Option<Liveness>
-    ensures { result ≡ live_winner_of atoms.now values.now }
+    ensures { result ≡ live_winner atoms.now values.now }
 {
     let over = row_cover(atoms, values);
     let mut best = None;
@@ -103,21 +100,13 @@ pub(crate) fn live_winner(atoms: &[Atom], values: &List<Bytes>) -> Option<Livene
 
 /// The cell that counts at that path of that column of the row: the greatest there that isn't
 /// covered.
-pub(crate) fn cell_winner<'a>(
-    atoms: &'a [Atom],
-    row: Option<&List<Bytes>>,
-    number: u16,
-    bytes: &[u8],
-) -> Option<&'a Cell>
-    ensures { option_copied result ≡ cell_winner_of atoms.now (path (key_of (option_copied row.entry)) number bytes.now) }
+pub(crate) fn cell_winner<'a>(atoms: &'a [Atom], place: Place<'_>, bytes: &[u8]) -> Option<&'a Cell>
+    ensures { option_copied result ≡ cell_winner atoms.now (path (row_at place.entry) place.entry.number bytes.now) }
 {
-    let over = path_cover(atoms, row, number, bytes);
+    let over = path_cover(atoms, place, bytes);
     let mut best = None;
     for atom in atoms {
-        best = greater_cell(
-            best,
-            standing_cell(over, cell_at_path(row, number, bytes, atom)),
-        );
+        best = greater_cell(best, standing_cell(over, cell_at_path(place, bytes, atom)));
     }
     best
 }

@@ -8,7 +8,8 @@ use Rattle.cas_bounds.specs.Orders.{first_cmp, values_cmp}
 use Rattle.cas_bounds.specs.declared.order.Ordered.{Ordered}
 use Rattle.cas_bounds.specs.declared.cuts.Cut.{Cut}
 
--- past a cut that stands after are the rows whose first values, as many as the prefix has, are greater than the prefix; past one that stands before also those where they equal it
+-- past a cut that stands after are the rows whose first values, as many as the prefix has, are greater than the prefix; past one that stands
+-- before also those where they equal it
 abbrev pub is_past : Cut → List (List ℕ) → Bool
 is_past cut c =
     let r = values_cmp cut.order (take (length cut.prefix) c) cut.prefix in
@@ -18,7 +19,8 @@ is_past cut c =
 abbrev pub is_inside : Cut → Cut → List (List ℕ) → Bool
 is_inside lo hi c = is_past lo c && not (is_past hi c)
 
--- the first difference of the prefixes decides; without one, before is below after, and a shorter prefix is below where its cut stands before, and above where it stands after (own)
+-- the first difference of the prefixes decides; without one, before is below after, and a shorter prefix is below where its cut stands before,
+-- and above where it stands after (own)
 abbrev pub prefixes_cmp : List Ordered → List (List ℕ) → Bool → List (List ℕ) → Bool → Ordering
 prefixes_cmp order [] p [] q = bool_cmp p q
 prefixes_cmp order [] p (y ∷ ys) q = if p then Greater else Less

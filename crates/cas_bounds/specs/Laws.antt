@@ -1,4 +1,4 @@
--- What the orders of rows and of cuts keep, for every order of the clustering columns.
+-- What holds of the orders of rows and of cuts, for every order of the clustering columns.
 use Rattle.std.specs.Prelude.{◌≡◌, ◌↔◌, ℕ, Bool, true, false, IsTrue, List, length, take}
 use Rattle.std.specs.Ordering.{is_gt}
 use Rattle.cas_types.specs.Orders.{Orders}
@@ -12,6 +12,7 @@ pub record Place : Type 0 where
   pub prefix : List (List ℕ)
   pub after : Bool
 
+-- that cut, in a table that orders its rows so
 abbrev pub cut_at : List Ordered → Place → Cut
 cut_at order p = record { prefix = p.prefix; after = p.after; order = order }
 

@@ -1,3 +1,4 @@
 pub mod Orders
+pub mod ClusteringOrder
 pub mod Cuts
 pub mod Laws

@@ -1,7 +1,7 @@
 //! Cuts between the rows of a partition, and the slices between two cuts.
 
 ghost use Rattle.std.specs.Prelude.{◌≡◌, IfOk};
-ghost use Rattle.cas_bounds.specs.Cuts.{is_past as is_past_of, is_inside, prefixes_cmp, cut_cmp};
+ghost use Rattle.cas_bounds.specs.Cuts.{is_past, is_inside, prefixes_cmp, cut_cmp};
 
 use crate::order::{Ordered, compare_first, compare_values, later};
 use cas_types::{Bytes, List};
@@ -16,7 +16,7 @@ pub struct Clustering {
 }
 
 impl Clustering {
-    /// The same clustering once more.
+    /// A copy of the clustering.
     pub fn copied(&self) -> Result<Self, AllocError>
         ensures { IfOk result (λ c. c ≡ self.now) }
     {
@@ -34,7 +34,7 @@ pub struct Cut {
 }
 
 impl Cut {
-    /// The same cut once more.
+    /// A copy of the cut.
     pub fn copied(&self) -> Result<Self, AllocError>
         ensures { IfOk result (λ c. c ≡ self.now) }
     {
@@ -111,7 +111,7 @@ pub fn between(lo: &Cut, hi: &Cut, values: &[Bytes]) -> bool
 
 // Whether the row stands past the cut.
 fn is_past(cut: &Cut, values: &[Bytes]) -> bool
-    ensures { result ≡ is_past_of cut.now values.now }
+    ensures { result ≡ is_past cut.now values.now }
 {
     let prefix = cut.prefix.as_slice();
     let front = &values[..prefix.len().min(values.len())];

@@ -1,4 +1,4 @@
-//! What the order of rows and of cuts keeps, for every order of the clustering columns.
+//! What holds of the order of rows and of cuts, for every order of the clustering columns.
 
 ghost use Rattle.cas_bounds.specs.Laws.{RowOrders, CutOrders, CutsDivideRows, OwnPlaces};
 

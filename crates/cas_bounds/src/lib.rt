@@ -10,4 +10,4 @@ mod tests;
 
 pub use cuts::{Clustering, Cut, Slice, between, cmp_cut, inside};
 pub use laws::{cut_orders, cuts_divide_rows, own_places, row_orders};
-pub use order::{Ordered, compare_values};
+pub use order::{Ordered, clustering_order, compare_values};

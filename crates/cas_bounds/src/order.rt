@@ -1,9 +1,12 @@
-//! The order of the clustering columns.
+//! How clustering columns order the rows of a partition.
 
-ghost use Rattle.std.specs.Prelude.{◌≡◌, drop};
+ghost use Rattle.std.specs.Prelude.{◌≡◌, drop, IfOk};
+ghost use Rattle.std.specs.List.{filter_map};
 ghost use Rattle.cas_bounds.specs.Orders.{column_cmp, first_cmp, values_cmp};
+ghost use Rattle.cas_bounds.specs.ClusteringOrder.{ordered_by, clustering_order};
 
-use cas_types::{Bytes, TypeTag, compare, compare_bytes};
+use cas_types::{Bytes, Column, List, TypeTag, compare, compare_bytes};
+use std::alloc::{AllocError, Global};
 use std::cmp::Ordering;
 
 /// How one clustering column is ordered: by its type, and from the greatest value down where the
@@ -25,6 +28,36 @@ impl Ordered {
             compare(self.tag, a, b)
         }
     }
+}
+
+// How a clustering column orders rows.
+fn ordered_by(column: &Column) -> Option<Ordered>
+    ensures { result ≡ ordered_by column.now }
+{
+    column.kind.is_clustering().then_some(Ordered {
+        tag: column.tag,
+        descending: column.kind.is_descending(),
+    })
+}
+
+fn orders(alloc: Global, columns: &[Column]) -> Result<Vec<Ordered>, AllocError>
+    ensures { IfOk result (λ v. v.items ≡ filter_map ordered_by columns.now) }
+{
+    columns
+        .iter()
+        .filter_map(|c| ordered_by(c))
+        .collect(alloc)
+}
+
+/// How the table of these columns orders its rows.
+#[tactic(auto, unfolding(crate::specs::ClusteringOrder::clustering_order))]
+pub fn clustering_order(
+    alloc: Global,
+    columns: &[Column],
+) -> Result<List<Ordered>, AllocError>
+    ensures { IfOk result (λ l. l ≡ clustering_order columns.now) }
+{
+    Ok(List::from_vec(orders(alloc, columns)?))
 }
 
 /// The order of two values of the first column.

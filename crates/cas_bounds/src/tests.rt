@@ -1,3 +1,5 @@
+//! The order of rows and cuts, and what lies between two cuts, by hand.
+
 use crate::{
     Clustering, Cut, Ordered, Slice, cmp_cut, compare_values, cut_orders, cuts_divide_rows, inside,
     own_places, row_orders,

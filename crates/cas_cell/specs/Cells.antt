@@ -39,9 +39,12 @@ cell_ttl (Tombstone at second) = 0
 
 -- the later timestamp is the greater, and at one timestamp rank, second, unsigned bytes and TTL decide, one after the other (own)
 abbrev pub cell_cmp : Cell → Cell → Ordering
-cell_cmp = then_cmp (on cell_at int_cmp) (then_cmp (on cell_rank nat_cmp) (then_cmp (on cell_second int_cmp) (then_cmp (on cell_value bytes_cmp) (on cell_ttl nat_cmp))))
+cell_cmp =
+    then_cmp (on cell_at int_cmp) (then_cmp (on cell_rank nat_cmp)
+    (then_cmp (on cell_second int_cmp) (then_cmp (on cell_value bytes_cmp) (on cell_ttl nat_cmp))))
 
--- a value with no TTL is shown for ever, one with a TTL until just before it expires, and a DELETE shows none (CQL documentation, "Data manipulation: INSERT, USING TTL" and "DELETE")
+-- a value with no TTL is shown for ever, one with a TTL until just before it expires, and a DELETE shows none (CQL documentation, "Data
+-- manipulation: INSERT, USING TTL" and "DELETE")
 abbrev pub cell_lives : ℤ → Cell → Bool
 cell_lives now (Plain at value) = true
 cell_lives now (Expiring at expiry ttl value) = int_lt now expiry

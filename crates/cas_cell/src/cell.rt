@@ -1,3 +1,5 @@
+//! What is left of a column, which of two wins, and whether it shows a value.
+
 ghost use Rattle.std.specs.Prelude.{◌≡◌, IfOk};
 ghost use Rattle.std.specs.Ordering.{is_gt, on, then_cmp, nat_cmp};
 ghost use Rattle.cas_types.specs.Values.{bytes_cmp};
@@ -30,7 +32,7 @@ pub enum Cell {
 }
 
 impl Cell {
-    /// The same cell once more.
+    /// A copy of the cell.
     pub fn copied(&self) -> Result<Self, AllocError>
         ensures { IfOk result (λ c. c ≡ self.now) }
     {

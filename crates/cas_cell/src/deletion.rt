@@ -1,3 +1,5 @@
+//! What a DELETE leaves behind, and what it covers.
+
 ghost use Rattle.std.specs.Prelude.{◌≡◌};
 ghost use Rattle.std.specs.Ordering.{is_gt};
 ghost use Rattle.cas_cell.specs.Deletions.{deletion_cmp, covered};

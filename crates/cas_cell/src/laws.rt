@@ -1,3 +1,5 @@
+//! What holds of the orders of cells, livenesses and deletions.
+
 ghost use Rattle.cas_cell.specs.Laws.{CellLaws, LiveLaws, DeletionLaws};
 
 /// Of any two cells the same one wins whatever the order they come in, only equal ones tie, and the

@@ -1,3 +1,5 @@
+//! What an INSERT leaves of a row beside its columns.
+
 ghost use Rattle.std.specs.Prelude.{◌≡◌};
 ghost use Rattle.std.specs.Ordering.{is_gt};
 ghost use Rattle.cas_cell.specs.Lives.{live_at, live_rank, live_second, live_ttl, live_cmp, live_lives};

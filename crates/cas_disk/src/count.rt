@@ -1,4 +1,4 @@
-//! A count of faults, which whoever calls a folder's files carries along and adds up at the end.
+//! A count of faults, which those who call a folder's files carry along and add up at the end.
 ghost use Rattle.std.specs.Prelude.{◌≡◌, ◌+◌, ℕ};
 ghost use Rattle.cas_disk.specs.Counts.{sum_in_range};
 

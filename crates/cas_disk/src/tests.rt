@@ -1,3 +1,5 @@
+//! Counts of faults.
+
 use crate::{Count, FaultCount, Folder, MemFolder};
 
 #[test]

@@ -4,7 +4,3 @@ use Rattle.std.specs.Prelude.{ℕ, ◌+◌, ◌-◌, ◌^◌, ◌≤◌, min}
 -- the count is greater now, or was at the greatest u64, where it stands, and stands there now
 abbrev pub Rose : ℕ → ℕ → Type 0
 Rose before now = min (before + 1) (2 ^ 64 - 1) ≤ now
-
--- one fault more, but never past the greatest u64
-abbrev pub one_more : ℕ → ℕ
-one_more before = min (before + 1) (2 ^ 64 - 1)

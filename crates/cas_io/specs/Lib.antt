@@ -1,4 +1,3 @@
 pub mod Causes
-pub mod Plans
-pub mod Told
-pub mod Shown
+pub mod Streams
+pub mod Inner

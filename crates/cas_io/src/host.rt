@@ -2,7 +2,7 @@
 //! them tell of bytes only what the reader or the writer below tells, which is nothing for the
 //! system's own.
 ghost use Rattle.std.specs.Prelude.{◌≡◌, ⊤};
-ghost use Rattle.cas_io.specs.Shown.{source_faults, sink_faults, sink_stalls};
+ghost use Rattle.cas_io.specs.Inner.Host.{reader_faults, writer_faults, writer_stalls};
 
 use crate::clock::Clock;
 use crate::fault::Failed;
@@ -24,14 +24,14 @@ impl<R: Read> StdSource<R> {
     /// A source that has not failed.
     pub fn new(reader: R) -> Self
         ensures left { ⟦<StdSource<R> as Source>⟧.left result ≡ R.remaining reader }
-        ensures faults { source_faults result ≡ 0 }
+        ensures faults { reader_faults result ≡ 0 }
     {
         StdSource { reader, faults: 0 }
     }
 
     /// How often it has failed.
     pub fn faults(&self) -> u64
-        ensures { result ≡ source_faults self.now }
+        ensures { result ≡ reader_faults self.now }
     {
         self.faults
     }
@@ -40,7 +40,7 @@ impl<R: Read> StdSource<R> {
 impl<R: Read> Source for StdSource<R> {
     ghost left = { λ s. R.remaining s.reader };
 
-    ghost faults = { λ s. source_faults s };
+    ghost faults = { λ s. reader_faults s };
 
     fn read(&mut self, into: &mut [u8]) -> Result<usize, Failed> {
         match self.reader.read(into) {
@@ -65,8 +65,8 @@ impl<W: Write> StdSink<W> {
     /// A sink that has neither failed nor stalled.
     pub fn new(writer: W) -> Self
         ensures took { ⟦<StdSink<W> as Sink>⟧.took result ≡ W.contents writer }
-        ensures faults { sink_faults result ≡ 0 }
-        ensures stalls { sink_stalls result ≡ 0 }
+        ensures faults { writer_faults result ≡ 0 }
+        ensures stalls { writer_stalls result ≡ 0 }
     {
         StdSink {
             writer,
@@ -77,14 +77,14 @@ impl<W: Write> StdSink<W> {
 
     /// How often it has failed.
     pub fn faults(&self) -> u64
-        ensures { result ≡ sink_faults self.now }
+        ensures { result ≡ writer_faults self.now }
     {
         self.faults
     }
 
     /// How often it took nothing of a piece that isn't empty.
     pub fn stalls(&self) -> u64
-        ensures { result ≡ sink_stalls self.now }
+        ensures { result ≡ writer_stalls self.now }
     {
         self.stalls
     }
@@ -93,9 +93,9 @@ impl<W: Write> StdSink<W> {
 impl<W: Write> Sink for StdSink<W> {
     ghost took = { λ s. W.contents s.writer };
 
-    ghost faults = { λ s. sink_faults s };
+    ghost faults = { λ s. writer_faults s };
 
-    ghost stalls = { λ s. sink_stalls s };
+    ghost stalls = { λ s. writer_stalls s };
 
     fn write(&mut self, bytes: &[u8]) -> Result<usize, Failed> {
         match self.writer.write(bytes) {

@@ -1,4 +1,4 @@
-//! What the program meets outside of itself: bytes that come in and go out, the time, and whoever
+//! What the program meets outside itself: bytes that come in and go out, the time, and whoever
 //! watches the lines of clients. Each is a trait that says what a contract may know of it, with a
 //! form in memory, and one over the system's streams and clock.
 #![tactic(auto)]

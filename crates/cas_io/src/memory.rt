@@ -3,8 +3,8 @@ ghost use Rattle.std.specs.Prelude.{◌≡◌, ◌==◌, IsTrue, OnOk, ◌≤◌
 ghost use Rattle.std.specs.List.{list_any};
 ghost use Rattle.std.specs.Io.{ReadsAtMost, WritesAtMost};
 ghost use Rattle.std.specs.Io.KnownBytes.{ReadConsumes, WriteAppends};
-ghost use Rattle.cas_io.specs.Causes.{Rose, one_more};
-ghost use Rattle.cas_io.specs.Plans.{next_piece, AsPlanned};
+ghost use Rattle.cas_io.specs.Causes.{Rose};
+ghost use Rattle.cas_io.specs.Inner.Plans.{next_piece, AsPlanned, one_more};
 
 use crate::fault::Failed;
 use crate::sink::Sink;
@@ -23,7 +23,7 @@ pub struct MemSource {
 }
 
 impl MemSource {
-    ghost use Rattle.cas_io.specs.Shown.{given_of, fails_after_of, gives_at_most};
+    ghost use Rattle.cas_io.specs.Inner.Memory.{source_given, source_fails_after, source_at_most};
 
     /// Gives the bytes, as many at once as there is room for, and never fails.
     pub fn new(bytes: Vec<u8>) -> Self
@@ -38,8 +38,8 @@ impl MemSource {
     pub fn with_plan(bytes: Vec<u8>, fails_after: Option<u64>, at_most: u64) -> Self
         ensures left { ⟦<MemSource as Source>⟧.left result ≡ Some bytes.items }
         ensures faults { ⟦<MemSource as Source>⟧.faults result ≡ 0 }
-        ensures fails_after { fails_after_of result ≡ fails_after }
-        ensures at_most { gives_at_most result ≡ at_most }
+        ensures fails_after { source_fails_after result ≡ fails_after }
+        ensures at_most { source_at_most result ≡ at_most }
     {
         MemSource {
             bytes,
@@ -59,7 +59,7 @@ impl MemSource {
 
     // How many bytes the next read may give; None where it fails.
     fn next_piece(&self) -> Option<u64>
-        ensures { result ≡ next_piece (fails_after_of self.now) (gives_at_most self.now) (given_of self.now) }
+        ensures { result ≡ next_piece (source_fails_after self.now) (source_at_most self.now) (source_given self.now) }
     {
         let given = self.given as u64;
         let most = self.at_most.max(1);
@@ -82,20 +82,21 @@ fn copy_front(from: &[u8], into: &mut [u8], most: u64) -> usize
 }
 
 impl Source for MemSource {
-    ghost use Rattle.cas_io.specs.Shown.{rest_of, given_of, fails_after_of, gives_at_most, read_faults};
+    ghost use Rattle.cas_io.specs.Inner.Memory.{source_left, source_given, source_fails_after, source_at_most, source_faults};
 
-    ghost left = { λ s. Some (rest_of s) };
+    ghost left = { λ s. Some (source_left s) };
 
-    ghost faults = { λ s. read_faults s };
+    ghost faults = { λ s. source_faults s };
 
     fn read(&mut self, into: &mut [u8]) -> Result<usize, Failed>
         ensures bound { ReadsAtMost result into.new }
-        ensures bytes { ReadConsumes (Some (rest_of self.old)) (Some (rest_of self.new)) result into.new }
-        ensures kept { read_faults self.old ≤ read_faults self.new }
-        ensures cause { OnErr result (Rose (read_faults self.old) (read_faults self.new)) }
-        ensures planned { AsPlanned (next_piece (fails_after_of self.old) (gives_at_most self.old) (given_of self.old)) (min (length (rest_of self.old)) (length into.old)) result }
-        ensures counted { OnErr result (read_faults self.new ≡ one_more (read_faults self.old)) }
-        ensures plan { (fails_after_of self.new ≡ fails_after_of self.old) × (gives_at_most self.new ≡ gives_at_most self.old) }
+        ensures bytes { ReadConsumes (Some (source_left self.old)) (Some (source_left self.new)) result into.new }
+        ensures kept { source_faults self.old ≤ source_faults self.new }
+        ensures cause { OnErr result (Rose (source_faults self.old) (source_faults self.new)) }
+        ensures planned { AsPlanned (next_piece (source_fails_after self.old) (source_at_most self.old) (source_given self.old))
+            (min (length (source_left self.old)) (length into.old)) result }
+        ensures counted { OnErr result (source_faults self.new ≡ one_more (source_faults self.old)) }
+        ensures plan { (source_fails_after self.new ≡ source_fails_after self.old) × (source_at_most self.new ≡ source_at_most self.old) }
     {
         let Some(most) = self.next_piece() else {
             self.faults = self.faults.saturating_add(1);
@@ -119,9 +120,9 @@ pub struct MemSink {
 }
 
 impl MemSink {
-    ghost use Rattle.cas_io.specs.Shown.{failing_calls, takes_at_most, calls_of};
+    ghost use Rattle.cas_io.specs.Inner.Memory.{sink_failing, sink_at_most, sink_calls};
 
-    /// Takes whole pieces, and fails for want of memory alone.
+    /// Takes whole pieces, and fails only when it runs out of memory.
     pub fn new(alloc: Global) -> Self
         ensures took { ⟦<MemSink as Sink>⟧.took result ≡ Some [] }
         ensures faults { ⟦<MemSink as Sink>⟧.faults result ≡ 0 }
@@ -131,14 +132,14 @@ impl MemSink {
     }
 
     /// Takes at most `at_most` bytes of a piece, so that it stalls where that is 0. Of its calls,
-    /// counted from 1, those that `failing` lists fail, as does one that wants memory.
+    /// counted from 1, those that `failing` lists fail, as does one that runs out of memory.
     pub fn with_plan(alloc: Global, failing: Vec<u64>, at_most: u64) -> Self
         ensures took { ⟦<MemSink as Sink>⟧.took result ≡ Some [] }
         ensures faults { ⟦<MemSink as Sink>⟧.faults result ≡ 0 }
         ensures stalls { ⟦<MemSink as Sink>⟧.stalls result ≡ 0 }
-        ensures failing { failing_calls result ≡ failing.items }
-        ensures at_most { takes_at_most result ≡ at_most }
-        ensures calls { calls_of result ≡ 0 }
+        ensures failing { sink_failing result ≡ failing.items }
+        ensures at_most { sink_at_most result ≡ at_most }
+        ensures calls { sink_calls result ≡ 0 }
     {
         MemSink {
             taken: Vec::new(alloc),
@@ -173,26 +174,26 @@ impl MemSink {
 }
 
 impl Sink for MemSink {
-    ghost use Rattle.cas_io.specs.Shown.{taken_of, failing_calls, takes_at_most, calls_of, write_faults, write_stalls};
+    ghost use Rattle.cas_io.specs.Inner.Memory.{sink_taken, sink_failing, sink_at_most, sink_calls, sink_faults, sink_stalls};
 
-    ghost took = { λ s. Some (taken_of s) };
+    ghost took = { λ s. Some (sink_taken s) };
 
-    ghost faults = { λ s. write_faults s };
+    ghost faults = { λ s. sink_faults s };
 
-    ghost stalls = { λ s. write_stalls s };
+    ghost stalls = { λ s. sink_stalls s };
 
     fn write(&mut self, bytes: &[u8]) -> Result<usize, Failed>
         ensures bound { WritesAtMost result bytes.now }
-        ensures bytes { WriteAppends (Some (taken_of self.old)) (Some (taken_of self.new)) result bytes.now }
-        ensures kept { write_faults self.old ≤ write_faults self.new }
-        ensures cause { OnErr result (Rose (write_faults self.old) (write_faults self.new)) }
-        ensures stalls_kept { write_stalls self.old ≤ write_stalls self.new }
-        ensures stalled { IfOk result (λ n. n ≡ 0 → 0 < length bytes.now → Rose (write_stalls self.old) (write_stalls self.new)) }
-        ensures listed { IsTrue (list_any (λ n. n == one_more (calls_of self.old)) (failing_calls self.old)) → OnOk result ⊥ }
-        ensures planned { IfOk result (λ n. n ≡ min (takes_at_most self.old) (length bytes.now)) }
-        ensures counted { OnErr result (write_faults self.new ≡ one_more (write_faults self.old)) }
-        ensures calls { calls_of self.new ≡ one_more (calls_of self.old) }
-        ensures plan { (failing_calls self.new ≡ failing_calls self.old) × (takes_at_most self.new ≡ takes_at_most self.old) }
+        ensures bytes { WriteAppends (Some (sink_taken self.old)) (Some (sink_taken self.new)) result bytes.now }
+        ensures kept { sink_faults self.old ≤ sink_faults self.new }
+        ensures cause { OnErr result (Rose (sink_faults self.old) (sink_faults self.new)) }
+        ensures stalls_kept { sink_stalls self.old ≤ sink_stalls self.new }
+        ensures stalled { IfOk result (λ n. n ≡ 0 → 0 < length bytes.now → Rose (sink_stalls self.old) (sink_stalls self.new)) }
+        ensures listed { IsTrue (list_any (λ n. n == one_more (sink_calls self.old)) (sink_failing self.old)) → OnOk result ⊥ }
+        ensures planned { IfOk result (λ n. n ≡ min (sink_at_most self.old) (length bytes.now)) }
+        ensures counted { OnErr result (sink_faults self.new ≡ one_more (sink_faults self.old)) }
+        ensures calls { sink_calls self.new ≡ one_more (sink_calls self.old) }
+        ensures plan { (sink_failing self.new ≡ sink_failing self.old) × (sink_at_most self.new ≡ sink_at_most self.old) }
     {
         self.calls = self.calls.saturating_add(1);
         let count = self.at_most.min(bytes.len() as u64) as usize;

@@ -1,7 +1,7 @@
 //! Reads a whole script, up to a limit.
 ghost use Rattle.std.specs.Prelude.{◌≡◌, ◌+◌, ◌≤◌, length, ℕ, IfOk, IfErr};
 ghost use Rattle.cas_io.specs.Causes.{Rose};
-ghost use Rattle.cas_io.specs.Told.{ReadToEnd, TookCount, TookAtMost, WhyNoScript};
+ghost use Rattle.cas_io.specs.Streams.{ReadToEnd, TookCount, TookAtMost, WhyNoScript};
 
 use crate::fault::Failed;
 use crate::source::Source;
@@ -14,7 +14,7 @@ pub enum ScriptFault {
     Read,
     /// More bytes came than the limit: `taken` of them were taken, which is one more.
     TooLong { taken: u64 },
-    /// Want of memory.
+    /// Out of memory.
     Mem,
 }
 
@@ -31,7 +31,8 @@ pub fn read_script<S: Source>(
     ensures script { IfOk result (λ v. ReadToEnd (S.left source.old) (S.left source.new) v.items) }
     ensures short { IfOk result (λ v. length v.items ≤ limit) }
     ensures kept { S.faults source.old ≤ S.faults source.new }
-    ensures why { IfErr result (λ e. WhyNoScript e (Rose (S.faults source.old) (S.faults source.new)) (TookCount (S.left source.old) (S.left source.new)) (TookAtMost (S.left source.old) (S.left source.new)) limit) }
+    ensures why { IfErr result (λ e. WhyNoScript e (Rose (S.faults source.old) (S.faults source.new))
+        (TookCount (S.left source.old) (S.left source.new)) (TookAtMost (S.left source.old) (S.left source.new)) limit) }
 {
     let mut script = Vec::new(alloc);
     let mut piece = [0u8; PIECE];

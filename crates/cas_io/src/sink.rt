@@ -3,7 +3,7 @@ ghost use Rattle.std.specs.Prelude.{◌≡◌, ◌≤◌, ◌<◌, length, List,
 ghost use Rattle.std.specs.Io.{WritesAtMost};
 ghost use Rattle.std.specs.Io.KnownBytes.{Appends, WriteAppends};
 ghost use Rattle.cas_io.specs.Causes.{Rose};
-ghost use Rattle.cas_io.specs.Told.{AppendsFront};
+ghost use Rattle.cas_io.specs.Streams.{AppendsFront};
 
 use crate::fault::Failed;
 

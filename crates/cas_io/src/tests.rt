@@ -1,3 +1,5 @@
+//! Scripts and pieces in memory, the limit, and the system's streams.
+
 use crate::{
     Clock, Failed, FreeGate, Gate, ManualClock, MemSink, MemSource, ScriptFault, Sink, SinkFault,
     Source, StdSink, StdSource, SystemClock, read_script, write_all,

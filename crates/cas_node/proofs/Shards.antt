@@ -7,8 +7,9 @@ use Rattle.std.specs.Prelude.{if◌then◌else◌, reverse, ◌&&◌, ◌||◌, 
 use Rattle.std.specs.List.{find}
 use Rattle.cas_atoms.specs.declared.atom.Mutation.{Mutation}
 use Rattle.cas_atoms.specs.LogLength.{record_length}
-use Rattle.cas_bind.specs.declared.bound.BoundWrite.{BoundWrite}
-use Rattle.cas_bind.specs.AtomsOf.{mutation_of}
+use Rattle.cas_effects.specs.declared.effect.BoundWrite.{BoundWrite}
+use Rattle.cas_effects.specs.AtomsOf.{mutation_of}
+use Rattle.cas_effects.specs.declared.refusal.TheConstants.{TOO_LARGE, TOO_MANY}
 use Rattle.cas_node.specs.declared.shard.ShardHistory.{ShardHistory}
 use Rattle.cas_node.specs.declared.shard.TheConstants.{LAST_DRAWN, MUTATION_LIMIT}
 use Rattle.cas_node.specs.History.{shard_after, write_reply, mutation_at, take_refusal, tells_want, wrote_unless, taken_unless, moved, moment_at, next_number, last_drawn}
@@ -68,7 +69,7 @@ is_low m e last h = low_either m.drawn m.at e last h
 few_and_low : (segment : ℕ) (m : Mutation) → take_refusal segment m ≡ None → (m.number ≤ MUTATION_LIMIT) × ((last : ℤ) → last ≤ℤ LAST_DRAWN → (if m.drawn then m.at else last) ≤ℤ LAST_DRAWN)
 unfolding take_refusal
 few_and_low segment m e =
-    let both = neither (nat_lt (MUTATION_LIMIT) m.number) (m.drawn && int_lt (LAST_DRAWN) m.at) (second_false (nat_lt (segment / 2) (record_length m)) _ 10 14 e) in
+    let both = neither (nat_lt (MUTATION_LIMIT) m.number) (m.drawn && int_lt (LAST_DRAWN) m.at) (second_false (nat_lt (segment / 2) (record_length m)) _ TOO_LARGE TOO_MANY e) in
     (ltb-false (MUTATION_LIMIT) m.number both.0, is_low m both.1)
 
 number_is : (reading : ℤ) (s : ShardHistory) (w : BoundWrite) → (mutation_at reading s w).number ≡ length s.entries + 1

@@ -6,7 +6,7 @@ use Rattle.std.proofs.lemmas.Bool.{true≢false}
 use Rattle.std.specs.Prelude.{replicate, slice_set, slice_index_or}
 use Rattle.std.proofs.lemmas.List.{replicate-append-replicate}
 use Rattle.cas_types.specs.declared.schema.TableSchema.{TableSchema}
-use Rattle.cas_bind.specs.declared.bound.Addition.{Addition}
+use Rattle.cas_define.specs.declared.addition.Addition.{Addition}
 use Rattle.cas_bind.specs.declared.bound.Bound.TheVariants as bound
 use Rattle.cas_bind.specs.Tables.{with_added, AreNumbered, tables_after}
 use Rattle.cas_node.specs.declared.words.Command.{Command}

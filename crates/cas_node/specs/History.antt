@@ -14,12 +14,13 @@ use Rattle.cas_atoms.specs.Answers.{answer}
 use Rattle.cas_atoms.specs.LogLength.{record_length}
 use Rattle.cas_bind.specs.declared.bound.Bound.{Bound}
 use Rattle.cas_bind.specs.declared.bound.Bound.TheVariants as bound
-use Rattle.cas_bind.specs.declared.bound.BoundWrite.{BoundWrite}
+use Rattle.cas_effects.specs.declared.effect.BoundWrite.{BoundWrite}
 use Rattle.cas_bind.specs.declared.bound.BoundRead.{BoundRead}
-use Rattle.cas_bind.specs.declared.refusal.Refusal.{Refusal}
-use Rattle.cas_bind.specs.AtomsOf.{mutation_of}
+use Rattle.cas_effects.specs.declared.refusal.Refusal.{Refusal}
+use Rattle.cas_effects.specs.declared.refusal.TheConstants.{NOT_HERE, SYNTAX, TOO_LARGE, TOO_MANY}
+use Rattle.cas_effects.specs.AtomsOf.{mutation_of}
 use Rattle.cas_bind.specs.Meaning.{meaning}
-use Rattle.cas_bind.specs.Refusals.{number}
+use Rattle.cas_effects.specs.Refusals.{refusal_number}
 use Rattle.cas_bind.specs.Tables.{tables_after}
 use Rattle.cas_render.specs.declared.reply.Failure.{Failure}
 use Rattle.cas_render.specs.declared.reply.Failure.TheVariants as failure
@@ -94,8 +95,8 @@ mutation_at reading s w = mutation_of w (drawn_at reading s) (moment_at reading 
 -- has drawn its last timestamp
 unfoldable pub take_refusal : ℕ → Mutation → Option ℕ
 take_refusal segment m =
-    if nat_lt (segment / 2) (record_length m) then Some 10
-    else if nat_lt MUTATION_LIMIT m.number || (m.drawn && int_lt LAST_DRAWN m.at) then Some 14
+    if nat_lt (segment / 2) (record_length m) then Some TOO_LARGE
+    else if nat_lt MUTATION_LIMIT m.number || (m.drawn && int_lt LAST_DRAWN m.at) then Some TOO_MANY
     else None
 
 -- the shard at a reading, its mutations as they were
@@ -169,7 +170,7 @@ Defines h b r after = (r ≡ reply.Done) × (after ≡ record h { tables = table
 
 -- a statement that is to do this, or is refused for this, is answered so; one that is refused changes nothing
 abbrev pub Does : Command → (ℤ → Type 0) → History → Result Bound Refusal → Reply → History → Type 0
-Does c Gives h (Err x) r after = (r ≡ reply.Refused (number x)) × (after ≡ h)
+Does c Gives h (Err x) r after = (r ≡ reply.Refused (refusal_number x)) × (after ≡ h)
 Does c Gives h (Ok (bound.Create t)) r after = Defines h (bound.Create t) r after
 Does c Gives h (Ok (bound.Alter a)) r after = Defines h (bound.Alter a) r after
 Does c Gives h (Ok (bound.Write w)) r after =
@@ -183,12 +184,12 @@ Does c Gives h (Ok (bound.Read q)) r after =
 -- `\clock` sets the manual clock, and is refused where the clock is the system's
 abbrev pub SetsClock : ClockKind → History → ℤ → Reply → History → Type 0
 SetsClock clock.Manual h n r after = (r ≡ reply.Done) × (after ≡ record h { clock = n })
-SetsClock clock.System h n r after = (r ≡ reply.Refused 13) × (after ≡ h)
+SetsClock clock.System h n r after = (r ≡ reply.Refused NOT_HERE) × (after ≡ h)
 
 -- a line that says this is answered so; one that says nothing isn't answered
 abbrev pub Answered : Command → (ℤ → Type 0) → History → Line → Option Reply → History → Type 0
 Answered c Gives h line.Blank r after = (r ≡ None) × (after ≡ h)
-Answered c Gives h line.Syntax r after = (r ≡ Some (reply.Refused 1)) × (after ≡ h)
+Answered c Gives h line.Syntax r after = (r ≡ Some (reply.Refused SYNTAX)) × (after ≡ h)
 Answered c Gives h (line.Clock n) r after = (answer : Reply) × (r ≡ Some answer) × SetsClock c.clock h n answer after
 Answered c Gives h (line.Statement s) r after = (answer : Reply) × (r ≡ Some answer) × Does c Gives h (meaning c.limits.shards h.tables s) answer after
 

@@ -3,7 +3,7 @@ use Rattle.std.specs.Prelude.{◌≡◌, ◌≤◌, ◌⊎◌, ⊤, ℕ, ◌-◌
 use Rattle.std.specs.List.{list_any}
 use Rattle.std.specs.Str.Lines.{lines}
 use Rattle.std.specs.Io.KnownBytes.{Appends, Keeps}
-use Rattle.cas_io.specs.Told.{AppendsFront, ReadToEnd}
+use Rattle.cas_io.specs.Streams.{AppendsFront, ReadToEnd}
 use Rattle.cas_io.specs.Causes.{Rose}
 use Rattle.cas_render.specs.declared.reply.Reply.{Reply}
 use Rattle.cas_render.specs.declared.reply.Reply.TheVariants as reply

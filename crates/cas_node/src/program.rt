@@ -3,7 +3,7 @@
 ghost use Rattle.std.specs.Prelude.{◌≡◌, ◌≤◌, ◌<◌, ◌⊎◌, ◌+◌, List, ℕ, map, length, IsTrue, IfSome, string_bytes, None};
 ghost use Rattle.std.specs.Option.{option_map};
 ghost use Rattle.cas_io.specs.Causes.{Rose};
-ghost use Rattle.cas_io.specs.Told.{TookCount};
+ghost use Rattle.cas_io.specs.Streams.{TookCount};
 ghost use Rattle.cas_node.specs.Words.{command_of};
 ghost use Rattle.cas_node.specs.Ran.{RanAll, IsNotRun, IfTooLong, SinkRose, AllWell, GoodOrMem, is_too_long, count_taken, shards_of, status_of};
 ghost use Rattle.cas_node.specs.Inner.Turns.{cause_of_fault};

@@ -2,7 +2,7 @@
 
 ghost use Rattle.std.specs.Prelude.{◌≡◌, ◌≤◌, OnOk, OnErr, IsErrOf, Some, is_none, ◌||◌};
 ghost use Rattle.std.specs.Io.KnownBytes.{Appends};
-ghost use Rattle.cas_io.specs.Told.{AppendsFront};
+ghost use Rattle.cas_io.specs.Streams.{AppendsFront};
 ghost use Rattle.cas_node.specs.Text.{line_text};
 ghost use Rattle.cas_node.specs.Inner.Turns.{Turned, EndsEarly, EndsWhole};
 ghost use Rattle.cas_node.specs.Ran.{Ran, SinkRose, is_refused};

@@ -8,7 +8,8 @@ ghost use Rattle.cas_node.specs.History.{mutation_at, next_number, read_reply, s
 ghost use Rattle.cas_node.specs.Inner.Sound.{IsShard, IsTime};
 
 use cas_atoms::{Atom, LiveRow, Mutation, Query, answer, length};
-use cas_bind::{BoundRead, BoundWrite, atoms_of};
+use cas_bind::BoundRead;
+use cas_effects::{BoundWrite, TOO_LARGE, TOO_MANY, atoms_of};
 use cas_render::{Failure, Reply};
 use cas_types::{Bytes, LEAST_TIMESTAMP, List, Mem, compare_bytes};
 use std::alloc::Global;
@@ -97,9 +98,9 @@ fn take_refusal(segment: u64, mutation: &Mutation) -> Option<u8>
     ensures { result ≡ take_refusal segment mutation.now }
 {
     if length(mutation) > segment / 2 {
-        Some(10)
+        Some(TOO_LARGE)
     } else if mutation.number > MUTATION_LIMIT || (mutation.drawn && mutation.at > LAST_DRAWN) {
-        Some(14)
+        Some(TOO_MANY)
     } else {
         None
     }
@@ -136,7 +137,7 @@ impl ShardHistory {
     {
         let drawn = self.drawn_at(reading);
         let moment = self.moment_at(reading);
-        atoms_of(alloc, &write, drawn, moment, self.next_number())
+        atoms_of(alloc, write, drawn, moment, self.next_number())
     }
 }
 

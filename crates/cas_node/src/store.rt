@@ -13,7 +13,9 @@ ghost use Rattle.cas_node.specs.Inner.Stored.{stored};
 use crate::line::{Line, read_line};
 use crate::shard::ShardHistory;
 use crate::words::{ClockKind, Command};
-use cas_bind::{Addition, BindFault, Bound, BoundRead, BoundWrite, bind};
+use cas_bind::{Bound, BoundRead, bind};
+use cas_define::Addition;
+use cas_effects::{BindFault, BoundWrite, NOT_HERE, SYNTAX};
 use cas_io::Clock;
 use cas_render::{Failure, Reply};
 use cas_types::{Column, LAST_MICROSECOND, List, Mem, TableSchema};
@@ -208,7 +210,7 @@ impl Store {
                 self.clock = seconds;
                 Reply::Done
             }
-            ClockKind::System => Reply::Refused(13),
+            ClockKind::System => Reply::Refused(NOT_HERE),
         }
     }
 
@@ -229,7 +231,7 @@ impl Store {
     {
         match line {
             Line::Blank => None,
-            Line::Syntax => Some(Reply::Refused(1)),
+            Line::Syntax => Some(Reply::Refused(SYNTAX)),
             Line::Clock(seconds) => Some(self.set_clock(command.clock, seconds)),
             Line::Statement(statement) => {
                 Some(self.answer_statement(alloc, command, clock, &statement))

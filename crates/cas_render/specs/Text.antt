@@ -6,7 +6,7 @@ use Rattle.std.specs.Int.{w8, w16, w32, w64}
 use Rattle.std.specs.Fmt.{decimal, signed_decimal}
 use Rattle.hex.specs.Hex.{encode_lower}
 use Rattle.uuid.specs.Text.{hyphenated_text, lower}
-use Rattle.cas_types.specs.Values.{number, day_number, is_value}
+use Rattle.cas_types.specs.Values.{signed_number, day_number, is_value}
 use Rattle.cas_types.specs.declared.tag.TypeTag.{TypeTag}
 use Rattle.cas_types.specs.declared.tag.TypeTag.TheVariants as tag
 use Rattle.cas_atoms.specs.Coordinates.{same_bytes}
@@ -47,17 +47,17 @@ day_text (Some n) = decimal n
 -- the constant that a statement would write the value as; time and timestamp are numbers (own), uuids have small letters (own)
 abbrev pub constant_text : TypeTag → List ℕ → List ℕ
 constant_text tag.Ascii bytes = quoted bytes
-constant_text tag.BigInt bytes = number_text (number w64 bytes)
+constant_text tag.BigInt bytes = number_text (signed_number w64 bytes)
 constant_text tag.Blob bytes = blob_text bytes
 constant_text tag.Boolean bytes = boolean_text bytes
 constant_text tag.Date bytes = day_text (day_number bytes)
-constant_text tag.Int bytes = number_text (number w32 bytes)
-constant_text tag.SmallInt bytes = number_text (number w16 bytes)
+constant_text tag.Int bytes = number_text (signed_number w32 bytes)
+constant_text tag.SmallInt bytes = number_text (signed_number w16 bytes)
 constant_text tag.Text bytes = quoted bytes
-constant_text tag.Time bytes = number_text (number w64 bytes)
-constant_text tag.Timestamp bytes = number_text (number w64 bytes)
+constant_text tag.Time bytes = number_text (signed_number w64 bytes)
+constant_text tag.Timestamp bytes = number_text (signed_number w64 bytes)
 constant_text tag.TimeUuid bytes = hyphenated_text lower bytes
-constant_text tag.TinyInt bytes = number_text (number w8 bytes)
+constant_text tag.TinyInt bytes = number_text (signed_number w8 bytes)
 constant_text tag.Uuid bytes = hyphenated_text lower bytes
 
 -- bytes that are no value of the type are written as a blob, so that nothing is hidden (own)

@@ -4,7 +4,7 @@ ghost use Rattle.std.specs.Prelude.{◌≡◌, ◌++◌, length, OnOk, IsTrue};
 ghost use Rattle.std.specs.List.{flat_map};
 ghost use Rattle.std.specs.Int.{w64};
 ghost use Rattle.uuid.specs.Text.{hyphenated_text, lower};
-ghost use Rattle.cas_types.specs.Values.{number, day_number, is_value};
+ghost use Rattle.cas_types.specs.Values.{signed_number, day_number, is_value};
 ghost use Rattle.cas_render.specs.Text.{quoted_byte, quoted, blob_text, boolean_text, number_text, day_text, constant_text, value_text};
 
 use crate::pieces::{append, append_number, append_signed};

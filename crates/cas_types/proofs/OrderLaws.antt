@@ -9,7 +9,7 @@ use Rattle.std.specs.Cmp.Lexicographic.{options_total}
 use Rattle.std.proofs.lemmas.Cmp.{then_total, on_total, nat_cmp_total, int_cmp_total, nat_list_cmp_total}
 use Rattle.std.specs.FinMap.{nat_cmp-IsAntisymmetric, slice_cmp-IsAntisymmetric}
 use Rattle.std.specs.Int.{w8, w16, w32, w64}
-use Rattle.cas_types.specs.Values.{bytes_cmp, number, day_number, uuid_version, uuid_time}
+use Rattle.cas_types.specs.Values.{bytes_cmp, signed_number, day_number, uuid_version, uuid_time}
 use Rattle.cas_types.specs.Orders.{Orders}
 use Rattle.cas_types.specs.Laws.{ValueOrders}
 use Rattle.cas_types.specs.declared.tag.TypeTag.TheVariants.{Ascii, BigInt, Blob, Boolean, Date, Int, SmallInt, Text, Time, Timestamp, TimeUuid, TinyInt, Uuid}
@@ -32,15 +32,15 @@ refined f total rest = record {
 
 pub value_orders : ValueOrders
 value_orders Ascii = bytes_orders
-value_orders BigInt = refined (number w64) (options_total int_cmp_total) bytes_orders
+value_orders BigInt = refined (signed_number w64) (options_total int_cmp_total) bytes_orders
 value_orders Blob = bytes_orders
 value_orders Boolean = bytes_orders
 value_orders Date = refined day_number (options_total nat_cmp_total) bytes_orders
-value_orders Int = refined (number w32) (options_total int_cmp_total) bytes_orders
-value_orders SmallInt = refined (number w16) (options_total int_cmp_total) bytes_orders
+value_orders Int = refined (signed_number w32) (options_total int_cmp_total) bytes_orders
+value_orders SmallInt = refined (signed_number w16) (options_total int_cmp_total) bytes_orders
 value_orders Text = bytes_orders
-value_orders Time = refined (number w64) (options_total int_cmp_total) bytes_orders
-value_orders Timestamp = refined (number w64) (options_total int_cmp_total) bytes_orders
+value_orders Time = refined (signed_number w64) (options_total int_cmp_total) bytes_orders
+value_orders Timestamp = refined (signed_number w64) (options_total int_cmp_total) bytes_orders
 value_orders TimeUuid = refined uuid_version (options_total nat_cmp_total) (refined uuid_time (options_total nat_cmp_total) bytes_orders)
-value_orders TinyInt = refined (number w8) (options_total int_cmp_total) bytes_orders
+value_orders TinyInt = refined (signed_number w8) (options_total int_cmp_total) bytes_orders
 value_orders Uuid = refined uuid_version (options_total nat_cmp_total) (refined uuid_time (options_total nat_cmp_total) bytes_orders)

@@ -16,18 +16,19 @@ pub record KeyParts : Type 0 where
 abbrev pub component : List ℕ → List ℕ
 component value = to_be_bytes w16 (length value) ++ (value ++ (0 ∷ []))
 
+-- the components of all columns, one after another
 abbrev pub composite_key : List (List ℕ) → List ℕ
 composite_key values = flat_map component values
 
--- a key of one column is that column's value
+-- a key of one column is that column's value, one of several is composite: `PRIMARY KEY ((k, l))` with k = 1 and l = 'x' has the key 0x0004
+-- 00000001 00 0001 78 00
 abbrev pub key_of : List (List ℕ) → List ℕ
-key_of [] = composite_key []
 key_of (v ∷ []) = v
-key_of (v ∷ w ∷ vs) = composite_key (v ∷ w ∷ vs)
+key_of values = composite_key values
 
--- a key has 1 to 65,535 bytes
-abbrev pub refusal : List ℕ → Option KeyFault
-refusal key =
+-- why there is no such key: a key has from 1 to 65,535 bytes, and one that is too long is told with its length, which stands at 2^64-1 where it is greater
+abbrev pub key_fault : List ℕ → Option KeyFault
+key_fault key =
     if length key == 0 then Some Empty
     else if nat_lt KEY_LIMIT (length key) then Some (TooLong (min (length key) (2 ^ 64 - 1)))
     else None

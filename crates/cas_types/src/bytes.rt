@@ -1,3 +1,5 @@
+//! Byte strings, and their order.
+
 ghost use Rattle.std.specs.Prelude.{◌≡◌, ◌==◌, IsTrue, ◌↔◌, length, IfOk, IfErr};
 ghost use Rattle.cas_types.specs.Values.{bytes_cmp};
 

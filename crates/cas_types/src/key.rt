@@ -1,7 +1,7 @@
 //! The bytes of a partition key, made from the values of its columns.
 
 ghost use Rattle.std.specs.Prelude.{◌≡◌, ◌+◌, ◌-◌, ◌^◌, ◌≤◌, ◌++◌, ◌∷◌, [], length, Some, None, Err, IfOk, IfErr, min, flat_map};
-ghost use Rattle.cas_types.specs.Keys.{key_of, component, composite_key, refusal};
+ghost use Rattle.cas_types.specs.Keys.{key_of, component, composite_key, key_fault};
 ghost use Rattle.cas_types.specs.declared.limits.TheConstants.{KEY_LIMIT};
 ghost use Rattle.cas_types.specs.declared.key.KeyFault.TheVariants as fault;
 ghost use Rattle.cas_types.specs.declared.key.KeyFault.{KeyFault as Fault};
@@ -70,8 +70,8 @@ impl KeyBuilder {
     pub fn finish(self) -> Result<Vec<u8>, KeyFault>
         requires { length self.values ≡ self.parts }
         ensures key { IfOk result (λ key. key.items ≡ key_of self.values) }
-        ensures refused { (f : Fault) → refusal (key_of self.values) ≡ Some f → result ≡ Err f }
-        ensures memory { refusal (key_of self.values) ≡ None → IfErr result (λ f. f ≡ fault.Mem) }
+        ensures refused { (f : Fault) → key_fault (key_of self.values) ≡ Some f → result ≡ Err f }
+        ensures memory { key_fault (key_of self.values) ≡ None → IfErr result (λ f. f ≡ fault.Mem) }
     {
         let length = key_length(&self.values);
         if length == 0 {

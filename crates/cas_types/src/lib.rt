@@ -21,8 +21,8 @@ pub use bytes::{Bytes, compare_bytes};
 pub use key::{KeyBuilder, KeyFault};
 pub use laws::value_orders;
 pub use limits::{
-    COLUMN_LIMIT, GREATEST_TIMESTAMP, KEY_LIMIT, LAST_MICROSECOND, LAST_SECOND, LEAST_TIMESTAMP,
-    SHARD_LIMIT, TTL_LIMIT,
+    COLUMN_LIMIT, GREATEST_TIMESTAMP, KEY_LIMIT, LAST_MICROSECOND, LAST_NANOSECOND, LAST_SECOND,
+    LEAST_TIMESTAMP, SHARD_LIMIT, TTL_LIMIT,
 };
 pub use list::List;
 pub use mem::Mem;

@@ -13,6 +13,9 @@ pub const KEY_LIMIT: u64 = 65_535;
 /// The most seconds of a TTL: twenty years.
 pub const TTL_LIMIT: u32 = 630_720_000;
 
+/// The last nanosecond of a day, the greatest `time`.
+pub const LAST_NANOSECOND: u64 = 86_399_999_999_999;
+
 /// The last second of the year 9999, the greatest moment.
 pub const LAST_SECOND: i64 = 253_402_300_799;
 

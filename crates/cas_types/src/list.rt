@@ -1,3 +1,5 @@
+//! Lists as contracts see them.
+
 ghost use Rattle.std.specs.Prelude.{◌≡◌, length};
 
 use std::alloc::AllocError;

@@ -1,6 +1,8 @@
+//! Out of memory, as an error.
+
 use std::alloc::{AllocError, AllocFailed};
 
-/// The call wanted more memory than there was.
+/// The call ran out of memory.
 #[derive(Clone, Copy, Debug, PartialEq, Eq)]
 pub struct Mem;
 

@@ -1,7 +1,8 @@
 //! What a CREATE TABLE tells of a table.
 
 ghost use Rattle.std.specs.Prelude.{◌≡◌};
-ghost use Rattle.cas_types.specs.Schemas.{is_partition, is_clustering, is_descending, is_key, is_static, is_regular, is_plain, is_list, is_map, path_type, type_or_blob};
+ghost use Rattle.cas_types.specs.Schemas.{is_partition, is_clustering, is_descending, is_key, is_static};
+ghost use Rattle.cas_types.specs.Schemas.{is_regular, is_plain, is_list, is_map, path_type, type_or_blob};
 
 use crate::list::List;
 use crate::tag::TypeTag;

@@ -1,11 +1,12 @@
-ghost use Rattle.std.specs.Prelude.{◌≡◌, ◌≤◌};
-ghost use Rattle.cas_types.specs.Keys.{shard_of as shard_of_key};
+//! Which shard a partition key belongs to.
 
-/// The shard that a partition key belongs to, of 1 to 16 shards.
+ghost use Rattle.std.specs.Prelude.{◌≡◌, ◌≤◌};
+ghost use Rattle.cas_types.specs.Keys.{shard_of};
+
+/// The shard, of so many, that a partition key belongs to.
 pub fn shard_of(key: &[u8], shards: u8) -> u8
-    requires some { 1 ≤ shards }
-    requires few { shards ≤ 16 }
-    ensures { result ≡ shard_of_key key.now shards }
+    requires { 1 ≤ shards }
+    ensures { result ≡ shard_of key.now shards }
 {
     let mut total: u128 = 0;
     for byte in key {

@@ -1,3 +1,5 @@
+//! The native types.
+
 /// A native type of CQL.
 #[derive(Clone, Copy, Debug, PartialEq, Eq)]
 pub enum TypeTag {

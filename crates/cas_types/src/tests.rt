@@ -1,6 +1,7 @@
+//! Which bytes are values and how values are ordered, by hand; keys; what the small types give back.
+
 use crate::{
-    Bytes, KeyBuilder, KeyFault, List, Text, TypeTag, check, compare, compare_bytes, shard_of,
-    value_orders,
+    Bytes, KeyBuilder, KeyFault, List, Text, TypeTag, check, compare, shard_of, value_orders,
 };
 use std::cmp::Ordering;
 use std::test::Fail;
@@ -171,20 +172,6 @@ fn values_stand_in_their_order(rt: HostRuntime) {
         );
         assert_eq!(rt; compare(tag, low, low), Ordering::Equal, "{tag:?} {low:?}");
     }
-}
-
-#[test]
-fn a_long_common_front_decides_nothing(rt: HostRuntime) -> Result<(), Fail> {
-    let alloc = rt.alloc();
-    for length in [63_usize, 64, 65, 128, 200] {
-        let front = vec![in alloc; 7_u8; length]?;
-        let mut longer = front.clone()?;
-        longer.push(0)?;
-        assert_eq!(rt; compare_bytes(&front, &front), Ordering::Equal);
-        assert_eq!(rt; compare_bytes(&front, &longer), Ordering::Less);
-        assert_eq!(rt; compare_bytes(&longer, &front), Ordering::Greater);
-    }
-    Ok(())
 }
 
 #[test]

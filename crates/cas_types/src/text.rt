@@ -1,3 +1,5 @@
+//! Texts as contracts see them.
+
 ghost use Rattle.std.specs.Prelude.{◌≡◌, IsTrue, ◌↔◌, string_bytes};
 
 use std::alloc::AllocError;

@@ -1,7 +1,7 @@
 //! The order of uuids, and what it goes by.
 
 ghost use Rattle.std.specs.Prelude.{◌≡◌};
-ghost use Rattle.cas_types.specs.Values.{by_version, uuid_version as uuid_version_of, uuid_time as uuid_time_of};
+ghost use Rattle.cas_types.specs.Values.{by_version, uuid_version, uuid_time};
 
 use crate::bytes::compare_bytes;
 use std::cmp::Ordering;
@@ -17,7 +17,7 @@ pub(crate) fn compare_uuids(a: &[u8], b: &[u8]) -> Ordering
 
 /// The version number of a uuid, where there are 16 bytes.
 pub(crate) fn uuid_version(bytes: &[u8]) -> Option<u8>
-    ensures { result ≡ uuid_version_of bytes.now }
+    ensures { result ≡ uuid_version bytes.now }
 {
     if bytes.len() == 16 {
         Some(bytes[6] / 16)
@@ -28,7 +28,7 @@ pub(crate) fn uuid_version(bytes: &[u8]) -> Option<u8>
 
 /// The 60-bit time of a uuid of version 1.
 pub(crate) fn uuid_time(bytes: &[u8]) -> Option<u64>
-    ensures { result ≡ uuid_time_of bytes.now }
+    ensures { result ≡ uuid_time bytes.now }
 {
     match uuid_version(bytes) {
         Some(1) => Some(u64::from_be_bytes([

@@ -2,10 +2,11 @@
 
 ghost use Rattle.std.specs.Prelude.{◌≡◌, is_ok};
 ghost use Rattle.std.specs.Int.{w8, w16, w32, w64};
-ghost use Rattle.cas_types.specs.Values.{is_value as is_value_of, value_cmp, number, day_number, is_ascii_text, is_time as is_time_of};
+ghost use Rattle.cas_types.specs.Values.{is_value, value_cmp, signed_number, day_number, is_ascii_text, is_time};
 ghost use Rattle.std.specs.Str.{is_utf8};
 
 use crate::bytes::compare_bytes;
+use crate::limits::LAST_NANOSECOND;
 use crate::tag::TypeTag;
 use crate::uuid_order::{compare_uuids, uuid_version};
 use std::cmp::Ordering;
@@ -16,7 +17,7 @@ pub struct BadValue;
 
 /// Whether the bytes are a value of the type.
 pub fn check(tag: TypeTag, bytes: &[u8]) -> Result<(), BadValue>
-    ensures { is_ok result ≡ is_value_of tag bytes.now }
+    ensures { is_ok result ≡ is_value tag bytes.now }
 {
     if is_value(tag, bytes) {
         Ok(())
@@ -26,7 +27,7 @@ pub fn check(tag: TypeTag, bytes: &[u8]) -> Result<(), BadValue>
 }
 
 fn is_value(tag: TypeTag, bytes: &[u8]) -> bool
-    ensures { result ≡ is_value_of tag bytes.now }
+    ensures { result ≡ is_value tag bytes.now }
 {
     match tag {
         TypeTag::Ascii => is_ascii(bytes),
@@ -80,11 +81,11 @@ fn is_text(bytes: &[u8]) -> bool
 }
 
 fn is_time(bytes: &[u8]) -> bool
-    ensures { result ≡ is_time_of bytes.now }
+    ensures { result ≡ is_time bytes.now }
 {
     match bytes {
         [a, b, c, d, e, f, g, h] => {
-            u64::from_be_bytes([*a, *b, *c, *d, *e, *f, *g, *h]) <= 86_399_999_999_999
+            u64::from_be_bytes([*a, *b, *c, *d, *e, *f, *g, *h]) <= LAST_NANOSECOND
         }
         _ => false,
     }
@@ -92,7 +93,7 @@ fn is_time(bytes: &[u8]) -> bool
 
 /// The number that a `tinyint`'s one byte is.
 pub fn tinyint_value(bytes: &[u8]) -> Option<i8>
-    ensures { result ≡ number w8 bytes.now }
+    ensures { result ≡ signed_number w8 bytes.now }
 {
     match bytes {
         [a] => Some(i8::from_be_bytes([*a])),
@@ -102,7 +103,7 @@ pub fn tinyint_value(bytes: &[u8]) -> Option<i8>
 
 /// The number that a `smallint`'s two bytes are, most significant first.
 pub fn smallint_value(bytes: &[u8]) -> Option<i16>
-    ensures { result ≡ number w16 bytes.now }
+    ensures { result ≡ signed_number w16 bytes.now }
 {
     match bytes {
         [a, b] => Some(i16::from_be_bytes([*a, *b])),
@@ -112,7 +113,7 @@ pub fn smallint_value(bytes: &[u8]) -> Option<i16>
 
 /// The number that an `int`'s four bytes are, most significant first.
 pub fn int_value(bytes: &[u8]) -> Option<i32>
-    ensures { result ≡ number w32 bytes.now }
+    ensures { result ≡ signed_number w32 bytes.now }
 {
     match bytes {
         [a, b, c, d] => Some(i32::from_be_bytes([*a, *b, *c, *d])),
@@ -123,7 +124,7 @@ pub fn int_value(bytes: &[u8]) -> Option<i32>
 /// The number that the eight bytes of a `bigint`, a `time` or a `timestamp` are, most significant
 /// first.
 pub fn bigint_value(bytes: &[u8]) -> Option<i64>
-    ensures { result ≡ number w64 bytes.now }
+    ensures { result ≡ signed_number w64 bytes.now }
 {
     match bytes {
         [a, b, c, d, e, f, g, h] => { Some(i64::from_be_bytes([*a, *b, *c, *d, *e, *f, *g, *h])) }

@@ -1,7 +1,7 @@
 -- One line's turn, and how a run ends by what its lines came to (own).
 use Rattle.std.specs.Prelude.{◌≡◌, ℕ, ℤ, Bool, true, false, Option, List, ⊤}
 use Rattle.std.specs.Io.KnownBytes.{Appends}
-use Rattle.cas_io.specs.Told.{AppendsFront}
+use Rattle.cas_io.specs.Streams.{AppendsFront}
 use Rattle.cas_io.specs.declared.script.ScriptFault.{ScriptFault}
 use Rattle.cas_io.specs.declared.script.ScriptFault.TheVariants as fault
 use Rattle.cas_render.specs.declared.reply.Reply.{Reply}

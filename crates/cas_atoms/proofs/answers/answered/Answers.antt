@@ -6,7 +6,7 @@ use Rattle.cas_atoms.proofs.answers.answered.Goals.{then-branch+in_ok-copy_value
 
 pub loop-values-preserved : goal.loop-values-preserved
 loop-values-preserved c =
-    let p = is_answered c.args.query.now c.args.atoms.now (to_z w64 (of_z w64 c.args.now)) in
+    let p = is_answered c.args.query.now c.args.partition.atoms.now c.args.partition.now in
     elim c.if-branch.branch [
       | then-branch+in_ok-copy_values+in_ok-push w ↦
           filter_takes p c.deref-values-items.result.now c.loop-values.values-index c.values-item.result c.loop-values-test.true c.values-item.is c.loop-values.kept.items _ _ _

@@ -1,6 +1,0 @@
-use Rattle.std.proofs.Common.{◌≡◌, take}
-use Rattle.cas_atoms.specs.Paths.{rows_of}
-use Rattle.cas_atoms.proofs.paths.rows_of.Given as goal
-
-abbrev pub invariant-loop-atom : goal.invariant-loop-atom
-invariant-loop-atom l = l.rows.items ≡ rows_of l.order (take l.atom-index l.atoms)
