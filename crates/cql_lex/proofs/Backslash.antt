@@ -4,7 +4,7 @@ use Rattle.std.specs.Prelude.{is_some, not}
 use Rattle.std.specs.List.{list_all}
 use Rattle.std.proofs.lemmas.Option.{none-some}
 use Rattle.uuid.specs.Text.{by_index, is_hex_digit, digits_of}
-use Rattle.cql_lex.specs.Characters.{is_word, begins}
+use Rattle.cql_lex.specs.Characters.{is_word, first_is}
 use Rattle.cql_lex.specs.Constants.{uuid_value}
 use Rattle.cql_lex.specs.Rules.{piece_at, token_at, token}
 use Rattle.cql_lex.specs.Lexes.{IsCut, IsRefused}
@@ -26,7 +26,7 @@ no_uuid rest = neither _ _ (list_all is_hex_digit (digits_of (92 ∷ rest))) _ (
 no_piece : (rest : List ℕ) → piece_at (92 ∷ rest) ≡ None
 unfolding piece_at token_at
 no_piece [] = refl
-no_piece (d ∷ ds) = ap (λ o. cond (is_some o && not (begins is_word (drop 36 (92 ∷ d ∷ ds)))) (Some (token Uuid 36)) None) (no_uuid (take 35 (d ∷ ds)))
+no_piece (d ∷ ds) = ap (λ o. cond (is_some o && not (first_is is_word (drop 36 (92 ∷ d ∷ ds)))) (Some (token Uuid 36)) None) (no_uuid (take 35 (d ∷ ds)))
 
 no_cut : (rest : List ℕ) (ps : List Piece) → IsCut (92 ∷ rest) ps → ⊥
 no_cut rest [] h = cc

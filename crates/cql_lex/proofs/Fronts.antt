@@ -11,7 +11,7 @@ use Rattle.std.proofs.lemmas.List.Sums.{AllPass-from_list_all, prefix_len-le-len
 use Rattle.hex.specs.Hex.{decode_of, is_hex_digit}
 use Rattle.hex.proofs.HexLemmas.{decode_of-digits}
 use Rattle.uuid.specs.Text.{parsed_simple, digits_of, has_hyphens}
-use Rattle.cql_lex.specs.Characters.{begins, hex_pairs_size}
+use Rattle.cql_lex.specs.Characters.{first_is, hex_pairs_size}
 use Rattle.cql_lex.specs.Constants.{uuid_value}
 
 front_by : {X : Type 0} (p : X → Bool) (b : Bool) (n m : ℕ) → suc n ≤ cond b (1 + m) 0 → (b ≡ true) × (n ≤ m)
@@ -50,12 +50,12 @@ pub front_again : {X : Type 0} (p : X → Bool) (f : ℕ) (xs : List X) → pref
 front_again p f [] = ap (prefix_len p) (take_all (0 + f) [] (omega arith))
 front_again p f (x ∷ xs) = again_by p f x xs (p x) refl (front_again p f xs)
 
-stops_by : (p : ℕ → Bool) (x : ℕ) (xs : List ℕ) (b : Bool) → p x ≡ b → begins p (drop (prefix_len p xs) xs) ≡ false → begins p (drop (cond b (1 + prefix_len p xs) 0) (x ∷ xs)) ≡ false
-stops_by p x xs true e h = let one : 1 + prefix_len p xs ≡ suc (prefix_len p xs) = omega arith in ap (λ k. begins p (drop k (x ∷ xs))) one ∙ h
+stops_by : (p : ℕ → Bool) (x : ℕ) (xs : List ℕ) (b : Bool) → p x ≡ b → first_is p (drop (prefix_len p xs) xs) ≡ false → first_is p (drop (cond b (1 + prefix_len p xs) 0) (x ∷ xs)) ≡ false
+stops_by p x xs true e h = let one : 1 + prefix_len p xs ≡ suc (prefix_len p xs) = omega arith in ap (λ k. first_is p (drop k (x ∷ xs))) one ∙ h
 stops_by p x xs false e h = e
 
 -- a run ends where no character of it follows
-pub run_stops : (p : ℕ → Bool) (xs : List ℕ) → begins p (drop (prefix_len p xs) xs) ≡ false
+pub run_stops : (p : ℕ → Bool) (xs : List ℕ) → first_is p (drop (prefix_len p xs) xs) ≡ false
 run_stops p [] = refl
 run_stops p (x ∷ xs) = stops_by p x xs (p x) refl (run_stops p xs)
 

@@ -12,7 +12,7 @@ use Rattle.std.proofs.lemmas.List.Sums.{list_all-from_AllPass}
 use Rattle.hex.specs.Hex.{decode_of, is_hex_digit}
 use Rattle.hex.specs.declared.error.FromHexError.{FromHexError}
 use Rattle.hex.proofs.HexLemmas.{decode_of-ok}
-use Rattle.cql_lex.specs.Characters.{is_word, begins, word_size, digits_size, hex_pairs_size}
+use Rattle.cql_lex.specs.Characters.{is_word, first_is, word_size, digits_size, hex_pairs_size}
 use Rattle.cql_lex.specs.Numbers.{is_negative, unsigned, is_digits, signed, decimal_value, number_value, hundredths, ratio_digits, is_ratio}
 use Rattle.cql_lex.specs.Quotes.{closing_size, closed, quoted_value}
 use Rattle.cql_lex.specs.Constants.{uuid_value, begins_blob, blob_value, is_name, name_value}
@@ -47,7 +47,7 @@ uuid_longest text m h l e = let long = uuid_long (take m text) e in omega (arith
 pub name_longest : (text : List ℕ) (m : ℕ) → word_size text < m → m ≤ length text → is_some (name_value (take m text)) ≡ true → ⊥
 name_longest text m h l e =
     let named = (only_if (is_name (take m text)) (Some (map to_ascii_lowercase (take m text))) e).0 in
-    let words = (and_parts (begins is_ascii_alphabetic (take m text)) (list_all is_word (take m text)) named).1 in
+    let words = (and_parts (first_is is_ascii_alphabetic (take m text)) (list_all is_word (take m text)) named).1 in
     let stop = all_stop is_word m text l words in
     omega arith
 
@@ -95,7 +95,7 @@ hundredths_longest (p ∷ []) (suc (suc i)) l e = absurd (omega arith)
 hundredths_longest (p ∷ d ∷ cs) (suc zero) l e = absurd (false≢true e)
 hundredths_longest (p ∷ d ∷ cs) (suc (suc zero)) l e =
     let test = (only_if (eqb p 46 && is_ascii_digit d) (Some (d ∷ 48 ∷ [])) e).0 in
-    by (eqb p 46 && is_ascii_digit d) (begins is_ascii_digit cs) test
+    by (eqb p 46 && is_ascii_digit d) (first_is is_ascii_digit cs) test
   where
     by : (b t : Bool) → b ≡ true → 2 ≤ cond b (cond t 3 2) 0
     by true true f = omega arith

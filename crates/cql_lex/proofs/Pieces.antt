@@ -9,7 +9,7 @@ use Rattle.std.proofs.lemmas.Bool.{false≢true, eqb-true, ltb-true, and_parts}
 use Rattle.std.proofs.lemmas.Bool.Decides.{nat_tests}
 use Rattle.std.proofs.lemmas.List.{length-take, drop-take, take-append-drop}
 use Rattle.hex.specs.Hex.{decode_of}
-use Rattle.cql_lex.specs.Characters.{is_word, begins, begins_pair, word_size, digits_size, hex_pairs_size}
+use Rattle.cql_lex.specs.Characters.{is_word, first_is, begins_pair, word_size, digits_size, hex_pairs_size}
 use Rattle.cql_lex.specs.Numbers.{unsigned, number_value, hundredths, ratio_digits, is_ratio}
 use Rattle.cql_lex.specs.Quotes.{closing_size, closed, quoted_value, quoted_text, name_quote, string_quote}
 use Rattle.cql_lex.specs.Constants.{uuid_value, begins_blob, blob_value, is_name}
@@ -18,7 +18,10 @@ use Rattle.cql_lex.specs.Rules.{piece_at, token_at, token, gap, begins_uuid, beg
 use Rattle.cql_lex.specs.Laws.{HasForm, is_wordlike}
 use Rattle.cql_lex.specs.declared.piece.Piece.{Piece}
 use Rattle.cql_lex.specs.declared.token.TokenKind.{TokenKind}
-use Rattle.cql_lex.specs.declared.token.TokenKind.TheVariants.{Uuid, Blob, Number, Ratio, Name, QuotedName, String, AtMost, AtLeast}
+use Rattle.cql_lex.specs.declared.token.TokenKind.TheVariants.{Uuid, Blob, Number, Ratio, Name, QuotedName, String}
+use Rattle.cql_lex.specs.declared.token.TokenKind.TheVariants as kind
+use Rattle.cql_lex.specs.declared.token.Mark.{Mark}
+use Rattle.cql_lex.specs.declared.token.Mark.TheVariants as mark
 use Rattle.cql_lex.proofs.Symbols.{IsSymbol, symbol_is}
 use Rattle.std.proofs.lemmas.Option.{none-some}
 use Rattle.cql_lex.proofs.Fronts.{all_front, pairs_decode, uuid_long, front_again, run_stops}
@@ -32,7 +35,7 @@ pub record Good (text : List ℕ) (p : Piece) : Type 0 where
   pub within : p.size ≤ length text
   pub form : (before : List ℕ) → IsUtf8 (before ++ text) → (kind : TokenKind) → p.kind ≡ Some kind → HasForm kind (take p.size text)
   pub longest : (kind : TokenKind) → p.kind ≡ Some kind → (m : ℕ) → p.size < m → m ≤ length text → HasForm kind (take m text) → ⊥
-  pub apart : (kind : TokenKind) → p.kind ≡ Some kind → is_wordlike kind ≡ true → begins is_word (drop p.size text) ≡ false
+  pub apart : (kind : TokenKind) → p.kind ≡ Some kind → is_wordlike kind ≡ true → first_is is_word (drop p.size text) ≡ false
 
 abbrev Goods : List ℕ → Option Piece → Type 0
 Goods text o = IfSome o (Good text)
@@ -44,7 +47,7 @@ choose text false x y f g = g refl
 same_kind : (a b : TokenKind) → Some a ≡ Some b → a ≡ b
 same_kind a b e = cc
 
-token_good : (kind : TokenKind) (size : ℕ) (text : List ℕ) → 0 < size → size ≤ length text → ((before : List ℕ) → IsUtf8 (before ++ text) → HasForm kind (take size text)) → ((m : ℕ) → size < m → m ≤ length text → HasForm kind (take m text) → ⊥) → (is_wordlike kind ≡ true → begins is_word (drop size text) ≡ false) → Good text (token kind size)
+token_good : (kind : TokenKind) (size : ℕ) (text : List ℕ) → 0 < size → size ≤ length text → ((before : List ℕ) → IsUtf8 (before ++ text) → HasForm kind (take size text)) → ((m : ℕ) → size < m → m ≤ length text → HasForm kind (take m text) → ⊥) → (is_wordlike kind ≡ true → first_is is_word (drop size text) ≡ false) → Good text (token kind size)
 token_good kind size text positive within form longest apart = record {
   positive = positive;
   within = within;
@@ -69,9 +72,9 @@ not_true false e = refl
 -- a uuid
 uuid_good : (text : List ℕ) → begins_uuid text ≡ true → Good text (token Uuid 36)
 uuid_good text e =
-    let parts = and_parts (is_some (uuid_value (take 36 text))) (not (begins is_word (drop 36 text))) e in
+    let parts = and_parts (is_some (uuid_value (take 36 text))) (not (first_is is_word (drop 36 text))) e in
     let long = uuid_long (take 36 text) parts.0 in
-    token_good Uuid 36 text (omega arith) (omega (arith, length-take 36 text)) (λ _ _. parts.0) (uuid_longest text) (λ _. not_true (begins is_word (drop 36 text)) parts.1)
+    token_good Uuid 36 text (omega arith) (omega (arith, length-take 36 text)) (λ _ _. parts.0) (uuid_longest text) (λ _. not_true (first_is is_word (drop 36 text)) parts.1)
 
 -- a blob
 blob_good : (text : List ℕ) → begins_blob text ≡ true → Good text (token Blob (2 + hex_pairs_size (drop 2 text)))
@@ -88,13 +91,13 @@ blob_good (c ∷ d ∷ cs) e =
 letter_is_word : (c : ℕ) → is_ascii_alphabetic c ≡ true → is_word c ≡ true
 letter_is_word c e = grind (arith, nat_tests)
 
-name_good : (text : List ℕ) → begins is_ascii_alphabetic text ≡ true → Good text (token Name (word_size text))
+name_good : (text : List ℕ) → first_is is_ascii_alphabetic text ≡ true → Good text (token Name (word_size text))
 name_good [] e = absurd (false≢true e)
 name_good (c ∷ cs) e =
     let first : word_size (c ∷ cs) ≡ 1 + word_size cs = ap (λ b. cond b (1 + word_size cs) 0) (letter_is_word c e) in
     let more : word_size (c ∷ cs) ≡ suc (word_size cs) = omega arith in
     let passes = all_front is_word (word_size (c ∷ cs)) (c ∷ cs) (omega arith) in
-    let begun : begins is_ascii_alphabetic (take (word_size (c ∷ cs)) (c ∷ cs)) ≡ true = ap (λ n. begins is_ascii_alphabetic (take n (c ∷ cs))) more ∙ e in
+    let begun : first_is is_ascii_alphabetic (take (word_size (c ∷ cs)) (c ∷ cs)) ≡ true = ap (λ n. first_is is_ascii_alphabetic (take n (c ∷ cs))) more ∙ e in
     let named : is_name (take (word_size (c ∷ cs)) (c ∷ cs)) ≡ true = ap (λ b. b && list_all is_word (take (word_size (c ∷ cs)) (c ∷ cs))) begun ∙ passes in
     token_good Name (word_size (c ∷ cs)) (c ∷ cs) (omega arith) (words_within (c ∷ cs)) (λ _ _. ap (λ b. is_some (cond b (Some (map to_ascii_lowercase (take (word_size (c ∷ cs)) (c ∷ cs)))) None)) named) (name_longest (c ∷ cs)) (λ _. run_stops is_word (c ∷ cs))
 
@@ -161,7 +164,7 @@ quoted_by kind q c cs is e (Some n) h x past =
     (λ m more l f. quoted_longest q c cs n past m more l (value_from_text q (take m (c ∷ cs)) (is.from (take m (c ∷ cs)) f)))
     (λ w. absurd (false≢true (sym is.plain ∙ w)))
 
-quoted_good : (kind : TokenKind) (q : ℕ) (text : List ℕ) → IsQuoted kind q → begins (λ c. eqb c q) text ≡ true → Goods text (quoted_at kind q text)
+quoted_good : (kind : TokenKind) (q : ℕ) (text : List ℕ) → IsQuoted kind q → first_is (λ c. eqb c q) text ≡ true → Goods text (quoted_at kind q text)
 quoted_good kind q [] is e = absurd (false≢true e)
 quoted_good kind q (c ∷ cs) is e = quoted_by kind q c cs is e (closing_size q cs) (closing_within q cs) (closed_front q cs) (past_closing q cs)
 
@@ -185,10 +188,10 @@ pair_good kind a b (c ∷ d ∷ cs) form short plain e =
     (λ m h l f. longer (c ∷ d ∷ cs) m 2 h l (short (take m (c ∷ d ∷ cs)) f))
     (λ w. absurd (false≢true (sym plain ∙ w)))
 
-single_by : (c : ℕ) (cs : List ℕ) (o : Option TokenKind) → IfSome o (IsSymbol c) → Goods (c ∷ cs) (option_map (λ kind. token kind 1) o)
+single_by : (c : ℕ) (cs : List ℕ) (o : Option Mark) → IfSome o (IsSymbol c) → Goods (c ∷ cs) (option_map (λ m. token (kind.Mark m) 1) o)
 single_by c cs None h = tt
-single_by c cs (Some kind) h =
-    token_good kind 1 (c ∷ cs) (omega arith) (omega arith)
+single_by c cs (Some m) h =
+    token_good (kind.Mark m) 1 (c ∷ cs) (omega arith) (omega arith)
     (λ _ _. h.form)
     (λ m more l f. longer (c ∷ cs) m 1 more l (h.short (take m (c ∷ cs)) f))
     (λ w. absurd (false≢true (sym h.plain ∙ w)))
@@ -199,11 +202,11 @@ single_good (c ∷ cs) = single_by c cs (symbol c) (symbol_is c)
 
 symbol_good : (text : List ℕ) → Goods text (symbol_at text)
 symbol_good text =
-    choose text (begins_pair 60 61 text) _ _ (pair_good AtMost 60 61 text (λ t e. e) (λ t h. ap length h) refl) (λ _.
-    choose text (begins_pair 62 61 text) _ _ (pair_good AtLeast 62 61 text (λ t e. e) (λ t h. ap length h) refl) (λ _. single_good text))
+    choose text (begins_pair 60 61 text) _ _ (pair_good (kind.Mark mark.AtMost) 60 61 text (λ t e. e) (λ t h. ap length h) refl) (λ _.
+    choose text (begins_pair 62 61 text) _ _ (pair_good (kind.Mark mark.AtLeast) 62 61 text (λ t e. e) (λ t h. ap length h) refl) (λ _. single_good text))
 
 -- a blank or a comment
-begun : (test : ℕ → Bool) (text : List ℕ) → begins test text ≡ true → 0 < length text
+begun : (test : ℕ → Bool) (text : List ℕ) → first_is test text ≡ true → 0 < length text
 begun test [] e = absurd (false≢true e)
 begun test (c ∷ cs) e = omega arith
 
@@ -229,7 +232,7 @@ closed_gap text (Some n) long h = gap_good (2 + n) text (omega arith) (omega (ar
 
 gaps_good : (text : List ℕ) → GapGood text (gap_size text)
 gaps_good text =
-    choose_gap text (begins is_blank text) _ _ (λ e. let h = begun is_blank text e in gap_good 1 text (omega arith) (omega arith)) (λ _.
+    choose_gap text (first_is is_blank text) _ _ (λ e. let h = begun is_blank text e in gap_good 1 text (omega arith) (omega arith)) (λ _.
     choose_gap text (begins_pair 45 45 text || begins_pair 47 47 text) _ _ (λ e.
     let h : 2 ≤ length text = either (begins_pair 45 45 text) (begins_pair 47 47 text) e (begun_pair 45 45 text) (begun_pair 47 47 text) in
     gap_good (length text) text (omega arith) (omega arith)) (λ _.
@@ -241,10 +244,10 @@ no_fraction f e = grind (arith, nat_tests)
 
 sizes_good : (text : List ℕ) (w f : ℕ) → 0 < w → w + f ≤ length text → (0 < f → is_ratio (take (w + f) text) ≡ true) → ((m : ℕ) → w + f < m → m ≤ length text → is_ratio (take m text) ≡ true → ⊥) → ((m : ℕ) → w < m → m ≤ length text → is_some (number_value (take m text)) ≡ true → ⊥) → Goods text (number_of_sizes text w f)
 sizes_good text w f some within ratio no_ratio no_number =
-    choose text (begins is_word (drop (w + f) text)) _ _ (λ _. tt) (λ stops.
+    choose text (first_is is_word (drop (w + f) text)) _ _ (λ _. tt) (λ stops.
     choose text (ltb 0 f) _ _ (λ h. token_good Ratio (w + f) text (omega arith) within (λ _ _. ratio (ltb-true 0 f h)) no_ratio (λ _. stops)) (λ none.
     let bare : w + f ≡ w = let zero_f = no_fraction f none in omega arith in
-    choose text (is_some (number_value (take w text))) _ _ (λ h. token_good Number w text some (omega arith) (λ _ _. h) no_number (λ _. ap (λ k. begins is_word (drop k text)) (sym bare) ∙ stops)) (λ _. tt)))
+    choose text (is_some (number_value (take w text))) _ _ (λ h. token_good Number w text some (omega arith) (λ _ _. h) no_number (λ _. ap (λ k. first_is is_word (drop k text)) (sym bare) ∙ stops)) (λ _. tt)))
 
 two_some : (p d : ℕ) → (eqb p 46 && is_ascii_digit d) ≡ true → is_some (hundredths (p ∷ d ∷ [])) ≡ true
 two_some p d e = ap (λ b. is_some (cond b (Some (d ∷ 48 ∷ [])) None)) e
@@ -254,7 +257,7 @@ three_some p d c e f =
     let parts = and_parts (eqb p 46) (is_ascii_digit d) e in
     (λ i. is_some (cond (parts.0 i && (parts.1 i && f i)) (Some (d ∷ c ∷ [])) None))
 
-fraction_by : (p d : ℕ) (cs : List ℕ) (b : Bool) → (eqb p 46 && is_ascii_digit d) ≡ b → 0 < cond b (cond (begins is_ascii_digit cs) 3 2) 0 → is_some (hundredths (take (cond b (cond (begins is_ascii_digit cs) 3 2) 0) (p ∷ d ∷ cs))) ≡ true
+fraction_by : (p d : ℕ) (cs : List ℕ) (b : Bool) → (eqb p 46 && is_ascii_digit d) ≡ b → 0 < cond b (cond (first_is is_ascii_digit cs) 3 2) 0 → is_some (hundredths (take (cond b (cond (first_is is_ascii_digit cs) 3 2) 0) (p ∷ d ∷ cs))) ≡ true
 fraction_by p d cs false e h = absurd (omega arith)
 fraction_by p d [] true e h = two_some p d e
 fraction_by p d (c ∷ cs) true e h = by (is_ascii_digit c) refl
@@ -299,7 +302,7 @@ ratio_by c cs false e f some size positive =
     ∙ ap (λ k. is_some (ratio_digits (take k (c ∷ cs)))) whole
     ∙ bare_ratio (c ∷ cs) f some (size ∙ ap (λ k. fraction_size (drop k (c ∷ cs))) bare) positive
 
-digits_some : (t : List ℕ) → begins is_ascii_digit t ≡ true → 0 < digits_size t
+digits_some : (t : List ℕ) → first_is is_ascii_digit t ≡ true → 0 < digits_size t
 digits_some [] e = absurd (false≢true e)
 digits_some (c ∷ cs) e =
     let first : digits_size (c ∷ cs) ≡ 1 + digits_size cs = ap (λ b. cond b (1 + digits_size cs) 0) e in
@@ -320,9 +323,9 @@ token_goods text =
     choose text (begins_uuid text) _ _ (uuid_good text) (λ _.
     choose text (begins_blob text) _ _ (blob_good text) (λ _.
     choose text (begins_number text) _ _ (number_good text) (λ _.
-    choose text (begins is_ascii_alphabetic text) _ _ (name_good text) (λ _.
-    choose text (begins (λ c. eqb c name_quote) text) _ _ (quoted_good QuotedName name_quote text names_quoted) (λ _.
-    choose text (begins (λ c. eqb c string_quote) text) _ _ (quoted_good String string_quote text strings_quoted) (λ _. symbol_good text))))))
+    choose text (first_is is_ascii_alphabetic text) _ _ (name_good text) (λ _.
+    choose text (first_is (λ c. eqb c name_quote) text) _ _ (quoted_good QuotedName name_quote text names_quoted) (λ _.
+    choose text (first_is (λ c. eqb c string_quote) text) _ _ (quoted_good String string_quote text strings_quoted) (λ _. symbol_good text))))))
 
 first_or : (text : List ℕ) (x y : Option Piece) → Goods text x → Goods text y → Goods text (option_or x y)
 first_or text None y f g = g

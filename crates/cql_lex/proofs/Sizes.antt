@@ -3,7 +3,7 @@ use Rattle.std.proofs.Common.{◌≡◌, ℕ, ◌+◌, ◌<◌, ◌≤◌, Bool,
 use Rattle.std.specs.Option.{option_map}
 use Rattle.std.specs.Char.{is_ascii_digit, is_ascii_hexdigit}
 use Rattle.std.proofs.lemmas.List.Sums.{prefix_len-le-length}
-use Rattle.cql_lex.specs.Characters.{is_word, begins, word_size, digits_size, hex_pairs_size}
+use Rattle.cql_lex.specs.Characters.{is_word, first_is, word_size, digits_size, hex_pairs_size}
 use Rattle.cql_lex.specs.Rules.{whole_size, fraction_size}
 use Rattle.cql_lex.specs.Quotes.{closing_size}
 use Rattle.cql_lex.specs.Gaps.{close_size}
@@ -29,7 +29,7 @@ pub whole_within : (text : List ℕ) → whole_size text ≤ length text
 whole_within [] = omega arith
 whole_within (c ∷ cs) = whole_by c cs (eqb c 45)
 
-fraction_by : (p d : ℕ) (cs : List ℕ) (b : Bool) → cond b (cond (begins is_ascii_digit cs) 3 2) 0 ≤ length (p ∷ d ∷ cs)
+fraction_by : (p d : ℕ) (cs : List ℕ) (b : Bool) → cond b (cond (first_is is_ascii_digit cs) 3 2) 0 ≤ length (p ∷ d ∷ cs)
 fraction_by p d cs false = omega arith
 fraction_by p d [] true = omega arith
 fraction_by p d (e ∷ cs) true = elim (is_ascii_digit e) as (λ t. cond t 3 2 ≤ length (p ∷ d ∷ e ∷ cs)) [ true ↦ omega arith | false ↦ omega arith ]

@@ -2,7 +2,7 @@
 use Rattle.std.proofs.Common.{◌≡◌, ℕ, ◌+◌, ◌-◌, ◌≤◌, List, [], ◌∷◌, ◌++◌, length, take, drop, Option, Some, None, refl, sym, ap, ◌∙◌, subst, arith, IfSome, length-drop, drop-drop}
 use Rattle.std.specs.Prelude.{IsUtf8}
 use Rattle.std.proofs.lemmas.List.{take-append-drop}
-use Rattle.cql_lex.specs.Characters.{is_word, begins}
+use Rattle.cql_lex.specs.Characters.{is_word, first_is}
 use Rattle.cql_lex.specs.Rules.{piece_at}
 use Rattle.cql_lex.specs.Lexes.{IsCut, tokens_of, token_of}
 use Rattle.cql_lex.specs.Laws.{Ascend, HasForm, HaveForms, AreLongest, AreApart, ArePlaced, WellPlaced, OneReading}
@@ -41,7 +41,7 @@ one_token source at p k rest u h good e later =
       spans = (omega arith, omega arith, later.spans);
       forms = (subst (λ n. HasForm k (take n (drop at source))) (sym wide) (good.form (take at source) (whole source at u) k e), later.forms);
       longest = (λ end more l f. good.longest k e (end - at) (omega arith) (simp length-drop (omega arith)) f, later.longest);
-      apart = (λ w. ap (begins is_word) (sym past) ∙ good.apart k e w, later.apart);
+      apart = (λ w. ap (first_is is_word) (sym past) ∙ good.apart k e w, later.apart);
     }
 
 one_piece : (source : List ℕ) (at : ℕ) (p : Piece) (kind : Option TokenKind) (rest : List Token) → IsUtf8 source → at ≤ length source → Good (drop at source) p → p.kind ≡ kind → Placed source (at + p.size) rest → Placed source at (token_of at kind p.size ++ rest)

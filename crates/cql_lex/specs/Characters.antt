@@ -8,10 +8,10 @@ use Rattle.std.specs.Char.{is_ascii_digit, is_ascii_alphanumeric, is_ascii_hexdi
 abbrev pub is_word : ℕ → Bool
 is_word c = is_ascii_alphanumeric c || (c == 95)
 
--- the text begins with a character that passes
-abbrev pub begins : (ℕ → Bool) → List ℕ → Bool
-begins test [] = false
-begins test (c ∷ cs) = test c
+-- the first character of the text passes the test; the empty text has none
+abbrev pub first_is : (ℕ → Bool) → List ℕ → Bool
+first_is test [] = false
+first_is test (c ∷ cs) = test c
 
 -- the text begins with these two characters
 abbrev pub begins_pair : ℕ → ℕ → List ℕ → Bool

@@ -6,11 +6,11 @@ use Rattle.std.specs.Result.{result_ok}
 use Rattle.std.specs.Char.{is_ascii_alphabetic, to_ascii_lowercase}
 use Rattle.hex.specs.Hex.{decode_of}
 use Rattle.uuid.specs.Text.{parsed_hyphenated}
-use Rattle.cql_lex.specs.Characters.{is_word, begins, begins_pair}
+use Rattle.cql_lex.specs.Characters.{is_word, first_is, begins_pair}
 
 -- a letter, and then letters, digits and `_`: `Ab_1`; `1a`, `_a` and `a-b` are none
 abbrev pub is_name : List ℕ → Bool
-is_name text = begins is_ascii_alphabetic text && list_all is_word text
+is_name text = first_is is_ascii_alphabetic text && list_all is_word text
 
 -- a name without regard to case: `Ab_1` is `ab_1`
 abbrev pub name_value : List ℕ → Option (List ℕ)

@@ -1,7 +1,7 @@
 -- Blanks and comments, which stand between tokens.
 -- CQL documentation, "Definitions: comments".
 use Rattle.std.specs.Prelude.{ℕ, ◌==◌, ◌&&◌, ◌||◌, ◌+◌, Bool, List, [], ◌∷◌, length, drop, Option, None, Some, option_map, if◌then◌else◌}
-use Rattle.cql_lex.specs.Characters.{begins, begins_pair}
+use Rattle.cql_lex.specs.Characters.{first_is, begins_pair}
 
 -- a space or a tab
 abbrev pub is_blank : ℕ → Bool
@@ -18,7 +18,7 @@ close_size (c ∷ d ∷ cs) = if (c == 42) && (d == 47) then Some 2 else option_
 -- `/* a */b` it is 7, and `/*/` begins with none
 abbrev pub gap_size : List ℕ → Option ℕ
 gap_size text =
-    if begins is_blank text then Some 1
+    if first_is is_blank text then Some 1
     else if begins_pair 45 45 text || begins_pair 47 47 text then Some (length text)
     else if begins_pair 47 42 text then option_map (λ n. 2 + n) (close_size (drop 2 text))
     else None

@@ -1,14 +1,17 @@
 -- What holds of the tokens of a line.
-use Rattle.std.specs.Prelude.{◌≡◌, ◌↔◌, ℕ, Bool, true, false, ◌-◌, ◌<◌, ◌≤◌, List, [], ◌∷◌, length, take, drop, codes, Some, is_some, IsTrue, IsUtf8}
+use Rattle.std.specs.Prelude.{◌≡◌, ◌↔◌, ℕ, Bool, true, false, ◌-◌, ◌<◌, ◌≤◌, List, [], ◌∷◌, length, take, drop, codes}
+use Rattle.std.specs.Prelude.{Some, is_some, IsTrue, IsUtf8}
 use Rattle.std.specs.List.{AllByRecursion}
-use Rattle.cql_lex.specs.Characters.{is_word, begins}
+use Rattle.cql_lex.specs.Characters.{is_word, first_is}
 use Rattle.cql_lex.specs.Numbers.{number_value, is_ratio}
 use Rattle.cql_lex.specs.Quotes.{name_quote, string_quote, quoted_value, quoted_text, in_quotes}
 use Rattle.cql_lex.specs.Constants.{name_value, uuid_value, blob_value}
 use Rattle.cql_lex.specs.Lexes.{Lexes}
+use Rattle.cql_lex.specs.declared.token.Mark.{Mark}
+use Rattle.cql_lex.specs.declared.token.Mark.TheVariants as mark
 use Rattle.cql_lex.specs.declared.token.Token.{Token}
 use Rattle.cql_lex.specs.declared.token.TokenKind.{TokenKind}
-use Rattle.cql_lex.specs.declared.token.TokenKind.TheVariants.{Uuid, Blob, Number, Ratio, Name, QuotedName, String, AtMost, AtLeast, OpenParen, CloseParen, OpenBracket, CloseBracket, OpenBrace, CloseBrace, Less, Greater, Equals, Comma, Semicolon, Colon, Dot, Plus, Minus, Star}
+use Rattle.cql_lex.specs.declared.token.TokenKind.TheVariants as kind
 
 -- the spans stand one after another, from this place up to the end
 abbrev pub Ascend : ℕ → List Token → ℕ → Type 0
@@ -19,33 +22,37 @@ Ascend from (t ∷ ts) end = (from ≤ t.start) × (t.start < t.end) × Ascend t
 abbrev pub text_of : List ℕ → Token → List ℕ
 text_of source t = take (t.end - t.start) (drop t.start source)
 
--- the text is a token of the kind
+-- how a mark is written
+abbrev pub mark_text : Mark → List ℕ
+mark_text mark.AtMost = codes "<="
+mark_text mark.AtLeast = codes ">="
+mark_text mark.OpenParen = codes "("
+mark_text mark.CloseParen = codes ")"
+mark_text mark.OpenBracket = codes "["
+mark_text mark.CloseBracket = codes "]"
+mark_text mark.OpenBrace = codes "{"
+mark_text mark.CloseBrace = codes "}"
+mark_text mark.Less = codes "<"
+mark_text mark.Greater = codes ">"
+mark_text mark.Equals = codes "="
+mark_text mark.Comma = codes ","
+mark_text mark.Semicolon = codes ";"
+mark_text mark.Colon = codes ":"
+mark_text mark.Dot = codes "."
+mark_text mark.Plus = codes "+"
+mark_text mark.Minus = codes "-"
+mark_text mark.Star = codes "*"
+
+-- the text is a token of the kind: `Ab_1` is a name, `1.5` a ratio, `<=` the mark AtMost
 abbrev pub HasForm : TokenKind → List ℕ → Type 0
-HasForm Uuid text = IsTrue (is_some (uuid_value text))
-HasForm Blob text = IsTrue (is_some (blob_value text))
-HasForm Number text = IsTrue (is_some (number_value text))
-HasForm Ratio text = IsTrue (is_ratio text)
-HasForm Name text = IsTrue (is_some (name_value text))
-HasForm QuotedName text = IsTrue (is_some (quoted_text name_quote text))
-HasForm String text = IsTrue (is_some (quoted_text string_quote text))
-HasForm AtMost text = text ≡ codes "<="
-HasForm AtLeast text = text ≡ codes ">="
-HasForm OpenParen text = text ≡ codes "("
-HasForm CloseParen text = text ≡ codes ")"
-HasForm OpenBracket text = text ≡ codes "["
-HasForm CloseBracket text = text ≡ codes "]"
-HasForm OpenBrace text = text ≡ codes "{"
-HasForm CloseBrace text = text ≡ codes "}"
-HasForm Less text = text ≡ codes "<"
-HasForm Greater text = text ≡ codes ">"
-HasForm Equals text = text ≡ codes "="
-HasForm Comma text = text ≡ codes ","
-HasForm Semicolon text = text ≡ codes ";"
-HasForm Colon text = text ≡ codes ":"
-HasForm Dot text = text ≡ codes "."
-HasForm Plus text = text ≡ codes "+"
-HasForm Minus text = text ≡ codes "-"
-HasForm Star text = text ≡ codes "*"
+HasForm kind.Uuid text = IsTrue (is_some (uuid_value text))
+HasForm kind.Blob text = IsTrue (is_some (blob_value text))
+HasForm kind.Number text = IsTrue (is_some (number_value text))
+HasForm kind.Ratio text = IsTrue (is_ratio text)
+HasForm kind.Name text = IsTrue (is_some (name_value text))
+HasForm kind.QuotedName text = IsTrue (is_some (quoted_text name_quote text))
+HasForm kind.String text = IsTrue (is_some (quoted_text string_quote text))
+HasForm (kind.Mark m) text = text ≡ mark_text m
 
 -- each token's text is one of its kind
 abbrev pub HaveForms : List ℕ → List Token → Type 0
@@ -55,41 +62,23 @@ HaveForms source tokens = AllByRecursion (λ t. HasForm t.kind (text_of source t
 abbrev pub IsLongest : List ℕ → Token → Type 0
 IsLongest source t = (end : ℕ) → t.end < end → end ≤ length source → ¬ (HasForm t.kind (take (end - t.start) (drop t.start source)))
 
+-- each of the tokens is the longest of its kind at its place
 abbrev pub AreLongest : List ℕ → List Token → Type 0
 AreLongest source tokens = AllByRecursion (IsLongest source) tokens
 
 -- a name, a number, a ratio or a uuid
 abbrev pub is_wordlike : TokenKind → Bool
-is_wordlike Uuid = true
-is_wordlike Blob = false
-is_wordlike Number = true
-is_wordlike Ratio = true
-is_wordlike Name = true
-is_wordlike QuotedName = false
-is_wordlike String = false
-is_wordlike AtMost = false
-is_wordlike AtLeast = false
-is_wordlike OpenParen = false
-is_wordlike CloseParen = false
-is_wordlike OpenBracket = false
-is_wordlike CloseBracket = false
-is_wordlike OpenBrace = false
-is_wordlike CloseBrace = false
-is_wordlike Less = false
-is_wordlike Greater = false
-is_wordlike Equals = false
-is_wordlike Comma = false
-is_wordlike Semicolon = false
-is_wordlike Colon = false
-is_wordlike Dot = false
-is_wordlike Plus = false
-is_wordlike Minus = false
-is_wordlike Star = false
+is_wordlike kind.Uuid = true
+is_wordlike kind.Number = true
+is_wordlike kind.Ratio = true
+is_wordlike kind.Name = true
+is_wordlike _ = false
 
 -- no letter, digit or `_` follows one of these at once
 abbrev pub IsApart : List ℕ → Token → Type 0
-IsApart source t = IsTrue (is_wordlike t.kind) → begins is_word (drop t.end source) ≡ false
+IsApart source t = IsTrue (is_wordlike t.kind) → first_is is_word (drop t.end source) ≡ false
 
+-- and so for each of the tokens: `12 a` is two tokens, `12a` is none
 abbrev pub AreApart : List ℕ → List Token → Type 0
 AreApart source tokens = AllByRecursion (IsApart source) tokens
 
@@ -104,7 +93,7 @@ pub record ArePlaced (source : List ℕ) (tokens : List Token) : Type 0 where
 abbrev pub OneReading : Type 0
 OneReading = (source : List ℕ) (tokens others : List Token) → Lexes source tokens → Lexes source others → tokens ≡ others
 
--- it holds of each line
+-- so are the tokens of each line placed
 abbrev pub WellPlaced : Type 0
 WellPlaced = (source : List ℕ) (tokens : List Token) → IsUtf8 source → Lexes source tokens → ArePlaced source tokens
 

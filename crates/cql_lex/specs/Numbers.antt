@@ -1,13 +1,14 @@
 -- Whole numbers and ratios, as texts and as values.
 -- CQL documentation, "Definitions: constants" (integer, float); the width and the hundredths are own.
-use Rattle.std.specs.Prelude.{ℕ, Bool, true, false, ◌==◌, ◌&&◌, ◌+◌, ◌-◌, ◌*◌, ◌^◌, nat_lt, nat_le, List, [], ◌∷◌, ◌++◌, length, take, drop, fold, Option, None, Some, option_map, option_and_then, is_some, ℤ, pos, neg_ℤ, if◌then◌else◌}
+use Rattle.std.specs.Prelude.{ℕ, Bool, true, false, ◌==◌, ◌&&◌, ◌+◌, ◌-◌, ◌*◌, ◌^◌, nat_lt, nat_le, List, [], ◌∷◌, ◌++◌, length, take, drop, fold}
+use Rattle.std.specs.Prelude.{Option, None, Some, option_map, option_and_then, is_some, ℤ, pos, neg_ℤ, if◌then◌else◌}
 use Rattle.std.specs.List.{list_all}
 use Rattle.std.specs.Char.{is_ascii_digit}
-use Rattle.cql_lex.specs.Characters.{begins, digits_size}
+use Rattle.cql_lex.specs.Characters.{first_is, digits_size}
 
 -- the text begins with `-`, as `-1` does
 abbrev pub is_negative : List ℕ → Bool
-is_negative text = begins (λ c. c == 45) text
+is_negative text = first_is (λ c. c == 45) text
 
 -- what follows the `-`, where there is one: of `-12` it is `12`
 abbrev pub unsigned : List ℕ → List ℕ

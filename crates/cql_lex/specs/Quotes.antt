@@ -3,10 +3,11 @@
 use Rattle.std.specs.Prelude.{ℕ, ◌==◌, ◌+◌, List, [], ◌∷◌, ◌++◌, flat_map, Option, None, Some, option_map, option_and_then, if◌then◌else◌}
 use Rattle.std.specs.Str.{is_utf8}
 
--- the quote of a name, and that of a string
+-- the quote of a name: `"`
 abbrev pub name_quote : ℕ
 name_quote = 34
 
+-- the quote of a string: `'`
 abbrev pub string_quote : ℕ
 string_quote = 39
 
@@ -39,6 +40,6 @@ closing_size quote (c ∷ d ∷ cs) =
     if c == quote then (if d == quote then option_map (λ n. 2 + n) (closing_size quote cs) else Some 1)
     else option_map (λ n. 1 + n) (closing_size quote (d ∷ cs))
 
--- the same where it is UTF-8, as a line is
+-- the text that is written in quotes, where it is UTF-8, as a line is
 abbrev pub quoted_text : ℕ → List ℕ → Option (List ℕ)
 quoted_text quote text = option_and_then (λ inner. if is_utf8 inner then Some inner else None) (quoted_value quote text)

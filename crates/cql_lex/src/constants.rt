@@ -1,7 +1,7 @@
 //! Uuids and blobs.
 
 ghost use Rattle.std.specs.Prelude.{◌≡◌, IfOk};
-ghost use Rattle.cql_lex.specs.Constants.{uuid_value, blob_value, begins_blob as begins_blob_of};
+ghost use Rattle.cql_lex.specs.Constants.{uuid_value, blob_value, begins_blob};
 
 use crate::characters::begins_pair;
 use cas_types::{Bytes, Mem};
@@ -23,7 +23,7 @@ pub fn uuid_of(text: &[u8]) -> Option<[u8; 16]>
 }
 
 pub(crate) fn begins_blob(text: &[u8]) -> bool
-    ensures { result ≡ begins_blob_of text.now }
+    ensures { result ≡ begins_blob text.now }
 {
     begins_pair(text, b'0', b'x') || begins_pair(text, b'0', b'X')
 }

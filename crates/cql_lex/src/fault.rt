@@ -1,4 +1,6 @@
-ghost use Rattle.cql_lex.specs.declared.fault.LexFault.TheVariants.{Mem as MemOf};
+//! Why a line has no tokens.
+
+ghost use Rattle.cql_lex.specs.declared.fault.LexFault.TheVariants as faults;
 ghost use Rattle.std.specs.Prelude.{◌≡◌};
 
 use cas_types::Mem;
@@ -9,12 +11,12 @@ use std::alloc::{AllocError, AllocFailed};
 pub enum LexFault {
     /// The rules give none.
     Syntax,
-    /// Want of memory.
+    /// Out of memory.
     Mem,
 }
 
 impl From<AllocError> for LexFault {
-    ghost from_gives = { λ _ fault. fault ≡ MemOf };
+    ghost from_gives = { λ _ fault. fault ≡ faults.Mem };
 
     fn from(_: AllocError) -> Self {
         LexFault::Mem
@@ -22,7 +24,7 @@ impl From<AllocError> for LexFault {
 }
 
 impl<T: Drop> From<AllocFailed<T>> for LexFault {
-    ghost from_gives = { λ _ fault. fault ≡ MemOf };
+    ghost from_gives = { λ _ fault. fault ≡ faults.Mem };
 
     fn from(_: AllocFailed<T>) -> Self {
         LexFault::Mem
@@ -30,7 +32,7 @@ impl<T: Drop> From<AllocFailed<T>> for LexFault {
 }
 
 impl From<Mem> for LexFault {
-    ghost from_gives = { λ _ fault. fault ≡ MemOf };
+    ghost from_gives = { λ _ fault. fault ≡ faults.Mem };
 
     fn from(_: Mem) -> Self {
         LexFault::Mem

@@ -1,13 +1,13 @@
 //! Blanks and comments.
 
 ghost use Rattle.std.specs.Prelude.{◌≡◌, ◌<◌, ◌≤◌, length, IfSome};
-ghost use Rattle.cql_lex.specs.Characters.{begins};
-ghost use Rattle.cql_lex.specs.Gaps.{is_blank, close_size as close_size_of, gap_size as gap_size_of};
+ghost use Rattle.cql_lex.specs.Characters.{first_is};
+ghost use Rattle.cql_lex.specs.Gaps.{is_blank, close_size, gap_size};
 
 use crate::characters::begins_pair;
 
 fn begins_blank(text: &[u8]) -> bool
-    ensures { result ≡ begins is_blank text.now }
+    ensures { result ≡ first_is is_blank text.now }
 {
     match text {
         [byte, _rest @ ..] => *byte == b' ' || *byte == b'\t',
@@ -17,7 +17,7 @@ fn begins_blank(text: &[u8]) -> bool
 
 /// How many bytes there are up to the end of the first `*/`.
 fn close_size(text: &[u8]) -> Option<usize>
-    ensures found { result ≡ close_size_of text.now }
+    ensures found { result ≡ close_size text.now }
     ensures size { IfSome result (λ n. (0 < n) × (n ≤ length text.now)) }
 {
     let mut at = 0;
@@ -32,7 +32,7 @@ fn close_size(text: &[u8]) -> Option<usize>
 
 /// The size of the blank or the comment that the text begins with.
 pub(crate) fn gap_size(text: &[u8]) -> Option<usize>
-    ensures found { result ≡ gap_size_of text.now }
+    ensures found { result ≡ gap_size text.now }
     ensures size { IfSome result (λ n. (0 < n) × (n ≤ length text.now)) }
 {
     if begins_blank(text) {

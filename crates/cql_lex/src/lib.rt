@@ -13,8 +13,6 @@ mod numbers;
 mod piece;
 mod quotes;
 mod rules;
-#[cfg(test)]
-mod tests;
 mod texts;
 mod token;
 
@@ -22,7 +20,7 @@ pub use constants::{blob_of, uuid_of};
 pub use fault::LexFault;
 pub use laws::{one_reading, quotes_round_trip, well_placed};
 pub use lexer::tokens;
-pub use names::name_of;
+pub use names::{Name, name_of};
 pub use numbers::{number_of, ratio_of};
 pub use quotes::{quoted_name_of, string_of};
-pub use token::{Token, TokenKind};
+pub use token::{Mark, Token, TokenKind};

@@ -1,12 +1,12 @@
 //! Whole numbers and ratios.
 
 ghost use Rattle.std.specs.Prelude.{◌≡◌, ◌-◌, ◌^◌, ◌++◌, ℕ, List, min};
-ghost use Rattle.cql_lex.specs.Numbers.{is_negative as is_negative_of, unsigned as unsigned_of, decimal_value, signed as signed_of, is_digits as is_digits_of, number_value, ratio_value, hundredths as hundredths_of};
+ghost use Rattle.cql_lex.specs.Numbers.{is_negative, unsigned, decimal_value, signed, is_digits, number_value, ratio_value, hundredths};
 
 use crate::characters::{all_digits, digits_size};
 
 pub(crate) fn is_negative(text: &[u8]) -> bool
-    ensures { result ≡ is_negative_of text.now }
+    ensures { result ≡ is_negative text.now }
 {
     match text {
         [byte, _rest @ ..] => *byte == b'-',
@@ -16,7 +16,7 @@ pub(crate) fn is_negative(text: &[u8]) -> bool
 
 /// What follows the `-`, where there is one.
 pub(crate) fn unsigned(text: &[u8]) -> &[u8]
-    ensures { result.now ≡ unsigned_of text.now }
+    ensures { result.now ≡ unsigned text.now }
 {
     match text {
         [b'-', rest @ ..] => rest,
@@ -38,7 +38,7 @@ fn magnitude(digits: &[u8]) -> u128
 }
 
 fn signed(negative: bool, magnitude: u128) -> Option<i128>
-    ensures { result ≡ signed_of negative magnitude }
+    ensures { result ≡ signed negative magnitude }
 {
     if negative {
         if magnitude < 1 << 127 {
@@ -56,7 +56,7 @@ fn signed(negative: bool, magnitude: u128) -> Option<i128>
 }
 
 fn is_digits(text: &[u8]) -> bool
-    ensures { result ≡ is_digits_of text.now }
+    ensures { result ≡ is_digits text.now }
 {
     !text.is_empty() && all_digits(text)
 }
@@ -76,7 +76,7 @@ pub fn number_of(text: &[u8]) -> Option<i128>
 
 /// The two digits after the point, where the text is a point and one or two digits.
 fn hundredths(text: &[u8]) -> Option<[u8; 2]>
-    ensures { result ≡ hundredths_of text.now }
+    ensures { result ≡ hundredths text.now }
 {
     match text {
         [b'.', d] if d.is_ascii_digit() => Some([*d, b'0']),

@@ -1,3 +1,5 @@
+//! What a line is cut into.
+
 use crate::token::TokenKind;
 
 /// What stands at one place of a line: a token of a kind, or a blank or a comment, and its size in

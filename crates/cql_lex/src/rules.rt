@@ -1,7 +1,8 @@
 //! What stands at the front of a text.
 
 ghost use Rattle.std.specs.Prelude.{◌≡◌, ◌<◌, ◌≤◌, length, Some, IfSome};
-ghost use Rattle.cql_lex.specs.Rules.{token as token_of_size, token_at as token_at_of, piece_at as piece_at_of, begins_uuid as begins_uuid_of, begins_number as begins_number_of, whole_size as whole_size_of, fraction_size as fraction_size_of, number_of_sizes, number_at as number_at_of, quoted_at as quoted_at_of, symbol as symbol_of, symbol_at as symbol_at_of, single_at as single_at_of};
+ghost use Rattle.cql_lex.specs.Rules.{token, token_at, piece_at, begins_uuid, begins_number, whole_size, fraction_size, number_of_sizes};
+ghost use Rattle.cql_lex.specs.Rules.{number_at, quoted_at, symbol, symbol_at, single_at};
 
 use crate::characters::{
     begins_byte, begins_digit, begins_letter, begins_pair, begins_word, digits_size,
@@ -12,10 +13,10 @@ use crate::constants::{begins_blob, uuid_of};
 use crate::gaps::gap_size;
 use crate::numbers::{is_negative, number_of, unsigned};
 use crate::piece::Piece;
-use crate::token::TokenKind;
+use crate::token::{Mark, TokenKind};
 
 fn token(kind: TokenKind, size: usize) -> Option<Piece>
-    ensures { result ≡ Some (token_of_size kind size) }
+    ensures { result ≡ Some (token kind size) }
 {
     Some(Piece {
         kind: Some(kind),
@@ -25,7 +26,7 @@ fn token(kind: TokenKind, size: usize) -> Option<Piece>
 
 /// Whether the text begins with a uuid that no letter, digit or `_` follows.
 fn begins_uuid(text: &[u8]) -> bool
-    ensures { result ≡ begins_uuid_of text.now }
+    ensures { result ≡ begins_uuid text.now }
 {
     if text.len() < 36 {
         return false;
@@ -35,7 +36,7 @@ fn begins_uuid(text: &[u8]) -> bool
 }
 
 fn begins_number(text: &[u8]) -> bool
-    ensures { result ≡ begins_number_of text.now }
+    ensures { result ≡ begins_number text.now }
 {
     begins_digit(unsigned(text))
 }
@@ -43,7 +44,7 @@ fn begins_number(text: &[u8]) -> bool
 /// The size of the `-` and the digits that a number begins with.
 #[tactic(auto, using(crate::proofs::Sizes::whole_within))]
 fn whole_size(text: &[u8]) -> usize
-    ensures size { result ≡ whole_size_of text.now }
+    ensures size { result ≡ whole_size text.now }
     ensures within { result ≤ length text.now }
 {
     if is_negative(text) {
@@ -56,7 +57,7 @@ fn whole_size(text: &[u8]) -> usize
 /// The size of a point and the one or two digits after it; 0 where there are none.
 #[tactic(auto, using(crate::proofs::Sizes::fraction_within))]
 fn fraction_size(text: &[u8]) -> usize
-    ensures size { result ≡ fraction_size_of text.now }
+    ensures size { result ≡ fraction_size text.now }
     ensures within { result ≤ length text.now }
 {
     match text {
@@ -69,7 +70,7 @@ fn fraction_size(text: &[u8]) -> usize
 
 /// The number or ratio that the text begins with, unless it is refused.
 fn number_at(text: &[u8]) -> Option<Piece>
-    ensures { result ≡ number_at_of text.now }
+    ensures { result ≡ number_at text.now }
 {
     let whole = whole_size(text);
     let fraction = fraction_size(&text[whole..]);
@@ -86,7 +87,7 @@ fn number_at(text: &[u8]) -> Option<Piece>
 
 /// The text in quotes that begins the text, up to the closing one.
 fn quoted_at(kind: TokenKind, quote: u8, text: &[u8]) -> Option<Piece>
-    ensures { result ≡ quoted_at_of kind quote text.now }
+    ensures { result ≡ quoted_at kind quote text.now }
 {
     match text {
         [_quote, rest @ ..] => match closing_size(quote, rest) {
@@ -97,36 +98,36 @@ fn quoted_at(kind: TokenKind, quote: u8, text: &[u8]) -> Option<Piece>
     }
 }
 
-fn symbol(byte: u8) -> Option<TokenKind>
-    ensures { result ≡ symbol_of byte }
+fn symbol(byte: u8) -> Option<Mark>
+    ensures { result ≡ symbol byte }
 {
     match byte {
-        b'(' => Some(TokenKind::OpenParen),
-        b')' => Some(TokenKind::CloseParen),
-        b'[' => Some(TokenKind::OpenBracket),
-        b']' => Some(TokenKind::CloseBracket),
-        b'{' => Some(TokenKind::OpenBrace),
-        b'}' => Some(TokenKind::CloseBrace),
-        b'<' => Some(TokenKind::Less),
-        b'>' => Some(TokenKind::Greater),
-        b'=' => Some(TokenKind::Equals),
-        b',' => Some(TokenKind::Comma),
-        b';' => Some(TokenKind::Semicolon),
-        b':' => Some(TokenKind::Colon),
-        b'.' => Some(TokenKind::Dot),
-        b'+' => Some(TokenKind::Plus),
-        b'-' => Some(TokenKind::Minus),
-        b'*' => Some(TokenKind::Star),
+        b'(' => Some(Mark::OpenParen),
+        b')' => Some(Mark::CloseParen),
+        b'[' => Some(Mark::OpenBracket),
+        b']' => Some(Mark::CloseBracket),
+        b'{' => Some(Mark::OpenBrace),
+        b'}' => Some(Mark::CloseBrace),
+        b'<' => Some(Mark::Less),
+        b'>' => Some(Mark::Greater),
+        b'=' => Some(Mark::Equals),
+        b',' => Some(Mark::Comma),
+        b';' => Some(Mark::Semicolon),
+        b':' => Some(Mark::Colon),
+        b'.' => Some(Mark::Dot),
+        b'+' => Some(Mark::Plus),
+        b'-' => Some(Mark::Minus),
+        b'*' => Some(Mark::Star),
         _ => None,
     }
 }
 
 fn single_at(text: &[u8]) -> Option<Piece>
-    ensures { result ≡ single_at_of text.now }
+    ensures { result ≡ single_at text.now }
 {
     match text {
         [byte, _rest @ ..] => match symbol(*byte) {
-            Some(kind) => token(kind, 1),
+            Some(mark) => token(TokenKind::Mark(mark), 1),
             None => None,
         },
         _ => None,
@@ -134,12 +135,12 @@ fn single_at(text: &[u8]) -> Option<Piece>
 }
 
 fn symbol_at(text: &[u8]) -> Option<Piece>
-    ensures { result ≡ symbol_at_of text.now }
+    ensures { result ≡ symbol_at text.now }
 {
     if begins_pair(text, b'<', b'=') {
-        token(TokenKind::AtMost, 2)
+        token(TokenKind::Mark(Mark::AtMost), 2)
     } else if begins_pair(text, b'>', b'=') {
-        token(TokenKind::AtLeast, 2)
+        token(TokenKind::Mark(Mark::AtLeast), 2)
     } else {
         single_at(text)
     }
@@ -148,7 +149,7 @@ fn symbol_at(text: &[u8]) -> Option<Piece>
 /// The token that the text begins with: the first rule that it begins as decides.
 #[tactic(auto, unfolding(crate::specs::Rules::token_at))]
 fn token_at(text: &[u8]) -> Option<Piece>
-    ensures { result ≡ token_at_of text.now }
+    ensures { result ≡ token_at text.now }
 {
     if begins_uuid(text) {
         token(TokenKind::Uuid, 36)
@@ -170,7 +171,7 @@ fn token_at(text: &[u8]) -> Option<Piece>
 /// The blank, the comment or the token that the text begins with.
 #[tactic(auto, unfolding(crate::specs::Rules::piece_at))]
 pub(crate) fn piece_at(text: &[u8]) -> Option<Piece>
-    ensures piece { result ≡ piece_at_of text.now }
+    ensures piece { result ≡ piece_at text.now }
     ensures size { IfSome result (λ p. (0 < p.size) × (p.size ≤ length text.now)) }
 {
     match gap_size(text) {

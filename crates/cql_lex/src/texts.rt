@@ -1,3 +1,5 @@
+//! Bytes as texts.
+
 ghost use Rattle.std.specs.Prelude.{◌≡◌, Some, None, if◌then◌else◌};
 ghost use Rattle.std.specs.Str.{is_utf8};
 

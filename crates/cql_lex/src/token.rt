@@ -1,13 +1,8 @@
-/// What kind of token a span of a statement is.
+//! Tokens, each with the span that it stands in.
+
+/// A mark of one or two characters.
 #[derive(Clone, Copy, PartialEq, Eq, Debug)]
-pub enum TokenKind {
-    Uuid,
-    Blob,
-    Number,
-    Ratio,
-    Name,
-    QuotedName,
-    String,
+pub enum Mark {
     AtMost,
     AtLeast,
     OpenParen,
@@ -26,6 +21,19 @@ pub enum TokenKind {
     Plus,
     Minus,
     Star,
+}
+
+/// What kind of token a span of a statement is.
+#[derive(Clone, Copy, PartialEq, Eq, Debug)]
+pub enum TokenKind {
+    Uuid,
+    Blob,
+    Number,
+    Ratio,
+    Name,
+    QuotedName,
+    String,
+    Mark(Mark),
 }
 
 /// A token: its kind, and the span of the source that it stands in, in bytes.

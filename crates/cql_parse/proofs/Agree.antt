@@ -1,7 +1,7 @@
 -- How a reader agrees with a phrase, and the steps of readers.
 use Rattle.std.proofs.Common.{◌≡◌, ◌≤◌, ◌⊎◌, List, length, Option, None, Some, refl, subst, ap, ◌∙◌, inl, inr}
 use Rattle.cql_parse.specs.declared.lexeme.Lexeme.{Lexeme}
-use Rattle.cql_parse.specs.Reading.{Reader, done, and_then, chosen, passed}
+use Rattle.cql_parse.specs.Inner.Reading.{Reader, done, and_then, chosen, passed}
 use Rattle.cql_parse.specs.Grammar.{Phrase}
 
 -- What is read is the phrase; and a phrase is read, where what follows it may follow.

@@ -2,9 +2,9 @@
 use Rattle.std.proofs.Common.{◌≡◌, ℕ, ℤ, ◌≤◌, Bool, true, false, cond, List, [], ◌∷◌, length, Option, None, Some, refl, sym, subst, ap, ◌∙◌, inl, inr, arith}
 use Rattle.cql_parse.specs.declared.lexeme.Lexeme.{Lexeme}
 use Rattle.cql_parse.specs.declared.lexeme.Lexeme.TheVariants as lexeme
-use Rattle.cql_parse.specs.declared.symbol.Keyword.{Keyword}
-use Rattle.cql_parse.specs.declared.symbol.Keyword.TheVariants as word
-use Rattle.cql_parse.specs.declared.symbol.Mark.TheVariants as mark
+use Rattle.cql_parse.specs.declared.keyword.Keyword.{Keyword}
+use Rattle.cql_parse.specs.declared.keyword.Keyword.TheVariants as word
+use Rattle.cql_lex.specs.declared.token.Mark.TheVariants as mark
 use Rattle.cql_parse.specs.declared.lists.Separator.TheVariants as separator
 use Rattle.cql_parse.specs.declared.term.Constant.{Constant}
 use Rattle.cql_parse.specs.declared.term.Term.TheVariants as term
@@ -21,16 +21,16 @@ use Rattle.cql_parse.specs.declared.syntax.Target.{Target}
 use Rattle.cql_parse.specs.declared.syntax.Relation.{Relation}
 use Rattle.cql_parse.specs.declared.syntax.Operator.{Operator}
 use Rattle.cql_parse.specs.declared.syntax.Operator.TheVariants as operator
-use Rattle.cql_parse.specs.declared.symbol.Mark.{Mark}
+use Rattle.cql_lex.specs.declared.token.Mark.{Mark}
 use Rattle.cql_parse.specs.declared.term.Constant.TheVariants as constant
-use Rattle.cql_parse.specs.Symbols.{spelling, is_reserved, place}
-use Rattle.cql_parse.specs.Reading.{done, after_word, after_mark, after_open_bracket, after_separator, word_at, mark_at, close_bracket_at, name_at, number_at, list_at, in_parens, list_behind}
-use Rattle.cql_parse.specs.TermReading.{constant_at, opens, literal_at, term_at}
+use Rattle.cql_parse.specs.Symbols.{spelling, is_reserved}
+use Rattle.cql_parse.specs.Inner.Reading.{done, after_word, after_mark, after_open_bracket, after_separator, word_at, mark_at, close_bracket_at, name_at, whole_number_at, list_at, in_parens, list_behind, place}
+use Rattle.cql_parse.specs.Inner.TermReading.{constant_at, opens, literal_at, term_at}
 use Rattle.cql_parse.proofs.Agree.{Agrees, Anything, Shrinks, unstep, step, unchoose, choose, choose_other, phrase_at}
 use Rattle.cql_parse.proofs.Tokens.{word_sound, word_full, other_word, mark_sound, mark_full, other_mark, word_at_sound, word_at_full, mark_at_sound, mark_at_full, open_bracket_sound, open_bracket_full, close_bracket_at_sound, close_bracket_at_full, name_agrees, name_shrinks, number_agrees, no_word, word_no_mark}
-use Rattle.cql_parse.proofs.Clauses.{MayGoOn, AfterList, MayClose, AfterClause, NotWord, Starts, list_agrees, parens_agrees, behind_agrees, starts_word, starts_mark, starts_behind}
+use Rattle.cql_parse.proofs.ClauseAgree.{MayGoOn, AfterList, MayClose, AfterClause, NotWord, Starts, list_agrees, parens_agrees, behind_agrees, starts_word, starts_mark, starts_behind}
 use Rattle.cql_parse.proofs.TermAgree.{constant_agrees, constant_shrinks, literal_agrees, literal_shrinks, literal_is_opened, term_agrees, term_shrinks, either}
-use Rattle.cql_parse.specs.StatementReading.{table_at, use_at, insert_at, operator_at, relation_at, is_name, entry_assigned, literal_assigned, changed, name_assigned, term_assigned, right_side, assigned_at, assignment_at, update_at, target_at, targets_at, timestamp_at, delete_at}
+use Rattle.cql_parse.specs.Inner.StatementReading.{table_at, use_at, insert_at, operator_at, relation_at, name_comes, entry_assigned, literal_assigned, changed, name_assigned, term_assigned, right_side, assigned_at, assignment_at, update_at, target_at, targets_at, timestamp_at, delete_at}
 use Rattle.cql_parse.specs.Grammar.{Phrase, keyword, sign, open_bracket, close_bracket, Some_of, Behind, InParens, Maybe, Qualified, IsName, IsTable, IsNumber, IsConstant, IsTerm, IsUse, IsOperator, IsRelation, InBrackets, IsInsert, IsAssigned, IsAssignment, IsUpdate, Keyed, IsTarget, Targets, IsDelete}
 
 -- what isn't the mark
@@ -72,20 +72,20 @@ unfolding use_at
 use_sound l r x e =
     elim (unchoose (after_word word.Timestamp l) _ _ (x, r) e) [
       | inl h ↦
-          let u = unstep (number_at h.0) _ x r h.2 in
+          let u = unstep (whole_number_at h.0) _ x r h.2 in
           phrase_at IsUse («use».Timestamp u.value) x l u.left r u.next (h.0, word_sound word.Timestamp l h.0 h.1, number_agrees.sound h.0 u.left u.value u.was)
       | inr h ↦
           let v = unstep (word_at word.Ttl l) _ x r h.1 in
-          let u = unstep (number_at v.left) _ x r v.next in
+          let u = unstep (whole_number_at v.left) _ x r v.next in
           phrase_at IsUse («use».Ttl u.value) x l u.left r u.next (v.left, word_at_sound word.Ttl l v.left v.value v.was, number_agrees.sound v.left u.left u.value u.was)
     ]
 
 use_full : (l r : List Lexeme) (x : Use) → IsUse x l r → Anything r → use_at l ≡ Some (x, r)
 unfolding use_at spelling
-use_full l r («use».Timestamp n) h f = choose (after_word word.Timestamp l) _ _ h.0 _ (word_full word.Timestamp l h.0 h.1) (step (number_at h.0) _ n r _ (number_agrees.full h.0 r n h.2 tt) refl)
+use_full l r («use».Timestamp n) h f = choose (after_word word.Timestamp l) _ _ h.0 _ (word_full word.Timestamp l h.0 h.1) (step (whole_number_at h.0) _ n r _ (number_agrees.full h.0 r n h.2 tt) refl)
 use_full l r («use».Ttl n) h f =
     choose_other (after_word word.Timestamp l) _ _ _ (other_word word.Timestamp word.Ttl l h.0 refl h.1)
-    (step (word_at word.Ttl l) _ tt h.0 _ (word_at_full word.Ttl l h.0 h.1) (step (number_at h.0) _ n r _ (number_agrees.full h.0 r n h.2 tt) refl))
+    (step (word_at word.Ttl l) _ tt h.0 _ (word_at_full word.Ttl l h.0 h.1) (step (whole_number_at h.0) _ n r _ (number_agrees.full h.0 r n h.2 tt) refl))
 
 pub use_agrees : Agrees use_at IsUse Anything
 use_agrees = record { sound = use_sound; full = use_full }
@@ -131,6 +131,10 @@ operator_sound (lexeme.Mark mark.Comma ∷ l) r x e = absurd cc
 operator_sound (lexeme.Mark mark.Semicolon ∷ l) r x e = absurd cc
 operator_sound (lexeme.Mark mark.Colon ∷ l) r x e = absurd cc
 operator_sound (lexeme.Mark mark.Dot ∷ l) r x e = absurd cc
+operator_sound (lexeme.Mark mark.OpenBracket ∷ l) r x e = absurd cc
+operator_sound (lexeme.Mark mark.CloseBracket ∷ l) r x e = absurd cc
+operator_sound (lexeme.Mark mark.OpenBrace ∷ l) r x e = absurd cc
+operator_sound (lexeme.Mark mark.CloseBrace ∷ l) r x e = absurd cc
 operator_sound (lexeme.Mark mark.Plus ∷ l) r x e = absurd cc
 operator_sound (lexeme.Mark mark.Minus ∷ l) r x e = absurd cc
 operator_sound (lexeme.Mark mark.Star ∷ l) r x e = absurd cc
@@ -267,10 +271,10 @@ literal_assigned_sound k l r x q e =
 right_sound : (k l r : List Lexeme) (x : Assigned) → sign mark.Equals k l → right_side l ≡ Some (x, r) → IsAssigned x k r
 unfolding right_side name_assigned term_assigned
 right_sound k l r x q e =
-    elim (either (opens l) (literal_assigned l) (cond (is_name l) (name_assigned l) (term_assigned l)) (Some (x, r)) e) [
+    elim (either (opens l) (literal_assigned l) (cond (name_comes l) (name_assigned l) (term_assigned l)) (Some (x, r)) e) [
       | inl h ↦ literal_assigned_sound k l r x q h.1
       | inr h ↦
-          elim (either (is_name l) (name_assigned l) (term_assigned l) (Some (x, r)) h.1) [
+          elim (either (name_comes l) (name_assigned l) (term_assigned l) (Some (x, r)) h.1) [
             | inl j ↦ let u = unstep (name_at l) _ x r j.1 in changed_sound u.value k l u.left r x q (name_agrees.sound l u.left u.value u.was) u.next
             | inr j ↦ let u = unstep (term_at l) _ x r j.1 in phrase_at IsAssigned (assigned.Whole u.value) x k u.left r u.next (l, q, term_agrees.sound l u.left u.value u.was)
           ]
@@ -304,37 +308,37 @@ right_again l m x r h e =
     choose_other (after_open_bracket l) _ _ _ (ap after_open_bracket h) (step (mark_at mark.Equals l) _ tt m _ (mark_at_full mark.Equals l m h) e)
 
 -- how a name and a term that is no literal begin
-name_begins : (n : List ℕ) (l r : List Lexeme) → IsName n l r → (opens l ≡ false) × (is_name l ≡ true)
-unfolding opens is_name
-name_begins n l r (inl h) = (ap opens h.0, ap is_name h.0 ∙ rw h.1 refl)
-name_begins n l r (inr h) = (ap opens h, ap is_name h)
+name_begins : (n : List ℕ) (l r : List Lexeme) → IsName n l r → (opens l ≡ false) × (name_comes l ≡ true)
+unfolding opens name_comes
+name_begins n l r (inl h) = (ap opens h.0, ap name_comes h.0 ∙ rw h.1 refl)
+name_begins n l r (inr h) = (ap opens h, ap name_comes h)
 
-null_begins : (l r : List Lexeme) → keyword word.Null l r → (opens l ≡ false) × (is_name l ≡ false)
-unfolding opens is_name is_reserved spelling
-null_begins l r h = (ap opens h, ap is_name h)
+null_begins : (l r : List Lexeme) → keyword word.Null l r → (opens l ≡ false) × (name_comes l ≡ false)
+unfolding opens name_comes is_reserved spelling
+null_begins l r h = (ap opens h, ap name_comes h)
 
-constant_begins : (c : Constant) (l r : List Lexeme) → IsConstant c l r → (opens l ≡ false) × (is_name l ≡ false)
-unfolding opens is_name is_reserved spelling
-constant_begins (constant.Text t) l r h = (ap opens h, ap is_name h)
-constant_begins (constant.Number n) l r h = (ap opens h, ap is_name h)
-constant_begins (constant.Blob b) l r h = (ap opens h, ap is_name h)
-constant_begins (constant.Uuid u) l r h = (ap opens h, ap is_name h)
-constant_begins (constant.Boolean true) l r h = (ap opens h, ap is_name h)
-constant_begins (constant.Boolean false) l r h = (ap opens h, ap is_name h)
+constant_begins : (c : Constant) (l r : List Lexeme) → IsConstant c l r → (opens l ≡ false) × (name_comes l ≡ false)
+unfolding opens name_comes is_reserved spelling
+constant_begins (constant.Text t) l r h = (ap opens h, ap name_comes h)
+constant_begins (constant.Number n) l r h = (ap opens h, ap name_comes h)
+constant_begins (constant.Blob b) l r h = (ap opens h, ap name_comes h)
+constant_begins (constant.Uuid u) l r h = (ap opens h, ap name_comes h)
+constant_begins (constant.Boolean true) l r h = (ap opens h, ap name_comes h)
+constant_begins (constant.Boolean false) l r h = (ap opens h, ap name_comes h)
 
 by_literal : (l : List Lexeme) (z : Option (Assigned × List Lexeme)) → opens l ≡ true → literal_assigned l ≡ z → right_side l ≡ z
 unfolding right_side
-by_literal l z o e = ap (λ (b : Bool). cond b (literal_assigned l) (cond (is_name l) (name_assigned l) (term_assigned l))) o ∙ e
+by_literal l z o e = ap (λ (b : Bool). cond b (literal_assigned l) (cond (name_comes l) (name_assigned l) (term_assigned l))) o ∙ e
 
-by_name : (l : List Lexeme) (z : Option (Assigned × List Lexeme)) → (opens l ≡ false) × (is_name l ≡ true) → name_assigned l ≡ z → right_side l ≡ z
+by_name : (l : List Lexeme) (z : Option (Assigned × List Lexeme)) → (opens l ≡ false) × (name_comes l ≡ true) → name_assigned l ≡ z → right_side l ≡ z
 unfolding right_side
 by_name l z o e =
-    ap (λ (b : Bool). cond b (literal_assigned l) (cond (is_name l) (name_assigned l) (term_assigned l))) o.0 ∙ ap (λ (b : Bool). cond b (name_assigned l) (term_assigned l)) o.1 ∙ e
+    ap (λ (b : Bool). cond b (literal_assigned l) (cond (name_comes l) (name_assigned l) (term_assigned l))) o.0 ∙ ap (λ (b : Bool). cond b (name_assigned l) (term_assigned l)) o.1 ∙ e
 
-by_term : (l : List Lexeme) (z : Option (Assigned × List Lexeme)) → (opens l ≡ false) × (is_name l ≡ false) → term_assigned l ≡ z → right_side l ≡ z
+by_term : (l : List Lexeme) (z : Option (Assigned × List Lexeme)) → (opens l ≡ false) × (name_comes l ≡ false) → term_assigned l ≡ z → right_side l ≡ z
 unfolding right_side
 by_term l z o e =
-    ap (λ (b : Bool). cond b (literal_assigned l) (cond (is_name l) (name_assigned l) (term_assigned l))) o.0 ∙ ap (λ (b : Bool). cond b (name_assigned l) (term_assigned l)) o.1 ∙ e
+    ap (λ (b : Bool). cond b (literal_assigned l) (cond (name_comes l) (name_assigned l) (term_assigned l))) o.0 ∙ ap (λ (b : Bool). cond b (name_assigned l) (term_assigned l)) o.1 ∙ e
 
 assigned_full : (l r : List Lexeme) (x : Assigned) → IsAssigned x l r → NotMark mark.Plus r → assigned_at l ≡ Some (x, r)
 unfolding assigned_at entry_assigned literal_assigned name_assigned term_assigned changed place
@@ -504,7 +508,7 @@ timestamp_sound l r o e =
     elim (unchoose (after_word word.Using l) _ _ (o, r) e) [
       | inl h ↦
           let u = unstep (word_at word.Timestamp h.0) _ o r h.2 in
-          let v = unstep (number_at u.left) _ o r u.next in
+          let v = unstep (whole_number_at u.left) _ o r u.next in
           phrase_at IsTimestamp (Some v.value) o l v.left r v.next (u.left, (h.0, word_sound word.Using l h.0 h.1, word_at_sound word.Timestamp h.0 u.left u.value u.was), number_agrees.sound u.left v.left v.value v.was)
       | inr h ↦ phrase_at IsTimestamp None o l l r h.1 refl
     ]
@@ -514,7 +518,7 @@ unfolding timestamp_at
 timestamp_full l r None h f = choose_other (after_word word.Using l) _ _ _ (ap (after_word word.Using) h ∙ f) (ap (λ (t : List Lexeme). done {A = Option ℤ} None t) h)
 timestamp_full l r (Some n) h f =
     choose (after_word word.Using l) _ _ h.1.0 _ (word_full word.Using l h.1.0 h.1.1)
-    (step (word_at word.Timestamp h.1.0) _ tt h.0 _ (word_at_full word.Timestamp h.1.0 h.0 h.1.2) (step (number_at h.0) _ n r _ (number_agrees.full h.0 r n h.2 tt) refl))
+    (step (word_at word.Timestamp h.1.0) _ tt h.0 _ (word_at_full word.Timestamp h.1.0 h.0 h.1.2) (step (whole_number_at h.0) _ n r _ (number_agrees.full h.0 r n h.2 tt) refl))
 
 timestamp_starts : (o : Option ℤ) (js : List Keyword) (l r : List Lexeme) → IsTimestamp o l r → Starts js r → Starts (word.Using ∷ js) l
 timestamp_starts None js l r h s = inr (subst (Starts js) (sym h) s)

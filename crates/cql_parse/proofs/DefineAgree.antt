@@ -5,9 +5,9 @@ use Rattle.cas_types.specs.declared.tag.TypeTag.{TypeTag}
 use Rattle.cas_types.specs.declared.tag.TypeTag.TheVariants as tag
 use Rattle.cql_parse.specs.declared.lexeme.Lexeme.{Lexeme}
 use Rattle.cql_parse.specs.declared.lexeme.Lexeme.TheVariants as lexeme
-use Rattle.cql_parse.specs.declared.symbol.Keyword.{Keyword}
-use Rattle.cql_parse.specs.declared.symbol.Keyword.TheVariants as word
-use Rattle.cql_parse.specs.declared.symbol.Mark.TheVariants as mark
+use Rattle.cql_parse.specs.declared.keyword.Keyword.{Keyword}
+use Rattle.cql_parse.specs.declared.keyword.Keyword.TheVariants as word
+use Rattle.cql_lex.specs.declared.token.Mark.TheVariants as mark
 use Rattle.cql_parse.specs.declared.lists.Separator.TheVariants as separator
 use Rattle.cql_parse.specs.declared.syntax.CreateTable.{CreateTable}
 use Rattle.cql_parse.specs.declared.syntax.AlterTable.{AlterTable}
@@ -24,14 +24,14 @@ use Rattle.cql_parse.specs.declared.syntax.OptionValue.{OptionValue}
 use Rattle.cql_parse.specs.declared.syntax.OptionValue.TheVariants as option_value
 use Rattle.cql_parse.specs.declared.syntax.Suboption.{Suboption}
 use Rattle.cql_parse.specs.declared.term.Constant.TheVariants as constant
-use Rattle.cql_parse.specs.Symbols.{spelling, is_reserved, place}
-use Rattle.cql_parse.specs.Reading.{done, after_word, after_mark, after_separator, word_at, mark_at, close_brace_at, name_at, from_at, list_at, in_parens, list_behind, flag_at}
-use Rattle.cql_parse.specs.TermReading.{truth_of, constant_at, setting_at}
+use Rattle.cql_parse.specs.Symbols.{spelling, is_reserved}
+use Rattle.cql_parse.specs.Inner.Reading.{done, after_word, after_mark, after_separator, word_at, mark_at, close_brace_at, name_at, from_at, list_at, in_parens, list_behind, flag_at, place}
+use Rattle.cql_parse.specs.Inner.TermReading.{truth_of, constant_at, setting_at}
 use Rattle.cql_parse.proofs.Agree.{Agrees, Anything, Shrinks, unstep, step, unchoose, choose, choose_other, phrase_at}
 use Rattle.cql_parse.proofs.Tokens.{word_sound, word_full, other_word, mark_sound, mark_full, other_mark, word_at_sound, word_at_full, mark_at_sound, mark_at_full, close_brace_at_sound, close_brace_at_full, name_agrees, name_shrinks, no_word, no_mark, word_no_mark}
-use Rattle.cql_parse.proofs.Clauses.{MayGoOn, AfterList, MayClose, AfterClause, NotWord, list_agrees, list_shrinks, more_shrinks, from_sound, from_full, parens_agrees, behind_agrees, flag_agrees, starts_word, starts_mark}
+use Rattle.cql_parse.proofs.ClauseAgree.{MayGoOn, AfterList, MayClose, AfterClause, NotWord, list_agrees, list_shrinks, more_shrinks, from_sound, from_full, parens_agrees, behind_agrees, flag_agrees, starts_word, starts_mark}
 use Rattle.cql_parse.proofs.TermAgree.{constant_agrees, constant_shrinks, setting_agrees, setting_shrinks}
-use Rattle.cql_parse.specs.StatementReading.{table_at, column_order_at, first_of, native_at, one_in_angles, two_in_angles, type_at, key_flag, defined_at, added_at, names_closed, partition_at, key_at, item_at, suboption_at, suboptions, constant_value, option_value_at, named_option, after_words, clustering_order, option_at, create_at, alter_at}
+use Rattle.cql_parse.specs.Inner.StatementReading.{table_at, column_order_at, first_type_of, native_at, one_in_angles, two_in_angles, type_at, key_flag, defined_at, added_at, names_closed, partition_at, key_at, item_at, suboption_at, suboptions_closed, constant_value, option_value_at, named_option_at, after_words, clustering_order_at, option_at, create_at, alter_at}
 use Rattle.cql_parse.specs.Grammar.{Phrase, keyword, sign, close_brace, More, Some_of, Behind, InParens, If, IsName, IsColumnOrder, IsNative, IsType, IsDefined, IsAdded, IsPartition, IsPrimaryKey, IsItem, IsSuboption, IsOptionValue, IsOption, IsCreate, IsAlter}
 use Rattle.cql_parse.proofs.ChangeAgree.{End, table_agrees, not_and, not_comma}
 use Rattle.cql_parse.proofs.SelectAgree.{order_agrees, order_shrinks, order_goes_on, NoDirection}
@@ -42,7 +42,7 @@ nothing_there : (x : TypeTag) (r : List Lexeme) → ◌≡◌ {A = Option (TypeT
 nothing_there x r e = cc
 
 native_sound : (l r : List Lexeme) (x : TypeTag) → native_at l ≡ Some (x, r) → IsNative x l r
-unfolding native_at first_of
+unfolding native_at first_type_of
 native_sound l r x e =
     elim (unchoose (after_word word.Ascii l) _ _ (x, r) e) [
       | inl h0 ↦ phrase_at IsNative tag.Ascii x l h0.0 r h0.2 (word_sound word.Ascii l h0.0 h0.1)
@@ -102,7 +102,7 @@ native_sound l r x e =
     ]
 
 native_full : (l r : List Lexeme) (x : TypeTag) → IsNative x l r → Anything r → native_at l ≡ Some (x, r)
-unfolding native_at first_of spelling
+unfolding native_at first_type_of spelling
 native_full l r tag.Ascii h f = (choose (after_word word.Ascii l) _ _ r _ (word_full word.Ascii l r h) refl)
 native_full l r tag.BigInt h f = (choose_other (after_word word.Ascii l) _ _ _ (other_word word.Ascii word.BigInt l r refl h) (choose (after_word word.BigInt l) _ _ r _ (word_full word.BigInt l r h) refl))
 native_full l r tag.Blob h f = (choose_other (after_word word.Ascii l) _ _ _ (other_word word.Ascii word.Blob l r refl h) (choose_other (after_word word.BigInt l) _ _ _ (other_word word.BigInt word.Blob l r refl h) (choose (after_word word.Blob l) _ _ r _ (word_full word.Blob l r h) refl)))
@@ -437,7 +437,7 @@ constant_value_sound : (l r : List Lexeme) (x : OptionValue) → constant_value 
 constant_value_sound l r x e = let u = unstep (constant_at l) _ x r e in phrase_at IsOptionValue (option_value.Constant u.value) x l u.left r u.next (constant_agrees.sound l u.left u.value u.was)
 
 option_value_sound : (l r : List Lexeme) (x : OptionValue) → option_value_at l ≡ Some (x, r) → IsOptionValue x l r
-unfolding option_value_at suboptions
+unfolding option_value_at suboptions_closed
 option_value_sound [] r x e = absurd cc
 option_value_sound (lexeme.Ratio n ∷ l) r x e = phrase_at IsOptionValue (option_value.Ratio n) x (lexeme.Ratio n ∷ l) l r e refl
 option_value_sound (lexeme.OpenBrace at ∷ l) r x e =
@@ -456,7 +456,7 @@ option_value_sound (lexeme.CloseBracket at ∷ l) r x e = constant_value_sound (
 option_value_sound (lexeme.CloseBrace at ∷ l) r x e = constant_value_sound (lexeme.CloseBrace at ∷ l) r x e
 
 option_value_full : (l r : List Lexeme) (x : OptionValue) → IsOptionValue x l r → option_value_at l ≡ Some (x, r)
-unfolding option_value_at suboptions constant_at truth_of spelling
+unfolding option_value_at suboptions_closed constant_at truth_of spelling
 option_value_full l r (option_value.Ratio n) h = ap option_value_at h
 option_value_full l r (option_value.Constant (constant.Text t)) h = ap option_value_at h
 option_value_full l r (option_value.Constant (constant.Number n)) h = ap option_value_at h
@@ -506,7 +506,7 @@ column_orders : Agrees (in_parens column_order_at) (InParens IsColumnOrder) Anyt
 column_orders = parens_agrees column_order_at IsColumnOrder NoDirection order_agrees order_shrinks order_goes_on order_closes
 
 option_sound : (l r : List Lexeme) (x : TableOption) → option_at l ≡ Some (x, r) → IsOption x l r
-unfolding option_at clustering_order named_option
+unfolding option_at clustering_order_at named_option_at
 option_sound l r x e =
     elim (unchoose (after_words word.Clustering word.Order l) _ _ (x, r) e) [
       | inl h ↦
@@ -524,7 +524,7 @@ option_sound l r x e =
     ]
 
 option_full : (l r : List Lexeme) (x : TableOption) → IsOption x l r → Anything r → option_at l ≡ Some (x, r)
-unfolding option_at clustering_order named_option
+unfolding option_at clustering_order_at named_option_at
 option_full l r (table_option.Named o) (a, ha, (b, hb, hc)) f =
     choose_other (after_words word.Clustering word.Order l) _ _ _ (name_no_words word.Clustering word.Order o.name l a b ha hb)
     (step (name_at l) _ o.name a _ (name_agrees.full l a o.name ha tt)

@@ -5,7 +5,7 @@ use Rattle.cql_parse.specs.declared.fault.ParseFault.{ParseFault}
 use Rattle.cql_parse.specs.declared.fault.ParseFault.TheVariants as faults
 use Rattle.cql_parse.specs.declared.lexeme.Lexeme.{Lexeme}
 use Rattle.cql_parse.specs.declared.lists.Separator.{Separator}
-use Rattle.cql_parse.specs.Reading.{Reader, done, and_then, Fails, after_separator, more_at}
+use Rattle.cql_parse.specs.Inner.Reading.{Reader, done, and_then, Fails, after_separator, more_at}
 
 -- what was read before, and what is still read
 abbrev pub with_front : {A : Type 0} → List A → Option (List A × List Lexeme) → Option (List A × List Lexeme)

@@ -6,7 +6,7 @@ use Rattle.cql_lex.specs.declared.token.Token.{Token}
 use Rattle.cql_parse.specs.declared.fault.ParseFault.{ParseFault}
 use Rattle.cql_parse.specs.declared.fault.ParseFault.TheVariants as faults
 use Rattle.cql_parse.specs.declared.lexeme.Lexeme.{Lexeme}
-use Rattle.cql_parse.specs.Reading.{Fails}
+use Rattle.cql_parse.specs.Inner.Reading.{Fails}
 use Rattle.cql_parse.specs.Lexemes.{lexeme_at, lexemes_of}
 
 abbrev pub behind : List Lexeme → Option (List Lexeme) → Option (List Lexeme)

@@ -4,8 +4,8 @@ use Rattle.std.specs.Str.{bytes_eq}
 use Rattle.std.proofs.lemmas.Slice.Eq.{bytes_eq-Decides}
 use Rattle.cql_parse.specs.declared.lexeme.Lexeme.{Lexeme}
 use Rattle.cql_parse.specs.declared.lexeme.Lexeme.TheVariants as lexeme
-use Rattle.cql_parse.specs.declared.symbol.Keyword.TheVariants as word
-use Rattle.cql_parse.specs.declared.symbol.Mark.TheVariants as mark
+use Rattle.cql_parse.specs.declared.keyword.Keyword.TheVariants as word
+use Rattle.cql_lex.specs.declared.token.Mark.TheVariants as mark
 use Rattle.cql_parse.specs.declared.nested.Frame.{Frame}
 use Rattle.cql_parse.specs.declared.nested.Frame.TheVariants as frame
 use Rattle.cql_parse.specs.declared.nested.Wants.{Wants}
@@ -16,7 +16,7 @@ use Rattle.cql_parse.specs.declared.term.Constant.{Constant}
 use Rattle.cql_parse.specs.declared.term.Constant.TheVariants as constant
 use Rattle.cql_parse.specs.declared.term.Nested.{Nested}
 use Rattle.cql_parse.specs.Symbols.{spelling}
-use Rattle.cql_parse.specs.TermReading.{is_plain, opening, starts, bracket_closes, brace_closes, closing, comma, colon, follows, closes, step, walk, nested_at}
+use Rattle.cql_parse.specs.Inner.TermReading.{stands_alone, opening, starts, bracket_closes, brace_closes, closing, comma, colon, follows, closes, step, walk, nested_at}
 use Rattle.cql_parse.specs.Grammar.{Phrase, keyword, IsConstant, Part, Nests, one_term, some_terms, some_pairs, a_literal, constant_there, null_there, literal_there, last_term, next_term, last_pair, next_pair, empty_braces, set_there, map_there, empty_brackets, list_there}
 use Rattle.cql_parse.proofs.Agree.{Agrees, Anything, unstep, some_is, phrase_at}
 use Rattle.cql_parse.proofs.Walks.{walk_goes, walk_opens, walk_closes, walk_ends, walk_fails}
@@ -86,8 +86,8 @@ is_null_or_truth text l false true c p q s e = constant_there (constant.Boolean 
 is_null_or_truth text l false false true p q s e = constant_there (constant.Boolean false) (ap (λ (t : List ℕ). lexeme.Word t ∷ l) ((bytes_eq-Decides text (spelling word.False)).0 s))
 is_null_or_truth text l false false false p q s e = absurd cc
 
-plain_term : (x : Lexeme) (l : List Lexeme) → is_plain x ≡ true → Nests one_term (x ∷ l) l
-unfolding is_plain
+plain_term : (x : Lexeme) (l : List Lexeme) → stands_alone x ≡ true → Nests one_term (x ∷ l) l
+unfolding stands_alone
 plain_term (lexeme.Word text) l e = is_null_or_truth text l _ _ _ refl refl refl e
 plain_term (lexeme.Text text) l e = constant_there (constant.Text text) refl
 plain_term (lexeme.Number x) l e = constant_there (constant.Number x) refl
@@ -103,7 +103,7 @@ plain_term (lexeme.CloseBrace p) l e = absurd cc
 
 -- ---- one step back: a term
 
-starts_goes : (b : Bool) (f g : Frame) (v : Wants) (x : Lexeme) → is_plain x ≡ b → cond b (move.Go wants.Next f) (opening x) ≡ move.Go v g → (is_plain x ≡ true) × (move.Go wants.Next f ≡ move.Go v g)
+starts_goes : (b : Bool) (f g : Frame) (v : Wants) (x : Lexeme) → stands_alone x ≡ b → cond b (move.Go wants.Next f) (opening x) ≡ move.Go v g → (stands_alone x ≡ true) × (move.Go wants.Next f ≡ move.Go v g)
 unfolding opening
 starts_goes true f g v x q e = (q, e)
 starts_goes false f g v (lexeme.Word text) q e = absurd cc
@@ -142,7 +142,7 @@ starts_closes false f at (lexeme.CloseBrace p) e = cc
 term_goes : (f g : Frame) (v : Wants) (x : Lexeme) (at : ℕ) (l r : List Lexeme) → starts f x ≡ move.Go v g → Ahead v g at l r → TermTail f at (x ∷ l) r
 unfolding starts
 term_goes f g v x at l r e h =
-    let s = starts_goes (is_plain x) f g v x refl e in
+    let s = starts_goes (stands_alone x) f g v x refl e in
     (l, plain_term x l s.0, went (λ w k. Ahead w k at l r) wants.Next v f g s.1 h)
 
 opened : (g h : Frame) → move.Open g ≡ move.Open h → g ≡ h
@@ -174,7 +174,7 @@ opening_there g (lexeme.CloseBrace p) at l r e h = absurd cc
 
 term_opens : (f g : Frame) (x : Lexeme) (at b : ℕ) (l m r : List Lexeme) → starts f x ≡ move.Open g → Ahead wants.First g at l m → Tail f b m r → TermTail f b (x ∷ l) r
 unfolding starts
-term_opens f g x at b l m r e h t = (m, opening_there g x at l m (starts_opens (is_plain x) f g x e) h, t)
+term_opens f g x at b l m r e h t = (m, opening_there g x at l m (starts_opens (stands_alone x) f g x e) h, t)
 
 -- ---- one step back: behind a term
 
@@ -199,6 +199,10 @@ next_goes f g v (lexeme.Mark mark.AtLeast) at l r e h = absurd cc
 next_goes f g v (lexeme.Mark mark.Equals) at l r e h = absurd cc
 next_goes f g v (lexeme.Mark mark.Semicolon) at l r e h = absurd cc
 next_goes f g v (lexeme.Mark mark.Dot) at l r e h = absurd cc
+next_goes f g v (lexeme.Mark mark.OpenBracket) at l r e h = absurd cc
+next_goes f g v (lexeme.Mark mark.CloseBracket) at l r e h = absurd cc
+next_goes f g v (lexeme.Mark mark.OpenBrace) at l r e h = absurd cc
+next_goes f g v (lexeme.Mark mark.CloseBrace) at l r e h = absurd cc
 next_goes f g v (lexeme.Mark mark.Plus) at l r e h = absurd cc
 next_goes f g v (lexeme.Mark mark.Minus) at l r e h = absurd cc
 next_goes f g v (lexeme.Mark mark.Star) at l r e h = absurd cc
@@ -243,6 +247,10 @@ next_opens f g (lexeme.Mark mark.AtLeast) e = cc
 next_opens f g (lexeme.Mark mark.Equals) e = cc
 next_opens f g (lexeme.Mark mark.Semicolon) e = cc
 next_opens f g (lexeme.Mark mark.Dot) e = cc
+next_opens f g (lexeme.Mark mark.OpenBracket) e = cc
+next_opens f g (lexeme.Mark mark.CloseBracket) e = cc
+next_opens f g (lexeme.Mark mark.OpenBrace) e = cc
+next_opens f g (lexeme.Mark mark.CloseBrace) e = cc
 next_opens f g (lexeme.Mark mark.Plus) e = cc
 next_opens f g (lexeme.Mark mark.Minus) e = cc
 next_opens f g (lexeme.Mark mark.Star) e = cc
@@ -330,6 +338,10 @@ next_closes f (lexeme.Mark mark.AtLeast) at l e = closer_tail f at _ l (closing_
 next_closes f (lexeme.Mark mark.Equals) at l e = closer_tail f at _ l (closing_there f (lexeme.Mark mark.Equals) at l e)
 next_closes f (lexeme.Mark mark.Semicolon) at l e = closer_tail f at _ l (closing_there f (lexeme.Mark mark.Semicolon) at l e)
 next_closes f (lexeme.Mark mark.Dot) at l e = closer_tail f at _ l (closing_there f (lexeme.Mark mark.Dot) at l e)
+next_closes f (lexeme.Mark mark.OpenBracket) at l e = closer_tail f at _ l (closing_there f (lexeme.Mark mark.OpenBracket) at l e)
+next_closes f (lexeme.Mark mark.CloseBracket) at l e = closer_tail f at _ l (closing_there f (lexeme.Mark mark.CloseBracket) at l e)
+next_closes f (lexeme.Mark mark.OpenBrace) at l e = closer_tail f at _ l (closing_there f (lexeme.Mark mark.OpenBrace) at l e)
+next_closes f (lexeme.Mark mark.CloseBrace) at l e = closer_tail f at _ l (closing_there f (lexeme.Mark mark.CloseBrace) at l e)
 next_closes f (lexeme.Mark mark.Plus) at l e = closer_tail f at _ l (closing_there f (lexeme.Mark mark.Plus) at l e)
 next_closes f (lexeme.Mark mark.Minus) at l e = closer_tail f at _ l (closing_there f (lexeme.Mark mark.Minus) at l e)
 next_closes f (lexeme.Mark mark.Star) at l e = closer_tail f at _ l (closing_there f (lexeme.Mark mark.Star) at l e)
@@ -385,9 +397,9 @@ unfolding step starts
 closes_back wants.First f x at l e =
     elim (first_step (closing f x) (starts f x) (move.Close at) e) [
       | inl c ↦ inl (closing_there f x at l c.0)
-      | inr s ↦ absurd (starts_closes (is_plain x) f at x s)
+      | inr s ↦ absurd (starts_closes (stands_alone x) f at x s)
     ]
-closes_back wants.Term f x at l e = absurd (starts_closes (is_plain x) f at x e)
+closes_back wants.Term f x at l e = absurd (starts_closes (stands_alone x) f at x e)
 closes_back wants.Next f x at l e = next_closes f x at l e
 
 -- ---- what the walk takes is in the grammar
@@ -419,13 +431,13 @@ walk_sound (x ∷ l) w f fs e r h = by_move w f x l e r (λ v g gs. walk_sound l
 abbrev FromBoth : Frame → List Frame → List Lexeme → Option (ℕ × List Lexeme) → Type 0
 FromBoth f fs l z = (walk wants.Term f fs l ≡ z) × (walk wants.First f fs l ≡ z)
 
-plain_both : (f : Frame) (fs : List Frame) (x : Lexeme) (l r : List Lexeme) → l ≡ x ∷ r → is_plain x ≡ true → closing f x ≡ move.Wrong → FromBoth f fs l (walk wants.Next f fs r)
+plain_both : (f : Frame) (fs : List Frame) (x : Lexeme) (l r : List Lexeme) → l ≡ x ∷ r → stands_alone x ≡ true → closing f x ≡ move.Wrong → FromBoth f fs l (walk wants.Next f fs r)
 unfolding step starts
 plain_both f fs x l r e p c =
     (ap (walk wants.Term f fs) e ∙ walk_goes wants.Term wants.Next f f fs x r (rw p refl), ap (walk wants.First f fs) e ∙ walk_goes wants.First wants.Next f f fs x r (rw (c, p) refl))
 
 constant_both : (f : Frame) (fs : List Frame) (c : Constant) (l r : List Lexeme) → IsConstant c l r → FromBoth f fs l (walk wants.Next f fs r)
-unfolding is_plain closing spelling
+unfolding stands_alone closing spelling
 constant_both f fs (constant.Text t) l r h = plain_both f fs (lexeme.Text t) l r h refl refl
 constant_both f fs (constant.Number n) l r h = plain_both f fs (lexeme.Number n) l r h refl refl
 constant_both f fs (constant.Blob b) l r h = plain_both f fs (lexeme.Blob b) l r h refl refl
@@ -434,7 +446,7 @@ constant_both f fs (constant.Boolean true) l r h = plain_both f fs (lexeme.Word 
 constant_both f fs (constant.Boolean false) l r h = plain_both f fs (lexeme.Word (spelling word.False)) l r h refl refl
 
 null_both : (f : Frame) (fs : List Frame) (l r : List Lexeme) → keyword word.Null l r → FromBoth f fs l (walk wants.Next f fs r)
-unfolding is_plain closing spelling
+unfolding stands_alone closing spelling
 null_both f fs l r h = plain_both f fs (lexeme.Word (spelling word.Null)) l r h refl refl
 
 -- what the walk does along each part
@@ -472,14 +484,14 @@ abbrev InBrackets : ℕ → List Lexeme → List Lexeme → Type 0
 InBrackets at l r = (fs : List Frame) → walk wants.First frame.List fs l ≡ Closed fs at r
 
 brace_along : (s e : ℕ) (l r : List Lexeme) → InBraces e l r → Along (a_literal s e) (lexeme.OpenBrace s ∷ l) r
-unfolding step starts is_plain opening closing nested_at
+unfolding step starts stands_alone opening closing nested_at
 brace_along s e l r h = (
   λ f fs. (walk_opens wants.Term f frame.Braces fs (lexeme.OpenBrace s) l refl ∙ h (f ∷ fs), walk_opens wants.First f frame.Braces fs (lexeme.OpenBrace s) l refl ∙ h (f ∷ fs)),
   rw (h []) refl,
 )
 
 bracket_along : (s e : ℕ) (l r : List Lexeme) → InBrackets e l r → Along (a_literal s e) (lexeme.OpenBracket s ∷ l) r
-unfolding step starts is_plain opening closing nested_at
+unfolding step starts stands_alone opening closing nested_at
 bracket_along s e l r h = (
   λ f fs. (walk_opens wants.Term f frame.List fs (lexeme.OpenBracket s) l refl ∙ h (f ∷ fs), walk_opens wants.First f frame.List fs (lexeme.OpenBracket s) l refl ∙ h (f ∷ fs)),
   rw (h []) refl,

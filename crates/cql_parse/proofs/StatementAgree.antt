@@ -6,17 +6,17 @@ use Rattle.cql_lex.specs.declared.token.Token.{Token}
 use Rattle.cql_parse.specs.declared.fault.ParseFault.{ParseFault}
 use Rattle.cql_parse.specs.declared.fault.ParseFault.TheVariants as faults
 use Rattle.cql_parse.specs.declared.lexeme.Lexeme.{Lexeme}
-use Rattle.cql_parse.specs.declared.symbol.Keyword.{Keyword}
-use Rattle.cql_parse.specs.declared.symbol.Keyword.TheVariants as word
-use Rattle.cql_parse.specs.declared.symbol.Mark.TheVariants as mark
+use Rattle.cql_parse.specs.declared.keyword.Keyword.{Keyword}
+use Rattle.cql_parse.specs.declared.keyword.Keyword.TheVariants as word
+use Rattle.cql_lex.specs.declared.token.Mark.TheVariants as mark
 use Rattle.cql_parse.specs.declared.syntax.Statement.{Statement}
 use Rattle.cql_parse.specs.declared.syntax.Statement.TheVariants as statement
 use Rattle.cql_parse.specs.Symbols.{spelling}
-use Rattle.cql_parse.specs.Reading.{done, after_word, after_mark, Gives}
-use Rattle.cql_parse.specs.StatementReading.{insert_at, update_at, delete_at, select_at, create_at, alter_at, definition_at, change_at, statement_at, semicolon_at, ended, whole}
+use Rattle.cql_parse.specs.Inner.Reading.{done, after_word, after_mark, Gives}
+use Rattle.cql_parse.specs.Inner.StatementReading.{insert_at, update_at, delete_at, select_at, create_at, alter_at, definition_at, change_at, statement_at, semicolon_at, ended, whole_statement, statement_of}
 use Rattle.cql_parse.specs.Grammar.{Phrase, keyword, sign, nothing, ◌∣◌, Of, IsStatement}
 use Rattle.cql_parse.specs.Lexemes.{lexemes_of}
-use Rattle.cql_parse.specs.Means.{Means, IsAnswer, OneStatement, statement_of}
+use Rattle.cql_parse.specs.Means.{Means, IsAnswer, OneStatement}
 use Rattle.cql_parse.proofs.Agree.{unstep, step, unchoose, choose, choose_other, some_is, same, phrase_at}
 use Rattle.cql_parse.proofs.Tokens.{word_sound, word_full, other_word, mark_sound, mark_full}
 use Rattle.cql_parse.proofs.ChangeAgree.{End, insert_sound, insert_full, update_sound, update_full, delete_sound, delete_full}
@@ -114,8 +114,8 @@ ended_is None x e = absurd cc
 ended_is (Some (s, [])) x e = ap (λ (y : Statement). Some (y, [])) (some_is s x e)
 ended_is (Some (s, y ∷ l)) x e = absurd cc
 
-pub whole_sound : (l : List Lexeme) (x : Statement) → whole l ≡ Some x → IsStatement x l
-unfolding whole
+pub whole_sound : (l : List Lexeme) (x : Statement) → whole_statement l ≡ Some x → IsStatement x l
+unfolding whole_statement
 whole_sound l x e =
     let a = unstep (statement_at l) _ x [] (ended_is _ x e) in
     let b = unstep (semicolon_at a.left) _ x [] a.next in
@@ -127,15 +127,15 @@ unfolding semicolon_at after_mark
 semicolon_full l (inl h) = (choose (after_mark mark.Semicolon l) _ _ [] _ (mark_full mark.Semicolon l [] h) refl, inr ([], h))
 semicolon_full l (inr h) = (choose_other (after_mark mark.Semicolon l) _ _ _ (ap (after_mark mark.Semicolon) h) (ap (λ (t : List Lexeme). done tt t) h), inl h)
 
-pub whole_full : (l : List Lexeme) (x : Statement) → IsStatement x l → whole l ≡ Some x
-unfolding whole
+pub whole_full : (l : List Lexeme) (x : Statement) → IsStatement x l → whole_statement l ≡ Some x
+unfolding whole_statement
 whole_full l x h =
     let s = semicolon_full h.0 h.2 in
     ap ended (step (statement_at l) _ x h.0 _ (statement_full l h.0 x h.1 s.1) (step (semicolon_at h.0) _ tt [] (Some (x, [])) s.0 refl))
 
 -- ---- from the tokens
 
-meant : (source : List ℕ) (tokens : List Token) (s : Statement) (o : Option (List Lexeme)) → lexemes_of source tokens ≡ o → option_and_then whole o ≡ Some s → Means source tokens s
+meant : (source : List ℕ) (tokens : List Token) (s : Statement) (o : Option (List Lexeme)) → lexemes_of source tokens ≡ o → option_and_then whole_statement o ≡ Some s → Means source tokens s
 meant source tokens s None p e = absurd cc
 meant source tokens s (Some ls) p e = record { lexemes = ls; meanings = p; grammar = whole_sound ls s e }
 
@@ -146,7 +146,7 @@ read_is_meant source tokens (Err e) g = tt
 
 meant_is_read : (source : List ℕ) (tokens : List Token) (s : Statement) → Means source tokens s → statement_of source tokens ≡ Some s
 unfolding statement_of
-meant_is_read source tokens s m = ap (option_and_then whole) m.meanings ∙ whole_full m.lexemes s m.grammar
+meant_is_read source tokens s m = ap (option_and_then whole_statement) m.meanings ∙ whole_full m.lexemes s m.grammar
 
 pub is_answer : (source : List ℕ) (tokens : List Token) (s : Statement) (r : Result Statement ParseFault) → Gives (λ t. t) r (statement_of source tokens) → Means source tokens s → IsAnswer s r
 is_answer source tokens s (Ok t) g m = some_is t s (sym g ∙ meant_is_read source tokens s m)

@@ -4,8 +4,8 @@ use Rattle.std.specs.Str.{bytes_eq}
 use Rattle.std.proofs.lemmas.Slice.Eq.{bytes_eq-Decides}
 use Rattle.cql_parse.specs.declared.lexeme.Lexeme.{Lexeme}
 use Rattle.cql_parse.specs.declared.lexeme.Lexeme.TheVariants as lexeme
-use Rattle.cql_parse.specs.declared.symbol.Keyword.TheVariants as word
-use Rattle.cql_parse.specs.declared.symbol.Mark.TheVariants as mark
+use Rattle.cql_parse.specs.declared.keyword.Keyword.TheVariants as word
+use Rattle.cql_lex.specs.declared.token.Mark.TheVariants as mark
 use Rattle.cql_parse.specs.declared.lists.Separator.TheVariants as separator
 use Rattle.cql_parse.specs.declared.term.Constant.{Constant}
 use Rattle.cql_parse.specs.declared.term.Constant.TheVariants as constant
@@ -18,13 +18,13 @@ use Rattle.cql_parse.specs.declared.term.Element.TheVariants as element
 use Rattle.cql_parse.specs.declared.term.Entry.{Entry}
 use Rattle.cql_parse.specs.declared.term.Setting.{Setting}
 use Rattle.cql_parse.specs.declared.term.Setting.TheVariants as setting
-use Rattle.cql_parse.specs.Symbols.{spelling, place}
-use Rattle.cql_parse.specs.Reading.{after_word, after_mark, after_close_brace, after_close_bracket, after_separator, mark_at, close_brace_at, close_bracket_at, from_at, list_at}
-use Rattle.cql_parse.specs.TermReading.{truth_of, boolean, constant_at, nested_at, opens, nested_element, constant_element, element_at, entry_at, set_from, map_from, set_or_map, braces_at, some_elements, brackets_at, literal_at, literal_term, constant_term, term_at, setting_at}
+use Rattle.cql_parse.specs.Symbols.{spelling}
+use Rattle.cql_parse.specs.Inner.Reading.{after_word, after_mark, after_close_brace, after_close_bracket, after_separator, mark_at, close_brace_at, close_bracket_at, from_at, list_at, place}
+use Rattle.cql_parse.specs.Inner.TermReading.{truth_of, boolean, constant_at, nested_at, opens, nested_element, constant_element, element_at, pair_at, set_from, map_from, set_or_map, braces_at, some_elements, brackets_at, literal_at, literal_term, constant_term, term_at, setting_at}
 use Rattle.cql_parse.specs.Grammar.{sign, open_brace, close_brace, open_bracket, close_bracket, More, Some_of, Truth, IsConstant, IsElement, IsEntry, IsLiteral, IsTerm, IsSetting, Part, Nests, one_term, some_terms, some_pairs, a_literal, constant_there, null_there, literal_there, last_term, next_term, last_pair, next_pair, empty_braces, set_there, map_there, empty_brackets, list_there}
 use Rattle.cql_parse.proofs.Agree.{Agrees, Anything, Shrinks, unstep, step, unchoose, choose, choose_other, some_is, phrase_at}
 use Rattle.cql_parse.proofs.Tokens.{word_sound, word_full, mark_sound, mark_full, mark_at_sound, mark_at_full, close_brace_sound, close_brace_full, close_bracket_sound, close_bracket_full, close_brace_at_sound, close_brace_at_full, close_bracket_at_sound, close_bracket_at_full}
-use Rattle.cql_parse.proofs.Clauses.{MayGoOn, AfterList, from_sound, from_full, list_agrees, list_shrinks}
+use Rattle.cql_parse.proofs.ClauseAgree.{MayGoOn, AfterList, from_sound, from_full, list_agrees, list_shrinks}
 use Rattle.cql_parse.proofs.Nesting.{nested_agrees}
 
 -- ---- constants
@@ -199,8 +199,8 @@ no_closer element.Null l r h = (ap after_close_brace h, ap after_close_bracket h
 no_closer (element.Constant c) l r h = let p = constant_plain c l r h in (p.no_brace, p.no_bracket)
 no_closer (element.Nested n) l r h = let p = literal_opens n.start n.end l r h in (p.no_brace, p.no_bracket)
 
-entry_sound : (l r : List Lexeme) (x : Entry) → entry_at l ≡ Some (x, r) → IsEntry x l r
-unfolding entry_at
+entry_sound : (l r : List Lexeme) (x : Entry) → pair_at l ≡ Some (x, r) → IsEntry x l r
+unfolding pair_at
 entry_sound l r x e =
     let u = unstep (element_at l) _ x r e in
     let v = unstep (mark_at mark.Colon u.left) _ x r u.next in
@@ -208,14 +208,14 @@ entry_sound l r x e =
     phrase_at IsEntry (record { key = u.value; value = w.value }) x l w.left r w.next
     (u.left, element_sound l u.left u.value u.was, (v.left, mark_at_sound mark.Colon u.left v.left v.value v.was, element_sound v.left w.left w.value w.was))
 
-entry_full : (l r : List Lexeme) (x : Entry) → IsEntry x l r → Anything r → entry_at l ≡ Some (x, r)
-unfolding entry_at
+entry_full : (l r : List Lexeme) (x : Entry) → IsEntry x l r → Anything r → pair_at l ≡ Some (x, r)
+unfolding pair_at
 entry_full l r x h a =
     step (element_at l) _ x.key h.0 _ (element_full l h.0 x.key h.1 tt)
     (step (mark_at mark.Colon h.0) _ tt h.2.0 _ (mark_at_full mark.Colon h.0 h.2.0 h.2.1)
     (step (element_at h.2.0) _ x.value r _ (element_full h.2.0 r x.value h.2.2 tt) refl))
 
-entry_agrees : Agrees entry_at IsEntry Anything
+entry_agrees : Agrees pair_at IsEntry Anything
 entry_agrees = record { sound = entry_sound; full = entry_full }
 
 entry_shrinks : Shrinks IsEntry
@@ -265,9 +265,9 @@ map_sound : (at : ℕ) (key : Element) (l m n r : List Lexeme) (x : Literal) →
 unfolding map_from
 map_sound at key l m n r x h c e =
     let w = unstep (element_at n) _ x r e in
-    let u = unstep (from_at separator.Comma entry_at (record { key = key; value = w.value } ∷ []) w.left) _ x r w.next in
+    let u = unstep (from_at separator.Comma pair_at (record { key = key; value = w.value } ∷ []) w.left) _ x r w.next in
     let v = unstep (close_brace_at u.left) _ x r u.next in
-    let t = from_sound separator.Comma entry_at IsEntry Anything entry_agrees (record { key = key; value = w.value } ∷ []) w.left u.left u.value u.was in
+    let t = from_sound separator.Comma pair_at IsEntry Anything entry_agrees (record { key = key; value = w.value } ∷ []) w.left u.left u.value u.was in
     phrase_at IsLiteral (literal.MapOf u.value) x (lexeme.OpenBrace at ∷ l) v.left r v.next
     (l, (at, refl), (u.left, subst (λ (ys : List Entry). Some_of separator.Comma IsEntry ys l u.left) (sym t.1) (w.left, (m, h, (n, c, element_sound n w.left w.value w.was)), t.2), close_brace_at_sound u.left v.left v.value v.was))
 
@@ -331,7 +331,7 @@ map_full l m r x xs h k =
     (step (element_at l) _ x.key e.0 _ (element_full l e.0 x.key e.1 tt)
     (choose (after_mark mark.Colon e.0) _ _ e.2.0 _ (mark_full mark.Colon e.0 e.2.0 e.2.1)
     (step (element_at e.2.0) _ x.value h.0 _ (element_full e.2.0 h.0 x.value e.2.2 tt)
-    (step (from_at separator.Comma entry_at (x ∷ []) h.0) _ (x ∷ xs) m _ (from_full separator.Comma entry_at IsEntry Anything entry_agrees entry_shrinks anything_goes_on (x ∷ []) h.0 m xs h.2 (brace_ends m r k))
+    (step (from_at separator.Comma pair_at (x ∷ []) h.0) _ (x ∷ xs) m _ (from_full separator.Comma pair_at IsEntry Anything entry_agrees entry_shrinks anything_goes_on (x ∷ []) h.0 m xs h.2 (brace_ends m r k))
     (step (close_brace_at m) _ tt r _ (close_brace_at_full m r k) refl)))))
 
 list_full : (l m r : List Lexeme) (x : Element) (xs : List Element) → Some_of separator.Comma IsElement (x ∷ xs) l m → close_bracket m r → brackets_at l ≡ Some (literal.ListOf (x ∷ xs), r)

@@ -5,11 +5,11 @@ use Rattle.std.proofs.lemmas.Slice.Eq.{bytes_eq-Decides}
 use Rattle.std.proofs.lemmas.Bool.{eqb-true}
 use Rattle.cql_parse.specs.declared.lexeme.Lexeme.{Lexeme}
 use Rattle.cql_parse.specs.declared.lexeme.Lexeme.TheVariants as lexeme
-use Rattle.cql_parse.specs.declared.symbol.Keyword.{Keyword}
-use Rattle.cql_parse.specs.declared.symbol.Mark.{Mark}
-use Rattle.cql_parse.specs.declared.symbol.Mark.TheVariants as mark
-use Rattle.cql_parse.specs.Symbols.{spelling, is_reserved, place}
-use Rattle.cql_parse.specs.Reading.{after_word, after_mark, after_close_brace, after_open_bracket, after_close_bracket, word_at, mark_at, close_brace_at, close_bracket_at, name_at, number_at, blob_at}
+use Rattle.cql_parse.specs.declared.keyword.Keyword.{Keyword}
+use Rattle.cql_lex.specs.declared.token.Mark.{Mark}
+use Rattle.cql_lex.specs.declared.token.Mark.TheVariants as mark
+use Rattle.cql_parse.specs.Symbols.{spelling, is_reserved}
+use Rattle.cql_parse.specs.Inner.Reading.{after_word, after_mark, after_close_brace, after_open_bracket, after_close_bracket, word_at, mark_at, close_brace_at, close_bracket_at, name_at, whole_number_at, blob_at, place}
 use Rattle.cql_parse.specs.Grammar.{one, keyword, sign, close_brace, open_bracket, close_bracket, IsName, IsNumber, IsBlob}
 use Rattle.cql_parse.proofs.Agree.{Agrees, Anything, Shrinks, some_is, unpass, pass, same, phrase_at}
 
@@ -54,16 +54,20 @@ other_word k j l r n e = ap (after_word k) e ∙ rw n refl
 -- ---- marks
 
 abbrev numbered : ℕ → Mark
-numbered n = cond (eqb n 0) mark.OpenParen (cond (eqb n 1) mark.CloseParen (cond (eqb n 2) mark.Less (cond (eqb n 3) mark.AtMost (cond (eqb n 4) mark.Greater (cond (eqb n 5) mark.AtLeast (cond (eqb n 6) mark.Equals (cond (eqb n 7) mark.Comma (cond (eqb n 8) mark.Semicolon (cond (eqb n 9) mark.Colon (cond (eqb n 10) mark.Dot (cond (eqb n 11) mark.Plus (cond (eqb n 12) mark.Minus (mark.Star)))))))))))))
+numbered n = cond (eqb n 0) mark.AtMost (cond (eqb n 1) mark.AtLeast (cond (eqb n 2) mark.OpenParen (cond (eqb n 3) mark.CloseParen (cond (eqb n 4) mark.OpenBracket (cond (eqb n 5) mark.CloseBracket (cond (eqb n 6) mark.OpenBrace (cond (eqb n 7) mark.CloseBrace (cond (eqb n 8) mark.Less (cond (eqb n 9) mark.Greater (cond (eqb n 10) mark.Equals (cond (eqb n 11) mark.Comma (cond (eqb n 12) mark.Semicolon (cond (eqb n 13) mark.Colon (cond (eqb n 14) mark.Dot (cond (eqb n 15) mark.Plus (cond (eqb n 16) mark.Minus (mark.Star)))))))))))))))))
 
 numbered_place : (m : Mark) → numbered (place m) ≡ m
 unfolding place
+numbered_place mark.AtMost = refl
+numbered_place mark.AtLeast = refl
 numbered_place mark.OpenParen = refl
 numbered_place mark.CloseParen = refl
+numbered_place mark.OpenBracket = refl
+numbered_place mark.CloseBracket = refl
+numbered_place mark.OpenBrace = refl
+numbered_place mark.CloseBrace = refl
 numbered_place mark.Less = refl
-numbered_place mark.AtMost = refl
 numbered_place mark.Greater = refl
-numbered_place mark.AtLeast = refl
 numbered_place mark.Equals = refl
 numbered_place mark.Comma = refl
 numbered_place mark.Semicolon = refl
@@ -248,8 +252,8 @@ pub word_no_mark : (m : Mark) (k : Keyword) (l r : List Lexeme) → keyword k l 
 unfolding after_mark
 word_no_mark m k l r h = ap (after_mark m) h
 
-number_sound : (l r : List Lexeme) (n : ℤ) → number_at l ≡ Some (n, r) → IsNumber n l r
-unfolding number_at
+number_sound : (l r : List Lexeme) (n : ℤ) → whole_number_at l ≡ Some (n, r) → IsNumber n l r
+unfolding whole_number_at
 number_sound [] r n e = absurd cc
 number_sound (lexeme.Number x ∷ l) r n e = phrase_at IsNumber x n (lexeme.Number x ∷ l) l r e refl
 number_sound (lexeme.Word text ∷ l) r n e = absurd cc
@@ -264,11 +268,11 @@ number_sound (lexeme.CloseBracket at ∷ l) r n e = absurd cc
 number_sound (lexeme.OpenBrace at ∷ l) r n e = absurd cc
 number_sound (lexeme.CloseBrace at ∷ l) r n e = absurd cc
 
-number_full : (l r : List Lexeme) (n : ℤ) → IsNumber n l r → Anything r → number_at l ≡ Some (n, r)
-unfolding number_at
-number_full l r n h a = ap number_at h
+number_full : (l r : List Lexeme) (n : ℤ) → IsNumber n l r → Anything r → whole_number_at l ≡ Some (n, r)
+unfolding whole_number_at
+number_full l r n h a = ap whole_number_at h
 
-pub number_agrees : Agrees number_at IsNumber Anything
+pub number_agrees : Agrees whole_number_at IsNumber Anything
 number_agrees = record { sound = number_sound; full = number_full }
 
 blob_sound : (l r : List Lexeme) (n : List ℕ) → blob_at l ≡ Some (n, r) → IsBlob n l r

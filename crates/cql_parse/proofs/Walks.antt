@@ -6,7 +6,7 @@ use Rattle.cql_parse.specs.declared.nested.Frame.{Frame}
 use Rattle.cql_parse.specs.declared.nested.Wants.{Wants}
 use Rattle.cql_parse.specs.declared.nested.Wants.TheVariants as wants
 use Rattle.cql_parse.specs.declared.nested.Move.TheVariants as move
-use Rattle.cql_parse.specs.TermReading.{step, walk}
+use Rattle.cql_parse.specs.Inner.TermReading.{step, walk}
 
 pub walk_goes : (w v : Wants) (f g : Frame) (fs : List Frame) (x : Lexeme) (l : List Lexeme) → step w f x ≡ move.Go v g → walk w f fs (x ∷ l) ≡ walk v g fs l
 unfolding walk

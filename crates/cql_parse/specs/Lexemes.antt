@@ -8,9 +8,19 @@ use Rattle.cql_lex.specs.declared.token.TokenKind.{TokenKind}
 use Rattle.cql_lex.specs.declared.token.TokenKind.TheVariants as kind
 use Rattle.cql_parse.specs.declared.lexeme.Lexeme.{Lexeme}
 use Rattle.cql_parse.specs.declared.lexeme.Lexeme.TheVariants as lexeme
-use Rattle.cql_parse.specs.declared.symbol.Mark.TheVariants as mark
+use Rattle.cql_lex.specs.declared.token.Mark.{Mark}
+use Rattle.cql_lex.specs.declared.token.Mark.TheVariants as mark
 
--- a token of this kind at this place with this text
+-- a mark at this place: the brackets of literals keep theirs, an opening one its first byte, a closing one the byte
+-- after it
+abbrev pub mark_lexeme : Mark → ℕ → ℕ → Lexeme
+mark_lexeme mark.OpenBracket start end = lexeme.OpenBracket start
+mark_lexeme mark.CloseBracket start end = lexeme.CloseBracket end
+mark_lexeme mark.OpenBrace start end = lexeme.OpenBrace start
+mark_lexeme mark.CloseBrace start end = lexeme.CloseBrace end
+mark_lexeme m start end = lexeme.Mark m
+
+-- a token of this kind at this place with this text: the name `Ab` is the word `ab`, the string `'it''s'` the text `it's`
 unfoldable pub lexeme_of : TokenKind → ℕ → ℕ → List ℕ → Option Lexeme
 lexeme_of kind.Uuid start end text = option_map lexeme.Uuid (uuid_value text)
 lexeme_of kind.Blob start end text = option_map lexeme.Blob (blob_value text)
@@ -19,24 +29,7 @@ lexeme_of kind.Ratio start end text = option_map lexeme.Ratio (ratio_value text)
 lexeme_of kind.Name start end text = option_map lexeme.Word (name_value text)
 lexeme_of kind.QuotedName start end text = option_map lexeme.Quoted (quoted_text name_quote text)
 lexeme_of kind.String start end text = option_map lexeme.Text (quoted_text string_quote text)
-lexeme_of kind.AtMost start end text = Some (lexeme.Mark mark.AtMost)
-lexeme_of kind.AtLeast start end text = Some (lexeme.Mark mark.AtLeast)
-lexeme_of kind.OpenParen start end text = Some (lexeme.Mark mark.OpenParen)
-lexeme_of kind.CloseParen start end text = Some (lexeme.Mark mark.CloseParen)
-lexeme_of kind.OpenBracket start end text = Some (lexeme.OpenBracket start)
-lexeme_of kind.CloseBracket start end text = Some (lexeme.CloseBracket end)
-lexeme_of kind.OpenBrace start end text = Some (lexeme.OpenBrace start)
-lexeme_of kind.CloseBrace start end text = Some (lexeme.CloseBrace end)
-lexeme_of kind.Less start end text = Some (lexeme.Mark mark.Less)
-lexeme_of kind.Greater start end text = Some (lexeme.Mark mark.Greater)
-lexeme_of kind.Equals start end text = Some (lexeme.Mark mark.Equals)
-lexeme_of kind.Comma start end text = Some (lexeme.Mark mark.Comma)
-lexeme_of kind.Semicolon start end text = Some (lexeme.Mark mark.Semicolon)
-lexeme_of kind.Colon start end text = Some (lexeme.Mark mark.Colon)
-lexeme_of kind.Dot start end text = Some (lexeme.Mark mark.Dot)
-lexeme_of kind.Plus start end text = Some (lexeme.Mark mark.Plus)
-lexeme_of kind.Minus start end text = Some (lexeme.Mark mark.Minus)
-lexeme_of kind.Star start end text = Some (lexeme.Mark mark.Star)
+lexeme_of (kind.Mark m) start end text = Some (mark_lexeme m start end)
 
 -- a token of a source; none where its span isn't in the source or its text isn't of its kind
 unfoldable pub lexeme_at : List ℕ → Token → Option Lexeme
@@ -44,7 +37,7 @@ lexeme_at source t =
     if nat_le t.start t.end && nat_le t.end (length source) then lexeme_of t.kind t.start t.end (slice_range source t.start t.end)
     else None
 
--- the tokens of a source
+-- the tokens of a source, each with its meaning
 unfoldable pub lexemes_of : List ℕ → List Token → Option (List Lexeme)
 lexemes_of source [] = Some []
 lexemes_of source (t ∷ ts) = option_and_then (λ x. option_map (λ xs. x ∷ xs) (lexemes_of source ts)) (lexeme_at source t)

@@ -1,5 +1,5 @@
 -- What the tokens of a source mean.
-use Rattle.std.specs.Prelude.{◌≡◌, ℕ, List, Option, Some, option_and_then, Result, Ok, Err}
+use Rattle.std.specs.Prelude.{◌≡◌, ℕ, List, Some, Result, Ok, Err}
 use Rattle.cql_lex.specs.declared.token.Token.{Token}
 use Rattle.cql_parse.specs.declared.fault.ParseFault.{ParseFault}
 use Rattle.cql_parse.specs.declared.fault.ParseFault.TheVariants as faults
@@ -7,9 +7,8 @@ use Rattle.cql_parse.specs.declared.lexeme.Lexeme.{Lexeme}
 use Rattle.cql_parse.specs.declared.syntax.Statement.{Statement}
 use Rattle.cql_parse.specs.Lexemes.{lexemes_of}
 use Rattle.cql_parse.specs.Grammar.{IsStatement}
-use Rattle.cql_parse.specs.StatementReading.{whole}
 
--- the tokens of the source spell the statement
+-- the tokens of the source spell the statement: those of `SELECT * FROM t` the Select of all columns of t
 pub record Means (source : List ℕ) (tokens : List Token) (statement : Statement) : Type 0 where
   pub lexemes : List Lexeme
   pub meanings : lexemes_of source tokens ≡ Some lexemes
@@ -24,7 +23,3 @@ IsAnswer s (Err faults.Syntax) = ⊥
 -- no tokens spell two statements
 abbrev pub OneStatement : Type 0
 OneStatement = (source : List ℕ) (tokens : List Token) (s t : Statement) → Means source tokens s → Means source tokens t → s ≡ t
-
--- the statement by reading
-unfoldable pub statement_of : List ℕ → List Token → Option Statement
-statement_of source tokens = option_and_then whole (lexemes_of source tokens)

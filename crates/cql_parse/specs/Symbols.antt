@@ -1,11 +1,10 @@
--- The words and marks of the grammar.
+-- The words of the grammar.
+-- CQL documentation, "Definitions: identifiers and keywords", "Appendix A: CQL keywords".
 use Rattle.std.specs.Prelude.{ℕ, Bool, List, [], ◌∷◌, codes}
 use Rattle.std.specs.List.{list_any}
 use Rattle.std.specs.Str.{bytes_eq}
-use Rattle.cql_parse.specs.declared.symbol.Keyword.{Keyword}
-use Rattle.cql_parse.specs.declared.symbol.Keyword.TheVariants as word
-use Rattle.cql_parse.specs.declared.symbol.Mark.{Mark}
-use Rattle.cql_parse.specs.declared.symbol.Mark.TheVariants as mark
+use Rattle.cql_parse.specs.declared.keyword.Keyword.{Keyword}
+use Rattle.cql_parse.specs.declared.keyword.Keyword.TheVariants as word
 
 -- how a word is written, in small letters
 unfoldable pub spelling : Keyword → List ℕ
@@ -63,24 +62,11 @@ spelling word.WriteTime = codes "writetime"
 -- the words that are no names unless they are quoted
 abbrev pub reserved_words : List Keyword
 reserved_words =
-    word.Add ∷ word.Alter ∷ word.And ∷ word.Asc ∷ word.By ∷ word.Create ∷ word.Delete ∷ word.Desc ∷ word.False ∷ word.From ∷ word.In ∷ word.Insert ∷ word.Into ∷ word.Limit ∷ word.Null ∷ word.Order ∷ word.Primary ∷ word.Select ∷ word.Set ∷ word.Table ∷ word.To ∷ word.True ∷ word.Update ∷ word.Using ∷ word.Where ∷ word.With ∷ []
+    word.Add ∷ word.Alter ∷ word.And ∷ word.Asc ∷ word.By ∷ word.Create ∷ word.Delete ∷ word.Desc ∷
+    word.False ∷ word.From ∷ word.In ∷ word.Insert ∷ word.Into ∷ word.Limit ∷ word.Null ∷ word.Order ∷
+    word.Primary ∷ word.Select ∷ word.Set ∷ word.Table ∷ word.To ∷ word.True ∷ word.Update ∷
+    word.Using ∷ word.Where ∷ word.With ∷ []
 
+-- whether a word, in small letters, is reserved: `select` is, `timestamp` is not
 unfoldable pub is_reserved : List ℕ → Bool
 is_reserved text = list_any (λ k. bytes_eq text (spelling k)) reserved_words
-
--- a number for each mark
-unfoldable pub place : Mark → ℕ
-place mark.OpenParen = 0
-place mark.CloseParen = 1
-place mark.Less = 2
-place mark.AtMost = 3
-place mark.Greater = 4
-place mark.AtLeast = 5
-place mark.Equals = 6
-place mark.Comma = 7
-place mark.Semicolon = 8
-place mark.Colon = 9
-place mark.Dot = 10
-place mark.Plus = 11
-place mark.Minus = 12
-place mark.Star = 13

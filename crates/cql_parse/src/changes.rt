@@ -1,26 +1,28 @@
-//! INSERT, UPDATE and DELETE, each behind its first word.
+//! INSERT, UPDATE and DELETE, each after its first word.
 
 ghost use Rattle.std.specs.Prelude.{◌≡◌};
-ghost use Rattle.cql_parse.specs.Reading.{Gives};
-ghost use Rattle.cql_parse.specs.StatementReading.{insert_at, is_name, entry_assigned, literal_assigned, changed, name_assigned, term_assigned, right_side, assigned_at, update_at, targets_at, timestamp_at, delete_at};
+ghost use Rattle.cql_parse.specs.Inner.Reading.{Gives};
+ghost use Rattle.cql_parse.specs.Inner.StatementReading.{insert_at, name_comes, entry_assigned, literal_assigned, changed, name_assigned};
+ghost use Rattle.cql_parse.specs.Inner.StatementReading.{term_assigned, right_side, assigned_at, update_at, targets_at, timestamp_at, delete_at};
 
+use crate::clauses::table;
 use crate::fault::ParseFault;
-use crate::lexeme::Lexeme;
-use crate::lists::{Part, Separator, in_parens, list, list_behind};
-use crate::names::table;
-use crate::symbol::{Keyword, Mark};
-use crate::syntax::{Assigned, Assignment, Delete, Insert, Relation, Target, Update, Use};
-use crate::take::{
+use crate::front::{
     after_mark, after_open_bracket, after_word, close_bracket, is_reserved, mark, name, number,
     word,
 };
+use crate::keyword::Keyword;
+use crate::lexeme::Lexeme;
+use crate::lists::{Part, Separator, in_parens, list, list_behind};
+use crate::syntax::{Assigned, Assignment, Delete, Insert, Relation, Target, Update, Use};
 use crate::term::Term;
 use crate::terms::{constant, literal, opens};
 use cas_types::{List, Text};
+use cql_lex::Mark;
 use std::alloc::Global;
 
 /// What follows INSERT.
-#[tactic(auto, unfolding(crate::specs::StatementReading::insert_at))]
+#[tactic(auto, unfolding(crate::specs::Inner::StatementReading::insert_at))]
 pub fn insert(alloc: Global, input: &[Lexeme]) -> Result<(Insert, &[Lexeme]), ParseFault>
     ensures { Gives (λ x. (x.0, x.1.now)) result (insert_at input.now) }
 {
@@ -40,19 +42,19 @@ pub fn insert(alloc: Global, input: &[Lexeme]) -> Result<(Insert, &[Lexeme]), Pa
 }
 
 /// Whether a name stands here.
-#[tactic(auto, unfolding(crate::specs::StatementReading::is_name))]
-fn is_name(input: &[Lexeme]) -> bool
-    ensures { result ≡ is_name input.now }
+#[tactic(auto, unfolding(crate::specs::Inner::StatementReading::name_comes))]
+fn name_comes(input: &[Lexeme]) -> bool
+    ensures { result ≡ name_comes input.now }
 {
     match input {
-        [Lexeme::Word(text), _rest @ ..] => !is_reserved(text.as_str()),
+        [Lexeme::Word(name), _rest @ ..] => !is_reserved(name),
         [Lexeme::Quoted(_text), _rest @ ..] => true,
         _ => false,
     }
 }
 
 /// What follows the opening bracket of an entry that is assigned.
-#[tactic(auto, unfolding(crate::specs::StatementReading::entry_assigned))]
+#[tactic(auto, unfolding(crate::specs::Inner::StatementReading::entry_assigned))]
 fn entry_assigned(alloc: Global, input: &[Lexeme]) -> Result<(Assigned, &[Lexeme]), ParseFault>
     ensures { Gives (λ x. (x.0, x.1.now)) result (entry_assigned input.now) }
 {
@@ -64,7 +66,7 @@ fn entry_assigned(alloc: Global, input: &[Lexeme]) -> Result<(Assigned, &[Lexeme
 }
 
 /// A right side that begins with a literal.
-#[tactic(auto, unfolding(crate::specs::StatementReading::literal_assigned))]
+#[tactic(auto, unfolding(crate::specs::Inner::StatementReading::literal_assigned))]
 fn literal_assigned(alloc: Global, input: &[Lexeme]) -> Result<(Assigned, &[Lexeme]), ParseFault>
     ensures { Gives (λ x. (x.0, x.1.now)) result (literal_assigned input.now) }
 {
@@ -79,7 +81,7 @@ fn literal_assigned(alloc: Global, input: &[Lexeme]) -> Result<(Assigned, &[Lexe
 }
 
 /// What follows the name on a right side.
-#[tactic(auto, unfolding(crate::specs::StatementReading::changed))]
+#[tactic(auto, unfolding(crate::specs::Inner::StatementReading::changed))]
 fn changed(
     alloc: Global,
     source: Text,
@@ -100,7 +102,7 @@ fn changed(
     }
 }
 
-#[tactic(auto, unfolding(crate::specs::StatementReading::name_assigned))]
+#[tactic(auto, unfolding(crate::specs::Inner::StatementReading::name_assigned))]
 fn name_assigned(alloc: Global, input: &[Lexeme]) -> Result<(Assigned, &[Lexeme]), ParseFault>
     ensures { Gives (λ x. (x.0, x.1.now)) result (name_assigned input.now) }
 {
@@ -108,7 +110,7 @@ fn name_assigned(alloc: Global, input: &[Lexeme]) -> Result<(Assigned, &[Lexeme]
     changed(alloc, source, rest)
 }
 
-#[tactic(auto, unfolding(crate::specs::StatementReading::term_assigned))]
+#[tactic(auto, unfolding(crate::specs::Inner::StatementReading::term_assigned))]
 fn term_assigned(alloc: Global, input: &[Lexeme]) -> Result<(Assigned, &[Lexeme]), ParseFault>
     ensures { Gives (λ x. (x.0, x.1.now)) result (term_assigned input.now) }
 {
@@ -116,20 +118,20 @@ fn term_assigned(alloc: Global, input: &[Lexeme]) -> Result<(Assigned, &[Lexeme]
     Ok((Assigned::Whole(value), rest))
 }
 
-#[tactic(auto, unfolding(crate::specs::StatementReading::right_side))]
+#[tactic(auto, unfolding(crate::specs::Inner::StatementReading::right_side))]
 fn right_side(alloc: Global, input: &[Lexeme]) -> Result<(Assigned, &[Lexeme]), ParseFault>
     ensures { Gives (λ x. (x.0, x.1.now)) result (right_side input.now) }
 {
     if opens(input) {
         literal_assigned(alloc, input)
-    } else if is_name(input) {
+    } else if name_comes(input) {
         name_assigned(alloc, input)
     } else {
         term_assigned(alloc, input)
     }
 }
 
-#[tactic(auto, unfolding(crate::specs::StatementReading::assigned_at))]
+#[tactic(auto, unfolding(crate::specs::Inner::StatementReading::assigned_at))]
 fn assigned(alloc: Global, input: &[Lexeme]) -> Result<(Assigned, &[Lexeme]), ParseFault>
     ensures { Gives (λ x. (x.0, x.1.now)) result (assigned_at input.now) }
 {
@@ -143,11 +145,11 @@ fn assigned(alloc: Global, input: &[Lexeme]) -> Result<(Assigned, &[Lexeme]), Pa
 }
 
 impl Part for Assignment {
-    ghost use Rattle.cql_parse.specs.StatementReading.{assignment_at};
+    ghost use Rattle.cql_parse.specs.Inner.StatementReading.{assignment_at};
 
     ghost reads = { assignment_at };
 
-    #[tactic(auto, unfolding(crate::specs::StatementReading::assignment_at))]
+    #[tactic(auto, unfolding(crate::specs::Inner::StatementReading::assignment_at))]
     fn read(alloc: Global, input: &[Lexeme]) -> Result<(Self, &[Lexeme]), ParseFault> {
         let (column, rest) = name(alloc, input)?;
         let (value, rest) = assigned(alloc, rest)?;
@@ -156,7 +158,7 @@ impl Part for Assignment {
 }
 
 /// What follows UPDATE.
-#[tactic(auto, unfolding(crate::specs::StatementReading::update_at))]
+#[tactic(auto, unfolding(crate::specs::Inner::StatementReading::update_at))]
 pub fn update(alloc: Global, input: &[Lexeme]) -> Result<(Update, &[Lexeme]), ParseFault>
     ensures { Gives (λ x. (x.0, x.1.now)) result (update_at input.now) }
 {
@@ -176,11 +178,11 @@ pub fn update(alloc: Global, input: &[Lexeme]) -> Result<(Update, &[Lexeme]), Pa
 }
 
 impl Part for Target {
-    ghost use Rattle.cql_parse.specs.StatementReading.{target_at};
+    ghost use Rattle.cql_parse.specs.Inner.StatementReading.{target_at};
 
     ghost reads = { target_at };
 
-    #[tactic(auto, unfolding(crate::specs::StatementReading::target_at))]
+    #[tactic(auto, unfolding(crate::specs::Inner::StatementReading::target_at))]
     fn read(alloc: Global, input: &[Lexeme]) -> Result<(Self, &[Lexeme]), ParseFault> {
         let (column, rest) = name(alloc, input)?;
         match after_open_bracket(rest) {
@@ -195,7 +197,7 @@ impl Part for Target {
     }
 }
 
-#[tactic(auto, unfolding(crate::specs::StatementReading::targets_at))]
+#[tactic(auto, unfolding(crate::specs::Inner::StatementReading::targets_at))]
 fn targets(alloc: Global, input: &[Lexeme]) -> Result<(List<Target>, &[Lexeme]), ParseFault>
     ensures { Gives (λ x. (x.0, x.1.now)) result (targets_at input.now) }
 {
@@ -205,7 +207,7 @@ fn targets(alloc: Global, input: &[Lexeme]) -> Result<(List<Target>, &[Lexeme]),
     }
 }
 
-#[tactic(auto, unfolding(crate::specs::StatementReading::timestamp_at))]
+#[tactic(auto, unfolding(crate::specs::Inner::StatementReading::timestamp_at))]
 fn timestamp(input: &[Lexeme]) -> Result<(Option<i128>, &[Lexeme]), ParseFault>
     ensures { Gives (λ x. (x.0, x.1.now)) result (timestamp_at input.now) }
 {
@@ -220,7 +222,7 @@ fn timestamp(input: &[Lexeme]) -> Result<(Option<i128>, &[Lexeme]), ParseFault>
 }
 
 /// What follows DELETE.
-#[tactic(auto, unfolding(crate::specs::StatementReading::delete_at))]
+#[tactic(auto, unfolding(crate::specs::Inner::StatementReading::delete_at))]
 pub fn delete(alloc: Global, input: &[Lexeme]) -> Result<(Delete, &[Lexeme]), ParseFault>
     ensures { Gives (λ x. (x.0, x.1.now)) result (delete_at input.now) }
 {

@@ -1,21 +1,24 @@
-//! CREATE TABLE and ALTER TABLE, each behind its first word.
+//! CREATE TABLE and ALTER TABLE, each after its first word.
 
 ghost use Rattle.std.specs.Prelude.{◌≡◌, [], option_map};
-ghost use Rattle.cql_parse.specs.Reading.{Gives};
-ghost use Rattle.cql_parse.specs.StatementReading.{first_of, native_at, one_in_angles, two_in_angles, type_at, key_flag, names_closed, partition_at, key_at, suboptions, option_value_at, named_option, after_words, clustering_order, create_at, alter_at};
+ghost use Rattle.cql_parse.specs.Inner.Reading.{Gives};
+ghost use Rattle.cql_parse.specs.Inner.StatementReading.{first_type_of, native_at, one_in_angles, two_in_angles, type_at, key_flag, names_closed};
+ghost use Rattle.cql_parse.specs.Inner.StatementReading.{partition_at, key_at, suboptions_closed, option_value_at, named_option_at, after_words};
+ghost use Rattle.cql_parse.specs.Inner.StatementReading.{clustering_order_at, create_at, alter_at};
 
+use crate::clauses::table;
 use crate::fault::ParseFault;
+use crate::front::{after_mark, after_word, close_brace, flag, mark, name, word};
+use crate::keyword::Keyword;
 use crate::lexeme::Lexeme;
 use crate::lists::{Part, Separator, in_parens, list, list_behind, list_from, only};
-use crate::names::table;
-use crate::symbol::{Keyword, Mark};
 use crate::syntax::{
     AddedColumn, AlterTable, ColumnOrder, ColumnType, CreateTable, DefinedColumn, Item,
     NamedOption, OptionValue, PrimaryKey, Suboption, TableOption,
 };
-use crate::take::{after_mark, after_word, close_brace, flag, mark, name, word};
 use crate::terms::{constant, setting};
 use cas_types::{List, Text, TypeTag};
+use cql_lex::Mark;
 use std::alloc::Global;
 
 /// The words of the types.
@@ -37,30 +40,30 @@ const NATIVES: [(Keyword, TypeTag); 14] = [
 ];
 
 /// The type of the first of the table's words that stands here. The table is of a fixed length.
-#[tactic(auto, unfolding(crate::specs::StatementReading::first_of))]
-fn first_of<'a>(
+#[tactic(auto, unfolding(crate::specs::Inner::StatementReading::first_type_of))]
+fn first_type_of<'a>(
     table: &[(Keyword, TypeTag)],
     input: &'a [Lexeme],
 ) -> Result<(TypeTag, &'a [Lexeme]), ParseFault>
-    ensures { Gives (λ x. (x.0, x.1.now)) result (first_of table.now input.now) }
+    ensures { Gives (λ x. (x.0, x.1.now)) result (first_type_of table.now input.now) }
 {
     match table {
         [] => Err(ParseFault::Syntax),
         [(keyword, tag), others @ ..] => match after_word(input, *keyword) {
             Some(rest) => Ok((*tag, rest)),
-            None => first_of(others, input),
+            None => first_type_of(others, input),
         },
     }
 }
 
-#[tactic(auto, unfolding(crate::specs::StatementReading::native_at))]
+#[tactic(auto, unfolding(crate::specs::Inner::StatementReading::native_at))]
 fn native(input: &[Lexeme]) -> Result<(TypeTag, &[Lexeme]), ParseFault>
     ensures { Gives (λ x. (x.0, x.1.now)) result (native_at input.now) }
 {
-    first_of(&NATIVES, input)
+    first_type_of(&NATIVES, input)
 }
 
-#[tactic(auto, unfolding(crate::specs::StatementReading::one_in_angles))]
+#[tactic(auto, unfolding(crate::specs::Inner::StatementReading::one_in_angles))]
 fn one_in_angles(input: &[Lexeme]) -> Result<(TypeTag, &[Lexeme]), ParseFault>
     ensures { Gives (λ x. (x.0, x.1.now)) result (one_in_angles input.now) }
 {
@@ -70,7 +73,7 @@ fn one_in_angles(input: &[Lexeme]) -> Result<(TypeTag, &[Lexeme]), ParseFault>
     Ok((tag, rest))
 }
 
-#[tactic(auto, unfolding(crate::specs::StatementReading::two_in_angles))]
+#[tactic(auto, unfolding(crate::specs::Inner::StatementReading::two_in_angles))]
 fn two_in_angles(input: &[Lexeme]) -> Result<(ColumnType, &[Lexeme]), ParseFault>
     ensures { Gives (λ x. (x.0, x.1.now)) result (two_in_angles input.now) }
 {
@@ -82,7 +85,7 @@ fn two_in_angles(input: &[Lexeme]) -> Result<(ColumnType, &[Lexeme]), ParseFault
     Ok((ColumnType::MapOf(key, value), rest))
 }
 
-#[tactic(auto, unfolding(crate::specs::StatementReading::type_at))]
+#[tactic(auto, unfolding(crate::specs::Inner::StatementReading::type_at))]
 fn column_type(input: &[Lexeme]) -> Result<(ColumnType, &[Lexeme]), ParseFault>
     ensures { Gives (λ x. (x.0, x.1.now)) result (type_at input.now) }
 {
@@ -101,8 +104,8 @@ fn column_type(input: &[Lexeme]) -> Result<(ColumnType, &[Lexeme]), ParseFault>
     Ok((ColumnType::One(tag), rest))
 }
 
-/// Whether PRIMARY KEY stands behind a column.
-#[tactic(auto, unfolding(crate::specs::StatementReading::key_flag))]
+/// Whether PRIMARY KEY stands after a column.
+#[tactic(auto, unfolding(crate::specs::Inner::StatementReading::key_flag))]
 fn key_flag(input: &[Lexeme]) -> Result<(bool, &[Lexeme]), ParseFault>
     ensures { Gives (λ x. (x.0, x.1.now)) result (key_flag input.now) }
 {
@@ -116,11 +119,11 @@ fn key_flag(input: &[Lexeme]) -> Result<(bool, &[Lexeme]), ParseFault>
 }
 
 impl Part for DefinedColumn {
-    ghost use Rattle.cql_parse.specs.StatementReading.{defined_at};
+    ghost use Rattle.cql_parse.specs.Inner.StatementReading.{defined_at};
 
     ghost reads = { defined_at };
 
-    #[tactic(auto, unfolding(crate::specs::StatementReading::defined_at))]
+    #[tactic(auto, unfolding(crate::specs::Inner::StatementReading::defined_at))]
     fn read(alloc: Global, input: &[Lexeme]) -> Result<(Self, &[Lexeme]), ParseFault> {
         let (name, rest) = name(alloc, input)?;
         let (column_type, rest) = column_type(rest)?;
@@ -137,11 +140,11 @@ impl Part for DefinedColumn {
 }
 
 impl Part for AddedColumn {
-    ghost use Rattle.cql_parse.specs.StatementReading.{added_at};
+    ghost use Rattle.cql_parse.specs.Inner.StatementReading.{added_at};
 
     ghost reads = { added_at };
 
-    #[tactic(auto, unfolding(crate::specs::StatementReading::added_at))]
+    #[tactic(auto, unfolding(crate::specs::Inner::StatementReading::added_at))]
     fn read(alloc: Global, input: &[Lexeme]) -> Result<(Self, &[Lexeme]), ParseFault> {
         let (name, rest) = name(alloc, input)?;
         let (column_type, rest) = column_type(rest)?;
@@ -156,7 +159,7 @@ impl Part for AddedColumn {
 }
 
 /// Names, and the closing parenthesis.
-#[tactic(auto, unfolding(crate::specs::StatementReading::names_closed))]
+#[tactic(auto, unfolding(crate::specs::Inner::StatementReading::names_closed))]
 fn names_closed(alloc: Global, input: &[Lexeme]) -> Result<(List<Text>, &[Lexeme]), ParseFault>
     ensures { Gives (λ x. (x.0, x.1.now)) result (names_closed input.now) }
 {
@@ -166,7 +169,7 @@ fn names_closed(alloc: Global, input: &[Lexeme]) -> Result<(List<Text>, &[Lexeme
 }
 
 /// The columns of a partition key: one name, or some in parentheses.
-#[tactic(auto, unfolding(crate::specs::StatementReading::partition_at))]
+#[tactic(auto, unfolding(crate::specs::Inner::StatementReading::partition_at))]
 fn partition(alloc: Global, input: &[Lexeme]) -> Result<(List<Text>, &[Lexeme]), ParseFault>
     ensures { Gives (λ x. (x.0, x.1.now)) result (partition_at input.now) }
 {
@@ -180,7 +183,7 @@ fn partition(alloc: Global, input: &[Lexeme]) -> Result<(List<Text>, &[Lexeme]),
 }
 
 /// What follows PRIMARY.
-#[tactic(auto, unfolding(crate::specs::StatementReading::key_at))]
+#[tactic(auto, unfolding(crate::specs::Inner::StatementReading::key_at))]
 fn primary_key(alloc: Global, input: &[Lexeme]) -> Result<(PrimaryKey, &[Lexeme]), ParseFault>
     ensures { Gives (λ x. (x.0, x.1.now)) result (key_at input.now) }
 {
@@ -197,11 +200,11 @@ fn primary_key(alloc: Global, input: &[Lexeme]) -> Result<(PrimaryKey, &[Lexeme]
 }
 
 impl Part for Item {
-    ghost use Rattle.cql_parse.specs.StatementReading.{item_at};
+    ghost use Rattle.cql_parse.specs.Inner.StatementReading.{item_at};
 
     ghost reads = { item_at };
 
-    #[tactic(auto, unfolding(crate::specs::StatementReading::item_at))]
+    #[tactic(auto, unfolding(crate::specs::Inner::StatementReading::item_at))]
     fn read(alloc: Global, input: &[Lexeme]) -> Result<(Self, &[Lexeme]), ParseFault> {
         match after_word(input, Keyword::Primary) {
             Some(rest) => {
@@ -217,11 +220,11 @@ impl Part for Item {
 }
 
 impl Part for Suboption {
-    ghost use Rattle.cql_parse.specs.StatementReading.{suboption_at};
+    ghost use Rattle.cql_parse.specs.Inner.StatementReading.{suboption_at};
 
     ghost reads = { suboption_at };
 
-    #[tactic(auto, unfolding(crate::specs::StatementReading::suboption_at))]
+    #[tactic(auto, unfolding(crate::specs::Inner::StatementReading::suboption_at))]
     fn read(alloc: Global, input: &[Lexeme]) -> Result<(Self, &[Lexeme]), ParseFault> {
         let (key, rest) = setting(alloc, input)?;
         let rest = mark(rest, Mark::Colon)?;
@@ -231,23 +234,26 @@ impl Part for Suboption {
 }
 
 /// What follows the opening brace of an option's map.
-#[tactic(auto, unfolding(crate::specs::StatementReading::suboptions))]
-fn suboptions(alloc: Global, input: &[Lexeme]) -> Result<(OptionValue, &[Lexeme]), ParseFault>
-    ensures { Gives (λ x. (x.0, x.1.now)) result (suboptions input.now) }
+#[tactic(auto, unfolding(crate::specs::Inner::StatementReading::suboptions_closed))]
+fn suboptions_closed(
+    alloc: Global,
+    input: &[Lexeme],
+) -> Result<(OptionValue, &[Lexeme]), ParseFault>
+    ensures { Gives (λ x. (x.0, x.1.now)) result (suboptions_closed input.now) }
 {
     let (all, rest) = list::<Suboption>(alloc, Separator::Comma, input)?;
     let rest = close_brace(rest)?;
     Ok((OptionValue::Suboptions(all), rest))
 }
 
-#[tactic(auto, unfolding(crate::specs::StatementReading::option_value_at))]
+#[tactic(auto, unfolding(crate::specs::Inner::StatementReading::option_value_at))]
 fn option_value(alloc: Global, input: &[Lexeme]) -> Result<(OptionValue, &[Lexeme]), ParseFault>
     ensures { Gives (λ x. (x.0, x.1.now)) result (option_value_at input.now) }
 {
     match input {
         [] => Err(ParseFault::Syntax),
         [Lexeme::Ratio(n), rest @ ..] => Ok((OptionValue::Ratio(*n), rest)),
-        [Lexeme::OpenBrace(_at), rest @ ..] => suboptions(alloc, rest),
+        [Lexeme::OpenBrace(_at), rest @ ..] => suboptions_closed(alloc, rest),
         [_first, _rest @ ..] => {
             let (value, rest) = constant(alloc, input)?;
             Ok((OptionValue::Constant(value), rest))
@@ -255,9 +261,9 @@ fn option_value(alloc: Global, input: &[Lexeme]) -> Result<(OptionValue, &[Lexem
     }
 }
 
-#[tactic(auto, unfolding(crate::specs::StatementReading::named_option))]
-fn named_option(alloc: Global, input: &[Lexeme]) -> Result<(TableOption, &[Lexeme]), ParseFault>
-    ensures { Gives (λ x. (x.0, x.1.now)) result (named_option input.now) }
+#[tactic(auto, unfolding(crate::specs::Inner::StatementReading::named_option_at))]
+fn named_option_at(alloc: Global, input: &[Lexeme]) -> Result<(TableOption, &[Lexeme]), ParseFault>
+    ensures { Gives (λ x. (x.0, x.1.now)) result (named_option_at input.now) }
 {
     let (name, rest) = name(alloc, input)?;
     let rest = mark(rest, Mark::Equals)?;
@@ -266,7 +272,7 @@ fn named_option(alloc: Global, input: &[Lexeme]) -> Result<(TableOption, &[Lexem
 }
 
 /// What follows two words, where they stand first.
-#[tactic(auto, unfolding(crate::specs::StatementReading::after_words))]
+#[tactic(auto, unfolding(crate::specs::Inner::StatementReading::after_words))]
 fn after_words(input: &[Lexeme], first: Keyword, second: Keyword) -> Option<&[Lexeme]>
     ensures { option_map (λ r. r.now) result ≡ after_words first second input.now }
 {
@@ -277,9 +283,12 @@ fn after_words(input: &[Lexeme], first: Keyword, second: Keyword) -> Option<&[Le
 }
 
 /// What follows CLUSTERING ORDER.
-#[tactic(auto, unfolding(crate::specs::StatementReading::clustering_order))]
-fn clustering_order(alloc: Global, input: &[Lexeme]) -> Result<(TableOption, &[Lexeme]), ParseFault>
-    ensures { Gives (λ x. (x.0, x.1.now)) result (clustering_order input.now) }
+#[tactic(auto, unfolding(crate::specs::Inner::StatementReading::clustering_order_at))]
+fn clustering_order_at(
+    alloc: Global,
+    input: &[Lexeme],
+) -> Result<(TableOption, &[Lexeme]), ParseFault>
+    ensures { Gives (λ x. (x.0, x.1.now)) result (clustering_order_at input.now) }
 {
     let rest = word(input, Keyword::By)?;
     let (columns, rest) = in_parens::<ColumnOrder>(alloc, rest)?;
@@ -287,21 +296,21 @@ fn clustering_order(alloc: Global, input: &[Lexeme]) -> Result<(TableOption, &[L
 }
 
 impl Part for TableOption {
-    ghost use Rattle.cql_parse.specs.StatementReading.{option_at};
+    ghost use Rattle.cql_parse.specs.Inner.StatementReading.{option_at};
 
     ghost reads = { option_at };
 
-    #[tactic(auto, unfolding(crate::specs::StatementReading::option_at))]
+    #[tactic(auto, unfolding(crate::specs::Inner::StatementReading::option_at))]
     fn read(alloc: Global, input: &[Lexeme]) -> Result<(Self, &[Lexeme]), ParseFault> {
         match after_words(input, Keyword::Clustering, Keyword::Order) {
-            Some(rest) => clustering_order(alloc, rest),
-            None => named_option(alloc, input),
+            Some(rest) => clustering_order_at(alloc, rest),
+            None => named_option_at(alloc, input),
         }
     }
 }
 
 /// What follows CREATE.
-#[tactic(auto, unfolding(crate::specs::StatementReading::create_at))]
+#[tactic(auto, unfolding(crate::specs::Inner::StatementReading::create_at))]
 pub fn create(alloc: Global, input: &[Lexeme]) -> Result<(CreateTable, &[Lexeme]), ParseFault>
     ensures { Gives (λ x. (x.0, x.1.now)) result (create_at input.now) }
 {
@@ -318,7 +327,7 @@ pub fn create(alloc: Global, input: &[Lexeme]) -> Result<(CreateTable, &[Lexeme]
 }
 
 /// What follows ALTER.
-#[tactic(auto, unfolding(crate::specs::StatementReading::alter_at))]
+#[tactic(auto, unfolding(crate::specs::Inner::StatementReading::alter_at))]
 pub fn alter(alloc: Global, input: &[Lexeme]) -> Result<(AlterTable, &[Lexeme]), ParseFault>
     ensures { Gives (λ x. (x.0, x.1.now)) result (alter_at input.now) }
 {

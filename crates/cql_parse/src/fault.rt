@@ -1,3 +1,5 @@
+//! Why tokens give no statement.
+
 ghost use Rattle.std.specs.Prelude.{◌≡◌};
 ghost use Rattle.cql_parse.specs.declared.fault.ParseFault.TheVariants as faults;
 

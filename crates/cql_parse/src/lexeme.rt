@@ -1,12 +1,14 @@
-use crate::symbol::Mark;
+//! What a token is to the grammar.
+
 use cas_types::{Bytes, Text};
+use cql_lex::{Mark, Name};
 
 /// What a token is to the grammar. The brackets of literals know their place in the source: an
-/// opening one its first byte, a closing one the byte behind it.
+/// opening one its first byte, a closing one the byte after it.
 #[derive(Drop)]
 pub enum Lexeme {
-    /// A word or a name without quotes, lower-cased.
-    Word(Text),
+    /// A word, or a name without quotes.
+    Word(Name),
     Quoted(Text),
     Text(Text),
     Number(i128),

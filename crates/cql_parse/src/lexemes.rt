@@ -3,15 +3,15 @@
 ghost use Rattle.std.specs.Prelude.{◌≡◌, List, option_map, ◌++◌, slice_range, Option, None};
 ghost use Rattle.cql_lex.specs.Quotes.{quoted_text, name_quote, string_quote};
 ghost use Rattle.cql_lex.specs.Constants.{name_value, blob_value};
-ghost use Rattle.cql_parse.specs.Reading.{Gives};
-ghost use Rattle.cql_parse.specs.Lexemes.{lexeme_of, lexeme_at, lexemes_of};
+ghost use Rattle.cql_parse.specs.Inner.Reading.{Gives};
+ghost use Rattle.cql_parse.specs.Lexemes.{mark_lexeme, lexeme_of, lexeme_at, lexemes_of};
 ghost use Rattle.cql_parse.specs.declared.lexeme.Lexeme.TheVariants as lexemes;
 
 use crate::fault::ParseFault;
 use crate::lexeme::Lexeme;
-use crate::symbol::Mark;
 use cql_lex::{
-    Token, TokenKind, blob_of, name_of, number_of, quoted_name_of, ratio_of, string_of, uuid_of,
+    Mark, Token, TokenKind, blob_of, name_of, number_of, quoted_name_of, ratio_of, string_of,
+    uuid_of,
 };
 use std::alloc::Global;
 
@@ -51,6 +51,18 @@ fn blob(alloc: Global, text: &[u8]) -> Result<Lexeme, ParseFault>
     }
 }
 
+fn mark_lexeme(mark: Mark, start: usize, end: usize) -> Lexeme
+    ensures { result ≡ mark_lexeme mark start end }
+{
+    match mark {
+        Mark::OpenBracket => Lexeme::OpenBracket(start),
+        Mark::CloseBracket => Lexeme::CloseBracket(end),
+        Mark::OpenBrace => Lexeme::OpenBrace(start),
+        Mark::CloseBrace => Lexeme::CloseBrace(end),
+        other => Lexeme::Mark(other),
+    }
+}
+
 #[tactic(auto, unfolding(crate::specs::Lexemes::lexeme_of))]
 fn lexeme(alloc: Global, token: Token, text: &[u8]) -> Result<Lexeme, ParseFault>
     ensures { Gives (λ x. x) result (lexeme_of token.kind token.start token.end text.now) }
@@ -63,24 +75,7 @@ fn lexeme(alloc: Global, token: Token, text: &[u8]) -> Result<Lexeme, ParseFault
         TokenKind::Uuid => Ok(Lexeme::Uuid(uuid_of(text).ok_or(ParseFault::Syntax)?)),
         TokenKind::Number => Ok(Lexeme::Number(number_of(text).ok_or(ParseFault::Syntax)?)),
         TokenKind::Ratio => Ok(Lexeme::Ratio(ratio_of(text).ok_or(ParseFault::Syntax)?)),
-        TokenKind::OpenBracket => Ok(Lexeme::OpenBracket(token.start)),
-        TokenKind::CloseBracket => Ok(Lexeme::CloseBracket(token.end)),
-        TokenKind::OpenBrace => Ok(Lexeme::OpenBrace(token.start)),
-        TokenKind::CloseBrace => Ok(Lexeme::CloseBrace(token.end)),
-        TokenKind::AtMost => Ok(Lexeme::Mark(Mark::AtMost)),
-        TokenKind::AtLeast => Ok(Lexeme::Mark(Mark::AtLeast)),
-        TokenKind::OpenParen => Ok(Lexeme::Mark(Mark::OpenParen)),
-        TokenKind::CloseParen => Ok(Lexeme::Mark(Mark::CloseParen)),
-        TokenKind::Less => Ok(Lexeme::Mark(Mark::Less)),
-        TokenKind::Greater => Ok(Lexeme::Mark(Mark::Greater)),
-        TokenKind::Equals => Ok(Lexeme::Mark(Mark::Equals)),
-        TokenKind::Comma => Ok(Lexeme::Mark(Mark::Comma)),
-        TokenKind::Semicolon => Ok(Lexeme::Mark(Mark::Semicolon)),
-        TokenKind::Colon => Ok(Lexeme::Mark(Mark::Colon)),
-        TokenKind::Dot => Ok(Lexeme::Mark(Mark::Dot)),
-        TokenKind::Plus => Ok(Lexeme::Mark(Mark::Plus)),
-        TokenKind::Minus => Ok(Lexeme::Mark(Mark::Minus)),
-        TokenKind::Star => Ok(Lexeme::Mark(Mark::Star)),
+        TokenKind::Mark(mark) => Ok(mark_lexeme(mark, token.start, token.end)),
     }
 }
 
@@ -99,7 +94,7 @@ fn lexeme_at(alloc: Global, token: Token, source: &[u8]) -> Result<Lexeme, Parse
 pub fn lexemes(alloc: Global, tokens: &[Token], source: &[u8]) -> Result<Vec<Lexeme>, ParseFault>
     ensures { Gives (λ v. v.items) result (lexemes_of source.now tokens.now) }
 {
-    let mut found = Vec::new(alloc);
+    let mut found = Vec::with_capacity(alloc, tokens.len())?;
     let mut rest = tokens;
     while let Some((token, left)) = rest.split_first() {
         found.push(lexeme_at(alloc, *token, source)?)?;

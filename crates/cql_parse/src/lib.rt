@@ -3,22 +3,20 @@
 #![tactic(auto)]
 
 mod changes;
+mod clauses;
 mod define;
 mod fault;
+mod front;
+mod keyword;
 mod lexeme;
 mod lexemes;
 mod lists;
-mod names;
 mod nested;
 mod parse;
 mod select;
-mod symbol;
 mod syntax;
-mod take;
 mod term;
 mod terms;
-#[cfg(test)]
-mod tests;
 
 pub use fault::ParseFault;
 pub use parse::{one_statement, statement};

@@ -1,23 +1,24 @@
 //! Lists of one thing or more, with commas or AND between.
 
 ghost use Rattle.std.specs.Prelude.{◌≡◌, [], ◌∷◌, option_map, IfOk};
-ghost use Rattle.cql_parse.specs.Reading.{Gives, after_separator, from_at, in_parens, list_at, list_behind};
+ghost use Rattle.cql_parse.specs.Inner.Reading.{Gives, after_separator, from_at, in_parens, list_at, list_behind};
 
 use crate::fault::ParseFault;
+use crate::front::{after_mark, after_word, mark, name};
+use crate::keyword::Keyword;
 use crate::lexeme::Lexeme;
-use crate::symbol::{Keyword, Mark};
-use crate::take::{after_mark, after_word, mark, name};
 use cas_types::{List, Mem, Text};
+use cql_lex::Mark;
 use std::alloc::Global;
 
 /// What stands between the things of a list.
-#[derive(Clone, Copy, PartialEq, Eq, Debug)]
+#[derive(Clone, Copy)]
 pub enum Separator {
     Comma,
     And,
 }
 
-#[tactic(auto, unfolding(crate::specs::Reading::after_separator))]
+#[tactic(auto, unfolding(crate::specs::Inner::Reading::after_separator))]
 fn after_separator(input: &[Lexeme], separator: Separator) -> Option<&[Lexeme]>
     ensures { option_map (λ r. r.now) result ≡ after_separator separator input.now }
 {
@@ -31,7 +32,7 @@ fn after_separator(input: &[Lexeme], separator: Separator) -> Option<&[Lexeme]>
 pub trait Part: Sized {
     ghost use Rattle.std.specs.Prelude.{List, Option};
     ghost use Rattle.cql_parse.specs.declared.lexeme.Lexeme.{Lexeme};
-    ghost use Rattle.cql_parse.specs.Reading.{Gives};
+    ghost use Rattle.cql_parse.specs.Inner.Reading.{Gives};
 
     ghost reads: { List Lexeme → Option (Self × List Lexeme) };
 
@@ -40,7 +41,7 @@ pub trait Part: Sized {
 }
 
 impl Part for Text {
-    ghost use Rattle.cql_parse.specs.Reading.{name_at};
+    ghost use Rattle.cql_parse.specs.Inner.Reading.{name_at};
 
     ghost reads = { name_at };
 
@@ -49,9 +50,9 @@ impl Part for Text {
     }
 }
 
-/// The things of which some are read already and the others follow, each behind a separator. There
+/// The things of which some are read already and the others follow, each after a separator. There
 /// are fewer than lexemes.
-#[tactic(auto, unfolding(crate::specs::Reading::from_at))]
+#[tactic(auto, unfolding(crate::specs::Inner::Reading::from_at))]
 pub fn list_from<X: Part + Drop>(
     alloc: Global,
     separator: Separator,
@@ -85,7 +86,7 @@ pub fn only<X: Drop>(alloc: Global, thing: X) -> Result<Vec<X>, Mem>
 }
 
 /// One thing or more, with the separator between.
-#[tactic(auto, unfolding(crate::specs::Reading::list_at))]
+#[tactic(auto, unfolding(crate::specs::Inner::Reading::list_at))]
 pub fn list<X: Part + Drop>(
     alloc: Global,
     separator: Separator,
@@ -97,8 +98,8 @@ pub fn list<X: Part + Drop>(
     list_from(alloc, separator, only(alloc, first)?, rest)
 }
 
-/// A list behind a word, or none.
-#[tactic(auto, unfolding(crate::specs::Reading::list_behind))]
+/// A list after a word, or none.
+#[tactic(auto, unfolding(crate::specs::Inner::Reading::list_behind))]
 pub fn list_behind<X: Part + Drop>(
     alloc: Global,
     keyword: Keyword,
@@ -114,7 +115,7 @@ pub fn list_behind<X: Part + Drop>(
 }
 
 /// A list with commas, in parentheses.
-#[tactic(auto, unfolding(crate::specs::Reading::in_parens))]
+#[tactic(auto, unfolding(crate::specs::Inner::Reading::in_parens))]
 pub fn in_parens<X: Part + Drop>(
     alloc: Global,
     input: &[Lexeme],

@@ -4,24 +4,26 @@
 ghost use Rattle.std.specs.Prelude.{◌≡◌, ◌||◌, []};
 ghost use Rattle.std.specs.Str.{bytes_eq};
 ghost use Rattle.cql_parse.specs.Symbols.{spelling};
-ghost use Rattle.cql_parse.specs.Reading.{Gives};
-ghost use Rattle.cql_parse.specs.TermReading.{is_plain, opening, starts, bracket_closes, brace_closes, closing, comma, colon, follows, step, walk, nested_at};
+ghost use Rattle.cql_parse.specs.Inner.Reading.{Gives};
+ghost use Rattle.cql_parse.specs.Inner.TermReading.{stands_alone, opening, starts, bracket_closes, brace_closes, closing, comma, colon, follows};
+ghost use Rattle.cql_parse.specs.Inner.TermReading.{step, walk, nested_at};
 
 use crate::fault::ParseFault;
+use crate::front::is_spelt;
+use crate::keyword::Keyword;
 use crate::lexeme::Lexeme;
-use crate::symbol::{Keyword, Mark};
-use crate::take::is_spelt;
 use crate::term::Nested;
+use cql_lex::{Mark, Name};
 use std::alloc::Global;
 
 /// An open bracket, by what stands in it up to now.
-#[derive(Clone, Copy, Debug)]
+#[derive(Clone, Copy)]
 pub enum Frame {
     /// `[`.
     List,
     /// `{` with at most one term, so that it may be a set or a map.
     Braces,
-    /// `{` with a comma behind its first term.
+    /// `{` with a comma after its first term.
     Set,
     /// A map's `{` whose last term is a key.
     Key,
@@ -30,7 +32,7 @@ pub enum Frame {
 }
 
 /// What may come next in the innermost open bracket.
-#[derive(Clone, Copy, Debug)]
+#[derive(Clone, Copy)]
 pub enum Wants {
     /// A first term or the closing bracket.
     First,
@@ -41,36 +43,36 @@ pub enum Wants {
 }
 
 /// What a lexeme does.
-#[derive(Clone, Copy, Debug)]
+#[derive(Clone, Copy)]
 pub enum Move {
     /// It stays in the same bracket.
     Go(Wants, Frame),
     /// It opens a bracket.
     Open(Frame),
-    /// It closes the innermost one; the place behind it.
+    /// It closes the innermost one; the place after it.
     Close(usize),
     /// It isn't in the grammar there.
     Wrong,
 }
 
-#[tactic(auto, unfolding(crate::specs::TermReading::is_plain))]
-fn is_plain(lexeme: &Lexeme) -> bool
-    ensures { result ≡ is_plain lexeme.now }
+#[tactic(auto, unfolding(crate::specs::Inner::TermReading::stands_alone))]
+fn stands_alone(lexeme: &Lexeme) -> bool
+    ensures { result ≡ stands_alone lexeme.now }
 {
     match lexeme {
         Lexeme::Text(_) | Lexeme::Number(_) | Lexeme::Blob(_) | Lexeme::Uuid(_) => true,
-        Lexeme::Word(text) => is_plain_word(text.as_str()),
+        Lexeme::Word(name) => word_stands_alone(name),
         _ => false,
     }
 }
 
-fn is_plain_word(text: &str) -> bool
-    ensures { result ≡ (bytes_eq text.now (spelling Keyword.Null) || bytes_eq text.now (spelling Keyword.True) || bytes_eq text.now (spelling Keyword.False)) }
+fn word_stands_alone(name: &Name) -> bool
+    ensures { result ≡ (bytes_eq name.now (spelling Keyword.Null) || bytes_eq name.now (spelling Keyword.True) || bytes_eq name.now (spelling Keyword.False)) }
 {
-    is_spelt(text, Keyword::Null) || is_spelt(text, Keyword::True) || is_spelt(text, Keyword::False)
+    is_spelt(name, Keyword::Null) || is_spelt(name, Keyword::True) || is_spelt(name, Keyword::False)
 }
 
-#[tactic(auto, unfolding(crate::specs::TermReading::opening))]
+#[tactic(auto, unfolding(crate::specs::Inner::TermReading::opening))]
 fn opening(lexeme: &Lexeme) -> Move
     ensures { result ≡ opening lexeme.now }
 {
@@ -81,18 +83,18 @@ fn opening(lexeme: &Lexeme) -> Move
     }
 }
 
-#[tactic(auto, unfolding(crate::specs::TermReading::starts))]
+#[tactic(auto, unfolding(crate::specs::Inner::TermReading::starts))]
 fn starts(frame: Frame, lexeme: &Lexeme) -> Move
     ensures { result ≡ starts frame lexeme.now }
 {
-    if is_plain(lexeme) {
+    if stands_alone(lexeme) {
         Move::Go(Wants::Next, frame)
     } else {
         opening(lexeme)
     }
 }
 
-#[tactic(auto, unfolding(crate::specs::TermReading::bracket_closes))]
+#[tactic(auto, unfolding(crate::specs::Inner::TermReading::bracket_closes))]
 fn bracket_closes(frame: Frame, at: usize) -> Move
     ensures { result ≡ bracket_closes frame at }
 {
@@ -102,7 +104,7 @@ fn bracket_closes(frame: Frame, at: usize) -> Move
     }
 }
 
-#[tactic(auto, unfolding(crate::specs::TermReading::brace_closes))]
+#[tactic(auto, unfolding(crate::specs::Inner::TermReading::brace_closes))]
 fn brace_closes(frame: Frame, at: usize) -> Move
     ensures { result ≡ brace_closes frame at }
 {
@@ -112,7 +114,7 @@ fn brace_closes(frame: Frame, at: usize) -> Move
     }
 }
 
-#[tactic(auto, unfolding(crate::specs::TermReading::closing))]
+#[tactic(auto, unfolding(crate::specs::Inner::TermReading::closing))]
 fn closing(frame: Frame, lexeme: &Lexeme) -> Move
     ensures { result ≡ closing frame lexeme.now }
 {
@@ -123,7 +125,7 @@ fn closing(frame: Frame, lexeme: &Lexeme) -> Move
     }
 }
 
-#[tactic(auto, unfolding(crate::specs::TermReading::comma))]
+#[tactic(auto, unfolding(crate::specs::Inner::TermReading::comma))]
 fn comma(frame: Frame) -> Move
     ensures { result ≡ comma frame }
 {
@@ -135,7 +137,7 @@ fn comma(frame: Frame) -> Move
     }
 }
 
-#[tactic(auto, unfolding(crate::specs::TermReading::colon))]
+#[tactic(auto, unfolding(crate::specs::Inner::TermReading::colon))]
 fn colon(frame: Frame) -> Move
     ensures { result ≡ colon frame }
 {
@@ -145,7 +147,7 @@ fn colon(frame: Frame) -> Move
     }
 }
 
-#[tactic(auto, unfolding(crate::specs::TermReading::follows))]
+#[tactic(auto, unfolding(crate::specs::Inner::TermReading::follows))]
 fn follows(frame: Frame, lexeme: &Lexeme) -> Move
     ensures { result ≡ follows frame lexeme.now }
 {
@@ -156,7 +158,7 @@ fn follows(frame: Frame, lexeme: &Lexeme) -> Move
     }
 }
 
-#[tactic(auto, unfolding(crate::specs::TermReading::step))]
+#[tactic(auto, unfolding(crate::specs::Inner::TermReading::step))]
 fn step(wants: Wants, frame: Frame, lexeme: &Lexeme) -> Move
     ensures { result ≡ step wants frame lexeme.now }
 {
@@ -170,7 +172,7 @@ fn step(wants: Wants, frame: Frame, lexeme: &Lexeme) -> Move
     }
 }
 
-/// The place behind the bracket that closes the first one, and the lexemes that follow it.
+/// The place after the bracket that closes the first one, and the lexemes that follow it.
 fn walk(alloc: Global, first: Frame, input: &[Lexeme]) -> Result<(usize, &[Lexeme]), ParseFault>
     ensures { Gives (λ x. (x.0, x.1.now)) result (walk Wants.First first [] input.now) }
 {
@@ -204,7 +206,7 @@ fn walk(alloc: Global, first: Frame, input: &[Lexeme]) -> Result<(usize, &[Lexem
 }
 
 /// A literal, as its span.
-#[tactic(auto, unfolding(crate::specs::TermReading::nested_at))]
+#[tactic(auto, unfolding(crate::specs::Inner::TermReading::nested_at))]
 pub fn nested(alloc: Global, input: &[Lexeme]) -> Result<(Nested, &[Lexeme]), ParseFault>
     ensures { Gives (λ x. (x.0, x.1.now)) result (nested_at input.now) }
 {

@@ -1,24 +1,24 @@
 //! A whole statement.
 
 ghost use Rattle.std.specs.Prelude.{◌≡◌, IfOk};
-ghost use Rattle.cql_parse.specs.Reading.{Gives};
-ghost use Rattle.cql_parse.specs.StatementReading.{definition_at, change_at, statement_at, semicolon_at, whole};
-ghost use Rattle.cql_parse.specs.Means.{Means, IsAnswer, OneStatement, statement_of};
+ghost use Rattle.cql_parse.specs.Inner.Reading.{Gives};
+ghost use Rattle.cql_parse.specs.Inner.StatementReading.{definition_at, change_at, statement_at, semicolon_at, whole_statement, statement_of};
+ghost use Rattle.cql_parse.specs.Means.{Means, IsAnswer, OneStatement};
 ghost use Rattle.cql_parse.specs.declared.syntax.Statement.{Statement};
 
 use crate::changes::{delete, insert, update};
 use crate::define::{alter, create};
 use crate::fault::ParseFault;
+use crate::front::{after_mark, after_word};
+use crate::keyword::Keyword;
 use crate::lexeme::Lexeme;
 use crate::lexemes::lexemes;
 use crate::select::select;
-use crate::symbol::{Keyword, Mark};
 use crate::syntax::Statement;
-use crate::take::{after_mark, after_word};
-use cql_lex::Token;
+use cql_lex::{Mark, Token};
 use std::alloc::Global;
 
-#[tactic(auto, unfolding(crate::specs::StatementReading::definition_at))]
+#[tactic(auto, unfolding(crate::specs::Inner::StatementReading::definition_at))]
 fn definition(alloc: Global, input: &[Lexeme]) -> Result<(Statement, &[Lexeme]), ParseFault>
     ensures { Gives (λ x. (x.0, x.1.now)) result (definition_at input.now) }
 {
@@ -35,7 +35,7 @@ fn definition(alloc: Global, input: &[Lexeme]) -> Result<(Statement, &[Lexeme]),
     }
 }
 
-#[tactic(auto, unfolding(crate::specs::StatementReading::change_at))]
+#[tactic(auto, unfolding(crate::specs::Inner::StatementReading::change_at))]
 fn change(alloc: Global, input: &[Lexeme]) -> Result<(Statement, &[Lexeme]), ParseFault>
     ensures { Gives (λ x. (x.0, x.1.now)) result (change_at input.now) }
 {
@@ -54,7 +54,7 @@ fn change(alloc: Global, input: &[Lexeme]) -> Result<(Statement, &[Lexeme]), Par
     definition(alloc, input)
 }
 
-#[tactic(auto, unfolding(crate::specs::StatementReading::statement_at))]
+#[tactic(auto, unfolding(crate::specs::Inner::StatementReading::statement_at))]
 fn any(alloc: Global, input: &[Lexeme]) -> Result<(Statement, &[Lexeme]), ParseFault>
     ensures { Gives (λ x. (x.0, x.1.now)) result (statement_at input.now) }
 {
@@ -65,7 +65,7 @@ fn any(alloc: Global, input: &[Lexeme]) -> Result<(Statement, &[Lexeme]), ParseF
     change(alloc, input)
 }
 
-#[tactic(auto, unfolding(crate::specs::StatementReading::semicolon_at))]
+#[tactic(auto, unfolding(crate::specs::Inner::StatementReading::semicolon_at))]
 fn after_semicolon(input: &[Lexeme]) -> &[Lexeme]
     ensures { semicolon_at input.now ≡ Some (tt, result.now) }
 {
@@ -76,9 +76,9 @@ fn after_semicolon(input: &[Lexeme]) -> &[Lexeme]
 }
 
 /// The statement that the lexemes spell, all of them.
-#[tactic(auto, unfolding(crate::specs::StatementReading::whole))]
-fn whole(alloc: Global, input: &[Lexeme]) -> Result<Statement, ParseFault>
-    ensures { Gives (λ s. s) result (whole input.now) }
+#[tactic(auto, unfolding(crate::specs::Inner::StatementReading::whole_statement))]
+fn whole_statement(alloc: Global, input: &[Lexeme]) -> Result<Statement, ParseFault>
+    ensures { Gives (λ s. s) result (whole_statement input.now) }
 {
     let (statement, rest) = any(alloc, input)?;
     match after_semicolon(rest) {
@@ -87,12 +87,12 @@ fn whole(alloc: Global, input: &[Lexeme]) -> Result<Statement, ParseFault>
     }
 }
 
-#[tactic(auto, unfolding(crate::specs::Means::statement_of))]
+#[tactic(auto, unfolding(crate::specs::Inner::StatementReading::statement_of))]
 fn parsed(alloc: Global, tokens: &[Token], source: &str) -> Result<Statement, ParseFault>
     ensures { Gives (λ s. s) result (statement_of source.now tokens.now) }
 {
     let lexemes = lexemes(alloc, tokens, source.as_bytes())?;
-    whole(alloc, &lexemes)
+    whole_statement(alloc, &lexemes)
 }
 
 /// The statement that the tokens of the source spell, all of them. A literal within a literal is

@@ -1,21 +1,22 @@
-//! SELECT, behind its first word.
+//! SELECT, after its first word.
 
 ghost use Rattle.std.specs.Prelude.{◌≡◌, option_map};
-ghost use Rattle.cql_parse.specs.Reading.{Gives};
-ghost use Rattle.cql_parse.specs.StatementReading.{after_call, called, picks_at, order_at, select_at};
+ghost use Rattle.cql_parse.specs.Inner.Reading.{Gives};
+ghost use Rattle.cql_parse.specs.Inner.StatementReading.{after_call, called, picks_at, order_at, select_at};
 
+use crate::clauses::table;
 use crate::fault::ParseFault;
+use crate::front::{after_mark, after_word, blob_behind, mark, name, number_behind, word};
+use crate::keyword::Keyword;
 use crate::lexeme::Lexeme;
 use crate::lists::{Part, Separator, list, list_behind};
-use crate::names::table;
-use crate::symbol::{Keyword, Mark};
 use crate::syntax::{ColumnOrder, Pick, Picks, Relation, Select};
-use crate::take::{after_mark, after_word, blob_behind, mark, name, number_behind, word};
 use cas_types::{List, Text};
+use cql_lex::Mark;
 use std::alloc::Global;
 
 /// What follows the word and a parenthesis, where they stand first.
-#[tactic(auto, unfolding(crate::specs::StatementReading::after_call))]
+#[tactic(auto, unfolding(crate::specs::Inner::StatementReading::after_call))]
 fn after_call(input: &[Lexeme], keyword: Keyword) -> Option<&[Lexeme]>
     ensures { option_map (λ r. r.now) result ≡ after_call keyword input.now }
 {
@@ -26,7 +27,7 @@ fn after_call(input: &[Lexeme], keyword: Keyword) -> Option<&[Lexeme]>
 }
 
 /// The column of a call, and its closing parenthesis.
-#[tactic(auto, unfolding(crate::specs::StatementReading::called))]
+#[tactic(auto, unfolding(crate::specs::Inner::StatementReading::called))]
 fn called(alloc: Global, input: &[Lexeme]) -> Result<(Text, &[Lexeme]), ParseFault>
     ensures { Gives (λ x. (x.0, x.1.now)) result (called input.now) }
 {
@@ -36,11 +37,11 @@ fn called(alloc: Global, input: &[Lexeme]) -> Result<(Text, &[Lexeme]), ParseFau
 }
 
 impl Part for Pick {
-    ghost use Rattle.cql_parse.specs.StatementReading.{pick_at};
+    ghost use Rattle.cql_parse.specs.Inner.StatementReading.{pick_at};
 
     ghost reads = { pick_at };
 
-    #[tactic(auto, unfolding(crate::specs::StatementReading::pick_at))]
+    #[tactic(auto, unfolding(crate::specs::Inner::StatementReading::pick_at))]
     fn read(alloc: Global, input: &[Lexeme]) -> Result<(Self, &[Lexeme]), ParseFault> {
         if let Some(after) = after_call(input, Keyword::WriteTime) {
             let (column, rest) = called(alloc, after)?;
@@ -55,7 +56,7 @@ impl Part for Pick {
     }
 }
 
-#[tactic(auto, unfolding(crate::specs::StatementReading::picks_at))]
+#[tactic(auto, unfolding(crate::specs::Inner::StatementReading::picks_at))]
 fn picks(alloc: Global, input: &[Lexeme]) -> Result<(Picks, &[Lexeme]), ParseFault>
     ensures { Gives (λ x. (x.0, x.1.now)) result (picks_at input.now) }
 {
@@ -68,7 +69,7 @@ fn picks(alloc: Global, input: &[Lexeme]) -> Result<(Picks, &[Lexeme]), ParseFau
     }
 }
 
-#[tactic(auto, unfolding(crate::specs::StatementReading::order_at))]
+#[tactic(auto, unfolding(crate::specs::Inner::StatementReading::order_at))]
 fn order(alloc: Global, input: &[Lexeme]) -> Result<(List<ColumnOrder>, &[Lexeme]), ParseFault>
     ensures { Gives (λ x. (x.0, x.1.now)) result (order_at input.now) }
 {
@@ -82,7 +83,7 @@ fn order(alloc: Global, input: &[Lexeme]) -> Result<(List<ColumnOrder>, &[Lexeme
 }
 
 /// What follows SELECT.
-#[tactic(auto, unfolding(crate::specs::StatementReading::select_at))]
+#[tactic(auto, unfolding(crate::specs::Inner::StatementReading::select_at))]
 pub fn select(alloc: Global, input: &[Lexeme]) -> Result<(Select, &[Lexeme]), ParseFault>
     ensures { Gives (λ x. (x.0, x.1.now)) result (select_at input.now) }
 {

@@ -30,7 +30,7 @@ pub enum Literal {
 }
 
 /// A term within a literal. A literal there is told by its span in the source, which is from the
-/// first byte of its opening bracket to behind its closing one.
+/// first byte of its opening bracket to after its closing one.
 #[derive(Drop)]
 pub enum Element {
     Null,

@@ -1,29 +1,31 @@
 //! Constants, terms and the literals of collections.
 
 ghost use Rattle.std.specs.Prelude.{◌≡◌};
-ghost use Rattle.cql_parse.specs.Reading.{Gives};
-ghost use Rattle.cql_parse.specs.TermReading.{truth_of, constant_at, opens, element_at, entry_at, set_from, map_from, set_or_map, braces_at, some_elements, brackets_at, literal_at, term_at, setting_at};
+ghost use Rattle.cql_parse.specs.Inner.Reading.{Gives};
+ghost use Rattle.cql_parse.specs.Inner.TermReading.{truth_of, constant_at, opens, element_at, pair_at, set_from, map_from, set_or_map, braces_at};
+ghost use Rattle.cql_parse.specs.Inner.TermReading.{some_elements, brackets_at, literal_at, term_at, setting_at};
 
 use crate::fault::ParseFault;
-use crate::lexeme::Lexeme;
-use crate::lists::{Part, Separator, list, list_from, only};
-use crate::nested::nested;
-use crate::symbol::{Keyword, Mark};
-use crate::take::{
+use crate::front::{
     after_close_brace, after_close_bracket, after_mark, after_word, close_brace, close_bracket,
     is_spelt, mark,
 };
+use crate::keyword::Keyword;
+use crate::lexeme::Lexeme;
+use crate::lists::{Part, Separator, list, list_from, only};
+use crate::nested::nested;
 use crate::term::{Constant, Element, Entry, Literal, Setting, Term};
 use cas_types::List;
+use cql_lex::{Mark, Name};
 use std::alloc::Global;
 
-#[tactic(auto, unfolding(crate::specs::TermReading::truth_of))]
-fn truth_of(text: &str) -> Option<bool>
-    ensures { result ≡ truth_of text.now }
+#[tactic(auto, unfolding(crate::specs::Inner::TermReading::truth_of))]
+fn truth_of(name: &Name) -> Option<bool>
+    ensures { result ≡ truth_of name.now }
 {
-    if is_spelt(text, Keyword::True) {
+    if is_spelt(name, Keyword::True) {
         Some(true)
-    } else if is_spelt(text, Keyword::False) {
+    } else if is_spelt(name, Keyword::False) {
         Some(false)
     } else {
         None
@@ -31,7 +33,7 @@ fn truth_of(text: &str) -> Option<bool>
 }
 
 /// A constant.
-#[tactic(auto, unfolding(crate::specs::TermReading::constant_at))]
+#[tactic(auto, unfolding(crate::specs::Inner::TermReading::constant_at))]
 pub fn constant(alloc: Global, input: &[Lexeme]) -> Result<(Constant, &[Lexeme]), ParseFault>
     ensures { Gives (λ x. (x.0, x.1.now)) result (constant_at input.now) }
 {
@@ -40,7 +42,7 @@ pub fn constant(alloc: Global, input: &[Lexeme]) -> Result<(Constant, &[Lexeme])
         [Lexeme::Number(n), rest @ ..] => Ok((Constant::Number(*n), rest)),
         [Lexeme::Blob(bytes), rest @ ..] => Ok((Constant::Blob(bytes.clone()?), rest)),
         [Lexeme::Uuid(uuid), rest @ ..] => Ok((Constant::Uuid(*uuid), rest)),
-        [Lexeme::Word(text), rest @ ..] => match truth_of(text.as_str()) {
+        [Lexeme::Word(name), rest @ ..] => match truth_of(name) {
             Some(truth) => Ok((Constant::Boolean(truth), rest)),
             None => Err(ParseFault::Syntax),
         },
@@ -49,7 +51,7 @@ pub fn constant(alloc: Global, input: &[Lexeme]) -> Result<(Constant, &[Lexeme])
 }
 
 /// Whether a literal begins here.
-#[tactic(auto, unfolding(crate::specs::TermReading::opens))]
+#[tactic(auto, unfolding(crate::specs::Inner::TermReading::opens))]
 pub fn opens(input: &[Lexeme]) -> bool
     ensures { result ≡ opens input.now }
 {
@@ -57,11 +59,11 @@ pub fn opens(input: &[Lexeme]) -> bool
 }
 
 impl Part for Element {
-    ghost use Rattle.cql_parse.specs.TermReading.{element_at};
+    ghost use Rattle.cql_parse.specs.Inner.TermReading.{element_at};
 
     ghost reads = { element_at };
 
-    #[tactic(auto, unfolding(crate::specs::TermReading::element_at))]
+    #[tactic(auto, unfolding(crate::specs::Inner::TermReading::element_at))]
     fn read(alloc: Global, input: &[Lexeme]) -> Result<(Self, &[Lexeme]), ParseFault> {
         if let Some(rest) = after_word(input, Keyword::Null) {
             return Ok((Element::Null, rest));
@@ -76,11 +78,11 @@ impl Part for Element {
 }
 
 impl Part for Entry {
-    ghost use Rattle.cql_parse.specs.TermReading.{entry_at};
+    ghost use Rattle.cql_parse.specs.Inner.TermReading.{pair_at};
 
-    ghost reads = { entry_at };
+    ghost reads = { pair_at };
 
-    #[tactic(auto, unfolding(crate::specs::TermReading::entry_at))]
+    #[tactic(auto, unfolding(crate::specs::Inner::TermReading::pair_at))]
     fn read(alloc: Global, input: &[Lexeme]) -> Result<(Self, &[Lexeme]), ParseFault> {
         let (key, rest) = Element::read(alloc, input)?;
         let rest = mark(rest, Mark::Colon)?;
@@ -89,7 +91,7 @@ impl Part for Entry {
     }
 }
 
-#[tactic(auto, unfolding(crate::specs::TermReading::set_from))]
+#[tactic(auto, unfolding(crate::specs::Inner::TermReading::set_from))]
 fn set_from(
     alloc: Global,
     first: Element,
@@ -102,7 +104,7 @@ fn set_from(
     Ok((Literal::SetOf(elements), rest))
 }
 
-#[tactic(auto, unfolding(crate::specs::TermReading::map_from))]
+#[tactic(auto, unfolding(crate::specs::Inner::TermReading::map_from))]
 fn map_from(
     alloc: Global,
     key: Element,
@@ -123,7 +125,7 @@ fn map_from(
 
 /// What follows an opening brace and isn't its closing one: a map where a colon follows the first
 /// term.
-#[tactic(auto, unfolding(crate::specs::TermReading::set_or_map))]
+#[tactic(auto, unfolding(crate::specs::Inner::TermReading::set_or_map))]
 fn set_or_map(alloc: Global, input: &[Lexeme]) -> Result<(Literal, &[Lexeme]), ParseFault>
     ensures { Gives (λ x. (x.0, x.1.now)) result (set_or_map input.now) }
 {
@@ -134,7 +136,7 @@ fn set_or_map(alloc: Global, input: &[Lexeme]) -> Result<(Literal, &[Lexeme]), P
     }
 }
 
-#[tactic(auto, unfolding(crate::specs::TermReading::braces_at))]
+#[tactic(auto, unfolding(crate::specs::Inner::TermReading::braces_at))]
 fn braces(alloc: Global, input: &[Lexeme]) -> Result<(Literal, &[Lexeme]), ParseFault>
     ensures { Gives (λ x. (x.0, x.1.now)) result (braces_at input.now) }
 {
@@ -144,7 +146,7 @@ fn braces(alloc: Global, input: &[Lexeme]) -> Result<(Literal, &[Lexeme]), Parse
     }
 }
 
-#[tactic(auto, unfolding(crate::specs::TermReading::some_elements))]
+#[tactic(auto, unfolding(crate::specs::Inner::TermReading::some_elements))]
 fn some_elements(alloc: Global, input: &[Lexeme]) -> Result<(Literal, &[Lexeme]), ParseFault>
     ensures { Gives (λ x. (x.0, x.1.now)) result (some_elements input.now) }
 {
@@ -153,7 +155,7 @@ fn some_elements(alloc: Global, input: &[Lexeme]) -> Result<(Literal, &[Lexeme])
     Ok((Literal::ListOf(elements), rest))
 }
 
-#[tactic(auto, unfolding(crate::specs::TermReading::brackets_at))]
+#[tactic(auto, unfolding(crate::specs::Inner::TermReading::brackets_at))]
 fn brackets(alloc: Global, input: &[Lexeme]) -> Result<(Literal, &[Lexeme]), ParseFault>
     ensures { Gives (λ x. (x.0, x.1.now)) result (brackets_at input.now) }
 {
@@ -164,7 +166,7 @@ fn brackets(alloc: Global, input: &[Lexeme]) -> Result<(Literal, &[Lexeme]), Par
 }
 
 /// The literal of a collection.
-#[tactic(auto, unfolding(crate::specs::TermReading::literal_at))]
+#[tactic(auto, unfolding(crate::specs::Inner::TermReading::literal_at))]
 pub fn literal(alloc: Global, input: &[Lexeme]) -> Result<(Literal, &[Lexeme]), ParseFault>
     ensures { Gives (λ x. (x.0, x.1.now)) result (literal_at input.now) }
 {
@@ -176,11 +178,11 @@ pub fn literal(alloc: Global, input: &[Lexeme]) -> Result<(Literal, &[Lexeme]), 
 }
 
 impl Part for Term {
-    ghost use Rattle.cql_parse.specs.TermReading.{term_at};
+    ghost use Rattle.cql_parse.specs.Inner.TermReading.{term_at};
 
     ghost reads = { term_at };
 
-    #[tactic(auto, unfolding(crate::specs::TermReading::term_at))]
+    #[tactic(auto, unfolding(crate::specs::Inner::TermReading::term_at))]
     fn read(alloc: Global, input: &[Lexeme]) -> Result<(Self, &[Lexeme]), ParseFault> {
         if let Some(rest) = after_word(input, Keyword::Null) {
             return Ok((Term::Null, rest));
@@ -195,7 +197,7 @@ impl Part for Term {
 }
 
 /// A key or a value in an option's map.
-#[tactic(auto, unfolding(crate::specs::TermReading::setting_at))]
+#[tactic(auto, unfolding(crate::specs::Inner::TermReading::setting_at))]
 pub fn setting(alloc: Global, input: &[Lexeme]) -> Result<(Setting, &[Lexeme]), ParseFault>
     ensures { Gives (λ x. (x.0, x.1.now)) result (setting_at input.now) }
 {

@@ -5,7 +5,7 @@ use Rattle.cql_parse.proofs.lexemes.lexemes.Goals as goal
 
 pub returns-in_err-lexeme_at : goal.returns-in_err-lexeme_at
 returns-in_err-lexeme_at c =
-    let p = err_from_is_err_and c.from_residual.result c.from_residual.ensures.1 in
+    let p = err_from_is_err_and c.from_residual-in_err-lexeme_at.result c.from_residual-in_err-lexeme_at.ensures.1 in
     rw (p.1, p.2) (misses _ _ _ _ _ _ _ c.in-Some.ensures.cases.0 c.in_err-lexeme_at.ensures c.loop-token.invariant)
 
 pub loop-token-preserved : goal.loop-token-preserved

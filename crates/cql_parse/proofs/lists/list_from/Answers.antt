@@ -1,6 +1,6 @@
 use Rattle.std.proofs.Common.{sym}
 use Rattle.std.proofs.lemmas.Result.{err_from_is_err_and}
-use Rattle.cql_parse.specs.Reading.{from_at}
+use Rattle.cql_parse.specs.Inner.Reading.{from_at}
 use Rattle.cql_parse.proofs.Loop.{goes_on, stops, ends, counted}
 use Rattle.cql_parse.proofs.lists.list_from.Goals as goal
 

@@ -1,5 +1,5 @@
 use Rattle.std.proofs.Common.{◌≡◌, ◌-◌, length}
-use Rattle.cql_parse.specs.Reading.{more_at}
+use Rattle.cql_parse.specs.Inner.Reading.{more_at}
 use Rattle.cql_parse.proofs.Loop.{with_front}
 use Rattle.cql_parse.proofs.lists.list_from.Given as goal
 

@@ -1,6 +1,6 @@
 use Rattle.std.proofs.Common.{◌≡◌, [], length, reverse}
 use Rattle.cql_parse.specs.declared.nested.Wants.TheVariants.{First}
-use Rattle.cql_parse.specs.TermReading.{walk}
+use Rattle.cql_parse.specs.Inner.TermReading.{walk}
 use Rattle.cql_parse.proofs.nested.walk.Given as goal
 
 abbrev pub invariant-loop-lexeme : goal.invariant-loop-lexeme

@@ -1,17 +1,19 @@
--- Reading from left to right: each reader answers what it read and the lexemes behind it. That this is reading by the grammar is proved apart.
-use Rattle.std.specs.Prelude.{◌≡◌, ℕ, ℤ, zero, suc, ◌==◌, Bool, true, false, List, [], ◌∷◌, ◌++◌, length, Option, None, Some, Result, Ok, Err, if◌then◌else◌}
+-- Reading from left to right: each reader answers what it read and the lexemes after it. That this is reading by the
+-- grammar is proved apart.
+use Rattle.std.specs.Prelude.{◌≡◌, ℕ, ℤ, zero, suc, ◌==◌, Bool, true, false, List, [], ◌∷◌, ◌++◌, length, Option, None, Some, Result, Ok, Err}
+use Rattle.std.specs.Prelude.{if◌then◌else◌}
 use Rattle.std.specs.Str.{bytes_eq}
 use Rattle.cql_parse.specs.declared.fault.ParseFault.{ParseFault}
 use Rattle.cql_parse.specs.declared.fault.ParseFault.TheVariants as faults
 use Rattle.cql_parse.specs.declared.lexeme.Lexeme.{Lexeme}
 use Rattle.cql_parse.specs.declared.lexeme.Lexeme.TheVariants as lexeme
-use Rattle.cql_parse.specs.declared.symbol.Keyword.{Keyword}
-use Rattle.cql_parse.specs.declared.symbol.Keyword.TheVariants as word
-use Rattle.cql_parse.specs.declared.symbol.Mark.{Mark}
-use Rattle.cql_parse.specs.declared.symbol.Mark.TheVariants as mark
+use Rattle.cql_parse.specs.declared.keyword.Keyword.{Keyword}
+use Rattle.cql_parse.specs.declared.keyword.Keyword.TheVariants as word
+use Rattle.cql_lex.specs.declared.token.Mark.{Mark}
+use Rattle.cql_lex.specs.declared.token.Mark.TheVariants as mark
 use Rattle.cql_parse.specs.declared.lists.Separator.{Separator}
 use Rattle.cql_parse.specs.declared.lists.Separator.TheVariants as separator
-use Rattle.cql_parse.specs.Symbols.{spelling, is_reserved, place}
+use Rattle.cql_parse.specs.Symbols.{spelling, is_reserved}
 
 abbrev pub Reader : Type 0 → Type 0
 Reader A = List Lexeme → Option (A × List Lexeme)
@@ -27,7 +29,7 @@ infixl 10 ◌>>=◌
 abbrev pub ◌>>=◌ : {A B : Type 0} → Reader A → (A → Reader B) → Reader B
 p >>= f = λ l. and_then (p l) f
 
--- where the first is there, the reader behind it; else the other answer
+-- where the first is there, the reader after it; else the other answer
 abbrev pub chosen : {B : Type 0} → Option (List Lexeme) → Reader B → Option (B × List Lexeme) → Option (B × List Lexeme)
 chosen None f other = other
 chosen (Some r) f other = f r
@@ -46,6 +48,27 @@ Gives view (Ok x) read = read ≡ Some (view x)
 Gives view (Err e) read = Fails e read
 
 -- ---- words, marks, names
+
+-- a number for each mark, by which two are compared
+unfoldable pub place : Mark → ℕ
+place mark.AtMost = 0
+place mark.AtLeast = 1
+place mark.OpenParen = 2
+place mark.CloseParen = 3
+place mark.OpenBracket = 4
+place mark.CloseBracket = 5
+place mark.OpenBrace = 6
+place mark.CloseBrace = 7
+place mark.Less = 8
+place mark.Greater = 9
+place mark.Equals = 10
+place mark.Comma = 11
+place mark.Semicolon = 12
+place mark.Colon = 13
+place mark.Dot = 14
+place mark.Plus = 15
+place mark.Minus = 16
+place mark.Star = 17
 
 unfoldable pub after_word : Keyword → List Lexeme → Option (List Lexeme)
 after_word k (lexeme.Word text ∷ r) = if bytes_eq text (spelling k) then Some r else None
@@ -84,9 +107,9 @@ name_at (lexeme.Word text ∷ r) = if is_reserved text then None else Some (text
 name_at (lexeme.Quoted text ∷ r) = Some (text, r)
 name_at _ = None
 
-unfoldable pub number_at : Reader ℤ
-number_at (lexeme.Number n ∷ r) = Some (n, r)
-number_at _ = None
+unfoldable pub whole_number_at : Reader ℤ
+whole_number_at (lexeme.Number n ∷ r) = Some (n, r)
+whole_number_at _ = None
 
 unfoldable pub blob_at : Reader (List ℕ)
 blob_at (lexeme.Blob b ∷ r) = Some (b, r)
@@ -122,14 +145,14 @@ in_parens read = do
   _ ← mark_at mark.CloseParen
   done xs
 
--- a list behind a word, or none
+-- a list after a word, or none
 unfoldable pub list_behind : {A : Type 0} → Keyword → Separator → Reader A → Reader (List A)
 list_behind k s read l = chosen (after_word k l) (list_at s read) (Some ([], l))
 
 unfoldable pub number_behind : Keyword → Reader (Option ℤ)
 number_behind k l =
     chosen (after_word k l) (do
-      n ← number_at
+      n ← whole_number_at
       done (Some n)) (Some (None, l))
 
 unfoldable pub blob_behind : Keyword → Reader (Option (List ℕ))

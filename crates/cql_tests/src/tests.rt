@@ -1,7 +1,8 @@
-use crate::{
-    LexFault, TokenKind as Kind, blob_of, name_of, number_of, one_reading, quoted_name_of,
-    quotes_round_trip, ratio_of, string_of, tokens, uuid_of, well_placed,
+use cql_lex::{
+    LexFault, blob_of, name_of, number_of, one_reading, quoted_name_of, quotes_round_trip,
+    ratio_of, string_of, tokens, uuid_of, well_placed,
 };
+use cql_parse::{Element, Literal, ParseFault, Statement, Term, one_statement, statement};
 use std::alloc::Global;
 use std::fmt::Write;
 use std::test::Fail;
@@ -39,20 +40,20 @@ fn lines_have_their_tokens(rt: HostRuntime) -> Result<(), Fail> {
         ("0", "Number 0 1; "),
         ("-0", "Number 0 2; "),
         ("007", "Number 0 3; "),
-        ("-12,3", "Number 0 3; Comma 3 4; Number 4 5; "),
+        ("-12,3", "Number 0 3; Mark(Comma) 3 4; Number 4 5; "),
         ("a -1", "Name 0 1; Number 2 4; "),
         ("a-1", "Name 0 1; Number 1 3; "),
         ("1-2", "Number 0 1; Number 1 3; "),
-        ("a - 1", "Name 0 1; Minus 2 3; Number 4 5; "),
-        ("-a", "Minus 0 1; Name 1 2; "),
-        ("+1", "Plus 0 1; Number 1 2; "),
+        ("a - 1", "Name 0 1; Mark(Minus) 2 3; Number 4 5; "),
+        ("-a", "Mark(Minus) 0 1; Name 1 2; "),
+        ("+1", "Mark(Plus) 0 1; Number 1 2; "),
         ("1.5", "Ratio 0 3; "),
         ("-1.50", "Ratio 0 5; "),
-        ("1.", "Number 0 1; Dot 1 2; "),
-        (".5", "Dot 0 1; Number 1 2; "),
-        ("1.a", "Number 0 1; Dot 1 2; Name 2 3; "),
-        ("1.5.2", "Ratio 0 3; Dot 3 4; Number 4 5; "),
-        ("a.b", "Name 0 1; Dot 1 2; Name 2 3; "),
+        ("1.", "Number 0 1; Mark(Dot) 1 2; "),
+        (".5", "Mark(Dot) 0 1; Number 1 2; "),
+        ("1.a", "Number 0 1; Mark(Dot) 1 2; Name 2 3; "),
+        ("1.5.2", "Ratio 0 3; Mark(Dot) 3 4; Number 4 5; "),
+        ("a.b", "Name 0 1; Mark(Dot) 1 2; Name 2 3; "),
         ("0x", "Blob 0 2; "),
         ("0X0aFF", "Blob 0 6; "),
         ("0xabc", "Blob 0 4; Name 4 5; "),
@@ -65,20 +66,20 @@ fn lines_have_their_tokens(rt: HostRuntime) -> Result<(), Fail> {
         ),
         (
             "abcdefab-abcd-abcd-abcd-abcdefabcdefx",
-            "Name 0 8; Minus 8 9; Name 9 13; Minus 13 14; Name 14 18; Minus 18 19; Name 19 23; Minus 23 24; Name 24 37; ",
+            "Name 0 8; Mark(Minus) 8 9; Name 9 13; Mark(Minus) 13 14; Name 14 18; Mark(Minus) 18 19; Name 19 23; Mark(Minus) 23 24; Name 24 37; ",
         ),
         (
             "<= >= < > =",
-            "AtMost 0 2; AtLeast 3 5; Less 6 7; Greater 8 9; Equals 10 11; ",
+            "Mark(AtMost) 0 2; Mark(AtLeast) 3 5; Mark(Less) 6 7; Mark(Greater) 8 9; Mark(Equals) 10 11; ",
         ),
-        ("<>==<", "Less 0 1; AtLeast 1 3; Equals 3 4; Less 4 5; "),
+        ("<>==<", "Mark(Less) 0 1; Mark(AtLeast) 1 3; Mark(Equals) 3 4; Mark(Less) 4 5; "),
         (
             "()[]{}",
-            "OpenParen 0 1; CloseParen 1 2; OpenBracket 2 3; CloseBracket 3 4; OpenBrace 4 5; CloseBrace 5 6; ",
+            "Mark(OpenParen) 0 1; Mark(CloseParen) 1 2; Mark(OpenBracket) 2 3; Mark(CloseBracket) 3 4; Mark(OpenBrace) 4 5; Mark(CloseBrace) 5 6; ",
         ),
         (
             ",;:.+*",
-            "Comma 0 1; Semicolon 1 2; Colon 2 3; Dot 3 4; Plus 4 5; Star 5 6; ",
+            "Mark(Comma) 0 1; Mark(Semicolon) 1 2; Mark(Colon) 2 3; Mark(Dot) 3 4; Mark(Plus) 4 5; Mark(Star) 5 6; ",
         ),
         ("a--b", "Name 0 1; "),
         ("-- \u{e9} '", ""),
@@ -164,7 +165,10 @@ fn texts_have_their_meaning(rt: HostRuntime) -> Result<(), Fail> {
         (b"\"a\"", None),
     ];
     for (text, wanted) in names {
-        let found = name_of(alloc, text)?;
+        let found = match name_of(alloc, text)? {
+            Some(name) => Some(name.text(alloc)?),
+            None => None,
+        };
         assert!(rt;
             found.as_ref().map(|name| name.as_str()) == wanted,
             "{text:?}"
@@ -288,4 +292,64 @@ fn a_uuid_has_its_hyphens(rt: HostRuntime) {
     one_reading();
     well_placed();
     quotes_round_trip();
+}
+
+// The span of the literal within the one that the only relation of a SELECT compares with.
+fn inner_span(alloc: Global, source: &str) -> Result<Option<(usize, usize)>, Fail> {
+    let Ok(Statement::Select(select)) = statement(alloc, &tokens(alloc, source)?, source) else {
+        return Ok(None);
+    };
+    let [relation] = select.relations.as_slice() else {
+        return Ok(None);
+    };
+    let Term::Literal(Literal::ListOf(elements)) = &relation.value else {
+        return Ok(None);
+    };
+    match elements.as_slice() {
+        [Element::Nested(span)] => Ok(Some((span.start, span.end))),
+        _ => Ok(None),
+    }
+}
+
+// A line of that many brackets, each within the one before.
+fn brackets(alloc: Global, opening: usize, closing: usize) -> Result<String, Fail> {
+    let mut line = String::new(alloc);
+    line.push_str("SELECT k FROM t WHERE k = ")?;
+    for _ in 0..opening {
+        line.push_str("[")?;
+    }
+    for _ in 0..closing {
+        line.push_str("]")?;
+    }
+    Ok(line)
+}
+
+#[test]
+fn brackets_at_great_depth(rt: HostRuntime) -> Result<(), Fail> {
+    let cases = [
+        (100_000, 100_000, Some((27, 200_025))),
+        (100_000, 99_999, None),
+        (100_000, 100_001, None),
+    ];
+    for (opening, closing, wanted) in cases {
+        let line = brackets(rt.alloc(), opening, closing)?;
+        assert!(rt; inner_span(rt.alloc(), &line)? == wanted, "{opening} {closing}");
+    }
+    one_statement();
+    Ok(())
+}
+
+// A token that isn't the source's own is no statement.
+#[test]
+fn tokens_of_another_source(rt: HostRuntime) -> Result<(), Fail> {
+    let found = tokens(rt.alloc(), "SELECT * FROM t")?;
+    for source in ["SELECT", "SELECT * FROM 1", ""] {
+        assert!(rt;
+            matches!(
+                statement(rt.alloc(), &found, source),
+                Err(ParseFault::Syntax)
+            )
+        );
+    }
+    Ok(())
 }

@@ -1,12 +1,12 @@
 -- Reading statements and their clauses.
-use Rattle.std.specs.Prelude.{ℕ, ℤ, Bool, true, false, not, List, [], ◌∷◌, Option, None, Some, if◌then◌else◌}
+use Rattle.std.specs.Prelude.{ℕ, ℤ, Bool, true, false, not, List, [], ◌∷◌, Option, None, Some, option_and_then, if◌then◌else◌}
 use Rattle.cas_types.specs.declared.tag.TypeTag.{TypeTag}
 use Rattle.cas_types.specs.declared.tag.TypeTag.TheVariants as tag
 use Rattle.cql_parse.specs.declared.lexeme.Lexeme.{Lexeme}
 use Rattle.cql_parse.specs.declared.lexeme.Lexeme.TheVariants as lexeme
-use Rattle.cql_parse.specs.declared.symbol.Keyword.{Keyword}
-use Rattle.cql_parse.specs.declared.symbol.Keyword.TheVariants as word
-use Rattle.cql_parse.specs.declared.symbol.Mark.TheVariants as mark
+use Rattle.cql_parse.specs.declared.keyword.Keyword.{Keyword}
+use Rattle.cql_parse.specs.declared.keyword.Keyword.TheVariants as word
+use Rattle.cql_lex.specs.declared.token.Mark.TheVariants as mark
 use Rattle.cql_parse.specs.declared.lists.Separator.TheVariants as separator
 use Rattle.cql_parse.specs.declared.term.Term.TheVariants as term
 use Rattle.cql_parse.specs.declared.syntax.TableName.{TableName}
@@ -44,9 +44,13 @@ use Rattle.cql_parse.specs.declared.syntax.Operator.{Operator}
 use Rattle.cql_parse.specs.declared.syntax.Operator.TheVariants as operator
 use Rattle.cql_parse.specs.declared.syntax.Statement.{Statement}
 use Rattle.cql_parse.specs.declared.syntax.Statement.TheVariants as statement
+use Rattle.cql_lex.specs.declared.token.Token.{Token}
+use Rattle.cql_parse.specs.Lexemes.{lexemes_of}
 use Rattle.cql_parse.specs.Symbols.{is_reserved}
-use Rattle.cql_parse.specs.Reading.{Reader, done, and_then, ◌>>=◌, chosen, after_word, after_mark, after_open_bracket, word_at, mark_at, close_brace_at, close_bracket_at, name_at, number_at, from_at, list_at, in_parens, list_behind, number_behind, blob_behind, flag_at}
-use Rattle.cql_parse.specs.TermReading.{constant_at, opens, literal_at, term_at, setting_at}
+use Rattle.cql_parse.specs.Inner.Reading.{Reader, done, and_then, ◌>>=◌, chosen, after_word, after_mark, after_open_bracket, word_at, mark_at}
+use Rattle.cql_parse.specs.Inner.Reading.{close_brace_at, close_bracket_at, name_at, whole_number_at, from_at, list_at, in_parens, list_behind}
+use Rattle.cql_parse.specs.Inner.Reading.{number_behind, blob_behind, flag_at}
+use Rattle.cql_parse.specs.Inner.TermReading.{constant_at, opens, literal_at, term_at, setting_at}
 
 unfoldable pub table_at : Reader TableName
 table_at = do
@@ -60,12 +64,12 @@ table_at = do
 unfoldable pub use_at : Reader Use
 use_at l =
     chosen (after_word word.Timestamp l) (do
-      n ← number_at
+      n ← whole_number_at
       done («use».Timestamp n)) (and_then (word_at word.Ttl l) (λ _. do
-        n ← number_at
+        n ← whole_number_at
         done («use».Ttl n)))
 
--- each behind its first word
+-- each after its first word
 unfoldable pub insert_at : Reader Insert
 insert_at = do
   _ ← word_at word.Into
@@ -93,10 +97,10 @@ relation_at = do
   value ← term_at
   done (record { column = column; operator = operator; value = value })
 
-unfoldable pub is_name : List Lexeme → Bool
-is_name (lexeme.Word text ∷ l) = not (is_reserved text)
-is_name (lexeme.Quoted text ∷ l) = true
-is_name _ = false
+unfoldable pub name_comes : List Lexeme → Bool
+name_comes (lexeme.Word text ∷ l) = not (is_reserved text)
+name_comes (lexeme.Quoted text ∷ l) = true
+name_comes _ = false
 
 unfoldable pub entry_assigned : Reader Assigned
 entry_assigned = do
@@ -132,7 +136,7 @@ term_assigned = do
   done (assigned.Whole t)
 
 unfoldable pub right_side : Reader Assigned
-right_side l = if opens l then literal_assigned l else if is_name l then name_assigned l else term_assigned l
+right_side l = if opens l then literal_assigned l else if name_comes l then name_assigned l else term_assigned l
 
 unfoldable pub assigned_at : Reader Assigned
 assigned_at l = chosen (after_open_bracket l) entry_assigned (and_then (mark_at mark.Equals l) (λ _. right_side))
@@ -168,7 +172,7 @@ unfoldable pub timestamp_at : Reader (Option ℤ)
 timestamp_at l =
     chosen (after_word word.Using l) (do
       _ ← word_at word.Timestamp
-      n ← number_at
+      n ← whole_number_at
       done (Some n)) (Some (None, l))
 
 unfoldable pub delete_at : Reader Delete
@@ -186,9 +190,10 @@ delete_at = do
 unfoldable pub column_order_at : Reader ColumnOrder
 column_order_at = do
   name ← name_at
-  λ l. chosen (after_word word.Desc l) (done (record { name = name; descending = true })) (chosen (after_word word.Asc l) (done (record { name = name; descending = false })) (Some (record { name = name; descending = false }, l)))
+  λ l. chosen (after_word word.Desc l) (done (record { name = name; descending = true }))
+      (chosen (after_word word.Asc l) (done (record { name = name; descending = false })) (Some (record { name = name; descending = false }, l)))
 
--- a word with a parenthesis behind it
+-- a word with a parenthesis after it
 unfoldable pub after_call : Keyword → List Lexeme → Option (List Lexeme)
 after_call k l = elim (after_word k l) [ None ↦ None | Some r ↦ after_mark mark.OpenParen r ]
 
@@ -247,12 +252,12 @@ natives =
     (word.Uuid, tag.Uuid) ∷
     (word.VarChar, tag.Text) ∷ []
 
-unfoldable pub first_of : List (Keyword × TypeTag) → Reader TypeTag
-first_of [] l = None
-first_of (n ∷ ns) l = chosen (after_word n.0 l) (done n.1) (first_of ns l)
+unfoldable pub first_type_of : List (Keyword × TypeTag) → Reader TypeTag
+first_type_of [] l = None
+first_type_of (n ∷ ns) l = chosen (after_word n.0 l) (done n.1) (first_type_of ns l)
 
 unfoldable pub native_at : Reader TypeTag
-native_at l = first_of natives l
+native_at l = first_type_of natives l
 
 unfoldable pub one_in_angles : Reader TypeTag
 one_in_angles = do
@@ -330,8 +335,8 @@ suboption_at = do
   value ← setting_at
   done (record { key = key; value = value })
 
-unfoldable pub suboptions : Reader OptionValue
-suboptions = do
+unfoldable pub suboptions_closed : Reader OptionValue
+suboptions_closed = do
   xs ← list_at separator.Comma suboption_at
   _ ← close_brace_at
   done (option_value.Suboptions xs)
@@ -344,11 +349,11 @@ constant_value = do
 unfoldable pub option_value_at : Reader OptionValue
 option_value_at [] = None
 option_value_at (lexeme.Ratio n ∷ l) = Some (option_value.Ratio n, l)
-option_value_at (lexeme.OpenBrace at ∷ l) = suboptions l
+option_value_at (lexeme.OpenBrace at ∷ l) = suboptions_closed l
 option_value_at (x ∷ l) = constant_value (x ∷ l)
 
-unfoldable pub named_option : Reader TableOption
-named_option = do
+unfoldable pub named_option_at : Reader TableOption
+named_option_at = do
   name ← name_at
   _ ← mark_at mark.Equals
   value ← option_value_at
@@ -357,14 +362,14 @@ named_option = do
 unfoldable pub after_words : Keyword → Keyword → List Lexeme → Option (List Lexeme)
 after_words j k l = elim (after_word j l) [ None ↦ None | Some r ↦ after_word k r ]
 
-unfoldable pub clustering_order : Reader TableOption
-clustering_order = do
+unfoldable pub clustering_order_at : Reader TableOption
+clustering_order_at = do
   _ ← word_at word.By
   columns ← in_parens column_order_at
   done (table_option.ClusteringOrder columns)
 
 unfoldable pub option_at : Reader TableOption
-option_at l = chosen (after_words word.Clustering word.Order l) clustering_order (named_option l)
+option_at l = chosen (after_words word.Clustering word.Order l) clustering_order_at (named_option_at l)
 
 unfoldable pub create_at : Reader CreateTable
 create_at = do
@@ -417,7 +422,11 @@ ended None = None
 ended (Some (s, [])) = Some s
 ended (Some (s, x ∷ l)) = None
 
-unfoldable pub whole : List Lexeme → Option Statement
-whole l = ended (and_then (statement_at l) (λ s. do
+unfoldable pub whole_statement : List Lexeme → Option Statement
+whole_statement l = ended (and_then (statement_at l) (λ s. do
   _ ← semicolon_at
   done s))
+
+-- the statement that the tokens of a source spell, by reading
+unfoldable pub statement_of : List ℕ → List Token → Option Statement
+statement_of source tokens = option_and_then whole_statement (lexemes_of source tokens)

@@ -1,20 +1,21 @@
 //! Tables, orders and relations: what several statements share.
 
 ghost use Rattle.std.specs.Prelude.{◌≡◌};
-ghost use Rattle.cql_parse.specs.Reading.{Gives};
-ghost use Rattle.cql_parse.specs.StatementReading.{table_at, operator_at, use_at};
+ghost use Rattle.cql_parse.specs.Inner.Reading.{Gives};
+ghost use Rattle.cql_parse.specs.Inner.StatementReading.{table_at, operator_at, use_at};
 
 use crate::fault::ParseFault;
+use crate::front::{after_mark, after_word, name, number, word};
+use crate::keyword::Keyword;
 use crate::lexeme::Lexeme;
 use crate::lists::Part;
-use crate::symbol::{Keyword, Mark};
 use crate::syntax::{ColumnOrder, Operator, Relation, TableName, Use};
-use crate::take::{after_mark, after_word, name, number, word};
 use crate::term::Term;
+use cql_lex::Mark;
 use std::alloc::Global;
 
 /// A table, perhaps with its keyspace.
-#[tactic(auto, unfolding(crate::specs::StatementReading::table_at))]
+#[tactic(auto, unfolding(crate::specs::Inner::StatementReading::table_at))]
 pub fn table(alloc: Global, input: &[Lexeme]) -> Result<(TableName, &[Lexeme]), ParseFault>
     ensures { Gives (λ x. (x.0, x.1.now)) result (table_at input.now) }
 {
@@ -42,11 +43,11 @@ pub fn table(alloc: Global, input: &[Lexeme]) -> Result<(TableName, &[Lexeme]), 
 }
 
 impl Part for Use {
-    ghost use Rattle.cql_parse.specs.StatementReading.{use_at};
+    ghost use Rattle.cql_parse.specs.Inner.StatementReading.{use_at};
 
     ghost reads = { use_at };
 
-    #[tactic(auto, unfolding(crate::specs::StatementReading::use_at))]
+    #[tactic(auto, unfolding(crate::specs::Inner::StatementReading::use_at))]
     fn read(_alloc: Global, input: &[Lexeme]) -> Result<(Self, &[Lexeme]), ParseFault> {
         match after_word(input, Keyword::Timestamp) {
             Some(rest) => {
@@ -62,7 +63,7 @@ impl Part for Use {
     }
 }
 
-#[tactic(auto, unfolding(crate::specs::StatementReading::operator_at))]
+#[tactic(auto, unfolding(crate::specs::Inner::StatementReading::operator_at))]
 fn operator(input: &[Lexeme]) -> Result<(Operator, &[Lexeme]), ParseFault>
     ensures { Gives (λ x. (x.0, x.1.now)) result (operator_at input.now) }
 {
@@ -77,11 +78,11 @@ fn operator(input: &[Lexeme]) -> Result<(Operator, &[Lexeme]), ParseFault>
 }
 
 impl Part for Relation {
-    ghost use Rattle.cql_parse.specs.StatementReading.{relation_at};
+    ghost use Rattle.cql_parse.specs.Inner.StatementReading.{relation_at};
 
     ghost reads = { relation_at };
 
-    #[tactic(auto, unfolding(crate::specs::StatementReading::relation_at))]
+    #[tactic(auto, unfolding(crate::specs::Inner::StatementReading::relation_at))]
     fn read(alloc: Global, input: &[Lexeme]) -> Result<(Self, &[Lexeme]), ParseFault> {
         let (column, rest) = name(alloc, input)?;
         let (operator, rest) = operator(rest)?;
@@ -96,11 +97,11 @@ impl Part for Relation {
 }
 
 impl Part for ColumnOrder {
-    ghost use Rattle.cql_parse.specs.StatementReading.{column_order_at};
+    ghost use Rattle.cql_parse.specs.Inner.StatementReading.{column_order_at};
 
     ghost reads = { column_order_at };
 
-    #[tactic(auto, unfolding(crate::specs::StatementReading::column_order_at))]
+    #[tactic(auto, unfolding(crate::specs::Inner::StatementReading::column_order_at))]
     fn read(alloc: Global, input: &[Lexeme]) -> Result<(Self, &[Lexeme]), ParseFault> {
         let (name, rest) = name(alloc, input)?;
         if let Some(after) = after_word(rest, Keyword::Desc) {

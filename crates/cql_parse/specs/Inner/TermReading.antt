@@ -3,8 +3,8 @@ use Rattle.std.specs.Prelude.{ℕ, Bool, true, false, ◌||◌, List, [], ◌∷
 use Rattle.std.specs.Str.{bytes_eq}
 use Rattle.cql_parse.specs.declared.lexeme.Lexeme.{Lexeme}
 use Rattle.cql_parse.specs.declared.lexeme.Lexeme.TheVariants as lexeme
-use Rattle.cql_parse.specs.declared.symbol.Keyword.TheVariants as word
-use Rattle.cql_parse.specs.declared.symbol.Mark.TheVariants as mark
+use Rattle.cql_parse.specs.declared.keyword.Keyword.TheVariants as word
+use Rattle.cql_lex.specs.declared.token.Mark.TheVariants as mark
 use Rattle.cql_parse.specs.declared.lists.Separator.TheVariants as separator
 use Rattle.cql_parse.specs.declared.nested.Frame.{Frame}
 use Rattle.cql_parse.specs.declared.nested.Frame.TheVariants as frame
@@ -25,7 +25,8 @@ use Rattle.cql_parse.specs.declared.term.Entry.{Entry}
 use Rattle.cql_parse.specs.declared.term.Setting.{Setting}
 use Rattle.cql_parse.specs.declared.term.Setting.TheVariants as setting
 use Rattle.cql_parse.specs.Symbols.{spelling}
-use Rattle.cql_parse.specs.Reading.{Reader, done, and_then, ◌>>=◌, chosen, after_word, after_mark, after_close_brace, after_close_bracket, close_brace_at, close_bracket_at, mark_at, from_at, list_at}
+use Rattle.cql_parse.specs.Inner.Reading.{Reader, done, and_then, ◌>>=◌, chosen, after_word, after_mark, after_close_brace, after_close_bracket}
+use Rattle.cql_parse.specs.Inner.Reading.{close_brace_at, close_bracket_at, mark_at, from_at, list_at}
 
 unfoldable pub truth_of : List ℕ → Option Bool
 truth_of text =
@@ -48,13 +49,13 @@ constant_at _ = None
 -- ---- a literal within a literal: the brackets that are open, with what stands before in the innermost
 
 -- constants and NULL
-unfoldable pub is_plain : Lexeme → Bool
-is_plain (lexeme.Text text) = true
-is_plain (lexeme.Number n) = true
-is_plain (lexeme.Blob b) = true
-is_plain (lexeme.Uuid u) = true
-is_plain (lexeme.Word text) = bytes_eq text (spelling word.Null) || bytes_eq text (spelling word.True) || bytes_eq text (spelling word.False)
-is_plain _ = false
+unfoldable pub stands_alone : Lexeme → Bool
+stands_alone (lexeme.Text text) = true
+stands_alone (lexeme.Number n) = true
+stands_alone (lexeme.Blob b) = true
+stands_alone (lexeme.Uuid u) = true
+stands_alone (lexeme.Word text) = bytes_eq text (spelling word.Null) || bytes_eq text (spelling word.True) || bytes_eq text (spelling word.False)
+stands_alone _ = false
 
 unfoldable pub opening : Lexeme → Move
 opening (lexeme.OpenBracket at) = move.Open frame.List
@@ -62,7 +63,7 @@ opening (lexeme.OpenBrace at) = move.Open frame.Braces
 opening _ = move.Wrong
 
 unfoldable pub starts : Frame → Lexeme → Move
-starts f x = if is_plain x then move.Go wants.Next f else opening x
+starts f x = if stands_alone x then move.Go wants.Next f else opening x
 
 unfoldable pub bracket_closes : Frame → ℕ → Move
 bracket_closes frame.List at = move.Close at
@@ -147,14 +148,14 @@ constant_element = do
 unfoldable pub element_at : Reader Element
 element_at l = chosen (after_word word.Null l) (done element.Null) (if opens l then nested_element l else constant_element l)
 
-unfoldable pub entry_at : Reader Entry
-entry_at = do
+unfoldable pub pair_at : Reader Entry
+pair_at = do
   key ← element_at
   _ ← mark_at mark.Colon
   value ← element_at
   done (record { key = key; value = value })
 
--- the elements behind the first one, and the closing bracket
+-- the elements after the first one, and the closing bracket
 unfoldable pub set_from : Element → Reader Literal
 set_from first = do
   elements ← from_at separator.Comma element_at (first ∷ [])
@@ -164,7 +165,7 @@ set_from first = do
 unfoldable pub map_from : Element → Reader Literal
 map_from key = do
   value ← element_at
-  entries ← from_at separator.Comma entry_at (record { key = key; value = value } ∷ [])
+  entries ← from_at separator.Comma pair_at (record { key = key; value = value } ∷ [])
   _ ← close_brace_at
   done (literal.MapOf entries)
 

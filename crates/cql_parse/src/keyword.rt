@@ -1,10 +1,10 @@
-//! The words and marks of the grammar.
+//! The words of the grammar.
 
 ghost use Rattle.std.specs.Prelude.{◌≡◌};
-ghost use Rattle.cql_parse.specs.Symbols.{place, spelling};
+ghost use Rattle.cql_parse.specs.Symbols.{spelling};
 
 /// A word of the grammar.
-#[derive(Clone, Copy, PartialEq, Eq, Debug)]
+#[derive(Clone, Copy)]
 pub enum Keyword {
     Add,
     After,
@@ -56,25 +56,6 @@ pub enum Keyword {
     Where,
     With,
     WriteTime,
-}
-
-/// A mark, brackets of literals aside.
-#[derive(Clone, Copy, PartialEq, Eq, Debug)]
-pub enum Mark {
-    OpenParen,
-    CloseParen,
-    Less,
-    AtMost,
-    Greater,
-    AtLeast,
-    Equals,
-    Comma,
-    Semicolon,
-    Colon,
-    Dot,
-    Plus,
-    Minus,
-    Star,
 }
 
 /// How a word is written, in small letters.
@@ -134,12 +115,4 @@ pub fn spelling(keyword: Keyword) -> &'static str
         Keyword::With => "with",
         Keyword::WriteTime => "writetime",
     }
-}
-
-/// A number for each mark.
-#[tactic(auto, unfolding(crate::specs::Symbols::place))]
-pub fn place(mark: Mark) -> u8
-    ensures { result ≡ place mark }
-{
-    mark as u8
 }

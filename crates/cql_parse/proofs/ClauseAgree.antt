@@ -3,14 +3,14 @@ use Rattle.std.proofs.Common.{◌≡◌, ℕ, ℤ, zero, suc, ◌≤◌, ◌⊎�
 use Rattle.std.specs.Str.{bytes_eq}
 use Rattle.std.specs.List.{list_all}
 use Rattle.cql_parse.specs.declared.lexeme.Lexeme.{Lexeme}
-use Rattle.cql_parse.specs.declared.symbol.Keyword.{Keyword}
-use Rattle.cql_parse.specs.declared.symbol.Keyword.TheVariants as word
-use Rattle.cql_parse.specs.declared.symbol.Mark.{Mark}
-use Rattle.cql_parse.specs.declared.symbol.Mark.TheVariants as mark
+use Rattle.cql_parse.specs.declared.keyword.Keyword.{Keyword}
+use Rattle.cql_parse.specs.declared.keyword.Keyword.TheVariants as word
+use Rattle.cql_lex.specs.declared.token.Mark.{Mark}
+use Rattle.cql_lex.specs.declared.token.Mark.TheVariants as mark
 use Rattle.cql_parse.specs.declared.lists.Separator.{Separator}
 use Rattle.cql_parse.specs.declared.lists.Separator.TheVariants as separator
-use Rattle.cql_parse.specs.Symbols.{spelling, place}
-use Rattle.cql_parse.specs.Reading.{Reader, done, after_word, after_mark, mark_at, number_at, blob_at, after_separator, more_at, from_at, list_at, in_parens, list_behind, number_behind, blob_behind, flag_at}
+use Rattle.cql_parse.specs.Symbols.{spelling}
+use Rattle.cql_parse.specs.Inner.Reading.{Reader, done, after_word, after_mark, mark_at, whole_number_at, blob_at, after_separator, more_at, from_at, list_at, in_parens, list_behind, number_behind, blob_behind, flag_at, place}
 use Rattle.cql_parse.specs.Grammar.{Phrase, keyword, sign, between, More, Some_of, Behind, InParens, Maybe, If, IsNumber, IsBlob}
 use Rattle.cql_parse.proofs.Agree.{Agrees, Anything, Shrinks, unstep, step, unchoose, choose, choose_other, same, phrase_at}
 use Rattle.cql_parse.proofs.Tokens.{word_sound, word_full, other_word, mark_sound, mark_full, mark_at_sound, mark_at_full, number_agrees, blob_agrees}
@@ -168,7 +168,7 @@ unfolding number_behind
 number_behind_sound k l r o e =
     elim (unchoose (after_word k l) _ _ (o, r) e) [
       | inl h ↦
-          let u = unstep (number_at h.0) _ o r h.2 in
+          let u = unstep (whole_number_at h.0) _ o r h.2 in
           phrase_at (Maybe (keyword k) IsNumber) (Some u.value) o l u.left r u.next (h.0, word_sound k l h.0 h.1, number_agrees.sound h.0 u.left u.value u.was)
       | inr h ↦ phrase_at (Maybe (keyword k) IsNumber) None o l l r h.1 refl
     ]
@@ -176,7 +176,7 @@ number_behind_sound k l r o e =
 number_behind_full : (k : Keyword) (l r : List Lexeme) (o : Option ℤ) → Maybe (keyword k) IsNumber o l r → NotWord k r → number_behind k l ≡ Some (o, r)
 unfolding number_behind
 number_behind_full k l r None h f = choose_other (after_word k l) _ _ _ (ap (after_word k) h ∙ f) (ap (λ (t : List Lexeme). done {A = Option ℤ} None t) h)
-number_behind_full k l r (Some n) h f = choose (after_word k l) _ _ h.0 _ (word_full k l h.0 h.1) (step (number_at h.0) _ n r _ (number_agrees.full h.0 r n h.2 tt) refl)
+number_behind_full k l r (Some n) h f = choose (after_word k l) _ _ h.0 _ (word_full k l h.0 h.1) (step (whole_number_at h.0) _ n r _ (number_agrees.full h.0 r n h.2 tt) refl)
 
 pub number_behind_agrees : (k : Keyword) → Agrees (number_behind k) (Maybe (keyword k) IsNumber) (NotWord k)
 number_behind_agrees k = record { sound = number_behind_sound k; full = number_behind_full k }

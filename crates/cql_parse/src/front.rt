@@ -1,69 +1,90 @@
-//! One word, mark or name at the front.
+//! One word, mark or name at the front of the lexemes.
 
 ghost use Rattle.std.specs.Prelude.{◌≡◌, ◌==◌, option_map};
 ghost use Rattle.std.specs.Str.{bytes_eq};
-ghost use Rattle.cql_parse.specs.Symbols.{is_reserved, place, spelling};
-ghost use Rattle.cql_parse.specs.Reading.{Gives, after_word, after_mark, after_close_brace, after_open_bracket, after_close_bracket, name_at, number_at, blob_at, word_at, mark_at, close_brace_at, close_bracket_at, number_behind, blob_behind, flag_at};
+ghost use Rattle.std.specs.List.{list_any};
+ghost use Rattle.cql_parse.specs.Symbols.{is_reserved, spelling};
+ghost use Rattle.cql_parse.specs.Inner.Reading.{Gives, place, after_word, after_mark, after_close_brace, after_open_bracket, after_close_bracket};
+ghost use Rattle.cql_parse.specs.Inner.Reading.{name_at, whole_number_at, blob_at, word_at, mark_at, close_brace_at, close_bracket_at};
+ghost use Rattle.cql_parse.specs.Inner.Reading.{number_behind, blob_behind, flag_at};
 
 use crate::fault::ParseFault;
+use crate::keyword::{Keyword, spelling};
 use crate::lexeme::Lexeme;
-use crate::symbol::{Keyword, Mark, place, spelling};
 use cas_types::{Bytes, Text};
+use cql_lex::{Mark, Name};
 use std::alloc::Global;
 
-/// The words that are no names unless they are quoted.
-const RESERVED: [Keyword; 26] = [
-    Keyword::Add,
-    Keyword::Alter,
-    Keyword::And,
-    Keyword::Asc,
-    Keyword::By,
-    Keyword::Create,
-    Keyword::Delete,
-    Keyword::Desc,
-    Keyword::False,
-    Keyword::From,
-    Keyword::In,
-    Keyword::Insert,
-    Keyword::Into,
-    Keyword::Limit,
-    Keyword::Null,
-    Keyword::Order,
-    Keyword::Primary,
-    Keyword::Select,
-    Keyword::Set,
-    Keyword::Table,
-    Keyword::To,
-    Keyword::True,
-    Keyword::Update,
-    Keyword::Using,
-    Keyword::Where,
-    Keyword::With,
-];
-
-/// Whether the text is the word.
-pub fn is_spelt(text: &str, keyword: Keyword) -> bool
-    ensures { result ≡ bytes_eq text.now (spelling keyword) }
+/// Whether the name is the word.
+pub fn is_spelt(name: &Name, keyword: Keyword) -> bool
+    ensures { result ≡ bytes_eq name.now (spelling keyword) }
 {
-    text == spelling(keyword)
+    name.is(spelling(keyword))
 }
 
-/// Whether the word is no name unless it is quoted.
-#[tactic(auto, unfolding(crate::specs::Symbols::is_reserved))]
-pub fn is_reserved(text: &str) -> bool
-    ensures { result ≡ is_reserved text.now }
+fn is_one_of(name: &Name, words: &[Keyword]) -> bool
+    ensures { result ≡ list_any (λ k. bytes_eq name.now (spelling k)) words.now }
 {
-    RESERVED.iter().any(|k| is_spelt(text, *k))
+    words.iter().any(|k| is_spelt(name, *k))
+}
+
+/// Whether the name is a reserved word, which is no name unless it is quoted: only words of its
+/// length are compared with it.
+pub fn is_reserved(name: &Name) -> bool
+    ensures { result ≡ is_reserved name.now }
+{
+    match name.len() {
+        2 => is_one_of(name, &[Keyword::By, Keyword::In, Keyword::To]),
+        3 => is_one_of(
+            name,
+            &[Keyword::Add, Keyword::And, Keyword::Asc, Keyword::Set],
+        ),
+        4 => is_one_of(
+            name,
+            &[
+                Keyword::Desc,
+                Keyword::From,
+                Keyword::Into,
+                Keyword::Null,
+                Keyword::True,
+                Keyword::With,
+            ],
+        ),
+        5 => is_one_of(
+            name,
+            &[
+                Keyword::Alter,
+                Keyword::False,
+                Keyword::Limit,
+                Keyword::Order,
+                Keyword::Table,
+                Keyword::Using,
+                Keyword::Where,
+            ],
+        ),
+        6 => is_one_of(
+            name,
+            &[
+                Keyword::Create,
+                Keyword::Delete,
+                Keyword::Insert,
+                Keyword::Select,
+                Keyword::Update,
+            ],
+        ),
+        7 => is_one_of(name, &[Keyword::Primary]),
+        _ => false,
+    }
 }
 
 /// What follows the word, where it stands first.
-#[tactic(auto, unfolding(crate::specs::Reading::after_word))]
+#[tactic(auto, unfolding(crate::specs::Inner::Reading::after_word))]
 pub fn after_word(input: &[Lexeme], keyword: Keyword) -> Option<&[Lexeme]>
     ensures { option_map (λ r. r.now) result ≡ after_word keyword input.now }
 {
     match input {
-        [Lexeme::Word(text), rest @ ..] => {
-            if is_spelt(text.as_str(), keyword) {
+        [Lexeme::Word(name), rest @ ..] => {
+            if is_spelt(name, keyword) {
                 Some(rest)
             } else {
                 None
@@ -73,6 +94,13 @@ pub fn after_word(input: &[Lexeme], keyword: Keyword) -> Option<&[Lexeme]>
     }
 }
 
+#[tactic(auto, unfolding(crate::specs::Inner::Reading::place))]
+fn place(mark: Mark) -> u8
+    ensures { result ≡ place mark }
+{
+    mark as u8
+}
+
 fn is_same(a: Mark, b: Mark) -> bool
     ensures { result ≡ (place a == place b) }
 {
@@ -80,7 +108,7 @@ fn is_same(a: Mark, b: Mark) -> bool
 }
 
 /// What follows the mark, where it stands first.
-#[tactic(auto, unfolding(crate::specs::Reading::after_mark))]
+#[tactic(auto, unfolding(crate::specs::Inner::Reading::after_mark))]
 pub fn after_mark(input: &[Lexeme], mark: Mark) -> Option<&[Lexeme]>
     ensures { option_map (λ r. r.now) result ≡ after_mark mark input.now }
 {
@@ -111,16 +139,16 @@ pub fn mark(input: &[Lexeme], mark: Mark) -> Result<&[Lexeme], ParseFault>
 }
 
 /// A name: a word that isn't reserved, or anything in quotes.
-#[tactic(auto, unfolding(crate::specs::Reading::name_at))]
+#[tactic(auto, unfolding(crate::specs::Inner::Reading::name_at))]
 pub fn name(alloc: Global, input: &[Lexeme]) -> Result<(Text, &[Lexeme]), ParseFault>
     ensures { Gives (λ x. (x.0, x.1.now)) result (name_at input.now) }
 {
     match input {
-        [Lexeme::Word(text), rest @ ..] => {
-            if is_reserved(text.as_str()) {
+        [Lexeme::Word(name), rest @ ..] => {
+            if is_reserved(name) {
                 return Err(ParseFault::Syntax);
             }
-            Ok((text.clone()?, rest))
+            Ok((name.text(alloc)?, rest))
         }
         [Lexeme::Quoted(text), rest @ ..] => Ok((text.clone()?, rest)),
         _ => Err(ParseFault::Syntax),
@@ -128,7 +156,7 @@ pub fn name(alloc: Global, input: &[Lexeme]) -> Result<(Text, &[Lexeme]), ParseF
 }
 
 /// What follows a closing brace, where it stands first.
-#[tactic(auto, unfolding(crate::specs::Reading::after_close_brace))]
+#[tactic(auto, unfolding(crate::specs::Inner::Reading::after_close_brace))]
 pub fn after_close_brace(input: &[Lexeme]) -> Option<&[Lexeme]>
     ensures { option_map (λ r. r.now) result ≡ after_close_brace input.now }
 {
@@ -139,7 +167,7 @@ pub fn after_close_brace(input: &[Lexeme]) -> Option<&[Lexeme]>
 }
 
 /// What follows an opening bracket, where it stands first.
-#[tactic(auto, unfolding(crate::specs::Reading::after_open_bracket))]
+#[tactic(auto, unfolding(crate::specs::Inner::Reading::after_open_bracket))]
 pub fn after_open_bracket(input: &[Lexeme]) -> Option<&[Lexeme]>
     ensures { option_map (λ r. r.now) result ≡ after_open_bracket input.now }
 {
@@ -150,7 +178,7 @@ pub fn after_open_bracket(input: &[Lexeme]) -> Option<&[Lexeme]>
 }
 
 /// What follows a closing bracket, where it stands first.
-#[tactic(auto, unfolding(crate::specs::Reading::after_close_bracket))]
+#[tactic(auto, unfolding(crate::specs::Inner::Reading::after_close_bracket))]
 pub fn after_close_bracket(input: &[Lexeme]) -> Option<&[Lexeme]>
     ensures { option_map (λ r. r.now) result ≡ after_close_bracket input.now }
 {
@@ -181,9 +209,9 @@ pub fn close_bracket(input: &[Lexeme]) -> Result<&[Lexeme], ParseFault>
 }
 
 /// A number.
-#[tactic(auto, unfolding(crate::specs::Reading::number_at))]
+#[tactic(auto, unfolding(crate::specs::Inner::Reading::whole_number_at))]
 pub fn number(input: &[Lexeme]) -> Result<(i128, &[Lexeme]), ParseFault>
-    ensures { Gives (λ x. (x.0, x.1.now)) result (number_at input.now) }
+    ensures { Gives (λ x. (x.0, x.1.now)) result (whole_number_at input.now) }
 {
     match input {
         [Lexeme::Number(n), rest @ ..] => Ok((*n, rest)),
@@ -192,7 +220,7 @@ pub fn number(input: &[Lexeme]) -> Result<(i128, &[Lexeme]), ParseFault>
 }
 
 /// A blob.
-#[tactic(auto, unfolding(crate::specs::Reading::blob_at))]
+#[tactic(auto, unfolding(crate::specs::Inner::Reading::blob_at))]
 pub fn blob(alloc: Global, input: &[Lexeme]) -> Result<(Bytes, &[Lexeme]), ParseFault>
     ensures { Gives (λ x. (x.0, x.1.now)) result (blob_at input.now) }
 {
@@ -202,8 +230,8 @@ pub fn blob(alloc: Global, input: &[Lexeme]) -> Result<(Bytes, &[Lexeme]), Parse
     }
 }
 
-/// A number behind a word, or none.
-#[tactic(auto, unfolding(crate::specs::Reading::number_behind))]
+/// A number after a word, or none.
+#[tactic(auto, unfolding(crate::specs::Inner::Reading::number_behind))]
 pub fn number_behind(
     input: &[Lexeme],
     keyword: Keyword,
@@ -219,8 +247,8 @@ pub fn number_behind(
     }
 }
 
-/// A blob behind a word, or none.
-#[tactic(auto, unfolding(crate::specs::Reading::blob_behind))]
+/// A blob after a word, or none.
+#[tactic(auto, unfolding(crate::specs::Inner::Reading::blob_behind))]
 pub fn blob_behind(
     alloc: Global,
     input: &[Lexeme],
@@ -238,7 +266,7 @@ pub fn blob_behind(
 }
 
 /// Whether the word stands here.
-#[tactic(auto, unfolding(crate::specs::Reading::flag_at))]
+#[tactic(auto, unfolding(crate::specs::Inner::Reading::flag_at))]
 pub fn flag(input: &[Lexeme], keyword: Keyword) -> (bool, &[Lexeme])
     ensures { flag_at keyword input.now ≡ Some (result.0, result.1.now) }
 {
