@@ -1,10 +1,13 @@
 -- Tables keep their numbers and stay narrow, where one is added and where one gets more columns.
-use Rattle.std.proofs.Common.{◌≡◌, ℕ, ◌+◌, ◌≤◌, ◌<◌, ◌==◌, Bool, true, false, cond, List, [], ◌∷◌, ◌++◌, length, map, Option, Some, find, refl, sym, ap, subst, ◌∙◌, eqb-true, length-append, arith}
+use Rattle.std.proofs.Common.{◌≡◌, ℕ, ◌+◌, ◌≤◌, ◌<◌, ◌==◌, Bool, true, false, cond, List, [], ◌∷◌, ◌++◌, length, map, Option, Some, find, refl, sym, ap, subst, ◌∙◌, eqb-true, arith}
 use Rattle.std.specs.List.{AllByRecursion}
 use Rattle.cas_types.specs.declared.schema.TableSchema.{TableSchema}
-use Rattle.cas_bind.specs.Meaning.{IsNarrow}
+use Rattle.cas_types.specs.Limits.{IsNarrow}
 use Rattle.cas_bind.specs.Tables.{AreNumbered, with_added}
-use Rattle.cas_bind.specs.declared.bound.Addition.{Addition}
+use Rattle.cas_define.specs.declared.addition.Addition.{Addition}
+
+abbrev pub HasFew : TableSchema → Type 0
+HasFew t = IsNarrow t.columns
 
 -- ---- the one that is found
 
@@ -52,7 +55,7 @@ module _ (P : TableSchema → Type 0) (test : TableSchema → Bool) (t : TableSc
 
 -- ---- one more table
 
-pub narrow_with : (ts : List TableSchema) (t : TableSchema) → AllByRecursion IsNarrow ts → IsNarrow t → AllByRecursion IsNarrow (ts ++ t ∷ [])
+pub narrow_with : (ts : List TableSchema) (t : TableSchema) → AllByRecursion HasFew ts → HasFew t → AllByRecursion HasFew (ts ++ t ∷ [])
 narrow_with [] t narrow its = (its, tt)
 narrow_with (u ∷ us) t narrow its = (narrow.0, narrow_with us t narrow.1 its)
 
@@ -71,15 +74,12 @@ module _ (a : Addition) where
   numbered_after n [] numbered = tt
   numbered_after n (t ∷ ts) numbered = (keeps_number (t.number == a.table) t ∙ numbered.0, numbered_after (n + 1) ts numbered.1)
 
-  stays_narrow : (t : TableSchema) (b : Bool) → b ≡ (t.number == a.table) → IsNarrow t → (t.number ≡ a.table → length t.columns + length a.columns ≤ 256)
-      → IsNarrow (cond b (record t { columns = t.columns ++ a.columns }) t)
-  stays_narrow t true is narrow sum =
-      let both : length (t.columns ++ a.columns) ≡ length t.columns + length a.columns = length-append t.columns a.columns in
-      let small : length t.columns + length a.columns ≤ 256 = sum (eqb-true t.number a.table (sym is)) in
-      omega arith
+  stays_narrow : (t : TableSchema) (b : Bool) → b ≡ (t.number == a.table) → HasFew t → (t.number ≡ a.table → IsNarrow (t.columns ++ a.columns))
+      → HasFew (cond b (record t { columns = t.columns ++ a.columns }) t)
+  stays_narrow t true is narrow sum = sum (eqb-true t.number a.table (sym is))
   stays_narrow t false is narrow sum = narrow
 
-  pub narrow_after : (ts : List TableSchema) → AllByRecursion IsNarrow ts → AllByRecursion (λ t. t.number ≡ a.table → length t.columns + length a.columns ≤ 256) ts
-      → AllByRecursion IsNarrow (map (with_added a) ts)
+  pub narrow_after : (ts : List TableSchema) → AllByRecursion HasFew ts → AllByRecursion (λ t. t.number ≡ a.table → IsNarrow (t.columns ++ a.columns)) ts
+      → AllByRecursion HasFew (map (with_added a) ts)
   narrow_after [] narrow sums = tt
   narrow_after (t ∷ ts) narrow sums = (stays_narrow t (t.number == a.table) refl narrow.0 sums.0, narrow_after ts narrow.1 sums.1)

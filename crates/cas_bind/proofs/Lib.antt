@@ -1,11 +1,8 @@
-pub mod Steps
-pub mod Parts
-pub mod NameLemmas
-pub mod KeyLemmas
-pub mod LargeValues
-pub mod Reasoning
-pub mod ReadReasoning
-pub mod CreateReasoning
+pub mod Used
+pub mod UsingLemmas
+pub mod Changed
+pub mod EffectLemmas
+pub mod RowLemmas
 pub mod TableLemmas
 pub mod KeptTables
 pub mod Kept

@@ -4,10 +4,10 @@ use Rattle.std.specs.List.{find, All, AllByRecursion}
 use Rattle.std.specs.Option.{IfSome}
 use Rattle.std.specs.Str.{bytes_eq}
 use Rattle.std.proofs.lemmas.List.Elements.{recursion_from_All}
+use Rattle.cas_types.specs.Limits.{IsNarrow}
 use Rattle.cas_types.specs.declared.schema.TableSchema.{TableSchema}
+use Rattle.cas_terms.specs.Columns.{is_local, table_named}
 use Rattle.cql_parse.specs.declared.syntax.TableName.{TableName}
-use Rattle.cas_bind.specs.Columns.{is_local, table_named}
-use Rattle.cas_bind.specs.Meaning.{IsNarrow}
 
 module _ {X : Type 0} (P : X → Type 0) where
   chosen : (b : Bool) (x : X) (o : Option X) → P x → IfSome o P → IfSome (cond b (Some x) o) P
@@ -22,7 +22,8 @@ module _ {X : Type 0} (P : X → Type 0) where
   if_any true o p = p
   if_any false o p = tt
 
-pub named_narrow : (tables : List TableSchema) (n : TableName) → All IsNarrow tables → IfSome (table_named tables n) IsNarrow
+pub named_narrow : (tables : List TableSchema) (n : TableName) → All (λ t. IsNarrow t.columns) tables → IfSome (table_named tables n) (λ t. IsNarrow t.columns)
 unfolding table_named
 named_narrow tables n all =
-    if_any IsNarrow (is_local n.keyspace) (find (λ t. bytes_eq t.name n.name) tables) (found IsNarrow (λ t. bytes_eq t.name n.name) tables (recursion_from_All IsNarrow tables all))
+    if_any (λ t. IsNarrow t.columns) (is_local n.keyspace) (find (λ t. bytes_eq t.name n.name) tables)
+    (found (λ t. IsNarrow t.columns) (λ t. bytes_eq t.name n.name) tables (recursion_from_All (λ t. IsNarrow t.columns) tables all))

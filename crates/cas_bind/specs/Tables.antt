@@ -1,16 +1,18 @@
 -- The tables after a definition is done, and what holds of tables and of what is bound.
 -- CQL documentation, "Data definition: CREATE TABLE, ALTER TABLE"; that a table's number is its place, and the limits, are own.
-use Rattle.std.specs.Prelude.{◌≡◌, ℕ, pos, ◌==◌, ◌+◌, ◌-◌, ◌^◌, ◌-ℤ◌, ◌≤◌, ◌<◌, ◌≤ℤ◌, ⊤, All, IfSome, List, [], ◌∷◌, ◌++◌, map, length, if◌then◌else◌}
+use Rattle.std.specs.Prelude.{◌≡◌, ℕ, ◌==◌, ◌+◌, ◌<◌, ◌≤ℤ◌, ⊤, All, IfSome, List, [], ◌∷◌, ◌++◌, map, if◌then◌else◌}
 use Rattle.cas_types.specs.declared.schema.TableSchema.{TableSchema}
-use Rattle.cas_bind.specs.Meaning.{IsNarrow}
-use Rattle.cas_bind.specs.declared.bound.Addition.{Addition}
+use Rattle.cas_types.specs.Limits.{IsNarrow}
+use Rattle.cas_types.specs.declared.limits.TheConstants.{LEAST_TIMESTAMP}
+use Rattle.cas_define.specs.declared.addition.Addition.{Addition}
 use Rattle.cas_bind.specs.declared.bound.Bound.{Bound}
 use Rattle.cas_bind.specs.declared.bound.Bound.TheVariants as bound
 
--- the table that an ALTER TABLE is of has its columns behind the others
+-- the table that an ALTER TABLE is of has its columns after the others
 abbrev pub with_added : Addition → TableSchema → TableSchema
 with_added a t = if t.number == a.table then record t { columns = t.columns ++ a.columns } else t
 
+-- a CREATE TABLE puts its table after the others; only ALTER TABLE changes one
 unfoldable pub tables_after : List TableSchema → Bound → List TableSchema
 tables_after ts (bound.Create t) = ts ++ t ∷ []
 tables_after ts (bound.Alter a) = map (with_added a) ts
@@ -24,12 +26,12 @@ AreNumbered n (t ∷ ts) = (t.number ≡ n) × AreNumbered (n + 1) ts
 
 -- tables as CREATE TABLE and ALTER TABLE make them
 pub record AreTables (ts : List TableSchema) : Type 0 where
-  pub narrow : All IsNarrow ts
+  pub narrow : All (λ t. IsNarrow t.columns) ts
   pub numbered : AreNumbered 0 ts
 
 -- a write and a read are of one of the shards, a write's own timestamp is in its range, a read's table is narrow
 abbrev pub IsWithin : ℕ → Bound → Type 0
 IsWithin shards (bound.Create t) = ⊤
 IsWithin shards (bound.Alter a) = ⊤
-IsWithin shards (bound.Write w) = (w.shard < shards) × IfSome w.timestamp (λ at. (pos 0 -ℤ pos (2 ^ 63 - 3)) ≤ℤ at)
-IsWithin shards (bound.Read r) = (r.shard < shards) × (length r.query.columns ≤ 256)
+IsWithin shards (bound.Write w) = (w.shard < shards) × IfSome w.timestamp (λ at. LEAST_TIMESTAMP ≤ℤ at)
+IsWithin shards (bound.Read r) = (r.shard < shards) × IsNarrow r.query.columns

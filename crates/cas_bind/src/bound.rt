@@ -1,8 +1,9 @@
 //! What a statement is to do, once its names and constants are those of a table.
 
-use cas_atoms::{ColumnRef, Query};
-use cas_bounds::{Clustering, Cut};
-use cas_types::{Bytes, Column, List, TableSchema};
+use cas_atoms::Query;
+use cas_define::Addition;
+use cas_effects::BoundWrite;
+use cas_types::TableSchema;
 
 /// The limits that a store was opened with: its number of shards, the bytes of a log segment and of
 /// a memtable, and how many compactors there are.
@@ -23,62 +24,9 @@ pub enum Bound {
     Read(BoundRead),
 }
 
-/// The columns that an ALTER TABLE adds to a table.
-#[derive(Drop)]
-pub struct Addition {
-    pub table: u16,
-    pub columns: List<Column>,
-}
-
 /// A SELECT of one partition, which lies in the shard.
 #[derive(Drop)]
 pub struct BoundRead {
     pub shard: u8,
     pub query: Query,
-}
-
-/// An INSERT, UPDATE or DELETE in one partition. Its timestamp is that of USING TIMESTAMP, and none
-/// where it is to be drawn. A TTL of 0 means that nothing expires.
-#[derive(Drop)]
-pub struct BoundWrite {
-    pub table: u16,
-    pub shard: u8,
-    pub key: Bytes,
-    pub timestamp: Option<i64>,
-    pub ttl: u32,
-    pub effects: List<Effect>,
-}
-
-/// What a statement does to one row, or to one column of it. Where there is no clustering, it is the
-/// static row.
-#[derive(Drop)]
-pub enum Effect {
-    /// An INSERT of the row itself.
-    Live(Clustering),
-    /// A plain column is given a value, or null.
-    Plain(Option<Clustering>, ColumnRef, Option<Bytes>),
-    /// A collection is given these elements and no others.
-    Whole(Option<Clustering>, ColumnRef, Elements),
-    /// Some elements of a collection are written or deleted.
-    Parts(Option<Clustering>, ColumnRef, Elements),
-    /// A collection is deleted.
-    Emptied(Option<Clustering>, ColumnRef),
-    /// A row is deleted.
-    Row(Clustering),
-    /// The rows between two cuts are deleted.
-    Range(Cut, Cut),
-    /// The partition is deleted.
-    Partition,
-}
-
-/// Elements of a collection.
-#[derive(Drop)]
-pub enum Elements {
-    /// The elements of a set, each with no value, or the keys of a map with theirs. What is deleted
-    /// has none.
-    At(List<(Bytes, Option<Bytes>)>),
-    /// Values behind a list's end.
-    Appended(List<Bytes>),
-    /// Values before a list's front.
-    Prepended(List<Bytes>),
 }

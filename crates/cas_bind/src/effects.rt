@@ -1,51 +1,65 @@
-//! What INSERT, UPDATE and DELETE do to a partition.
+//! What INSERT, UPDATE and DELETE do to rows and columns.
 
-ghost use Rattle.std.specs.Prelude.{◌≡◌, ℕ, ◌≤◌, ◌++◌, length, false, IfOk, OnOk};
-ghost use Rattle.std.specs.Option.{option_copied};
+ghost use Rattle.std.specs.Prelude.{◌≡◌, ◌++◌, map, IfOk, OnOk};
 ghost use Rattle.std.specs.List.{flat_map, zip};
-ghost use Rattle.cas_bind.specs.Where.{given_of};
-ghost use Rattle.cas_bind.specs.Effects.{row_of as row_of_source, row_for as row_for_column, whole_effect as whole_effect_of, assigned_effect as assigned_effect_of, target_effect as target_effect_of, inserted_effect as inserted_effect_of, updated_effect as updated_effect_of, deleted_effect as deleted_effect_of, rows_effect as rows_effect_of};
+ghost use Rattle.cas_types.specs.Limits.{IsNarrow};
+ghost use Rattle.cas_where.specs.Inner.Sources.{terms_of};
+ghost use Rattle.cas_bind.specs.Changes.{row_for, whole_effect, assigned_effect, deleted_effect, column_effect, change_effects};
+ghost use Rattle.cas_bind.specs.Changes.{clustered_row, deletion_effect, live_effect, deletion_of, row_effects, effects_of};
+ghost use Rattle.cas_bind.specs.Inner.Gives.{change_in};
+ghost use Rattle.cas_bind.specs.Statements.{assigns, deletes, inserted, key_terms_of, changes_of};
 
-use crate::bound::Effect;
-use crate::columns::{clustering_order, column_ref, is_key, is_plain, is_static, located};
-use crate::given::{Source, prefix_values};
-use crate::slices::slice_of;
-use crate::terms::{
-    entry_at, given_elements, prepended_elements, removed_elements, term_value, type_or_blob,
-    whole_elements,
+use crate::extents::inserts_static;
+use crate::statements::key_terms_of;
+use cas_bounds::{Clustering, clustering_order};
+use cas_effects::Effect;
+use cas_terms::{
+    column_ref, constant_bytes, entry_elements, given_elements, located, prepended_elements,
+    removed_elements, term_value, whole_elements,
 };
-use crate::values::value_of;
-use crate::wheres::{clustering_fixed, clustering_free};
-use cas_bounds::Clustering;
 use cas_types::{Column, List, Text};
-use cql_parse::{Assigned, Assignment, Constant, Relation, Target, Term};
+use cas_where::{
+    KeyTerms, is_clustering_fixed, is_clustering_free, prefix_values, slice_of,
+};
+use cql_parse::{Assigned, Assignment, Constant, Relation, Statement, Target, Term};
 use std::alloc::{AllocError, Global};
 
+/// What a statement does to one column.
+#[derive(Clone, Copy)]
+pub(crate) enum RowChange<'a> {
+    /// An INSERT gives it the term.
+    Insert(&'a Term),
+    /// An UPDATE assigns it this.
+    Assign(&'a Assigned),
+    /// A DELETE deletes it, or its entry at the key.
+    Delete(&'a Option<Constant>),
+}
+
 /// The row with the values of the clustering columns.
-pub(crate) fn row_of(
+pub(crate) fn clustered_row(
     alloc: Global,
-    source: Source<'_>,
+    terms: KeyTerms<'_>,
     columns: &[Column],
 ) -> Result<Clustering, AllocError>
-    ensures { IfOk result (λ r. r ≡ row_of_source (given_of source.entry) columns.now) }
+    ensures { IfOk result (λ r. r ≡ clustered_row (terms_of terms.entry) columns.now) }
 {
     Ok(Clustering {
-        values: List::from_vec(prefix_values(alloc, source, columns)?),
+        values: List::from_vec(prefix_values(alloc, terms, columns)?),
         order: clustering_order(alloc, columns)?,
     })
 }
 
 fn row_for(row: &Clustering, column: &Column) -> Result<Option<Clustering>, AllocError>
-    ensures { IfOk result (λ r. r ≡ row_for_column row.now column.now) }
+    ensures { IfOk result (λ r. r ≡ row_for row.now column.now) }
 {
-    if is_static(column.kind) {
+    if column.kind.is_static() {
         Ok(None)
     } else {
         Ok(Some(row.copied()?))
     }
 }
 
-#[tactic(auto, unfolding(crate::specs::Effects::whole_effect))]
+#[tactic(auto, unfolding(crate::specs::Changes::whole_effect))]
 fn whole_effect(
     alloc: Global,
     row: &Clustering,
@@ -53,11 +67,11 @@ fn whole_effect(
     column: &Column,
     term: &Term,
 ) -> Result<Effect, AllocError>
-    ensures { IfOk result (λ e. e ≡ whole_effect_of row.now number column.now term.now) }
+    ensures { IfOk result (λ e. e ≡ whole_effect row.now number column.now term.now) }
 {
     let place = row_for(row, column)?;
     let named = column_ref(number, column);
-    if is_plain(column.shape) {
+    if column.shape.is_plain() {
         let value = term_value(alloc, column.tag, term)?;
         Ok(Effect::Plain(place, named, value))
     } else {
@@ -66,7 +80,7 @@ fn whole_effect(
     }
 }
 
-#[tactic(auto, unfolding(crate::specs::Effects::assigned_effect))]
+#[tactic(auto, unfolding(crate::specs::Changes::assigned_effect))]
 fn assigned_effect(
     alloc: Global,
     row: &Clustering,
@@ -74,7 +88,7 @@ fn assigned_effect(
     column: &Column,
     value: &Assigned,
 ) -> Result<Effect, AllocError>
-    ensures { IfOk result (λ e. e ≡ assigned_effect_of row.now number column.now value.now) }
+    ensures { IfOk result (λ e. e ≡ assigned_effect row.now number column.now value.now) }
 {
     let named = column_ref(number, column);
     match value {
@@ -92,33 +106,33 @@ fn assigned_effect(
             Ok(Effect::Parts(row_for(row, column)?, named, elements))
         }
         Assigned::Entry(key, term) => {
-            let key = value_of(alloc, column.tag, key)?;
-            let value = term_value(alloc, type_or_blob(column.second), term)?;
-            let elements = entry_at(alloc, key, value)?;
+            let key = constant_bytes(alloc, column.tag, key)?;
+            let value = term_value(alloc, column.value_type(), term)?;
+            let elements = entry_elements(alloc, key, value)?;
             Ok(Effect::Parts(row_for(row, column)?, named, elements))
         }
     }
 }
 
-#[tactic(auto, unfolding(crate::specs::Effects::target_effect))]
-fn target_effect(
+#[tactic(auto, unfolding(crate::specs::Changes::deleted_effect))]
+fn deleted_effect(
     alloc: Global,
     row: &Clustering,
     number: u16,
     column: &Column,
     key: &Option<Constant>,
 ) -> Result<Effect, AllocError>
-    ensures { IfOk result (λ e. e ≡ target_effect_of row.now number column.now key.now) }
+    ensures { IfOk result (λ e. e ≡ deleted_effect row.now number column.now key.now) }
 {
     let place = row_for(row, column)?;
     let named = column_ref(number, column);
     match key {
         Some(key) => {
-            let key = value_of(alloc, column.tag, key)?;
-            Ok(Effect::Parts(place, named, entry_at(alloc, key, None)?))
+            let key = constant_bytes(alloc, column.tag, key)?;
+            Ok(Effect::Parts(place, named, entry_elements(alloc, key, None)?))
         }
         None => {
-            if is_plain(column.shape) {
+            if column.shape.is_plain() {
                 Ok(Effect::Plain(place, named, None))
             } else {
                 Ok(Effect::Emptied(place, named))
@@ -127,31 +141,48 @@ fn target_effect(
     }
 }
 
-#[tactic(auto, unfolding(crate::specs::Effects::inserted_effect))]
-fn push_inserted(
+#[tactic(auto, unfolding(crate::specs::Changes::column_effect, crate::specs::Changes::assigned_effect))]
+fn column_effect(
+    alloc: Global,
+    row: &Clustering,
+    number: u16,
+    column: &Column,
+    change: RowChange<'_>,
+) -> Result<Effect, AllocError>
+    ensures { IfOk result (λ e. e ≡ column_effect row.now number column.now (change_in change.entry)) }
+{
+    match change {
+        RowChange::Insert(term) => whole_effect(alloc, row, number, column, term),
+        RowChange::Assign(value) => assigned_effect(alloc, row, number, column, value),
+        RowChange::Delete(key) => deleted_effect(alloc, row, number, column, key),
+    }
+}
+
+#[tactic(auto, unfolding(crate::specs::Changes::change_effects))]
+fn push_change(
     alloc: Global,
     columns: &[Column],
     row: &Clustering,
-    name: &Text,
-    term: &Term,
+    name: &str,
+    change: RowChange<'_>,
     effects: &mut Vec<Effect>,
 ) -> Result<(), AllocError>
-    requires { length columns.now ≤ 256 }
-    ensures { OnOk result (effects.new.items ≡ effects.old.items ++ inserted_effect_of columns.now row.now (name.now, term.now)) }
+    requires { IsNarrow columns.now }
+    ensures { OnOk result (effects.new.items ≡ effects.old.items ++ change_effects columns.now row.now (name.now, change_in change.entry)) }
 {
-    match located(columns, name.as_str()) {
+    match located(columns, name) {
         None => Ok(()),
         Some((number, column)) => {
-            if is_key(column.kind) {
+            if column.kind.is_key() {
                 return Ok(());
             }
-            effects.push(whole_effect(alloc, row, number, column, term)?)?;
+            effects.push(column_effect(alloc, row, number, column, change)?)?;
             Ok(())
         }
     }
 }
 
-pub(crate) fn push_all_inserted(
+fn push_inserted(
     alloc: Global,
     columns: &[Column],
     row: &Clustering,
@@ -159,114 +190,182 @@ pub(crate) fn push_all_inserted(
     terms: &[Term],
     effects: &mut Vec<Effect>,
 ) -> Result<(), AllocError>
-    requires { length columns.now ≤ 256 }
-    ensures { OnOk result (effects.new.items ≡ effects.old.items ++ flat_map (inserted_effect_of columns.now row.now) (zip names.now terms.now)) }
+    requires { IsNarrow columns.now }
+    ensures { OnOk result (effects.new.items ≡ effects.old.items ++ flat_map (change_effects columns.now row.now) (map inserted (zip names.now terms.now))) }
 {
     match (names, terms) {
         ([name, names @ ..], [term, terms @ ..]) => {
-            push_inserted(alloc, columns, row, name, term, effects)?;
-            push_all_inserted(alloc, columns, row, names, terms, effects)
+            let change = RowChange::Insert(term);
+            push_change(alloc, columns, row, name.as_str(), change, effects)?;
+            push_inserted(alloc, columns, row, names, terms, effects)
         }
         ([], _) => Ok(()),
         ([_name, _names @ ..], []) => Ok(()),
     }
 }
 
-#[tactic(auto, unfolding(crate::specs::Effects::updated_effect))]
-fn push_updated(
-    alloc: Global,
-    columns: &[Column],
-    row: &Clustering,
-    assignment: &Assignment,
-    effects: &mut Vec<Effect>,
-) -> Result<(), AllocError>
-    requires { length columns.now ≤ 256 }
-    ensures { OnOk result (effects.new.items ≡ effects.old.items ++ updated_effect_of columns.now row.now assignment.now) }
-{
-    match located(columns, assignment.column.as_str()) {
-        None => Ok(()),
-        Some((number, column)) => {
-            if is_key(column.kind) {
-                return Ok(());
-            }
-            let effect = assigned_effect(alloc, row, number, column, &assignment.value)?;
-            effects.push(effect)?;
-            Ok(())
-        }
-    }
-}
-
-#[tactic(auto, unfolding(crate::specs::Effects::deleted_effect))]
-fn push_deleted(
-    alloc: Global,
-    columns: &[Column],
-    row: &Clustering,
-    target: &Target,
-    effects: &mut Vec<Effect>,
-) -> Result<(), AllocError>
-    requires { length columns.now ≤ 256 }
-    ensures { OnOk result (effects.new.items ≡ effects.old.items ++ deleted_effect_of columns.now row.now target.now) }
-{
-    match located(columns, target.column.as_str()) {
-        None => Ok(()),
-        Some((number, column)) => {
-            if is_key(column.kind) {
-                return Ok(());
-            }
-            let effect = target_effect(alloc, row, number, column, &target.key)?;
-            effects.push(effect)?;
-            Ok(())
-        }
-    }
-}
-
-pub(crate) fn updated_effects(
+fn push_assigned(
     alloc: Global,
     columns: &[Column],
     row: &Clustering,
     assignments: &[Assignment],
-) -> Result<Vec<Effect>, AllocError>
-    requires { length columns.now ≤ 256 }
-    ensures { IfOk result (λ v. v.items ≡ flat_map (updated_effect_of columns.now row.now) assignments.now) }
+    effects: &mut Vec<Effect>,
+) -> Result<(), AllocError>
+    requires { IsNarrow columns.now }
+    ensures { OnOk result (effects.new.items
+        ≡ effects.old.items ++ flat_map (λ a. change_effects columns.now row.now (a.column, assigns a.value)) assignments.now) }
 {
-    let mut effects = Vec::new(alloc);
     for assignment in assignments {
-        push_updated(alloc, columns, row, assignment, &mut effects)?;
+        let change = RowChange::Assign(&assignment.value);
+        push_change(alloc, columns, row, assignment.column.as_str(), change, effects)?;
     }
-    Ok(effects)
+    Ok(())
 }
 
-pub(crate) fn deleted_effects(
+fn push_deleted(
     alloc: Global,
     columns: &[Column],
     row: &Clustering,
     targets: &[Target],
-) -> Result<Vec<Effect>, AllocError>
-    requires { length columns.now ≤ 256 }
-    ensures { IfOk result (λ v. v.items ≡ flat_map (deleted_effect_of columns.now row.now) targets.now) }
+    effects: &mut Vec<Effect>,
+) -> Result<(), AllocError>
+    requires { IsNarrow columns.now }
+    ensures { OnOk result (effects.new.items ≡ effects.old.items ++ flat_map (λ t. change_effects columns.now row.now (t.column, deletes t.key)) targets.now) }
 {
-    let mut effects = Vec::new(alloc);
     for target in targets {
-        push_deleted(alloc, columns, row, target, &mut effects)?;
+        let change = RowChange::Delete(&target.key);
+        push_change(alloc, columns, row, target.column.as_str(), change, effects)?;
     }
-    Ok(effects)
+    Ok(())
 }
 
-#[tactic(auto, unfolding(crate::specs::Effects::rows_effect, crate::specs::Where::given_of))]
-pub(crate) fn rows_effect(
+#[tactic(auto, using(crate::proofs::EffectLemmas::flat_map_map, crate::proofs::EffectLemmas::and_nothing), unfolding(crate::specs::Statements::changes_of))]
+fn push_changes(
+    alloc: Global,
+    columns: &[Column],
+    row: &Clustering,
+    statement: &Statement,
+    effects: &mut Vec<Effect>,
+) -> Result<(), AllocError>
+    requires { IsNarrow columns.now }
+    ensures { OnOk result (effects.new.items ≡ effects.old.items ++ flat_map (change_effects columns.now row.now) (changes_of statement.now)) }
+{
+    match statement {
+        Statement::Insert(insert) => push_inserted(
+            alloc,
+            columns,
+            row,
+            insert.columns.as_slice(),
+            insert.values.as_slice(),
+            effects,
+        ),
+        Statement::Update(update) => {
+            push_assigned(alloc, columns, row, update.assignments.as_slice(), effects)
+        }
+        Statement::Delete(delete) => {
+            push_deleted(alloc, columns, row, delete.targets.as_slice(), effects)
+        }
+        Statement::Create(_) => Ok(()),
+        Statement::Alter(_) => Ok(()),
+        Statement::Select(_) => Ok(()),
+    }
+}
+
+#[tactic(auto, unfolding(crate::specs::Changes::deletion_effect))]
+fn deletion_effect(
     alloc: Global,
     columns: &[Column],
     relations: &[Relation],
 ) -> Result<Effect, AllocError>
-    ensures { IfOk result (λ e. e ≡ rows_effect_of columns.now relations.now) }
+    ensures { IfOk result (λ e. e ≡ deletion_effect columns.now relations.now) }
 {
-    if clustering_free(relations, columns) {
+    if is_clustering_free(relations, columns) {
         return Ok(Effect::Partition);
     }
-    if clustering_fixed(relations, columns) {
-        let row = row_of(alloc, Source::Where(relations), columns)?;
+    if is_clustering_fixed(relations, columns) {
+        let row = clustered_row(alloc, KeyTerms::Where(relations), columns)?;
         return Ok(Effect::Row(row));
     }
     let slice = slice_of(alloc, columns, relations)?;
     Ok(Effect::Range(slice.lo, slice.hi))
+}
+
+fn with_live(
+    is_static: bool,
+    row: Clustering,
+    effects: Vec<Effect>,
+) -> Result<Vec<Effect>, AllocError>
+    ensures { IfOk result (λ v. v.items ≡ live_effect is_static row ++ effects.items) }
+{
+    let mut effects = effects;
+    if !is_static {
+        effects.insert(0, Effect::Live(row))?;
+    }
+    Ok(effects)
+}
+
+fn with_deletion(
+    alloc: Global,
+    columns: &[Column],
+    targets: &[Target],
+    relations: &[Relation],
+    effects: Vec<Effect>,
+) -> Result<Vec<Effect>, AllocError>
+    ensures { IfOk result (λ v. v.items ≡ deletion_of targets.now (deletion_effect columns.now relations.now) ++ effects.items) }
+{
+    let mut effects = effects;
+    match targets {
+        [] => {
+            effects.insert(0, deletion_effect(alloc, columns, relations)?)?;
+            Ok(effects)
+        }
+        [_target, _more @ ..] => Ok(effects),
+    }
+}
+
+#[tactic(auto, unfolding(crate::specs::Changes::row_effects))]
+fn with_row_effects(
+    alloc: Global,
+    columns: &[Column],
+    row: Clustering,
+    statement: &Statement,
+    effects: Vec<Effect>,
+) -> Result<Vec<Effect>, AllocError>
+    requires { row ≡ clustered_row (key_terms_of statement.now) columns.now }
+    ensures { IfOk result (λ v. v.items ≡ row_effects columns.now statement.now ++ effects.items) }
+{
+    match statement {
+        Statement::Insert(insert) => {
+            let is_static = inserts_static(columns, insert.columns.as_slice());
+            with_live(is_static, row, effects)
+        }
+        Statement::Delete(delete) => with_deletion(
+            alloc,
+            columns,
+            delete.targets.as_slice(),
+            delete.relations.as_slice(),
+            effects,
+        ),
+        Statement::Create(_) => Ok(effects),
+        Statement::Alter(_) => Ok(effects),
+        Statement::Update(_) => Ok(effects),
+        Statement::Select(_) => Ok(effects),
+    }
+}
+
+/// What becomes of rows, then of each column in the order in which the statement changes them.
+#[tactic(auto, unfolding(crate::specs::Changes::effects_of))]
+pub(crate) fn effects_of(
+    alloc: Global,
+    columns: &[Column],
+    statement: &Statement,
+) -> Result<List<Effect>, AllocError>
+    requires { IsNarrow columns.now }
+    ensures { IfOk result (λ v. v ≡ effects_of columns.now statement.now) }
+{
+    let row = clustered_row(alloc, key_terms_of(statement), columns)?;
+    let mut effects = Vec::new(alloc);
+    push_changes(alloc, columns, &row, statement, &mut effects)?;
+    let effects = with_row_effects(alloc, columns, row, statement, effects)?;
+    Ok(List::from_vec(effects))
 }

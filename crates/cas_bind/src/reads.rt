@@ -1,86 +1,35 @@
-//! What a SELECT asks of a partition, or why it is refused.
+//! What a SELECT asks of a partition, and whether it is done.
 
-ghost use Rattle.std.specs.Prelude.{◌≡◌, ◌≤◌, ◌||◌, length, None, false, IfOk};
-ghost use Rattle.cas_bind.specs.Effects.{bound_select as bound_select_of};
-ghost use Rattle.cas_bind.specs.Where.{given_by_where, partition_key as partition_key_of};
-ghost use Rattle.cas_bind.specs.Refusals.{refusal_for};
-ghost use Rattle.cas_bind.specs.Reasons.{picks_in as picks_in_select, select_is_unknown as select_is_unknown_of, select_fails as select_fails_of, is_bad_limit, select_reasons, read_too_large as read_too_large_of};
-ghost use Rattle.cas_bind.specs.Meaning.{Binds, ReadGives, outcome, select_means};
+ghost use Rattle.std.specs.Prelude.{◌≡◌, None, pos, not, false, option_map, unsigned_abs, IfOk};
+ghost use Rattle.cas_types.specs.Limits.{IsNarrow, IsShardCount};
+ghost use Rattle.cas_define.specs.Outcomes.{Binds, outcome};
+ghost use Rattle.cas_terms.specs.Columns.{clustering_columns};
+ghost use Rattle.cas_where.specs.KeyTerms.{term_in_where, partition_key};
+ghost use Rattle.cas_where.specs.Slices.{follows_order};
+ghost use Rattle.cas_bind.specs.Inner.Gives.{ReadGives};
+ghost use Rattle.cas_bind.specs.Meaning.{select_means};
+ghost use Rattle.cas_bind.specs.RowFaults.{is_outside};
+ghost use Rattle.cas_bind.specs.RowReasons.{row_reasons};
+ghost use Rattle.cas_effects.specs.Refusals.{refusal_for};
+ghost use Rattle.cas_bind.specs.Selects.{bound_select, read_too_large};
 ghost use Rattle.cas_bind.specs.declared.bound.Bound.TheVariants as bounds;
+ghost use Rattle.cas_bind.specs.declared.selects.TheConstants.{GREATEST_LIMIT};
+ghost use Rattle.cql_parse.specs.declared.syntax.Statement.TheVariants as statements;
 
 use crate::bound::{Bound, BoundRead};
-use crate::given::{Source, partition_key};
-use crate::keys::{has_empty_key, lacks_key};
-use crate::refusal::{BindFault, Refusal};
-use crate::selection::{asked_by, is_bad_select, is_reversed, row_limit};
-use crate::sizes::{any_too_large, either, one_too_large};
-use crate::slices::slice_of;
-use crate::terms_fit::{
-    orders_unknown, picks_fail, picks_unknown, relations_fail, relations_unknown,
-};
+use crate::row_reasons::row_refusal;
+use crate::selects::asked_by;
 use cas_atoms::Query;
+use cas_effects::{BindFault, Refusal, any_too_large, either, one_too_large};
 use cas_types::{Bytes, Column, List, TableSchema, shard_of};
-use cql_parse::{Pick, Picks, Select};
+use cas_where::{KeyTerms, follows_order, partition_key, slice_of};
+use cql_parse::{ColumnOrder, Select, Statement};
 use std::alloc::{AllocError, Global};
 
-#[tactic(auto, unfolding(crate::specs::Reasons::picks_in))]
-fn picks_in(picks: &Picks) -> &[Pick]
-    ensures { result.now ≡ picks_in_select picks.now }
-{
-    match picks {
-        Picks::All => &[],
-        Picks::These(picks) => picks.as_slice(),
-    }
-}
-
-#[tactic(auto, unfolding(crate::specs::Reasons::select_is_unknown))]
-fn select_is_unknown(table: &TableSchema, select: &Select) -> bool
-    ensures { result ≡ select_is_unknown_of table.now select.now }
-{
-    let columns = table.columns.as_slice();
-    picks_unknown(columns, picks_in(&select.picks))
-        || (relations_unknown(columns, select.relations.as_slice())
-            || orders_unknown(columns, select.order.as_slice()))
-}
-
-#[tactic(auto, unfolding(crate::specs::Reasons::select_fails))]
-fn select_fails(table: &TableSchema, select: &Select) -> bool
-    ensures { result ≡ select_fails_of table.now select.now }
-{
-    let columns = table.columns.as_slice();
-    picks_fail(columns, picks_in(&select.picks))
-        || relations_fail(columns, select.relations.as_slice())
-}
-
-/// Why the SELECT is refused, but for values above their limit.
-#[tactic(auto, unfolding(crate::specs::Refusals::refusal_for, crate::specs::Reasons::select_reasons))]
-fn select_refusal(table: &TableSchema, select: &Select) -> Option<Refusal>
-    ensures { result ≡ refusal_for (select_reasons table.now None select.now) }
-{
-    let columns = table.columns.as_slice();
-    let relations = select.relations.as_slice();
-    if select_is_unknown(table, select) {
-        return Some(Refusal::NoColumn);
-    }
-    if select_fails(table, select) {
-        return Some(Refusal::WrongType);
-    }
-    if has_empty_key(columns, relations) {
-        return Some(Refusal::EmptyKey);
-    }
-    if lacks_key(false, columns, relations) {
-        return Some(Refusal::MissingKey);
-    }
-    if is_bad_select(columns, select) {
-        return Some(Refusal::BadRestriction);
-    }
-    None
-}
-
 /// The refusal of the first of the key and of the slice's values that is above the limit.
-#[tactic(auto, using(crate::proofs::LargeValues::too_large_cons, crate::proofs::LargeValues::too_large_append), unfolding(crate::specs::Reasons::read_too_large))]
+#[tactic(auto, using(crate::proofs::RowLemmas::too_large_cons, crate::proofs::RowLemmas::too_large_append), unfolding(crate::specs::Selects::read_too_large))]
 fn read_too_large(read: &BoundRead) -> Option<Refusal>
-    ensures { result ≡ read_too_large_of read.now }
+    ensures { result ≡ read_too_large read.now }
 {
     let query = &read.query;
     let lo = any_too_large(query.slice.lo.prefix.as_slice());
@@ -94,20 +43,38 @@ fn copy_columns(columns: &List<Column>) -> Result<List<Column>, AllocError>
     columns.clone()
 }
 
-#[tactic(auto, unfolding(crate::specs::Effects::bound_select, crate::specs::Where::given_of))]
-fn read_of(
+// Whether an ORDER BY reverses the table's order.
+fn is_reversed(columns: &[Column], order: &[ColumnOrder]) -> bool
+    ensures { result ≡ not (follows_order false (clustering_columns columns.now) order.now) }
+{
+    !follows_order(false, columns, order)
+}
+
+// The number of rows that a LIMIT leaves at most.
+#[tactic(auto, unfolding(crate::specs::RowFaults::is_outside))]
+fn row_limit(limit: Option<i128>) -> Option<u32>
+    requires { is_outside (pos 1) GREATEST_LIMIT limit ≡ false }
+    ensures { result ≡ option_map unsigned_abs limit }
+{
+    match limit {
+        Some(limit) => Some(limit as u32),
+        None => None,
+    }
+}
+
+#[tactic(auto, unfolding(crate::specs::Selects::bound_select))]
+fn select_of_key(
     alloc: Global,
     shards: u8,
     table: &TableSchema,
     select: &Select,
     key: Bytes,
 ) -> Result<BoundRead, AllocError>
-    requires some { 1 ≤ shards }
-    requires few { shards ≤ 16 }
-    requires narrow { length table.now.columns ≤ 256 }
-    requires limit { is_bad_limit select.now.limit ≡ false }
-    requires key { key ≡ partition_key_of (given_by_where select.now.relations) table.now.columns }
-    ensures { IfOk result (λ r. r ≡ bound_select_of shards table.now select.now) }
+    requires shards { IsShardCount shards }
+    requires narrow { IsNarrow table.now.columns }
+    requires limit { is_outside (pos 1) GREATEST_LIMIT select.now.limit ≡ false }
+    requires key { key ≡ partition_key (term_in_where select.now.relations) table.now.columns }
+    ensures { IfOk result (λ r. r ≡ bound_select shards table.now select.now) }
 {
     let columns = table.columns.as_slice();
     let shard = shard_of(key.as_slice(), shards);
@@ -124,28 +91,27 @@ fn read_of(
 }
 
 /// What the SELECT is bound to, where its LIMIT is in range.
-#[tactic(auto, using(crate::proofs::ReadReasoning::select_key), unfolding(crate::specs::Where::given_of))]
+#[tactic(auto, using(crate::proofs::RowLemmas::select_key))]
 fn bound_select(
     alloc: Global,
     shards: u8,
     table: &TableSchema,
     select: &Select,
 ) -> Result<BoundRead, BindFault>
-    requires some { 1 ≤ shards }
-    requires few { shards ≤ 16 }
-    requires narrow { length table.now.columns ≤ 256 }
-    requires limit { is_bad_limit select.now.limit ≡ false }
-    ensures { ReadGives result (bound_select_of shards table.now select.now) }
+    requires shards { IsShardCount shards }
+    requires narrow { IsNarrow table.now.columns }
+    requires limit { is_outside (pos 1) GREATEST_LIMIT select.now.limit ≡ false }
+    ensures { ReadGives result (bound_select shards table.now select.now) }
 {
-    let source = Source::Where(select.relations.as_slice());
-    match partition_key(alloc, source, table.columns.as_slice()) {
-        Ok(key) => Ok(read_of(alloc, shards, table, select, key)?),
+    let terms = KeyTerms::Where(select.relations.as_slice());
+    match partition_key(alloc, terms, table.columns.as_slice()) {
+        Ok(key) => Ok(select_of_key(alloc, shards, table, select, key)?),
         Err(fault) => Err(fault),
     }
 }
 
 fn if_small(read: BoundRead) -> Result<Bound, BindFault>
-    ensures { Binds result (outcome (read_too_large_of read) (bounds.Read read)) }
+    ensures { Binds result (outcome (read_too_large read) (bounds.Read read)) }
 {
     match read_too_large(&read) {
         Some(refusal) => Err(BindFault::Refused(refusal)),
@@ -153,20 +119,29 @@ fn if_small(read: BoundRead) -> Result<Bound, BindFault>
     }
 }
 
-/// What the SELECT means to its table.
-#[tactic(auto, using(crate::proofs::ReadReasoning::select_good, crate::proofs::ReadReasoning::select_refused, crate::proofs::ReadReasoning::select_decided))]
+// Why the statement, which is the SELECT, is refused.
+fn select_refusal(table: &TableSchema, statement: &Statement, select: &Select) -> Option<Refusal>
+    requires { statement.now ≡ statements.Select select.now }
+    ensures { result ≡ refusal_for (row_reasons table.now None (statements.Select select.now)) }
+{
+    row_refusal(table, statement)
+}
+
+/// What the statement, which is the SELECT, means to its table.
+#[tactic(auto, using(crate::proofs::RowLemmas::select_good, crate::proofs::RowLemmas::select_refused, crate::proofs::RowLemmas::select_decided))]
 pub(crate) fn bind_select(
     alloc: Global,
     shards: u8,
     table: &TableSchema,
+    statement: &Statement,
     select: &Select,
 ) -> Result<Bound, BindFault>
-    requires some { 1 ≤ shards }
-    requires few { shards ≤ 16 }
-    requires narrow { length table.now.columns ≤ 256 }
+    requires shards { IsShardCount shards }
+    requires narrow { IsNarrow table.now.columns }
+    requires select { statement.now ≡ statements.Select select.now }
     ensures { Binds result (select_means shards table.now select.now) }
 {
-    match select_refusal(table, select) {
+    match select_refusal(table, statement, select) {
         Some(refusal) => Err(BindFault::Refused(refusal)),
         None => if_small(bound_select(alloc, shards, table, select)?),
     }

@@ -1,31 +1,15 @@
-//! Statements from their text to what is bound, to atoms or to refusals.
+//! Statements from their text to what they are bound to, or why they are refused.
 
-mod constants;
-mod counts;
-mod definitions;
-mod mutations;
-mod options;
-mod reads;
-mod refusals;
-mod shown;
+ghost use Rattle.std.specs.Prelude.{IfOk};
+ghost use Rattle.cas_bind.specs.Tables.{AreTables, tables_after};
 
-ghost use Rattle.std.specs.Prelude.{◌≡◌, true};
-ghost use Rattle.std.specs.List.{All};
-ghost use Rattle.cas_bind.specs.Meaning.{IsNarrow};
-
-use crate::meaning::meant;
-use crate::{BindFault, Bound, Limits, Refusal, bind};
+use crate::{Bound, Limits, bind};
+use cas_effects::{BindFault, Effect};
 use cas_types::TableSchema;
 use cql_lex::tokens;
 use cql_parse::statement;
 use std::alloc::Global;
 use std::test::Fail;
-
-fn are_narrow(tables: &[TableSchema]) -> bool
-    ensures { result ≡ true → All IsNarrow tables.now }
-{
-    tables.iter().all(|t| t.columns.len() <= 256)
-}
 
 const LIMITS: Limits = Limits {
     shards: 2,
@@ -34,100 +18,166 @@ const LIMITS: Limits = Limits {
     compactors: 0,
 };
 
-// What a source is bound to, in a store of two shards. It is what `bind` answers, which asks more of
-// its tables.
 fn bound(
     alloc: Global,
     tables: &[TableSchema],
     source: &str,
-) -> Result<Result<Bound, BindFault>, Fail> {
+) -> Result<Result<Bound, BindFault>, Fail>
+    requires { AreTables tables.now }
+    ensures { IfOk result (λ r. IfOk r (λ b. AreTables (tables_after tables.now b))) }
+{
     let found = statement(alloc, &tokens(alloc, source)?, source)?;
-    if are_narrow(tables) {
-        Ok(meant(alloc, tables, &found, &LIMITS))
-    } else {
-        Err(Fail::new("a table with too many columns"))
-    }
+    Ok(bind(alloc, tables, &found, &LIMITS))
 }
 
-// The tables that the sources make, one after another.
-fn tables_of(alloc: Global, sources: &[&str]) -> Result<Vec<TableSchema>, Fail> {
-    let mut tables = Vec::new(alloc);
-    for source in sources {
-        match bound(alloc, &tables, source)? {
-            Ok(Bound::Create(table)) => tables.push(table)?,
-            _ => return Err(Fail::new("no table is made")),
+#[tactic(auto, unfolding(crate::specs::Tables::tables_after))]
+fn with_table(
+    alloc: Global,
+    tables: Vec<TableSchema>,
+    source: &str,
+) -> Result<Vec<TableSchema>, Fail>
+    requires { AreTables tables.items }
+    ensures { IfOk result (λ v. AreTables v.items) }
+{
+    let mut tables = tables;
+    match bound(alloc, &tables, source)? {
+        Ok(Bound::Create(table)) => {
+            tables.push(table)?;
+            Ok(tables)
         }
+        _ => Err(Fail::new("no table is made")),
     }
-    Ok(tables)
 }
 
-// Why a source is refused.
-fn refusal(alloc: Global, tables: &[TableSchema], source: &str) -> Result<Option<Refusal>, Fail> {
-    match bound(alloc, tables, source)? {
-        Ok(_) => Ok(None),
-        Err(BindFault::Refused(refusal)) => Ok(Some(refusal)),
-        Err(BindFault::Mem) => Err(Fail::new("want of memory")),
-    }
+#[tactic(auto, using(crate::proofs::Kept::no_tables))]
+fn tables(alloc: Global) -> Result<Vec<TableSchema>, Fail>
+    ensures { IfOk result (λ v. AreTables v.items) }
+{
+    let t = "CREATE TABLE t (k int, c text, v text, PRIMARY KEY (k, c))";
+    let d = "CREATE TABLE d (k text, c int, v int, PRIMARY KEY (k, c))";
+    let w = "CREATE TABLE w (k int, c int, s set<int>, l list<int>, m map<int, text>, p text STATIC, PRIMARY KEY (k, c))";
+    let one = with_table(alloc, Vec::new(alloc), t)?;
+    let two = with_table(alloc, one, d)?;
+    with_table(alloc, two, w)
 }
 
 // The number by which a source is refused, and 0 where it isn't.
-fn refused(alloc: Global, tables: &[TableSchema], source: &str) -> Result<u8, Fail> {
-    match refusal(alloc, tables, source)? {
-        Some(refusal) => Ok(refusal.number()),
-        None => Ok(0),
+fn refused(alloc: Global, tables: &[TableSchema], source: &str) -> Result<u8, Fail>
+    requires { AreTables tables.now }
+{
+    match bound(alloc, tables, source)? {
+        Ok(_) => Ok(0),
+        Err(BindFault::Refused(refusal)) => Ok(refusal.number()),
+        Err(BindFault::Mem) => Err(Fail::new("out of memory")),
     }
 }
 
-// An error that tells what a source gave, where it isn't what was wanted.
-fn same(part: &str, found: &str, wanted: &str) -> Result<(), Fail> {
-    if found == wanted {
-        Ok(())
-    } else {
-        Err(Fail::new(format_args!("{part} gave: {found}")))
-    }
-}
+const CASES: [(&str, u8); 70] = [
+    // of two reasons the earlier one is told
+    ("INSERT INTO t (z, z) VALUES (1, 2)", 12),
+    ("INSERT INTO t (z) VALUES (1)", 3),
+    ("INSERT INTO t (k, z) VALUES (1, 2) USING TIMESTAMP 9223372036854775807", 3),
+    ("INSERT INTO t (k, c) VALUES ('a', 'a') USING TIMESTAMP 9223372036854775807", 7),
+    ("INSERT INTO d (k, c) VALUES ('', 'a')", 4),
+    ("INSERT INTO d (k) VALUES ('')", 9),
+    ("INSERT INTO d (k) VALUES ('a')", 5),
+    ("UPDATE t SET k = 2 WHERE k = 1", 5),
+    ("UPDATE t SET k = 2 WHERE k = 1 AND c = 'a'", 6),
+    ("UPDATE t USING TTL -1 SET k = 2 WHERE k = 1 AND c = 'a'", 6),
+    ("UPDATE t USING TTL -1 SET v = 'a' WHERE k = 1 AND c = 'a'", 11),
+    ("SELECT z FROM n WHERE k = 1", 2),
+    ("SELECT z FROM t", 3),
+    // names, types and shapes
+    ("UPDATE w SET s = m + {1} WHERE k = 1 AND c = 1", 6),
+    ("UPDATE w SET s = z + {1} WHERE k = 1 AND c = 1", 3),
+    ("UPDATE w SET s = {1, null} WHERE k = 1 AND c = 1", 4),
+    ("UPDATE w SET m['a'] = 'a' WHERE k = 1 AND c = 1", 4),
+    ("UPDATE w SET s[1] = null WHERE k = 1 AND c = 1", 4),
+    ("UPDATE w SET l = {1} + l WHERE k = 1 AND c = 1", 4),
+    ("DELETE s[1] FROM w WHERE k = 1 AND c = 1", 4),
+    ("DELETE z FROM w WHERE k = 1 AND c = 1", 3),
+    ("SELECT writetime(s) FROM w WHERE k = 1", 4),
+    ("SELECT ttl(c) FROM w WHERE k = 1", 4),
+    ("SELECT * FROM w WHERE k = 1 AND c = {}", 4),
+    ("SELECT writetime(p), ttl(p) FROM w WHERE k = 1", 0),
+    // keys
+    ("INSERT INTO w (k) VALUES (1)", 5),
+    ("INSERT INTO w (k, p) VALUES (1, 'a')", 0),
+    ("INSERT INTO w (k, p, s) VALUES (1, 'a', {})", 5),
+    ("INSERT INTO w (k, c) VALUES (1, null)", 5),
+    ("INSERT INTO w (c, p) VALUES (1, 'a')", 5),
+    ("SELECT * FROM d WHERE k = ''", 9),
+    ("SELECT * FROM d WHERE k = 'a' AND k = ''", 9),
+    ("SELECT * FROM d WHERE k = null", 5),
+    ("UPDATE w SET s = {}, p = 'a' WHERE k = 1", 5),
+    ("UPDATE w SET p = 'a' WHERE c = 1", 5),
+    ("DELETE s FROM w WHERE k = 1", 5),
+    ("DELETE FROM w WHERE k > 1", 5),
+    ("SELECT * FROM w", 5),
+    ("SELECT * FROM w WHERE k = 1 AND c > null", 5),
+    // restrictions
+    ("SELECT * FROM w WHERE k = 1 AND k = 1", 6),
+    ("SELECT * FROM w WHERE k = 1 AND c > 1 AND c > 2", 6),
+    ("SELECT * FROM w WHERE k = 1 AND c > 1 AND c <= 2", 0),
+    ("SELECT * FROM w WHERE k = 1 AND p = 'a'", 6),
+    ("SELECT * FROM w WHERE k = 1 ORDER BY c, c", 6),
+    ("SELECT * FROM w WHERE k = 1 LIMIT 0", 6),
+    ("SELECT * FROM w WHERE k = 1 LIMIT 2147483648", 6),
+    ("SELECT * FROM w WHERE k = 1 LIMIT 2147483647", 0),
+    ("UPDATE w SET p = 'a' WHERE k = 1 AND c = 1", 6),
+    ("UPDATE w SET p = 'a' WHERE k = 1", 0),
+    ("UPDATE w SET c = 1 WHERE k = 1 AND c = 1", 6),
+    ("DELETE p FROM w WHERE k = 1 AND c = 1", 6),
+    ("DELETE p FROM w WHERE k = 1", 0),
+    ("DELETE c FROM w WHERE k = 1 AND c = 1", 6),
+    ("DELETE FROM w WHERE k = 1 AND c < 1 AND c < 2", 6),
+    ("DELETE FROM w WHERE k = 1 AND c < 1", 0),
+    // what is said twice
+    ("INSERT INTO w (k, c, k) VALUES (1, 2, 1)", 12),
+    ("INSERT INTO w (k, c) VALUES (1, 2, 3)", 12),
+    ("INSERT INTO w (k, c) VALUES (1, 2) USING TTL 1 AND TTL 1", 12),
+    ("UPDATE w SET p = 'a', p = 'b' WHERE k = 1", 12),
+    ("UPDATE w SET m[1] = 'a', m[1] = 'b' WHERE k = 1 AND c = 1", 12),
+    ("UPDATE w SET m[1] = 'a', m[2] = 'b' WHERE k = 1 AND c = 1", 0),
+    ("UPDATE w SET m = {}, m[2] = 'b' WHERE k = 1 AND c = 1", 12),
+    ("UPDATE w SET z[1] = 'a', z[2] = 'b' WHERE k = 1 AND c = 1", 12),
+    ("DELETE m[1], m[01] FROM w WHERE k = 1 AND c = 1", 12),
+    ("DELETE m[1], m[3] FROM w WHERE k = 1 AND c = 1", 0),
+    // numbers after USING
+    ("UPDATE w USING TIMESTAMP -9223372036854775805 SET p = 'a' WHERE k = 1", 0),
+    ("UPDATE w USING TIMESTAMP -9223372036854775806 SET p = 'a' WHERE k = 1", 7),
+    ("DELETE FROM w USING TIMESTAMP 9223372036854775806 WHERE k = 1", 0),
+    ("UPDATE w USING TTL 630720000 SET p = 'a' WHERE k = 1", 0),
+    ("UPDATE w USING TTL 630720001 SET p = 'a' WHERE k = 1", 11),
+];
 
-// Each source, put between the two parts, is refused by its number, or not where that is 0.
-fn each_is_refused(
-    alloc: Global,
-    tables: &[&str],
-    around: (&str, &str),
-    cases: &[(&str, u8)],
-) -> Result<(), Fail> {
-    let tables = tables_of(alloc, tables)?;
-    let (before, after) = around;
-    for (part, wanted) in cases {
-        let source = format!(in alloc; "{before}{part}{after}")?;
-        let number = refused(alloc, &tables, source.as_str())?;
+#[test]
+fn each_refusal_comes_and_a_good_statement_beside_it(rt: HostRuntime) -> Result<(), Fail> {
+    let alloc = rt.alloc();
+    let tables = tables(alloc)?;
+    for (source, wanted) in &CASES {
+        let number = refused(alloc, &tables, source)?;
         if number != *wanted {
-            return Err(Fail::new(format_args!("{part} gave: {number}")));
+            return Err(Fail::new(format_args!("{source} gave: {number}")));
         }
-    }
-    Ok(())
-}
-
-// What each source is bound to, put between the two parts, is shown so.
-fn each_is_shown(
-    alloc: Global,
-    tables: &[&str],
-    around: (&str, &str),
-    cases: &[(&str, &str)],
-) -> Result<(), Fail> {
-    let tables = tables_of(alloc, tables)?;
-    let (before, after) = around;
-    for (part, wanted) in cases {
-        let source = format!(in alloc; "{before}{part}{after}")?;
-        let found = bound(alloc, &tables, source.as_str())?;
-        same(part, shown::show(alloc, &found)?.as_str(), wanted)?;
     }
     Ok(())
 }
 
 #[test]
-fn a_table_is_made_where_there_is_none(rt: HostRuntime) -> Result<(), Fail> {
+fn an_insert_is_bound_to_its_row_and_its_columns(rt: HostRuntime) -> Result<(), Fail> {
     let alloc = rt.alloc();
-    let source = "CREATE TABLE t (k int PRIMARY KEY)";
-    let found = statement(alloc, &tokens(alloc, source)?, source)?;
-    assert!(rt; matches!(bind(alloc, &[], &found, &LIMITS), Ok(Bound::Create(_))));
-    Ok(())
+    let tables = tables(alloc)?;
+    let source = "INSERT INTO t (k, c, v) VALUES (1, 'a', null) USING TIMESTAMP -7 AND TTL 5";
+    match bound(alloc, &tables, source)? {
+        Ok(Bound::Write(write)) => {
+            assert_eq!(rt; write.key.as_slice(), [0, 0, 0, 1].as_slice());
+            assert_eq!(rt; (write.shard, write.ttl), (1, 5));
+            assert!(rt; write.timestamp == Some(-7));
+            let effects = write.effects.as_slice();
+            assert!(rt; matches!(effects, [Effect::Live(_), Effect::Plain(Some(_), _, None)]));
+            Ok(())
+        }
+        _ => Err(Fail::new("no write")),
+    }
 }

@@ -1,0 +1,19 @@
+-- Effects of changes that are made of other things.
+use Rattle.std.proofs.Common.{◌≡◌, ℕ, ◌+◌, ◌<◌, List, [], ◌∷◌, ◌++◌, length, take, get_or, map, refl, ap, ◌∙◌, append_assoc}
+use Rattle.std.specs.List.{flat_map}
+use Rattle.cas_effects.proofs.Steps.{flat_map_step}
+
+pub flat_map_map : {X Y Z : Type 0} (g : Y → List Z) (f : X → Y) (xs : List X) → flat_map g (map f xs) ≡ flat_map (λ x. g (f x)) xs
+flat_map_map g f [] = refl
+flat_map_map g f (x ∷ xs) = ap (λ l. g (f x) ++ l) (flat_map_map g f xs)
+
+pub and_nothing : {X : Type 0} (xs : List X) → xs ≡ xs ++ []
+and_nothing [] = refl
+and_nothing (x ∷ xs) = ap (λ l. x ∷ l) (and_nothing xs)
+
+-- one more item is put after what those before it came to
+pub pushed_step : {X Y : Type 0} (f : X → List Y) (first : List Y) (A : List X) (i : ℕ) (x : X) (before after : List Y) → i < length A → x ≡ get_or A i x
+    → before ≡ first ++ flat_map f (take i A) → after ≡ before ++ f x → after ≡ first ++ flat_map f (take (i + 1) A)
+pushed_step f first A i x before after h e b a =
+    a ∙ ap (λ l. l ++ f x) b ∙ append_assoc first (flat_map f (take i A)) (f x)
+    ∙ ap (λ l. first ++ l) (flat_map_step f A i x (flat_map f (take i A)) (flat_map f (take i A) ++ f x) h e refl refl)

@@ -1,7 +1,0 @@
-use Rattle.std.proofs.Common.{◌≡◌, take}
-use Rattle.std.specs.List.{flat_map}
-use Rattle.cas_bind.specs.AtomsOf.{effect_atoms}
-use Rattle.cas_bind.proofs.atoms.all_atoms.Given as goal
-
-abbrev pub invariant-loop-effect : goal.invariant-loop-effect
-invariant-loop-effect l = l.atoms.items ≡ flat_map (effect_atoms l.stamp) (take l.effect-index l.effects)

@@ -1,7 +1,0 @@
-use Rattle.std.proofs.Common.{◌≡◌, map, take}
-use Rattle.std.specs.List.{enumerate_from}
-use Rattle.cas_bind.specs.AtomsOf.{element_atom, placed_at}
-use Rattle.cas_bind.proofs.atoms.list_atoms.Given as goal
-
-abbrev pub invariant-loop-index : goal.invariant-loop-index
-invariant-loop-index l = l.atoms.items ≡ map (element_atom l.stamp l.row l.column) (map (placed_at l.order) (enumerate_from 0 (take l.index l.values)))

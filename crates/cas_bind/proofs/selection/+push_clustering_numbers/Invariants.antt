@@ -1,5 +1,0 @@
-use Rattle.std.proofs.Common.{length}
-use Rattle.cas_bind.proofs.selection.+push_clustering_numbers.Given as goal
-
-abbrev pub decreases-push_clustering_numbers : goal.decreases-push_clustering_numbers
-decreases-push_clustering_numbers l = length l.columns.now

@@ -1,0 +1,197 @@
+//! What INSERT, UPDATE, DELETE and SELECT are refused for, what is too large aside.
+
+ghost use Rattle.std.specs.Prelude.{◌≡◌, ◌||◌, None, is_some};
+ghost use Rattle.std.specs.List.{list_any};
+ghost use Rattle.std.specs.Option.{option_copied};
+ghost use Rattle.cas_effects.specs.Refusals.{refusal_for};
+ghost use Rattle.cas_terms.specs.Columns.{names_key};
+ghost use Rattle.cas_where.specs.Where.{restricts};
+ghost use Rattle.cas_bind.specs.Changes.{extent_of};
+ghost use Rattle.cas_bind.specs.RowFaults.{changes_twice, has_other_count, uses_twice, gives_empty, gives_empty_key, is_row, lacks_key};
+ghost use Rattle.cas_bind.specs.RowFaults.{is_another, assigns_otherwise, orders_otherwise, reads_otherwise, restricts_otherwise};
+ghost use Rattle.cas_bind.specs.RowReasons.{row_reasons};
+ghost use Rattle.cas_bind.specs.Statements.{relations_of, uses_of, changes_of};
+
+use crate::extents::extent_of;
+use crate::selects::GREATEST_LIMIT;
+use crate::statements::{has_other_count, key_terms_of, other_name, relations_of, uses_unknown};
+use crate::types_used::{changes_twice, uses_another_type};
+use crate::using::{has_use_twice, is_outside, stated_timestamp, stated_ttl};
+use cas_effects::{Reasons, Refusal};
+use cas_terms::{names_key, same_name};
+use cas_types::{Column, GREATEST_TIMESTAMP, LEAST_TIMESTAMP, TTL_LIMIT, TableSchema};
+use cas_where::{
+    Extent, compares_key_with_null, follows_order, is_given_empty, lacks_clustering,
+    lacks_partition, restricts, restricts_to_empty, sole_column,
+};
+use cql_parse::{Assignment, ColumnOrder, Select, Statement, Target};
+
+#[tactic(auto, using(crate::proofs::RowLemmas::or_true_between))]
+fn says_badly(columns: &[Column], statement: &Statement) -> bool
+    ensures { result ≡ (changes_twice columns.now (changes_of statement.now) || (has_other_count statement.now || uses_twice (uses_of statement.now))) }
+{
+    if has_other_count(statement) {
+        true
+    } else {
+        changes_twice(columns, statement) || has_use_twice(statement)
+    }
+}
+
+#[tactic(auto, unfolding(crate::specs::RowFaults::gives_empty))]
+fn gives_empty(statement: &Statement, column: &Column) -> bool
+    ensures { result ≡ gives_empty statement.now column.now }
+{
+    match statement {
+        Statement::Insert(_) => is_given_empty(key_terms_of(statement), column),
+        Statement::Create(_) => restricts_to_empty(relations_of(statement), column),
+        Statement::Alter(_) => restricts_to_empty(relations_of(statement), column),
+        Statement::Update(_) => restricts_to_empty(relations_of(statement), column),
+        Statement::Delete(_) => restricts_to_empty(relations_of(statement), column),
+        Statement::Select(_) => restricts_to_empty(relations_of(statement), column),
+    }
+}
+
+#[tactic(auto, unfolding(crate::specs::RowFaults::gives_empty_key))]
+fn gives_empty_key(columns: &[Column], statement: &Statement) -> bool
+    ensures { result ≡ gives_empty_key columns.now statement.now }
+{
+    match sole_column(columns) {
+        Some(column) => gives_empty(statement, column),
+        None => false,
+    }
+}
+
+fn is_row(extent: Extent) -> bool
+    ensures { result ≡ is_row extent }
+{
+    matches!(extent, Extent::Row)
+}
+
+#[tactic(auto, unfolding(crate::specs::RowFaults::lacks_key))]
+fn lacks_key(columns: &[Column], statement: &Statement) -> bool
+    ensures { result ≡ lacks_key columns.now statement.now }
+{
+    let terms = key_terms_of(statement);
+    if lacks_partition(terms, columns) {
+        return true;
+    }
+    if compares_key_with_null(columns, relations_of(statement)) {
+        return true;
+    }
+    is_row(extent_of(columns, statement)) && lacks_clustering(terms, columns)
+}
+
+fn is_another(name: &str, other: Option<&str>) -> bool
+    ensures { result ≡ is_another name.now (option_copied other.entry) }
+{
+    match other {
+        Some(other) => !same_name(other, name),
+        None => false,
+    }
+}
+
+#[tactic(auto, unfolding(crate::specs::RowFaults::assigns_otherwise))]
+fn assigns_otherwise(columns: &[Column], assignment: &Assignment) -> bool
+    ensures { result ≡ assigns_otherwise columns.now assignment.now }
+{
+    let name = assignment.column.as_str();
+    names_key(columns, name) || is_another(name, other_name(&assignment.value))
+}
+
+fn any_assigns_otherwise(columns: &[Column], assignments: &[Assignment]) -> bool
+    ensures { result ≡ list_any (assigns_otherwise columns.now) assignments.now }
+{
+    assignments.iter().any(|a| assigns_otherwise(columns, a))
+}
+
+fn any_deletes_key(columns: &[Column], targets: &[Target]) -> bool
+    ensures { result ≡ list_any (λ t. names_key columns.now t.column) targets.now }
+{
+    targets
+        .iter()
+        .any(|t| names_key(columns, t.column.as_str()))
+}
+
+#[tactic(auto, unfolding(crate::specs::RowFaults::orders_otherwise))]
+fn orders_otherwise(columns: &[Column], order: &[ColumnOrder]) -> bool
+    ensures { result ≡ orders_otherwise columns.now order.now }
+{
+    !(follows_order(false, columns, order) || follows_order(true, columns, order))
+}
+
+fn is_paged(select: &Select) -> bool
+    ensures { result ≡ (is_some select.now.after || is_some select.now.page) }
+{
+    select.after.is_some() || select.page.is_some()
+}
+
+#[tactic(auto, unfolding(crate::specs::RowFaults::reads_otherwise))]
+fn reads_otherwise(columns: &[Column], select: &Select) -> bool
+    ensures { result ≡ reads_otherwise columns.now select.now }
+{
+    orders_otherwise(columns, select.order.as_slice())
+        || (is_outside(1, GREATEST_LIMIT, select.limit) || is_paged(select))
+}
+
+fn restricts_rows(columns: &[Column], statement: &Statement) -> bool
+    ensures { result ≡ restricts (extent_of columns.now statement.now) columns.now (relations_of statement.now) }
+{
+    restricts(extent_of(columns, statement), columns, relations_of(statement))
+}
+
+#[tactic(auto, unfolding(crate::specs::RowFaults::restricts_otherwise, crate::specs::Statements::relations_of, crate::specs::Changes::extent_of))]
+fn restricts_otherwise(columns: &[Column], statement: &Statement) -> bool
+    ensures { result ≡ restricts_otherwise columns.now statement.now }
+{
+    match statement {
+        Statement::Update(update) => {
+            any_assigns_otherwise(columns, update.assignments.as_slice())
+                || !restricts_rows(columns, statement)
+        }
+        Statement::Delete(delete) => {
+            any_deletes_key(columns, delete.targets.as_slice())
+                || !restricts_rows(columns, statement)
+        }
+        Statement::Select(select) => {
+            !restricts(Extent::Slice, columns, select.relations.as_slice())
+                || reads_otherwise(columns, select)
+        }
+        Statement::Create(_) => false,
+        Statement::Alter(_) => false,
+        Statement::Insert(_) => false,
+    }
+}
+
+/// What the statement is refused for.
+#[tactic(auto, unfolding(crate::specs::RowReasons::row_reasons))]
+fn row_reasons(table: &TableSchema, statement: &Statement) -> Reasons
+    ensures { result ≡ row_reasons table.now None statement.now }
+{
+    let columns = table.columns.as_slice();
+    let timestamp = stated_timestamp(statement);
+    Reasons {
+        no_table: false,
+        table_exists: false,
+        bad_definition: says_badly(columns, statement),
+        no_column: uses_unknown(columns, statement),
+        bad_option: is_outside(
+            i128::from(LEAST_TIMESTAMP),
+            i128::from(GREATEST_TIMESTAMP),
+            timestamp,
+        ),
+        wrong_type: uses_another_type(columns, statement),
+        empty_key: gives_empty_key(columns, statement),
+        missing_key: lacks_key(columns, statement),
+        bad_restriction: restricts_otherwise(columns, statement),
+        ttl_too_large: is_outside(0, i128::from(TTL_LIMIT), stated_ttl(statement)),
+        too_large: None,
+        too_many: None,
+    }
+}
+
+/// Why the statement is refused, what is too large aside.
+pub(crate) fn row_refusal(table: &TableSchema, statement: &Statement) -> Option<Refusal>
+    ensures { result ≡ refusal_for (row_reasons table.now None statement.now) }
+{
+    row_reasons(table, statement).refusal()
+}

@@ -1,0 +1,3 @@
+pub mod TooLarge
+pub mod Refusals
+pub mod AtomsOf

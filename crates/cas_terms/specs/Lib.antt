@@ -1,0 +1,5 @@
+pub mod Names
+pub mod Columns
+pub mod Constants
+pub mod Terms
+pub mod Inner

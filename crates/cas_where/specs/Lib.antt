@@ -1,0 +1,5 @@
+pub mod KeyTerms
+pub mod Keys
+pub mod Where
+pub mod Slices
+pub mod Inner
