@@ -17,7 +17,7 @@ const INSERT: &str = "INSERT INTO t (k, c, v) VALUES (1, 1, 'a');\n";
 /// What a run came to: how it ended, what it wrote, and the numbers of its mutations (none where no
 /// line was run).
 #[derive(Drop)]
-struct Ran {
+struct Ended {
     status: u8,
     cause: Cause,
     output: Vec<u8>,
@@ -47,7 +47,7 @@ fn numbers_of(alloc: Global, pass: &Option<Pass>) -> Result<Option<Vec<u64>>, Fa
 }
 
 // Runs with the manual clock and one shard.
-fn ran<S: Source>(alloc: Global, source: &mut S, mut sink: MemSink) -> Result<Ran, Fail> {
+fn run_over<S: Source>(alloc: Global, source: &mut S, mut sink: MemSink) -> Result<Ended, Fail> {
     let words = words_of(alloc, "--clock manual --shards 1 d")?;
     let clock = ManualClock { reading: 7 };
     let Outcome {
@@ -61,7 +61,7 @@ fn ran<S: Source>(alloc: Global, source: &mut S, mut sink: MemSink) -> Result<Ra
     );
     let numbers = numbers_of(alloc, &pass)?;
     let output = sink.taken().to_vec(alloc)?;
-    Ok(Ran {
+    Ok(Ended {
         status,
         cause,
         output,
@@ -83,11 +83,12 @@ fn script(alloc: Global) -> Result<String, Fail> {
 fn a_run_ends_well_and_hands_back_its_mutations(rt: HostRuntime) -> Result<(), Fail> {
     let alloc = rt.alloc();
     let mut source = source_of(alloc, &script(alloc)?)?;
-    let ran = ran(alloc, &mut source, MemSink::new(alloc))?;
-    assert_eq!(rt; ran.cause, Cause::Good);
-    assert_eq!(rt; ran.output.as_slice(), b"ok\nok 1\nok 2\n".as_slice());
+    let ended = run_over(alloc, &mut source, MemSink::new(alloc))?;
+    assert_eq!(rt; ended.cause, Cause::Good);
+    assert_eq!(rt; ended.output.as_slice(), b"ok\nok 1\nok 2\n".as_slice());
     assert!(rt;
-        ran.numbers
+        ended
+            .numbers
             .is_some_and(|numbers| numbers.as_slice() == [1, 2].as_slice())
     );
     Ok(())
@@ -98,9 +99,9 @@ fn a_run_ends_well_and_hands_back_its_mutations(rt: HostRuntime) -> Result<(), F
 fn a_source_that_fails_is_not_run(rt: HostRuntime) -> Result<(), Fail> {
     let alloc = rt.alloc();
     let mut source = MemSource::with_plan(CREATE.as_bytes().to_vec(alloc)?, Some(10), 7);
-    let ran = ran(alloc, &mut source, MemSink::new(alloc))?;
-    assert_eq!(rt; (ran.status, ran.output.len()), (3, 0));
-    assert!(rt; ran.numbers.is_none());
+    let ended = run_over(alloc, &mut source, MemSink::new(alloc))?;
+    assert_eq!(rt; (ended.status, ended.output.len()), (3, 0));
+    assert!(rt; ended.numbers.is_none());
     Ok(())
 }
 
@@ -110,7 +111,7 @@ fn a_sink_that_fails_or_takes_nothing_ends_the_run(rt: HostRuntime) -> Result<()
     let alloc = rt.alloc();
     let script = script(alloc)?;
     let failing = MemSink::with_plan(alloc, vec![in alloc; 2]?, 9);
-    let failed = ran(alloc, &mut source_of(alloc, &script)?, failing)?;
+    let failed = run_over(alloc, &mut source_of(alloc, &script)?, failing)?;
     assert_eq!(rt; failed.status, 4);
     assert_eq!(rt; failed.output.as_slice(), b"ok\n".as_slice());
     assert!(rt;
@@ -119,7 +120,7 @@ fn a_sink_that_fails_or_takes_nothing_ends_the_run(rt: HostRuntime) -> Result<()
             .is_some_and(|numbers| numbers.as_slice() == [1].as_slice())
     );
     let stalling = MemSink::with_plan(alloc, Vec::new(alloc), 0);
-    let stalled = ran(alloc, &mut source_of(alloc, &script)?, stalling)?;
+    let stalled = run_over(alloc, &mut source_of(alloc, &script)?, stalling)?;
     assert_eq!(rt; (stalled.status, stalled.output.len()), (4, 0));
     Ok(())
 }
@@ -149,8 +150,8 @@ impl Source for Feeds {
 fn the_longest_script_of_empty_lines_is_run(rt: HostRuntime) -> Result<(), Fail> {
     let alloc = rt.alloc();
     let mut source = Feeds { left: SCRIPT_LIMIT };
-    let ran = ran(alloc, &mut source, MemSink::new(alloc))?;
-    assert_eq!(rt; (ran.status, ran.output.len()), (0, 0));
+    let ended = run_over(alloc, &mut source, MemSink::new(alloc))?;
+    assert_eq!(rt; (ended.status, ended.output.len()), (0, 0));
     Ok(())
 }
 
@@ -160,9 +161,9 @@ fn a_script_above_the_limit_is_not_run(rt: HostRuntime) -> Result<(), Fail> {
     let mut source = Feeds {
         left: SCRIPT_LIMIT + 1,
     };
-    let ran = ran(alloc, &mut source, MemSink::new(alloc))?;
-    assert_eq!(rt; ran.cause, Cause::TooLong { taken: 67_108_865 });
-    assert!(rt; ran.numbers.is_none());
+    let ended = run_over(alloc, &mut source, MemSink::new(alloc))?;
+    assert_eq!(rt; ended.cause, Cause::TooLong { taken: 67_108_865 });
+    assert!(rt; ended.numbers.is_none());
     Ok(())
 }
 
@@ -185,9 +186,9 @@ fn ten_thousand_statements_end(rt: HostRuntime) -> Result<(), Fail> {
     let alloc = rt.alloc();
     let mut script = String::from_str(alloc, CREATE)?;
     many_statements(&mut script, 10_000)?;
-    let ran = ran(alloc, &mut source_of(alloc, &script)?, MemSink::new(alloc))?;
-    assert_eq!(rt; ran.status, 0);
+    let ended = run_over(alloc, &mut source_of(alloc, &script)?, MemSink::new(alloc))?;
+    assert_eq!(rt; ended.status, 0);
     let last = b"\n0 | 9992 | 'a'\n-- 1200 rows, shard 0, front 9900, now 0\n".as_slice();
-    assert!(rt; ran.output.ends_with(last));
+    assert!(rt; ended.output.ends_with(last));
     Ok(())
 }
