@@ -1,5 +1,5 @@
 -- Tables stay as they are to be, and what is bound is within the limits.
-use Rattle.std.proofs.Common.{◌≡◌, ℕ, ℤ, ◌+◌, ◌%◌, ◌≤◌, ◌<◌, ◌≤ℤ◌, ◌&&◌, not, int_le, Bool, true, false, cond, List, [], ◌∷◌, ◌++◌, length, bytes_eq, Option, None, Some, IfSome, find, refl, sym, ap, subst, T, arith}
+use Rattle.std.proofs.Common.{◌≡◌, ℕ, ℤ, ◌+◌, ◌%◌, ◌≤◌, ◌<◌, ◌≤ℤ◌, ◌&&◌, not, int_le, Bool, true, false, cond, List, [], ◌∷◌, ◌++◌, length, bytes_eq, Option, None, Some, Result, Ok, Err, IfOk, IfSome, find, refl, sym, ap, subst, T, arith}
 use Rattle.std.specs.List.{AllByRecursion}
 use Rattle.std.specs.Int.Signed.{le_z_yes}
 use Rattle.std.proofs.lemmas.Nat.{mod_below}
@@ -12,13 +12,21 @@ use Rattle.cas_define.specs.declared.addition.Addition.{Addition}
 use Rattle.cql_parse.specs.declared.syntax.TableName.{TableName}
 use Rattle.cql_parse.specs.declared.syntax.Select.{Select}
 use Rattle.cql_parse.specs.declared.syntax.Statement.{Statement}
+use Rattle.cas_define.specs.Outcomes.{outcome, Binds}
+use Rattle.cas_effects.specs.Refusals.{refusal_for}
+use Rattle.cas_effects.specs.TooLarge.{write_too_large}
+use Rattle.cas_effects.specs.declared.refusal.BindFault.{BindFault}
+use Rattle.cas_effects.specs.declared.refusal.Refusal.{Refusal}
 use Rattle.cas_bind.specs.Changes.{bound_change}
+use Rattle.cas_bind.specs.Meaning.{change_means, select_means}
+use Rattle.cas_bind.specs.RowReasons.{row_reasons}
 use Rattle.cas_bind.specs.RowFaults.{is_outside}
 use Rattle.cas_bind.specs.Selects.{bound_select}
 use Rattle.cas_bind.specs.Statements.{uses_of, timestamp_in}
 use Rattle.cas_bind.specs.Tables.{AreTables, IsWithin, tables_after}
 use Rattle.cas_bind.specs.declared.bound.Bound.{Bound}
 use Rattle.cas_bind.specs.declared.bound.Bound.TheVariants as bound
+use Rattle.cas_bind.proofs.RowLemmas.{options_good}
 use Rattle.cas_bind.proofs.KeptTables.{HasFew, holds_of_number, narrow_with, numbered_with, numbered_after, narrow_after}
 
 -- ---- within the limits
@@ -35,14 +43,50 @@ in_range (Some n) e = le_z_yes (subst T (sym (first_holds (int_le LEAST_TIMESTAM
 below : (shards n : ℕ) → IsShardCount shards → n % shards < shards
 below shards n are = let some : 1 ≤ shards = are.0 in mod_below n shards (omega arith)
 
-pub change_within : (shards : ℕ) (t : TableSchema) (s : Statement) → IsShardCount shards → is_outside LEAST_TIMESTAMP GREATEST_TIMESTAMP (timestamp_in (uses_of s)) ≡ false
-    → IsWithin shards (bound.Write (bound_change shards t s))
-unfolding bound_change
-change_within shards t s are e = (below shards _ are, in_range (timestamp_in (uses_of s)) e)
+-- what is answered is what was not refused
+done : (o : Option Refusal) (b c : Bound) → outcome o b ≡ Ok c → (o ≡ None) × (b ≡ c)
+done None b c e = (refl, cc)
+done (Some r) b c e = cc
 
-pub select_within : (shards : ℕ) (t : TableSchema) (s : Select) → IsShardCount shards → IsNarrow t.columns → IsWithin shards (bound.Read (bound_select shards t s))
-unfolding bound_select
-select_within shards t s are narrow = (below shards _ are, narrow)
+module _ (shards : ℕ) (t : TableSchema) where
+  change_comes : (s : Statement) (b : Bound) → change_means shards t s ≡ Ok b
+      → (refusal_for (row_reasons t (write_too_large (bound_change shards t s)) s) ≡ None) × (bound.Write (bound_change shards t s) ≡ b)
+  unfolding change_means
+  change_comes s b e = done _ _ b e
+
+  select_comes : (s : Select) (b : Bound) → select_means shards t s ≡ Ok b → bound.Read (bound_select shards t s) ≡ b
+  unfolding select_means
+  select_comes s b e = (done _ _ b e).1
+
+  change_within : (s : Statement) (b : Bound) → IsShardCount shards → change_means shards t s ≡ Ok b → IsWithin shards b
+  unfolding bound_change row_reasons
+  change_within s b are e =
+      let is : (refusal_for (row_reasons t (write_too_large (bound_change shards t s)) s) ≡ None) × (bound.Write (bound_change shards t s) ≡ b) = change_comes s b e in
+      subst (IsWithin shards) is.1 (below shards _ are, in_range (timestamp_in (uses_of s)) (options_good (row_reasons t (write_too_large (bound_change shards t s)) s) is.0))
+
+  select_within : (s : Select) (b : Bound) → IsShardCount shards → IsNarrow t.columns → select_means shards t s ≡ Ok b → IsWithin shards b
+  unfolding bound_select
+  select_within s b are narrow e = subst (IsWithin shards) (select_comes s b e) (below shards _ are, narrow)
+
+  pub change_fits : (result : Result Bound BindFault) (s : Statement) → IsShardCount shards → Binds result (change_means shards t s) → IfOk result (λ b. IsWithin shards b)
+  change_fits (Ok b) s are e = change_within s b are e
+  change_fits (Err f) s are e = tt
+
+  pub select_fits : (result : Result Bound BindFault) (s : Select) → IsShardCount shards → IsNarrow t.columns → Binds result (select_means shards t s) → IfOk result (λ b. IsWithin shards b)
+  select_fits (Ok b) s are narrow e = select_within s b are narrow e
+  select_fits (Err f) s are narrow e = tt
+
+  pub change_keeps : (result : Result Bound BindFault) (tables : List TableSchema) (s : Statement) → AreTables tables → Binds result (change_means shards t s)
+      → IfOk result (λ b. AreTables (tables_after tables b))
+  unfolding tables_after
+  change_keeps (Ok b) tables s are e = subst (λ b. AreTables (tables_after tables b)) (change_comes s b e).1 are
+  change_keeps (Err f) tables s are e = tt
+
+  pub select_keeps : (result : Result Bound BindFault) (tables : List TableSchema) (s : Select) → AreTables tables → Binds result (select_means shards t s)
+      → IfOk result (λ b. AreTables (tables_after tables b))
+  unfolding tables_after
+  select_keeps (Ok b) tables s are e = subst (λ b. AreTables (tables_after tables b)) (select_comes s b e) are
+  select_keeps (Err f) tables s are e = tt
 
 -- ---- tables stay as they are to be
 
@@ -66,7 +110,7 @@ alter_keeps tables n t a are f its few =
     record {
       narrow = All-from_recursion HasFew _ (narrow_after a tables (recursion_from_All HasFew tables are.narrow)
           (subst (λ m. AllByRecursion (λ u. u.number ≡ m → IsNarrow (u.columns ++ a.columns)) tables) (sym its)
-            (holds_of_number (λ u. IsNarrow (u.columns ++ a.columns)) (λ t. bytes_eq t.name n.name) t few 0 tables are.numbered here)));
+          (holds_of_number (λ u. IsNarrow (u.columns ++ a.columns)) (λ t. bytes_eq t.name n.name) t few 0 tables are.numbered here)));
       numbered = numbered_after a 0 tables are.numbered;
     }
 

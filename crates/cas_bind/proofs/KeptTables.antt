@@ -3,7 +3,7 @@ use Rattle.std.proofs.Common.{◌≡◌, ℕ, ◌+◌, ◌≤◌, ◌<◌, ◌==
 use Rattle.std.specs.List.{AllByRecursion}
 use Rattle.cas_types.specs.declared.schema.TableSchema.{TableSchema}
 use Rattle.cas_types.specs.Limits.{IsNarrow}
-use Rattle.cas_bind.specs.Tables.{AreNumbered, with_added}
+use Rattle.cas_bind.specs.Tables.{AreInPlace, with_added}
 use Rattle.cas_define.specs.declared.addition.Addition.{Addition}
 
 abbrev pub HasFew : TableSchema → Type 0
@@ -23,7 +23,7 @@ module _ {X : Type 0} (P : X → Type 0) where
 -- ---- numbers
 
 -- the numbers of tables that are numbered from n on are n and more
-numbers_from : (n m : ℕ) (ts : List TableSchema) → m ≤ n → AreNumbered n ts → AllByRecursion (λ t. m ≤ t.number) ts
+numbers_from : (n m : ℕ) (ts : List TableSchema) → m ≤ n → AreInPlace n ts → AllByRecursion (λ t. m ≤ t.number) ts
 numbers_from n m [] below numbered = tt
 numbers_from n m (t ∷ ts) below numbered = (let is : t.number ≡ n = numbered.0 in omega arith, numbers_from (n + 1) m ts (omega arith) numbered.1)
 
@@ -33,7 +33,7 @@ module _ (P : TableSchema → Type 0) (test : TableSchema → Bool) (t : TableSc
   none_has m [] below above = tt
   none_has m (u ∷ us) below above = ((λ same. let over : m ≤ u.number = above.0 in absurd (omega arith)), none_has m us below above.1)
 
-  first_or_later : (n : ℕ) (u : TableSchema) (us : List TableSchema) → AreNumbered n (u ∷ us) → (o : Option TableSchema) (b : Bool)
+  first_or_later : (n : ℕ) (u : TableSchema) (us : List TableSchema) → AreInPlace n (u ∷ us) → (o : Option TableSchema) (b : Bool)
       → (o ≡ Some t → n + 1 ≤ t.number) → (o ≡ Some t → AllByRecursion (λ v. v.number ≡ t.number → P v) us)
       → cond b (Some u) o ≡ Some t → AllByRecursion (λ v. v.number ≡ t.number → P v) (u ∷ us)
   first_or_later n u us numbered o true above others e =
@@ -46,7 +46,7 @@ module _ (P : TableSchema → Type 0) (test : TableSchema → Bool) (t : TableSc
       let its : n + 1 ≤ t.number = above e in
       ((λ numbers. absurd (omega arith)), others e)
 
-  pub holds_of_number : (n : ℕ) (ts : List TableSchema) → AreNumbered n ts → find test ts ≡ Some t → AllByRecursion (λ u. u.number ≡ t.number → P u) ts
+  pub holds_of_number : (n : ℕ) (ts : List TableSchema) → AreInPlace n ts → find test ts ≡ Some t → AllByRecursion (λ u. u.number ≡ t.number → P u) ts
   holds_of_number n [] numbered e = tt
   holds_of_number n (u ∷ us) numbered e =
       first_or_later n u us numbered (find test us) (test u)
@@ -59,7 +59,7 @@ pub narrow_with : (ts : List TableSchema) (t : TableSchema) → AllByRecursion H
 narrow_with [] t narrow its = (its, tt)
 narrow_with (u ∷ us) t narrow its = (narrow.0, narrow_with us t narrow.1 its)
 
-pub numbered_with : (n : ℕ) (ts : List TableSchema) (t : TableSchema) → AreNumbered n ts → t.number ≡ n + length ts → AreNumbered n (ts ++ t ∷ [])
+pub numbered_with : (n : ℕ) (ts : List TableSchema) (t : TableSchema) → AreInPlace n ts → t.number ≡ n + length ts → AreInPlace n (ts ++ t ∷ [])
 numbered_with n [] t numbered its = (omega arith, tt)
 numbered_with n (u ∷ us) t numbered its = (numbered.0, numbered_with (n + 1) us t numbered.1 (omega arith))
 
@@ -70,7 +70,7 @@ module _ (a : Addition) where
   keeps_number true t = refl
   keeps_number false t = refl
 
-  pub numbered_after : (n : ℕ) (ts : List TableSchema) → AreNumbered n ts → AreNumbered n (map (with_added a) ts)
+  pub numbered_after : (n : ℕ) (ts : List TableSchema) → AreInPlace n ts → AreInPlace n (map (with_added a) ts)
   numbered_after n [] numbered = tt
   numbered_after n (t ∷ ts) numbered = (keeps_number (t.number == a.table) t ∙ numbered.0, numbered_after (n + 1) ts numbered.1)
 

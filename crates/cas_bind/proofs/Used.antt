@@ -60,6 +60,6 @@ module _ (p : List ℕ × Mention → Bool) where
   any_term s =
       list_any-append p (map (λ q. (q.0, changes q.1)) (changes_of s)) (map (λ r. (r.column, compares r.value)) (relations_of s) ++ map (λ k. (picked_name k, shows k)) (shown_by s))
       ∙ ap (λ b. list_any p (map (λ q. (q.0, changes q.1)) (changes_of s)) || b)
-        (list_any-append p (map (λ r. (r.column, compares r.value)) (relations_of s)) (map (λ k. (picked_name k, shows k)) (shown_by s)))
+      (list_any-append p (map (λ r. (r.column, compares r.value)) (relations_of s)) (map (λ k. (picked_name k, shows k)) (shown_by s)))
       ∙ (λ j. any_map p (λ q. (q.0, changes q.1)) (changes_of s) j
-        || (any_map p (λ r. (r.column, compares r.value)) (relations_of s) j || any_map p (λ k. (picked_name k, shows k)) (shown_by s) j))
+      || (any_map p (λ r. (r.column, compares r.value)) (relations_of s) j || any_map p (λ k. (picked_name k, shows k)) (shown_by s) j))

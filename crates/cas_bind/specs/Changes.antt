@@ -108,9 +108,9 @@ deletion_effect cs rs =
     else (let s : Slice = slice_of cs rs in effect.Range s.lo s.hi)
 
 -- a DELETE that names columns deletes no row
-abbrev pub deletion_of : List Target → Effect → List Effect
-deletion_of [] e = e ∷ []
-deletion_of (t ∷ ts) e = []
+abbrev pub deletion_effects : List Target → Effect → List Effect
+deletion_effects [] e = e ∷ []
+deletion_effects (t ∷ ts) e = []
 
 -- the row lives; the static row has no such mark
 abbrev pub live_effect : Bool → Clustering → List Effect
@@ -119,7 +119,7 @@ live_effect is_static row = if is_static then [] else effect.Live row ∷ []
 -- an INSERT writes that its row lives, unless it is of the static row; a DELETE without columns deletes rows
 unfoldable pub row_effects : List Column → Statement → List Effect
 row_effects cs (statement.Insert i) = live_effect (inserts_static cs i.columns) (clustered_row (key_terms_of (statement.Insert i)) cs)
-row_effects cs (statement.Delete d) = deletion_of d.targets (deletion_effect cs d.relations)
+row_effects cs (statement.Delete d) = deletion_effects d.targets (deletion_effect cs d.relations)
 row_effects cs _ = []
 
 -- what becomes of rows, then of each column in the order in which the statement changes them

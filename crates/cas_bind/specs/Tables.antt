@@ -20,14 +20,14 @@ tables_after ts (bound.Write w) = ts
 tables_after ts (bound.Read r) = ts
 
 -- each table's number is its place
-abbrev pub AreNumbered : ℕ → List TableSchema → Type 0
-AreNumbered n [] = ⊤
-AreNumbered n (t ∷ ts) = (t.number ≡ n) × AreNumbered (n + 1) ts
+abbrev pub AreInPlace : ℕ → List TableSchema → Type 0
+AreInPlace n [] = ⊤
+AreInPlace n (t ∷ ts) = (t.number ≡ n) × AreInPlace (n + 1) ts
 
 -- tables as CREATE TABLE and ALTER TABLE make them
 pub record AreTables (ts : List TableSchema) : Type 0 where
   pub narrow : All (λ t. IsNarrow t.columns) ts
-  pub numbered : AreNumbered 0 ts
+  pub numbered : AreInPlace 0 ts
 
 -- a write and a read are of one of the shards, a write's own timestamp is in its range, a read's table is narrow
 abbrev pub IsWithin : ℕ → Bound → Type 0

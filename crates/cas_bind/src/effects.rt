@@ -5,7 +5,7 @@ ghost use Rattle.std.specs.List.{flat_map, zip};
 ghost use Rattle.cas_types.specs.Limits.{IsNarrow};
 ghost use Rattle.cas_where.specs.Inner.Sources.{terms_of};
 ghost use Rattle.cas_bind.specs.Changes.{row_for, whole_effect, assigned_effect, deleted_effect, column_effect, change_effects};
-ghost use Rattle.cas_bind.specs.Changes.{clustered_row, deletion_effect, live_effect, deletion_of, row_effects, effects_of};
+ghost use Rattle.cas_bind.specs.Changes.{clustered_row, deletion_effect, live_effect, deletion_effects, row_effects, effects_of};
 ghost use Rattle.cas_bind.specs.Inner.Gives.{change_in};
 ghost use Rattle.cas_bind.specs.Statements.{assigns, deletes, inserted, key_terms_of, changes_of};
 
@@ -18,9 +18,7 @@ use cas_terms::{
     removed_elements, term_value, whole_elements,
 };
 use cas_types::{Column, List, Text};
-use cas_where::{
-    KeyTerms, is_clustering_fixed, is_clustering_free, prefix_values, slice_of,
-};
+use cas_where::{KeyTerms, is_clustering_fixed, is_clustering_free, prefix_values, slice_of};
 use cql_parse::{Assigned, Assignment, Constant, Relation, Statement, Target, Term};
 use std::alloc::{AllocError, Global};
 
@@ -217,7 +215,14 @@ fn push_assigned(
 {
     for assignment in assignments {
         let change = RowChange::Assign(&assignment.value);
-        push_change(alloc, columns, row, assignment.column.as_str(), change, effects)?;
+        push_change(
+            alloc,
+            columns,
+            row,
+            assignment.column.as_str(),
+            change,
+            effects,
+        )?;
     }
     Ok(())
 }
@@ -311,7 +316,7 @@ fn with_deletion(
     relations: &[Relation],
     effects: Vec<Effect>,
 ) -> Result<Vec<Effect>, AllocError>
-    ensures { IfOk result (λ v. v.items ≡ deletion_of targets.now (deletion_effect columns.now relations.now) ++ effects.items) }
+    ensures { IfOk result (λ v. v.items ≡ deletion_effects targets.now (deletion_effect columns.now relations.now) ++ effects.items) }
 {
     let mut effects = effects;
     match targets {

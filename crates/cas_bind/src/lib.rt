@@ -18,4 +18,3 @@ mod writes;
 
 pub use bound::{Bound, BoundRead, Limits};
 pub use meaning::bind;
-

@@ -1,6 +1,6 @@
 //! What a statement means to the tables that there are.
 
-ghost use Rattle.std.specs.Prelude.{◌≡◌, Some, IfOk};
+ghost use Rattle.std.specs.Prelude.{◌≡◌, ℕ, IfOk};
 ghost use Rattle.std.specs.List.{All};
 ghost use Rattle.std.specs.Option.{IfSome, option_copied};
 ghost use Rattle.cas_types.specs.Limits.{IsNarrow, IsShardCount};
@@ -32,7 +32,6 @@ fn narrow_table<'a>(tables: &'a [TableSchema], name: &TableName) -> Option<&'a T
     table_named(tables, name)
 }
 
-#[tactic(auto, using(crate::proofs::Kept::create_keeps))]
 fn create_table(
     alloc: Global,
     tables: &[TableSchema],
@@ -49,7 +48,6 @@ fn create_table(
     }
 }
 
-#[tactic(auto, using(crate::proofs::Kept::alter_keeps))]
 fn alter_table(
     alloc: Global,
     tables: &[TableSchema],
@@ -77,9 +75,9 @@ fn change_rows(
     statement: &Statement,
 ) -> Result<Bound, BindFault>
     requires shards { IsShardCount shards }
-    requires narrow { All (λ t. IsNarrow t.columns) tables.now }
+    requires tables { AreTables tables.now }
     ensures means { Binds result (of_table (table_named tables.now name.now) (λ t. change_means shards t statement.now)) }
-    ensures kept { IfOk result (λ b. tables_after tables.now b ≡ tables.now) }
+    ensures kept { IfOk result (λ b. AreTables (tables_after tables.now b)) }
     ensures within { IfOk result (λ b. IsWithin shards b) }
 {
     match narrow_table(tables, name) {
@@ -96,10 +94,10 @@ fn select_rows(
     select: &Select,
 ) -> Result<Bound, BindFault>
     requires shards { IsShardCount shards }
-    requires narrow { All (λ t. IsNarrow t.columns) tables.now }
+    requires tables { AreTables tables.now }
     requires select { statement.now ≡ statements.Select select.now }
     ensures means { Binds result (of_table (table_named tables.now select.now.table) (λ t. select_means shards t select.now)) }
-    ensures kept { IfOk result (λ b. tables_after tables.now b ≡ tables.now) }
+    ensures kept { IfOk result (λ b. AreTables (tables_after tables.now b)) }
     ensures within { IfOk result (λ b. IsWithin shards b) }
 {
     match narrow_table(tables, &select.table) {

@@ -136,7 +136,11 @@ fn reads_otherwise(columns: &[Column], select: &Select) -> bool
 fn restricts_rows(columns: &[Column], statement: &Statement) -> bool
     ensures { result ≡ restricts (extent_of columns.now statement.now) columns.now (relations_of statement.now) }
 {
-    restricts(extent_of(columns, statement), columns, relations_of(statement))
+    restricts(
+        extent_of(columns, statement),
+        columns,
+        relations_of(statement),
+    )
 }
 
 #[tactic(auto, unfolding(crate::specs::RowFaults::restricts_otherwise, crate::specs::Statements::relations_of, crate::specs::Changes::extent_of))]

@@ -142,19 +142,25 @@ fn assignment_is_unknown(columns: &[Column], assignment: &Assignment) -> bool
 fn assignments_unknown(columns: &[Column], assignments: &[Assignment]) -> bool
     ensures { result ≡ list_any (λ a. list_any (is_unknown columns.now) (assignment_names a)) assignments.now }
 {
-    assignments.iter().any(|a| assignment_is_unknown(columns, a))
+    assignments
+        .iter()
+        .any(|a| assignment_is_unknown(columns, a))
 }
 
 fn relations_unknown(columns: &[Column], relations: &[Relation]) -> bool
     ensures { result ≡ list_any (λ r. is_unknown columns.now r.column) relations.now }
 {
-    relations.iter().any(|r| is_unknown(columns, r.column.as_str()))
+    relations
+        .iter()
+        .any(|r| is_unknown(columns, r.column.as_str()))
 }
 
 fn targets_unknown(columns: &[Column], targets: &[Target]) -> bool
     ensures { result ≡ list_any (λ t. is_unknown columns.now t.column) targets.now }
 {
-    targets.iter().any(|t| is_unknown(columns, t.column.as_str()))
+    targets
+        .iter()
+        .any(|t| is_unknown(columns, t.column.as_str()))
 }
 
 fn picks_unknown(columns: &[Column], picks: &[Pick]) -> bool

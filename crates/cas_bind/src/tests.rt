@@ -55,7 +55,8 @@ fn tables(alloc: Global) -> Result<Vec<TableSchema>, Fail>
 {
     let t = "CREATE TABLE t (k int, c text, v text, PRIMARY KEY (k, c))";
     let d = "CREATE TABLE d (k text, c int, v int, PRIMARY KEY (k, c))";
-    let w = "CREATE TABLE w (k int, c int, s set<int>, l list<int>, m map<int, text>, p text STATIC, PRIMARY KEY (k, c))";
+    let w =
+        "CREATE TABLE w (k int, c int, s set<int>, l list<int>, m map<int, text>, p text STATIC, PRIMARY KEY (k, c))";
     let one = with_table(alloc, Vec::new(alloc), t)?;
     let two = with_table(alloc, one, d)?;
     with_table(alloc, two, w)
@@ -76,15 +77,24 @@ const CASES: [(&str, u8); 70] = [
     // of two reasons the earlier one is told
     ("INSERT INTO t (z, z) VALUES (1, 2)", 12),
     ("INSERT INTO t (z) VALUES (1)", 3),
-    ("INSERT INTO t (k, z) VALUES (1, 2) USING TIMESTAMP 9223372036854775807", 3),
-    ("INSERT INTO t (k, c) VALUES ('a', 'a') USING TIMESTAMP 9223372036854775807", 7),
+    (
+        "INSERT INTO t (k, z) VALUES (1, 2) USING TIMESTAMP 9223372036854775807",
+        3,
+    ),
+    (
+        "INSERT INTO t (k, c) VALUES ('a', 'a') USING TIMESTAMP 9223372036854775807",
+        7,
+    ),
     ("INSERT INTO d (k, c) VALUES ('', 'a')", 4),
     ("INSERT INTO d (k) VALUES ('')", 9),
     ("INSERT INTO d (k) VALUES ('a')", 5),
     ("UPDATE t SET k = 2 WHERE k = 1", 5),
     ("UPDATE t SET k = 2 WHERE k = 1 AND c = 'a'", 6),
     ("UPDATE t USING TTL -1 SET k = 2 WHERE k = 1 AND c = 'a'", 6),
-    ("UPDATE t USING TTL -1 SET v = 'a' WHERE k = 1 AND c = 'a'", 11),
+    (
+        "UPDATE t USING TTL -1 SET v = 'a' WHERE k = 1 AND c = 'a'",
+        11,
+    ),
     ("SELECT z FROM n WHERE k = 1", 2),
     ("SELECT z FROM t", 3),
     // names, types and shapes
@@ -135,18 +145,39 @@ const CASES: [(&str, u8); 70] = [
     // what is said twice
     ("INSERT INTO w (k, c, k) VALUES (1, 2, 1)", 12),
     ("INSERT INTO w (k, c) VALUES (1, 2, 3)", 12),
-    ("INSERT INTO w (k, c) VALUES (1, 2) USING TTL 1 AND TTL 1", 12),
+    (
+        "INSERT INTO w (k, c) VALUES (1, 2) USING TTL 1 AND TTL 1",
+        12,
+    ),
     ("UPDATE w SET p = 'a', p = 'b' WHERE k = 1", 12),
-    ("UPDATE w SET m[1] = 'a', m[1] = 'b' WHERE k = 1 AND c = 1", 12),
-    ("UPDATE w SET m[1] = 'a', m[2] = 'b' WHERE k = 1 AND c = 1", 0),
+    (
+        "UPDATE w SET m[1] = 'a', m[1] = 'b' WHERE k = 1 AND c = 1",
+        12,
+    ),
+    (
+        "UPDATE w SET m[1] = 'a', m[2] = 'b' WHERE k = 1 AND c = 1",
+        0,
+    ),
     ("UPDATE w SET m = {}, m[2] = 'b' WHERE k = 1 AND c = 1", 12),
-    ("UPDATE w SET z[1] = 'a', z[2] = 'b' WHERE k = 1 AND c = 1", 12),
+    (
+        "UPDATE w SET z[1] = 'a', z[2] = 'b' WHERE k = 1 AND c = 1",
+        12,
+    ),
     ("DELETE m[1], m[01] FROM w WHERE k = 1 AND c = 1", 12),
     ("DELETE m[1], m[3] FROM w WHERE k = 1 AND c = 1", 0),
     // numbers after USING
-    ("UPDATE w USING TIMESTAMP -9223372036854775805 SET p = 'a' WHERE k = 1", 0),
-    ("UPDATE w USING TIMESTAMP -9223372036854775806 SET p = 'a' WHERE k = 1", 7),
-    ("DELETE FROM w USING TIMESTAMP 9223372036854775806 WHERE k = 1", 0),
+    (
+        "UPDATE w USING TIMESTAMP -9223372036854775805 SET p = 'a' WHERE k = 1",
+        0,
+    ),
+    (
+        "UPDATE w USING TIMESTAMP -9223372036854775806 SET p = 'a' WHERE k = 1",
+        7,
+    ),
+    (
+        "DELETE FROM w USING TIMESTAMP 9223372036854775806 WHERE k = 1",
+        0,
+    ),
     ("UPDATE w USING TTL 630720000 SET p = 'a' WHERE k = 1", 0),
     ("UPDATE w USING TTL 630720001 SET p = 'a' WHERE k = 1", 11),
 ];

@@ -16,9 +16,7 @@ use crate::effects::RowChange;
 use crate::statements::{picked_name, relations_of, shown_by};
 use cas_terms::{assigned_fits, column_named, key_fits, same_name, stands_twice, term_fits};
 use cas_types::{Column, Text};
-use cql_parse::{
-    Assigned, Assignment, Constant, Pick, Relation, Statement, Target, Term,
-};
+use cql_parse::{Assigned, Assignment, Constant, Pick, Relation, Statement, Target, Term};
 
 // ---- what is of another type
 
@@ -92,26 +90,31 @@ fn relation_is_of_another_type(columns: &[Column], relation: &Relation) -> bool
 fn values_of_another_type(columns: &[Column], names: &[Text], terms: &[Term]) -> bool
     ensures { result ≡ list_any (λ p. is_of_another_type columns.now ((inserted p).0, changes (inserted p).1)) (zip names.now terms.now) }
 {
-    names
-        .iter()
-        .zip(terms.iter())
-        .any(|(n, t)| change_is_of_another_type(columns, n.as_str(), RowChange::Insert(t)))
+    names.iter().zip(terms.iter()).any(|(n, t)| change_is_of_another_type(
+        columns,
+        n.as_str(),
+        RowChange::Insert(t),
+    ))
 }
 
 fn assignments_of_another_type(columns: &[Column], assignments: &[Assignment]) -> bool
     ensures { result ≡ list_any (λ a. is_of_another_type columns.now (a.column, changes (assigns a.value))) assignments.now }
 {
-    assignments
-        .iter()
-        .any(|a| change_is_of_another_type(columns, a.column.as_str(), RowChange::Assign(&a.value)))
+    assignments.iter().any(|a| change_is_of_another_type(
+        columns,
+        a.column.as_str(),
+        RowChange::Assign(&a.value),
+    ))
 }
 
 fn targets_of_another_type(columns: &[Column], targets: &[Target]) -> bool
     ensures { result ≡ list_any (λ t. is_of_another_type columns.now (t.column, changes (deletes t.key))) targets.now }
 {
-    targets
-        .iter()
-        .any(|t| change_is_of_another_type(columns, t.column.as_str(), RowChange::Delete(&t.key)))
+    targets.iter().any(|t| change_is_of_another_type(
+        columns,
+        t.column.as_str(),
+        RowChange::Delete(&t.key),
+    ))
 }
 
 #[tactic(auto, using(crate::proofs::Used::any_map), unfolding(crate::specs::Statements::changes_of))]
@@ -135,7 +138,9 @@ fn changes_of_another_type(columns: &[Column], statement: &Statement) -> bool
 fn relations_of_another_type(columns: &[Column], relations: &[Relation]) -> bool
     ensures { result ≡ list_any (λ r. is_of_another_type columns.now (r.column, compares r.value)) relations.now }
 {
-    relations.iter().any(|r| relation_is_of_another_type(columns, r))
+    relations
+        .iter()
+        .any(|r| relation_is_of_another_type(columns, r))
 }
 
 fn picks_of_another_type(columns: &[Column], picks: &[Pick]) -> bool

@@ -249,11 +249,7 @@ fn sole_key(value: Bytes) -> Result<Bytes, BindFault>
 }
 
 // The key of one column.
-fn key_of_column(
-    alloc: Global,
-    terms: KeyTerms<'_>,
-    column: &Column,
-) -> Result<Bytes, BindFault>
+fn key_of_column(alloc: Global, terms: KeyTerms<'_>, column: &Column) -> Result<Bytes, BindFault>
     ensures { KeyGives result (key_of (filter_map (value_in (terms_of terms.entry)) (column.now ∷ []))) }
 {
     match value_in(alloc, terms, column)? {
