@@ -13,7 +13,7 @@ use Rattle.std.proofs.lemmas.Bool.{ne_eqb, and_parts}
 use Rattle.std.proofs.lemmas.Bool.Decides.{nat_tests}
 use Rattle.uuid.specs.Text.{parsed, parsed_hyphenated, parsed_simple, digits_of, has_hyphens}
 use Rattle.cql_lex.specs.Characters.{is_word, first_is}
-use Rattle.cql_lex.specs.Constants.{is_name, uuid_value, name_value}
+use Rattle.cql_lex.specs.Constants.{is_name, uuid_value}
 use Rattle.cql_lex.specs.Rules.{begins_uuid}
 
 pub is_text : (bs : List ℕ) → IsUtf8 bs → Some bs ≡ cond (is_utf8 bs) (Some bs) None

@@ -72,7 +72,10 @@ fn lines_have_their_tokens(rt: HostRuntime) -> Result<(), Fail> {
             "<= >= < > =",
             "Mark(AtMost) 0 2; Mark(AtLeast) 3 5; Mark(Less) 6 7; Mark(Greater) 8 9; Mark(Equals) 10 11; ",
         ),
-        ("<>==<", "Mark(Less) 0 1; Mark(AtLeast) 1 3; Mark(Equals) 3 4; Mark(Less) 4 5; "),
+        (
+            "<>==<",
+            "Mark(Less) 0 1; Mark(AtLeast) 1 3; Mark(Equals) 3 4; Mark(Less) 4 5; ",
+        ),
         (
             "()[]{}",
             "Mark(OpenParen) 0 1; Mark(CloseParen) 1 2; Mark(OpenBracket) 2 3; Mark(CloseBracket) 3 4; Mark(OpenBrace) 4 5; Mark(CloseBrace) 5 6; ",
@@ -333,7 +336,10 @@ fn brackets_at_great_depth(rt: HostRuntime) -> Result<(), Fail> {
     ];
     for (opening, closing, wanted) in cases {
         let line = brackets(rt.alloc(), opening, closing)?;
-        assert!(rt; inner_span(rt.alloc(), &line)? == wanted, "{opening} {closing}");
+        assert!(rt;
+            inner_span(rt.alloc(), &line)? == wanted,
+            "{opening} {closing}"
+        );
     }
     one_statement();
     Ok(())
