@@ -43,18 +43,12 @@ fn ordered_by(column: &Column) -> Option<Ordered>
 fn orders(alloc: Global, columns: &[Column]) -> Result<Vec<Ordered>, AllocError>
     ensures { IfOk result (λ v. v.items ≡ filter_map ordered_by columns.now) }
 {
-    columns
-        .iter()
-        .filter_map(|c| ordered_by(c))
-        .collect(alloc)
+    columns.iter().filter_map(|c| ordered_by(c)).collect(alloc)
 }
 
 /// How the table of these columns orders its rows.
 #[tactic(auto, unfolding(crate::specs::ClusteringOrder::clustering_order))]
-pub fn clustering_order(
-    alloc: Global,
-    columns: &[Column],
-) -> Result<List<Ordered>, AllocError>
+pub fn clustering_order(alloc: Global, columns: &[Column]) -> Result<List<Ordered>, AllocError>
     ensures { IfOk result (λ l. l ≡ clustering_order columns.now) }
 {
     Ok(List::from_vec(orders(alloc, columns)?))

@@ -1,4 +1,4 @@
-use Rattle.std.proofs.Common.{ap, ◌∙◌, to_z, of_z, w64}
+use Rattle.std.proofs.Common.{ap, ◌∙◌}
 use Rattle.cas_atoms.specs.Answers.{is_answered}
 use Rattle.cas_atoms.proofs.ListSteps.{filter_takes, filter_leaves}
 use Rattle.cas_atoms.proofs.answers.answered.Goals as goal
