@@ -94,7 +94,8 @@ fn push_numbers(
     numbers: &mut Vec<u16>,
 ) -> Result<(), AllocError>
     requires { number + length columns.now ≤ 65535 }
-    ensures { OnOk result (numbers.new.items ≡ numbers.old.items ++ map (λ p. p.0) (filter (λ p. is_of_part part p.1.kind) (enumerate_from number columns.now))) }
+    ensures { OnOk result (numbers.new.items ≡ numbers.old.items
+        ++ map (λ p. p.0) (filter (λ p. is_of_part part p.1.kind) (enumerate_from number columns.now))) }
 {
     match columns {
         [] => Ok(()),
