@@ -57,13 +57,7 @@ fn append_rows(alloc: Global, out: &mut Vec<u8>, rows: &[LiveRow]) -> Result<(),
 }
 
 #[tactic(auto, unfolding(crate::specs::Text::trailer))]
-fn append_trailer(
-    out: &mut Vec<u8>,
-    rows: u64,
-    shard: u8,
-    front: u64,
-    now: i64,
-) -> Result<(), Mem>
+fn append_trailer(out: &mut Vec<u8>, rows: u64, shard: u8, front: u64, now: i64) -> Result<(), Mem>
     ensures { OnOk result (out.new.items ≡ out.old.items ++ trailer rows shard front now) }
 {
     append(out, b"-- ")?;
