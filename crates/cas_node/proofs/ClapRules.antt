@@ -8,8 +8,8 @@ use Rattle.clap.specs.Simple.{App, Shape, built, new_shape}
 use Rattle.clap.proofs.OnLiterals.{clap_on_literals}
 use Rattle.clap.specs.declared.builder.action.ArgAction.TheVariants.{Set}
 use Rattle.clap.specs.declared.builder.value_parser.ValueParser.TheVariants as value_parser
-use Rattle.cas_node.specs.Words.{Text, name, option_named}
-use Rattle.cas_node.specs.Parser.{parser}
+use Rattle.cas_node.specs.Words.{Text, name, setting_named}
+use Rattle.cas_node.specs.Inner.Parser.{parser}
 use Rattle.cas_node.specs.declared.words.Setting.{Setting}
 use Rattle.cas_node.specs.declared.words.Setting.TheVariants as setting
 
@@ -98,7 +98,7 @@ found_rule false false false true e = refl
 found_rule false false false false true = refl
 found_rule false false false false false = refl
 
-pub by_long : (text : Text) → arg_by_long rules text ≡ option_map rule (option_named text)
+pub by_long : (text : Text) → arg_by_long rules text ≡ option_map rule (setting_named text)
 unfolding rules
 by_long text =
     let is = λ (s : Setting). bytes_eq (name s) text in

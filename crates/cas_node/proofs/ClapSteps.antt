@@ -12,7 +12,7 @@ use Rattle.clap.specs.Takes.{is_given}
 use Rattle.clap.specs.Kinds.{Kinds, check_kinds, or_else}
 use Rattle.clap.specs.Words.{Rule}
 use Rattle.clap.specs.declared.error.kind.ErrorKind.TheVariants as kind
-use Rattle.cas_node.specs.Words.{Text, has_minus, is_equals, name, option_named}
+use Rattle.cas_node.specs.Words.{Text, has_minus, is_equals, name, setting_named}
 use Rattle.cas_node.specs.declared.words.Setting.{Setting}
 use Rattle.cas_node.specs.declared.words.Setting.TheVariants as setting
 use Rattle.cas_node.proofs.ClapRules.{by_first_place, by_id, by_long, by_second_place, rule, rules, shape}
@@ -163,27 +163,27 @@ module _ (waiting : Waiting) (h : Held) (n : ℕ) (c : ℕ) (cs : Text) where
       rw leaf (ap₂ (λ (o : Option Rule) (v : Option Text). after_step rules word (at h waiting n) (met_by o v).0 (met_by o v).1) found text)
 
   module _ (leaf : subcommand_met [] waiting word ≡ None) where
-    pub unknown_turn : option_named (name_in (c ∷ cs)) ≡ None → is_without (turn h waiting n word) ≡ false
+    pub unknown_turn : setting_named (name_in (c ∷ cs)) ≡ None → is_without (turn h waiting n word) ≡ false
     unknown_turn none = ap is_without (long_turn None (text_in (c ∷ cs)) leaf (by_long (name_in (c ∷ cs)) ∙ ap (option_map rule) none) refl)
 
-    pub text_turn : (s : Setting) (text : Text) → option_named (name_in (c ∷ cs)) ≡ Some s → text_in (c ∷ cs) ≡ Some text
+    pub text_turn : (s : Setting) (text : Text) → setting_named (name_in (c ∷ cs)) ≡ Some s → text_in (c ∷ cs) ≡ Some text
         → is_without (turn h waiting n word) ≡ (is_without (settle_fault rules false h) && not (has_row (name s) (settled rules h).rows))
     text_turn s text named given =
         ap is_without (long_turn (Some (rule s)) (Some text) leaf (by_long (name_in (c ∷ cs)) ∙ ap (option_map rule) named) given)
         ∙ without_use (settle_fault rules false h) (use_fault false (rule s) (text ∷ []) (settled rules h).rows)
         ∙ ap (λ b. is_without (settle_fault rules false h) && b) (use_without s text (settled rules h).rows)
 
-    pub text_after : (s : Setting) (text : Text) → option_named (name_in (c ∷ cs)) ≡ Some s → text_in (c ∷ cs) ≡ Some text
+    pub text_after : (s : Setting) (text : Text) → setting_named (name_in (c ∷ cs)) ≡ Some s → text_in (c ∷ cs) ≡ Some text
         → after h waiting n word ≡ at (held (used (rule s) (text ∷ []) (settled rules h).rows) None h.skip) idle n
     text_after s text named given = long_after (Some (rule s)) (Some text) leaf (by_long (name_in (c ∷ cs)) ∙ ap (option_map rule) named) given
 
-    pub bare_turn : (s : Setting) → option_named (name_in (c ∷ cs)) ≡ Some s → text_in (c ∷ cs) ≡ None
+    pub bare_turn : (s : Setting) → setting_named (name_in (c ∷ cs)) ≡ Some s → text_in (c ∷ cs) ≡ None
         → is_without (turn h waiting n word) ≡ is_without (settle_fault rules false h)
     bare_turn s named given =
         ap is_without (long_turn (Some (rule s)) None leaf (by_long (name_in (c ∷ cs)) ∙ ap (option_map rule) named) given)
         ∙ without_more (settle_fault rules false h)
 
-    pub bare_after : (s : Setting) → option_named (name_in (c ∷ cs)) ≡ Some s → text_in (c ∷ cs) ≡ None
+    pub bare_after : (s : Setting) → setting_named (name_in (c ∷ cs)) ≡ Some s → text_in (c ∷ cs) ≡ None
         → after h waiting n word ≡ at (held (settled rules h).rows (Some (name s, [])) h.skip) (option (name s)) n
     bare_after s named given = long_after (Some (rule s)) None leaf (by_long (name_in (c ∷ cs)) ∙ ap (option_map rule) named) given
 

@@ -6,8 +6,11 @@ use Rattle.cas_bind.specs.declared.bound.Limits.{Limits}
 use Rattle.cas_node.specs.declared.words.Command.{Command}
 use Rattle.cas_node.specs.declared.words.Setting.{Setting}
 use Rattle.cas_node.specs.declared.words.Setting.TheVariants as setting
-use Rattle.cas_node.specs.Words.{Text, given, is_once, command_of, command_in, limits_in, number_or, is_numeral, in_range, folder_in, clock_or, text_for}
-use Rattle.cas_node.specs.Sound.{IsCommand}
+use Rattle.cas_node.specs.Words.{Text, arguments, is_once, command_of, command_in, limits_in, number_or, is_numeral, number_between, folder_in, clock_or, text_for}
+use Rattle.cas_node.specs.Inner.Sound.{IsCommand}
+use Rattle.cas_types.specs.declared.limits.TheConstants.{SHARD_LIMIT}
+use Rattle.cas_node.specs.declared.words.TheConstants.{SHARDS_USUAL, SEGMENT_LEAST, SEGMENT_LIMIT, MEMTABLE_LEAST, MEMTABLE_LIMIT, MEMTABLE_USUAL}
+use Rattle.cas_node.specs.declared.words.TheConstants.{COMPACTOR_LIMIT, COMPACTORS_USUAL}
 
 -- what is given by two steps is given by the first
 then_some : {X Y : Type 0} (f : X → Option Y) (o : Option X) (y : Y) → option_and_then f o ≡ Some y → (x : X) × (o ≡ Some x) × (f x ≡ Some y)
@@ -18,10 +21,10 @@ map_some : {X Y : Type 0} (f : X → Y) (o : Option X) (y : Y) → option_map f 
 map_some f None y e = cc
 map_some f (Some x) y e = (x, refl, e)
 
-range_is : (least most n m : ℕ) → in_range least most n ≡ Some m → (least ≤ m) × (m ≤ most)
+range_is : (least most n m : ℕ) → number_between least most n ≡ Some m → (least ≤ m) × (m ≤ most)
 range_is least most n m e = grind (arith, nat_tests, e)
 
-numeral_is : (b : Bool) (least most n m : ℕ) → (if b then in_range least most n else None) ≡ Some m → (least ≤ m) × (m ≤ most)
+numeral_is : (b : Bool) (least most n m : ℕ) → (if b then number_between least most n else None) ≡ Some m → (least ≤ m) × (m ≤ most)
 numeral_is true least most n m e = range_is least most n m e
 numeral_is false least most n m e = cc
 
@@ -29,13 +32,13 @@ number_is : (least most default : ℕ) (o : Option Text) (m : ℕ) → least ≤
 number_is least most default None m a b e = grind (arith, e)
 number_is least most default (Some t) m a b e = numeral_is (is_numeral t) least most _ m e
 
-limits_are : (text : Setting → Option Text) (l : Limits) → limits_in text ≡ Some l → (1 ≤ l.shards) × (l.shards ≤ 16)
+limits_are : (text : Setting → Option Text) (l : Limits) → limits_in text ≡ Some l → (1 ≤ l.shards) × (l.shards ≤ SHARD_LIMIT)
 limits_are text l e =
-    let s = then_some _ (number_or 1 16 4 (text setting.Shards)) l e in
-    let g = then_some _ (number_or 4096 33554432 33554432 (text setting.Segment)) l s.2 in
-    let m = then_some _ (number_or 4096 1073741824 4194304 (text setting.Memtable)) l g.2 in
-    let c = map_some _ (number_or 0 4 1 (text setting.Compactors)) l m.2 in
-    let n = number_is 1 16 4 (text setting.Shards) s.0 (omega arith) (omega arith) s.1 in
+    let s = then_some _ (number_or 1 SHARD_LIMIT SHARDS_USUAL (text setting.Shards)) l e in
+    let g = then_some _ (number_or SEGMENT_LEAST SEGMENT_LIMIT SEGMENT_LIMIT (text setting.Segment)) l s.2 in
+    let m = then_some _ (number_or MEMTABLE_LEAST MEMTABLE_LIMIT MEMTABLE_USUAL (text setting.Memtable)) l g.2 in
+    let c = map_some _ (number_or 0 COMPACTOR_LIMIT COMPACTORS_USUAL (text setting.Compactors)) l m.2 in
+    let n = number_is 1 SHARD_LIMIT SHARDS_USUAL (text setting.Shards) s.0 (omega arith) (omega arith) s.1 in
     grind (arith, n, c.2)
 
 commands_are : (text : Setting → Option Text) (c : Command) → command_in text ≡ Some c → IsCommand c
@@ -44,7 +47,7 @@ commands_are text c e =
     let k = then_some _ (clock_or (text setting.Clock)) c l.2 in
     let f = map_some _ (folder_in (text setting.Folder)) c k.2 in
     let n = limits_are text l.0 l.1 in
-    record { some = grind (arith, n, f.2); few = grind (arith, n, f.2) }
+    (grind (arith, n, f.2), grind (arith, n, f.2))
 
 once_is : (b : Bool) (o : Option Command) (c : Command) → (if b then o else None) ≡ Some c → o ≡ Some c
 once_is true o c e = e
@@ -53,7 +56,7 @@ once_is false o c e = cc
 pub command_is : (words : List Text) (c : Command) → command_of words ≡ Some c → IsCommand c
 unfolding command_of
 command_is words c e =
-    let g = then_some _ (given words None) c e in
+    let g = then_some _ (arguments words None) c e in
     commands_are (text_for g.0) c (once_is (is_once g.0) (command_in (text_for g.0)) c g.2)
 
 pub each_command : (words : List Text) (o : Option Command) → o ≡ command_of words → IfSome o IsCommand

@@ -7,7 +7,7 @@ use Rattle.std.specs.List.{list_all}
 use Rattle.std.proofs.lemmas.Bool.{cases_lt, false≢true}
 use Rattle.std.proofs.lemmas.Bool.Decides.{nat_tests}
 use Rattle.std.proofs.lemmas.Str.Parse.{IsNumeralModel, numerals_by_value, parse_digits}
-use Rattle.cas_node.specs.Words.{in_range, is_numeral, number_in}
+use Rattle.cas_node.specs.Words.{number_between, is_numeral, number_in}
 
 digits_model : IsNumeralModel (λ ds. list_all is_ascii_digit ds ≡ true) (digits_value 10)
 digits_model = numerals_by_value _ (search rules)
@@ -25,7 +25,7 @@ numeral_some : (bs : List ℕ) → is_numeral bs ≡ true → 0 < length bs
 numeral_some [] e = absurd (false≢true e)
 numeral_some (a ∷ bs) e = omega arith
 
-beyond : (least most n : ℕ) → most < n → None ≡ in_range least most n
+beyond : (least most n : ℕ) → most < n → None ≡ number_between least most n
 beyond least most n h = grind (arith, nat_tests)
 
 -- a numeral that isn't read lies beyond each range

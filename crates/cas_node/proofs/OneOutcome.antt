@@ -5,7 +5,7 @@ use Rattle.std.specs.List.{list_any}
 use Rattle.std.proofs.lemmas.Bool.{true≢false, or_parts}
 use Rattle.cas_bind.specs.declared.bound.Bound.{Bound}
 use Rattle.cas_bind.specs.declared.bound.Bound.TheVariants as bound
-use Rattle.cas_bind.specs.declared.refusal.Refusal.{Refusal}
+use Rattle.cas_effects.specs.declared.refusal.Refusal.{Refusal}
 use Rattle.cas_bind.specs.Meaning.{meaning}
 use Rattle.cas_render.specs.declared.reply.Reply.{Reply}
 use Rattle.cas_node.specs.declared.line.Line.{Line}

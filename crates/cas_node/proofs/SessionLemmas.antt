@@ -10,7 +10,7 @@ use Rattle.std.specs.Io.KnownBytes.{Appends}
 use Rattle.std.proofs.KnownBytes.{Appends-trans, Appends-nil}
 use Rattle.std.proofs.lemmas.List.{flat_map_more}
 use Rattle.std.proofs.lemmas.List.Folds.{list_any-append}
-use Rattle.cas_io.specs.Told.{AppendsFront}
+use Rattle.cas_io.specs.Streams.{AppendsFront}
 use Rattle.cas_render.specs.declared.reply.Reply.{Reply}
 use Rattle.cas_node.specs.declared.cause.Cause.{Cause}
 use Rattle.cas_node.specs.declared.cause.Cause.TheVariants as cause
@@ -18,7 +18,7 @@ use Rattle.cas_node.specs.declared.words.Command.{Command}
 use Rattle.cas_node.specs.History.{History, start, Answers, Runs, is_starved}
 use Rattle.cas_node.specs.Text.{output, line_text}
 use Rattle.cas_node.specs.Ran.{Ran, Whole, Ended, is_refused}
-use Rattle.cas_node.specs.Turns.{Turned, EndsEarly, EndsWhole}
+use Rattle.cas_node.specs.Inner.Turns.{Turned, EndsEarly, EndsWhole}
 
 output-push : (rs : List (Option Reply)) (r : Option Reply) → output rs ++ line_text r ≡ output (rs ++ r ∷ [])
 output-push rs r = flat_map_more line_text [] rs r

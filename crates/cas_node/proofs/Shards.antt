@@ -1,5 +1,5 @@
 -- What a shard is like after a write and after a SELECT.
-use Rattle.std.proofs.Common.{◌≡◌, ◌≤◌, ◌+◌, ◌^◌, ◌/◌, ℕ, ℤ, pos, negsuc, ◌≤ℤ◌, Bool, true, false, List, [], ◌∷◌, ◌++◌, length, Option, None, Some, refl, sym, ap, ◌∙◌, subst, arith, length-append}
+use Rattle.std.proofs.Common.{◌≡◌, ◌≤◌, ◌+◌, ◌/◌, ℕ, ℤ, pos, negsuc, ◌≤ℤ◌, Bool, true, false, List, [], ◌∷◌, ◌++◌, length, Option, None, Some, refl, sym, ap, ◌∙◌, subst, arith, length-append}
 use Rattle.std.proofs.lemmas.Int.{ints}
 use Rattle.std.proofs.lemmas.List.{reverse-append}
 use Rattle.std.proofs.lemmas.Bool.{ltb-false}
@@ -7,11 +7,14 @@ use Rattle.std.specs.Prelude.{if◌then◌else◌, reverse, ◌&&◌, ◌||◌, 
 use Rattle.std.specs.List.{find}
 use Rattle.cas_atoms.specs.declared.atom.Mutation.{Mutation}
 use Rattle.cas_atoms.specs.LogLength.{record_length}
-use Rattle.cas_bind.specs.declared.bound.BoundWrite.{BoundWrite}
-use Rattle.cas_bind.specs.AtomsOf.{mutation_of}
+use Rattle.cas_effects.specs.declared.effect.BoundWrite.{BoundWrite}
+use Rattle.cas_effects.specs.AtomsOf.{mutation_of}
+use Rattle.cas_effects.specs.declared.refusal.TheConstants.{TOO_LARGE, TOO_MANY}
 use Rattle.cas_node.specs.declared.shard.ShardHistory.{ShardHistory}
+use Rattle.cas_node.specs.declared.shard.TheConstants.{LAST_DRAWN, MUTATION_LIMIT}
 use Rattle.cas_node.specs.History.{shard_after, write_reply, mutation_at, take_refusal, tells_want, wrote_unless, taken_unless, moved, moment_at, next_number, last_drawn}
-use Rattle.cas_node.specs.Sound.{IsShard, IsTime, IsMoment}
+use Rattle.cas_types.specs.Limits.{IsMoment}
+use Rattle.cas_node.specs.Inner.Sound.{IsShard, IsTime}
 
 answered : (o : Option ℕ) (n : ℕ) → tells_want (wrote_unless o n) ≡ false
 answered None n = refl
@@ -56,29 +59,29 @@ neither : (a b : Bool) → (a || b) ≡ false → (a ≡ false) × (b ≡ false)
 neither true b e = cc
 neither false b e = (refl, e)
 
-low_either : (b : Bool) (at : ℤ) → (b && int_lt (pos (2 ^ 62)) at) ≡ false → (last : ℤ) → last ≤ℤ pos (2 ^ 62) → (if b then at else last) ≤ℤ pos (2 ^ 62)
+low_either : (b : Bool) (at : ℤ) → (b && int_lt (LAST_DRAWN) at) ≡ false → (last : ℤ) → last ≤ℤ LAST_DRAWN → (if b then at else last) ≤ℤ LAST_DRAWN
 low_either true at e last h = grind (arith, ints, e)
 low_either false at e last h = h
 
-is_low : (m : Mutation) → (m.drawn && int_lt (pos (2 ^ 62)) m.at) ≡ false → (last : ℤ) → last ≤ℤ pos (2 ^ 62) → (if m.drawn then m.at else last) ≤ℤ pos (2 ^ 62)
+is_low : (m : Mutation) → (m.drawn && int_lt (LAST_DRAWN) m.at) ≡ false → (last : ℤ) → last ≤ℤ LAST_DRAWN → (if m.drawn then m.at else last) ≤ℤ LAST_DRAWN
 is_low m e last h = low_either m.drawn m.at e last h
 
-few_and_low : (segment : ℕ) (m : Mutation) → take_refusal segment m ≡ None → (m.number ≤ 2 ^ 60) × ((last : ℤ) → last ≤ℤ pos (2 ^ 62) → (if m.drawn then m.at else last) ≤ℤ pos (2 ^ 62))
+few_and_low : (segment : ℕ) (m : Mutation) → take_refusal segment m ≡ None → (m.number ≤ MUTATION_LIMIT) × ((last : ℤ) → last ≤ℤ LAST_DRAWN → (if m.drawn then m.at else last) ≤ℤ LAST_DRAWN)
 unfolding take_refusal
 few_and_low segment m e =
-    let both = neither (nat_lt (2 ^ 60) m.number) (m.drawn && int_lt (pos (2 ^ 62)) m.at) (second_false (nat_lt (segment / 2) (record_length m)) _ 10 14 e) in
-    (ltb-false (2 ^ 60) m.number both.0, is_low m both.1)
+    let both = neither (nat_lt (MUTATION_LIMIT) m.number) (m.drawn && int_lt (LAST_DRAWN) m.at) (second_false (nat_lt (segment / 2) (record_length m)) _ TOO_LARGE TOO_MANY e) in
+    (ltb-false (MUTATION_LIMIT) m.number both.0, is_low m both.1)
 
 number_is : (reading : ℤ) (s : ShardHistory) (w : BoundWrite) → (mutation_at reading s w).number ≡ length s.entries + 1
 unfolding mutation_at mutation_of
 number_is reading s w = refl
 
 taken_sound : (o : Option ℕ) (reading : ℤ) (s : ShardHistory) (m : Mutation) → IsTime reading → IsShard s → m.number ≡ length s.entries + 1
-    → (o ≡ None → (m.number ≤ 2 ^ 60) × ((last : ℤ) → last ≤ℤ pos (2 ^ 62) → (if m.drawn then m.at else last) ≤ℤ pos (2 ^ 62))) → IsShard (taken_unless o reading s m)
+    → (o ≡ None → (m.number ≤ MUTATION_LIMIT) × ((last : ℤ) → last ≤ℤ LAST_DRAWN → (if m.drawn then m.at else last) ≤ℤ LAST_DRAWN)) → IsShard (taken_unless o reading s m)
 taken_sound None reading s m t i n h = record {
   few = omega (arith, length-append s.entries (m ∷ []), n, (h refl).0);
   moment = moment_is reading s t i.moment;
-  drawn = subst (λ z. z ≤ℤ pos (2 ^ 62)) (sym (last_drawn_more s.entries m)) ((h refl).1 (last_drawn s.entries) i.drawn);
+  drawn = subst (λ z. z ≤ℤ LAST_DRAWN) (sym (last_drawn_more s.entries m)) ((h refl).1 (last_drawn s.entries) i.drawn);
 }
 taken_sound (Some r) reading s m t i n h = moved_sound reading s t i
 

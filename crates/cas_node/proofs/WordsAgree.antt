@@ -8,8 +8,8 @@ use Rattle.std.proofs.lemmas.Bool.{and_left, cases_Bool, or_parts, or_right, tru
 use Rattle.clap.specs.Walk.{Held, Row, Waiting, Walk, has_row, idle, option, settled, subcommand_met, used, walked}
 use Rattle.clap.specs.Faults.{settle_fault, turn_fault}
 use Rattle.clap.specs.Takes.{is_given}
-use Rattle.cas_node.specs.Words.{Given, Text, given, has_minus, is_for, is_once, name, option_named, option_read, with}
-use Rattle.cas_node.specs.Parser.{is_stray}
+use Rattle.cas_node.specs.Words.{Argument, Text, arguments, has_minus, is_for, is_once, name, setting_named, option_read, with_argument}
+use Rattle.cas_node.specs.Inner.Parser.{is_stray}
 use Rattle.cas_node.specs.declared.words.Setting.{Setting}
 use Rattle.cas_node.specs.declared.words.Setting.TheVariants as setting
 use Rattle.cas_node.proofs.ClapRules.{rule, rules, shape}
@@ -17,17 +17,17 @@ use Rattle.cas_node.proofs.ClapSteps.{at, bare_after, bare_turn, empty_refused, 
 use Rattle.cas_node.proofs.GivenRows.{given_once, given_twice, has, has_more, has_row-rows, is_given-rows, rows, used-rows}
 
 -- the rows of what is given, where nothing is twice and FOLDER is there
-abbrev pub judged : List Given → Option (List Row)
+abbrev pub judged : List Argument → Option (List Row)
 judged gs = cond (is_once gs && has setting.Folder gs) (Some (rows gs)) None
 
-abbrev pub ours : List Given → Option (List Given) → Option (List Row)
+abbrev pub ours : List Argument → Option (List Argument) → Option (List Row)
 ours seen more = option_and_then (λ gs. judged (seen ++ gs)) more
 
-ours_with : (seen : List Given) (g : Given) (o : Option (List Given)) → ours seen (with g o) ≡ ours (seen ++ g ∷ []) o
+ours_with : (seen : List Argument) (g : Argument) (o : Option (List Argument)) → ours seen (with_argument g o) ≡ ours (seen ++ g ∷ []) o
 ours_with seen g None = refl
 ours_with seen g (Some gs) = ap judged (sym (append_assoc seen (g ∷ []) gs))
 
-ours_twice : (seen : List Given) (g : Given) (o : Option (List Given)) → has g.0 seen ≡ true → ours seen (with g o) ≡ None
+ours_twice : (seen : List Argument) (g : Argument) (o : Option (List Argument)) → has g.0 seen ≡ true → ours seen (with_argument g o) ≡ None
 ours_twice seen g None twice = refl
 ours_twice seen g (Some gs) twice = rw (given_twice g seen gs twice) refl
 
@@ -65,9 +65,9 @@ goes w word words good = reads_more w word words ∙ ap (λ b. cond b (reads (wa
 
 long_refused : (waiting : Waiting) (h : Held) (n c : ℕ) (cs : Text) → subcommand_met [] waiting (45 ∷ 45 ∷ c ∷ cs) ≡ None → is_without (settle_fault rules false h) ≡ false
     → is_without (turn h waiting n (45 ∷ 45 ∷ c ∷ cs)) ≡ false
-long_refused waiting h n c cs leaf bad = go (option_named (name_in (c ∷ cs))) (text_in (c ∷ cs)) refl refl
+long_refused waiting h n c cs leaf bad = go (setting_named (name_in (c ∷ cs))) (text_in (c ∷ cs)) refl refl
   where
-    go : (o : Option Setting) (v : Option Text) → option_named (name_in (c ∷ cs)) ≡ o → text_in (c ∷ cs) ≡ v → is_without (turn h waiting n (45 ∷ 45 ∷ c ∷ cs)) ≡ false
+    go : (o : Option Setting) (v : Option Text) → setting_named (name_in (c ∷ cs)) ≡ o → text_in (c ∷ cs) ≡ v → is_without (turn h waiting n (45 ∷ 45 ∷ c ∷ cs)) ≡ false
     go None v e f = unknown_turn waiting h n c cs leaf e
     go (Some s) (Some text) e f = text_turn waiting h n c cs leaf s text e f ∙ and_left _ _ bad
     go (Some s) None e f = bare_turn waiting h n c cs leaf s e f ∙ bad
@@ -90,22 +90,22 @@ refused_there h there (word ∷ words) e bad = nothing (at h idle (place_after t
 
 -- ---- the agreement
 
-abbrev place : List Given → ℕ
+abbrev place : List Argument → ℕ
 place seen = place_after (has setting.Folder seen)
 
 pub record Agree (words : List Text) : Type 0 where
-  pub in_turn : (h : Held) (seen : List Given) → is_without (settle_fault rules false h) ≡ true → (settled rules h).rows ≡ rows seen → is_once seen ≡ true
-      → reads (at h idle (place seen)) words ≡ ours seen (given words None)
-  pub waiting : (s : Setting) (rs : List Row) (skip : ℕ) (seen : List Given) → rs ≡ rows seen → is_for setting.Folder (s, []) ≡ false → is_once seen ≡ true
-      → reads (at (held rs (Some (name s, [])) skip) (option (name s)) (place seen)) words ≡ ours seen (given words (Some s))
+  pub in_turn : (h : Held) (seen : List Argument) → is_without (settle_fault rules false h) ≡ true → (settled rules h).rows ≡ rows seen → is_once seen ≡ true
+      → reads (at h idle (place seen)) words ≡ ours seen (arguments words None)
+  pub waiting : (s : Setting) (rs : List Row) (skip : ℕ) (seen : List Argument) → rs ≡ rows seen → is_for setting.Folder (s, []) ≡ false → is_once seen ≡ true
+      → reads (at (held rs (Some (name s, [])) skip) (option (name s)) (place seen)) words ≡ ours seen (arguments words (Some s))
 
 -- a text was just given, and isn't yet a row
-given_on : (words : List Text) → list_any is_stray words ≡ false → Agree words → (s : Setting) (text : Text) (rs : List Row) (skip : ℕ) (seen : List Given) → rs ≡ rows seen → is_once seen ≡ true
-    → reads (at (held rs (Some (name s, text ∷ [])) skip) idle (place (seen ++ (s, text) ∷ []))) words ≡ ours seen (with (s, text) (given words None))
+given_on : (words : List Text) → list_any is_stray words ≡ false → Agree words → (s : Setting) (text : Text) (rs : List Row) (skip : ℕ) (seen : List Argument) → rs ≡ rows seen → is_once seen ≡ true
+    → reads (at (held rs (Some (name s, text ∷ [])) skip) idle (place (seen ++ (s, text) ∷ []))) words ≡ ours seen (with_argument (s, text) (arguments words None))
 given_on words e agree s text rs skip seen are once = elim (cases_Bool (has s seen)) [
-  | inl twice ↦ refused_there h (has setting.Folder (seen ++ (s, text) ∷ [])) words e (settled_without s text rs skip ∙ ap not (had ∙ twice)) ∙ sym (ours_twice seen (s, text) (given words None) twice)
+  | inl twice ↦ refused_there h (has setting.Folder (seen ++ (s, text) ∷ [])) words e (settled_without s text rs skip ∙ ap not (had ∙ twice)) ∙ sym (ours_twice seen (s, text) (arguments words None) twice)
   | inr first ↦ agree.in_turn h (seen ++ (s, text) ∷ []) (settled_without s text rs skip ∙ ap not (had ∙ first)) (settled_is s text rs ∙ ap (used (rule s) (text ∷ [])) are ∙ used-rows s text seen first) (given_once (s, text) seen once first)
-      ∙ sym (ours_with seen (s, text) (given words None))
+      ∙ sym (ours_with seen (s, text) (arguments words None))
 ]
   where
     h : Held
@@ -115,7 +115,7 @@ given_on words e agree s text rs skip seen are once = elim (cases_Bool (has s se
     had = ap (has_row (name s)) are ∙ has_row-rows s seen
 
 -- an option isn't FOLDER
-named_is_option : (text : Text) (s : Setting) → option_named text ≡ Some s → is_for setting.Folder (s, []) ≡ false
+named_is_option : (text : Text) (s : Setting) → setting_named text ≡ Some s → is_for setting.Folder (s, []) ≡ false
 named_is_option text s named =
     let is = λ (x : Setting). bytes_eq (name x) text in
     sym (ap (λ (o : Option Setting). option_map_or (λ x. is_for setting.Folder (x, [])) o false) named)
@@ -130,82 +130,82 @@ named_is_option text s named =
     no_folder false false false false true = refl
     no_folder false false false false false = refl
 
-same_place : (seen : List Given) (s : Setting) (text : Text) → is_for setting.Folder (s, []) ≡ false → place seen ≡ place (seen ++ (s, text) ∷ [])
+same_place : (seen : List Argument) (s : Setting) (text : Text) → is_for setting.Folder (s, []) ≡ false → place seen ≡ place (seen ++ (s, text) ∷ [])
 same_place seen s text other = ap place_after (sym (has_more setting.Folder seen (s, text) ∙ ap (λ b. has setting.Folder seen || (b || false)) other ∙ go (has setting.Folder seen)))
   where
     go : (b : Bool) → (b || false) ≡ b
     go true = refl
     go false = refl
 
-folder_place : (seen : List Given) (text : Text) → 2 ≡ place (seen ++ (setting.Folder, text) ∷ [])
+folder_place : (seen : List Argument) (text : Text) → 2 ≡ place (seen ++ (setting.Folder, text) ∷ [])
 folder_place seen text = ap place_after (sym (has_more setting.Folder seen (setting.Folder, text) ∙ or_right (has setting.Folder seen) true refl))
 
-given_plain : (word : Text) (words : List Text) → has_minus word ≡ false → given (word ∷ words) None ≡ with (setting.Folder, word) (given words None)
-unfolding given
+given_plain : (word : Text) (words : List Text) → has_minus word ≡ false → arguments (word ∷ words) None ≡ with_argument (setting.Folder, word) (arguments words None)
+unfolding arguments
 given_plain word words minus = rw minus refl
 
-given_value : (s : Setting) (word : Text) (words : List Text) → has_minus word ≡ false → given (word ∷ words) (Some s) ≡ with (s, word) (given words None)
-unfolding given
+given_value : (s : Setting) (word : Text) (words : List Text) → has_minus word ≡ false → arguments (word ∷ words) (Some s) ≡ with_argument (s, word) (arguments words None)
+unfolding arguments
 given_value s word words minus = rw minus refl
 
-given_long : (c : ℕ) (cs : Text) (words : List Text) (o : Option Setting) (v : Option Text) → option_named (name_in (c ∷ cs)) ≡ o → text_in (c ∷ cs) ≡ v
-    → given ((45 ∷ 45 ∷ c ∷ cs) ∷ words) None ≡ option_read (option_map (λ s. (s, v)) o) (given words)
-unfolding given
-given_long c cs words o v named text = ap₂ (λ (o : Option Setting) (v : Option Text). option_read (option_map (λ s. (s, v)) o) (given words)) named text
+given_long : (c : ℕ) (cs : Text) (words : List Text) (o : Option Setting) (v : Option Text) → setting_named (name_in (c ∷ cs)) ≡ o → text_in (c ∷ cs) ≡ v
+    → arguments ((45 ∷ 45 ∷ c ∷ cs) ∷ words) None ≡ option_read (option_map (λ s. (s, v)) o) (arguments words)
+unfolding arguments
+given_long c cs words o v named text = ap₂ (λ (o : Option Setting) (v : Option Text). option_read (option_map (λ s. (s, v)) o) (arguments words)) named text
 
-given_no_value : (s : Setting) (c : ℕ) (cs : Text) (words : List Text) → given ((45 ∷ 45 ∷ c ∷ cs) ∷ words) (Some s) ≡ None
-unfolding given
+given_no_value : (s : Setting) (c : ℕ) (cs : Text) (words : List Text) → arguments ((45 ∷ 45 ∷ c ∷ cs) ∷ words) (Some s) ≡ None
+unfolding arguments
 given_no_value s c cs words = refl
 
-given_end : given [] None ≡ Some []
-unfolding given
+given_end : arguments [] None ≡ Some []
+unfolding arguments
 given_end = refl
 
-given_no_end : (s : Setting) → given [] (Some s) ≡ None
-unfolding given
+given_no_end : (s : Setting) → arguments [] (Some s) ≡ None
+unfolding arguments
 given_no_end s = refl
 
 module _ (words : List Text) (e : list_any is_stray words ≡ false) (agree : Agree words) where
-  plain_in_turn : (h : Held) (seen : List Given) → is_without (settle_fault rules false h) ≡ true → (settled rules h).rows ≡ rows seen → is_once seen ≡ true
-      → (word : Text) → has_minus word ≡ false → reads (at h idle (place seen)) (word ∷ words) ≡ ours seen (given (word ∷ words) None)
+  plain_in_turn : (h : Held) (seen : List Argument) → is_without (settle_fault rules false h) ≡ true → (settled rules h).rows ≡ rows seen → is_once seen ≡ true
+      → (word : Text) → has_minus word ≡ false → reads (at h idle (place seen)) (word ∷ words) ≡ ours seen (arguments (word ∷ words) None)
   plain_in_turn h seen good are once word minus = go (cases_Bool (has setting.Folder seen)) ∙ ap (ours seen) (sym (given_plain word words minus))
     where
       go : (has setting.Folder seen ≡ true) ⊎ (has setting.Folder seen ≡ false)
-          → reads (at h idle (place seen)) (word ∷ words) ≡ ours seen (with (setting.Folder, word) (given words None))
+          → reads (at h idle (place seen)) (word ∷ words) ≡ ours seen (with_argument (setting.Folder, word) (arguments words None))
       go (inl there) =
           ap (λ b. reads (at h idle (place_after b)) (word ∷ words)) there ∙ nothing (at h idle 2) word words (second_plain_turn h word minus)
-          ∙ sym (ours_twice seen (setting.Folder, word) (given words None) there)
+          ∙ sym (ours_twice seen (setting.Folder, word) (arguments words None) there)
       go (inr new) =
           ap (λ b. reads (at h idle (place_after b)) (word ∷ words)) new ∙ goes (at h idle 1) word words (ap is_without (first_plain_turn h word minus) ∙ good)
           ∙ ap (λ w. reads w words) (first_plain_after h word minus)
           ∙ ap (λ n. reads (at (held (settled rules h).rows (Some (name setting.Folder, word ∷ [])) h.skip) idle n) words) (folder_place seen word)
           ∙ given_on words e agree setting.Folder word (settled rules h).rows h.skip seen are once
 
-  text_in_turn : (h : Held) (seen : List Given) → is_without (settle_fault rules false h) ≡ true → (settled rules h).rows ≡ rows seen → is_once seen ≡ true
-      → (c : ℕ) (cs : Text) (s : Setting) (text : Text) → option_named (name_in (c ∷ cs)) ≡ Some s → text_in (c ∷ cs) ≡ Some text
-      → reads (at h idle (place seen)) ((45 ∷ 45 ∷ c ∷ cs) ∷ words) ≡ ours seen (with (s, text) (given words None))
+  text_in_turn : (h : Held) (seen : List Argument) → is_without (settle_fault rules false h) ≡ true → (settled rules h).rows ≡ rows seen → is_once seen ≡ true
+      → (c : ℕ) (cs : Text) (s : Setting) (text : Text) → setting_named (name_in (c ∷ cs)) ≡ Some s → text_in (c ∷ cs) ≡ Some text
+      → reads (at h idle (place seen)) ((45 ∷ 45 ∷ c ∷ cs) ∷ words) ≡ ours seen (with_argument (s, text) (arguments words None))
   text_in_turn h seen good are once c cs s text named is_text = go (cases_Bool (has s seen))
     where
       met : is_without (turn h idle (place seen) (45 ∷ 45 ∷ c ∷ cs)) ≡ not (has s seen)
       met = text_turn idle h (place seen) c cs refl s text named is_text
           ∙ ap₂ (λ b o. b && not o) good (ap (has_row (name s)) are ∙ has_row-rows s seen)
 
-      go : (has s seen ≡ true) ⊎ (has s seen ≡ false) → reads (at h idle (place seen)) ((45 ∷ 45 ∷ c ∷ cs) ∷ words) ≡ ours seen (with (s, text) (given words None))
-      go (inl twice) = nothing (at h idle (place seen)) (45 ∷ 45 ∷ c ∷ cs) words (met ∙ ap not twice) ∙ sym (ours_twice seen (s, text) (given words None) twice)
+      go : (has s seen ≡ true) ⊎ (has s seen ≡ false) → reads (at h idle (place seen)) ((45 ∷ 45 ∷ c ∷ cs) ∷ words) ≡ ours seen (with_argument (s, text) (arguments words None))
+      go (inl twice) = nothing (at h idle (place seen)) (45 ∷ 45 ∷ c ∷ cs) words (met ∙ ap not twice) ∙ sym (ours_twice seen (s, text) (arguments words None) twice)
       go (inr first) =
           goes (at h idle (place seen)) (45 ∷ 45 ∷ c ∷ cs) words (met ∙ ap not first)
           ∙ ap (λ w. reads w words) (text_after idle h (place seen) c cs refl s text named is_text)
           ∙ ap (λ n. reads (at (held (used (rule s) (text ∷ []) (settled rules h).rows) None h.skip) idle n) words) (same_place seen s text (named_is_option (name_in (c ∷ cs)) s named))
           ∙ agree.in_turn (held (used (rule s) (text ∷ []) (settled rules h).rows) None h.skip) (seen ++ (s, text) ∷ []) refl
           (ap (used (rule s) (text ∷ [])) are ∙ used-rows s text seen first) (given_once (s, text) seen once first)
-          ∙ sym (ours_with seen (s, text) (given words None))
+          ∙ sym (ours_with seen (s, text) (arguments words None))
 
-  long_in_turn : (h : Held) (seen : List Given) → is_without (settle_fault rules false h) ≡ true → (settled rules h).rows ≡ rows seen → is_once seen ≡ true
-      → (c : ℕ) (cs : Text) → reads (at h idle (place seen)) ((45 ∷ 45 ∷ c ∷ cs) ∷ words) ≡ ours seen (given ((45 ∷ 45 ∷ c ∷ cs) ∷ words) None)
-  long_in_turn h seen good are once c cs = go (option_named (name_in (c ∷ cs))) (text_in (c ∷ cs)) refl refl
+  long_in_turn : (h : Held) (seen : List Argument) → is_without (settle_fault rules false h) ≡ true → (settled rules h).rows ≡ rows seen → is_once seen ≡ true
+      → (c : ℕ) (cs : Text) → reads (at h idle (place seen)) ((45 ∷ 45 ∷ c ∷ cs) ∷ words) ≡ ours seen (arguments ((45 ∷ 45 ∷ c ∷ cs) ∷ words) None)
+  long_in_turn h seen good are once c cs = go (setting_named (name_in (c ∷ cs))) (text_in (c ∷ cs)) refl refl
     where
-      go : (o : Option Setting) (v : Option Text) → option_named (name_in (c ∷ cs)) ≡ o → text_in (c ∷ cs) ≡ v
-          → reads (at h idle (place seen)) ((45 ∷ 45 ∷ c ∷ cs) ∷ words) ≡ ours seen (given ((45 ∷ 45 ∷ c ∷ cs) ∷ words) None)
+      go : (o : Option Setting) (v : Option Text) → setting_named (name_in (c ∷ cs)) ≡ o → text_in (c ∷ cs) ≡ v
+          → reads (at h idle (place seen)) ((45 ∷ 45 ∷ c ∷ cs) ∷ words) ≡ ours seen (arguments ((45 ∷ 45 ∷ c ∷ cs) ∷ words) None)
       go None v named is_text =
           nothing (at h idle (place seen)) (45 ∷ 45 ∷ c ∷ cs) words (unknown_turn idle h (place seen) c cs refl named)
           ∙ ap (ours seen) (sym (given_long c cs words None v named is_text))
@@ -217,8 +217,8 @@ module _ (words : List Text) (e : list_any is_stray words ≡ false) (agree : Ag
           ∙ agree.waiting s (settled rules h).rows h.skip seen are (named_is_option (name_in (c ∷ cs)) s named) once
           ∙ ap (ours seen) (sym (given_long c cs words (Some s) None named is_text))
 
-  plain_waiting : (s : Setting) (rs : List Row) (skip : ℕ) (seen : List Given) → rs ≡ rows seen → is_for setting.Folder (s, []) ≡ false → is_once seen ≡ true
-      → (word : Text) → has_minus word ≡ false → reads (at (held rs (Some (name s, [])) skip) (option (name s)) (place seen)) (word ∷ words) ≡ ours seen (given (word ∷ words) (Some s))
+  plain_waiting : (s : Setting) (rs : List Row) (skip : ℕ) (seen : List Argument) → rs ≡ rows seen → is_for setting.Folder (s, []) ≡ false → is_once seen ≡ true
+      → (word : Text) → has_minus word ≡ false → reads (at (held rs (Some (name s, [])) skip) (option (name s)) (place seen)) (word ∷ words) ≡ ours seen (arguments (word ∷ words) (Some s))
   plain_waiting s rs skip seen are other once word minus =
       goes (at (held rs (Some (name s, [])) skip) (option (name s)) (place seen)) word words (ap is_without (value_turn s (held rs (Some (name s, [])) skip) (place seen) word minus))
       ∙ ap (λ w. reads w words) (value_after s rs skip (place seen) word minus)
@@ -226,8 +226,8 @@ module _ (words : List Text) (e : list_any is_stray words ≡ false) (agree : Ag
       ∙ given_on words e agree s word rs skip seen are once
       ∙ ap (ours seen) (sym (given_value s word words minus))
 
-  long_waiting : (s : Setting) (rs : List Row) (skip : ℕ) (seen : List Given) (c : ℕ) (cs : Text)
-      → reads (at (held rs (Some (name s, [])) skip) (option (name s)) (place seen)) ((45 ∷ 45 ∷ c ∷ cs) ∷ words) ≡ ours seen (given ((45 ∷ 45 ∷ c ∷ cs) ∷ words) (Some s))
+  long_waiting : (s : Setting) (rs : List Row) (skip : ℕ) (seen : List Argument) (c : ℕ) (cs : Text)
+      → reads (at (held rs (Some (name s, [])) skip) (option (name s)) (place seen)) ((45 ∷ 45 ∷ c ∷ cs) ∷ words) ≡ ours seen (arguments ((45 ∷ 45 ∷ c ∷ cs) ∷ words) (Some s))
   long_waiting s rs skip seen c cs =
       nothing (at (held rs (Some (name s, [])) skip) (option (name s)) (place seen)) (45 ∷ 45 ∷ c ∷ cs) words
       (long_refused (option (name s)) (held rs (Some (name s, [])) skip) (place seen) c cs refl (empty_refused s rs skip))
@@ -251,12 +251,12 @@ agree (word ∷ words) e =
     record {
       in_turn = λ h seen good are once. elim (word_forms word parts.0) [
         | inl minus ↦ plain_in_turn words parts.1 more h seen good are once word minus
-        | inr long ↦ subst (λ (x : Text). reads (at h idle (place seen)) (x ∷ words) ≡ ours seen (given (x ∷ words) None)) (sym long.2)
+        | inr long ↦ subst (λ (x : Text). reads (at h idle (place seen)) (x ∷ words) ≡ ours seen (arguments (x ∷ words) None)) (sym long.2)
             (long_in_turn words parts.1 more h seen good are once long.0 long.1)
       ];
       waiting = λ s rs skip seen are other once. elim (word_forms word parts.0) [
         | inl minus ↦ plain_waiting words parts.1 more s rs skip seen are other once word minus
-        | inr long ↦ subst (λ (x : Text). reads (at (held rs (Some (name s, [])) skip) (option (name s)) (place seen)) (x ∷ words) ≡ ours seen (given (x ∷ words) (Some s))) (sym long.2)
+        | inr long ↦ subst (λ (x : Text). reads (at (held rs (Some (name s, [])) skip) (option (name s)) (place seen)) (x ∷ words) ≡ ours seen (arguments (x ∷ words) (Some s))) (sym long.2)
             (long_waiting words parts.1 more s rs skip seen long.0 long.1)
       ];
     }

@@ -12,8 +12,8 @@ use Rattle.clap.specs.Walk.{rows_after}
 use Rattle.clap.specs.declared.error.kind.ErrorKind.TheVariants as kind
 use Rattle.clap.specs.declared.error.Error.{Error}
 use Rattle.clap.proofs.OnLiterals.{clap_on_literals}
-use Rattle.cas_node.specs.Words.{Given, Text, behind_minuses, clock_or, command_in, command_of, folder_in, given, has_minus, is_for, is_once, limits_in, option_in, option_of, option_read, text_for, with}
-use Rattle.cas_node.specs.Parser.{is_stray, parser, text_at}
+use Rattle.cas_node.specs.Words.{Argument, Text, after_minuses, clock_or, command_in, command_of, folder_in, arguments, has_minus, is_for, is_once, limits_in, option_in, option_of, option_read, text_for, with_argument}
+use Rattle.cas_node.specs.Inner.Parser.{is_stray, parser, text_at}
 use Rattle.cas_node.specs.declared.words.ClockKind.{ClockKind}
 use Rattle.cas_node.specs.declared.words.Command.{Command}
 use Rattle.cas_node.specs.declared.words.Setting.{Setting}
@@ -49,15 +49,15 @@ parse_is words =
     ap₂ (λ (f : Kinds) (rs : List Row). cond (is_without f) (Some rs) None) (faults_are words) (rows_are words)
     ∙ ap (λ b. cond b (Some (rows_after rules [] words)) None) (without_both (walk_fault shape [] (at nothing_held idle 1) words) (end_fault (last (at nothing_held idle 1) words)))
 
-found : (words : List Text) → list_any is_stray words ≡ false → cond (is_without (fault_of parser words)) (Some (matches_of parser words)) None ≡ ours [] (given words None)
+found : (words : List Text) → list_any is_stray words ≡ false → cond (is_without (fault_of parser words)) (Some (matches_of parser words)) None ≡ ours [] (arguments words None)
 found words e = parse_is words ∙ (agree words e).in_turn nothing_held [] refl refl refl
 
 -- ---- the command of what is given
 
-abbrev command_by : Option (List Given) → Option Command
+abbrev command_by : Option (List Argument) → Option Command
 command_by o = option_and_then (λ gs. cond (is_once gs) (command_in (text_for gs)) None) o
 
-none_for : (s : Setting) (gs : List Given) → has s gs ≡ false → text_for gs s ≡ None
+none_for : (s : Setting) (gs : List Argument) → has s gs ≡ false → text_for gs s ≡ None
 none_for s [] e = refl
 none_for s (g ∷ gs) e =
     let parts = or_parts (is_for s g) (has s gs) e in
@@ -78,7 +78,7 @@ needs_folder text none =
 abbrev IsCommandBy : Option Command → Option (List Row) → Type 0
 IsCommandBy c o = MatchOption o (c ≡ None) (λ rs. c ≡ command_in (text_at rs))
 
-command_judged : (o : Option (List Given)) → IsCommandBy (command_by o) (ours [] o)
+command_judged : (o : Option (List Argument)) → IsCommandBy (command_by o) (ours [] o)
 command_judged None = refl
 command_judged (Some gs) = go (cases_Bool (is_once gs)) (cases_Bool (has setting.Folder gs))
   where
@@ -90,7 +90,7 @@ command_judged (Some gs) = go (cases_Bool (is_once gs)) (cases_Bool (has setting
 command_is : (words : List Text) (o : Option (List Row)) → list_any is_stray words ≡ false → cond (is_without (fault_of parser words)) (Some (matches_of parser words)) None ≡ o
     → IsCommandBy (command_of words) o
 unfolding command_of
-command_is words o e is = subst (IsCommandBy (command_by (given words None))) (sym (found words e) ∙ is) (command_judged (given words None))
+command_is words o e is = subst (IsCommandBy (command_by (arguments words None))) (sym (found words e) ∙ is) (command_judged (arguments words None))
 
 -- ---- what the call says
 
@@ -125,37 +125,37 @@ taken_words a words rs none same no_fault are =
 -- ---- a stray word
 
 stray_option : (word : Text) → is_stray word ≡ true → option_of word ≡ None
-stray_option word e = ap (option_and_then option_in) (go (behind_minuses word) (not-true _ (and_parts (has_minus word) (not (is_some (behind_minuses word))) e).1))
+stray_option word e = ap (option_and_then option_in) (go (after_minuses word) (not-true _ (and_parts (has_minus word) (not (is_some (after_minuses word))) e).1))
   where
     go : (o : Option Text) → is_some o ≡ false → o ≡ None
     go None h = refl
     go (Some t) h = absurd (true≢false h)
 
-stray_first : (word : Text) (words : List Text) → is_stray word ≡ true → (waiting : Option Setting) → given (word ∷ words) waiting ≡ None
-unfolding given
+stray_first : (word : Text) (words : List Text) → is_stray word ≡ true → (waiting : Option Setting) → arguments (word ∷ words) waiting ≡ None
+unfolding arguments
 stray_first word words e None =
-    let minus : has_minus word ≡ true = (and_parts (has_minus word) (not (is_some (behind_minuses word))) e).0 in
-    rw minus (ap (λ o. option_read o (given words)) (stray_option word e))
+    let minus : has_minus word ≡ true = (and_parts (has_minus word) (not (is_some (after_minuses word))) e).0 in
+    rw minus (ap (λ o. option_read o (arguments words)) (stray_option word e))
 stray_first word words e (Some s) =
-    let minus : has_minus word ≡ true = (and_parts (has_minus word) (not (is_some (behind_minuses word))) e).0 in
+    let minus : has_minus word ≡ true = (and_parts (has_minus word) (not (is_some (after_minuses word))) e).0 in
     rw minus refl
 
-stray_later : (word : Text) (words : List Text) → ((waiting : Option Setting) → given words waiting ≡ None) → (waiting : Option Setting) → given (word ∷ words) waiting ≡ None
-unfolding given
+stray_later : (word : Text) (words : List Text) → ((waiting : Option Setting) → arguments words waiting ≡ None) → (waiting : Option Setting) → arguments (word ∷ words) waiting ≡ None
+unfolding arguments
 stray_later word words none None = go (has_minus word) (option_of word)
   where
-    go : (b : Bool) (o : Option (Setting × Option Text)) → cond b (option_read o (given words)) (with (setting.Folder, word) (given words None)) ≡ None
+    go : (b : Bool) (o : Option (Setting × Option Text)) → cond b (option_read o (arguments words)) (with_argument (setting.Folder, word) (arguments words None)) ≡ None
     go true None = refl
     go true (Some (s, Some text)) = rw (none None) refl
     go true (Some (s, None)) = none (Some s)
     go false o = rw (none None) refl
 stray_later word words none (Some s) = go (has_minus word)
   where
-    go : (b : Bool) → cond b None (with (s, word) (given words None)) ≡ None
+    go : (b : Bool) → cond b None (with_argument (s, word) (arguments words None)) ≡ None
     go true = refl
     go false = rw (none None) refl
 
-stray_given : (words : List Text) → list_any is_stray words ≡ true → (waiting : Option Setting) → given words waiting ≡ None
+stray_given : (words : List Text) → list_any is_stray words ≡ true → (waiting : Option Setting) → arguments words waiting ≡ None
 stray_given [] e waiting = absurd (true≢false (sym e))
 stray_given (word ∷ words) e waiting = elim (or_cases (is_stray word) (list_any is_stray words) e) [
   | inl first ↦ stray_first word words first waiting

@@ -1,11 +1,7 @@
 pub mod Words
-pub mod Parser
 pub mod Lines
 pub mod History
-pub mod Sound
 pub mod Text
 pub mod Ran
-pub mod Stored
-pub mod Turns
-pub mod Passes
 pub mod Laws
+pub mod Inner

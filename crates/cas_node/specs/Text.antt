@@ -4,10 +4,11 @@ use Rattle.std.specs.List.{flat_map}
 use Rattle.cas_render.specs.Text.{reply_text}
 use Rattle.cas_render.specs.declared.reply.Reply.{Reply}
 
--- what a line prints: the text of its reply, or nothing where it has none
+-- what a line prints: the text of its reply; a line of blanks and comments prints nothing
 abbrev pub line_text : Option Reply → List ℕ
 line_text None = []
 line_text (Some r) = reply_text r
 
+-- what all lines print
 abbrev pub output : List (Option Reply) → List ℕ
 output replies = flat_map line_text replies

@@ -16,7 +16,7 @@ pub enum Cause {
     Read,
     /// The output couldn't be written. No further line was run.
     Write,
-    /// Want of memory.
+    /// Memory ran out.
     Mem,
     /// The script has more than 64 MiB: so many bytes of it were taken. No line was run.
     TooLong { taken: u64 },

@@ -4,8 +4,8 @@ ghost use Rattle.cas_node.specs.Laws.{OneOutcome};
 
 use cas_io::Clock;
 
-/// Under the manual clock a script prints one output, where memory is never wanting: its lines have
-/// one list of answers, and leave one history.
+/// Under the manual clock a script prints one output, as long as memory doesn't run out: its
+/// lines have one list of answers, and leave one history.
 pub fn one_outcome<C: Clock>()
     ensures { (clock : C) → OneOutcome (C.may_give clock) }
 {}

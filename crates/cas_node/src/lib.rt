@@ -2,25 +2,15 @@
 #![tactic(auto)]
 
 mod cause;
-#[cfg(test)]
-mod language_tests;
 mod laws;
 mod line;
 mod lines;
 mod program;
-#[cfg(test)]
-mod row_tests;
-#[cfg(test)]
-mod script_runs;
 mod session;
 mod shard;
 mod store;
 #[cfg(test)]
 mod tests;
-#[cfg(test)]
-mod type_tests;
-#[cfg(test)]
-mod word_tests;
 mod words;
 
 pub use cause::Cause;

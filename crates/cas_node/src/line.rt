@@ -3,9 +3,10 @@
 ghost use Rattle.std.specs.Prelude.{◌≡◌, [], None, IfOk, IsUtf8};
 ghost use Rattle.std.specs.List.{list_all, prefix_len};
 ghost use Rattle.cql_lex.specs.Lexes.{Lexes};
-ghost use Rattle.cas_node.specs.Lines.{Says, clock_of as clock_of_text, sole_number as sole_number_of, seconds_in as seconds_in_range, is_blank as is_blank_byte, after_blanks as after_blanks_of, word_size as word_size_of, begins_blank as begins_blank_of};
+ghost use Rattle.cql_lex.specs.Gaps.{is_blank};
+ghost use Rattle.cas_node.specs.Lines.{Says, after_blanks, begins_blank, clock_of, seconds_in, size_to_blank, sole_number};
 
-use cas_types::Mem;
+use cas_types::{LAST_SECOND, Mem};
 use cql_lex::{LexFault, Token, number_of, tokens};
 use cql_parse::{ParseFault, Statement, statement};
 use std::alloc::Global;
@@ -24,39 +25,39 @@ pub(crate) enum Line {
 }
 
 fn is_blank(byte: u8) -> bool
-    ensures { result ≡ is_blank_byte byte }
+    ensures { result ≡ is_blank byte }
 {
     byte == b' ' || byte == b'\t'
 }
 
 fn blanks(text: &[u8]) -> usize
-    ensures { result ≡ prefix_len is_blank_byte text.now }
+    ensures { result ≡ prefix_len is_blank text.now }
 {
     text.iter().take_while(|b| is_blank(**b)).count()
 }
 
 fn after_blanks(text: &[u8]) -> &[u8]
-    ensures { result.now ≡ after_blanks_of text.now }
+    ensures { result.now ≡ after_blanks text.now }
 {
     &text[blanks(text).min(text.len())..]
 }
 
-fn word_size(text: &[u8]) -> usize
-    ensures { result ≡ word_size_of text.now }
+fn size_to_blank(text: &[u8]) -> usize
+    ensures { result ≡ size_to_blank text.now }
 {
     text.iter().take_while(|b| !is_blank(**b)).count()
 }
 
 fn are_blank(text: &[u8]) -> bool
-    ensures { result ≡ list_all is_blank_byte text.now }
+    ensures { result ≡ list_all is_blank text.now }
 {
     text.iter().all(|b| is_blank(*b))
 }
 
 fn sole_number(text: &[u8]) -> Option<i128>
-    ensures { result ≡ sole_number_of text.now }
+    ensures { result ≡ sole_number text.now }
 {
-    let (word, rest) = text.split_at(word_size(text).min(text.len()));
+    let (word, rest) = text.split_at(size_to_blank(text).min(text.len()));
     if are_blank(rest) {
         number_of(word)
     } else {
@@ -65,16 +66,16 @@ fn sole_number(text: &[u8]) -> Option<i128>
 }
 
 fn seconds_in(number: Option<i128>) -> Option<i64>
-    ensures { result ≡ seconds_in_range number }
+    ensures { result ≡ seconds_in number }
 {
     match number {
-        Some(n) if 0 <= n && n <= 253_402_300_799 => Some(n as i64),
+        Some(n) if 0 <= n && n <= i128::from(LAST_SECOND) => Some(n as i64),
         _ => None,
     }
 }
 
 fn begins_blank(text: &[u8]) -> bool
-    ensures { result ≡ begins_blank_of text.now }
+    ensures { result ≡ begins_blank text.now }
 {
     match text {
         [first, ..] => is_blank(*first),
@@ -84,7 +85,7 @@ fn begins_blank(text: &[u8]) -> bool
 
 #[tactic(auto, unfolding(crate::specs::Lines::clock_of))]
 fn clock_of(text: &[u8]) -> Option<i64>
-    ensures { result ≡ clock_of_text text.now }
+    ensures { result ≡ clock_of text.now }
 {
     let (word, rest) = text.split_at(text.len().min(6));
     if word.eq_ignore_ascii_case(b"\\clock") && begins_blank(rest) {
@@ -96,7 +97,7 @@ fn clock_of(text: &[u8]) -> Option<i64>
 
 fn read_tokens(alloc: Global, text: &str, tokens: &[Token]) -> Result<Line, Mem>
     requires utf8 { IsUtf8 text.now }
-    requires command { clock_of_text text.now ≡ None }
+    requires command { clock_of text.now ≡ None }
     requires lexed { Lexes text.now tokens.now }
     requires some { tokens.now ≡ [] → ⊥ }
     ensures { IfOk result (λ l. Says text.now l) }
@@ -110,7 +111,7 @@ fn read_tokens(alloc: Global, text: &str, tokens: &[Token]) -> Result<Line, Mem>
 
 fn read_text(alloc: Global, text: &str) -> Result<Line, Mem>
     requires utf8 { IsUtf8 text.now }
-    requires command { clock_of_text text.now ≡ None }
+    requires command { clock_of text.now ≡ None }
     ensures { IfOk result (λ l. Says text.now l) }
 {
     match tokens(alloc, text) {

@@ -3,11 +3,10 @@
 ghost use Rattle.std.specs.Prelude.{◌≡◌, ◌≤◌, ◌<◌, ◌⊎◌, ◌+◌, List, ℕ, map, length, IsTrue, IfSome, string_bytes, None};
 ghost use Rattle.std.specs.Option.{option_map};
 ghost use Rattle.cas_io.specs.Causes.{Rose};
-ghost use Rattle.cas_io.specs.Told.{TookCount};
-ghost use Rattle.cas_node.specs.Passes.{shards_of};
+ghost use Rattle.cas_io.specs.Streams.{TookCount};
 ghost use Rattle.cas_node.specs.Words.{command_of};
-ghost use Rattle.cas_node.specs.Ran.{RanAll, IsNotRun, IfTooLong, is_too_long, taken_of, script_limit, SinkRose, AllWell, GoodOrMem, status_of};
-ghost use Rattle.cas_node.specs.Turns.{cause_of_fault};
+ghost use Rattle.cas_node.specs.Ran.{RanAll, IsNotRun, IfTooLong, SinkRose, AllWell, GoodOrMem, is_too_long, count_taken, shards_of, status_of};
+ghost use Rattle.cas_node.specs.Inner.Turns.{cause_of_fault};
 
 use crate::cause::Cause;
 use crate::session::session;
@@ -80,15 +79,22 @@ pub fn run<S: Source, K: Sink, F: Folder, C: Clock, G: Gate>(
     // The script ran: its lines' replies are the definition's, each slice the live view at its moment
     // of all mutations accepted before it, what was written is the replies' text or a front of it,
     // and the pass has the mutations that the lines accepted. Or no line was run.
-    ensures headline { RanAll (map string_bytes words.now) (C.may_give clock.now) (S.left source.old) (S.left source.new) (K.took sink.old) (K.took sink.new) (option_map shards_of result.pass) result.cause }
+    ensures headline { RanAll (map string_bytes words.now) (C.may_give clock.now) (S.left source.old) (S.left source.new)
+        (K.took sink.old) (K.took sink.new) (option_map shards_of result.pass) result.cause }
     ensures status { result.status ≡ status_of result.cause }
     ensures words { result.cause ≡ Cause.Words → command_of (map string_bytes words.now) ≡ None }
     ensures no_words { command_of (map string_bytes words.now) ≡ None → (result.cause ≡ Cause.Words) ⊎ (result.cause ≡ Cause.Mem) }
     ensures read { result.cause ≡ Cause.Read → Rose (S.faults source.old) (S.faults source.new) }
-    ensures write { result.cause ≡ Cause.Write → SinkRose (K.faults sink.old) (K.faults sink.new) (K.stalls sink.old) (K.stalls sink.new) }
-    ensures too_long { IfTooLong result.cause (λ taken. (taken ≡ script_limit + 1) × TookCount (S.left source.old) (S.left source.new) taken) }
-    ensures not_too_long { IfSome (taken_of (S.left source.old) (S.left source.new)) (λ taken. script_limit < taken → IsTrue (is_too_long result.cause)) }
-    ensures complete { AllWell (map string_bytes words.now) (C.may_give clock.now) (S.left source.old) (Rose (S.faults source.old) (S.faults source.new)) (SinkRose (K.faults sink.old) (K.faults sink.new) (K.stalls sink.old) (K.stalls sink.new)) → GoodOrMem result.cause }
+    ensures write { result.cause ≡ Cause.Write
+        → SinkRose (K.faults sink.old) (K.faults sink.new) (K.stalls sink.old) (K.stalls sink.new) }
+    ensures too_long { IfTooLong result.cause
+        (λ taken. (taken ≡ SCRIPT_LIMIT + 1) × TookCount (S.left source.old) (S.left source.new) taken) }
+    ensures not_too_long { IfSome (count_taken (S.left source.old) (S.left source.new))
+        (λ taken. SCRIPT_LIMIT < taken → IsTrue (is_too_long result.cause)) }
+    ensures complete { AllWell (map string_bytes words.now) (C.may_give clock.now) (S.left source.old)
+        (Rose (S.faults source.old) (S.faults source.new))
+        (SinkRose (K.faults sink.old) (K.faults sink.new) (K.stalls sink.old) (K.stalls sink.new))
+        → GoodOrMem result.cause }
     ensures folder { result.folder ≡ folder }
     ensures tally { ⟦<F::Tally as Count>⟧.number result.tally ≡ 0 }
 {

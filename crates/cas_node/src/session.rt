@@ -1,14 +1,14 @@
 //! Runs the lines of a script one after another, and writes what they answer.
 
-ghost use Rattle.std.specs.Prelude.{◌≡◌, ◌≤◌, IfOk, OnOk, OnErr, IsErrOf, Some, is_none, ◌||◌};
+ghost use Rattle.std.specs.Prelude.{◌≡◌, ◌≤◌, OnOk, OnErr, IsErrOf, Some, is_none, ◌||◌};
 ghost use Rattle.std.specs.Io.KnownBytes.{Appends};
-ghost use Rattle.cas_io.specs.Told.{AppendsFront};
+ghost use Rattle.cas_io.specs.Streams.{AppendsFront};
 ghost use Rattle.cas_node.specs.Text.{line_text};
-ghost use Rattle.cas_node.specs.Turns.{Turned, EndsEarly, EndsWhole};
-ghost use Rattle.cas_node.specs.Ran.{Ran, SinkRose, is_refused as is_refused_of};
-ghost use Rattle.cas_node.specs.Stored.{stored};
-ghost use Rattle.cas_node.specs.Sound.{IsCommand, IsSound};
-ghost use Rattle.cas_node.specs.History.{is_starved as is_starved_of, start};
+ghost use Rattle.cas_node.specs.Inner.Turns.{Turned, EndsEarly, EndsWhole};
+ghost use Rattle.cas_node.specs.Ran.{Ran, SinkRose, is_refused};
+ghost use Rattle.cas_node.specs.Inner.Stored.{stored};
+ghost use Rattle.cas_node.specs.Inner.Sound.{IsCommand, IsSound};
+ghost use Rattle.cas_node.specs.History.{is_starved, start};
 
 use crate::cause::Cause;
 use crate::lines::next_line;
@@ -27,39 +27,46 @@ pub(crate) enum PrintFault {
 }
 
 fn is_starved(reply: &Option<Reply>) -> bool
-    ensures { result ≡ is_starved_of reply.now }
+    ensures { result ≡ is_starved reply.now }
 {
     matches!(reply, Some(Reply::Failed(Failure::Memory)))
 }
 
 fn is_refused(reply: &Option<Reply>) -> bool
-    ensures { result ≡ is_refused_of reply.now }
+    ensures { result ≡ is_refused reply.now }
 {
     matches!(reply, Some(Reply::Refused(_)))
 }
 
-fn text_of(alloc: Global, reply: &Option<Reply>) -> Result<Vec<u8>, Mem>
-    ensures { IfOk result (λ v. v.items ≡ line_text reply.now) }
+// Puts the text of a reply in the place of what is there.
+fn write_text(alloc: Global, reply: &Option<Reply>, text: &mut Vec<u8>) -> Result<(), Mem>
+    ensures { OnOk result (text.new.items ≡ line_text reply.now) }
 {
-    let mut text = Vec::new(alloc);
-    if let Some(reply) = reply {
-        render(alloc, reply, &mut text)?;
+    text.clear();
+    match reply {
+        Some(reply) => render(alloc, reply, text),
+        None => Ok(()),
     }
-    Ok(text)
 }
 
-fn print<K: Sink>(alloc: Global, reply: &Option<Reply>, sink: &mut K) -> Result<(), PrintFault>
+fn print<K: Sink>(
+    alloc: Global,
+    reply: &Option<Reply>,
+    text: &mut Vec<u8>,
+    sink: &mut K,
+) -> Result<(), PrintFault>
     ensures ok { OnOk result (Appends (K.took sink.old) (K.took sink.new) (line_text reply.now)) }
     ensures err { OnErr result (AppendsFront (K.took sink.old) (K.took sink.new) (line_text reply.now)) }
     ensures faults { K.faults sink.old ≤ K.faults sink.new }
     ensures stalls { K.stalls sink.old ≤ K.stalls sink.new }
-    ensures write { IsErrOf result PrintFault.Write → SinkRose (K.faults sink.old) (K.faults sink.new) (K.stalls sink.old) (K.stalls sink.new) }
+    ensures write { IsErrOf result PrintFault.Write
+        → SinkRose (K.faults sink.old) (K.faults sink.new) (K.stalls sink.old) (K.stalls sink.new) }
 {
-    let text = match text_of(alloc, reply) {
-        Ok(text) => text,
+    match write_text(alloc, reply, text) {
+        Ok(()) => {}
         Err(Mem) => return Err(PrintFault::Mem),
-    };
-    match write_all(sink, &text) {
+    }
+    match write_all(sink, text) {
         Ok(()) => Ok(()),
         Err(_) => Err(PrintFault::Write),
     }
@@ -102,19 +109,22 @@ fn take_turn<K: Sink, C: Clock>(
     command: &Command,
     clock: &C,
     store: &mut Store,
+    text: &mut Vec<u8>,
     sink: &mut K,
     line: &[u8],
 ) -> Turn
     requires command { IsCommand command.now }
     requires sound { IsSound command.now (stored store.old) }
-    ensures turned { Turned command.now (C.may_give clock.now) (stored store.old) line.now (stored store.new) (K.took sink.old) (K.took sink.new) result.refused result.starved (is_none result.fault) }
+    ensures turned { Turned command.now (C.may_give clock.now) (stored store.old) line.now (stored store.new)
+        (K.took sink.old) (K.took sink.new) result.refused result.starved (is_none result.fault) }
     ensures sound { IsSound command.now (stored store.new) }
     ensures faults { K.faults sink.old ≤ K.faults sink.new }
     ensures stalls { K.stalls sink.old ≤ K.stalls sink.new }
-    ensures write { result.fault ≡ Some PrintFault.Write → SinkRose (K.faults sink.old) (K.faults sink.new) (K.stalls sink.old) (K.stalls sink.new) }
+    ensures write { result.fault ≡ Some PrintFault.Write
+        → SinkRose (K.faults sink.old) (K.faults sink.new) (K.stalls sink.old) (K.stalls sink.new) }
 {
     let reply = store.answer_line(alloc, command, clock, line);
-    let printed = print(alloc, &reply, sink);
+    let printed = print(alloc, &reply, text, sink);
     Turn {
         refused: is_refused(&reply),
         starved: is_starved(&reply),
@@ -140,17 +150,20 @@ pub(crate) fn session<K: Sink, C: Clock>(
     requires command { IsCommand command.now }
     requires start { stored store ≡ start command.now }
     requires sound { IsSound command.now (stored store) }
-    ensures ran { Ran command.now (C.may_give clock.now) script.now (K.took sink.old) (K.took sink.new) result.0.shards.items result.1 }
+    ensures ran { Ran command.now (C.may_give clock.now) script.now (K.took sink.old) (K.took sink.new)
+        result.0.shards.items result.1 }
     ensures faults { K.faults sink.old ≤ K.faults sink.new }
     ensures stalls { K.stalls sink.old ≤ K.stalls sink.new }
-    ensures write { result.1 ≡ Cause.Write → SinkRose (K.faults sink.old) (K.faults sink.new) (K.stalls sink.old) (K.stalls sink.new) }
+    ensures write { result.1 ≡ Cause.Write
+        → SinkRose (K.faults sink.old) (K.faults sink.new) (K.stalls sink.old) (K.stalls sink.new) }
 {
     let mut rest = script;
     let mut refused = false;
     let mut starved = false;
+    let mut text = Vec::new(alloc);
     while !rest.is_empty() {
         let (line, after) = next_line(rest);
-        let turn = take_turn(alloc, command, clock, &mut store, sink, line);
+        let turn = take_turn(alloc, command, clock, &mut store, &mut text, sink, line);
         refused = either(turn.refused, refused);
         starved = either(turn.starved, starved);
         if let Some(fault) = turn.fault {

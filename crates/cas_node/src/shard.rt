@@ -1,17 +1,26 @@
 //! One shard: its accepted mutations, and what a write and a SELECT do in it.
 
-ghost use Rattle.std.specs.Prelude.{◌≡◌, ◌++◌, ◌∷◌, [], ◌-◌, ◌<◌, ◌≤◌, ◌^◌, ◌≤ℤ◌, ◌-ℤ◌, false, pos, length, IfOk, IfSome, OnOk, OnErr, if◌then◌else◌};
-ghost use Rattle.cas_atoms.specs.Answers.{answer as answer_of};
-ghost use Rattle.cas_node.specs.History.{atoms_if, atoms_under as atoms_under_key, drawn_at as drawn_at_reading, is_of as is_of_partition, last_drawn as last_drawn_of, moment_at as moment_at_reading, moved, mutation_at as mutation_at_reading, next_number as next_number_of, read_reply, shard_after, take_refusal as take_refusal_of, tells_want, write_reply};
-ghost use Rattle.cas_node.specs.Sound.{IsShard, IsTime};
+ghost use Rattle.std.specs.Prelude.{◌≡◌, ◌++◌, ◌∷◌, [], ◌≤◌, ◌^◌, ◌≤ℤ◌, false, length, IfOk, IfSome, OnOk, OnErr, if◌then◌else◌};
+ghost use Rattle.cas_types.specs.Limits.{IsNarrow};
+ghost use Rattle.cas_atoms.specs.Answers.{answer};
+ghost use Rattle.cas_node.specs.History.{atoms_if, atoms_under, drawn_at, is_of_partition, last_drawn, moment_at, moved};
+ghost use Rattle.cas_node.specs.History.{mutation_at, next_number, read_reply, shard_after, take_refusal, tells_want, write_reply};
+ghost use Rattle.cas_node.specs.Inner.Sound.{IsShard, IsTime};
 
 use cas_atoms::{Atom, LiveRow, Mutation, Query, answer, length};
-use cas_bind::{BoundRead, BoundWrite, atoms_of};
+use cas_bind::BoundRead;
+use cas_effects::{BoundWrite, TOO_LARGE, TOO_MANY, atoms_of};
 use cas_render::{Failure, Reply};
-use cas_types::{Bytes, List, Mem, compare_bytes};
+use cas_types::{Bytes, LEAST_TIMESTAMP, List, Mem, compare_bytes};
 use std::alloc::Global;
 use std::cmp::Ordering;
 use std::mem;
+
+/// The most mutations of a shard.
+pub const MUTATION_LIMIT: u64 = 1 << 60;
+
+/// The greatest timestamp that a shard draws.
+pub const LAST_DRAWN: i64 = 1 << 62;
 
 /// The history of one shard: the mutations that were accepted, in order, and the last moment in
 /// seconds.
@@ -30,7 +39,7 @@ fn append_atoms(into: &mut Vec<Atom>, atoms: &[Atom]) -> Result<(), Mem>
     Ok(())
 }
 
-fn is_of(table: u16, key: &Bytes, mutation: &Mutation) -> bool
+fn is_of_partition(table: u16, key: &Bytes, mutation: &Mutation) -> bool
     ensures { result ≡ is_of_partition table key.now mutation.now }
 {
     mutation.table == table
@@ -40,7 +49,7 @@ fn is_of(table: u16, key: &Bytes, mutation: &Mutation) -> bool
 fn append_if(into: &mut Vec<Atom>, table: u16, key: &Bytes, mutation: &Mutation) -> Result<(), Mem>
     ensures { OnOk result (into.new.items ≡ into.old.items ++ atoms_if table key.now mutation.now) }
 {
-    if is_of(table, key, mutation) {
+    if is_of_partition(table, key, mutation) {
         append_atoms(into, mutation.atoms.as_slice())
     } else {
         Ok(())
@@ -54,7 +63,7 @@ fn atoms_under(
     key: &Bytes,
     entries: &[Mutation],
 ) -> Result<Vec<Atom>, Mem>
-    ensures { IfOk result (λ v. v.items ≡ atoms_under_key table key.now entries.now) }
+    ensures { IfOk result (λ v. v.items ≡ atoms_under table key.now entries.now) }
 {
     let mut atoms = Vec::new(alloc);
     for mutation in entries {
@@ -63,7 +72,7 @@ fn atoms_under(
     Ok(atoms)
 }
 
-// Adds to the list, which on want of memory stays as it is.
+// Adds to the list, which stays as it is where memory runs out.
 fn add(alloc: Global, list: &mut List<Mutation>, mutation: Mutation) -> Result<(), Mem>
     ensures ok { OnOk result (list.new ≡ list.old ++ mutation ∷ []) }
     ensures err { OnErr result (list.new ≡ list.old) }
@@ -75,7 +84,7 @@ fn add(alloc: Global, list: &mut List<Mutation>, mutation: Mutation) -> Result<(
 }
 
 fn last_drawn(entries: &[Mutation]) -> i64
-    ensures { result ≡ last_drawn_of entries.now }
+    ensures { result ≡ last_drawn entries.now }
 {
     match entries.iter().rev().find(|m| m.drawn) {
         Some(mutation) => mutation.at,
@@ -86,12 +95,12 @@ fn last_drawn(entries: &[Mutation]) -> i64
 // Why the shard doesn't take the mutation.
 #[tactic(auto, unfolding(crate::specs::History::take_refusal))]
 fn take_refusal(segment: u64, mutation: &Mutation) -> Option<u8>
-    ensures { result ≡ take_refusal_of segment mutation.now }
+    ensures { result ≡ take_refusal segment mutation.now }
 {
     if length(mutation) > segment / 2 {
-        Some(10)
-    } else if mutation.number > 1 << 60 || (mutation.drawn && mutation.at > 1 << 62) {
-        Some(14)
+        Some(TOO_LARGE)
+    } else if mutation.number > MUTATION_LIMIT || (mutation.drawn && mutation.at > LAST_DRAWN) {
+        Some(TOO_MANY)
     } else {
         None
     }
@@ -99,14 +108,14 @@ fn take_refusal(segment: u64, mutation: &Mutation) -> Option<u8>
 
 impl ShardHistory {
     fn moment_at(&self, reading: i64) -> i64
-        ensures { result ≡ moment_at_reading reading self.now }
+        ensures { result ≡ moment_at reading self.now }
     {
         (reading / 1_000_000).max(self.moment)
     }
 
     fn next_number(&self) -> u64
         requires { IsShard self.now }
-        ensures value { result ≡ next_number_of self.now }
+        ensures value { result ≡ next_number self.now }
         ensures few { result ≤ 2 ^ 62 }
     {
         self.entries.len() as u64 + 1
@@ -114,17 +123,17 @@ impl ShardHistory {
 
     fn drawn_at(&self, reading: i64) -> i64
         requires { IsShard self.now }
-        ensures { result ≡ drawn_at_reading reading self.now }
+        ensures { result ≡ drawn_at reading self.now }
     {
         reading.max(last_drawn(self.entries.as_slice()) + 2)
     }
 
     #[tactic(auto, unfolding(crate::specs::History::mutation_at))]
-    fn mutation_at(&self, alloc: Global, reading: i64, write: &BoundWrite) -> Result<Mutation, Mem>
+    fn mutation_at(&self, alloc: Global, reading: i64, write: BoundWrite) -> Result<Mutation, Mem>
         requires shard { IsShard self.now }
         requires time { IsTime reading }
-        requires stated { IfSome write.now.timestamp (λ at. (pos 0 -ℤ pos (2 ^ 63 - 3)) ≤ℤ at) }
-        ensures { IfOk result (λ m. m ≡ mutation_at_reading reading self.now write.now) }
+        requires stated { IfSome write.timestamp (λ at. LEAST_TIMESTAMP ≤ℤ at) }
+        ensures { IfOk result (λ m. m ≡ mutation_at reading self.now write) }
     {
         let drawn = self.drawn_at(reading);
         let moment = self.moment_at(reading);
@@ -139,13 +148,13 @@ impl ShardHistory {
         alloc: Global,
         segment: u64,
         reading: i64,
-        write: &BoundWrite,
+        write: BoundWrite,
     ) -> Result<Reply, Mem>
         requires shard { IsShard self.old }
         requires time { IsTime reading }
-        requires stated { IfSome write.now.timestamp (λ at. (pos 0 -ℤ pos (2 ^ 63 - 3)) ≤ℤ at) }
-        ensures reply { IfOk result (λ r. r ≡ write_reply segment reading self.old write.now) }
-        ensures ok { OnOk result (self.new ≡ shard_after segment reading self.old write.now) }
+        requires stated { IfSome write.timestamp (λ at. LEAST_TIMESTAMP ≤ℤ at) }
+        ensures reply { IfOk result (λ r. r ≡ write_reply segment reading self.old write) }
+        ensures ok { OnOk result (self.new ≡ shard_after segment reading self.old write) }
         ensures err { OnErr result (self.new ≡ moved reading self.old) }
     {
         let mutation = self.mutation_at(alloc, reading, write);
@@ -160,20 +169,21 @@ impl ShardHistory {
     }
 
     /// Takes the mutation of a write, or refuses it. The moment rises also where it is refused and
-    /// where memory is wanting; all else then stays.
+    /// where memory runs out; all else then stays.
     #[tactic(auto, using(crate::proofs::Shards::write_is_answered, crate::proofs::Shards::write_sound, crate::proofs::Shards::moved_sound))]
     pub(crate) fn take(
         &mut self,
         alloc: Global,
         segment: u64,
         reading: i64,
-        write: &BoundWrite,
+        write: BoundWrite,
     ) -> Reply
         requires shard { IsShard self.old }
         requires time { IsTime reading }
-        requires stated { IfSome write.now.timestamp (λ at. (pos 0 -ℤ pos (2 ^ 63 - 3)) ≤ℤ at) }
-        ensures reply { tells_want result ≡ false → result ≡ write_reply segment reading self.old write.now }
-        ensures history { self.new ≡ (if tells_want result then moved reading self.old else shard_after segment reading self.old write.now) }
+        requires stated { IfSome write.timestamp (λ at. LEAST_TIMESTAMP ≤ℤ at) }
+        ensures reply { tells_want result ≡ false → result ≡ write_reply segment reading self.old write }
+        ensures history { self.new ≡
+            (if tells_want result then moved reading self.old else shard_after segment reading self.old write) }
         ensures shard { IsShard self.new }
     {
         match self.try_take(alloc, segment, reading, write) {
@@ -184,19 +194,20 @@ impl ShardHistory {
 
     fn rows(&self, alloc: Global, query: &Query) -> Result<List<LiveRow>, Mem>
         requires shard { IsShard self.now }
-        requires columns { length query.now.columns ≤ 256 }
-        ensures { IfOk result (λ r. r ≡ answer_of query.now (atoms_under_key query.now.table query.now.key self.now.entries) self.now.moment) }
+        requires columns { IsNarrow query.now.columns }
+        ensures { IfOk result (λ r. r ≡
+            answer query.now (atoms_under query.now.table query.now.key self.now.entries) self.now.moment) }
     {
         let atoms = atoms_under(alloc, query.table, &query.key, self.entries.as_slice())?;
         Ok(List::from_vec(answer(alloc, &atoms, query, self.moment)?))
     }
 
-    /// Shows the rows of a SELECT. The moment rises also where memory is wanting.
+    /// Shows the rows of a SELECT. The moment rises also where memory runs out.
     #[tactic(auto, using(crate::proofs::Shards::moved_sound), unfolding(crate::specs::History::read_reply))]
     pub(crate) fn look(&mut self, alloc: Global, reading: i64, read: &BoundRead) -> Reply
         requires shard { IsShard self.old }
         requires time { IsTime reading }
-        requires columns { length read.now.query.columns ≤ 256 }
+        requires columns { IsNarrow read.now.query.columns }
         ensures reply { tells_want result ≡ false → result ≡ read_reply reading self.old read.now }
         ensures history { self.new ≡ moved reading self.old }
         ensures shard { IsShard self.new }

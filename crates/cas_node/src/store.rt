@@ -1,21 +1,24 @@
 //! The tables and the shards, and what each line does with them.
 
 ghost use Rattle.std.specs.Prelude.{◌≡◌, ◌++◌, OnOk, OnErr, IfOk, replicate, Ok as OkOf};
+ghost use Rattle.cas_types.specs.Limits.{IsMoment};
 ghost use Rattle.cas_bind.specs.Meaning.{meaning};
 ghost use Rattle.cas_bind.specs.Tables.{AreTables, IsWithin, tables_after};
 ghost use Rattle.cas_bind.specs.declared.bound.Bound.TheVariants as bounds;
-ghost use Rattle.cas_node.specs.History.{Answers, Defines, Does, IsReading, SetsClock, clamped as clamped_raw, empty_shard, start};
+ghost use Rattle.cas_node.specs.History.{Answers, Defines, Does, IsReading, SetsClock, clamped, empty_shard, start};
 ghost use Rattle.cas_node.specs.Lines.{Says};
-ghost use Rattle.cas_node.specs.Sound.{IsCommand, IsMoment, IsSound, IsTime, OrWant};
-ghost use Rattle.cas_node.specs.Stored.{stored};
+ghost use Rattle.cas_node.specs.Inner.Sound.{IsCommand, IsSound, IsTime, OrWant};
+ghost use Rattle.cas_node.specs.Inner.Stored.{stored};
 
 use crate::line::{Line, read_line};
 use crate::shard::ShardHistory;
 use crate::words::{ClockKind, Command};
-use cas_bind::{Addition, BindFault, Bound, BoundRead, BoundWrite, bind};
+use cas_bind::{Bound, BoundRead, bind};
+use cas_define::Addition;
+use cas_effects::{BindFault, BoundWrite, NOT_HERE, SYNTAX};
 use cas_io::Clock;
 use cas_render::{Failure, Reply};
-use cas_types::{Column, List, Mem, TableSchema};
+use cas_types::{Column, LAST_MICROSECOND, List, Mem, TableSchema};
 use cql_parse::Statement;
 use std::alloc::Global;
 use std::mem;
@@ -29,10 +32,10 @@ pub(crate) struct Store {
 }
 
 fn clamped(raw: i64) -> i64
-    ensures value { result ≡ clamped_raw raw }
+    ensures value { result ≡ clamped raw }
     ensures time { IsTime result }
 {
-    raw.max(0).min(253_402_300_799_999_999)
+    raw.max(0).min(LAST_MICROSECOND)
 }
 
 fn empty_shards(alloc: Global, count: u8) -> Result<Vec<ShardHistory>, Mem>
@@ -94,7 +97,8 @@ impl Store {
     }
 
     fn define(&mut self, table: TableSchema) -> Reply
-        ensures { OrWant result (stored self.old) (stored self.new) (Defines (stored self.old) (bounds.Create table) result (stored self.new)) }
+        ensures { OrWant result (stored self.old) (stored self.new)
+            (Defines (stored self.old) (bounds.Create table) result (stored self.new)) }
     {
         match add_table(&mut self.tables, table) {
             Ok(()) => Reply::Done,
@@ -104,7 +108,8 @@ impl Store {
 
     fn alter(&mut self, alloc: Global, addition: Addition) -> Reply
         requires { AreTables self.old.tables.items }
-        ensures { OrWant result (stored self.old) (stored self.new) (Defines (stored self.old) (bounds.Alter addition) result (stored self.new)) }
+        ensures { OrWant result (stored self.old) (stored self.new)
+            (Defines (stored self.old) (bounds.Alter addition) result (stored self.new)) }
     {
         let place = addition.table as usize;
         let Some(table) = self.tables.get_mut(place) else {
@@ -123,11 +128,12 @@ impl Store {
         alloc: Global,
         command: &Command,
         clock: &C,
-        write: &BoundWrite,
+        write: BoundWrite,
     ) -> Reply
         requires sound { IsSound command.now (stored self.old) }
-        requires within { IsWithin command.now.limits.shards (bounds.Write write.now) }
-        ensures does { Does command.now (C.may_give clock.now) (stored self.old) (OkOf (bounds.Write write.now)) result (stored self.new) }
+        requires within { IsWithin command.now.limits.shards (bounds.Write write) }
+        ensures does { Does command.now (C.may_give clock.now) (stored self.old) (OkOf (bounds.Write write))
+            result (stored self.new) }
         ensures sound { IsSound command.now (stored self.new) }
     {
         let reading = self.reading(command.clock, clock);
@@ -144,7 +150,8 @@ impl Store {
     ) -> Reply
         requires sound { IsSound command.now (stored self.old) }
         requires within { IsWithin command.now.limits.shards (bounds.Read read.now) }
-        ensures does { Does command.now (C.may_give clock.now) (stored self.old) (OkOf (bounds.Read read.now)) result (stored self.new) }
+        ensures does { Does command.now (C.may_give clock.now) (stored self.old) (OkOf (bounds.Read read.now))
+            result (stored self.new) }
         ensures sound { IsSound command.now (stored self.new) }
     {
         let reading = self.reading(command.clock, clock);
@@ -162,13 +169,14 @@ impl Store {
         requires sound { IsSound command.now (stored self.old) }
         requires kept { AreTables (tables_after self.old.tables.items bound) }
         requires within { IsWithin command.now.limits.shards bound }
-        ensures does { OrWant result (stored self.old) (stored self.new) (Does command.now (C.may_give clock.now) (stored self.old) (OkOf bound) result (stored self.new)) }
+        ensures does { OrWant result (stored self.old) (stored self.new)
+            (Does command.now (C.may_give clock.now) (stored self.old) (OkOf bound) result (stored self.new)) }
         ensures sound { IsSound command.now (stored self.new) }
     {
         match bound {
             Bound::Create(table) => self.define(table),
             Bound::Alter(addition) => self.alter(alloc, addition),
-            Bound::Write(write) => self.write(alloc, command, clock, &write),
+            Bound::Write(write) => self.write(alloc, command, clock, write),
             Bound::Read(read) => self.read(alloc, command, clock, &read),
         }
     }
@@ -182,7 +190,9 @@ impl Store {
     ) -> Reply
         requires command { IsCommand command.now }
         requires sound { IsSound command.now (stored self.old) }
-        ensures does { OrWant result (stored self.old) (stored self.new) (Does command.now (C.may_give clock.now) (stored self.old) (meaning command.now.limits.shards self.old.tables.items statement.now) result (stored self.new)) }
+        ensures does { OrWant result (stored self.old) (stored self.new)
+            (Does command.now (C.may_give clock.now) (stored self.old)
+            (meaning command.now.limits.shards self.old.tables.items statement.now) result (stored self.new)) }
         ensures sound { IsSound command.now (stored self.new) }
     {
         match bind(alloc, &self.tables, statement, &command.limits) {
@@ -200,7 +210,7 @@ impl Store {
                 self.clock = seconds;
                 Reply::Done
             }
-            ClockKind::System => Reply::Refused(13),
+            ClockKind::System => Reply::Refused(NOT_HERE),
         }
     }
 
@@ -215,12 +225,13 @@ impl Store {
         requires command { IsCommand command.now }
         requires sound { IsSound command.now (stored self.old) }
         requires says { Says text.now line }
-        ensures answers { Answers command.now (C.may_give clock.now) (stored self.old) text.now result (stored self.new) }
+        ensures answers { Answers command.now (C.may_give clock.now) (stored self.old) text.now result
+            (stored self.new) }
         ensures sound { IsSound command.now (stored self.new) }
     {
         match line {
             Line::Blank => None,
-            Line::Syntax => Some(Reply::Refused(1)),
+            Line::Syntax => Some(Reply::Refused(SYNTAX)),
             Line::Clock(seconds) => Some(self.set_clock(command.clock, seconds)),
             Line::Statement(statement) => {
                 Some(self.answer_statement(alloc, command, clock, &statement))
@@ -238,7 +249,8 @@ impl Store {
     ) -> Option<Reply>
         requires command { IsCommand command.now }
         requires sound { IsSound command.now (stored self.old) }
-        ensures answers { Answers command.now (C.may_give clock.now) (stored self.old) line.now result (stored self.new) }
+        ensures answers { Answers command.now (C.may_give clock.now) (stored self.old) line.now result
+            (stored self.new) }
         ensures sound { IsSound command.now (stored self.new) }
     {
         match read_line(alloc, line) {

@@ -1,190 +1,127 @@
-use crate::script_runs::{Case, USUAL, expect, expect_each, run_over, run_script, text_of, words};
-use crate::{Cause, SCRIPT_LIMIT};
-use cas_io::{Failed, MemSink, MemSource, Source};
+//! What no script can show: faults of the source and the sink, the longest script, many statements,
+//! the words. Scripts stand in `cas_rows`.
+
+mod words;
+
+use crate::{Cause, Outcome, Pass, SCRIPT_LIMIT, run};
+use cas_disk::MemFolder;
+use cas_io::{Failed, FreeGate, ManualClock, MemSink, MemSource, Source};
+use std::alloc::Global;
 use std::fmt::Write;
 use std::test::Fail;
 
-const CREATE: &str = "CREATE TABLE t (k int, c int, v text, PRIMARY KEY (k, c));";
+const CREATE: &str = "CREATE TABLE t (k int, c int, v text, PRIMARY KEY (k, c));\n";
 
-const INSERT: &str = "INSERT INTO t (k, c, v) VALUES (1, 1, 'a');";
+const INSERT: &str = "INSERT INTO t (k, c, v) VALUES (1, 1, 'a');\n";
 
-const SELECT: &str = "SELECT * FROM t WHERE k = 1";
-
-const SCRIPTS: [Case; 8] = [
-    (&[], &[], 0),
-    (&["", " \t\r", "", "-- c", "// c", " /* c */"], &[], 0),
-    (
-        &[CREATE, INSERT, "SELECT * FROM t WHERE k = 1;"],
-        &[
-            "ok",
-            "ok 1",
-            "1 | 1 | 'a'",
-            "-- 1 rows, shard 0, front 1, now 0",
-        ],
-        0,
-    ),
-    (
-        &[
-            CREATE,
-            INSERT,
-            "\r",
-            "INSERT INTO t (k, c, v) VALUES (1, -1, 'it''s');\r",
-            INSERT,
-            SELECT,
-        ],
-        &[
-            "ok",
-            "ok 1",
-            "ok 2",
-            "ok 3",
-            "1 | -1 | 'it''s'",
-            "1 | 1 | 'a'",
-            "-- 2 rows, shard 0, front 3, now 0",
-        ],
-        0,
-    ),
-    (
-        &[CREATE, INSERT, "SELECT * FROM t WHERE k = 2"],
-        &["ok", "ok 1", "-- 0 rows, shard 0, front 1, now 0"],
-        0,
-    ),
-    (&["INSERT INTO t (k"], &["refused S1"], 2),
-    (
-        &["\\clock", "\\clock 253402300800", "\\clock 1 2"],
-        &["refused S1", "refused S1", "refused S1"],
-        2,
-    ),
-    (
-        &[
-            INSERT,
-            CREATE,
-            "@1 INSERT INTO t (k, c, v) VALUES (1, 1, 'a');",
-            CREATE,
-            INSERT,
-            SELECT,
-        ],
-        &[
-            "refused S2",
-            "ok",
-            "refused S1",
-            "refused S8",
-            "ok 1",
-            "1 | 1 | 'a'",
-            "-- 1 rows, shard 0, front 1, now 0",
-        ],
-        2,
-    ),
-];
-
-#[test]
-fn scripts_print_what_their_lines_answer(rt: HostRuntime) -> Result<(), Fail> {
-    expect_each(&rt, rt.alloc(), &SCRIPTS)
+/// What a run came to: how it ended, what it wrote, and the numbers of its mutations (none where no
+/// line was run).
+#[derive(Drop)]
+struct Ended {
+    status: u8,
+    cause: Cause,
+    output: Vec<u8>,
+    numbers: Option<Vec<u64>>,
 }
 
-// Want of memory is an answer that needs no cause, so that a body which always gives it is refused
-// by a run alone.
-#[test]
-fn always_out_of_memory(rt: HostRuntime) -> Result<(), Fail> {
-    let alloc = rt.alloc();
-    let script = text_of(alloc, &[CREATE, INSERT])?;
-    let ran = run_script(alloc, USUAL, &script)?;
-    assert_eq!(rt; ran.cause, Cause::Good);
-    assert!(rt; ran.was_run);
-    assert_eq!(rt; ran.numbers.as_slice(), [1].as_slice());
-    Ok(())
-}
-
-#[test]
-fn words_of_the_command_are_taken(rt: HostRuntime) -> Result<(), Fail> {
-    let alloc = rt.alloc();
-    let table: [&str; 5] = [
-        "d",
-        "--clock manual --shards 1 d",
-        "d --clock=system --shards=16",
-        "--segment 4096 --memtable 4096 --compactors 0 d",
-        "--segment 33554432 --memtable 1073741824 --compactors 4 d",
-    ];
-    for command in &table {
-        expect(&rt, alloc, command, &[CREATE], &["ok"], 0)?;
+/// The words that the text has between its blanks.
+fn words_of(alloc: Global, text: &str) -> Result<Vec<String>, Fail> {
+    let mut list = Vec::new(alloc);
+    for word in text.split(' ') {
+        list.push(String::from_str(alloc, word)?)?;
     }
-    Ok(())
+    Ok(list)
 }
 
-#[test]
-fn other_words_are_refused(rt: HostRuntime) -> Result<(), Fail> {
-    let alloc = rt.alloc();
-    let table: [&str; 13] = [
-        "",
-        "-d",
-        "d e",
-        "--help",
-        "--clock manual --shards 1",
-        "--clock none d",
-        "--shards 0 d",
-        "--shards 17 d",
-        "--shards 1 --shards 1 d",
-        "--segment 4095 d",
-        "--memtable 4095 d",
-        "--compactors 5 d",
-        "--gen 1 d",
-    ];
-    for command in &table {
-        let ran = run_script(alloc, command, CREATE)?;
-        assert_eq!(rt; ran.status, 1, "{command}");
-        assert_eq!(rt; ran.output.len(), 0, "{command}");
-        assert!(rt; !ran.was_run, "{command}");
+fn numbers_of(alloc: Global, pass: &Option<Pass>) -> Result<Option<Vec<u64>>, Fail> {
+    let Some(pass) = pass else {
+        return Ok(None);
+    };
+    let mut numbers = Vec::new(alloc);
+    for shard in pass.shards.as_slice() {
+        for entry in shard.entries.as_slice() {
+            numbers.push(entry.number)?;
+        }
     }
-    Ok(())
+    Ok(Some(numbers))
 }
 
+// Runs with the manual clock and one shard.
+fn run_over<S: Source>(alloc: Global, source: &mut S, mut sink: MemSink) -> Result<Ended, Fail> {
+    let words = words_of(alloc, "--clock manual --shards 1 d")?;
+    let clock = ManualClock { reading: 7 };
+    let Outcome {
+        status,
+        cause,
+        pass,
+        folder: _folder,
+        tally: _tally,
+    } = run(
+        alloc, &words, source, &mut sink, MemFolder, &clock, &FreeGate,
+    );
+    let numbers = numbers_of(alloc, &pass)?;
+    let output = sink.taken().to_vec(alloc)?;
+    Ok(Ended {
+        status,
+        cause,
+        output,
+        numbers,
+    })
+}
+
+fn source_of(alloc: Global, text: &str) -> Result<MemSource, Fail> {
+    Ok(MemSource::new(text.as_bytes().to_vec(alloc)?))
+}
+
+fn script(alloc: Global) -> Result<String, Fail> {
+    Ok(format!(in alloc; "{CREATE}{INSERT}{INSERT}")?)
+}
+
+// Out of memory is an answer that needs no cause, so that a body which always gives it is refused by
+// a run alone.
 #[test]
-fn no_words_are_refused(rt: HostRuntime) -> Result<(), Fail> {
+fn a_run_ends_well_and_hands_back_its_mutations(rt: HostRuntime) -> Result<(), Fail> {
     let alloc = rt.alloc();
-    let mut source = MemSource::new(Vec::new(alloc));
-    let ran = run_over(alloc, &[], &mut source, MemSink::new(alloc))?;
-    assert_eq!(rt; ran.status, 1);
-    assert!(rt; !ran.was_run);
+    let mut source = source_of(alloc, &script(alloc)?)?;
+    let ended = run_over(alloc, &mut source, MemSink::new(alloc))?;
+    assert_eq!(rt; ended.cause, Cause::Good);
+    assert_eq!(rt; ended.output.as_slice(), b"ok\nok 1\nok 2\n".as_slice());
+    assert!(rt;
+        ended
+            .numbers
+            .is_some_and(|numbers| numbers.as_slice() == [1, 2].as_slice())
+    );
     Ok(())
 }
 
+// The source fails after ten bytes.
 #[test]
 fn a_source_that_fails_is_not_run(rt: HostRuntime) -> Result<(), Fail> {
     let alloc = rt.alloc();
-    let command = words(alloc, USUAL)?;
     let mut source = MemSource::with_plan(CREATE.as_bytes().to_vec(alloc)?, Some(10), 7);
-    let ran = run_over(alloc, &command, &mut source, MemSink::new(alloc))?;
-    assert_eq!(rt; ran.status, 3);
-    assert_eq!(rt; ran.output.len(), 0);
-    assert!(rt; !ran.was_run);
+    let ended = run_over(alloc, &mut source, MemSink::new(alloc))?;
+    assert_eq!(rt; (ended.status, ended.output.len()), (3, 0));
+    assert!(rt; ended.numbers.is_none());
     Ok(())
 }
 
-// The third write fails, and each takes at most nine bytes.
+// The second write fails; or each takes nothing.
 #[test]
-fn a_sink_that_fails_ends_the_run(rt: HostRuntime) -> Result<(), Fail> {
+fn a_sink_that_fails_or_takes_nothing_ends_the_run(rt: HostRuntime) -> Result<(), Fail> {
     let alloc = rt.alloc();
-    let command = words(alloc, USUAL)?;
-    let script = text_of(alloc, &[CREATE, INSERT, INSERT])?;
-    let mut source = MemSource::new(script.into_bytes());
-    let failing = vec![in alloc; 2]?;
-    let sink = MemSink::with_plan(alloc, failing, 9);
-    let ran = run_over(alloc, &command, &mut source, sink)?;
-    assert_eq!(rt; ran.status, 4);
-    assert_eq!(rt; ran.output.as_slice(), b"ok\n".as_slice());
-    assert!(rt; ran.was_run);
-    assert_eq!(rt; ran.numbers.as_slice(), [1].as_slice());
-    Ok(())
-}
-
-#[test]
-fn a_sink_that_takes_nothing_ends_the_run(rt: HostRuntime) -> Result<(), Fail> {
-    let alloc = rt.alloc();
-    let command = words(alloc, USUAL)?;
-    let mut source = MemSource::new(CREATE.as_bytes().to_vec(alloc)?);
+    let script = script(alloc)?;
+    let failing = MemSink::with_plan(alloc, vec![in alloc; 2]?, 9);
+    let failed = run_over(alloc, &mut source_of(alloc, &script)?, failing)?;
+    assert_eq!(rt; failed.status, 4);
+    assert_eq!(rt; failed.output.as_slice(), b"ok\n".as_slice());
+    assert!(rt;
+        failed
+            .numbers
+            .is_some_and(|numbers| numbers.as_slice() == [1].as_slice())
+    );
     let stalling = MemSink::with_plan(alloc, Vec::new(alloc), 0);
-    let ran = run_over(alloc, &command, &mut source, stalling)?;
-    assert_eq!(rt; ran.status, 4);
-    assert_eq!(rt; ran.output.len(), 0);
+    let stalled = run_over(alloc, &mut source_of(alloc, &script)?, stalling)?;
+    assert_eq!(rt; (stalled.status, stalled.output.len()), (4, 0));
     Ok(())
 }
 
@@ -210,27 +147,23 @@ impl Source for Feeds {
 }
 
 #[test]
-fn a_script_above_the_limit_is_not_run(rt: HostRuntime) -> Result<(), Fail> {
+fn the_longest_script_of_empty_lines_is_run(rt: HostRuntime) -> Result<(), Fail> {
     let alloc = rt.alloc();
-    let command = words(alloc, USUAL)?;
-    let mut source = Feeds {
-        left: SCRIPT_LIMIT + 1,
-    };
-    let ran = run_over(alloc, &command, &mut source, MemSink::new(alloc))?;
-    assert_eq!(rt; ran.status, 8);
-    assert_eq!(rt; ran.cause, Cause::TooLong { taken: 67_108_865 });
-    assert!(rt; !ran.was_run);
+    let mut source = Feeds { left: SCRIPT_LIMIT };
+    let ended = run_over(alloc, &mut source, MemSink::new(alloc))?;
+    assert_eq!(rt; (ended.status, ended.output.len()), (0, 0));
     Ok(())
 }
 
 #[test]
-fn the_longest_script_of_empty_lines_is_run(rt: HostRuntime) -> Result<(), Fail> {
+fn a_script_above_the_limit_is_not_run(rt: HostRuntime) -> Result<(), Fail> {
     let alloc = rt.alloc();
-    let command = words(alloc, USUAL)?;
-    let mut source = Feeds { left: SCRIPT_LIMIT };
-    let ran = run_over(alloc, &command, &mut source, MemSink::new(alloc))?;
-    assert_eq!(rt; ran.status, 0);
-    assert_eq!(rt; ran.output.len(), 0);
+    let mut source = Feeds {
+        left: SCRIPT_LIMIT + 1,
+    };
+    let ended = run_over(alloc, &mut source, MemSink::new(alloc))?;
+    assert_eq!(rt; ended.cause, Cause::TooLong { taken: 67_108_865 });
+    assert!(rt; ended.numbers.is_none());
     Ok(())
 }
 
@@ -251,12 +184,11 @@ fn many_statements(script: &mut String, count: u32) -> Result<(), Fail> {
 #[test]
 fn ten_thousand_statements_end(rt: HostRuntime) -> Result<(), Fail> {
     let alloc = rt.alloc();
-    let mut script = text_of(alloc, &[CREATE])?;
+    let mut script = String::from_str(alloc, CREATE)?;
     many_statements(&mut script, 10_000)?;
-    let ran = run_script(alloc, USUAL, &script)?;
-    assert_eq!(rt; ran.status, 0);
-    assert_eq!(rt; ran.numbers.len(), 9_900);
+    let ended = run_over(alloc, &mut source_of(alloc, &script)?, MemSink::new(alloc))?;
+    assert_eq!(rt; ended.status, 0);
     let last = b"\n0 | 9992 | 'a'\n-- 1200 rows, shard 0, front 9900, now 0\n".as_slice();
-    assert!(rt; ran.output.ends_with(last));
+    assert!(rt; ended.output.ends_with(last));
     Ok(())
 }

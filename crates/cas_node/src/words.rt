@@ -4,15 +4,40 @@ ghost use Rattle.std.specs.Prelude.{◌≡◌, ◌≢◌, ◌≤◌, IfOk, IfSom
 ghost use Rattle.std.specs.Char.{is_ascii_digit};
 ghost use Rattle.std.specs.List.{list_all, list_any};
 ghost use Rattle.clap.specs.Words.{app_of, kind_of, rule_of};
-ghost use Rattle.cas_node.specs.Words.{clock_named as clock_named_of, clock_or, command_in, command_of as command_of_words, folder_in, in_range as in_range_of, is_numeral as is_numeral_of, limits_in, name as name_of, number_in as number_in_range, number_or, path};
-ghost use Rattle.cas_node.specs.Sound.{IsCommand};
-ghost use Rattle.cas_node.specs.Parser.{bare, folder_rule, found_in, is_stray as is_stray_word, option_rule, parser as parser_of, with_option as with_option_of};
+ghost use Rattle.cas_node.specs.Words.{clock_named, clock_or, command_in, command_of, folder_in, is_numeral, limits_in, name};
+ghost use Rattle.cas_node.specs.Words.{number_between, number_in, number_or, path};
+ghost use Rattle.cas_node.specs.Inner.Sound.{IsCommand};
+ghost use Rattle.cas_node.specs.Inner.Parser.{bare, folder_rule, found_in, is_stray, option_rule, parser, with_option};
 
 use cas_bind::Limits;
-use cas_types::{Mem, Text};
+use cas_types::{Mem, SHARD_LIMIT, Text};
 use clap::error::ErrorKind;
 use clap::{Arg, ArgMatches, Error};
 use std::alloc::{AllocError, Global};
+
+/// How many shards a store has where the words don't say.
+pub const SHARDS_USUAL: u64 = 4;
+
+/// The fewest bytes of a segment of the commit log.
+pub const SEGMENT_LEAST: u64 = 4_096;
+
+/// The most bytes of a segment: 32 MiB, which it has where the words don't say.
+pub const SEGMENT_LIMIT: u64 = 33_554_432;
+
+/// The fewest bytes of a memtable.
+pub const MEMTABLE_LEAST: u64 = 4_096;
+
+/// The most bytes of a memtable: 1 GiB.
+pub const MEMTABLE_LIMIT: u64 = 1_073_741_824;
+
+/// How many bytes a memtable has where the words don't say: 4 MiB.
+pub const MEMTABLE_USUAL: u64 = 4_194_304;
+
+/// The most compactors.
+pub const COMPACTOR_LIMIT: u64 = 4;
+
+/// How many compactors there are where the words don't say.
+pub const COMPACTORS_USUAL: u64 = 1;
 
 /// Which clock a run reads.
 #[derive(Clone, Copy, Debug, PartialEq, Eq)]
@@ -43,7 +68,7 @@ pub(crate) enum Setting {
 impl Setting {
     /// How it is called: an option behind its two minuses.
     fn name(self) -> &'static str
-        ensures { result.now ≡ name_of self }
+        ensures { result.now ≡ name self }
     {
         match self {
             Setting::Shards => "shards",
@@ -85,13 +110,13 @@ fn with_option<'a>(
     parser: clap::Command<'a>,
     setting: Setting,
 ) -> Result<clap::Command<'a>, AllocError>
-    ensures { IfOk result (λ p. app_of p ≡ with_option_of (app_of parser.entry) setting) }
+    ensures { IfOk result (λ p. app_of p ≡ with_option (app_of parser.entry) setting) }
 {
     parser.arg(option_arg(alloc, setting.name()))
 }
 
 fn make_parser<'a>(alloc: Global) -> Result<clap::Command<'a>, AllocError>
-    ensures { IfOk result (λ p. app_of p ≡ parser_of) }
+    ensures { IfOk result (λ p. app_of p ≡ parser) }
 {
     let parser = bare_parser(alloc);
     let parser = with_option(alloc, parser, Setting::Shards)?;
@@ -104,7 +129,7 @@ fn make_parser<'a>(alloc: Global) -> Result<clap::Command<'a>, AllocError>
 
 // Whether the word begins with a minus and is no `--NAME`.
 fn is_stray(word: &[u8]) -> bool
-    ensures { result ≡ is_stray_word word.now }
+    ensures { result ≡ is_stray word.now }
 {
     match word {
         [b'-', b'-', _name, _rest @ ..] => false,
@@ -114,7 +139,7 @@ fn is_stray(word: &[u8]) -> bool
 }
 
 fn has_stray(words: &[String]) -> bool
-    ensures { result ≡ list_any is_stray_word (map string_bytes words.now) }
+    ensures { result ≡ list_any is_stray (map string_bytes words.now) }
 {
     words.iter().any(|word| is_stray(word.as_bytes()))
 }
@@ -127,7 +152,7 @@ fn are_digits(text: &[u8]) -> bool
 
 // Decimal digits, with no sign and no zero before another digit.
 fn is_numeral(text: &[u8]) -> bool
-    ensures { result ≡ is_numeral_of text.now }
+    ensures { result ≡ is_numeral text.now }
 {
     match text {
         [] => false,
@@ -136,8 +161,8 @@ fn is_numeral(text: &[u8]) -> bool
     }
 }
 
-fn in_range(number: u64, least: u64, most: u64) -> Option<u64>
-    ensures { result ≡ in_range_of least most number }
+fn number_between(number: u64, least: u64, most: u64) -> Option<u64>
+    ensures { result ≡ number_between least most number }
 {
     if least <= number && number <= most {
         Some(number)
@@ -147,14 +172,14 @@ fn in_range(number: u64, least: u64, most: u64) -> Option<u64>
 }
 
 fn number_in(text: &str, least: u64, most: u64) -> Option<u64>
-    ensures value { result ≡ number_in_range least most text.now }
+    ensures value { result ≡ number_in least most text.now }
     ensures within { IfSome result (λ n. n ≤ most) }
 {
     if !is_numeral(text.as_bytes()) {
         return None;
     }
     match text.parse::<u64>() {
-        Ok(number) => in_range(number, least, most),
+        Ok(number) => number_between(number, least, most),
         Err(_) => None,
     }
 }
@@ -186,10 +211,34 @@ fn number_of(
 fn limits_of(matches: &ArgMatches<'_>) -> Option<Limits>
     ensures { result ≡ limits_in (found_in matches.now) }
 {
-    let shards = number_of(matches, Setting::Shards, 1, 16, 4)?;
-    let segment = number_of(matches, Setting::Segment, 4_096, 33_554_432, 33_554_432)?;
-    let memtable = number_of(matches, Setting::Memtable, 4_096, 1_073_741_824, 4_194_304)?;
-    let compactors = number_of(matches, Setting::Compactors, 0, 4, 1)?;
+    let shards = number_of(
+        matches,
+        Setting::Shards,
+        1,
+        u64::from(SHARD_LIMIT),
+        SHARDS_USUAL,
+    )?;
+    let segment = number_of(
+        matches,
+        Setting::Segment,
+        SEGMENT_LEAST,
+        SEGMENT_LIMIT,
+        SEGMENT_LIMIT,
+    )?;
+    let memtable = number_of(
+        matches,
+        Setting::Memtable,
+        MEMTABLE_LEAST,
+        MEMTABLE_LIMIT,
+        MEMTABLE_USUAL,
+    )?;
+    let compactors = number_of(
+        matches,
+        Setting::Compactors,
+        0,
+        COMPACTOR_LIMIT,
+        COMPACTORS_USUAL,
+    )?;
     Some(Limits {
         shards: shards as u8,
         segment,
@@ -199,7 +248,7 @@ fn limits_of(matches: &ArgMatches<'_>) -> Option<Limits>
 }
 
 fn clock_named(text: &str) -> Option<ClockKind>
-    ensures { result ≡ clock_named_of text.now }
+    ensures { result ≡ clock_named text.now }
 {
     if text == "system" {
         Some(ClockKind::System)
@@ -261,8 +310,8 @@ fn refused<'a>(error: &Error) -> Result<Option<ArgMatches<'a>>, AllocError>
 
 // What clap finds in the words, and nothing where it, or a stray word, refuses them.
 fn matches_of<'a>(alloc: Global, words: &'a [String]) -> Result<Option<ArgMatches<'a>>, AllocError>
-    ensures { IfOk result (λ o. MatchOption o (command_of_words (map string_bytes words.now) ≡ None)
-        (λ m. command_of_words (map string_bytes words.now) ≡ command_in (found_in m))) }
+    ensures { IfOk result (λ o. MatchOption o (command_of (map string_bytes words.now) ≡ None)
+        (λ m. command_of (map string_bytes words.now) ≡ command_in (found_in m))) }
 {
     if has_stray(words) {
         return Ok(None);
@@ -275,7 +324,7 @@ fn matches_of<'a>(alloc: Global, words: &'a [String]) -> Result<Option<ArgMatche
 }
 
 fn command_of(alloc: Global, words: &[String]) -> Result<Option<Command>, AllocError>
-    ensures { IfOk result (λ c. c ≡ command_of_words (map string_bytes words.now)) }
+    ensures { IfOk result (λ c. c ≡ command_of (map string_bytes words.now)) }
 {
     match matches_of(alloc, words)? {
         Some(matches) => command_from(alloc, &matches),
@@ -286,7 +335,7 @@ fn command_of(alloc: Global, words: &[String]) -> Result<Option<Command>, AllocE
 /// The command that the words are, and `None` exactly where they aren't in its definition.
 #[tactic(auto, using(crate::proofs::Commands::each_command))]
 pub(crate) fn read_words(alloc: Global, words: &[String]) -> Result<Option<Command>, AllocError>
-    ensures exact { IfOk result (λ c. c ≡ command_of_words (map string_bytes words.now)) }
+    ensures exact { IfOk result (λ c. c ≡ command_of (map string_bytes words.now)) }
     ensures command { IfOk result (λ c. IfSome c IsCommand) }
 {
     let command = command_of(alloc, words)?;

@@ -6,7 +6,7 @@ use Rattle.std.specs.Int.{w8, w16, w32, w64}
 use Rattle.std.specs.Fmt.{decimal, signed_decimal}
 use Rattle.hex.specs.Hex.{encode_lower}
 use Rattle.uuid.specs.Text.{hyphenated_text, lower}
-use Rattle.cas_types.specs.Values.{number, day_number, is_value}
+use Rattle.cas_types.specs.Values.{signed_number, day_number, is_value}
 use Rattle.cas_types.specs.declared.tag.TypeTag.{TypeTag}
 use Rattle.cas_types.specs.declared.tag.TypeTag.TheVariants as tag
 use Rattle.cas_atoms.specs.Coordinates.{same_bytes}
@@ -18,7 +18,7 @@ use Rattle.cas_render.specs.declared.reply.Failure.TheVariants as failure
 use Rattle.cas_render.specs.declared.reply.Reply.{Reply}
 use Rattle.cas_render.specs.declared.reply.Reply.TheVariants as reply
 
--- a quote in a text is doubled
+-- a byte of a text, a quote twice
 abbrev pub quoted_byte : ℕ → List ℕ
 quoted_byte b = if b == 39 then 39 ∷ 39 ∷ [] else b ∷ []
 
@@ -34,12 +34,12 @@ blob_text bytes = codes "0x" ++ encode_lower bytes
 abbrev pub boolean_text : List ℕ → List ℕ
 boolean_text bytes = if same_bytes bytes (1 ∷ []) then codes "true" else codes "false"
 
--- a number with its sign; only bytes that are no value have none
+-- a number with its sign: -12, 7; only bytes that are no value of the type have none
 abbrev pub number_text : Option ℤ → List ℕ
 number_text None = []
 number_text (Some n) = signed_decimal n
 
--- a date is the number of its day, which has no sign (own); only bytes that are no value have none
+-- a date is the number of its day, which has no sign: 2147483648 is 1970-01-01 (own); only bytes that are no value have none
 abbrev pub day_text : Option ℕ → List ℕ
 day_text None = []
 day_text (Some n) = decimal n
@@ -47,24 +47,24 @@ day_text (Some n) = decimal n
 -- the constant that a statement would write the value as; time and timestamp are numbers (own), uuids have small letters (own)
 abbrev pub constant_text : TypeTag → List ℕ → List ℕ
 constant_text tag.Ascii bytes = quoted bytes
-constant_text tag.BigInt bytes = number_text (number w64 bytes)
+constant_text tag.BigInt bytes = number_text (signed_number w64 bytes)
 constant_text tag.Blob bytes = blob_text bytes
 constant_text tag.Boolean bytes = boolean_text bytes
 constant_text tag.Date bytes = day_text (day_number bytes)
-constant_text tag.Int bytes = number_text (number w32 bytes)
-constant_text tag.SmallInt bytes = number_text (number w16 bytes)
+constant_text tag.Int bytes = number_text (signed_number w32 bytes)
+constant_text tag.SmallInt bytes = number_text (signed_number w16 bytes)
 constant_text tag.Text bytes = quoted bytes
-constant_text tag.Time bytes = number_text (number w64 bytes)
-constant_text tag.Timestamp bytes = number_text (number w64 bytes)
+constant_text tag.Time bytes = number_text (signed_number w64 bytes)
+constant_text tag.Timestamp bytes = number_text (signed_number w64 bytes)
 constant_text tag.TimeUuid bytes = hyphenated_text lower bytes
-constant_text tag.TinyInt bytes = number_text (number w8 bytes)
+constant_text tag.TinyInt bytes = number_text (signed_number w8 bytes)
 constant_text tag.Uuid bytes = hyphenated_text lower bytes
 
 -- bytes that are no value of the type are written as a blob, so that nothing is hidden (own)
 unfoldable pub value_text : TypeTag → List ℕ → List ℕ
 value_text tag bytes = if is_value tag bytes then constant_text tag bytes else blob_text bytes
 
--- an entry of a map is its key, a colon and its value
+-- an entry of a map: its key, a colon and its value, 'a': 1
 abbrev pub entry_text : TypeTag → TypeTag → List ℕ × List ℕ → List ℕ
 entry_text keys values entry = value_text keys entry.0 ++ codes ": " ++ value_text values entry.1
 
@@ -77,16 +77,17 @@ datum_text (datum.Set t values) = codes "{" ++ join_by (value_text t) (codes ", 
 datum_text (datum.List t values) = codes "[" ++ join_by (value_text t) (codes ", ") values ++ codes "]"
 datum_text (datum.Map t u entries) = codes "{" ++ join_by (entry_text t u) (codes ", ") entries ++ codes "}"
 
--- a row is a line, its values with bars between them
+-- a row is a line, its values with bars between them: 1 | 2 | 'a'
 unfoldable pub row_text : LiveRow → List ℕ
 row_text row = join_by datum_text (codes " | ") row.values ++ codes "\n"
 
--- the line after a slice's rows: how many there are, of which shard, up to which mutation, at which second
+-- the line after a slice's rows, -- 2 rows, shard 0, front 4, now 0: how many there are, of which shard, up to which mutation, at which second
 unfoldable pub trailer : ℕ → ℕ → ℕ → ℤ → List ℕ
 trailer rows shard front now =
-    codes "-- " ++ decimal rows ++ codes " rows, shard " ++ decimal shard ++ codes ", front " ++ decimal front ++ codes ", now " ++ signed_decimal now ++ codes "\n"
+    codes "-- " ++ decimal rows ++ codes " rows, shard " ++ decimal shard ++ codes ", front " ++ decimal front
+    ++ codes ", now " ++ signed_decimal now ++ codes "\n"
 
--- a fault is a line that names its kind
+-- a failure is a line that names its kind
 abbrev pub failure_text : Failure → List ℕ
 failure_text failure.Memory = codes "failed memory\n"
 failure_text failure.Stopped = codes "failed stopped\n"

@@ -123,7 +123,7 @@ pub(crate) fn append_datum(alloc: Global, out: &mut Vec<u8>, datum: &Datum) -> R
 {
     match datum {
         Datum::Null => append(out, b"null"),
-        Datum::Number(number) => append_signed(alloc, out, *number),
+        Datum::Number(number) => append_signed(out, *number),
         Datum::One(tag, bytes) => append_value(alloc, out, *tag, bytes.as_slice()),
         Datum::Set(tag, values) => {
             append(out, b"{")?;

@@ -4,7 +4,7 @@ ghost use Rattle.std.specs.Prelude.{◌≡◌, ◌++◌, length, OnOk, IsTrue};
 ghost use Rattle.std.specs.List.{flat_map};
 ghost use Rattle.std.specs.Int.{w64};
 ghost use Rattle.uuid.specs.Text.{hyphenated_text, lower};
-ghost use Rattle.cas_types.specs.Values.{number, day_number, is_value};
+ghost use Rattle.cas_types.specs.Values.{signed_number, day_number, is_value};
 ghost use Rattle.cas_render.specs.Text.{quoted_byte, quoted, blob_text, boolean_text, number_text, day_text, constant_text, value_text};
 
 use crate::pieces::{append, append_number, append_signed};
@@ -73,21 +73,21 @@ fn append_uuid(out: &mut Vec<u8>, bytes: &[u8]) -> Result<(), Mem>
 }
 
 // The number, where there is one.
-fn append_if_number(alloc: Global, out: &mut Vec<u8>, number: Option<i64>) -> Result<(), Mem>
+fn append_if_number(out: &mut Vec<u8>, number: Option<i64>) -> Result<(), Mem>
     ensures { OnOk result (out.new.items ≡ out.old.items ++ number_text number) }
 {
     match number {
-        Some(number) => append_signed(alloc, out, number),
+        Some(number) => append_signed(out, number),
         None => Ok(()),
     }
 }
 
 // The day, where there is one.
-fn append_if_day(alloc: Global, out: &mut Vec<u8>, day: Option<u32>) -> Result<(), Mem>
+fn append_if_day(out: &mut Vec<u8>, day: Option<u32>) -> Result<(), Mem>
     ensures { OnOk result (out.new.items ≡ out.old.items ++ day_text day) }
 {
     match day {
-        Some(day) => append_number(alloc, out, u64::from(day)),
+        Some(day) => append_number(out, u64::from(day)),
         None => Ok(()),
     }
 }
@@ -100,13 +100,13 @@ fn append_constant(alloc: Global, out: &mut Vec<u8>, tag: TypeTag, bytes: &[u8])
         TypeTag::Ascii | TypeTag::Text => append_quoted(out, bytes),
         TypeTag::Blob => append_blob(alloc, out, bytes),
         TypeTag::Boolean => append_boolean(out, bytes),
-        TypeTag::TinyInt => append_if_number(alloc, out, tinyint_value(bytes).map(i64::from)),
-        TypeTag::SmallInt => append_if_number(alloc, out, smallint_value(bytes).map(i64::from)),
-        TypeTag::Int => append_if_number(alloc, out, int_value(bytes).map(i64::from)),
+        TypeTag::TinyInt => append_if_number(out, tinyint_value(bytes).map(i64::from)),
+        TypeTag::SmallInt => append_if_number(out, smallint_value(bytes).map(i64::from)),
+        TypeTag::Int => append_if_number(out, int_value(bytes).map(i64::from)),
         TypeTag::BigInt | TypeTag::Time | TypeTag::Timestamp => {
-            append_if_number(alloc, out, bigint_value(bytes))
+            append_if_number(out, bigint_value(bytes))
         }
-        TypeTag::Date => append_if_day(alloc, out, date_value(bytes)),
+        TypeTag::Date => append_if_day(out, date_value(bytes)),
         TypeTag::TimeUuid | TypeTag::Uuid => append_uuid(out, bytes),
     }
 }

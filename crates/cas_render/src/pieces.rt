@@ -4,7 +4,7 @@ ghost use Rattle.std.specs.Prelude.{◌≡◌, ◌++◌, OnOk, OnErr};
 ghost use Rattle.std.specs.Fmt.{decimal, signed_decimal};
 
 use cas_types::Mem;
-use std::alloc::Global;
+use itoa::Buffer;
 
 pub(crate) fn append(out: &mut Vec<u8>, bytes: &[u8]) -> Result<(), Mem>
     ensures ok { OnOk result (out.new.items ≡ out.old.items ++ bytes.now) }
@@ -16,16 +16,16 @@ pub(crate) fn append(out: &mut Vec<u8>, bytes: &[u8]) -> Result<(), Mem>
     }
 }
 
-pub(crate) fn append_number(alloc: Global, out: &mut Vec<u8>, number: u64) -> Result<(), Mem>
+pub(crate) fn append_number(out: &mut Vec<u8>, number: u64) -> Result<(), Mem>
     ensures { OnOk result (out.new.items ≡ out.old.items ++ decimal number) }
 {
-    let text = format!(in alloc; "{number}")?;
-    append(out, text.as_bytes())
+    let mut buffer = Buffer::new();
+    append(out, buffer.format(number).as_bytes())
 }
 
-pub(crate) fn append_signed(alloc: Global, out: &mut Vec<u8>, number: i64) -> Result<(), Mem>
+pub(crate) fn append_signed(out: &mut Vec<u8>, number: i64) -> Result<(), Mem>
     ensures { OnOk result (out.new.items ≡ out.old.items ++ signed_decimal number) }
 {
-    let text = format!(in alloc; "{number}")?;
-    append(out, text.as_bytes())
+    let mut buffer = Buffer::new();
+    append(out, buffer.format(number).as_bytes())
 }

@@ -1,6 +1,6 @@
 //! The lines of a reply.
 
-ghost use Rattle.std.specs.Prelude.{◌≡◌, ◌++◌, codes, OnOk, OnErr};
+ghost use Rattle.std.specs.Prelude.{◌≡◌, ◌++◌, [], codes, OnOk, OnErr};
 ghost use Rattle.std.specs.List.{flat_map, join_by};
 ghost use Rattle.cas_render.specs.Text.{datum_text, row_text, trailer, failure_text, reply_text};
 
@@ -57,24 +57,17 @@ fn append_rows(alloc: Global, out: &mut Vec<u8>, rows: &[LiveRow]) -> Result<(),
 }
 
 #[tactic(auto, unfolding(crate::specs::Text::trailer))]
-fn append_trailer(
-    alloc: Global,
-    out: &mut Vec<u8>,
-    rows: u64,
-    shard: u8,
-    front: u64,
-    now: i64,
-) -> Result<(), Mem>
+fn append_trailer(out: &mut Vec<u8>, rows: u64, shard: u8, front: u64, now: i64) -> Result<(), Mem>
     ensures { OnOk result (out.new.items ≡ out.old.items ++ trailer rows shard front now) }
 {
     append(out, b"-- ")?;
-    append_number(alloc, out, rows)?;
+    append_number(out, rows)?;
     append(out, b" rows, shard ")?;
-    append_number(alloc, out, u64::from(shard))?;
+    append_number(out, u64::from(shard))?;
     append(out, b", front ")?;
-    append_number(alloc, out, front)?;
+    append_number(out, front)?;
     append(out, b", now ")?;
-    append_signed(alloc, out, now)?;
+    append_signed(out, now)?;
     append(out, b"\n")
 }
 
@@ -98,7 +91,7 @@ fn append_reply(alloc: Global, out: &mut Vec<u8>, reply: &Reply) -> Result<(), M
         Reply::Done => append(out, b"ok\n"),
         Reply::Wrote { number } => {
             append(out, b"ok ")?;
-            append_number(alloc, out, *number)?;
+            append_number(out, *number)?;
             append(out, b"\n")
         }
         Reply::Rows {
@@ -108,22 +101,40 @@ fn append_reply(alloc: Global, out: &mut Vec<u8>, reply: &Reply) -> Result<(), M
             now,
         } => {
             append_rows(alloc, out, rows.as_slice())?;
-            append_trailer(alloc, out, rows.len() as u64, *shard, *front, *now)
+            append_trailer(out, rows.len() as u64, *shard, *front, *now)
         }
         Reply::Refused(number) => {
             append(out, b"refused S")?;
-            append_number(alloc, out, u64::from(*number))?;
+            append_number(out, u64::from(*number))?;
             append(out, b"\n")
         }
         Reply::Failed(failure) => append_failure(out, *failure),
     }
 }
 
-/// Appends what the program prints of a reply. On want of memory nothing is appended.
+// Without a copy, where nothing stands before it.
+fn render_first(alloc: Global, reply: &Reply, out: &mut Vec<u8>) -> Result<(), Mem>
+    requires { out.old.items ≡ [] }
+    ensures ok { OnOk result (out.new.items ≡ reply_text reply.now) }
+    ensures err { OnErr result (out.new.items ≡ []) }
+{
+    match append_reply(alloc, out, reply) {
+        Ok(()) => Ok(()),
+        Err(Mem) => {
+            out.clear();
+            Err(Mem)
+        }
+    }
+}
+
+/// Appends what the program prints of a reply. Where memory runs out nothing is appended.
 pub fn render(alloc: Global, reply: &Reply, out: &mut Vec<u8>) -> Result<(), Mem>
     ensures ok { OnOk result (out.new.items ≡ out.old.items ++ reply_text reply.now) }
     ensures err { OnErr result (out.new.items ≡ out.old.items) }
 {
+    if out.is_empty() {
+        return render_first(alloc, reply, out);
+    }
     let mut text = Vec::new(alloc);
     match append_reply(alloc, &mut text, reply) {
         Ok(()) => append(out, &text),

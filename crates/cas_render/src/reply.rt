@@ -6,7 +6,7 @@ use cas_types::List;
 /// Why a statement that wasn't refused came to nothing, or isn't known to have come to something.
 #[derive(Clone, Copy, Debug, PartialEq, Eq)]
 pub enum Failure {
-    /// Want of memory.
+    /// Memory ran out.
     Memory,
     /// An earlier write to the disk failed, and nothing is written any more.
     Stopped,

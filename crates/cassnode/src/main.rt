@@ -4,6 +4,7 @@
 use cas_disk::MemFolder;
 use cas_io::{FreeGate, StdSink, StdSource, SystemClock};
 use cas_node::{Cause, Outcome, run};
+use std::io::ErrorKind;
 use std::process::ExitCode;
 use std::{env, io};
 
@@ -20,9 +21,19 @@ fn refuse(rt: &HostRuntime) -> ExitCode {
     ExitCode::from(Cause::Words.status())
 }
 
+// The words couldn't be collected: memory ran out, or one isn't UTF-8.
+fn stop(rt: &HostRuntime, error: &io::Error) -> ExitCode {
+    if error.kind() == ErrorKind::OutOfMemory {
+        ExitCode::from(Cause::Mem.status())
+    } else {
+        refuse(rt)
+    }
+}
+
 fn main(rt: HostRuntime) -> ExitCode {
-    let Ok(words) = words(&rt) else {
-        return refuse(&rt);
+    let words = match words(&rt) {
+        Ok(words) => words,
+        Err(error) => return stop(&rt, &error),
     };
     let mut source = StdSource::new(rt.reader());
     let mut sink = StdSink::new(io::writer(&rt));

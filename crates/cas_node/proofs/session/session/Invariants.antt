@@ -1,6 +1,6 @@
 use Rattle.std.proofs.Common.{◌≤◌, length}
-use Rattle.cas_node.specs.Sound.{IsSound}
-use Rattle.cas_node.specs.Stored.{stored}
+use Rattle.cas_node.specs.Inner.Sound.{IsSound}
+use Rattle.cas_node.specs.Inner.Stored.{stored}
 use Rattle.cas_node.proofs.SessionLemmas.{SoFar}
 use Rattle.cas_node.proofs.session.session.Given as goal
 

@@ -3,7 +3,7 @@ use Rattle.std.specs.Prelude.{string_bytes}
 use Rattle.std.proofs.lemmas.Iterator.{YieldsList-from_slice}
 use Rattle.std.proofs.lemmas.Iterator.Search.{any_from_yields_List}
 use Rattle.clap.proofs.WalkLemmas.{list_any-map}
-use Rattle.cas_node.specs.Parser.{is_stray}
+use Rattle.cas_node.specs.Inner.Parser.{is_stray}
 use Rattle.cas_node.proofs.words.has_stray.Goals as goal
 
 pub returns : goal.returns

@@ -1,7 +1,7 @@
 use Rattle.std.proofs.Common.{ap, ap₂, ◌≡◌, ◌∙◌}
 use Rattle.std.proofs.lemmas.Result.{IfOk-weaker}
 use Rattle.clap.specs.Words.{App, with_rule}
-use Rattle.cas_node.specs.Parser.{parser, with_option}
+use Rattle.cas_node.specs.Inner.Parser.{parser, with_option}
 use Rattle.cas_node.specs.declared.words.Setting.{Setting}
 use Rattle.cas_node.specs.declared.words.Setting.TheVariants as setting
 use Rattle.cas_node.proofs.words.make_parser.Goals as goal

@@ -1,0 +1,4 @@
+pub mod Parser
+pub mod Sound
+pub mod Stored
+pub mod Turns

@@ -1,6 +1,0 @@
--- The history that a store stands for.
-use Rattle.cas_node.specs.History.{History}
-use Rattle.cas_node.specs.declared.store.Store.{Store}
-
-abbrev pub stored : Store → History
-stored s = record { tables = s.tables.items; shards = s.shards.items; clock = s.clock }

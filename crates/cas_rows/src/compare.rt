@@ -1,0 +1,63 @@
+//! Tells where what a run came to differs from what stands in its file.
+
+use crate::row::Trial;
+use crate::trial::Found;
+use std::alloc::{AllocError, Global};
+
+fn is_feed(byte: &u8) -> bool {
+    *byte == b'\n'
+}
+
+// A line for people to read; `nothing` where there is none.
+fn shown(alloc: Global, line: Option<&[u8]>) -> Result<String, AllocError> {
+    match line {
+        Some(line) => String::from_utf8_lossy(alloc, line),
+        None => String::from_str(alloc, "nothing"),
+    }
+}
+
+// The first line that differs, where one does: what it is to be, and what was found.
+fn first_difference(
+    alloc: Global,
+    wanted: &[u8],
+    found: &[u8],
+) -> Result<Option<String>, AllocError> {
+    let mut wanted = wanted.split(is_feed);
+    let mut found = found.split(is_feed);
+    for number in 1..u64::MAX {
+        let (a, b) = (wanted.next(), found.next());
+        if a.is_none() && b.is_none() {
+            break;
+        }
+        if a != b {
+            let (a, b) = (shown(alloc, a)?, shown(alloc, b)?);
+            return Ok(Some(format!(in alloc;
+                "line {number} of the output is {b}, and should be {a}"
+            )?));
+        }
+    }
+    Ok(None)
+}
+
+/// What differs between the runs of a file and what the file says, a line each.
+pub(crate) fn report(
+    alloc: Global,
+    path: &str,
+    trials: &[Trial],
+    found: &[Found],
+) -> Result<Vec<String>, AllocError> {
+    let mut lines = Vec::new(alloc);
+    for (i, (trial, found)) in trials.iter().zip(found).enumerate() {
+        let run = i.saturating_add(1);
+        if let Some(difference) = first_difference(alloc, &trial.output, &found.output)? {
+            lines.push(format!(in alloc; "{path}, run {run}: {difference}")?)?;
+        }
+        if trial.status != found.status {
+            let (wanted, found) = (trial.status, found.status);
+            lines.push(format!(in alloc;
+                "{path}, run {run}: the status is {found}, and should be {wanted}"
+            )?)?;
+        }
+    }
+    Ok(lines)
+}

@@ -1,0 +1,111 @@
+//! The program `cas_rows`: runs the scripts of a folder over memory, and tells where what they print,
+//! or their status, isn't what stands beside them.
+#![tactic(auto)]
+
+mod clock;
+mod compare;
+mod row;
+mod trial;
+
+use crate::compare::report;
+use crate::row::{RowFault, trials};
+use crate::trial::run_each;
+use std::process::ExitCode;
+use std::{env, fs, io};
+
+/// How many files agree with what they print, and how many don't.
+#[derive(Clone, Copy, Debug, PartialEq, Eq)]
+struct Tally {
+    agree: u64,
+    differ: u64,
+}
+
+// The folder of the rows: the first word, and where there is none the folder where the program runs.
+fn folder(rt: &HostRuntime) -> io::Result<String> {
+    match env::args(rt)?.nth(1) {
+        Some(folder) => Ok(folder),
+        None => Ok(String::from_str(rt.alloc(), ".")?),
+    }
+}
+
+fn is_of_rows(name: &str) -> bool {
+    name.ends_with(".row") || name.ends_with(".wrong")
+}
+
+// The paths of the folder's files of rows, in order.
+fn paths(rt: &HostRuntime) -> io::Result<Vec<String>> {
+    let mut paths = Vec::new(rt.alloc());
+    for entry in fs::read_dir(rt, folder(rt)?.as_str())? {
+        let entry = entry?;
+        if is_of_rows(entry.file_name()) {
+            paths.push(String::from_str(rt.alloc(), entry.path().to_string_lossy())?)?;
+        }
+    }
+    paths.sort()?;
+    Ok(paths)
+}
+
+// What differs between a file and what its runs come to, a line each.
+fn differences(rt: &HostRuntime, path: &str) -> io::Result<Vec<String>> {
+    let alloc = rt.alloc();
+    let text = fs::read(rt, path)?;
+    match trials(alloc, &text) {
+        Ok(trials) => Ok(report(alloc, path, &trials, &run_each(alloc, &trials)?)?),
+        Err(RowFault::Line(line)) => {
+            let told = format!(in alloc; "{path}: line {line} isn't one of the format")?;
+            Ok(vec![in alloc; told]?)
+        }
+        Err(RowFault::Mem(error)) => Err(io::Error::from(error)),
+    }
+}
+
+// Whether nothing differs; what does is printed.
+fn agrees(rt: &HostRuntime, path: &str) -> io::Result<bool> {
+    let differences = differences(rt, path)?;
+    for line in &differences {
+        println!(rt; "{line}")?;
+    }
+    Ok(differences.is_empty())
+}
+
+// Whether something differs, as it should in a file that is wrong on purpose.
+fn is_noticed(rt: &HostRuntime, path: &str) -> io::Result<bool> {
+    let is_noticed = !differences(rt, path)?.is_empty();
+    if !is_noticed {
+        println!(rt; "{path}: nothing differs, and something should")?;
+    }
+    Ok(is_noticed)
+}
+
+fn is_right(rt: &HostRuntime, path: &str) -> io::Result<bool> {
+    if path.ends_with(".wrong") {
+        is_noticed(rt, path)
+    } else {
+        agrees(rt, path)
+    }
+}
+
+fn count_files(rt: &HostRuntime) -> io::Result<Tally> {
+    let mut tally = Tally {
+        agree: 0,
+        differ: 0,
+    };
+    for path in &paths(rt)? {
+        if is_right(rt, path)? {
+            tally.agree = tally.agree.saturating_add(1);
+        } else {
+            tally.differ = tally.differ.saturating_add(1);
+        }
+    }
+    Ok(tally)
+}
+
+fn main(rt: HostRuntime) -> io::Result<ExitCode> {
+    let Tally { agree, differ } = count_files(&rt)?;
+    if differ > 0 {
+        println!(&rt; "{differ} scripts differ")?;
+        return Ok(ExitCode::FAILURE);
+    }
+    println!(&rt; "{agree} scripts agree")?;
+    Ok(ExitCode::SUCCESS)
+}

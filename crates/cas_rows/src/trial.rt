@@ -1,0 +1,54 @@
+//! Runs the trials of a file one after another on one folder.
+
+use crate::clock::ListedClock;
+use crate::row::Trial;
+use cas_disk::MemFolder;
+use cas_io::{FreeGate, MemSink, MemSource};
+use cas_node::{Outcome, run};
+use std::alloc::{AllocError, Global};
+
+/// What a run came to.
+#[derive(Drop)]
+pub(crate) struct Found {
+    pub output: Vec<u8>,
+    pub status: u8,
+}
+
+fn run_trial(
+    alloc: Global,
+    trial: &Trial,
+    folder: MemFolder,
+) -> Result<(Found, MemFolder), AllocError> {
+    let mut source = MemSource::new(trial.script.as_slice().to_vec(alloc)?);
+    let mut sink = MemSink::new(alloc);
+    let clock = ListedClock::new(&trial.readings);
+    let Outcome {
+        status,
+        folder,
+        cause: _cause,
+        pass: _pass,
+        tally: _tally,
+    } = run(
+        alloc,
+        &trial.words,
+        &mut source,
+        &mut sink,
+        folder,
+        &clock,
+        &FreeGate,
+    );
+    let output = sink.taken().to_vec(alloc)?;
+    Ok((Found { output, status }, folder))
+}
+
+/// Runs the trials one after another, each on the folder that the one before it left.
+pub(crate) fn run_each(alloc: Global, trials: &[Trial]) -> Result<Vec<Found>, AllocError> {
+    let mut all = Vec::new(alloc);
+    let mut folder = MemFolder;
+    for trial in trials {
+        let (found, after) = run_trial(alloc, trial, folder)?;
+        all.push(found)?;
+        folder = after;
+    }
+    Ok(all)
+}
