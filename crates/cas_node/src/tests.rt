@@ -4,7 +4,7 @@
 mod words;
 
 use crate::{Cause, Outcome, Pass, SCRIPT_LIMIT, run};
-use cas_disk::MemFolder;
+use cas_disk::{FaultPlan, MemFolder};
 use cas_io::{Failed, FreeGate, ManualClock, MemSink, MemSource, Source};
 use std::alloc::Global;
 use std::fmt::Write;
@@ -57,7 +57,13 @@ fn run_over<S: Source>(alloc: Global, source: &mut S, mut sink: MemSink) -> Resu
         folder: _folder,
         tally: _tally,
     } = run(
-        alloc, &words, source, &mut sink, MemFolder, &clock, &FreeGate,
+        alloc,
+        &words,
+        source,
+        &mut sink,
+        MemFolder::new(alloc, FaultPlan::none(alloc)),
+        &clock,
+        &FreeGate,
     );
     let numbers = numbers_of(alloc, &pass)?;
     let output = sink.taken().to_vec(alloc)?;

@@ -2,7 +2,7 @@
 
 use crate::clock::ListedClock;
 use crate::row::Trial;
-use cas_disk::MemFolder;
+use cas_disk::{FaultPlan, MemFolder};
 use cas_io::{FreeGate, MemSink, MemSource};
 use cas_node::{Outcome, run};
 use std::alloc::{AllocError, Global};
@@ -44,7 +44,7 @@ fn run_trial(
 /// Runs the trials one after another, each on the folder that the one before it left.
 pub(crate) fn run_each(alloc: Global, trials: &[Trial]) -> Result<Vec<Found>, AllocError> {
     let mut all = Vec::new(alloc);
-    let mut folder = MemFolder;
+    let mut folder = MemFolder::new(alloc, FaultPlan::none(alloc));
     for trial in trials {
         let (found, after) = run_trial(alloc, trial, folder)?;
         all.push(found)?;

@@ -1,7 +1,7 @@
 //! The program `cassnode`: runs a script from standard input over the folder that its words name.
 #![tactic(auto)]
 
-use cas_disk::MemFolder;
+use cas_disk::{FaultPlan, MemFolder};
 use cas_io::{FreeGate, StdSink, StdSource, SystemClock};
 use cas_node::{Cause, Outcome, run};
 use std::io::ErrorKind;
@@ -49,7 +49,7 @@ fn main(rt: HostRuntime) -> ExitCode {
         &words,
         &mut source,
         &mut sink,
-        MemFolder,
+        MemFolder::new(rt.alloc(), FaultPlan::none(rt.alloc())),
         &clock,
         &FreeGate,
     );
