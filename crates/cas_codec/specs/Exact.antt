@@ -5,6 +5,7 @@ use Rattle.cas_codec.specs.declared.fault.ReadFault.{ReadFault}
 use Rattle.cas_codec.specs.declared.fault.ReadFault.TheVariants.{Short, Bad, Mem}
 use Rattle.cas_codec.specs.Reading.{Left, Read}
 
+-- each number of the list is a byte
 pub record AreBytes (bytes : List ℕ) : Type 0 where
   pub each : All (λ b. b < 256) bytes
 

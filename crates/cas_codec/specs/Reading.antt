@@ -33,16 +33,19 @@ unsigned_at w left = do
   front ← bytes_at left.at (byte_len w) left
   Ok (from_be_bytes w front.0, front.1)
 
--- the numbers of one, two, four and eight bytes
+-- a number of one byte
 unfoldable pub u8_at : Left → Read ℕ
 u8_at left = unsigned_at w8 left
 
+-- a number of two bytes, as the length of a key
 unfoldable pub u16_at : Left → Read ℕ
 u16_at left = unsigned_at w16 left
 
+-- a number of four bytes, as the length of a record
 unfoldable pub u32_at : Left → Read ℕ
 u32_at left = unsigned_at w32 left
 
+-- a number of eight bytes, as the number of a mutation
 unfoldable pub u64_at : Left → Read ℕ
 u64_at left = unsigned_at w64 left
 
@@ -58,6 +61,7 @@ bytes16_at left = do
   count ← u16_at left
   bytes_at left.at count.0 count.1
 
+-- the same after a number of four bytes
 unfoldable pub bytes32_at : Left → Read (List ℕ)
 bytes32_at left = do
   count ← u32_at left
