@@ -113,6 +113,3 @@ alter_keeps tables n t a are f its few =
           (holds_of_number (λ u. IsNarrow (u.columns ++ a.columns)) (λ t. bytes_eq t.name n.name) t few 0 tables are.numbered here)));
       numbered = numbered_after a 0 tables are.numbered;
     }
-
-pub no_tables : AreTables []
-no_tables = record { narrow = All-from_recursion HasFew [] tt; numbered = tt }

@@ -10,8 +10,6 @@ mod reads;
 mod row_reasons;
 mod selects;
 mod statements;
-#[cfg(test)]
-mod tests;
 mod types_used;
 mod using;
 mod writes;
