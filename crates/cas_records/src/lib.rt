@@ -1,0 +1,15 @@
+//! What the rows of a table are made of, as bytes: how deletions, what an `INSERT` leaves of a row,
+//! and cells are spelled, a reader of each, which knows the table's columns, and a writer.
+#![tactic(auto)]
+
+mod cells;
+mod deletions;
+mod laws;
+mod lives;
+mod times;
+
+pub use cells::{put_cell, read_cell};
+pub use deletions::{put_deletion, read_deletion};
+pub use laws::cells_are_exact;
+pub use lives::{put_live, read_live};
+pub use times::LEAST_RECORDED;
