@@ -1,9 +1,10 @@
 -- Deletions, what an INSERT leaves of a row, and cells are read exactly, and are as long as the log's measure says.
-use Rattle.std.proofs.Common.{◌≡◌, ℕ, ℤ, zero, suc, ◌<◌, ◌+◌, ◌^◌, Bool, true, false, List, [], ◌∷◌, ◌++◌, length, Ok, refl, sym, ap, ◌∙◌, arith}
+use Rattle.std.proofs.Common.{◌≡◌, ℕ, ℤ, zero, suc, ◌<◌, ◌≤◌, leb, ◌+◌, ◌^◌, Bool, true, false, List, [], ◌++◌, length, Ok, refl, sym, ap, ◌∙◌, arith}
 use Rattle.std.specs.Prelude.{FitsSigned}
 use Rattle.std.specs.Int.{w64, is_in_range}
+use Rattle.std.proofs.lemmas.Bool.{leb-true, and_parts}
 use Rattle.std.proofs.lemmas.List.{length-append, append-nil}
-use Rattle.cas_codec.specs.Reading.{Left, Read, ◌>>=◌, checked, u8_at, u32_at, i64_at, flag_at, bytes32_at}
+use Rattle.cas_codec.specs.Reading.{◌>>=◌, checked, u8_at, u32_at, i64_at, flag_at, bytes32_at}
 use Rattle.cas_codec.specs.Fields.{u8, u32, u64, i64, flag, bytes32}
 use Rattle.cas_codec.specs.Exact.{IsExact}
 use Rattle.cas_codec.proofs.Exactness.{exact_then, exact_done, exact_checked, exact_map}
@@ -247,6 +248,11 @@ expiring_exact allows at fits =
     (λ c fit. (cell_expiry c, (ttl_made allows at c fit).0, refl))
     (λ e c fit is. (ttl_made allows at c fit).4 ∙ ap (λ (x : ℤ). i64 x ++ (u32 (cell_ttl c) ++ bytes32 (cell_content c))) is)
 
+above_2 : (n : ℕ) → is_in_range 0 2 (suc (suc (suc n))) ≡ true → ⊥
+above_2 n within =
+    let most : suc (suc (suc n)) ≤ 2 = leb-true _ 2 (and_parts (leb 0 (suc (suc (suc n)))) (leb (suc (suc (suc n))) 2) within).1 in
+    omega arith
+
 cell_rest_exact : (allows : List ℕ → Bool) (n : ℕ) (at : ℤ) → IsRank n → FitsTimestamp at → IsExact (HasRank allows n at) cell_tail (cell_rest_at allows n at)
 unfolding cell_stamp cell_tail
 cell_rest_exact allows zero at rank fits =
@@ -260,7 +266,7 @@ cell_rest_exact allows (suc (suc zero)) at rank fits =
     i64_field.exact
     (λ second fit. ((((fits, fit), refl), refl), refl))
     (λ c fit. tombstone_made allows at c fit)
-cell_rest_exact allows (suc (suc (suc n))) at rank fits = absurd (true_false (sym rank.1))
+cell_rest_exact allows (suc (suc (suc n))) at rank fits = absurd (above_2 n rank.1)
 
 cell_stamped : (allows : List ℕ → Bool) (n : ℕ) → IsRank n → IsExact (λ c. FitsCell allows c × (cell_rank c ≡ n)) (λ c. i64 (cell_stamp c) ++ cell_tail c)
     (λ left. timestamp_at left >>= λ at. cell_rest_at allows n at.0 at.1)
