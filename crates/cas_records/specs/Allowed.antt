@@ -1,6 +1,6 @@
 -- Which values a table's records may hold.
 -- CQL documentation, "Data types: collections" and "Data manipulation: INSERT, USING TTL"; the timestamps and the paths of lists are own.
-use Rattle.std.specs.Prelude.{◌≡◌, ◌^◌, ◌<◌, ℕ, ℤ, Bool, true, ◌==◌, List, length, FitsSigned}
+use Rattle.std.specs.Prelude.{◌≡◌, ◌^◌, ◌<◌, ℕ, ℤ, Bool, true, ◌==◌, ◌≤◌, List, [], ◌∷◌, length, take, Option, FitsSigned}
 use Rattle.std.specs.Int.{w64, is_in_range}
 use Rattle.cas_types.specs.Values.{is_value}
 use Rattle.cas_types.specs.Schemas.{type_or_blob}
@@ -9,7 +9,9 @@ use Rattle.cas_types.specs.declared.schema.Shape.{Shape}
 use Rattle.cas_types.specs.declared.schema.Shape.TheVariants as shape
 use Rattle.cas_types.specs.declared.schema.Column.{Column}
 use Rattle.cas_types.specs.declared.tag.TypeTag.{TypeTag}
-use Rattle.std.specs.Prelude.{Option}
+use Rattle.cas_bounds.specs.declared.order.Ordered.{Ordered}
+use Rattle.cas_bounds.specs.declared.cuts.Clustering.{Clustering}
+use Rattle.cas_bounds.specs.declared.cuts.Cut.{Cut}
 use Rattle.cas_codec.specs.Reading.{is_within}
 use Rattle.cas_cell.specs.declared.deletion.Deletion.{Deletion}
 use Rattle.cas_cell.specs.declared.liveness.Liveness.{Liveness}
@@ -64,3 +66,22 @@ abbrev pub FitsCell : (List ℕ → Bool) → Cell → Type 0
 FitsCell allows (cell.Plain at value) = FitsTimestamp at × FitsContent allows value
 FitsCell allows (cell.Expiring at expiry ttl value) = FitsTimestamp at × FitsSigned w64 expiry × FitsTtl ttl × FitsContent allows value
 FitsCell allows (cell.Tombstone at second) = FitsTimestamp at × FitsSigned w64 second
+
+-- a value of the type that is short enough for the primary key
+abbrev pub FitsValue : TypeTag → List ℕ → Type 0
+FitsValue tag bytes = (length bytes < 2 ^ 16) × (is_value tag bytes ≡ true)
+
+-- as many values as columns, each of its column's type
+abbrev pub FitsValues : List Ordered → List (List ℕ) → Type 0
+FitsValues [] [] = Unit {0}
+FitsValues (o ∷ os) (v ∷ vs) = FitsValue o.tag v × FitsValues os vs
+FitsValues [] (v ∷ vs) = ⊥
+FitsValues (o ∷ os) [] = ⊥
+
+-- a row's place in a table of this order: a value of each clustering column; their number is spelled in one byte
+abbrev pub FitsClustering : List Ordered → Clustering → Type 0
+FitsClustering order c = (c.order ≡ order) × FitsValues order c.values × (length order < 2 ^ 8)
+
+-- a cut in a table of this order: values of the first clustering columns
+abbrev pub FitsCut : List Ordered → Cut → Type 0
+FitsCut order c = (c.order ≡ order) × FitsValues (take (length c.prefix) order) c.prefix × (length c.prefix ≤ length order) × (length c.prefix < 2 ^ 8)

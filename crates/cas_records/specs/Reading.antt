@@ -1,9 +1,14 @@
 -- Reading what the rows of a table are made of. That these readings take the spellings and nothing else is a law.
 -- Own. The place of a refusal is that of the refused field's first byte.
-use Rattle.std.specs.Prelude.{ℕ, ℤ, zero, suc, Bool, true, false, List, if◌then◌else◌, Ok, Err}
+use Rattle.std.specs.Prelude.{ℕ, ℤ, zero, suc, Bool, true, false, List, [], ◌∷◌, length, take, if◌then◌else◌, Ok, Err}
 use Rattle.cas_codec.specs.declared.fault.ReadFault.TheVariants.{Bad}
 use Rattle.std.specs.Int.{is_in_range}
-use Rattle.cas_codec.specs.Reading.{Left, Read, ◌>>=◌, checked, u8_at, u32_at, i64_at, flag_at, bytes32_at}
+use Rattle.cas_codec.specs.Reading.{Left, Read, ◌>>=◌, checked, u8_at, u32_at, i64_at, flag_at, bytes16_at, bytes32_at}
+use Rattle.cas_types.specs.Values.{is_value}
+use Rattle.cas_types.specs.declared.tag.TypeTag.{TypeTag}
+use Rattle.cas_bounds.specs.declared.order.Ordered.{Ordered}
+use Rattle.cas_bounds.specs.declared.cuts.Clustering.{Clustering}
+use Rattle.cas_bounds.specs.declared.cuts.Cut.{Cut}
 use Rattle.cas_cell.specs.declared.deletion.Deletion.{Deletion}
 use Rattle.cas_cell.specs.declared.liveness.Liveness.{Liveness}
 use Rattle.cas_cell.specs.declared.liveness.Liveness.TheVariants as live
@@ -67,3 +72,32 @@ cell_at allows left = do
   rank ← checked (is_in_range 0 2) u8_at left
   at ← timestamp_at rank.1
   cell_rest_at allows rank.0 at.0 at.1
+
+-- a value of the type, with its length in two bytes
+unfoldable pub value_at : TypeTag → Left → Read (List ℕ)
+value_at tag left = do
+  bytes ← bytes16_at left
+  if is_value tag bytes.0 then Ok bytes else Err (Bad left.at)
+
+-- a value of each of the columns
+unfoldable pub values_at : List Ordered → Left → Read (List (List ℕ))
+values_at [] left = Ok ([], left)
+values_at (o ∷ os) left = do
+  value ← value_at o.tag left
+  others ← values_at os value.1
+  Ok (value.0 ∷ others.0, others.1)
+
+-- the place of a row in a table of this order; there are as many values as clustering columns
+unfoldable pub clustering_at : List Ordered → Left → Read Clustering
+clustering_at order left = do
+  count ← checked (is_in_range (length order) (length order)) u8_at left
+  values ← values_at order count.1
+  Ok (record { values = values.0; order = order }, values.1)
+
+-- a cut in a table of this order; its prefix has no more values than there are clustering columns
+unfoldable pub cut_at : List Ordered → Left → Read Cut
+cut_at order left = do
+  after ← flag_at left
+  count ← checked (is_in_range 0 (length order)) u8_at after.1
+  prefix ← values_at (take count.0 order) count.1
+  Ok (record { prefix = prefix.0; after = after.0; order = order }, prefix.1)
