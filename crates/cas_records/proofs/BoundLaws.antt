@@ -158,18 +158,18 @@ clustering_exact order =
     (λ c. FitsClustering order c × (length c.values ≡ n)) (λ c. flat_map bytes16 c.values) (λ vs. made_clustering order vs)
     (values_exact order)
     (λ vs fit.
-        let same = values_count order vs fit in
-        let w = within_count (length order) (length order) n count.1 in
-        let most : length order ≤ n = w.0 in
-        let least : n ≤ length order = w.1 in
-        let short : n < 2 ^ 8 = count.0 in
-        let is : length vs ≡ length order = same in
-        (((refl, fit, omega arith), omega arith), refl))
+    let same = values_count order vs fit in
+    let w = within_count (length order) (length order) n count.1 in
+    let most : length order ≤ n = w.0 in
+    let least : n ≤ length order = w.1 in
+    let short : n < 2 ^ 8 = count.0 in
+    let is : length vs ≡ length order = same in
+    (((refl, fit, omega arith), omega arith), refl))
     (λ c fit. (c.values, fit.0.1, clustering_is order c fit.0.0)))
     (λ c fit.
-        let is : length c.values ≡ length order = values_count order c.values fit.1 in
-        let short : length order < 2 ^ 8 = fit.2 in
-        (length c.values, (omega arith, count_within (length order) (length order) (length c.values) (omega arith) (omega arith)), refl))
+    let is : length c.values ≡ length order = values_count order c.values fit.1 in
+    let short : length order < 2 ^ 8 = fit.2 in
+    (length c.values, (omega arith, count_within (length order) (length order) (length c.values) (omega arith) (omega arith)), refl))
     (λ n c fit is. ap (λ (m : ℕ). u8 m ++ flat_map bytes16 c.values) is)
 
 -- ---- cuts
@@ -205,8 +205,8 @@ prefix_exact order after =
     (λ c. HasSide order after c × (length c.prefix ≡ n)) (λ c. flat_map bytes16 c.prefix) (λ vs. made_cut order after vs)
     (values_exact (take n order))
     (λ vs fit.
-        let p = cut_prefix_fits order n vs count.0 (within_count 0 (length order) n count.1).1 fit in
-        ((((refl, p.1, p.2, p.3), refl), p.0), refl))
+    let p = cut_prefix_fits order n vs count.0 (within_count 0 (length order) n count.1).1 fit in
+    ((((refl, p.1, p.2, p.3), refl), p.0), refl))
     (λ c fit. (c.prefix, subst (λ (m : ℕ). FitsValues (take m order) c.prefix) fit.1 fit.0.0.1, cut_is order after c fit.0.0.0 fit.0.1)))
     (λ c fit. (length c.prefix, (fit.0.3, count_within 0 (length order) (length c.prefix) (omega arith) fit.0.2), refl))
     (λ n c fit is. ap (λ (m : ℕ). u8 m ++ flat_map bytes16 c.prefix) is)
@@ -252,8 +252,14 @@ flag_long true = refl
 
 pub cut_long : (c : Cut) → length (cut_bytes c) ≡ cut_length c
 cut_long c =
-    omega (arith, length-append (flag c.after) (values_bytes c.prefix), length-append (u8 (length c.prefix)) (flat_map bytes16 c.prefix),
-    flag_long c.after, u8_long (length c.prefix), each_long c.prefix)
+    omega (
+      arith,
+      length-append (flag c.after) (values_bytes c.prefix),
+      length-append (u8 (length c.prefix)) (flat_map bytes16 c.prefix),
+      flag_long c.after,
+      u8_long (length c.prefix),
+      each_long c.prefix,
+    )
 
 -- ---- what a reader of a place and of a cut comes by
 

@@ -240,9 +240,11 @@ expiring_exact allows at fits =
     (λ c. (HasRank allows 1 at c × (cell_expiry c ≡ e)) × (cell_ttl c ≡ n)) (λ c. bytes32 (cell_content c)) (λ value. cell.Expiring at e n value)
     (content_exact allows)
     (λ value fits-v. (((((((fits, fits-e, fits-n, fits-v), refl), refl), refl), refl)), refl))
-    (λ c fit. let m = ttl_made allows at c fit.0.0 in
-        (cell_content c, m.2,
-        ap (λ (x : ℤ). cell.Expiring at x n (cell_content c)) (sym fit.0.1) ∙ ap (λ (x : ℕ). cell.Expiring at (cell_expiry c) x (cell_content c)) (sym fit.1) ∙ m.3)))
+    (λ c fit. let m = ttl_made allows at c fit.0.0 in (
+      cell_content c,
+      m.2,
+      ap (λ (x : ℤ). cell.Expiring at x n (cell_content c)) (sym fit.0.1) ∙ ap (λ (x : ℕ). cell.Expiring at (cell_expiry c) x (cell_content c)) (sym fit.1) ∙ m.3,
+    )))
     (λ c fit. (cell_ttl c, (ttl_made allows at c fit.0).1, refl))
     (λ n c fit is. ap (λ (x : ℕ). u32 x ++ bytes32 (cell_content c)) is))
     (λ c fit. (cell_expiry c, (ttl_made allows at c fit).0, refl))
@@ -313,15 +315,32 @@ deletion_long d = omega (arith, length-append (i64 d.at) (i64 d.second), i64_lon
 pub live_long : (l : Liveness) → length (live_bytes l) ≡ live_length l
 live_long (live.Plain at) = omega (arith, length-append (u8 0) (i64 at), u8_long 0, i64_long at)
 live_long (live.Expiring at expiry ttl) =
-    omega (arith, length-append (u8 1) (i64 at ++ (i64 expiry ++ u32 ttl)), length-append (i64 at) (i64 expiry ++ u32 ttl),
-    length-append (i64 expiry) (u32 ttl), u8_long 1, i64_long at, i64_long expiry, u32_long ttl)
+    omega (
+      arith,
+      length-append (u8 1) (i64 at ++ (i64 expiry ++ u32 ttl)),
+      length-append (i64 at) (i64 expiry ++ u32 ttl),
+      length-append (i64 expiry) (u32 ttl),
+      u8_long 1,
+      i64_long at,
+      i64_long expiry,
+      u32_long ttl,
+    )
 
 pub cell_long : (c : Cell) → length (cell_bytes c) ≡ cell_length c
 cell_long (cell.Plain at value) =
     omega (arith, length-append (u8 0) (i64 at ++ bytes32 value), length-append (i64 at) (bytes32 value), u8_long 0, i64_long at, bytes32_long value)
 cell_long (cell.Expiring at expiry ttl value) =
-    omega (arith, length-append (u8 1) (i64 at ++ (i64 expiry ++ (u32 ttl ++ bytes32 value))),
-    length-append (i64 at) (i64 expiry ++ (u32 ttl ++ bytes32 value)), length-append (i64 expiry) (u32 ttl ++ bytes32 value),
-    length-append (u32 ttl) (bytes32 value), u8_long 1, i64_long at, i64_long expiry, u32_long ttl, bytes32_long value)
+    omega (
+      arith,
+      length-append (u8 1) (i64 at ++ (i64 expiry ++ (u32 ttl ++ bytes32 value))),
+      length-append (i64 at) (i64 expiry ++ (u32 ttl ++ bytes32 value)),
+      length-append (i64 expiry) (u32 ttl ++ bytes32 value),
+      length-append (u32 ttl) (bytes32 value),
+      u8_long 1,
+      i64_long at,
+      i64_long expiry,
+      u32_long ttl,
+      bytes32_long value,
+    )
 cell_long (cell.Tombstone at second) =
     omega (arith, length-append (u8 2) (i64 at ++ i64 second), length-append (i64 at) (i64 second), u8_long 2, i64_long at, i64_long second)

@@ -81,7 +81,12 @@ pub fn read_cut(
     let after = reader.flag()?;
     let count = reader.u8_within(0, order.len() as u8)?;
     let mut prefix = Vec::new(alloc);
-    read_values(alloc, reader, &order.as_slice()[..count as usize], &mut prefix)?;
+    read_values(
+        alloc,
+        reader,
+        &order.as_slice()[..count as usize],
+        &mut prefix,
+    )?;
     Ok(Cut {
         prefix: List::from_vec(prefix),
         after,

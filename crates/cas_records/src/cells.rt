@@ -30,11 +30,7 @@ fn is_cell_value(column: &Column, bytes: &[u8]) -> bool
 
 // The bytes of a cell.
 #[tactic(auto, unfolding(crate::specs::Reading::content_at))]
-fn read_content(
-    alloc: Global,
-    reader: &mut Reader<'_>,
-    column: &Column,
-) -> Result<Bytes, ReadFault>
+fn read_content(alloc: Global, reader: &mut Reader<'_>, column: &Column) -> Result<Bytes, ReadFault>
     ensures { Gives (λ b. b) result reader.new (content_at (is_cell_value column.now) reader.old) }
 {
     let at = reader.at();
@@ -47,11 +43,7 @@ fn read_content(
 
 /// Reads a cell of the column.
 #[tactic(auto, unfolding(crate::specs::Reading::cell_at))]
-pub fn read_cell(
-    alloc: Global,
-    reader: &mut Reader<'_>,
-    column: &Column,
-) -> Result<Cell, ReadFault>
+pub fn read_cell(alloc: Global, reader: &mut Reader<'_>, column: &Column) -> Result<Cell, ReadFault>
     ensures { Gives (λ c. c) result reader.new (cell_at (is_cell_value column.now) reader.old) }
 {
     let rank = reader.u8_within(0, 2)?;

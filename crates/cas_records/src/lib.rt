@@ -1,5 +1,6 @@
 //! What the rows of a table are made of, as bytes: how deletions, what an `INSERT` leaves of a row,
-//! and cells are spelled, a reader of each, which knows the table's columns, and a writer.
+//! cells, the places of rows and cuts are spelled, a reader of each, which is told the table's
+//! columns, and a writer.
 #![tactic(auto)]
 
 mod bounds;
