@@ -1,0 +1,13 @@
+use Rattle.cas_records.specs.Allowed.{is_cell_value}
+use Rattle.cas_records.proofs.CellLaws.{deletion_exact, live_exact, cell_exact, deletion_long, live_long, cell_long}
+use Rattle.cas_records.proofs.laws.cells_are_exact.Goals as goal
+
+pub returns : goal.returns
+returns c = record {
+  deletion = deletion_exact;
+  live = live_exact;
+  cell = λ column. cell_exact (is_cell_value column);
+  deletion_length = deletion_long;
+  live_length = live_long;
+  cell_length = cell_long;
+}

@@ -1,0 +1,4 @@
+pub mod Spelling
+pub mod Allowed
+pub mod Reading
+pub mod Inner

@@ -1,0 +1,18 @@
+//! What the rows of a table are made of, as bytes: how deletions, what an `INSERT` leaves of a row,
+//! cells, the places of rows and cuts are spelled, a reader of each, which is told the table's
+//! columns, and a writer.
+#![tactic(auto)]
+
+mod bounds;
+mod cells;
+mod deletions;
+mod laws;
+mod lives;
+mod times;
+
+pub use bounds::{put_clustering, put_cut, read_clustering, read_cut};
+pub use cells::{put_cell, read_cell};
+pub use deletions::{put_deletion, read_deletion};
+pub use laws::{bounds_are_exact, cells_are_exact};
+pub use lives::{put_live, read_live};
+pub use times::LEAST_RECORDED;
