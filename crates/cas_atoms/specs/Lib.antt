@@ -7,5 +7,4 @@ pub mod Picks
 pub mod Answers
 pub mod LogLength
 pub mod Fits
-pub mod Laws
 pub mod Inner

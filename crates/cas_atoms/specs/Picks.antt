@@ -55,9 +55,13 @@ abbrev pub living : ℤ → Option Cell → Option Cell
 living now None = None
 living now (Some c) = then_some (cell_lives now c) c
 
+-- the alive cell at a path of a column of the row
+abbrev pub alive_cell : List Atom → ℤ → RowKey → ℕ → List ℕ → Option Cell
+alive_cell atoms now r n p = living now (cell_winner atoms (path r n p))
+
 -- the alive cell of a plain column of the row
 abbrev pub plain_cell : List Atom → ℤ → RowKey → ℕ → Option Cell
-plain_cell atoms now r n = living now (cell_winner atoms (path r n []))
+plain_cell atoms now r n = alive_cell atoms now r n []
 
 -- the bytes of a cell, and no bytes where there is no cell
 abbrev pub cell_bytes : Option Cell → List ℕ
@@ -65,15 +69,15 @@ cell_bytes None = []
 cell_bytes (Some c) = cell_value c
 
 -- the value of an element of a list, or of a key of a map
-abbrev pub shown_element : List Atom → RowKey → ℕ → List ℕ → List ℕ
-shown_element atoms r n p = cell_bytes (cell_winner atoms (path r n p))
+abbrev pub shown_element : List Atom → ℤ → RowKey → ℕ → List ℕ → List ℕ
+shown_element atoms now r n p = cell_bytes (alive_cell atoms now r n p)
 
 -- what the row shows of a column that isn't of the primary key: a value, a set's elements, a list's values, a map's keys with their values
 abbrev pub shown_by_shape : Shape → List Atom → ℤ → RowKey → ℕ → Column → Datum
 shown_by_shape shape.One atoms now r n c = one_or_null c.tag (option_map cell_value (plain_cell atoms now r n))
 shown_by_shape shape.Set atoms now r n c = set_or_null c.tag (alive_paths atoms now r n c)
-shown_by_shape shape.List atoms now r n c = list_or_null c.tag (map (shown_element atoms r n) (alive_paths atoms now r n c))
-shown_by_shape shape.Map atoms now r n c = map_or_null c.tag (type_or_blob c.second) (map (λ p. (p, shown_element atoms r n p)) (alive_paths atoms now r n c))
+shown_by_shape shape.List atoms now r n c = list_or_null c.tag (map (shown_element atoms now r n) (alive_paths atoms now r n c))
+shown_by_shape shape.Map atoms now r n c = map_or_null c.tag (type_or_blob c.second) (map (λ p. (p, shown_element atoms now r n p)) (alive_paths atoms now r n c))
 
 -- what the row shows of the column of that number, by the column's shape
 abbrev pub shown_value : List Atom → ℤ → RowKey → ℕ → Column → Datum

@@ -4,10 +4,9 @@ ghost use Rattle.std.specs.Prelude.{◌≡◌, IsTrue, map, IfOk, IfSome};
 ghost use Rattle.std.specs.Option.{option_copied};
 ghost use Rattle.cas_types.specs.declared.schema.Shape.TheVariants as shape;
 ghost use Rattle.cas_cell.specs.Cells.{cell_lives};
-ghost use Rattle.cas_atoms.specs.Picks.{one_or_null, set_or_null, list_or_null, map_or_null, living, plain_cell, shown_element, shown_by_shape, shown_value};
+ghost use Rattle.cas_atoms.specs.Picks.{one_or_null, set_or_null, list_or_null, map_or_null, living, alive_cell, plain_cell, shown_element, shown_by_shape, shown_value};
 ghost use Rattle.cas_atoms.specs.Inner.Places.{row_at};
 
-use crate::atom::Atom;
 use crate::place::{Partition, Place};
 use crate::query::Datum;
 use crate::rows_and_paths::alive_paths;
@@ -71,19 +70,28 @@ fn living(now: i64, cell: Option<&Cell>) -> Option<&Cell>
     }
 }
 
+// The alive cell at that path of the column of the row.
+fn alive_cell<'a>(partition: Partition<'a>, place: Place<'_>, bytes: &[u8]) -> Option<&'a Cell>
+    ensures cell { option_copied result ≡
+        alive_cell partition.entry.atoms.now partition.entry.now (row_at place.entry) place.entry.number bytes.now }
+    ensures alive { IfSome result (λ c. IsTrue (cell_lives partition.entry.now c.now)) }
+{
+    living(partition.now, cell_winner(partition.atoms, place, bytes))
+}
+
 /// The alive cell of a plain column of the row.
 pub(crate) fn plain_cell<'a>(partition: Partition<'a>, place: Place<'_>) -> Option<&'a Cell>
     ensures cell { option_copied result ≡ plain_cell partition.entry.atoms.now partition.entry.now (row_at place.entry) place.entry.number }
     ensures alive { IfSome result (λ c. IsTrue (cell_lives partition.entry.now c.now)) }
 {
-    living(partition.now, cell_winner(partition.atoms, place, &[]))
+    alive_cell(partition, place, &[])
 }
 
 // The value of an element of a list, or of a key of a map.
-fn shown_element<'a>(atoms: &'a [Atom], place: Place<'_>, bytes: &[u8]) -> &'a [u8]
-    ensures { result.now ≡ shown_element atoms.now (row_at place.entry) place.entry.number bytes.now }
+fn shown_element<'a>(partition: Partition<'a>, place: Place<'_>, bytes: &[u8]) -> &'a [u8]
+    ensures { result.now ≡ shown_element partition.entry.atoms.now partition.entry.now (row_at place.entry) place.entry.number bytes.now }
 {
-    match cell_winner(atoms, place, bytes) {
+    match alive_cell(partition, place, bytes) {
         Some(cell) => cell.value(),
         None => &[],
     }
@@ -92,15 +100,15 @@ fn shown_element<'a>(atoms: &'a [Atom], place: Place<'_>, bytes: &[u8]) -> &'a [
 // The values of the elements of a list.
 fn element_values(
     alloc: Global,
-    atoms: &[Atom],
+    partition: Partition<'_>,
     place: Place<'_>,
     paths: &[Bytes],
 ) -> Result<Vec<Bytes>, AllocError>
-    ensures { IfOk result (λ v. v.items ≡ map (shown_element atoms.now (row_at place.entry) place.entry.number) paths.now) }
+    ensures { IfOk result (λ v. v.items ≡ map (shown_element partition.entry.atoms.now partition.entry.now (row_at place.entry) place.entry.number) paths.now) }
 {
     let mut values = Vec::new(alloc);
     for bytes in paths {
-        let value = shown_element(atoms, place, bytes.as_slice());
+        let value = shown_element(partition, place, bytes.as_slice());
         values.push(Bytes::copy_of(alloc, value)?)?;
     }
     Ok(values)
@@ -109,15 +117,15 @@ fn element_values(
 // The keys of a map with their values.
 fn map_entries(
     alloc: Global,
-    atoms: &[Atom],
+    partition: Partition<'_>,
     place: Place<'_>,
     paths: &[Bytes],
 ) -> Result<Vec<(Bytes, Bytes)>, AllocError>
-    ensures { IfOk result (λ v. v.items ≡ map (λ p. (p, shown_element atoms.now (row_at place.entry) place.entry.number p)) paths.now) }
+    ensures { IfOk result (λ v. v.items ≡ map (λ p. (p, shown_element partition.entry.atoms.now partition.entry.now (row_at place.entry) place.entry.number p)) paths.now) }
 {
     let mut entries = Vec::new(alloc);
     for bytes in paths {
-        let value = shown_element(atoms, place, bytes.as_slice());
+        let value = shown_element(partition, place, bytes.as_slice());
         entries.push((bytes.clone()?, Bytes::copy_of(alloc, value)?))?;
     }
     Ok(entries)
@@ -133,10 +141,7 @@ fn shown_list(
         shown_by_shape shape.List partition.entry.atoms.now partition.entry.now (row_at place.entry) place.entry.number column.now) }
 {
     let paths = alive_paths(alloc, partition, place, column)?;
-    Ok(list_or_null(
-        column.tag,
-        element_values(alloc, partition.atoms, place, &paths)?,
-    ))
+    Ok(list_or_null(column.tag, element_values(alloc, partition, place, &paths)?))
 }
 
 fn shown_map(
@@ -149,7 +154,7 @@ fn shown_map(
         shown_by_shape shape.Map partition.entry.atoms.now partition.entry.now (row_at place.entry) place.entry.number column.now) }
 {
     let paths = alive_paths(alloc, partition, place, column)?;
-    let entries = map_entries(alloc, partition.atoms, place, &paths)?;
+    let entries = map_entries(alloc, partition, place, &paths)?;
     Ok(map_or_null(column.tag, column.value_type(), entries))
 }
 

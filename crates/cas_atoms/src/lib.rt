@@ -5,7 +5,6 @@ mod answers;
 mod atom;
 mod column_values;
 mod coordinates;
-mod laws;
 mod log_length;
 mod partition_keys;
 mod picks;
@@ -20,7 +19,6 @@ mod winners;
 
 pub use answers::answer;
 pub use atom::{Atom, ColumnRef, Mutation};
-pub use laws::{join_laws, same_answers};
 pub use log_length::length;
 pub use query::{Datum, LiveRow, Pick, Query};
 pub use row::{PathCell, Row, RowColumn};

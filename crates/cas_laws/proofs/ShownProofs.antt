@@ -1,5 +1,5 @@
--- Lists that are the same answer alike: what is shown is written, and what is written and shown in one is so in the other.
-use Rattle.std.proofs.Common.{◌≡◌, ℕ, ◌==◌, ℤ, Bool, true, false, cond, not, ◌&&◌, ◌||◌, Option, None, Some, is_some, ◌+◌, List, [], ◌∷◌, map, slice_get, ◌⊎◌, inl, inr, option_map, refl, sym, ap, ◌∙◌}
+-- What is shown was written.
+use Rattle.std.proofs.Common.{◌≡◌, ℕ, ◌==◌, ℤ, Bool, true, false, cond, not, ◌&&◌, ◌||◌, Option, None, Some, ◌+◌, List, [], ◌∷◌, filter, ◌⊎◌, inl, inr, refl, sym, ap}
 use Rattle.std.proofs.lemmas.Bool.{true≢false}
 use Rattle.std.specs.Bool.{then_some}
 use Rattle.std.specs.Cmp.{Equal-is}
@@ -7,39 +7,29 @@ use Rattle.std.specs.FinMap.{slice_cmp-IsAntisymmetric}
 use Rattle.std.specs.Cmp.Lexicographic.{slice_cmp}
 use Rattle.cas_types.specs.Orders.{Orders}
 use Rattle.cas_types.specs.Values.{bytes_cmp}
-use Rattle.cas_types.specs.Schemas.{path_type, type_or_blob}
+use Rattle.cas_types.specs.Schemas.{path_type}
 use Rattle.cas_types.specs.declared.tag.TypeTag.{TypeTag}
 use Rattle.cas_types.specs.declared.schema.Column.{Column}
-use Rattle.cas_types.specs.declared.schema.Kind.{Kind}
-use Rattle.cas_types.specs.declared.schema.Kind.TheVariants.{Partition, Ascending, Descending, Static, Regular}
-use Rattle.cas_types.specs.declared.schema.Shape.{Shape}
-use Rattle.cas_types.specs.declared.schema.Shape.TheVariants as shape
 use Rattle.cas_types.proofs.OrderLaws.{bytes_orders, value_orders}
 use Rattle.cas_cell.specs.Lives.{live_at, live_cmp}
-use Rattle.cas_cell.specs.Cells.{cell_at, cell_cmp, cell_value}
+use Rattle.cas_cell.specs.Cells.{cell_at, cell_cmp}
 use Rattle.cas_cell.specs.declared.deletion.Deletion.{Deletion}
 use Rattle.cas_cell.specs.declared.liveness.Liveness.{Liveness}
 use Rattle.cas_cell.specs.declared.cell.Cell.{Cell}
-use Rattle.cas_bounds.specs.Orders.{values_cmp}
-use Rattle.cas_bounds.specs.Cuts.{is_inside}
-use Rattle.cas_bounds.specs.ClusteringOrder.{clustering_order}
-use Rattle.cas_bounds.proofs.CutLaws.{row_orders}
 use Rattle.cas_atoms.specs.Coordinates.{RowKey, clustered, static_row, row, path, same_values, same_bytes, same_row, is_at, live_at_row, cell_at_path}
-use Rattle.cas_atoms.specs.Winners.{cover, standing, live_winner, cell_winner, Same}
+use Rattle.cas_atoms.specs.Winners.{cover, standing, live_winner, cell_winner}
 use Rattle.cas_atoms.specs.RowsAndPaths.{ordered, written_row, written_path, path_cmp, is_alive, alive_paths}
-use Rattle.cas_atoms.specs.Picks.{living, plain_cell, cell_bytes, one_or_null, set_or_null, list_or_null, map_or_null, number_or_null, shown_by_shape, value_by_kind, column_value, cell_by_kind, picked_cell, left_of, picked}
-use Rattle.cas_atoms.specs.Answers.{is_empty, has_kind, has_cell, is_living, is_shown, is_answered, answered, turned, is_whole, with_static, limited, row_shown, answer}
-use Rattle.cas_atoms.specs.Laws.{SameAnswers}
+use Rattle.cas_atoms.specs.Picks.{living}
+use Rattle.cas_atoms.specs.Answers.{is_empty, has_kind, has_cell, is_living, is_shown}
 use Rattle.cas_atoms.specs.declared.atom.Atom.{Atom}
 use Rattle.cas_atoms.specs.declared.atom.Atom.TheVariants.{PartitionDeletion, RangeDeletion, RowDeletion, CollectionDeletion, Live, Write, StaticWrite, StaticCollectionDeletion}
-use Rattle.cas_atoms.specs.declared.query.Query.{Query}
-use Rattle.cas_atoms.specs.declared.query.Pick.{Pick}
-use Rattle.cas_atoms.specs.declared.query.Pick.TheVariants.{Value, WriteTime, Ttl}
-use Rattle.cas_atoms.proofs.FilteredLists.{Gives, Gives-mono, Gives-greatest, same_filtered, passes}
+use Rattle.cas_laws.specs.Given.{Gives}
+use Rattle.cas_laws.proofs.GreatestProofs.{no_none, Gives-greatest}
+use Rattle.cas_laws.proofs.OrderedLists.{Gives-mono}
 
 -- ---- tests that hold
 
-both_hold : (a b : Bool) → (a && b) ≡ true → (a ≡ true) × (b ≡ true)
+pub both_hold : (a b : Bool) → (a && b) ≡ true → (a ≡ true) × (b ≡ true)
 both_hold true b e = (refl, e)
 both_hold false b e = absurd (true≢false (sym e))
 
@@ -64,9 +54,6 @@ equal_rows static_row (clustered d) e = absurd (true≢false (sym e))
 equal_rows static_row static_row e = refl
 
 -- ---- what wins was written
-
-no_none : {Y : Type 0} (y : Y) {G : Type 0} → None ≡ Some y → G
-no_none y e = absurd (true≢false (sym (ap is_some e)))
 
 module _ {Y : Type 0} (at : Y → ℤ) where
   nothing_stands : (d : Option Deletion) (y : Y) {G : Type 0} → standing at d None ≡ Some y → G
@@ -119,6 +106,15 @@ cell_writes_row d r n p w (CollectionDeletion _ _ _) e = nothing_stands cell_at 
 cell_writes_row d r n p w (Live _ _) e = nothing_stands cell_at d w e
 cell_writes_row d r n p w (StaticCollectionDeletion _ _) e = nothing_stands cell_at d w e
 
+-- what a list has that isn't empty
+passes : {K : Type 0} (t : K → Bool) (ks : List K) → is_empty (filter t ks) ≡ false → (k : K) × (t k ≡ true)
+passes {K = K} t [] e = absurd (true≢false e)
+passes {K = K} t (k ∷ ks) e =
+    elim (t k) as (λ b. t k ≡ b → is_empty (cond b (k ∷ filter t ks) (filter t ks)) ≡ false → (k : K) × (t k ≡ true)) [
+      | true ↦ λ p _. (k, p)
+      | false ↦ λ p later. passes t ks later
+    ] refl e
+
 -- ---- what is shown was written
 
 alive_is : (now : ℤ) (c : Option Cell) → is_alive now c ≡ true → (w : Cell) × (c ≡ Some w)
@@ -129,7 +125,7 @@ living_is : (now : ℤ) (l : Option Liveness) → is_living now l ≡ true → (
 living_is now None e = absurd (true≢false (sym e))
 living_is now (Some m) e = (m, refl)
 
-path_written : (atoms : List Atom) (now : ℤ) (r : RowKey) (n : ℕ) (p : List ℕ) → is_alive now (cell_winner atoms (path r n p)) ≡ true → Gives (written_path r n) atoms p
+pub path_written : (atoms : List Atom) (now : ℤ) (r : RowKey) (n : ℕ) (p : List ℕ) → is_alive now (cell_winner atoms (path r n p)) ≡ true → Gives (written_path r n) atoms p
 path_written atoms now r n p e =
     let (w, is) = alive_is now (cell_winner atoms (path r n p)) e in
     Gives-mono _ (written_path r n) w p (cell_writes_path (cover atoms (path r n p)) r n p w) atoms (Gives-greatest cell_cmp _ atoms w is)
@@ -158,93 +154,13 @@ row_written_in atoms now r n (c ∷ cs) e =
       | inr later ↦ row_written_in atoms now r (n + 1) cs later
     ]
 
-row_written : (atoms : List Atom) (now : ℤ) (columns : List Column) (r : List (List ℕ)) → is_shown atoms now columns r ≡ true → Gives written_row atoms r
+pub row_written : (atoms : List Atom) (now : ℤ) (columns : List Column) (r : List (List ℕ)) → is_shown atoms now columns r ≡ true → Gives written_row atoms r
 row_written atoms now columns r e =
     elim (one_holds (is_living now (live_winner atoms r)) (has_cell atoms now (clustered r) 0 columns) e) [
       | inl living ↦ row_written_by_insert atoms now r living
       | inr cell ↦ row_written_in atoms now r 0 columns cell
     ]
 
-path_orders : (tag : Option TypeTag) → Orders (path_cmp tag)
+pub path_orders : (tag : Option TypeTag) → Orders (path_cmp tag)
 path_orders None = bytes_orders
 path_orders (Some tag) = value_orders tag
-
--- ---- what two lists that are the same show
-
-module _ (A B : List Atom) (same : Same A B) (now : ℤ) where
-  same_alive : (r : RowKey) (n : ℕ) (c : Column) → alive_paths A now r n c ≡ alive_paths B now r n c
-  same_alive r n c =
-      same_filtered (path_cmp (path_type c.shape c.tag)) (path_orders (path_type c.shape c.tag)) (written_path r n) (written_path r n)
-      (λ p. is_alive now (cell_winner A (path r n p))) (λ p. is_alive now (cell_winner B (path r n p))) A B
-      (λ p. ap (is_alive now) (same.cells (path r n p))) (path_written A now r n) (path_written B now r n)
-
-  same_has_cell : (r : RowKey) (n : ℕ) (columns : List Column) → has_cell A now r n columns ≡ has_cell B now r n columns
-  same_has_cell r n [] = refl
-  same_has_cell r n (c ∷ cs) = λ i. (has_kind r c.kind && not (is_empty (same_alive r n c i))) || same_has_cell r (n + 1) cs i
-
-  same_shown : (columns : List Column) (c : List (List ℕ)) → is_shown A now columns c ≡ is_shown B now columns c
-  same_shown columns c = λ i. is_living now (same.lives c i) || same_has_cell (clustered c) 0 columns i
-
-  same_answered : (q : Query) → answered q A now ≡ answered q B now
-  unfolding answered
-  same_answered q =
-      same_filtered (values_cmp (clustering_order q.columns)) (row_orders (clustering_order q.columns)) written_row written_row (is_answered q A now) (is_answered q B now) A B
-      (λ c. ap (λ b. is_inside q.slice.lo q.slice.hi c && b) (same_shown q.columns c))
-      (λ c e. row_written A now q.columns c (both_hold _ _ e).1)
-      (λ c e. row_written B now q.columns c (both_hold _ _ e).1)
-
-  same_static : (q : Query) (rows : List (List (List ℕ))) → with_static q A now rows ≡ with_static q B now rows
-  same_static q [] = ap (λ b. cond (is_whole q.slice && b) (static_row ∷ []) []) (same_has_cell static_row 0 q.columns)
-  same_static q (c ∷ cs) = refl
-
-  same_plain : (r : RowKey) (n : ℕ) → plain_cell A now r n ≡ plain_cell B now r n
-  same_plain r n = ap (living now) (same.cells (path r n []))
-
-  same_shape : (s : Shape) (r : RowKey) (n : ℕ) (c : Column) → shown_by_shape s A now r n c ≡ shown_by_shape s B now r n c
-  same_shape shape.One r n c = ap (λ v. one_or_null c.tag (option_map cell_value v)) (same_plain r n)
-  same_shape shape.Set r n c = ap (set_or_null c.tag) (same_alive r n c)
-  same_shape shape.List r n c = λ i. list_or_null c.tag (map (λ p. cell_bytes (same.cells (path r n p) i)) (same_alive r n c i))
-  same_shape shape.Map r n c = λ i. map_or_null c.tag (type_or_blob c.second) (map (λ p. (p, cell_bytes (same.cells (path r n p) i))) (same_alive r n c i))
-
-  same_by_kind : (k : Kind) (q : Query) (r : RowKey) (n : ℕ) (c : Column) → value_by_kind k q A now r n c ≡ value_by_kind k q B now r n c
-  same_by_kind Partition q r n c = refl
-  same_by_kind Ascending q r n c = refl
-  same_by_kind Descending q r n c = refl
-  same_by_kind Static q r n c = same_shape c.shape static_row n c
-  same_by_kind Regular q static_row n c = refl
-  same_by_kind Regular q (clustered d) n c = same_shape c.shape (clustered d) n c
-
-  same_value : (q : Query) (r : RowKey) (n : ℕ) (c : Option Column) → column_value q A now r n c ≡ column_value q B now r n c
-  same_value q r n None = refl
-  same_value q r n (Some c) = same_by_kind c.kind q r n c
-
-  same_cell_by_kind : (k : Kind) (r : RowKey) (n : ℕ) → cell_by_kind k A now r n ≡ cell_by_kind k B now r n
-  same_cell_by_kind Partition r n = refl
-  same_cell_by_kind Ascending r n = refl
-  same_cell_by_kind Descending r n = refl
-  same_cell_by_kind Static r n = same_plain static_row n
-  same_cell_by_kind Regular static_row n = refl
-  same_cell_by_kind Regular (clustered d) n = same_plain (clustered d) n
-
-  same_picked_cell : (q : Query) (r : RowKey) (n : ℕ) (c : Option Column) → picked_cell q A now r n c ≡ picked_cell q B now r n c
-  same_picked_cell q r n None = refl
-  same_picked_cell q r n (Some c) = same_cell_by_kind c.kind r n
-
-  same_picked : (q : Query) (r : RowKey) (p : Pick) → picked q A now r p ≡ picked q B now r p
-  unfolding picked
-  same_picked q r (Value n) = same_value q r n (slice_get q.columns n)
-  same_picked q r (WriteTime n) = ap (λ c. number_or_null (option_map cell_at c)) (same_picked_cell q r n (slice_get q.columns n))
-  same_picked q r (Ttl n) = ap (λ c. number_or_null (left_of now c)) (same_picked_cell q r n (slice_get q.columns n))
-
-  same_row_shown : (q : Query) (r : RowKey) → row_shown q A now r ≡ row_shown q B now r
-  unfolding row_shown
-  same_row_shown q r = λ i. record { values = map (λ p. same_picked q r p i) q.picks }
-
-  same_answer : (q : Query) → answer q A now ≡ answer q B now
-  unfolding answer
-  same_answer q =
-      ap (λ rows. map (row_shown q A now) (limited q.limit (with_static q A now (turned q.reversed rows)))) (same_answered q)
-      ∙ (λ i. map (λ r. same_row_shown q r i) (limited q.limit (same_static q (turned q.reversed (answered q B now)) i)))
-
-pub same_answers : SameAnswers
-same_answers A B same q now = same_answer A B same now q

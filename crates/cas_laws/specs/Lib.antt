@@ -1,0 +1,4 @@
+pub mod Given
+pub mod Inside
+pub mod Above
+pub mod Laws
