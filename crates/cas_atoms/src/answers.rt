@@ -7,10 +7,10 @@ ghost use Rattle.cas_atoms.specs.Answers.{AreNumbered, is_answered, answered, tu
 
 use crate::atom::Atom;
 use crate::picks::picked;
-use crate::place::{Partition, Place};
+use crate::place::Partition;
 use crate::query::{LiveRow, Query};
 use crate::rows_and_paths::{copy_values, rows_of};
-use crate::shown_rows::{has_cell, is_shown};
+use crate::shown_rows::{is_shown, is_static_shown};
 use cas_bounds::{Slice, between, clustering_order};
 use cas_types::{Bytes, List, Mem};
 use std::alloc::{AllocError, Global};
@@ -94,15 +94,7 @@ fn static_alone(
     if !is_whole(&query.slice) {
         return Ok(Vec::new(alloc));
     }
-    if !has_cell(
-        alloc,
-        partition,
-        Place {
-            row: None,
-            number: 0,
-        },
-        query.columns.as_slice(),
-    )? {
+    if !is_static_shown(alloc, partition, query.columns.as_slice())? {
         return Ok(Vec::new(alloc));
     }
     Ok(vec![in alloc; None]?)
@@ -134,9 +126,9 @@ fn limited(limit: Option<u32>, rows: Vec<Option<List<Bytes>>>) -> Vec<Option<Lis
     rows
 }
 
-// What the row shows: a value for each pick.
+/// What the row of these values, or with none the static row, shows: a value for each pick.
 #[tactic(auto, unfolding(crate::specs::Answers::row_shown))]
-fn row_shown(
+pub fn row_shown(
     alloc: Global,
     query: &Query,
     partition: Partition<'_>,

@@ -17,8 +17,11 @@ mod shown_rows;
 mod tests;
 mod winners;
 
-pub use answers::answer;
+pub use answers::{answer, row_shown};
 pub use atom::{Atom, ColumnRef, Mutation};
 pub use log_length::length;
+pub use picks::picked;
+pub use place::Partition;
 pub use query::{Datum, LiveRow, Pick, Query};
 pub use row::{PathCell, Row, RowColumn};
+pub use shown_rows::{is_shown, is_static_shown};

@@ -196,9 +196,9 @@ fn write_time(cell: Option<&Cell>) -> Option<i64>
     }
 }
 
-/// What the row shows for a pick.
+/// What the row of these values, or with none the static row, shows for a pick.
 #[tactic(auto, unfolding(crate::specs::Picks::picked))]
-pub(crate) fn picked(
+pub fn picked(
     alloc: Global,
     query: &Query,
     partition: Partition<'_>,

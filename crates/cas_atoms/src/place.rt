@@ -5,9 +5,9 @@ use cas_types::{Bytes, List};
 
 /// The atoms of a partition, and the moment in seconds at which they are read.
 #[derive(Clone, Copy)]
-pub(crate) struct Partition<'a> {
-    pub(crate) atoms: &'a [Atom],
-    pub(crate) now: i64,
+pub struct Partition<'a> {
+    pub atoms: &'a [Atom],
+    pub now: i64,
 }
 
 /// A row by the values of its clustering columns, of which the static row has none, and the number

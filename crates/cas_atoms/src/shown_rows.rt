@@ -2,7 +2,7 @@
 
 ghost use Rattle.std.specs.Prelude.{◌≡◌, ◌+◌, ◌<◌, ◌^◌, ◌&&◌, not, length, IfOk};
 ghost use Rattle.std.specs.Option.{option_copied};
-ghost use Rattle.cas_atoms.specs.Coordinates.{row_key};
+ghost use Rattle.cas_atoms.specs.Coordinates.{row_key, static_row};
 ghost use Rattle.cas_atoms.specs.RowsAndPaths.{alive_paths};
 ghost use Rattle.cas_atoms.specs.Answers.{AreNumbered, is_empty, has_kind, has_cell, is_living, is_shown};
 ghost use Rattle.cas_atoms.specs.Inner.Places.{row_at};
@@ -42,8 +42,8 @@ fn column_has_cell(
     Ok(!paths.is_empty())
 }
 
-/// Whether some column of the row, of those from that number on, has an alive cell.
-pub(crate) fn has_cell(
+// Whether some column of the row, of those from that number on, has an alive cell.
+fn has_cell(
     alloc: Global,
     partition: Partition<'_>,
     place: Place<'_>,
@@ -77,8 +77,28 @@ fn is_living(now: i64, live: Option<Liveness>) -> bool
     }
 }
 
+/// Whether the static row has an alive cell.
+pub fn is_static_shown(
+    alloc: Global,
+    partition: Partition<'_>,
+    columns: &[Column],
+) -> Result<bool, AllocError>
+    requires { AreNumbered columns.now }
+    ensures { IfOk result (λ b. b ≡ has_cell partition.entry.atoms.now partition.entry.now static_row 0 columns.now) }
+{
+    has_cell(
+        alloc,
+        partition,
+        Place {
+            row: None,
+            number: 0,
+        },
+        columns,
+    )
+}
+
 /// Whether the row lives by its `INSERT` or has an alive cell.
-pub(crate) fn is_shown(
+pub fn is_shown(
     alloc: Global,
     partition: Partition<'_>,
     columns: &[Column],

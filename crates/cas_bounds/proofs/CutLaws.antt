@@ -8,26 +8,24 @@ use Rattle.std.proofs.lemmas.Cmp.{tied_itself}
 use Rattle.cas_types.specs.Orders.{Orders}
 use Rattle.cas_bounds.specs.Orders.{first_cmp, values_cmp}
 use Rattle.cas_bounds.specs.Cuts.{prefixes_cmp}
-use Rattle.cas_bounds.specs.Laws.{Place, RowOrders, CutOrders, CutsDivideRows, OwnPlaces}
+use Rattle.cas_bounds.specs.Laws.{Place, RowOrders, CutOrders, CutsDivideRows, OwnPlaces, PointLaws}
 use Rattle.cas_bounds.specs.declared.order.Ordered.{Ordered}
-use Rattle.cas_bounds.proofs.Points.{End, before, row, after, beside, rank, ends_cmp, Point, point_cmp, point_orders, on_points, first_orders}
+use Rattle.cas_bounds.specs.declared.map_key.End.TheVariants.{Row}
+use Rattle.cas_bounds.specs.Points.{beside, rank, ends_cmp, Point, point_cmp, side}
+use Rattle.cas_bounds.specs.Inner.PointLaws.{point_orders, on_points, first_orders}
 
 -- ---- rows
 
-rows_as_points : (os : List Ordered) (xs ys : List (List ℕ)) → values_cmp os xs ys ≡ ends_cmp os row xs row ys
+rows_as_points : (os : List Ordered) (xs ys : List (List ℕ)) → values_cmp os xs ys ≡ ends_cmp os Row xs Row ys
 rows_as_points os [] [] = refl
 rows_as_points os [] (y ∷ ys) = refl
 rows_as_points os (x ∷ xs) [] = refl
 rows_as_points os (x ∷ xs) (y ∷ ys) = ap (ordering_then (first_cmp os x y)) (rows_as_points (drop 1 os) xs ys)
 
 pub row_orders : RowOrders
-row_orders os = subst Orders (λ i xs ys. sym (rows_as_points os xs ys) i) (on_points (λ (xs : List (List ℕ)). record { end = row; values = xs }) os (λ xs ys e. ap (λ p. p.values) e))
+row_orders os = subst Orders (λ i xs ys. sym (rows_as_points os xs ys) i) (on_points (λ (xs : List (List ℕ)). record { end = Row; values = xs }) os (λ xs ys e. ap (λ p. p.values) e))
 
 -- ---- cuts
-
-abbrev side : Bool → End
-side false = before
-side true = after
 
 sides : (p q : Bool) → bool_cmp p q ≡ ends_cmp [] (side p) [] (side q) []
 sides false false = refl
@@ -73,7 +71,7 @@ judge_then p Equal s t e = e
 judge_then false Greater s t e = refl
 judge_then true Greater s t e = refl
 
-past_as_points : (os : List Ordered) (p : Bool) (q d : List (List ℕ)) → judge p (values_cmp os (take (length q) d) q) ≡ is_lt (ends_cmp os (side p) q row d)
+past_as_points : (os : List Ordered) (p : Bool) (q d : List (List ℕ)) → judge p (values_cmp os (take (length q) d) q) ≡ is_lt (ends_cmp os (side p) q Row d)
 past_as_points os false [] [] = refl
 past_as_points os true [] [] = refl
 past_as_points os false [] (y ∷ ys) = refl
@@ -82,7 +80,7 @@ past_as_points os false (x ∷ xs) [] = refl
 past_as_points os true (x ∷ xs) [] = refl
 past_as_points os p (x ∷ xs) (y ∷ ys) =
     judge_then p (first_cmp os y x) _ _ (past_as_points (drop 1 os) p xs ys)
-    ∙ ap (λ r. is_lt (ordering_then r (ends_cmp (drop 1 os) (side p) xs row ys))) (sym ((first_orders os).total.antisymm x y))
+    ∙ ap (λ r. is_lt (ordering_then r (ends_cmp (drop 1 os) (side p) xs Row ys))) (sym ((first_orders os).total.antisymm x y))
 
 is_less : (r : Ordering) → is_lt r ≡ true → r ≡ Less
 is_less Less e = refl
@@ -101,10 +99,10 @@ pub cuts_divide_rows : CutsDivideRows
 cuts_divide_rows a b d same not_above past =
     let lower : is_gt (ends_cmp a.order (side a.after) a.prefix (side b.after) b.prefix) ≡ false =
     ap is_gt (sym (cuts_as_points a.order a.prefix a.after b.prefix b.after)) ∙ not_above in
-    let upper : is_lt (ends_cmp a.order (side b.after) b.prefix row d) ≡ true =
-    ap (λ os. is_lt (ends_cmp os (side b.after) b.prefix row d)) same ∙ (sym (past_as_points b.order b.after b.prefix d) ∙ past) in
+    let upper : is_lt (ends_cmp a.order (side b.after) b.prefix Row d) ≡ true =
+    ap (λ os. is_lt (ends_cmp os (side b.after) b.prefix Row d)) same ∙ (sym (past_as_points b.order b.after b.prefix d) ∙ past) in
     past_as_points a.order a.after a.prefix d
-    ∙ below a.order (record { end = side a.after; values = a.prefix }) (record { end = side b.after; values = b.prefix }) (record { end = row; values = d }) lower upper
+    ∙ below a.order (record { end = side a.after; values = a.prefix }) (record { end = side b.after; values = b.prefix }) (record { end = Row; values = d }) lower upper
 
 -- ---- the place of a prefix
 
@@ -118,3 +116,13 @@ own_places order q d = (
   λ e. (row_orders order).ties (take (length q) d) q (between (values_cmp order (take (length q) d) q) e),
   λ e. ap (λ r. not (is_lt r) && not (is_gt r)) (ap (λ s. values_cmp order s q) e ∙ tied_itself (row_orders order).total q),
 )
+
+-- ---- rows and cuts are points
+
+pub point_laws : PointLaws
+point_laws = record {
+  orders = point_orders;
+  rows = rows_as_points;
+  cuts = λ a b. cuts_as_points a.order a.prefix a.after b.prefix b.after;
+  past = λ cut c. past_as_points cut.order cut.after cut.prefix c;
+}

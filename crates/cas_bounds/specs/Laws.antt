@@ -1,9 +1,10 @@
 -- What holds of the orders of rows and of cuts, for every order of the clustering columns.
 use Rattle.std.specs.Prelude.{◌≡◌, ◌↔◌, ℕ, Bool, true, false, IsTrue, List, length, take}
-use Rattle.std.specs.Ordering.{is_gt}
+use Rattle.std.specs.Ordering.{is_lt, is_gt}
 use Rattle.cas_types.specs.Orders.{Orders}
 use Rattle.cas_bounds.specs.Orders.{values_cmp}
 use Rattle.cas_bounds.specs.Cuts.{is_past, is_inside, cut_cmp}
+use Rattle.cas_bounds.specs.Points.{point_cmp, row_point, cut_point}
 use Rattle.cas_bounds.specs.declared.order.Ordered.{Ordered}
 use Rattle.cas_bounds.specs.declared.cuts.Cut.{Cut}
 
@@ -32,3 +33,11 @@ CutsDivideRows = (a b : Cut) (d : List (List ℕ)) → a.order ≡ b.order → i
 abbrev pub OwnPlaces : Type 0
 OwnPlaces = (order : List Ordered) (q d : List (List ℕ)) →
     IsTrue (is_inside (cut_at order (record { prefix = q; after = false })) (cut_at order (record { prefix = q; after = true })) d) ↔ (take (length q) d ≡ q)
+
+-- rows and cuts are points of one order: it is total, rows and cuts compare as their points do, and a row is past a cut exactly where the cut's point
+-- is below the row's
+pub record PointLaws : Type 0 where
+  pub orders : (order : List Ordered) → Orders (point_cmp order)
+  pub rows : (order : List Ordered) (c d : List (List ℕ)) → values_cmp order c d ≡ point_cmp order (row_point c) (row_point d)
+  pub cuts : (a b : Cut) → cut_cmp a b ≡ point_cmp a.order (cut_point a) (cut_point b)
+  pub past : (cut : Cut) (c : List (List ℕ)) → is_past cut c ≡ is_lt (point_cmp cut.order (cut_point cut) (row_point c))

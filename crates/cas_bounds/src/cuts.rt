@@ -88,9 +88,12 @@ fn compare_prefixes(
                 Ordering::Greater
             }
         }
-        ([x, xs @ ..], [y, ys @ ..]) => compare_first(order, x.as_slice(), y.as_slice()).then(
-            compare_prefixes(later(order), xs, a_after, ys, b_after),
-        ),
+        ([x, xs @ ..], [y, ys @ ..]) => {
+            match compare_first(order, x.as_slice(), y.as_slice()) {
+                Ordering::Equal => compare_prefixes(later(order), xs, a_after, ys, b_after),
+                decided => decided,
+            }
+        }
     }
 }
 

@@ -1,6 +1,7 @@
 //! What holds of the order of rows and of cuts, for every order of the clustering columns.
 
-ghost use Rattle.cas_bounds.specs.Laws.{RowOrders, CutOrders, CutsDivideRows, OwnPlaces};
+ghost use Rattle.cas_bounds.specs.Keys.{KeysArePoints};
+ghost use Rattle.cas_bounds.specs.Laws.{RowOrders, CutOrders, CutsDivideRows, OwnPlaces, PointLaws};
 
 /// The order of rows is total, and only the same values tie.
 pub fn row_orders()
@@ -20,4 +21,14 @@ pub fn cuts_divide_rows()
 /// Between the cut before a prefix and the one after it lies what begins with the prefix.
 pub fn own_places()
     ensures { OwnPlaces }
+{}
+
+/// Rows and cuts are points of one total order, in which what is past a cut is above it.
+pub fn point_laws()
+    ensures { PointLaws }
+{}
+
+/// Keys of one table compare as the points that they stand for.
+pub fn keys_are_points()
+    ensures { KeysArePoints }
 {}

@@ -4,10 +4,12 @@
 
 mod cuts;
 mod laws;
+mod map_key;
 mod order;
 #[cfg(test)]
 mod tests;
 
 pub use cuts::{Clustering, Cut, Slice, between, cmp_cut, inside};
-pub use laws::{cut_orders, cuts_divide_rows, own_places, row_orders};
+pub use laws::{cut_orders, cuts_divide_rows, keys_are_points, own_places, point_laws, row_orders};
+pub use map_key::{End, MapKey};
 pub use order::{Ordered, clustering_order, compare_values};

@@ -82,8 +82,11 @@ pub fn compare_values(order: &[Ordered], a: &[Bytes], b: &[Bytes]) -> Ordering
         ([], []) => Ordering::Equal,
         ([], [_y, _ys @ ..]) => Ordering::Less,
         ([_x, _xs @ ..], []) => Ordering::Greater,
-        ([x, xs @ ..], [y, ys @ ..]) => compare_first(order, x.as_slice(), y.as_slice()).then(
-            compare_values(later(order), xs, ys),
-        ),
+        ([x, xs @ ..], [y, ys @ ..]) => {
+            match compare_first(order, x.as_slice(), y.as_slice()) {
+                Ordering::Equal => compare_values(later(order), xs, ys),
+                decided => decided,
+            }
+        }
     }
 }

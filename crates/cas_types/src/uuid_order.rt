@@ -1,7 +1,9 @@
 //! The order of uuids, and what it goes by.
 
 ghost use Rattle.std.specs.Prelude.{◌≡◌};
-ghost use Rattle.cas_types.specs.Values.{by_version, uuid_version, uuid_time};
+ghost use Rattle.std.specs.Option.{option_cmp};
+ghost use Rattle.std.specs.Ordering.{nat_cmp, on, then_cmp};
+ghost use Rattle.cas_types.specs.Values.{bytes_cmp, by_version, uuid_version, uuid_time};
 
 use crate::bytes::compare_bytes;
 use std::cmp::Ordering;
@@ -11,8 +13,16 @@ pub(crate) fn compare_uuids(a: &[u8], b: &[u8]) -> Ordering
     ensures { result ≡ by_version a.now b.now }
 {
     let versions = uuid_version(a).cmp(&uuid_version(b));
-    let times = uuid_time(a).cmp(&uuid_time(b));
-    versions.then(times.then(compare_bytes(a, b)))
+    versions.then_with(|| compare_by_time(a, b))
+}
+
+// Uuids of one version: those of version 1 by their time, then all by their bytes.
+fn compare_by_time(a: &[u8], b: &[u8]) -> Ordering
+    ensures { result ≡ then_cmp (on uuid_time (option_cmp nat_cmp)) bytes_cmp a.now b.now }
+{
+    uuid_time(a)
+        .cmp(&uuid_time(b))
+        .then_with(|| compare_bytes(a, b))
 }
 
 /// The version number of a uuid, where there are 16 bytes.

@@ -53,17 +53,21 @@ pub fn compare(tag: TypeTag, a: &[u8], b: &[u8]) -> Ordering
         TypeTag::Ascii | TypeTag::Blob | TypeTag::Boolean | TypeTag::Text => compare_bytes(a, b),
         TypeTag::TinyInt => tinyint_value(a)
             .cmp(&tinyint_value(b))
-            .then(compare_bytes(a, b)),
+            .then_with(|| compare_bytes(a, b)),
         TypeTag::SmallInt => smallint_value(a)
             .cmp(&smallint_value(b))
-            .then(compare_bytes(a, b)),
-        TypeTag::Int => int_value(a).cmp(&int_value(b)).then(compare_bytes(a, b)),
+            .then_with(|| compare_bytes(a, b)),
+        TypeTag::Int => int_value(a)
+            .cmp(&int_value(b))
+            .then_with(|| compare_bytes(a, b)),
         TypeTag::BigInt | TypeTag::Time | TypeTag::Timestamp => {
             bigint_value(a)
                 .cmp(&bigint_value(b))
-                .then(compare_bytes(a, b))
+                .then_with(|| compare_bytes(a, b))
         }
-        TypeTag::Date => date_value(a).cmp(&date_value(b)).then(compare_bytes(a, b)),
+        TypeTag::Date => date_value(a)
+            .cmp(&date_value(b))
+            .then_with(|| compare_bytes(a, b)),
         TypeTag::TimeUuid | TypeTag::Uuid => compare_uuids(a, b),
     }
 }

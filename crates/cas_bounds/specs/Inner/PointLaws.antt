@@ -1,5 +1,4 @@
--- One order for rows and cuts together: each is a list of values with an end, and the order of rows and that of cuts are parts of it.
--- Where the values stop, a row's end and the end of a cut that stands before are below any further value, and that of a cut that stands after is above it.
+-- The order of points is total, and only the same points tie.
 use Rattle.std.proofs.Common.{◌≡◌, ℕ, Bool, true, false, if◌then◌else◌, List, [], ◌∷◌, drop, refl, sym, ap, ◌∙◌, subst}
 use Rattle.std.proofs.lemmas.Bool.{true≢false}
 use Rattle.std.specs.declared.cmp.Ordering.{Ordering}
@@ -12,6 +11,9 @@ use Rattle.cas_types.specs.Orders.{Orders}
 use Rattle.cas_types.specs.Values.{value_cmp}
 use Rattle.cas_types.proofs.OrderLaws.{value_orders}
 use Rattle.cas_bounds.specs.Orders.{first_cmp}
+use Rattle.cas_bounds.specs.declared.map_key.End.{End}
+use Rattle.cas_bounds.specs.declared.map_key.End.TheVariants.{Before, Row, After}
+use Rattle.cas_bounds.specs.Points.{rank, beside, ends_cmp, Point, point_cmp}
 use Rattle.cas_bounds.specs.declared.order.Ordered.{Ordered}
 
 less_greater : {G : Type 0} → Less ≡ Greater → G
@@ -49,28 +51,6 @@ first_orders (o ∷ os) = flipped o o.descending
 
 -- ---- rows and cuts
 
-pub data End : Type 0 where
-  before : End
-  row : End
-  after : End
-
-abbrev pub rank : End → ℕ
-rank before = 0
-rank row = 1
-rank after = 2
-
--- an end against a further value
-abbrev pub beside : End → Ordering
-beside before = Less
-beside row = Less
-beside after = Greater
-
-abbrev pub ends_cmp : List Ordered → End → List (List ℕ) → End → List (List ℕ) → Ordering
-ends_cmp os m [] n [] = nat_cmp (rank m) (rank n)
-ends_cmp os m [] n (y ∷ ys) = beside m
-ends_cmp os m (x ∷ xs) n [] = ordering_reverse (beside n)
-ends_cmp os m (x ∷ xs) n (y ∷ ys) = ordering_then (first_cmp os x y) (ends_cmp (drop 1 os) m xs n ys)
-
 twice : (r : Ordering) → r ≡ ordering_reverse (ordering_reverse r)
 twice Less = refl
 twice Equal = refl
@@ -86,25 +66,25 @@ ends_antisymm os m n (x ∷ xs) [] = refl
 ends_antisymm os m n (x ∷ xs) (y ∷ ys) = flip_then _ _ _ _ ((first_orders os).total.antisymm x y) (ends_antisymm (drop 1 os) m n xs ys)
 
 same_end : (m n : End) → rank m ≡ rank n → m ≡ n
-same_end before before e = refl
-same_end before row e = cc
-same_end before after e = cc
-same_end row before e = cc
-same_end row row e = refl
-same_end row after e = cc
-same_end after before e = cc
-same_end after row e = cc
-same_end after after e = refl
+same_end Before Before e = refl
+same_end Before Row e = cc
+same_end Before After e = cc
+same_end Row Before e = cc
+same_end Row Row e = refl
+same_end Row After e = cc
+same_end After Before e = cc
+same_end After Row e = cc
+same_end After After e = refl
 
 beside_differs : {G : Type 0} (m : End) → beside m ≡ Equal → G
-beside_differs before e = less_equal e
-beside_differs row e = less_equal e
-beside_differs after e = greater_equal e
+beside_differs Before e = less_equal e
+beside_differs Row e = less_equal e
+beside_differs After e = greater_equal e
 
 beside_differs_back : {G : Type 0} (m : End) → ordering_reverse (beside m) ≡ Equal → G
-beside_differs_back before e = greater_equal e
-beside_differs_back row e = greater_equal e
-beside_differs_back after e = less_equal e
+beside_differs_back Before e = greater_equal e
+beside_differs_back Row e = greater_equal e
+beside_differs_back After e = less_equal e
 
 ends_ties : (os : List Ordered) (m n : End) (xs ys : List (List ℕ)) → ends_cmp os m xs n ys ≡ Equal → (m ≡ n) × (xs ≡ ys)
 ends_ties os m n [] [] e = (same_end m n (nat_cmp-IsAntisymmetric _ _ e), refl)
@@ -116,30 +96,30 @@ ends_ties os m n (x ∷ xs) (y ∷ ys) e =
     (end, λ i. (first_orders os).ties x y f i ∷ rest i)
 
 lower_end : (m n : End) → nat_cmp (rank m) (rank n) ≡ Less → beside n ≡ Less → beside m ≡ Less
-lower_end before n e f = refl
-lower_end row n e f = refl
-lower_end after before e f = greater_less e
-lower_end after row e f = greater_less e
-lower_end after after e f = greater_less f
+lower_end Before n e f = refl
+lower_end Row n e f = refl
+lower_end After Before e f = greater_less e
+lower_end After Row e f = greater_less e
+lower_end After After e f = greater_less f
 
 around : (m k : End) → beside m ≡ Less → ordering_reverse (beside k) ≡ Less → nat_cmp (rank m) (rank k) ≡ Less
-around m before e f = greater_less f
-around m row e f = greater_less f
-around before after e f = refl
-around row after e f = refl
-around after after e f = greater_less e
+around m Before e f = greater_less f
+around m Row e f = greater_less f
+around Before After e f = refl
+around Row After e f = refl
+around After After e f = greater_less e
 
 upper_end : (n k : End) → ordering_reverse (beside n) ≡ Less → nat_cmp (rank n) (rank k) ≡ Less → ordering_reverse (beside k) ≡ Less
-upper_end before k e f = greater_less e
-upper_end row k e f = greater_less e
-upper_end after before e f = greater_less f
-upper_end after row e f = greater_less f
-upper_end after after e f = refl
+upper_end Before k e f = greater_less e
+upper_end Row k e f = greater_less e
+upper_end After Before e f = greater_less f
+upper_end After Row e f = greater_less f
+upper_end After After e f = refl
 
 no_end : {G : Type 0} (n : End) → ordering_reverse (beside n) ≡ Less → beside n ≡ Less → G
-no_end before e f = greater_less e
-no_end row e f = greater_less e
-no_end after e f = greater_less f
+no_end Before e f = greater_less e
+no_end Row e f = greater_less e
+no_end After e f = greater_less f
 
 -- the first difference of x and z comes from that of x and y or that of y and z
 then_chain : {K : Type 0} {R : K → K → Ordering} (o : Orders R) (x y z : K) (s t u : Ordering) → (s ≡ Less → t ≡ Less → u ≡ Less) → ordering_then (R x y) s ≡ Less → ordering_then (R y z) t ≡ Less → ordering_then (R x z) u ≡ Less
@@ -169,13 +149,6 @@ ends_trans os m n k (x ∷ xs) [] (z ∷ zs) e f = no_end n e f
 ends_trans os m n k (x ∷ xs) (y ∷ ys) [] e f = f
 ends_trans os m n k (x ∷ xs) (y ∷ ys) (z ∷ zs) e f =
     then_chain (first_orders os) x y z _ _ _ (ends_trans (drop 1 os) m n k xs ys zs) e f
-
-pub record Point : Type 0 where
-  pub end : End
-  pub values : List (List ℕ)
-
-abbrev pub point_cmp : List Ordered → Point → Point → Ordering
-point_cmp os p q = ends_cmp os p.end p.values q.end q.values
 
 same_point : (os : List Ordered) (p q : Point) → point_cmp os p q ≡ Equal → p ≡ q
 same_point os p q e =
