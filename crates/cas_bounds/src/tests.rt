@@ -1,8 +1,8 @@
 //! The order of rows and cuts, and what lies between two cuts, by hand.
 
 use crate::{
-    Clustering, Cut, Ordered, Slice, cmp_cut, compare_values, cut_orders, cuts_divide_rows, inside,
-    own_places, row_orders,
+    Clustering, Cut, MapKey, Ordered, Slice, cmp_cut, compare_values, cut_orders, cuts_divide_rows,
+    inside, own_places, row_orders,
 };
 use cas_types::{Bytes, List, TypeTag};
 use std::alloc::{AllocError, Global};
@@ -118,6 +118,9 @@ fn slices_have_their_rows(rt: HostRuntime) -> Result<(), Fail> {
             order: order(alloc)?,
         };
         assert_eq!(rt; inside(&row, &slice), *want, "at {i}");
+        let key = MapKey::of_row(row);
+        let is_between = MapKey::of_cut(slice.lo) < key && key < MapKey::of_cut(slice.hi);
+        assert_eq!(rt; is_between, *want, "key at {i}");
     }
     own_places();
     Ok(())
