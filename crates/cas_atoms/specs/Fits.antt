@@ -9,7 +9,8 @@ use Rattle.std.specs.declared.cmp.Ordering.TheVariants.{Less}
 use Rattle.cas_types.specs.Values.{is_value}
 use Rattle.cas_types.specs.Schemas.{is_key, is_static, is_regular, is_plain, path_type, type_or_blob}
 use Rattle.cas_types.specs.Limits.{IsMoment}
-use Rattle.cas_types.specs.declared.limits.TheConstants.{KEY_LIMIT, TTL_LIMIT, LEAST_RECORDED, GREATEST_TIMESTAMP, LAST_DRAWN, MUTATION_LIMIT, ROW_LIMIT, LIST_PATH}
+use Rattle.cas_types.specs.declared.limits.TheConstants.{KEY_LIMIT, TTL_LIMIT, LEAST_RECORDED, GREATEST_TIMESTAMP}
+use Rattle.cas_types.specs.declared.limits.TheConstants.{LAST_DRAWN, MUTATION_LIMIT, ROW_LIMIT, LIST_PATH}
 use Rattle.cas_types.specs.declared.schema.Kind.{Kind}
 use Rattle.cas_types.specs.declared.schema.Shape.{Shape}
 use Rattle.cas_types.specs.declared.schema.Shape.TheVariants as shape

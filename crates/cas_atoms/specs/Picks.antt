@@ -77,7 +77,8 @@ abbrev pub shown_by_shape : Shape → List Atom → ℤ → RowKey → ℕ → C
 shown_by_shape shape.One atoms now r n c = one_or_null c.tag (option_map cell_value (plain_cell atoms now r n))
 shown_by_shape shape.Set atoms now r n c = set_or_null c.tag (alive_paths atoms now r n c)
 shown_by_shape shape.List atoms now r n c = list_or_null c.tag (map (shown_element atoms now r n) (alive_paths atoms now r n c))
-shown_by_shape shape.Map atoms now r n c = map_or_null c.tag (type_or_blob c.second) (map (λ p. (p, shown_element atoms now r n p)) (alive_paths atoms now r n c))
+shown_by_shape shape.Map atoms now r n c =
+    map_or_null c.tag (type_or_blob c.second) (map (λ p. (p, shown_element atoms now r n p)) (alive_paths atoms now r n c))
 
 -- what the row shows of the column of that number, by the column's shape
 abbrev pub shown_value : List Atom → ℤ → RowKey → ℕ → Column → Datum

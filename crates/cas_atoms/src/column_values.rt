@@ -4,7 +4,8 @@ ghost use Rattle.std.specs.Prelude.{◌≡◌, IsTrue, map, IfOk, IfSome};
 ghost use Rattle.std.specs.Option.{option_copied};
 ghost use Rattle.cas_types.specs.declared.schema.Shape.TheVariants as shape;
 ghost use Rattle.cas_cell.specs.Cells.{cell_lives};
-ghost use Rattle.cas_atoms.specs.Picks.{one_or_null, set_or_null, list_or_null, map_or_null, living, alive_cell, plain_cell, shown_element, shown_by_shape, shown_value};
+ghost use Rattle.cas_atoms.specs.Picks.{one_or_null, set_or_null, list_or_null, map_or_null, living, alive_cell, plain_cell};
+ghost use Rattle.cas_atoms.specs.Picks.{shown_element, shown_by_shape, shown_value};
 ghost use Rattle.cas_atoms.specs.Inner.Places.{row_at};
 
 use crate::place::{Partition, Place};
@@ -121,7 +122,8 @@ fn map_entries(
     place: Place<'_>,
     paths: &[Bytes],
 ) -> Result<Vec<(Bytes, Bytes)>, AllocError>
-    ensures { IfOk result (λ v. v.items ≡ map (λ p. (p, shown_element partition.entry.atoms.now partition.entry.now (row_at place.entry) place.entry.number p)) paths.now) }
+    ensures { IfOk result (λ v. v.items ≡
+        map (λ p. (p, shown_element partition.entry.atoms.now partition.entry.now (row_at place.entry) place.entry.number p)) paths.now) }
 {
     let mut entries = Vec::new(alloc);
     for bytes in paths {

@@ -62,12 +62,14 @@ orders_total = lists_total (then_total (on_total (λ (o : Ordered). tag_rank o.t
 orders_ties : (a b : List Ordered) → orders_cmp a b ≡ Equal → a ≡ b
 orders_ties a b e = slice_cmp-IsAntisymmetric ordered_ties a b e
 
-module _ {O V : Type 0} {R : O → O → Ordering} {S : O → V → V → Ordering} (ot : IsTotalOrder R) (tie : (a b : O) → R a b ≡ Equal → a ≡ b) (vo : (o : O) → Orders (S o)) where
+module _ {O V : Type 0} {R : O → O → Ordering} {S : O → V → V → Ordering} (ot : IsTotalOrder R) (tie : (a b : O) → R a b ≡ Equal → a ≡ b)
+    (vo : (o : O) → Orders (S o)) where
   flip : (a b : O) (v w : V) → ordering_then (R a b) (S a v w) ≡ ordering_reverse (ordering_then (R b a) (S b w v))
   flip a b v w =
       elim (R b a) as (λ t. R b a ≡ t → ordering_then (R a b) (S a v w) ≡ ordering_reverse (ordering_then t (S b w v))) [
         | Less ↦ λ e. ap (λ r. ordering_then r (S a v w)) (ot.antisymm a b ∙ ap ordering_reverse e)
-        | Equal ↦ λ e. ap (λ r. ordering_then r (S a v w)) (ot.antisymm a b ∙ ap ordering_reverse e) ∙ ap (λ o. S o v w) (sym (tie b a e)) ∙ (vo b).total.antisymm v w
+        | Equal ↦ λ e. ap (λ r. ordering_then r (S a v w)) (ot.antisymm a b ∙ ap ordering_reverse e)
+            ∙ ap (λ o. S o v w) (sym (tie b a e)) ∙ (vo b).total.antisymm v w
         | Greater ↦ λ e. ap (λ r. ordering_then r (S a v w)) (ot.antisymm a b ∙ ap ordering_reverse e)
       ] refl
 
@@ -102,4 +104,5 @@ key_total = record {
 }
 
 pub keys_are_points : KeysArePoints
-keys_are_points a b e = ap (λ r. ordering_then r (point_cmp a.order (key_point a) (key_point b))) (ap (λ o. orders_cmp a.order o) (sym e) ∙ tied_itself orders_total a.order)
+keys_are_points a b e =
+    ap (λ r. ordering_then r (point_cmp a.order (key_point a) (key_point b))) (ap (λ o. orders_cmp a.order o) (sym e) ∙ tied_itself orders_total a.order)

@@ -122,7 +122,8 @@ no_end Row e f = greater_less e
 no_end After e f = greater_less f
 
 -- the first difference of x and z comes from that of x and y or that of y and z
-then_chain : {K : Type 0} {R : K → K → Ordering} (o : Orders R) (x y z : K) (s t u : Ordering) → (s ≡ Less → t ≡ Less → u ≡ Less) → ordering_then (R x y) s ≡ Less → ordering_then (R y z) t ≡ Less → ordering_then (R x z) u ≡ Less
+then_chain : {K : Type 0} {R : K → K → Ordering} (o : Orders R) (x y z : K) (s t u : Ordering) → (s ≡ Less → t ≡ Less → u ≡ Less)
+    → ordering_then (R x y) s ≡ Less → ordering_then (R y z) t ≡ Less → ordering_then (R x z) u ≡ Less
 then_chain {K} {R} o x y z s t u rest h k =
     elim (R x y) as (λ a. R x y ≡ a → ordering_then a s ≡ Less → ordering_then (R x z) u ≡ Less) [
       | Less ↦ λ e _. elim (R y z) as (λ b. R y z ≡ b → ordering_then b t ≡ Less → ordering_then (R x z) u ≡ Less) [
@@ -139,7 +140,8 @@ then_chain {K} {R} o x y z s t u rest h k =
       | Greater ↦ λ e g. greater_less g
     ] refl h
 
-ends_trans : (os : List Ordered) (m n k : End) (xs ys zs : List (List ℕ)) → ends_cmp os m xs n ys ≡ Less → ends_cmp os n ys k zs ≡ Less → ends_cmp os m xs k zs ≡ Less
+ends_trans : (os : List Ordered) (m n k : End) (xs ys zs : List (List ℕ)) → ends_cmp os m xs n ys ≡ Less
+    → ends_cmp os n ys k zs ≡ Less → ends_cmp os m xs k zs ≡ Less
 ends_trans os m n k [] [] [] e f = nat_cmp_total.trans (rank m) (rank n) (rank k) e f
 ends_trans os m n k [] [] (z ∷ zs) e f = lower_end m n e f
 ends_trans os m n k [] (y ∷ ys) [] e f = around m k e f
