@@ -1,2 +1,4 @@
 pub mod Steps
 pub mod LargeValues
+pub mod Places
+pub mod Written

@@ -1,3 +1,5 @@
 pub mod TooLarge
 pub mod Refusals
 pub mod AtomsOf
+pub mod ListPlaces
+pub mod WriteLaws
