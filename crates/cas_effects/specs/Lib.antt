@@ -3,3 +3,4 @@ pub mod Refusals
 pub mod AtomsOf
 pub mod ListPlaces
 pub mod WriteLaws
+pub mod FitsBound

@@ -14,7 +14,7 @@ mod too_large;
 
 pub use atoms::atoms_of;
 pub use effect::{BoundWrite, Effect, Elements};
-pub use laws::{list_places, write_laws};
+pub use laws::{list_places, mutations_fit, write_laws};
 pub use reasons::{Reasons, either};
 pub use refusal::{BindFault, Counted, NOT_HERE, Refusal, SYNTAX, TOO_LARGE, TOO_MANY};
 pub use stamped::NUMBER_LIMIT;
