@@ -40,11 +40,11 @@ and_swap true false = refl
 and_swap false true = refl
 and_swap false false = refl
 
-first_true : (a b : Bool) → (a && b) ≡ true → a ≡ true
+pub first_true : (a b : Bool) → (a && b) ≡ true → a ≡ true
 first_true true b e = refl
 first_true false b e = cc
 
-second_true : (a b : Bool) → (a && b) ≡ true → b ≡ true
+pub second_true : (a b : Bool) → (a && b) ≡ true → b ≡ true
 second_true true b e = e
 second_true false b e = cc
 
@@ -74,7 +74,7 @@ module _ {X : Type 0} where
         | false ↦ λ is n. passed p x xs is ∙ none_counted p xs n
       ] refl none
 
-  found_passes : (p : X → Bool) (xs : List X) (y : X) → find p xs ≡ Some y → p y ≡ true
+  pub found_passes : (p : X → Bool) (xs : List X) (y : X) → find p xs ≡ Some y → p y ≡ true
   found_passes p [] y e = cc
   found_passes p (x ∷ xs) y e =
       elim (p x) as (λ b. p x ≡ b → cond b (Some x) (find p xs) ≡ Some y → p y ≡ true) [
@@ -206,7 +206,7 @@ module _ (o : Ordered) (os : List Ordered) (v b : List ℕ) (row prefix : List (
   cuts_more c (Some r) (Some s) = inside_then (column_cmp o v b) (is_strict r.operator) (not (is_strict s.operator)) _ _
 
 -- how the column orders rows
-abbrev order_by : Column → Ordered
+abbrev pub order_by : Column → Ordered
 order_by c = record { tag = c.tag; descending = is_descending c.kind }
 
 same_tie : (tag : TypeTag) (descending : Bool) (v b : List ℕ) → is_eq (column_cmp (record { tag = tag; descending = descending }) v b) ≡ is_eq (value_cmp tag v b)
@@ -281,10 +281,10 @@ sides true operator.Greater = inr (inr (refl, refl))
 sides true operator.AtLeast = inr (inr (refl, refl))
 
 module _ (rs : List Relation) (c : Column) where
-  abbrev named : Relation → Bool
+  abbrev pub named : Relation → Bool
   named r = bytes_eq r.column c.name
 
-  abbrev given : Relation → Bool
+  abbrev pub given : Relation → Bool
   given r = not (named r) || is_some (term_value c.tag r.value)
 
   -- ---- a column with a bound
@@ -341,7 +341,7 @@ module _ (rs : List Relation) (c : Column) where
     equal_holds r None is equal = cc
     equal_holds r (Some b) is equal = (b, refl, same_operator r.operator (value_cmp c.tag v b) equal)
 
-    fixed_column : (f : Option Relation) → list_all given rs ≡ true → is_fixed rs c ≡ true → find (λ r. named r && is_equal r.operator) rs ≡ f
+    pub fixed_column : (f : Option Relation) → list_all given rs ≡ true → is_fixed rs c ≡ true → find (λ r. named r && is_equal r.operator) rs ≡ f
         → (b : List ℕ) × (value_of_term c (option_map (λ r. r.value) f) ≡ Some b) × (column_meets rs c v ≡ is_eq (value_cmp c.tag v b))
     unfolding is_fixed count_on count_all
     fixed_column None all is f =
@@ -436,7 +436,7 @@ module _ (rs : List Relation) where
             (no_value rs c (first_true _ _ m)) all (first_true _ _ m) (free_row rs cs row (second_true _ _ m) (omega arith))
       ] refl makes
 
-orders : (cs : List Column) → clustering_order cs ≡ map order_by (clustering_columns cs)
+pub orders : (cs : List Column) → clustering_order cs ≡ map order_by (clustering_columns cs)
 unfolding clustering_order
 orders [] = refl
 orders (c ∷ cs) =
