@@ -6,3 +6,7 @@ pub mod RowLemmas
 pub mod TableLemmas
 pub mod KeptTables
 pub mod Kept
+pub mod FitChanges
+pub mod FitWrites
+pub mod FitReads
+pub mod FitBound

@@ -1,6 +1,6 @@
 -- What can be wrong with an INSERT, UPDATE, DELETE or SELECT, in the order in which it is told.
 -- CQL documentation, "Data manipulation: INSERT, UPDATE, DELETE, SELECT".
-use Rattle.std.specs.Prelude.{ℕ, ℤ, pos, ◌==◌, nat_lt, Bool, true, false, not, ◌&&◌, ◌||◌, List, [], ◌∷◌, length, Option, None, Some, is_some}
+use Rattle.std.specs.Prelude.{ℕ, ℤ, pos, ◌==◌, nat_lt, Bool, true, false, not, ◌&&◌, ◌||◌, List, length, Option, None, Some, is_some}
 use Rattle.std.specs.Ordering.{int_eq}
 use Rattle.std.specs.Option.{option_map_or}
 use Rattle.std.specs.List.{filter_map, list_any}
@@ -11,7 +11,6 @@ use Rattle.cql_parse.specs.declared.term.Constant.{Constant}
 use Rattle.cql_parse.specs.declared.term.Constant.TheVariants as constant
 use Rattle.cql_parse.specs.declared.syntax.Statement.{Statement}
 use Rattle.cql_parse.specs.declared.syntax.Statement.TheVariants as statement
-use Rattle.cql_parse.specs.declared.syntax.Assigned.{Assigned}
 use Rattle.cql_parse.specs.declared.syntax.Assigned.TheVariants as assigned
 use Rattle.cql_parse.specs.declared.syntax.Assignment.{Assignment}
 use Rattle.cql_parse.specs.declared.syntax.ColumnOrder.{ColumnOrder}
