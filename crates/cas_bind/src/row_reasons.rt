@@ -1,6 +1,6 @@
 //! What INSERT, UPDATE, DELETE and SELECT are refused for, what is too large aside.
 
-ghost use Rattle.std.specs.Prelude.{◌≡◌, ◌||◌, None, is_some};
+ghost use Rattle.std.specs.Prelude.{◌≡◌, ◌||◌, None, is_some, IfOk};
 ghost use Rattle.std.specs.List.{list_any};
 ghost use Rattle.std.specs.Option.{option_copied};
 ghost use Rattle.cas_effects.specs.Refusals.{refusal_for};
@@ -15,7 +15,8 @@ ghost use Rattle.cas_bind.specs.Statements.{relations_of, uses_of, changes_of};
 use crate::extents::extent_of;
 use crate::selects::GREATEST_LIMIT;
 use crate::statements::{has_other_count, key_terms_of, other_name, relations_of, uses_unknown};
-use crate::types_used::{changes_twice, uses_another_type};
+use crate::twice::changes_twice;
+use crate::types_used::uses_another_type;
 use crate::using::{has_use_twice, is_outside, stated_timestamp, stated_ttl};
 use cas_effects::{Reasons, Refusal};
 use cas_terms::{names_key, same_name};
@@ -25,16 +26,17 @@ use cas_where::{
     lacks_partition, restricts, restricts_to_empty, sole_column,
 };
 use cql_parse::{Assignment, ColumnOrder, Select, Statement, Target};
+use std::alloc::{AllocError, Global};
 
 #[tactic(auto, using(crate::proofs::RowLemmas::or_true_between))]
-fn says_badly(columns: &[Column], statement: &Statement) -> bool
-    ensures { result ≡ (changes_twice columns.now (changes_of statement.now) || (has_other_count statement.now || uses_twice (uses_of statement.now))) }
+fn says_badly(alloc: Global, columns: &[Column], statement: &Statement) -> Result<bool, AllocError>
+    ensures { IfOk result (λ b. b ≡ (changes_twice columns.now (changes_of statement.now) || (has_other_count statement.now || uses_twice (uses_of statement.now)))) }
 {
     if has_other_count(statement) {
-        true
-    } else {
-        changes_twice(columns, statement) || has_use_twice(statement)
+        return Ok(true);
     }
+    let twice = changes_twice(alloc, columns, statement)?;
+    Ok(twice || has_use_twice(statement))
 }
 
 #[tactic(auto, unfolding(crate::specs::RowFaults::gives_empty))]
@@ -168,15 +170,19 @@ fn restricts_otherwise(columns: &[Column], statement: &Statement) -> bool
 
 /// What the statement is refused for.
 #[tactic(auto, unfolding(crate::specs::RowReasons::row_reasons))]
-fn row_reasons(table: &TableSchema, statement: &Statement) -> Reasons
-    ensures { result ≡ row_reasons table.now None statement.now }
+fn row_reasons(
+    alloc: Global,
+    table: &TableSchema,
+    statement: &Statement,
+) -> Result<Reasons, AllocError>
+    ensures { IfOk result (λ r. r ≡ row_reasons table.now None statement.now) }
 {
     let columns = table.columns.as_slice();
     let timestamp = stated_timestamp(statement);
-    Reasons {
+    Ok(Reasons {
         no_table: false,
         table_exists: false,
-        bad_definition: says_badly(columns, statement),
+        bad_definition: says_badly(alloc, columns, statement)?,
         no_column: uses_unknown(columns, statement),
         bad_option: is_outside(
             i128::from(LEAST_TIMESTAMP),
@@ -190,12 +196,16 @@ fn row_reasons(table: &TableSchema, statement: &Statement) -> Reasons
         ttl_too_large: is_outside(0, i128::from(TTL_LIMIT), stated_ttl(statement)),
         too_large: None,
         too_many: None,
-    }
+    })
 }
 
 /// Why the statement is refused, what is too large aside.
-pub(crate) fn row_refusal(table: &TableSchema, statement: &Statement) -> Option<Refusal>
-    ensures { result ≡ refusal_for (row_reasons table.now None statement.now) }
+pub(crate) fn row_refusal(
+    alloc: Global,
+    table: &TableSchema,
+    statement: &Statement,
+) -> Result<Option<Refusal>, AllocError>
+    ensures { IfOk result (λ r. r ≡ refusal_for (row_reasons table.now None statement.now)) }
 {
-    row_reasons(table, statement).refusal()
+    Ok(row_reasons(alloc, table, statement)?.refusal())
 }
