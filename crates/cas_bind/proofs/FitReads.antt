@@ -28,7 +28,7 @@ use Rattle.cas_where.specs.KeyTerms.{term_in_where, partition_key}
 use Rattle.cas_where.specs.Slices.{slice_of}
 use Rattle.cas_where.proofs.Fitting.{IsShort, front_of, rest_of, slice_fits}
 use Rattle.cas_bind.specs.Fitting.{IsTable}
-use Rattle.cas_bind.specs.RowFaults.{is_outside, has_writetime, pick_fits, mention_fits, is_of_another_type, reads_otherwise, restricts_otherwise}
+use Rattle.cas_bind.specs.RowFaults.{is_outside, has_writetime, pick_fits, mention_fits, is_of_another_type, reads_outside_limits, has_bad_restriction}
 use Rattle.cas_bind.specs.RowReasons.{row_reasons}
 use Rattle.cas_bind.specs.Selects.{numbered, by_name, named_numbers, key_numbers, all_numbers, number_named, asked_of, asked_by, bound_select, read_too_large}
 use Rattle.cas_bind.specs.Statements.{shows, picked_name, picks_in, shown_by, relations_of, key_terms_of}
@@ -166,7 +166,7 @@ limit_fits (Some (negsuc n)) e = cc
 
 module _ (t : TableSchema) (narrow : IsNarrow t.columns) (is : IsTable t) where
   pub read_fits : (shards : ℕ) (s : Select) → refusal_for (row_reasons t (read_too_large (bound_select shards t s)) (statement.Select s)) ≡ None → FitsQuery t (bound_select shards t s).query
-  unfolding bound_select row_reasons read_too_large key_terms_of relations_of shown_by restricts_otherwise reads_otherwise
+  unfolding bound_select row_reasons read_too_large key_terms_of relations_of shown_by has_bad_restriction reads_outside_limits
   read_fits shards s e =
       let c : Clear (row_reasons t (read_too_large (bound_select shards t s)) (statement.Select s)) = clear (row_reasons t (read_too_large (bound_select shards t s)) (statement.Select s)) e in
       let short : AllByRecursion IsShort (partition_key (term_in_where s.relations) t.columns ∷ ((slice_of t.columns s.relations).lo.prefix ++ (slice_of t.columns s.relations).hi.prefix)) = all_short _ c.too_large in

@@ -8,7 +8,7 @@ ghost use Rattle.cas_terms.specs.Columns.{names_key};
 ghost use Rattle.cas_where.specs.Where.{restricts};
 ghost use Rattle.cas_bind.specs.Changes.{extent_of};
 ghost use Rattle.cas_bind.specs.RowFaults.{changes_twice, has_other_count, uses_twice, gives_empty, gives_empty_key, is_row, lacks_key};
-ghost use Rattle.cas_bind.specs.RowFaults.{is_another, assigns_otherwise, orders_otherwise, reads_otherwise, restricts_otherwise};
+ghost use Rattle.cas_bind.specs.RowFaults.{is_another, assigns_key_or_other, follows_no_order, reads_outside_limits, has_bad_restriction};
 ghost use Rattle.cas_bind.specs.RowReasons.{row_reasons};
 ghost use Rattle.cas_bind.specs.Statements.{relations_of, uses_of, changes_of};
 
@@ -30,7 +30,8 @@ use std::alloc::{AllocError, Global};
 
 #[tactic(auto, using(crate::proofs::RowLemmas::or_true_between))]
 fn says_badly(alloc: Global, columns: &[Column], statement: &Statement) -> Result<bool, AllocError>
-    ensures { IfOk result (λ b. b ≡ (changes_twice columns.now (changes_of statement.now) || (has_other_count statement.now || uses_twice (uses_of statement.now)))) }
+    ensures { IfOk result (λ b. b ≡ (changes_twice columns.now (changes_of statement.now)
+        || (has_other_count statement.now || uses_twice (uses_of statement.now)))) }
 {
     if has_other_count(statement) {
         return Ok(true);
@@ -92,18 +93,18 @@ fn is_another(name: &str, other: Option<&str>) -> bool
     }
 }
 
-#[tactic(auto, unfolding(crate::specs::RowFaults::assigns_otherwise))]
-fn assigns_otherwise(columns: &[Column], assignment: &Assignment) -> bool
-    ensures { result ≡ assigns_otherwise columns.now assignment.now }
+#[tactic(auto, unfolding(crate::specs::RowFaults::assigns_key_or_other))]
+fn assigns_key_or_other(columns: &[Column], assignment: &Assignment) -> bool
+    ensures { result ≡ assigns_key_or_other columns.now assignment.now }
 {
     let name = assignment.column.as_str();
     names_key(columns, name) || is_another(name, other_name(&assignment.value))
 }
 
-fn any_assigns_otherwise(columns: &[Column], assignments: &[Assignment]) -> bool
-    ensures { result ≡ list_any (assigns_otherwise columns.now) assignments.now }
+fn any_assigns_key_or_other(columns: &[Column], assignments: &[Assignment]) -> bool
+    ensures { result ≡ list_any (assigns_key_or_other columns.now) assignments.now }
 {
-    assignments.iter().any(|a| assigns_otherwise(columns, a))
+    assignments.iter().any(|a| assigns_key_or_other(columns, a))
 }
 
 fn any_deletes_key(columns: &[Column], targets: &[Target]) -> bool
@@ -114,9 +115,9 @@ fn any_deletes_key(columns: &[Column], targets: &[Target]) -> bool
         .any(|t| names_key(columns, t.column.as_str()))
 }
 
-#[tactic(auto, unfolding(crate::specs::RowFaults::orders_otherwise))]
-fn orders_otherwise(columns: &[Column], order: &[ColumnOrder]) -> bool
-    ensures { result ≡ orders_otherwise columns.now order.now }
+#[tactic(auto, unfolding(crate::specs::RowFaults::follows_no_order))]
+fn follows_no_order(columns: &[Column], order: &[ColumnOrder]) -> bool
+    ensures { result ≡ follows_no_order columns.now order.now }
 {
     !(follows_order(false, columns, order) || follows_order(true, columns, order))
 }
@@ -127,11 +128,11 @@ fn is_paged(select: &Select) -> bool
     select.after.is_some() || select.page.is_some()
 }
 
-#[tactic(auto, unfolding(crate::specs::RowFaults::reads_otherwise))]
-fn reads_otherwise(columns: &[Column], select: &Select) -> bool
-    ensures { result ≡ reads_otherwise columns.now select.now }
+#[tactic(auto, unfolding(crate::specs::RowFaults::reads_outside_limits))]
+fn reads_outside_limits(columns: &[Column], select: &Select) -> bool
+    ensures { result ≡ reads_outside_limits columns.now select.now }
 {
-    orders_otherwise(columns, select.order.as_slice())
+    follows_no_order(columns, select.order.as_slice())
         || (is_outside(1, GREATEST_LIMIT, select.limit) || is_paged(select))
 }
 
@@ -145,13 +146,13 @@ fn restricts_rows(columns: &[Column], statement: &Statement) -> bool
     )
 }
 
-#[tactic(auto, unfolding(crate::specs::RowFaults::restricts_otherwise, crate::specs::Statements::relations_of, crate::specs::Changes::extent_of))]
-fn restricts_otherwise(columns: &[Column], statement: &Statement) -> bool
-    ensures { result ≡ restricts_otherwise columns.now statement.now }
+#[tactic(auto, unfolding(crate::specs::RowFaults::has_bad_restriction, crate::specs::Statements::relations_of, crate::specs::Changes::extent_of))]
+fn has_bad_restriction(columns: &[Column], statement: &Statement) -> bool
+    ensures { result ≡ has_bad_restriction columns.now statement.now }
 {
     match statement {
         Statement::Update(update) => {
-            any_assigns_otherwise(columns, update.assignments.as_slice())
+            any_assigns_key_or_other(columns, update.assignments.as_slice())
                 || !restricts_rows(columns, statement)
         }
         Statement::Delete(delete) => {
@@ -160,7 +161,7 @@ fn restricts_otherwise(columns: &[Column], statement: &Statement) -> bool
         }
         Statement::Select(select) => {
             !restricts(Extent::Slice, columns, select.relations.as_slice())
-                || reads_otherwise(columns, select)
+                || reads_outside_limits(columns, select)
         }
         Statement::Create(_) => false,
         Statement::Alter(_) => false,
@@ -192,7 +193,7 @@ fn row_reasons(
         wrong_type: uses_another_type(columns, statement),
         empty_key: gives_empty_key(columns, statement),
         missing_key: lacks_key(columns, statement),
-        bad_restriction: restricts_otherwise(columns, statement),
+        bad_restriction: has_bad_restriction(columns, statement),
         ttl_too_large: is_outside(0, i128::from(TTL_LIMIT), stated_ttl(statement)),
         too_large: None,
         too_many: None,

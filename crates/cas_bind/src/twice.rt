@@ -8,7 +8,8 @@ ghost use Rattle.std.specs.Prelude.{if◌then◌else◌};
 ghost use Rattle.cas_types.specs.Values.{bytes_cmp};
 ghost use Rattle.cas_terms.specs.Names.{any_two, stands_twice};
 ghost use Rattle.cas_bind.specs.Inner.Gives.{change_in};
-ghost use Rattle.cas_bind.specs.Inner.Spots.{in_spot, changed_in, constant_rank, bytes_in, number_in, constant_cmp, spot_cmp, same_spot, first_passes, any_beside};
+ghost use Rattle.cas_bind.specs.Inner.Spots.{in_spot, changed_in, constant_rank, bytes_in, number_in, constant_cmp};
+ghost use Rattle.cas_bind.specs.Inner.Spots.{spot_cmp, same_spot, first_passes, any_beside};
 ghost use Rattle.cas_bind.specs.RowFaults.{names_map, entry_key, change_the_same, changes_twice, has_other_count};
 ghost use Rattle.cas_bind.specs.Statements.{assigns, deletes, changes_of};
 

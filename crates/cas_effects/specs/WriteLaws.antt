@@ -102,7 +102,8 @@ pub record WriteLaws (w : BoundWrite) (drawn moment : ℤ) (number : ℕ) : Type
   -- exactly the rows that are inserted get a mark that they live
   pub lives : (r : List (List ℕ)) → list_any (λ a. is_some (live_at_row r a)) (mutation_of w drawn moment number).atoms ≡ list_any (inserts_row r) w.effects
   -- exactly the rows that the write deletes are deleted, though a range without room has no atom
-  pub rows : All HasOneOrder w.effects → (r : List (List ℕ)) → list_any (deletes_row r) (mutation_of w drawn moment number).atoms ≡ list_any (removes_row r) w.effects
+  pub rows : All HasOneOrder w.effects → (r : List (List ℕ))
+      → list_any (deletes_row r) (mutation_of w drawn moment number).atoms ≡ list_any (removes_row r) w.effects
   pub ranges : list_all has_room (mutation_of w drawn moment number).atoms ≡ true
   -- each atom is at the write's timestamp, but for the deletions of what collections held that are given other elements
   pub times : filter (λ a. not (int_eq (atom_at a) (mutation_of w drawn moment number).at)) (mutation_of w drawn moment number).atoms

@@ -50,7 +50,8 @@ compares_values rs cs = list_all (λ c. list_all (λ r. not (bytes_eq r.column c
 -- where a WHERE is one of a slice, a row of the table lies in the slice exactly where each relation on a clustering column holds of the row
 abbrev pub SliceLaw : Type 0
 SliceLaw =
-    (cs : List Column) (rs : List Relation) (row : List (List ℕ)) → makes_slice rs (clustering_columns cs) ≡ true → compares_values rs (clustering_columns cs) ≡ true
+    (cs : List Column) (rs : List Relation) (row : List (List ℕ)) → makes_slice rs (clustering_columns cs) ≡ true
+    → compares_values rs (clustering_columns cs) ≡ true
     → length row ≡ length (clustering_columns cs) → is_inside (slice_of cs rs).lo (slice_of cs rs).hi row ≡ row_meets rs (clustering_columns cs) row
 
 -- a partition key reads back as the values that it was made of, none of which has more than 65,535 bytes; so two keys are one only where all values are
