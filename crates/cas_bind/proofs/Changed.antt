@@ -1,6 +1,6 @@
 -- Changes that are made twice, and what an INSERT gives a column.
-use Rattle.std.proofs.Common.{◌≡◌, ℕ, ◌==◌, ◌+◌, Bool, true, false, ◌||◌, ◌&&◌, not, List, [], ◌∷◌, ◌++◌, map, length, Option, None, Some, refl, sym, ap, ◌∙◌, arith}
-use Rattle.std.specs.List.{list_any, zip, flat_map}
+use Rattle.std.proofs.Common.{◌≡◌, ℕ, ◌==◌, Bool, true, false, ◌||◌, ◌&&◌, not, List, [], ◌∷◌, map, length, refl, arith}
+use Rattle.std.specs.List.{list_any, zip}
 use Rattle.std.specs.Str.{bytes_eq}
 use Rattle.std.proofs.lemmas.Bool.Decides.{nat_tests}
 use Rattle.cas_types.specs.declared.schema.Column.{Column}
@@ -11,7 +11,7 @@ use Rattle.cql_parse.specs.declared.syntax.Assigned.TheVariants as assigned
 use Rattle.cql_parse.specs.declared.syntax.Insert.{Insert}
 use Rattle.cql_parse.specs.declared.syntax.Statement.TheVariants as statement
 use Rattle.cas_bind.specs.RowFaults.{change_the_same, changes_twice, names_map, has_other_count, entry_key}
-use Rattle.cas_bind.specs.Statements.{Change, inserted}
+use Rattle.cas_bind.specs.Statements.{inserted}
 use Rattle.cas_bind.proofs.Used.{any_map}
 
 pub whole_fits : (c : Column) (t : Term) → assigned_fits c (assigned.Whole t) ≡ term_fits c t

@@ -1,5 +1,5 @@
 -- Tables stay as they are to be, and what is bound is within the limits.
-use Rattle.std.proofs.Common.{◌≡◌, ℕ, ℤ, ◌+◌, ◌%◌, ◌≤◌, ◌<◌, ◌≤ℤ◌, ◌&&◌, not, int_le, Bool, true, false, cond, List, [], ◌∷◌, ◌++◌, length, bytes_eq, Option, None, Some, Result, Ok, Err, IfOk, IfSome, find, refl, sym, ap, subst, T, arith}
+use Rattle.std.proofs.Common.{◌≡◌, ℕ, ℤ, ◌%◌, ◌≤◌, ◌<◌, ◌≤ℤ◌, ◌&&◌, not, int_le, Bool, true, false, cond, List, ◌++◌, length, bytes_eq, Option, None, Some, Result, Ok, Err, IfOk, IfSome, find, refl, sym, subst, T, arith}
 use Rattle.std.specs.List.{AllByRecursion}
 use Rattle.std.specs.Int.Signed.{le_z_yes}
 use Rattle.std.proofs.lemmas.Nat.{mod_below}
@@ -12,6 +12,7 @@ use Rattle.cas_define.specs.declared.addition.Addition.{Addition}
 use Rattle.cql_parse.specs.declared.syntax.TableName.{TableName}
 use Rattle.cql_parse.specs.declared.syntax.Select.{Select}
 use Rattle.cql_parse.specs.declared.syntax.Statement.{Statement}
+use Rattle.cql_parse.specs.declared.syntax.Statement.TheVariants as statement
 use Rattle.cas_define.specs.Outcomes.{outcome, Binds}
 use Rattle.cas_effects.specs.Refusals.{refusal_for}
 use Rattle.cas_effects.specs.TooLarge.{write_too_large}
@@ -21,7 +22,7 @@ use Rattle.cas_bind.specs.Changes.{bound_change}
 use Rattle.cas_bind.specs.Meaning.{change_means, select_means}
 use Rattle.cas_bind.specs.RowReasons.{row_reasons}
 use Rattle.cas_bind.specs.RowFaults.{is_outside}
-use Rattle.cas_bind.specs.Selects.{bound_select}
+use Rattle.cas_bind.specs.Selects.{bound_select, read_too_large}
 use Rattle.cas_bind.specs.Statements.{uses_of, timestamp_in}
 use Rattle.cas_bind.specs.Tables.{AreTables, IsWithin, tables_after}
 use Rattle.cas_bind.specs.declared.bound.Bound.{Bound}
@@ -49,14 +50,15 @@ done None b c e = (refl, cc)
 done (Some r) b c e = cc
 
 module _ (shards : ℕ) (t : TableSchema) where
-  change_comes : (s : Statement) (b : Bound) → change_means shards t s ≡ Ok b
+  pub change_comes : (s : Statement) (b : Bound) → change_means shards t s ≡ Ok b
       → (refusal_for (row_reasons t (write_too_large (bound_change shards t s)) s) ≡ None) × (bound.Write (bound_change shards t s) ≡ b)
   unfolding change_means
   change_comes s b e = done _ _ b e
 
-  select_comes : (s : Select) (b : Bound) → select_means shards t s ≡ Ok b → bound.Read (bound_select shards t s) ≡ b
+  pub select_comes : (s : Select) (b : Bound) → select_means shards t s ≡ Ok b
+      → (refusal_for (row_reasons t (read_too_large (bound_select shards t s)) (statement.Select s)) ≡ None) × (bound.Read (bound_select shards t s) ≡ b)
   unfolding select_means
-  select_comes s b e = (done _ _ b e).1
+  select_comes s b e = done _ _ b e
 
   change_within : (s : Statement) (b : Bound) → IsShardCount shards → change_means shards t s ≡ Ok b → IsWithin shards b
   unfolding bound_change row_reasons
@@ -66,7 +68,7 @@ module _ (shards : ℕ) (t : TableSchema) where
 
   select_within : (s : Select) (b : Bound) → IsShardCount shards → IsNarrow t.columns → select_means shards t s ≡ Ok b → IsWithin shards b
   unfolding bound_select
-  select_within s b are narrow e = subst (IsWithin shards) (select_comes s b e) (below shards _ are, narrow)
+  select_within s b are narrow e = subst (IsWithin shards) (select_comes s b e).1 (below shards _ are, narrow)
 
   pub change_fits : (result : Result Bound BindFault) (s : Statement) → IsShardCount shards → Binds result (change_means shards t s) → IfOk result (λ b. IsWithin shards b)
   change_fits (Ok b) s are e = change_within s b are e
@@ -85,7 +87,7 @@ module _ (shards : ℕ) (t : TableSchema) where
   pub select_keeps : (result : Result Bound BindFault) (tables : List TableSchema) (s : Select) → AreTables tables → Binds result (select_means shards t s)
       → IfOk result (λ b. AreTables (tables_after tables b))
   unfolding tables_after
-  select_keeps (Ok b) tables s are e = subst (λ b. AreTables (tables_after tables b)) (select_comes s b e) are
+  select_keeps (Ok b) tables s are e = subst (λ b. AreTables (tables_after tables b)) (select_comes s b e).1 are
   select_keeps (Err f) tables s are e = tt
 
 -- ---- tables stay as they are to be
@@ -98,7 +100,7 @@ create_keeps tables t are few its = record {
 }
 
 -- a table that is named is found
-found : (local : Bool) (test : TableSchema → Bool) (tables : List TableSchema) (t : TableSchema) → cond local (find test tables) None ≡ Some t → find test tables ≡ Some t
+pub found : (local : Bool) (test : TableSchema → Bool) (tables : List TableSchema) (t : TableSchema) → cond local (find test tables) None ≡ Some t → find test tables ≡ Some t
 found true test tables t e = e
 found false test tables t e = cc
 

@@ -16,7 +16,7 @@ module _ {X : Type 0} (P : X → Type 0) where
   chosen o true y x its others e = let same : y ≡ x = cc in subst P same its
   chosen o false y x its others e = others e
 
-  holds_of_found : (test : X → Bool) (xs : List X) (x : X) → AllByRecursion P xs → find test xs ≡ Some x → P x
+  pub holds_of_found : (test : X → Bool) (xs : List X) (x : X) → AllByRecursion P xs → find test xs ≡ Some x → P x
   holds_of_found test [] x all e = cc
   holds_of_found test (y ∷ ys) x all e = chosen (find test ys) (test y) y x all.0 (λ f. holds_of_found test ys x all.1 f) e
 

@@ -1,8 +1,13 @@
 pub mod Used
 pub mod UsingLemmas
 pub mod Changed
+pub mod Sorting
 pub mod EffectLemmas
 pub mod RowLemmas
 pub mod TableLemmas
 pub mod KeptTables
 pub mod Kept
+pub mod FitChanges
+pub mod FitWrites
+pub mod FitReads
+pub mod FitBound

@@ -1,5 +1,5 @@
 -- What the reasons tell of a statement of rows, whose bound form decides the last of them.
-use Rattle.std.proofs.Common.{◌≡◌, ℕ, ℤ, pos, Bool, true, false, ◌||◌, List, [], ◌∷◌, ◌++◌, Option, None, Some, Err, is_some, not, refl, sym, ap, ◌∙◌}
+use Rattle.std.proofs.Common.{◌≡◌, ℕ, pos, Bool, true, false, ◌||◌, List, [], ◌∷◌, ◌++◌, Option, None, Some, Err, is_some, not, refl, ap, ◌∙◌}
 use Rattle.std.specs.Bool.{then_some}
 use Rattle.std.specs.Option.{option_or}
 use Rattle.cas_types.specs.declared.limits.TheConstants.{LEAST_TIMESTAMP, GREATEST_TIMESTAMP, TTL_LIMIT}
@@ -23,7 +23,7 @@ use Rattle.cql_parse.specs.declared.syntax.Statement.TheVariants as statement
 use Rattle.cas_bind.specs.Changes.{bound_change}
 use Rattle.cas_bind.specs.Inner.Gives.{WriteGives, ReadGives}
 use Rattle.cas_bind.specs.Meaning.{change_means, select_means}
-use Rattle.cas_bind.specs.RowFaults.{is_outside, orders_otherwise, reads_otherwise, restricts_otherwise}
+use Rattle.cas_bind.specs.RowFaults.{is_outside, follows_no_order, reads_outside_limits, has_bad_restriction}
 use Rattle.cas_bind.specs.RowReasons.{row_reasons}
 use Rattle.cas_bind.specs.Selects.{bound_select, read_too_large}
 use Rattle.cas_bind.specs.Statements.{key_terms_of, uses_of, timestamp_in, ttl_in}
@@ -93,9 +93,9 @@ third false false false d e = refl
 
 -- and the LIMIT too
 pub select_good : (t : TableSchema) (s : Select) → refusal_for (row_reasons t None (statement.Select s)) ≡ None → is_outside (pos 1) GREATEST_LIMIT s.limit ≡ false
-unfolding row_reasons restricts_otherwise reads_otherwise
+unfolding row_reasons has_bad_restriction reads_outside_limits
 select_good t s e =
-    third (not (restricts extent.Slice t.columns s.relations)) (orders_otherwise t.columns s.order) (is_outside (pos 1) GREATEST_LIMIT s.limit) (is_some s.after || is_some s.page)
+    third (not (restricts extent.Slice t.columns s.relations)) (follows_no_order t.columns s.order) (is_outside (pos 1) GREATEST_LIMIT s.limit) (is_some s.after || is_some s.page)
     (restricts_well (row_reasons t None (statement.Select s)) e)
 
 -- ---- what a statement means, from its early reasons and its bound form

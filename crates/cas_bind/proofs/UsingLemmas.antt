@@ -1,5 +1,5 @@
 -- What stands after a DELETE's USING.
-use Rattle.std.proofs.Common.{◌≡◌, ℤ, Bool, false, Option, None, Some, refl}
+use Rattle.std.proofs.Common.{◌≡◌, ℤ, false, Option, None, Some, refl}
 use Rattle.cas_bind.specs.RowFaults.{uses_twice}
 use Rattle.cas_bind.specs.Statements.{timestamp_of, ttl_of, at_timestamp, timestamp_in, ttl_in}
 

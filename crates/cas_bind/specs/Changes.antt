@@ -1,6 +1,6 @@
 -- What INSERT, UPDATE and DELETE do to a partition.
 -- CQL documentation, "Data manipulation: INSERT, UPDATE, DELETE; USING TIMESTAMP and USING TTL" and "Data definition: static columns".
-use Rattle.std.specs.Prelude.{ℕ, ℤ, Bool, true, false, ◌&&◌, List, [], ◌∷◌, ◌++◌, Option, None, Some, option_map, unwrap_or, unsigned_abs, if◌then◌else◌}
+use Rattle.std.specs.Prelude.{ℕ, Bool, true, false, ◌&&◌, List, [], ◌∷◌, ◌++◌, Option, None, Some, option_map, unwrap_or, unsigned_abs, if◌then◌else◌}
 use Rattle.std.specs.List.{flat_map, list_all, list_any}
 use Rattle.cas_types.specs.Keys.{shard_of}
 use Rattle.cas_types.specs.Schemas.{is_static, is_key, is_plain, type_or_blob}

@@ -5,4 +5,5 @@ pub mod RowFaults
 pub mod RowReasons
 pub mod Meaning
 pub mod Tables
+pub mod Fitting
 pub mod Inner

@@ -1,6 +1,6 @@
 -- What can be wrong with an INSERT, UPDATE, DELETE or SELECT, in the order in which it is told.
 -- CQL documentation, "Data manipulation: INSERT, UPDATE, DELETE, SELECT".
-use Rattle.std.specs.Prelude.{ℕ, ℤ, pos, ◌==◌, nat_lt, Bool, true, false, not, ◌&&◌, ◌||◌, List, [], ◌∷◌, length, Option, None, Some, is_some}
+use Rattle.std.specs.Prelude.{ℕ, ℤ, pos, ◌==◌, nat_lt, Bool, true, false, not, ◌&&◌, ◌||◌, List, length, Option, None, Some, is_some}
 use Rattle.std.specs.Ordering.{int_eq}
 use Rattle.std.specs.Option.{option_map_or}
 use Rattle.std.specs.List.{filter_map, list_any}
@@ -11,7 +11,6 @@ use Rattle.cql_parse.specs.declared.term.Constant.{Constant}
 use Rattle.cql_parse.specs.declared.term.Constant.TheVariants as constant
 use Rattle.cql_parse.specs.declared.syntax.Statement.{Statement}
 use Rattle.cql_parse.specs.declared.syntax.Statement.TheVariants as statement
-use Rattle.cql_parse.specs.declared.syntax.Assigned.{Assigned}
 use Rattle.cql_parse.specs.declared.syntax.Assigned.TheVariants as assigned
 use Rattle.cql_parse.specs.declared.syntax.Assignment.{Assignment}
 use Rattle.cql_parse.specs.declared.syntax.ColumnOrder.{ColumnOrder}
@@ -141,22 +140,22 @@ is_another n None = false
 is_another n (Some m) = not (bytes_eq m n)
 
 -- an assignment of a key column, or by the value of another column: `SET k = 1`, `SET l = m + [1]`
-unfoldable pub assigns_otherwise : List Column → Assignment → Bool
-assigns_otherwise cs a = names_key cs a.column || is_another a.column (other_name a.value)
+unfoldable pub assigns_key_or_other : List Column → Assignment → Bool
+assigns_key_or_other cs a = names_key cs a.column || is_another a.column (other_name a.value)
 
 -- ORDER BY neither follows the table's order nor reverses it
-unfoldable pub orders_otherwise : List Column → List ColumnOrder → Bool
-orders_otherwise cs os = not (follows_order false (clustering_columns cs) os || follows_order true (clustering_columns cs) os)
+unfoldable pub follows_no_order : List Column → List ColumnOrder → Bool
+follows_no_order cs os = not (follows_order false (clustering_columns cs) os || follows_order true (clustering_columns cs) os)
 
 -- a LIMIT is from 1 to 2^31-1; AFTER and PAGE are of a SELECT without WHERE, which lacks the partition key
-unfoldable pub reads_otherwise : List Column → Select → Bool
-reads_otherwise cs s = orders_otherwise cs s.order || (is_outside (pos 1) GREATEST_LIMIT s.limit || (is_some s.after || is_some s.page))
+unfoldable pub reads_outside_limits : List Column → Select → Bool
+reads_outside_limits cs s = follows_no_order cs s.order || (is_outside (pos 1) GREATEST_LIMIT s.limit || (is_some s.after || is_some s.page))
 
 -- a WHERE, ORDER BY or LIMIT that the statement can't have, or a change of a key column; an INSERT has none of these
-unfoldable pub restricts_otherwise : List Column → Statement → Bool
-restricts_otherwise cs (statement.Update u) =
-    list_any (assigns_otherwise cs) u.assignments || not (restricts (extent_of cs (statement.Update u)) cs u.relations)
-restricts_otherwise cs (statement.Delete d) =
+unfoldable pub has_bad_restriction : List Column → Statement → Bool
+has_bad_restriction cs (statement.Update u) =
+    list_any (assigns_key_or_other cs) u.assignments || not (restricts (extent_of cs (statement.Update u)) cs u.relations)
+has_bad_restriction cs (statement.Delete d) =
     list_any (λ t. names_key cs t.column) d.targets || not (restricts (extent_of cs (statement.Delete d)) cs d.relations)
-restricts_otherwise cs (statement.Select s) = not (restricts extent.Slice cs s.relations) || reads_otherwise cs s
-restricts_otherwise cs _ = false
+has_bad_restriction cs (statement.Select s) = not (restricts extent.Slice cs s.relations) || reads_outside_limits cs s
+has_bad_restriction cs _ = false

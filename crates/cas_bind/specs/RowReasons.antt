@@ -10,7 +10,7 @@ use Rattle.cas_terms.specs.Columns.{is_unknown}
 use Rattle.cas_effects.specs.Refusals.{no_reason}
 use Rattle.cas_effects.specs.declared.reasons.Reasons.{Reasons}
 use Rattle.cas_bind.specs.RowFaults.{changes_twice, has_other_count, uses_twice, is_outside, is_of_another_type}
-use Rattle.cas_bind.specs.RowFaults.{gives_empty_key, lacks_key, restricts_otherwise}
+use Rattle.cas_bind.specs.RowFaults.{gives_empty_key, lacks_key, has_bad_restriction}
 use Rattle.cas_bind.specs.Statements.{uses_of, timestamp_in, ttl_in, changes_of, names_used, terms_used}
 use Rattle.cas_effects.specs.declared.refusal.Refusal.{Refusal}
 
@@ -25,7 +25,7 @@ row_reasons t large s =
       wrong_type = list_any (is_of_another_type t.columns) (terms_used s);
       empty_key = gives_empty_key t.columns s;
       missing_key = lacks_key t.columns s;
-      bad_restriction = restricts_otherwise t.columns s;
+      bad_restriction = has_bad_restriction t.columns s;
       ttl_too_large = is_outside (pos 0) (pos TTL_LIMIT) (ttl_in (uses_of s));
       too_large = large;
     }

@@ -10,6 +10,7 @@ mod reads;
 mod row_reasons;
 mod selects;
 mod statements;
+mod twice;
 mod types_used;
 mod using;
 mod writes;

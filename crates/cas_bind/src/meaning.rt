@@ -8,6 +8,7 @@ ghost use Rattle.cas_define.specs.AlterReasons.{alter_means};
 ghost use Rattle.cas_define.specs.CreateReasons.{create_means};
 ghost use Rattle.cas_define.specs.Outcomes.{Binds};
 ghost use Rattle.cas_terms.specs.Columns.{table_named};
+ghost use Rattle.cas_bind.specs.Fitting.{BoundFits};
 ghost use Rattle.cas_bind.specs.Meaning.{bound_as, of_table, change_means, select_means, meaning};
 ghost use Rattle.cas_bind.specs.Tables.{AreTables, IsWithin, tables_after};
 ghost use Rattle.cas_bind.specs.declared.bound.Bound.TheVariants as bounds;
@@ -106,11 +107,8 @@ fn select_rows(
     }
 }
 
-/// What the statement is to do to the tables that there are, or why it is refused. Unless memory runs
-/// out, it is what the statement means. Once it is done the tables are again as CREATE TABLE and
-/// ALTER TABLE make them; a write and a read are of one of the shards.
 #[tactic(auto, unfolding(crate::specs::Meaning::meaning))]
-pub fn bind(
+fn bind_statement(
     alloc: Global,
     tables: &[TableSchema],
     statement: &Statement,
@@ -131,4 +129,24 @@ pub fn bind(
         Statement::Delete(delete) => change_rows(alloc, shards, tables, &delete.table, statement),
         Statement::Select(select) => select_rows(alloc, shards, tables, statement, select),
     }
+}
+
+/// What the statement is to do to the tables that there are, or why it is refused. Unless memory runs
+/// out, it is what the statement means. Once it is done the tables are again as CREATE TABLE and
+/// ALTER TABLE make them; a write and a read are of one of the shards; a write is one that its table
+/// can take.
+pub fn bind(
+    alloc: Global,
+    tables: &[TableSchema],
+    statement: &Statement,
+    limits: &Limits,
+) -> Result<Bound, BindFault>
+    requires shards { IsShardCount limits.now.shards }
+    requires tables { AreTables tables.now }
+    ensures means { Binds result (meaning limits.now.shards tables.now statement.now) }
+    ensures kept { IfOk result (λ b. AreTables (tables_after tables.now b)) }
+    ensures within { IfOk result (λ b. IsWithin limits.now.shards b) }
+    ensures fits { IfOk result (λ b. BoundFits limits.now.shards tables.now b) }
+{
+    bind_statement(alloc, tables, statement, limits)
 }

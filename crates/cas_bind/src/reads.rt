@@ -120,11 +120,16 @@ fn if_small(read: BoundRead) -> Result<Bound, BindFault>
 }
 
 // Why the statement, which is the SELECT, is refused.
-fn select_refusal(table: &TableSchema, statement: &Statement, select: &Select) -> Option<Refusal>
+fn select_refusal(
+    alloc: Global,
+    table: &TableSchema,
+    statement: &Statement,
+    select: &Select,
+) -> Result<Option<Refusal>, AllocError>
     requires { statement.now ≡ statements.Select select.now }
-    ensures { result ≡ refusal_for (row_reasons table.now None (statements.Select select.now)) }
+    ensures { IfOk result (λ r. r ≡ refusal_for (row_reasons table.now None (statements.Select select.now))) }
 {
-    row_refusal(table, statement)
+    row_refusal(alloc, table, statement)
 }
 
 /// What the statement, which is the SELECT, means to its table.
@@ -141,7 +146,7 @@ pub(crate) fn bind_select(
     requires select { statement.now ≡ statements.Select select.now }
     ensures { Binds result (select_means shards table.now select.now) }
 {
-    match select_refusal(table, statement, select) {
+    match select_refusal(alloc, table, statement, select)? {
         Some(refusal) => Err(BindFault::Refused(refusal)),
         None => if_small(bound_select(alloc, shards, table, select)?),
     }

@@ -1,6 +1,6 @@
 //! What INSERT, UPDATE, DELETE and SELECT are refused for, what is too large aside.
 
-ghost use Rattle.std.specs.Prelude.{◌≡◌, ◌||◌, None, is_some};
+ghost use Rattle.std.specs.Prelude.{◌≡◌, ◌||◌, None, is_some, IfOk};
 ghost use Rattle.std.specs.List.{list_any};
 ghost use Rattle.std.specs.Option.{option_copied};
 ghost use Rattle.cas_effects.specs.Refusals.{refusal_for};
@@ -8,14 +8,15 @@ ghost use Rattle.cas_terms.specs.Columns.{names_key};
 ghost use Rattle.cas_where.specs.Where.{restricts};
 ghost use Rattle.cas_bind.specs.Changes.{extent_of};
 ghost use Rattle.cas_bind.specs.RowFaults.{changes_twice, has_other_count, uses_twice, gives_empty, gives_empty_key, is_row, lacks_key};
-ghost use Rattle.cas_bind.specs.RowFaults.{is_another, assigns_otherwise, orders_otherwise, reads_otherwise, restricts_otherwise};
+ghost use Rattle.cas_bind.specs.RowFaults.{is_another, assigns_key_or_other, follows_no_order, reads_outside_limits, has_bad_restriction};
 ghost use Rattle.cas_bind.specs.RowReasons.{row_reasons};
 ghost use Rattle.cas_bind.specs.Statements.{relations_of, uses_of, changes_of};
 
 use crate::extents::extent_of;
 use crate::selects::GREATEST_LIMIT;
 use crate::statements::{has_other_count, key_terms_of, other_name, relations_of, uses_unknown};
-use crate::types_used::{changes_twice, uses_another_type};
+use crate::twice::changes_twice;
+use crate::types_used::uses_another_type;
 use crate::using::{has_use_twice, is_outside, stated_timestamp, stated_ttl};
 use cas_effects::{Reasons, Refusal};
 use cas_terms::{names_key, same_name};
@@ -25,16 +26,18 @@ use cas_where::{
     lacks_partition, restricts, restricts_to_empty, sole_column,
 };
 use cql_parse::{Assignment, ColumnOrder, Select, Statement, Target};
+use std::alloc::{AllocError, Global};
 
 #[tactic(auto, using(crate::proofs::RowLemmas::or_true_between))]
-fn says_badly(columns: &[Column], statement: &Statement) -> bool
-    ensures { result ≡ (changes_twice columns.now (changes_of statement.now) || (has_other_count statement.now || uses_twice (uses_of statement.now))) }
+fn says_badly(alloc: Global, columns: &[Column], statement: &Statement) -> Result<bool, AllocError>
+    ensures { IfOk result (λ b. b ≡ (changes_twice columns.now (changes_of statement.now)
+        || (has_other_count statement.now || uses_twice (uses_of statement.now)))) }
 {
     if has_other_count(statement) {
-        true
-    } else {
-        changes_twice(columns, statement) || has_use_twice(statement)
+        return Ok(true);
     }
+    let twice = changes_twice(alloc, columns, statement)?;
+    Ok(twice || has_use_twice(statement))
 }
 
 #[tactic(auto, unfolding(crate::specs::RowFaults::gives_empty))]
@@ -90,18 +93,18 @@ fn is_another(name: &str, other: Option<&str>) -> bool
     }
 }
 
-#[tactic(auto, unfolding(crate::specs::RowFaults::assigns_otherwise))]
-fn assigns_otherwise(columns: &[Column], assignment: &Assignment) -> bool
-    ensures { result ≡ assigns_otherwise columns.now assignment.now }
+#[tactic(auto, unfolding(crate::specs::RowFaults::assigns_key_or_other))]
+fn assigns_key_or_other(columns: &[Column], assignment: &Assignment) -> bool
+    ensures { result ≡ assigns_key_or_other columns.now assignment.now }
 {
     let name = assignment.column.as_str();
     names_key(columns, name) || is_another(name, other_name(&assignment.value))
 }
 
-fn any_assigns_otherwise(columns: &[Column], assignments: &[Assignment]) -> bool
-    ensures { result ≡ list_any (assigns_otherwise columns.now) assignments.now }
+fn any_assigns_key_or_other(columns: &[Column], assignments: &[Assignment]) -> bool
+    ensures { result ≡ list_any (assigns_key_or_other columns.now) assignments.now }
 {
-    assignments.iter().any(|a| assigns_otherwise(columns, a))
+    assignments.iter().any(|a| assigns_key_or_other(columns, a))
 }
 
 fn any_deletes_key(columns: &[Column], targets: &[Target]) -> bool
@@ -112,9 +115,9 @@ fn any_deletes_key(columns: &[Column], targets: &[Target]) -> bool
         .any(|t| names_key(columns, t.column.as_str()))
 }
 
-#[tactic(auto, unfolding(crate::specs::RowFaults::orders_otherwise))]
-fn orders_otherwise(columns: &[Column], order: &[ColumnOrder]) -> bool
-    ensures { result ≡ orders_otherwise columns.now order.now }
+#[tactic(auto, unfolding(crate::specs::RowFaults::follows_no_order))]
+fn follows_no_order(columns: &[Column], order: &[ColumnOrder]) -> bool
+    ensures { result ≡ follows_no_order columns.now order.now }
 {
     !(follows_order(false, columns, order) || follows_order(true, columns, order))
 }
@@ -125,11 +128,11 @@ fn is_paged(select: &Select) -> bool
     select.after.is_some() || select.page.is_some()
 }
 
-#[tactic(auto, unfolding(crate::specs::RowFaults::reads_otherwise))]
-fn reads_otherwise(columns: &[Column], select: &Select) -> bool
-    ensures { result ≡ reads_otherwise columns.now select.now }
+#[tactic(auto, unfolding(crate::specs::RowFaults::reads_outside_limits))]
+fn reads_outside_limits(columns: &[Column], select: &Select) -> bool
+    ensures { result ≡ reads_outside_limits columns.now select.now }
 {
-    orders_otherwise(columns, select.order.as_slice())
+    follows_no_order(columns, select.order.as_slice())
         || (is_outside(1, GREATEST_LIMIT, select.limit) || is_paged(select))
 }
 
@@ -143,13 +146,13 @@ fn restricts_rows(columns: &[Column], statement: &Statement) -> bool
     )
 }
 
-#[tactic(auto, unfolding(crate::specs::RowFaults::restricts_otherwise, crate::specs::Statements::relations_of, crate::specs::Changes::extent_of))]
-fn restricts_otherwise(columns: &[Column], statement: &Statement) -> bool
-    ensures { result ≡ restricts_otherwise columns.now statement.now }
+#[tactic(auto, unfolding(crate::specs::RowFaults::has_bad_restriction, crate::specs::Statements::relations_of, crate::specs::Changes::extent_of))]
+fn has_bad_restriction(columns: &[Column], statement: &Statement) -> bool
+    ensures { result ≡ has_bad_restriction columns.now statement.now }
 {
     match statement {
         Statement::Update(update) => {
-            any_assigns_otherwise(columns, update.assignments.as_slice())
+            any_assigns_key_or_other(columns, update.assignments.as_slice())
                 || !restricts_rows(columns, statement)
         }
         Statement::Delete(delete) => {
@@ -158,7 +161,7 @@ fn restricts_otherwise(columns: &[Column], statement: &Statement) -> bool
         }
         Statement::Select(select) => {
             !restricts(Extent::Slice, columns, select.relations.as_slice())
-                || reads_otherwise(columns, select)
+                || reads_outside_limits(columns, select)
         }
         Statement::Create(_) => false,
         Statement::Alter(_) => false,
@@ -168,15 +171,19 @@ fn restricts_otherwise(columns: &[Column], statement: &Statement) -> bool
 
 /// What the statement is refused for.
 #[tactic(auto, unfolding(crate::specs::RowReasons::row_reasons))]
-fn row_reasons(table: &TableSchema, statement: &Statement) -> Reasons
-    ensures { result ≡ row_reasons table.now None statement.now }
+fn row_reasons(
+    alloc: Global,
+    table: &TableSchema,
+    statement: &Statement,
+) -> Result<Reasons, AllocError>
+    ensures { IfOk result (λ r. r ≡ row_reasons table.now None statement.now) }
 {
     let columns = table.columns.as_slice();
     let timestamp = stated_timestamp(statement);
-    Reasons {
+    Ok(Reasons {
         no_table: false,
         table_exists: false,
-        bad_definition: says_badly(columns, statement),
+        bad_definition: says_badly(alloc, columns, statement)?,
         no_column: uses_unknown(columns, statement),
         bad_option: is_outside(
             i128::from(LEAST_TIMESTAMP),
@@ -186,16 +193,20 @@ fn row_reasons(table: &TableSchema, statement: &Statement) -> Reasons
         wrong_type: uses_another_type(columns, statement),
         empty_key: gives_empty_key(columns, statement),
         missing_key: lacks_key(columns, statement),
-        bad_restriction: restricts_otherwise(columns, statement),
+        bad_restriction: has_bad_restriction(columns, statement),
         ttl_too_large: is_outside(0, i128::from(TTL_LIMIT), stated_ttl(statement)),
         too_large: None,
         too_many: None,
-    }
+    })
 }
 
 /// Why the statement is refused, what is too large aside.
-pub(crate) fn row_refusal(table: &TableSchema, statement: &Statement) -> Option<Refusal>
-    ensures { result ≡ refusal_for (row_reasons table.now None statement.now) }
+pub(crate) fn row_refusal(
+    alloc: Global,
+    table: &TableSchema,
+    statement: &Statement,
+) -> Result<Option<Refusal>, AllocError>
+    ensures { IfOk result (λ r. r ≡ refusal_for (row_reasons table.now None statement.now)) }
 {
-    row_reasons(table, statement).refusal()
+    Ok(row_reasons(alloc, table, statement)?.refusal())
 }

@@ -1,4 +1,4 @@
-//! What columns are given and asked that isn't of their types, and what is changed twice.
+//! What columns are given and asked that isn't of their types, and which changes are of one entry.
 
 ghost use Rattle.std.specs.Prelude.{◌≡◌, ◌||◌, ◌&&◌, not, false};
 ghost use Rattle.std.specs.List.{list_any, zip};
@@ -6,15 +6,14 @@ ghost use Rattle.std.specs.Option.{option_copied, option_map_or};
 ghost use Rattle.std.specs.Str.{bytes_eq};
 ghost use Rattle.cas_types.specs.Schemas.{is_map};
 ghost use Rattle.cas_terms.specs.Columns.{column_named};
-ghost use Rattle.cas_terms.specs.Names.{any_two};
 ghost use Rattle.cas_bind.specs.Inner.Gives.{change_in};
-ghost use Rattle.cas_bind.specs.RowFaults.{is_same_constant, are_other_entries, entry_key, names_map, change_the_same, changes_twice, has_other_count};
+ghost use Rattle.cas_bind.specs.RowFaults.{is_same_constant, are_other_entries, entry_key, names_map};
 ghost use Rattle.cas_bind.specs.RowFaults.{target_fits, has_writetime, pick_fits, mention_fits, is_of_another_type};
 ghost use Rattle.cas_bind.specs.Statements.{changes, compares, shows, assigns, deletes, inserted, picked_name, changes_of, relations_of, shown_by, terms_used};
 
 use crate::effects::RowChange;
 use crate::statements::{picked_name, relations_of, shown_by};
-use cas_terms::{assigned_fits, column_named, key_fits, same_name, stands_twice, term_fits};
+use cas_terms::{assigned_fits, column_named, key_fits, same_name, term_fits};
 use cas_types::{Column, Text};
 use cql_parse::{Assigned, Assignment, Constant, Pick, Relation, Statement, Target, Term};
 
@@ -159,7 +158,7 @@ pub(crate) fn uses_another_type(columns: &[Column], statement: &Statement) -> bo
             || picks_of_another_type(columns, shown_by(statement)))
 }
 
-// ---- what is changed twice
+// ---- what is one
 
 fn same_bytes(a: &[u8], b: &[u8]) -> bool
     ensures { result ≡ bytes_eq a.now b.now }
@@ -181,7 +180,7 @@ fn is_same_constant(a: &Constant, b: &Constant) -> bool
     }
 }
 
-fn are_other_entries(a: Option<&Constant>, b: Option<&Constant>) -> bool
+pub(crate) fn are_other_entries(a: Option<&Constant>, b: Option<&Constant>) -> bool
     ensures { result ≡ are_other_entries (option_copied a.entry) (option_copied b.entry) }
 {
     match (a, b) {
@@ -191,7 +190,7 @@ fn are_other_entries(a: Option<&Constant>, b: Option<&Constant>) -> bool
     }
 }
 
-fn names_map(columns: &[Column], name: &str) -> bool
+pub(crate) fn names_map(columns: &[Column], name: &str) -> bool
     ensures { result ≡ names_map columns.now name.now }
 {
     match column_named(columns, name) {
@@ -201,7 +200,7 @@ fn names_map(columns: &[Column], name: &str) -> bool
 }
 
 #[tactic(auto, unfolding(crate::specs::RowFaults::entry_key))]
-fn entry_key(change: RowChange<'_>) -> Option<&Constant>
+pub(crate) fn entry_key(change: RowChange<'_>) -> Option<&Constant>
     ensures { option_copied result ≡ entry_key (change_in change.entry) }
 {
     match change {
@@ -214,95 +213,5 @@ fn entry_key(change: RowChange<'_>) -> Option<&Constant>
             Assigned::Entry(key, _) => Some(key),
         },
         RowChange::Delete(key) => key.as_ref(),
-    }
-}
-
-#[tactic(auto, unfolding(crate::specs::RowFaults::change_the_same))]
-fn change_the_same(
-    columns: &[Column],
-    name: &str,
-    change: RowChange<'_>,
-    other: &str,
-    other_change: RowChange<'_>,
-) -> bool
-    ensures { result ≡ change_the_same columns.now (name.now, change_in change.entry) (other.now, change_in other_change.entry) }
-{
-    if !same_name(name, other) {
-        return false;
-    }
-    if !names_map(columns, name) {
-        return true;
-    }
-    !are_other_entries(entry_key(change), entry_key(other_change))
-}
-
-fn assigned_again(columns: &[Column], assignment: &Assignment, others: &[Assignment]) -> bool
-    ensures { result ≡ list_any (λ b. change_the_same columns.now (assignment.now.column, assigns assignment.now.value)
-        (b.column, assigns b.value)) others.now }
-{
-    others.iter().any(|b| {
-        change_the_same(
-            columns,
-            assignment.column.as_str(),
-            RowChange::Assign(&assignment.value),
-            b.column.as_str(),
-            RowChange::Assign(&b.value),
-        )
-    })
-}
-
-fn assigned_twice(columns: &[Column], assignments: &[Assignment]) -> bool
-    ensures { result ≡ any_two (λ a b. change_the_same columns.now (a.column, assigns a.value) (b.column, assigns b.value)) assignments.now }
-{
-    let mut rest = assignments;
-    while let [assignment, more @ ..] = rest {
-        if assigned_again(columns, assignment, more) {
-            return true;
-        }
-        rest = more;
-    }
-    false
-}
-
-fn deleted_again(columns: &[Column], target: &Target, others: &[Target]) -> bool
-    ensures { result ≡ list_any (λ b. change_the_same columns.now (target.now.column, deletes target.now.key) (b.column, deletes b.key)) others.now }
-{
-    others.iter().any(|b| {
-        change_the_same(
-            columns,
-            target.column.as_str(),
-            RowChange::Delete(&target.key),
-            b.column.as_str(),
-            RowChange::Delete(&b.key),
-        )
-    })
-}
-
-fn deleted_twice(columns: &[Column], targets: &[Target]) -> bool
-    ensures { result ≡ any_two (λ a b. change_the_same columns.now (a.column, deletes a.key) (b.column, deletes b.key)) targets.now }
-{
-    let mut rest = targets;
-    while let [target, more @ ..] = rest {
-        if deleted_again(columns, target, more) {
-            return true;
-        }
-        rest = more;
-    }
-    false
-}
-
-/// Whether the statement changes something twice. Of an INSERT there is a value to each column.
-#[tactic(auto, using(crate::proofs::Changed::two_mapped, crate::proofs::Changed::two_inserted), unfolding(crate::specs::Statements::changes_of))]
-pub(crate) fn changes_twice(columns: &[Column], statement: &Statement) -> bool
-    requires { has_other_count statement.now ≡ false }
-    ensures { result ≡ changes_twice columns.now (changes_of statement.now) }
-{
-    match statement {
-        Statement::Insert(insert) => stands_twice(insert.columns.as_slice()),
-        Statement::Update(update) => assigned_twice(columns, update.assignments.as_slice()),
-        Statement::Delete(delete) => deleted_twice(columns, delete.targets.as_slice()),
-        Statement::Create(_) => false,
-        Statement::Alter(_) => false,
-        Statement::Select(_) => false,
     }
 }

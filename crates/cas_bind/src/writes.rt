@@ -92,7 +92,7 @@ pub(crate) fn bind_change(
     requires narrow { IsNarrow table.now.columns }
     ensures { Binds result (change_means shards table.now statement.now) }
 {
-    match row_refusal(table, statement) {
+    match row_refusal(alloc, table, statement)? {
         Some(refusal) => Err(BindFault::Refused(refusal)),
         None => if_small(bound_change(alloc, shards, table, statement)?),
     }

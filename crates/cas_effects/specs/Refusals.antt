@@ -1,6 +1,6 @@
 -- The refusals of statements, and which of several comes.
 -- CQL documentation, "Data manipulation" and "Data definition", for what a statement may not have; the numbers and the order are own.
-use Rattle.std.specs.Prelude.{ℕ, Bool, true, false, List, [], ◌∷◌, Option, None, Some}
+use Rattle.std.specs.Prelude.{ℕ, false, List, [], ◌∷◌, Option, None, Some}
 use Rattle.std.specs.Bool.{then_some}
 use Rattle.cas_effects.specs.declared.refusal.Refusal.{Refusal}
 use Rattle.cas_effects.specs.declared.refusal.Refusal.TheVariants.{NoTable, NoColumn, WrongType, MissingKey, BadRestriction, BadOption}

@@ -4,6 +4,7 @@
 
 mod atoms;
 mod effect;
+mod laws;
 mod reasons;
 mod refusal;
 mod stamped;
@@ -13,6 +14,7 @@ mod too_large;
 
 pub use atoms::atoms_of;
 pub use effect::{BoundWrite, Effect, Elements};
+pub use laws::{list_places, mutations_fit, write_laws};
 pub use reasons::{Reasons, either};
 pub use refusal::{BindFault, Counted, NOT_HERE, Refusal, SYNTAX, TOO_LARGE, TOO_MANY};
 pub use stamped::NUMBER_LIMIT;

@@ -1,7 +1,8 @@
 -- The bytes that a constant is as a value of a type, and none where it is no value of it.
 -- CQL documentation, "Data types: native types; constants"; the bytes are own.
-use Rattle.std.specs.Prelude.{ℕ, ℤ, pos, ◌-ℤ◌, ◌-◌, ◌^◌, int_le, Bool, true, false, ◌&&◌, List, [], ◌∷◌, Option, None, Some, if◌then◌else◌}
+use Rattle.std.specs.Prelude.{ℕ, ℤ, pos, ◌-ℤ◌, ◌-◌, ◌^◌, ◌==◌, length, int_le, Bool, true, false, ◌&&◌, List, [], ◌∷◌, Option, None, Some, if◌then◌else◌}
 use Rattle.std.specs.Bool.{then_some}
+use Rattle.std.specs.Str.{is_utf8}
 use Rattle.std.specs.Int.{Width, w8, w16, w32, w64, cast_unsigned, to_be_bytes}
 use Rattle.cas_types.specs.declared.limits.TheConstants.{LAST_NANOSECOND}
 use Rattle.cas_types.specs.Values.{is_ascii_text, is_version_one, uuid_version}
@@ -25,7 +26,7 @@ unsigned_bytes w greatest n = then_some (is_in_range (pos 0) (pos greatest) n) (
 -- the value of `'..'` is its UTF-8 bytes, as a text, and as an ascii where each of them is ASCII
 unfoldable pub text_bytes : TypeTag → List ℕ → Option (List ℕ)
 text_bytes Ascii t = then_some (is_ascii_text t) t
-text_bytes Text t = Some t
+text_bytes Text t = then_some (is_utf8 t) t
 text_bytes _ t = None
 
 -- a whole number is a signed number of the type's width; as a date it is the number of a day, of which 2^31 is 1970-01-01; as a time the nanosecond of a day
@@ -46,7 +47,7 @@ blob_bytes _ b = None
 
 -- a uuid is its sixteen bytes, and a timeuuid where its version is 1
 unfoldable pub uuid_bytes : TypeTag → List ℕ → Option (List ℕ)
-uuid_bytes Uuid u = Some u
+uuid_bytes Uuid u = then_some (length u == 16) u
 uuid_bytes TimeUuid u = then_some (is_version_one (uuid_version u)) u
 uuid_bytes _ u = None
 

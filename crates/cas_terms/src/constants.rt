@@ -1,6 +1,6 @@
 //! The bytes that constants are as values of types.
 
-ghost use Rattle.std.specs.Prelude.{◌≡◌, ◌^◌, ◌-◌, is_some, option_map, IfOk};
+ghost use Rattle.std.specs.Prelude.{◌≡◌, ◌^◌, ◌-◌, length, is_some, option_map, IfOk};
 ghost use Rattle.std.specs.Bool.{then_some};
 ghost use Rattle.std.specs.Int.{w8, w16, w32, w64};
 ghost use Rattle.cas_types.specs.declared.limits.TheConstants.{LAST_NANOSECOND};
@@ -154,6 +154,7 @@ fn spelled_blob<'a>(tag: TypeTag, bytes: &'a [u8]) -> Option<Spelled<'a>>
 
 #[tactic(auto, unfolding(crate::specs::Constants::uuid_bytes))]
 fn spelled_uuid<'a>(tag: TypeTag, uuid: &'a [u8]) -> Option<Spelled<'a>>
+    requires { length uuid.now ≡ 16 }
     ensures { option_map spelled_bytes result ≡ uuid_bytes tag uuid.now }
 {
     match tag {

@@ -6,6 +6,7 @@ mod columns;
 mod constants;
 mod elements;
 mod fitting;
+mod laws;
 mod names;
 mod optional;
 mod terms;
@@ -21,6 +22,7 @@ pub use elements::{
     entry_elements, given_elements, prepended_elements, removed_elements, whole_elements,
 };
 pub use fitting::{assigned_fits, key_fits, term_fits};
+pub use laws::terms_have_their_types;
 pub use names::{has_name, same_name, stands_twice};
 pub use optional::push_some;
 pub use terms::{has_empty_value, has_value, spell_term, term_value};

@@ -1,1 +1,4 @@
 pub mod KeyLemmas
+pub mod KeysBack
+pub mod SliceLaws
+pub mod Fitting

@@ -1,6 +1,6 @@
 -- What is wrong with the primary key that a statement gives: an empty partition key, null, or a column without a value.
 -- CQL documentation, "Data definition: the primary key" and "Data manipulation: the WHERE clause".
-use Rattle.std.specs.Prelude.{ℕ, ◌==◌, length, if◌then◌else◌, Bool, true, false, ◌&&◌, ◌||◌, List, [], ◌∷◌, Option, None, Some}
+use Rattle.std.specs.Prelude.{◌==◌, length, if◌then◌else◌, Bool, true, false, ◌&&◌, List, [], ◌∷◌, Option, None, Some}
 use Rattle.std.specs.List.{list_any}
 use Rattle.std.specs.Str.{bytes_eq}
 use Rattle.cas_types.specs.declared.schema.Column.{Column}

@@ -1,11 +1,10 @@
-use Rattle.std.proofs.Common.{◌≡◌, [], ◌∷◌, Some, sym, subst, ap, ◌∙◌}
+use Rattle.std.proofs.Common.{◌≡◌, [], ◌∷◌, sym, subst, ap, ◌∙◌}
 use Rattle.std.specs.Option.{option_copied}
 use Rattle.std.specs.List.{filter_map}
 use Rattle.cas_types.specs.Keys.{key_of}
 use Rattle.cas_terms.specs.Columns.{partition_columns}
 use Rattle.cas_where.specs.Inner.Sources.{terms_of, KeyGives}
 use Rattle.cas_where.specs.KeyTerms.{value_in, partition_key}
-use Rattle.cas_where.specs.Keys.{sole_column}
 use Rattle.cas_where.proofs.KeyLemmas.{sole_is}
 use Rattle.cas_where.proofs.key_terms.partition_key.Goals as goal
 
