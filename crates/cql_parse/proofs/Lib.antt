@@ -11,3 +11,5 @@ pub mod SelectAgree
 pub mod DefineAgree
 pub mod StatementAgree
 pub mod Reserved
+pub mod LineLexemes
+pub mod TableAgree

@@ -109,9 +109,9 @@ semicolon_sound l r u e =
       | inr h ↦ phrase_at Semicolon tt u l l r h.1 (inr refl)
     ]
 
-ended_is : (o : Option (Statement × List Lexeme)) (x : Statement) → ended o ≡ Some x → o ≡ Some (x, [])
+pub ended_is : {A : Type 0} (o : Option (A × List Lexeme)) (x : A) → ended o ≡ Some x → o ≡ Some (x, [])
 ended_is None x e = absurd cc
-ended_is (Some (s, [])) x e = ap (λ (y : Statement). Some (y, [])) (some_is s x e)
+ended_is (Some (s, [])) x e = ap (λ y. Some (y, [])) (some_is s x e)
 ended_is (Some (s, y ∷ l)) x e = absurd cc
 
 pub whole_sound : (l : List Lexeme) (x : Statement) → whole_statement l ≡ Some x → IsStatement x l

@@ -1,5 +1,6 @@
 -- What the tokens of a source mean.
-use Rattle.std.specs.Prelude.{◌≡◌, ℕ, List, Some, Result, Ok, Err}
+use Rattle.std.specs.Prelude.{◌≡◌, ℕ, List, Some, is_some, Result, Ok, Err, IsTrue, IsUtf8}
+use Rattle.cql_lex.specs.Lexes.{Lexes}
 use Rattle.cql_lex.specs.declared.token.Token.{Token}
 use Rattle.cql_parse.specs.declared.fault.ParseFault.{ParseFault}
 use Rattle.cql_parse.specs.declared.fault.ParseFault.TheVariants as faults
@@ -14,12 +15,16 @@ pub record Means (source : List ℕ) (tokens : List Token) (statement : Statemen
   pub meanings : lexemes_of source tokens ≡ Some lexemes
   pub grammar : IsStatement statement lexemes
 
--- the answer is this statement, unless memory ran out
-abbrev pub IsAnswer : Statement → Result Statement ParseFault → Type 0
-IsAnswer s (Ok t) = t ≡ s
-IsAnswer s (Err faults.Mem) = Unit {0}
-IsAnswer s (Err faults.Syntax) = ⊥
+-- the answer is this one, unless memory ran out
+abbrev pub IsAnswer : {A : Type 0} → A → Result A ParseFault → Type 0
+IsAnswer x (Ok y) = y ≡ x
+IsAnswer x (Err faults.Mem) = Unit {0}
+IsAnswer x (Err faults.Syntax) = ⊥
 
 -- no tokens spell two statements
 abbrev pub OneStatement : Type 0
 OneStatement = (source : List ℕ) (tokens : List Token) (s t : Statement) → Means source tokens s → Means source tokens t → s ≡ t
+
+-- each token of a line is a lexeme, so that a line is refused for its tokens or by the grammar, and for nothing between
+abbrev pub TokensHaveLexemes : Type 0
+TokensHaveLexemes = (source : List ℕ) (tokens : List Token) → IsUtf8 source → Lexes source tokens → IsTrue (is_some (lexemes_of source tokens))

@@ -15,15 +15,17 @@ mod nested;
 mod parse;
 mod select;
 mod syntax;
+mod table_words;
 mod term;
 mod terms;
 
 pub use fault::ParseFault;
-pub use parse::{one_statement, statement};
+pub use parse::{one_statement, statement, tokens_have_lexemes};
 pub use syntax::{
     AddedColumn, AlterTable, Assigned, Assignment, ColumnOrder, ColumnType, CreateTable,
     DefinedColumn, Delete, Insert, Item, NamedOption, Operator, OptionValue, Pick, Picks,
     PrimaryKey, Relation, Select, Statement, Suboption, TableName, TableOption, Target, Update,
     Use,
 };
+pub use table_words::{one_table, table_name};
 pub use term::{Constant, Element, Entry, Literal, Nested, Setting, Term};

@@ -3,7 +3,7 @@
 ghost use Rattle.std.specs.Prelude.{◌≡◌, IfOk};
 ghost use Rattle.cql_parse.specs.Inner.Reading.{Gives};
 ghost use Rattle.cql_parse.specs.Inner.StatementReading.{definition_at, change_at, statement_at, semicolon_at, whole_statement, statement_of};
-ghost use Rattle.cql_parse.specs.Means.{Means, IsAnswer, OneStatement};
+ghost use Rattle.cql_parse.specs.Means.{Means, IsAnswer, OneStatement, TokensHaveLexemes};
 ghost use Rattle.cql_parse.specs.declared.syntax.Statement.{Statement};
 
 use crate::changes::{delete, insert, update};
@@ -109,4 +109,9 @@ pub fn statement(alloc: Global, tokens: &[Token], source: &str) -> Result<Statem
 /// Tokens spell at most one statement.
 pub fn one_statement()
     ensures { OneStatement }
+{}
+
+/// Each token of a line is a lexeme: what is refused after the tokens is refused by the grammar.
+pub fn tokens_have_lexemes()
+    ensures { TokensHaveLexemes }
 {}
