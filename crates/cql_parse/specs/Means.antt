@@ -1,12 +1,11 @@
 -- What the tokens of a source mean.
-use Rattle.std.specs.Prelude.{◌≡◌, ℕ, List, Some, is_some, Result, Ok, Err, IsTrue, IsUtf8}
-use Rattle.cql_lex.specs.Lexes.{Lexes}
+use Rattle.std.specs.Prelude.{◌≡◌, ℕ, List, Some, Result, Ok, Err}
 use Rattle.cql_lex.specs.declared.token.Token.{Token}
-use Rattle.cql_parse.specs.declared.fault.ParseFault.{ParseFault}
-use Rattle.cql_parse.specs.declared.fault.ParseFault.TheVariants as faults
-use Rattle.cql_parse.specs.declared.lexeme.Lexeme.{Lexeme}
+use Rattle.cql_phrases.specs.declared.fault.ParseFault.{ParseFault}
+use Rattle.cql_phrases.specs.declared.fault.ParseFault.TheVariants as faults
+use Rattle.cql_phrases.specs.declared.lexeme.Lexeme.{Lexeme}
 use Rattle.cql_parse.specs.declared.syntax.Statement.{Statement}
-use Rattle.cql_parse.specs.Lexemes.{lexemes_of}
+use Rattle.cql_phrases.specs.Lexemes.{lexemes_of}
 use Rattle.cql_parse.specs.Grammar.{IsStatement}
 
 -- the tokens of the source spell the statement: those of `SELECT * FROM t` the Select of all columns of t
@@ -24,7 +23,3 @@ IsAnswer x (Err faults.Syntax) = ⊥
 -- no tokens spell two statements
 abbrev pub OneStatement : Type 0
 OneStatement = (source : List ℕ) (tokens : List Token) (s t : Statement) → Means source tokens s → Means source tokens t → s ≡ t
-
--- each token of a line is a lexeme, so that a line is refused for its tokens or by the grammar, and for nothing between
-abbrev pub TokensHaveLexemes : Type 0
-TokensHaveLexemes = (source : List ℕ) (tokens : List Token) → IsUtf8 source → Lexes source tokens → IsTrue (is_some (lexemes_of source tokens))

@@ -3,9 +3,9 @@
 use Rattle.std.specs.Prelude.{◌≡◌, ℕ, ◌==◌, Bool, true, ◌&&◌, List, [], ◌∷◌, length, Some}
 use Rattle.cql_lex.specs.Lexes.{Lexes}
 use Rattle.cql_lex.specs.declared.token.Token.{Token}
-use Rattle.cql_parse.specs.declared.lexeme.Lexeme.{Lexeme}
+use Rattle.cql_phrases.specs.declared.lexeme.Lexeme.{Lexeme}
 use Rattle.cql_parse.specs.declared.syntax.TableName.{TableName}
-use Rattle.cql_parse.specs.Lexemes.{lexemes_of}
+use Rattle.cql_phrases.specs.Lexemes.{lexemes_of}
 use Rattle.cql_parse.specs.Grammar.{IsTable}
 
 -- each token begins where the one before it ends, from this place up to the end: so do those of `local.t`, and neither

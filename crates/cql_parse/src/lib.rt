@@ -1,26 +1,21 @@
-//! The parser of CQL statements. It stands on the tokens of `cql_lex`, and leaves all that hangs on
-//! a schema to the binder: which names there are, which stand twice, which constants fit.
+//! The parser of CQL statements. It leaves all that hangs on a schema to the binder: which names there
+//! are, which stand twice, which constants fit.
 #![tactic(auto)]
 
 mod changes;
 mod clauses;
 mod define;
-mod fault;
-mod front;
-mod keyword;
-mod lexeme;
-mod lexemes;
-mod lists;
-mod nested;
+pub mod fault;
+pub mod lexeme;
 mod parse;
 mod select;
 mod syntax;
 mod table_words;
-mod term;
-mod terms;
+pub mod term;
 
+pub use cql_phrases::tokens_have_lexemes;
 pub use fault::ParseFault;
-pub use parse::{one_statement, statement, tokens_have_lexemes};
+pub use parse::{one_statement, statement};
 pub use syntax::{
     AddedColumn, AlterTable, Assigned, Assignment, ColumnOrder, ColumnType, CreateTable,
     DefinedColumn, Delete, Insert, Item, NamedOption, Operator, OptionValue, Pick, Picks,

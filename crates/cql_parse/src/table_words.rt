@@ -2,18 +2,17 @@
 
 ghost use Rattle.std.specs.Prelude.{◌≡◌, length, IfOk};
 ghost use Rattle.cql_lex.specs.Lexes.{Lexes};
-ghost use Rattle.cql_parse.specs.Inner.Reading.{Gives};
+ghost use Rattle.cql_phrases.specs.Inner.Reading.{Gives};
 ghost use Rattle.cql_parse.specs.Inner.StatementReading.{table_alone, table_of};
 ghost use Rattle.cql_parse.specs.Means.{IsAnswer};
 ghost use Rattle.cql_parse.specs.TableNames.{are_joined, SpellsTable, OneTable};
 ghost use Rattle.cql_parse.specs.declared.syntax.TableName.{TableName};
 
 use crate::clauses::table;
-use crate::fault::ParseFault;
-use crate::lexeme::Lexeme;
-use crate::lexemes::lexemes;
 use crate::syntax::TableName;
 use cql_lex::{LexFault, Token, tokens};
+use cql_phrases::lexemes::lexemes;
+use cql_phrases::{Lexeme, ParseFault};
 use std::alloc::Global;
 
 /// Whether the tokens stand side by side and fill a text of this length.
