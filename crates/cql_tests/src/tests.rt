@@ -1,3 +1,6 @@
+mod options;
+mod printing;
+
 use cql_lex::{
     LexFault, blob_of, name_of, number_of, one_reading, quoted_name_of, quotes_round_trip,
     ratio_of, string_of, tokens, uuid_of, well_placed,
@@ -260,10 +263,7 @@ fn numbers_have_their_values(rt: HostRuntime) {
         (b"100.00", Some(10_000)),
         (b"00.10", Some(10)),
         (b"1701411834604692317316873037158841057.27", Some(i128::MAX)),
-        (
-            b"1701411834604692317316873037158841057.28",
-            Some(i128::MAX),
-        ),
+        (b"1701411834604692317316873037158841057.28", Some(i128::MAX)),
         (
             b"-1701411834604692317316873037158841057.28",
             Some(i128::MIN),
