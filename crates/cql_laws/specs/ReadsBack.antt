@@ -57,7 +57,8 @@ Says x (datum.One t v) = (c : Column) → IsOf c shape.One t → IsTrue (term_fi
 Says x (datum.Set t vs) = (c : Column) → IsOf c shape.Set t → IsTrue (term_fits c x) × (whole_elements c x ≡ elements.At (by_path (map (λ v. (v, Some [])) vs)))
 Says x (datum.List t vs) = (c : Column) → IsOf c shape.List t → IsTrue (term_fits c x) × (whole_elements c x ≡ elements.Appended vs)
 Says x (datum.Map t u es) =
-    (c : Column) → IsOf c shape.Map t → type_or_blob c.second ≡ u → IsTrue (term_fits c x) × (whole_elements c x ≡ elements.At (by_path (map (λ e. (e.0, Some e.1)) es)))
+    (c : Column) → IsOf c shape.Map t → type_or_blob c.second ≡ u
+    → IsTrue (term_fits c x) × (whole_elements c x ≡ elements.At (by_path (map (λ e. (e.0, Some e.1)) es)))
 
 -- what is printed of a value is a term, and the term says the value: so `'it''s'`, `-7`, `0x0aff`, `{'a': true}`
 abbrev pub ReadsBack : Type 0

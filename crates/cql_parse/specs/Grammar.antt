@@ -46,7 +46,8 @@ use Rattle.cql_parse.specs.declared.syntax.Operator.{Operator}
 use Rattle.cql_parse.specs.declared.syntax.Operator.TheVariants as operator
 use Rattle.cql_parse.specs.declared.syntax.Statement.{Statement}
 use Rattle.cql_parse.specs.declared.syntax.Statement.TheVariants as statement
-use Rattle.cql_phrases.specs.Phrases.{Behind, If, InParens, IsBlob, IsConstant, IsLiteral, IsName, IsNumber, IsSetting, IsTerm, Maybe, More, Phrase, Some_of, between, close_brace, close_bracket, keyword, nothing, nowhere, one, open_brace, open_bracket, sign, ◌∣◌, ◌▸◌}
+use Rattle.cql_phrases.specs.Phrases.{Behind, If, InParens, IsBlob, IsConstant, IsLiteral, IsName, IsNumber, IsSetting, IsTerm, Maybe, More, Phrase}
+use Rattle.cql_phrases.specs.Phrases.{Some_of, between, close_brace, close_bracket, keyword, nothing, nowhere, one, open_brace, open_bracket, sign, ◌∣◌, ◌▸◌}
 
 -- ---- tables
 

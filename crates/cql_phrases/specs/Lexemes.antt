@@ -1,5 +1,6 @@
 -- What each token is to the grammar, by its kind and its text.
-use Rattle.std.specs.Prelude.{ℕ, ◌&&◌, nat_le, List, [], ◌∷◌, length, slice_range, Option, None, Some, option_map, option_and_then, is_some, IsTrue, IsUtf8, if◌then◌else◌}
+use Rattle.std.specs.Prelude.{ℕ, ◌&&◌, nat_le, List, [], ◌∷◌, length, slice_range, Option, None, Some, option_map, option_and_then}
+use Rattle.std.specs.Prelude.{is_some, IsTrue, IsUtf8, if◌then◌else◌}
 use Rattle.cql_lex.specs.Constants.{name_value, uuid_value, blob_value}
 use Rattle.cql_lex.specs.Numbers.{number_value, ratio_value}
 use Rattle.cql_lex.specs.Quotes.{quoted_text, name_quote, string_quote}
