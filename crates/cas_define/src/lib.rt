@@ -12,8 +12,6 @@ mod parts;
 mod ranges;
 mod schemas;
 mod settings;
-#[cfg(test)]
-mod tests;
 
 pub use addition::Addition;
 pub use alter::bind_alter;

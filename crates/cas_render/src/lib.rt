@@ -6,8 +6,6 @@ mod constants;
 mod pieces;
 mod printing;
 mod reply;
-#[cfg(test)]
-mod tests;
 
 pub use printing::render;
 pub use reply::{Failure, Reply};

@@ -11,3 +11,4 @@ pub mod Pieces
 pub mod Spans
 pub mod Reached
 pub mod Backslash
+pub mod Scans

@@ -1,7 +1,7 @@
 -- Whole numbers and ratios, as texts and as values.
 -- CQL documentation, "Definitions: constants" (integer, float); the width and the hundredths are own.
-use Rattle.std.specs.Prelude.{ℕ, Bool, true, false, ◌==◌, ◌&&◌, ◌+◌, ◌-◌, ◌*◌, ◌^◌, nat_lt, nat_le, List, [], ◌∷◌, ◌++◌, length, take, drop, fold}
-use Rattle.std.specs.Prelude.{Option, None, Some, option_map, option_and_then, is_some, ℤ, pos, neg_ℤ, if◌then◌else◌}
+use Rattle.std.specs.Prelude.{ℕ, Bool, true, false, ◌==◌, ◌&&◌, ◌+◌, ◌-◌, ◌*◌, ◌^◌, nat_lt, nat_le, min, List, [], ◌∷◌, ◌++◌, length, take, drop, fold}
+use Rattle.std.specs.Prelude.{Option, None, Some, option_map, is_some, ℤ, pos, neg_ℤ, if◌then◌else◌}
 use Rattle.std.specs.List.{list_all}
 use Rattle.std.specs.Char.{is_ascii_digit}
 use Rattle.cql_lex.specs.Characters.{first_is, digits_size}
@@ -51,6 +51,11 @@ ratio_digits text =
 abbrev pub is_ratio : List ℕ → Bool
 is_ratio text = is_some (ratio_digits (unsigned text))
 
--- a ratio in whole hundredths, where these fit 128 bits: `-1.5` is -150
+-- the number from -2^127 to 2^127 - 1 that is nearest to this one with its sign
+abbrev pub nearest : Bool → ℕ → ℤ
+nearest true n = neg_ℤ (pos (min n (2 ^ 127)))
+nearest false n = pos (min n (2 ^ 127 - 1))
+
+-- a ratio in whole hundredths: `-1.5` is -150; one that is wider than 128 bits is the nearest that isn't, which is far outside the range of any option
 abbrev pub ratio_value : List ℕ → Option ℤ
-ratio_value text = option_and_then (λ digits. signed (is_negative text) (decimal_value digits)) (ratio_digits (unsigned text))
+ratio_value text = option_map (λ digits. nearest (is_negative text) (decimal_value digits)) (ratio_digits (unsigned text))

@@ -1,7 +1,7 @@
 //! Whole numbers and ratios.
 
 ghost use Rattle.std.specs.Prelude.{◌≡◌, ◌-◌, ◌^◌, ◌++◌, ℕ, List, min};
-ghost use Rattle.cql_lex.specs.Numbers.{is_negative, unsigned, decimal_value, signed, is_digits, number_value, ratio_value, hundredths};
+ghost use Rattle.cql_lex.specs.Numbers.{is_negative, unsigned, decimal_value, signed, is_digits, number_value, nearest, ratio_value, hundredths};
 
 use crate::characters::{all_digits, digits_size};
 
@@ -97,8 +97,26 @@ fn with_hundredths(front: u128, two: [u8; 2]) -> u128
         .saturating_add(u128::from(ones.saturating_sub(b'0')))
 }
 
-/// What a token's text writes with a point and one or two digits after it, in whole hundredths,
-/// where these fit 128 bits: of `-1.5` it is -150. The text is the bytes of the token's span.
+/// The number with its sign, or the nearest to it that fits.
+fn nearest(negative: bool, magnitude: u128) -> i128
+    ensures { (n : ℕ) → magnitude ≡ min n (2 ^ 128 - 1) → result ≡ nearest negative n }
+{
+    if negative {
+        if magnitude < 1 << 127 {
+            -(magnitude as i128)
+        } else {
+            i128::MIN
+        }
+    } else if magnitude < 1 << 127 {
+        magnitude as i128
+    } else {
+        i128::MAX
+    }
+}
+
+/// What a token's text writes with a point and one or two digits after it, in whole hundredths: of
+/// `-1.5` it is -150. One that is wider than 128 bits is the nearest that isn't. The text is the
+/// bytes of the token's span.
 pub fn ratio_of(text: &[u8]) -> Option<i128>
     ensures { result ≡ ratio_value text.now }
 {
@@ -109,7 +127,7 @@ pub fn ratio_of(text: &[u8]) -> Option<i128>
     }
     let (front, after) = digits.split_at(whole);
     match hundredths(after) {
-        Some(two) => signed(is_negative(text), with_hundredths(magnitude(front), two)),
+        Some(two) => Some(nearest(is_negative(text), with_hundredths(magnitude(front), two))),
         None => None,
     }
 }

@@ -11,7 +11,7 @@ use std::alloc::{AllocError, Global};
 fn read_closed(alloc: Global, quote: u8, text: &[u8]) -> Result<Option<Vec<u8>>, AllocError>
     ensures { IfOk result (λ found. option_map (λ v. v.items) found ≡ closed quote text.now) }
 {
-    let mut inner = Vec::new(alloc);
+    let mut inner = Vec::with_capacity(alloc, text.len())?;
     let mut at = 0;
     while at < text.len() {
         if text[at] != quote {

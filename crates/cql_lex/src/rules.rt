@@ -31,6 +31,10 @@ fn begins_uuid(text: &[u8]) -> bool
     if text.len() < 36 {
         return false;
     }
+    // This tells most texts without reading more of them.
+    if text[8] != b'-' {
+        return false;
+    }
     let (front, rest) = text.split_at(36);
     uuid_of(front).is_some() && !begins_word(rest)
 }

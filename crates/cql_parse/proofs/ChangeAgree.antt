@@ -1,13 +1,13 @@
 -- Tables, restrictions, INSERT, UPDATE and DELETE agree with the grammar.
 use Rattle.std.proofs.Common.{◌≡◌, ℕ, ℤ, ◌≤◌, Bool, true, false, cond, List, [], ◌∷◌, length, Option, None, Some, refl, sym, subst, ap, ◌∙◌, inl, inr, arith}
-use Rattle.cql_parse.specs.declared.lexeme.Lexeme.{Lexeme}
-use Rattle.cql_parse.specs.declared.lexeme.Lexeme.TheVariants as lexeme
-use Rattle.cql_parse.specs.declared.keyword.Keyword.{Keyword}
-use Rattle.cql_parse.specs.declared.keyword.Keyword.TheVariants as word
+use Rattle.cql_phrases.specs.declared.lexeme.Lexeme.{Lexeme}
+use Rattle.cql_phrases.specs.declared.lexeme.Lexeme.TheVariants as lexeme
+use Rattle.cql_phrases.specs.declared.keyword.Keyword.{Keyword}
+use Rattle.cql_phrases.specs.declared.keyword.Keyword.TheVariants as word
 use Rattle.cql_lex.specs.declared.token.Mark.TheVariants as mark
-use Rattle.cql_parse.specs.declared.lists.Separator.TheVariants as separator
-use Rattle.cql_parse.specs.declared.term.Constant.{Constant}
-use Rattle.cql_parse.specs.declared.term.Term.TheVariants as term
+use Rattle.cql_phrases.specs.declared.lists.Separator.TheVariants as separator
+use Rattle.cql_phrases.specs.declared.term.Constant.{Constant}
+use Rattle.cql_phrases.specs.declared.term.Term.TheVariants as term
 use Rattle.cql_parse.specs.declared.syntax.TableName.{TableName}
 use Rattle.cql_parse.specs.declared.syntax.Insert.{Insert}
 use Rattle.cql_parse.specs.declared.syntax.Use.{Use}
@@ -22,16 +22,17 @@ use Rattle.cql_parse.specs.declared.syntax.Relation.{Relation}
 use Rattle.cql_parse.specs.declared.syntax.Operator.{Operator}
 use Rattle.cql_parse.specs.declared.syntax.Operator.TheVariants as operator
 use Rattle.cql_lex.specs.declared.token.Mark.{Mark}
-use Rattle.cql_parse.specs.declared.term.Constant.TheVariants as constant
-use Rattle.cql_parse.specs.Symbols.{spelling, is_reserved}
-use Rattle.cql_parse.specs.Inner.Reading.{done, after_word, after_mark, after_open_bracket, after_separator, word_at, mark_at, close_bracket_at, name_at, whole_number_at, list_at, in_parens, list_behind, place}
-use Rattle.cql_parse.specs.Inner.TermReading.{constant_at, opens, literal_at, term_at}
-use Rattle.cql_parse.proofs.Agree.{Agrees, Anything, Shrinks, unstep, step, unchoose, choose, choose_other, phrase_at}
-use Rattle.cql_parse.proofs.Tokens.{word_sound, word_full, other_word, mark_sound, mark_full, other_mark, word_at_sound, word_at_full, mark_at_sound, mark_at_full, open_bracket_sound, open_bracket_full, close_bracket_at_sound, close_bracket_at_full, name_agrees, name_shrinks, number_agrees, no_word, word_no_mark}
-use Rattle.cql_parse.proofs.ClauseAgree.{MayGoOn, AfterList, MayClose, AfterClause, NotWord, Starts, list_agrees, parens_agrees, behind_agrees, starts_word, starts_mark, starts_behind}
-use Rattle.cql_parse.proofs.TermAgree.{constant_agrees, constant_shrinks, literal_agrees, literal_shrinks, literal_is_opened, term_agrees, term_shrinks, either}
+use Rattle.cql_phrases.specs.declared.term.Constant.TheVariants as constant
+use Rattle.cql_phrases.specs.Symbols.{spelling, is_reserved}
+use Rattle.cql_phrases.specs.Inner.Reading.{done, after_word, after_mark, after_open_bracket, after_separator, word_at, mark_at, close_bracket_at, name_at, whole_number_at, list_at, in_parens, list_behind, place}
+use Rattle.cql_phrases.specs.Inner.TermReading.{constant_at, opens, literal_at, term_at}
+use Rattle.cql_phrases.proofs.Agree.{Agrees, Anything, Shrinks, unstep, step, unchoose, choose, choose_other, phrase_at}
+use Rattle.cql_phrases.proofs.Tokens.{word_sound, word_full, other_word, mark_sound, mark_full, other_mark, word_at_sound, word_at_full, mark_at_sound, mark_at_full, open_bracket_sound, open_bracket_full, close_bracket_at_sound, close_bracket_at_full, name_agrees, name_shrinks, number_agrees, no_word, word_no_mark}
+use Rattle.cql_phrases.proofs.ClauseAgree.{MayGoOn, AfterList, MayClose, AfterClause, NotWord, Starts, list_agrees, parens_agrees, behind_agrees, starts_word, starts_mark, starts_behind}
+use Rattle.cql_phrases.proofs.TermAgree.{constant_agrees, constant_shrinks, literal_agrees, literal_shrinks, literal_is_opened, term_agrees, term_shrinks, either}
 use Rattle.cql_parse.specs.Inner.StatementReading.{table_at, use_at, insert_at, operator_at, relation_at, name_comes, entry_assigned, literal_assigned, changed, name_assigned, term_assigned, right_side, assigned_at, assignment_at, update_at, target_at, targets_at, timestamp_at, delete_at}
-use Rattle.cql_parse.specs.Grammar.{Phrase, keyword, sign, open_bracket, close_bracket, Some_of, Behind, InParens, Maybe, Qualified, IsName, IsTable, IsNumber, IsConstant, IsTerm, IsUse, IsOperator, IsRelation, InBrackets, IsInsert, IsAssigned, IsAssignment, IsUpdate, Keyed, IsTarget, Targets, IsDelete}
+use Rattle.cql_phrases.specs.Phrases.{Phrase, keyword, sign, open_bracket, close_bracket, Some_of, Behind, InParens, Maybe, IsName, IsNumber, IsConstant, IsTerm}
+use Rattle.cql_parse.specs.Grammar.{Qualified, IsTable, IsUse, IsOperator, IsRelation, InBrackets, IsInsert, IsAssigned, IsAssignment, IsUpdate, Keyed, IsTarget, Targets, IsDelete}
 
 -- what isn't the mark
 abbrev pub NotMark : Mark → List Lexeme → Type 0

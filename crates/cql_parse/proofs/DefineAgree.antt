@@ -3,12 +3,12 @@ use Rattle.std.proofs.Common.{◌≡◌, ℕ, ◌≤◌, Bool, true, false, cond
 use Rattle.std.specs.Str.{bytes_eq}
 use Rattle.cas_types.specs.declared.tag.TypeTag.{TypeTag}
 use Rattle.cas_types.specs.declared.tag.TypeTag.TheVariants as tag
-use Rattle.cql_parse.specs.declared.lexeme.Lexeme.{Lexeme}
-use Rattle.cql_parse.specs.declared.lexeme.Lexeme.TheVariants as lexeme
-use Rattle.cql_parse.specs.declared.keyword.Keyword.{Keyword}
-use Rattle.cql_parse.specs.declared.keyword.Keyword.TheVariants as word
+use Rattle.cql_phrases.specs.declared.lexeme.Lexeme.{Lexeme}
+use Rattle.cql_phrases.specs.declared.lexeme.Lexeme.TheVariants as lexeme
+use Rattle.cql_phrases.specs.declared.keyword.Keyword.{Keyword}
+use Rattle.cql_phrases.specs.declared.keyword.Keyword.TheVariants as word
 use Rattle.cql_lex.specs.declared.token.Mark.TheVariants as mark
-use Rattle.cql_parse.specs.declared.lists.Separator.TheVariants as separator
+use Rattle.cql_phrases.specs.declared.lists.Separator.TheVariants as separator
 use Rattle.cql_parse.specs.declared.syntax.CreateTable.{CreateTable}
 use Rattle.cql_parse.specs.declared.syntax.AlterTable.{AlterTable}
 use Rattle.cql_parse.specs.declared.syntax.Item.{Item}
@@ -23,16 +23,17 @@ use Rattle.cql_parse.specs.declared.syntax.TableOption.TheVariants as table_opti
 use Rattle.cql_parse.specs.declared.syntax.OptionValue.{OptionValue}
 use Rattle.cql_parse.specs.declared.syntax.OptionValue.TheVariants as option_value
 use Rattle.cql_parse.specs.declared.syntax.Suboption.{Suboption}
-use Rattle.cql_parse.specs.declared.term.Constant.TheVariants as constant
-use Rattle.cql_parse.specs.Symbols.{spelling, is_reserved}
-use Rattle.cql_parse.specs.Inner.Reading.{done, after_word, after_mark, after_separator, word_at, mark_at, close_brace_at, name_at, from_at, list_at, in_parens, list_behind, flag_at, place}
-use Rattle.cql_parse.specs.Inner.TermReading.{truth_of, constant_at, setting_at}
-use Rattle.cql_parse.proofs.Agree.{Agrees, Anything, Shrinks, unstep, step, unchoose, choose, choose_other, phrase_at}
-use Rattle.cql_parse.proofs.Tokens.{word_sound, word_full, other_word, mark_sound, mark_full, other_mark, word_at_sound, word_at_full, mark_at_sound, mark_at_full, close_brace_at_sound, close_brace_at_full, name_agrees, name_shrinks, no_word, no_mark, word_no_mark}
-use Rattle.cql_parse.proofs.ClauseAgree.{MayGoOn, AfterList, MayClose, AfterClause, NotWord, list_agrees, list_shrinks, more_shrinks, from_sound, from_full, parens_agrees, behind_agrees, flag_agrees, starts_word, starts_mark}
-use Rattle.cql_parse.proofs.TermAgree.{constant_agrees, constant_shrinks, setting_agrees, setting_shrinks}
+use Rattle.cql_phrases.specs.declared.term.Constant.TheVariants as constant
+use Rattle.cql_phrases.specs.Symbols.{spelling, is_reserved}
+use Rattle.cql_phrases.specs.Inner.Reading.{done, after_word, after_mark, after_separator, word_at, mark_at, close_brace_at, name_at, from_at, list_at, in_parens, list_behind, flag_at, place}
+use Rattle.cql_phrases.specs.Inner.TermReading.{truth_of, constant_at, setting_at}
+use Rattle.cql_phrases.proofs.Agree.{Agrees, Anything, Shrinks, unstep, step, unchoose, choose, choose_other, phrase_at}
+use Rattle.cql_phrases.proofs.Tokens.{word_sound, word_full, other_word, mark_sound, mark_full, other_mark, word_at_sound, word_at_full, mark_at_sound, mark_at_full, close_brace_at_sound, close_brace_at_full, name_agrees, name_shrinks, no_word, no_mark, word_no_mark}
+use Rattle.cql_phrases.proofs.ClauseAgree.{MayGoOn, AfterList, MayClose, AfterClause, NotWord, list_agrees, list_shrinks, more_shrinks, from_sound, from_full, parens_agrees, behind_agrees, flag_agrees, starts_word, starts_mark}
+use Rattle.cql_phrases.proofs.TermAgree.{constant_agrees, constant_shrinks, setting_agrees, setting_shrinks}
 use Rattle.cql_parse.specs.Inner.StatementReading.{table_at, column_order_at, first_type_of, native_at, one_in_angles, two_in_angles, type_at, key_flag, defined_at, added_at, names_closed, partition_at, key_at, item_at, suboption_at, suboptions_closed, constant_value, option_value_at, named_option_at, after_words, clustering_order_at, option_at, create_at, alter_at}
-use Rattle.cql_parse.specs.Grammar.{Phrase, keyword, sign, close_brace, More, Some_of, Behind, InParens, If, IsName, IsColumnOrder, IsNative, IsType, IsDefined, IsAdded, IsPartition, IsPrimaryKey, IsItem, IsSuboption, IsOptionValue, IsOption, IsCreate, IsAlter}
+use Rattle.cql_phrases.specs.Phrases.{Phrase, keyword, sign, close_brace, More, Some_of, Behind, InParens, If, IsName}
+use Rattle.cql_parse.specs.Grammar.{IsColumnOrder, IsNative, IsType, IsDefined, IsAdded, IsPartition, IsPrimaryKey, IsItem, IsSuboption, IsOptionValue, IsOption, IsCreate, IsAlter}
 use Rattle.cql_parse.proofs.ChangeAgree.{End, table_agrees, not_and, not_comma}
 use Rattle.cql_parse.proofs.SelectAgree.{order_agrees, order_shrinks, order_goes_on, NoDirection}
 

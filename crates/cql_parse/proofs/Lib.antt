@@ -1,13 +1,5 @@
-pub mod Loop
-pub mod Walks
-pub mod Meanings
-pub mod Agree
-pub mod Tokens
-pub mod ClauseAgree
-pub mod Nesting
-pub mod TermAgree
 pub mod ChangeAgree
 pub mod SelectAgree
 pub mod DefineAgree
 pub mod StatementAgree
-pub mod Reserved
+pub mod TableAgree

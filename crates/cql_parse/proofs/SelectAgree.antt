@@ -1,24 +1,25 @@
 -- SELECT agrees with the grammar.
 use Rattle.std.proofs.Common.{◌≡◌, ℕ, Bool, true, false, cond, List, [], ◌∷◌, length, Option, None, Some, refl, sym, subst, ap, ◌∙◌, inl, inr, arith}
 use Rattle.std.specs.Str.{bytes_eq}
-use Rattle.cql_parse.specs.declared.lexeme.Lexeme.{Lexeme}
-use Rattle.cql_parse.specs.declared.keyword.Keyword.{Keyword}
-use Rattle.cql_parse.specs.declared.keyword.Keyword.TheVariants as word
+use Rattle.cql_phrases.specs.declared.lexeme.Lexeme.{Lexeme}
+use Rattle.cql_phrases.specs.declared.keyword.Keyword.{Keyword}
+use Rattle.cql_phrases.specs.declared.keyword.Keyword.TheVariants as word
 use Rattle.cql_lex.specs.declared.token.Mark.TheVariants as mark
-use Rattle.cql_parse.specs.declared.lists.Separator.TheVariants as separator
+use Rattle.cql_phrases.specs.declared.lists.Separator.TheVariants as separator
 use Rattle.cql_parse.specs.declared.syntax.ColumnOrder.{ColumnOrder}
 use Rattle.cql_parse.specs.declared.syntax.Select.{Select}
 use Rattle.cql_parse.specs.declared.syntax.Picks.{Picks}
 use Rattle.cql_parse.specs.declared.syntax.Picks.TheVariants as picks
 use Rattle.cql_parse.specs.declared.syntax.Pick.{Pick}
 use Rattle.cql_parse.specs.declared.syntax.Pick.TheVariants as pick
-use Rattle.cql_parse.specs.Symbols.{spelling}
-use Rattle.cql_parse.specs.Inner.Reading.{done, after_word, after_mark, word_at, mark_at, name_at, list_at, list_behind, number_behind, blob_behind, place}
-use Rattle.cql_parse.proofs.Agree.{Agrees, Shrinks, unstep, step, unchoose, choose, choose_other, phrase_at}
-use Rattle.cql_parse.proofs.Tokens.{word_sound, word_full, other_word, mark_sound, mark_full, other_mark, word_at_sound, word_at_full, mark_at_sound, mark_at_full, name_agrees, name_shrinks, no_mark, word_no_mark}
-use Rattle.cql_parse.proofs.ClauseAgree.{MayGoOn, AfterList, NotWord, Starts, list_agrees, number_behind_agrees, blob_behind_agrees, starts_word, starts_mark, starts_behind, starts_maybe}
+use Rattle.cql_phrases.specs.Symbols.{spelling}
+use Rattle.cql_phrases.specs.Inner.Reading.{done, after_word, after_mark, word_at, mark_at, name_at, list_at, list_behind, number_behind, blob_behind, place}
+use Rattle.cql_phrases.proofs.Agree.{Agrees, Shrinks, unstep, step, unchoose, choose, choose_other, phrase_at}
+use Rattle.cql_phrases.proofs.Tokens.{word_sound, word_full, other_word, mark_sound, mark_full, other_mark, word_at_sound, word_at_full, mark_at_sound, mark_at_full, name_agrees, name_shrinks, no_mark, word_no_mark}
+use Rattle.cql_phrases.proofs.ClauseAgree.{MayGoOn, AfterList, NotWord, Starts, list_agrees, number_behind_agrees, blob_behind_agrees, starts_word, starts_mark, starts_behind, starts_maybe}
 use Rattle.cql_parse.specs.Inner.StatementReading.{table_at, relation_at, column_order_at, after_call, called, pick_at, picks_at, order_at, select_at}
-use Rattle.cql_parse.specs.Grammar.{Phrase, keyword, sign, Some_of, Behind, IsName, IsNumber, IsBlob, IsRelation, Direction, IsColumnOrder, Called, IsPick, IsPicks, IsSelect}
+use Rattle.cql_phrases.specs.Phrases.{Phrase, keyword, sign, Some_of, Behind, IsName, IsNumber, IsBlob}
+use Rattle.cql_parse.specs.Grammar.{IsRelation, Direction, IsColumnOrder, Called, IsPick, IsPicks, IsSelect}
 use Rattle.cql_parse.proofs.ChangeAgree.{NotMark, End, table_agrees, where_agrees, not_and, not_comma}
 
 -- ---- ORDER BY

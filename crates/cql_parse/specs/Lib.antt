@@ -1,5 +1,7 @@
-pub mod Symbols
-pub mod Lexemes
+pub use Rattle.cql_phrases.specs.Symbols
+pub use Rattle.cql_phrases.specs.Lexemes
+pub use Rattle.cql_phrases.specs.Phrases
 pub mod Grammar
 pub mod Means
+pub mod TableNames
 pub mod Inner

@@ -1,24 +1,21 @@
 //! INSERT, UPDATE and DELETE, each after its first word.
 
 ghost use Rattle.std.specs.Prelude.{◌≡◌};
-ghost use Rattle.cql_parse.specs.Inner.Reading.{Gives};
+ghost use Rattle.cql_phrases.specs.Inner.Reading.{Gives};
 ghost use Rattle.cql_parse.specs.Inner.StatementReading.{insert_at, name_comes, entry_assigned, literal_assigned, changed, name_assigned};
 ghost use Rattle.cql_parse.specs.Inner.StatementReading.{term_assigned, right_side, assigned_at, update_at, targets_at, timestamp_at, delete_at};
 
 use crate::clauses::table;
-use crate::fault::ParseFault;
-use crate::front::{
+use crate::syntax::{Assigned, Assignment, Delete, Insert, Relation, Target, Update, Use};
+use cas_types::{List, Text};
+use cql_lex::Mark;
+use cql_phrases::front::{
     after_mark, after_open_bracket, after_word, close_bracket, is_reserved, mark, name, number,
     word,
 };
-use crate::keyword::Keyword;
-use crate::lexeme::Lexeme;
-use crate::lists::{Part, Separator, in_parens, list, list_behind};
-use crate::syntax::{Assigned, Assignment, Delete, Insert, Relation, Target, Update, Use};
-use crate::term::Term;
-use crate::terms::{constant, literal, opens};
-use cas_types::{List, Text};
-use cql_lex::Mark;
+use cql_phrases::lists::{Part, Separator, in_parens, list, list_behind};
+use cql_phrases::terms::{constant, literal, opens};
+use cql_phrases::{Keyword, Lexeme, ParseFault, Term};
 use std::alloc::Global;
 
 /// What follows INSERT.

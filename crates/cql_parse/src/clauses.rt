@@ -1,17 +1,14 @@
 //! Tables, orders and relations: what several statements share.
 
 ghost use Rattle.std.specs.Prelude.{◌≡◌};
-ghost use Rattle.cql_parse.specs.Inner.Reading.{Gives};
+ghost use Rattle.cql_phrases.specs.Inner.Reading.{Gives};
 ghost use Rattle.cql_parse.specs.Inner.StatementReading.{table_at, operator_at, use_at};
 
-use crate::fault::ParseFault;
-use crate::front::{after_mark, after_word, name, number, word};
-use crate::keyword::Keyword;
-use crate::lexeme::Lexeme;
-use crate::lists::Part;
 use crate::syntax::{ColumnOrder, Operator, Relation, TableName, Use};
-use crate::term::Term;
 use cql_lex::Mark;
+use cql_phrases::front::{after_mark, after_word, name, number, word};
+use cql_phrases::lists::Part;
+use cql_phrases::{Keyword, Lexeme, ParseFault, Term};
 use std::alloc::Global;
 
 /// A table, perhaps with its keyspace.

@@ -1,24 +1,22 @@
 //! CREATE TABLE and ALTER TABLE, each after its first word.
 
 ghost use Rattle.std.specs.Prelude.{◌≡◌, [], option_map};
-ghost use Rattle.cql_parse.specs.Inner.Reading.{Gives};
+ghost use Rattle.cql_phrases.specs.Inner.Reading.{Gives};
 ghost use Rattle.cql_parse.specs.Inner.StatementReading.{first_type_of, native_at, one_in_angles, two_in_angles, type_at, key_flag, names_closed};
 ghost use Rattle.cql_parse.specs.Inner.StatementReading.{partition_at, key_at, suboptions_closed, option_value_at, named_option_at, after_words};
 ghost use Rattle.cql_parse.specs.Inner.StatementReading.{clustering_order_at, create_at, alter_at};
 
 use crate::clauses::table;
-use crate::fault::ParseFault;
-use crate::front::{after_mark, after_word, close_brace, flag, mark, name, word};
-use crate::keyword::Keyword;
-use crate::lexeme::Lexeme;
-use crate::lists::{Part, Separator, in_parens, list, list_behind, list_from, only};
 use crate::syntax::{
     AddedColumn, AlterTable, ColumnOrder, ColumnType, CreateTable, DefinedColumn, Item,
     NamedOption, OptionValue, PrimaryKey, Suboption, TableOption,
 };
-use crate::terms::{constant, setting};
 use cas_types::{List, Text, TypeTag};
 use cql_lex::Mark;
+use cql_phrases::front::{after_mark, after_word, close_brace, flag, mark, name, word};
+use cql_phrases::lists::{Part, Separator, in_parens, list, list_behind, list_from, only};
+use cql_phrases::terms::{constant, setting};
+use cql_phrases::{Keyword, Lexeme, ParseFault};
 use std::alloc::Global;
 
 /// The words of the types.

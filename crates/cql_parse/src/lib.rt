@@ -1,23 +1,19 @@
-//! The parser of CQL statements. It stands on the tokens of `cql_lex`, and leaves all that hangs on
-//! a schema to the binder: which names there are, which stand twice, which constants fit.
+//! The parser of CQL statements. It leaves all that hangs on a schema to the binder: which names there
+//! are, which stand twice, which constants fit.
 #![tactic(auto)]
 
 mod changes;
 mod clauses;
 mod define;
-mod fault;
-mod front;
-mod keyword;
-mod lexeme;
-mod lexemes;
-mod lists;
-mod nested;
+pub mod fault;
+pub mod lexeme;
 mod parse;
 mod select;
 mod syntax;
-mod term;
-mod terms;
+mod table_words;
+pub mod term;
 
+pub use cql_phrases::tokens_have_lexemes;
 pub use fault::ParseFault;
 pub use parse::{one_statement, statement};
 pub use syntax::{
@@ -26,4 +22,5 @@ pub use syntax::{
     PrimaryKey, Relation, Select, Statement, Suboption, TableName, TableOption, Target, Update,
     Use,
 };
+pub use table_words::{one_table, table_name};
 pub use term::{Constant, Element, Entry, Literal, Nested, Setting, Term};

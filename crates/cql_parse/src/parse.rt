@@ -1,21 +1,19 @@
 //! A whole statement.
 
 ghost use Rattle.std.specs.Prelude.{◌≡◌, IfOk};
-ghost use Rattle.cql_parse.specs.Inner.Reading.{Gives};
+ghost use Rattle.cql_phrases.specs.Inner.Reading.{Gives};
 ghost use Rattle.cql_parse.specs.Inner.StatementReading.{definition_at, change_at, statement_at, semicolon_at, whole_statement, statement_of};
 ghost use Rattle.cql_parse.specs.Means.{Means, IsAnswer, OneStatement};
 ghost use Rattle.cql_parse.specs.declared.syntax.Statement.{Statement};
 
 use crate::changes::{delete, insert, update};
 use crate::define::{alter, create};
-use crate::fault::ParseFault;
-use crate::front::{after_mark, after_word};
-use crate::keyword::Keyword;
-use crate::lexeme::Lexeme;
-use crate::lexemes::lexemes;
 use crate::select::select;
 use crate::syntax::Statement;
 use cql_lex::{Mark, Token};
+use cql_phrases::front::{after_mark, after_word};
+use cql_phrases::lexemes::lexemes;
+use cql_phrases::{Keyword, Lexeme, ParseFault};
 use std::alloc::Global;
 
 #[tactic(auto, unfolding(crate::specs::Inner::StatementReading::definition_at))]

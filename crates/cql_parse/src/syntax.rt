@@ -1,7 +1,7 @@
 //! What a statement says, in CQL's words. Names are lower-cased unless they were quoted.
 
-use crate::term::{Constant, Literal, Setting, Term};
 use cas_types::{Bytes, List, Text, TypeTag};
+use cql_phrases::{Constant, Literal, Setting, Term};
 
 /// A statement.
 #[derive(Drop)]

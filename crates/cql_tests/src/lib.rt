@@ -1,6 +1,6 @@
-//! Tests of the lexer and the parser that no script shows: which tokens a line has, what texts mean,
-//! brackets at great depth, and tokens of another source. They stand apart since a crate with tests
-//! is proved twice.
+//! Tests that no script shows: which tokens a line has, what texts mean, brackets at great depth, tokens
+//! of another source, the options of tables, and bytes that are no value. They stand apart since a
+//! crate with tests is proved twice.
 #![tactic(auto)]
 
 #[cfg(test)]

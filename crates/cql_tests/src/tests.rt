@@ -1,3 +1,6 @@
+mod options;
+mod printing;
+
 use cql_lex::{
     LexFault, blob_of, name_of, number_of, one_reading, quoted_name_of, quotes_round_trip,
     ratio_of, string_of, tokens, uuid_of, well_placed,
@@ -252,7 +255,7 @@ fn numbers_have_their_values(rt: HostRuntime) {
     for (text, wanted) in numbers {
         assert!(rt; number_of(text) == wanted, "{text:?}");
     }
-    let ratios: [(&[u8], Option<i128>); 14] = [
+    let ratios: [(&[u8], Option<i128>); 15] = [
         (b"1.5", Some(150)),
         (b"-1.05", Some(-105)),
         (b"-0.5", Some(-50)),
@@ -260,9 +263,13 @@ fn numbers_have_their_values(rt: HostRuntime) {
         (b"100.00", Some(10_000)),
         (b"00.10", Some(10)),
         (b"1701411834604692317316873037158841057.27", Some(i128::MAX)),
-        (b"1701411834604692317316873037158841057.28", None),
+        (b"1701411834604692317316873037158841057.28", Some(i128::MAX)),
         (
             b"-1701411834604692317316873037158841057.28",
+            Some(i128::MIN),
+        ),
+        (
+            b"-17014118346046923173168730371588410572.8",
             Some(i128::MIN),
         ),
         (b"1.", None),

@@ -1,14 +1,14 @@
 -- Reading statements and their clauses.
-use Rattle.std.specs.Prelude.{ℕ, ℤ, Bool, true, false, not, List, [], ◌∷◌, Option, None, Some, option_and_then, if◌then◌else◌}
+use Rattle.std.specs.Prelude.{ℕ, ℤ, Bool, true, false, not, List, [], ◌∷◌, length, Option, None, Some, option_and_then, if◌then◌else◌}
 use Rattle.cas_types.specs.declared.tag.TypeTag.{TypeTag}
 use Rattle.cas_types.specs.declared.tag.TypeTag.TheVariants as tag
-use Rattle.cql_parse.specs.declared.lexeme.Lexeme.{Lexeme}
-use Rattle.cql_parse.specs.declared.lexeme.Lexeme.TheVariants as lexeme
-use Rattle.cql_parse.specs.declared.keyword.Keyword.{Keyword}
-use Rattle.cql_parse.specs.declared.keyword.Keyword.TheVariants as word
+use Rattle.cql_phrases.specs.declared.lexeme.Lexeme.{Lexeme}
+use Rattle.cql_phrases.specs.declared.lexeme.Lexeme.TheVariants as lexeme
+use Rattle.cql_phrases.specs.declared.keyword.Keyword.{Keyword}
+use Rattle.cql_phrases.specs.declared.keyword.Keyword.TheVariants as word
 use Rattle.cql_lex.specs.declared.token.Mark.TheVariants as mark
-use Rattle.cql_parse.specs.declared.lists.Separator.TheVariants as separator
-use Rattle.cql_parse.specs.declared.term.Term.TheVariants as term
+use Rattle.cql_phrases.specs.declared.lists.Separator.TheVariants as separator
+use Rattle.cql_phrases.specs.declared.term.Term.TheVariants as term
 use Rattle.cql_parse.specs.declared.syntax.TableName.{TableName}
 use Rattle.cql_parse.specs.declared.syntax.CreateTable.{CreateTable}
 use Rattle.cql_parse.specs.declared.syntax.AlterTable.{AlterTable}
@@ -45,12 +45,13 @@ use Rattle.cql_parse.specs.declared.syntax.Operator.TheVariants as operator
 use Rattle.cql_parse.specs.declared.syntax.Statement.{Statement}
 use Rattle.cql_parse.specs.declared.syntax.Statement.TheVariants as statement
 use Rattle.cql_lex.specs.declared.token.Token.{Token}
-use Rattle.cql_parse.specs.Lexemes.{lexemes_of}
-use Rattle.cql_parse.specs.Symbols.{is_reserved}
-use Rattle.cql_parse.specs.Inner.Reading.{Reader, done, and_then, ◌>>=◌, chosen, after_word, after_mark, after_open_bracket, word_at, mark_at}
-use Rattle.cql_parse.specs.Inner.Reading.{close_brace_at, close_bracket_at, name_at, whole_number_at, from_at, list_at, in_parens, list_behind}
-use Rattle.cql_parse.specs.Inner.Reading.{number_behind, blob_behind, flag_at}
-use Rattle.cql_parse.specs.Inner.TermReading.{constant_at, opens, literal_at, term_at, setting_at}
+use Rattle.cql_phrases.specs.Lexemes.{lexemes_of}
+use Rattle.cql_parse.specs.TableNames.{are_joined}
+use Rattle.cql_phrases.specs.Symbols.{is_reserved}
+use Rattle.cql_phrases.specs.Inner.Reading.{Reader, done, and_then, ◌>>=◌, chosen, after_word, after_mark, after_open_bracket, word_at, mark_at}
+use Rattle.cql_phrases.specs.Inner.Reading.{close_brace_at, close_bracket_at, name_at, whole_number_at, from_at, list_at, in_parens, list_behind}
+use Rattle.cql_phrases.specs.Inner.Reading.{number_behind, blob_behind, flag_at}
+use Rattle.cql_phrases.specs.Inner.TermReading.{constant_at, opens, literal_at, term_at, setting_at}
 
 unfoldable pub table_at : Reader TableName
 table_at = do
@@ -417,10 +418,10 @@ unfoldable pub semicolon_at : Reader (Unit {0})
 semicolon_at l = chosen (after_mark mark.Semicolon l) (done tt) (Some (tt, l))
 
 -- with no lexeme left
-abbrev pub ended : Option (Statement × List Lexeme) → Option Statement
+abbrev pub ended : {A : Type 0} → Option (A × List Lexeme) → Option A
 ended None = None
-ended (Some (s, [])) = Some s
-ended (Some (s, x ∷ l)) = None
+ended (Some (a, [])) = Some a
+ended (Some (a, x ∷ l)) = None
 
 unfoldable pub whole_statement : List Lexeme → Option Statement
 whole_statement l = ended (and_then (statement_at l) (λ s. do
@@ -430,3 +431,12 @@ whole_statement l = ended (and_then (statement_at l) (λ s. do
 -- the statement that the tokens of a source spell, by reading
 unfoldable pub statement_of : List ℕ → List Token → Option Statement
 statement_of source tokens = option_and_then whole_statement (lexemes_of source tokens)
+
+-- ---- the name of a table, alone
+
+unfoldable pub table_alone : List Lexeme → Option TableName
+table_alone l = ended (table_at l)
+
+-- the table whose name these tokens of a word are, by reading
+unfoldable pub table_of : List ℕ → List Token → Option TableName
+table_of source tokens = if are_joined 0 tokens (length source) then option_and_then table_alone (lexemes_of source tokens) else None

@@ -1,6 +1,6 @@
 use Rattle.std.proofs.Common.{◌∙◌, ap, ◌++◌}
 use Rattle.std.specs.Option.{option_to_list}
-use Rattle.cas_define.proofs.Steps.{filter_map_step}
+use Rattle.cas_effects.proofs.Steps.{filter_map_step}
 use Rattle.cas_define.proofs.create.option_names.Goals as goal
 
 pub loop-option-preserved : goal.loop-option-preserved

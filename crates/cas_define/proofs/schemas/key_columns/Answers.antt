@@ -1,6 +1,6 @@
 use Rattle.std.proofs.Common.{◌∙◌, ap, ◌++◌}
 use Rattle.std.specs.Option.{option_to_list}
-use Rattle.cas_define.proofs.Steps.{filter_map_step}
+use Rattle.cas_effects.proofs.Steps.{filter_map_step}
 use Rattle.cas_define.proofs.schemas.key_columns.Goals as goal
 
 pub loop-name-preserved : goal.loop-name-preserved

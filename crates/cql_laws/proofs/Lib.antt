@@ -1,0 +1,6 @@
+mod Scans
+mod Fronts
+mod Printed
+mod Values
+mod Collections
+mod ReadBack

@@ -1,0 +1,10 @@
+pub mod Loop
+pub mod Walks
+pub mod Meanings
+pub mod Agree
+pub mod Tokens
+pub mod ClauseAgree
+pub mod Nesting
+pub mod TermAgree
+pub mod Reserved
+pub mod LineLexemes

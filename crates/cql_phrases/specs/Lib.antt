@@ -1,0 +1,4 @@
+pub mod Symbols
+pub mod Lexemes
+pub mod Phrases
+pub mod Inner
