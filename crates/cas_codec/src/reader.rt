@@ -241,6 +241,30 @@ impl<'a> Reader<'a> {
         Ok(Reader { left: front, at })
     }
 
+    /// A reader of the bytes that follow their number of four bytes; this one goes on after them.
+    #[tactic(auto, unfolding(crate::specs::Reading::bytes32_at, crate::specs::Reading::u32_at, crate::specs::Reading::unsigned_at, crate::specs::Reading::bytes_at))]
+    pub fn part32(&mut self) -> Result<Reader<'a>, ReadFault>
+        ensures exact { Gives (λ part. part.bytes) result self.new (bytes32_at self.old) }
+        ensures at { IfOk result (λ part. part.at ≡ self.old.at + 4) }
+        ensures unchanged { OnErr result (self.new ≡ self.old) }
+    {
+        let (left, at) = (self.left, self.at);
+        let count = self.take_u32()? as usize;
+        if self.left.len() < count {
+            self.left = left;
+            self.at = at;
+            return Err(ReadFault::Short { at });
+        }
+        let (front, rest) = self.left.split_at(count);
+        let begins = self.at;
+        self.left = rest;
+        self.at = begins + count as u64;
+        Ok(Reader {
+            left: front,
+            at: begins,
+        })
+    }
+
     /// A byte.
     pub fn u8(&mut self) -> Result<u8, ReadFault>
         ensures field { Reads (λ n. n) (λ n. n < 2 ^ 8) u8 result self.old self.new }
