@@ -6,5 +6,6 @@ pub mod PartitionKeys
 pub mod Picks
 pub mod Answers
 pub mod LogLength
+pub mod Fits
 pub mod Laws
 pub mod Inner

@@ -28,3 +28,19 @@ pub const LEAST_TIMESTAMP: i64 = -(i64::MAX - 2);
 
 /// The greatest timestamp that USING TIMESTAMP takes.
 pub const GREATEST_TIMESTAMP: i64 = i64::MAX - 1;
+
+/// The least timestamp of anything written or deleted, one less than USING TIMESTAMP takes: what
+/// `c = {..}` deletes of a collection, it deletes just before its own timestamp.
+pub const LEAST_RECORDED: i64 = -(i64::MAX - 1);
+
+/// The greatest timestamp that is drawn for a statement without USING TIMESTAMP.
+pub const LAST_DRAWN: i64 = 1 << 62;
+
+/// The greatest number of a mutation in its shard.
+pub const MUTATION_LIMIT: u64 = 1 << 60;
+
+/// The most rows that LIMIT takes.
+pub const ROW_LIMIT: u32 = (1 << 31) - 1;
+
+/// The bytes of a path of a list: two numbers of eight bytes.
+pub const LIST_PATH: u64 = 16;
