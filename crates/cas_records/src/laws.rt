@@ -11,15 +11,16 @@ ghost use Rattle.cas_cell.specs.declared.cell.Cell.{Cell};
 ghost use Rattle.cas_codec.specs.Exact.{IsExact};
 ghost use Rattle.cas_atoms.specs.LogLength.{deletion_length, live_length, cell_length, values_length, cut_length};
 ghost use Rattle.cas_records.specs.Spelling.{deletion_bytes, live_bytes, cell_bytes, clustering_bytes, cut_bytes};
-ghost use Rattle.cas_records.specs.Allowed.{is_cell_value, FitsDeletion, FitsLive, FitsCell, FitsClustering, FitsCut};
-ghost use Rattle.cas_records.specs.Reading.{deletion_at, live_at, cell_at, clustering_at, cut_at};
+ghost use Rattle.cas_atoms.specs.Fits.{FitsDeletion, FitsLive, FitsClustering, FitsCut};
+ghost use Rattle.cas_records.specs.Allowed.{FitsCellOf};
+ghost use Rattle.cas_records.specs.Reading.{deletion_at, live_at, may_hold, cell_at, clustering_at, cut_at};
 
 /// Deletions, what an `INSERT` leaves of a row, and the cells of each column are read where their
 /// spelling stands and nowhere else, whatever follows it, and are as long as the log counts them.
 pub fn cells_are_exact()
     ensures deletion { IsExact FitsDeletion deletion_bytes deletion_at }
     ensures live { IsExact FitsLive live_bytes live_at }
-    ensures cell { (column : Column) → IsExact (FitsCell (is_cell_value column)) cell_bytes (cell_at (is_cell_value column)) }
+    ensures cell { (column : Column) → IsExact (FitsCellOf column) cell_bytes (cell_at (may_hold column)) }
     ensures deletion_length { (d : Deletion) → length (deletion_bytes d) ≡ deletion_length }
     ensures live_length { (l : Liveness) → length (live_bytes l) ≡ live_length l }
     ensures cell_length { (c : Cell) → length (cell_bytes c) ≡ cell_length c }

@@ -15,4 +15,3 @@ pub use cells::{put_cell, read_cell};
 pub use deletions::{put_deletion, read_deletion};
 pub use laws::{bounds_are_exact, cells_are_exact};
 pub use lives::{put_live, read_live};
-pub use times::LEAST_RECORDED;
