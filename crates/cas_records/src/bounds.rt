@@ -113,8 +113,8 @@ fn short_len(bytes: &[u8]) -> usize
     bytes.len().saturating_add(2)
 }
 
-// The length of the values, with their number and the length of each.
-fn values_len(values: &[Bytes]) -> usize
+/// The length in bytes of the place of a row, or of a cut's prefix; 2^64-1 where it is greater.
+pub fn values_len(values: &[Bytes]) -> usize
     ensures { result ≡ min (values_length values.now) (2 ^ 64 - 1) }
 {
     let mut total: usize = 1;
