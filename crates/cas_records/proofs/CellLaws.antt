@@ -2,13 +2,13 @@
 use Rattle.std.proofs.Common.{◌≡◌, ℕ, ℤ, zero, suc, ◌<◌, ◌≤◌, leb, ◌+◌, ◌^◌, Bool, true, false, List, [], ◌++◌, length, Ok, refl, sym, ap, ◌∙◌, arith}
 use Rattle.std.specs.Prelude.{FitsSigned}
 use Rattle.std.specs.Int.{w64, is_in_range}
-use Rattle.std.proofs.lemmas.Bool.{leb-true, and_parts}
+use Rattle.std.proofs.lemmas.Bool.{leb-true, le-leb, and_parts, and_from}
 use Rattle.std.proofs.lemmas.List.{length-append, append-nil}
-use Rattle.cas_codec.specs.Reading.{◌>>=◌, checked, u8_at, u32_at, i64_at, flag_at, bytes32_at}
-use Rattle.cas_codec.specs.Fields.{u8, u32, u64, i64, flag, bytes32}
+use Rattle.cas_codec.specs.Reading.{◌>>=◌, checked, u8_at, u32_at, i64_at, flag_at, bytes16_at, bytes32_at}
+use Rattle.cas_codec.specs.Fields.{u8, u32, u64, i64, flag, bytes16, bytes32}
 use Rattle.cas_codec.specs.Exact.{IsExact}
-use Rattle.cas_codec.proofs.Exactness.{exact_then, exact_done, exact_checked, exact_map}
-use Rattle.cas_codec.proofs.FieldLaws.{u8_field, u32_field, i64_field, flag_field, bytes32_field}
+use Rattle.cas_codec.proofs.Exactness.{exact_then, exact_done, exact_checked, exact_map, exact_as}
+use Rattle.cas_codec.proofs.FieldLaws.{u8_field, u32_field, i64_field, flag_field, bytes16_field, bytes32_field}
 use Rattle.cas_cell.specs.declared.deletion.Deletion.{Deletion}
 use Rattle.cas_cell.specs.declared.liveness.Liveness.{Liveness}
 use Rattle.cas_cell.specs.declared.liveness.Liveness.TheVariants as live
@@ -16,10 +16,11 @@ use Rattle.cas_cell.specs.declared.cell.Cell.{Cell}
 use Rattle.cas_cell.specs.declared.cell.Cell.TheVariants as cell
 use Rattle.cas_cell.specs.Cells.{cell_rank}
 use Rattle.cas_atoms.specs.LogLength.{deletion_length, live_length, cell_length}
-use Rattle.cas_atoms.specs.Fits.{is_timestamp, is_ttl, FitsTimestamp, FitsTtl, FitsDeletion, FitsLive, FitsCell}
+use Rattle.cas_atoms.specs.Fits.{is_timestamp, is_ttl, FitsTimestamp, FitsTtl, FitsDeletion, FitsLive, FitsCell, FitsKey}
+use Rattle.cas_types.specs.declared.limits.TheConstants.{KEY_LIMIT}
 use Rattle.cas_records.specs.Allowed.{FitsContent}
 use Rattle.cas_records.specs.Spelling.{deletion_bytes, live_bytes, cell_bytes}
-use Rattle.cas_records.specs.Reading.{timestamp_at, ttl_at, deletion_at, live_rest_at, live_at, content_at, cell_rest_at, cell_at}
+use Rattle.cas_records.specs.Reading.{timestamp_at, ttl_at, key_at, deletion_at, live_rest_at, live_at, content_at, cell_rest_at, cell_at}
 
 true_false : true ≡ false → ⊥
 true_false e = cc
@@ -35,6 +36,23 @@ ttl_exact = exact_checked (λ n. n < 2 ^ 32) u32 u32_at is_ttl u32_field.exact
 content_exact : (allows : List ℕ → Bool) → IsExact (FitsContent allows) bytes32 (content_at allows)
 unfolding content_at checked
 content_exact allows = exact_checked (λ b. length b < 2 ^ 32) bytes32 bytes32_at allows bytes32_field.exact
+
+key_within : (n : ℕ) → is_in_range 1 KEY_LIMIT n ≡ true → (1 ≤ n) × (n ≤ KEY_LIMIT)
+key_within n e =
+    let p = and_parts (leb 1 n) (leb n KEY_LIMIT) e in
+    (leb-true 1 n p.0, leb-true n KEY_LIMIT p.1)
+
+within_key : (n : ℕ) → 1 ≤ n → n ≤ KEY_LIMIT → is_in_range 1 KEY_LIMIT n ≡ true
+within_key n least most = and_from (leb 1 n) (leb n KEY_LIMIT) (le-leb 1 n least) (le-leb n KEY_LIMIT most)
+
+pub key_exact : IsExact FitsKey bytes16 key_at
+unfolding key_at
+key_exact =
+    exact_as (λ b. (length b < 2 ^ 16) × (is_in_range 1 KEY_LIMIT (length b) ≡ true)) FitsKey bytes16 bytes16 _ key_at
+    (exact_checked (λ b. length b < 2 ^ 16) bytes16 bytes16_at (λ b. is_in_range 1 KEY_LIMIT (length b)) bytes16_field.exact)
+    (λ b fit. key_within (length b) fit.1)
+    (λ b fit. let most : length b ≤ KEY_LIMIT = fit.1 in (omega arith, within_key (length b) fit.0 most))
+    (λ b. refl) (λ left. refl)
 
 -- ---- deletions
 

@@ -16,7 +16,7 @@ use Rattle.cas_cell.specs.declared.liveness.Liveness.{Liveness}
 use Rattle.cas_cell.specs.declared.liveness.Liveness.TheVariants as live
 use Rattle.cas_cell.specs.declared.cell.Cell.{Cell}
 use Rattle.cas_cell.specs.declared.cell.Cell.TheVariants as cell
-use Rattle.cas_types.specs.declared.limits.TheConstants.{LEAST_RECORDED, GREATEST_TIMESTAMP, TTL_LIMIT}
+use Rattle.cas_types.specs.declared.limits.TheConstants.{LEAST_RECORDED, GREATEST_TIMESTAMP, TTL_LIMIT, KEY_LIMIT}
 
 -- a timestamp
 unfoldable pub timestamp_at : Left → Read ℤ
@@ -25,6 +25,10 @@ timestamp_at left = checked (is_within LEAST_RECORDED GREATEST_TIMESTAMP) i64_at
 -- a TTL
 unfoldable pub ttl_at : Left → Read ℕ
 ttl_at left = checked (is_in_range 1 TTL_LIMIT) u32_at left
+
+-- a partition key: from 1 to 65,535 bytes, with their number in two
+unfoldable pub key_at : Left → Read (List ℕ)
+key_at left = checked (λ b. is_in_range 1 KEY_LIMIT (length b)) bytes16_at left
 
 -- a deletion
 unfoldable pub deletion_at : Left → Read Deletion

@@ -88,7 +88,8 @@ pub fn read_cut(
     reader: &mut Reader<'_>,
     order: &List<Ordered>,
 ) -> Result<Cut, ReadFault>
-    ensures { Gives (λ c. c) result reader.new (cut_at order.now reader.old) }
+    ensures exact { Gives (λ c. c) result reader.new (cut_at order.now reader.old) }
+    ensures order { IfOk result (λ c. c.order ≡ order.now) }
 {
     let after = reader.flag()?;
     let count = read_count(reader, 0, order.len())?;

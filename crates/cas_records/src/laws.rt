@@ -11,17 +11,19 @@ ghost use Rattle.cas_cell.specs.declared.cell.Cell.{Cell};
 ghost use Rattle.cas_codec.specs.Exact.{IsExact};
 ghost use Rattle.cas_atoms.specs.LogLength.{deletion_length, live_length, cell_length, values_length, cut_length};
 ghost use Rattle.cas_records.specs.Spelling.{deletion_bytes, live_bytes, cell_bytes, clustering_bytes, cut_bytes};
-ghost use Rattle.cas_atoms.specs.Fits.{FitsDeletion, FitsLive, FitsClustering, FitsCut};
-ghost use Rattle.cas_codec.specs.Fields.{u16, bytes16};
+ghost use Rattle.cas_atoms.specs.Fits.{FitsTimestamp, FitsKey, FitsDeletion, FitsLive, FitsClustering, FitsCut};
+ghost use Rattle.cas_codec.specs.Fields.{u16, i64, bytes16};
 ghost use Rattle.cas_atoms.specs.Fits.{FitsPath};
 ghost use Rattle.cas_records.specs.declared.columns.Wanted.{Wanted};
 ghost use Rattle.cas_records.specs.Columns.{column_at, path_at};
 ghost use Rattle.cas_records.specs.Allowed.{FitsCellOf, IsNamed};
-ghost use Rattle.cas_records.specs.Reading.{deletion_at, live_at, may_hold, cell_at, clustering_at, cut_at};
+ghost use Rattle.cas_records.specs.Reading.{timestamp_at, key_at, deletion_at, live_at, may_hold, cell_at, clustering_at, cut_at};
 
-/// Deletions, what an `INSERT` leaves of a row, and the cells of each column are read where their
+/// Timestamps, partition keys, deletions, what an `INSERT` leaves of a row, and the cells of each column are read where their
 /// spelling stands and nowhere else, whatever follows it, and are as long as the log counts them.
 pub fn cells_are_exact()
+    ensures timestamp { IsExact FitsTimestamp i64 timestamp_at }
+    ensures key { IsExact FitsKey bytes16 key_at }
     ensures deletion { IsExact FitsDeletion deletion_bytes deletion_at }
     ensures live { IsExact FitsLive live_bytes live_at }
     ensures cell { (column : Column) → IsExact (FitsCellOf column) cell_bytes (cell_at (may_hold column)) }

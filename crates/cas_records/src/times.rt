@@ -6,8 +6,9 @@ ghost use Rattle.cas_records.specs.Reading.{timestamp_at, ttl_at};
 use cas_codec::{ReadFault, Reader};
 use cas_types::{GREATEST_TIMESTAMP, LEAST_RECORDED, TTL_LIMIT};
 
+/// Reads a timestamp.
 #[tactic(auto, unfolding(crate::specs::Reading::timestamp_at))]
-pub(crate) fn read_timestamp(reader: &mut Reader<'_>) -> Result<i64, ReadFault>
+pub fn read_timestamp(reader: &mut Reader<'_>) -> Result<i64, ReadFault>
     ensures { Gives (λ at. at) result reader.new (timestamp_at reader.old) }
 {
     reader.i64_within(LEAST_RECORDED, GREATEST_TIMESTAMP)
