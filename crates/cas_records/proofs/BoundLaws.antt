@@ -116,7 +116,7 @@ values_exact (o ∷ os) =
     (λ vs fit. head_of o os vs fit)
     (λ v vs fit is. head_spelled v vs is)
 
-values_count : (order : List Ordered) (vs : List (List ℕ)) → FitsValues order vs → length vs ≡ length order
+pub values_count : (order : List Ordered) (vs : List (List ℕ)) → FitsValues order vs → length vs ≡ length order
 values_count [] [] fit = refl
 values_count [] (v ∷ vs) fit = absurd fit
 values_count (o ∷ os) [] fit = absurd fit
