@@ -54,13 +54,13 @@ short_values [] (v ∷ vs) fit = absurd fit
 short_values (o ∷ os) [] fit = absurd fit
 short_values (o ∷ os) (v ∷ vs) fit = (fit.0.0, short_values os vs fit.1)
 
-clustering_short : (order : List Ordered) (c : Clustering) → FitsClustering order c → AreShort c.values
+pub clustering_short : (order : List Ordered) (c : Clustering) → FitsClustering order c → AreShort c.values
 clustering_short order c fit =
     let count : length c.values ≡ length order = values_count order c.values fit.1 in
     let few : length order < 2 ^ 8 = fit.2 in
     (omega arith, short_values order c.values fit.1)
 
-cut_short : (order : List Ordered) (c : Cut) → FitsCut order c → AreShort c.prefix
+pub cut_short : (order : List Ordered) (c : Cut) → FitsCut order c → AreShort c.prefix
 cut_short order c fit = (fit.3, short_values (take (length c.prefix) order) c.prefix fit.1)
 
 -- ---- columns and cells

@@ -1,1 +1,2 @@
 pub mod AtomLaws
+pub mod RecordLaws

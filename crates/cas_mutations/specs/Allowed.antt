@@ -1,7 +1,7 @@
 -- Which atoms and mutations have a spelling: lengths and numbers are those that their fields can tell.
 -- Own format.
 use Rattle.std.specs.Prelude.{◌≡◌, ◌^◌, ◌<◌, ◌≤◌, ℕ, List, length, slice_get, Some}
-use Rattle.std.specs.List.{All, AllByRecursion}
+use Rattle.std.specs.List.{AllByRecursion}
 use Rattle.cas_types.specs.declared.schema.Column.{Column}
 use Rattle.cas_types.specs.declared.schema.TableSchema.{TableSchema}
 use Rattle.cas_types.specs.Limits.{IsNarrow}
@@ -36,13 +36,13 @@ FitsAtom columns a = Fits columns a × HasSpelling a
 pub record HasRecord (m : Mutation) : Type 0 where
   pub key : length m.key < 2 ^ 16
   pub count : length m.atoms < 2 ^ 32
-  pub atoms : All HasSpelling m.atoms
+  pub atoms : AllByRecursion HasSpelling m.atoms
   pub whole : length (mutation_bytes m) < 2 ^ 32
 
 -- tables whose numbers and columns' numbers have room in their fields
 pub record AreTables (tables : List TableSchema) : Type 0 where
   pub few : length tables ≤ 2 ^ 16
-  pub narrow : All (λ table. IsNarrow table.columns) tables
+  pub narrow : AllByRecursion (λ table. IsNarrow table.columns) tables
 
 -- a mutation that a record may hold, in a store of these tables with so many shards
 pub record FitsRecord (tables : List TableSchema) (shards : ℕ) (m : Mutation) : Type 0 where

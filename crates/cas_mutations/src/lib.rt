@@ -5,9 +5,11 @@
 mod atoms;
 mod laws;
 mod mutations;
+mod records;
 mod writing;
 
 pub use atoms::read_atom;
-pub use laws::atoms_are_exact;
+pub use laws::{atoms_are_exact, records_are_exact};
 pub use mutations::read_record;
+pub use records::put_record;
 pub use writing::put_atom;
