@@ -2,6 +2,8 @@
 //! crash leaves it whole or not at all.
 #![tactic(auto)]
 
+mod first;
 mod gated;
 
+pub use first::First;
 pub use gated::write_gated;
