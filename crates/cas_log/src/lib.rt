@@ -5,6 +5,8 @@
 mod blocks;
 mod fault;
 mod log;
+#[cfg(test)]
+mod tests;
 mod writing;
 
 pub use fault::LogFault;
