@@ -16,6 +16,7 @@ pub fn infos_are_exact()
 
 /// Two files that overlap may both hold some key, and files that may both hold a key overlap.
 pub fn overlap_is_a_key()
-    ensures shared { (a b : TableInfo) → reaches a.first a.last ≡ true → reaches b.first b.last ≡ true → overlaps a b ≡ true → (key : List ℕ) × MayHold a key × MayHold b key }
+    ensures shared { (a b : TableInfo) → reaches a.first a.last ≡ true → reaches b.first b.last ≡ true → overlaps a b ≡ true
+        → (key : List ℕ) × MayHold a key × MayHold b key }
     ensures found { (a b : TableInfo) (key : List ℕ) → MayHold a key → MayHold b key → overlaps a b ≡ true }
 {}

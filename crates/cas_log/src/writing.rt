@@ -1,6 +1,7 @@
 //! Writes a segment: mutations are pushed, and committed together.
 
-ghost use Rattle.std.specs.Prelude.{◌≡◌, ◌≢◌, ◌+◌, ◌*◌, ◌≤◌, ◌<◌, ◌^◌, ℕ, List, [], ◌∷◌, ◌++◌, length, drop, OnOk, vec_len, None, Err, MatchResult, IfOk, nat_le};
+ghost use Rattle.std.specs.Prelude.{◌≡◌, ◌≢◌, ◌+◌, ◌*◌, ◌≤◌, ◌<◌, ◌^◌, ℕ, List, [], ◌∷◌, ◌++◌, length, drop};
+ghost use Rattle.std.specs.Prelude.{OnOk, vec_len, None, Err, MatchResult, IfOk, nat_le};
 ghost use Rattle.std.specs.Vec.{vec_capacity};
 ghost use Rattle.cas_disk.specs.Disk.{Image, During, Changed, MayBeAnything};
 ghost use Rattle.cas_atoms.specs.declared.atom.Mutation.{Mutation as MutationOf};
@@ -126,9 +127,11 @@ impl Log {
     ) -> Result<(), LogFault>
         ensures committed { (committed pushed : List MutationOf) → Stands (place_of self.old) (F.disk folder.old) committed → HasPushed self.old pushed
             → OnOk result (Stands (place_of self.new) (F.disk folder.new) (committed ++ pushed)) }
-        ensures pushed { (pushed : List MutationOf) → HasPushed self.old pushed → MatchResult result (λ _. HasPushed self.new []) (λ _. HasPushed self.new pushed) }
+        ensures pushed { (pushed : List MutationOf) → HasPushed self.old pushed
+            → MatchResult result (λ _. HasPushed self.new []) (λ _. HasPushed self.new pushed) }
         ensures during { (committed pushed : List MutationOf) → Stands (place_of self.old) (F.disk folder.old) committed → HasPushed self.old pushed
-            → During (Changed (Name.Log ((place_of self.old).number)) (λ _ file. MayHave ((place_of self.old).number) committed pushed file)) (F.disk folder.old) (F.disk folder.new) }
+            → During (Changed (Name.Log ((place_of self.old).number)) (λ _ file. MayHave ((place_of self.old).number) committed pushed file))
+            (F.disk folder.old) (F.disk folder.new) }
         ensures others { During (Changed (Name.Log ((place_of self.old).number)) MayBeAnything) (F.disk folder.old) (F.disk folder.new) }
         ensures number { (place_of self.new).number ≡ (place_of self.old).number }
         ensures size { (place_of self.new).size ≡ (place_of self.old).size }

@@ -25,7 +25,8 @@ pub fn atoms_are_exact()
 /// else, whatever follows it, and are as long as the log counts them; each mutation has a record
 /// that is as long as its length can tell.
 pub fn records_are_exact()
-    ensures exact { (tables : List TableSchema) (shards : ℕ) → AreTables tables → IsShardCount shards → IsExact (FitsRecord tables shards) record_bytes (record_at tables shards) }
+    ensures exact { (tables : List TableSchema) (shards : ℕ) → AreTables tables → IsShardCount shards
+        → IsExact (FitsRecord tables shards) record_bytes (record_at tables shards) }
     ensures length { (m : Mutation) → length (record_bytes m) ≡ record_length m }
     ensures recorded { (table : TableSchema) (shards : ℕ) (m : Mutation) → FitsMutation table shards m → record_length m < 2 ^ 32 → HasRecord m }
 {}
