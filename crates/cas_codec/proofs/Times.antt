@@ -1,9 +1,10 @@
 -- Items one after another, so many: their reading is exact where an item's is, and how a loop comes by them.
-use Rattle.std.proofs.Common.{◌≡◌, ℕ, zero, suc, List, [], ◌∷◌, ◌++◌, length, Ok, Err, refl, sym, ap, append_assoc, arith}
+use Rattle.std.proofs.Common.{◌≡◌, ℕ, zero, suc, ◌+◌, ◌-◌, ◌<◌, ◌≤◌, List, [], ◌∷◌, ◌++◌, length, Ok, Err, refl, sym, ap, ◌∙◌, append_assoc, arith}
 use Rattle.std.proofs.lemmas.List.{append-nil}
 use Rattle.std.specs.List.{flat_map, AllByRecursion}
 use Rattle.cas_codec.specs.declared.fault.ReadFault.{ReadFault}
-use Rattle.cas_codec.specs.Reading.{Left, Read, ◌>>=◌, times_at}
+use Rattle.cas_codec.specs.declared.fault.ReadFault.TheVariants.{Short, Bad, Mem}
+use Rattle.cas_codec.specs.Reading.{Left, Read, ◌>>=◌, times_at, Gives}
 use Rattle.cas_codec.specs.Exact.{IsExact}
 use Rattle.cas_codec.proofs.Exactness.{exact_then, exact_done, exact_map}
 
@@ -82,3 +83,36 @@ times_fault reading n front left f e = rw e refl
 pub times_all : {A : Type 0} (reading : Left → Read A) (front : List A) (left : Left) → with_front front (times_at 0 reading left) ≡ Ok (front, left)
 unfolding times_at
 times_all {A} reading front left = rw (append-nil front) refl
+
+-- ---- a loop that has read i of n items
+
+abbrev HasDone : {A : Type 0} → (Left → Read A) → ℕ → Read (List A) → ℕ → List A → Left → Type 0
+HasDone reading n whole i front left = with_front front (times_at (n - i) reading left) ≡ whole
+
+-- it reads one more
+pub loop_more : {A : Type 0} (reading : Left → Read A) (n i : ℕ) (front : List A) (x : A) (left after : Left) (whole : Read (List A)) → i < n
+    → reading left ≡ Ok (x, after) → HasDone reading n whole i front left → HasDone reading n whole (i + 1) (front ++ x ∷ []) after
+loop_more {A} reading n i front x left after whole more e done =
+    let next : n - i ≡ suc (n - (i + 1)) = omega arith in
+    sym (times_more reading (n - (i + 1)) front x left after e) ∙ ap (λ m. with_front front (times_at m reading left)) (sym next) ∙ done
+
+-- the next one isn't there
+pub loop_fault : {A : Type 0} (reading : Left → Read A) (n i : ℕ) (front : List A) (left : Left) (f : ReadFault) (whole : Read (List A)) → i < n
+    → reading left ≡ Err f → HasDone reading n whole i front left → whole ≡ Err f
+loop_fault {A} reading n i front left f whole more e done =
+    let next : n - i ≡ suc (n - (i + 1)) = omega arith in
+    sym done ∙ ap (λ m. with_front front (times_at m reading left)) next ∙ times_fault reading (n - (i + 1)) front left f e
+
+-- it has read them all
+pub loop_all : {A : Type 0} (reading : Left → Read A) (n i : ℕ) (front : List A) (left : Left) (whole : Read (List A)) → n ≤ i
+    → HasDone reading n whole i front left → whole ≡ Ok (front, left)
+loop_all {A} reading n i front left whole through done =
+    let none : n - i ≡ 0 = omega arith in
+    sym done ∙ ap (λ m. with_front front (times_at m reading left)) none ∙ times_all reading front left
+
+-- what a reader answers that ends because a part of it wasn't read
+pub gives_fault : {X Y Z W : Type 0} (view : X → Y) (part : Z → W) (f : ReadFault) (new : Left) (read : Read W) (whole : Read Y)
+    → Gives part (Err f) new read → ((g : ReadFault) → read ≡ Err g → whole ≡ Err g) → Gives view (Err f) new whole
+gives_fault view part (Short at) new read whole e so = so (Short at) e
+gives_fault view part (Bad at) new read whole e so = so (Bad at) e
+gives_fault view part Mem new read whole e so = tt

@@ -104,6 +104,13 @@ times_at (suc n) reading left = do
   others ← times_at n reading first.1
   Ok (first.0 ∷ others.0, others.1)
 
+-- what fills the bytes that follow their number of four bytes, as a record of the commit log does; a byte behind it isn't allowed there
+unfoldable pub enclosed_at : {A : Type 0} → (Left → Read A) → Left → Read A
+enclosed_at reading left = do
+  bytes ← bytes32_at left
+  found ← reading (record { bytes = bytes.0; at = left.at + 4 })
+  if length found.1.bytes == 0 then Ok (found.0, bytes.1) else Err (Bad found.1.at)
+
 -- How a reader ends that then stands at new, its value seen by view: as the reading does, unless memory ran out.
 abbrev pub Gives : {X Y : Type 0} → (X → Y) → Result X ReadFault → Left → Read Y → Type 0
 Gives view (Ok x) new read = read ≡ Ok (view x, new)

@@ -1,6 +1,6 @@
 //! Reads fields from bytes.
 
-ghost use Rattle.std.specs.Prelude.{◌≡◌, ◌+◌, ◌^◌, ◌<◌, ◌≤◌, ◌≤ℤ◌, ◌==◌, length, OnErr, IfOk, IfSome, FitsSigned};
+ghost use Rattle.std.specs.Prelude.{◌≡◌, ◌+◌, ◌^◌, ◌<◌, ◌≤◌, ◌≤ℤ◌, ◌==◌, length, OnOk, OnErr, IfOk, IfSome, FitsSigned};
 ghost use Rattle.std.specs.Int.{w64, is_in_range};
 ghost use Rattle.cas_codec.specs.Fields.{u8, u16, u32, u64, i64, bytes16, bytes32, flag, maybe};
 ghost use Rattle.cas_codec.specs.Reading.{Gives, bytes_at, u8_at, u16_at, u32_at, u64_at, i64_at, checked, is_within};
@@ -83,6 +83,7 @@ impl<'a> Reader<'a> {
     #[tactic(auto, unfolding(crate::specs::Reading::u32_at, crate::specs::Reading::unsigned_at, crate::specs::Reading::bytes_at))]
     fn take_u32(&mut self) -> Result<u32, ReadFault>
         ensures answer { Answers (λ n. n) result self.new (u32_at self.old) }
+        ensures at { OnOk result (self.new.at ≡ self.old.at + 4) }
         ensures unchanged { OnErr result (self.new ≡ self.old) }
     {
         let bytes = self.take(4)?;
@@ -239,6 +240,30 @@ impl<'a> Reader<'a> {
         self.left = rest;
         self.at = at + count as u64;
         Ok(Reader { left: front, at })
+    }
+
+    /// A reader of the bytes that follow their number of four bytes; this one goes on after them.
+    #[tactic(auto, unfolding(crate::specs::Reading::bytes32_at, crate::specs::Reading::bytes_at))]
+    pub fn part32(&mut self) -> Result<Reader<'a>, ReadFault>
+        ensures exact { Gives (λ part. part.bytes) result self.new (bytes32_at self.old) }
+        ensures at { IfOk result (λ part. part.at ≡ self.old.at + 4) }
+        ensures unchanged { OnErr result (self.new ≡ self.old) }
+    {
+        let (left, at) = (self.left, self.at);
+        let count = self.take_u32()? as usize;
+        if self.left.len() < count {
+            self.left = left;
+            self.at = at;
+            return Err(ReadFault::Short { at });
+        }
+        let (front, rest) = self.left.split_at(count);
+        let begins = self.at;
+        self.left = rest;
+        self.at = begins + count as u64;
+        Ok(Reader {
+            left: front,
+            at: begins,
+        })
     }
 
     /// A byte.

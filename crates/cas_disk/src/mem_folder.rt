@@ -5,6 +5,8 @@ ghost use Rattle.std.specs.Bool.{OnTrue, OnFalse};
 ghost use Rattle.cas_disk.specs.Disk.{Image, During, Follows, Same, Gives};
 ghost use Rattle.cas_disk.specs.Inner.Past.{image_of};
 ghost use Rattle.cas_disk.specs.Inner.PastDisk.{disk_of};
+ghost use Rattle.cas_disk.specs.Inner.Plans.{stopped_after};
+ghost use Rattle.cas_disk.specs.Inner.Shown.{course_of};
 
 use crate::count::{Count, FaultCount};
 use crate::event::Event;
@@ -54,12 +56,15 @@ impl MemFolder {
         ensures reads { Follows Same (⟦<MemFolder as Folder>⟧.disk self.old).reads (⟦<MemFolder as Folder>⟧.disk self.new).reads }
         ensures during { During Same (⟦<MemFolder as Folder>⟧.disk self.old) (⟦<MemFolder as Folder>⟧.disk self.new) }
         ensures faults { ⟦<MemFolder as Folder>⟧.faults_of self.new ≡ ⟦<MemFolder as Folder>⟧.faults_of self.old }
+        ensures stops { course_of self.new ≡ stopped_after calls (course_of self.old) }
     {
         self.course.stops_after = Some(calls);
     }
 
     /// How many calls there were.
-    pub fn calls(&self) -> u64 {
+    pub fn calls(&self) -> u64
+        ensures { result ≡ (course_of self.now).calls }
+    {
         self.course.calls
     }
 

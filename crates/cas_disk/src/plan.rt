@@ -1,7 +1,8 @@
 //! Which calls fail.
-ghost use Rattle.std.specs.Prelude.{◌≡◌, ◌+◌, is_err, IsErr, ⊤};
+ghost use Rattle.std.specs.Prelude.{◌≡◌, ◌+◌, is_err, IsErr, IfOk, [], ⊤};
+ghost use Rattle.std.specs.List.{filter_map};
 ghost use Rattle.cas_disk.specs.Counts.{Counted, sum_in_range};
-ghost use Rattle.cas_disk.specs.Inner.Plans.{fails};
+ghost use Rattle.cas_disk.specs.Inner.Plans.{fails, second_of};
 
 use cas_io::Failed;
 use std::alloc::{AllocError, Global};
@@ -18,7 +19,11 @@ pub struct FaultPlan {
 
 impl FaultPlan {
     /// No call fails.
-    pub fn none(alloc: Global) -> Self {
+    pub fn none(alloc: Global) -> Self
+        ensures calls { result.calls.items ≡ [] }
+        ensures drafts { result.drafts.items ≡ [] }
+        ensures reads { result.reads.items ≡ [] }
+    {
         FaultPlan {
             calls: Vec::new(alloc),
             drafts: Vec::new(alloc),
@@ -76,13 +81,19 @@ impl Course {
     }
 }
 
+// The second number of a pair whose first is this one.
+fn second_of(pair: &(u64, u64), first: u64) -> Option<u64>
+    ensures { result ≡ second_of first pair.now }
+{
+    (pair.0 == first).then_some(pair.1)
+}
+
 /// The second numbers of those pairs whose first is this one.
-pub fn numbers_of(alloc: Global, pairs: &[(u64, u64)], first: u64) -> Result<Vec<u64>, AllocError> {
-    let mut numbers = Vec::new(alloc);
-    for (number, second) in pairs {
-        if *number == first {
-            numbers.push(*second)?;
-        }
-    }
-    Ok(numbers)
+pub fn numbers_of(alloc: Global, pairs: &[(u64, u64)], first: u64) -> Result<Vec<u64>, AllocError>
+    ensures { IfOk result (λ v. v.items ≡ filter_map (second_of first) pairs.now) }
+{
+    pairs
+        .iter()
+        .filter_map(|pair| second_of(pair, first))
+        .collect(alloc)
 }

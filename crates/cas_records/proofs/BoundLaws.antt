@@ -1,5 +1,5 @@
 -- The places of rows and the cuts between them are read exactly, and are as long as the log's measure says.
-use Rattle.std.proofs.Common.{◌≡◌, ℕ, zero, suc, ◌<◌, ◌≤◌, ◌+◌, ◌^◌, leb, Bool, true, false, List, [], ◌∷◌, ◌++◌, length, take, drop, get_or, ◌-◌, Result, Ok, Err, refl, sym, ap, subst, ◌∙◌, append_assoc, arith}
+use Rattle.std.proofs.Common.{◌≡◌, ℕ, suc, ◌<◌, ◌≤◌, ◌+◌, ◌^◌, leb, Bool, true, false, List, [], ◌∷◌, ◌++◌, length, take, drop, get_or, ◌-◌, Result, Ok, Err, refl, sym, ap, subst, ◌∙◌, append_assoc, arith}
 use Rattle.std.specs.Int.{is_in_range}
 use Rattle.std.specs.List.{flat_map, sum_by}
 use Rattle.std.proofs.lemmas.Bool.{leb-true, le-leb, and_parts, and_from}
@@ -17,7 +17,7 @@ use Rattle.cas_codec.specs.Exact.{IsExact}
 use Rattle.cas_codec.proofs.Exactness.{done, exact_then, exact_done, exact_checked, exact_map}
 use Rattle.cas_codec.proofs.FieldLaws.{u8_field, flag_field, bytes16_field}
 use Rattle.cas_atoms.specs.LogLength.{short_length, values_length, cut_length}
-use Rattle.cas_records.specs.Allowed.{FitsValue, FitsValues, FitsClustering, FitsCut}
+use Rattle.cas_atoms.specs.Fits.{FitsValue, FitsValues, FitsClustering, FitsCut}
 use Rattle.cas_records.specs.Spelling.{values_bytes, clustering_bytes, cut_bytes}
 use Rattle.cas_records.specs.Reading.{value_at, values_at, clustering_at, cut_at}
 use Rattle.cas_records.specs.Inner.Values.{after_values}
@@ -116,7 +116,7 @@ values_exact (o ∷ os) =
     (λ vs fit. head_of o os vs fit)
     (λ v vs fit is. head_spelled v vs is)
 
-values_count : (order : List Ordered) (vs : List (List ℕ)) → FitsValues order vs → length vs ≡ length order
+pub values_count : (order : List Ordered) (vs : List (List ℕ)) → FitsValues order vs → length vs ≡ length order
 values_count [] [] fit = refl
 values_count [] (v ∷ vs) fit = absurd fit
 values_count (o ∷ os) [] fit = absurd fit
@@ -276,13 +276,14 @@ pub cut_read : (order : List Ordered) (left flagged mid after : Left) (side : Bo
 unfolding cut_at made_cut
 cut_read order left flagged mid after side count prefix d e f = rw (d, e, sym (values_from_none (values_at (take count order) mid)) ∙ f) refl
 
-pub clustering_answer : (order slice copy : List Ordered) (n count : ℕ) (left mid after : Left) (front values items : List (List ℕ))
-    → n ≡ length order → slice ≡ order → front ≡ [] → values ≡ items → copy ≡ order
-    → checked (is_in_range n n) u8_at left ≡ Ok (count, mid) → after_values front (values_at slice mid) ≡ Ok (items, after)
+pub clustering_answer : (order slice copy : List Ordered) (n m count : ℕ) (left mid after : Left) (front values items : List (List ℕ))
+    → n ≡ length order → m ≡ length order → slice ≡ order → front ≡ [] → values ≡ items → copy ≡ order
+    → checked (is_in_range n m) u8_at left ≡ Ok (count, mid) → after_values front (values_at slice mid) ≡ Ok (items, after)
     → clustering_at order left ≡ Ok (record { values = values; order = copy }, after)
 unfolding made_clustering
-clustering_answer order slice copy n count left mid after front values items n-is slice-is front-is values-is copy-is e f =
-    let counted = subst (λ (m : ℕ). checked (is_in_range m m) u8_at left ≡ done (count, mid)) n-is e in
+clustering_answer order slice copy n m count left mid after front values items n-is m-is slice-is front-is values-is copy-is e f =
+    let least = subst (λ (k : ℕ). checked (is_in_range k m) u8_at left ≡ done (count, mid)) n-is e in
+    let counted = subst (λ (k : ℕ). checked (is_in_range (length order) k) u8_at left ≡ done (count, mid)) m-is least in
     let sliced = subst (λ (s : List Ordered). after_values front (values_at s mid) ≡ done (items, after)) slice-is f in
     let fronted = subst (λ (w : List (List ℕ)). after_values w (values_at order mid) ≡ done (items, after)) front-is sliced in
     rw (values-is, copy-is) (clustering_read order left mid after count items counted fronted)

@@ -2,13 +2,13 @@
 use Rattle.std.proofs.Common.{◌≡◌, ℕ, ℤ, zero, suc, ◌<◌, ◌≤◌, leb, ◌+◌, ◌^◌, Bool, true, false, List, [], ◌++◌, length, Ok, refl, sym, ap, ◌∙◌, arith}
 use Rattle.std.specs.Prelude.{FitsSigned}
 use Rattle.std.specs.Int.{w64, is_in_range}
-use Rattle.std.proofs.lemmas.Bool.{leb-true, and_parts}
+use Rattle.std.proofs.lemmas.Bool.{leb-true, le-leb, and_parts, and_from}
 use Rattle.std.proofs.lemmas.List.{length-append, append-nil}
-use Rattle.cas_codec.specs.Reading.{◌>>=◌, checked, u8_at, u32_at, i64_at, flag_at, bytes32_at}
-use Rattle.cas_codec.specs.Fields.{u8, u32, u64, i64, flag, bytes32}
+use Rattle.cas_codec.specs.Reading.{◌>>=◌, checked, u8_at, u32_at, i64_at, flag_at, bytes16_at, bytes32_at}
+use Rattle.cas_codec.specs.Fields.{u8, u32, u64, i64, flag, bytes16, bytes32}
 use Rattle.cas_codec.specs.Exact.{IsExact}
-use Rattle.cas_codec.proofs.Exactness.{exact_then, exact_done, exact_checked, exact_map}
-use Rattle.cas_codec.proofs.FieldLaws.{u8_field, u32_field, i64_field, flag_field, bytes32_field}
+use Rattle.cas_codec.proofs.Exactness.{exact_then, exact_done, exact_checked, exact_map, exact_as}
+use Rattle.cas_codec.proofs.FieldLaws.{u8_field, u32_field, i64_field, flag_field, bytes16_field, bytes32_field}
 use Rattle.cas_cell.specs.declared.deletion.Deletion.{Deletion}
 use Rattle.cas_cell.specs.declared.liveness.Liveness.{Liveness}
 use Rattle.cas_cell.specs.declared.liveness.Liveness.TheVariants as live
@@ -16,24 +16,43 @@ use Rattle.cas_cell.specs.declared.cell.Cell.{Cell}
 use Rattle.cas_cell.specs.declared.cell.Cell.TheVariants as cell
 use Rattle.cas_cell.specs.Cells.{cell_rank}
 use Rattle.cas_atoms.specs.LogLength.{deletion_length, live_length, cell_length}
-use Rattle.cas_records.specs.Allowed.{is_timestamp, is_ttl, FitsTimestamp, FitsTtl, FitsDeletion, FitsLive, FitsContent, FitsCell}
+use Rattle.cas_atoms.specs.Fits.{is_timestamp, is_ttl, FitsTimestamp, FitsTtl, FitsDeletion, FitsLive, FitsCell, FitsKey}
+use Rattle.cas_types.specs.declared.limits.TheConstants.{KEY_LIMIT}
+use Rattle.cas_records.specs.Allowed.{FitsContent}
 use Rattle.cas_records.specs.Spelling.{deletion_bytes, live_bytes, cell_bytes}
-use Rattle.cas_records.specs.Reading.{timestamp_at, ttl_at, deletion_at, live_rest_at, live_at, content_at, cell_rest_at, cell_at}
+use Rattle.cas_records.specs.Reading.{timestamp_at, ttl_at, key_at, deletion_at, live_rest_at, live_at, content_at, cell_rest_at, cell_at}
 
 true_false : true ≡ false → ⊥
 true_false e = cc
 
 pub timestamp_exact : IsExact FitsTimestamp i64 timestamp_at
-unfolding timestamp_at
+unfolding timestamp_at is_timestamp
 timestamp_exact = exact_checked (FitsSigned w64) i64 i64_at is_timestamp i64_field.exact
 
 pub ttl_exact : IsExact FitsTtl u32 ttl_at
-unfolding ttl_at
+unfolding ttl_at is_ttl
 ttl_exact = exact_checked (λ n. n < 2 ^ 32) u32 u32_at is_ttl u32_field.exact
 
 content_exact : (allows : List ℕ → Bool) → IsExact (FitsContent allows) bytes32 (content_at allows)
 unfolding content_at checked
 content_exact allows = exact_checked (λ b. length b < 2 ^ 32) bytes32 bytes32_at allows bytes32_field.exact
+
+key_within : (n : ℕ) → is_in_range 1 KEY_LIMIT n ≡ true → (1 ≤ n) × (n ≤ KEY_LIMIT)
+key_within n e =
+    let p = and_parts (leb 1 n) (leb n KEY_LIMIT) e in
+    (leb-true 1 n p.0, leb-true n KEY_LIMIT p.1)
+
+within_key : (n : ℕ) → 1 ≤ n → n ≤ KEY_LIMIT → is_in_range 1 KEY_LIMIT n ≡ true
+within_key n least most = and_from (leb 1 n) (leb n KEY_LIMIT) (le-leb 1 n least) (le-leb n KEY_LIMIT most)
+
+pub key_exact : IsExact FitsKey bytes16 key_at
+unfolding key_at
+key_exact =
+    exact_as (λ b. (length b < 2 ^ 16) × (is_in_range 1 KEY_LIMIT (length b) ≡ true)) FitsKey bytes16 bytes16 _ key_at
+    (exact_checked (λ b. length b < 2 ^ 16) bytes16 bytes16_at (λ b. is_in_range 1 KEY_LIMIT (length b)) bytes16_field.exact)
+    (λ b fit. key_within (length b) fit.1)
+    (λ b fit. let most : length b ≤ KEY_LIMIT = fit.1 in (omega arith, within_key (length b) fit.0 most))
+    (λ b. refl) (λ left. refl)
 
 -- ---- deletions
 
@@ -180,7 +199,7 @@ cell_content (cell.Expiring at expiry ttl value) = value
 cell_content (cell.Tombstone at second) = []
 
 abbrev HasRank : (List ℕ → Bool) → ℕ → ℤ → Cell → Type 0
-HasRank allows n at c = (FitsCell allows c × (cell_rank c ≡ n)) × (cell_stamp c ≡ at)
+HasRank allows n at c = (FitsCell (FitsContent allows) c × (cell_rank c ≡ n)) × (cell_stamp c ≡ at)
 
 abbrev IsRank : ℕ → Type 0
 IsRank n = (n < 2 ^ 8) × (is_in_range 0 2 n ≡ true)
@@ -194,7 +213,7 @@ cell_is (cell.Tombstone at second) = refl
 cell_spelled : (n : ℕ) (c : Cell) → cell_rank c ≡ n → cell_bytes c ≡ u8 n ++ (i64 (cell_stamp c) ++ cell_tail c)
 cell_spelled n c is = cell_is c ∙ ap (λ (m : ℕ). u8 m ++ (i64 (cell_stamp c) ++ cell_tail c)) is
 
-cell_stamp_fits : (allows : List ℕ → Bool) (c : Cell) → FitsCell allows c → FitsTimestamp (cell_stamp c)
+cell_stamp_fits : (allows : List ℕ → Bool) (c : Cell) → FitsCell (FitsContent allows) c → FitsTimestamp (cell_stamp c)
 unfolding cell_stamp
 cell_stamp_fits allows (cell.Plain at value) fit = fit.0
 cell_stamp_fits allows (cell.Expiring at expiry ttl value) fit = fit.0
@@ -270,20 +289,20 @@ cell_rest_exact allows (suc (suc zero)) at rank fits =
     (λ c fit. tombstone_made allows at c fit)
 cell_rest_exact allows (suc (suc (suc n))) at rank fits = absurd (above_2 n rank.1)
 
-cell_stamped : (allows : List ℕ → Bool) (n : ℕ) → IsRank n → IsExact (λ c. FitsCell allows c × (cell_rank c ≡ n)) (λ c. i64 (cell_stamp c) ++ cell_tail c)
+cell_stamped : (allows : List ℕ → Bool) (n : ℕ) → IsRank n → IsExact (λ c. FitsCell (FitsContent allows) c × (cell_rank c ≡ n)) (λ c. i64 (cell_stamp c) ++ cell_tail c)
     (λ left. timestamp_at left >>= λ at. cell_rest_at allows n at.0 at.1)
 cell_stamped allows n rank =
-    exact_then FitsTimestamp i64 timestamp_at (λ c. FitsCell allows c × (cell_rank c ≡ n)) (λ c. i64 (cell_stamp c) ++ cell_tail c)
+    exact_then FitsTimestamp i64 timestamp_at (λ c. FitsCell (FitsContent allows) c × (cell_rank c ≡ n)) (λ c. i64 (cell_stamp c) ++ cell_tail c)
     (λ at c. cell_stamp c ≡ at) (λ at c. cell_tail c) (λ before at left. cell_rest_at allows n at left)
     timestamp_exact
     (λ before at fits. cell_rest_exact allows n at rank fits)
     (λ c fit. (cell_stamp c, cell_stamp_fits allows c fit.0, refl))
     (λ at c fit is. ap (λ (z : ℤ). i64 z ++ cell_tail c) is)
 
-pub cell_exact : (allows : List ℕ → Bool) → IsExact (FitsCell allows) cell_bytes (cell_at allows)
+pub cell_exact : (allows : List ℕ → Bool) → IsExact (FitsCell (FitsContent allows)) cell_bytes (cell_at allows)
 unfolding cell_at
 cell_exact allows =
-    exact_then IsRank u8 (checked (is_in_range 0 2) u8_at) (FitsCell allows) cell_bytes (λ n c. cell_rank c ≡ n) (λ n c. i64 (cell_stamp c) ++ cell_tail c)
+    exact_then IsRank u8 (checked (is_in_range 0 2) u8_at) (FitsCell (FitsContent allows)) cell_bytes (λ n c. cell_rank c ≡ n) (λ n c. i64 (cell_stamp c) ++ cell_tail c)
     (λ before n left. timestamp_at left >>= λ at. cell_rest_at allows n at.0 at.1)
     (exact_checked (λ n. n < 2 ^ 8) u8 u8_at (is_in_range 0 2) u8_field.exact)
     (λ before n rank. cell_stamped allows n rank)

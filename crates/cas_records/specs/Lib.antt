@@ -1,4 +1,5 @@
 pub mod Spelling
-pub mod Allowed
 pub mod Reading
+pub mod Columns
+pub mod Allowed
 pub mod Inner

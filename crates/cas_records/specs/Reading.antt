@@ -3,9 +3,11 @@
 use Rattle.std.specs.Prelude.{ℕ, ℤ, zero, suc, Bool, true, false, List, [], ◌∷◌, length, take, if◌then◌else◌, Ok, Err}
 use Rattle.cas_codec.specs.declared.fault.ReadFault.TheVariants.{Bad}
 use Rattle.std.specs.Int.{is_in_range}
-use Rattle.cas_codec.specs.Reading.{Left, Read, ◌>>=◌, checked, u8_at, u32_at, i64_at, flag_at, bytes16_at, bytes32_at}
+use Rattle.cas_codec.specs.Reading.{Left, Read, ◌>>=◌, checked, is_within, u8_at, u32_at, i64_at, flag_at, bytes16_at, bytes32_at}
 use Rattle.cas_types.specs.Values.{is_value}
 use Rattle.cas_types.specs.declared.tag.TypeTag.{TypeTag}
+use Rattle.cas_types.specs.declared.schema.Column.{Column}
+use Rattle.cas_atoms.specs.Fits.{is_content}
 use Rattle.cas_bounds.specs.declared.order.Ordered.{Ordered}
 use Rattle.cas_bounds.specs.declared.cuts.Clustering.{Clustering}
 use Rattle.cas_bounds.specs.declared.cuts.Cut.{Cut}
@@ -14,15 +16,19 @@ use Rattle.cas_cell.specs.declared.liveness.Liveness.{Liveness}
 use Rattle.cas_cell.specs.declared.liveness.Liveness.TheVariants as live
 use Rattle.cas_cell.specs.declared.cell.Cell.{Cell}
 use Rattle.cas_cell.specs.declared.cell.Cell.TheVariants as cell
-use Rattle.cas_records.specs.Allowed.{is_timestamp, is_ttl}
+use Rattle.cas_types.specs.declared.limits.TheConstants.{LEAST_RECORDED, GREATEST_TIMESTAMP, TTL_LIMIT, KEY_LIMIT}
 
 -- a timestamp
 unfoldable pub timestamp_at : Left → Read ℤ
-timestamp_at left = checked is_timestamp i64_at left
+timestamp_at left = checked (is_within LEAST_RECORDED GREATEST_TIMESTAMP) i64_at left
 
 -- a TTL
 unfoldable pub ttl_at : Left → Read ℕ
-ttl_at left = checked is_ttl u32_at left
+ttl_at left = checked (is_in_range 1 TTL_LIMIT) u32_at left
+
+-- a partition key: from 1 to 65,535 bytes, with their number in two
+unfoldable pub key_at : Left → Read (List ℕ)
+key_at left = checked (λ b. is_in_range 1 KEY_LIMIT (length b)) bytes16_at left
 
 -- a deletion
 unfoldable pub deletion_at : Left → Read Deletion
@@ -72,6 +78,10 @@ cell_at allows left = do
   rank ← checked (is_in_range 0 2) u8_at left
   at ← timestamp_at rank.1
   cell_rest_at allows rank.0 at.0 at.1
+
+-- what a cell of the column may hold
+unfoldable pub may_hold : Column → List ℕ → Bool
+may_hold column bytes = is_content column.shape column.tag column.second bytes
 
 -- a value of the type, with its length in two bytes
 unfoldable pub value_at : TypeTag → Left → Read (List ℕ)

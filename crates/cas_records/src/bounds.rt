@@ -1,10 +1,11 @@
 //! The places of rows, and the cuts between them, as bytes.
 
-ghost use Rattle.std.specs.Prelude.{◌≡◌, ◌+◌, ◌-◌, ◌<◌, ◌≤◌, ◌^◌, ◌++◌, min, length, take, OnOk, OnErr, vec_len};
+ghost use Rattle.std.specs.Prelude.{◌≡◌, ◌+◌, ◌-◌, ◌<◌, ◌≤◌, ◌^◌, ◌++◌, min, length, take, OnOk, OnErr, vec_len, IfOk};
+ghost use Rattle.std.specs.Int.{is_in_range};
 ghost use Rattle.std.specs.List.{AllByRecursion, sum_by, flat_map};
 ghost use Rattle.std.specs.Vec.{vec_capacity};
 ghost use Rattle.cas_codec.specs.Fields.{bytes16};
-ghost use Rattle.cas_codec.specs.Reading.{Gives};
+ghost use Rattle.cas_codec.specs.Reading.{Gives, checked, u8_at};
 ghost use Rattle.cas_atoms.specs.LogLength.{short_length, values_length, cut_length};
 ghost use Rattle.cas_records.specs.Spelling.{values_bytes, clustering_bytes, cut_bytes};
 ghost use Rattle.cas_records.specs.Reading.{value_at, values_at, clustering_at, cut_at};
@@ -48,6 +49,20 @@ fn read_values(
     }
 }
 
+// How many values there are, from least to greatest.
+#[tactic(auto, unfolding(cas_codec::specs::Reading::checked))]
+fn read_count(reader: &mut Reader<'_>, least: usize, greatest: usize) -> Result<u8, ReadFault>
+    ensures exact { Gives (λ n. n) result reader.new (checked (is_in_range least greatest) u8_at reader.old) }
+    ensures within { IfOk result (λ n. (least ≤ n) × (n ≤ greatest)) }
+{
+    let at = reader.at();
+    let count = reader.u8()?;
+    if least <= count as usize && count as usize <= greatest {
+        return Ok(count);
+    }
+    Err(ReadFault::Bad { at })
+}
+
 /// Reads the place of a row of a table of this order.
 #[tactic(auto, using(crate::proofs::BoundLaws::values_from_none), unfolding(crate::specs::Reading::clustering_at))]
 pub fn read_clustering(
@@ -55,11 +70,9 @@ pub fn read_clustering(
     reader: &mut Reader<'_>,
     order: &List<Ordered>,
 ) -> Result<Clustering, ReadFault>
-    requires { length order.now < 2 ^ 8 }
     ensures { Gives (λ c. c) result reader.new (clustering_at order.now reader.old) }
 {
-    let columns = order.len() as u8;
-    reader.u8_within(columns, columns)?;
+    read_count(reader, order.len(), order.len())?;
     let mut values = Vec::new(alloc);
     read_values(alloc, reader, order.as_slice(), &mut values)?;
     Ok(Clustering {
@@ -75,11 +88,11 @@ pub fn read_cut(
     reader: &mut Reader<'_>,
     order: &List<Ordered>,
 ) -> Result<Cut, ReadFault>
-    requires { length order.now < 2 ^ 8 }
-    ensures { Gives (λ c. c) result reader.new (cut_at order.now reader.old) }
+    ensures exact { Gives (λ c. c) result reader.new (cut_at order.now reader.old) }
+    ensures order { IfOk result (λ c. c.order ≡ order.now) }
 {
     let after = reader.flag()?;
-    let count = reader.u8_within(0, order.len() as u8)?;
+    let count = read_count(reader, 0, order.len())?;
     let mut prefix = Vec::new(alloc);
     read_values(
         alloc,
@@ -101,8 +114,8 @@ fn short_len(bytes: &[u8]) -> usize
     bytes.len().saturating_add(2)
 }
 
-// The length of the values, with their number and the length of each.
-fn values_len(values: &[Bytes]) -> usize
+/// The length in bytes of the place of a row, or of a cut's prefix; 2^64-1 where it is greater.
+pub fn values_len(values: &[Bytes]) -> usize
     ensures { result ≡ min (values_length values.now) (2 ^ 64 - 1) }
 {
     let mut total: usize = 1;

@@ -6,8 +6,7 @@ ghost use Rattle.cas_codec.specs.Reading.{Gives};
 ghost use Rattle.cas_atoms.specs.LogLength.{cell_length};
 ghost use Rattle.cas_cell.specs.Cells.{cell_value};
 ghost use Rattle.cas_records.specs.Spelling.{cell_bytes};
-ghost use Rattle.cas_records.specs.Allowed.{is_cell_value};
-ghost use Rattle.cas_records.specs.Reading.{content_at, cell_at};
+ghost use Rattle.cas_records.specs.Reading.{content_at, may_hold, cell_at};
 
 use crate::times::{read_timestamp, read_ttl};
 use cas_cell::Cell;
@@ -16,9 +15,9 @@ use cas_types::{Bytes, Column, Mem, Shape, check};
 use std::alloc::Global;
 
 // What a cell of the column may hold.
-#[tactic(auto, unfolding(crate::specs::Allowed::is_cell_value))]
-fn is_cell_value(column: &Column, bytes: &[u8]) -> bool
-    ensures { result ≡ is_cell_value column.now bytes.now }
+#[tactic(auto, unfolding(crate::specs::Reading::may_hold))]
+fn may_hold(column: &Column, bytes: &[u8]) -> bool
+    ensures { result ≡ may_hold column.now bytes.now }
 {
     match column.shape {
         Shape::One => check(column.tag, bytes).is_ok(),
@@ -31,11 +30,11 @@ fn is_cell_value(column: &Column, bytes: &[u8]) -> bool
 // The bytes of a cell.
 #[tactic(auto, unfolding(crate::specs::Reading::content_at))]
 fn read_content(alloc: Global, reader: &mut Reader<'_>, column: &Column) -> Result<Bytes, ReadFault>
-    ensures { Gives (λ b. b) result reader.new (content_at (is_cell_value column.now) reader.old) }
+    ensures { Gives (λ b. b) result reader.new (content_at (may_hold column.now) reader.old) }
 {
     let at = reader.at();
     let bytes = reader.bytes32()?;
-    if !is_cell_value(column, bytes) {
+    if !may_hold(column, bytes) {
         return Err(ReadFault::Bad { at });
     }
     Ok(Bytes::copy_of(alloc, bytes)?)
@@ -44,7 +43,7 @@ fn read_content(alloc: Global, reader: &mut Reader<'_>, column: &Column) -> Resu
 /// Reads a cell of the column.
 #[tactic(auto, unfolding(crate::specs::Reading::cell_at))]
 pub fn read_cell(alloc: Global, reader: &mut Reader<'_>, column: &Column) -> Result<Cell, ReadFault>
-    ensures { Gives (λ c. c) result reader.new (cell_at (is_cell_value column.now) reader.old) }
+    ensures { Gives (λ c. c) result reader.new (cell_at (may_hold column.now) reader.old) }
 {
     let rank = reader.u8_within(0, 2)?;
     let at = read_timestamp(reader)?;

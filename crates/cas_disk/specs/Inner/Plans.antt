@@ -1,8 +1,18 @@
 -- Which calls of a folder in memory fail. Own.
-use Rattle.std.specs.Prelude.{ℕ, Bool, false, ◌||◌, ◌==◌, List, Option, nat_lt}
+use Rattle.std.specs.Prelude.{ℕ, Bool, false, ◌||◌, ◌==◌, List, Option, Some, nat_lt}
+use Rattle.cas_disk.specs.declared.plan.Course.{Course}
 use Rattle.std.specs.List.{list_any}
 use Rattle.std.specs.Option.{option_map_or}
+use Rattle.std.specs.Bool.{then_some}
 
 -- the call of this number is past the last that is let through, or stands in the list
 abbrev pub fails : List ℕ → Option ℕ → ℕ → Bool
 fails planned stops_after call = option_map_or (λ last. nat_lt last call) stops_after false || list_any (λ n. n == call) planned
+
+-- the second number of a pair whose first is this one
+abbrev pub second_of : ℕ → ℕ × ℕ → Option ℕ
+second_of first pair = then_some (pair.0 == first) pair.1
+
+-- the same calls and the same plan, but that after so many calls each fails
+abbrev pub stopped_after : ℕ → Course → Course
+stopped_after calls course = record { plan = course.plan; stops_after = Some calls; calls = course.calls; drafts = course.drafts; faults = course.faults }

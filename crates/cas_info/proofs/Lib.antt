@@ -1,0 +1,2 @@
+pub mod InfoLaws
+pub mod OverlapLaws

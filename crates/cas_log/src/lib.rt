@@ -1,0 +1,13 @@
+//! The commit log: what the mutations of a commit are written to, so that after it they stand in
+//! every image of the disk.
+#![tactic(auto)]
+
+mod blocks;
+mod fault;
+mod log;
+#[cfg(test)]
+mod tests;
+mod writing;
+
+pub use fault::LogFault;
+pub use log::Log;

@@ -1,0 +1,166 @@
+//! Writes a segment: mutations are pushed, and committed together.
+
+ghost use Rattle.std.specs.Prelude.{◌≡◌, ◌≢◌, ◌+◌, ◌*◌, ◌≤◌, ◌<◌, ◌^◌, ℕ, List, [], ◌∷◌, ◌++◌, length, drop};
+ghost use Rattle.std.specs.Prelude.{OnOk, vec_len, None, Err, MatchResult, IfOk, nat_le};
+ghost use Rattle.std.specs.Vec.{vec_capacity};
+ghost use Rattle.cas_disk.specs.Disk.{Image, During, Changed, MayBeAnything};
+ghost use Rattle.cas_atoms.specs.declared.atom.Mutation.{Mutation as MutationOf};
+ghost use Rattle.cas_atoms.specs.LogLength.{record_length};
+ghost use Rattle.cas_log.specs.Logs.{Stands, HasPushed, MayHave, Ends, Place, place_of, block_length, IsOfATable, IsReserved, WhyNotReserved, half};
+
+use crate::blocks::{first_bytes, push_record, room_for_lengths, seal, unseal};
+use crate::fault::LogFault;
+use crate::log::Log;
+use cas_atoms::{Mutation, length};
+use cas_disk::{Folder, FolderFault, Name, make};
+use cas_gates::{First, write_gated};
+use cas_io::Failed;
+use cas_mutations::records_are_exact;
+use std::alloc::Global;
+
+impl Log {
+    // What was pushed is committed: the gate stands behind it, and nothing is pushed.
+    fn settle(&mut self, block: u64)
+        requires some { 0 < self.old.count }
+        requires block { block ≡ vec_len self.old.pending + 1 }
+        ensures end { self.new.end ≡ self.old.end + block }
+        ensures count { self.new.count ≡ 0 }
+        ensures bytes { drop 8 self.new.pending.items ≡ [] }
+        ensures number { self.new.number ≡ self.old.number }
+        ensures size { self.new.size ≡ self.old.size }
+        ensures short { vec_len self.new.pending ≤ vec_len self.old.pending }
+        ensures capacity { vec_capacity self.new.pending ≡ vec_capacity self.old.pending }
+    {
+        self.end += block;
+        self.count = 0;
+        self.pending.truncate(8);
+    }
+
+    /// Begins a segment. After Ok its file lasts, with no mutations; until then a crash may leave
+    /// anything under its name.
+    pub fn begin<F: Folder>(
+        alloc: Global,
+        folder: &mut F,
+        first: &mut Option<First>,
+        number: u64,
+        size: u64,
+    ) -> Result<Log, LogFault>
+        requires absent { (c : Image) → (F.disk folder.old).reads c → c (Name.Log number) ≡ None }
+        requires least { 4096 ≤ size }
+        requires most { size ≤ 2 ^ 25 }
+        ensures place { IfOk result (λ log. ((place_of log).number ≡ number) × ((place_of log).size ≡ size)) }
+        ensures stands { IfOk result (λ log. Stands (place_of log) (F.disk folder.new) []) }
+        ensures pushed { IfOk result (λ log. HasPushed log []) }
+        ensures during { During (Changed (Name.Log number) MayBeAnything) (F.disk folder.old) (F.disk folder.new) }
+        ensures outcome { Ends first.old first.new (F.faults_of folder.old) (F.faults_of folder.new) result }
+        ensures count { F.faults_of folder.old ≤ F.faults_of folder.new }
+    {
+        if let Some(kept) = first {
+            return Err(LogFault::Stopped(*kept));
+        }
+        let pending = room_for_lengths(alloc)?;
+        match make(folder, Name::Log(number), &first_bytes(number, size)) {
+            Ok(()) => Ok(Log {
+                number,
+                size,
+                end: 24,
+                count: 0,
+                pending,
+            }),
+            Err(FolderFault::Failed) => {
+                *first = Some(First {
+                    number: folder.faults(),
+                });
+                Err(LogFault::Failed)
+            }
+            Err(FolderFault::Mem) => Err(LogFault::Mem),
+        }
+    }
+
+    /// Makes room for a mutation's record, so that it can be pushed without memory.
+    pub fn reserve(&mut self, mutation: &Mutation) -> Result<(), LogFault>
+        ensures reserved { OnOk result (IsReserved self.new mutation.now) }
+        ensures place { place_of self.new ≡ place_of self.old }
+        ensures pushed { (pushed : List MutationOf) → HasPushed self.old pushed → HasPushed self.new pushed }
+        ensures long { block_length self.new ≡ block_length self.old }
+        ensures why { MatchResult result (λ _. record_length mutation.now ≤ half (place_of self.old).size)
+            (λ f. WhyNotReserved f (record_length mutation.now) (half (place_of self.old).size)) }
+    {
+        let length = length(mutation);
+        let limit = self.size / 2;
+        if length > limit {
+            return Err(LogFault::TooLarge { length, limit });
+        }
+        self.pending.reserve(length as usize + 1)?;
+        Ok(())
+    }
+
+    /// Whether a mutation's record fits behind those that are pushed.
+    pub fn has_room(&self, mutation: &Mutation) -> bool
+        requires { record_length mutation.now < 2 ^ 32 }
+        ensures { result ≡ nat_le ((place_of self.now).end + block_length self.now + record_length mutation.now) (place_of self.now).size }
+    {
+        self.end + self.pending.len() as u64 + 2 + length(mutation) <= self.size
+    }
+
+    /// Adds a mutation to those that the next commit takes.
+    pub fn push(&mut self, mutation: &Mutation)
+        requires mutation { IsOfATable mutation.now }
+        requires reserved { IsReserved self.old mutation.now }
+        requires room { (place_of self.old).end + block_length self.old + record_length mutation.now ≤ (place_of self.old).size }
+        ensures place { place_of self.new ≡ place_of self.old }
+        ensures pushed { (pushed : List MutationOf) → HasPushed self.old pushed → HasPushed self.new (pushed ++ mutation.now ∷ []) }
+        ensures long { block_length self.new ≡ block_length self.old + record_length mutation.now }
+    {
+        records_are_exact();
+        push_record(&mut self.pending, mutation);
+        self.count += 1;
+    }
+
+    /// Commits what is pushed, in four calls of the folder. Of what a crash leaves at any moment,
+    /// the mutations are those committed before, with the pushed ones or without; after Ok they are
+    /// there. After a fault what was pushed stays pushed.
+    pub fn commit<F: Folder>(
+        &mut self,
+        folder: &mut F,
+        first: &mut Option<First>,
+    ) -> Result<(), LogFault>
+        ensures committed { (committed pushed : List MutationOf) → Stands (place_of self.old) (F.disk folder.old) committed → HasPushed self.old pushed
+            → OnOk result (Stands (place_of self.new) (F.disk folder.new) (committed ++ pushed)) }
+        ensures pushed { (pushed : List MutationOf) → HasPushed self.old pushed
+            → MatchResult result (λ _. HasPushed self.new []) (λ _. HasPushed self.new pushed) }
+        ensures during { (committed pushed : List MutationOf) → Stands (place_of self.old) (F.disk folder.old) committed → HasPushed self.old pushed
+            → During (Changed (Name.Log ((place_of self.old).number)) (λ _ file. MayHave ((place_of self.old).number) committed pushed file))
+            (F.disk folder.old) (F.disk folder.new) }
+        ensures others { During (Changed (Name.Log ((place_of self.old).number)) MayBeAnything) (F.disk folder.old) (F.disk folder.new) }
+        ensures number { (place_of self.new).number ≡ (place_of self.old).number }
+        ensures size { (place_of self.new).size ≡ (place_of self.old).size }
+        ensures outcome { Ends first.old first.new (F.faults_of folder.old) (F.faults_of folder.new) result }
+        ensures reserved { (m : MutationOf) → IsReserved self.old m → IsReserved self.new m }
+        ensures no_memory { result ≢ Err LogFault.Mem }
+        ensures count { F.faults_of folder.old ≤ F.faults_of folder.new }
+    {
+        if let Some(kept) = first {
+            return Err(LogFault::Stopped(*kept));
+        }
+        if self.count == 0 {
+            return Ok(());
+        }
+        seal(&mut self.pending, self.count);
+        let written = write_gated(folder, Name::Log(self.number), self.end, &self.pending);
+        unseal(&mut self.pending);
+        match written {
+            Ok(()) => {
+                let block = self.pending.len() as u64 + 1;
+                self.settle(block);
+                Ok(())
+            }
+            Err(Failed) => {
+                *first = Some(First {
+                    number: folder.faults(),
+                });
+                Err(LogFault::Failed)
+            }
+        }
+    }
+}
