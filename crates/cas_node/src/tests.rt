@@ -1,10 +1,9 @@
 //! What no script can show: faults of the source and the sink, the longest script, many statements,
 //! the words. Scripts stand in `cas_rows`.
 
-mod words;
-
 use crate::{Cause, Outcome, Pass, SCRIPT_LIMIT, run};
 use cas_disk::{FaultPlan, MemFolder};
+use cas_entries::Entry;
 use cas_io::{Failed, FreeGate, ManualClock, MemSink, MemSource, Source};
 use std::alloc::Global;
 use std::fmt::Write;
@@ -38,9 +37,11 @@ fn numbers_of(alloc: Global, pass: &Option<Pass>) -> Result<Option<Vec<u64>>, Fa
         return Ok(None);
     };
     let mut numbers = Vec::new(alloc);
-    for shard in pass.shards.as_slice() {
-        for entry in shard.entries.as_slice() {
-            numbers.push(entry.number)?;
+    for shard in 0..pass.len() {
+        for entry in pass.entries(shard) {
+            match entry {
+                Entry::Wrote { mutation, .. } => numbers.push(mutation.number)?,
+            }
         }
     }
     Ok(Some(numbers))
