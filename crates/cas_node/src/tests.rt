@@ -1,5 +1,5 @@
-//! What no script can show: faults of the source and the sink, the longest script, many statements,
-//! the words. Scripts stand in `cas_rows`.
+//! What no script can show: faults of the source and the sink, the longest script, many statements.
+//! Scripts stand in `cas_rows`.
 
 use crate::{Cause, Outcome, Pass, SCRIPT_LIMIT, run};
 use cas_disk::{FaultPlan, MemFolder};
@@ -32,16 +32,18 @@ fn words_of(alloc: Global, text: &str) -> Result<Vec<String>, Fail> {
     Ok(list)
 }
 
+// Of the one shard that the runs here have.
 fn numbers_of(alloc: Global, pass: &Option<Pass>) -> Result<Option<Vec<u64>>, Fail> {
     let Some(pass) = pass else {
         return Ok(None);
     };
+    if pass.len() == 0 {
+        return Ok(None);
+    }
     let mut numbers = Vec::new(alloc);
-    for shard in 0..pass.len() {
-        for entry in pass.entries(shard) {
-            match entry {
-                Entry::Wrote { mutation, .. } => numbers.push(mutation.number)?,
-            }
+    for entry in pass.entries(0) {
+        match entry {
+            Entry::Wrote { mutation, .. } => numbers.push(mutation.number)?,
         }
     }
     Ok(Some(numbers))
