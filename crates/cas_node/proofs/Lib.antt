@@ -1,14 +1,6 @@
-pub mod LineLemmas
-pub mod LineReading
 pub mod SessionLemmas
 pub mod Shards
 pub mod Stores
-pub mod Numerals
-pub mod ClapRules
-pub mod GivenRows
-pub mod ClapSteps
-pub mod WordsAgree
-pub mod WordsFound
-pub mod Commands
-pub mod OneLine
 pub mod OneOutcome
+pub mod Openings
+pub mod RunLemmas

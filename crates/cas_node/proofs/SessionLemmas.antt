@@ -1,151 +1,194 @@
 -- A session up to some line.
-use Rattle.std.proofs.Common.{◌≡◌, ℕ, ℤ, length, Bool, true, false, ◌||◌, Option, List, [], ◌∷◌, ◌++◌, refl, sym, ap, ◌∙◌, subst, append_assoc, append-nil, arith}
+use Rattle.std.proofs.Common.{◌≡◌, ℕ, ◌+◌, ℤ, length, Bool, true, false, Option, None, Some, List, [], ◌∷◌, ◌++◌, codes, refl, sym, ap, ◌∙◌, subst, append_assoc, append-nil, length-append, arith}
 use Rattle.std.proofs.lemmas.Bool.Decides.{nat_tests}
-use Rattle.std.specs.Prelude.{Result, Ok, Err, OnOk, OnErr, is_none, ◌==◌}
-use Rattle.std.specs.Result.{result_err}
-use Rattle.std.proofs.lemmas.Bool.{true≢false}
-use Rattle.std.specs.List.{list_any}
+use Rattle.std.specs.Prelude.{◌==◌, if◌then◌else◌}
+use Rattle.std.specs.List.{fold}
 use Rattle.std.specs.Str.Lines.{lines}
-use Rattle.std.specs.Io.KnownBytes.{Appends}
+use Rattle.std.specs.Io.KnownBytes.{Appends, Keeps}
 use Rattle.std.proofs.KnownBytes.{Appends-trans, Appends-nil}
 use Rattle.std.proofs.lemmas.List.{flat_map_more}
-use Rattle.std.proofs.lemmas.List.Folds.{list_any-append}
+use Rattle.std.proofs.lemmas.List.Sums.{fold-append}
 use Rattle.cas_io.specs.Streams.{AppendsFront}
+use Rattle.cas_render.specs.declared.reply.Failure.TheVariants as failure
 use Rattle.cas_render.specs.declared.reply.Reply.{Reply}
+use Rattle.cas_render.specs.declared.reply.Reply.TheVariants as reply
+use Rattle.cas_render.specs.Text.{reply_text}
+use Rattle.cas_words.specs.declared.words.ClockKind.{ClockKind}
 use Rattle.cas_node.specs.declared.cause.Cause.{Cause}
 use Rattle.cas_node.specs.declared.cause.Cause.TheVariants as cause
-use Rattle.cas_node.specs.declared.words.Command.{Command}
-use Rattle.cas_node.specs.History.{History, start, Answers, Runs, is_starved}
+use Rattle.cas_node.specs.declared.session.PrintFault.{PrintFault}
+use Rattle.cas_node.specs.declared.session.PrintFault.TheVariants as print
+use Rattle.cas_node.specs.History.{History, Answers, Runs, tells_want}
 use Rattle.cas_node.specs.Text.{output, line_text}
-use Rattle.cas_node.specs.Ran.{Ran, Whole, Ended, is_refused}
-use Rattle.cas_node.specs.Inner.Turns.{Turned, EndsEarly, EndsWhole}
+use Rattle.cas_node.specs.Ran.{RanFrom, AtTheEnd, AtTheSink, ForMemory, reply_cause, worse, worst}
+use Rattle.cas_node.specs.Ran.{at_the_end, at_the_sink, for_memory}
+use Rattle.cas_node.specs.Inner.Turns.{Turned, Printed, PrintedReply, StopsFor}
+
+-- ---- text
+
+pub want_text : reply_text (reply.Failed failure.Memory) ≡ codes "failed memory\n"
+unfolding reply_text
+want_text = refl
 
 output-push : (rs : List (Option Reply)) (r : Option Reply) → output rs ++ line_text r ≡ output (rs ++ r ∷ [])
 output-push rs r = flat_map_more line_text [] rs r
 
-or_swap : (a b : Bool) → (a || (b || false)) ≡ (b || a)
-or_swap true true = refl
-or_swap true false = refl
-or_swap false true = refl
-or_swap false false = refl
-
-any-push : (p : Option Reply → Bool) (rs : List (Option Reply)) (r : Option Reply) (b : Bool) → b ≡ list_any p rs → (p r || b) ≡ list_any p (rs ++ r ∷ [])
-any-push p rs r b e = ap (λ c. p r || c) e ∙ sym (or_swap (list_any p rs) (p r)) ∙ sym (list_any-append p rs (r ∷ []))
-
-front_of : (old new : Option (List ℕ)) (bytes : List ℕ) → Appends old new bytes → AppendsFront old new bytes
-front_of old new bytes a = (bytes, [], append-nil bytes, a)
-
-ended_whole : (why : Cause) (P : Type 0) (refused starved : Bool) → EndsWhole refused starved why → (starved ≡ false → P) → Ended why P refused starved
-ended_whole cause.Good P refused starved h p = (p h.1, h.0)
-ended_whole cause.Refused P refused starved h p = (p h.1, h.0)
-ended_whole cause.Mem P refused starved h p = tt
-ended_whole cause.Write P refused starved h p = absurd h
-ended_whole cause.Words P refused starved h p = absurd h
-ended_whole cause.Read P refused starved h p = absurd h
-ended_whole (cause.TooLong taken) P refused starved h p = absurd h
-
-ended_early : (why : Cause) (P : Type 0) (refused starved : Bool) → EndsEarly starved why → Ended why P refused starved
-ended_early cause.Write P refused starved h = h
-ended_early cause.Mem P refused starved h = tt
-ended_early cause.Good P refused starved h = absurd h
-ended_early cause.Refused P refused starved h = absurd h
-ended_early cause.Words P refused starved h = absurd h
-ended_early cause.Read P refused starved h = absurd h
-ended_early (cause.TooLong taken) P refused starved h = absurd h
+worst-push : (rs : List (Option Reply)) (r : Option Reply) → worst (rs ++ r ∷ []) ≡ worse (worst rs) (reply_cause r)
+worst-push rs r = fold-append (λ c q. worse c (reply_cause q)) cause.Good rs (r ∷ [])
 
 pub empty_of : (xs : List ℕ) → (length xs == 0) ≡ true → xs ≡ []
 empty_of [] e = refl
 empty_of (x ∷ xs) e = grind (arith, nat_tests, e)
 
+-- no reply says that a write failed
+said : (r : Option Reply) → reply_cause r ≡ cause.Write → ⊥
+said None e = cc
+said (Some reply.Done) e = cc
+said (Some (reply.Wrote n)) e = cc
+said (Some (reply.Rows rows shard front now)) e = cc
+said (Some (reply.Refused n)) e = cc
+said (Some (reply.Failed f)) e = cc
+
+either_of : (t : Bool) (a b : Cause) → (a ≡ cause.Write → ⊥) → (b ≡ cause.Write → ⊥) → (if t then b else a) ≡ cause.Write → ⊥
+either_of true a b x y e = y e
+either_of false a b x y e = x e
+
+never : (c : Cause) (rs : List (Option Reply)) → (c ≡ cause.Write → ⊥) → fold (λ c r. worse c (reply_cause r)) c rs ≡ cause.Write → ⊥
+never c [] h e = h e
+never c (r ∷ rs) h e = never (worse c (reply_cause r)) rs (either_of _ c (reply_cause r) h (said r)) e
+
+pub worst_is_no_write : (rs : List (Option Reply)) → worst rs ≡ cause.Write → ⊥
+worst_is_no_write rs e = never cause.Good rs (λ x. cc) e
+
+-- nothing more was written
+kept : (old mid new : Option (List ℕ)) (bytes : List ℕ) → Appends old mid bytes → Keeps mid new → Appends old new bytes
+kept None mid new bytes a k = tt
+kept (Some xs) None new bytes a k = absurd a
+kept (Some xs) (Some ys) None bytes a k = absurd k
+kept (Some xs) (Some ys) (Some zs) bytes a k = k ∙ a
+
 -- the lines up to a place were run one after another, and their replies are written
-pub record SoFar (c : Command) (Gives : ℤ → Type 0) (script rest : List ℕ) (old new : Option (List ℕ)) (now : History) (refused starved : Bool) : Type 0 where
+pub record SoFar (kind : ClockKind) (Gives : ℤ → Type 0) (first : History) (script rest : List ℕ) (old new : Option (List ℕ)) (place : ℕ) (now : History) (why : Cause) : Type 0 where
   pub run : List (List ℕ)
   pub replies : List (Option Reply)
   pub cut : run ++ lines rest ≡ lines script
-  pub steps : Runs c Gives (start c) run replies now
+  pub at : place ≡ length run + 1
+  pub steps : Runs kind Gives 1 first run replies now
   pub written : Appends old new (output replies)
-  pub refusals : refused ≡ list_any is_refused replies
-  pub wants : starved ≡ list_any is_starved replies
+  pub told : why ≡ worst replies
 
-module _ (c : Command) (Gives : ℤ → Type 0) where
-  pub Runs-push : (s : History) (ls : List (List ℕ)) (rs : List (Option Reply)) (t : History) (l : List ℕ) (r : Option Reply) (u : History) → Runs c Gives s ls rs t → Answers c Gives t l r u → Runs c Gives s (ls ++ l ∷ []) (rs ++ r ∷ []) u
-  Runs-push s [] [] t l r u h st = (u, subst (λ x. Answers c Gives x l r u) h st, refl)
-  Runs-push s [] (q ∷ rs) t l r u h st = absurd h
-  Runs-push s (m ∷ ls) [] t l r u h st = absurd h
-  Runs-push s (m ∷ ls) (q ∷ rs) t l r u h st = (h.0, h.1, Runs-push h.0 ls rs t l r u h.2 st)
+module _ (kind : ClockKind) (Gives : ℤ → Type 0) where
+  Runs-push : (n : ℕ) (s : History) (ls : List (List ℕ)) (rs : List (Option Reply)) (t : History) (place : ℕ) (l : List ℕ) (r : Option Reply) (u : History)
+      → Runs kind Gives n s ls rs t → place ≡ length ls + n → Answers kind Gives t place l r u → Runs kind Gives n s (ls ++ l ∷ []) (rs ++ r ∷ []) u
+  Runs-push n s [] [] t place l r u h e st =
+      let same : place ≡ n = omega (arith, e) in
+      (u, subst (λ x. Answers kind Gives x n l r u) h (subst (λ k. Answers kind Gives t k l r u) same st), refl)
+  Runs-push n s [] (q ∷ rs) t place l r u h e st = absurd h
+  Runs-push n s (m ∷ ls) [] t place l r u h e st = absurd h
+  Runs-push n s (m ∷ ls) (q ∷ rs) t place l r u h e st = (h.0, h.1, Runs-push (n + 1) h.0 ls rs t place l r u h.2 (omega (arith, e)) st)
 
-  pub so_far_none : (script : List ℕ) (old : Option (List ℕ)) (s : History) → s ≡ start c → SoFar c Gives script script old old s false false
-  so_far_none script old s e = record { run = []; replies = []; cut = refl; steps = e; written = Appends-nil old; refusals = refl; wants = refl }
+  pub so_far_none : (script : List ℕ) (old : Option (List ℕ)) (s : History) → SoFar kind Gives s script script old old 1 s cause.Good
+  so_far_none script old s = record { run = []; replies = []; cut = refl; at = refl; steps = refl; written = Appends-nil old; told = refl }
 
-  so_far_more : (script rest after line : List ℕ) (old mid new : Option (List ℕ)) (s t : History) (refused starved refused' starved' : Bool) (r : Option Reply)
-      → SoFar c Gives script rest old mid s refused starved → lines rest ≡ line ∷ lines after → Answers c Gives s line r t → Appends mid new (line_text r)
-      → refused' ≡ (is_refused r || refused) → starved' ≡ (is_starved r || starved) → SoFar c Gives script after old new t refused' starved'
-  so_far_more script rest after line old mid new s t refused starved refused' starved' r so first step wrote x y = record {
+  -- the lines with one more, whatever came of its reply
+  pub record Next (first : History) (script after : List ℕ) (old mid : Option (List ℕ)) (place : ℕ) (final : History) (why : Cause) (r : Option Reply) : Type 0 where
+    pub run : List (List ℕ)
+    pub earlier : List (Option Reply)
+    pub cut : run ++ lines after ≡ lines script
+    pub at : place ≡ length run
+    pub steps : Runs kind Gives 1 first run (earlier ++ r ∷ []) final
+    pub written : Appends old mid (output earlier)
+    pub told : why ≡ worst (earlier ++ r ∷ [])
+
+  next : (first : History) (script rest after line : List ℕ) (old mid : Option (List ℕ)) (place : ℕ) (s t : History) (before why : Cause) (r : Option Reply)
+      → SoFar kind Gives first script rest old mid place s before → lines rest ≡ line ∷ lines after → Answers kind Gives s place line r t
+      → why ≡ worse before (reply_cause r) → Next first script after old mid place t why r
+  next first script rest after line old mid place s t before why r so cut step told = record {
     run = so.run ++ line ∷ [];
-    replies = so.replies ++ r ∷ [];
-    cut = append_assoc so.run (line ∷ []) (lines after) ∙ ap (λ ls. so.run ++ ls) (sym first) ∙ so.cut;
-    steps = Runs-push (start c) so.run so.replies s line r t so.steps step;
-    written = subst (Appends old new) (output-push so.replies r) (Appends-trans old mid new _ _ so.written wrote);
-    refusals = x ∙ any-push is_refused so.replies r refused so.refusals;
-    wants = y ∙ any-push is_starved so.replies r starved so.wants;
+    earlier = so.replies;
+    cut = append_assoc so.run (line ∷ []) (lines after) ∙ ap (λ ls. so.run ++ ls) (sym cut) ∙ so.cut;
+    at = omega (arith, so.at, length-append so.run (line ∷ []));
+    steps = Runs-push 1 first so.run so.replies s place line r t so.steps so.at step;
+    written = so.written;
+    told = told ∙ ap (λ c. worse c (reply_cause r)) so.told ∙ sym (worst-push so.replies r);
   }
 
-  pub ran_whole : (script rest : List ℕ) (old new : Option (List ℕ)) (s : History) (refused starved : Bool) (why : Cause)
-      → SoFar c Gives script rest old new s refused starved → rest ≡ [] → EndsWhole refused starved why → Ran c Gives script old new s.shards why
-  ran_whole script rest old new s refused starved why so e h = record {
+  -- all of the reply was written
+  pub so_far_more : (first : History) (script rest after line : List ℕ) (old mid new : Option (List ℕ)) (place place' : ℕ) (s t : History) (before x why : Cause) (fault : Option PrintFault)
+      → SoFar kind Gives first script rest old mid place s before → lines rest ≡ line ∷ lines after → Turned kind Gives place s line t mid new x fault
+      → fault ≡ None → why ≡ worse before x → place' ≡ place + 1 → SoFar kind Gives first script after old new place' t why
+  so_far_more first script rest after line old mid new place place' s t before x why fault so cut turn none told e =
+      let n = next first script rest after line old mid place s t before why turn.reply so cut turn.answers (told ∙ ap (λ c. worse before c) turn.told) in
+      record {
+        run = n.run;
+        replies = n.earlier ++ turn.reply ∷ [];
+        cut = n.cut;
+        at = e ∙ ap (λ k. k + 1) n.at;
+        steps = n.steps;
+        written = subst (Appends old new) (output-push n.earlier turn.reply) (whole turn.reply fault mid new _ n.written none turn.printed);
+        told = n.told;
+      }
+    where
+      whole : (r : Option Reply) (fault : Option PrintFault) (mid new : Option (List ℕ)) (bytes : List ℕ) → Appends old mid bytes → fault ≡ None → Printed fault r mid new
+          → Appends old new (bytes ++ line_text r)
+      whole None fault mid new bytes a none p = subst (Appends old new) (sym (append-nil bytes)) (kept old mid new bytes a p.1)
+      whole (Some r) fault mid new bytes a none p = Appends-trans old mid new _ _ a (subst (λ f. PrintedReply f r mid new) none p)
+
+  -- the run ends where a reply wasn't written
+  stopped : (first : History) (script after : List ℕ) (old mid new : Option (List ℕ)) (place : ℕ) (t : History) (sofar why : Cause) (fault : PrintFault) (r : Option Reply) (whole : Option PrintFault)
+      → Next first script after old mid place t sofar r → whole ≡ Some fault → Printed whole r mid new → StopsFor fault sofar why → RanFrom first kind Gives script old new t why
+  stopped first script after old mid new place t sofar why fault None whole n e p h = absurd (none-is-some (sym p.0 ∙ e))
+    where
+      none-is-some : None ≡ Some fault → ⊥
+      none-is-some x = cc
+  stopped first script after old mid new place t sofar why print.Write (Some r) whole n e p h =
+      let front : AppendsFront mid new (reply_text r) = subst (λ f. PrintedReply f r mid new) e p in
+      record {
+        run = n.run;
+        rest = lines after;
+        replies = n.earlier ++ Some r ∷ [];
+        cut = n.cut;
+        steps = n.steps;
+        stop = at_the_sink;
+        ended = record {
+          earlier = n.earlier;
+          last = r;
+          are = refl;
+          front = front.0;
+          back = front.1;
+          cut = front.2;
+          written = Appends-trans old mid new _ _ n.written front.3;
+          told = h ∙ ap (λ c. worse c cause.Write) n.told;
+        };
+      }
+  stopped first script after old mid new place t sofar why print.Mem (Some r) whole n e p h =
+      let none : PrintedReply (Some print.Mem) r mid new = subst (λ f. PrintedReply f r mid new) e p in
+      record {
+        run = n.run;
+        rest = lines after;
+        replies = n.earlier ++ Some r ∷ [];
+        cut = n.cut;
+        steps = n.steps;
+        stop = for_memory;
+        ended = record { earlier = n.earlier; last = r; are = refl; other = none.0; written = kept old mid new _ n.written none.1; told = h };
+      }
+
+  pub ran_cut : (first : History) (script rest after line : List ℕ) (old mid new : Option (List ℕ)) (place : ℕ) (s t : History) (before x sofar why : Cause) (whole : Option PrintFault) (fault : PrintFault)
+      → SoFar kind Gives first script rest old mid place s before → lines rest ≡ line ∷ lines after → Turned kind Gives place s line t mid new x whole
+      → whole ≡ Some fault → sofar ≡ worse before x → StopsFor fault sofar why → RanFrom first kind Gives script old new t why
+  ran_cut first script rest after line old mid new place s t before x sofar why whole fault so cut turn e told h =
+      stopped first script after old mid new place t sofar why fault turn.reply whole
+      (next first script rest after line old mid place s t before sofar turn.reply so cut turn.answers (told ∙ ap (λ c. worse before c) turn.told))
+      e turn.printed h
+
+  pub ran_whole : (first : History) (script rest : List ℕ) (old new : Option (List ℕ)) (place : ℕ) (s : History) (why : Cause)
+      → SoFar kind Gives first script rest old new place s why → rest ≡ [] → RanFrom first kind Gives script old new s why
+  ran_whole first script rest old new place s why so e = record {
     run = so.run;
     rest = [];
     replies = so.replies;
-    final = s;
     cut = ap (λ ls. so.run ++ ls) (sym (ap lines e)) ∙ so.cut;
     steps = so.steps;
-    accepted = refl;
-    written = front_of old new _ so.written;
-    ended = ended_whole why (Whole [] old new so.replies) (list_any is_refused so.replies) (list_any is_starved so.replies)
-        (subst (λ b. EndsWhole b (list_any is_starved so.replies) why) so.refusals (subst (λ b. EndsWhole refused b why) so.wants h))
-        (λ fed. record { all = refl; written = so.written; fed = fed });
+    stop = at_the_end;
+    ended = record { all = refl; written = so.written; told = so.told };
   }
-
-  ran_cut : (script rest after line : List ℕ) (old mid new : Option (List ℕ)) (s t : History) (refused starved refused' starved' : Bool) (r : Option Reply) (why : Cause)
-      → SoFar c Gives script rest old mid s refused starved → lines rest ≡ line ∷ lines after → Answers c Gives s line r t → AppendsFront mid new (line_text r)
-      → refused' ≡ (is_refused r || refused) → starved' ≡ (is_starved r || starved) → EndsEarly starved' why → Ran c Gives script old new t.shards why
-  ran_cut script rest after line old mid new s t refused starved refused' starved' r why so first step wrote x y h = record {
-    run = so.run ++ line ∷ [];
-    rest = lines after;
-    replies = so.replies ++ r ∷ [];
-    final = t;
-    cut = append_assoc so.run (line ∷ []) (lines after) ∙ ap (λ ls. so.run ++ ls) (sym first) ∙ so.cut;
-    steps = Runs-push (start c) so.run so.replies s line r t so.steps step;
-    accepted = refl;
-    written = (
-      output so.replies ++ wrote.0,
-      wrote.1,
-      append_assoc (output so.replies) wrote.0 wrote.1 ∙ ap (λ bs. output so.replies ++ bs) wrote.2 ∙ output-push so.replies r,
-      Appends-trans old mid new _ _ so.written wrote.3,
-    );
-    ended = ended_early why _ _ _ (subst (λ b. EndsEarly b why) (y ∙ any-push is_starved so.replies r starved so.wants) h);
-  }
-
-  turned_by : {E : Type 0} (s : History) (line : List ℕ) (r : Option Reply) (t : History) (old new : Option (List ℕ)) (printed : Result (Unit {0}) E) → Answers c Gives s line r t
-      → OnOk printed (Appends old new (line_text r)) → OnErr printed (AppendsFront old new (line_text r)) → Turned c Gives s line t old new (is_refused r) (is_starved r) (is_none (result_err printed))
-  turned_by s line r t old new (Ok x) step ok err = record { reply = r; answers = step; refusal = refl; want = refl; whole = λ _. ok; written = front_of old new _ ok }
-  turned_by s line r t old new (Err e) step ok err = record { reply = r; answers = step; refusal = refl; want = refl; whole = λ e. absurd (true≢false (sym e)); written = err }
-
-  pub turned_from : {E : Type 0} (s : History) (line : List ℕ) (r : Option Reply) (t : History) (old new : Option (List ℕ)) (printed : Result (Unit {0}) E) (fault : Option E) (x y : Bool) → Answers c Gives s line r t
-      → x ≡ is_refused r → y ≡ is_starved r → OnOk printed (Appends old new (line_text r)) → OnErr printed (AppendsFront old new (line_text r)) → fault ≡ result_err printed → Turned c Gives s line t old new x y (is_none fault)
-  turned_from s line r t old new printed fault x y step ex ey ok err e = rw (ex, ey, e) (turned_by s line r t old new printed step ok err)
-
-  -- a loop's turn
-  pub so_far_turn : (script rest after line : List ℕ) (old mid new : Option (List ℕ)) (s t : History) (refused starved x y z refused' starved' : Bool)
-      → SoFar c Gives script rest old mid s refused starved → lines rest ≡ line ∷ lines after → Turned c Gives s line t mid new x y z → z ≡ true
-      → refused' ≡ (x || refused) → starved' ≡ (y || starved) → SoFar c Gives script after old new t refused' starved'
-  so_far_turn script rest after line old mid new s t refused starved x y z refused' starved' so first turn printed a b =
-      so_far_more script rest after line old mid new s t refused starved refused' starved' turn.reply so first turn.answers (turn.whole printed)
-      (a ∙ ap (λ v. v || refused) turn.refusal) (b ∙ ap (λ v. v || starved) turn.want)
-
-  pub ran_turn : (script rest after line : List ℕ) (old mid new : Option (List ℕ)) (s t : History) (refused starved x y z refused' starved' : Bool) (why : Cause)
-      → SoFar c Gives script rest old mid s refused starved → lines rest ≡ line ∷ lines after → Turned c Gives s line t mid new x y z
-      → refused' ≡ (x || refused) → starved' ≡ (y || starved) → EndsEarly starved' why → Ran c Gives script old new t.shards why
-  ran_turn script rest after line old mid new s t refused starved x y z refused' starved' why so first turn a b =
-      ran_cut script rest after line old mid new s t refused starved refused' starved' turn.reply why so first turn.answers turn.written
-      (a ∙ ap (λ v. v || refused) turn.refusal) (b ∙ ap (λ v. v || starved) turn.want)

@@ -1,20 +1,25 @@
 -- What a shard is like after a write and after a SELECT.
-use Rattle.std.proofs.Common.{◌≡◌, ◌≤◌, ◌+◌, ◌/◌, ℕ, ℤ, pos, negsuc, ◌≤ℤ◌, Bool, true, false, List, [], ◌∷◌, ◌++◌, length, Option, None, Some, refl, sym, ap, ◌∙◌, subst, arith, length-append}
+use Rattle.std.proofs.Common.{◌≡◌, ◌≤◌, ◌+◌, ◌/◌, ℕ, ℤ, pos, negsuc, ◌≤ℤ◌, Bool, true, false, List, [], ◌∷◌, ◌++◌, Option, None, Some, refl, sym, ap, ◌∙◌, subst, arith}
 use Rattle.std.proofs.lemmas.Int.{ints}
-use Rattle.std.proofs.lemmas.List.{reverse-append}
-use Rattle.std.proofs.lemmas.Bool.{ltb-false}
-use Rattle.std.specs.Prelude.{if◌then◌else◌, reverse, ◌&&◌, ◌||◌, nat_lt, int_lt, neg_ℤ, unwrap_or, option_map}
-use Rattle.std.specs.List.{find}
+use Rattle.std.proofs.lemmas.Bool.{ltb-false, true≢false}
+use Rattle.std.specs.Prelude.{if◌then◌else◌, ◌&&◌, ◌||◌, nat_lt, int_lt}
 use Rattle.cas_atoms.specs.declared.atom.Mutation.{Mutation}
 use Rattle.cas_atoms.specs.LogLength.{record_length}
 use Rattle.cas_effects.specs.declared.effect.BoundWrite.{BoundWrite}
-use Rattle.cas_effects.specs.AtomsOf.{mutation_of}
 use Rattle.cas_effects.specs.declared.refusal.TheConstants.{TOO_LARGE, TOO_MANY}
-use Rattle.cas_node.specs.declared.shard.ShardHistory.{ShardHistory}
+use Rattle.cas_entries.specs.declared.entry.Entry.{Entry}
+use Rattle.cas_entries.specs.declared.entry.Entry.TheVariants as entry
+use Rattle.cas_entries.specs.declared.entry.ShardOpening.{ShardOpening}
+use Rattle.cas_entries.specs.Entries.{first, last_drawn, last_number}
+use Rattle.cas_entries.proofs.Numbers.{last_number_more, last_drawn_more, last_of_none, drawn_of_none, first_of_both}
+use Rattle.cas_render.specs.declared.reply.Failure.TheVariants as failure
+use Rattle.cas_render.specs.declared.reply.Reply.{Reply}
+use Rattle.cas_render.specs.declared.reply.Reply.TheVariants as reply
 use Rattle.cas_node.specs.declared.shard.TheConstants.{LAST_DRAWN, MUTATION_LIMIT}
-use Rattle.cas_node.specs.History.{shard_after, write_reply, mutation_at, take_refusal, tells_want, wrote_unless, taken_unless, moved, moment_at, next_number, last_drawn}
+use Rattle.cas_node.specs.History.{ShardHistory, after_entries, write_entries, write_reply, mutation_at, take_refusal, tells_want, wrote_unless, moment_at, next_number}
 use Rattle.cas_types.specs.Limits.{IsMoment}
-use Rattle.cas_node.specs.Inner.Sound.{IsShard, IsTime}
+use Rattle.cas_node.specs.Inner.Sound.{IsShard, IsShardOpening, IsTime}
+use Rattle.cas_node.specs.Inner.Turns.{Took}
 
 answered : (o : Option ℕ) (n : ℕ) → tells_want (wrote_unless o n) ≡ false
 answered None n = refl
@@ -25,30 +30,27 @@ pub write_is_answered : (segment : ℕ) (reading : ℤ) (s : ShardHistory) (w : 
 unfolding write_reply
 write_is_answered segment reading s w = answered (take_refusal segment (mutation_at reading s w)) (next_number s)
 
-pub same_either : {X : Type 0} (b : Bool) (x : X) → (if b then x else x) ≡ x
-same_either true x = refl
-same_either false x = refl
+-- what a shard that took a write, or wanted memory, has entered
+pub took_write : (segment : ℕ) (s : ShardHistory) (reading same : ℤ) (session call : ℕ) (w : BoundWrite) (t : ShardHistory) (r : Reply) → same ≡ reading
+    → r ≡ write_reply segment same s w → t ≡ after_entries same (write_entries segment same s session call w) s → Took segment s reading session call w t r
+took_write segment s reading same session call w t r x e h = subst (λ k. Took segment s k session call w t r) x (at same e h)
+  where
+    at : (k : ℤ) → r ≡ write_reply segment k s w → t ≡ after_entries k (write_entries segment k s session call w) s → Took segment s k session call w t r
+    at k e h =
+        let told : tells_want r ≡ false = ap tells_want e ∙ write_is_answered segment k s w in
+        (write_entries segment k s session call w, record { reply = λ _. e; entered = rw told refl }, h)
+
+pub took_none : (segment : ℕ) (s : ShardHistory) (reading same : ℤ) (session call : ℕ) (w : BoundWrite) (t : ShardHistory) → same ≡ reading
+    → t ≡ after_entries same [] s → Took segment s reading session call w t (reply.Failed failure.Memory)
+took_none segment s reading same session call w t x h = ([], record { reply = λ e. absurd (true≢false e); entered = refl }, h ∙ ap (λ k. after_entries k [] s) x)
 
 -- ---- moments
 
-pub moment_is : (reading : ℤ) (s : ShardHistory) → IsTime reading → IsMoment s.moment → IsMoment (moment_at reading s)
-moment_is (pos a) s t m = (grind (arith, ints, t, m), grind (arith, ints, t, m))
-moment_is (negsuc a) s t m = absurd (omega (arith, ints, t.0))
+pub moment_sound : (reading : ℤ) (s : ShardHistory) → IsTime reading → IsMoment s.moment → IsMoment (moment_at reading s)
+moment_sound (pos a) s t m = (grind (arith, ints, t, m), grind (arith, ints, t, m))
+moment_sound (negsuc a) s t m = absurd (omega (arith, ints, t.0))
 
-pub moved_sound : (reading : ℤ) (s : ShardHistory) → IsTime reading → IsShard s → IsShard (moved reading s)
-moved_sound reading s t i = record { few = i.few; moment = moment_is reading s t i.moment; drawn = i.drawn }
-
--- ---- a mutation that is taken
-
-either_way : (b : Bool) (m : Mutation) (o : Option Mutation) (d : ℤ) → unwrap_or (option_map (λ m. m.at) (if b then Some m else o)) d ≡ (if b then m.at else unwrap_or (option_map (λ m. m.at) o) d)
-either_way true m o d = refl
-either_way false m o d = refl
-
-pick_first : (m : Mutation) (ms : List Mutation) (d : ℤ) → unwrap_or (option_map (λ m. m.at) (find (λ m. m.drawn) (m ∷ ms))) d ≡ (if m.drawn then m.at else unwrap_or (option_map (λ m. m.at) (find (λ m. m.drawn) ms)) d)
-pick_first m ms d = either_way m.drawn m (find (λ m. m.drawn) ms) d
-
-last_drawn_more : (entries : List Mutation) (m : Mutation) → last_drawn (entries ++ m ∷ []) ≡ (if m.drawn then m.at else last_drawn entries)
-last_drawn_more entries m = ap (λ xs. unwrap_or (option_map (λ m. m.at) (find (λ m. m.drawn) xs)) (neg_ℤ (pos 2))) (reverse-append entries (m ∷ [])) ∙ pick_first m (reverse entries) (neg_ℤ (pos 2))
+-- ---- a mutation that isn't refused
 
 second_false : (a b : Bool) (x y : ℕ) → (if a then Some x else if b then Some y else None) ≡ None → b ≡ false
 second_false true b x y e = cc
@@ -59,35 +61,51 @@ neither : (a b : Bool) → (a || b) ≡ false → (a ≡ false) × (b ≡ false)
 neither true b e = cc
 neither false b e = (refl, e)
 
-low_either : (b : Bool) (at : ℤ) → (b && int_lt (LAST_DRAWN) at) ≡ false → (last : ℤ) → last ≤ℤ LAST_DRAWN → (if b then at else last) ≤ℤ LAST_DRAWN
-low_either true at e last h = grind (arith, ints, e)
-low_either false at e last h = h
+not_drawn : (b : Bool) (at : ℤ) → (b && int_lt (LAST_DRAWN) at) ≡ false → b ≡ true → at ≤ℤ LAST_DRAWN
+not_drawn true at e d = grind (arith, ints, e)
+not_drawn false at e d = cc
 
-is_low : (m : Mutation) → (m.drawn && int_lt (LAST_DRAWN) m.at) ≡ false → (last : ℤ) → last ≤ℤ LAST_DRAWN → (if m.drawn then m.at else last) ≤ℤ LAST_DRAWN
-is_low m e last h = low_either m.drawn m.at e last h
-
-few_and_low : (segment : ℕ) (m : Mutation) → take_refusal segment m ≡ None → (m.number ≤ MUTATION_LIMIT) × ((last : ℤ) → last ≤ℤ LAST_DRAWN → (if m.drawn then m.at else last) ≤ℤ LAST_DRAWN)
+pub is_few : (segment : ℕ) (m : Mutation) → take_refusal segment m ≡ None → m.number ≤ MUTATION_LIMIT
 unfolding take_refusal
-few_and_low segment m e =
-    let both = neither (nat_lt (MUTATION_LIMIT) m.number) (m.drawn && int_lt (LAST_DRAWN) m.at) (second_false (nat_lt (segment / 2) (record_length m)) _ TOO_LARGE TOO_MANY e) in
-    (ltb-false (MUTATION_LIMIT) m.number both.0, is_low m both.1)
+is_few segment m e =
+    ltb-false (MUTATION_LIMIT) m.number (neither (nat_lt (MUTATION_LIMIT) m.number) (m.drawn && int_lt (LAST_DRAWN) m.at) (second_false (nat_lt (segment / 2) (record_length m)) _ TOO_LARGE TOO_MANY e)).0
 
-number_is : (reading : ℤ) (s : ShardHistory) (w : BoundWrite) → (mutation_at reading s w).number ≡ length s.entries + 1
-unfolding mutation_at mutation_of
-number_is reading s w = refl
+pub is_low : (segment : ℕ) (m : Mutation) → take_refusal segment m ≡ None → m.drawn ≡ true → m.at ≤ℤ LAST_DRAWN
+unfolding take_refusal
+is_low segment m e =
+    not_drawn m.drawn m.at (neither (nat_lt (MUTATION_LIMIT) m.number) (m.drawn && int_lt (LAST_DRAWN) m.at) (second_false (nat_lt (segment / 2) (record_length m)) _ TOO_LARGE TOO_MANY e)).1
 
-taken_sound : (o : Option ℕ) (reading : ℤ) (s : ShardHistory) (m : Mutation) → IsTime reading → IsShard s → m.number ≡ length s.entries + 1
-    → (o ≡ None → (m.number ≤ MUTATION_LIMIT) × ((last : ℤ) → last ≤ℤ LAST_DRAWN → (if m.drawn then m.at else last) ≤ℤ LAST_DRAWN)) → IsShard (taken_unless o reading s m)
-taken_sound None reading s m t i n h = record {
-  few = omega (arith, length-append s.entries (m ∷ []), n, (h refl).0);
-  moment = moment_is reading s t i.moment;
-  drawn = subst (λ z. z ≤ℤ LAST_DRAWN) (sym (last_drawn_more s.entries m)) ((h refl).1 (last_drawn s.entries) i.drawn);
+either : (b : Bool) (at d : ℤ) → (b ≡ true → at ≤ℤ LAST_DRAWN) → d ≤ℤ LAST_DRAWN → (if b then at else d) ≤ℤ LAST_DRAWN
+either true at d h e = h refl
+either false at d h e = e
+
+-- what stands beside the entries when one more is there
+pub entered : (found : ShardOpening) (entries more : List Entry) (number : ℕ) (drawn same result after moment : ℤ) (session call : ℕ) (m : Mutation)
+    → IsShard found entries number drawn moment → m.number ≤ MUTATION_LIMIT → (m.drawn ≡ true → m.at ≤ℤ LAST_DRAWN)
+    → more ≡ entries ++ entry.Wrote session call m ∷ [] → same ≡ drawn → result ≡ (if m.drawn then m.at else same) → after ≡ result
+    → IsShard found more m.number after moment
+entered found entries more number drawn same result after moment session call m i few low e f d a = record {
+  number_is = sym (ap (last_number found.number) e ∙ last_number_more found.number entries (entry.Wrote session call m));
+  drawn_is = a ∙ d ∙ ap (λ d. if m.drawn then m.at else d) (f ∙ i.drawn_is) ∙ sym (ap (last_drawn found.drawn) e ∙ last_drawn_more found.drawn entries (entry.Wrote session call m));
+  few = few;
+  low = subst (λ k. k ≤ℤ LAST_DRAWN) (sym (a ∙ d)) (either m.drawn m.at same low (subst (λ k. k ≤ℤ LAST_DRAWN) (sym f) i.low));
+  moment_is = i.moment_is;
 }
-taken_sound (Some r) reading s m t i n h = moved_sound reading s t i
 
-pub write_sound : (segment : ℕ) (reading : ℤ) (s : ShardHistory) (w : BoundWrite) → IsTime reading → IsShard s → IsShard (shard_after segment reading s w)
-unfolding shard_after
-write_sound segment reading s w t i = taken_sound (take_refusal segment (mutation_at reading s w)) reading s (mutation_at reading s w) t i (number_is reading s w) (few_and_low segment (mutation_at reading s w))
+pub found_sound : (o : ShardOpening) (entries : List Entry) (drawn moment : ℤ) → IsShardOpening o → entries ≡ [] → drawn ≡ o.drawn → moment ≡ o.moment → IsShard o entries o.number drawn moment
+found_sound o entries drawn moment i e d m = record {
+  number_is = sym (ap (last_number o.number) e ∙ last_of_none o.number);
+  drawn_is = d ∙ sym (ap (last_drawn o.drawn) e ∙ drawn_of_none o.drawn);
+  few = i.few;
+  low = subst (λ k. k ≤ℤ LAST_DRAWN) (sym d) i.low;
+  moment_is = subst IsMoment (sym m) i.moment;
+}
 
-pub written_sound : (segment : ℕ) (reading same : ℤ) (s t : ShardHistory) (w : BoundWrite) → IsTime reading → IsShard s → same ≡ reading → t ≡ shard_after segment same s w → IsShard t
-written_sound segment reading same s t w time i e h = subst IsShard (sym h) (write_sound segment same s w (subst IsTime (sym e) time) i)
+-- a moment that rises
+pub raised : (found : ShardOpening) (entries : List Entry) (number : ℕ) (drawn moment after : ℤ) → IsShard found entries number drawn moment → IsMoment after
+    → IsShard found entries number drawn after
+raised found entries number drawn moment after i m = record { number_is = i.number_is; drawn_is = i.drawn_is; few = i.few; low = i.low; moment_is = m }
+
+-- the atoms from before the run, and those of the run
+pub first_of_shard : (k table : ℕ) (key : List ℕ) (xs ys : List Entry) → first k table key xs ++ first k table key ys ≡ first k table key (xs ++ ys)
+first_of_shard = first_of_both

@@ -9,20 +9,15 @@ use Rattle.cas_types.specs.declared.schema.TableSchema.{TableSchema}
 use Rattle.cas_define.specs.declared.addition.Addition.{Addition}
 use Rattle.cas_bind.specs.declared.bound.Bound.TheVariants as bound
 use Rattle.cas_bind.specs.Tables.{with_added, AreInPlace, tables_after}
-use Rattle.cas_node.specs.declared.words.Command.{Command}
 use Rattle.cas_node.specs.History.{History, SetsClock, Defines}
-use Rattle.cas_node.specs.declared.words.ClockKind.{ClockKind}
-use Rattle.cas_node.specs.declared.words.ClockKind.TheVariants as clock
+use Rattle.cas_words.specs.declared.words.ClockKind.{ClockKind}
+use Rattle.cas_words.specs.declared.words.ClockKind.TheVariants as clock
 use Rattle.cas_render.specs.declared.reply.Reply.{Reply}
 use Rattle.cas_render.specs.declared.reply.Reply.TheVariants as reply
-use Rattle.cas_node.specs.Lines.{clock_of}
+use Rattle.cas_lines.specs.Lines.{clock_of}
+use Rattle.cas_lines.proofs.LineReading.{clock_is_moment}
 use Rattle.cas_types.specs.Limits.{IsMoment}
 use Rattle.cas_node.specs.Inner.Sound.{IsSound}
-
--- ---- the shards of a new store
-
-pub one_more : {X : Type 0} (n : ℕ) (x : X) (xs : List X) → xs ≡ replicate n x → xs ++ x ∷ [] ≡ replicate (n + 1) x
-one_more n x xs e = ap (λ ys. ys ++ x ∷ []) e ∙ replicate-append-replicate n 1 x
 
 -- ---- definitions
 
@@ -63,16 +58,12 @@ altered ts a d t n h e = at_place a 0 ts a.table d n (omega arith) h ∙ ap (sli
 
 -- ---- the clock
 
-pub clock_is_moment : (text : List ℕ) (n : ℤ) → clock_of text ≡ Some n → IsMoment n
-unfolding clock_of
-clock_is_moment text n e = grind (arith, ints, e)
+clock_set_sound : (h after : History) (text : List ℕ) (n : ℤ) (kind : ClockKind) (r : Reply) → IsSound h → clock_of text ≡ Some n → SetsClock kind h n r after → IsSound after
+clock_set_sound h after text n clock.Manual r i e s = subst IsSound (sym s.1) (record { tables = i.tables; count = i.count; some = i.some; clock = clock_is_moment text n e })
+clock_set_sound h after text n clock.System r i e s = subst IsSound (sym s.1) i
 
-clock_set_sound : (c : Command) (h after : History) (text : List ℕ) (n : ℤ) (kind : ClockKind) (r : Reply) → IsSound c h → clock_of text ≡ Some n → SetsClock kind h n r after → IsSound c after
-clock_set_sound c h after text n clock.Manual r i e s = subst (IsSound c) (sym s.1) (record { tables = i.tables; count = i.count; shards = i.shards; clock = clock_is_moment text n e })
-clock_set_sound c h after text n clock.System r i e s = subst (IsSound c) (sym s.1) i
-
-pub clock_set_at : (c : Command) (h after : History) (text : List ℕ) (n same : ℤ) (kind : ClockKind) (r : Reply) → IsSound c h → clock_of text ≡ Some n → same ≡ n → SetsClock kind h same r after → IsSound c after
-clock_set_at c h after text n same kind r i e x s = clock_set_sound c h after text n kind r i e (subst (λ m. SetsClock kind h m r after) x s)
+pub clock_set_at : (h after : History) (text : List ℕ) (n same : ℤ) (kind : ClockKind) (r : Reply) → IsSound h → clock_of text ≡ Some n → same ≡ n → SetsClock kind h same r after → IsSound after
+clock_set_at h after text n same kind r i e x s = clock_set_sound h after text n kind r i e (subst (λ m. SetsClock kind h m r after) x s)
 
 pub alter_none : (h : History) (a : Addition) → AreInPlace 0 h.tables → length h.tables ≤ a.table → Defines h (bound.Alter a) reply.Done h
 alter_none h a n e = (refl, ap (λ ts. record h { tables = ts }) (sym (altered_none h.tables a n e)))

@@ -1,4 +1,3 @@
-pub mod Parser
 pub mod Sound
 pub mod Stored
 pub mod Turns

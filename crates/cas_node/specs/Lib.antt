@@ -1,5 +1,3 @@
-pub mod Words
-pub mod Lines
 pub mod History
 pub mod Text
 pub mod Ran

@@ -1,21 +1,28 @@
 -- What a run did with its words, its script and its output (own).
-use Rattle.std.specs.Prelude.{◌≡◌, ◌≤◌, ◌⊎◌, ⊤, ℕ, ◌-◌, ℤ, Bool, true, false, Option, None, Some, List, [], ◌++◌, length}
-use Rattle.std.specs.List.{list_any}
+use Rattle.std.specs.Prelude.{◌≡◌, ◌≤◌, ◌⊎◌, ⊤, ℕ, ◌-◌, nat_lt, ℤ, Bool, true, false, Option, None, Some, if◌then◌else◌}
+use Rattle.std.specs.Prelude.{List, [], ◌∷◌, ◌++◌, length}
+use Rattle.std.specs.List.{fold}
 use Rattle.std.specs.Str.Lines.{lines}
 use Rattle.std.specs.Io.KnownBytes.{Appends, Keeps}
 use Rattle.cas_io.specs.Streams.{AppendsFront, ReadToEnd}
 use Rattle.cas_io.specs.Causes.{Rose}
+use Rattle.cas_disk.specs.Disk.{Disk}
+use Rattle.cas_render.specs.declared.reply.Failure.{Failure}
 use Rattle.cas_render.specs.declared.reply.Reply.{Reply}
 use Rattle.cas_render.specs.declared.reply.Reply.TheVariants as reply
+use Rattle.cas_render.specs.Text.{reply_text}
+use Rattle.cas_words.specs.Words.{command_of}
+use Rattle.cas_words.specs.declared.words.ClockKind.{ClockKind}
+use Rattle.cas_words.specs.declared.words.Command.{Command}
+use Rattle.cas_entries.specs.declared.entry.Entry.{Entry}
 use Rattle.cas_node.specs.declared.cause.Cause.{Cause}
 use Rattle.cas_node.specs.declared.cause.Cause.TheVariants as cause
-use Rattle.cas_node.specs.declared.program.Pass.{Pass}
+use Rattle.cas_node.specs.declared.opening.Opening.{Opening}
 use Rattle.cas_node.specs.declared.program.TheConstants.{SCRIPT_LIMIT}
-use Rattle.cas_node.specs.declared.shard.ShardHistory.{ShardHistory}
-use Rattle.cas_node.specs.declared.words.Command.{Command}
-use Rattle.cas_node.specs.History.{History, start, Runs, is_starved}
+use Rattle.cas_node.specs.History.{History, Runs, empty_opening, entered_in, start, tells_want}
 use Rattle.cas_node.specs.Text.{output}
-use Rattle.cas_node.specs.Words.{command_of}
+
+-- ---- how a run ends
 
 -- the program's exit status
 abbrev pub status_of : Cause → ℕ
@@ -27,49 +34,126 @@ status_of cause.Write = 4
 status_of cause.Mem = 7
 status_of (cause.TooLong taken) = 8
 
--- the line was refused
-abbrev pub is_refused : Option Reply → Bool
-is_refused (Some (reply.Refused n)) = true
-is_refused _ = false
+-- what is told first of several: other words, want of memory, a script that can't be read or is too long, a failed write, a refusal
+abbrev pub weight : Cause → ℕ
+weight cause.Good = 0
+weight cause.Refused = 1
+weight cause.Write = 2
+weight (cause.TooLong taken) = 3
+weight cause.Read = 4
+weight cause.Mem = 5
+weight cause.Words = 6
 
--- of each shard, the mutations that it accepted and its last moment
-abbrev pub shards_of : Pass → List ShardHistory
-shards_of p = p.shards
+-- of two causes the one that is told; of equals the first
+abbrev pub worse : Cause → Cause → Cause
+worse a b = if nat_lt (weight a) (weight b) then b else a
 
--- no line is left, all replies were written, and memory never ran out
-pub record Whole (rest : List (List ℕ)) (old new : Option (List ℕ)) (replies : List (Option Reply)) : Type 0 where
+-- why a statement came to nothing; that memory ran out is the only reason so far
+abbrev pub failure_cause : Failure → Cause
+failure_cause f = cause.Mem
+
+-- what a reply says of the run's end: a refusal, a failure, or nothing
+abbrev pub reply_cause : Option Reply → Cause
+reply_cause (Some (reply.Refused n)) = cause.Refused
+reply_cause (Some (reply.Failed f)) = failure_cause f
+reply_cause _ = cause.Good
+
+-- the worst that the replies say
+abbrev pub worst : List (Option Reply) → Cause
+worst replies = fold (λ c r. worse c (reply_cause r)) cause.Good replies
+
+-- ---- where a run stopped
+
+-- no line is left, all replies were written, and the run ends as the worst of them says
+pub record AtTheEnd (rest : List (List ℕ)) (old new : Option (List ℕ)) (replies : List (Option Reply)) (why : Cause) : Type 0 where
   pub all : rest ≡ []
   pub written : Appends old new (output replies)
-  pub fed : list_any is_starved replies ≡ false
+  pub told : why ≡ worst replies
 
--- how a run ends that answered lines: whole, with a refusal or with none; cut short by the sink though memory never ran out; or out
--- of memory
-abbrev pub Ended : Cause → Type 0 → Bool → Bool → Type 0
-Ended cause.Good whole refusing starved = whole × (refusing ≡ false)
-Ended cause.Refused whole refusing starved = whole × (refusing ≡ true)
-Ended cause.Write whole refusing starved = starved ≡ false
-Ended cause.Mem whole refusing starved = ⊤
-Ended _ whole refusing starved = ⊥
+-- the sink failed at the reply to the last line that was run: all earlier replies and a front of it were written
+pub record AtTheSink (old new : Option (List ℕ)) (replies : List (Option Reply)) (why : Cause) : Type 0 where
+  pub earlier : List (Option Reply)
+  pub last : Reply
+  pub are : replies ≡ earlier ++ Some last ∷ []
+  pub front : List ℕ
+  pub back : List ℕ
+  pub cut : front ++ back ≡ reply_text last
+  pub written : Appends old new (output earlier ++ front)
+  pub told : why ≡ worse (worst replies) cause.Write
 
--- the lines up to some place were run one after another, and the history that they left is the one handed back; what was written is
--- the text of their replies, or a front of it
-pub record Ran (c : Command) (Gives : ℤ → Type 0) (script : List ℕ) (old new : Option (List ℕ)) (shards : List ShardHistory)
-    (why : Cause) : Type 0 where
+-- memory ran out for the text of the reply to the last line that was run, which isn't `failed memory`: all earlier replies were written
+pub record ForMemory (old new : Option (List ℕ)) (replies : List (Option Reply)) (why : Cause) : Type 0 where
+  pub earlier : List (Option Reply)
+  pub last : Reply
+  pub are : replies ≡ earlier ++ Some last ∷ []
+  pub other : tells_want last ≡ false
+  pub written : Appends old new (output earlier)
+  pub told : why ≡ cause.Mem
+
+-- where a run stopped that answered lines
+pub data Stop : Type 0 where
+  at_the_end : Stop
+  at_the_sink : Stop
+  for_memory : Stop
+
+-- how it ended there: its replies, those that were written, and the cause
+abbrev pub Ended : Stop → List (List ℕ) → Option (List ℕ) → Option (List ℕ) → List (Option Reply) → Cause → Type 0
+Ended at_the_end rest old new replies why = AtTheEnd rest old new replies why
+Ended at_the_sink rest old new replies why = AtTheSink old new replies why
+Ended for_memory rest old new replies why = ForMemory old new replies why
+
+-- From a history, the lines up to some place were run one after another; they left this history, and the run ended there.
+pub record RanFrom (h : History) (kind : ClockKind) (Gives : ℤ → Type 0) (script : List ℕ) (old new : Option (List ℕ))
+    (final : History) (why : Cause) : Type 0 where
   pub run : List (List ℕ)
   pub rest : List (List ℕ)
   pub replies : List (Option Reply)
-  pub final : History
   pub cut : run ++ rest ≡ lines script
-  pub steps : Runs c Gives (start c) run replies final
-  pub accepted : shards ≡ final.shards
-  pub written : AppendsFront old new (output replies)
-  pub ended : Ended why (Whole rest old new replies) (list_any is_refused replies) (list_any is_starved replies)
+  pub steps : Runs kind Gives 1 h run replies final
+  pub stop : Stop
+  pub ended : Ended stop rest old new replies why
 
--- no line of the script is refused, whatever the clock reads, unless memory runs out
-abbrev pub IsGranted : Command → (ℤ → Type 0) → List ℕ → Type 0
-IsGranted c Gives script =
-    (replies : List (Option Reply)) (final : History) → Runs c Gives (start c) (lines script) replies final
-    → list_any is_starved replies ≡ false → list_any is_refused replies ≡ false
+-- the script ran from what the run begins with, and what its lines entered is what is handed back
+abbrev pub Ran : Opening → ClockKind → (ℤ → Type 0) → List ℕ → Option (List ℕ) → Option (List ℕ) → List (List Entry) → Cause → Type 0
+Ran o kind Gives script old new entered why =
+    (final : History) × RanFrom (start o) kind Gives script old new final why × (entered ≡ entered_in final)
+
+-- ---- a run and its outside
+
+-- The outside at some time: what is left of the source and what the sink took, where they tell it; how often they failed, and how often
+-- the sink took nothing of a piece; the folder, and how often it failed.
+pub record Outside : Type 1 where
+  pub left : Option (List ℕ)
+  pub read_faults : ℕ
+  pub taken : Option (List ℕ)
+  pub write_faults : ℕ
+  pub stalls : ℕ
+  pub folder : Disk
+  pub folder_faults : ℕ
+
+-- the outside of these
+abbrev pub outside : Option (List ℕ) → ℕ → Option (List ℕ) → ℕ → ℕ → Disk → ℕ → Outside
+outside left read_faults taken write_faults stalls folder folder_faults = record {
+  left = left;
+  read_faults = read_faults;
+  taken = taken;
+  write_faults = write_faults;
+  stalls = stalls;
+  folder = folder;
+  folder_faults = folder_faults;
+}
+
+-- the source failed between these two times
+abbrev pub ReadRose : Outside → Outside → Type 0
+ReadRose before after = Rose before.read_faults after.read_faults
+
+-- the sink failed between these two times, or took nothing of a piece that isn't empty
+abbrev pub WriteRose : Outside → Outside → Type 0
+WriteRose before after = Rose before.write_faults after.write_faults ⊎ Rose before.stalls after.stalls
+
+-- what a run with these words begins with: so far an empty folder
+abbrev pub opening_of : Command → Opening
+opening_of c = empty_opening c.limits
 
 -- a run may end so without having run a line
 abbrev pub IsNotRun : Cause → Type 0
@@ -79,16 +163,23 @@ IsNotRun cause.Write = ⊥
 IsNotRun _ = ⊤
 
 -- the words are the command's, and the script is all that the source had, and ran; or no line was run, and nothing was written
-abbrev pub RanAll : List (List ℕ) → (ℤ → Type 0) → Option (List ℕ) → Option (List ℕ) → Option (List ℕ) → Option (List ℕ)
-    → Option (List ShardHistory) → Cause → Type 0
-RanAll words Gives left left' took took' None why = Keeps took took' × IsNotRun why
-RanAll words Gives left left' took took' (Some shards) why =
+abbrev pub RanAll : List (List ℕ) → (ℤ → Type 0) → Outside → Outside → Option (List (List Entry)) → Cause → Type 0
+RanAll words Gives before after None why = Keeps before.taken after.taken × IsNotRun why
+RanAll words Gives before after (Some entered) why =
     (c : Command) × (command_of words ≡ Some c)
-    × ((script : List ℕ) × ReadToEnd left left' script × (length script ≤ SCRIPT_LIMIT) × Ran c Gives script took took' shards why)
+    × ((script : List ℕ) × ReadToEnd before.left after.left script × (length script ≤ SCRIPT_LIMIT)
+    × Ran (opening_of c) c.clock Gives script before.taken after.taken entered why)
 
--- a write failed, or took nothing of a piece that isn't empty
-abbrev pub SinkRose : ℕ → ℕ → ℕ → ℕ → Type 0
-SinkRose faults faults' stalls stalls' = Rose faults faults' ⊎ Rose stalls stalls'
+-- ---- words of the other clauses
+
+-- every line was answered without a refusal, or memory ran out
+abbrev pub GoodOrMem : Cause → Type 0
+GoodOrMem why = (why ≡ cause.Good) ⊎ (why ≡ cause.Mem)
+
+-- no line of the script is refused, whatever the clock reads, unless memory runs out
+abbrev pub IsGranted : Opening → ClockKind → (ℤ → Type 0) → List ℕ → Type 0
+IsGranted o kind Gives script =
+    (replies : List (Option Reply)) (final : History) → Runs kind Gives 1 (start o) (lines script) replies final → GoodOrMem (worst replies)
 
 -- this holds of the bytes that were taken, if the script is too long
 abbrev pub IfTooLong : Cause → (ℕ → Type 0) → Type 0
@@ -107,16 +198,12 @@ count_taken (Some xs) None = None
 count_taken (Some xs) (Some ys) = Some (length xs - length ys)
 
 -- all is well: the words are the command's, the source tells a script within the limit of which no line is refused, and no count rises
-pub record AllWell (words : List (List ℕ)) (Gives : ℤ → Type 0) (left : Option (List ℕ)) (read_fails write_fails : Type 0) : Type 0 where
+pub record AllWell (words : List (List ℕ)) (Gives : ℤ → Type 0) (before after : Outside) : Type 0 where
   pub command : Command
   pub words_are : command_of words ≡ Some command
   pub script : List ℕ
-  pub told : left ≡ Some script
+  pub told : before.left ≡ Some script
   pub short : length script ≤ SCRIPT_LIMIT
-  pub granted : IsGranted command Gives script
-  pub no_read_fault : read_fails → ⊥
-  pub no_write_fault : write_fails → ⊥
-
--- every line was answered without a refusal, or memory ran out
-abbrev pub GoodOrMem : Cause → Type 0
-GoodOrMem why = (why ≡ cause.Good) ⊎ (why ≡ cause.Mem)
+  pub granted : IsGranted (opening_of command) command.clock Gives script
+  pub no_read_fault : ReadRose before after → ⊥
+  pub no_write_fault : WriteRose before after → ⊥

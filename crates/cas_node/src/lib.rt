@@ -3,18 +3,16 @@
 
 mod cause;
 mod laws;
-mod line;
-mod lines;
+mod opening;
 mod program;
 mod session;
 mod shard;
 mod store;
 #[cfg(test)]
 mod tests;
-mod words;
 
+pub use cas_words::path_of;
 pub use cause::Cause;
 pub use laws::one_outcome;
+pub use opening::Opening;
 pub use program::{Outcome, Pass, SCRIPT_LIMIT, run};
-pub use shard::ShardHistory;
-pub use words::path_of;

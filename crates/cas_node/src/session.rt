@@ -1,22 +1,20 @@
 //! Runs the lines of a script one after another, and writes what they answer.
 
-ghost use Rattle.std.specs.Prelude.{◌≡◌, ◌≤◌, OnOk, OnErr, IsErrOf, Some, is_none, ◌||◌};
-ghost use Rattle.std.specs.Io.KnownBytes.{Appends};
-ghost use Rattle.cas_io.specs.Streams.{AppendsFront};
-ghost use Rattle.cas_node.specs.Text.{line_text};
-ghost use Rattle.cas_node.specs.Inner.Turns.{Turned, EndsEarly, EndsWhole};
-ghost use Rattle.cas_node.specs.Ran.{Ran, SinkRose, is_refused};
+ghost use Rattle.std.specs.Prelude.{◌≡◌, ◌≤◌, ◌⊎◌, Some};
+ghost use Rattle.cas_io.specs.Causes.{Rose};
+ghost use Rattle.cas_render.specs.Text.{reply_text};
+ghost use Rattle.cas_node.specs.Inner.Turns.{Printed, PrintedReply, StopsFor, Turned};
+ghost use Rattle.cas_node.specs.Ran.{RanFrom, reply_cause, weight, worse};
 ghost use Rattle.cas_node.specs.Inner.Stored.{stored};
-ghost use Rattle.cas_node.specs.Inner.Sound.{IsCommand, IsSound};
-ghost use Rattle.cas_node.specs.History.{is_starved, start};
+ghost use Rattle.cas_node.specs.Inner.Sound.{IsSound};
 
 use crate::cause::Cause;
-use crate::lines::next_line;
-use crate::store::Store;
-use crate::words::Command;
+use crate::store::{Ask, Store};
 use cas_io::{Clock, Sink, write_all};
+use cas_lines::next_line;
 use cas_render::{Failure, Reply, render};
 use cas_types::Mem;
+use cas_words::ClockKind;
 use std::alloc::Global;
 
 /// Why a reply wasn't written.
@@ -26,26 +24,51 @@ pub(crate) enum PrintFault {
     Write,
 }
 
-fn is_starved(reply: &Option<Reply>) -> bool
-    ensures { result ≡ is_starved reply.now }
+fn reply_cause(reply: &Option<Reply>) -> Cause
+    ensures { result ≡ reply_cause reply.now }
 {
-    matches!(reply, Some(Reply::Failed(Failure::Memory)))
-}
-
-fn is_refused(reply: &Option<Reply>) -> bool
-    ensures { result ≡ is_refused reply.now }
-{
-    matches!(reply, Some(Reply::Refused(_)))
-}
-
-// Puts the text of a reply in the place of what is there.
-fn write_text(alloc: Global, reply: &Option<Reply>, text: &mut Vec<u8>) -> Result<(), Mem>
-    ensures { OnOk result (text.new.items ≡ line_text reply.now) }
-{
-    text.clear();
     match reply {
-        Some(reply) => render(alloc, reply, text),
-        None => Ok(()),
+        Some(Reply::Refused(_)) => Cause::Refused,
+        Some(Reply::Failed(_)) => Cause::Mem,
+        _ => Cause::Good,
+    }
+}
+
+fn write_text<K: Sink>(sink: &mut K, reply: &Reply, text: &[u8]) -> Option<PrintFault>
+    requires { text.now ≡ reply_text reply.now }
+    ensures printed { PrintedReply result reply.now (K.took sink.old) (K.took sink.new) }
+    ensures faults { K.faults sink.old ≤ K.faults sink.new }
+    ensures stalls { K.stalls sink.old ≤ K.stalls sink.new }
+    ensures write { result ≡ Some PrintFault.Write
+        → Rose (K.faults sink.old) (K.faults sink.new) ⊎ Rose (K.stalls sink.old) (K.stalls sink.new) }
+{
+    match write_all(sink, text) {
+        Ok(()) => None,
+        Err(_) => Some(PrintFault::Write),
+    }
+}
+
+// Writes the reply. `failed memory` is written without taking memory.
+#[tactic(auto, using(crate::proofs::SessionLemmas::want_text))]
+fn print_reply<K: Sink>(
+    alloc: Global,
+    reply: &Reply,
+    text: &mut Vec<u8>,
+    sink: &mut K,
+) -> Option<PrintFault>
+    ensures printed { PrintedReply result reply.now (K.took sink.old) (K.took sink.new) }
+    ensures faults { K.faults sink.old ≤ K.faults sink.new }
+    ensures stalls { K.stalls sink.old ≤ K.stalls sink.new }
+    ensures write { result ≡ Some PrintFault.Write
+        → Rose (K.faults sink.old) (K.faults sink.new) ⊎ Rose (K.stalls sink.old) (K.stalls sink.new) }
+{
+    if let Reply::Failed(Failure::Memory) = reply {
+        return write_text(sink, reply, b"failed memory\n");
+    }
+    text.clear();
+    match render(alloc, reply, text) {
+        Ok(()) => write_text(sink, reply, text),
+        Err(Mem) => Some(PrintFault::Mem),
     }
 }
 
@@ -54,122 +77,114 @@ fn print<K: Sink>(
     reply: &Option<Reply>,
     text: &mut Vec<u8>,
     sink: &mut K,
-) -> Result<(), PrintFault>
-    ensures ok { OnOk result (Appends (K.took sink.old) (K.took sink.new) (line_text reply.now)) }
-    ensures err { OnErr result (AppendsFront (K.took sink.old) (K.took sink.new) (line_text reply.now)) }
+) -> Option<PrintFault>
+    ensures printed { Printed result reply.now (K.took sink.old) (K.took sink.new) }
     ensures faults { K.faults sink.old ≤ K.faults sink.new }
     ensures stalls { K.stalls sink.old ≤ K.stalls sink.new }
-    ensures write { IsErrOf result PrintFault.Write
-        → SinkRose (K.faults sink.old) (K.faults sink.new) (K.stalls sink.old) (K.stalls sink.new) }
+    ensures write { result ≡ Some PrintFault.Write
+        → Rose (K.faults sink.old) (K.faults sink.new) ⊎ Rose (K.stalls sink.old) (K.stalls sink.new) }
 {
-    match write_text(alloc, reply, text) {
-        Ok(()) => {}
-        Err(Mem) => return Err(PrintFault::Mem),
-    }
-    match write_all(sink, text) {
-        Ok(()) => Ok(()),
-        Err(_) => Err(PrintFault::Write),
+    match reply {
+        Some(reply) => print_reply(alloc, reply, text, sink),
+        None => None,
     }
 }
 
-// Why a run ends where a reply wasn't written.
-fn cut_short(fault: PrintFault, starved: bool) -> Cause
-    ensures cause { EndsEarly starved result }
-    ensures write { result ≡ Cause.Write → fault ≡ PrintFault.Write }
+fn weight(cause: Cause) -> u8
+    ensures { result ≡ weight cause }
 {
-    match fault {
-        PrintFault::Write if !starved => Cause::Write,
-        _ => Cause::Mem,
+    match cause {
+        Cause::Good => 0,
+        Cause::Refused => 1,
+        Cause::Write => 2,
+        Cause::TooLong { .. } => 3,
+        Cause::Read => 4,
+        Cause::Mem => 5,
+        Cause::Words => 6,
     }
 }
 
-// Why a run ends where all lines are answered.
-fn verdict(refused: bool, starved: bool) -> Cause
-    ensures { EndsWhole refused starved result }
+fn worse(a: Cause, b: Cause) -> Cause
+    ensures { result ≡ worse a b }
 {
-    if starved {
-        Cause::Mem
-    } else if refused {
-        Cause::Refused
-    } else {
-        Cause::Good
-    }
+    if weight(a) < weight(b) { b } else { a }
 }
 
 /// What one line came to.
 #[derive(Clone, Copy)]
 struct Turn {
-    refused: bool,
-    starved: bool,
+    cause: Cause,
     fault: Option<PrintFault>,
 }
 
 fn take_turn<K: Sink, C: Clock>(
     alloc: Global,
-    command: &Command,
-    clock: &C,
+    ask: &Ask<'_, C>,
     store: &mut Store,
     text: &mut Vec<u8>,
     sink: &mut K,
     line: &[u8],
 ) -> Turn
-    requires command { IsCommand command.now }
-    requires sound { IsSound command.now (stored store.old) }
-    ensures turned { Turned command.now (C.may_give clock.now) (stored store.old) line.now (stored store.new)
-        (K.took sink.old) (K.took sink.new) result.refused result.starved (is_none result.fault) }
-    ensures sound { IsSound command.now (stored store.new) }
+    requires sound { IsSound (stored store.old) }
+    ensures turned { Turned ask.now.kind (C.may_give ask.now.clock.now) ask.now.place (stored store.old) line.now (stored store.new)
+        (K.took sink.old) (K.took sink.new) result.cause result.fault }
+    ensures sound { IsSound (stored store.new) }
     ensures faults { K.faults sink.old ≤ K.faults sink.new }
     ensures stalls { K.stalls sink.old ≤ K.stalls sink.new }
     ensures write { result.fault ≡ Some PrintFault.Write
-        → SinkRose (K.faults sink.old) (K.faults sink.new) (K.stalls sink.old) (K.stalls sink.new) }
+        → Rose (K.faults sink.old) (K.faults sink.new) ⊎ Rose (K.stalls sink.old) (K.stalls sink.new) }
 {
-    let reply = store.answer_line(alloc, command, clock, line);
-    let printed = print(alloc, &reply, text, sink);
+    let reply = store.answer_line(alloc, ask, line);
+    let fault = print(alloc, &reply, text, sink);
     Turn {
-        refused: is_refused(&reply),
-        starved: is_starved(&reply),
-        fault: printed.err(),
+        cause: reply_cause(&reply),
+        fault,
     }
 }
 
-fn either(a: bool, b: bool) -> bool
-    ensures { result ≡ (a || b) }
+// Why a run ends where a reply wasn't written.
+fn cut_short(fault: PrintFault, cause: Cause) -> Cause
+    ensures cause { StopsFor fault cause result }
+    ensures write { result ≡ Cause.Write → fault ≡ PrintFault.Write }
 {
-    a || b
+    match fault {
+        PrintFault::Write => worse(cause, Cause::Write),
+        PrintFault::Mem => Cause::Mem,
+    }
 }
 
-/// Runs the lines of a script one after another in a store just made, and writes what they answer.
+/// Runs the lines of a script one after another in a store just opened, and writes what they
+/// answer.
 pub(crate) fn session<K: Sink, C: Clock>(
     alloc: Global,
-    command: &Command,
+    kind: ClockKind,
     clock: &C,
     mut store: Store,
     script: &[u8],
     sink: &mut K,
 ) -> (Store, Cause)
-    requires command { IsCommand command.now }
-    requires start { stored store ≡ start command.now }
-    requires sound { IsSound command.now (stored store) }
-    ensures ran { Ran command.now (C.may_give clock.now) script.now (K.took sink.old) (K.took sink.new)
-        result.0.shards.items result.1 }
+    requires sound { IsSound (stored store) }
+    ensures ran { RanFrom (stored store) kind (C.may_give clock.now) script.now (K.took sink.old) (K.took sink.new)
+        (stored result.0) result.1 }
     ensures faults { K.faults sink.old ≤ K.faults sink.new }
     ensures stalls { K.stalls sink.old ≤ K.stalls sink.new }
     ensures write { result.1 ≡ Cause.Write
-        → SinkRose (K.faults sink.old) (K.faults sink.new) (K.stalls sink.old) (K.stalls sink.new) }
+        → Rose (K.faults sink.old) (K.faults sink.new) ⊎ Rose (K.stalls sink.old) (K.stalls sink.new) }
 {
     let mut rest = script;
-    let mut refused = false;
-    let mut starved = false;
+    let mut place = 1;
+    let mut cause = Cause::Good;
     let mut text = Vec::new(alloc);
     while !rest.is_empty() {
         let (line, after) = next_line(rest);
-        let turn = take_turn(alloc, command, clock, &mut store, &mut text, sink, line);
-        refused = either(turn.refused, refused);
-        starved = either(turn.starved, starved);
+        let ask = Ask { kind, clock, place };
+        let turn = take_turn(alloc, &ask, &mut store, &mut text, sink, line);
+        cause = worse(cause, turn.cause);
         if let Some(fault) = turn.fault {
-            return (store, cut_short(fault, starved));
+            return (store, cut_short(fault, cause));
         }
         rest = after;
+        place += 1;
     }
-    (store, verdict(refused, starved))
+    (store, cause)
 }

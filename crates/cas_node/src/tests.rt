@@ -1,10 +1,9 @@
-//! What no script can show: faults of the source and the sink, the longest script, many statements,
-//! the words. Scripts stand in `cas_rows`.
-
-mod words;
+//! What no script can show: faults of the source and the sink, the longest script, many statements.
+//! Scripts stand in `cas_rows`.
 
 use crate::{Cause, Outcome, Pass, SCRIPT_LIMIT, run};
 use cas_disk::{FaultPlan, MemFolder};
+use cas_entries::Entry;
 use cas_io::{Failed, FreeGate, ManualClock, MemSink, MemSource, Source};
 use std::alloc::Global;
 use std::fmt::Write;
@@ -33,14 +32,18 @@ fn words_of(alloc: Global, text: &str) -> Result<Vec<String>, Fail> {
     Ok(list)
 }
 
+// Of the one shard that the runs here have.
 fn numbers_of(alloc: Global, pass: &Option<Pass>) -> Result<Option<Vec<u64>>, Fail> {
     let Some(pass) = pass else {
         return Ok(None);
     };
+    if pass.len() == 0 {
+        return Ok(None);
+    }
     let mut numbers = Vec::new(alloc);
-    for shard in pass.shards.as_slice() {
-        for entry in shard.entries.as_slice() {
-            numbers.push(entry.number)?;
+    for entry in pass.entries(0) {
+        match entry {
+            Entry::Wrote { mutation, .. } => numbers.push(mutation.number)?,
         }
     }
     Ok(Some(numbers))

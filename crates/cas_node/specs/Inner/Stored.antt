@@ -2,6 +2,6 @@
 use Rattle.cas_node.specs.History.{History}
 use Rattle.cas_node.specs.declared.store.Store.{Store}
 
--- its tables, its shards and its clock
+-- its limits, its tables, its shards and its clock
 abbrev pub stored : Store → History
-stored s = record { tables = s.tables.items; shards = s.shards.items; clock = s.clock }
+stored s = record { limits = s.limits; tables = s.tables.items; shards = s.shards.items; clock = s.clock }

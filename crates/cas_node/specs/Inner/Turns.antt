@@ -1,39 +1,49 @@
--- One line's turn, and how a run ends by what its lines came to (own).
-use Rattle.std.specs.Prelude.{◌≡◌, ℕ, ℤ, Bool, true, false, Option, List, ⊤}
-use Rattle.std.specs.Io.KnownBytes.{Appends}
+-- One line's turn, and what came of its reply (own).
+use Rattle.std.specs.Prelude.{◌≡◌, ◌⊎◌, ℕ, ℤ, false, Option, None, Some, List}
+use Rattle.std.specs.Io.KnownBytes.{Appends, Keeps}
 use Rattle.cas_io.specs.Streams.{AppendsFront}
 use Rattle.cas_io.specs.declared.script.ScriptFault.{ScriptFault}
 use Rattle.cas_io.specs.declared.script.ScriptFault.TheVariants as fault
 use Rattle.cas_render.specs.declared.reply.Reply.{Reply}
+use Rattle.cas_render.specs.Text.{reply_text}
+use Rattle.cas_words.specs.declared.words.ClockKind.{ClockKind}
 use Rattle.cas_node.specs.declared.cause.Cause.{Cause}
 use Rattle.cas_node.specs.declared.cause.Cause.TheVariants as cause
-use Rattle.cas_node.specs.declared.words.Command.{Command}
-use Rattle.cas_node.specs.History.{History, Answers, is_starved}
+use Rattle.cas_node.specs.declared.session.PrintFault.{PrintFault}
+use Rattle.cas_node.specs.declared.session.PrintFault.TheVariants as print
+use Rattle.cas_effects.specs.declared.effect.BoundWrite.{BoundWrite}
+use Rattle.cas_entries.specs.declared.entry.Entry.{Entry}
+use Rattle.cas_node.specs.History.{History, ShardHistory, Answers, Takes, after_entries, tells_want}
 use Rattle.cas_node.specs.Text.{line_text}
-use Rattle.cas_node.specs.Ran.{is_refused}
+use Rattle.cas_node.specs.Ran.{reply_cause, worse}
 
--- one line was answered, and its reply was written, or a front of it
-pub record Turned (c : Command) (Gives : ℤ → Type 0) (before : History) (line : List ℕ) (after : History)
-    (old new : Option (List ℕ)) (refused starved printed : Bool) : Type 0 where
+-- a write was answered so by its shard, which it found as `s` and left as `t`
+abbrev pub Took : ℕ → ShardHistory → ℤ → ℕ → ℕ → BoundWrite → ShardHistory → Reply → Type 0
+Took segment s reading session call w t r = (entries : List Entry) × Takes segment s reading session call w entries r × (t ≡ after_entries reading entries s)
+
+-- what came of writing a reply: all of it was written; a front of it; or nothing, as memory ran out, and it isn't `failed memory`
+abbrev pub PrintedReply : Option PrintFault → Reply → Option (List ℕ) → Option (List ℕ) → Type 0
+PrintedReply None r old new = Appends old new (reply_text r)
+PrintedReply (Some print.Write) r old new = AppendsFront old new (reply_text r)
+PrintedReply (Some print.Mem) r old new = (tells_want r ≡ false) × Keeps old new
+
+-- what came of writing what a line is answered; where it isn't answered, nothing is to be written
+abbrev pub Printed : Option PrintFault → Option Reply → Option (List ℕ) → Option (List ℕ) → Type 0
+Printed fault None old new = (fault ≡ None) × Keeps old new
+Printed fault (Some r) old new = PrintedReply fault r old new
+
+-- one line was answered, and this came of its reply
+pub record Turned (kind : ClockKind) (Gives : ℤ → Type 0) (place : ℕ) (before : History) (line : List ℕ) (after : History)
+    (old new : Option (List ℕ)) (why : Cause) (fault : Option PrintFault) : Type 0 where
   pub reply : Option Reply
-  pub answers : Answers c Gives before line reply after
-  pub refusal : refused ≡ is_refused reply
-  pub want : starved ≡ is_starved reply
-  pub whole : printed ≡ true → Appends old new (line_text reply)
-  pub written : AppendsFront old new (line_text reply)
+  pub answers : Answers kind Gives before place line reply after
+  pub told : why ≡ reply_cause reply
+  pub printed : Printed fault reply old new
 
--- how a run ends that couldn't write a reply, by whether memory ran out before
-abbrev pub EndsEarly : Bool → Cause → Type 0
-EndsEarly starved cause.Write = starved ≡ false
-EndsEarly starved cause.Mem = ⊤
-EndsEarly starved _ = ⊥
-
--- how a run ends that wrote all replies, by whether a line was refused and whether memory ran out
-abbrev pub EndsWhole : Bool → Bool → Cause → Type 0
-EndsWhole refused starved cause.Good = (refused ≡ false) × (starved ≡ false)
-EndsWhole refused starved cause.Refused = (refused ≡ true) × (starved ≡ false)
-EndsWhole refused starved cause.Mem = starved ≡ true
-EndsWhole refused starved _ = ⊥
+-- why a run ends that came to this cause, where a reply wasn't written
+abbrev pub StopsFor : PrintFault → Cause → Cause → Type 0
+StopsFor print.Write before why = why ≡ worse before cause.Write
+StopsFor print.Mem before why = why ≡ cause.Mem
 
 -- why a run ends whose script couldn't be read
 abbrev pub cause_of_fault : ScriptFault → Cause

@@ -1,0 +1,77 @@
+-- A text says one line only.
+use Rattle.std.proofs.Common.{◌≡◌, ℕ, ℤ, Bool, true, false, cond, List, [], ◌∷◌, take, codes, Option, None, Some, refl, sym, ap, ◌∙◌, subst, arith}
+use Rattle.std.specs.Char.{to_ascii_lowercase}
+use Rattle.std.specs.Str.{str_eq_ignore_ascii_case, str_to_ascii_lowercase}
+use Rattle.std.proofs.lemmas.Bool.{false≢true, and_parts}
+use Rattle.std.proofs.lemmas.Bool.Decides.{nat_tests}
+use Rattle.std.proofs.lemmas.Option.{none-some, same_Some}
+use Rattle.std.proofs.lemmas.Slice.Eq.{bytes_eq-Decides}
+use Rattle.cql_lex.specs.Lexes.{Lexes}
+use Rattle.cql_lex.specs.declared.token.Token.{Token}
+use Rattle.cql_lex.proofs.Backslash.{refused}
+use Rattle.cql_lex.proofs.Spans.{one_reading}
+use Rattle.cql_parse.specs.declared.lexeme.Lexeme.{Lexeme}
+use Rattle.cql_parse.specs.declared.syntax.Statement.{Statement}
+use Rattle.cql_parse.specs.declared.syntax.Statement.TheVariants as statement
+use Rattle.cql_parse.specs.Grammar.{Of}
+use Rattle.cql_parse.specs.Lexemes.{lexemes_of}
+use Rattle.cql_parse.specs.Means.{Means}
+use Rattle.cql_parse.proofs.StatementAgree.{at_most_one}
+use Rattle.cas_lines.specs.declared.line.Line.{Line}
+use Rattle.cas_lines.specs.declared.line.Line.TheVariants as line
+use Rattle.cas_lines.specs.Lines.{Says, Spells, clock_of}
+use Rattle.cas_lines.proofs.LineReading.{no_token, sets_by_command}
+
+-- ---- no statement is spelled by nothing
+
+starts : (x : Lexeme) (l m : List Lexeme) → l ≡ [] → l ≡ x ∷ m → ⊥
+starts x l m e h = cc
+
+not_empty : (s : Statement) (l r : List Lexeme) → l ≡ [] → Of s l r → ⊥
+not_empty (statement.Create x) l r e h = starts _ l h.0 e h.1
+not_empty (statement.Alter x) l r e h = starts _ l h.0 e h.1
+not_empty (statement.Insert x) l r e h = starts _ l h.0 e h.1
+not_empty (statement.Update x) l r e h = starts _ l h.0 e h.1
+not_empty (statement.Delete x) l r e h = starts _ l h.0 e h.1
+not_empty (statement.Select x) l r e h = starts _ l h.0 e h.1
+
+no_lexemes : (source : List ℕ) (l : List Lexeme) → lexemes_of source [] ≡ Some l → l ≡ []
+unfolding lexemes_of
+no_lexemes source l e = sym (same_Some [] l e)
+
+nothing_means : (source : List ℕ) (s : Statement) → Means source [] s → ⊥
+nothing_means source s m = not_empty s m.lexemes m.grammar.0 (no_lexemes source m.lexemes m.meanings) m.grammar.1
+
+-- ---- a command has no tokens
+
+no_command : (text : List ℕ) (n : ℤ) (tokens : List Token) → Lexes text tokens → clock_of text ≡ Some n → ⊥
+no_command text n tokens lexed e = no_token text tokens (sets_by_command text n e) lexed
+
+-- ---- a line
+
+one_meaning : (text : List ℕ) (tokens others : List Token) (s : Statement) → Lexes text tokens → Lexes text others → Means text others s → Means text tokens s
+one_meaning text tokens others s x y m = subst (λ ts. Means text ts s) (one_reading text others tokens y x) m
+
+no_blank : (text : List ℕ) (s : Statement) → Spells text line.Blank → Spells text (line.Statement s) → ⊥
+no_blank text s x y = nothing_means text s (one_meaning text [] y.1.0 s x.1 y.1.1 y.1.2)
+
+one_statement : (text : List ℕ) (s t : Statement) → Spells text (line.Statement s) → Spells text (line.Statement t) → s ≡ t
+one_statement text s t x y = at_most_one text x.1.0 s t x.1.2 (one_meaning text x.1.0 y.1.0 t x.1.1 y.1.1 y.1.2)
+
+pub one_line : (text : List ℕ) (l m : Line) → Says text l → Says text m → l ≡ m
+one_line text line.Blank line.Blank x y = refl
+one_line text line.Blank (line.Statement t) x y = absurd (no_blank text t x y)
+one_line text line.Blank (line.Clock k) x y = absurd (no_command text k [] x.1 y)
+one_line text line.Blank line.Syntax x y = absurd (y line.Blank x)
+one_line text (line.Statement s) line.Blank x y = absurd (no_blank text s y x)
+one_line text (line.Statement s) (line.Statement t) x y = ap line.Statement (one_statement text s t x y)
+one_line text (line.Statement s) (line.Clock k) x y = absurd (no_command text k x.1.0 x.1.1 y)
+one_line text (line.Statement s) line.Syntax x y = absurd (y (line.Statement s) x)
+one_line text (line.Clock n) line.Blank x y = absurd (no_command text n [] y.1 x)
+one_line text (line.Clock n) (line.Statement t) x y = absurd (no_command text n y.1.0 y.1.1 x)
+one_line text (line.Clock n) (line.Clock k) x y = ap line.Clock (same_Some n k (sym x ∙ y))
+one_line text (line.Clock n) line.Syntax x y = absurd (y (line.Clock n) x)
+one_line text line.Syntax line.Blank x y = absurd (x line.Blank y)
+one_line text line.Syntax (line.Statement t) x y = absurd (x (line.Statement t) y)
+one_line text line.Syntax (line.Clock k) x y = absurd (x (line.Clock k) y)
+one_line text line.Syntax line.Syntax x y = refl

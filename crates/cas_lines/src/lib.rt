@@ -1,0 +1,10 @@
+//! A script as lines, and what each line says: a statement of CQL, a command, nothing, or bad syntax.
+#![tactic(auto)]
+
+mod laws;
+mod line;
+mod lines;
+
+pub use laws::one_reading;
+pub use line::{Line, read_line};
+pub use lines::next_line;

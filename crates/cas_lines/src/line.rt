@@ -1,0 +1,137 @@
+//! What a line of a script says.
+
+ghost use Rattle.std.specs.Prelude.{◌≡◌, [], false, map, IfOk, IsTrue, IsUtf8};
+ghost use Rattle.cql_lex.specs.Lexes.{Lexes};
+ghost use Rattle.cql_lex.specs.Gaps.{is_blank};
+ghost use Rattle.cas_lines.specs.Lines.{Says, clock_by, clock_in, has_bytes, is_command, seconds_in, words_of};
+
+use cas_types::{LAST_SECOND, Mem};
+use cql_lex::{LexFault, Token, number_of, tokens};
+use cql_parse::{ParseFault, Statement, statement};
+use std::alloc::{AllocError, Global};
+use std::str::from_utf8;
+
+/// What a line says.
+#[derive(Drop)]
+pub enum Line {
+    /// Nothing.
+    Blank,
+    Statement(Statement),
+    /// `\clock n`, with the seconds.
+    Clock(i64),
+    /// It is none of these.
+    Syntax,
+}
+
+fn is_blank(byte: u8) -> bool
+    ensures { result ≡ is_blank byte }
+{
+    byte == b' ' || byte == b'\t'
+}
+
+fn has_bytes(word: &[u8]) -> bool
+    ensures { result ≡ has_bytes word.now }
+{
+    !word.is_empty()
+}
+
+// What stands between the blanks of a command.
+fn words_of(alloc: Global, text: &[u8]) -> Result<Vec<&[u8]>, AllocError>
+    ensures { IfOk result (λ v. map (λ w. w.now) v.items ≡ words_of text.now) }
+{
+    let words = text.split(|b| is_blank(*b));
+    words.filter(|word| has_bytes(word)).collect(alloc)
+}
+
+fn seconds_in(number: Option<i128>) -> Option<i64>
+    ensures { result ≡ seconds_in number }
+{
+    match number {
+        Some(n) if 0 <= n && n <= i128::from(LAST_SECOND) => Some(n as i64),
+        _ => None,
+    }
+}
+
+fn clock_by(name: &[u8], number: &[u8]) -> Option<i64>
+    ensures { result ≡ clock_by name.now number.now }
+{
+    if name.eq_ignore_ascii_case(b"\\clock") {
+        seconds_in(number_of(number))
+    } else {
+        None
+    }
+}
+
+fn clock_in(words: &[&[u8]]) -> Option<i64>
+    ensures { result ≡ clock_in (map (λ w. w.now) words.now) }
+{
+    match words {
+        [name, number] => clock_by(name, number),
+        _ => None,
+    }
+}
+
+fn is_command(text: &[u8]) -> bool
+    ensures { result ≡ is_command text.now }
+{
+    match text {
+        [first, ..] => *first == b'\\',
+        [] => false,
+    }
+}
+
+// What a line says that begins as a command does.
+#[tactic(auto, using(crate::proofs::LineReading::no_command), unfolding(crate::specs::Lines::clock_of))]
+fn read_command(alloc: Global, text: &[u8]) -> Result<Line, Mem>
+    requires { IsTrue (is_command text.now) }
+    ensures { IfOk result (λ l. Says text.now l) }
+{
+    let words = words_of(alloc, text)?;
+    match clock_in(&words) {
+        Some(seconds) => Ok(Line::Clock(seconds)),
+        None => Ok(Line::Syntax),
+    }
+}
+
+fn read_tokens(alloc: Global, text: &str, tokens: &[Token]) -> Result<Line, Mem>
+    requires utf8 { IsUtf8 text.now }
+    requires command { is_command text.now ≡ false }
+    requires lexed { Lexes text.now tokens.now }
+    requires some { tokens.now ≡ [] → ⊥ }
+    ensures { IfOk result (λ l. Says text.now l) }
+{
+    match statement(alloc, tokens, text) {
+        Ok(statement) => Ok(Line::Statement(statement)),
+        Err(ParseFault::Syntax) => Ok(Line::Syntax),
+        Err(ParseFault::Mem) => Err(Mem),
+    }
+}
+
+fn read_text(alloc: Global, text: &str) -> Result<Line, Mem>
+    requires utf8 { IsUtf8 text.now }
+    requires command { is_command text.now ≡ false }
+    ensures { IfOk result (λ l. Says text.now l) }
+{
+    match tokens(alloc, text) {
+        Ok(tokens) => match tokens.as_slice() {
+            [] => Ok(Line::Blank),
+            [_first, ..] => read_tokens(alloc, text, &tokens),
+        },
+        Err(LexFault::Syntax) => Ok(Line::Syntax),
+        Err(LexFault::Mem) => Err(Mem),
+    }
+}
+
+/// What the line says.
+#[tactic(auto, using(crate::proofs::LineReading::not_utf8))]
+pub fn read_line(alloc: Global, line: &[u8]) -> Result<Line, Mem>
+    ensures { IfOk result (λ l. Says line.now l) }
+{
+    if is_command(line) {
+        return read_command(alloc, line);
+    }
+    match from_utf8(line) {
+        Ok(text) => read_text(alloc, text),
+        Err(_) => Ok(Line::Syntax),
+    }
+}
