@@ -13,8 +13,6 @@ mod query;
 mod row;
 mod rows_and_paths;
 mod shown_rows;
-#[cfg(test)]
-mod tests;
 mod winners;
 
 pub use answers::{answer, row_shown};

@@ -6,8 +6,6 @@ mod cuts;
 mod laws;
 mod map_key;
 mod order;
-#[cfg(test)]
-mod tests;
 
 pub use cuts::{Clustering, Cut, Slice, between, cmp_cut, inside};
 pub use laws::{cut_orders, cuts_divide_rows, keys_are_points, own_places, point_laws, row_orders};

@@ -6,8 +6,6 @@ mod cell;
 mod deletion;
 mod laws;
 mod liveness;
-#[cfg(test)]
-mod tests;
 
 pub use cell::{Cell, alive, wins};
 pub use deletion::{Deletion, covers, del_wins};

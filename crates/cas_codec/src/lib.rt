@@ -5,8 +5,6 @@
 mod fault;
 mod laws;
 mod reader;
-#[cfg(test)]
-mod tests;
 mod writing;
 
 pub use fault::ReadFault;

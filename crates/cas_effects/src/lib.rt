@@ -8,8 +8,6 @@ mod laws;
 mod reasons;
 mod refusal;
 mod stamped;
-#[cfg(test)]
-mod tests;
 mod too_large;
 
 pub use atoms::atoms_of;

@@ -7,6 +7,3 @@ mod folder;
 mod names;
 
 pub use folder::{HostDraft, HostFolder, HostSealed};
-
-#[cfg(test)]
-mod tests;

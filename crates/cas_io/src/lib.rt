@@ -20,6 +20,3 @@ pub use memory::{MemSink, MemSource};
 pub use script::{ScriptFault, read_script};
 pub use sink::{Sink, SinkFault, write_all};
 pub use source::Source;
-
-#[cfg(test)]
-mod tests;

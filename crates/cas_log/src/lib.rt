@@ -5,8 +5,6 @@
 mod blocks;
 mod fault;
 mod log;
-#[cfg(test)]
-mod tests;
 mod writing;
 
 pub use fault::LogFault;

@@ -6,8 +6,6 @@ mod atoms;
 mod laws;
 mod mutations;
 mod records;
-#[cfg(test)]
-mod tests;
 mod writing;
 
 pub use atoms::read_atom;

@@ -10,8 +10,6 @@ mod laws;
 mod names;
 mod optional;
 mod terms;
-#[cfg(test)]
-mod tests;
 
 pub use columns::{
     column_named, column_ref, is_local, is_unknown, located, names_key, names_partition,

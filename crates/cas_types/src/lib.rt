@@ -11,8 +11,6 @@ mod mem;
 mod schema;
 mod shard;
 mod tag;
-#[cfg(test)]
-mod tests;
 mod text;
 mod uuid_order;
 mod values;

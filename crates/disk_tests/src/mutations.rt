@@ -4,9 +4,9 @@ ghost use Rattle.std.specs.Prelude.{◌≤◌, IfOk, length};
 ghost use Rattle.cas_mutations.specs.Allowed.{AreTables};
 ghost use Rattle.cas_types.specs.Limits.{IsNarrow};
 
-use crate::{put_record, read_atom, read_record, records_are_exact};
 use cas_bounds::clustering_order;
 use cas_codec::{ReadFault, Reader};
+use cas_mutations::{put_record, read_atom, read_record, records_are_exact};
 use cas_types::{Column, Kind, List, Options, Shape, Strategy, TableSchema, Text, TypeTag, Unit};
 use std::alloc::{AllocError, Global};
 use std::test::Fail;

@@ -1,6 +1,6 @@
 //! Which bytes are values and how values are ordered, by hand; keys; what the small types give back.
 
-use crate::{
+use cas_types::{
     Bytes, KeyBuilder, KeyFault, List, Text, TypeTag, check, compare, shard_of, value_orders,
 };
 use std::cmp::Ordering;

@@ -1,6 +1,6 @@
 //! Which of two wins, and what is alive, by hand.
 
-use crate::{
+use cas_cell::{
     Cell, Deletion, Liveness, alive, cell_laws, covers, del_wins, deletion_laws, live_alive,
     live_laws, live_wins, wins,
 };

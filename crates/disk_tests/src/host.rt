@@ -1,7 +1,7 @@
 //! The calls over a real folder.
 
-use crate::HostFolder;
 use cas_disk::{Count, Draft, Entry, FaultCount, Folder, Name, Sealed, same_name};
+use cas_hostdisk::HostFolder;
 use cas_io::Failed;
 use std::fs;
 use std::test::Fail;

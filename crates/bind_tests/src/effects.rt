@@ -2,10 +2,12 @@
 
 ghost use Rattle.std.specs.Prelude.{◌≡◌, pos, Some};
 
-use crate::{BoundWrite, Counted, Effect, Elements, Reasons, Refusal, atoms_of, write_too_large};
 use cas_atoms::{Atom, ColumnRef};
 use cas_bounds::{Clustering, Cut};
 use cas_cell::{Cell, Deletion, Liveness};
+use cas_effects::{
+    BoundWrite, Counted, Effect, Elements, Reasons, Refusal, atoms_of, write_too_large,
+};
 use cas_types::{Bytes, List};
 use std::alloc::{AllocError, Global};
 use std::test::Fail;

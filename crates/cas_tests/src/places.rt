@@ -1,6 +1,6 @@
 //! The order of rows and cuts, and what lies between two cuts, by hand.
 
-use crate::{
+use cas_bounds::{
     Clustering, Cut, MapKey, Ordered, Slice, cmp_cut, compare_values, cut_orders, cuts_divide_rows,
     inside, own_places, row_orders,
 };

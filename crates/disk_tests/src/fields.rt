@@ -1,4 +1,4 @@
-use crate::{
+use cas_codec::{
     ReadFault, Reader, fields_are_exact, put_bytes16, put_bytes32, put_flag, put_i64,
     put_maybe_i64, put_u8, put_u16, put_u32, put_u64,
 };

@@ -1,6 +1,6 @@
 //! What no script shows: a record's length, and an answer's values as they are handed on.
 
-use crate::{Atom, ColumnRef, Datum, Mutation, Pick, Query, answer, length};
+use cas_atoms::{Atom, ColumnRef, Datum, Mutation, Pick, Query, answer, length};
 use cas_bounds::{Clustering, Cut, Slice, clustering_order};
 use cas_cell::{Cell, Liveness};
 use cas_types::{Bytes, Column, Kind, List, Shape, Text, TypeTag};

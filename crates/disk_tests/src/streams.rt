@@ -1,6 +1,6 @@
 //! Scripts and pieces in memory, the limit, and the system's streams.
 
-use crate::{
+use cas_io::{
     Clock, Failed, FreeGate, Gate, ManualClock, MemSink, MemSource, ScriptFault, Sink, SinkFault,
     Source, StdSink, StdSource, SystemClock, read_script, write_all,
 };

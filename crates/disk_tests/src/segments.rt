@@ -5,10 +5,10 @@ ghost use Rattle.cas_types.specs.Limits.{IsNarrow};
 ghost use Rattle.cas_mutations.specs.Allowed.{AreTables};
 ghost use Rattle.cas_log.specs.Logs.{IsOfATable};
 
-use crate::{Log, LogFault};
 use cas_atoms::Mutation;
 use cas_codec::{ReadFault, Reader};
 use cas_disk::{FaultPlan, Folder, MemFolder, Name};
+use cas_log::{Log, LogFault};
 use cas_mutations::{read_record, records_are_exact};
 use cas_types::{Column, Kind, List, Options, Shape, Strategy, TableSchema, Text, TypeTag, Unit};
 use std::alloc::{AllocError, Global};

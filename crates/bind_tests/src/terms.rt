@@ -1,7 +1,7 @@
 //! The bytes of constants at the ends of their types, and literals with equal elements and null.
 
-use crate::{given_elements, spell, term_fits};
 use cas_effects::Elements;
+use cas_terms::{given_elements, spell, term_fits};
 use cas_types::{Bytes, Column, Kind, List, Shape, Text, TypeTag};
 use cql_parse::{Constant, Element, Entry, Literal, Term};
 use std::alloc::{AllocError, Global};

@@ -1,0 +1,15 @@
+//! Tests of the outside and of files: streams in memory and of the system, each call over a real folder,
+//! fields, records and segments as bytes worked out by hand. They stand apart since a crate with tests is
+//! proved twice.
+#![tactic(auto)]
+
+#[cfg(test)]
+mod fields;
+#[cfg(test)]
+mod host;
+#[cfg(test)]
+mod mutations;
+#[cfg(test)]
+mod segments;
+#[cfg(test)]
+mod streams;
