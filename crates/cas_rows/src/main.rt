@@ -4,7 +4,6 @@
 
 mod clock;
 mod compare;
-mod gate;
 mod row;
 mod trial;
 

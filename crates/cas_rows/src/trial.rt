@@ -1,10 +1,9 @@
 //! Runs the trials of a file one after another on one folder.
 
 use crate::clock::ListedClock;
-use crate::gate::CountedGate;
 use crate::row::Trial;
 use cas_disk::{FaultPlan, MemFolder};
-use cas_io::{MemSink, MemSource};
+use cas_io::{FreeGate, MemSink, MemSource};
 use cas_node::{Outcome, run};
 use std::alloc::{AllocError, Global};
 
@@ -13,10 +12,6 @@ use std::alloc::{AllocError, Global};
 pub(crate) struct Found {
     pub output: Vec<u8>,
     pub status: u8,
-    /// How often the clock was read.
-    pub reads: usize,
-    /// How often the gate was called.
-    pub gate_calls: usize,
 }
 
 fn run_trial(
@@ -27,7 +22,6 @@ fn run_trial(
     let mut source = MemSource::new(trial.script.as_slice().to_vec(alloc)?);
     let mut sink = MemSink::new(alloc);
     let clock = ListedClock::new(&trial.readings);
-    let gate = CountedGate::new();
     let Outcome {
         status,
         folder,
@@ -41,16 +35,10 @@ fn run_trial(
         &mut sink,
         folder,
         &clock,
-        &gate,
+        &FreeGate,
     );
     let output = sink.taken().to_vec(alloc)?;
-    let found = Found {
-        output,
-        status,
-        reads: clock.given(),
-        gate_calls: gate.calls(),
-    };
-    Ok((found, folder))
+    Ok((Found { output, status }, folder))
 }
 
 /// Runs the trials one after another, each on the folder that the one before it left.
