@@ -20,6 +20,11 @@ impl<'a> ListedClock<'a> {
             given: Cell::new(0),
         }
     }
+
+    /// How often it was read.
+    pub fn given(&self) -> usize {
+        self.given.get()
+    }
 }
 
 impl Clock for ListedClock<'_> {

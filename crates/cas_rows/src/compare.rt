@@ -39,6 +39,26 @@ fn first_difference(
     Ok(None)
 }
 
+// What differs in how often the clock was read and the gate called, where something does.
+fn difference_of_calls(
+    alloc: Global,
+    trial: &Trial,
+    found: &Found,
+) -> Result<Option<String>, AllocError> {
+    let reads = found.reads;
+    if let Some(wanted) = trial.reads {
+        if i128::from(wanted) != reads as i128 {
+            return Ok(Some(format!(in alloc;
+                "the clock was read {reads} times, and should be {wanted} times"
+            )?));
+        }
+    }
+    if found.gate_calls > 0 {
+        return Ok(Some(String::from_str(alloc, "the gate was called")?));
+    }
+    Ok(None)
+}
+
 /// What differs between the runs of a file and what the file says, a line each.
 pub(crate) fn report(
     alloc: Global,
@@ -50,6 +70,9 @@ pub(crate) fn report(
     for (i, (trial, found)) in trials.iter().zip(found).enumerate() {
         let run = i.saturating_add(1);
         if let Some(difference) = first_difference(alloc, &trial.output, &found.output)? {
+            lines.push(format!(in alloc; "{path}, run {run}: {difference}")?)?;
+        }
+        if let Some(difference) = difference_of_calls(alloc, trial, found)? {
             lines.push(format!(in alloc; "{path}, run {run}: {difference}")?)?;
         }
         if trial.status != found.status {

@@ -4,6 +4,7 @@
 
 mod clock;
 mod compare;
+mod gate;
 mod row;
 mod trial;
 

@@ -12,6 +12,8 @@ pub(crate) struct Trial {
     pub script: Vec<u8>,
     pub output: Vec<u8>,
     pub status: u8,
+    /// How often the clock is to be read, where the file says.
+    pub reads: Option<i64>,
 }
 
 /// Why a file can't be read as rows.
@@ -85,6 +87,7 @@ impl Trial {
             script: Vec::new(alloc),
             output: Vec::new(alloc),
             status: 0,
+            reads: None,
         }
     }
 
@@ -96,6 +99,9 @@ impl Trial {
             push_line(&mut self.script, &[])?;
         } else if let Some(text) = line.strip_prefix(b"clock:".as_slice()) {
             return self.set_readings(alloc, text);
+        } else if let Some(text) = line.strip_prefix(b"reads: ".as_slice()) {
+            self.reads = number(text);
+            return Ok(self.reads.is_some());
         } else if let Some(text) = line.strip_prefix(b"status:".as_slice()) {
             return Ok(self.set_status(text));
         } else {

@@ -1,9 +1,10 @@
 //! Runs the trials of a file one after another on one folder.
 
 use crate::clock::ListedClock;
+use crate::gate::CountedGate;
 use crate::row::Trial;
 use cas_disk::{FaultPlan, MemFolder};
-use cas_io::{FreeGate, MemSink, MemSource};
+use cas_io::{MemSink, MemSource};
 use cas_node::{Outcome, run};
 use std::alloc::{AllocError, Global};
 
@@ -12,6 +13,10 @@ use std::alloc::{AllocError, Global};
 pub(crate) struct Found {
     pub output: Vec<u8>,
     pub status: u8,
+    /// How often the clock was read.
+    pub reads: usize,
+    /// How often the gate was called.
+    pub gate_calls: usize,
 }
 
 fn run_trial(
@@ -22,6 +27,7 @@ fn run_trial(
     let mut source = MemSource::new(trial.script.as_slice().to_vec(alloc)?);
     let mut sink = MemSink::new(alloc);
     let clock = ListedClock::new(&trial.readings);
+    let gate = CountedGate::new();
     let Outcome {
         status,
         folder,
@@ -35,10 +41,16 @@ fn run_trial(
         &mut sink,
         folder,
         &clock,
-        &FreeGate,
+        &gate,
     );
     let output = sink.taken().to_vec(alloc)?;
-    Ok((Found { output, status }, folder))
+    let found = Found {
+        output,
+        status,
+        reads: clock.given(),
+        gate_calls: gate.calls(),
+    };
+    Ok((found, folder))
 }
 
 /// Runs the trials one after another, each on the folder that the one before it left.
