@@ -4,7 +4,7 @@ use Rattle.std.specs.Prelude.{◌≡◌, ◌⊎◌, ℕ, ◌+◌, ◌/◌, nat_l
 use Rattle.std.specs.Prelude.{Bool, true, false, ◌&&◌, ◌||◌, if◌then◌else◌, Option, None, Some, Result, Ok, Err}
 use Rattle.std.specs.Prelude.{List, [], ◌∷◌, ◌++◌, map, replicate, slice_index_or, slice_set}
 use Rattle.std.specs.Int.{int_max, int_min}
-use Rattle.cas_types.specs.declared.limits.TheConstants.{LAST_MICROSECOND}
+use Rattle.cas_types.specs.declared.limits.TheConstants.{LAST_DRAWN, LAST_MICROSECOND, MUTATION_LIMIT}
 use Rattle.cas_types.specs.declared.schema.TableSchema.{TableSchema}
 use Rattle.cas_atoms.specs.declared.atom.Mutation.{Mutation}
 use Rattle.cas_atoms.specs.Answers.{answer}
@@ -34,7 +34,6 @@ use Rattle.cas_entries.specs.declared.entry.Entry.TheVariants as entry
 use Rattle.cas_entries.specs.declared.entry.ShardOpening.{ShardOpening}
 use Rattle.cas_entries.specs.Entries.{first, last_drawn, last_number}
 use Rattle.cas_node.specs.declared.opening.Opening.{Opening}
-use Rattle.cas_node.specs.declared.shard.TheConstants.{LAST_DRAWN, MUTATION_LIMIT}
 
 -- ---- what a run begins with, and what it has come to
 

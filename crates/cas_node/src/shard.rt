@@ -15,15 +15,9 @@ use cas_bind::BoundRead;
 use cas_effects::{BoundWrite, TOO_LARGE, TOO_MANY, atoms_of};
 use cas_entries::{Entry, ShardOpening, append_first};
 use cas_render::{Failure, Reply};
-use cas_types::{LEAST_TIMESTAMP, List, Mem};
+use cas_types::{LAST_DRAWN, LEAST_TIMESTAMP, List, MUTATION_LIMIT, Mem};
 use std::alloc::Global;
 use std::marker::Model;
-
-/// The most mutations of a shard.
-pub const MUTATION_LIMIT: u64 = 1 << 60;
-
-/// The greatest timestamp that a shard draws.
-pub const LAST_DRAWN: i64 = 1 << 62;
 
 /// A session, and the number of its call.
 #[derive(Clone, Copy, Debug)]

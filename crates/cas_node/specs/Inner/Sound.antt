@@ -1,7 +1,7 @@
 -- What is always so of an opening, a shard and a history (own).
 use Rattle.std.specs.Prelude.{◌≡◌, ◌≤◌, ◌⊎◌, ℕ, ℤ, pos, ◌≤ℤ◌, List, All, length}
 use Rattle.cas_types.specs.Limits.{IsMoment, IsShardCount}
-use Rattle.cas_types.specs.declared.limits.TheConstants.{LAST_MICROSECOND}
+use Rattle.cas_types.specs.declared.limits.TheConstants.{LAST_DRAWN, LAST_MICROSECOND, MUTATION_LIMIT}
 use Rattle.cas_render.specs.declared.reply.Failure.TheVariants as failure
 use Rattle.cas_render.specs.declared.reply.Reply.{Reply}
 use Rattle.cas_render.specs.declared.reply.Reply.TheVariants as reply
@@ -10,7 +10,6 @@ use Rattle.cas_entries.specs.declared.entry.Entry.{Entry}
 use Rattle.cas_entries.specs.declared.entry.ShardOpening.{ShardOpening}
 use Rattle.cas_entries.specs.Entries.{last_drawn, last_number}
 use Rattle.cas_node.specs.declared.opening.Opening.{Opening}
-use Rattle.cas_node.specs.declared.shard.TheConstants.{LAST_DRAWN, MUTATION_LIMIT}
 use Rattle.cas_node.specs.History.{History}
 
 -- a microsecond between the start of 1970 and the end of the year 9999
