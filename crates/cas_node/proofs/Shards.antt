@@ -15,7 +15,7 @@ use Rattle.cas_entries.proofs.Numbers.{last_number_more, last_drawn_more, last_o
 use Rattle.cas_render.specs.declared.reply.Failure.TheVariants as failure
 use Rattle.cas_render.specs.declared.reply.Reply.{Reply}
 use Rattle.cas_render.specs.declared.reply.Reply.TheVariants as reply
-use Rattle.cas_node.specs.declared.shard.TheConstants.{LAST_DRAWN, MUTATION_LIMIT}
+use Rattle.cas_types.specs.declared.limits.TheConstants.{LAST_DRAWN, MUTATION_LIMIT}
 use Rattle.cas_node.specs.History.{ShardHistory, after_entries, write_entries, write_reply, mutation_at, take_refusal, tells_want, wrote_unless, moment_at, next_number}
 use Rattle.cas_types.specs.Limits.{IsMoment}
 use Rattle.cas_node.specs.Inner.Sound.{IsShard, IsShardOpening, IsTime}
