@@ -20,6 +20,7 @@ pub record Place : Type 0 where
   pub size : ℕ
   pub end : ℕ
 
+-- where the log stands on the disk: its segment, that one's size, and where the next block begins
 abbrev pub place_of : Log → Place
 place_of log = record { number = log.number; size = log.size; end = log.end }
 

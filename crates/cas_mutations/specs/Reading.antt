@@ -22,6 +22,7 @@ use Rattle.cas_atoms.specs.declared.atom.Mutation.{Mutation}
 
 -- ---- atoms
 
+-- what is left of a DELETE of a partition
 unfoldable pub partition_deletion_at : Left → Read Atom
 partition_deletion_at left = do
   d ← deletion_at left
@@ -31,6 +32,7 @@ partition_deletion_at left = do
 unfoldable pub above_at : List Ordered → Cut → Left → Read Cut
 above_at order lo left = checked (λ hi. is_lt (cut_cmp lo hi)) (cut_at order) left
 
+-- what is left of a DELETE of the rows between two cuts, of which the second is the one refused where they don't ascend
 unfoldable pub range_deletion_at : List Ordered → Left → Read Atom
 range_deletion_at order left = do
   lo ← cut_at order left
@@ -38,12 +40,14 @@ range_deletion_at order left = do
   d ← deletion_at hi.1
   Ok (RangeDeletion lo.0 hi.0 d.0, d.1)
 
+-- what is left of a DELETE of a row
 unfoldable pub row_deletion_at : List Ordered → Left → Read Atom
 row_deletion_at order left = do
   row ← clustering_at order left
   d ← deletion_at row.1
   Ok (RowDeletion row.0 d.0, d.1)
 
+-- all of a collection of a row, deleted
 unfoldable pub collection_deletion_at : List Ordered → List Column → Left → Read Atom
 collection_deletion_at order columns left = do
   row ← clustering_at order left
@@ -51,12 +55,14 @@ collection_deletion_at order columns left = do
   d ← deletion_at column.1
   Ok (CollectionDeletion row.0 column.0.0 d.0, d.1)
 
+-- what an INSERT leaves of a row
 unfoldable pub live_atom_at : List Ordered → Left → Read Atom
 live_atom_at order left = do
   row ← clustering_at order left
   live ← live_at row.1
   Ok (Live row.0 live.0, live.1)
 
+-- a cell of a row, in one of its regular columns
 unfoldable pub write_at : List Ordered → List Column → Left → Read Atom
 write_at order columns left = do
   row ← clustering_at order left
@@ -65,6 +71,7 @@ write_at order columns left = do
   cell ← cell_at (may_hold column.0.1) path.1
   Ok (Write row.0 column.0.0 path.0 cell.0, cell.1)
 
+-- a cell of the static row
 unfoldable pub static_write_at : List Column → Left → Read Atom
 static_write_at columns left = do
   column ← column_at Static columns left
@@ -72,6 +79,7 @@ static_write_at columns left = do
   cell ← cell_at (may_hold column.0.1) path.1
   Ok (StaticWrite column.0.0 path.0 cell.0, cell.1)
 
+-- all of a collection of the static row, deleted
 unfoldable pub static_collection_deletion_at : List Column → Left → Read Atom
 static_collection_deletion_at columns left = do
   column ← column_at StaticCollection columns left
@@ -130,6 +138,7 @@ times_of_at left = do
   moment ← checked (is_within (pos 0) LAST_SECOND) i64_at at.1
   Ok ((drawn.0, at.0, moment.0), moment.1)
 
+-- the number of the atoms, and so many of them
 unfoldable pub atoms_at : List Column → Left → Read (List Atom)
 atoms_at columns left = do
   count ← u32_at left

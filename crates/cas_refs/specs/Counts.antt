@@ -14,6 +14,7 @@ abbrev pub Live : Option Count → Type 0
 Live None = ⊥
 Live (Some c) = c.retired ≡ false
 
+-- how many pins of it are out; of a table that isn't in the book none
 abbrev pub pins_of : Option Count → ℕ
 pins_of None = 0
 pins_of (Some c) = c.pins
