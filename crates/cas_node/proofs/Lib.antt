@@ -4,3 +4,4 @@ pub mod Stores
 pub mod OneOutcome
 pub mod Openings
 pub mod RunLemmas
+pub mod NumbersRise

@@ -1,6 +1,6 @@
 //! What holds of every run of a script.
 
-ghost use Rattle.cas_node.specs.Laws.{OneOutcome};
+ghost use Rattle.cas_node.specs.Laws.{AllAreRead, NothingRises, NumbersStay, OneOutcome};
 
 use cas_io::Clock;
 
@@ -8,4 +8,12 @@ use cas_io::Clock;
 /// lines have one list of answers, and leave one history.
 pub fn one_outcome<C: Clock>()
     ensures { (clock : C) → OneOutcome (C.may_give clock) }
+{}
+
+/// Along a run the mutations of each shard are numbered by one, so that a SELECT reads all of its
+/// partition that its shard accepted before it.
+pub fn numbers_rise<C: Clock>()
+    ensures begin { NothingRises }
+    ensures stay { (clock : C) → NumbersStay (C.may_give clock) }
+    ensures read { AllAreRead }
 {}

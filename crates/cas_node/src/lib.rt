@@ -13,6 +13,6 @@ mod tests;
 
 pub use cas_words::path_of;
 pub use cause::Cause;
-pub use laws::one_outcome;
+pub use laws::{numbers_rise, one_outcome};
 pub use opening::Opening;
 pub use program::{Outcome, Pass, SCRIPT_LIMIT, run};
