@@ -1,0 +1,9 @@
+//! Reads a segment of the commit log: the mutations that were committed to it, or the place of the
+//! first field that isn't as it must be.
+#![tactic(auto)]
+
+mod file;
+mod reading;
+
+pub use file::replay;
+pub use reading::read_segment;
