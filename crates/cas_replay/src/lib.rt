@@ -3,7 +3,9 @@
 #![tactic(auto)]
 
 mod file;
+mod laws;
 mod reading;
 
 pub use file::replay;
+pub use laws::segments_are_exact;
 pub use reading::read_segment;
