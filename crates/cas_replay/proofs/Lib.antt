@@ -1,3 +1,4 @@
 pub mod Loops
 pub mod Files
 pub mod SegmentLaws
+pub mod Order

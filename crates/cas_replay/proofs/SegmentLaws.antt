@@ -23,7 +23,8 @@ use Rattle.cas_mutations.specs.Reading.{record_at}
 use Rattle.cas_mutations.proofs.RecordLaws.{record_exact}
 use Rattle.cas_log.specs.Segment.{header, lengths, body, block, opened, joined, front}
 use Rattle.cas_replay.specs.Reading.{follows, next_at, records_at, length_at, block_at, blocks_at, header_at, segment_at, segment_of}
-use Rattle.cas_replay.specs.Grammar.{Follow, IsSegmentOf}
+use Rattle.cas_replay.specs.Grammar.{AreInOrder, IsSegmentOf}
+use Rattle.cas_replay.proofs.Order.{Follow, in_order, each_follows}
 
 begins_none : (left : Left) → Begins [] left left
 begins_none left = record { bytes = refl; at = sym (add-zero left.at) }
@@ -365,7 +366,7 @@ module _ (tables : List TableSchema) (shards : ℕ) (are : AreTables tables) (so
           within = omega (arith, b.within, f.1.at, length-append (header number h.0.0) (opened b.blocks));
         };
         fit = subst (λ (l : List Mutation). AllByRecursion Fits l) same b.fit;
-        ordered = subst (λ (l : List Mutation). Follow [] l) same b.follow;
+        ordered = subst AreInOrder same (in_order [] (joined b.blocks) (λ shard. tt) b.follow);
       }
 
   pub segment_again : (number : ℕ) (all : List Mutation) (file : List ℕ) → number < 2 ^ 64 → AreBytes file → IsSegmentOf tables shards number all file
@@ -384,6 +385,6 @@ module _ (tables : List TableSchema) (shards : ℕ) (are : AreTables tables) (so
       (header_again number s.size tail 0 lt (s.least, s.most))
       ∙ ap (λ (r : Read (List Mutation)). r >>= λ found. Ok found.0)
       (blocks_again (length tail) s.size [] s.blocks s.gate s.rest (0 + length head) s.closed byte (omega (arith, long, many_blocks s.blocks))
-      (subst (λ (l : List Mutation). AllByRecursion Fits l) (sym s.all) is.fit) (subst (λ (l : List Mutation). Follow [] l) (sym s.all) is.ordered)
+      (subst (λ (l : List Mutation). AllByRecursion Fits l) (sym s.all) is.fit) (each_follows [] (joined s.blocks) (subst AreInOrder (sym s.all) is.ordered))
       (omega (arith, s.within, length-append head (opened s.blocks))) s.most)
       ∙ ap (λ (l : List Mutation). Ok l) s.all

@@ -17,7 +17,7 @@ use cas_types::TableSchema;
 use std::alloc::Global;
 
 /// So many bytes are read at once.
-const PIECE: usize = 4096;
+const PIECE: usize = 1 << 16;
 
 // The bytes of a file, none where it isn't there.
 fn read_file<F: Folder>(alloc: Global, folder: &mut F, n: Name) -> Result<Vec<u8>, LogFault>
