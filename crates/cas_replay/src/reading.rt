@@ -12,6 +12,11 @@ use cas_mutations::read_record;
 use cas_types::TableSchema;
 use std::alloc::Global;
 
+// The least and the greatest size of a segment, in bytes.
+const LEAST_SEGMENT: u64 = 4096;
+
+const GREATEST_SEGMENT: u64 = 1 << 25;
+
 // The last of these mutations that is of the shard.
 fn last_of(before: &[Mutation], shard: u8) -> Option<&Mutation>
     ensures { option_map (λ m. m.now) result ≡ last_of shard before.now }
@@ -147,7 +152,7 @@ fn read_header(reader: &mut Reader<'_>, number: u64) -> Result<u64, ReadFault>
     if reader.u64()? != number {
         return Err(ReadFault::Bad { at });
     }
-    reader.u64_within(4096, 1 << 25)
+    reader.u64_within(LEAST_SEGMENT, GREATEST_SEGMENT)
 }
 
 // Reads a segment.
