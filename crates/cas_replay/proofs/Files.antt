@@ -1,5 +1,6 @@
 -- A file that is read piece by piece.
-use Rattle.std.proofs.Common.{◌≡◌, ⊎_elim, ℕ, ◌+◌, ◌<◌, List, ◌++◌, length, take, drop, Option, sym, ◌∙◌, ap, subst, arith, length-append, length-take, length-drop, take-append-drop}
+use Rattle.std.proofs.Common.{◌≡◌, ⊎_elim, ℕ, ◌+◌, ◌<◌, List, ◌++◌, length, take, drop}
+use Rattle.std.proofs.Common.{Option, sym, ◌∙◌, ap, subst, arith, length-append, length-take, length-drop, take-append-drop}
 use Rattle.std.proofs.lemmas.List.{take-take, drop-take, take_all}
 use Rattle.cas_disk.specs.declared.name.Name.{Name}
 use Rattle.cas_disk.specs.Disk.{Image, Disk, During, Follows, Same, Gives, bytes_of}
@@ -24,7 +25,15 @@ piece_more : (bytes file piece : List ℕ) (at count : ℕ) → bytes ≡ take (
 piece_more bytes file piece at count so_far is gives =
     let same : take count piece ≡ take count (drop (length bytes) file) = gives.bytes ∙ ap (λ (n : ℕ). take count (drop n file)) is in
     let long : length (bytes ++ take count piece) ≡ length bytes + count =
-    omega (arith, length-append bytes (take count piece), ap length same, length-take count (drop (length bytes) file), length-drop (length bytes) file, gives.within) in
+    omega (
+      arith,
+      length-append bytes (take count piece),
+      ap length same,
+      length-take count (drop (length bytes) file),
+      length-drop
+          (length bytes) file,
+      gives.within,
+    ) in
     (λ i. so_far i ++ same i) ∙ take_both (length bytes) count file ∙ ap (λ (n : ℕ). take n file) (sym long)
 
 module _ (start now : Disk) (during : During Same start now) (reads : Follows Same start.reads now.reads) (n : Name) (bytes : List ℕ)
@@ -38,9 +47,11 @@ module _ (start now : Disk) (during : During Same start now) (reads : Follows Sa
   -- one piece more
   pub goes_on : (later : List ℕ) → later ≡ bytes ++ take count piece → (c : Image) → start.reads c → later ≡ take (length later) (bytes_of (c n))
   goes_on later more c read =
-      subst (λ (l : List ℕ). l ≡ take (length l) (bytes_of (c n))) (sym more) (piece_more bytes (bytes_of (c n)) piece at count (so_far c read) is (there c read))
+      subst (λ (l : List ℕ). l ≡ take (length l) (bytes_of (c n))) (sym more) (piece_more bytes (bytes_of (c n)) piece at count (so_far c read) is
+      (there c read))
 
   -- none is left
   pub is_whole : count ≡ 0 → 0 < length piece → (c : Image) → start.reads c → bytes ≡ bytes_of (c n)
   is_whole none some c read =
-      so_far c read ∙ take_all (length bytes) (bytes_of (c n)) (⊎_elim (λ no_room. absurd (omega arith)) (λ end. omega (arith, end, is)) ((there c read).end none))
+      so_far c read ∙ take_all (length bytes) (bytes_of (c n)) (⊎_elim (λ no_room. absurd (omega arith)) (λ end. omega (arith, end, is))
+      ((there c read).end none))

@@ -10,9 +10,11 @@ use Rattle.cas_replay.specs.Reading.{next_at, records_at, block_at, blocks_at}
 
 -- ---- records: i of n are read
 
-module _ (tables : List TableSchema) (shards n i : ℕ) (before : List Mutation) (left : Left) (whole : Read (List Mutation)) (so_far : records_at tables shards (n - i) before left ≡ whole) where
+module _ (tables : List TableSchema) (shards n i : ℕ) (before : List Mutation) (left : Left) (whole : Read (List Mutation))
+    (so_far : records_at tables shards (n - i) before left ≡ whole) where
   -- one more
-  pub record_more : i < n → (m : Mutation) (after : Left) → next_at tables shards before left ≡ Ok (m, after) → records_at tables shards (n - (i + 1)) (before ++ m ∷ []) after ≡ whole
+  pub record_more : i < n → (m : Mutation) (after : Left) → next_at tables shards before left ≡ Ok (m, after)
+      → records_at tables shards (n - (i + 1)) (before ++ m ∷ []) after ≡ whole
   unfolding records_at
   record_more more m after e =
       let k : n - i ≡ suc (n - (i + 1)) = omega arith in
@@ -38,9 +40,11 @@ module _ (tables : List TableSchema) (shards n i : ℕ) (before : List Mutation)
 
 -- ---- blocks: i of at most n are read
 
-module _ (tables : List TableSchema) (shards n i size : ℕ) (before : List Mutation) (left : Left) (whole : Read (List Mutation)) (so_far : blocks_at tables shards (n - i) size before left ≡ whole) where
+module _ (tables : List TableSchema) (shards n i size : ℕ) (before : List Mutation) (left : Left) (whole : Read (List Mutation))
+    (so_far : blocks_at tables shards (n - i) size before left ≡ whole) where
   abbrev behind : ℕ × Left → Read (List Mutation)
-  behind gate = if gate.0 == 1 then (block_at tables shards size before gate.1 >>= λ block. blocks_at tables shards (n - (i + 1)) size block.0 block.1) else Ok (before, gate.1)
+  behind gate = if gate.0 == 1 then (block_at tables shards size before gate.1 >>= λ block. blocks_at tables shards (n -
+      (i + 1)) size block.0 block.1) else Ok (before, gate.1)
 
   next_gate : i < n → (u8_at left >>= behind) ≡ whole
   unfolding blocks_at
@@ -57,17 +61,20 @@ module _ (tables : List TableSchema) (shards n i size : ℕ) (before : List Muta
   gate_shut more gate after shut e =
       let no : (gate == 1) ≡ false = grind (arith, nat_tests) in
       sym (next_gate more) ∙ ap (λ (r : Read ℕ). r >>= behind) e
-      ∙ ap (λ (b : Bool). if b then (block_at tables shards size before after >>= λ block. blocks_at tables shards (n - (i + 1)) size block.0 block.1) else Ok (before, after)) no
+      ∙ ap (λ (b : Bool). if b then (block_at tables shards size before after >>= λ block. blocks_at tables shards (n -
+      (i + 1)) size block.0 block.1) else Ok (before, after)) no
 
   -- a block behind an open one
-  pub block_more : i < n → (gate : ℕ) → gate ≡ 1 → (after : Left) (now : List Mutation) (rest : Left) → u8_at left ≡ Ok (gate, after) → block_at tables shards size before after ≡ Ok (now, rest)
+  pub block_more : i < n → (gate : ℕ) → gate ≡ 1 → (after : Left) (now : List Mutation) (rest : Left) → u8_at left ≡ Ok (gate, after)
+      → block_at tables shards size before after ≡ Ok (now, rest)
       → blocks_at tables shards (n - (i + 1)) size now rest ≡ whole
   block_more more gate is_one after now rest e is =
       sym (ap (λ (r : Read ℕ). r >>= behind) (e ∙ ap (λ (g : ℕ). Ok (g, after)) is_one)
       ∙ ap (λ (r : Read (List Mutation)). r >>= λ block. blocks_at tables shards (n - (i + 1)) size block.0 block.1) is)
       ∙ next_gate more
 
-  pub block_fault : i < n → (gate : ℕ) → gate ≡ 1 → (after : Left) (f : ReadFault) → u8_at left ≡ Ok (gate, after) → block_at tables shards size before after ≡ Err f → whole ≡ Err f
+  pub block_fault : i < n → (gate : ℕ) → gate ≡ 1 → (after : Left) (f : ReadFault) → u8_at left ≡ Ok (gate, after)
+      → block_at tables shards size before after ≡ Err f → whole ≡ Err f
   block_fault more gate is_one after f e is =
       sym (next_gate more) ∙ ap (λ (r : Read ℕ). r >>= behind) (e ∙ ap (λ (g : ℕ). Ok (g, after)) is_one)
       ∙ ap (λ (r : Read (List Mutation)). r >>= λ block. blocks_at tables shards (n - (i + 1)) size block.0 block.1) is

@@ -1,5 +1,6 @@
 -- Per shard numbers ascend by one exactly where each mutation follows those before it.
-use Rattle.std.proofs.Common.{◌≡◌, inl, inr, ℕ, ◌+◌, ◌==◌, eqb, Bool, true, false, if◌then◌else◌, List, [], ◌∷◌, ◌++◌, reverse, Some, refl, sym, ap, subst, ◌∙◌, append_assoc, arith}
+use Rattle.std.proofs.Common.{◌≡◌, inl, inr, ℕ, ◌+◌, ◌==◌, eqb, Bool, true, false, if◌then◌else◌, List}
+use Rattle.std.proofs.Common.{[], ◌∷◌, ◌++◌, reverse, Some, refl, sym, ap, subst, ◌∙◌, append_assoc, arith}
 use Rattle.std.specs.Bool.{Decides}
 use Rattle.std.specs.List.{find}
 use Rattle.std.proofs.lemmas.Bool.{cases_eq, eq-eqb}
@@ -65,11 +66,13 @@ own_no shard m not =
     ap (λ (b : Bool). if b then m.number ∷ [] else []) no
 
 -- found from the end, by what was passed
-found_decides : (shard : ℕ) (m : Mutation) (back : List Mutation) → Decides (is_next (find (λ x. x.shard == shard) back) m) (ComesAfter (numbers_of shard (reverse back)) m.number)
+found_decides : (shard : ℕ) (m : Mutation) (back : List Mutation)
+    → Decides (is_next (find (λ x. x.shard == shard) back) m) (ComesAfter (numbers_of shard (reverse back)) m.number)
 found_decides shard m [] = (λ e. tt, λ after. refl)
 found_decides shard m (x ∷ back) =
     let ns = numbers_of shard (reverse back) in
-    let numbers : numbers_of shard (reverse (x ∷ back)) ≡ ns ++ own shard x = ap (numbers_of shard) (reverse-append (x ∷ []) back) ∙ numbers_more shard (reverse back) x in
+    let numbers : numbers_of shard (reverse (x ∷ back)) ≡ ns ++ own shard x = ap (numbers_of shard) (reverse-append (x ∷ []) back)
+    ∙ numbers_more shard (reverse back) x in
     elim (cases_eq x.shard shard) [
       | inl is ↦
           let whole : numbers_of shard (reverse (x ∷ back)) ≡ ns ++ x.number ∷ [] = numbers ∙ ap (λ (l : List ℕ). ns ++ l) (own_yes shard x is) in
@@ -93,18 +96,21 @@ found_decides shard m (x ∷ back) =
 follows_decides : (before : List Mutation) (m : Mutation) → Decides (follows before m) (ComesAfter (numbers_of m.shard before) m.number)
 unfolding follows
 follows_decides before m =
-    subst (λ (l : List Mutation). Decides (is_next (find (λ x. x.shard == m.shard) (reverse before)) m) (ComesAfter (numbers_of m.shard l) m.number)) (reverse-reverse before)
+    subst (λ (l : List Mutation). Decides (is_next (find (λ x. x.shard == m.shard) (reverse before)) m) (ComesAfter
+    (numbers_of m.shard l) m.number)) (reverse-reverse before)
     (found_decides m.shard m (reverse before))
 
 in_order_more : (before : List Mutation) (m : Mutation) → AreInOrder before → follows before m ≡ true → AreInOrder (before ++ m ∷ [])
 in_order_more before m ordered e shard =
     elim (cases_eq m.shard shard) [
       | inl is ↦
-          let after : ComesAfter (numbers_of shard before) m.number = subst (λ (s : ℕ). ComesAfter (numbers_of s before) m.number) is ((follows_decides before m).0 e) in
+          let after : ComesAfter (numbers_of shard before) m.number = subst (λ (s : ℕ). ComesAfter (numbers_of s before) m.number) is
+          ((follows_decides before m).0 e) in
           subst AscendByOne (sym (numbers_more shard before m ∙ ap (λ (l : List ℕ). numbers_of shard before ++ l) (own_yes shard m is)))
           (one_more (numbers_of shard before) m.number (ordered shard) after)
       | inr not ↦
-          subst AscendByOne (sym (numbers_more shard before m ∙ ap (λ (l : List ℕ). numbers_of shard before ++ l) (own_no shard m not) ∙ append-nil (numbers_of shard before)))
+          subst AscendByOne (sym (numbers_more shard before m ∙ ap (λ (l : List ℕ). numbers_of shard before ++ l) (own_no shard m not)
+          ∙ append-nil (numbers_of shard before)))
           (ordered shard)
     ]
 

@@ -1,5 +1,6 @@
 -- A segment is read where it stands and nowhere else.
-use Rattle.std.proofs.Common.{◌≡◌, ◌≢◌, inl, inr, ℕ, zero, suc, ◌+◌, ◌<◌, ◌≤◌, ◌^◌, leb, eqb, cond, Bool, true, false, List, [], ◌∷◌, ◌++◌, length, Ok, Err, refl, sym, ap, subst, ◌∙◌, append_assoc, arith, codes, bytes_eq}
+use Rattle.std.proofs.Common.{◌≡◌, ◌≢◌, inl, inr, ℕ, zero, suc, ◌+◌, ◌<◌, ◌≤◌, ◌^◌, leb, eqb, cond, Bool, true}
+use Rattle.std.proofs.Common.{false, List, [], ◌∷◌, ◌++◌, length, Ok, Err, refl, sym, ap, subst, ◌∙◌, append_assoc, arith, codes, bytes_eq}
 use Rattle.std.specs.Int.{is_in_range}
 use Rattle.std.specs.List.{AllByRecursion}
 use Rattle.std.proofs.Math.Nat.{add-zero}
@@ -65,8 +66,11 @@ many_blocks (ms ∷ blocks) = omega (arith, many_blocks blocks, length-append (1
 
 follow_both : (before ms others : List Mutation) → Follow before ms → Follow (before ++ ms) others → Follow before (ms ++ others)
 follow_both before [] others first second = subst (λ (l : List Mutation). Follow l others) (append-nil before) second
-follow_both before (m ∷ ms) others first second =
-    (first.0, follow_both (before ++ m ∷ []) ms others first.1 (subst (λ (l : List Mutation). Follow l others) (sym (append_assoc before (m ∷ []) ms)) second))
+follow_both before (m ∷ ms) others first second = (
+  first.0,
+  follow_both (before ++ m ∷ []) ms others first.1 (subst (λ (l : List Mutation). Follow l others) (sym (append_assoc before
+      (m ∷ []) ms)) second),
+)
 
 follow_parts : (before ms others : List Mutation) → Follow before (ms ++ others) → Follow before ms × Follow (before ++ ms) others
 follow_parts before [] others all = (tt, subst (λ (l : List Mutation). Follow l others) (sym (append-nil before)) all)
@@ -113,7 +117,8 @@ with_named named = checked (is_in_range 4096 (2 ^ 25)) u64_at named.1
 abbrev with_word : ℕ → List ℕ × Left → Read ℕ
 with_word number w = checked (λ n. eqb n number) u64_at w.1 >>= λ named. with_named named
 
-header_found : (number size : ℕ) (old new : Left) → AreBytes old.bytes → header_at number old ≡ Ok (size, new) → IsSize size × Begins (header number size) old new
+header_found : (number size : ℕ) (old new : Left) → AreBytes old.bytes → header_at number old ≡ Ok (size, new)
+    → IsSize size × Begins (header number size) old new
 unfolding header_at header
 header_found number size old new bytes e =
     let p = bind_ok (word_at old) (with_word number) (size, new) e in
@@ -130,7 +135,8 @@ header_found number size old new bytes e =
           (Begins-then p.0.0 (u64 q.0.0 ++ u64 size) old p.0.1 new f.1 (Begins-then (u64 q.0.0) (u64 size) p.0.1 q.0.1 new g.1 h.1)),
     )
 
-header_again : (number size : ℕ) (rest : List ℕ) (at : ℕ) → number < 2 ^ 64 → IsSize size → header_at number (read_left (header number size ++ rest) at) ≡ Ok (size, read_left rest (at + length (header number size)))
+header_again : (number size : ℕ) (rest : List ℕ) (at : ℕ) → number < 2 ^ 64 → IsSize size
+    → header_at number (read_left (header number size ++ rest) at) ≡ Ok (size, read_left rest (at + length (header number size)))
 unfolding header_at header
 header_again number size rest at lt fit =
     let w = codes "CASSLOG1" in
@@ -159,10 +165,12 @@ module _ (tables : List TableSchema) (shards : ℕ) (are : AreTables tables) (so
       → (ms : List Mutation) × (all ≡ before ++ ms) × (length ms ≡ n) × AllByRecursion Fits ms × Follow before ms × Begins (body ms) old new
   unfolding records_at
   records_found zero before all old new bytes e =
-      subst (λ (y : List Mutation × Left). (ms : List Mutation) × (y.0 ≡ before ++ ms) × (length ms ≡ 0) × AllByRecursion Fits ms × Follow before ms × Begins (body ms) old y.1)
+      subst (λ (y : List Mutation × Left). (ms : List Mutation) × (y.0 ≡ before ++ ms) ×
+      (length ms ≡ 0) × AllByRecursion Fits ms × Follow before ms × Begins (body ms) old y.1)
       (ok_is (before, old) (all, new) e) ([], sym (append-nil before), refl, tt, tt, begins_none old)
   records_found (suc n) before all old new bytes e =
-      let p = bind_ok (next_at tables shards before old) (λ (next : Mutation × Left). records_at tables shards n (before ++ next.0 ∷ []) next.1) (all, new) e in
+      let p = bind_ok (next_at tables shards before old) (λ (next : Mutation × Left). records_at tables shards n (before ++ next.0 ∷ []) next.1)
+      (all, new) e in
       let f = (next_exact before).found old p.0.1 p.0.0 bytes p.1 in
       let (ms, is, len, fit, follow, begins) = records_found n (before ++ p.0.0 ∷ []) all p.0.1 new (AreBytes-rest _ _ _ bytes f.1.bytes) p.2 in
       (p.0.0 ∷ ms, is ∙ append_assoc before (p.0.0 ∷ []) ms, ap (λ (k : ℕ). suc k) len, (f.0.0, fit), (f.0.1, follow), Begins-then _ _ _ _ _ f.1 begins)
@@ -174,7 +182,8 @@ module _ (tables : List TableSchema) (shards : ℕ) (are : AreTables tables) (so
   records_again before (m ∷ ms) rest at fit follow =
       let place : at + length (record_bytes m) + length (body ms) ≡ at + length (body (m ∷ ms)) = omega (arith, length-append (record_bytes m) (body ms)) in
       ap (λ (l : List ℕ). records_at tables shards (suc (length ms)) before (read_left l at)) (append_assoc (record_bytes m) (body ms) rest)
-      ∙ ap (λ (r : Read Mutation). r >>= λ next. records_at tables shards (length ms) (before ++ next.0 ∷ []) next.1) ((next_exact before).again m (body ms ++ rest) at (fit.0, follow.0))
+      ∙ ap (λ (r : Read Mutation). r >>= λ next. records_at tables shards (length ms) (before ++ next.0 ∷ []) next.1) ((next_exact before).again m
+      (body ms ++ rest) at (fit.0, follow.0))
       ∙ records_again (before ++ m ∷ []) ms rest (at + length (record_bytes m)) fit.1 follow.1
       ∙ (λ i. Ok (append_assoc before (m ∷ []) ms i, read_left rest (place i)))
 
@@ -195,7 +204,8 @@ module _ (tables : List TableSchema) (shards : ℕ) (are : AreTables tables) (so
   with_long before place long = u32_at long.1 >>= λ count. with_count before place long.0 count
 
   block_found : (size : ℕ) (before all : List Mutation) (old new : Left) → AreBytes old.bytes → block_at tables shards size before old ≡ Ok (all, new)
-      → (ms : List Mutation) × (all ≡ before ++ ms) × AllByRecursion Fits ms × Follow before ms × Begins (block ms) old new × (old.at + length (block ms) + 1 ≤ size)
+      → (ms : List Mutation) × (all ≡ before ++ ms) × AllByRecursion Fits ms × Follow before ms × Begins (block ms) old new × (old.at + length
+      (block ms) + 1 ≤ size)
   unfolding block_at length_at lengths
   block_found size before all old new bytes e =
       let p = bind_ok (checked (λ long. leb (old.at + long + 9) size) u32_at old) (with_long before old.at) (all, new) e in
@@ -209,8 +219,10 @@ module _ (tables : List TableSchema) (shards : ℕ) (are : AreTables tables) (so
       let r = bind_ok (bytes_at old.at long q.0.1) (λ (b : List ℕ × Left). with_body before b q.0) (all, new) q.2 in
       let h = (exact_bytes (λ l. old.at) long).found q.0.1 r.0.1 r.0.0 bytes2 r.1 in
       let inner = read_left r.0.0 q.0.1.at in
-      let s = bind_ok (records_at tables shards count before inner) (λ (found : List Mutation × Left). cond (eqb (length found.1.bytes) 0) (Ok (found.0, r.0.1)) (Err (Bad found.1.at))) (all, new) r.2 in
-      let (ms, is, len, fit, follow, begins) = records_found count before s.0.0 inner s.0.1 (AreBytes-front q.0.1.bytes r.0.0 r.0.1.bytes bytes2 h.1.bytes) s.1 in
+      let s = bind_ok (records_at tables shards count before inner) (λ (found : List Mutation × Left). cond (eqb (length found.1.bytes) 0) (Ok
+      (found.0, r.0.1)) (Err (Bad found.1.at))) (all, new) r.2 in
+      let (ms, is, len, fit, follow, begins) = records_found count before s.0.0 inner s.0.1
+      (AreBytes-front q.0.1.bytes r.0.0 r.0.1.bytes bytes2 h.1.bytes) s.1 in
       let t = test_ok (eqb (length s.0.1.bytes) 0) (Bad s.0.1.at) (s.0.0, r.0.1) (all, new) s.2 in
       let whole : r.0.0 ≡ body ms = begins.bytes ∙ ap (λ (xs : List ℕ). body ms ++ xs) (nothing_left s.0.1.bytes t.0) ∙ append-nil (body ms) in
       let long_is : long ≡ length (body ms) = sym h.0 ∙ ap length whole in
@@ -227,7 +239,8 @@ module _ (tables : List TableSchema) (shards : ℕ) (are : AreTables tables) (so
         omega (arith, length-block ms, long_is, within),
       )
 
-  block_again : (size : ℕ) (before ms : List Mutation) (rest : List ℕ) (at : ℕ) → AllByRecursion Fits ms → Follow before ms → at + length (block ms) + 1 ≤ size → size ≤ 2 ^ 25
+  block_again : (size : ℕ) (before ms : List Mutation) (rest : List ℕ) (at : ℕ) → AllByRecursion Fits ms → Follow before ms
+      → at + length (block ms) + 1 ≤ size → size ≤ 2 ^ 25
       → block_at tables shards size before (read_left (block ms ++ rest) at) ≡ Ok (before ++ ms, read_left rest (at + length (block ms)))
   unfolding block_at length_at lengths
   block_again size before ms rest at fit follow within most =
@@ -238,14 +251,23 @@ module _ (tables : List TableSchema) (shards : ℕ) (are : AreTables tables) (so
       append_assoc (u32 long ++ u32 count) (body ms) rest ∙ append_assoc (u32 long) (u32 count) (body ms ++ rest) in
       let fits : leb (at + long + 9) size ≡ true = le-leb _ _ (omega (arith, within, length-block ms)) in
       let at8 = at + length (u32 long) + length (u32 count) in
-      let place : at8 + long ≡ at + length (block ms) = omega (arith, length-append (u32 long ++ u32 count) (body ms), length-append (u32 long) (u32 count)) in
+      let place : at8 + long ≡ at + length (block ms) = omega (
+        arith,
+        length-append (u32 long ++ u32 count) (body ms),
+        length-append (u32 long)
+            (u32 count),
+      ) in
       let inner : records_at tables shards count before (read_left (body ms) at8) ≡ Ok (before ++ ms, read_left [] (at8 + long)) =
-      ap (λ (xs : List ℕ). records_at tables shards count before (read_left xs at8)) (sym (append-nil (body ms))) ∙ records_again before ms [] at8 fit follow in
+      ap (λ (xs : List ℕ). records_at tables shards count before (read_left xs at8)) (sym (append-nil (body ms)))
+      ∙ records_again before ms [] at8 fit follow in
       ap (λ (l : List ℕ). checked (λ long. leb (at + long + 9) size) u32_at (read_left l at) >>= with_long before at) regrouped
       ∙ ap (λ (r : Read ℕ). r >>= with_long before at) ((long_exact at size).again long tail at (omega (arith, within, most, length-block ms), fits))
-      ∙ ap (λ (r : Read ℕ). r >>= with_count before at long) (u32_field.exact.again count (body ms ++ rest) (at + length (u32 long)) (omega (arith, many ms, within, most, length-block ms)))
-      ∙ ap (λ (r : Read (List ℕ)). r >>= λ b. with_body before b (count, read_left (body ms ++ rest) at8)) ((exact_bytes (λ l. at) long).again (body ms) rest at8 refl)
-      ∙ ap (λ (r : Read (List Mutation)). r >>= λ found. cond (eqb (length found.1.bytes) 0) (Ok (found.0, read_left rest (at8 + long))) (Err (Bad found.1.at))) inner
+      ∙ ap (λ (r : Read ℕ). r >>= with_count before at long) (u32_field.exact.again count (body ms ++ rest) (at + length (u32 long)) (omega
+      (arith, many ms, within, most, length-block ms)))
+      ∙ ap (λ (r : Read (List ℕ)). r >>= λ b. with_body before b (count, read_left (body ms ++ rest) at8)) ((exact_bytes (λ l. at) long).again
+      (body ms) rest at8 refl)
+      ∙ ap (λ (r : Read (List Mutation)). r >>= λ found. cond (eqb (length found.1.bytes) 0) (Ok (found.0, read_left rest (at8 + long))) (Err
+      (Bad found.1.at))) inner
       ∙ ap (λ (n : ℕ). done (before ++ ms, read_left rest n)) place
 
   -- ---- blocks
@@ -267,7 +289,8 @@ module _ (tables : List TableSchema) (shards : ℕ) (are : AreTables tables) (so
     pub there : mid.bytes ≡ gate ∷ new.bytes
     pub within : old.at + length (opened blocks) + 1 ≤ size
 
-  blocks_found : (n size : ℕ) (before all : List Mutation) (old new : Left) → AreBytes old.bytes → blocks_at tables shards n size before old ≡ Ok (all, new) → old.at + 1 ≤ size
+  blocks_found : (n size : ℕ) (before all : List Mutation) (old new : Left) → AreBytes old.bytes
+      → blocks_at tables shards n size before old ≡ Ok (all, new) → old.at + 1 ≤ size
       → Blocks size before all old new
   unfolding blocks_at u8
   blocks_found zero size before all old new bytes e room = absurd cc
@@ -283,7 +306,8 @@ module _ (tables : List TableSchema) (shards : ℕ) (are : AreTables tables) (so
             let (ms, is, fit, follow, begins, within) = block_found size before q.0.0 p.0.1 q.0.1 bytes1 q.1 in
             let bytes2 = AreBytes-rest p.0.1.bytes (block ms) q.0.1.bytes bytes1 begins.bytes in
             let rest = blocks_found n size q.0.0 all q.0.1 new bytes2 q.2 (omega (arith, begins.at, within)) in
-            let front_is : Begins (1 ∷ block ms) old q.0.1 = subst (λ (g : ℕ). Begins (g ∷ block ms) old q.0.1) is_one (Begins-then (u8 p.0.0) (block ms) old p.0.1 q.0.1 f.1 begins) in
+            let front_is : Begins (1 ∷ block ms) old q.0.1 = subst (λ (g : ℕ). Begins (g ∷ block ms) old q.0.1) is_one (Begins-then (u8 p.0.0)
+            (block ms) old p.0.1 q.0.1 f.1 begins) in
             record {
               blocks = ms ∷ rest.blocks;
               gate = rest.gate;
@@ -314,9 +338,14 @@ module _ (tables : List TableSchema) (shards : ℕ) (are : AreTables tables) (so
             }
       ]
 
-  blocks_again : (n size : ℕ) (before : List Mutation) (blocks : List (List Mutation)) (gate : ℕ) (rest : List ℕ) (at : ℕ) → gate ≢ 1 → gate < 2 ^ 8 → length blocks < n
+  blocks_again : (n size : ℕ) (before : List Mutation) (blocks : List (List Mutation)) (gate : ℕ) (rest : List ℕ) (at : ℕ) → gate ≢ 1
+      → gate < 2 ^ 8 → length blocks < n
       → AllByRecursion Fits (joined blocks) → Follow before (joined blocks) → at + length (opened blocks) + 1 ≤ size → size ≤ 2 ^ 25
-      → blocks_at tables shards n size before (read_left (opened blocks ++ gate ∷ rest) at) ≡ Ok (before ++ joined blocks, read_left rest (at + length (opened blocks) + 1))
+      → blocks_at tables shards n size before (read_left (opened blocks ++ gate ∷ rest) at) ≡ Ok (
+        before ++ joined blocks,
+        read_left rest
+            (at + length (opened blocks) + 1),
+      )
   unfolding blocks_at u8
   blocks_again zero size before blocks gate rest at shut byte enough fit follow within most = absurd (omega arith)
   blocks_again (suc n) size before [] gate rest at shut byte enough fit follow within most =
@@ -328,7 +357,11 @@ module _ (tables : List TableSchema) (shards : ℕ) (are : AreTables tables) (so
   blocks_again (suc n) size before (ms ∷ blocks) gate rest at shut byte enough fit follow within most =
       let x = gate ∷ rest in
       let tail = opened blocks ++ x in
-      let behind : length (opened (ms ∷ blocks)) ≡ 1 + length (block ms) + length (opened blocks) = omega (arith, length-append (1 ∷ block ms) (opened blocks)) in
+      let behind : length (opened (ms ∷ blocks)) ≡ 1 + length (block ms) + length (opened blocks) = omega (
+        arith,
+        length-append (1 ∷ block ms)
+            (opened blocks),
+      ) in
       let fits = fit_parts Fits ms (joined blocks) fit in
       let follows_both = follow_parts before ms (joined blocks) follow in
       let place : at + 1 + length (block ms) + length (opened blocks) + 1 ≡ at + length (opened (ms ∷ blocks)) + 1 = omega (arith, behind) in
@@ -336,12 +369,14 @@ module _ (tables : List TableSchema) (shards : ℕ) (are : AreTables tables) (so
       ∙ ap (λ (r : Read ℕ). r >>= behind_gate n size before) (u8_field.exact.again 1 (block ms ++ tail) at (omega arith))
       ∙ ap (λ (r : Read (List Mutation)). r >>= λ b. blocks_at tables shards n size b.0 b.1)
       (block_again size before ms tail (at + 1) fits.0 follows_both.0 (omega (arith, within, behind)) most)
-      ∙ blocks_again n size (before ++ ms) blocks gate rest (at + 1 + length (block ms)) shut byte (omega (arith, enough)) fits.1 follows_both.1 (omega (arith, within, behind)) most
+      ∙ blocks_again n size (before ++ ms) blocks gate rest (at + 1 + length (block ms)) shut byte (omega (arith, enough)) fits.1 follows_both.1
+      (omega (arith, within, behind)) most
       ∙ (λ i. Ok (append_assoc before ms (joined blocks) i, read_left rest (place i)))
 
   -- ---- a segment
 
-  pub segment_found : (number : ℕ) (all : List Mutation) (file : List ℕ) → AreBytes file → segment_of tables shards number file ≡ Ok all → IsSegmentOf tables shards number all file
+  pub segment_found : (number : ℕ) (all : List Mutation) (file : List ℕ) → AreBytes file → segment_of tables shards number file ≡ Ok all
+      → IsSegmentOf tables shards number all file
   unfolding segment_of segment_at
   segment_found number all file bytes e =
       let start = read_left file 0 in
@@ -380,7 +415,8 @@ module _ (tables : List TableSchema) (shards : ℕ) (are : AreTables tables) (so
       let whole : file ≡ head ++ tail = s.spelled ∙ append_assoc head (opened s.blocks) x in
       let byte : s.gate < 2 ^ 8 = (recursion_from_All (λ b. b < 256) x (AreBytes-rest file (front number s.size s.blocks) x bytes s.spelled).each).0 in
       let long : length tail ≡ length (opened s.blocks) + 1 + length s.rest = omega (arith, length-append (opened s.blocks) x) in
-      ap (λ (l : List ℕ). (header_at number (read_left l 0) >>= λ size. blocks_at tables shards (length size.1.bytes) size.0 [] size.1) >>= λ found. Ok found.0) whole
+      ap (λ (l : List ℕ). (header_at number (read_left l 0) >>= λ size. blocks_at tables shards
+      (length size.1.bytes) size.0 [] size.1) >>= λ found. Ok found.0) whole
       ∙ ap (λ (r : Read ℕ). (r >>= λ size. blocks_at tables shards (length size.1.bytes) size.0 [] size.1) >>= λ found. Ok found.0)
       (header_again number s.size tail 0 lt (s.least, s.most))
       ∙ ap (λ (r : Read (List Mutation)). r >>= λ found. Ok found.0)

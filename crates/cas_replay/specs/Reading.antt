@@ -1,6 +1,7 @@
 -- Reading a segment of the commit log from left to right: its mutations, or the first field that isn't as it must be.
 -- Own format. The place of a refusal is that of the refused field's first byte.
-use Rattle.std.specs.Prelude.{ℕ, zero, suc, ◌+◌, ◌^◌, ◌==◌, nat_le, bytes_eq, codes, Bool, true, List, [], ◌∷◌, ◌++◌, length, reverse, Option, None, Some, Result, Ok, Err, if◌then◌else◌}
+use Rattle.std.specs.Prelude.{ℕ, zero, suc, ◌+◌, ◌^◌, ◌==◌, nat_le, bytes_eq, codes, Bool, true, List}
+use Rattle.std.specs.Prelude.{[], ◌∷◌, ◌++◌, length, reverse, Option, None, Some, Result, Ok, Err, if◌then◌else◌}
 use Rattle.std.specs.List.{find}
 use Rattle.std.specs.Int.{is_in_range}
 use Rattle.cas_types.specs.declared.schema.TableSchema.{TableSchema}

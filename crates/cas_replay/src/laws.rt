@@ -13,7 +13,9 @@ ghost use Rattle.cas_replay.specs.Grammar.{IsSegmentOf};
 /// and what is read is such a segment.
 pub fn segments_are_exact()
     ensures again { (tables : List TableSchema) (shards number : ℕ) (mutations : List Mutation) (file : List ℕ) → AreTables tables
-        → IsShardCount shards → number < 2 ^ 64 → AreBytes file → IsSegmentOf tables shards number mutations file → segment_of tables shards number file ≡ Ok mutations }
+        → IsShardCount shards → number < 2 ^ 64 → AreBytes file → IsSegmentOf tables shards number mutations file
+        → segment_of tables shards number file ≡ Ok mutations }
     ensures found { (tables : List TableSchema) (shards number : ℕ) (mutations : List Mutation) (file : List ℕ) → AreTables tables
-        → IsShardCount shards → AreBytes file → segment_of tables shards number file ≡ Ok mutations → IsSegmentOf tables shards number mutations file }
+        → IsShardCount shards → AreBytes file → segment_of tables shards number file ≡ Ok mutations
+        → IsSegmentOf tables shards number mutations file }
 {}
