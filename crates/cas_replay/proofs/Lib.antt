@@ -1,0 +1,4 @@
+pub mod Loops
+pub mod Files
+pub mod SegmentLaws
+pub mod Order
