@@ -1,12 +1,14 @@
 -- The numbers of a shard's mutations.
-use Rattle.std.proofs.Common.{◌≡◌, ◌≤◌, ◌+◌, ℕ, ℤ, Bool, true, false, List, [], ◌∷◌, ◌++◌, refl, sym, ap, ap₂, ◌∙◌, arith}
+use Rattle.std.proofs.Common.{◌≡◌, ◌≤◌, ℕ, ℤ, Bool, List, [], ◌∷◌, ◌++◌, filter, refl, sym, ap, ap₂, ◌∙◌, arith}
 use Rattle.std.specs.Prelude.{if◌then◌else◌, ◌&&◌, nat_le}
 use Rattle.std.specs.List.{flat_map, fold}
 use Rattle.std.proofs.lemmas.Bool.Decides.{nat_tests}
 use Rattle.std.proofs.lemmas.List.Sums.{fold-append}
 use Rattle.std.proofs.lemmas.Grind.{flat_map-append}
+use Rattle.std.proofs.lemmas.List.Elements.{filter-append}
+use Rattle.cas_bounds.specs.declared.cuts.Slice.{Slice}
+use Rattle.cas_laws.specs.Inside.{is_read}
 use Rattle.cas_atoms.specs.declared.atom.Atom.{Atom}
-use Rattle.cas_atoms.specs.declared.atom.Mutation.{Mutation}
 use Rattle.cas_entries.specs.declared.entry.Entry.{Entry}
 use Rattle.cas_entries.specs.declared.entry.Entry.TheVariants as entry
 use Rattle.cas_entries.specs.Entries.{AreNumbered, atoms_if, first, is_of_partition, last_number, last_drawn, number_after, drawn_after}
@@ -51,7 +53,14 @@ pub drawn_of_none : (drawn : ℤ) → last_drawn drawn [] ≡ drawn
 unfolding last_drawn
 drawn_of_none drawn = refl
 
--- the entries from before a run, and those of the run
-pub first_of_both : (k table : ℕ) (key : List ℕ) (xs ys : List Entry) → first k table key xs ++ first k table key ys ≡ first k table key (xs ++ ys)
+-- what is read of the entries from before a run, and of those of the run
+pub read_of_both : (s : Slice) (k table : ℕ) (key : List ℕ) (xs ys : List Entry)
+    → filter (is_read s) (first k table key xs) ++ filter (is_read s) (first k table key ys) ≡ filter (is_read s) (first k table key (xs ++ ys))
 unfolding first
-first_of_both k table key xs ys = sym (flat_map-append (atoms_if k table key) xs ys)
+read_of_both s k table key xs ys =
+    sym (filter-append (is_read s) (flat_map (atoms_if k table key) xs) (flat_map (atoms_if k table key) ys))
+    ∙ ap (filter (is_read s)) (sym (flat_map-append (atoms_if k table key) xs ys))
+
+-- what is read of one entry more
+pub read_more : (s : Slice) (xs ys : List Atom) → filter (is_read s) xs ++ filter (is_read s) ys ≡ filter (is_read s) (xs ++ ys)
+read_more s xs ys = sym (filter-append (is_read s) xs ys)

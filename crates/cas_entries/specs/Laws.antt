@@ -1,5 +1,5 @@
 -- What holds of every history of a shard (own).
-use Rattle.std.specs.Prelude.{◌≡◌, ◌≤◌, ℕ, List, [], ◌∷◌, if◌then◌else◌}
+use Rattle.std.specs.Prelude.{◌≡◌, ◌≤◌, ℕ, List, [], if◌then◌else◌}
 use Rattle.std.specs.List.{flat_map}
 use Rattle.cas_atoms.specs.declared.atom.Atom.{Atom}
 use Rattle.cas_entries.specs.declared.entry.Entry.{Entry}

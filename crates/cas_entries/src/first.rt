@@ -1,18 +1,35 @@
 //! What of a shard's history a SELECT reads.
 
-ghost use Rattle.std.specs.Prelude.{◌≡◌, ◌++◌, OnOk};
+ghost use Rattle.std.specs.Prelude.{◌≡◌, ◌++◌, filter, OnOk};
+ghost use Rattle.cas_laws.specs.Inside.{is_read};
 ghost use Rattle.cas_entries.specs.Entries.{atoms_if, first, is_of_partition};
 
 use crate::entry::Entry;
-use cas_atoms::{Atom, Mutation};
+use cas_atoms::{Atom, Mutation, Query};
+use cas_bounds::{Slice, inside};
 use cas_types::{Bytes, Mem, compare_bytes};
 use std::cmp::Ordering;
 
-fn append_atoms(into: &mut Vec<Atom>, atoms: &[Atom]) -> Result<(), Mem>
-    ensures { OnOk result (into.new.items ≡ into.old.items ++ atoms.now) }
+// Whether a query in the slice reads the atom.
+fn is_read(slice: &Slice, atom: &Atom) -> bool
+    ensures { result ≡ is_read slice.now atom.now }
+{
+    match atom {
+        Atom::RowDeletion(row, _) => inside(row, slice),
+        Atom::CollectionDeletion(row, _, _) => inside(row, slice),
+        Atom::Live(row, _) => inside(row, slice),
+        Atom::Write(row, _, _, _) => inside(row, slice),
+        _ => true,
+    }
+}
+
+fn append_atoms(into: &mut Vec<Atom>, slice: &Slice, atoms: &[Atom]) -> Result<(), Mem>
+    ensures { OnOk result (into.new.items ≡ into.old.items ++ filter (is_read slice.now) atoms.now) }
 {
     for atom in atoms {
-        into.push(atom.copied()?)?;
+        if is_read(slice, atom) {
+            into.push(atom.copied()?)?;
+        }
     }
     Ok(())
 }
@@ -24,19 +41,14 @@ fn is_of_partition(table: u16, key: &Bytes, mutation: &Mutation) -> bool
         && compare_bytes(mutation.key.as_slice(), key.as_slice()) == Ordering::Equal
 }
 
-fn append_if(
-    into: &mut Vec<Atom>,
-    front: u64,
-    table: u16,
-    key: &Bytes,
-    entry: &Entry,
-) -> Result<(), Mem>
-    ensures { OnOk result (into.new.items ≡ into.old.items ++ atoms_if front table key.now entry.now) }
+fn append_if(into: &mut Vec<Atom>, front: u64, query: &Query, entry: &Entry) -> Result<(), Mem>
+    ensures { OnOk result (into.new.items ≡
+        into.old.items ++ filter (is_read query.now.slice) (atoms_if front query.now.table query.now.key entry.now)) }
 {
     match entry {
         Entry::Wrote { mutation, .. } => {
-            if mutation.number <= front && is_of_partition(table, key, mutation) {
-                append_atoms(into, mutation.atoms.as_slice())
+            if mutation.number <= front && is_of_partition(query.table, &query.key, mutation) {
+                append_atoms(into, &query.slice, mutation.atoms.as_slice())
             } else {
                 Ok(())
             }
@@ -44,20 +56,21 @@ fn append_if(
     }
 }
 
-/// Appends the atoms of the partition's mutations that are numbered up to the front. It looks at
-/// each entry once, and copies no atom of another partition.
-#[tactic(auto, unfolding(crate::specs::Entries::first))]
-pub fn append_first(
+/// Appends what the query reads of its partition's mutations that are numbered up to the front: all
+/// their atoms but those of single rows outside the slice. It looks at each entry once, and at each
+/// atom of the partition, and copies no other.
+#[tactic(auto, using(crate::proofs::Numbers::read_more), unfolding(crate::specs::Entries::first))]
+pub fn append_read(
     into: &mut Vec<Atom>,
     front: u64,
-    table: u16,
-    key: &Bytes,
+    query: &Query,
     entries: &[Entry],
 ) -> Result<(), Mem>
-    ensures { OnOk result (into.new.items ≡ into.old.items ++ first front table key.now entries.now) }
+    ensures { OnOk result (into.new.items ≡
+        into.old.items ++ filter (is_read query.now.slice) (first front query.now.table query.now.key entries.now)) }
 {
     for entry in entries {
-        append_if(into, front, table, key, entry)?;
+        append_if(into, front, query, entry)?;
     }
     Ok(())
 }

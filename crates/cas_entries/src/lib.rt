@@ -6,5 +6,5 @@ mod first;
 mod laws;
 
 pub use entry::{Entry, ShardOpening};
-pub use first::append_first;
+pub use first::append_read;
 pub use laws::all_stand_up_to_the_last;

@@ -4,3 +4,4 @@ pub mod JoinProofs
 pub mod ShownProofs
 pub mod AliveProofs
 pub mod AboveProofs
+pub mod SliceProofs

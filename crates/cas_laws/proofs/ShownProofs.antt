@@ -41,7 +41,7 @@ not_true : (b : Bool) → not b ≡ true → b ≡ false
 not_true true e = absurd (true≢false (sym e))
 not_true false e = refl
 
-equal_values : (xs ys : List (List ℕ)) → same_values xs ys ≡ true → xs ≡ ys
+pub equal_values : (xs ys : List (List ℕ)) → same_values xs ys ≡ true → xs ≡ ys
 equal_values xs ys e = slice_cmp-IsAntisymmetric bytes_orders.ties xs ys ((Equal-is (slice_cmp bytes_cmp xs ys)).0 e)
 
 equal_bytes : (xs ys : List ℕ) → same_bytes xs ys ≡ true → xs ≡ ys

@@ -8,11 +8,20 @@ use Rattle.cas_atoms.specs.Winners.{cover, live_winner, cell_winner}
 use Rattle.cas_atoms.specs.Picks.{living}
 use Rattle.cas_atoms.specs.Answers.{is_living}
 use Rattle.cas_atoms.specs.declared.atom.Atom.{Atom}
+use Rattle.cas_atoms.specs.declared.atom.Atom.TheVariants.{RowDeletion, CollectionDeletion, Live, Write}
 
 -- the row is in the slice; the static row is in each
 abbrev pub is_in : Slice → RowKey → Bool
 is_in s (clustered c) = is_inside s.lo s.hi c
 is_in s static_row = true
+
+-- a query in the slice reads the atom: any but one of a single row outside the slice
+abbrev pub is_read : Slice → Atom → Bool
+is_read s (RowDeletion c d) = is_inside s.lo s.hi c.values
+is_read s (CollectionDeletion c column d) = is_inside s.lo s.hi c.values
+is_read s (Live c l) = is_inside s.lo s.hi c.values
+is_read s (Write c column p v) = is_inside s.lo s.hi c.values
+is_read s _ = true
 
 -- two lists are the same in those rows where what covers and what wins agree at each coordinate of these
 pub record SameWhere (inside : RowKey → Bool) (A B : List Atom) : Type 0 where

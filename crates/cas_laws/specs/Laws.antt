@@ -1,5 +1,5 @@
 -- What holds of lists of atoms: joined end to end, the same, and of what they answer (own).
-use Rattle.std.specs.Prelude.{◌≡◌, ◌↔◌, ℕ, ℤ, ◌≤ℤ◌, Bool, true, false, Option, None, Some, List, ◌++◌}
+use Rattle.std.specs.Prelude.{◌≡◌, ◌↔◌, ℕ, ℤ, ◌≤ℤ◌, Bool, true, false, Option, None, Some, List, ◌++◌, filter}
 use Rattle.std.specs.List.Sorted.{IsStrictlySortedBy}
 use Rattle.std.specs.Ordering.{is_lt}
 use Rattle.std.specs.declared.cmp.Ordering.{Ordering}
@@ -10,6 +10,7 @@ use Rattle.cas_cell.specs.Lives.{live_at, live_cmp}
 use Rattle.cas_cell.specs.Cells.{cell_at, cell_cmp}
 use Rattle.cas_bounds.specs.Orders.{values_cmp}
 use Rattle.cas_bounds.specs.ClusteringOrder.{clustering_order}
+use Rattle.cas_bounds.specs.declared.cuts.Slice.{Slice}
 use Rattle.cas_bounds.specs.declared.order.Ordered.{Ordered}
 use Rattle.cas_atoms.specs.Greatest.{greater, greatest}
 use Rattle.cas_atoms.specs.Coordinates.{Coordinate, RowKey, row, path}
@@ -19,7 +20,7 @@ use Rattle.cas_atoms.specs.Answers.{is_answered, answered, answer}
 use Rattle.cas_atoms.specs.declared.atom.Atom.{Atom}
 use Rattle.cas_atoms.specs.declared.query.Query.{Query}
 use Rattle.cas_laws.specs.Given.{Gives, GiveAlike, Has}
-use Rattle.cas_laws.specs.Inside.{SameWhere, SameIn, AliveWhere, is_in}
+use Rattle.cas_laws.specs.Inside.{SameWhere, SameIn, AliveWhere, is_in, is_read}
 use Rattle.cas_laws.specs.Above.{AllAbove, SameAbove, later, later_mark}
 
 -- ---- the greatest
@@ -84,6 +85,11 @@ SameInAnswers = (A B : List Atom) (q : Query) → SameIn q.slice A B → (now : 
 -- and lists that at the moment show the same there
 abbrev pub AliveAnswers : Type 0
 AliveAnswers = (A B : List Atom) (q : Query) (now : ℤ) → AliveWhere (is_in q.slice) now A B → answer q A now ≡ answer q B now
+
+-- without the atoms of single rows outside a slice a list is the same in the slice, and answers a query there as it did
+pub record SliceReads : Type 0 where
+  pub same : (s : Slice) (A : List Atom) → SameIn s (filter (is_read s) A) A
+  pub answers : (A : List Atom) (q : Query) (now : ℤ) → answer q (filter (is_read q.slice) A) now ≡ answer q A now
 
 -- ---- above a mark
 

@@ -4,7 +4,7 @@ ghost use Rattle.cas_cell.specs.Deletions.{deletion_cmp};
 ghost use Rattle.cas_cell.specs.Lives.{live_cmp};
 ghost use Rattle.cas_cell.specs.Cells.{cell_cmp};
 ghost use Rattle.cas_laws.specs.Laws.{GreatestLaws, JoinLaws, Joined, SameWhereJoins, RowsAre, PathsAre, RowsAnswer};
-ghost use Rattle.cas_laws.specs.Laws.{SameAnswers, SameInAnswers, AliveAnswers, SameAboveLaws};
+ghost use Rattle.cas_laws.specs.Laws.{SameAnswers, SameInAnswers, AliveAnswers, SameAboveLaws, SliceReads};
 
 /// Of deletions, of what `INSERT`s leave of rows and of cells: the greatest is given, and none that
 /// is given is above it; and nothing else tells it.
@@ -57,6 +57,11 @@ pub fn same_in_answers()
 /// Lists that at a moment show the same in a query's slice and in the static row answer it alike.
 pub fn alive_answers()
     ensures { AliveAnswers }
+{}
+
+/// A query reads no atom of a single row outside its slice.
+pub fn slice_reads()
+    ensures { SliceReads }
 {}
 
 /// What is the same above a mark and a floor stays so whatever later than the mark is added; it

@@ -6,5 +6,5 @@ mod laws;
 
 pub use laws::{
     alive_answers, greatest_laws, join_laws, joined, paths_are, rows_answer, rows_are,
-    same_above_laws, same_answers, same_in_answers, same_where_joins,
+    same_above_laws, same_answers, same_in_answers, same_where_joins, slice_reads,
 };

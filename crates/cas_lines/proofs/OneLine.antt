@@ -1,14 +1,8 @@
 -- A text says one line only.
-use Rattle.std.proofs.Common.{◌≡◌, ℕ, ℤ, Bool, true, false, cond, List, [], ◌∷◌, take, codes, Option, None, Some, refl, sym, ap, ◌∙◌, subst, arith}
-use Rattle.std.specs.Char.{to_ascii_lowercase}
-use Rattle.std.specs.Str.{str_eq_ignore_ascii_case, str_to_ascii_lowercase}
-use Rattle.std.proofs.lemmas.Bool.{false≢true, and_parts}
-use Rattle.std.proofs.lemmas.Bool.Decides.{nat_tests}
-use Rattle.std.proofs.lemmas.Option.{none-some, same_Some}
-use Rattle.std.proofs.lemmas.Slice.Eq.{bytes_eq-Decides}
+use Rattle.std.proofs.Common.{◌≡◌, ℕ, ℤ, List, [], ◌∷◌, Some, refl, sym, ap, ◌∙◌, subst}
+use Rattle.std.proofs.lemmas.Option.{same_Some}
 use Rattle.cql_lex.specs.Lexes.{Lexes}
 use Rattle.cql_lex.specs.declared.token.Token.{Token}
-use Rattle.cql_lex.proofs.Backslash.{refused}
 use Rattle.cql_lex.proofs.Spans.{one_reading}
 use Rattle.cql_parse.specs.declared.lexeme.Lexeme.{Lexeme}
 use Rattle.cql_parse.specs.declared.syntax.Statement.{Statement}

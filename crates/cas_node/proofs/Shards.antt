@@ -1,17 +1,21 @@
 -- What a shard is like after a write and after a SELECT.
-use Rattle.std.proofs.Common.{◌≡◌, ◌≤◌, ◌+◌, ◌/◌, ℕ, ℤ, pos, negsuc, ◌≤ℤ◌, Bool, true, false, List, [], ◌∷◌, ◌++◌, Option, None, Some, refl, sym, ap, ◌∙◌, subst, arith}
+use Rattle.std.proofs.Common.{◌≡◌, ◌≤◌, ◌+◌, ◌/◌, ℕ, ℤ, pos, negsuc, ◌≤ℤ◌, Bool, true, false, List, [], ◌∷◌, ◌++◌, filter, Option, None, Some, refl, sym, ap, ◌∙◌, subst, arith}
 use Rattle.std.proofs.lemmas.Int.{ints}
 use Rattle.std.proofs.lemmas.Bool.{ltb-false, true≢false}
 use Rattle.std.specs.Prelude.{if◌then◌else◌, ◌&&◌, ◌||◌, nat_lt, int_lt}
 use Rattle.cas_atoms.specs.declared.atom.Mutation.{Mutation}
+use Rattle.cas_atoms.specs.declared.query.Query.{Query}
+use Rattle.cas_atoms.specs.Answers.{answer}
 use Rattle.cas_atoms.specs.LogLength.{record_length}
+use Rattle.cas_laws.specs.Inside.{is_read}
+use Rattle.cas_laws.proofs.SliceProofs.{slice_reads}
 use Rattle.cas_effects.specs.declared.effect.BoundWrite.{BoundWrite}
 use Rattle.cas_effects.specs.declared.refusal.TheConstants.{TOO_LARGE, TOO_MANY}
 use Rattle.cas_entries.specs.declared.entry.Entry.{Entry}
 use Rattle.cas_entries.specs.declared.entry.Entry.TheVariants as entry
 use Rattle.cas_entries.specs.declared.entry.ShardOpening.{ShardOpening}
 use Rattle.cas_entries.specs.Entries.{first, last_drawn, last_number}
-use Rattle.cas_entries.proofs.Numbers.{last_number_more, last_drawn_more, last_of_none, drawn_of_none, first_of_both}
+use Rattle.cas_entries.proofs.Numbers.{last_number_more, last_drawn_more, last_of_none, drawn_of_none, read_of_both}
 use Rattle.cas_render.specs.declared.reply.Failure.TheVariants as failure
 use Rattle.cas_render.specs.declared.reply.Reply.{Reply}
 use Rattle.cas_render.specs.declared.reply.Reply.TheVariants as reply
@@ -106,6 +110,9 @@ pub raised : (found : ShardOpening) (entries : List Entry) (number : ℕ) (drawn
     → IsShard found entries number drawn after
 raised found entries number drawn moment after i m = record { number_is = i.number_is; drawn_is = i.drawn_is; few = i.few; low = i.low; moment_is = m }
 
--- the atoms from before the run, and those of the run
-pub first_of_shard : (k table : ℕ) (key : List ℕ) (xs ys : List Entry) → first k table key xs ++ first k table key ys ≡ first k table key (xs ++ ys)
-first_of_shard = first_of_both
+-- what a query reads of the entries from before the run and of those of the run is enough to answer it
+pub answered_by_reading : (k : ℕ) (q : Query) (xs ys : List Entry) (now : ℤ)
+    → answer q (filter (is_read q.slice) (first k q.table q.key xs) ++ filter (is_read q.slice) (first k q.table q.key ys)) now
+    ≡ answer q (first k q.table q.key (xs ++ ys)) now
+answered_by_reading k q xs ys now =
+    ap (λ atoms. answer q atoms now) (read_of_both q.slice k q.table q.key xs ys) ∙ slice_reads.answers (first k q.table q.key (xs ++ ys)) q now

@@ -8,8 +8,6 @@ mod program;
 mod session;
 mod shard;
 mod store;
-#[cfg(test)]
-mod tests;
 
 pub use cas_words::path_of;
 pub use cause::Cause;

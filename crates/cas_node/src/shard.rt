@@ -13,7 +13,7 @@ ghost use Rattle.cas_node.specs.Inner.Turns.{Took};
 use cas_atoms::{LiveRow, Mutation, Query, answer, length};
 use cas_bind::BoundRead;
 use cas_effects::{BoundWrite, TOO_LARGE, TOO_MANY, atoms_of};
-use cas_entries::{Entry, ShardOpening, append_first};
+use cas_entries::{Entry, ShardOpening, append_read};
 use cas_render::{Failure, Reply};
 use cas_types::{LAST_DRAWN, LEAST_TIMESTAMP, List, MUTATION_LIMIT, Mem};
 use std::alloc::Global;
@@ -198,27 +198,25 @@ impl Shard {
         }
     }
 
-    #[tactic(auto, using(crate::proofs::Shards::first_of_shard))]
+    #[tactic(auto, using(crate::proofs::Shards::answered_by_reading))]
     fn rows(&self, alloc: Global, query: &Query) -> Result<List<LiveRow>, Mem>
         requires columns { IsNarrow query.now.columns }
         ensures { IfOk result (λ r. r ≡
             answer query.now (first (number_of self.now) query.now.table query.now.key (all_entries self.now)) self.now.moment) }
     {
         let mut atoms = Vec::new(alloc);
-        let (table, key) = (query.table, &query.key);
-        append_first(
+        append_read(
             &mut atoms,
             self.number,
-            table,
-            key,
+            query,
             self.found.entries.as_slice(),
         )?;
-        append_first(&mut atoms, self.number, table, key, &self.entries)?;
+        append_read(&mut atoms, self.number, query, &self.entries)?;
         Ok(List::from_vec(answer(alloc, &atoms, query, self.moment)?))
     }
 
     /// Shows the rows of a SELECT. The moment rises also where memory runs out. It looks at each
-    /// entry of the shard once, and copies the atoms of the partition alone.
+    /// entry of the shard once, and copies and orders what the query's slice needs alone.
     #[tactic(auto, unfolding(crate::specs::History::read_reply))]
     pub fn look(&mut self, alloc: Global, reading: i64, read: &BoundRead) -> Reply
         requires time { IsTime reading }

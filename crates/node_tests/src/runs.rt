@@ -1,10 +1,7 @@
-//! What no script can show: faults of the source and the sink, the longest script, many statements.
-//! Scripts stand in `cas_rows`.
-
-use crate::{Cause, Outcome, Pass, SCRIPT_LIMIT, run};
 use cas_disk::{FaultPlan, MemFolder};
 use cas_entries::Entry;
 use cas_io::{Failed, FreeGate, ManualClock, MemSink, MemSource, Source};
+use cas_node::{Cause, Outcome, Pass, SCRIPT_LIMIT, run};
 use std::alloc::Global;
 use std::fmt::Write;
 use std::test::Fail;
