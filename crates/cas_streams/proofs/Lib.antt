@@ -1,0 +1,4 @@
+pub mod InOrder
+pub mod Ranges
+pub mod OwnRows
+pub mod Rows

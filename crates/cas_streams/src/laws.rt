@@ -1,0 +1,15 @@
+//! What streams say, for every order of the clustering columns.
+
+ghost use Rattle.cas_streams.specs.Laws.{RowsSayAll, SameByRows};
+
+/// At each row an ordered stream says what its top, the deletion in force there and the row's own
+/// fragments say, and nothing more.
+pub fn rows_say_all()
+    ensures { RowsSayAll }
+{}
+
+/// Ordered streams of one top are the same in some rows where at each of them the same deletion is
+/// in force, and the fragments of their own are the same.
+pub fn same_by_rows()
+    ensures { SameByRows }
+{}
