@@ -16,7 +16,7 @@ use Rattle.cas_atoms.specs.Winners.{cover}
 use Rattle.cas_atoms.specs.declared.atom.Atom.{Atom}
 use Rattle.cas_atoms.specs.declared.atom.Atom.TheVariants.{RangeDeletion}
 use Rattle.cas_laws.proofs.JoinProofs.{cover_joins}
-use Rattle.cas_streams.specs.Flat.{atom_of, Change, between, ranges_after, ranges, at_end, reaching}
+use Rattle.cas_streams.specs.Flat.{atom_of, Change, between, ranges_after, ranges, at_end, after, reaching}
 use Rattle.cas_streams.proofs.InOrder.{Rise, NotPast, not_past, unreached}
 
 -- between two cuts
@@ -49,7 +49,7 @@ covered_after order m [] x c at rise closed past = sym closed
 covered_after order m (n ∷ ms) x c at rise closed past =
     cover_joins (between m n) (ranges_after n ms) x
     ∙ ap (λ d. greater deletion_cmp d (cover (ranges_after n ms) x)) (between_covers m n x (clustered c) at ∙ ap (λ b. cond (b && not (is_past n.at c)) m.to None) past)
-    ∙ elim (is_past n.at c) as (λ b. is_past n.at c ≡ b → greater deletion_cmp (cond (not b) m.to None) (cover (ranges_after n ms) x) ≡ reaching (cond b n.to m.to) ms c) [
+    ∙ elim (is_past n.at c) as (λ b. is_past n.at c ≡ b → greater deletion_cmp (cond (not b) m.to None) (cover (ranges_after n ms) x) ≡ after (λ cut. is_past cut c) (cond b n.to m.to) ms) [
       | true ↦ λ e. covered_after order n ms x c at rise.2 closed e
       | false ↦ λ e.
           let later : NotPast c ms = not_past order n ms c rise.2 e in
@@ -60,7 +60,7 @@ pub ranges_cover : (order : List Ordered) (ms : List Change) (x : Coordinate) (c
     → cover (ranges ms) x ≡ reaching None ms c
 ranges_cover order [] x c at rise closed = refl
 ranges_cover order (m ∷ ms) x c at rise closed =
-    elim (is_past m.at c) as (λ b. is_past m.at c ≡ b → cover (ranges_after m ms) x ≡ reaching (cond b m.to None) ms c) [
+    elim (is_past m.at c) as (λ b. is_past m.at c ≡ b → cover (ranges_after m ms) x ≡ after (λ cut. is_past cut c) (cond b m.to None) ms) [
       | true ↦ λ e. covered_after order m ms x c at rise closed e
       | false ↦ λ e.
           let later : NotPast c ms = not_past order m ms c rise e in

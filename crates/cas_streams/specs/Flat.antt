@@ -1,6 +1,6 @@
 -- What the fragments of a partition say, as atoms.
 -- Cassandra documentation, "Operating: Compaction, tombstones"; that a range deletion is told by the markers at its ends is own.
-use Rattle.std.specs.Prelude.{ℕ, Option, None, Some, List, [], ◌∷◌, ◌++◌, map, if◌then◌else◌}
+use Rattle.std.specs.Prelude.{ℕ, Bool, true, Option, None, Some, List, [], ◌∷◌, ◌++◌, map, if◌then◌else◌}
 use Rattle.std.specs.List.{flat_map}
 use Rattle.cas_cell.specs.declared.deletion.Deletion.{Deletion}
 use Rattle.cas_cell.specs.declared.cell.Cell.{Cell}
@@ -74,15 +74,18 @@ abbrev pub ranges : List Change → List Atom
 ranges [] = []
 ranges (m ∷ ms) = ranges_after m ms
 
--- what is in force after the last change, if before them it is `now`
-abbrev pub at_end : Option Deletion → List Change → Option Deletion
-at_end now [] = now
-at_end now (m ∷ ms) = at_end m.to ms
+-- what is in force after those changes whose cuts pass a test, if before them it is `now`
+abbrev pub after : (Cut → Bool) → Option Deletion → List Change → Option Deletion
+after passes now [] = now
+after passes now (m ∷ ms) = after passes (if passes m.at then m.to else now) ms
 
--- what is in force at a row, by the changes that it is past, if before them it is `now`
+-- what is in force after all changes
+abbrev pub at_end : Option Deletion → List Change → Option Deletion
+at_end now ms = after (λ cut. true) now ms
+
+-- what is in force at a row, by the changes that it is past
 abbrev pub reaching : Option Deletion → List Change → List (List ℕ) → Option Deletion
-reaching now [] c = now
-reaching now (m ∷ ms) c = reaching (if is_past m.at c then m.to else now) ms c
+reaching now ms c = after (λ cut. is_past cut c) now ms
 
 -- the range deletion in force at a row; at the static row none is
 abbrev pub in_force : List Fragment → RowKey → Option Deletion

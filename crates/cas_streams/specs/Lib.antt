@@ -1,5 +1,7 @@
 pub mod Places
 pub mod Flat
 pub mod Streams
+pub mod Weaving
+pub mod Joined
 pub mod Sources
 pub mod Laws
