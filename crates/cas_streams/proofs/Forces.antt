@@ -38,7 +38,7 @@ Falls order t = (k l : Cut) → k.order ≡ order → l.order ≡ order → poin
 abbrev pub AtPoints : List Ordered → (Cut → Bool) → Type 0
 AtPoints order t = (k l : Cut) → k.order ≡ order → l.order ≡ order → cut_point k ≡ cut_point l → t k ≡ t l
 
-abbrev Stopped : (Cut → Bool) → Fragment → Type 0
+abbrev pub Stopped : (Cut → Bool) → Fragment → Type 0
 Stopped t (fragment.Static cs) = Unit {0}
 Stopped t (fragment.Row r) = Unit {0}
 Stopped t (fragment.Marker k d) = t k ≡ false
@@ -148,7 +148,7 @@ pub nothing_left : (order : List Ordered) → InOrder order []
 nothing_left order = record { ascend = tt; of = tt }
 
 module _ (order : List Ordered) (t : Cut → Bool) (falls : Falls order t) (points : AtPoints order t) where
-  stop_behind : (x : Fragment) → IsOf order x → Stops t x → (zs : List Fragment) → AllByRecursion (IsOf order) zs → Behind order (place_of x) zs → AllByRecursion (Stopped t) zs
+  pub stop_behind : (x : Fragment) → IsOf order x → Stops t x → (zs : List Fragment) → AllByRecursion (IsOf order) zs → Behind order (place_of x) zs → AllByRecursion (Stopped t) zs
   stop_behind x of s [] ofs a = tt
   stop_behind (fragment.Static cs) of s (z ∷ zs) ofs a = absurd s
   stop_behind (fragment.Row r) of s (z ∷ zs) ofs a = absurd s

@@ -41,7 +41,7 @@ changes_rise order (fragment.Marker cut d ∷ fs) s of = (of.0, all_changes orde
 abbrev pub NotPast : List (List ℕ) → List Change → Type 0
 NotPast c ms = AllByRecursion (λ m. is_past m.at c ≡ false) ms
 
-not_past_later : (order : List Ordered) (a b : Cut) (c : List (List ℕ)) → a.order ≡ order → b.order ≡ order → point_cmp order (cut_point a) (cut_point b) ≡ Less
+pub not_past_later : (order : List Ordered) (a b : Cut) (c : List (List ℕ)) → a.order ≡ order → b.order ≡ order → point_cmp order (cut_point a) (cut_point b) ≡ Less
     → is_past a c ≡ false → is_past b c ≡ false
 not_past_later order a b c e f below none =
     elim (is_past b c) as (λ t. is_past b c ≡ t → t ≡ false) [

@@ -6,3 +6,9 @@ pub mod Weaves
 pub mod Parts
 pub mod Twins
 pub mod Forces
+pub mod Joining
+pub mod Bare
+pub mod Settling
+pub mod Merges
+pub mod Columns
+pub mod Formed

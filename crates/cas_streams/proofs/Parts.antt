@@ -101,7 +101,7 @@ then_cond : {Y : Type 0} (cmp : Y → Y → Ordering) (b : Bool) (y : Y) → gre
 then_cond cmp true y = refl
 then_cond cmp false y = refl
 
-cond_same : {Y : Type 0} (y : Y) (b : Bool) → cond b y y ≡ y
+pub cond_same : {Y : Type 0} (y : Y) (b : Bool) → cond b y y ≡ y
 cond_same y true = refl
 cond_same y false = refl
 

@@ -43,6 +43,22 @@ module _ {order : List Ordered} {fs : List Fragment} (ordered : IsOrdered order 
   force_covers x static_row at = ranges_not_static (changes fs) x at
   force_covers x (clustered c) at = ranges_cover order (changes fs) x c at (changes_rise order fs ordered.places ordered.of) ordered.closed
 
+-- what a stream covers, by its top, what is in force and its fragments
+pub stream_covers : {order : List Ordered} (top : Option Deletion) {fs : List Fragment} → IsOrdered order fs → (x : Coordinate)
+    → cover (flat top fs) x ≡ greater deletion_cmp top (greater deletion_cmp (in_force fs (row_of x)) (cover (flat_map own fs) x))
+stream_covers top {fs = fs} ordered x =
+    cover_joins (atom_of PartitionDeletion top) (ranges (changes fs) ++ flat_map own fs) x
+    ∙ (λ i. greater deletion_cmp (over_all_covers top x i)
+    ((cover_joins (ranges (changes fs)) (flat_map own fs) x ∙ ap (λ d. greater deletion_cmp d (cover (flat_map own fs) x)) (force_covers ordered x (row_of x) refl)) i))
+
+-- what it writes, its fragments write
+pub stream_gives : {Y : Type 0} {cmp : Y → Y → Ordering} (o : Orders cmp) (given : Atom → Option Y) → ((d : Deletion) → given (PartitionDeletion d) ≡ None)
+    → ((lo hi : Cut) (d : Deletion) → given (RangeDeletion lo hi d) ≡ None) → (top : Option Deletion) (fs : List Fragment) → greatest cmp given (flat top fs) ≡ greatest cmp given (flat_map own fs)
+stream_gives {cmp = cmp} o given partition range top fs =
+    greatest-append o given (atom_of PartitionDeletion top) (ranges (changes fs) ++ flat_map own fs)
+    ∙ (λ i. greater cmp (over_all_gives cmp given partition top i) (greatest-append o given (ranges (changes fs)) (flat_map own fs) i))
+    ∙ ap (λ g. greater cmp g (greatest cmp given (flat_map own fs))) (ranges_give cmp given range (changes fs))
+
 -- ---- a row of a stream
 
 module _ {order : List Ordered} (top : Option Deletion) {fs : List Fragment} (ordered : IsOrdered order fs) where

@@ -1,15 +1,19 @@
 -- What ordered streams say, row by row (own).
 use Rattle.std.specs.Prelude.{◌≡◌, Bool, true, Option, None, Some, List, ◌++◌, filter, false}
-use Rattle.std.specs.List.{flat_map}
+use Rattle.std.specs.List.{AllByRecursion, flat_map}
+use Rattle.cas_types.specs.declared.schema.Column.{Column}
 use Rattle.cas_cell.specs.declared.deletion.Deletion.{Deletion}
 use Rattle.cas_bounds.specs.declared.order.Ordered.{Ordered}
 use Rattle.cas_atoms.specs.Coordinates.{RowKey, same_row}
+use Rattle.cas_atoms.specs.Winners.{Same}
 use Rattle.cas_atoms.specs.declared.atom.Atom.{Atom}
 use Rattle.cas_atoms.specs.declared.atom.Atom.TheVariants.{PartitionDeletion}
 use Rattle.cas_laws.specs.Inside.{SameWhere}
 use Rattle.cas_streams.specs.Places.{row_in}
 use Rattle.cas_streams.specs.Flat.{atom_of, own, in_force, flat}
-use Rattle.cas_streams.specs.Streams.{IsOrdered}
+use Rattle.cas_streams.specs.Streams.{IsOrdered, WellFormed}
+use Rattle.cas_streams.specs.Joined.{Stream}
+use Rattle.cas_streams.specs.Merged.{merged, flat_of, flats}
 use Rattle.cas_streams.specs.declared.fragment.Fragment.{Fragment}
 
 -- the row of that key, and no other
@@ -31,3 +35,13 @@ abbrev pub SameByRows : Type 0
 SameByRows = (order other : List Ordered) (top : Option Deletion) (fs gs : List Fragment) → IsOrdered order fs → IsOrdered other gs → (inside : RowKey → Bool) →
     ((r : RowKey) → inside r ≡ true → in_force fs r ≡ in_force gs r) → SameWhere inside (flat_map own fs) (flat_map own gs) →
     SameWhere inside (flat top fs) (flat top gs)
+
+-- ---- the merge
+
+-- the merge of streams is the same as all their atoms one after another
+abbrev pub MergeIsJoin : Type 0
+MergeIsJoin = (order : List Ordered) (ss : List Stream) → AllByRecursion (λ s. IsOrdered order s.fragments) ss → Same (flat_of (merged ss)) (flats ss)
+
+-- the merge of a table's well-formed streams is well formed
+abbrev pub MergeIsWellFormed : Type 0
+MergeIsWellFormed = (columns : List Column) (ss : List Stream) → AllByRecursion (λ s. WellFormed columns s.fragments) ss → WellFormed columns (merged ss).fragments

@@ -3,5 +3,7 @@ pub mod Flat
 pub mod Streams
 pub mod Weaving
 pub mod Joined
+pub mod Settled
+pub mod Merged
 pub mod Sources
 pub mod Laws

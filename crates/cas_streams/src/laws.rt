@@ -1,6 +1,6 @@
 //! What streams say, for every order of the clustering columns.
 
-ghost use Rattle.cas_streams.specs.Laws.{RowsSayAll, SameByRows};
+ghost use Rattle.cas_streams.specs.Laws.{RowsSayAll, SameByRows, MergeIsJoin, MergeIsWellFormed};
 
 /// At each row an ordered stream says what its top, the deletion in force there and the row's own
 /// fragments say, and nothing more.
@@ -12,4 +12,14 @@ pub fn rows_say_all()
 /// in force, and the fragments of their own are the same.
 pub fn same_by_rows()
     ensures { SameByRows }
+{}
+
+/// The merge of ordered streams is the same as all their atoms one after another.
+pub fn merge_is_join()
+    ensures { MergeIsJoin }
+{}
+
+/// The merge of a table's well-formed streams is well formed.
+pub fn merge_is_well_formed()
+    ensures { MergeIsWellFormed }
 {}
