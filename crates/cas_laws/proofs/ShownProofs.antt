@@ -44,7 +44,7 @@ not_true false e = refl
 equal_values : (xs ys : List (List ℕ)) → same_values xs ys ≡ true → xs ≡ ys
 equal_values xs ys e = slice_cmp-IsAntisymmetric bytes_orders.ties xs ys ((Equal-is (slice_cmp bytes_cmp xs ys)).0 e)
 
-equal_bytes : (xs ys : List ℕ) → same_bytes xs ys ≡ true → xs ≡ ys
+pub equal_bytes : (xs ys : List ℕ) → same_bytes xs ys ≡ true → xs ≡ ys
 equal_bytes xs ys e = bytes_orders.ties xs ys ((Equal-is (bytes_cmp xs ys)).0 e)
 
 pub equal_rows : (r s : RowKey) → same_row r s ≡ true → r ≡ s

@@ -48,7 +48,7 @@ pub below_both : (a b e : Option Deletion) → Below a e → Below b e → Below
 below_both a b e h k = greater_assoc deletion_laws.orders a b e ∙ ap (greater deletion_cmp a) k ∙ h
 
 -- what a deletion below covers may be dropped
-dropped : {Y : Type 0} (at : Y → ℤ) (d e : Option Deletion) (w : Option Y) → Below d e → standing at e (standing at d w) ≡ standing at e w
+pub dropped : {Y : Type 0} (at : Y → ℤ) (d e : Option Deletion) (w : Option Y) → Below d e → standing at e (standing at d w) ≡ standing at e w
 dropped at d e w h = sym (standing_both at d e w) ∙ ap (λ f. standing at f w) h
 
 -- two lists cover the same, and under D they write the same
@@ -102,7 +102,7 @@ not_both true true c e = absurd (true≢false e)
 not_both true false c e = refl
 not_both false b c e = refl
 
-elsewhere : (key : RowKey) (n : ℕ) (p : List ℕ) (x : Coordinate) → is_in_column key n x ≡ false → is_at key n p x ≡ false
+pub elsewhere : (key : RowKey) (n : ℕ) (p : List ℕ) (x : Coordinate) → is_in_column key n x ≡ false → is_at key n p x ≡ false
 elsewhere key n p (row c) e = refl
 elsewhere key n p (path s m q) e = not_both (same_row key s) (n == m) (same_bytes p q) e
 
@@ -119,7 +119,7 @@ module _ (key : RowKey) (over : Option Deletion) (x : Coordinate) where
       (λ p. if_bare cell_at d (is_at key c.column.number p.path x) p.cell) c.cells
       ∙ greatest-standing cell_laws.orders cell_laws.by_time (writes_in key c.column.number x) d c.cells
 
-  no_cells : (c : RowColumn) → is_in_column key c.column.number x ≡ false → (ps : List PathCell) → greatest cell_cmp (writes_in key c.column.number x) ps ≡ None
+  pub no_cells : (c : RowColumn) → is_in_column key c.column.number x ≡ false → (ps : List PathCell) → greatest cell_cmp (writes_in key c.column.number x) ps ≡ None
   no_cells c e [] = refl
   no_cells c e (p ∷ ps) = λ i. greater cell_cmp (then_some (elsewhere key c.column.number p.path x e i) p.cell) (no_cells c e ps i)
 

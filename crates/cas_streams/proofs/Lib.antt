@@ -12,3 +12,6 @@ pub mod Settling
 pub mod Merges
 pub mod Columns
 pub mod Formed
+pub mod Single
+pub mod Winning
+pub mod Written

@@ -96,7 +96,7 @@ live_only : (c : Clustering) (l : Liveness) → Only (clustered c.values) (Live 
 live_only c l = record { deletes = λ x e. refl; lives = λ r e. ap (λ b. then_some b l) e; cells = λ x e. refl }
 
 -- a fragment that isn't of the row
-not_of_row : (f : Fragment) (s : RowKey) → is_row s (row_in f) ≡ false → (r : RowKey) × AllOnly r (own f) × (same_row r s ≡ false)
+pub not_of_row : (f : Fragment) (s : RowKey) → is_row s (row_in f) ≡ false → (r : RowKey) × AllOnly r (own f) × (same_row r s ≡ false)
 not_of_row (fragment.Static columns) s e = (static_row, columns_only None columns, e)
 not_of_row (fragment.Row r) s e =
     let key : RowKey = clustered r.clustering.values in (
@@ -111,7 +111,7 @@ not_of_row (fragment.Marker cut d) (clustered c) e = (static_row, tt, refl)
 
 module _ {Y : Type 0} {cmp : Y → Y → Ordering} (o : Orders cmp) (given : Atom → Option Y) (s : RowKey)
     (silent : (r : RowKey) (a : Atom) → Only r a → same_row r s ≡ false → given a ≡ None) where
-  none_given : (r : RowKey) (A : List Atom) → AllOnly r A → same_row r s ≡ false → greatest cmp given A ≡ None
+  pub none_given : (r : RowKey) (A : List Atom) → AllOnly r A → same_row r s ≡ false → greatest cmp given A ≡ None
   none_given r [] all e = refl
   none_given r (a ∷ A) all e = λ i. greater cmp (silent r a all.0 e i) (none_given r A all.1 e i)
 

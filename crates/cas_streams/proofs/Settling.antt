@@ -208,7 +208,7 @@ module _ (D : Coordinate → Option Deletion) (top : Option Deletion) (over_top 
       marked true rest = refl
       marked false rest = refl
 
-stopped_by_row : (order : List Ordered) (c : List (List ℕ)) (fs : List Fragment) → AllByRecursion (IsOf order) fs → Behind order (Some (row_point c)) fs → AllByRecursion (Stopped (λ k. is_past k c)) fs
+pub stopped_by_row : (order : List Ordered) (c : List (List ℕ)) (fs : List Fragment) → AllByRecursion (IsOf order) fs → Behind order (Some (row_point c)) fs → AllByRecursion (Stopped (λ k. is_past k c)) fs
 stopped_by_row order c [] of b = tt
 stopped_by_row order c (fragment.Static cs ∷ fs) of b = (tt, stopped_by_row order c fs of.1 b.1)
 stopped_by_row order c (fragment.Row r ∷ fs) of b = (tt, stopped_by_row order c fs of.1 b.1)
@@ -217,7 +217,7 @@ stopped_by_row order c (fragment.Marker k d ∷ fs) of b = (
   stopped_by_row order c fs of.1 b.1,
 )
 
-past_cut : (order : List Ordered) (k : Cut) (fs : List Fragment) (r : Row) → k.order ≡ order → Behind order (Some (cut_point k)) fs → Has fs (fragment.Row r) → is_past k r.clustering.values ≡ true
+pub past_cut : (order : List Ordered) (k : Cut) (fs : List Fragment) (r : Row) → k.order ≡ order → Behind order (Some (cut_point k)) fs → Has fs (fragment.Row r) → is_past k r.clustering.values ≡ true
 past_cut order k [] r of b none = absurd none
 past_cut order k (f ∷ fs) r of b (inl e) =
     let c : List (List ℕ) = r.clustering.values in

@@ -13,7 +13,7 @@ use Rattle.cas_streams.specs.Places.{row_in}
 use Rattle.cas_streams.specs.Flat.{atom_of, own, in_force, flat}
 use Rattle.cas_streams.specs.Streams.{IsOrdered, WellFormed}
 use Rattle.cas_streams.specs.Joined.{Stream}
-use Rattle.cas_streams.specs.Merged.{merged, flat_of, flats}
+use Rattle.cas_streams.specs.Merged.{merged, flat_of, flats, IsMerged}
 use Rattle.cas_streams.specs.declared.fragment.Fragment.{Fragment}
 
 -- the row of that key, and no other
@@ -45,3 +45,7 @@ MergeIsJoin = (order : List Ordered) (ss : List Stream) → AllByRecursion (λ s
 -- the merge of a table's well-formed streams is well formed
 abbrev pub MergeIsWellFormed : Type 0
 MergeIsWellFormed = (columns : List Column) (ss : List Stream) → AllByRecursion (λ s. WellFormed columns s.fragments) ss → WellFormed columns (merged ss).fragments
+
+-- and each of its writes wins where it is written
+abbrev pub MergeIsMerged : Type 0
+MergeIsMerged = (columns : List Column) (ss : List Stream) → AllByRecursion (λ s. WellFormed columns s.fragments) ss → IsMerged columns (merged ss)

@@ -1,6 +1,6 @@
 //! What streams say, for every order of the clustering columns.
 
-ghost use Rattle.cas_streams.specs.Laws.{RowsSayAll, SameByRows, MergeIsJoin, MergeIsWellFormed};
+ghost use Rattle.cas_streams.specs.Laws.{RowsSayAll, SameByRows, MergeIsJoin, MergeIsWellFormed, MergeIsMerged};
 
 /// At each row an ordered stream says what its top, the deletion in force there and the row's own
 /// fragments say, and nothing more.
@@ -22,4 +22,9 @@ pub fn merge_is_join()
 /// The merge of a table's well-formed streams is well formed.
 pub fn merge_is_well_formed()
     ensures { MergeIsWellFormed }
+{}
+
+/// And each write in it is the winner where it is written.
+pub fn merge_is_merged()
+    ensures { MergeIsMerged }
 {}
