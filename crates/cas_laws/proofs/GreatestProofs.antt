@@ -14,7 +14,7 @@ use Rattle.cas_laws.specs.Laws.{GreatestLaws}
 pub no_none : {Y : Type 0} (y : Y) {G : Type 0} → None ≡ Some y → G
 no_none y e = absurd (true≢false (sym (ap is_some e)))
 
-either_greater : {Y : Type 0} (cmp : Y → Y → Ordering) (a b : Option Y) (y : Y) → greater cmp a b ≡ Some y → (a ≡ Some y) ⊎ (b ≡ Some y)
+pub either_greater : {Y : Type 0} (cmp : Y → Y → Ordering) (a b : Option Y) (y : Y) → greater cmp a b ≡ Some y → (a ≡ Some y) ⊎ (b ≡ Some y)
 either_greater cmp None b y e = inr e
 either_greater cmp (Some x) None y e = inl e
 either_greater cmp (Some x) (Some z) y e = chosen (is_lt (cmp x z)) e

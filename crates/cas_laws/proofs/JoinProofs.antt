@@ -51,7 +51,7 @@ module _ {Y : Type 0} {cmp : Y → Y → Ordering} {at : Y → ℤ} (o : Orders 
       ∙ kept (covered d (at x)) (covered d (at y)) x y (is_lt (cmp x y)) (λ l c. covered_earlier d.at (at y) (at x) (t.below x y l) c) (λ l c. covered_earlier d.at (at x) (at y) (t.above x y l) c) cmp refl
 
   module _ {X : Type 0} (f : X → Option Y) where
-    greatest-standing : (d : Option Deletion) (A : List X) → greatest cmp (λ a. standing at d (f a)) A ≡ standing at d (greatest cmp f A)
+    pub greatest-standing : (d : Option Deletion) (A : List X) → greatest cmp (λ a. standing at d (f a)) A ≡ standing at d (greatest cmp f A)
     greatest-standing None [] = refl
     greatest-standing (Some d) [] = refl
     greatest-standing d (a ∷ A) = ap (greater cmp (standing at d (f a))) (greatest-standing d A) ∙ sym (standing-greater d (f a) (greatest cmp f A))

@@ -44,10 +44,10 @@ not_true false e = refl
 pub equal_values : (xs ys : List (List ℕ)) → same_values xs ys ≡ true → xs ≡ ys
 equal_values xs ys e = slice_cmp-IsAntisymmetric bytes_orders.ties xs ys ((Equal-is (slice_cmp bytes_cmp xs ys)).0 e)
 
-equal_bytes : (xs ys : List ℕ) → same_bytes xs ys ≡ true → xs ≡ ys
+pub equal_bytes : (xs ys : List ℕ) → same_bytes xs ys ≡ true → xs ≡ ys
 equal_bytes xs ys e = bytes_orders.ties xs ys ((Equal-is (bytes_cmp xs ys)).0 e)
 
-equal_rows : (r s : RowKey) → same_row r s ≡ true → r ≡ s
+pub equal_rows : (r s : RowKey) → same_row r s ≡ true → r ≡ s
 equal_rows (clustered c) (clustered d) e = ap clustered (equal_values c d e)
 equal_rows (clustered c) static_row e = absurd (true≢false (sym e))
 equal_rows static_row (clustered d) e = absurd (true≢false (sym e))

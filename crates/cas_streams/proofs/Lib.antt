@@ -1,0 +1,17 @@
+pub mod InOrder
+pub mod Ranges
+pub mod OwnRows
+pub mod Rows
+pub mod Weaves
+pub mod Parts
+pub mod Twins
+pub mod Forces
+pub mod Joining
+pub mod Bare
+pub mod Settling
+pub mod Merges
+pub mod Columns
+pub mod Formed
+pub mod Single
+pub mod Winning
+pub mod Written

@@ -1,0 +1,9 @@
+pub mod Places
+pub mod Flat
+pub mod Streams
+pub mod Weaving
+pub mod Joined
+pub mod Settled
+pub mod Merged
+pub mod Sources
+pub mod Laws

@@ -1,0 +1,30 @@
+//! What streams say, for every order of the clustering columns.
+
+ghost use Rattle.cas_streams.specs.Laws.{RowsSayAll, SameByRows, MergeIsJoin, MergeIsWellFormed, MergeIsMerged};
+
+/// At each row an ordered stream says what its top, the deletion in force there and the row's own
+/// fragments say, and nothing more.
+pub fn rows_say_all()
+    ensures { RowsSayAll }
+{}
+
+/// Ordered streams of one top are the same in some rows where at each of them the same deletion is
+/// in force, and the fragments of their own are the same.
+pub fn same_by_rows()
+    ensures { SameByRows }
+{}
+
+/// The merge of ordered streams is the same as all their atoms one after another.
+pub fn merge_is_join()
+    ensures { MergeIsJoin }
+{}
+
+/// The merge of a table's well-formed streams is well formed.
+pub fn merge_is_well_formed()
+    ensures { MergeIsWellFormed }
+{}
+
+/// And each write in it is the winner where it is written.
+pub fn merge_is_merged()
+    ensures { MergeIsMerged }
+{}

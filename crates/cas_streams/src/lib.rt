@@ -1,0 +1,13 @@
+//! A partition as a stream of fragments in the order of their places: what sources of them promise,
+//! and what a stream's atoms are.
+#![tactic(auto)]
+
+mod fragment;
+mod laws;
+mod part;
+mod source;
+
+pub use fragment::Fragment;
+pub use laws::{merge_is_join, merge_is_merged, merge_is_well_formed, rows_say_all, same_by_rows};
+pub use part::Part;
+pub use source::FragmentSource;
