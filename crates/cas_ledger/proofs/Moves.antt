@@ -1,6 +1,6 @@
 -- Each step, split and join keeps the table's rule.
 use Rattle.std.proofs.Common.{◌≡◌, ◌≢◌, ℕ, zero, suc, ◌+◌, ◌%◌, ◌^◌, ◌<◌, ◌≤◌, ◌⊎◌, List, [], ◌∷◌, ◌++◌, map, length, set, Bool, true, false, cond, refl, ap, sym, ◌∙◌, subst, inl, inr, ⊎_elim, arith, append_assoc, append-nil, length-append, eq-eqb, ne_eqb, eqb}
-use Rattle.std.specs.Prelude.{◌==◌, nat_le, slice_index, slice_set, None, Some, Option}
+use Rattle.std.specs.Prelude.{◌==◌, slice_index, None, Some, Option}
 use Rattle.std.specs.List.{filter, list_any}
 use Rattle.std.proofs.Math.Nat.{mod-add-mod}
 use Rattle.std.proofs.lemmas.Bool.{false_from_ne_true}
@@ -10,13 +10,13 @@ use Rattle.std.proofs.lemmas.List.Elements.{filter-append}
 use mathlib.Core.Option.{some, some-injective, some-ne-none}
 use mathlib.Core.List.{IsPrefix}
 use lib.ListN.{get_elem?}
-use Rattle.atomic_table.specs.Table.{State, Allows, Splits, Joins, keeps}
+use Rattle.atomic_table.specs.Table.{Allows, Splits, Joins, keeps}
 use Rattle.atomic_table.proofs.Lists.{at_set, at_snoc, set_else}
 use Rattle.cas_ledger.specs.declared.hand.Hand.{Hand}
-use Rattle.cas_ledger.specs.Log.{Rules, Each, Any, Has, part, counted, Follows, LegalAfter, Legal}
-use Rattle.cas_ledger.specs.Hands.{numbers, times, beyond, total, shares, stakes, sees, gave, given, plain, dealt, further, either_right, right_of, founder, Knows, Ready}
+use Rattle.cas_ledger.specs.Log.{Rules, Each, Any, Has, part, counted, Follows, LegalAfter}
+use Rattle.cas_ledger.specs.Hands.{numbers, times, beyond, total, shares, stakes, Owns, sees, gave, given, plain, dealt, further, either_right, right_of, founder, Knows, Ready}
 use Rattle.cas_ledger.specs.Inner.Table.{nobody, hand_of, others, lent, merged, Counts, Stands, Grew, Looked}
-use Rattle.cas_ledger.proofs.Lists.{begins_itself, begins_longer, each_weaker, each_map, each_kept, each_append, each_at, any_of_each, any_gives, has_begun, total_append, total_map, total_cut, total_set, total_at, total_two, named, times_some, times_append}
+use Rattle.cas_ledger.proofs.Lists.{begins_itself, begins_longer, each_weaker, each_map, each_kept, each_append, each_at, any_of_each, any_gives, has_begun, total_append, total_map, total_cut, total_set, total_at, total_two, named, times_append}
 
 module _ {E : Type 0} (R : Rules E) where
   legal_more : (before log : List E) (e : E) → LegalAfter R before log → Follows R (before ++ log) e → LegalAfter R before (log ++ e ∷ [])
@@ -44,19 +44,19 @@ module _ {E : Type 0} (R : Rules E) where
   sees_all log h = (begins_itself log, λ r s. refl)
 
   -- who is ready owns each list of the entry
-  ready_owns : (r : ℕ) (hands : List (Hand E)) (P : Hand E → Type 0) → Any (λ h. Has h.lists r × P h) hands → 0 < stakes r hands
+  ready_owns : (r : ℕ) (hands : List (Hand E)) (P : Hand E → Type 0) → Any (λ h. Owns h r × P h) hands → 0 < stakes r hands
   ready_owns r [] P a = absurd a
-  ready_owns r (h ∷ hs) P (inl p) = let t = times_some h.lists r p.0 in omega arith
+  ready_owns r (h ∷ hs) P (inl p) = let t : Owns h r = p.0 in omega arith
   ready_owns r (h ∷ hs) P (inr a) = let t = ready_owns r hs P a in omega arith
 
   follows : (log : List E) (e : E) (hands : List (Hand E)) → Each (Knows R log) hands → Ready R hands e → Follows R log e
   follows log e hands know ready = (
     each_weaker
-        (λ r. Any (λ h. Has h.lists r × R.may r (part R r h.saw) e) hands)
+        (λ r. Any (λ h. Owns h r × R.may r (part R r h.saw) e) hands)
         (λ r. R.may r (part R r log) e)
         (λ r a. any_gives (λ h. R.may r (part R r log) e) (R.may r (part R r log) e) (λ h m. m) hands
-        (any_of_each (λ h. Has h.lists r × R.may r (part R r h.saw) e) (Knows R log) (λ h. R.may r (part R r log) e)
-        (λ h p k. subst (λ xs. R.may r xs e) (k.1 r (let t = times_some h.lists r p.0 in omega arith)) p.1) hands a know))
+        (any_of_each (λ h. Owns h r × R.may r (part R r h.saw) e) (Knows R log) (λ h. R.may r (part R r log) e)
+        (λ h p k. subst (λ xs. R.may r xs e) (k.1 r (let t : Owns h r = p.0 in omega arith)) p.1) hands a know))
         (R.lists e) ready.0,
     each_weaker
         (λ x. Any (λ h. Has h.saw x) hands)
@@ -130,7 +130,7 @@ module _ {E : Type 0} (R : Rules E) where
               (λ j u apart at'. all_know_more log e u (λ r has.
               let t = total_two (stakes r) s.views id j v u apart at at' in
               let o = h.4 r in
-              let p = ready_owns r v (λ x. R.may r (part R r x.saw) e) (each_at (λ k. Any (λ x. Has x.lists k × R.may k (part R k x.saw) e) v) (R.lists e) r ready.0 has) in
+              let p = ready_owns r v (λ x. R.may r (part R r x.saw) e) (each_at (λ k. Any (λ x. Owns x k × R.may k (part R k x.saw) e) v) (R.lists e) r ready.0 has) in
               omega arith) (h.3 j u at'))
               (each_map (Knows R after) (sees after) (sees_all after) v),
           (λ r. let t = total_less s.views id r v w at (let q = same r in omega arith) in let o = h.4 r in omega arith),

@@ -1,5 +1,5 @@
 -- What passes hold of the log, and what two that meet are shown.
-use Rattle.std.specs.Prelude.{◌≡◌, ℕ, zero, suc, ◌+◌, ◌%◌, ◌^◌, ◌<◌, ◌≤◌, List, [], ◌∷◌, ◌++◌, Bool, true, false, cond, nat_le, ◌==◌, Option, None, Some}
+use Rattle.std.specs.Prelude.{◌≡◌, ℕ, zero, suc, ◌+◌, ◌%◌, ◌^◌, ◌<◌, ◌≤◌, List, [], ◌∷◌, ◌++◌, cond, nat_le, ◌==◌, Option, None, Some}
 use mathlib.Core.List.{IsPrefix}
 use Rattle.cas_ledger.specs.declared.hand.Hand.{Hand}
 use Rattle.cas_ledger.specs.Log.{Rules, Each, Any, Has, part, counted}
@@ -52,6 +52,10 @@ module _ {E : Type 0} where
   abbrev pub Apart : List (Hand E) → Type 0
   Apart hands = (r : ℕ) → stakes r hands ≤ 1
 
+  -- the hand owns the list (own)
+  abbrev pub Owns : Hand E → ℕ → Type 0
+  Owns h r = 0 < times r h.lists
+
   -- the hand, once it has seen the log so far (own)
   abbrev pub sees : List E → Hand E → Hand E
   sees log h = record { saw = log; lists = h.lists; from = h.from }
@@ -88,7 +92,7 @@ module _ {E : Type 0} where
     -- each list of the entry is owned by one of these hands, which lets it follow there, and what it rests on was seen by one (own)
     abbrev pub Ready : List (Hand E) → E → Type 0
     Ready hands e =
-        Each (λ r. Any (λ h. Has h.lists r × R.may r (part R r h.saw) e) hands) (R.lists e)
+        Each (λ r. Any (λ h. Owns h r × R.may r (part R r h.saw) e) hands) (R.lists e)
         × Each (λ x. Any (λ h. Has h.saw x) hands) (R.cites e)
 
     -- the log is what there was, which the hands knew, and then the entry. So many entries of its word were there (own)

@@ -1,5 +1,5 @@
 -- One log of entries, and the lists that it is read as.
-use Rattle.std.specs.Prelude.{◌≡◌, ℕ, ◌⊎◌, List, [], ◌∷◌, ◌++◌, length, Bool, ◌==◌}
+use Rattle.std.specs.Prelude.{◌≡◌, ℕ, ◌⊎◌, List, [], ◌∷◌, ◌++◌, length, ◌==◌}
 use Rattle.std.specs.List.{filter, list_any}
 
 module _ {A : Type 0} where

@@ -1,4 +1,4 @@
-use Rattle.std.proofs.Common.{◌≡◌, ℕ, ◌<◌, refl, ap, sym, ◌∙◌, subst, arith}
+use Rattle.std.proofs.Common.{ℕ, ◌<◌, ap, sym, ◌∙◌, subst}
 use Rattle.cas_ledger.proofs.Moves.{enters}
 use Rattle.cas_ledger.proofs.pass.Pass.enter_picked.Goals as goal
 

@@ -1,4 +1,4 @@
-use Rattle.std.proofs.Common.{◌≡◌, ℕ, ◌<◌, refl, ap, sym, ◌∙◌, subst, arith}
+use Rattle.std.proofs.Common.{◌≡◌, ap, sym, ◌∙◌, arith}
 use Rattle.cas_ledger.proofs.Moves.{looks, merges_known, merges_less}
 use Rattle.cas_ledger.specs.Inner.Table.{merged}
 use Rattle.cas_ledger.proofs.pass.Pass.merge.Goals as goal

@@ -1,4 +1,4 @@
-use Rattle.std.proofs.Common.{◌≡◌, ℕ, ◌<◌, refl, ap, sym, ◌∙◌, subst, arith}
+use Rattle.std.proofs.Common.{◌≡◌, ap, sym, ◌∙◌, arith}
 use Rattle.cas_ledger.proofs.Moves.{parts}
 use Rattle.cas_ledger.proofs.pass.Pass.part.Goals as goal
 

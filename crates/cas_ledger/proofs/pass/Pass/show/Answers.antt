@@ -1,4 +1,4 @@
-use Rattle.std.proofs.Common.{◌≡◌, ℕ, ◌<◌, refl, ap, sym, ◌∙◌, subst, arith}
+use Rattle.std.proofs.Common.{ℕ, ◌<◌, ap, sym, ◌∙◌, subst}
 use Rattle.cas_ledger.proofs.Moves.{looks, sees_more, sees_less}
 use Rattle.cas_ledger.specs.Hands.{sees}
 use Rattle.std.specs.Prelude.{map}
