@@ -2,7 +2,8 @@
 ghost use Rattle.std.specs.Prelude.{◌≡◌, ℕ, ◌+◌, ◌<◌, ◌≤◌, [], ◌∷◌, ◌++◌};
 ghost use mathlib.Core.List.{IsPrefix};
 ghost use Rattle.cas_ledger.specs.Hands.{Owns};
-ghost use Rattle.cas_history.specs.Items.{items, listed, log_list, front_list, first_diary, last_number, last_call};
+ghost use Rattle.cas_history.specs.Items.{items, listed, log_list, front_list, first_diary};
+ghost use Rattle.cas_history.specs.Last.{last_number, last_call};
 ghost use Rattle.cas_history.specs.declared.item.Item.TheVariants.{Found, Wrote, Purged};
 
 use crate::item::Item;
@@ -31,7 +32,7 @@ pub struct Front<E, J: Store> {
 #[derive(Drop)]
 pub struct Session<E, J: Store> {
     pub(crate) pass: Pass<Item<E>, J>,
-    list: u64,
+    pub(crate) list: u64,
     calls: u64,
     ghost owns: { (first_diary ≤ list) × Owns pass list },
     ghost last: { calls ≡ last_call (listed list pass.saw) },

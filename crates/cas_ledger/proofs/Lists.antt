@@ -1,5 +1,5 @@
 -- Lists: beginnings, elements that are so, and sums.
-use Rattle.std.proofs.Common.{◌≡◌, ◌≢◌, ℕ, zero, suc, ◌+◌, ◌<◌, ◌≤◌, List, [], ◌∷◌, ◌++◌, map, set, Bool, true, false, cond, refl, ap, sym, ◌∙◌, subst, inl, inr, ⊎_elim, arith, append_assoc, append-nil, eq-eqb, eqb, true≢false}
+use Rattle.std.proofs.Common.{◌≡◌, ◌≢◌, ◌⊎◌, ℕ, zero, suc, ◌+◌, ◌<◌, ◌≤◌, List, [], ◌∷◌, ◌++◌, map, set, Bool, true, false, cond, refl, ap, sym, ◌∙◌, subst, inl, inr, ⊎_elim, arith, append_assoc, append-nil, eq-eqb, eqb, true≢false}
 use Rattle.std.proofs.lemmas.Bool.Decides.{eqb_tells}
 use Rattle.std.specs.Prelude.{◌==◌, ◌||◌}
 use Rattle.std.specs.List.{list_any}
@@ -58,6 +58,10 @@ module _ {A : Type 0} where
       has_append (y ∷ ys) zs x (inl e) = inl e
       has_append (y ∷ ys) zs x (inr h) = inr (has_append ys zs x h)
 
+  pub has_last : (xs : List A) (x : A) → Has (xs ++ x ∷ []) x
+  has_last [] x = inl refl
+  has_last (y ∷ ys) x = inr (has_last ys x)
+
   pub total_append : (f : A → ℕ) (xs ys : List A) → total f (xs ++ ys) ≡ total f xs + total f ys
   total_append f [] ys = omega arith
   total_append f (x ∷ xs) ys = let e = total_append f xs ys in omega arith
@@ -106,3 +110,11 @@ times_some (k ∷ ks) r (inr h) = let s = times_some ks r h in omega arith
 pub times_append : (ks ls : List ℕ) (r : ℕ) → times r (ks ++ ls) ≡ times r ks + times r ls
 times_append [] ls r = omega arith
 times_append (k ∷ ks) ls r = let e = times_append ks ls r in omega arith
+
+pub has_or_not : (ks : List ℕ) (r : ℕ) → Has ks r ⊎ (Has ks r → ⊥)
+has_or_not [] r = inr (λ h. h)
+has_or_not (k ∷ ks) r =
+    ⊎_elim
+    (λ (t : (eqb k r ≡ true) × (k ≡ r)). inl (inl t.1))
+    (λ (f : (eqb k r ≡ false) × (k ≢ r)). ⊎_elim (λ h. inl (inr h)) (λ n. inr (λ h. ⊎_elim f.1 n h)) (has_or_not ks r))
+    (eqb_tells k r)

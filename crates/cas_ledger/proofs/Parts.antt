@@ -1,5 +1,5 @@
 -- For crates above: what an entry does to the lists of who stood there, and facts that each entry keeps.
-use Rattle.std.proofs.Common.{◌≡◌, ◌≢◌, ℕ, zero, suc, ◌+◌, ◌<◌, ◌≤◌, eqb, List, [], ◌∷◌, ◌++◌, Bool, true, false, cond, refl, ap, sym, ◌∙◌, subst, inl, inr, ⊎_elim, arith, append_assoc, append-nil, eq-eqb}
+use Rattle.std.proofs.Common.{◌≡◌, ◌≢◌, ℕ, zero, suc, ◌+◌, ◌<◌, ◌≤◌, eqb, List, [], ◌∷◌, ◌++◌, Bool, true, false, cond, refl, ap, sym, ◌∙◌, subst, inl, inr, ⊎_elim, arith, append_assoc, append-nil, eq-eqb, true≢false}
 use Rattle.std.specs.Prelude.{◌==◌, ◌||◌}
 use Rattle.std.specs.List.{filter, list_any}
 use Rattle.std.proofs.lemmas.Bool.{false_from_ne_true}
@@ -55,6 +55,22 @@ module _ {E : Type 0} (R : Rules E) where
   legal_from : (P : List E → Type 0) → ((before : List E) (e : E) → P before → Follows R before e → P (before ++ e ∷ [])) → (before log : List E) → P before → LegalAfter R before log → P (before ++ log)
   legal_from P step before [] p l = subst P (sym (append-nil before)) p
   legal_from P step before (e ∷ es) p l = subst P (append_assoc before (e ∷ []) es) (legal_from P step (before ++ e ∷ []) es (step before e p l.0) l.1)
+
+  legal_rest : (before p rest : List E) → LegalAfter R before (p ++ rest) → LegalAfter R (before ++ p) rest
+  legal_rest before [] rest l = subst (λ b. LegalAfter R b rest) (sym (append-nil before)) l
+  legal_rest before (x ∷ xs) rest l = subst (λ b. LegalAfter R b rest) (append_assoc before (x ∷ []) xs) (legal_rest (before ++ x ∷ []) xs rest l.1)
+
+  -- what each entry that may come in a list keeps, goes on from a beginning of the log to the log
+  pub list_grows : (r : ℕ) (P : List E → Type 0) → ((list : List E) (e : E) → P list → R.may r list e → P (list ++ e ∷ [])) → (p log : List E) → IsPrefix p log → Legal R log → P (part R r p) → P (part R r log)
+  list_grows r P step p log begin legal now =
+      subst (λ l. P (part R r l)) begin.1
+      (legal_from (λ l. P (part R r l)) (λ before e q f. one before e q f (list_any (λ k. k == r) (R.lists e)) refl) p begin.0 now (legal_rest [] p begin.0 (subst (Legal R) (sym begin.1) legal)))
+    where
+      one : (before : List E) (e : E) → P (part R r before) → Follows R before e → (b : Bool) → list_any (λ k. k == r) (R.lists e) ≡ b → P (part R r (before ++ e ∷ []))
+      one before e q f true is =
+          let here = named (R.lists e) r is in
+          subst P (sym (part_gets before e r here)) (step (part R r before) e q (each_at (λ k. R.may k (part R k before) e) (R.lists e) r f.0 here))
+      one before e q f false is = subst P (sym (part_stays before e r (λ here. true≢false (sym (names_it (R.lists e) r here) ∙ is)))) q
 
   -- what each entry that may come keeps, holds of each legal log
   pub legal_grows : (P : List E → Type 0) → P [] → ((before : List E) (e : E) → P before → Follows R before e → P (before ++ e ∷ [])) → (log : List E) → Legal R log → P log

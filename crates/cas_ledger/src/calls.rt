@@ -1,7 +1,7 @@
 //! The steps of a log, each a whole: an entry comes in, passes that meet are shown the log, lists and the
 //! right to make passes change hands.
 ghost use Rattle.std.specs.Prelude.{◌≡◌, ◌<◌, ◌%◌, ◌^◌, [], ◌∷◌, OnErr, IfOk};
-ghost use Rattle.cas_ledger.specs.Log.{Each, counted};
+ghost use Rattle.cas_ledger.specs.Log.{Each, Legal, counted};
 ghost use Rattle.cas_ledger.specs.Hands.{Apart, Entered, Knows, Ready, both, gave, given, right_of, plain, sees};
 
 use crate::entries::{Entries, Tells};
@@ -19,6 +19,7 @@ pub fn accept_alone<E: Entries, J: Store, T: Tells<E>>(
     requires ready { Ready E.rules (one.old ∷ []) (T.entry entry.now) }
     ensures entered { Entered E.rules (one.old ∷ []) (T.entry entry.now) one.new.saw result }
     ensures one { one.new ≡ sees one.new.saw one.old }
+    ensures legal { Legal E.rules one.new.saw }
 {
     let mut group = one.lend();
     let before = one.enter(&mut group, word, entry);
@@ -37,6 +38,7 @@ pub fn accept_two<E: Entries, J: Store, T: Tells<E>>(
     requires ready { Ready E.rules (one.old ∷ two.old ∷ []) (T.entry entry.now) }
     ensures entered { Entered E.rules (one.old ∷ two.old ∷ []) (T.entry entry.now) one.new.saw result }
     ensures one { one.new ≡ sees one.new.saw one.old }
+    ensures legal { Legal E.rules one.new.saw }
     ensures two { two.new ≡ sees one.new.saw two.old }
 {
     let mut group = one.lend();
@@ -59,6 +61,7 @@ pub fn accept_three<E: Entries, J: Store, T: Tells<E>>(
     requires ready { Ready E.rules (one.old ∷ two.old ∷ three.old ∷ []) (T.entry entry.now) }
     ensures entered { Entered E.rules (one.old ∷ two.old ∷ three.old ∷ []) (T.entry entry.now) one.new.saw result }
     ensures one { one.new ≡ sees one.new.saw one.old }
+    ensures legal { Legal E.rules one.new.saw }
     ensures two { two.new ≡ sees one.new.saw two.old }
     ensures three { three.new ≡ sees one.new.saw three.old }
 {
@@ -86,6 +89,7 @@ pub fn accept_four<E: Entries, J: Store, T: Tells<E>>(
     requires ready { Ready E.rules (one.old ∷ two.old ∷ three.old ∷ four.old ∷ []) (T.entry entry.now) }
     ensures entered { Entered E.rules (one.old ∷ two.old ∷ three.old ∷ four.old ∷ []) (T.entry entry.now) one.new.saw result }
     ensures one { one.new ≡ sees one.new.saw one.old }
+    ensures legal { Legal E.rules one.new.saw }
     ensures two { two.new ≡ sees one.new.saw two.old }
     ensures three { three.new ≡ sees one.new.saw three.old }
     ensures four { four.new ≡ sees one.new.saw four.old }
@@ -109,6 +113,7 @@ pub fn look<E: Entries, J: Store>(one: &mut Pass<E, J>, two: &mut Pass<E, J>, wo
     requires word { word < 34 }
     ensures known { Each (Knows E.rules one.new.saw) (one.old ∷ two.old ∷ []) }
     ensures one { one.new ≡ sees one.new.saw one.old }
+    ensures legal { Legal E.rules one.new.saw }
     ensures two { two.new ≡ sees one.new.saw two.old }
     ensures apart { Apart (one.old ∷ two.old ∷ []) }
     ensures count { result ≡ counted E.rules word one.new.saw % 2 ^ 64 }
@@ -126,6 +131,7 @@ pub fn look_alone<E: Entries, J: Store>(one: &mut Pass<E, J>, word: usize) -> u6
     requires word { word < 34 }
     ensures known { Knows E.rules one.new.saw one.old }
     ensures one { one.new ≡ sees one.new.saw one.old }
+    ensures legal { Legal E.rules one.new.saw }
     ensures count { result ≡ counted E.rules word one.new.saw % 2 ^ 64 }
 {
     let mut group = one.lend();
@@ -137,6 +143,7 @@ pub fn look_alone<E: Entries, J: Store>(one: &mut Pass<E, J>, word: usize) -> u6
 /// A pass that has ended: the keeper owns what it owned.
 pub fn join<E: Entries, J: Store>(keeper: &mut Pass<E, J>, ended: Pass<E, J>)
     ensures known { Each (Knows E.rules keeper.new.saw) (keeper.old ∷ ended ∷ []) }
+    ensures legal { Legal E.rules keeper.new.saw }
     ensures keeper { keeper.new ≡ both keeper.new.saw keeper.old ended }
     ensures apart { Apart (keeper.old ∷ ended ∷ []) }
 {
@@ -151,6 +158,7 @@ pub fn join<E: Entries, J: Store>(keeper: &mut Pass<E, J>, ended: Pass<E, J>)
 pub fn yield_right<E: Entries, J: Store>(from: &mut Pass<E, J>, to: &mut Pass<E, J>)
     ensures from { from.new ≡ plain from.old }
     ensures known { Each (Knows E.rules to.new.saw) (to.old ∷ right_of from.old ∷ []) }
+    ensures legal { Legal E.rules to.new.saw }
     ensures to { to.new ≡ both to.new.saw to.old (right_of from.old) }
 {
     let mut group = to.lend();
