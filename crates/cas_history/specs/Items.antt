@@ -1,0 +1,90 @@
+-- Which lists an entry of the history stands in, and what it may follow there.
+use Rattle.std.specs.Prelude.{◌≡◌, ◌≢◌, ℕ, ◌+◌, ◌/◌, ◌<◌, ◌≤◌, List, [], ◌∷◌, true, None, Some}
+use Rattle.cas_ledger.specs.Log.{Rules, Each, part}
+use Rattle.cas_history.specs.declared.item.Item.{Item}
+use Rattle.cas_history.specs.declared.item.Item.TheVariants.{Found, Wrote, Purged, Faulted, Read, Rose, Drew, Began, Ended, Changed}
+use Rattle.cas_history.specs.Last.{last_number, last_call, last_fault, last_committed, last_first, last_moment, last_table, runs, holds}
+
+-- the room's list of all mutations (own)
+abbrev pub log_list : ℕ
+log_list = 0
+
+-- the room's list of what it says of its disk (own)
+abbrev pub faults_list : ℕ
+faults_list = 1
+
+-- the room's list of the table numbers that were drawn (own)
+abbrev pub numbers_list : ℕ
+numbers_list = 2
+
+-- the list of a shard: its mutations and its purges (own)
+abbrev pub front_list : ℕ → ℕ
+front_list shard = 16 + shard
+
+-- the list of what raised a shard's moment (own)
+abbrev pub moments_list : ℕ → ℕ
+moments_list shard = 32 + shard
+
+-- the list of a shard's changes (own)
+abbrev pub changes_list : ℕ → ℕ
+changes_list shard = 48 + shard
+
+-- the room's list of them (own)
+abbrev pub room_changes : ℕ → ℕ
+room_changes shard = 64 + shard
+
+-- the book's list of them (own)
+abbrev pub book_changes : ℕ → ℕ
+book_changes shard = 80 + shard
+
+-- from here on lists are diaries, of sessions and workers, and works, of a table's flushes or of its compactions (own)
+abbrev pub first_diary : ℕ
+first_diary = 96
+
+module _ {E : Type 0} where
+  abbrev pub lists_of : Item E → List ℕ
+  lists_of (Found list _) = list ∷ []
+  lists_of (Wrote shard session _ _ _) = log_list ∷ front_list shard ∷ session ∷ []
+  lists_of (Purged shard _) = front_list shard ∷ []
+  lists_of (Faulted _ _ _) = faults_list ∷ []
+  lists_of (Read pass _) = pass ∷ []
+  lists_of (Rose shard _ _) = moments_list shard ∷ []
+  lists_of (Drew pass _) = numbers_list ∷ pass ∷ []
+  lists_of (Began works pass _) = works ∷ pass ∷ []
+  lists_of (Ended works pass) = works ∷ pass ∷ []
+  lists_of (Changed shard pass _ _) = changes_list shard ∷ room_changes shard ∷ book_changes shard ∷ pass ∷ []
+
+  -- a word for each shard's mutations, from 2 on; one for each shard's changes, from 18 on; all else by the first (own)
+  abbrev pub word_of : Item E → ℕ
+  word_of (Wrote shard _ _ _ _) = 2 + shard
+  word_of (Changed shard _ _ _) = 18 + shard
+  word_of other = 0
+
+  -- what may be the next of a list (own):
+  -- what the opening found comes first; a mutation has the next number of its shard, and is its session's next write; what the room
+  -- tells of its disk doesn't fall, and the fault that stopped it stays; a moment rises; so do table numbers; works begin where none
+  -- run, and are ended by who began them; a change adds what its diary drew, and no change took
+  abbrev pub MayCome : ℕ → List (Item E) → Item E → Type 0
+  MayCome list before (Found _ _) = before ≡ []
+  MayCome list before (Wrote shard session call number _) =
+      (shard < 16) × (first_diary ≤ session) × (list ≡ front_list shard → number ≡ last_number before + 1) × (list ≡ session → call ≡ last_call before + 1)
+  MayCome list before (Purged shard _) = shard < 16
+  MayCome list before (Faulted number committed first) = (last_fault before ≤ number) × (last_committed before ≤ committed) × (last_first before ≢ 0 → first ≡ last_first before)
+  MayCome list before (Read pass _) = first_diary ≤ pass
+  MayCome list before (Rose shard pass micros) = (shard < 16) × (last_moment before < micros / 1000000)
+  MayCome list before (Drew pass table) = (first_diary ≤ pass) × (list ≡ numbers_list → last_table before < table)
+  MayCome list before (Began works pass _) = (first_diary ≤ works) × (first_diary ≤ pass) × (works ≢ pass) × (list ≡ works → runs works before ≡ None)
+  MayCome list before (Ended works pass) = (first_diary ≤ works) × (first_diary ≤ pass) × (works ≢ pass) × (list ≡ works → runs works before ≡ Some pass)
+  MayCome list before (Changed shard pass added _) = (shard < 16) × (first_diary ≤ pass) × (list ≡ pass → Each (λ table. holds table before ≡ true) added)
+
+  -- a moment rests on the reading that raised it (own)
+  abbrev pub rests_on : Item E → List (Item E)
+  rests_on (Rose _ pass micros) = Read pass micros ∷ []
+  rests_on other = []
+
+  abbrev pub items : Rules (Item E)
+  items = record { lists = lists_of; word = word_of; may = MayCome; cites = rests_on }
+
+  -- the list with this number (own)
+  abbrev pub listed : ℕ → List (Item E) → List (Item E)
+  listed list log = part items list log

@@ -1,0 +1,19 @@
+//! The running history of a node: what came in, for each shard, session and worker, over one log of
+//! `cas_ledger`. A seat a rule: each struct has the pass of its own lists.
+#![tactic(auto)]
+
+mod faults;
+mod front;
+mod item;
+mod maker;
+mod moments;
+mod numbers;
+mod works;
+
+pub use faults::Faults;
+pub use front::{Front, Log, Session, purge, write};
+pub use item::Item;
+pub use maker::{Fresh, Maker};
+pub use moments::Moments;
+pub use numbers::Numbers;
+pub use works::Works;

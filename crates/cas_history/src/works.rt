@@ -1,0 +1,109 @@
+//! Flushes and compactions: what runs, and whose turn it is to end it.
+ghost use Rattle.std.specs.Prelude.{◌≡◌, ◌≢◌, ◌≤◌, Bool, true, false, None, Some, [], ◌∷◌, ◌++◌, OnErr, IfSome, IfNone};
+ghost use mathlib.Core.List.{IsPrefix};
+ghost use Rattle.cas_ledger.specs.Hands.{Owns};
+ghost use Rattle.cas_history.specs.Items.{listed, first_diary};
+ghost use Rattle.cas_history.specs.Last.{runs, turn};
+ghost use Rattle.cas_history.specs.declared.item.Item.TheVariants.{Began, Ended};
+
+use crate::front::Session;
+use crate::item::Item;
+use crate::maker::Fresh;
+use cas_ledger::{Pass, Store, Tells, accept_two, look};
+use std::marker::PhantomData;
+
+/// A shard's seat for the flushes of one table, or for its compactions. It has the diary of who flushes or
+/// compacts, where that runs.
+#[derive(Drop)]
+pub struct Works<E, J: Store> {
+    pass: Pass<Item<E>, J>,
+    list: u64,
+    running: Option<u64>,
+    ghost owns: { (first_diary ≤ list) × Owns pass list },
+    ghost is_last: { running ≡ runs list (listed list pass.saw) },
+}
+
+#[derive(Drop)]
+struct Beginning<'a, E, T> {
+    works: u64,
+    pass: u64,
+    what: &'a T,
+    of: PhantomData<E>,
+}
+
+impl<'a, E, T: Tells<E>> Tells<Item<E>> for Beginning<'a, E, T> {
+    ghost use Rattle.cas_history.specs.declared.item.Item.TheVariants.{Began};
+
+    ghost entry = { λ b. Began b.works b.pass (T.entry b.what.now) };
+}
+
+#[derive(Drop)]
+struct Ending<E> {
+    works: u64,
+    pass: u64,
+    of: PhantomData<E>,
+}
+
+impl<E> Tells<Item<E>> for Ending<E> {
+    ghost use Rattle.cas_history.specs.declared.item.Item.TheVariants.{Ended};
+
+    ghost entry = { λ e. Ended e.works e.pass };
+}
+
+impl<E, J: Store> Works<E, J> {
+    pub fn new(fresh: Fresh<E, J>) -> Works<E, J>
+        requires { first_diary ≤ fresh.list }
+        ensures { (result.list ≡ fresh.list) × (result.running ≡ None) }
+    {
+        Works {
+            pass: fresh.pass,
+            list: fresh.list,
+            running: None,
+        }
+    }
+
+    /// Begins one. False exactly where one runs, and then nothing began.
+    pub fn begin<T: Tells<E>>(&mut self, session: &mut Session<E, J>, what: &T) -> bool
+        requires apart { self.old.list ≢ session.old.list }
+        ensures yes_ { result ≡ true → (self.old.running ≡ None) × (self.new.running ≡ Some session.old.list) }
+        ensures list { result ≡ true → listed self.old.list self.new.pass.saw ≡ listed self.old.list self.old.pass.saw ++ Began self.old.list session.old.list (T.entry what.now) ∷ [] }
+        ensures turn { result ≡ true → turn self.old.list (listed session.old.list session.new.pass.saw) ≡ true }
+        ensures busy { result ≡ false → (self.old.running ≢ None) × (self.new.running ≡ self.old.running) × (listed session.old.list session.new.pass.saw ≡ listed session.old.list session.old.pass.saw) }
+        ensures same { (self.new.list ≡ self.old.list) × (session.new.list ≡ session.old.list) × (session.new.calls ≡ session.old.calls) }
+        ensures seen { (session.new.pass.saw ≡ self.new.pass.saw) × IsPrefix self.old.pass.saw self.new.pass.saw × IsPrefix session.old.pass.saw self.new.pass.saw }
+    {
+        if self.running.is_some() {
+            look(&mut self.pass, &mut session.pass, 0);
+            return false;
+        }
+        let beginning = Beginning {
+            works: self.list,
+            pass: session.list,
+            what,
+            of: PhantomData,
+        };
+        accept_two(&mut self.pass, &mut session.pass, 0, &beginning);
+        self.running = Some(session.list);
+        true
+    }
+
+    /// Who began it ends it: the turn, which its diary has, is all that it asks.
+    pub fn end(&mut self, session: &mut Session<E, J>)
+        requires apart { self.old.list ≢ session.old.list }
+        requires turn { turn self.old.list (listed session.old.list session.old.pass.saw) ≡ true }
+        ensures was { self.old.running ≡ Some session.old.list }
+        ensures none { (self.new.running ≡ None) × (self.new.list ≡ self.old.list) }
+        ensures list { listed self.old.list self.new.pass.saw ≡ listed self.old.list self.old.pass.saw ++ Ended self.old.list session.old.list ∷ [] }
+        ensures turn { (turn self.old.list (listed session.old.list session.new.pass.saw) ≡ false) × (session.new.list ≡ session.old.list) × (session.new.calls ≡ session.old.calls) }
+        ensures seen { (session.new.pass.saw ≡ self.new.pass.saw) × IsPrefix self.old.pass.saw self.new.pass.saw × IsPrefix session.old.pass.saw self.new.pass.saw }
+    {
+        look(&mut self.pass, &mut session.pass, 0);
+        let ending = Ending {
+            works: self.list,
+            pass: session.list,
+            of: PhantomData,
+        };
+        accept_two(&mut self.pass, &mut session.pass, 0, &ending);
+        self.running = None;
+    }
+}
