@@ -42,7 +42,7 @@ sizes_bytes o = u64 o.min_sstable_size ++ (u16 o.sstable_size_in_mb ++ u16 o.fan
 abbrev pub window_bytes : Options → List ℕ
 window_bytes o = u8 (unit_code o.unit) ++ u16 o.window
 
--- the options of a table, all of them, 40 bytes
+-- the options of a table, all of them, 36 bytes
 abbrev pub options_bytes : Options → List ℕ
 options_bytes o = ages_bytes o ++ (buckets_bytes o ++ (sizes_bytes o ++ window_bytes o))
 
