@@ -7,10 +7,11 @@ mod entry;
 mod laws;
 mod reading;
 mod said;
+mod taking;
 mod writing;
 
 pub use entry::{Change, Entry};
 pub use laws::entries_are_exact;
 pub use reading::read_entry;
-pub use said::{FILE_LIMIT, LISTED_LIMIT, Part, SEGMENT_LIMIT, Said, ShardTimes};
+pub use said::{FILE_LIMIT, LISTED_LIMIT, Part, SEGMENT_LIMIT, Said, ShardTimes, listed_after};
 pub use writing::put_entry;

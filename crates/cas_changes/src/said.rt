@@ -1,6 +1,6 @@
 //! What the entries of a manifest say together.
 
-ghost use Rattle.std.specs.Prelude.{◌≡◌, ◌≤◌, nat_le};
+ghost use Rattle.std.specs.Prelude.{◌≡◌, ◌≤◌, nat_le, None, Some, if◌then◌else◌};
 ghost use Rattle.cas_changes.specs.declared.said.TheConstants.{LISTED_LIMIT};
 ghost use Rattle.cas_changes.specs.Saying.{place_in, part_of, is_listed, has_file, listed_after};
 
@@ -99,8 +99,23 @@ pub(crate) fn is_listable(listed: u64, entry: &Entry) -> bool
     }
 }
 
+/// How many files are listed after an entry, where there are at most 4,096.
+pub fn listed_after(listed: u64, entry: &Entry) -> Option<u64>
+    requires { listed ≤ LISTED_LIMIT }
+    ensures { result ≡ (if nat_le (listed_after listed entry.now) LISTED_LIMIT then Some (listed_after listed entry.now) else None) }
+{
+    let Entry::Change(change) = entry else {
+        return Some(listed);
+    };
+    let (removed, added) = (change.removed.len() as u64, change.added.len() as u64);
+    if added > LISTED_LIMIT || listed.saturating_sub(removed) + added > LISTED_LIMIT {
+        return None;
+    }
+    Some(listed.saturating_sub(removed) + added)
+}
+
 impl Said {
-    fn place_in(&self, table: u16, shard: u8) -> usize
+    pub(crate) fn place_in(&self, table: u16, shard: u8) -> usize
         ensures { result ≡ place_in self.now table shard }
     {
         table as usize * self.shards as usize + shard as usize
