@@ -21,7 +21,7 @@ pub const PARTITION_LIMIT: u32 = 1 << 28;
 /// least and the greatest timestamp in it, in microseconds, its level, and how many keys it has.
 /// Where everything in it is deleted or expires, `dead` is the last second at which something was
 /// deleted or expires.
-#[derive(Drop)]
+#[derive(Clone, Drop)]
 pub struct TableInfo {
     pub number: u64,
     pub bytes: u64,

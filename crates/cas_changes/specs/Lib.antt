@@ -1,0 +1,4 @@
+pub mod Saying
+pub mod Allowed
+pub mod Spelling
+pub mod Reading

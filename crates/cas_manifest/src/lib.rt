@@ -1,0 +1,11 @@
+//! The manifest: the file that says which tables are defined, and which segments and table files are
+//! listed. Its entries are written one by one, so that after each it stands in every image of the disk.
+#![tactic(auto)]
+
+mod blocks;
+mod fault;
+mod manifest;
+mod writing;
+
+pub use fault::{Limit, ManifestFault};
+pub use manifest::Manifest;

@@ -1,0 +1,5 @@
+pub mod CodeLaws
+pub mod EachLaws
+pub mod OptionLaws
+pub mod SchemaLaws
+pub mod ColumnsRead

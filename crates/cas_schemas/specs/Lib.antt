@@ -1,0 +1,9 @@
+pub mod Codes
+pub mod Each
+pub mod Names
+pub mod Options
+pub mod Columns
+pub mod Spelling
+pub mod Reading
+pub mod Allowed
+pub mod Inner
