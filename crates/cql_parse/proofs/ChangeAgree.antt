@@ -1,4 +1,4 @@
--- Tables, restrictions, INSERT, UPDATE and DELETE agree with the grammar.
+-- Restrictions, INSERT, UPDATE and DELETE agree with the grammar.
 use Rattle.std.proofs.Common.{◌≡◌, ℕ, ℤ, ◌≤◌, Bool, true, false, cond, List, [], ◌∷◌, length, Option, None, Some, refl, sym, subst, ap, ◌∙◌, inl, inr, arith}
 use Rattle.cql_phrases.specs.declared.lexeme.Lexeme.{Lexeme}
 use Rattle.cql_phrases.specs.declared.lexeme.Lexeme.TheVariants as lexeme
@@ -8,7 +8,6 @@ use Rattle.cql_lex.specs.declared.token.Mark.TheVariants as mark
 use Rattle.cql_phrases.specs.declared.lists.Separator.TheVariants as separator
 use Rattle.cql_phrases.specs.declared.term.Constant.{Constant}
 use Rattle.cql_phrases.specs.declared.term.Term.TheVariants as term
-use Rattle.cql_parse.specs.declared.syntax.TableName.{TableName}
 use Rattle.cql_parse.specs.declared.syntax.Insert.{Insert}
 use Rattle.cql_parse.specs.declared.syntax.Use.{Use}
 use Rattle.cql_parse.specs.declared.syntax.Use.TheVariants as «use»
@@ -24,47 +23,17 @@ use Rattle.cql_parse.specs.declared.syntax.Operator.TheVariants as operator
 use Rattle.cql_lex.specs.declared.token.Mark.{Mark}
 use Rattle.cql_phrases.specs.declared.term.Constant.TheVariants as constant
 use Rattle.cql_phrases.specs.Symbols.{spelling, is_reserved}
-use Rattle.cql_phrases.specs.Inner.Reading.{done, after_word, after_mark, after_open_bracket, after_separator, word_at, mark_at, close_bracket_at, name_at, whole_number_at, list_at, in_parens, list_behind, place}
+use Rattle.cql_phrases.specs.Inner.Reading.{done, after_word, after_mark, after_open_bracket, word_at, mark_at, close_bracket_at, name_at, whole_number_at, list_at, in_parens, list_behind, place}
 use Rattle.cql_phrases.specs.Inner.TermReading.{constant_at, opens, literal_at, term_at}
 use Rattle.cql_phrases.proofs.Agree.{Agrees, Anything, Shrinks, unstep, step, unchoose, choose, choose_other, phrase_at}
 use Rattle.cql_phrases.proofs.Tokens.{word_sound, word_full, other_word, mark_sound, mark_full, other_mark, word_at_sound, word_at_full, mark_at_sound, mark_at_full, open_bracket_sound, open_bracket_full, close_bracket_at_sound, close_bracket_at_full, name_agrees, name_shrinks, number_agrees, no_word, word_no_mark}
 use Rattle.cql_phrases.proofs.ClauseAgree.{MayGoOn, AfterList, MayClose, AfterClause, NotWord, Starts, list_agrees, parens_agrees, behind_agrees, starts_word, starts_mark, starts_behind}
 use Rattle.cql_phrases.proofs.TermAgree.{constant_agrees, constant_shrinks, literal_agrees, literal_shrinks, literal_is_opened, term_agrees, term_shrinks, either}
-use Rattle.cql_parse.specs.Inner.StatementReading.{table_at, use_at, insert_at, operator_at, relation_at, name_comes, entry_assigned, literal_assigned, changed, name_assigned, term_assigned, right_side, assigned_at, assignment_at, update_at, target_at, targets_at, timestamp_at, delete_at}
+use Rattle.cql_parse.specs.Inner.StatementReading.{use_at, insert_at, operator_at, relation_at, name_comes, entry_assigned, literal_assigned, changed, name_assigned, term_assigned, right_side, assigned_at, assignment_at, update_at, target_at, targets_at, timestamp_at, delete_at}
 use Rattle.cql_phrases.specs.Phrases.{Phrase, keyword, sign, open_bracket, close_bracket, Some_of, Behind, InParens, Maybe, IsName, IsNumber, IsConstant, IsTerm}
-use Rattle.cql_parse.specs.Grammar.{Qualified, IsTable, IsUse, IsOperator, IsRelation, InBrackets, IsInsert, IsAssigned, IsAssignment, IsUpdate, Keyed, IsTarget, Targets, IsDelete}
-
--- what isn't the mark
-abbrev pub NotMark : Mark → List Lexeme → Type 0
-NotMark m r = after_mark m r ≡ None
-
-abbrev pub End : List Lexeme → Type 0
-End = Starts []
-
--- ---- tables
-
-table_sound : (l r : List Lexeme) (x : TableName) → table_at l ≡ Some (x, r) → IsTable x l r
-unfolding table_at
-table_sound l r x e =
-    let u = unstep (name_at l) _ x r e in
-    elim (unchoose (after_mark mark.Dot u.left) _ _ (x, r) u.next) [
-      | inl h ↦
-          let v = unstep (name_at h.0) _ x r h.2 in
-          phrase_at IsTable (record { keyspace = Some u.value; name = v.value }) x l v.left r v.next
-          (u.left, name_agrees.sound l u.left u.value u.was, (h.0, mark_sound mark.Dot u.left h.0 h.1, name_agrees.sound h.0 v.left v.value v.was))
-      | inr h ↦ phrase_at IsTable (record { keyspace = None; name = u.value }) x l u.left r h.1 (name_agrees.sound l u.left u.value u.was)
-    ]
-
-table_again : (k : Option (List ℕ)) (n : List ℕ) (l r : List Lexeme) → Qualified k n l r → NotMark mark.Dot r → table_at l ≡ Some (record { keyspace = k; name = n }, r)
-unfolding table_at
-table_again None n l r h f = step (name_at l) _ n r _ (name_agrees.full l r n h tt) (choose_other (after_mark mark.Dot r) _ _ _ f refl)
-table_again (Some k) n l r h f =
-    step (name_at l) _ k h.0 _ (name_agrees.full l h.0 k h.1 tt)
-    (choose (after_mark mark.Dot h.0) _ _ h.2.0 _ (mark_full mark.Dot h.0 h.2.0 h.2.1)
-    (step (name_at h.2.0) _ n r _ (name_agrees.full h.2.0 r n h.2.2 tt) refl))
-
-pub table_agrees : Agrees table_at IsTable (NotMark mark.Dot)
-table_agrees = record { sound = table_sound; full = λ l r x h f. table_again x.keyspace x.name l r h f }
+use Rattle.cql_parse.specs.Grammar.{IsUse, IsOperator, IsRelation, InBrackets, IsInsert, IsAssigned, IsAssignment, IsUpdate, Keyed, IsTarget, Targets, IsDelete}
+use Rattle.cql_tables.specs.Inner.TableReading.{table_at}
+use Rattle.cql_tables.proofs.TableAgree.{NotMark, End, table_agrees, not_comma, not_and}
 
 -- ---- USING
 
@@ -106,15 +75,6 @@ anything_closes l r h = tt
 
 pub uses_agree : Agrees (list_behind word.Using separator.And use_at) (Behind (keyword word.Using) separator.And IsUse) (AfterClause word.Using separator.And Anything)
 uses_agree = behind_agrees word.Using separator.And use_at IsUse Anything use_agrees use_shrinks and_goes_on
-
--- what begins with no such word
-pub not_and : (js : List Keyword) (l : List Lexeme) → Starts js l → after_word word.And l ≡ None → after_separator separator.And l ≡ None
-unfolding after_separator
-not_and js l s h = h
-
-pub not_comma : (l : List Lexeme) → after_mark mark.Comma l ≡ None → after_separator separator.Comma l ≡ None
-unfolding after_separator
-not_comma l h = h
 
 -- ---- WHERE
 
@@ -219,7 +179,7 @@ insert_sound k l r x i e =
         word_at_sound word.Into l a.left a.value a.was,
         (
           b.left,
-          table_sound a.left b.left b.value b.was,
+          table_agrees.sound a.left b.left b.value b.was,
           (
             c.left,
             names_agree.sound b.left c.left c.value c.was,
@@ -411,7 +371,7 @@ update_sound k l r x i e =
       i,
       (
         a.left,
-        table_sound l a.left a.value a.was,
+        table_agrees.sound l a.left a.value a.was,
         (
           b.left,
           uses_agree.sound a.left b.left b.value b.was,
@@ -545,7 +505,7 @@ delete_sound k l r x i e =
           word_at_sound word.From a.left b.left b.value b.was,
           (
             c.left,
-            table_sound b.left c.left c.value c.was,
+            table_agrees.sound b.left c.left c.value c.was,
             (d.left, timestamp_sound c.left d.left d.value d.was, (f.left, word_at_sound word.Where d.left f.left f.value f.was, relations_agree.sound f.left g.left g.value g.was)),
           ),
         ),

@@ -6,7 +6,7 @@ use Rattle.cql_phrases.specs.declared.keyword.Keyword.{Keyword}
 use Rattle.cql_phrases.specs.declared.keyword.Keyword.TheVariants as word
 use Rattle.cql_lex.specs.declared.token.Mark.TheVariants as mark
 use Rattle.cql_phrases.specs.declared.lists.Separator.TheVariants as separator
-use Rattle.cql_parse.specs.declared.syntax.ColumnOrder.{ColumnOrder}
+use Rattle.cql_tables.specs.declared.syntax.ColumnOrder.{ColumnOrder}
 use Rattle.cql_parse.specs.declared.syntax.Select.{Select}
 use Rattle.cql_parse.specs.declared.syntax.Picks.{Picks}
 use Rattle.cql_parse.specs.declared.syntax.Picks.TheVariants as picks
@@ -17,55 +17,15 @@ use Rattle.cql_phrases.specs.Inner.Reading.{done, after_word, after_mark, word_a
 use Rattle.cql_phrases.proofs.Agree.{Agrees, Shrinks, unstep, step, unchoose, choose, choose_other, phrase_at}
 use Rattle.cql_phrases.proofs.Tokens.{word_sound, word_full, other_word, mark_sound, mark_full, other_mark, word_at_sound, word_at_full, mark_at_sound, mark_at_full, name_agrees, name_shrinks, no_mark, word_no_mark}
 use Rattle.cql_phrases.proofs.ClauseAgree.{MayGoOn, AfterList, NotWord, Starts, list_agrees, number_behind_agrees, blob_behind_agrees, starts_word, starts_mark, starts_behind, starts_maybe}
-use Rattle.cql_parse.specs.Inner.StatementReading.{table_at, relation_at, column_order_at, after_call, called, pick_at, picks_at, order_at, select_at}
+use Rattle.cql_parse.specs.Inner.StatementReading.{relation_at, after_call, called, pick_at, picks_at, order_at, select_at}
 use Rattle.cql_phrases.specs.Phrases.{Phrase, keyword, sign, Some_of, Behind, IsName, IsNumber, IsBlob}
-use Rattle.cql_parse.specs.Grammar.{IsRelation, Direction, IsColumnOrder, Called, IsPick, IsPicks, IsSelect}
-use Rattle.cql_parse.proofs.ChangeAgree.{NotMark, End, table_agrees, where_agrees, not_and, not_comma}
+use Rattle.cql_parse.specs.Grammar.{IsRelation, Called, IsPick, IsPicks, IsSelect}
+use Rattle.cql_parse.proofs.ChangeAgree.{where_agrees}
+use Rattle.cql_tables.specs.Inner.TableReading.{table_at, column_order_at}
+use Rattle.cql_tables.specs.Tables.{IsColumnOrder}
+use Rattle.cql_tables.proofs.TableAgree.{NotMark, End, table_agrees, not_and, not_comma, NoDirection, order_agrees, order_shrinks, order_goes_on}
 
 -- ---- ORDER BY
-
--- what isn't a direction
-abbrev pub NoDirection : List Lexeme → Type 0
-NoDirection r = NotWord word.Desc r × NotWord word.Asc r
-
-order_sound : (l r : List Lexeme) (x : ColumnOrder) → column_order_at l ≡ Some (x, r) → IsColumnOrder x l r
-unfolding column_order_at
-order_sound l r x e =
-    let u = unstep (name_at l) _ x r e in
-    elim (unchoose (after_word word.Desc u.left) _ _ (x, r) u.next) [
-      | inl h ↦ phrase_at IsColumnOrder (record { name = u.value; descending = true }) x l h.0 r h.2 (u.left, name_agrees.sound l u.left u.value u.was, word_sound word.Desc u.left h.0 h.1)
-      | inr h ↦
-          elim (unchoose (after_word word.Asc u.left) _ _ (x, r) h.1) [
-            | inl k ↦ phrase_at IsColumnOrder (record { name = u.value; descending = false }) x l k.0 r k.2 (u.left, name_agrees.sound l u.left u.value u.was, inl (word_sound word.Asc u.left k.0 k.1))
-            | inr k ↦ phrase_at IsColumnOrder (record { name = u.value; descending = false }) x l u.left r k.1 (u.left, name_agrees.sound l u.left u.value u.was, inr refl)
-          ]
-    ]
-
-order_again : (n : List ℕ) (b : Bool) (l m r : List Lexeme) → IsName n l m → Direction b m r → NoDirection r → column_order_at l ≡ Some (record { name = n; descending = b }, r)
-unfolding column_order_at spelling
-order_again n true l m r h d f = step (name_at l) _ n m _ (name_agrees.full l m n h tt) (choose (after_word word.Desc m) _ _ r _ (word_full word.Desc m r d) refl)
-order_again n false l m r h (inl d) f =
-    step (name_at l) _ n m _ (name_agrees.full l m n h tt)
-    (choose_other (after_word word.Desc m) _ _ _ (other_word word.Desc word.Asc m r refl d) (choose (after_word word.Asc m) _ _ r _ (word_full word.Asc m r d) refl))
-order_again n false l m r h (inr d) f =
-    step (name_at l) _ n m _ (name_agrees.full l m n h tt)
-    (choose_other (after_word word.Desc m) _ _ _ (ap (after_word word.Desc) d ∙ f.0)
-    (choose_other (after_word word.Asc m) _ _ _ (ap (after_word word.Asc) d ∙ f.1) (ap (λ (t : List Lexeme). done {A = ColumnOrder} (record { name = n; descending = false }) t) d)))
-
-pub order_agrees : Agrees column_order_at IsColumnOrder NoDirection
-order_agrees = record { sound = order_sound; full = λ l r x h f. order_again x.name x.descending l h.0 r h.1 h.2 f }
-
-direction_shrinks : Shrinks Direction
-direction_shrinks true l r h = omega (arith, ap length h)
-direction_shrinks false l r (inl h) = omega (arith, ap length h)
-direction_shrinks false l r (inr h) = omega (arith, ap length h)
-
-pub order_shrinks : Shrinks IsColumnOrder
-order_shrinks x l r h = omega (arith, name_shrinks x.name l h.0 h.1, direction_shrinks x.descending h.0 r h.2)
-
-pub order_goes_on : MayGoOn separator.Comma NoDirection
-unfolding after_word
-order_goes_on l r h = (ap (after_word word.Desc) h, ap (after_word word.Asc) h)
 
 orders_agree : Agrees (list_at separator.Comma column_order_at) (Some_of separator.Comma IsColumnOrder) (AfterList separator.Comma NoDirection)
 orders_agree = list_agrees separator.Comma column_order_at IsColumnOrder NoDirection order_agrees order_shrinks order_goes_on

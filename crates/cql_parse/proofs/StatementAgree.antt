@@ -1,5 +1,5 @@
 -- The parser and the grammar agree.
-use Rattle.std.proofs.Common.{◌≡◌, ℕ, false, List, [], ◌∷◌, Option, None, Some, Result, Ok, Err, refl, sym, subst, ap, ◌∙◌, inl, inr}
+use Rattle.std.proofs.Common.{◌≡◌, ℕ, false, List, [], Option, None, Some, Result, Ok, Err, refl, sym, subst, ap, ◌∙◌, inl, inr}
 use Rattle.std.specs.Prelude.{IfOk, option_and_then}
 use Rattle.std.specs.Str.{bytes_eq}
 use Rattle.cql_lex.specs.declared.token.Token.{Token}
@@ -13,16 +13,18 @@ use Rattle.cql_parse.specs.declared.syntax.Statement.{Statement}
 use Rattle.cql_parse.specs.declared.syntax.Statement.TheVariants as statement
 use Rattle.cql_phrases.specs.Symbols.{spelling}
 use Rattle.cql_phrases.specs.Inner.Reading.{done, after_word, after_mark, Gives}
-use Rattle.cql_parse.specs.Inner.StatementReading.{insert_at, update_at, delete_at, select_at, create_at, alter_at, definition_at, change_at, statement_at, semicolon_at, ended, whole_statement, statement_of}
+use Rattle.cql_parse.specs.Inner.StatementReading.{insert_at, update_at, delete_at, select_at, definition_at, change_at, statement_at, semicolon_at, whole_statement, statement_of}
+use Rattle.cql_tables.specs.Inner.TableReading.{create_at, alter_at, ended}
 use Rattle.cql_phrases.specs.Phrases.{Phrase, keyword, sign, nothing, ◌∣◌}
 use Rattle.cql_parse.specs.Grammar.{Of, IsStatement}
 use Rattle.cql_phrases.specs.Lexemes.{lexemes_of}
 use Rattle.cql_parse.specs.Means.{Means, IsAnswer, OneStatement}
 use Rattle.cql_phrases.proofs.Agree.{unstep, step, unchoose, choose, choose_other, some_is, same, phrase_at}
 use Rattle.cql_phrases.proofs.Tokens.{word_sound, word_full, other_word, mark_sound, mark_full}
-use Rattle.cql_parse.proofs.ChangeAgree.{End, insert_sound, insert_full, update_sound, update_full, delete_sound, delete_full}
+use Rattle.cql_parse.proofs.ChangeAgree.{insert_sound, insert_full, update_sound, update_full, delete_sound, delete_full}
 use Rattle.cql_parse.proofs.SelectAgree.{select_sound, select_full}
-use Rattle.cql_parse.proofs.DefineAgree.{create_sound, create_full, alter_sound, alter_full}
+use Rattle.cql_tables.proofs.TableAgree.{End, ended_is}
+use Rattle.cql_tables.proofs.DefineAgree.{create_sound, create_full, alter_sound, alter_full}
 
 nothing_there : (x : Statement) (r : List Lexeme) → ◌≡◌ {A = Option (Statement × List Lexeme)} None (Some (x, r)) → ⊥
 nothing_there x r e = cc
@@ -109,11 +111,6 @@ semicolon_sound l r u e =
       | inl h ↦ phrase_at Semicolon tt u l h.0 r h.2 (inl (mark_sound mark.Semicolon l h.0 h.1))
       | inr h ↦ phrase_at Semicolon tt u l l r h.1 (inr refl)
     ]
-
-pub ended_is : {A : Type 0} (o : Option (A × List Lexeme)) (x : A) → ended o ≡ Some x → o ≡ Some (x, [])
-ended_is None x e = absurd cc
-ended_is (Some (s, [])) x e = ap (λ y. Some (y, [])) (some_is s x e)
-ended_is (Some (s, y ∷ l)) x e = absurd cc
 
 pub whole_sound : (l : List Lexeme) (x : Statement) → whole_statement l ≡ Some x → IsStatement x l
 unfolding whole_statement

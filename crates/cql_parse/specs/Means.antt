@@ -1,24 +1,17 @@
 -- What the tokens of a source mean.
-use Rattle.std.specs.Prelude.{◌≡◌, ℕ, List, Some, Result, Ok, Err}
+use Rattle.std.specs.Prelude.{◌≡◌, ℕ, List, Some}
 use Rattle.cql_lex.specs.declared.token.Token.{Token}
-use Rattle.cql_phrases.specs.declared.fault.ParseFault.{ParseFault}
-use Rattle.cql_phrases.specs.declared.fault.ParseFault.TheVariants as faults
 use Rattle.cql_phrases.specs.declared.lexeme.Lexeme.{Lexeme}
 use Rattle.cql_parse.specs.declared.syntax.Statement.{Statement}
 use Rattle.cql_phrases.specs.Lexemes.{lexemes_of}
 use Rattle.cql_parse.specs.Grammar.{IsStatement}
+pub use Rattle.cql_tables.specs.TableNames.{IsAnswer}
 
 -- the tokens of the source spell the statement: those of `SELECT * FROM t` the Select of all columns of t
 pub record Means (source : List ℕ) (tokens : List Token) (statement : Statement) : Type 0 where
   pub lexemes : List Lexeme
   pub meanings : lexemes_of source tokens ≡ Some lexemes
   pub grammar : IsStatement statement lexemes
-
--- the answer is this one, unless memory ran out
-abbrev pub IsAnswer : {A : Type 0} → A → Result A ParseFault → Type 0
-IsAnswer x (Ok y) = y ≡ x
-IsAnswer x (Err faults.Mem) = Unit {0}
-IsAnswer x (Err faults.Syntax) = ⊥
 
 -- no tokens spell two statements
 abbrev pub OneStatement : Type 0

@@ -5,7 +5,6 @@ ghost use Rattle.cql_phrases.specs.Inner.Reading.{Gives};
 ghost use Rattle.cql_parse.specs.Inner.StatementReading.{insert_at, name_comes, entry_assigned, literal_assigned, changed, name_assigned};
 ghost use Rattle.cql_parse.specs.Inner.StatementReading.{term_assigned, right_side, assigned_at, update_at, targets_at, timestamp_at, delete_at};
 
-use crate::clauses::table;
 use crate::syntax::{Assigned, Assignment, Delete, Insert, Relation, Target, Update, Use};
 use cas_types::{List, Text};
 use cql_lex::Mark;
@@ -16,6 +15,7 @@ use cql_phrases::front::{
 use cql_phrases::lists::{Part, Separator, in_parens, list, list_behind};
 use cql_phrases::terms::{constant, literal, opens};
 use cql_phrases::{Keyword, Lexeme, ParseFault, Term};
+use cql_tables::clauses::table;
 use std::alloc::Global;
 
 /// What follows INSERT.

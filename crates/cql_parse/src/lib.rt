@@ -4,16 +4,15 @@
 
 mod changes;
 mod clauses;
-mod define;
 pub mod fault;
 pub mod lexeme;
 mod parse;
 mod select;
-mod syntax;
-mod table_words;
+pub mod syntax;
 pub mod term;
 
 pub use cql_phrases::tokens_have_lexemes;
+pub use cql_tables::{one_table, table_name};
 pub use fault::ParseFault;
 pub use parse::{one_statement, statement};
 pub use syntax::{
@@ -22,5 +21,4 @@ pub use syntax::{
     PrimaryKey, Relation, Select, Statement, Suboption, TableName, TableOption, Target, Update,
     Use,
 };
-pub use table_words::{one_table, table_name};
 pub use term::{Constant, Element, Entry, Literal, Nested, Setting, Term};

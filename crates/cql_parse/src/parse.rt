@@ -7,13 +7,13 @@ ghost use Rattle.cql_parse.specs.Means.{Means, IsAnswer, OneStatement};
 ghost use Rattle.cql_parse.specs.declared.syntax.Statement.{Statement};
 
 use crate::changes::{delete, insert, update};
-use crate::define::{alter, create};
 use crate::select::select;
 use crate::syntax::Statement;
 use cql_lex::{Mark, Token};
 use cql_phrases::front::{after_mark, after_word};
 use cql_phrases::lexemes::lexemes;
 use cql_phrases::{Keyword, Lexeme, ParseFault};
+use cql_tables::define::{alter, create};
 use std::alloc::Global;
 
 #[tactic(auto, unfolding(crate::specs::Inner::StatementReading::definition_at))]

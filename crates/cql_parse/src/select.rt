@@ -4,13 +4,13 @@ ghost use Rattle.std.specs.Prelude.{◌≡◌, option_map};
 ghost use Rattle.cql_phrases.specs.Inner.Reading.{Gives};
 ghost use Rattle.cql_parse.specs.Inner.StatementReading.{after_call, called, picks_at, order_at, select_at};
 
-use crate::clauses::table;
 use crate::syntax::{ColumnOrder, Pick, Picks, Relation, Select};
 use cas_types::{List, Text};
 use cql_lex::Mark;
 use cql_phrases::front::{after_mark, after_word, blob_behind, mark, name, number_behind, word};
 use cql_phrases::lists::{Part, Separator, list, list_behind};
 use cql_phrases::{Keyword, Lexeme, ParseFault};
+use cql_tables::clauses::table;
 use std::alloc::Global;
 
 /// What follows the word and a parenthesis, where they stand first.

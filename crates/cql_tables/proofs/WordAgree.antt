@@ -8,16 +8,14 @@ use Rattle.cql_lex.proofs.Spans.{one_reading}
 use Rattle.cql_phrases.specs.declared.fault.ParseFault.{ParseFault}
 use Rattle.cql_phrases.specs.declared.fault.ParseFault.TheVariants as faults
 use Rattle.cql_phrases.specs.declared.lexeme.Lexeme.{Lexeme}
-use Rattle.cql_parse.specs.declared.syntax.TableName.{TableName}
+use Rattle.cql_tables.specs.declared.syntax.TableName.{TableName}
 use Rattle.cql_phrases.specs.Inner.Reading.{after_mark, Gives}
-use Rattle.cql_parse.specs.Inner.StatementReading.{ended, table_alone, table_of}
-use Rattle.cql_parse.specs.Grammar.{IsTable}
+use Rattle.cql_tables.specs.Inner.TableReading.{ended, table_alone, table_of}
+use Rattle.cql_tables.specs.Tables.{IsTable}
 use Rattle.cql_phrases.specs.Lexemes.{lexemes_of}
-use Rattle.cql_parse.specs.Means.{IsAnswer}
-use Rattle.cql_parse.specs.TableNames.{are_joined, SpellsTable, OneTable}
+use Rattle.cql_tables.specs.TableNames.{are_joined, SpellsTable, OneTable, IsAnswer}
 use Rattle.cql_phrases.proofs.Agree.{some_is}
-use Rattle.cql_parse.proofs.ChangeAgree.{table_agrees}
-use Rattle.cql_parse.proofs.StatementAgree.{ended_is}
+use Rattle.cql_tables.proofs.TableAgree.{table_agrees, ended_is}
 
 no_mark : after_mark mark.Dot [] ≡ None
 unfolding after_mark

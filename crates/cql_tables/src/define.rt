@@ -2,9 +2,9 @@
 
 ghost use Rattle.std.specs.Prelude.{◌≡◌, [], option_map};
 ghost use Rattle.cql_phrases.specs.Inner.Reading.{Gives};
-ghost use Rattle.cql_parse.specs.Inner.StatementReading.{first_type_of, native_at, one_in_angles, two_in_angles, type_at, key_flag, names_closed};
-ghost use Rattle.cql_parse.specs.Inner.StatementReading.{partition_at, key_at, suboptions_closed, option_value_at, named_option_at, after_words};
-ghost use Rattle.cql_parse.specs.Inner.StatementReading.{clustering_order_at, create_at, alter_at};
+ghost use Rattle.cql_tables.specs.Inner.TableReading.{first_type_of, native_at, one_in_angles, two_in_angles, type_at, key_flag, names_closed};
+ghost use Rattle.cql_tables.specs.Inner.TableReading.{partition_at, key_at, suboptions_closed, option_value_at, named_option_at, after_words};
+ghost use Rattle.cql_tables.specs.Inner.TableReading.{clustering_order_at, create_at, alter_at};
 
 use crate::clauses::table;
 use crate::syntax::{
@@ -38,7 +38,7 @@ const NATIVES: [(Keyword, TypeTag); 14] = [
 ];
 
 /// The type of the first of the table's words that stands here. The table is of a fixed length.
-#[tactic(auto, unfolding(crate::specs::Inner::StatementReading::first_type_of))]
+#[tactic(auto, unfolding(crate::specs::Inner::TableReading::first_type_of))]
 fn first_type_of<'a>(
     table: &[(Keyword, TypeTag)],
     input: &'a [Lexeme],
@@ -54,14 +54,14 @@ fn first_type_of<'a>(
     }
 }
 
-#[tactic(auto, unfolding(crate::specs::Inner::StatementReading::native_at))]
+#[tactic(auto, unfolding(crate::specs::Inner::TableReading::native_at))]
 fn native(input: &[Lexeme]) -> Result<(TypeTag, &[Lexeme]), ParseFault>
     ensures { Gives (λ x. (x.0, x.1.now)) result (native_at input.now) }
 {
     first_type_of(&NATIVES, input)
 }
 
-#[tactic(auto, unfolding(crate::specs::Inner::StatementReading::one_in_angles))]
+#[tactic(auto, unfolding(crate::specs::Inner::TableReading::one_in_angles))]
 fn one_in_angles(input: &[Lexeme]) -> Result<(TypeTag, &[Lexeme]), ParseFault>
     ensures { Gives (λ x. (x.0, x.1.now)) result (one_in_angles input.now) }
 {
@@ -71,7 +71,7 @@ fn one_in_angles(input: &[Lexeme]) -> Result<(TypeTag, &[Lexeme]), ParseFault>
     Ok((tag, rest))
 }
 
-#[tactic(auto, unfolding(crate::specs::Inner::StatementReading::two_in_angles))]
+#[tactic(auto, unfolding(crate::specs::Inner::TableReading::two_in_angles))]
 fn two_in_angles(input: &[Lexeme]) -> Result<(ColumnType, &[Lexeme]), ParseFault>
     ensures { Gives (λ x. (x.0, x.1.now)) result (two_in_angles input.now) }
 {
@@ -83,7 +83,7 @@ fn two_in_angles(input: &[Lexeme]) -> Result<(ColumnType, &[Lexeme]), ParseFault
     Ok((ColumnType::MapOf(key, value), rest))
 }
 
-#[tactic(auto, unfolding(crate::specs::Inner::StatementReading::type_at))]
+#[tactic(auto, unfolding(crate::specs::Inner::TableReading::type_at))]
 fn column_type(input: &[Lexeme]) -> Result<(ColumnType, &[Lexeme]), ParseFault>
     ensures { Gives (λ x. (x.0, x.1.now)) result (type_at input.now) }
 {
@@ -103,7 +103,7 @@ fn column_type(input: &[Lexeme]) -> Result<(ColumnType, &[Lexeme]), ParseFault>
 }
 
 /// Whether PRIMARY KEY stands after a column.
-#[tactic(auto, unfolding(crate::specs::Inner::StatementReading::key_flag))]
+#[tactic(auto, unfolding(crate::specs::Inner::TableReading::key_flag))]
 fn key_flag(input: &[Lexeme]) -> Result<(bool, &[Lexeme]), ParseFault>
     ensures { Gives (λ x. (x.0, x.1.now)) result (key_flag input.now) }
 {
@@ -117,11 +117,11 @@ fn key_flag(input: &[Lexeme]) -> Result<(bool, &[Lexeme]), ParseFault>
 }
 
 impl Part for DefinedColumn {
-    ghost use Rattle.cql_parse.specs.Inner.StatementReading.{defined_at};
+    ghost use Rattle.cql_tables.specs.Inner.TableReading.{defined_at};
 
     ghost reads = { defined_at };
 
-    #[tactic(auto, unfolding(crate::specs::Inner::StatementReading::defined_at))]
+    #[tactic(auto, unfolding(crate::specs::Inner::TableReading::defined_at))]
     fn read(alloc: Global, input: &[Lexeme]) -> Result<(Self, &[Lexeme]), ParseFault> {
         let (name, rest) = name(alloc, input)?;
         let (column_type, rest) = column_type(rest)?;
@@ -138,11 +138,11 @@ impl Part for DefinedColumn {
 }
 
 impl Part for AddedColumn {
-    ghost use Rattle.cql_parse.specs.Inner.StatementReading.{added_at};
+    ghost use Rattle.cql_tables.specs.Inner.TableReading.{added_at};
 
     ghost reads = { added_at };
 
-    #[tactic(auto, unfolding(crate::specs::Inner::StatementReading::added_at))]
+    #[tactic(auto, unfolding(crate::specs::Inner::TableReading::added_at))]
     fn read(alloc: Global, input: &[Lexeme]) -> Result<(Self, &[Lexeme]), ParseFault> {
         let (name, rest) = name(alloc, input)?;
         let (column_type, rest) = column_type(rest)?;
@@ -157,7 +157,7 @@ impl Part for AddedColumn {
 }
 
 /// Names, and the closing parenthesis.
-#[tactic(auto, unfolding(crate::specs::Inner::StatementReading::names_closed))]
+#[tactic(auto, unfolding(crate::specs::Inner::TableReading::names_closed))]
 fn names_closed(alloc: Global, input: &[Lexeme]) -> Result<(List<Text>, &[Lexeme]), ParseFault>
     ensures { Gives (λ x. (x.0, x.1.now)) result (names_closed input.now) }
 {
@@ -167,7 +167,7 @@ fn names_closed(alloc: Global, input: &[Lexeme]) -> Result<(List<Text>, &[Lexeme
 }
 
 /// The columns of a partition key: one name, or some in parentheses.
-#[tactic(auto, unfolding(crate::specs::Inner::StatementReading::partition_at))]
+#[tactic(auto, unfolding(crate::specs::Inner::TableReading::partition_at))]
 fn partition(alloc: Global, input: &[Lexeme]) -> Result<(List<Text>, &[Lexeme]), ParseFault>
     ensures { Gives (λ x. (x.0, x.1.now)) result (partition_at input.now) }
 {
@@ -181,7 +181,7 @@ fn partition(alloc: Global, input: &[Lexeme]) -> Result<(List<Text>, &[Lexeme]),
 }
 
 /// What follows PRIMARY.
-#[tactic(auto, unfolding(crate::specs::Inner::StatementReading::key_at))]
+#[tactic(auto, unfolding(crate::specs::Inner::TableReading::key_at))]
 fn primary_key(alloc: Global, input: &[Lexeme]) -> Result<(PrimaryKey, &[Lexeme]), ParseFault>
     ensures { Gives (λ x. (x.0, x.1.now)) result (key_at input.now) }
 {
@@ -198,11 +198,11 @@ fn primary_key(alloc: Global, input: &[Lexeme]) -> Result<(PrimaryKey, &[Lexeme]
 }
 
 impl Part for Item {
-    ghost use Rattle.cql_parse.specs.Inner.StatementReading.{item_at};
+    ghost use Rattle.cql_tables.specs.Inner.TableReading.{item_at};
 
     ghost reads = { item_at };
 
-    #[tactic(auto, unfolding(crate::specs::Inner::StatementReading::item_at))]
+    #[tactic(auto, unfolding(crate::specs::Inner::TableReading::item_at))]
     fn read(alloc: Global, input: &[Lexeme]) -> Result<(Self, &[Lexeme]), ParseFault> {
         match after_word(input, Keyword::Primary) {
             Some(rest) => {
@@ -218,11 +218,11 @@ impl Part for Item {
 }
 
 impl Part for Suboption {
-    ghost use Rattle.cql_parse.specs.Inner.StatementReading.{suboption_at};
+    ghost use Rattle.cql_tables.specs.Inner.TableReading.{suboption_at};
 
     ghost reads = { suboption_at };
 
-    #[tactic(auto, unfolding(crate::specs::Inner::StatementReading::suboption_at))]
+    #[tactic(auto, unfolding(crate::specs::Inner::TableReading::suboption_at))]
     fn read(alloc: Global, input: &[Lexeme]) -> Result<(Self, &[Lexeme]), ParseFault> {
         let (key, rest) = setting(alloc, input)?;
         let rest = mark(rest, Mark::Colon)?;
@@ -232,7 +232,7 @@ impl Part for Suboption {
 }
 
 /// What follows the opening brace of an option's map.
-#[tactic(auto, unfolding(crate::specs::Inner::StatementReading::suboptions_closed))]
+#[tactic(auto, unfolding(crate::specs::Inner::TableReading::suboptions_closed))]
 fn suboptions_closed(
     alloc: Global,
     input: &[Lexeme],
@@ -244,7 +244,7 @@ fn suboptions_closed(
     Ok((OptionValue::Suboptions(all), rest))
 }
 
-#[tactic(auto, unfolding(crate::specs::Inner::StatementReading::option_value_at))]
+#[tactic(auto, unfolding(crate::specs::Inner::TableReading::option_value_at))]
 fn option_value(alloc: Global, input: &[Lexeme]) -> Result<(OptionValue, &[Lexeme]), ParseFault>
     ensures { Gives (λ x. (x.0, x.1.now)) result (option_value_at input.now) }
 {
@@ -259,7 +259,7 @@ fn option_value(alloc: Global, input: &[Lexeme]) -> Result<(OptionValue, &[Lexem
     }
 }
 
-#[tactic(auto, unfolding(crate::specs::Inner::StatementReading::named_option_at))]
+#[tactic(auto, unfolding(crate::specs::Inner::TableReading::named_option_at))]
 fn named_option_at(alloc: Global, input: &[Lexeme]) -> Result<(TableOption, &[Lexeme]), ParseFault>
     ensures { Gives (λ x. (x.0, x.1.now)) result (named_option_at input.now) }
 {
@@ -270,7 +270,7 @@ fn named_option_at(alloc: Global, input: &[Lexeme]) -> Result<(TableOption, &[Le
 }
 
 /// What follows two words, where they stand first.
-#[tactic(auto, unfolding(crate::specs::Inner::StatementReading::after_words))]
+#[tactic(auto, unfolding(crate::specs::Inner::TableReading::after_words))]
 fn after_words(input: &[Lexeme], first: Keyword, second: Keyword) -> Option<&[Lexeme]>
     ensures { option_map (λ r. r.now) result ≡ after_words first second input.now }
 {
@@ -281,7 +281,7 @@ fn after_words(input: &[Lexeme], first: Keyword, second: Keyword) -> Option<&[Le
 }
 
 /// What follows CLUSTERING ORDER.
-#[tactic(auto, unfolding(crate::specs::Inner::StatementReading::clustering_order_at))]
+#[tactic(auto, unfolding(crate::specs::Inner::TableReading::clustering_order_at))]
 fn clustering_order_at(
     alloc: Global,
     input: &[Lexeme],
@@ -294,11 +294,11 @@ fn clustering_order_at(
 }
 
 impl Part for TableOption {
-    ghost use Rattle.cql_parse.specs.Inner.StatementReading.{option_at};
+    ghost use Rattle.cql_tables.specs.Inner.TableReading.{option_at};
 
     ghost reads = { option_at };
 
-    #[tactic(auto, unfolding(crate::specs::Inner::StatementReading::option_at))]
+    #[tactic(auto, unfolding(crate::specs::Inner::TableReading::option_at))]
     fn read(alloc: Global, input: &[Lexeme]) -> Result<(Self, &[Lexeme]), ParseFault> {
         match after_words(input, Keyword::Clustering, Keyword::Order) {
             Some(rest) => clustering_order_at(alloc, rest),
@@ -308,7 +308,7 @@ impl Part for TableOption {
 }
 
 /// What follows CREATE.
-#[tactic(auto, unfolding(crate::specs::Inner::StatementReading::create_at))]
+#[tactic(auto, unfolding(crate::specs::Inner::TableReading::create_at))]
 pub fn create(alloc: Global, input: &[Lexeme]) -> Result<(CreateTable, &[Lexeme]), ParseFault>
     ensures { Gives (λ x. (x.0, x.1.now)) result (create_at input.now) }
 {
@@ -325,7 +325,7 @@ pub fn create(alloc: Global, input: &[Lexeme]) -> Result<(CreateTable, &[Lexeme]
 }
 
 /// What follows ALTER.
-#[tactic(auto, unfolding(crate::specs::Inner::StatementReading::alter_at))]
+#[tactic(auto, unfolding(crate::specs::Inner::TableReading::alter_at))]
 pub fn alter(alloc: Global, input: &[Lexeme]) -> Result<(AlterTable, &[Lexeme]), ParseFault>
     ensures { Gives (λ x. (x.0, x.1.now)) result (alter_at input.now) }
 {

@@ -3,10 +3,10 @@
 ghost use Rattle.std.specs.Prelude.{◌≡◌, length, IfOk};
 ghost use Rattle.cql_lex.specs.Lexes.{Lexes};
 ghost use Rattle.cql_phrases.specs.Inner.Reading.{Gives};
-ghost use Rattle.cql_parse.specs.Inner.StatementReading.{table_alone, table_of};
-ghost use Rattle.cql_parse.specs.Means.{IsAnswer};
-ghost use Rattle.cql_parse.specs.TableNames.{are_joined, SpellsTable, OneTable};
-ghost use Rattle.cql_parse.specs.declared.syntax.TableName.{TableName};
+ghost use Rattle.cql_tables.specs.Inner.TableReading.{table_alone, table_of};
+ghost use Rattle.cql_tables.specs.TableNames.{IsAnswer};
+ghost use Rattle.cql_tables.specs.TableNames.{are_joined, SpellsTable, OneTable};
+ghost use Rattle.cql_tables.specs.declared.syntax.TableName.{TableName};
 
 use crate::clauses::table;
 use crate::syntax::TableName;
@@ -30,7 +30,7 @@ fn are_joined(tokens: &[Token], length: usize) -> bool
 }
 
 /// The table whose name the lexemes are, all of them.
-#[tactic(auto, unfolding(crate::specs::Inner::StatementReading::table_alone))]
+#[tactic(auto, unfolding(crate::specs::Inner::TableReading::table_alone))]
 fn table_alone(alloc: Global, input: &[Lexeme]) -> Result<TableName, ParseFault>
     ensures { Gives (λ t. t) result (table_alone input.now) }
 {
@@ -41,7 +41,7 @@ fn table_alone(alloc: Global, input: &[Lexeme]) -> Result<TableName, ParseFault>
     }
 }
 
-#[tactic(auto, unfolding(crate::specs::Inner::StatementReading::table_of))]
+#[tactic(auto, unfolding(crate::specs::Inner::TableReading::table_of))]
 fn table_of(alloc: Global, tokens: &[Token], word: &[u8]) -> Result<TableName, ParseFault>
     ensures { Gives (λ t. t) result (table_of word.now tokens.now) }
 {

@@ -1,12 +1,14 @@
 -- The name of a table as a word of a command, as `local.t` in `\flush local.t`.
 -- CQL documentation, "Data definition: common definitions" (the names of tables); that nothing else may stand in the word is own.
-use Rattle.std.specs.Prelude.{◌≡◌, ℕ, ◌==◌, Bool, true, ◌&&◌, List, [], ◌∷◌, length, Some}
+use Rattle.std.specs.Prelude.{◌≡◌, ℕ, ◌==◌, Bool, true, ◌&&◌, List, [], ◌∷◌, length, Some, Result, Ok, Err}
 use Rattle.cql_lex.specs.Lexes.{Lexes}
 use Rattle.cql_lex.specs.declared.token.Token.{Token}
+use Rattle.cql_phrases.specs.declared.fault.ParseFault.{ParseFault}
+use Rattle.cql_phrases.specs.declared.fault.ParseFault.TheVariants as faults
 use Rattle.cql_phrases.specs.declared.lexeme.Lexeme.{Lexeme}
-use Rattle.cql_parse.specs.declared.syntax.TableName.{TableName}
+use Rattle.cql_tables.specs.declared.syntax.TableName.{TableName}
 use Rattle.cql_phrases.specs.Lexemes.{lexemes_of}
-use Rattle.cql_parse.specs.Grammar.{IsTable}
+use Rattle.cql_tables.specs.Tables.{IsTable}
 
 -- each token begins where the one before it ends, from this place up to the end: so do those of `local.t`, and neither
 -- those of `local . t` nor those of `t--a`
@@ -23,6 +25,12 @@ pub record SpellsTable (word : List ℕ) (table : TableName) : Type 0 where
   pub lexemes : List Lexeme
   pub meanings : lexemes_of word tokens ≡ Some lexemes
   pub grammar : IsTable table lexemes []
+
+-- the answer is this one, unless memory ran out
+abbrev pub IsAnswer : {A : Type 0} → A → Result A ParseFault → Type 0
+IsAnswer x (Ok y) = y ≡ x
+IsAnswer x (Err faults.Mem) = Unit {0}
+IsAnswer x (Err faults.Syntax) = ⊥
 
 -- no word spells two tables
 abbrev pub OneTable : Type 0

@@ -1,28 +1,24 @@
 -- CREATE TABLE and ALTER TABLE agree with the grammar.
 use Rattle.std.proofs.Common.{◌≡◌, ℕ, ◌≤◌, Bool, true, false, cond, List, [], ◌∷◌, length, Option, None, Some, refl, sym, subst, ap, ◌∙◌, inl, inr, arith}
 use Rattle.std.specs.Str.{bytes_eq}
-use Rattle.cas_types.specs.declared.tag.TypeTag.{TypeTag}
-use Rattle.cas_types.specs.declared.tag.TypeTag.TheVariants as tag
 use Rattle.cql_phrases.specs.declared.lexeme.Lexeme.{Lexeme}
 use Rattle.cql_phrases.specs.declared.lexeme.Lexeme.TheVariants as lexeme
 use Rattle.cql_phrases.specs.declared.keyword.Keyword.{Keyword}
 use Rattle.cql_phrases.specs.declared.keyword.Keyword.TheVariants as word
 use Rattle.cql_lex.specs.declared.token.Mark.TheVariants as mark
 use Rattle.cql_phrases.specs.declared.lists.Separator.TheVariants as separator
-use Rattle.cql_parse.specs.declared.syntax.CreateTable.{CreateTable}
-use Rattle.cql_parse.specs.declared.syntax.AlterTable.{AlterTable}
-use Rattle.cql_parse.specs.declared.syntax.Item.{Item}
-use Rattle.cql_parse.specs.declared.syntax.Item.TheVariants as item
-use Rattle.cql_parse.specs.declared.syntax.DefinedColumn.{DefinedColumn}
-use Rattle.cql_parse.specs.declared.syntax.AddedColumn.{AddedColumn}
-use Rattle.cql_parse.specs.declared.syntax.PrimaryKey.{PrimaryKey}
-use Rattle.cql_parse.specs.declared.syntax.ColumnType.{ColumnType}
-use Rattle.cql_parse.specs.declared.syntax.ColumnType.TheVariants as column_type
-use Rattle.cql_parse.specs.declared.syntax.TableOption.{TableOption}
-use Rattle.cql_parse.specs.declared.syntax.TableOption.TheVariants as table_option
-use Rattle.cql_parse.specs.declared.syntax.OptionValue.{OptionValue}
-use Rattle.cql_parse.specs.declared.syntax.OptionValue.TheVariants as option_value
-use Rattle.cql_parse.specs.declared.syntax.Suboption.{Suboption}
+use Rattle.cql_tables.specs.declared.syntax.CreateTable.{CreateTable}
+use Rattle.cql_tables.specs.declared.syntax.AlterTable.{AlterTable}
+use Rattle.cql_tables.specs.declared.syntax.Item.{Item}
+use Rattle.cql_tables.specs.declared.syntax.Item.TheVariants as item
+use Rattle.cql_tables.specs.declared.syntax.DefinedColumn.{DefinedColumn}
+use Rattle.cql_tables.specs.declared.syntax.AddedColumn.{AddedColumn}
+use Rattle.cql_tables.specs.declared.syntax.PrimaryKey.{PrimaryKey}
+use Rattle.cql_tables.specs.declared.syntax.TableOption.{TableOption}
+use Rattle.cql_tables.specs.declared.syntax.TableOption.TheVariants as table_option
+use Rattle.cql_tables.specs.declared.syntax.OptionValue.{OptionValue}
+use Rattle.cql_tables.specs.declared.syntax.OptionValue.TheVariants as option_value
+use Rattle.cql_tables.specs.declared.syntax.Suboption.{Suboption}
 use Rattle.cql_phrases.specs.declared.term.Constant.TheVariants as constant
 use Rattle.cql_phrases.specs.Symbols.{spelling, is_reserved}
 use Rattle.cql_phrases.specs.Inner.Reading.{done, after_word, after_mark, after_separator, word_at, mark_at, close_brace_at, name_at, from_at, list_at, in_parens, list_behind, flag_at, place}
@@ -31,199 +27,11 @@ use Rattle.cql_phrases.proofs.Agree.{Agrees, Anything, Shrinks, unstep, step, un
 use Rattle.cql_phrases.proofs.Tokens.{word_sound, word_full, other_word, mark_sound, mark_full, other_mark, word_at_sound, word_at_full, mark_at_sound, mark_at_full, close_brace_at_sound, close_brace_at_full, name_agrees, name_shrinks, no_word, no_mark, word_no_mark}
 use Rattle.cql_phrases.proofs.ClauseAgree.{MayGoOn, AfterList, MayClose, AfterClause, NotWord, list_agrees, list_shrinks, more_shrinks, from_sound, from_full, parens_agrees, behind_agrees, flag_agrees, starts_word, starts_mark}
 use Rattle.cql_phrases.proofs.TermAgree.{constant_agrees, constant_shrinks, setting_agrees, setting_shrinks}
-use Rattle.cql_parse.specs.Inner.StatementReading.{table_at, column_order_at, first_type_of, native_at, one_in_angles, two_in_angles, type_at, key_flag, defined_at, added_at, names_closed, partition_at, key_at, item_at, suboption_at, suboptions_closed, constant_value, option_value_at, named_option_at, after_words, clustering_order_at, option_at, create_at, alter_at}
+use Rattle.cql_tables.specs.Inner.TableReading.{table_at, column_order_at, type_at, key_flag, defined_at, added_at, names_closed, partition_at, key_at, item_at, suboption_at, suboptions_closed, constant_value, option_value_at, named_option_at, after_words, clustering_order_at, option_at, create_at, alter_at}
 use Rattle.cql_phrases.specs.Phrases.{Phrase, keyword, sign, close_brace, More, Some_of, Behind, InParens, If, IsName}
-use Rattle.cql_parse.specs.Grammar.{IsColumnOrder, IsNative, IsType, IsDefined, IsAdded, IsPartition, IsPrimaryKey, IsItem, IsSuboption, IsOptionValue, IsOption, IsCreate, IsAlter}
-use Rattle.cql_parse.proofs.ChangeAgree.{End, table_agrees, not_and, not_comma}
-use Rattle.cql_parse.proofs.SelectAgree.{order_agrees, order_shrinks, order_goes_on, NoDirection}
-
--- ---- types
-
-nothing_there : (x : TypeTag) (r : List Lexeme) → ◌≡◌ {A = Option (TypeTag × List Lexeme)} None (Some (x, r)) → ⊥
-nothing_there x r e = cc
-
-native_sound : (l r : List Lexeme) (x : TypeTag) → native_at l ≡ Some (x, r) → IsNative x l r
-unfolding native_at first_type_of
-native_sound l r x e =
-    elim (unchoose (after_word word.Ascii l) _ _ (x, r) e) [
-      | inl h0 ↦ phrase_at IsNative tag.Ascii x l h0.0 r h0.2 (word_sound word.Ascii l h0.0 h0.1)
-      | inr h0 ↦
-          elim (unchoose (after_word word.BigInt l) _ _ (x, r) h0.1) [
-            | inl h1 ↦ phrase_at IsNative tag.BigInt x l h1.0 r h1.2 (word_sound word.BigInt l h1.0 h1.1)
-            | inr h1 ↦
-                elim (unchoose (after_word word.Blob l) _ _ (x, r) h1.1) [
-                  | inl h2 ↦ phrase_at IsNative tag.Blob x l h2.0 r h2.2 (word_sound word.Blob l h2.0 h2.1)
-                  | inr h2 ↦
-                      elim (unchoose (after_word word.Boolean l) _ _ (x, r) h2.1) [
-                        | inl h3 ↦ phrase_at IsNative tag.Boolean x l h3.0 r h3.2 (word_sound word.Boolean l h3.0 h3.1)
-                        | inr h3 ↦
-                            elim (unchoose (after_word word.Date l) _ _ (x, r) h3.1) [
-                              | inl h4 ↦ phrase_at IsNative tag.Date x l h4.0 r h4.2 (word_sound word.Date l h4.0 h4.1)
-                              | inr h4 ↦
-                                  elim (unchoose (after_word word.Int l) _ _ (x, r) h4.1) [
-                                    | inl h5 ↦ phrase_at IsNative tag.Int x l h5.0 r h5.2 (word_sound word.Int l h5.0 h5.1)
-                                    | inr h5 ↦
-                                        elim (unchoose (after_word word.SmallInt l) _ _ (x, r) h5.1) [
-                                          | inl h6 ↦ phrase_at IsNative tag.SmallInt x l h6.0 r h6.2 (word_sound word.SmallInt l h6.0 h6.1)
-                                          | inr h6 ↦
-                                              elim (unchoose (after_word word.Text l) _ _ (x, r) h6.1) [
-                                                | inl h7 ↦ phrase_at IsNative tag.Text x l h7.0 r h7.2 (inl (word_sound word.Text l h7.0 h7.1))
-                                                | inr h7 ↦
-                                                    elim (unchoose (after_word word.Time l) _ _ (x, r) h7.1) [
-                                                      | inl h8 ↦ phrase_at IsNative tag.Time x l h8.0 r h8.2 (word_sound word.Time l h8.0 h8.1)
-                                                      | inr h8 ↦
-                                                          elim (unchoose (after_word word.Timestamp l) _ _ (x, r) h8.1) [
-                                                            | inl h9 ↦ phrase_at IsNative tag.Timestamp x l h9.0 r h9.2 (word_sound word.Timestamp l h9.0 h9.1)
-                                                            | inr h9 ↦
-                                                                elim (unchoose (after_word word.TimeUuid l) _ _ (x, r) h9.1) [
-                                                                  | inl h10 ↦ phrase_at IsNative tag.TimeUuid x l h10.0 r h10.2 (word_sound word.TimeUuid l h10.0 h10.1)
-                                                                  | inr h10 ↦
-                                                                      elim (unchoose (after_word word.TinyInt l) _ _ (x, r) h10.1) [
-                                                                        | inl h11 ↦ phrase_at IsNative tag.TinyInt x l h11.0 r h11.2 (word_sound word.TinyInt l h11.0 h11.1)
-                                                                        | inr h11 ↦
-                                                                            elim (unchoose (after_word word.Uuid l) _ _ (x, r) h11.1) [
-                                                                              | inl h12 ↦ phrase_at IsNative tag.Uuid x l h12.0 r h12.2 (word_sound word.Uuid l h12.0 h12.1)
-                                                                              | inr h12 ↦
-                                                                                  elim (unchoose (after_word word.VarChar l) _ _ (x, r) h12.1) [
-                                                                                    | inl h13 ↦ phrase_at IsNative tag.Text x l h13.0 r h13.2 (inr (word_sound word.VarChar l h13.0 h13.1))
-                                                                                    | inr h13 ↦ absurd (nothing_there x r h13.1)
-                                                                                  ]
-                                                                            ]
-                                                                      ]
-                                                                ]
-                                                          ]
-                                                    ]
-                                              ]
-                                        ]
-                                  ]
-                            ]
-                      ]
-                ]
-          ]
-    ]
-
-native_full : (l r : List Lexeme) (x : TypeTag) → IsNative x l r → Anything r → native_at l ≡ Some (x, r)
-unfolding native_at first_type_of spelling
-native_full l r tag.Ascii h f = (choose (after_word word.Ascii l) _ _ r _ (word_full word.Ascii l r h) refl)
-native_full l r tag.BigInt h f = (choose_other (after_word word.Ascii l) _ _ _ (other_word word.Ascii word.BigInt l r refl h) (choose (after_word word.BigInt l) _ _ r _ (word_full word.BigInt l r h) refl))
-native_full l r tag.Blob h f = (choose_other (after_word word.Ascii l) _ _ _ (other_word word.Ascii word.Blob l r refl h) (choose_other (after_word word.BigInt l) _ _ _ (other_word word.BigInt word.Blob l r refl h) (choose (after_word word.Blob l) _ _ r _ (word_full word.Blob l r h) refl)))
-native_full l r tag.Boolean h f = (choose_other (after_word word.Ascii l) _ _ _ (other_word word.Ascii word.Boolean l r refl h) (choose_other (after_word word.BigInt l) _ _ _ (other_word word.BigInt word.Boolean l r refl h) (choose_other (after_word word.Blob l) _ _ _ (other_word word.Blob word.Boolean l r refl h) (choose (after_word word.Boolean l) _ _ r _ (word_full word.Boolean l r h) refl))))
-native_full l r tag.Date h f = (choose_other (after_word word.Ascii l) _ _ _ (other_word word.Ascii word.Date l r refl h) (choose_other (after_word word.BigInt l) _ _ _ (other_word word.BigInt word.Date l r refl h) (choose_other (after_word word.Blob l) _ _ _ (other_word word.Blob word.Date l r refl h) (choose_other (after_word word.Boolean l) _ _ _ (other_word word.Boolean word.Date l r refl h) (choose (after_word word.Date l) _ _ r _ (word_full word.Date l r h) refl)))))
-native_full l r tag.Int h f = (choose_other (after_word word.Ascii l) _ _ _ (other_word word.Ascii word.Int l r refl h) (choose_other (after_word word.BigInt l) _ _ _ (other_word word.BigInt word.Int l r refl h) (choose_other (after_word word.Blob l) _ _ _ (other_word word.Blob word.Int l r refl h) (choose_other (after_word word.Boolean l) _ _ _ (other_word word.Boolean word.Int l r refl h) (choose_other (after_word word.Date l) _ _ _ (other_word word.Date word.Int l r refl h) (choose (after_word word.Int l) _ _ r _ (word_full word.Int l r h) refl))))))
-native_full l r tag.SmallInt h f = (choose_other (after_word word.Ascii l) _ _ _ (other_word word.Ascii word.SmallInt l r refl h) (choose_other (after_word word.BigInt l) _ _ _ (other_word word.BigInt word.SmallInt l r refl h) (choose_other (after_word word.Blob l) _ _ _ (other_word word.Blob word.SmallInt l r refl h) (choose_other (after_word word.Boolean l) _ _ _ (other_word word.Boolean word.SmallInt l r refl h) (choose_other (after_word word.Date l) _ _ _ (other_word word.Date word.SmallInt l r refl h) (choose_other (after_word word.Int l) _ _ _ (other_word word.Int word.SmallInt l r refl h) (choose (after_word word.SmallInt l) _ _ r _ (word_full word.SmallInt l r h) refl)))))))
-native_full l r tag.Text (inl h) f = (choose_other (after_word word.Ascii l) _ _ _ (other_word word.Ascii word.Text l r refl h) (choose_other (after_word word.BigInt l) _ _ _ (other_word word.BigInt word.Text l r refl h) (choose_other (after_word word.Blob l) _ _ _ (other_word word.Blob word.Text l r refl h) (choose_other (after_word word.Boolean l) _ _ _ (other_word word.Boolean word.Text l r refl h) (choose_other (after_word word.Date l) _ _ _ (other_word word.Date word.Text l r refl h) (choose_other (after_word word.Int l) _ _ _ (other_word word.Int word.Text l r refl h) (choose_other (after_word word.SmallInt l) _ _ _ (other_word word.SmallInt word.Text l r refl h) (choose (after_word word.Text l) _ _ r _ (word_full word.Text l r h) refl))))))))
-native_full l r tag.Time h f = (choose_other (after_word word.Ascii l) _ _ _ (other_word word.Ascii word.Time l r refl h) (choose_other (after_word word.BigInt l) _ _ _ (other_word word.BigInt word.Time l r refl h) (choose_other (after_word word.Blob l) _ _ _ (other_word word.Blob word.Time l r refl h) (choose_other (after_word word.Boolean l) _ _ _ (other_word word.Boolean word.Time l r refl h) (choose_other (after_word word.Date l) _ _ _ (other_word word.Date word.Time l r refl h) (choose_other (after_word word.Int l) _ _ _ (other_word word.Int word.Time l r refl h) (choose_other (after_word word.SmallInt l) _ _ _ (other_word word.SmallInt word.Time l r refl h) (choose_other (after_word word.Text l) _ _ _ (other_word word.Text word.Time l r refl h) (choose (after_word word.Time l) _ _ r _ (word_full word.Time l r h) refl)))))))))
-native_full l r tag.Timestamp h f = (choose_other (after_word word.Ascii l) _ _ _ (other_word word.Ascii word.Timestamp l r refl h) (choose_other (after_word word.BigInt l) _ _ _ (other_word word.BigInt word.Timestamp l r refl h) (choose_other (after_word word.Blob l) _ _ _ (other_word word.Blob word.Timestamp l r refl h) (choose_other (after_word word.Boolean l) _ _ _ (other_word word.Boolean word.Timestamp l r refl h) (choose_other (after_word word.Date l) _ _ _ (other_word word.Date word.Timestamp l r refl h) (choose_other (after_word word.Int l) _ _ _ (other_word word.Int word.Timestamp l r refl h) (choose_other (after_word word.SmallInt l) _ _ _ (other_word word.SmallInt word.Timestamp l r refl h) (choose_other (after_word word.Text l) _ _ _ (other_word word.Text word.Timestamp l r refl h) (choose_other (after_word word.Time l) _ _ _ (other_word word.Time word.Timestamp l r refl h) (choose (after_word word.Timestamp l) _ _ r _ (word_full word.Timestamp l r h) refl))))))))))
-native_full l r tag.TimeUuid h f = (choose_other (after_word word.Ascii l) _ _ _ (other_word word.Ascii word.TimeUuid l r refl h) (choose_other (after_word word.BigInt l) _ _ _ (other_word word.BigInt word.TimeUuid l r refl h) (choose_other (after_word word.Blob l) _ _ _ (other_word word.Blob word.TimeUuid l r refl h) (choose_other (after_word word.Boolean l) _ _ _ (other_word word.Boolean word.TimeUuid l r refl h) (choose_other (after_word word.Date l) _ _ _ (other_word word.Date word.TimeUuid l r refl h) (choose_other (after_word word.Int l) _ _ _ (other_word word.Int word.TimeUuid l r refl h) (choose_other (after_word word.SmallInt l) _ _ _ (other_word word.SmallInt word.TimeUuid l r refl h) (choose_other (after_word word.Text l) _ _ _ (other_word word.Text word.TimeUuid l r refl h) (choose_other (after_word word.Time l) _ _ _ (other_word word.Time word.TimeUuid l r refl h) (choose_other (after_word word.Timestamp l) _ _ _ (other_word word.Timestamp word.TimeUuid l r refl h) (choose (after_word word.TimeUuid l) _ _ r _ (word_full word.TimeUuid l r h) refl)))))))))))
-native_full l r tag.TinyInt h f = (choose_other (after_word word.Ascii l) _ _ _ (other_word word.Ascii word.TinyInt l r refl h) (choose_other (after_word word.BigInt l) _ _ _ (other_word word.BigInt word.TinyInt l r refl h) (choose_other (after_word word.Blob l) _ _ _ (other_word word.Blob word.TinyInt l r refl h) (choose_other (after_word word.Boolean l) _ _ _ (other_word word.Boolean word.TinyInt l r refl h) (choose_other (after_word word.Date l) _ _ _ (other_word word.Date word.TinyInt l r refl h) (choose_other (after_word word.Int l) _ _ _ (other_word word.Int word.TinyInt l r refl h) (choose_other (after_word word.SmallInt l) _ _ _ (other_word word.SmallInt word.TinyInt l r refl h) (choose_other (after_word word.Text l) _ _ _ (other_word word.Text word.TinyInt l r refl h) (choose_other (after_word word.Time l) _ _ _ (other_word word.Time word.TinyInt l r refl h) (choose_other (after_word word.Timestamp l) _ _ _ (other_word word.Timestamp word.TinyInt l r refl h) (choose_other (after_word word.TimeUuid l) _ _ _ (other_word word.TimeUuid word.TinyInt l r refl h) (choose (after_word word.TinyInt l) _ _ r _ (word_full word.TinyInt l r h) refl))))))))))))
-native_full l r tag.Uuid h f = (choose_other (after_word word.Ascii l) _ _ _ (other_word word.Ascii word.Uuid l r refl h) (choose_other (after_word word.BigInt l) _ _ _ (other_word word.BigInt word.Uuid l r refl h) (choose_other (after_word word.Blob l) _ _ _ (other_word word.Blob word.Uuid l r refl h) (choose_other (after_word word.Boolean l) _ _ _ (other_word word.Boolean word.Uuid l r refl h) (choose_other (after_word word.Date l) _ _ _ (other_word word.Date word.Uuid l r refl h) (choose_other (after_word word.Int l) _ _ _ (other_word word.Int word.Uuid l r refl h) (choose_other (after_word word.SmallInt l) _ _ _ (other_word word.SmallInt word.Uuid l r refl h) (choose_other (after_word word.Text l) _ _ _ (other_word word.Text word.Uuid l r refl h) (choose_other (after_word word.Time l) _ _ _ (other_word word.Time word.Uuid l r refl h) (choose_other (after_word word.Timestamp l) _ _ _ (other_word word.Timestamp word.Uuid l r refl h) (choose_other (after_word word.TimeUuid l) _ _ _ (other_word word.TimeUuid word.Uuid l r refl h) (choose_other (after_word word.TinyInt l) _ _ _ (other_word word.TinyInt word.Uuid l r refl h) (choose (after_word word.Uuid l) _ _ r _ (word_full word.Uuid l r h) refl)))))))))))))
-native_full l r tag.Text (inr h) f = (choose_other (after_word word.Ascii l) _ _ _ (other_word word.Ascii word.VarChar l r refl h) (choose_other (after_word word.BigInt l) _ _ _ (other_word word.BigInt word.VarChar l r refl h) (choose_other (after_word word.Blob l) _ _ _ (other_word word.Blob word.VarChar l r refl h) (choose_other (after_word word.Boolean l) _ _ _ (other_word word.Boolean word.VarChar l r refl h) (choose_other (after_word word.Date l) _ _ _ (other_word word.Date word.VarChar l r refl h) (choose_other (after_word word.Int l) _ _ _ (other_word word.Int word.VarChar l r refl h) (choose_other (after_word word.SmallInt l) _ _ _ (other_word word.SmallInt word.VarChar l r refl h) (choose_other (after_word word.Text l) _ _ _ (other_word word.Text word.VarChar l r refl h) (choose_other (after_word word.Time l) _ _ _ (other_word word.Time word.VarChar l r refl h) (choose_other (after_word word.Timestamp l) _ _ _ (other_word word.Timestamp word.VarChar l r refl h) (choose_other (after_word word.TimeUuid l) _ _ _ (other_word word.TimeUuid word.VarChar l r refl h) (choose_other (after_word word.TinyInt l) _ _ _ (other_word word.TinyInt word.VarChar l r refl h) (choose_other (after_word word.Uuid l) _ _ _ (other_word word.Uuid word.VarChar l r refl h) (choose (after_word word.VarChar l) _ _ r _ (word_full word.VarChar l r h) refl))))))))))))))
-
-native_agrees : Agrees native_at IsNative Anything
-native_agrees = record { sound = native_sound; full = native_full }
-
-native_shrinks : Shrinks IsNative
-native_shrinks tag.Ascii l r h = omega (arith, ap length h)
-native_shrinks tag.BigInt l r h = omega (arith, ap length h)
-native_shrinks tag.Blob l r h = omega (arith, ap length h)
-native_shrinks tag.Boolean l r h = omega (arith, ap length h)
-native_shrinks tag.Date l r h = omega (arith, ap length h)
-native_shrinks tag.Int l r h = omega (arith, ap length h)
-native_shrinks tag.SmallInt l r h = omega (arith, ap length h)
-native_shrinks tag.Text l r (inl h) = omega (arith, ap length h)
-native_shrinks tag.Text l r (inr h) = omega (arith, ap length h)
-native_shrinks tag.Time l r h = omega (arith, ap length h)
-native_shrinks tag.Timestamp l r h = omega (arith, ap length h)
-native_shrinks tag.TimeUuid l r h = omega (arith, ap length h)
-native_shrinks tag.TinyInt l r h = omega (arith, ap length h)
-native_shrinks tag.Uuid l r h = omega (arith, ap length h)
-
--- a native type begins no collection
-no_collection : (t : TypeTag) (l r : List Lexeme) → IsNative t l r → NotWord word.Set l × NotWord word.List l × NotWord word.Map l
-unfolding spelling
-no_collection tag.Ascii l r h = (other_word word.Set word.Ascii l r refl h, other_word word.List word.Ascii l r refl h, other_word word.Map word.Ascii l r refl h)
-no_collection tag.BigInt l r h = (other_word word.Set word.BigInt l r refl h, other_word word.List word.BigInt l r refl h, other_word word.Map word.BigInt l r refl h)
-no_collection tag.Blob l r h = (other_word word.Set word.Blob l r refl h, other_word word.List word.Blob l r refl h, other_word word.Map word.Blob l r refl h)
-no_collection tag.Boolean l r h = (other_word word.Set word.Boolean l r refl h, other_word word.List word.Boolean l r refl h, other_word word.Map word.Boolean l r refl h)
-no_collection tag.Date l r h = (other_word word.Set word.Date l r refl h, other_word word.List word.Date l r refl h, other_word word.Map word.Date l r refl h)
-no_collection tag.Int l r h = (other_word word.Set word.Int l r refl h, other_word word.List word.Int l r refl h, other_word word.Map word.Int l r refl h)
-no_collection tag.SmallInt l r h = (other_word word.Set word.SmallInt l r refl h, other_word word.List word.SmallInt l r refl h, other_word word.Map word.SmallInt l r refl h)
-no_collection tag.Text l r (inl h) = (other_word word.Set word.Text l r refl h, other_word word.List word.Text l r refl h, other_word word.Map word.Text l r refl h)
-no_collection tag.Text l r (inr h) = (other_word word.Set word.VarChar l r refl h, other_word word.List word.VarChar l r refl h, other_word word.Map word.VarChar l r refl h)
-no_collection tag.Time l r h = (other_word word.Set word.Time l r refl h, other_word word.List word.Time l r refl h, other_word word.Map word.Time l r refl h)
-no_collection tag.Timestamp l r h = (other_word word.Set word.Timestamp l r refl h, other_word word.List word.Timestamp l r refl h, other_word word.Map word.Timestamp l r refl h)
-no_collection tag.TimeUuid l r h = (other_word word.Set word.TimeUuid l r refl h, other_word word.List word.TimeUuid l r refl h, other_word word.Map word.TimeUuid l r refl h)
-no_collection tag.TinyInt l r h = (other_word word.Set word.TinyInt l r refl h, other_word word.List word.TinyInt l r refl h, other_word word.Map word.TinyInt l r refl h)
-no_collection tag.Uuid l r h = (other_word word.Set word.Uuid l r refl h, other_word word.List word.Uuid l r refl h, other_word word.Map word.Uuid l r refl h)
-
-abbrev OneInAngles : TypeTag → Phrase
-OneInAngles t l r = (m : List Lexeme) × sign mark.Less l m × ((n : List Lexeme) × IsNative t m n × sign mark.Greater n r)
-
-one_sound : (l r : List Lexeme) (t : TypeTag) → one_in_angles l ≡ Some (t, r) → OneInAngles t l r
-unfolding one_in_angles
-one_sound l r t e =
-    let a = unstep (mark_at mark.Less l) _ t r e in
-    let b = unstep (native_at a.left) _ t r a.next in
-    let c = unstep (mark_at mark.Greater b.left) _ t r b.next in
-    phrase_at OneInAngles b.value t l c.left r c.next (a.left, mark_at_sound mark.Less l a.left a.value a.was, (b.left, native_sound a.left b.left b.value b.was, mark_at_sound mark.Greater b.left c.left c.value c.was))
-
-one_full : (l r : List Lexeme) (t : TypeTag) → OneInAngles t l r → one_in_angles l ≡ Some (t, r)
-unfolding one_in_angles
-one_full l r t (a, ha, (b, hb, hc)) =
-    step (mark_at mark.Less l) _ tt a _ (mark_at_full mark.Less l a ha) (step (native_at a) _ t b _ (native_full a b t hb tt) (step (mark_at mark.Greater b) _ tt r _ (mark_at_full mark.Greater b r hc) refl))
-
-two_sound : (k l r : List Lexeme) (t : ColumnType) → keyword word.Map k l → two_in_angles l ≡ Some (t, r) → IsType t k r
-unfolding two_in_angles
-two_sound k l r t i e =
-    let a = unstep (mark_at mark.Less l) _ t r e in
-    let b = unstep (native_at a.left) _ t r a.next in
-    let c = unstep (mark_at mark.Comma b.left) _ t r b.next in
-    let d = unstep (native_at c.left) _ t r c.next in
-    let f = unstep (mark_at mark.Greater d.left) _ t r d.next in
-    phrase_at IsType (column_type.MapOf b.value d.value) t k f.left r f.next
-    (l, i, (a.left, mark_at_sound mark.Less l a.left a.value a.was, (b.left, native_sound a.left b.left b.value b.was, (c.left, mark_at_sound mark.Comma b.left c.left c.value c.was, (d.left, native_sound c.left d.left d.value d.was, mark_at_sound mark.Greater d.left f.left f.value f.was)))))
-
-type_sound : (l r : List Lexeme) (x : ColumnType) → type_at l ≡ Some (x, r) → IsType x l r
-unfolding type_at
-type_sound l r x e =
-    elim (unchoose (after_word word.Set l) _ _ (x, r) e) [
-      | inl h ↦ let u = unstep (one_in_angles h.0) _ x r h.2 in phrase_at IsType (column_type.SetOf u.value) x l u.left r u.next (h.0, word_sound word.Set l h.0 h.1, one_sound h.0 u.left u.value u.was)
-      | inr h ↦
-          elim (unchoose (after_word word.List l) _ _ (x, r) h.1) [
-            | inl k ↦ let u = unstep (one_in_angles k.0) _ x r k.2 in phrase_at IsType (column_type.ListOf u.value) x l u.left r u.next (k.0, word_sound word.List l k.0 k.1, one_sound k.0 u.left u.value u.was)
-            | inr k ↦
-                elim (unchoose (after_word word.Map l) _ _ (x, r) k.1) [
-                  | inl j ↦ two_sound l j.0 r x (word_sound word.Map l j.0 j.1) j.2
-                  | inr j ↦ let u = unstep (native_at l) _ x r j.1 in phrase_at IsType (column_type.One u.value) x l u.left r u.next (native_sound l u.left u.value u.was)
-                ]
-          ]
-    ]
-
-type_full : (l r : List Lexeme) (x : ColumnType) → IsType x l r → Anything r → type_at l ≡ Some (x, r)
-unfolding type_at two_in_angles spelling
-type_full l r (column_type.One t) h f =
-    let n = no_collection t l r h in
-    choose_other (after_word word.Set l) _ _ _ n.0 (choose_other (after_word word.List l) _ _ _ n.1 (choose_other (after_word word.Map l) _ _ _ n.2 (step (native_at l) _ t r _ (native_full l r t h tt) refl)))
-type_full l r (column_type.SetOf t) h f = choose (after_word word.Set l) _ _ h.0 _ (word_full word.Set l h.0 h.1) (step (one_in_angles h.0) _ t r _ (one_full h.0 r t h.2) refl)
-type_full l r (column_type.ListOf t) h f =
-    choose_other (after_word word.Set l) _ _ _ (other_word word.Set word.List l h.0 refl h.1)
-    (choose (after_word word.List l) _ _ h.0 _ (word_full word.List l h.0 h.1) (step (one_in_angles h.0) _ t r _ (one_full h.0 r t h.2) refl))
-type_full l r (column_type.MapOf s t) (k, hk, (a, ha, (b, hb, (c, hc, (d, hd, he))))) f =
-    choose_other (after_word word.Set l) _ _ _ (other_word word.Set word.Map l k refl hk)
-    (choose_other (after_word word.List l) _ _ _ (other_word word.List word.Map l k refl hk)
-    (choose (after_word word.Map l) _ _ k _ (word_full word.Map l k hk)
-    (step (mark_at mark.Less k) _ tt a _ (mark_at_full mark.Less k a ha)
-    (step (native_at a) _ s b _ (native_full a b s hb tt)
-    (step (mark_at mark.Comma b) _ tt c _ (mark_at_full mark.Comma b c hc)
-    (step (native_at c) _ t d _ (native_full c d t hd tt)
-    (step (mark_at mark.Greater d) _ tt r _ (mark_at_full mark.Greater d r he) refl)))))))
-
-type_shrinks : Shrinks IsType
-type_shrinks (column_type.One t) l r h = native_shrinks t l r h
-type_shrinks (column_type.SetOf t) l r h = omega (arith, ap length h.1, ap length h.2.1, native_shrinks t h.2.0 h.2.2.0 h.2.2.1, ap length h.2.2.2)
-type_shrinks (column_type.ListOf t) l r h = omega (arith, ap length h.1, ap length h.2.1, native_shrinks t h.2.0 h.2.2.0 h.2.2.1, ap length h.2.2.2)
-type_shrinks (column_type.MapOf s t) l r (k, hk, (a, ha, (b, hb, (c, hc, (d, hd, he))))) =
-    omega (arith, ap length hk, ap length ha, native_shrinks s a b hb, ap length hc, native_shrinks t c d hd, ap length he)
+use Rattle.cql_tables.specs.Tables.{IsColumnOrder, IsDefined, IsAdded, IsPartition, IsPrimaryKey, IsItem, IsSuboption, IsOptionValue, IsOption, IsCreate, IsAlter}
+use Rattle.cql_tables.proofs.TableAgree.{End, table_agrees, not_and, not_comma, order_agrees, order_shrinks, order_goes_on, NoDirection}
+use Rattle.cql_tables.proofs.TypeAgree.{type_sound, type_full, type_shrinks}
 
 -- ---- columns
 

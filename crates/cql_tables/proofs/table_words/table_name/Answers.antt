@@ -1,6 +1,6 @@
 use Rattle.std.proofs.Common.{ap, Err}
-use Rattle.cql_parse.proofs.TableAgree.{read_is_spelt, is_answer}
-use Rattle.cql_parse.proofs.table_words.table_name.Goals as goal
+use Rattle.cql_tables.proofs.WordAgree.{read_is_spelt, is_answer}
+use Rattle.cql_tables.proofs.table_words.table_name.Goals as goal
 
 pub returns-in-Ok-clause-found : goal.returns-in-Ok-clause-found
 returns-in-Ok-clause-found c = read_is_spelt _ _ c.table_of.result c.in-Ok.ensures.lexed (rw (c.deref.ensures.value, c.as_bytes.ensures.value) at c.table_of.ensures)

@@ -1,0 +1,4 @@
+pub mod TableAgree
+pub mod TypeAgree
+pub mod DefineAgree
+pub mod WordAgree
