@@ -174,7 +174,8 @@ fn replayed(
 }
 
 impl MemFolder {
-    ghost use Rattle.cas_disk.specs.Inner.Shown.{start_of, past_of};
+    ghost use Rattle.cas_disk.specs.Inner.Shown.{start_of, past_of, course_of};
+    ghost use Rattle.cas_disk.specs.Inner.Plans.{LetsAllPass, begun};
 
     /// The folder that a crash leaves, by choice for each change that isn't synced. No call of it is
     /// planned to fail.
@@ -183,7 +184,8 @@ impl MemFolder {
         // An image, and one whose images are images too.
         ensures image { IfOk result (λ m. (c : Image) → (⟦<MemFolder as Folder>⟧.disk m).may_leave c
             → (⟦<MemFolder as Folder>⟧.disk self.now).may_leave c) }
-        ensures faults { IfOk result (λ m. ⟦<MemFolder as Folder>⟧.faults_of m ≡ 0) }
+        ensures course { IfOk result (λ m. course_of m ≡ begun (course_of m).plan) }
+        ensures passes { IfOk result (λ m. LetsAllPass (course_of m).plan) }
     {
         let start = replayed(self.alloc, choice, &self.start, &self.past)?;
         let files = copied(self.alloc, &start)?;

@@ -1,11 +1,11 @@
 //! The calls of a folder in memory.
-ghost use Rattle.std.specs.Prelude.{◌≡◌, ◌≢◌, ◌≤◌, length, true, None, OnOk, OnErr, IfOk, IsErr};
-ghost use Rattle.cas_disk.specs.Counts.{Counted};
+ghost use Rattle.std.specs.Prelude.{◌≡◌, ◌≢◌, ◌≤◌, ◌+◌, length, true, None, OnOk, OnErr, IfOk, IsErr, is_err};
+ghost use Rattle.cas_disk.specs.Counts.{Counted, sum_in_range};
 ghost use Rattle.std.specs.Bool.{OnTrue, OnFalse};
 ghost use Rattle.cas_disk.specs.Disk.{Image, During, Follows, Same, Gives};
 ghost use Rattle.cas_disk.specs.Inner.Past.{image_of};
 ghost use Rattle.cas_disk.specs.Inner.PastDisk.{disk_of};
-ghost use Rattle.cas_disk.specs.Inner.Plans.{stopped_after};
+ghost use Rattle.cas_disk.specs.Inner.Plans.{begun, fails, stopped_after};
 ghost use Rattle.cas_disk.specs.Inner.Shown.{course_of};
 
 use crate::count::{Count, FaultCount};
@@ -40,7 +40,7 @@ impl MemFolder {
     /// A folder without files, whose calls fail by this plan.
     pub fn new(alloc: Global, plan: FaultPlan) -> Self
         ensures disk { (⟦<MemFolder as Folder>⟧.disk result).reads (λ _. None) }
-        ensures faults { ⟦<MemFolder as Folder>⟧.faults_of result ≡ 0 }
+        ensures course { course_of result ≡ begun plan }
     {
         MemFolder {
             alloc,
@@ -228,7 +228,11 @@ impl MemDraft {
     fn call(&mut self, tally: &mut FaultCount) -> Result<(), Failed>
         ensures number { self.new.number ≡ self.old.number }
         ensures bytes { self.new.bytes.items ≡ self.old.bytes.items }
+        ensures calls { self.new.calls ≡ sum_in_range self.old.calls 1 }
+        ensures failing { self.new.failing.items ≡ self.old.failing.items }
+        ensures is_synced { self.new.is_synced ≡ self.old.is_synced }
         ensures count { Counted (⟦<FaultCount as Count>⟧.number tally.old) (⟦<FaultCount as Count>⟧.number tally.new) (IsErr result) }
+        ensures planned { is_err result ≡ fails self.old.failing.items None (sum_in_range self.old.calls 1) }
     {
         self.calls = self.calls.saturating_add(1);
         if self.failing.contains(&self.calls) {

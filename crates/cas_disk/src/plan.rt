@@ -1,8 +1,8 @@
 //! Which calls fail.
-ghost use Rattle.std.specs.Prelude.{◌≡◌, ◌+◌, is_err, IsErr, IfOk, [], ⊤};
+ghost use Rattle.std.specs.Prelude.{◌≡◌, ◌+◌, is_err, IsErr, IfOk, ⊤};
 ghost use Rattle.std.specs.List.{filter_map};
 ghost use Rattle.cas_disk.specs.Counts.{Counted, sum_in_range};
-ghost use Rattle.cas_disk.specs.Inner.Plans.{fails, second_of};
+ghost use Rattle.cas_disk.specs.Inner.Plans.{LetsAllPass, begun, called, failed_once, fails, second_of};
 
 use cas_io::Failed;
 use std::alloc::{AllocError, Global};
@@ -20,9 +20,7 @@ pub struct FaultPlan {
 impl FaultPlan {
     /// No call fails.
     pub fn none(alloc: Global) -> Self
-        ensures calls { result.calls.items ≡ [] }
-        ensures drafts { result.drafts.items ≡ [] }
-        ensures reads { result.reads.items ≡ [] }
+        ensures { LetsAllPass result }
     {
         FaultPlan {
             calls: Vec::new(alloc),
@@ -45,7 +43,7 @@ pub struct Course {
 
 impl Course {
     pub fn new(plan: FaultPlan) -> Self
-        ensures { result.faults ≡ 0 }
+        ensures { result ≡ begun plan }
     {
         Course {
             plan,
@@ -58,7 +56,8 @@ impl Course {
 
     /// Counts a fault.
     pub fn fault(&mut self)
-        ensures { Counted self.old.faults self.new.faults ⊤ }
+        ensures count { Counted self.old.faults self.new.faults ⊤ }
+        ensures course { self.new ≡ failed_once self.old }
     {
         self.faults = self.faults.saturating_add(1);
     }
@@ -66,6 +65,7 @@ impl Course {
     /// Counts a call, which fails exactly where the plan says so.
     pub fn call(&mut self) -> Result<(), Failed>
         ensures count { Counted self.old.faults self.new.faults (IsErr result) }
+        ensures course { self.new ≡ called (is_err result) self.old }
         ensures planned { is_err result ≡ fails self.old.plan.calls.items self.old.stops_after (sum_in_range self.old.calls 1) }
     {
         self.calls = self.calls.saturating_add(1);
