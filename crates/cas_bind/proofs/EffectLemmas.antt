@@ -1,6 +1,14 @@
 -- Effects of changes that are made of other things.
 use Rattle.std.proofs.Common.{◌≡◌, ℕ, ◌+◌, ◌<◌, List, [], ◌∷◌, ◌++◌, length, take, get_or, map, refl, ap, ◌∙◌, append_assoc}
-use Rattle.std.specs.List.{flat_map}
+use Rattle.std.specs.List.{flat_map, zip}
+use Rattle.cql_parse.specs.declared.syntax.AlterTable.{AlterTable}
+use Rattle.cql_parse.specs.declared.syntax.CreateTable.{CreateTable}
+use Rattle.cql_parse.specs.declared.syntax.Delete.{Delete}
+use Rattle.cql_parse.specs.declared.syntax.Insert.{Insert}
+use Rattle.cql_parse.specs.declared.syntax.Select.{Select}
+use Rattle.cql_parse.specs.declared.syntax.Statement.TheVariants as statement
+use Rattle.cql_parse.specs.declared.syntax.Update.{Update}
+use Rattle.cas_reasons.specs.Statements.{assigns, deletes, inserted, changes_of}
 use Rattle.cas_effects.proofs.Steps.{flat_map_step}
 
 pub flat_map_map : {X Y Z : Type 0} (g : Y → List Z) (f : X → Y) (xs : List X) → flat_map g (map f xs) ≡ flat_map (λ x. g (f x)) xs
@@ -10,6 +18,32 @@ flat_map_map g f (x ∷ xs) = ap (λ l. g (f x) ++ l) (flat_map_map g f xs)
 pub and_nothing : {X : Type 0} (xs : List X) → xs ≡ xs ++ []
 and_nothing [] = refl
 and_nothing (x ∷ xs) = ap (λ l. x ∷ l) (and_nothing xs)
+
+-- ---- what a statement changes
+
+pub inserted_changes : (i : Insert) → changes_of (statement.Insert i) ≡ map inserted (zip i.columns i.values)
+unfolding changes_of
+inserted_changes i = refl
+
+pub updated_changes : (u : Update) → changes_of (statement.Update u) ≡ map (λ a. (a.column, assigns a.value)) u.assignments
+unfolding changes_of
+updated_changes u = refl
+
+pub deleted_changes : (d : Delete) → changes_of (statement.Delete d) ≡ map (λ t. (t.column, deletes t.key)) d.targets
+unfolding changes_of
+deleted_changes d = refl
+
+pub created_changes : (c : CreateTable) → changes_of (statement.Create c) ≡ []
+unfolding changes_of
+created_changes c = refl
+
+pub altered_changes : (a : AlterTable) → changes_of (statement.Alter a) ≡ []
+unfolding changes_of
+altered_changes a = refl
+
+pub selected_changes : (s : Select) → changes_of (statement.Select s) ≡ []
+unfolding changes_of
+selected_changes s = refl
 
 -- one more item is put after what those before it came to
 pub pushed_step : {X Y : Type 0} (f : X → List Y) (first : List Y) (A : List X) (i : ℕ) (x : X) (before after : List Y) → i < length A → x ≡ get_or A i x

@@ -1,11 +1,12 @@
 -- What is bound fits one of the tables.
 use Rattle.std.proofs.Common.{◌≡◌, ℕ, suc, ◌+◌, ◌-◌, ◌≤◌, Bool, true, false, cond, List, [], ◌∷◌, Option, None, Some, Result, Ok, Err, IfOk, IfSome, bytes_eq, find, refl, sym, ap, ◌∙◌, subst, arith}
-use Rattle.std.specs.List.{slice_get}
+use Rattle.std.specs.List.{All, slice_get}
 use Rattle.cas_types.specs.Limits.{IsNarrow, IsShardCount}
 use Rattle.cas_types.specs.declared.schema.TableSchema.{TableSchema}
 use Rattle.cas_effects.specs.declared.refusal.BindFault.{BindFault}
 use Rattle.cas_effects.specs.declared.refusal.Refusal.{Refusal}
 use Rattle.cas_define.specs.AlterReasons.{alter_means}
+use Rattle.cas_define.specs.IsTable.{IsTable}
 use Rattle.cas_define.specs.Outcomes.{Binds}
 use Rattle.cas_terms.specs.Columns.{is_local, table_named}
 use Rattle.cql_parse.specs.declared.syntax.Select.{Select}
@@ -20,7 +21,7 @@ use Rattle.cas_bind.specs.Tables.{AreInPlace, AreTables}
 use Rattle.cas_bind.specs.declared.bound.Bound.{Bound}
 use Rattle.cas_bind.specs.declared.bound.Bound.TheVariants as bound
 use Rattle.cas_bind.proofs.Kept.{change_comes, select_comes, found}
-use Rattle.cas_bind.proofs.TableLemmas.{named_narrow}
+use Rattle.cas_bind.proofs.TableLemmas.{named_holds}
 use Rattle.cas_bind.proofs.FitWrites.{write_fits}
 use Rattle.cas_bind.proofs.FitReads.{read_fits}
 
@@ -43,8 +44,8 @@ at_number tables n t are e =
     let here = in_place (λ t. bytes_eq t.name n.name) 0 tables t are.numbered (found (is_local n.keyspace) (λ t. bytes_eq t.name n.name) tables t e) in
     subst (λ k. slice_get tables k ≡ Some t) (let same : t.number - 0 ≡ t.number = omega arith in same) here.1
 
-narrow_one : (tables : List TableSchema) (n : TableName) (t : TableSchema) → AreTables tables → table_named tables n ≡ Some t → IsNarrow t.columns
-narrow_one tables n t are e = subst (λ o. IfSome o (λ t. IsNarrow t.columns)) e (named_narrow tables n are.narrow)
+named_one : (P : TableSchema → Type 0) (tables : List TableSchema) (n : TableName) (t : TableSchema) → All P tables → table_named tables n ≡ Some t → P t
+named_one P tables n t all e = subst (λ o. IfSome o P) e (named_holds P tables n all)
 
 module _ (shards : ℕ) (tables : List TableSchema) (shard : IsShardCount shards) (are : AreTables tables) where
   created : {X : Type 0} (kind : X → Bound) → ((x : X) → BoundFits shards tables (kind x)) → (r : Result X Refusal) (b : Bound) → bound_as kind r ≡ Ok b → BoundFits shards tables b
@@ -56,14 +57,14 @@ module _ (shards : ℕ) (tables : List TableSchema) (shard : IsShardCount shards
   changed n s b None f e = cc
   changed n s b (Some t) f e =
       let comes = change_comes shards t s b e in
-      subst (BoundFits shards tables) comes.1 (t, at_number tables n t are f, λ is. write_fits t (narrow_one tables n t are f) is shards s shard comes.0)
+      subst (BoundFits shards tables) comes.1 (t, at_number tables n t are f, write_fits t (named_one (λ t. IsNarrow t.columns) tables n t are.narrow f) (named_one IsTable tables n t are.each f) shards s shard comes.0)
 
   selected : (s : Select) (b : Bound) (o : Option TableSchema) → table_named tables s.table ≡ o → of_table o (λ t. select_means shards t s) ≡ Ok b → BoundFits shards tables b
   unfolding bound_select
   selected s b None f e = cc
   selected s b (Some t) f e =
       let comes = select_comes shards t s b e in
-      subst (BoundFits shards tables) comes.1 (t, at_number tables s.table t are f, λ is. read_fits t (narrow_one tables s.table t are f) is shards s comes.0)
+      subst (BoundFits shards tables) comes.1 (t, at_number tables s.table t are f, read_fits t (named_one (λ t. IsNarrow t.columns) tables s.table t are.narrow f) (named_one IsTable tables s.table t are.each f) shards s comes.0)
 
   by_meaning : (s : Statement) (b : Bound) → meaning shards tables s ≡ Ok b → BoundFits shards tables b
   unfolding meaning

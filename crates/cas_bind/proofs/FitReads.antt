@@ -27,15 +27,15 @@ use Rattle.cas_terms.specs.Columns.{column_named, is_unknown}
 use Rattle.cas_where.specs.KeyTerms.{term_in_where, partition_key}
 use Rattle.cas_where.specs.Slices.{slice_of}
 use Rattle.cas_where.proofs.Fitting.{IsShort, front_of, rest_of, slice_fits}
-use Rattle.cas_bind.specs.Fitting.{IsTable}
-use Rattle.cas_bind.specs.RowFaults.{is_outside, has_writetime, pick_fits, mention_fits, is_of_another_type, reads_outside_limits, has_bad_restriction}
-use Rattle.cas_bind.specs.RowReasons.{row_reasons}
+use Rattle.cas_define.specs.IsTable.{IsTable}
+use Rattle.cas_reasons.specs.RowFaults.{is_outside, has_writetime, pick_fits, mention_fits, is_of_another_type, reads_outside_limits, has_bad_restriction}
+use Rattle.cas_reasons.specs.RowReasons.{row_reasons}
 use Rattle.cas_bind.specs.Selects.{numbered, by_name, named_numbers, key_numbers, all_numbers, number_named, asked_of, asked_by, bound_select, read_too_large}
-use Rattle.cas_bind.specs.Statements.{shows, picked_name, picks_in, shown_by, relations_of, key_terms_of}
-use Rattle.cas_bind.specs.declared.selects.TheConstants.{GREATEST_LIMIT}
+use Rattle.cas_reasons.specs.Statements.{shows, picked_name, picks_in, shown_by, relations_of, key_terms_of}
+use Rattle.cas_types.specs.declared.limits.TheConstants.{ROW_LIMIT}
 use Rattle.cas_bind.proofs.FitChanges.{neither, nor, joined, all_short}
 use Rattle.cas_bind.proofs.FitWrites.{Clear, clear, both_true, le_from, key_of_it}
-use Rattle.cas_bind.proofs.Used.{any_term, any_in_select}
+use Rattle.cas_reasons.proofs.Used.{any_term, any_in_select}
 
 -- ---- the numbers of `*`
 
@@ -154,12 +154,12 @@ module _ (cs : List Column) where
 
 -- ---- a LIMIT
 
-limit_fits : (o : Option ℤ) → is_outside (pos 1) GREATEST_LIMIT o ≡ false → FitsLimit (option_map unsigned_abs o)
+limit_fits : (o : Option ℤ) → is_outside (pos 1) (pos ROW_LIMIT) o ≡ false → FitsLimit (option_map unsigned_abs o)
 unfolding is_outside
 limit_fits None e = tt
 limit_fits (Some (pos n)) e =
-    let both : (int_le (pos 1) (pos n) ≡ true) × (int_le (pos n) GREATEST_LIMIT ≡ true) = both_true _ _ e in
-    let low : pos 1 ≤ℤ pos n = le_from _ _ both.0 in let high : pos n ≤ℤ GREATEST_LIMIT = le_from _ _ both.1 in (omega (arith, ints), omega (arith, ints))
+    let both : (int_le (pos 1) (pos n) ≡ true) × (int_le (pos n) (pos ROW_LIMIT) ≡ true) = both_true _ _ e in
+    let low : pos 1 ≤ℤ pos n = le_from _ _ both.0 in let high : pos n ≤ℤ pos ROW_LIMIT = le_from _ _ both.1 in (omega (arith, ints), omega (arith, ints))
 limit_fits (Some (negsuc n)) e = cc
 
 -- ---- the query

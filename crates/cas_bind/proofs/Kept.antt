@@ -1,13 +1,14 @@
 -- Tables stay as they are to be, and what is bound is within the limits.
-use Rattle.std.proofs.Common.{◌≡◌, ℕ, ℤ, ◌%◌, ◌≤◌, ◌<◌, ◌≤ℤ◌, ◌&&◌, not, int_le, Bool, true, false, cond, List, ◌++◌, length, bytes_eq, Option, None, Some, Result, Ok, Err, IfOk, IfSome, find, refl, sym, subst, T, arith}
-use Rattle.std.specs.List.{AllByRecursion}
+use Rattle.std.proofs.Common.{◌≡◌, ℕ, ℤ, ◌%◌, ◌≤◌, ◌<◌, ◌≤ℤ◌, ◌&&◌, not, int_le, Bool, true, false, cond, List, ◌++◌, length, map, bytes_eq, Option, None, Some, Result, Ok, Err, IfOk, IfSome, find, refl, sym, subst, T, arith}
+use Rattle.std.specs.List.{All, AllByRecursion}
 use Rattle.std.specs.Int.Signed.{le_z_yes}
 use Rattle.std.proofs.lemmas.Nat.{mod_below}
-use Rattle.std.proofs.lemmas.List.Elements.{All-from_recursion, recursion_from_All}
+use Rattle.std.proofs.lemmas.List.Elements.{All-from_recursion, All-push, recursion_from_All}
 use Rattle.cas_types.specs.Limits.{IsNarrow, IsShardCount}
 use Rattle.cas_types.specs.declared.limits.TheConstants.{LEAST_TIMESTAMP, GREATEST_TIMESTAMP}
 use Rattle.cas_types.specs.declared.schema.TableSchema.{TableSchema}
 use Rattle.cas_terms.specs.Columns.{is_local, table_named}
+use Rattle.cas_define.specs.IsTable.{IsTable}
 use Rattle.cas_define.specs.declared.addition.Addition.{Addition}
 use Rattle.cql_parse.specs.declared.syntax.TableName.{TableName}
 use Rattle.cql_parse.specs.declared.syntax.Select.{Select}
@@ -20,15 +21,15 @@ use Rattle.cas_effects.specs.declared.refusal.BindFault.{BindFault}
 use Rattle.cas_effects.specs.declared.refusal.Refusal.{Refusal}
 use Rattle.cas_bind.specs.Changes.{bound_change}
 use Rattle.cas_bind.specs.Meaning.{change_means, select_means}
-use Rattle.cas_bind.specs.RowReasons.{row_reasons}
-use Rattle.cas_bind.specs.RowFaults.{is_outside}
+use Rattle.cas_reasons.specs.RowReasons.{row_reasons}
+use Rattle.cas_reasons.specs.RowFaults.{is_outside}
 use Rattle.cas_bind.specs.Selects.{bound_select, read_too_large}
-use Rattle.cas_bind.specs.Statements.{uses_of, timestamp_in}
-use Rattle.cas_bind.specs.Tables.{AreTables, IsWithin, tables_after}
+use Rattle.cas_reasons.specs.Statements.{uses_of, timestamp_in}
+use Rattle.cas_bind.specs.Tables.{AreTables, IsWithin, tables_after, with_added}
 use Rattle.cas_bind.specs.declared.bound.Bound.{Bound}
 use Rattle.cas_bind.specs.declared.bound.Bound.TheVariants as bound
 use Rattle.cas_bind.proofs.RowLemmas.{options_good}
-use Rattle.cas_bind.proofs.KeptTables.{HasFew, holds_of_number, narrow_with, numbered_with, numbered_after, narrow_after}
+use Rattle.cas_bind.proofs.KeptTables.{holds_of_found, holds_of_number, numbered_with, numbered_after, holds_after}
 
 -- ---- within the limits
 
@@ -92,11 +93,13 @@ module _ (shards : ℕ) (t : TableSchema) where
 
 -- ---- tables stay as they are to be
 
-pub create_keeps : (tables : List TableSchema) (t : TableSchema) → AreTables tables → IsNarrow t.columns → t.number ≡ length tables → AreTables (tables_after tables (bound.Create t))
+pub create_keeps : (tables : List TableSchema) (t : TableSchema) → AreTables tables → IsNarrow t.columns → t.number ≡ length tables → IsTable t
+    → AreTables (tables_after tables (bound.Create t))
 unfolding tables_after
-create_keeps tables t are few its = record {
-  narrow = All-from_recursion HasFew _ (narrow_with tables t (recursion_from_All HasFew tables are.narrow) few);
+create_keeps tables t are few its one = record {
+  narrow = All-push (λ t. IsNarrow t.columns) tables t are.narrow few;
   numbered = numbered_with 0 tables t are.numbered (omega arith);
+  each = All-push IsTable tables t are.each one;
 }
 
 -- a table that is named is found
@@ -104,14 +107,26 @@ pub found : (local : Bool) (test : TableSchema → Bool) (tables : List TableSch
 found true test tables t e = e
 found false test tables t e = cc
 
+abbrev with_more : Addition → TableSchema → TableSchema
+with_more a t = record t { columns = t.columns ++ a.columns }
+
 pub alter_keeps : (tables : List TableSchema) (n : TableName) (t : TableSchema) (a : Addition) → AreTables tables → table_named tables n ≡ Some t → a.table ≡ t.number
-    → IsNarrow (t.columns ++ a.columns) → AreTables (tables_after tables (bound.Alter a))
+    → IsNarrow (t.columns ++ a.columns) → (IsTable t → IsTable (with_more a t)) → AreTables (tables_after tables (bound.Alter a))
 unfolding tables_after table_named
-alter_keeps tables n t a are f its few =
-    let here : find (λ t. bytes_eq t.name n.name) tables ≡ Some t = found (is_local n.keyspace) (λ t. bytes_eq t.name n.name) tables t f in
-    record {
-      narrow = All-from_recursion HasFew _ (narrow_after a tables (recursion_from_All HasFew tables are.narrow)
-          (subst (λ m. AllByRecursion (λ u. u.number ≡ m → IsNarrow (u.columns ++ a.columns)) tables) (sym its)
-          (holds_of_number (λ u. IsNarrow (u.columns ++ a.columns)) (λ t. bytes_eq t.name n.name) t few 0 tables are.numbered here)));
-      numbered = numbered_after a 0 tables are.numbered;
-    }
+alter_keeps tables n t a are f its few stays = record {
+  narrow = after (λ t. IsNarrow t.columns) are.narrow few;
+  numbered = numbered_after a 0 tables are.numbered;
+  each = after IsTable are.each (stays (holds_of_found IsTable test tables t (recursion_from_All IsTable tables are.each) here));
+}
+  where
+    test : TableSchema → Bool
+    test t = bytes_eq t.name n.name
+
+    here : find test tables ≡ Some t
+    here = found (is_local n.keyspace) test tables t f
+
+    after : (P : TableSchema → Type 0) → All P tables → P (with_more a t) → All P (map (with_added a) tables)
+    after P all one =
+        All-from_recursion P _ (holds_after a P tables (recursion_from_All P tables all)
+        (subst (λ m. AllByRecursion (λ u. u.number ≡ m → P (with_more a u)) tables) (sym its)
+        (holds_of_number (λ u. P (with_more a u)) test t one 0 tables are.numbered here)))

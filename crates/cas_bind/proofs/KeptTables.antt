@@ -1,13 +1,9 @@
--- Tables keep their numbers and stay narrow, where one is added and where one gets more columns.
+-- Tables keep their numbers and what holds of each, where one is added and where one gets more columns.
 use Rattle.std.proofs.Common.{◌≡◌, ℕ, ◌+◌, ◌≤◌, ◌<◌, ◌==◌, Bool, true, false, cond, List, [], ◌∷◌, ◌++◌, length, map, Option, Some, find, refl, sym, ap, subst, ◌∙◌, eqb-true, arith}
 use Rattle.std.specs.List.{AllByRecursion}
 use Rattle.cas_types.specs.declared.schema.TableSchema.{TableSchema}
-use Rattle.cas_types.specs.Limits.{IsNarrow}
 use Rattle.cas_bind.specs.Tables.{AreInPlace, with_added}
 use Rattle.cas_define.specs.declared.addition.Addition.{Addition}
-
-abbrev pub HasFew : TableSchema → Type 0
-HasFew t = IsNarrow t.columns
 
 -- ---- the one that is found
 
@@ -55,10 +51,6 @@ module _ (P : TableSchema → Type 0) (test : TableSchema → Bool) (t : TableSc
 
 -- ---- one more table
 
-pub narrow_with : (ts : List TableSchema) (t : TableSchema) → AllByRecursion HasFew ts → HasFew t → AllByRecursion HasFew (ts ++ t ∷ [])
-narrow_with [] t narrow its = (its, tt)
-narrow_with (u ∷ us) t narrow its = (narrow.0, narrow_with us t narrow.1 its)
-
 pub numbered_with : (n : ℕ) (ts : List TableSchema) (t : TableSchema) → AreInPlace n ts → t.number ≡ n + length ts → AreInPlace n (ts ++ t ∷ [])
 numbered_with n [] t numbered its = (omega arith, tt)
 numbered_with n (u ∷ us) t numbered its = (numbered.0, numbered_with (n + 1) us t numbered.1 (omega arith))
@@ -74,12 +66,13 @@ module _ (a : Addition) where
   numbered_after n [] numbered = tt
   numbered_after n (t ∷ ts) numbered = (keeps_number (t.number == a.table) t ∙ numbered.0, numbered_after (n + 1) ts numbered.1)
 
-  stays_narrow : (t : TableSchema) (b : Bool) → b ≡ (t.number == a.table) → HasFew t → (t.number ≡ a.table → IsNarrow (t.columns ++ a.columns))
-      → HasFew (cond b (record t { columns = t.columns ++ a.columns }) t)
-  stays_narrow t true is narrow sum = sum (eqb-true t.number a.table (sym is))
-  stays_narrow t false is narrow sum = narrow
+  module _ (P : TableSchema → Type 0) where
+    stays : (t : TableSchema) (b : Bool) → b ≡ (t.number == a.table) → P t → (t.number ≡ a.table → P (record t { columns = t.columns ++ a.columns }))
+        → P (cond b (record t { columns = t.columns ++ a.columns }) t)
+    stays t true is holds with_more = with_more (eqb-true t.number a.table (sym is))
+    stays t false is holds with_more = holds
 
-  pub narrow_after : (ts : List TableSchema) → AllByRecursion HasFew ts → AllByRecursion (λ t. t.number ≡ a.table → IsNarrow (t.columns ++ a.columns)) ts
-      → AllByRecursion HasFew (map (with_added a) ts)
-  narrow_after [] narrow sums = tt
-  narrow_after (t ∷ ts) narrow sums = (stays_narrow t (t.number == a.table) refl narrow.0 sums.0, narrow_after ts narrow.1 sums.1)
+    pub holds_after : (ts : List TableSchema) → AllByRecursion P ts → AllByRecursion (λ t. t.number ≡ a.table → P (record t { columns = t.columns ++ a.columns })) ts
+        → AllByRecursion P (map (with_added a) ts)
+    holds_after [] all more = tt
+    holds_after (t ∷ ts) all more = (stays t (t.number == a.table) refl all.0 more.0, holds_after ts all.1 more.1)

@@ -1,7 +1,3 @@
-pub mod Used
-pub mod UsingLemmas
-pub mod Changed
-pub mod Sorting
 pub mod EffectLemmas
 pub mod RowLemmas
 pub mod TableLemmas

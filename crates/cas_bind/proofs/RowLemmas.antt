@@ -23,23 +23,19 @@ use Rattle.cql_parse.specs.declared.syntax.Statement.TheVariants as statement
 use Rattle.cas_bind.specs.Changes.{bound_change}
 use Rattle.cas_bind.specs.Inner.Gives.{WriteGives, ReadGives}
 use Rattle.cas_bind.specs.Meaning.{change_means, select_means}
-use Rattle.cas_bind.specs.RowFaults.{is_outside, follows_no_order, reads_outside_limits, has_bad_restriction}
-use Rattle.cas_bind.specs.RowReasons.{row_reasons}
+use Rattle.cas_reasons.specs.RowFaults.{is_outside, follows_no_order, reads_outside_limits, has_bad_restriction}
+use Rattle.cas_reasons.specs.RowReasons.{row_reasons}
 use Rattle.cas_bind.specs.Selects.{bound_select, read_too_large}
-use Rattle.cas_bind.specs.Statements.{key_terms_of, uses_of, timestamp_in, ttl_in}
+use Rattle.cas_reasons.specs.Statements.{key_terms_of, uses_of, timestamp_in, ttl_in}
 use Rattle.cas_bind.specs.declared.bound.Bound.{Bound}
 use Rattle.cas_bind.specs.declared.bound.Bound.TheVariants as bound
-use Rattle.cas_bind.specs.declared.selects.TheConstants.{GREATEST_LIMIT}
+use Rattle.cas_types.specs.declared.limits.TheConstants.{ROW_LIMIT}
 
 pub too_large_cons : (v : List ℕ) (vs : List (List ℕ)) → too_large (v ∷ vs) ≡ option_or (too_large (v ∷ [])) (too_large vs)
 too_large_cons = large_values.too_large_cons
 
 pub too_large_append : (vs ws : List (List ℕ)) → too_large (vs ++ ws) ≡ option_or (too_large vs) (too_large ws)
 too_large_append = large_values.too_large_append
-
-pub or_true_between : (a b : Bool) → (a || (true || b)) ≡ true
-or_true_between true b = refl
-or_true_between false b = refl
 
 -- all reasons but the last two, in their order
 abbrev early : Reasons → List (Option Refusal)
@@ -92,10 +88,10 @@ third false false true d e = cc
 third false false false d e = refl
 
 -- and the LIMIT too
-pub select_good : (t : TableSchema) (s : Select) → refusal_for (row_reasons t None (statement.Select s)) ≡ None → is_outside (pos 1) GREATEST_LIMIT s.limit ≡ false
+pub select_good : (t : TableSchema) (s : Select) → refusal_for (row_reasons t None (statement.Select s)) ≡ None → is_outside (pos 1) (pos ROW_LIMIT) s.limit ≡ false
 unfolding row_reasons has_bad_restriction reads_outside_limits
 select_good t s e =
-    third (not (restricts extent.Slice t.columns s.relations)) (follows_no_order t.columns s.order) (is_outside (pos 1) GREATEST_LIMIT s.limit) (is_some s.after || is_some s.page)
+    third (not (restricts extent.Slice t.columns s.relations)) (follows_no_order t.columns s.order) (is_outside (pos 1) (pos ROW_LIMIT) s.limit) (is_some s.after || is_some s.page)
     (restricts_well (row_reasons t None (statement.Select s)) e)
 
 -- ---- what a statement means, from its early reasons and its bound form

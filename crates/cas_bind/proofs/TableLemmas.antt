@@ -4,7 +4,6 @@ use Rattle.std.specs.List.{find, All, AllByRecursion}
 use Rattle.std.specs.Option.{IfSome}
 use Rattle.std.specs.Str.{bytes_eq}
 use Rattle.std.proofs.lemmas.List.Elements.{recursion_from_All}
-use Rattle.cas_types.specs.Limits.{IsNarrow}
 use Rattle.cas_types.specs.declared.schema.TableSchema.{TableSchema}
 use Rattle.cas_terms.specs.Columns.{is_local, table_named}
 use Rattle.cql_parse.specs.declared.syntax.TableName.{TableName}
@@ -22,8 +21,7 @@ module _ {X : Type 0} (P : X → Type 0) where
   if_any true o p = p
   if_any false o p = tt
 
-pub named_narrow : (tables : List TableSchema) (n : TableName) → All (λ t. IsNarrow t.columns) tables → IfSome (table_named tables n) (λ t. IsNarrow t.columns)
+pub named_holds : (P : TableSchema → Type 0) (tables : List TableSchema) (n : TableName) → All P tables → IfSome (table_named tables n) P
 unfolding table_named
-named_narrow tables n all =
-    if_any (λ t. IsNarrow t.columns) (is_local n.keyspace) (find (λ t. bytes_eq t.name n.name) tables)
-    (found (λ t. IsNarrow t.columns) (λ t. bytes_eq t.name n.name) tables (recursion_from_All (λ t. IsNarrow t.columns) tables all))
+named_holds P tables n all =
+    if_any P (is_local n.keyspace) (find (λ t. bytes_eq t.name n.name) tables) (found P (λ t. bytes_eq t.name n.name) tables (recursion_from_All P tables all))

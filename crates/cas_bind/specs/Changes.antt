@@ -1,7 +1,7 @@
 -- What INSERT, UPDATE and DELETE do to a partition.
 -- CQL documentation, "Data manipulation: INSERT, UPDATE, DELETE; USING TIMESTAMP and USING TTL" and "Data definition: static columns".
-use Rattle.std.specs.Prelude.{ℕ, Bool, true, false, ◌&&◌, List, [], ◌∷◌, ◌++◌, Option, None, Some, option_map, unwrap_or, unsigned_abs, if◌then◌else◌}
-use Rattle.std.specs.List.{flat_map, list_all, list_any}
+use Rattle.std.specs.Prelude.{ℕ, Bool, List, [], ◌∷◌, ◌++◌, Option, None, Some, option_map, unwrap_or, unsigned_abs, if◌then◌else◌}
+use Rattle.std.specs.List.{flat_map}
 use Rattle.cas_types.specs.Keys.{shard_of}
 use Rattle.cas_types.specs.Schemas.{is_static, is_key, is_plain, type_or_blob}
 use Rattle.cas_types.specs.declared.schema.Column.{Column}
@@ -17,41 +17,17 @@ use Rattle.cql_parse.specs.declared.syntax.Assigned.TheVariants as assigned
 use Rattle.cql_parse.specs.declared.syntax.Target.{Target}
 use Rattle.cql_parse.specs.declared.syntax.Relation.{Relation}
 use Rattle.cas_bounds.specs.ClusteringOrder.{clustering_order}
-use Rattle.cas_terms.specs.Columns.{located, names_static, names_partition, clustering_columns, column_ref}
+use Rattle.cas_terms.specs.Columns.{located, clustering_columns, column_ref}
 use Rattle.cas_terms.specs.Constants.{constant_bytes}
 use Rattle.cas_where.specs.KeyTerms.{TermOf, term_in_where, prefix_values, partition_key}
 use Rattle.cas_where.specs.Slices.{slice_of}
-use Rattle.cas_bind.specs.Statements.{Change, assigns, deletes, key_terms_of, uses_of, timestamp_in, ttl_in, changes_of}
+use Rattle.cas_reasons.specs.Extents.{inserts_static}
+use Rattle.cas_reasons.specs.Statements.{Change, assigns, deletes, key_terms_of, uses_of, timestamp_in, ttl_in, changes_of}
 use Rattle.cas_terms.specs.Terms.{term_value, given_elements, whole_elements, prepended_elements, removed_elements, entry_elements}
 use Rattle.cas_where.specs.Where.{is_clustering_free, is_clustering_fixed}
-use Rattle.cas_where.specs.declared.restrictions.Extent.{Extent}
-use Rattle.cas_where.specs.declared.restrictions.Extent.TheVariants as extent
 use Rattle.cas_effects.specs.declared.effect.BoundWrite.{BoundWrite}
 use Rattle.cas_effects.specs.declared.effect.Effect.{Effect}
 use Rattle.cas_effects.specs.declared.effect.Effect.TheVariants as effect
-
--- ---- which rows a statement is of
-
--- an INSERT that names static columns, and beside them the partition key alone, is one of the static row
-unfoldable pub inserts_static : List Column → List (List ℕ) → Bool
-inserts_static cs names = list_any (names_static cs) names && list_all (λ n. if names_partition cs n then true else names_static cs n) names
-
--- of the static row, or of one row
-abbrev pub static_or_row : Bool → Extent
-static_or_row true = extent.StaticRow
-static_or_row false = extent.Row
-
--- DELETE FROM deletes rows; DELETE of static columns alone is of the static row, and DELETE of others of one row
-abbrev pub deletes_in : List Column → List Target → Extent
-deletes_in cs [] = extent.Slice
-deletes_in cs (t ∷ ts) = static_or_row (list_all (λ x. names_static cs x.column) (t ∷ ts))
-
--- an INSERT and an UPDATE are of one row, or of the static row where they change static columns alone; a SELECT is of a slice of rows
-unfoldable pub extent_of : List Column → Statement → Extent
-extent_of cs (statement.Insert i) = static_or_row (inserts_static cs i.columns)
-extent_of cs (statement.Update u) = static_or_row (list_all (λ a. names_static cs a.column) u.assignments)
-extent_of cs (statement.Delete d) = deletes_in cs d.targets
-extent_of cs _ = extent.Slice
 
 -- ---- what becomes of a column
 

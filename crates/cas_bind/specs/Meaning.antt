@@ -14,7 +14,7 @@ use Rattle.cql_parse.specs.declared.syntax.Select.{Select}
 use Rattle.cql_parse.specs.declared.syntax.Statement.{Statement}
 use Rattle.cql_parse.specs.declared.syntax.Statement.TheVariants as statement
 use Rattle.cas_bind.specs.Changes.{bound_change}
-use Rattle.cas_bind.specs.RowReasons.{row_reasons}
+use Rattle.cas_reasons.specs.RowReasons.{row_reasons}
 use Rattle.cas_bind.specs.Selects.{bound_select, read_too_large}
 use Rattle.cas_bind.specs.declared.bound.Bound.{Bound}
 use Rattle.cas_bind.specs.declared.bound.Bound.TheVariants as bound

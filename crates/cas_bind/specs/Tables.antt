@@ -4,6 +4,7 @@ use Rattle.std.specs.Prelude.{◌≡◌, ℕ, ◌==◌, ◌+◌, ◌<◌, ◌≤
 use Rattle.cas_types.specs.declared.schema.TableSchema.{TableSchema}
 use Rattle.cas_types.specs.Limits.{IsNarrow}
 use Rattle.cas_types.specs.declared.limits.TheConstants.{LEAST_TIMESTAMP}
+use Rattle.cas_define.specs.IsTable.{IsTable}
 use Rattle.cas_define.specs.declared.addition.Addition.{Addition}
 use Rattle.cas_bind.specs.declared.bound.Bound.{Bound}
 use Rattle.cas_bind.specs.declared.bound.Bound.TheVariants as bound
@@ -24,10 +25,11 @@ abbrev pub AreInPlace : ℕ → List TableSchema → Type 0
 AreInPlace n [] = ⊤
 AreInPlace n (t ∷ ts) = (t.number ≡ n) × AreInPlace (n + 1) ts
 
--- tables as CREATE TABLE and ALTER TABLE make them
+-- tables as CREATE TABLE and ALTER TABLE make them, each at its number
 pub record AreTables (ts : List TableSchema) : Type 0 where
   pub narrow : All (λ t. IsNarrow t.columns) ts
   pub numbered : AreInPlace 0 ts
+  pub each : All IsTable ts
 
 -- a write and a read are of one of the shards, a write's own timestamp is in its range, a read's table is narrow
 abbrev pub IsWithin : ℕ → Bound → Type 0

@@ -6,13 +6,12 @@ ghost use Rattle.cas_types.specs.Limits.{IsNarrow};
 ghost use Rattle.cas_where.specs.Inner.Sources.{terms_of};
 ghost use Rattle.cas_bind.specs.Changes.{row_for, whole_effect, assigned_effect, deleted_effect, column_effect, change_effects};
 ghost use Rattle.cas_bind.specs.Changes.{clustered_row, deletion_effect, live_effect, deletion_effects, row_effects, effects_of};
-ghost use Rattle.cas_bind.specs.Inner.Gives.{change_in};
-ghost use Rattle.cas_bind.specs.Statements.{assigns, deletes, inserted, key_terms_of, changes_of};
+ghost use Rattle.cas_reasons.specs.Inner.Borrowed.{change_in};
+ghost use Rattle.cas_reasons.specs.Statements.{assigns, deletes, inserted, key_terms_of, changes_of};
 
-use crate::extents::inserts_static;
-use crate::statements::key_terms_of;
 use cas_bounds::{Clustering, clustering_order};
 use cas_effects::Effect;
+use cas_reasons::{RowChange, inserts_static, key_terms_of};
 use cas_terms::{
     column_ref, constant_bytes, entry_elements, given_elements, located, prepended_elements,
     removed_elements, term_value, whole_elements,
@@ -21,17 +20,6 @@ use cas_types::{Column, List, Text};
 use cas_where::{KeyTerms, is_clustering_fixed, is_clustering_free, prefix_values, slice_of};
 use cql_parse::{Assigned, Assignment, Constant, Relation, Statement, Target, Term};
 use std::alloc::{AllocError, Global};
-
-/// What a statement does to one column.
-#[derive(Clone, Copy)]
-pub(crate) enum RowChange<'a> {
-    /// An INSERT gives it the term.
-    Insert(&'a Term),
-    /// An UPDATE assigns it this.
-    Assign(&'a Assigned),
-    /// A DELETE deletes it, or its entry at the key.
-    Delete(&'a Option<Constant>),
-}
 
 /// The row with the values of the clustering columns.
 pub(crate) fn clustered_row(
@@ -244,7 +232,7 @@ fn push_deleted(
     Ok(())
 }
 
-#[tactic(auto, using(crate::proofs::EffectLemmas::flat_map_map, crate::proofs::EffectLemmas::and_nothing), unfolding(crate::specs::Statements::changes_of))]
+#[tactic(auto, using(crate::proofs::EffectLemmas::flat_map_map, crate::proofs::EffectLemmas::and_nothing, crate::proofs::EffectLemmas::inserted_changes, crate::proofs::EffectLemmas::updated_changes, crate::proofs::EffectLemmas::deleted_changes, crate::proofs::EffectLemmas::created_changes, crate::proofs::EffectLemmas::altered_changes, crate::proofs::EffectLemmas::selected_changes))]
 fn push_changes(
     alloc: Global,
     columns: &[Column],

@@ -4,15 +4,9 @@
 
 mod bound;
 mod effects;
-mod extents;
 mod meaning;
 mod reads;
-mod row_reasons;
 mod selects;
-mod statements;
-mod twice;
-mod types_used;
-mod using;
 mod writes;
 
 pub use bound::{Bound, BoundRead, Limits};

@@ -1,6 +1,6 @@
 //! What a SELECT asks of a partition, and whether it is done.
 
-ghost use Rattle.std.specs.Prelude.{◌≡◌, None, pos, not, false, option_map, unsigned_abs, IfOk};
+ghost use Rattle.std.specs.Prelude.{◌≡◌, None, pos, not, false, IfOk};
 ghost use Rattle.cas_types.specs.Limits.{IsNarrow, IsShardCount};
 ghost use Rattle.cas_define.specs.Outcomes.{Binds, outcome};
 ghost use Rattle.cas_terms.specs.Columns.{clustering_columns};
@@ -8,19 +8,19 @@ ghost use Rattle.cas_where.specs.KeyTerms.{term_in_where, partition_key};
 ghost use Rattle.cas_where.specs.Slices.{follows_order};
 ghost use Rattle.cas_bind.specs.Inner.Gives.{ReadGives};
 ghost use Rattle.cas_bind.specs.Meaning.{select_means};
-ghost use Rattle.cas_bind.specs.RowFaults.{is_outside};
-ghost use Rattle.cas_bind.specs.RowReasons.{row_reasons};
+ghost use Rattle.cas_reasons.specs.RowFaults.{is_outside};
+ghost use Rattle.cas_reasons.specs.RowReasons.{row_reasons};
 ghost use Rattle.cas_effects.specs.Refusals.{refusal_for};
 ghost use Rattle.cas_bind.specs.Selects.{bound_select, read_too_large};
 ghost use Rattle.cas_bind.specs.declared.bound.Bound.TheVariants as bounds;
-ghost use Rattle.cas_bind.specs.declared.selects.TheConstants.{GREATEST_LIMIT};
+ghost use Rattle.cas_types.specs.declared.limits.TheConstants.{ROW_LIMIT};
 ghost use Rattle.cql_parse.specs.declared.syntax.Statement.TheVariants as statements;
 
 use crate::bound::{Bound, BoundRead};
-use crate::row_reasons::row_refusal;
 use crate::selects::asked_by;
 use cas_atoms::Query;
 use cas_effects::{BindFault, Refusal, any_too_large, either, one_too_large};
+use cas_reasons::{row_limit, row_refusal};
 use cas_types::{Bytes, Column, List, TableSchema, shard_of};
 use cas_where::{KeyTerms, follows_order, partition_key, slice_of};
 use cql_parse::{ColumnOrder, Select, Statement};
@@ -50,18 +50,6 @@ fn is_reversed(columns: &[Column], order: &[ColumnOrder]) -> bool
     !follows_order(false, columns, order)
 }
 
-// The number of rows that a LIMIT leaves at most.
-#[tactic(auto, unfolding(crate::specs::RowFaults::is_outside))]
-fn row_limit(limit: Option<i128>) -> Option<u32>
-    requires { is_outside (pos 1) GREATEST_LIMIT limit ≡ false }
-    ensures { result ≡ option_map unsigned_abs limit }
-{
-    match limit {
-        Some(limit) => Some(limit as u32),
-        None => None,
-    }
-}
-
 #[tactic(auto, unfolding(crate::specs::Selects::bound_select))]
 fn select_of_key(
     alloc: Global,
@@ -72,7 +60,7 @@ fn select_of_key(
 ) -> Result<BoundRead, AllocError>
     requires shards { IsShardCount shards }
     requires narrow { IsNarrow table.now.columns }
-    requires limit { is_outside (pos 1) GREATEST_LIMIT select.now.limit ≡ false }
+    requires limit { is_outside (pos 1) (pos ROW_LIMIT) select.now.limit ≡ false }
     requires key { key ≡ partition_key (term_in_where select.now.relations) table.now.columns }
     ensures { IfOk result (λ r. r ≡ bound_select shards table.now select.now) }
 {
@@ -100,7 +88,7 @@ fn bound_select(
 ) -> Result<BoundRead, BindFault>
     requires shards { IsShardCount shards }
     requires narrow { IsNarrow table.now.columns }
-    requires limit { is_outside (pos 1) GREATEST_LIMIT select.now.limit ≡ false }
+    requires limit { is_outside (pos 1) (pos ROW_LIMIT) select.now.limit ≡ false }
     ensures { ReadGives result (bound_select shards table.now select.now) }
 {
     let terms = KeyTerms::Where(select.relations.as_slice());

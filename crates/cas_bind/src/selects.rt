@@ -17,9 +17,6 @@ use cql_parse::{Pick, Picks};
 use std::alloc::{AllocError, Global};
 use std::collections::BTreeMap;
 
-/// The greatest number that LIMIT takes.
-pub(crate) const GREATEST_LIMIT: i128 = (1 << 31) - 1;
-
 fn number_from(number: u16, columns: &[Column], name: &str) -> u16
     requires { number + length columns.now ≤ 65535 }
     ensures { result ≡ number + position_or_len (λ c. bytes_eq c.name name.now) columns.now }

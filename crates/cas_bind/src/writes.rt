@@ -7,23 +7,39 @@ ghost use Rattle.cas_define.specs.Outcomes.{Binds, outcome};
 ghost use Rattle.cas_effects.specs.TooLarge.{write_too_large};
 ghost use Rattle.cas_where.specs.KeyTerms.{partition_key};
 ghost use Rattle.cas_where.specs.Inner.Sources.{terms_of};
-ghost use Rattle.cas_bind.specs.Changes.{bound_change};
+ghost use Rattle.cas_bind.specs.Changes.{bound_change, time_to_live};
 ghost use Rattle.cas_bind.specs.Inner.Gives.{WriteGives};
 ghost use Rattle.cas_bind.specs.Meaning.{change_means};
-ghost use Rattle.cas_bind.specs.RowFaults.{is_outside};
-ghost use Rattle.cas_bind.specs.Statements.{key_terms_of, uses_of, timestamp_in, ttl_in};
+ghost use Rattle.cas_reasons.specs.RowFaults.{is_outside};
+ghost use Rattle.cas_reasons.specs.Statements.{key_terms_of, uses_of, timestamp_in, ttl_in};
 ghost use Rattle.cas_bind.specs.declared.bound.Bound.TheVariants as bounds;
 
 use crate::bound::Bound;
 use crate::effects::effects_of;
-use crate::row_reasons::row_refusal;
-use crate::statements::key_terms_of;
-use crate::using::{stated_timestamp, time_to_live, timestamp_in_range};
 use cas_effects::{BindFault, BoundWrite, write_too_large};
+use cas_reasons::{
+    key_terms_of, row_refusal, stated_timestamp, stated_ttl, timestamp_in_range, ttl_or,
+};
 use cas_types::{Bytes, TableSchema, shard_of};
 use cas_where::partition_key;
 use cql_parse::Statement;
 use std::alloc::{AllocError, Global};
+
+/// How many seconds live what the statement writes, where its TTL is in range.
+#[tactic(auto, unfolding(crate::specs::Changes::time_to_live))]
+fn time_to_live(table: &TableSchema, statement: &Statement) -> u32
+    requires { is_outside (pos 0) (pos TTL_LIMIT) (ttl_in (uses_of statement.now)) ≡ false }
+    ensures { result ≡ time_to_live table.now statement.now }
+{
+    match statement {
+        Statement::Delete(_) => 0,
+        Statement::Create(_) => ttl_or(table.options.default_time_to_live, stated_ttl(statement)),
+        Statement::Alter(_) => ttl_or(table.options.default_time_to_live, stated_ttl(statement)),
+        Statement::Insert(_) => ttl_or(table.options.default_time_to_live, stated_ttl(statement)),
+        Statement::Update(_) => ttl_or(table.options.default_time_to_live, stated_ttl(statement)),
+        Statement::Select(_) => ttl_or(table.options.default_time_to_live, stated_ttl(statement)),
+    }
+}
 
 #[tactic(auto, unfolding(crate::specs::Changes::bound_change))]
 fn change_of_key(

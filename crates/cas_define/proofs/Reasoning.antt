@@ -19,22 +19,29 @@ use Rattle.cas_define.specs.Schemas.{columns_of, added_column}
 use Rattle.cas_define.specs.CreateReasons.{create_reasons}
 use Rattle.cas_define.specs.AlterReasons.{alter_reasons}
 
-last_is_none : (rs : List (Option Refusal)) (o : Option Refusal) → first_of (rs ++ o ∷ []) ≡ None → o ≡ None
-last_is_none [] None e = refl
-last_is_none [] (Some r) e = e
-last_is_none (None ∷ rs) o e = last_is_none rs o e
-last_is_none (Some s ∷ rs) o e = cc
+one_is_none : (rs : List (Option Refusal)) (o : Option Refusal) (qs : List (Option Refusal)) → first_of (rs ++ o ∷ qs) ≡ None → o ≡ None
+one_is_none [] None qs e = refl
+one_is_none [] (Some r) qs e = cc
+one_is_none (None ∷ rs) o qs e = one_is_none rs o qs e
+one_is_none (Some s ∷ rs) o qs e = cc
 
 -- where nothing is refused, nothing is too many
 none_too_many : (r : Reasons) → refusal_for r ≡ None → r.too_many ≡ None
 none_too_many r e =
-    last_is_none (then_some r.no_table NoTable ∷ then_some r.table_exists TableExists ∷ then_some r.bad_definition BadDefinition ∷ then_some r.no_column NoColumn
+    one_is_none (then_some r.no_table NoTable ∷ then_some r.table_exists TableExists ∷ then_some r.bad_definition BadDefinition ∷ then_some r.no_column NoColumn
     ∷ then_some r.bad_option BadOption ∷ then_some r.wrong_type WrongType ∷ then_some r.empty_key EmptyKey ∷ then_some r.missing_key MissingKey
-    ∷ then_some r.bad_restriction BadRestriction ∷ then_some r.ttl_too_large TtlTooLarge ∷ r.too_large ∷ []) r.too_many e
+    ∷ then_some r.bad_restriction BadRestriction ∷ then_some r.ttl_too_large TtlTooLarge ∷ r.too_large ∷ []) r.too_many [] e
 
 is_false : {X : Type 0} (b : Bool) (x : X) → then_some b x ≡ None → b ≡ false
 is_false true x e = cc
 is_false false x e = refl
+
+-- nor is its definition a bad one
+pub none_bad : (r : Reasons) → refusal_for r ≡ None → r.bad_definition ≡ false
+none_bad r e =
+    is_false _ _ (one_is_none (then_some r.no_table NoTable ∷ then_some r.table_exists TableExists ∷ []) (then_some r.bad_definition BadDefinition)
+    (then_some r.no_column NoColumn ∷ then_some r.bad_option BadOption ∷ then_some r.wrong_type WrongType ∷ then_some r.empty_key EmptyKey
+    ∷ then_some r.missing_key MissingKey ∷ then_some r.bad_restriction BadRestriction ∷ then_some r.ttl_too_large TtlTooLarge ∷ r.too_large ∷ r.too_many ∷ []) e)
 
 first_is_none : {X : Type 0} (o p : Option X) → option_or o p ≡ None → o ≡ None
 first_is_none None p e = refl

@@ -36,11 +36,11 @@ orders_fit ns options = list_all (order_fits ns) options && nat_le (length (filt
 unfoldable pub statics_fit : List (List ℕ) → List DefinedColumn → Bool
 statics_fit ns ds = nat_lt 0 (length ns) || not (list_any (λ d. d.is_static) ds)
 
--- the table can have the key: each of its columns may be one, and stands in it once
+-- the table can have the key: it begins with a partition key, and each of its columns may be one, and stands in it once
 unfoldable pub key_fits_table : CreateTable → PrimaryKey → Bool
 key_fits_table c k =
-    list_all (may_be_key (columns_defined c.items)) (key_names k) && (not (stands_twice (key_names k))
-    && (orders_fit k.clustering c.options && statics_fit k.clustering (columns_defined c.items)))
+    nat_lt 0 (length k.partition) && (list_all (may_be_key (columns_defined c.items)) (key_names k) && (not (stands_twice (key_names k))
+    && (orders_fit k.clustering c.options && statics_fit k.clustering (columns_defined c.items))))
 
 -- just one PRIMARY KEY, which the table can have
 unfoldable pub one_key_fits : CreateTable → List PrimaryKey → Bool

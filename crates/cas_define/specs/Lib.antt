@@ -4,5 +4,6 @@ pub mod AlterReasons
 pub mod Options
 pub mod Settings
 pub mod Schemas
+pub mod IsTable
 pub mod Limits
 pub mod Outcomes

@@ -5,6 +5,7 @@ ghost use Rattle.std.specs.List.{list_all, list_any};
 ghost use Rattle.cas_types.specs.Limits.{IsNarrow};
 ghost use Rattle.cas_terms.specs.Columns.{clustering_columns};
 ghost use Rattle.cas_define.specs.AlterReasons.{is_new_name, alter_is_malformed, alter_reasons, alter_means};
+ghost use Rattle.cas_define.specs.IsTable.{IsTable};
 ghost use Rattle.cas_define.specs.Limits.{too_many_columns};
 ghost use Rattle.cas_define.specs.Outcomes.{Binds};
 
@@ -101,7 +102,7 @@ fn alter_reasons(
 }
 
 /// What the ALTER TABLE adds to the table, or why it is refused. With it the table has no more columns
-/// than a table may have.
+/// than a table may have, and it is again as every table is.
 #[tactic(auto, unfolding(crate::specs::AlterReasons::alter_means, crate::specs::Schemas::addition_of), using(crate::proofs::Reasoning::few_together))]
 pub fn bind_alter(
     alloc: Global,
@@ -111,6 +112,7 @@ pub fn bind_alter(
     ensures means { Binds result (alter_means table.now alter.now) }
     ensures narrow { IfOk result (λ a. IsNarrow (table.now.columns ++ a.columns)) }
     ensures numbered { IfOk result (λ a. a.table ≡ table.now.number) }
+    ensures table { IfOk result (λ a. IsTable table.now → IsTable (record table.now { columns = table.now.columns ++ a.columns })) }
 {
     let reasons = alter_reasons(alloc, table, alter)?;
     match reasons.refusal() {

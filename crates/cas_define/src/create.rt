@@ -9,6 +9,7 @@ ghost use Rattle.cas_define.specs.Limits.{has_name_length};
 ghost use Rattle.cas_define.specs.CreateTests.{may_be_key, order_fits, is_order, orders_fit, statics_fit, key_fits_table, one_key_fits};
 ghost use Rattle.cas_define.specs.CreateTests.{names_defined, option_name, option_names, create_is_malformed};
 ghost use Rattle.cas_define.specs.CreateReasons.{create_reasons, create_means};
+ghost use Rattle.cas_define.specs.IsTable.{IsTable};
 ghost use Rattle.cas_define.specs.Outcomes.{Binds};
 
 use crate::limits::{has_name_length, is_table_name, too_many_columns, too_many_tables};
@@ -110,9 +111,10 @@ fn key_fits_table(
     let clustering = key.clustering.as_slice();
     let options = create.options.as_slice();
     Ok(
-        all_may_be_key(columns, &names)
-            && (!stands_twice(&names)
-                && (orders_fit(clustering, options) && statics_fit(clustering, columns))),
+        0 < key.partition.as_slice().len()
+            && (all_may_be_key(columns, &names)
+                && (!stands_twice(&names)
+                    && (orders_fit(clustering, options) && statics_fit(clustering, columns)))),
     )
 }
 
@@ -220,8 +222,8 @@ fn create_reasons(
     })
 }
 
-/// The table that the CREATE TABLE makes, or why it is refused. The table stands at its number, and it
-/// has no more columns than a table may have.
+/// The table that the CREATE TABLE makes, or why it is refused. The table stands at its number, it has
+/// no more columns than a table may have, and it is as every table is.
 #[tactic(auto, unfolding(crate::specs::CreateReasons::create_means), using(crate::proofs::Reasoning::few_tables, crate::proofs::Reasoning::few_columns))]
 pub fn bind_create(
     alloc: Global,
@@ -231,6 +233,7 @@ pub fn bind_create(
     ensures means { Binds result (create_means tables.now create.now) }
     ensures narrow { IfOk result (λ t. IsNarrow t.columns) }
     ensures numbered { IfOk result (λ t. t.number ≡ length tables.now) }
+    ensures table { IfOk result (λ t. IsTable t) }
 {
     let columns = columns_of(alloc, create)?;
     let reasons = create_reasons(alloc, tables, create, columns.len())?;

@@ -3,6 +3,7 @@
 ghost use Rattle.std.specs.Prelude.{◌≡◌, ◌≤◌, ◌<◌, ◌^◌, codes, IfSome};
 ghost use Rattle.std.specs.Option.{option_copied};
 ghost use Rattle.std.specs.List.{find, list_all};
+ghost use Rattle.cas_types.specs.declared.limits.TheConstants.{TTL_LIMIT};
 ghost use Rattle.cas_define.specs.Settings.{value_or, is_readable};
 ghost use Rattle.cas_define.specs.Options.{is_option_named, value_given, option_given, is_known_option, whole_option, map_option};
 ghost use Rattle.cas_define.specs.Options.{compaction_given, options_fit, options_of, suboption_number};
@@ -90,7 +91,8 @@ fn whole_option(range: &OptionRange, value: &OptionValue) -> Option<u64>
 fn seconds_given(options: &[TableOption], name: &str, range: &OptionRange) -> u32
     requires default { range.now.default ≤ range.now.greatest }
     requires greatest { range.now.greatest < 2 ^ 32 }
-    ensures { result ≡ value_or (whole_option range.now) range.now.default (option_given name.now options.now) }
+    ensures given { result ≡ value_or (whole_option range.now) range.now.default (option_given name.now options.now) }
+    ensures within { result ≤ range.now.greatest }
 {
     match option_given(name, options) {
         Some(value) => whole_option(range, value).unwrap_or(range.default) as u32,
@@ -158,7 +160,8 @@ fn hundredths(given: &[Suboption], name: &str, range: &OptionRange) -> u32
 /// The options of a table, by what a CREATE TABLE gives them.
 #[tactic(auto, unfolding(crate::specs::Options::options_of))]
 pub(crate) fn options_of(options: &[TableOption]) -> Options
-    ensures { result ≡ options_of options.now }
+    ensures given { result ≡ options_of options.now }
+    ensures lives { result.default_time_to_live ≤ TTL_LIMIT }
 {
     let given = compaction_given(options);
     Options {

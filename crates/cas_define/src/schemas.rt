@@ -1,9 +1,10 @@
 //! The table that a CREATE TABLE makes, and the columns that an ALTER TABLE adds.
 
-ghost use Rattle.std.specs.Prelude.{◌≡◌, ◌<◌, ◌^◌, ◌++◌, length, map, slice_get, IfOk};
+ghost use Rattle.std.specs.Prelude.{◌≡◌, ◌<◌, ◌≤◌, ◌^◌, ◌++◌, length, map, slice_get, IfOk};
 ghost use Rattle.std.specs.Str.{bytes_eq};
 ghost use Rattle.std.specs.List.{filter_map, list_any};
 ghost use Rattle.std.specs.Option.{option_map_or};
+ghost use Rattle.cas_types.specs.declared.limits.TheConstants.{TTL_LIMIT};
 ghost use Rattle.cas_define.specs.Schemas.{shape_of, first_type, second_type, column_of, columns_defined, orders_descending, other_kind, key_kind, key_column};
 ghost use Rattle.cas_define.specs.Schemas.{key_names, other_column, columns_with, columns_of, schema_of, added_column, addition_of};
 
@@ -197,6 +198,7 @@ pub(crate) fn schema_of(
     ensures made { IfOk result (λ t. t ≡ schema_of tables.now create.now) }
     ensures numbered { IfOk result (λ t. t.number ≡ length tables.now) }
     ensures columns { IfOk result (λ t. t.columns ≡ columns_of create.now) }
+    ensures lives { IfOk result (λ t. t.options.default_time_to_live ≤ TTL_LIMIT) }
 {
     Ok(TableSchema {
         number: tables.len() as u16,

@@ -2,7 +2,7 @@
 use Rattle.std.proofs.Common.{◌≡◌, ◌≤◌, ◌+◌, ℕ, ℤ, List, [], ◌∷◌, ◌++◌, map, length, refl, sym, ap, ◌∙◌, subst, arith}
 use Rattle.std.proofs.lemmas.Int.{ints}
 use Rattle.std.proofs.lemmas.List.{length-map, length-replicate, replicate-append-replicate}
-use Rattle.std.proofs.lemmas.List.Elements.{All-replicate}
+use Rattle.std.proofs.lemmas.List.Elements.{All-nil, All-replicate}
 use Rattle.std.specs.Prelude.{All, replicate}
 use Rattle.cas_bind.specs.declared.bound.Limits.{Limits}
 use Rattle.cas_types.specs.Limits.{IsShardCount}
@@ -22,7 +22,7 @@ all_sound n = All-replicate IsShardOpening n empty_shard shard_sound
 
 pub empty_sound : (l : Limits) → IsShardCount l.shards → IsOpening (empty_opening l)
 unfolding empty_opening
-empty_sound l i = record { tables = record { narrow = λ k d h. absurd (omega arith); numbered = tt }; count = length-replicate l.shards empty_shard; some = i; shards = all_sound l.shards }
+empty_sound l i = record { tables = record { narrow = All-nil _; numbered = tt; each = All-nil _ }; count = length-replicate l.shards empty_shard; some = i; shards = all_sound l.shards }
 
 pub start_sound : (o : Opening) → IsOpening o → IsSound (start o)
 unfolding start

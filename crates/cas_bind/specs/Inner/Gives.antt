@@ -2,14 +2,10 @@
 use Rattle.std.specs.Prelude.{◌≡◌, Some, Result, Ok, Err}
 use Rattle.cas_effects.specs.TooLarge.{write_too_large}
 use Rattle.cas_bind.specs.Selects.{read_too_large}
-use Rattle.cas_bind.specs.Statements.{Change, assigns, deletes}
 use Rattle.cas_effects.specs.declared.effect.BoundWrite.{BoundWrite}
 use Rattle.cas_bind.specs.declared.bound.BoundRead.{BoundRead}
-use Rattle.cas_bind.specs.declared.effects.RowChange.{RowChange}
-use Rattle.cas_bind.specs.declared.effects.RowChange.TheVariants as row_change
 use Rattle.cas_effects.specs.declared.refusal.BindFault.{BindFault}
 use Rattle.cas_effects.specs.declared.refusal.BindFault.TheVariants as fault
-use Rattle.cql_parse.specs.declared.syntax.Assigned.TheVariants as assigned
 
 -- a bound write, unless memory ran out or the write's key is too large
 abbrev pub WriteGives : Result BoundWrite BindFault → BoundWrite → Type 0
@@ -22,9 +18,3 @@ abbrev pub ReadGives : Result BoundRead BindFault → BoundRead → Type 0
 ReadGives (Ok r) b = r ≡ b
 ReadGives (Err (fault.Refused x)) b = read_too_large b ≡ Some x
 ReadGives (Err fault.Mem) b = Unit {0}
-
--- what the code borrows of a statement to change a column
-abbrev pub change_in : RowChange → Change
-change_in (row_change.Insert t) = assigns (assigned.Whole t.now)
-change_in (row_change.Assign a) = assigns a.now
-change_in (row_change.Delete k) = deletes k.now

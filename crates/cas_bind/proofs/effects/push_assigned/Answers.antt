@@ -1,6 +1,6 @@
 use Rattle.std.proofs.Common.{◌++◌, ◌∙◌, ap}
 use Rattle.cas_bind.specs.Changes.{change_effects}
-use Rattle.cas_bind.specs.Statements.{assigns}
+use Rattle.cas_reasons.specs.Statements.{assigns}
 use Rattle.cas_bind.proofs.EffectLemmas.{pushed_step}
 use Rattle.cas_bind.proofs.effects.push_assigned.Goals as goal
 

@@ -1,6 +1,6 @@
 use Rattle.std.proofs.Common.{◌++◌, ◌∙◌, ap}
 use Rattle.cas_bind.specs.Changes.{change_effects}
-use Rattle.cas_bind.specs.Statements.{deletes}
+use Rattle.cas_reasons.specs.Statements.{deletes}
 use Rattle.cas_bind.proofs.EffectLemmas.{pushed_step}
 use Rattle.cas_bind.proofs.effects.push_deleted.Goals as goal
 

@@ -1,6 +1,6 @@
 use Rattle.std.proofs.Common.{◌≡◌, None, IfOk, subst}
 use Rattle.cas_effects.specs.Refusals.{refusal_for}
-use Rattle.cas_bind.specs.RowReasons.{row_reasons}
+use Rattle.cas_reasons.specs.RowReasons.{row_reasons}
 use Rattle.cas_bind.proofs.reads.select_refusal.Goals as goal
 
 pub returns : goal.returns

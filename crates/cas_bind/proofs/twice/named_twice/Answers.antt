@@ -1,6 +1,0 @@
-use Rattle.std.proofs.Common.{◌≡◌, subst, IfOk}
-use Rattle.cas_bind.proofs.Sorting.{names_tell}
-use Rattle.cas_bind.proofs.twice.named_twice.Goals as goal
-
-pub returns : goal.returns
-returns c = subst (λ x. IfOk c.any_two.result (λ b. b ≡ x)) (names_tell c.args.names.now _ c.in_ok-named_spots.ensures) c.any_two.ensures

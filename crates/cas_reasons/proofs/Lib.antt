@@ -1,0 +1,4 @@
+pub mod Used
+pub mod UsingLemmas
+pub mod Changed
+pub mod Sorting
