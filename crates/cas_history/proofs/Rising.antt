@@ -1,27 +1,27 @@
 -- What a list comes to doesn't fall, so who saw a beginning of the log knows of no more.
-use Rattle.std.proofs.Common.{◌≡◌, ◌≢◌, ℕ, ◌≤◌, List, [], ◌∷◌, refl, ap, sym, ◌∙◌, arith, le_refl}
+use Rattle.std.proofs.Common.{◌≡◌, ◌≢◌, ℕ, ◌<◌, ◌≤◌, List, [], ◌∷◌, refl, ap, sym, ◌∙◌, arith, le_refl}
 use Rattle.std.specs.List.{fold}
 use Rattle.std.proofs.lemmas.List.Sums.{fold-append}
 use mathlib.Core.List.{IsPrefix}
-use Rattle.cas_ledger.specs.Log.{Legal}
+use Rattle.cas_ledger.specs.Log.{Has, Legal}
 use Rattle.cas_ledger.proofs.Parts.{list_grows}
 use Rattle.cas_history.specs.declared.item.Item.{Item}
 use Rattle.cas_history.specs.declared.item.Item.TheVariants.{Found, Wrote, Purged, Faulted, Read, Rose, Drew, Began, Ended, Changed}
-use Rattle.cas_history.specs.Last.{fault_after, committed_after, first_after, moment_after, table_after, last_fault, last_committed, last_first, last_moment, last_table}
-use Rattle.cas_history.specs.Items.{items, listed, MayCome, numbers_list}
+use Rattle.cas_history.specs.Last.{number_after, last_number, fault_after, committed_after, first_after, moment_after, table_after, last_fault, last_committed, last_first, last_moment, last_table}
+use Rattle.cas_history.specs.Items.{items, listed, lists_of, MayCome, numbers_list, front_list}
 
 module _ {E : Type 0} where
   -- a number of which no entry may bring a lower one
-  rises : (r : ℕ) (f : ℕ → Item E → ℕ) → ((list : List (Item E)) (e : Item E) → MayCome r list e → fold f 0 list ≤ f (fold f 0 list) e)
+  rises : (r : ℕ) (f : ℕ → Item E → ℕ) → ((list : List (Item E)) (e : Item E) → Has (lists_of e) r → MayCome r list e → fold f 0 list ≤ f (fold f 0 list) e)
       → (p log : List (Item E)) → IsPrefix p log → Legal items log → fold f 0 (listed r p) ≤ fold f 0 (listed r log)
   rises r f up p log begin legal =
       let m = fold f 0 (listed r p) in
       list_grows items r (λ l. m ≤ fold f 0 l)
-      (λ list e low may. let u = up list e may in let a = fold-append f 0 list (e ∷ []) in omega arith)
+      (λ list e has low may. let u = up list e has may in let a = fold-append f 0 list (e ∷ []) in omega arith)
       p log begin legal (le_refl m)
 
   pub faults_rise : (r : ℕ) (p log : List (Item E)) → IsPrefix p log → Legal items log → last_fault (listed r p) ≤ last_fault (listed r log)
-  faults_rise r = rises r fault_after up
+  faults_rise r = rises r fault_after (λ list e has. up list e)
     where
       up : (list : List (Item E)) (e : Item E) → MayCome r list e → fold fault_after 0 list ≤ fault_after (fold fault_after 0 list) e
       up list (Faulted n c f) may = may.0
@@ -36,7 +36,7 @@ module _ {E : Type 0} where
       up list (Changed _ _ _ _) may = le_refl _
 
   pub committed_rises : (r : ℕ) (p log : List (Item E)) → IsPrefix p log → Legal items log → last_committed (listed r p) ≤ last_committed (listed r log)
-  committed_rises r = rises r committed_after up
+  committed_rises r = rises r committed_after (λ list e has. up list e)
     where
       up : (list : List (Item E)) (e : Item E) → MayCome r list e → fold committed_after 0 list ≤ committed_after (fold committed_after 0 list) e
       up list (Faulted n c f) may = may.1
@@ -51,10 +51,10 @@ module _ {E : Type 0} where
       up list (Changed _ _ _ _) may = le_refl _
 
   pub moments_rise : (r : ℕ) (p log : List (Item E)) → IsPrefix p log → Legal items log → last_moment (listed r p) ≤ last_moment (listed r log)
-  moments_rise r = rises r moment_after up
+  moments_rise r = rises r moment_after (λ list e has. up list e)
     where
       up : (list : List (Item E)) (e : Item E) → MayCome r list e → fold moment_after 0 list ≤ moment_after (fold moment_after 0 list) e
-      up list (Found _ n) may = let none : last_moment list ≡ 0 = ap last_moment may in omega arith
+      up list (Found _ n) may = let none : last_moment list ≡ 0 = ap last_moment may.1 in omega arith
       up list (Rose _ _ _) may = let l = may.1 in omega arith
       up list (Faulted _ _ _) may = le_refl _
       up list (Wrote _ _ _ _ _) may = le_refl _
@@ -66,10 +66,10 @@ module _ {E : Type 0} where
       up list (Changed _ _ _ _) may = le_refl _
 
   pub tables_rise : (p log : List (Item E)) → IsPrefix p log → Legal items log → last_table (listed numbers_list p) ≤ last_table (listed numbers_list log)
-  tables_rise = rises numbers_list table_after up
+  tables_rise = rises numbers_list table_after (λ list e has. up list e)
     where
       up : (list : List (Item E)) (e : Item E) → MayCome numbers_list list e → fold table_after 0 list ≤ table_after (fold table_after 0 list) e
-      up list (Found _ n) may = let none : last_table list ≡ 0 = ap last_table may in omega arith
+      up list (Found _ n) may = let none : last_table list ≡ 0 = ap last_table may.1 in omega arith
       up list (Drew _ _) may = let l = may.1 refl in omega arith
       up list (Rose _ _ _) may = le_refl _
       up list (Faulted _ _ _) may = le_refl _
@@ -80,11 +80,30 @@ module _ {E : Type 0} where
       up list (Ended _ _) may = le_refl _
       up list (Changed _ _ _ _) may = le_refl _
 
+  pub numbers_rise : (shard : ℕ) → shard < 16 → (p log : List (Item E)) → IsPrefix p log → Legal items log → last_number (listed (front_list shard) p) ≤ last_number (listed (front_list shard) log)
+  numbers_rise shard low = rises (front_list shard) number_after up
+    where
+      up : (list : List (Item E)) (e : Item E) → Has (lists_of e) (front_list shard) → MayCome (front_list shard) list e → fold number_after 0 list ≤ number_after (fold number_after 0 list) e
+      up list (Found _ n) has may = let none : last_number list ≡ 0 = ap last_number may.1 in omega arith
+      up list (Wrote s p c n w) has may =
+          let diary = may.1 in
+          let here : front_list shard ≡ front_list s = grind (arith) in
+          let next = may.2 here in
+          omega arith
+      up list (Drew _ _) has may = le_refl _
+      up list (Rose _ _ _) has may = le_refl _
+      up list (Faulted _ _ _) has may = le_refl _
+      up list (Purged _ _) has may = le_refl _
+      up list (Read _ _) has may = le_refl _
+      up list (Began _ _ _) has may = le_refl _
+      up list (Ended _ _) has may = le_refl _
+      up list (Changed _ _ _ _) has may = le_refl _
+
   -- the fault that stopped the room stays
   pub first_stays : (r : ℕ) (p log : List (Item E)) → IsPrefix p log → Legal items log → last_first (listed r p) ≢ 0 → last_first (listed r p) ≡ last_first (listed r log)
   first_stays r p log begin legal stopped =
       list_grows items r (λ l. last_first (listed r p) ≡ last_first l)
-      (λ list e same may. same ∙ (kept list e (λ none. stopped (same ∙ none)) may ∙ sym (fold-append first_after 0 list (e ∷ []))))
+      (λ list e has same may. same ∙ (kept list e (λ none. stopped (same ∙ none)) may ∙ sym (fold-append first_after 0 list (e ∷ []))))
       p log begin legal refl
     where
       kept : (list : List (Item E)) (e : Item E) → last_first list ≢ 0 → MayCome r list e → last_first list ≡ first_after (last_first list) e

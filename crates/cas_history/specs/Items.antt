@@ -65,7 +65,7 @@ module _ {E : Type 0} where
   -- tells of its disk doesn't fall, and the fault that stopped it stays; a moment rises; so do table numbers; works begin where none
   -- run, and are ended by who began them; a change adds what its diary drew, and no change took
   abbrev pub MayCome : ℕ → List (Item E) → Item E → Type 0
-  MayCome list before (Found _ _) = before ≡ []
+  MayCome list before (Found there _) = (there < 48) × (before ≡ [])
   MayCome list before (Wrote shard session call number _) =
       (shard < 16) × (first_diary ≤ session) × (list ≡ front_list shard → number ≡ last_number before + 1) × (list ≡ session → call ≡ last_call before + 1)
   MayCome list before (Purged shard _) = shard < 16

@@ -22,8 +22,8 @@ pub struct Log<E, J: Store> {
 #[derive(Drop)]
 pub struct Front<E, J: Store> {
     pub(crate) pass: Pass<Item<E>, J>,
-    shard: u64,
-    number: u64,
+    pub(crate) shard: u64,
+    pub(crate) number: u64,
     ghost owns: { (shard < 16) × Owns pass (front_list shard) },
     ghost last: { number ≡ last_number (listed (front_list shard) pass.saw) },
 }
@@ -129,6 +129,13 @@ impl<E, J: Store> Session<E, J> {
             list: fresh.list,
             calls: 0,
         }
+    }
+
+    /// The number of the session's last write, which is how many it made.
+    pub fn calls(&self) -> u64
+        ensures { (result ≡ self.now.calls) × (result ≡ last_call (listed self.now.list self.now.pass.saw)) }
+    {
+        self.calls
     }
 }
 

@@ -2,17 +2,21 @@
 //! `cas_ledger`. A seat a rule: each struct has the pass of its own lists.
 #![tactic(auto)]
 
+mod changes;
 mod faults;
 mod front;
 mod item;
+mod laws;
 mod maker;
 mod moments;
 mod numbers;
 mod works;
 
+pub use changes::{BookCopy, Changes, RoomCopy, install};
 pub use faults::Faults;
 pub use front::{Front, Log, Session, purge, write};
 pub use item::Item;
+pub use laws::{book_stands, room_stands, session_stands, shard_stands, show};
 pub use maker::{Fresh, Maker};
 pub use moments::Moments;
 pub use numbers::Numbers;

@@ -61,7 +61,7 @@ module _ {E : Type 0} (R : Rules E) where
   legal_rest before (x ∷ xs) rest l = subst (λ b. LegalAfter R b rest) (append_assoc before (x ∷ []) xs) (legal_rest (before ++ x ∷ []) xs rest l.1)
 
   -- what each entry that may come in a list keeps, goes on from a beginning of the log to the log
-  pub list_grows : (r : ℕ) (P : List E → Type 0) → ((list : List E) (e : E) → P list → R.may r list e → P (list ++ e ∷ [])) → (p log : List E) → IsPrefix p log → Legal R log → P (part R r p) → P (part R r log)
+  pub list_grows : (r : ℕ) (P : List E → Type 0) → ((list : List E) (e : E) → Has (R.lists e) r → P list → R.may r list e → P (list ++ e ∷ [])) → (p log : List E) → IsPrefix p log → Legal R log → P (part R r p) → P (part R r log)
   list_grows r P step p log begin legal now =
       subst (λ l. P (part R r l)) begin.1
       (legal_from (λ l. P (part R r l)) (λ before e q f. one before e q f (list_any (λ k. k == r) (R.lists e)) refl) p begin.0 now (legal_rest [] p begin.0 (subst (Legal R) (sym begin.1) legal)))
@@ -69,7 +69,7 @@ module _ {E : Type 0} (R : Rules E) where
       one : (before : List E) (e : E) → P (part R r before) → Follows R before e → (b : Bool) → list_any (λ k. k == r) (R.lists e) ≡ b → P (part R r (before ++ e ∷ []))
       one before e q f true is =
           let here = named (R.lists e) r is in
-          subst P (sym (part_gets before e r here)) (step (part R r before) e q (each_at (λ k. R.may k (part R k before) e) (R.lists e) r f.0 here))
+          subst P (sym (part_gets before e r here)) (step (part R r before) e here q (each_at (λ k. R.may k (part R k before) e) (R.lists e) r f.0 here))
       one before e q f false is = subst P (sym (part_stays before e r (λ here. true≢false (sym (names_it (R.lists e) r here) ∙ is)))) q
 
   -- what each entry that may come keeps, holds of each legal log
