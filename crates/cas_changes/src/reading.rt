@@ -1,8 +1,9 @@
 //! Reads the entries of the manifest.
 
-ghost use Rattle.std.specs.Prelude.{◌≡◌, ◌&&◌, nat_lt, nat_le, Some};
+ghost use Rattle.std.specs.Prelude.{◌≡◌, ◌&&◌, nat_lt, nat_le, Some, IfOk};
 ghost use Rattle.cas_codec.specs.Reading.{Gives, checked, u8_at, u16_at, u64_at};
 ghost use Rattle.cas_changes.specs.Saying.{is_listed};
+ghost use Rattle.cas_changes.specs.Allowed.{IsListable};
 ghost use Rattle.cas_changes.specs.Reading.{store_at, definition_at, new_segment_at, drop_segment_at, changing_at};
 ghost use Rattle.cas_changes.specs.Reading.{behind_at, add_columns_at, may_be, fields_at, entry_at};
 
@@ -143,7 +144,8 @@ fn read_fields(alloc: Global, reader: &mut Reader<'_>, said: &Said) -> Result<En
 /// Reads an entry that may follow, by what is said so far.
 #[tactic(auto, unfolding(crate::specs::Reading::entry_at, cas_codec::specs::Reading::checked))]
 pub fn read_entry(alloc: Global, reader: &mut Reader<'_>, said: &Said) -> Result<Entry, ReadFault>
-    ensures { Gives (λ e. e) result reader.new (entry_at said.now reader.old) }
+    ensures read { Gives (λ e. e) result reader.new (entry_at said.now reader.old) }
+    ensures listable { IfOk result (λ e. IsListable said.now e) }
 {
     let at = reader.at();
     let entry = read_fields(alloc, reader, said)?;

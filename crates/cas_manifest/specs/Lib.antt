@@ -1,2 +1,5 @@
 pub mod File
 pub mod Manifests
+pub mod Reading
+pub mod Reads
+pub mod Inner

@@ -1,5 +1,5 @@
 -- What a manifest stands for, and what its calls leave. Own.
-use Rattle.std.specs.Prelude.{◌≡◌, ◌≢◌, ◌⊎◌, ℕ, ◌+◌, nat_lt, List, [], ◌∷◌, ◌++◌, length, Option, None, Some, Result, Ok, Err, if◌then◌else◌}
+use Rattle.std.specs.Prelude.{◌≡◌, ◌≢◌, ◌⊎◌, ℕ, ◌+◌, ◌==◌, nat_lt, Bool, false, List, [], ◌∷◌, ◌++◌, length, Option, None, Some, Result, Ok, Err, if◌then◌else◌}
 use Rattle.cas_io.specs.Causes.{Rose}
 use Rattle.cas_disk.specs.declared.name.Name.TheVariants.{Manifest as manifest_name}
 use Rattle.cas_disk.specs.Disk.{Disk, IsKept}
@@ -37,6 +37,17 @@ pub record Stands (place : Place) (disk : Disk) (entries : List Entry) : Type 0 
 abbrev pub MayHave : List Entry → Entry → Option (List ℕ) → Type 0
 MayHave entries e found = (file : List ℕ) × (found ≡ Some file) × (IsManifest entries file ⊎ IsManifest (entries ++ e ∷ []) file)
 
+-- a manifest is made once its file has two bytes or more and its own gate is open
+abbrev pub is_made : Option (List ℕ) → Bool
+is_made None = false
+is_made (Some []) = false
+is_made (Some (gate ∷ [])) = false
+is_made (Some (gate ∷ next ∷ rest)) = gate == 1
+
+-- while a manifest is made: what was there before, one that isn't made, or one without entries
+abbrev pub MayBegin : Option (List ℕ) → Option (List ℕ) → Type 0
+MayBegin old new = (new ≡ old) ⊎ ((is_made new ≡ false) ⊎ ((file : List ℕ) × (new ≡ Some file) × IsManifest [] file))
+
 -- The limit that an entry would pass: more than 4,096 table files listed after it, or more than 2^40 bytes of the file with its block, which is
 -- eight bytes longer than the entry, and the next gate.
 abbrev pub passes : Place → Entry → Option ManifestFault
@@ -52,7 +63,7 @@ Ends limit (Some first) kept before now result = (result ≡ Err (Stopped first)
 Ends limit None kept before now (Ok x) = (kept ≡ None) × (limit ≡ None)
 Ends limit None kept before now (Err (TooMany what most)) = (kept ≡ None) × (limit ≡ Some (TooMany what most)) × (now ≡ before)
 Ends limit None kept before now (Err Failed) = Rose before now × (kept ≡ Some (record { number = now })) × (limit ≡ None)
-Ends limit None kept before now (Err Mem) = (kept ≡ None) × (now ≡ before)
+Ends limit None kept before now (Err Mem) = kept ≡ None
 Ends limit None kept before now (Err (Stopped first)) = ⊥
 Ends limit None kept before now (Err (Bad at)) = ⊥
 

@@ -4,8 +4,11 @@
 
 mod blocks;
 mod fault;
+mod making;
 mod manifest;
+mod reading;
 mod writing;
 
 pub use fault::{Limit, ManifestFault};
 pub use manifest::Manifest;
+pub use reading::read_manifest;

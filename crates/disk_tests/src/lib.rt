@@ -8,6 +8,8 @@ mod fields;
 #[cfg(test)]
 mod host;
 #[cfg(test)]
+mod manifests;
+#[cfg(test)]
 mod mutations;
 #[cfg(test)]
 mod segments;
