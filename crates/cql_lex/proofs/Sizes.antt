@@ -1,6 +1,7 @@
 -- What the sizes are at most.
-use Rattle.std.proofs.Common.{◌≡◌, ℕ, ◌+◌, ◌<◌, ◌≤◌, Bool, true, false, cond, List, [], ◌∷◌, length, Option, Some, None, subst, arith, IfSome, eqb, ◌&&◌}
+use Rattle.std.proofs.Common.{◌≡◌, ℕ, ◌+◌, ◌<◌, ◌≤◌, Bool, true, false, cond, List, [], ◌∷◌, length, Option, Some, None, subst, not, arith, IfSome, eqb, ◌&&◌}
 use Rattle.std.specs.Option.{option_map}
+use Rattle.std.specs.List.{position_or_len}
 use Rattle.std.specs.Char.{is_ascii_digit, is_ascii_hexdigit}
 use Rattle.std.proofs.lemmas.List.Sums.{prefix_len-le-length}
 use Rattle.cql_lex.specs.Characters.{is_word, first_is, word_size, digits_size, hex_pairs_size}
@@ -17,6 +18,9 @@ digits_within text = prefix_len-le-length is_ascii_digit text
 
 pub words_within : (text : List ℕ) → word_size text ≤ length text
 words_within text = prefix_len-le-length is_word text
+
+pub plain_within : (quote : ℕ) (text : List ℕ) → position_or_len (λ c. eqb c quote) text ≤ length text
+plain_within quote text = prefix_len-le-length (λ c. not (eqb c quote)) text
 
 pub hex_within : (text : List ℕ) → hex_pairs_size text ≤ length text
 hex_within text = let h = prefix_len-le-length is_ascii_hexdigit text in omega arith

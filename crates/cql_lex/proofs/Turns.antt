@@ -1,6 +1,7 @@
 -- One turn of the search for an end.
-use Rattle.std.proofs.Common.{◌≡◌, ◌≢◌, ℕ, suc, ◌+◌, ◌<◌, true, false, cond, List, [], ◌∷◌, ◌++◌, length, get_or, drop, Option, Some, None, refl, sym, ap, ◌∙◌, arith, eqb, append_assoc, append-nil}
+use Rattle.std.proofs.Common.{◌≡◌, ◌≢◌, ℕ, suc, ◌+◌, ◌<◌, true, false, cond, List, [], ◌∷◌, ◌++◌, length, get_or, take, drop, Bool, Option, Some, None, refl, sym, ap, ◌∙◌, subst, not, arith, eqb, append_assoc, append-nil}
 use Rattle.std.specs.Option.{option_map}
+use Rattle.std.specs.List.{position_or_len}
 use Rattle.std.proofs.lemmas.List.{drop_more, drop_all}
 use Rattle.std.proofs.lemmas.Bool.Decides.{nat_tests}
 use Rattle.cql_lex.specs.Quotes.{closing_size, closed}
@@ -63,6 +64,39 @@ closed_other q c (d ∷ cs) e = ap (λ b. cond b (cond (eqb d q) (option_map (λ
 
 pub closed_second : (q c d : ℕ) (cs : List ℕ) → eqb c q ≡ true → closed q (c ∷ d ∷ cs) ≡ cond (eqb d q) (option_map (λ rest. c ∷ rest) (closed q cs)) None
 closed_second q c d cs e = ap (λ b. cond b (cond (eqb d q) (option_map (λ rest. c ∷ rest) (closed q cs)) None) (option_map (λ rest. c ∷ rest) (closed q (d ∷ cs)))) e
+
+unmapped : (o : Option (List ℕ)) → option_map (λ rest. [] ++ rest) o ≡ o
+unmapped None = refl
+unmapped (Some x) = refl
+
+longer : (c : ℕ) (front : List ℕ) (o : Option (List ℕ)) → option_map (λ rest. (c ∷ front) ++ rest) o ≡ option_map (λ rest. c ∷ rest) (option_map (λ rest. front ++ rest) o)
+longer c front None = refl
+longer c front (Some x) = refl
+
+abbrev Kept : ℕ → ℕ → List ℕ → Type 0
+Kept q n xs = option_map (λ rest. take n xs ++ rest) (closed q (drop n xs)) ≡ closed q xs
+
+kept_by : (q c : ℕ) (cs : List ℕ) (n : ℕ) (b : Bool) → eqb c q ≡ b → Kept q n cs → Kept q (cond b 0 (1 + n)) (c ∷ cs)
+kept_by q c cs n true e h = unmapped (closed q (c ∷ cs))
+kept_by q c cs n false e h =
+    let one : 1 + n ≡ suc n = omega arith in
+    ap (λ k. option_map (λ rest. take k (c ∷ cs) ++ rest) (closed q (drop k (c ∷ cs)))) one
+    ∙ longer c (take n cs) (closed q (drop n cs))
+    ∙ ap (option_map (λ rest. c ∷ rest)) h
+    ∙ sym (closed_other q c cs e)
+
+plain_step : (q c : ℕ) (cs : List ℕ) (b : Bool) → eqb c q ≡ b → position_or_len (λ d. eqb d q) (c ∷ cs) ≡ cond b 0 (1 + position_or_len (λ d. eqb d q) cs)
+plain_step q c cs true e = ap (λ b. cond (not b) (1 + position_or_len (λ d. eqb d q) cs) 0) e
+plain_step q c cs false e = ap (λ b. cond (not b) (1 + position_or_len (λ d. eqb d q) cs) 0) e
+
+-- what stands before the first quote is taken as it is
+plain_kept : (q : ℕ) (xs : List ℕ) → Kept q (position_or_len (λ d. eqb d q) xs) xs
+plain_kept q [] = refl
+plain_kept q (c ∷ cs) =
+    subst (λ n. Kept q n (c ∷ cs)) (sym (plain_step q c cs (eqb c q) refl)) (kept_by q c cs (position_or_len (λ d. eqb d q) cs) (eqb c q) refl (plain_kept q cs))
+
+pub plain_begun : (q : ℕ) (xs : List ℕ) (n : ℕ) (front : List ℕ) → front ≡ take n xs → n ≡ position_or_len (λ d. eqb d q) xs → option_map (λ rest. front ++ rest) (closed q (drop n xs)) ≡ closed q xs
+plain_begun q xs n front e s = ap (λ f. option_map (λ rest. f ++ rest) (closed q (drop n xs))) e ∙ subst (λ k. Kept q k xs) (sym s) (plain_kept q xs)
 
 pub closed_turn : (q : ℕ) (xs : List ℕ) (i : ℕ) (front next : List ℕ) (total : Option (List ℕ)) → i < length xs → get_or xs i 0 ≢ q → next ≡ front ++ get_or xs i 0 ∷ [] → option_map (λ rest. front ++ rest) (closed q (drop i xs)) ≡ total → option_map (λ rest. next ++ rest) (closed q (drop (i + 1) xs)) ≡ total
 closed_turn q xs i front next total h e n t =

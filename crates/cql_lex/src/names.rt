@@ -27,6 +27,17 @@ impl Model for Name {
     ghost invariant = { λ n. IsUtf8 n.letters.items };
 }
 
+/// Whether two texts are the same: words are so short that the first byte that differs is met soon.
+fn is_same(a: &[u8], b: &[u8]) -> bool
+    ensures { result ≡ bytes_eq a.now b.now }
+{
+    match (a, b) {
+        ([], []) => true,
+        ([x, rest @ ..], [y, others @ ..]) => *x == *y && is_same(rest, others),
+        _ => false,
+    }
+}
+
 fn is_name(text: &[u8]) -> bool
     ensures { result ≡ is_name text.now }
 {
@@ -58,7 +69,7 @@ impl Name {
     pub fn is(&self, word: &str) -> bool
         ensures { result ≡ bytes_eq self.now word.now }
     {
-        self.letters.as_slice() == word.as_bytes()
+        is_same(self.letters.as_slice(), word.as_bytes())
     }
 
     /// The name as a text.

@@ -1,18 +1,29 @@
 //! Texts in quotes.
 
-ghost use Rattle.std.specs.Prelude.{◌≡◌, IfOk, option_map};
+ghost use Rattle.std.specs.Prelude.{◌≡◌, ◌≤◌, ◌==◌, IfOk, length, option_map};
+ghost use Rattle.std.specs.List.{position_or_len};
 ghost use Rattle.cql_lex.specs.Quotes.{quoted_text, name_quote, string_quote, closed};
 
 use crate::texts::text_of;
 use cas_types::{Mem, Text};
 use std::alloc::{AllocError, Global};
 
+/// How many bytes stand before the first quote.
+#[tactic(auto, using(crate::proofs::Sizes::plain_within))]
+fn plain_size(quote: u8, text: &[u8]) -> usize
+    ensures size { result ≡ position_or_len (λ c. c == quote) text.now }
+    ensures within { result ≤ length text.now }
+{
+    text.iter().take_while(|byte| **byte != quote).count()
+}
+
 /// What follows an opening quote, up to its closing quote, where that is the end.
 fn read_closed(alloc: Global, quote: u8, text: &[u8]) -> Result<Option<Vec<u8>>, AllocError>
     ensures { IfOk result (λ found. option_map (λ v. v.items) found ≡ closed quote text.now) }
 {
     let mut inner = Vec::with_capacity(alloc, text.len())?;
-    let mut at = 0;
+    let mut at = plain_size(quote, text);
+    inner.extend_from_slice(&text[..at])?;
     while at < text.len() {
         if text[at] != quote {
             inner.push(text[at])?;

@@ -28,50 +28,48 @@ fn is_one_of(name: &Name, words: &[Keyword]) -> bool
     words.iter().any(|k| is_spelt(name, *k))
 }
 
+const RESERVED_OF_2: [Keyword; 3] = [Keyword::By, Keyword::In, Keyword::To];
+
+const RESERVED_OF_3: [Keyword; 4] = [Keyword::Add, Keyword::And, Keyword::Asc, Keyword::Set];
+
+const RESERVED_OF_4: [Keyword; 6] = [
+    Keyword::Desc,
+    Keyword::From,
+    Keyword::Into,
+    Keyword::Null,
+    Keyword::True,
+    Keyword::With,
+];
+
+const RESERVED_OF_5: [Keyword; 7] = [
+    Keyword::Alter,
+    Keyword::False,
+    Keyword::Limit,
+    Keyword::Order,
+    Keyword::Table,
+    Keyword::Using,
+    Keyword::Where,
+];
+
+const RESERVED_OF_6: [Keyword; 5] = [
+    Keyword::Create,
+    Keyword::Delete,
+    Keyword::Insert,
+    Keyword::Select,
+    Keyword::Update,
+];
+
 /// Whether the name is a reserved word, which is no name unless it is quoted: only words of its
 /// length are compared with it.
 pub fn is_reserved(name: &Name) -> bool
     ensures { result ≡ is_reserved name.now }
 {
     match name.len() {
-        2 => is_one_of(name, &[Keyword::By, Keyword::In, Keyword::To]),
-        3 => is_one_of(
-            name,
-            &[Keyword::Add, Keyword::And, Keyword::Asc, Keyword::Set],
-        ),
-        4 => is_one_of(
-            name,
-            &[
-                Keyword::Desc,
-                Keyword::From,
-                Keyword::Into,
-                Keyword::Null,
-                Keyword::True,
-                Keyword::With,
-            ],
-        ),
-        5 => is_one_of(
-            name,
-            &[
-                Keyword::Alter,
-                Keyword::False,
-                Keyword::Limit,
-                Keyword::Order,
-                Keyword::Table,
-                Keyword::Using,
-                Keyword::Where,
-            ],
-        ),
-        6 => is_one_of(
-            name,
-            &[
-                Keyword::Create,
-                Keyword::Delete,
-                Keyword::Insert,
-                Keyword::Select,
-                Keyword::Update,
-            ],
-        ),
+        2 => is_one_of(name, &RESERVED_OF_2),
+        3 => is_one_of(name, &RESERVED_OF_3),
+        4 => is_one_of(name, &RESERVED_OF_4),
+        5 => is_one_of(name, &RESERVED_OF_5),
+        6 => is_one_of(name, &RESERVED_OF_6),
         7 => is_one_of(name, &[Keyword::Primary]),
         _ => false,
     }
