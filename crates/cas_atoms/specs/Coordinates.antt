@@ -1,11 +1,13 @@
 -- The places that a statement writes to, and which of them an atom writes or deletes.
 -- CQL documentation, "Data definition: the primary key; static columns" and "Data manipulation: INSERT / UPDATE / DELETE"; the words
 -- "coordinate" and "scope" are own.
-use Rattle.std.specs.Prelude.{ℕ, ◌==◌, Bool, true, false, ◌&&◌, Option, None, Some, List}
+use Rattle.std.specs.Prelude.{ℕ, ℤ, ◌==◌, Bool, true, false, ◌&&◌, Option, None, Some, List}
 use Rattle.std.specs.Bool.{then_some}
 use Rattle.std.specs.Ordering.{eq_by_cmp}
 use Rattle.std.specs.Cmp.Lexicographic.{slice_cmp}
 use Rattle.cas_types.specs.Values.{bytes_cmp}
+use Rattle.cas_cell.specs.Cells.{cell_at}
+use Rattle.cas_cell.specs.Lives.{live_at}
 use Rattle.cas_cell.specs.declared.deletion.Deletion.{Deletion}
 use Rattle.cas_cell.specs.declared.liveness.Liveness.{Liveness}
 use Rattle.cas_cell.specs.declared.cell.Cell.{Cell}
@@ -85,3 +87,14 @@ cell_at_path x _ = None
 abbrev pub row_key : Option (List (List ℕ)) → RowKey
 row_key None = static_row
 row_key (Some c) = clustered c
+
+-- the timestamp of what an atom writes or deletes
+abbrev pub atom_at : Atom → ℤ
+atom_at (PartitionDeletion d) = d.at
+atom_at (RangeDeletion lo hi d) = d.at
+atom_at (RowDeletion c d) = d.at
+atom_at (CollectionDeletion c column d) = d.at
+atom_at (Live c l) = live_at l
+atom_at (Write c column p v) = cell_at v
+atom_at (StaticWrite column p v) = cell_at v
+atom_at (StaticCollectionDeletion column d) = d.at

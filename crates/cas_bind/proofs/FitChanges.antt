@@ -1,6 +1,6 @@
 -- What a change does to its column is what the column can take.
 use Rattle.std.proofs.Common.{◌≡◌, ℕ, suc, min, ◌+◌, ◌-◌, ◌≤◌, ◌^◌, nat_lt, Bool, true, false, cond, not, ◌&&◌, ◌||◌, if◌then◌else◌, List, [], ◌∷◌, ◌++◌, map, length, Option, None, Some, option_map, IfSome, refl, sym, ap, ◌∙◌, subst, arith}
-use Rattle.std.specs.List.{AllByRecursion, list_any, find, flat_map, slice_get}
+use Rattle.std.specs.List.{AllByRecursion, enumerate_from, list_any, find, flat_map, slice_get}
 use Rattle.std.specs.Option.{option_map_or}
 use Rattle.std.specs.Str.{bytes_eq}
 use Rattle.std.proofs.lemmas.Bool.Decides.{nat_tests}
@@ -26,7 +26,7 @@ use Rattle.cql_parse.specs.declared.term.Constant.{Constant}
 use Rattle.cql_parse.specs.declared.term.Term.{Term}
 use Rattle.cql_parse.specs.declared.syntax.Assigned.{Assigned}
 use Rattle.cql_parse.specs.declared.syntax.Assigned.TheVariants as assigned
-use Rattle.cas_terms.specs.Columns.{column_named, located_from, located, column_ref}
+use Rattle.cas_terms.specs.Columns.{column_named, located, column_ref}
 use Rattle.cas_terms.specs.Terms.{term_value, whole_elements, assigned_fits}
 use Rattle.cas_terms.proofs.TermValues.{IsOf, AreOf, in_one, term_is, given_are, whole_are, prepended_are, removed_are, entry_are}
 use Rattle.cas_where.proofs.Fitting.{IsShort, front_of, rest_of}
@@ -62,9 +62,12 @@ all_short (v ∷ vs) e =
 
 -- ---- a column and its number
 
+abbrev located_from : ℕ → List Column → List ℕ → Option (ℕ × Column)
+located_from i cs n = find (λ p. bytes_eq p.1.name n) (enumerate_from i cs)
+
 module _ (cs₀ : List Column) (n : List ℕ) where
   its_place : (i : ℕ) (cs : List Column) (l : ℕ × Column) → located_from i cs n ≡ Some l → (i ≤ l.0) × (slice_get cs (l.0 - i) ≡ Some l.1) × (column_named cs n ≡ Some l.1)
-  unfolding located_from column_named
+  unfolding column_named
   its_place i [] l e = cc
   its_place i (c ∷ cs) l e =
       elim (bytes_eq c.name n) as (λ b. cond b (Some (i, c)) (located_from (i + 1) cs n) ≡ Some l

@@ -56,6 +56,7 @@ use Rattle.cas_reasons.proofs.Used.{any_term}
 -- ---- what isn't told of a statement
 
 pub record Clear (r : Reasons) : Type 0 where
+  pub bad_definition : r.bad_definition ≡ false
   pub no_column : r.no_column ≡ false
   pub bad_option : r.bad_option ≡ false
   pub wrong_type : r.wrong_type ≡ false
@@ -86,6 +87,7 @@ clear r e =
     let j = first_none r.bad_restriction _ _ i.1 in
     let k = first_none r.ttl_too_large _ _ j.1 in
     record {
+      bad_definition = c.0;
       no_column = d.0;
       bad_option = f.0;
       wrong_type = g.0;

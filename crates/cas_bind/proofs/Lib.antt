@@ -7,3 +7,4 @@ pub mod FitChanges
 pub mod FitWrites
 pub mod FitReads
 pub mod FitBound
+pub mod ChangeNames

@@ -3,4 +3,5 @@ pub mod Selects
 pub mod Meaning
 pub mod Tables
 pub mod Fitting
+pub mod ChangeLaws
 pub mod Inner

@@ -63,9 +63,9 @@ fn alter_is_malformed(
 {
     let columns = table.columns.as_slice();
     let added = alter.added.as_slice();
-    let names = names_added(alloc, added)?;
+    let is_twice = stands_twice(names_added(alloc, added)?)?;
     Ok(
-        stands_twice(&names)
+        is_twice
             || (!are_new(columns, added) || (adds_static(added) && clustering_count(columns) == 0)),
     )
 }

@@ -108,12 +108,14 @@ fn key_fits_table(
     ensures { IfOk result (λ b. b ≡ key_fits_table create.now key.now) }
 {
     let names = key_names(key)?;
+    let may_be = all_may_be_key(columns, &names);
+    let is_twice = stands_twice(names)?;
     let clustering = key.clustering.as_slice();
     let options = create.options.as_slice();
     Ok(
         0 < key.partition.as_slice().len()
-            && (all_may_be_key(columns, &names)
-                && (!stands_twice(&names)
+            && (may_be
+                && (!is_twice
                     && (orders_fit(clustering, options) && statics_fit(clustering, columns)))),
     )
 }
@@ -179,12 +181,13 @@ fn create_is_malformed(alloc: Global, create: &CreateTable) -> Result<bool, Allo
     let keys = keys_said(alloc, create.items.as_slice())?;
     let key_fits = one_key_fits(create, &columns, &keys)?;
     let names = names_defined(alloc, &columns)?;
-    let options = option_names(alloc, create.options.as_slice())?;
+    let have_length = have_name_length(&names);
+    let is_twice = stands_twice(names)?;
+    let option_twice = stands_twice(option_names(alloc, create.options.as_slice())?)?;
     Ok(
         !key_fits
-            || (stands_twice(&names)
-                || (stands_twice(&options)
-                    || (!is_table_name(create.table.name.as_str()) || !have_name_length(&names)))),
+            || (is_twice
+                || (option_twice || (!is_table_name(create.table.name.as_str()) || !have_length))),
     )
 }
 

@@ -21,12 +21,12 @@ use Rattle.cas_cell.specs.declared.cell.Cell.{Cell}
 use Rattle.cas_cell.specs.declared.cell.Cell.TheVariants as cell
 use Rattle.cas_cell.specs.declared.liveness.Liveness.TheVariants as live
 use Rattle.cas_cell.specs.declared.deletion.Deletion.{Deletion}
-use Rattle.cas_atoms.specs.Coordinates.{live_at_row}
+use Rattle.cas_atoms.specs.Coordinates.{live_at_row, atom_at}
 use Rattle.cas_atoms.specs.declared.atom.Atom.{Atom}
 use Rattle.cas_atoms.specs.declared.atom.Atom.TheVariants as atom
 use Rattle.cas_atoms.specs.declared.atom.ColumnRef.{ColumnRef}
 use Rattle.cas_effects.specs.AtomsOf.{live_of, cell_of, deletion_of, deletion_before, write_at, emptied_at, placed, element_atom, element_atoms, effect_atoms, stamp_of, mutation_of}
-use Rattle.cas_effects.specs.WriteLaws.{atom_at, is_of_column, deletes_row, has_room, has_elements, changes_column, inserts_row, removes_row, replaced, HasOneOrder, WriteLaws}
+use Rattle.cas_effects.specs.WriteLaws.{is_of_column, deletes_row, has_room, has_elements, changes_column, inserts_row, removes_row, replaced, HasOneOrder, WriteLaws}
 use Rattle.cas_effects.specs.declared.effect.BoundWrite.{BoundWrite}
 use Rattle.cas_effects.specs.declared.effect.Effect.{Effect}
 use Rattle.cas_effects.specs.declared.effect.Effect.TheVariants as effect

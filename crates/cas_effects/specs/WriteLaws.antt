@@ -4,10 +4,8 @@ use Rattle.std.specs.Prelude.{◌≡◌, ℕ, ℤ, pos, ◌-ℤ◌, ◌==◌, Bo
 use Rattle.std.specs.List.{list_any, list_all, flat_map, slice_get}
 use Rattle.std.specs.Option.{option_map_or}
 use Rattle.std.specs.Ordering.{is_lt, int_eq}
-use Rattle.cas_cell.specs.Cells.{cell_at}
-use Rattle.cas_cell.specs.Lives.{live_at}
 use Rattle.cas_bounds.specs.Cuts.{is_inside, cut_cmp}
-use Rattle.cas_atoms.specs.Coordinates.{same_values, live_at_row}
+use Rattle.cas_atoms.specs.Coordinates.{same_values, live_at_row, atom_at}
 use Rattle.cas_atoms.specs.declared.atom.Atom.{Atom}
 use Rattle.cas_atoms.specs.declared.atom.Atom.TheVariants as atom
 use Rattle.cas_effects.specs.AtomsOf.{emptied_at, stamp_of, mutation_of}
@@ -19,17 +17,6 @@ use Rattle.cas_effects.specs.declared.effect.Elements.TheVariants as elements
 use Rattle.cas_effects.specs.declared.stamped.Stamp.{Stamp}
 
 -- ---- what an atom is
-
--- the timestamp at which an atom writes or deletes
-abbrev pub atom_at : Atom → ℤ
-atom_at (atom.PartitionDeletion d) = d.at
-atom_at (atom.RangeDeletion lo hi d) = d.at
-atom_at (atom.RowDeletion c d) = d.at
-atom_at (atom.CollectionDeletion c column d) = d.at
-atom_at (atom.Live c l) = live_at l
-atom_at (atom.Write c column path cell) = cell_at cell
-atom_at (atom.StaticWrite column path cell) = cell_at cell
-atom_at (atom.StaticCollectionDeletion column d) = d.at
 
 -- the number of the column of which an atom writes or deletes something; those of rows and of the partition are of none
 abbrev pub column_of : Atom → Option ℕ

@@ -20,7 +20,7 @@ use Rattle.cas_cell.specs.declared.cell.Cell.{Cell}
 use Rattle.cas_cell.specs.declared.cell.Cell.TheVariants as cell
 use Rattle.cas_cell.proofs.OrderLaws.{deletion_laws, live_laws, cell_laws}
 use Rattle.cas_atoms.specs.Greatest.{greater, greatest}
-use Rattle.cas_atoms.specs.Coordinates.{Coordinate, RowKey, row, deletion_at, live_at_row, cell_at_path}
+use Rattle.cas_atoms.specs.Coordinates.{Coordinate, RowKey, row, deletion_at, live_at_row, cell_at_path, atom_at}
 use Rattle.cas_atoms.specs.Winners.{cover, standing, live_winner, cell_winner}
 use Rattle.cas_atoms.specs.Picks.{living}
 use Rattle.cas_atoms.specs.Answers.{is_living}
@@ -29,7 +29,7 @@ use Rattle.cas_atoms.specs.declared.atom.Atom.TheVariants.{PartitionDeletion, Ra
 use Rattle.cas_atoms.proofs.GreatestLemmas.{greater_none}
 use Rattle.cas_laws.specs.Given.{Gives}
 use Rattle.cas_laws.specs.Inside.{is_in, AliveWhere}
-use Rattle.cas_laws.specs.Above.{atom_at, is_late, AllAbove, only, unmarked, lasting_live, lasting_cell, SameAbove, later, later_mark}
+use Rattle.cas_laws.specs.Above.{is_late, AllAbove, only, unmarked, lasting_live, lasting_cell, SameAbove, later, later_mark}
 use Rattle.cas_laws.specs.Laws.{SameAboveLaws}
 use Rattle.cas_laws.proofs.GreatestProofs.{no_none, Gives-greatest}
 use Rattle.cas_laws.proofs.JoinProofs.{cover_joins, winner_joins}

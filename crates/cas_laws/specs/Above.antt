@@ -7,22 +7,9 @@ use Rattle.cas_cell.specs.Cells.{cell_at, cell_lives}
 use Rattle.cas_cell.specs.declared.deletion.Deletion.{Deletion}
 use Rattle.cas_cell.specs.declared.liveness.Liveness.{Liveness}
 use Rattle.cas_cell.specs.declared.cell.Cell.{Cell}
-use Rattle.cas_atoms.specs.Coordinates.{Coordinate}
+use Rattle.cas_atoms.specs.Coordinates.{Coordinate, atom_at}
 use Rattle.cas_atoms.specs.Winners.{cover, live_winner, cell_winner}
 use Rattle.cas_atoms.specs.declared.atom.Atom.{Atom}
-use Rattle.cas_atoms.specs.declared.atom.Atom.TheVariants.{PartitionDeletion, RangeDeletion, RowDeletion, CollectionDeletion}
-use Rattle.cas_atoms.specs.declared.atom.Atom.TheVariants.{Live, Write, StaticWrite, StaticCollectionDeletion}
-
--- the timestamp of what an atom writes or deletes
-abbrev pub atom_at : Atom → ℤ
-atom_at (PartitionDeletion d) = d.at
-atom_at (RangeDeletion lo hi d) = d.at
-atom_at (RowDeletion c d) = d.at
-atom_at (CollectionDeletion c column d) = d.at
-atom_at (Live c l) = live_at l
-atom_at (Write c column p v) = cell_at v
-atom_at (StaticWrite column p v) = cell_at v
-atom_at (StaticCollectionDeletion column d) = d.at
 
 -- the timestamp is later than the mark; each is, where there is none
 abbrev pub is_late : Option ℤ → ℤ → Bool

@@ -9,7 +9,8 @@ ghost use Rattle.cas_types.specs.Values.{bytes_cmp};
 ghost use Rattle.cas_terms.specs.Names.{any_two, stands_twice};
 ghost use Rattle.cas_reasons.specs.Inner.Borrowed.{change_in};
 ghost use Rattle.cas_reasons.specs.Inner.Spots.{in_spot, changed_in, constant_rank, bytes_in, number_in, constant_cmp};
-ghost use Rattle.cas_reasons.specs.Inner.Spots.{spot_cmp, same_spot, first_passes, any_beside};
+ghost use Rattle.cas_reasons.specs.Inner.Spots.{spot_cmp, same_spot};
+ghost use Rattle.cas_terms.specs.Inner.Beside.{first_passes, any_beside};
 ghost use Rattle.cas_reasons.specs.RowFaults.{names_map, entry_key, change_the_same, changes_twice, has_other_count};
 ghost use Rattle.cas_reasons.specs.Statements.{assigns, deletes, changes_of};
 

@@ -1,3 +1,4 @@
 pub mod Entries
 pub mod Texts
 pub mod TermValues
+pub mod SortedLists

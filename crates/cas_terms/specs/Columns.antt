@@ -1,7 +1,7 @@
 -- The tables and their columns, by name.
 -- CQL documentation, "Data definition: keyspaces; CREATE TABLE; the primary key". There is one keyspace, `local` (own).
-use Rattle.std.specs.Prelude.{ℕ, ◌+◌, Bool, true, false, List, [], ◌∷◌, filter, Option, None, Some, is_none, codes, if◌then◌else◌}
-use Rattle.std.specs.List.{find}
+use Rattle.std.specs.Prelude.{ℕ, Bool, true, false, List, filter, Option, None, Some, is_none, codes, if◌then◌else◌}
+use Rattle.std.specs.List.{enumerate_from, find}
 use Rattle.std.specs.Option.{option_map_or}
 use Rattle.std.specs.Str.{bytes_eq}
 use Rattle.cas_types.specs.Schemas.{is_partition, is_clustering, is_key, is_static, path_type}
@@ -23,14 +23,9 @@ table_named tables n = if is_local n.keyspace then find (λ t. bytes_eq t.name n
 unfoldable pub column_named : List Column → List ℕ → Option Column
 column_named cs n = find (λ c. bytes_eq c.name n) cs
 
--- the column of that name with its number, where the first of these columns has the number given
-unfoldable pub located_from : ℕ → List Column → List ℕ → Option (ℕ × Column)
-located_from i [] n = None
-located_from i (c ∷ cs) n = if bytes_eq c.name n then Some (i, c) else located_from (i + 1) cs n
-
 -- the column of that name with its number in the table, from 0 on
 abbrev pub located : List Column → List ℕ → Option (ℕ × Column)
-located cs n = located_from 0 cs n
+located cs n = find (λ p. bytes_eq p.1.name n) (enumerate_from 0 cs)
 
 -- no column of the table has the name, as `x` in `SELECT x` of a table without it
 unfoldable pub is_unknown : List Column → List ℕ → Bool

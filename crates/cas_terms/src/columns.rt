@@ -2,11 +2,11 @@
 
 ghost use Rattle.std.specs.Prelude.{◌≡◌, ◌≤◌, ◌+◌, length, option_map};
 ghost use Rattle.std.specs.Str.{bytes_eq};
-ghost use Rattle.std.specs.List.{find};
+ghost use Rattle.std.specs.List.{enumerate_from, find};
 ghost use Rattle.std.specs.Option.{option_copied};
 ghost use Rattle.cas_types.specs.Limits.{IsNarrow};
 ghost use Rattle.cas_terms.specs.Columns.{is_local, table_named, column_named, is_unknown, names_static, names_partition, names_key};
-ghost use Rattle.cas_terms.specs.Columns.{column_ref, located_from, located};
+ghost use Rattle.cas_terms.specs.Columns.{column_ref, located};
 
 use crate::names::same_name;
 use cas_atoms::ColumnRef;
@@ -103,10 +103,9 @@ pub fn column_ref(number: u16, column: &Column) -> ColumnRef
     }
 }
 
-#[tactic(auto, unfolding(crate::specs::Columns::located_from))]
 fn located_from<'a>(number: u16, columns: &'a [Column], name: &str) -> Option<(u16, &'a Column)>
     requires { number + length columns.now ≤ 65535 }
-    ensures { option_map (λ p. (p.0, p.1.now)) result ≡ located_from number columns.now name.now }
+    ensures { option_map (λ p. (p.0, p.1.now)) result ≡ find (λ p. bytes_eq p.1.name name.now) (enumerate_from number columns.now) }
 {
     match columns {
         [] => None,

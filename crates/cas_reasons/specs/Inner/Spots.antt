@@ -1,5 +1,5 @@
 -- What a statement changes, as spots that can be sorted, so that what is changed twice stands side by side.
-use Rattle.std.specs.Prelude.{ℕ, ℤ, pos, Bool, false, not, ◌&&◌, ◌||◌, List, [], ◌∷◌, Option, None, if◌then◌else◌}
+use Rattle.std.specs.Prelude.{ℕ, ℤ, pos, Bool, not, ◌&&◌, List, [], Option, None, if◌then◌else◌}
 use Rattle.std.specs.Option.{option_copied, option_cmp}
 use Rattle.std.specs.Ordering.{nat_cmp, int_cmp, on, then_cmp}
 use Rattle.std.specs.Str.{bytes_eq}
@@ -67,13 +67,3 @@ spot_cmp = on in_spot changed_cmp
 -- two spots are of one column, and not of two entries of it
 abbrev pub same_spot : Spot → Spot → Bool
 same_spot = on in_spot same_changed
-
--- the first of a list passes
-abbrev pub first_passes : {X : Type 0} → (X → Bool) → List X → Bool
-first_passes p [] = false
-first_passes p (x ∷ xs) = p x
-
--- two that stand side by side are so to one another
-abbrev pub any_beside : {X : Type 0} → (X → X → Bool) → List X → Bool
-any_beside test [] = false
-any_beside test (x ∷ xs) = first_passes (test x) xs || any_beside test xs

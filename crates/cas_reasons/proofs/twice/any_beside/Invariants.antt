@@ -1,5 +1,6 @@
 use Rattle.std.proofs.Common.{◌≡◌, length}
-use Rattle.cas_reasons.specs.Inner.Spots.{same_spot, any_beside}
+use Rattle.cas_reasons.specs.Inner.Spots.{same_spot}
+use Rattle.cas_terms.specs.Inner.Beside.{any_beside}
 use Rattle.cas_reasons.proofs.twice.any_beside.Given as goal
 
 abbrev pub invariant-loop-rest : goal.invariant-loop-rest

@@ -1,5 +1,6 @@
 use Rattle.std.proofs.Common.{ap, ◌∙◌}
-use Rattle.cas_reasons.specs.Inner.Spots.{same_spot, any_beside}
+use Rattle.cas_reasons.specs.Inner.Spots.{same_spot}
+use Rattle.cas_terms.specs.Inner.Beside.{any_beside}
 use Rattle.cas_reasons.proofs.Sorting.{sorted_tells}
 use Rattle.cas_reasons.proofs.twice.any_two.Goals as goal
 
