@@ -12,7 +12,7 @@ turned_round Equal = refl
 turned_round Greater = refl
 
 module _ {Y : Type 0} {cmp : Y → Y → Ordering} (o : Orders cmp) (x y : Y) where
-  below : (t : Bool) → is_gt (cmp y x) ≡ t → is_lt (cmp x y) ≡ t
+  pub below : (t : Bool) → is_gt (cmp y x) ≡ t → is_lt (cmp x y) ≡ t
   below t e = ap is_lt (o.total.antisymm x y) ∙ turned_round (cmp y x) ∙ e
 
   pub second_wins : (a b : Option Y) → a ≡ Some x → b ≡ Some y → is_gt (cmp y x) ≡ true → Some y ≡ greater cmp a b

@@ -22,4 +22,6 @@ pub use picks::picked;
 pub use place::Partition;
 pub use query::{Datum, LiveRow, Pick, Query};
 pub use row::{PathCell, Row, RowColumn};
+pub use rows_and_paths::compare_paths;
 pub use shown_rows::{is_shown, is_static_shown};
+pub use winners::{greater_deletion, greater_live, standing_live};

@@ -96,8 +96,8 @@ pub(crate) fn rows_of(
     Ok(rows)
 }
 
-// The order of the paths of a column that has that type of paths, or none.
-fn compare_paths(tag: Option<TypeTag>, a: &[u8], b: &[u8]) -> Ordering
+/// The order of the paths of a column that has that type of paths, or none.
+pub fn compare_paths(tag: Option<TypeTag>, a: &[u8], b: &[u8]) -> Ordering
     ensures { result ≡ path_cmp tag a.now b.now }
 {
     match tag {

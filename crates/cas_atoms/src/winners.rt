@@ -16,7 +16,8 @@ use crate::place::Place;
 use cas_cell::{Cell, Deletion, Liveness, covers, del_wins, live_wins, wins};
 use cas_types::{Bytes, List};
 
-fn greater_deletion(a: Option<Deletion>, b: Option<Deletion>) -> Option<Deletion>
+/// The greater of two deletions, where there are two.
+pub fn greater_deletion(a: Option<Deletion>, b: Option<Deletion>) -> Option<Deletion>
     ensures { result ≡ greater deletion_cmp a b }
 {
     match (a, b) {
@@ -26,7 +27,8 @@ fn greater_deletion(a: Option<Deletion>, b: Option<Deletion>) -> Option<Deletion
     }
 }
 
-fn greater_live(a: Option<Liveness>, b: Option<Liveness>) -> Option<Liveness>
+/// The greater of what two `INSERT`s leave of a row, where there are two.
+pub fn greater_live(a: Option<Liveness>, b: Option<Liveness>) -> Option<Liveness>
     ensures { result ≡ greater live_cmp a b }
 {
     match (a, b) {
@@ -46,7 +48,8 @@ fn greater_cell<'a>(a: Option<&'a Cell>, b: Option<&'a Cell>) -> Option<&'a Cell
     }
 }
 
-fn standing_live(over: Option<Deletion>, live: Option<Liveness>) -> Option<Liveness>
+/// What an `INSERT` leaves of a row, where the deletion doesn't cover it.
+pub fn standing_live(over: Option<Deletion>, live: Option<Liveness>) -> Option<Liveness>
     ensures { result ≡ standing live_at over live }
 {
     match (over, live) {

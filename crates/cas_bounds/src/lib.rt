@@ -9,5 +9,5 @@ mod order;
 
 pub use cuts::{Clustering, Cut, Slice, between, cmp_cut, inside};
 pub use laws::{cut_orders, cuts_divide_rows, keys_are_points, own_places, point_laws, row_orders};
-pub use map_key::{End, MapKey};
+pub use map_key::{End, MapKey, compare_points};
 pub use order::{Ordered, clustering_order, compare_values};

@@ -120,8 +120,8 @@ fn compare_orders(a: &[Ordered], b: &[Ordered]) -> Ordering
     }
 }
 
-// The order of two points of one table, each by its values and their end.
-fn compare_ends(order: &[Ordered], m: End, a: &[Bytes], n: End, b: &[Bytes]) -> Ordering
+/// The order of two points of a table, each by its end and its values.
+pub fn compare_points(order: &[Ordered], m: End, a: &[Bytes], n: End, b: &[Bytes]) -> Ordering
     ensures { result ≡ ends_cmp order.now m a.now n b.now }
 {
     match (a, b) {
@@ -130,7 +130,7 @@ fn compare_ends(order: &[Ordered], m: End, a: &[Bytes], n: End, b: &[Bytes]) -> 
         ([_x, _xs @ ..], []) => n.beside().reverse(),
         ([x, xs @ ..], [y, ys @ ..]) => {
             match compare_first(order, x.as_slice(), y.as_slice()) {
-                Ordering::Equal => compare_ends(later(order), m, xs, n, ys),
+                Ordering::Equal => compare_points(later(order), m, xs, n, ys),
                 decided => decided,
             }
         }
@@ -173,7 +173,7 @@ impl Ord for MapKey {
     fn cmp(&self, other: &MapKey) -> Ordering {
         let order = self.order.as_slice();
         match compare_orders(order, other.order.as_slice()) {
-            Ordering::Equal => compare_ends(
+            Ordering::Equal => compare_points(
                 order,
                 self.end,
                 self.values.as_slice(),

@@ -1,0 +1,77 @@
+-- What is left of a row, by whether something is said of its columns.
+use Rattle.std.proofs.Common.{◌≡◌, Bool, true, false, cond, ◌||◌, Option, None, Some, is_some, List, [], ◌∷◌, ◌++◌, map, refl, sym, ap, ◌∙◌, append_assoc}
+use Rattle.std.specs.Bool.{then_some}
+use Rattle.std.specs.List.{flat_map, cons_option}
+use Rattle.cas_cell.specs.declared.deletion.Deletion.{Deletion}
+use Rattle.cas_cell.specs.declared.liveness.Liveness.{Liveness}
+use Rattle.cas_bounds.specs.declared.cuts.Clustering.{Clustering}
+use Rattle.cas_atoms.specs.declared.atom.Atom.{Atom}
+use Rattle.cas_atoms.specs.declared.atom.Atom.TheVariants.{RowDeletion, Live}
+use Rattle.cas_atoms.specs.declared.atom.ColumnRef.{ColumnRef}
+use Rattle.cas_atoms.specs.declared.row.Row.{Row}
+use Rattle.cas_atoms.specs.declared.row.RowColumn.{RowColumn}
+use Rattle.cas_atoms.specs.declared.row.PathCell.{PathCell}
+use Rattle.cas_streams.specs.Flat.{atom_of, writes, empties, of_column, own}
+use Rattle.cas_streams.specs.Settled.{if_said, bare_column, bare_columns}
+use Rattle.cas_streams.specs.declared.fragment.Fragment.{Fragment}
+use Rattle.cas_streams.specs.declared.fragment.Fragment.TheVariants as fragment
+use Rattle.cas_merge.specs.Inner.Said.{says, any_says}
+
+-- whether atoms are there
+there : List Atom → Bool
+there [] = false
+there (a ∷ atoms) = true
+
+by_there : {X : Type 0} (atoms : List Atom) (x : X) → if_said atoms x ≡ cond (there atoms) (Some x) None
+unfolding there
+by_there [] x = refl
+by_there (a ∷ atoms) x = refl
+
+there_either : (A B : List Atom) → there (A ++ B) ≡ (there A || there B)
+unfolding there
+there_either [] B = refl
+there_either (a ∷ A) B = refl
+
+there_of : {X : Type 0} (make : X → Atom) (x : Option X) → there (atom_of make x) ≡ is_some x
+unfolding there
+there_of make None = refl
+there_of make (Some x) = refl
+
+column_there : (at : Option Clustering) (column : ColumnRef) (d : Option Deletion) (cells : List PathCell) → there (atom_of (empties at column) d ++ map (writes at column) cells) ≡ says d cells
+unfolding there
+column_there at column (Some d) cells = refl
+column_there at column None [] = refl
+column_there at column None (c ∷ cells) = refl
+
+columns_there : (at : Option Clustering) (cs : List RowColumn) → there (flat_map (of_column at) cs) ≡ any_says cs
+unfolding there
+columns_there at [] = refl
+columns_there at (c ∷ cs) =
+    there_either (of_column at c) (flat_map (of_column at) cs) ∙ (λ i. column_there at c.column c.deletion c.cells i || columns_there at cs i)
+
+pub column_left : (at : Option Clustering) (c : RowColumn) (b : Bool) → says c.deletion c.cells ≡ b → if_said (of_column at c) c ≡ cond b (Some c) None
+column_left at c b e = by_there (of_column at c) c ∙ ap (λ t. cond t (Some c) None) (column_there at c.column c.deletion c.cells ∙ e)
+
+pub static_left : (cs : List RowColumn) (b : Bool) → any_says cs ≡ b → if_said (own (fragment.Static cs)) (fragment.Static cs) ≡ cond b (Some (fragment.Static cs)) None
+static_left cs b e = by_there (own (fragment.Static cs)) (fragment.Static cs) ∙ ap (λ t. cond t (Some (fragment.Static cs)) None) (columns_there None cs ∙ e)
+
+pub row_left : (r : Row) (b : Bool) → (is_some r.deletion || (is_some r.live || any_says r.columns)) ≡ b → if_said (own (fragment.Row r)) (fragment.Row r) ≡ cond b (Some (fragment.Row r)) None
+row_left r b e =
+    by_there (own (fragment.Row r)) (fragment.Row r)
+    ∙ ap (λ t. cond t (Some (fragment.Row r)) None)
+    (there_either (atom_of (RowDeletion r.clustering) r.deletion) (atom_of (Live r.clustering) r.live ++ flat_map (of_column (Some r.clustering)) r.columns)
+    ∙ (λ i. there_of (RowDeletion r.clustering) r.deletion i || (there_either (atom_of (Live r.clustering) r.live) (flat_map (of_column (Some r.clustering)) r.columns)
+    ∙ (λ j. there_of (Live r.clustering) r.live j || columns_there (Some r.clustering) r.columns j)) i)
+    ∙ e)
+
+-- ---- a step of the loop over columns
+
+pub kept_column : (at : Option Clustering) (over : Option Deletion) (c : RowColumn) (cs kept written total : List RowColumn) → says (bare_column over c).deletion (bare_column over c).cells ≡ true
+    → kept ++ bare_columns at over (c ∷ cs) ≡ total → written ≡ kept ++ bare_column over c ∷ [] → written ++ bare_columns at over cs ≡ total
+kept_column at over c cs kept written total said e w =
+    ap (λ l. l ++ bare_columns at over cs) w ∙ append_assoc kept (bare_column over c ∷ []) (bare_columns at over cs)
+    ∙ ap (λ o. kept ++ cons_option o (bare_columns at over cs)) (sym (column_left at (bare_column over c) true said)) ∙ e
+
+pub dropped_column : (at : Option Clustering) (over : Option Deletion) (c : RowColumn) (cs kept total : List RowColumn) → says (bare_column over c).deletion (bare_column over c).cells ≡ false
+    → kept ++ bare_columns at over (c ∷ cs) ≡ total → kept ++ bare_columns at over cs ≡ total
+dropped_column at over c cs kept total said e = ap (λ o. kept ++ cons_option o (bare_columns at over cs)) (sym (column_left at (bare_column over c) false said)) ∙ e

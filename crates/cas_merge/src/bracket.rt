@@ -1,0 +1,136 @@
+//! Sources joined in pairs, and pairs in pairs.
+
+ghost use Rattle.std.specs.Prelude.{◌≡◌, List, Option, Some, OnOk, ◌≤◌};
+ghost use Rattle.cas_streams.specs.Sources.{TakesFirst, Shrinks};
+ghost use Rattle.cas_streams.specs.declared.fragment.Fragment.{Fragment};
+ghost use Rattle.cas_streams.specs.Joined.{raised, opened};
+ghost use Rattle.cas_merge.specs.Inner.Brackets.{coming, room, with_next, side_room, ahead_of, IsAsked, Steps, Lessens};
+
+use crate::joining::{joined_fragment, opened, raised};
+use crate::places::compare_fragments;
+use cas_cell::Deletion;
+use cas_streams::{Fragment, FragmentSource};
+use std::alloc::{AllocError, Global};
+use std::cmp::Ordering;
+use std::mem;
+
+/// What was asked of a side, and not yet given on.
+#[derive(Drop)]
+pub enum Ahead {
+    Unasked,
+    Next(Fragment),
+    Ended,
+}
+
+/// One side of a pair: its next fragment, and the range deletion in force after those given on.
+#[derive(Drop)]
+pub struct Side {
+    pub ahead: Ahead,
+    pub in_force: Option<Deletion>,
+}
+
+/// Sources joined in pairs, and pairs in pairs, so that a fragment passes as many pairs as the
+/// logarithm of their number.
+#[derive(Drop)]
+pub enum Bracket<I> {
+    Nobody,
+    Source(I),
+    Pair(Box<Bracket<I>>, Side, Box<Bracket<I>>, Side),
+}
+
+impl Side {
+    // The side's fragment goes on alone, where in the other side that is in force.
+    fn pass(&mut self, other: Option<Deletion>, f: Fragment) -> Fragment
+        ensures given { result ≡ raised other f }
+        ensures force { self.new.in_force ≡ opened self.old.in_force f }
+        ensures ahead { self.new.ahead ≡ self.old.ahead }
+    {
+        self.in_force = opened(self.in_force, &f);
+        raised(other, f)
+    }
+}
+
+// What comes first of the two sides.
+fn step(alloc: Global, left: &mut Side, right: &mut Side) -> Result<Option<Fragment>, AllocError>
+    requires { IsAsked left.now.ahead × IsAsked right.now.ahead }
+    ensures first { Steps left.old right.old left.new right.new result }
+    ensures ends { Lessens left.old right.old left.new right.new result }
+{
+    let first = mem::replace(&mut left.ahead, Ahead::Unasked);
+    let second = mem::replace(&mut right.ahead, Ahead::Unasked);
+    match (first, second) {
+        (Ahead::Next(f), Ahead::Next(g)) => match compare_fragments(&f, &g) {
+            Ordering::Less => {
+                right.ahead = Ahead::Next(g);
+                Ok(Some(left.pass(right.in_force, f)))
+            }
+            Ordering::Equal => {
+                left.in_force = opened(left.in_force, &f);
+                right.in_force = opened(right.in_force, &g);
+                Ok(Some(joined_fragment(alloc, f, g)?))
+            }
+            Ordering::Greater => {
+                left.ahead = Ahead::Next(f);
+                Ok(Some(right.pass(left.in_force, g)))
+            }
+        },
+        (Ahead::Next(f), _) => {
+            right.ahead = Ahead::Ended;
+            Ok(Some(left.pass(right.in_force, f)))
+        }
+        (_, Ahead::Next(g)) => {
+            left.ahead = Ahead::Ended;
+            Ok(Some(right.pass(left.in_force, g)))
+        }
+        (_, _) => {
+            left.ahead = Ahead::Ended;
+            right.ahead = Ahead::Ended;
+            Ok(None)
+        }
+    }
+}
+
+fn ahead_of(next: Option<Fragment>) -> Ahead
+    ensures { result ≡ ahead_of next }
+{
+    match next {
+        Some(f) => Ahead::Next(f),
+        None => Ahead::Ended,
+    }
+}
+
+impl<I: FragmentSource> Bracket<I> {
+    /// The next fragment of all sources, with nothing left out.
+    #[cycle(asking)]
+    pub fn next(&mut self, alloc: Global) -> Result<Option<Fragment>, I::Fault>
+        ensures first { (fs : List Fragment) → coming I.to_come self.old ≡ Some fs → TakesFirst fs (coming I.to_come self.new) result }
+        ensures ends { Shrinks (room I.at_most self.old) (room I.at_most self.new) result }
+    {
+        match self {
+            Bracket::Nobody => Ok(None),
+            Bracket::Source(source) => source.next(),
+            Bracket::Pair(left, one, right, other) => {
+                left.ask(alloc, one)?;
+                right.ask(alloc, other)?;
+                Ok(step(alloc, one, other)?)
+            }
+        }
+    }
+
+    // Asks for the side's next fragment, if it wasn't asked for.
+    #[cycle(asking)]
+    fn ask(&mut self, alloc: Global, side: &mut Side) -> Result<(), I::Fault>
+        ensures same { OnOk result ((fs : List Fragment) → with_next side.old.ahead (coming I.to_come self.old) ≡ Some fs → with_next side.new.ahead (coming I.to_come self.new) ≡ Some fs) }
+        ensures ends { OnOk result (side_room side.new.ahead (room I.at_most self.new) ≤ side_room side.old.ahead (room I.at_most self.old)) }
+        ensures force { side.new.in_force ≡ side.old.in_force }
+        ensures asked { OnOk result (IsAsked side.new.ahead) }
+    {
+        match &side.ahead {
+            Ahead::Unasked => {}
+            _ => return Ok(()),
+        }
+        let next = self.next(alloc)?;
+        side.ahead = ahead_of(next);
+        Ok(())
+    }
+}

@@ -1,0 +1,163 @@
+//! What is left of a fragment under what covers it.
+
+ghost use Rattle.std.specs.Prelude.{◌≡◌, filter, IfOk, Option, None, ◌||◌};
+ghost use Rattle.std.specs.Option.{is_some};
+ghost use Rattle.cas_bounds.specs.declared.cuts.Clustering.{Clustering};
+ghost use Rattle.cas_cell.specs.Cells.{cell_at};
+ghost use Rattle.cas_streams.specs.Flat.{own};
+ghost use Rattle.cas_streams.specs.Settled.{is_bare, if_said, bare_column, bare_columns, bare_row, bare, same_force, left_of};
+ghost use Rattle.cas_streams.specs.declared.fragment.Fragment.TheVariants as fragment;
+ghost use Rattle.cas_merge.specs.Inner.Said.{says, any_says};
+
+use cas_atoms::{PathCell, Row, RowColumn, greater_deletion, standing_live};
+use cas_cell::{Cell, Deletion, covers};
+use cas_streams::Fragment;
+use cas_types::List;
+use std::alloc::{AllocError, Global};
+
+fn is_bare(over: Option<Deletion>, cell: &Cell) -> bool
+    ensures { result ≡ is_bare over (cell_at cell.now) }
+{
+    match over {
+        None => true,
+        Some(d) => !covers(&d, cell.at()),
+    }
+}
+
+fn keep_bare(over: Option<Deletion>, cells: &mut Vec<PathCell>)
+    ensures { cells.new.items ≡ filter (λ p. is_bare over (cell_at p.cell)) cells.old.items }
+{
+    cells.retain(|p| is_bare(over, &p.cell));
+}
+
+fn bare_column(over: Option<Deletion>, c: RowColumn) -> RowColumn
+    ensures { result ≡ bare_column over c }
+{
+    let mut cells = c.cells.into_vec();
+    keep_bare(greater_deletion(over, c.deletion), &mut cells);
+    RowColumn {
+        column: c.column,
+        deletion: c.deletion,
+        cells: List::from_vec(cells),
+    }
+}
+
+fn says(c: &RowColumn) -> bool
+    ensures { result ≡ says c.now.deletion c.now.cells }
+{
+    c.deletion.is_some() || !c.cells.as_slice().is_empty()
+}
+
+fn any_says(columns: &[RowColumn]) -> bool
+    ensures { result ≡ any_says columns.now }
+{
+    match columns {
+        [] => false,
+        [c, rest @ ..] => says(c) || any_says(rest),
+    }
+}
+
+// What is left of the columns of a row.
+fn bare_columns(
+    alloc: Global,
+    over: Option<Deletion>,
+    columns: List<RowColumn>,
+) -> Result<Vec<RowColumn>, AllocError>
+    ensures { IfOk result (λ v. (at : Option Clustering) → v.items ≡ bare_columns at over columns) }
+{
+    let mut kept = Vec::new(alloc);
+    let mut rest = columns.into_vec().into_iter();
+    while let Some(c) = rest.next() {
+        let left = bare_column(over, c);
+        if says(&left) {
+            kept.push(left)?;
+        }
+    }
+    Ok(kept)
+}
+
+fn bare_row(alloc: Global, over: Option<Deletion>, r: Row) -> Result<Row, AllocError>
+    ensures { IfOk result (λ s. s ≡ bare_row over r) }
+{
+    let all = greater_deletion(over, r.deletion);
+    let columns = bare_columns(alloc, all, r.columns)?;
+    Ok(Row {
+        clustering: r.clustering,
+        deletion: r.deletion,
+        live: standing_live(all, r.live),
+        columns: List::from_vec(columns),
+    })
+}
+
+fn same_force(a: Option<Deletion>, b: Option<Deletion>) -> bool
+    ensures { result ≡ same_force a b }
+{
+    match (a, b) {
+        (None, None) => true,
+        (Some(x), Some(y)) => x.at.cmp(&y.at).then(x.second.cmp(&y.second)).is_eq(),
+        _ => false,
+    }
+}
+
+fn row_says(r: &Row) -> bool
+    ensures { result ≡ (is_some r.now.deletion || (is_some r.now.live || any_says r.now.columns)) }
+{
+    r.deletion.is_some() || r.live.is_some() || any_says(r.columns.as_slice())
+}
+
+// The static row, if something is said of it.
+#[tactic(auto, using(crate::proofs::Saying::static_left))]
+fn static_left(columns: List<RowColumn>) -> Option<Fragment>
+    ensures { result ≡ if_said (own (fragment.Static columns)) (fragment.Static columns) }
+{
+    if any_says(columns.as_slice()) {
+        Some(Fragment::Static(columns))
+    } else {
+        None
+    }
+}
+
+// The row, if something is said of it.
+#[tactic(auto, using(crate::proofs::Saying::row_left))]
+fn row_left(r: Row) -> Option<Fragment>
+    ensures { result ≡ if_said (own (fragment.Row r)) (fragment.Row r) }
+{
+    if row_says(&r) {
+        Some(Fragment::Row(r))
+    } else {
+        None
+    }
+}
+
+// What is left of the static row.
+fn bare_static(
+    alloc: Global,
+    top: Option<Deletion>,
+    columns: List<RowColumn>,
+) -> Result<List<RowColumn>, AllocError>
+    ensures { IfOk result (λ cs. cs ≡ bare_columns None top columns) }
+{
+    Ok(List::from_vec(bare_columns(alloc, top, columns)?))
+}
+
+/// What is left of a fragment under the top, where that is in force before it.
+pub fn left_of(
+    alloc: Global,
+    top: Option<Deletion>,
+    now: Option<Deletion>,
+    f: Fragment,
+) -> Result<Option<Fragment>, AllocError>
+    ensures { IfOk result (λ g. g ≡ left_of top now f) }
+{
+    match f {
+        Fragment::Static(columns) => Ok(static_left(bare_static(alloc, top, columns)?)),
+        Fragment::Row(r) => Ok(row_left(bare_row(alloc, greater_deletion(top, now), r)?)),
+        Fragment::Marker(cut, d) => {
+            if same_force(now, d) {
+                Ok(None)
+            } else {
+                Ok(Some(Fragment::Marker(cut, d)))
+            }
+        }
+    }
+}
