@@ -1,3 +1,4 @@
 pub mod Appends
 pub mod Begins
 pub mod Loops
+pub mod ManifestLaws

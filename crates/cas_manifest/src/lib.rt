@@ -4,11 +4,13 @@
 
 mod blocks;
 mod fault;
+mod laws;
 mod making;
 mod manifest;
 mod reading;
 mod writing;
 
 pub use fault::{Limit, ManifestFault};
+pub use laws::manifests_are_read;
 pub use manifest::Manifest;
 pub use reading::read_manifest;
