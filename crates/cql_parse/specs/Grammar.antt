@@ -1,6 +1,7 @@
 -- The grammar of CQL statements. A phrase goes from the lexemes that come to those that are left after it, as `Phrases` of `cql_phrases` says,
--- which also has names, lists, constants and terms; tables, CREATE TABLE and ALTER TABLE stand in `Tables` of `cql_tables`. In the comments `[x]` is x or nothing, `{x}` is x any number of times, `x | y` is one of them.
--- CQL documentation, "Data definition" and "Data manipulation"; AFTER and PAGE are own.
+-- which also has names, lists, constants and terms; tables, CREATE TABLE and ALTER TABLE stand in `Tables` of `cql_tables`. In the comments `[x]`
+-- is x or nothing, `{x}` is x any number of times, `x | y` is one of them.
+-- CQL documentation, "Data manipulation"; AFTER and PAGE are own.
 use Rattle.std.specs.Prelude.{ℕ, List, [], ◌∷◌, Option, None, Some}
 use Rattle.cql_phrases.specs.declared.lexeme.Lexeme.{Lexeme}
 use Rattle.cql_phrases.specs.declared.keyword.Keyword.{Keyword}
