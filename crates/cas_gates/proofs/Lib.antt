@@ -1,1 +1,1 @@
-pub mod GateLemmas
+pub mod Tearing
