@@ -37,6 +37,22 @@ one_call_more step more a b z first second alone both = record {
     from_start : (d c : Image) → b.may_leave d → more d c → (e : Image) × a.may_leave e × step e c
     from_start d c left after = ⊎_elim (λ was. (d, was, alone d c was left after)) (λ made. (made.0, made.1, both made.0 d c made.1 made.2 left after)) (left_after step a b first d left)
 
+-- a call on one file, by what it leaves of that file
+pub leaves_file : (n : Name) (change : Option (List ℕ) → Option (List ℕ) → Type 0) (P : Option (List ℕ) → Type 0) (a z : Disk) → During (Changed n change) a z
+    → ((d c : Image) → a.may_leave d → change (d n) (c n) → P (c n)) → During (Changed n (λ _ file. P file)) a z
+leaves_file n change P a z call says =
+    reworded (Changed n change) (Changed n (λ _ file. P file)) a z call (λ d c was changed. record { here = says d c was changed.here; others = changed.others })
+
+-- two of them, each by what the file was before it
+pub leaves_file_twice : (n : Name) (change more : Option (List ℕ) → Option (List ℕ) → Type 0) (P : Option (List ℕ) → Type 0) (a b z : Disk)
+    → During (Changed n change) a b → During (Changed n more) b z
+    → ((d c : Image) → a.may_leave d → change (d n) (c n) → P (c n)) → ((d c : Image) → b.may_leave d → more (d n) (c n) → P (c n))
+    → During (Changed n (λ _ file. P file)) a z
+leaves_file_twice n change more P a b z first second says then_says =
+    one_call_more (Changed n (λ _ file. P file)) (Changed n more) a b z (leaves_file n change P a b first says) second
+    (λ d c was mid changed. record { here = then_says d c mid changed.here; others = changed.others })
+    (λ e d c was so_far mid changed. record { here = then_says d c mid changed.here; others = λ k other. changed.others k other ∙ so_far.others k other })
+
 -- images of one kind, and then of another
 pub leaves_either : (P Q R : Image → Type 0) (a b z : Disk) → During (λ _ c. P c) a b → During (λ _ c. Q c) b z → ((c : Image) → P c → R c) → ((c : Image) → Q c → R c) → During (λ _ c. R c) a z
 leaves_either P Q R a b z first second says then_says =

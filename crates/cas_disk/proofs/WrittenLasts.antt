@@ -1,42 +1,25 @@
 -- What lasts after a write and a sync.
-use Rattle.std.proofs.Common.{◌≡◌, ◌≢◌, ℕ, ◌+◌, ◌≤◌, List, [], ◌++◌, length, Option, None, Some, refl, sym, ◌∙◌, ap, subst, arith}
+use Rattle.std.proofs.Common.{◌≡◌, ℕ, ◌+◌, ◌≤◌, List, [], ◌++◌, length, Option, None, Some, refl, sym, ◌∙◌, ap, subst, arith}
 use Rattle.std.proofs.lemmas.List.{append-nil, drop_all}
 use Rattle.cas_disk.specs.declared.name.Name.{Name}
-use Rattle.cas_disk.specs.Disk.{Image, Disk, During, Follows, Same, Changed, MayTear, MayBeAnything, Holds, Is, IsSynced, IsKept, put_at}
+use Rattle.cas_disk.specs.Disk.{Image, Disk, During, Follows, Same, Changed, MayTear, Holds, Is, IsSynced, IsKept, put_at}
 use Rattle.cas_disk.specs.Inner.PastLaws.{not_torn}
-use Rattle.cas_disk.proofs.Moments.{reworded, one_call_more}
+use Rattle.cas_disk.proofs.Moments.{one_call_more}
 
--- a sync changes nothing
+-- of a file that is written nothing may change
 pub may_not_tear : (at n : ℕ) (file : Option (List ℕ)) → MayTear at n file file
 may_not_tear at n None = refl
 may_not_tear at n (Some file) = (file, refl, not_torn at n file)
 
-pub then_same : (n : Name) (change : Option (List ℕ) → Option (List ℕ) → Type 0) (e d c : Image) → Changed n change e d → Same d c → Changed n change e c
-then_same n change e d c changed same = record {
-  here = subst (λ (x : Option (List ℕ)). change (e n) x) (sym (same n)) changed.here;
-  others = λ k other. same k ∙ changed.others k other;
-}
-
-pub was_same : (n : Name) (change : Option (List ℕ) → Option (List ℕ) → Type 0) (d c : Image) → change (d n) (d n) → Same d c → Changed n change d c
-was_same n change d c here same = then_same n change d d c (record { here = here; others = λ k other. refl }) same
-
--- calls that change one file, in any way
-module _ (n : Name) where
-  any : (d c : Image) → ((k : Name) → k ≢ n → c k ≡ d k) → Changed n MayBeAnything d c
-  any d c others = record { here = tt; others = others }
-
-  pub any_change : (change : Option (List ℕ) → Option (List ℕ) → Type 0) (a b : Disk) → During (Changed n change) a b → During (Changed n MayBeAnything) a b
-  any_change change a b call = reworded (Changed n change) (Changed n MayBeAnything) a b call (λ d c was changed. any d c changed.others)
-
-  pub any_more : (change : Option (List ℕ) → Option (List ℕ) → Type 0) (a b z : Disk) → During (Changed n MayBeAnything) a b → During (Changed n change) b z → During (Changed n MayBeAnything) a z
-  any_more change a b z first second = one_call_more (Changed n MayBeAnything) (Changed n change) a b z first second
-      (λ d c was mid changed. any d c changed.others)
-      (λ e d c was so_far mid changed. any e c (λ k other. changed.others k other ∙ so_far.others k other))
-
-  pub any_still : (a b z : Disk) → During (Changed n MayBeAnything) a b → During Same b z → During (Changed n MayBeAnything) a z
-  any_still a b z first second = one_call_more (Changed n MayBeAnything) Same a b z first second
-      (λ d c was mid same. any d c (λ k other. same k))
-      (λ e d c was so_far mid same. any e c (λ k other. same k ∙ so_far.others k other))
+-- calls that change one file, and then one that changes nothing
+pub then_still : (n : Name) (change : Option (List ℕ) → Option (List ℕ) → Type 0) (a b z : Disk) → ((file : Option (List ℕ)) → change file file)
+    → During (Changed n change) a b → During Same b z → During (Changed n change) a z
+then_still n change a b z may_stay first second = one_call_more (Changed n change) Same a b z first second
+    (λ d c was mid same. still d d c (record { here = may_stay (d n); others = λ k other. refl }) same)
+    (λ e d c was changed mid same. still e d c changed same)
+  where
+    still : (e d c : Image) → Changed n change e d → Same d c → Changed n change e c
+    still e d c changed same = record { here = subst (λ (x : Option (List ℕ)). change (e n) x) (sym (same n)) changed.here; others = λ k other. same k ∙ changed.others k other }
 
 -- what each image has of a file that was written over what was read, and synced
 abbrev pub Syncs : Name → Disk → Type 0

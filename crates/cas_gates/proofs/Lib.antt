@@ -1,2 +1,1 @@
-pub mod GateLemmas
-pub mod GateOver
+pub mod Tearing

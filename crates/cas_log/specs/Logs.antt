@@ -9,7 +9,7 @@ use Rattle.cas_gates.specs.declared.first.First.{First}
 use Rattle.cas_atoms.specs.declared.atom.Mutation.{Mutation}
 use Rattle.cas_atoms.specs.Fits.{FitsMutation}
 use Rattle.cas_atoms.specs.LogLength.{record_length}
-use Rattle.cas_log.specs.Segment.{body, front, joined, IsSegment}
+use Rattle.cas_log.specs.Segment.{body, written, front, joined, IsSegment}
 use Rattle.cas_log.specs.declared.fault.LogFault.{LogFault}
 use Rattle.cas_log.specs.declared.fault.LogFault.TheVariants.{TooLarge, Failed, Stopped, Bad, Mem}
 use Rattle.cas_log.specs.declared.log.Log.{Log}
@@ -24,6 +24,10 @@ pub record Place : Type 0 where
 abbrev pub place_of : Log → Place
 place_of log = record { number = log.number; size = log.size; end = log.end }
 
+-- the same segment, with the gate so much further
+abbrev pub moved : ℕ → Place → Place
+moved more place = record { number = place.number; size = place.size; end = place.end + more }
+
 -- whatever a crash leaves, the segment is there with these mutations, and ends with its closed gate
 pub record Stands (place : Place) (disk : Disk) (committed : List Mutation) : Type 0 where
   pub blocks : List (List Mutation)
@@ -33,12 +37,12 @@ pub record Stands (place : Place) (disk : Disk) (committed : List Mutation) : Ty
 
 -- these mutations are pushed and not committed
 pub record HasPushed (log : Log) (pushed : List Mutation) : Type 0 where
-  pub bytes : drop 8 log.pending.items ≡ body pushed
   pub count : length pushed ≡ log.count
+  pub bytes : log.block.items ≡ written (body pushed) log.count
 
 -- how long the block of what is pushed is, its gate and the next one with it
 abbrev pub block_length : Log → ℕ
-block_length log = vec_len log.pending + 2
+block_length log = vec_len log.block + 1
 
 -- a mutation that some table of some store allows
 abbrev pub IsOfATable : Mutation → Type 0
@@ -46,7 +50,7 @@ IsOfATable m = (table : TableSchema) × (shards : ℕ) × FitsMutation table sha
 
 -- there is memory for its record
 abbrev pub IsReserved : Log → Mutation → Type 0
-IsReserved log m = vec_len log.pending + record_length m + 1 ≤ vec_capacity log.pending
+IsReserved log m = vec_len log.block + record_length m ≤ vec_capacity log.block
 
 -- the longest record: half of a segment
 abbrev pub half : ℕ → ℕ

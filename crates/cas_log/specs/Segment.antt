@@ -1,9 +1,13 @@
 -- The bytes of a segment of the commit log. Own format.
-use Rattle.std.specs.Prelude.{◌≡◌, ◌≢◌, ℕ, ◌+◌, ◌≤◌, ◌^◌, List, ◌∷◌, ◌++◌, length, codes}
+use Rattle.std.specs.Prelude.{◌≡◌, ◌≢◌, ℕ, ◌+◌, ◌≤◌, ◌^◌, List, [], ◌∷◌, ◌++◌, length, codes}
 use Rattle.std.specs.List.{flat_map}
 use Rattle.cas_codec.specs.Fields.{u32, u64}
 use Rattle.cas_atoms.specs.declared.atom.Mutation.{Mutation}
 use Rattle.cas_mutations.specs.Spelling.{record_bytes}
+
+-- how long a segment may be: from 4,096 to 33,554,432 bytes
+abbrev pub IsSize : ℕ → Type 0
+IsSize size = (4096 ≤ size) × (size ≤ 2 ^ 25)
 
 -- a word, the segment's number and its size, eight bytes each
 unfoldable pub header : ℕ → ℕ → List ℕ
@@ -20,6 +24,10 @@ lengths long count = u32 long ++ u32 count
 -- what stands behind a gate
 abbrev pub block : List Mutation → List ℕ
 block mutations = lengths (length (body mutations)) (length mutations) ++ body mutations
+
+-- what a commit writes behind its gate: the block of these records, so many, and the next gate, closed
+abbrev pub written : List ℕ → ℕ → List ℕ
+written records count = lengths (length records) count ++ records ++ 0 ∷ []
 
 -- blocks, each behind its open gate
 abbrev pub opened : List (List Mutation) → List ℕ
@@ -43,6 +51,5 @@ pub record IsSegment (number : ℕ) (mutations : List Mutation) (file : List ℕ
   pub spelled : file ≡ front number size blocks ++ gate ∷ rest
   pub closed : gate ≢ 1
   pub all : joined blocks ≡ mutations
-  pub least : 4096 ≤ size
-  pub most : size ≤ 2 ^ 25
+  pub sized : IsSize size
   pub within : length (front number size blocks) + 1 ≤ size

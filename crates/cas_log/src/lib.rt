@@ -8,4 +8,4 @@ mod log;
 mod writing;
 
 pub use fault::LogFault;
-pub use log::Log;
+pub use log::{GREATEST_SEGMENT, LEAST_SEGMENT, Log};

@@ -1,7 +1,7 @@
 //! The segment that is written.
 
-ghost use Rattle.std.specs.Prelude.{◌+◌, ◌*◌, ◌≤◌, ◌<◌, ◌^◌, vec_len};
-ghost use Rattle.std.specs.Vec.{vec_capacity};
+ghost use Rattle.std.specs.Prelude.{◌+◌, ◌*◌, ◌≤◌, ◌<◌, vec_len};
+ghost use Rattle.cas_log.specs.Segment.{IsSize};
 
 /// The least and the greatest size of a segment, in bytes.
 pub const LEAST_SEGMENT: u64 = 4096;
@@ -17,14 +17,11 @@ pub struct Log {
     pub(crate) end: u64,
     /// How many mutations are pushed.
     pub(crate) count: u32,
-    /// Eight bytes for the block's lengths, and the records of the pushed mutations.
-    pub(crate) pending: Vec<u8>,
-    ghost least: { 4096 ≤ size },
-    ghost most: { size ≤ 2 ^ 25 },
+    /// What the next commit writes behind that gate: the block of the pushed mutations, and the gate after it.
+    pub(crate) block: Vec<u8>,
+    ghost sized: { IsSize size },
     ghost within: { end + 1 ≤ size },
-    ghost headed: { 8 ≤ vec_len pending },
-    ghost counted: { 4 * count + 8 ≤ vec_len pending },
-    // The block with its gate and the next one ends within the segment.
-    ghost room: { 0 < count → end + vec_len pending + 2 ≤ size },
-    ghost spare: { vec_len pending + 1 ≤ vec_capacity pending },
+    ghost counted: { 4 * count + 9 ≤ vec_len block },
+    // The block ends within the segment, with the gate after it.
+    ghost room: { 0 < count → end + vec_len block + 1 ≤ size },
 }

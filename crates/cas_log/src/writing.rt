@@ -6,9 +6,10 @@ ghost use Rattle.std.specs.Vec.{vec_capacity};
 ghost use Rattle.cas_disk.specs.Disk.{Image, During, Changed, MayBeAnything};
 ghost use Rattle.cas_atoms.specs.declared.atom.Mutation.{Mutation as MutationOf};
 ghost use Rattle.cas_atoms.specs.LogLength.{record_length};
-ghost use Rattle.cas_log.specs.Logs.{Stands, HasPushed, MayHave, Ends, Place, place_of, block_length, IsOfATable, IsReserved, WhyNotReserved, half};
+ghost use Rattle.cas_log.specs.Segment.{IsSize};
+ghost use Rattle.cas_log.specs.Logs.{Stands, HasPushed, MayHave, Ends, Place, place_of, moved, block_length, IsOfATable, IsReserved, WhyNotReserved, half};
 
-use crate::blocks::{first_bytes, push_record, room_for_lengths, seal, unseal};
+use crate::blocks::{add_record, first_bytes, no_records, take_records};
 use crate::fault::LogFault;
 use crate::log::Log;
 use cas_atoms::{Mutation, length};
@@ -19,21 +20,16 @@ use cas_mutations::records_are_exact;
 use std::alloc::Global;
 
 impl Log {
-    // What was pushed is committed: the gate stands behind it, and nothing is pushed.
-    fn settle(&mut self, block: u64)
-        requires some { 0 < self.old.count }
-        requires block { block ≡ vec_len self.old.pending + 1 }
-        ensures end { self.new.end ≡ self.old.end + block }
-        ensures count { self.new.count ≡ 0 }
-        ensures bytes { drop 8 self.new.pending.items ≡ [] }
-        ensures number { self.new.number ≡ self.old.number }
-        ensures size { self.new.size ≡ self.old.size }
-        ensures short { vec_len self.new.pending ≤ vec_len self.old.pending }
-        ensures capacity { vec_capacity self.new.pending ≡ vec_capacity self.old.pending }
+    // What was pushed is committed: the gate after it is the file's last byte, and nothing is pushed.
+    fn settle(&mut self)
+        requires { 0 < self.old.count }
+        ensures place { place_of self.new ≡ moved (vec_len self.old.block) (place_of self.old) }
+        ensures pushed { HasPushed self.new [] }
+        ensures reserved { (m : MutationOf) → IsReserved self.old m → IsReserved self.new m }
     {
-        self.end += block;
+        self.end += self.block.len() as u64;
         self.count = 0;
-        self.pending.truncate(8);
+        take_records(&mut self.block);
     }
 
     /// Begins a segment. After Ok its file lasts, with no mutations; until then a crash may leave
@@ -46,8 +42,7 @@ impl Log {
         size: u64,
     ) -> Result<Log, LogFault>
         requires absent { (c : Image) → (F.disk folder.old).reads c → c (Name.Log number) ≡ None }
-        requires least { 4096 ≤ size }
-        requires most { size ≤ 2 ^ 25 }
+        requires size { IsSize size }
         ensures place { IfOk result (λ log. ((place_of log).number ≡ number) × ((place_of log).size ≡ size)) }
         ensures stands { IfOk result (λ log. Stands (place_of log) (F.disk folder.new) []) }
         ensures pushed { IfOk result (λ log. HasPushed log []) }
@@ -58,14 +53,14 @@ impl Log {
         if let Some(kept) = first {
             return Err(LogFault::Stopped(*kept));
         }
-        let pending = room_for_lengths(alloc)?;
+        let block = no_records(alloc)?;
         match make(folder, Name::Log(number), &first_bytes(number, size)) {
             Ok(()) => Ok(Log {
                 number,
                 size,
                 end: 24,
                 count: 0,
-                pending,
+                block,
             }),
             Err(FolderFault::Failed) => {
                 *first = Some(First {
@@ -91,7 +86,7 @@ impl Log {
         if length > limit {
             return Err(LogFault::TooLarge { length, limit });
         }
-        self.pending.reserve(length as usize + 1)?;
+        self.block.reserve(length as usize)?;
         Ok(())
     }
 
@@ -100,7 +95,7 @@ impl Log {
         requires { record_length mutation.now < 2 ^ 32 }
         ensures { result ≡ nat_le ((place_of self.now).end + block_length self.now + record_length mutation.now) (place_of self.now).size }
     {
-        self.end + self.pending.len() as u64 + 2 + length(mutation) <= self.size
+        self.end + self.block.len() as u64 + 1 + length(mutation) <= self.size
     }
 
     /// Adds a mutation to those that the next commit takes.
@@ -113,7 +108,7 @@ impl Log {
         ensures long { block_length self.new ≡ block_length self.old + record_length mutation.now }
     {
         records_are_exact();
-        push_record(&mut self.pending, mutation);
+        add_record(&mut self.block, mutation, self.count + 1);
         self.count += 1;
     }
 
@@ -146,13 +141,9 @@ impl Log {
         if self.count == 0 {
             return Ok(());
         }
-        seal(&mut self.pending, self.count);
-        let written = write_gated(folder, Name::Log(self.number), self.end, &self.pending);
-        unseal(&mut self.pending);
-        match written {
+        match write_gated(folder, Name::Log(self.number), self.end, &self.block) {
             Ok(()) => {
-                let block = self.pending.len() as u64 + 1;
-                self.settle(block);
+                self.settle();
                 Ok(())
             }
             Err(Failed) => {

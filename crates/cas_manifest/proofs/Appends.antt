@@ -10,9 +10,8 @@ use Rattle.std.specs.List.{fold}
 use Rattle.cas_codec.specs.Fields.{u32}
 use Rattle.cas_disk.specs.Disk.{Disk, During, Changed, IsKept}
 use Rattle.cas_disk.specs.declared.name.Name.TheVariants.{Manifest as manifest_name}
-use Rattle.cas_disk.proofs.Moments.{reworded}
+use Rattle.cas_disk.proofs.Moments.{leaves_file}
 use Rattle.cas_gates.specs.Gates.{MayOpenOver}
-use Rattle.cas_gates.proofs.GateLemmas.{changed_to}
 use Rattle.cas_changes.specs.declared.entry.Entry.{Entry}
 use Rattle.cas_changes.specs.declared.entry.Entry.TheVariants as entry
 use Rattle.cas_changes.specs.declared.said.TheConstants.{FILE_LIMIT, LISTED_LIMIT}
@@ -109,10 +108,8 @@ module _ (place : Place) (old : Disk) (entries : List Entry) (e : Entry) (stands
   unfolding next
   append_during low room new call =
       let opens : Option (List ℕ) → Option (List ℕ) → Type 0 = λ _ file. MayOpenOver (front entries) bytes file in
-      let either : Option (List ℕ) → Option (List ℕ) → Type 0 = λ _ file. MayHave entries e file in
-      reworded (Changed manifest_name opens) (Changed manifest_name either) old new (call (front entries) stands.rest stands.gate stands.end stands.closed stands.kept)
-      (λ d x was changed. changed_to manifest_name opens either d x changed
-      (either_manifest entries e bytes is stands.follow next (omega (arith, stands.end, low)) (omega (arith, stands.end, room)) (x manifest_name) changed.here))
+      leaves_file manifest_name opens (MayHave entries e) old new (call (front entries) stands.rest stands.gate stands.end stands.closed stands.kept)
+      (λ d x was here. either_manifest entries e bytes is stands.follow next (omega (arith, stands.end, low)) (omega (arith, stands.end, room)) (x manifest_name) here)
 
   pub append_done : (end listed : ℕ) → end ≡ place.end + length bytes → listed ≡ listed_after place.listed e → (new : Disk)
       → ((f left : List ℕ) (closed : ℕ) → length f ≡ place.end → closed ≢ 1 → IsKept manifest_name (f ++ closed ∷ left) old

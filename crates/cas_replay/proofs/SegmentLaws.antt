@@ -22,7 +22,7 @@ use Rattle.cas_mutations.specs.Spelling.{record_bytes, mutation_bytes}
 use Rattle.cas_mutations.specs.Allowed.{AreTables, FitsRecord}
 use Rattle.cas_mutations.specs.Reading.{record_at}
 use Rattle.cas_mutations.proofs.RecordLaws.{record_exact}
-use Rattle.cas_log.specs.Segment.{header, lengths, body, block, opened, joined, front}
+use Rattle.cas_log.specs.Segment.{IsSize, header, lengths, body, block, opened, joined, front}
 use Rattle.cas_replay.specs.Reading.{follows, next_at, records_at, length_at, block_at, blocks_at, header_at, segment_at, segment_of}
 use Rattle.cas_replay.specs.Grammar.{AreInOrder, IsSegmentOf}
 use Rattle.cas_replay.proofs.Order.{Follow, in_order, each_follows}
@@ -87,9 +87,6 @@ fit_parts P [] others all = (tt, all)
 fit_parts P (m ∷ ms) others all = let both = fit_parts P ms others all.1 in ((all.0, both.0), both.1)
 
 -- ---- the header
-
-abbrev IsSize : ℕ → Type 0
-IsSize size = (4096 ≤ size) × (size ≤ 2 ^ 25)
 
 size_in : (size : ℕ) → is_in_range 4096 (2 ^ 25) size ≡ true → IsSize size
 size_in size e =
@@ -396,8 +393,7 @@ module _ (tables : List TableSchema) (shards : ℕ) (are : AreTables tables) (so
               ∙ sym (append_assoc (header number h.0.0) (opened b.blocks) (b.gate ∷ p.0.1.bytes));
           closed = b.shut;
           all = same;
-          least = f.0.0;
-          most = f.0.1;
+          sized = f.0;
           within = omega (arith, b.within, f.1.at, length-append (header number h.0.0) (opened b.blocks));
         };
         fit = subst (λ (l : List Mutation). AllByRecursion Fits l) same b.fit;
@@ -418,9 +414,9 @@ module _ (tables : List TableSchema) (shards : ℕ) (are : AreTables tables) (so
       ap (λ (l : List ℕ). (header_at number (read_left l 0) >>= λ size. blocks_at tables shards
       (length size.1.bytes) size.0 [] size.1) >>= λ found. Ok found.0) whole
       ∙ ap (λ (r : Read ℕ). (r >>= λ size. blocks_at tables shards (length size.1.bytes) size.0 [] size.1) >>= λ found. Ok found.0)
-      (header_again number s.size tail 0 lt (s.least, s.most))
+      (header_again number s.size tail 0 lt s.sized)
       ∙ ap (λ (r : Read (List Mutation)). r >>= λ found. Ok found.0)
       (blocks_again (length tail) s.size [] s.blocks s.gate s.rest (0 + length head) s.closed byte (omega (arith, long, many_blocks s.blocks))
       (subst (λ (l : List Mutation). AllByRecursion Fits l) (sym s.all) is.fit) (each_follows [] (joined s.blocks) (subst AreInOrder (sym s.all) is.ordered))
-      (omega (arith, s.within, length-append head (opened s.blocks))) s.most)
+      (omega (arith, s.within, length-append head (opened s.blocks))) s.sized.1)
       ∙ ap (λ (l : List Mutation). Ok l) s.all
