@@ -45,6 +45,8 @@ pub selected_changes : (s : Select) → changes_of (statement.Select s) ≡ []
 unfolding changes_of
 selected_changes s = refl
 
+pub ruleset changed_steps = (flat_map_map, and_nothing, inserted_changes, updated_changes, deleted_changes, created_changes, altered_changes, selected_changes)
+
 -- one more item is put after what those before it came to
 pub pushed_step : {X Y : Type 0} (f : X → List Y) (first : List Y) (A : List X) (i : ℕ) (x : X) (before after : List Y) → i < length A → x ≡ get_or A i x
     → before ≡ first ++ flat_map f (take i A) → after ≡ before ++ f x → after ≡ first ++ flat_map f (take (i + 1) A)

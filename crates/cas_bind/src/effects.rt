@@ -232,7 +232,7 @@ fn push_deleted(
     Ok(())
 }
 
-#[tactic(auto, using(crate::proofs::EffectLemmas::flat_map_map, crate::proofs::EffectLemmas::and_nothing, crate::proofs::EffectLemmas::inserted_changes, crate::proofs::EffectLemmas::updated_changes, crate::proofs::EffectLemmas::deleted_changes, crate::proofs::EffectLemmas::created_changes, crate::proofs::EffectLemmas::altered_changes, crate::proofs::EffectLemmas::selected_changes))]
+#[tactic(auto, using(crate::proofs::EffectLemmas::changed_steps))]
 fn push_changes(
     alloc: Global,
     columns: &[Column],
