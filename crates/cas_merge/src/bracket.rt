@@ -1,13 +1,16 @@
 //! Sources joined in pairs, and pairs in pairs.
 
-ghost use Rattle.std.specs.Prelude.{◌≡◌, List, Option, Some, OnOk, ◌≤◌};
+ghost use Rattle.std.specs.Prelude.{◌≡◌, List, Option, Some, OnOk, ◌≤◌, ◌+◌};
 ghost use Rattle.cas_streams.specs.Sources.{TakesFirst, Shrinks};
+ghost use Rattle.cas_streams.specs.Merged.{Draw, entered};
+ghost use Rattle.cas_streams.specs.Joined.{Stream};
 ghost use Rattle.cas_streams.specs.declared.fragment.Fragment.{Fragment};
 ghost use Rattle.cas_streams.specs.Joined.{raised, opened};
-ghost use Rattle.cas_merge.specs.Inner.Brackets.{coming, room, with_next, side_room, ahead_of, IsAsked, Steps, Lessens};
+ghost use Rattle.cas_merge.specs.Inner.Brackets.{coming, room, with_next, side_room, ahead_of, IsAsked, Steps, Lessens, fresh, left_to_come, IsFresh, Tells};
 
 use crate::joining::{joined_fragment, opened, raised};
 use crate::places::compare_fragments;
+use crate::settling::left_of;
 use cas_cell::Deletion;
 use cas_streams::{Fragment, FragmentSource};
 use std::alloc::{AllocError, Global};
@@ -39,6 +42,16 @@ pub enum Bracket<I> {
 }
 
 impl Side {
+    /// A side that was asked for nothing yet.
+    pub fn new() -> Self
+        ensures { result ≡ fresh }
+    {
+        Side {
+            ahead: Ahead::Unasked,
+            in_force: None,
+        }
+    }
+
     // The side's fragment goes on alone, where in the other side that is in force.
     fn pass(&mut self, other: Option<Deletion>, f: Fragment) -> Fragment
         ensures given { result ≡ raised other f }
@@ -115,6 +128,52 @@ impl<I: FragmentSource> Bracket<I> {
                 Ok(step(alloc, one, other)?)
             }
         }
+    }
+
+    /// One more source, on the side that has fewer. Nothing was asked yet.
+    pub fn enter(&mut self, alloc: Global, source: I) -> Result<(), AllocError>
+        requires { IsFresh self.now }
+        ensures fresh { OnOk result (IsFresh self.new) }
+        ensures told { OnOk result ((d : Draw) (s : Stream) → Tells I.to_come I.over_all self.old d → I.to_come source ≡ Some s.fragments → I.over_all source ≡ s.top → Tells I.to_come I.over_all self.new (entered d s)) }
+        ensures room { OnOk result (room I.at_most self.new ≡ room I.at_most self.old + I.at_most source) }
+    {
+        match self {
+            Bracket::Nobody => {
+                *self = Bracket::Source(source);
+            }
+            Bracket::Source(_) => {
+                let first = mem::replace(self, Bracket::Nobody);
+                let first = Box::new(alloc, first)?;
+                let second = Box::new(alloc, Bracket::Source(source))?;
+                *self = Bracket::Pair(first, Side::new(), second, Side::new());
+            }
+            Bracket::Pair(left, _, right, _) => {
+                right.enter(alloc, source)?;
+                mem::swap(left, right);
+            }
+        }
+        Ok(())
+    }
+
+    /// The next fragment of the merge: the next of which, under the top and what is in force, something
+    /// is left.
+    pub fn next_left(
+        &mut self,
+        alloc: Global,
+        top: Option<Deletion>,
+        now: &mut Option<Deletion>,
+    ) -> Result<Option<Fragment>, I::Fault>
+        ensures first { (fs : List Fragment) → left_to_come top now.old (coming I.to_come self.old) ≡ Some fs → TakesFirst fs (left_to_come top now.new (coming I.to_come self.new)) result }
+        ensures ends { Shrinks (room I.at_most self.old) (room I.at_most self.new) result }
+    {
+        while let Some(f) = self.next(alloc)? {
+            let before = *now;
+            *now = opened(before, &f);
+            if let Some(g) = left_of(alloc, top, before, f)? {
+                return Ok(Some(g));
+            }
+        }
+        Ok(None)
     }
 
     // Asks for the side's next fragment, if it wasn't asked for.

@@ -4,6 +4,7 @@ use Rattle.cas_cell.specs.declared.deletion.Deletion.{Deletion}
 use Rattle.cas_streams.specs.Weaving.{woven}
 use Rattle.cas_streams.specs.Joined.{by_place, Stream}
 use Rattle.cas_streams.specs.Sources.{TakesFirst, Shrinks}
+use Rattle.cas_streams.specs.Settled.{settled_from}
 use Rattle.cas_streams.specs.Merged.{Draw, nobody, one, pair}
 use Rattle.cas_streams.specs.declared.fragment.Fragment.{Fragment}
 use Rattle.cas_merge.specs.declared.bracket.Ahead.{Ahead}
@@ -62,3 +63,25 @@ Lessens s t u v result = (m n : ℕ) → Shrinks (side_room s.ahead m + side_roo
 abbrev pub ahead_of : Option Fragment → Ahead
 ahead_of None = Ended
 ahead_of (Some f) = Next f
+
+-- a side that was asked for nothing yet
+abbrev pub fresh : Side
+fresh = record { ahead = Unasked; in_force = None }
+
+-- sources that weren't asked yet tell the streams of a draw, joined in these pairs
+abbrev pub Tells : {I : Type 0} → (I → Option (List Fragment)) → (I → Option Deletion) → Bracket I → Draw → Type 0
+Tells tells tops Nobody nobody = Unit {0}
+Tells tells tops (Source s) (one t) = (tells s ≡ Some t.fragments) × (tops s ≡ t.top)
+Tells tells tops (Pair' p l s q r t) (pair a b) = Tells tells tops l a × Tells tells tops r b × (s ≡ fresh) × (t ≡ fresh)
+Tells tells tops b d = ⊥
+
+-- no side was asked yet
+abbrev pub IsFresh : {I : Type 0} → Bracket I → Type 0
+IsFresh Nobody = Unit {0}
+IsFresh (Source s) = Unit {0}
+IsFresh (Pair' p l s q r t) = IsFresh l × IsFresh r × (s ≡ fresh) × (t ≡ fresh)
+
+-- what is left of what comes, if before it `now` is in force
+abbrev pub left_to_come : Option Deletion → Option Deletion → Option (List Fragment) → Option (List Fragment)
+left_to_come top now None = None
+left_to_come top now (Some fs) = Some (settled_from top now fs)
