@@ -1,5 +1,5 @@
 -- What runs in a list of works, its beginner's diary has begun and not ended; and the other way round.
-use Rattle.std.proofs.Common.{◌≡◌, ◌≢◌, ℕ, ◌⊎◌, List, [], ◌∷◌, ◌++◌, Bool, true, false, cond, refl, ap, sym, ◌∙◌, subst, inl, inr, ⊎_elim, eqb, eq-eqb, ne_eqb, true≢false}
+use Rattle.std.proofs.Common.{◌%◌, ◌≤◌, ◌≡◌, ◌≢◌, ℕ, ◌⊎◌, List, [], ◌∷◌, ◌++◌, Bool, true, false, cond, refl, ap, sym, ◌∙◌, subst, inl, inr, ⊎_elim, eqb, eq-eqb, ne_eqb, true≢false}
 use Rattle.std.specs.Prelude.{Option, None, Some}
 use Rattle.std.specs.List.{fold}
 use Rattle.std.proofs.lemmas.Bool.Decides.{eqb_tells}
@@ -10,7 +10,7 @@ use Rattle.cas_ledger.proofs.Parts.{part_gets, part_stays, legal_grows}
 use Rattle.cas_history.specs.declared.item.Item.{Item}
 use Rattle.cas_history.specs.declared.item.Item.TheVariants.{Found, Wrote, Purged, Faulted, Read, Rose, Drew, Began, Ended, Changed}
 use Rattle.cas_history.specs.Last.{runs, runs_after, turn, turn_after}
-use Rattle.cas_history.specs.Items.{items, listed, lists_of}
+use Rattle.cas_history.specs.Items.{first_diary, items, listed, lists_of}
 
 some_one : (p q : ℕ) → Some p ≡ Some q → p ≡ q
 some_one p q e = ap the e
@@ -93,7 +93,7 @@ module _ {E : Type 0} where
   begins_turned : (works pass : ℕ) → works ≢ pass → (before : List (Item E)) (p : ℕ) (what : E) → Turned works pass before → Follows items before (Began works p what) → Turned works pass (before ++ Began works p what ∷ [])
   begins_turned works pass apart before p what so f now =
       let e = Began works p what in
-      let idle : runs works (listed works before) ≡ None = f.0.0.3 refl in
+      let idle : runs works (listed works before) ≡ None = f.0.0.4 refl in
       let runs_now : runs works (listed works (before ++ e ∷ [])) ≡ Some p = fold_gets (runs_after works) None works before e (inl refl) ∙ ap (λ (t : Bool). cond t (Some p) (runs works (listed works before))) (eq-eqb works works refl) in
       ⊎_elim
       (λ (same : p ≡ pass). runs_now ∙ ap Some same)
@@ -138,3 +138,46 @@ module _ {E : Type 0} where
           subst (λ x. Turned works pass (before ++ x ∷ [])) (sym is.2) (begins_turned works pass apart before is.0 is.1 so (subst (Follows items before) is.2 f)) now
       one before e so f (inr (inr is)) now =
           subst (λ x. Turned works pass (before ++ x ∷ [])) (sym is.1) (ends_turned works pass apart before is.0 so (subst (Follows items before) is.1 f)) now
+
+  -- who runs is a diary that has the turn
+  abbrev pub Running : ℕ → ℕ → List (Item E) → Type 0
+  Running works pass log = runs works (listed works log) ≡ Some pass → (first_diary ≤ pass) × (pass % 2 ≡ 0) × (turn works (listed pass log) ≡ true)
+
+  pub running : (works pass : ℕ) (log : List (Item E)) → Legal items log → Running works pass log
+  running works pass log legal =
+      legal_grows items (Running works pass) (λ runs'. absurd (none_some pass runs')) (λ before e so f. one before e so f (which works e)) log legal
+    where
+      begun : (before : List (Item E)) (e : Item E) (p : ℕ) (what : E) → e ≡ Began works p what → Follows items before e → runs works (listed works (before ++ e ∷ [])) ≡ Some pass
+          → (first_diary ≤ pass) × (pass % 2 ≡ 0) × (turn works (listed pass (before ++ e ∷ [])) ≡ true)
+      begun before e p what is f now =
+          let has : Has (lists_of e) works = subst (λ x. Has (lists_of x) works) (sym is) (inl refl) in
+          let here : runs works (listed works (before ++ e ∷ [])) ≡ Some p =
+          fold_gets (runs_after works) None works before e has
+          ∙ (ap (runs_after works (runs works (listed works before))) is ∙ ap (λ (t : Bool). cond t (Some p) (runs works (listed works before))) (eq-eqb works works refl)) in
+          let same : p ≡ pass = some_one p pass (sym here ∙ now) in
+          let f' : Follows items before (Began works p what) = subst (Follows items before) is f in
+          let diary : Has (lists_of e) pass = subst (λ x. Has (lists_of x) pass) (sym is) (inr (inl same)) in (
+            subst (λ (k : ℕ). first_diary ≤ k) same f'.0.0.1,
+            subst (λ (k : ℕ). k % 2 ≡ 0) same f'.0.0.3,
+            fold_gets (turn_after works) false pass before e diary
+                ∙ (ap (turn_after works (turn works (listed pass before))) is ∙ ap (λ (t : Bool). cond t true (turn works (listed pass before))) (eq-eqb works works refl)),
+          )
+
+      one : (before : List (Item E)) (e : Item E) → Running works pass before → Follows items before e → other_or_not works e → Running works pass (before ++ e ∷ [])
+      one before e so f (inl o) now =
+          let was = so (sym (fold_kept (runs_after works) None works before e (runs_kept works e o)) ∙ now) in (
+            was.0,
+            was.1,
+            fold_kept (turn_after works) false pass before e (turn_kept works e o) ∙ was.2,
+          )
+      one before e so f (inr (inl is)) now = begun before e is.0 is.1 is.2 f now
+      one before e so f (inr (inr is)) now =
+          let has : Has (lists_of e) works = subst (λ x. Has (lists_of x) works) (sym is.1) (inl refl) in
+          let over : runs works (listed works (before ++ e ∷ [])) ≡ None =
+          fold_gets (runs_after works) None works before e has
+          ∙ (ap (runs_after works (runs works (listed works before))) is.1 ∙ ap (λ (t : Bool). cond t None (runs works (listed works before))) (eq-eqb works works refl)) in
+          absurd (none_some pass (sym over ∙ now))
+
+pub none_if : (o : Option ℕ) → ((p : ℕ) → o ≡ Some p → ⊥) → o ≡ None
+none_if None no_one = refl
+none_if (Some p) no_one = absurd (no_one p refl)

@@ -1,5 +1,5 @@
 -- Which lists an entry of the history stands in, and what it may follow there.
-use Rattle.std.specs.Prelude.{◌≡◌, ◌≢◌, ℕ, ◌+◌, ◌/◌, ◌<◌, ◌≤◌, List, [], ◌∷◌, true, None, Some}
+use Rattle.std.specs.Prelude.{◌≡◌, ◌≢◌, ℕ, ◌+◌, ◌/◌, ◌%◌, ◌<◌, ◌≤◌, List, [], ◌∷◌, true, None, Some}
 use Rattle.cas_ledger.specs.Log.{Rules, Each, part}
 use Rattle.cas_history.specs.declared.item.Item.{Item}
 use Rattle.cas_history.specs.declared.item.Item.TheVariants.{Found, Wrote, Purged, Faulted, Read, Rose, Drew, Began, Ended, Changed}
@@ -37,7 +37,7 @@ room_changes shard = 64 + shard
 abbrev pub book_changes : ℕ → ℕ
 book_changes shard = 80 + shard
 
--- from here on lists are diaries, of sessions and workers, and works, of a table's flushes or of its compactions (own)
+-- from here on even lists are diaries, of sessions and workers, and odd ones are works, of a table's flushes or of its compactions (own)
 abbrev pub first_diary : ℕ
 first_diary = 96
 
@@ -73,7 +73,7 @@ module _ {E : Type 0} where
   MayCome list before (Read pass _) = first_diary ≤ pass
   MayCome list before (Rose shard pass micros) = (shard < 16) × (last_moment before < micros / 1000000)
   MayCome list before (Drew pass table) = (first_diary ≤ pass) × (list ≡ numbers_list → last_table before < table)
-  MayCome list before (Began works pass _) = (first_diary ≤ works) × (first_diary ≤ pass) × (works ≢ pass) × (list ≡ works → runs works before ≡ None)
+  MayCome list before (Began works pass _) = (first_diary ≤ works) × (first_diary ≤ pass) × (works ≢ pass) × (pass % 2 ≡ 0) × (list ≡ works → runs works before ≡ None)
   MayCome list before (Ended works pass) = (first_diary ≤ works) × (first_diary ≤ pass) × (works ≢ pass) × (list ≡ works → runs works before ≡ Some pass)
   MayCome list before (Changed shard pass added _) = (shard < 16) × (first_diary ≤ pass) × (list ≡ pass → Each (λ table. holds table before ≡ true) added)
 

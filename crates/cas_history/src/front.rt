@@ -1,5 +1,5 @@
 //! Mutations: the room's list of all, each shard's list, each session's own.
-ghost use Rattle.std.specs.Prelude.{◌≡◌, ℕ, ◌+◌, ◌<◌, ◌≤◌, [], ◌∷◌, ◌++◌};
+ghost use Rattle.std.specs.Prelude.{◌≡◌, ℕ, ◌+◌, ◌%◌, ◌<◌, ◌≤◌, [], ◌∷◌, ◌++◌};
 ghost use mathlib.Core.List.{IsPrefix};
 ghost use Rattle.cas_ledger.specs.Hands.{Owns};
 ghost use Rattle.cas_history.specs.Items.{items, listed, log_list, front_list, first_diary};
@@ -35,6 +35,7 @@ pub struct Session<E, J: Store> {
     pub(crate) list: u64,
     calls: u64,
     ghost owns: { (first_diary ≤ list) × Owns pass list },
+    ghost even: { list % 2 ≡ 0 },
     ghost last: { calls ≡ last_call (listed list pass.saw) },
 }
 
@@ -121,7 +122,7 @@ impl<E, J: Store> Front<E, J> {
 
 impl<E, J: Store> Session<E, J> {
     pub fn new(fresh: Fresh<E, J>) -> Session<E, J>
-        requires { first_diary ≤ fresh.list }
+        requires { (first_diary ≤ fresh.list) × (fresh.list % 2 ≡ 0) }
         ensures { (result.list ≡ fresh.list) × (result.calls ≡ 0) × (listed fresh.list result.pass.saw ≡ []) }
     {
         Session {

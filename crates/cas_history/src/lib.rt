@@ -16,7 +16,7 @@ pub use changes::{BookCopy, Changes, RoomCopy, install};
 pub use faults::Faults;
 pub use front::{Front, Log, Session, purge, write};
 pub use item::Item;
-pub use laws::{book_stands, room_stands, session_stands, shard_stands, show};
+pub use laws::{book_stands, nothing_runs, room_stands, session_stands, shard_stands, show};
 pub use maker::{Fresh, Maker};
 pub use moments::Moments;
 pub use numbers::Numbers;

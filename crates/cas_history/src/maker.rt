@@ -10,7 +10,7 @@ use std::alloc::AllocError;
 /// It owns each list from `next` on, and those are empty.
 #[derive(Drop)]
 pub struct Maker<E, J: Store> {
-    pass: Pass<Item<E>, J>,
+    pub(crate) pass: Pass<Item<E>, J>,
     next: u64,
     ghost makes: { pass.from ≡ Some next },
     ghost empty: { (r : ℕ) → next ≤ r → listed r pass.saw ≡ [] },

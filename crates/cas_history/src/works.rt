@@ -1,5 +1,5 @@
 //! Flushes and compactions: what runs, and whose turn it is to end it.
-ghost use Rattle.std.specs.Prelude.{◌≡◌, ◌≢◌, ◌≤◌, Bool, true, false, None, Some, [], ◌∷◌, ◌++◌, OnErr, IfSome, IfNone};
+ghost use Rattle.std.specs.Prelude.{◌≡◌, ◌≢◌, ◌≤◌, ◌%◌, Bool, true, false, None, Some, [], ◌∷◌, ◌++◌, OnErr, IfSome, IfNone};
 ghost use mathlib.Core.List.{IsPrefix};
 ghost use Rattle.cas_ledger.specs.Hands.{Owns};
 ghost use Rattle.cas_history.specs.Items.{listed, first_diary};
@@ -16,10 +16,11 @@ use std::marker::PhantomData;
 /// compacts, where that runs.
 #[derive(Drop)]
 pub struct Works<E, J: Store> {
-    pass: Pass<Item<E>, J>,
-    list: u64,
+    pub(crate) pass: Pass<Item<E>, J>,
+    pub(crate) list: u64,
     running: Option<u64>,
     ghost owns: { (first_diary ≤ list) × Owns pass list },
+    ghost odd: { list % 2 ≡ 1 },
     ghost is_last: { running ≡ runs list (listed list pass.saw) },
 }
 
@@ -52,7 +53,7 @@ impl<E> Tells<Item<E>> for Ending<E> {
 
 impl<E, J: Store> Works<E, J> {
     pub fn new(fresh: Fresh<E, J>) -> Works<E, J>
-        requires { first_diary ≤ fresh.list }
+        requires { (first_diary ≤ fresh.list) × (fresh.list % 2 ≡ 1) }
         ensures { (result.list ≡ fresh.list) × (result.running ≡ None) }
     {
         Works {
@@ -64,7 +65,6 @@ impl<E, J: Store> Works<E, J> {
 
     /// Begins one. False exactly where one runs, and then nothing began.
     pub fn begin<T: Tells<E>>(&mut self, session: &mut Session<E, J>, what: &T) -> bool
-        requires apart { self.old.list ≢ session.old.list }
         ensures yes_ { result ≡ true → (self.old.running ≡ None) × (self.new.running ≡ Some session.old.list) }
         ensures list { result ≡ true → listed self.old.list self.new.pass.saw ≡ listed self.old.list self.old.pass.saw ++ Began self.old.list session.old.list (T.entry what.now) ∷ [] }
         ensures turn { result ≡ true → turn self.old.list (listed session.old.list session.new.pass.saw) ≡ true }
@@ -89,7 +89,6 @@ impl<E, J: Store> Works<E, J> {
 
     /// Who began it ends it: the turn, which its diary has, is all that it asks.
     pub fn end(&mut self, session: &mut Session<E, J>)
-        requires apart { self.old.list ≢ session.old.list }
         requires turn { turn self.old.list (listed session.old.list session.old.pass.saw) ≡ true }
         ensures was { self.old.running ≡ Some session.old.list }
         ensures none { (self.new.running ≡ None) × (self.new.list ≡ self.old.list) }

@@ -126,6 +126,28 @@ pub fn look<E: Entries, J: Store>(one: &mut Pass<E, J>, two: &mut Pass<E, J>, wo
     count
 }
 
+/// Three passes meet, and are shown the log so far.
+pub fn look_three<E: Entries, J: Store>(
+    one: &mut Pass<E, J>,
+    two: &mut Pass<E, J>,
+    three: &mut Pass<E, J>,
+)
+    ensures known { Each (Knows E.rules one.new.saw) (one.old ∷ two.old ∷ three.old ∷ []) }
+    ensures one { one.new ≡ sees one.new.saw one.old }
+    ensures legal { Legal E.rules one.new.saw }
+    ensures two { two.new ≡ sees one.new.saw two.old }
+    ensures three { three.new ≡ sees one.new.saw three.old }
+{
+    let mut group = one.lend();
+    one.gather(&mut group, two.lend());
+    one.gather(&mut group, three.lend());
+    one.show(&mut group, 0);
+    let mut others = one.part(&mut group);
+    three.take_back(one.part(&mut others));
+    two.take_back(others);
+    one.take_back(group);
+}
+
 /// One pass is shown the log so far.
 pub fn look_alone<E: Entries, J: Store>(one: &mut Pass<E, J>, word: usize) -> u64
     requires word { word < 34 }

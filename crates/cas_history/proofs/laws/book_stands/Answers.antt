@@ -5,8 +5,8 @@ use Rattle.cas_history.specs.Items.{items, changes_list, book_changes}
 use Rattle.cas_history.proofs.Shares.{book_copies}
 use Rattle.cas_history.proofs.laws.book_stands.Goals as goal
 
-pub returns : goal.returns
-returns g c =
+pub returns-clause-law : goal.returns-clause-law
+returns-clause-law g c =
     let changes = c.args.changes.now in
     let book = c.args.book.now in
     let shown = c.look.ensures in

@@ -5,8 +5,8 @@ use Rattle.cas_history.specs.Items.{items, changes_list, room_changes}
 use Rattle.cas_history.proofs.Shares.{room_copies}
 use Rattle.cas_history.proofs.laws.room_stands.Goals as goal
 
-pub returns : goal.returns
-returns g c =
+pub returns-clause-law : goal.returns-clause-law
+returns-clause-law g c =
     let changes = c.args.changes.now in
     let room = c.args.room.now in
     let shown = c.look.ensures in

@@ -5,8 +5,8 @@ use Rattle.cas_history.specs.Laws.{writes_of}
 use Rattle.cas_history.proofs.Shares.{session_writes}
 use Rattle.cas_history.proofs.laws.session_stands.Goals as goal
 
-pub returns : goal.returns
-returns g c =
+pub returns-clause-law : goal.returns-clause-law
+returns-clause-law g c =
     let session = c.args.session.now in
     let shown = c.look.ensures in
     let log = shown.known.0.1 log_list (owned items c.args.log.now.pass log_list c.args.log.now.owns) in
