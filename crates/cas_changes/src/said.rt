@@ -121,6 +121,48 @@ impl Said {
         table as usize * self.shards as usize + shard as usize
     }
 
+    /// The number of shards; 0 before it is said.
+    pub fn shards(&self) -> u8
+        ensures { result ≡ self.now.shards }
+    {
+        self.shards
+    }
+
+    /// The tables, each with the columns that it got.
+    pub fn tables(&self) -> &[TableSchema]
+        ensures { result.now ≡ self.now.tables }
+    {
+        &self.tables
+    }
+
+    /// The numbers of the listed segments, in the order in which they were named.
+    pub fn segments(&self) -> &[u64]
+        ensures { result.now ≡ self.now.segments }
+    {
+        &self.segments
+    }
+
+    /// The greatest number of a segment that was named; 0 before the first.
+    pub fn last_segment(&self) -> u64
+        ensures { result ≡ self.now.last_segment }
+    {
+        self.last_segment
+    }
+
+    /// The numbers of all table files that were ever added.
+    pub fn numbers(&self) -> &[u64]
+        ensures { result.now ≡ self.now.numbers }
+    {
+        &self.numbers
+    }
+
+    /// Of each shard its last moment and the last timestamp that it drew.
+    pub fn times(&self) -> &[ShardTimes]
+        ensures { result.now ≡ self.now.times }
+    {
+        &self.times
+    }
+
     /// Up to which number the mutations of a table in a shard stand in table files.
     pub fn frontier(&self, table: u16, shard: u8) -> u64
         ensures { result ≡ (part_of self.now table shard).frontier }

@@ -32,7 +32,7 @@ map_long : {A B : Type 0} (f : A → B) (xs : List A) → length (map f xs) ≡ 
 map_long f [] = refl
 map_long f (x ∷ xs) = omega (arith, map_long f xs)
 
-is_said_after : (s : Saying) (e : Entry) → IsSaid s → FitsEntry s e → IsSaid (after s e)
+pub is_said_after : (s : Saying) (e : Entry) → IsSaid s → FitsEntry s e → IsSaid (after s e)
 is_said_after s (entry.Store shards) is fit = record { tables = is.tables; shards = fit.1.1 }
 is_said_after s (entry.Schema t) is fit =
     let number : t.number ≡ length s.tables = fit.1.number in
@@ -43,7 +43,7 @@ is_said_after s (entry.Change c) is fit = record { tables = is.tables; shards = 
 is_said_after s (entry.AddColumns table columns) is fit =
     record { tables = omega (arith, map_long (with_columns table columns) s.tables, is.tables); shards = is.shards }
 
-none_said : IsSaid nothing
+pub none_said : IsSaid nothing
 none_said = record { tables = omega arith; shards = omega arith }
 
 -- ---- a block
@@ -52,26 +52,26 @@ none_left : (xs : List ℕ) → eqb (length xs) 0 ≡ true → xs ≡ []
 none_left [] e = refl
 none_left (x ∷ xs) e = let none : length (x ∷ xs) ≡ 0 = eqb-true (length (x ∷ xs)) 0 e in absurd (omega arith)
 
-u32_long : (n : ℕ) → length (u32 n) ≡ 4
+pub u32_long : (n : ℕ) → length (u32 n) ≡ 4
 unfolding u32
 u32_long n = refl
 
-abbrev fits_file : ℕ → ℕ → Bool
+abbrev pub fits_file : ℕ → ℕ → Bool
 fits_file at long = nat_le (at + long + 9) FILE_LIMIT
 
-length_exact : (at : ℕ) → IsExact (λ n. (n < 2 ^ 32) × (fits_file at n ≡ true)) u32 (checked (fits_file at) u32_at)
+pub length_exact : (at : ℕ) → IsExact (λ n. (n < 2 ^ 32) × (fits_file at n ≡ true)) u32 (checked (fits_file at) u32_at)
 length_exact at = exact_checked (λ n. n < 2 ^ 32) u32 u32_at (fits_file at) u32_field.exact
 
-count_exact : IsExact (λ n. (n < 2 ^ 32) × (eqb n 1 ≡ true)) u32 (checked (λ n. eqb n 1) u32_at)
+pub count_exact : IsExact (λ n. (n < 2 ^ 32) × (eqb n 1 ≡ true)) u32 (checked (λ n. eqb n 1) u32_at)
 count_exact = exact_checked (λ n. n < 2 ^ 32) u32 u32_at (λ n. eqb n 1) u32_field.exact
 
-abbrev with_body : Saying → ℕ → List ℕ × Left → Read Entry
+abbrev pub with_body : Saying → ℕ → List ℕ × Left → Read Entry
 with_body s at body = entry_at s (read_left body.0 at) >>= λ found. cond (eqb (length found.1.bytes) 0) (Ok (found.0, body.1)) (Err (Bad found.1.at))
 
-abbrev with_count : Saying → ℕ → ℕ → ℕ × Left → Read Entry
+abbrev pub with_count : Saying → ℕ → ℕ → ℕ × Left → Read Entry
 with_count s at long count = bytes_at at long count.1 >>= with_body s count.1.at
 
-abbrev with_long : Saying → ℕ → ℕ × Left → Read Entry
+abbrev pub with_long : Saying → ℕ → ℕ × Left → Read Entry
 with_long s at long = checked (λ n. eqb n 1) u32_at long.1 >>= with_count s at long.0
 
 -- an entry that may follow, in a block that ends within the file
@@ -158,7 +158,7 @@ one_more far old mid left gate e last at begins is_open has others =
       within = λ low. others.within has.2;
     }
 
-abbrev beyond : ℕ → Far → ℕ → ℕ × Left → Read (Far × ℕ)
+abbrev pub beyond : ℕ → Far → ℕ → ℕ × Left → Read (Far × ℕ)
 beyond n far at gate = cond (eqb gate.0 1) (next_at far gate.1 >>= λ next. blocks_at n next.0 next.1) (Ok ((far, at), gate.1))
 
 abbrev ok_far : (Far × ℕ) → Left → Read (Far × ℕ)
@@ -195,13 +195,13 @@ blocks_found (suc n) new last at far old is bytes e =
 
 -- ---- the whole
 
-word_exact : IsExact (λ w. (length w ≡ 8) × (bytes_eq w (codes "CASSMAN1") ≡ true)) (λ w. w) (checked (λ w. bytes_eq w (codes "CASSMAN1")) (λ l. bytes_at l.at 8 l))
+pub word_exact : IsExact (λ w. (length w ≡ 8) × (bytes_eq w (codes "CASSMAN1") ≡ true)) (λ w. w) (checked (λ w. bytes_eq w (codes "CASSMAN1")) (λ l. bytes_at l.at 8 l))
 word_exact = exact_checked (λ w. length w ≡ 8) (λ w. w) (λ l. bytes_at l.at 8 l) (λ w. bytes_eq w (codes "CASSMAN1")) (exact_bytes (λ l. l.at) 8)
 
-gate_exact : IsExact (λ n. (n < 2 ^ 8) × (eqb n 1 ≡ true)) u8 (checked (λ g. eqb g 1) u8_at)
+pub gate_exact : IsExact (λ n. (n < 2 ^ 8) × (eqb n 1 ≡ true)) u8 (checked (λ g. eqb g 1) u8_at)
 gate_exact = exact_checked (λ n. n < 2 ^ 8) u8 u8_at (λ g. eqb g 1) u8_field.exact
 
-abbrev magic : List ℕ
+abbrev pub magic : List ℕ
 magic = codes "CASSMAN1"
 
 word_found : (word : List ℕ) (old new : Left) → AreBytes old.bytes → word_at old ≡ Ok (word, new) → Begins (1 ∷ magic) old new
@@ -214,7 +214,7 @@ word_found word old new bytes e =
     let is_word : word ≡ magic = (bytes_eq-Decides word (codes "CASSMAN1")).0 g.0.1 in
     subst (λ (xs : List ℕ). Begins xs old new) (λ i. one i ∷ is_word i) (Begins-then (u8 p.0.0) word old p.0.1 new f.1 g.1)
 
-front_long : (entries : List Entry) → length (front entries) ≡ 9 + length (opened entries)
+pub front_long : (entries : List Entry) → length (front entries) ≡ 9 + length (opened entries)
 front_long entries = length-append (1 ∷ magic) (opened entries)
 
 whole : (file : List ℕ) (mid : Left) (last : Far) (at : ℕ) → Begins (1 ∷ magic) (read_left file 0) mid → HasBlocks (nothing, []) mid last at → IsRead last at file

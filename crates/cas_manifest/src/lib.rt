@@ -11,6 +11,6 @@ mod reading;
 mod writing;
 
 pub use fault::{Limit, ManifestFault};
-pub use laws::manifests_are_read;
+pub use laws::manifests_are_exact;
 pub use manifest::Manifest;
 pub use reading::read_manifest;

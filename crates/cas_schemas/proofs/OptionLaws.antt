@@ -5,7 +5,7 @@ use Rattle.cas_types.specs.declared.limits.TheConstants.{TTL_LIMIT}
 use Rattle.cas_types.specs.declared.schema.Options.{Options}
 use Rattle.cas_types.specs.declared.schema.Strategy.{Strategy}
 use Rattle.cas_types.specs.declared.schema.Unit.{Unit as WindowUnit}
-use Rattle.cas_codec.specs.Reading.{Left, Read, checked, u16_at, u32_at, u64_at}
+use Rattle.cas_codec.specs.Reading.{checked, u16_at, u32_at, u64_at}
 use Rattle.cas_codec.specs.Fields.{u8, u16, u32, u64}
 use Rattle.cas_codec.specs.Exact.{IsExact}
 use Rattle.cas_codec.proofs.Exactness.{exact_checked}
@@ -18,7 +18,7 @@ use Rattle.cas_schemas.specs.declared.ranges.TheConstants.{MIN_SSTABLE_SIZE, SST
 use Rattle.cas_schemas.specs.Codes.{strategy_code, unit_code, strategy_of, unit_of, coded_at}
 use Rattle.cas_schemas.specs.Options.{allows, is_leveled, has_buckets, has_windows, allows_most, allows_unit, FitsOptions}
 use Rattle.cas_schemas.specs.Reading.{ages_at, most_at, buckets_at, sizes_at, unit_at, window_at, made_options, options_at}
-use Rattle.cas_schemas.specs.Spelling.{ages_bytes, buckets_bytes, sizes_bytes, window_bytes, options_bytes}
+use Rattle.cas_schemas.specs.Spelling.{options_bytes}
 use Rattle.cas_schemas.proofs.CodeLaws.{ends, within, strategy_exact, unit_exact}
 
 -- what is allowed isn't above the range

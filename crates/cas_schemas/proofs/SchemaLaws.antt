@@ -1,5 +1,5 @@
 -- Columns and the definitions of tables are read exactly.
-use Rattle.std.proofs.Common.{◌≡◌, ℕ, ◌<◌, ◌≤◌, ◌^◌, Bool, true, false, not, is_some, nat_lt, List, [], ◌∷◌, ◌++◌, length, Option, None, Some, refl, sym, ap, arith}
+use Rattle.std.proofs.Common.{◌≡◌, ℕ, ◌<◌, ◌≤◌, ◌^◌, Bool, true, false, not, is_some, nat_lt, List, [], ◌∷◌, ◌++◌, length, Option, None, Some, refl, ap, arith}
 use Rattle.std.specs.Int.{is_in_range}
 use Rattle.std.specs.List.{flat_map, list_any, AllByRecursion}
 use Rattle.std.specs.Str.{is_utf8, bytes_eq}
@@ -20,7 +20,7 @@ use Rattle.cas_codec.proofs.Sequences.{exact_three, exact_four}
 use Rattle.cas_schemas.specs.declared.names.TheConstants.{NAME_LIMIT}
 use Rattle.cas_schemas.specs.declared.schemas.TheConstants.{TABLE_LIMIT}
 use Rattle.cas_schemas.specs.Codes.{kind_code, shape_code, tag_code, kind_of, shape_of, tag_of, coded_at}
-use Rattle.cas_schemas.specs.Names.{is_name, has_letters, is_new_column, is_new_table}
+use Rattle.cas_schemas.specs.Names.{is_name, is_new_column, is_new_table}
 use Rattle.cas_schemas.specs.Columns.{may_stand, may_have, FitsColumn, FitColumns, HaveRoom}
 use Rattle.cas_schemas.specs.Each.{each_at, EachFits}
 use Rattle.cas_schemas.specs.Options.{FitsOptions}

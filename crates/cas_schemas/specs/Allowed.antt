@@ -1,6 +1,6 @@
 -- Which tables a CREATE TABLE that isn't refused makes.
 -- CQL documentation, "Data definition: CREATE TABLE". How many there may be is own.
-use Rattle.std.specs.Prelude.{◌≡◌, ◌<◌, ◌^◌, Bool, true, List, [], length}
+use Rattle.std.specs.Prelude.{◌≡◌, ◌<◌, ◌^◌, true, List, [], length}
 use Rattle.cas_types.specs.declared.schema.TableSchema.{TableSchema}
 use Rattle.cas_schemas.specs.declared.schemas.TheConstants.{TABLE_LIMIT}
 use Rattle.cas_schemas.specs.Columns.{FitColumns, HaveRoom}

@@ -1,6 +1,6 @@
 -- Which columns may stand behind which.
 -- CQL documentation, "Data definition: CREATE TABLE, the primary key, static columns; ALTER TABLE". That the key's columns stand first is own.
-use Rattle.std.specs.Prelude.{◌≡◌, ◌≤◌, ◌^◌, ◌<◌, ℕ, nat_lt, Bool, true, ◌&&◌, ◌||◌, not, List, [], ◌∷◌, length, is_some}
+use Rattle.std.specs.Prelude.{◌≡◌, ◌≤◌, ◌^◌, ◌<◌, ℕ, nat_lt, Bool, true, ◌&&◌, ◌||◌, not, List, length, is_some}
 use Rattle.std.specs.List.{AllByRecursion, list_all, list_any}
 use Rattle.cas_types.specs.Schemas.{is_partition, is_clustering, is_key, is_plain, is_map}
 use Rattle.cas_types.specs.declared.schema.Kind.{Kind}

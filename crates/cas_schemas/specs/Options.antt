@@ -6,9 +6,9 @@ use Rattle.std.specs.Int.{is_in_range}
 use Rattle.cas_types.specs.declared.limits.TheConstants.{TTL_LIMIT}
 use Rattle.cas_types.specs.declared.schema.Options.{Options}
 use Rattle.cas_types.specs.declared.schema.Strategy.{Strategy}
-use Rattle.cas_types.specs.declared.schema.Strategy.TheVariants.{SizeTiered, Leveled, TimeWindow}
+use Rattle.cas_types.specs.declared.schema.Strategy.TheVariants.{Leveled, TimeWindow}
 use Rattle.cas_types.specs.declared.schema.Unit.{Unit}
-use Rattle.cas_types.specs.declared.schema.Unit.TheVariants.{Minutes, Hours, Days}
+use Rattle.cas_types.specs.declared.schema.Unit.TheVariants.{Days}
 use Rattle.cas_schemas.specs.declared.ranges.Range.{Range}
 use Rattle.cas_schemas.specs.declared.ranges.TheConstants.{GRACE_LIMIT, MIN_THRESHOLD, MAX_THRESHOLD, BUCKET_LOW, BUCKET_HIGH}
 use Rattle.cas_schemas.specs.declared.ranges.TheConstants.{MIN_SSTABLE_SIZE, SSTABLE_SIZE_IN_MB, FANOUT_SIZE, WINDOW_SIZE}

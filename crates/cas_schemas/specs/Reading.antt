@@ -1,9 +1,9 @@
 -- Reading tables' columns, options and schemas. That these readings take the spellings and nothing else is a law.
 -- Own. The place of a refusal is that of the refused field's first byte.
-use Rattle.std.specs.Prelude.{ℕ, ◌==◌, nat_lt, Bool, true, ◌&&◌, ◌||◌, not, List, [], length, Option, None, Some, Ok}
+use Rattle.std.specs.Prelude.{ℕ, ◌==◌, nat_lt, Bool, true, ◌&&◌, List, [], length, Option, Ok}
 use Rattle.std.specs.Int.{is_in_range}
 use Rattle.cas_codec.specs.Reading.{Left, Read, ◌>>=◌, checked, u16_at, u32_at, u64_at, bytes16_at, there_at}
-use Rattle.cas_types.specs.Schemas.{is_key, is_plain, is_map}
+use Rattle.cas_types.specs.Schemas.{is_map}
 use Rattle.cas_types.specs.declared.limits.TheConstants.{TTL_LIMIT}
 use Rattle.cas_types.specs.declared.tag.TypeTag.{TypeTag}
 use Rattle.cas_types.specs.declared.schema.Kind.{Kind}

@@ -1,0 +1,7 @@
+use Rattle.std.proofs.Common.{arith}
+use Rattle.cas_codec.specs.Fields.{u8}
+use Rattle.disk_tests.proofs.manifests.made.Goals as goal
+
+pub append-requires-clause-short : goal.append-requires-clause-short
+unfolding u8
+append-requires-clause-short c = omega arith
