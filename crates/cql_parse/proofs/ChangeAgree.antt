@@ -20,7 +20,6 @@ use Rattle.cql_parse.specs.declared.syntax.Target.{Target}
 use Rattle.cql_parse.specs.declared.syntax.Relation.{Relation}
 use Rattle.cql_parse.specs.declared.syntax.Operator.{Operator}
 use Rattle.cql_parse.specs.declared.syntax.Operator.TheVariants as operator
-use Rattle.cql_lex.specs.declared.token.Mark.{Mark}
 use Rattle.cql_phrases.specs.declared.term.Constant.TheVariants as constant
 use Rattle.cql_phrases.specs.Symbols.{spelling, is_reserved}
 use Rattle.cql_phrases.specs.Inner.Reading.{done, after_word, after_mark, after_open_bracket, word_at, mark_at, close_bracket_at, name_at, whole_number_at, list_at, in_parens, list_behind, place}

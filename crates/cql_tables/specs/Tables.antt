@@ -9,7 +9,6 @@ use Rattle.cql_phrases.specs.declared.lexeme.Lexeme.TheVariants as lexeme
 use Rattle.cql_phrases.specs.declared.keyword.Keyword.TheVariants as word
 use Rattle.cql_lex.specs.declared.token.Mark.TheVariants as mark
 use Rattle.cql_phrases.specs.declared.lists.Separator.TheVariants as separator
-use Rattle.cql_phrases.specs.declared.term.Constant.{Constant}
 use Rattle.cql_tables.specs.declared.syntax.TableName.{TableName}
 use Rattle.cql_tables.specs.declared.syntax.CreateTable.{CreateTable}
 use Rattle.cql_tables.specs.declared.syntax.AlterTable.{AlterTable}
