@@ -1,16 +1,15 @@
 -- Sources that enter a bracket one by one.
-use Rattle.std.proofs.Common.{◌≡◌, ℕ, Option, None, Some, List, [], ◌∷◌, fold, refl, sym, ap, ◌∙◌, subst}
+use Rattle.std.proofs.Common.{◌≡◌, Option, None, Some, List, [], ◌∷◌, fold, refl, sym, ap, ◌∙◌}
 use Rattle.std.specs.Option.{unwrap_or}
 use Rattle.std.proofs.lemmas.Option.{none-some}
 use Rattle.cas_cell.specs.declared.deletion.Deletion.{Deletion}
-use Rattle.cas_streams.specs.Weaving.{woven}
-use Rattle.cas_streams.specs.Joined.{Stream, by_place}
+use Rattle.cas_streams.specs.Joined.{Stream}
 use Rattle.cas_streams.specs.Merged.{Draw, nobody, one, pair, entered, draw, joined_all}
 use Rattle.cas_streams.specs.declared.fragment.Fragment.{Fragment}
 use Rattle.cas_merge.specs.declared.bracket.Bracket.{Bracket}
 use Rattle.cas_merge.specs.declared.bracket.Bracket.TheVariants.{Nobody, Source, Pair'}
 use Rattle.cas_merge.specs.Told.{told_first, streams_told}
-use Rattle.cas_merge.specs.Inner.Brackets.{with_next, of_both, coming, fresh, Tells}
+use Rattle.cas_merge.specs.Inner.Brackets.{with_next, of_both, coming, Tells}
 use Rattle.cas_merge.specs.Inner.Mergers.{Halfway}
 
 module _ {I : Type 0} (tells : I → Option (List Fragment)) (tops : I → Option Deletion) where

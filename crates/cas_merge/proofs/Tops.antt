@@ -1,5 +1,5 @@
 -- The top of a merge, and what a merger tells at its beginning.
-use Rattle.std.proofs.Common.{◌≡◌, ℕ, Option, None, Some, List, [], ◌∷◌, fold, refl, sym, ap, ◌∙◌}
+use Rattle.std.proofs.Common.{◌≡◌, Option, None, Some, List, [], ◌∷◌, fold, refl, sym, ap, ◌∙◌}
 use Rattle.std.specs.Option.{unwrap_or}
 use Rattle.cas_cell.specs.Deletions.{deletion_cmp}
 use Rattle.cas_cell.specs.declared.deletion.Deletion.{Deletion}

@@ -1,4 +1,4 @@
-use Rattle.std.proofs.Common.{◌≡◌, List, Some, sym, ap, ◌∙◌}
+use Rattle.std.proofs.Common.{ap, ◌∙◌}
 use Rattle.cas_cell.specs.Deletions.{deletion_cmp}
 use Rattle.cas_atoms.specs.Greatest.{greatest}
 use Rattle.cas_merge.proofs.Tops.{top_told, tells_merge}
