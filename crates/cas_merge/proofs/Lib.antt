@@ -1,2 +1,4 @@
 pub mod Pairs
 pub mod Saying
+pub mod Entering
+pub mod Tops

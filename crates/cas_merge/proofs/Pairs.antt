@@ -1,14 +1,12 @@
 -- A pair that asks both of its sides, and gives what comes first of them.
-use Rattle.std.proofs.Common.{◌≡◌, ℕ, ◌+◌, ◌<◌, ◌≤◌, Option, None, Some, Ok, List, [], ◌∷◌, refl, sym, ap, ◌∙◌, arith}
+use Rattle.std.proofs.Common.{◌≡◌, ℕ, ◌≤◌, Option, None, Some, Ok, List, refl, ◌∙◌, arith}
 use Rattle.std.proofs.lemmas.Option.{none-some}
-use Rattle.cas_cell.specs.declared.deletion.Deletion.{Deletion}
 use Rattle.cas_streams.specs.Sources.{TakesFirst, Shrinks}
 use Rattle.cas_streams.specs.Weaving.{woven}
 use Rattle.cas_streams.specs.Joined.{by_place}
 use Rattle.cas_streams.specs.declared.fragment.Fragment.{Fragment}
 use Rattle.cas_merge.specs.declared.bracket.Side.{Side}
-use Rattle.cas_merge.specs.declared.bracket.Ahead.{Ahead}
-use Rattle.cas_merge.specs.Inner.Brackets.{of_both, with_next, side_room, Steps, Lessens}
+use Rattle.cas_merge.specs.Inner.Brackets.{of_both}
 
 -- what is to come stays
 pub still : (s t u v : Side) (xs ys xs' ys' : Option (List Fragment)) → u.in_force ≡ s.in_force → v.in_force ≡ t.in_force

@@ -1,9 +1,7 @@
 -- What is left of a row, by whether something is said of its columns.
 use Rattle.std.proofs.Common.{◌≡◌, Bool, true, false, cond, ◌||◌, Option, None, Some, is_some, List, [], ◌∷◌, ◌++◌, map, refl, sym, ap, ◌∙◌, append_assoc}
-use Rattle.std.specs.Bool.{then_some}
 use Rattle.std.specs.List.{flat_map, cons_option}
 use Rattle.cas_cell.specs.declared.deletion.Deletion.{Deletion}
-use Rattle.cas_cell.specs.declared.liveness.Liveness.{Liveness}
 use Rattle.cas_bounds.specs.declared.cuts.Clustering.{Clustering}
 use Rattle.cas_atoms.specs.declared.atom.Atom.{Atom}
 use Rattle.cas_atoms.specs.declared.atom.Atom.TheVariants.{RowDeletion, Live}
@@ -13,7 +11,6 @@ use Rattle.cas_atoms.specs.declared.row.RowColumn.{RowColumn}
 use Rattle.cas_atoms.specs.declared.row.PathCell.{PathCell}
 use Rattle.cas_streams.specs.Flat.{atom_of, writes, empties, of_column, own}
 use Rattle.cas_streams.specs.Settled.{if_said, bare_column, bare_columns}
-use Rattle.cas_streams.specs.declared.fragment.Fragment.{Fragment}
 use Rattle.cas_streams.specs.declared.fragment.Fragment.TheVariants as fragment
 use Rattle.cas_merge.specs.Inner.Said.{says, any_says}
 

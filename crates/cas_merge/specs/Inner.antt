@@ -1,3 +1,4 @@
 pub mod Begun
 pub mod Brackets
 pub mod Said
+pub mod Mergers

@@ -17,7 +17,7 @@ use std::cmp::Ordering;
 use std::vec::IntoIter;
 
 // The next element, and the others stay.
-fn first_of<X>(rest: &mut IntoIter<X>) -> Option<X>
+pub(crate) fn first_of<X>(rest: &mut IntoIter<X>) -> Option<X>
     ensures { begun result (into_iter_items rest.new) ≡ into_iter_items rest.old }
 {
     rest.next()

@@ -2,19 +2,16 @@
 use Rattle.std.proofs.Common.{◌≡◌, ℕ, ◌==◌, ℤ, Bool, true, false, cond, not, ◌&&◌, Option, None, Some, List, [], ◌∷◌, ◌++◌, map, filter, refl, sym, ap, ◌∙◌}
 use Rattle.std.specs.Bool.{then_some}
 use Rattle.std.proofs.lemmas.Bool.{true≢false}
-use Rattle.std.specs.List.{flat_map, filter_map, cons_option}
+use Rattle.std.specs.List.{flat_map, cons_option}
 use Rattle.std.specs.declared.cmp.Ordering.{Ordering}
-use Rattle.cas_types.specs.Orders.{Orders}
 use Rattle.cas_cell.specs.Deletions.{deletion_cmp, covered}
 use Rattle.cas_cell.specs.Lives.{live_at, live_cmp}
 use Rattle.cas_cell.specs.Cells.{cell_at, cell_cmp}
 use Rattle.cas_cell.specs.declared.deletion.Deletion.{Deletion}
-use Rattle.cas_cell.specs.declared.liveness.Liveness.{Liveness}
-use Rattle.cas_cell.specs.declared.cell.Cell.{Cell}
 use Rattle.cas_cell.proofs.OrderLaws.{deletion_laws, live_laws, cell_laws}
 use Rattle.cas_bounds.specs.declared.cuts.Clustering.{Clustering}
 use Rattle.cas_atoms.specs.Greatest.{greater, greatest}
-use Rattle.cas_atoms.specs.Coordinates.{Coordinate, RowKey, row, path, clustered, static_row, row_of, same_row, same_values, same_bytes, is_at, is_in_column, live_at_row, cell_at_path}
+use Rattle.cas_atoms.specs.Coordinates.{Coordinate, RowKey, row, path, clustered, row_of, same_row, same_values, same_bytes, is_at, is_in_column, live_at_row, cell_at_path}
 use Rattle.cas_atoms.specs.Winners.{cover, standing}
 use Rattle.cas_atoms.specs.declared.atom.Atom.{Atom}
 use Rattle.cas_atoms.specs.declared.row.Row.{Row}
@@ -25,7 +22,6 @@ use Rattle.cas_laws.proofs.JoinProofs.{cover_joins, standing-greater, greatest-s
 use Rattle.cas_laws.proofs.ShownProofs.{both_hold}
 use Rattle.cas_streams.specs.Flat.{of_column, own}
 use Rattle.cas_streams.specs.Settled.{is_bare, if_said, bare_column, bare_columns, bare_row, bare}
-use Rattle.cas_streams.specs.declared.fragment.Fragment.{Fragment}
 use Rattle.cas_streams.specs.declared.fragment.Fragment.TheVariants as fragment
 use Rattle.cas_streams.proofs.OwnRows.{key_of}
 use Rattle.cas_streams.proofs.Parts.{deletes_in, writes_in, cells_in, columns_delete, columns_live, columns_write, row_deletes, row_lives, row_writes, alike_each, cond_same}

@@ -1,15 +1,13 @@
 -- Columns of rows, joined and settled, are columns of the table as they were.
 use Rattle.std.proofs.Common.{◌≡◌, ℕ, Bool, true, false, cond, Option, None, Some, List, [], ◌∷◌, ◌++◌, map, filter, slice_get, inl, inr, refl, sym, ap, ◌∙◌, subst}
-use Rattle.std.proofs.lemmas.Bool.{true≢false}
 use Rattle.std.specs.Option.{unwrap_or}
-use Rattle.std.specs.List.{AllByRecursion, filter_map, cons_option}
+use Rattle.std.specs.List.{AllByRecursion, cons_option}
 use Rattle.std.specs.List.Sorted.{IsStrictlySortedBy}
 use Rattle.std.specs.declared.cmp.Ordering.{Ordering}
-use Rattle.std.specs.declared.cmp.Ordering.TheVariants.{Less, Equal, Greater}
+use Rattle.std.specs.declared.cmp.Ordering.TheVariants.{Less, Equal}
 use Rattle.std.specs.Ordering.{nat_cmp}
 use Rattle.std.specs.FinMap.{nat_cmp-IsAntisymmetric}
 use Rattle.std.proofs.lemmas.Cmp.{nat_cmp_total}
-use Rattle.cas_types.specs.Orders.{Orders}
 use Rattle.cas_types.specs.Schemas.{is_plain, path_type}
 use Rattle.cas_types.specs.declared.tag.TypeTag.{TypeTag}
 use Rattle.cas_types.specs.declared.schema.Column.{Column}
@@ -21,11 +19,10 @@ use Rattle.cas_bounds.specs.declared.cuts.Clustering.{Clustering}
 use Rattle.cas_atoms.specs.Greatest.{greater}
 use Rattle.cas_atoms.specs.Fits.{Names, is_path}
 use Rattle.cas_atoms.specs.RowsAndPaths.{path_cmp}
-use Rattle.cas_atoms.specs.declared.atom.Atom.{Atom}
 use Rattle.cas_atoms.specs.declared.row.RowColumn.{RowColumn}
 use Rattle.cas_atoms.specs.declared.row.PathCell.{PathCell}
 use Rattle.cas_laws.proofs.ShownProofs.{path_orders}
-use Rattle.cas_laws.proofs.GreatestProofs.{no_none, either_greater}
+use Rattle.cas_laws.proofs.GreatestProofs.{either_greater}
 use Rattle.cas_streams.specs.Flat.{atom_of, of_column, writes, empties}
 use Rattle.cas_streams.specs.Streams.{IsThere, IsColumn, AreColumns}
 use Rattle.cas_streams.specs.Joined.{plainly, joined_cell, joined_cells, joined_column, joined_columns}

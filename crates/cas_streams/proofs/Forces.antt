@@ -1,10 +1,7 @@
 -- What is in force in two streams joined: the greater of what is in force in each.
-use Rattle.std.proofs.Common.{◌≡◌, ℕ, Bool, true, false, cond, Option, None, Some, List, [], ◌∷◌, map, refl, sym, ap, ◌∙◌, subst}
-use Rattle.std.proofs.lemmas.Bool.{true≢false}
+use Rattle.std.proofs.Common.{◌≡◌, Bool, true, false, cond, Option, List, [], ◌∷◌, refl, sym, ap, ◌∙◌, subst}
 use Rattle.std.specs.List.{AllByRecursion}
-use Rattle.std.specs.FinMap.Entries.{by_order}
-use Rattle.std.specs.declared.cmp.Ordering.{Ordering}
-use Rattle.std.specs.declared.cmp.Ordering.TheVariants.{Less, Equal, Greater}
+use Rattle.std.specs.declared.cmp.Ordering.TheVariants.{Less, Equal}
 use Rattle.std.specs.Ordering.{ordering_reverse}
 use Rattle.std.specs.Cmp.{IsTotalOrder}
 use Rattle.std.specs.Cmp.Lexicographic.{options_total}
@@ -18,9 +15,9 @@ use Rattle.cas_bounds.proofs.CutLaws.{point_laws}
 use Rattle.cas_atoms.specs.Greatest.{greater}
 use Rattle.cas_atoms.proofs.GreatestLemmas.{greater_comm}
 use Rattle.cas_streams.specs.Places.{Place, place_cmp, place_of}
-use Rattle.cas_streams.specs.Flat.{Change, changes, after}
+use Rattle.cas_streams.specs.Flat.{changes, after}
 use Rattle.cas_streams.specs.Streams.{IsOf}
-use Rattle.cas_streams.specs.Weaving.{Weave, rights, among, woven}
+use Rattle.cas_streams.specs.Weaving.{rights, among, woven}
 use Rattle.cas_streams.specs.Joined.{Forces, raised, opened, joined_fragment, fragment_cmp, by_place}
 use Rattle.cas_streams.specs.declared.fragment.Fragment.{Fragment}
 use Rattle.cas_streams.specs.declared.fragment.Fragment.TheVariants as fragment

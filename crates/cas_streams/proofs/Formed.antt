@@ -1,5 +1,5 @@
 -- The merge of well-formed streams is well formed.
-use Rattle.std.proofs.Common.{◌≡◌, ℕ, Bool, true, false, cond, Option, None, Some, List, [], ◌∷◌, fold, refl, sym, ap, ◌∙◌, subst}
+use Rattle.std.proofs.Common.{◌≡◌, Bool, true, false, cond, Option, None, Some, List, [], ◌∷◌, refl, sym, subst}
 use Rattle.std.specs.List.{AllByRecursion, cons_option}
 use Rattle.cas_types.specs.Schemas.{is_static, is_regular}
 use Rattle.cas_types.specs.declared.schema.Column.{Column}
@@ -8,14 +8,13 @@ use Rattle.cas_cell.specs.declared.deletion.Deletion.{Deletion}
 use Rattle.cas_bounds.specs.declared.cuts.Cut.{Cut}
 use Rattle.cas_bounds.specs.ClusteringOrder.{clustering_order}
 use Rattle.cas_atoms.specs.Greatest.{greater}
-use Rattle.cas_atoms.specs.declared.atom.Atom.{Atom}
 use Rattle.cas_atoms.specs.declared.row.Row.{Row}
 use Rattle.cas_atoms.specs.declared.row.RowColumn.{RowColumn}
 use Rattle.cas_streams.specs.Flat.{own}
 use Rattle.cas_streams.specs.Streams.{IsOrdered, IsThere, AreColumns, IsFragment, WellFormed}
-use Rattle.cas_streams.specs.Joined.{Stream, raised, joined_fragment, by_place, joined}
-use Rattle.cas_streams.specs.Settled.{if_said, bare_columns, bare_row, bare, same_force, left_of, settled_from, settled}
-use Rattle.cas_streams.specs.Merged.{Draw, nobody, one, pair, draw, joined_all, merged}
+use Rattle.cas_streams.specs.Joined.{Stream, raised, joined_fragment, by_place}
+use Rattle.cas_streams.specs.Settled.{if_said, bare_columns, bare_row, same_force, settled_from}
+use Rattle.cas_streams.specs.Merged.{Draw, nobody, one, pair, draw, joined_all}
 use Rattle.cas_streams.specs.Laws.{MergeIsWellFormed}
 use Rattle.cas_streams.specs.declared.fragment.Fragment.{Fragment}
 use Rattle.cas_streams.specs.declared.fragment.Fragment.TheVariants as fragment

@@ -1,20 +1,19 @@
 -- What follows from the order of places: what a row isn't past, it isn't past later on.
-use Rattle.std.proofs.Common.{◌≡◌, ℕ, Bool, true, false, cond, Option, None, Some, List, [], ◌∷◌, map, refl, sym, ap, ◌∙◌}
+use Rattle.std.proofs.Common.{◌≡◌, ℕ, true, false, cond, Option, Some, List, [], ◌∷◌, map, refl, sym, ap, ◌∙◌}
 use Rattle.std.proofs.lemmas.Bool.{true≢false}
 use Rattle.std.specs.List.{AllByRecursion}
 use Rattle.std.specs.List.Sorted.{IsStrictlySortedBy}
-use Rattle.std.specs.declared.cmp.Ordering.{Ordering}
-use Rattle.std.specs.declared.cmp.Ordering.TheVariants.{Less, Equal, Greater}
-use Rattle.std.specs.Ordering.{is_lt, is_gt}
+use Rattle.std.specs.declared.cmp.Ordering.TheVariants.{Less}
+use Rattle.std.specs.Ordering.{is_gt}
 use Rattle.cas_cell.specs.declared.deletion.Deletion.{Deletion}
-use Rattle.cas_bounds.specs.Cuts.{is_past, cut_cmp}
+use Rattle.cas_bounds.specs.Cuts.{is_past}
 use Rattle.cas_bounds.specs.Points.{point_cmp, cut_point}
 use Rattle.cas_bounds.specs.declared.order.Ordered.{Ordered}
 use Rattle.cas_bounds.specs.declared.cuts.Cut.{Cut}
 use Rattle.cas_bounds.proofs.CutLaws.{point_laws, cuts_divide_rows}
 use Rattle.cas_streams.specs.Places.{Place, place_cmp, place_of}
-use Rattle.cas_streams.specs.Flat.{Change, changes, at_end, reaching}
-use Rattle.cas_streams.specs.Streams.{IsOf, IsOrdered}
+use Rattle.cas_streams.specs.Flat.{Change, changes, reaching}
+use Rattle.cas_streams.specs.Streams.{IsOf}
 use Rattle.cas_streams.specs.declared.fragment.Fragment.{Fragment}
 use Rattle.cas_streams.specs.declared.fragment.Fragment.TheVariants as fragment
 

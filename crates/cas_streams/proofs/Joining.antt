@@ -1,9 +1,8 @@
 -- Two streams joined: ordered as they are, and saying what both say.
-use Rattle.std.proofs.Common.{◌≡◌, ℕ, Bool, true, false, Option, None, Some, List, [], ◌∷◌, ◌++◌, map, refl, sym, ap, ◌∙◌, subst}
+use Rattle.std.proofs.Common.{◌≡◌, ℕ, Bool, true, false, Option, None, List, ◌++◌, refl, sym, ap, ◌∙◌}
 use Rattle.std.proofs.lemmas.Bool.{true≢false}
-use Rattle.std.specs.List.{AllByRecursion, flat_map}
+use Rattle.std.specs.List.{flat_map}
 use Rattle.std.specs.declared.cmp.Ordering.{Ordering}
-use Rattle.std.specs.declared.cmp.Ordering.TheVariants.{Less, Equal, Greater}
 use Rattle.cas_types.specs.Orders.{Orders}
 use Rattle.cas_cell.specs.Deletions.{deletion_cmp}
 use Rattle.cas_cell.specs.Lives.{live_at, live_cmp}
@@ -11,30 +10,28 @@ use Rattle.cas_cell.specs.Cells.{cell_at, cell_cmp}
 use Rattle.cas_cell.specs.declared.deletion.Deletion.{Deletion}
 use Rattle.cas_cell.proofs.OrderLaws.{deletion_laws, live_laws, cell_laws}
 use Rattle.cas_bounds.specs.Cuts.{is_past}
-use Rattle.cas_bounds.specs.Points.{Point, point_cmp, row_point, cut_point, side}
+use Rattle.cas_bounds.specs.Points.{cut_point, side}
 use Rattle.cas_bounds.specs.declared.order.Ordered.{Ordered}
 use Rattle.cas_bounds.specs.declared.cuts.Cut.{Cut}
 use Rattle.cas_bounds.specs.declared.map_key.End.{End}
 use Rattle.cas_bounds.specs.declared.map_key.End.TheVariants as end
-use Rattle.cas_bounds.proofs.CutLaws.{point_laws}
 use Rattle.cas_atoms.specs.Greatest.{greater, greatest}
 use Rattle.cas_atoms.specs.Coordinates.{Coordinate, RowKey, row, clustered, static_row, row_of, deletion_at, live_at_row, cell_at_path}
-use Rattle.cas_atoms.specs.Winners.{cover, standing, live_winner, cell_winner, Same}
+use Rattle.cas_atoms.specs.Winners.{cover, standing, Same}
 use Rattle.cas_atoms.specs.declared.atom.Atom.{Atom}
 use Rattle.cas_atoms.specs.declared.atom.Atom.TheVariants.{PartitionDeletion, RangeDeletion}
 use Rattle.cas_atoms.proofs.GreatestLemmas.{greatest-append}
 use Rattle.cas_laws.proofs.JoinProofs.{cover_joins, winner_is}
 use Rattle.cas_streams.specs.Places.{place_cmp, place_of}
-use Rattle.cas_streams.specs.Flat.{changes, after, in_force, own, flat}
+use Rattle.cas_streams.specs.Flat.{in_force, own}
 use Rattle.cas_streams.specs.Streams.{IsOf, IsOrdered}
-use Rattle.cas_streams.specs.Weaving.{woven}
 use Rattle.cas_streams.specs.Joined.{raised, joined_fragment, by_place, Stream, joined}
 use Rattle.cas_streams.specs.Merged.{flat_of}
 use Rattle.cas_streams.specs.declared.fragment.Fragment.{Fragment}
 use Rattle.cas_streams.specs.declared.fragment.Fragment.TheVariants as fragment
 use Rattle.cas_streams.proofs.InOrder.{not_past_later}
 use Rattle.cas_streams.proofs.Rows.{stream_covers, stream_gives}
-use Rattle.cas_streams.proofs.Weaves.{Ascend, keys_ascend, ascend_by_keys, woven_all, woven_ascend, woven_gives, two_by_two}
+use Rattle.cas_streams.proofs.Weaves.{keys_ascend, ascend_by_keys, woven_all, woven_ascend, woven_gives, two_by_two}
 use Rattle.cas_streams.proofs.Parts.{greatest_of_each}
 use Rattle.cas_streams.proofs.Twins.{Twins, twins, same_place, raised_place, raised_own, twins_delete, twins_live, twins_write}
 use Rattle.cas_streams.proofs.Forces.{forces, Falls, AtPoints, InOrder, as_places, places_total, woven_after}

@@ -1,21 +1,19 @@
 -- The merge says what all streams say.
-use Rattle.std.proofs.Common.{◌≡◌, ℕ, Option, None, Some, List, [], ◌∷◌, ◌++◌, fold, refl, sym, ap, ◌∙◌, append_assoc, subst}
-use Rattle.std.specs.List.{AllByRecursion, flat_map}
+use Rattle.std.proofs.Common.{◌≡◌, List, [], ◌∷◌, ◌++◌, fold, refl, sym, ◌∙◌, append_assoc, subst}
+use Rattle.std.specs.List.{AllByRecursion}
 use Rattle.std.specs.List.Sorted.{IsStrictlySortedBy}
-use Rattle.cas_cell.specs.Deletions.{deletion_cmp}
 use Rattle.cas_cell.specs.Lives.{live_cmp}
 use Rattle.cas_cell.specs.Cells.{cell_cmp}
 use Rattle.cas_cell.proofs.OrderLaws.{deletion_laws, live_laws, cell_laws}
 use Rattle.cas_bounds.specs.declared.order.Ordered.{Ordered}
 use Rattle.cas_atoms.specs.Greatest.{greatest}
-use Rattle.cas_atoms.specs.Coordinates.{Coordinate, deletion_at, live_at_row, cell_at_path}
+use Rattle.cas_atoms.specs.Coordinates.{live_at_row, cell_at_path}
 use Rattle.cas_atoms.specs.Winners.{cover, Same}
 use Rattle.cas_atoms.specs.declared.atom.Atom.{Atom}
 use Rattle.cas_atoms.proofs.GreatestLemmas.{greater_comm, greatest-append}
 use Rattle.cas_laws.proofs.JoinProofs.{cover_joins}
-use Rattle.cas_streams.specs.Flat.{flat}
 use Rattle.cas_streams.specs.Streams.{IsOrdered}
-use Rattle.cas_streams.specs.Joined.{Stream, joined}
+use Rattle.cas_streams.specs.Joined.{Stream}
 use Rattle.cas_streams.specs.Merged.{Draw, nobody, one, pair, entered, draw, joined_all, merged, flat_of, flats}
 use Rattle.cas_streams.specs.Laws.{MergeIsJoin}
 use Rattle.cas_streams.proofs.Joining.{Alike, alike_then, alike_both, alike_same, joined_ordered, joined_alike}

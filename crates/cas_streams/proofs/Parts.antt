@@ -1,45 +1,37 @@
 -- What rows and columns that are joined give: the greater of what each gives.
-use Rattle.std.proofs.Common.{◌≡◌, ℕ, ◌==◌, Bool, true, false, cond, ◌&&◌, Option, None, Some, List, [], ◌∷◌, ◌++◌, map, refl, sym, ap, ◌∙◌, subst}
+use Rattle.std.proofs.Common.{◌≡◌, ℕ, Bool, true, false, cond, Option, None, Some, List, [], ◌∷◌, ◌++◌, map, refl, sym, ap, ◌∙◌}
 use Rattle.std.specs.Bool.{then_some}
 use Rattle.std.specs.List.{flat_map}
 use Rattle.std.specs.declared.cmp.Ordering.{Ordering}
-use Rattle.std.specs.declared.cmp.Ordering.TheVariants.{Less, Equal, Greater}
-use Rattle.std.specs.Ordering.{is_lt, is_gt, nat_cmp}
+use Rattle.std.specs.Ordering.{is_lt, nat_cmp}
 use Rattle.std.specs.FinMap.{nat_cmp-IsAntisymmetric}
-use Rattle.std.proofs.lemmas.Bool.{true≢false}
 use Rattle.cas_types.specs.Orders.{Orders}
 use Rattle.cas_types.specs.declared.tag.TypeTag.{TypeTag}
 use Rattle.cas_cell.specs.Deletions.{deletion_cmp}
 use Rattle.cas_cell.specs.Lives.{live_cmp}
 use Rattle.cas_cell.specs.Cells.{cell_cmp}
 use Rattle.cas_cell.specs.declared.deletion.Deletion.{Deletion}
-use Rattle.cas_cell.specs.declared.liveness.Liveness.{Liveness}
 use Rattle.cas_cell.specs.declared.cell.Cell.{Cell}
 use Rattle.cas_cell.proofs.OrderLaws.{deletion_laws, live_laws, cell_laws}
 use Rattle.cas_bounds.specs.declared.cuts.Clustering.{Clustering}
-use Rattle.cas_bounds.specs.declared.order.Ordered.{Ordered}
-use Rattle.cas_bounds.specs.Points.{Point, point_cmp, row_point}
-use Rattle.cas_bounds.proofs.CutLaws.{point_laws}
 use Rattle.cas_atoms.specs.Greatest.{greater, greatest}
-use Rattle.cas_atoms.specs.Coordinates.{Coordinate, RowKey, row, path, clustered, static_row, row_of, same_row, same_values, same_bytes, is_at, is_in_column, deletion_at, live_at_row, cell_at_path}
+use Rattle.cas_atoms.specs.Coordinates.{Coordinate, RowKey, clustered, row_of, same_row, same_values, is_at, is_in_column, deletion_at, live_at_row, cell_at_path}
 use Rattle.cas_atoms.specs.Winners.{cover}
 use Rattle.cas_atoms.specs.RowsAndPaths.{path_cmp}
 use Rattle.cas_atoms.specs.declared.atom.ColumnRef.{ColumnRef}
 use Rattle.cas_atoms.specs.declared.atom.Atom.{Atom}
-use Rattle.cas_atoms.specs.declared.atom.Atom.TheVariants.{RowDeletion, CollectionDeletion, Live, Write, StaticWrite, StaticCollectionDeletion}
+use Rattle.cas_atoms.specs.declared.atom.Atom.TheVariants.{RowDeletion, Live}
 use Rattle.cas_atoms.specs.declared.row.Row.{Row}
 use Rattle.cas_atoms.specs.declared.row.RowColumn.{RowColumn}
 use Rattle.cas_atoms.specs.declared.row.PathCell.{PathCell}
-use Rattle.cas_atoms.proofs.GreatestLemmas.{greater_none, greater_comm, greatest-append}
+use Rattle.cas_atoms.proofs.GreatestLemmas.{greater_none, greatest-append}
 use Rattle.cas_laws.proofs.JoinProofs.{cover_joins}
 use Rattle.cas_laws.proofs.ShownProofs.{path_orders}
 use Rattle.cas_streams.specs.Flat.{atom_of, writes, empties, of_column, own}
-use Rattle.cas_streams.specs.Weaving.{Weave, woven}
-use Rattle.cas_streams.specs.Joined.{plainly, put_together, joined_cell, joined_cells, joined_column, joined_columns, joined_row, raised, joined_fragment, fragment_cmp, by_place, order_of}
-use Rattle.cas_streams.specs.declared.fragment.Fragment.{Fragment}
+use Rattle.cas_streams.specs.Joined.{plainly, joined_cell, joined_cells, joined_column, joined_columns}
 use Rattle.cas_streams.specs.declared.fragment.Fragment.TheVariants as fragment
 use Rattle.cas_streams.proofs.OwnRows.{key_of}
-use Rattle.cas_streams.proofs.Weaves.{two_by_two, woven_gives}
+use Rattle.cas_streams.proofs.Weaves.{woven_gives}
 
 -- what a list of lists gives, is the greatest of what each gives
 pub greatest_of_each : {X Y : Type 0} {cmp : Y → Y → Ordering} (o : Orders cmp) (given : Atom → Option Y) (own_of : X → List Atom) (xs : List X)

@@ -1,6 +1,5 @@
 -- What the range deletions of a stream cover: at each row what is in force there.
 use Rattle.std.proofs.Common.{◌≡◌, ℕ, Bool, true, false, cond, if◌then◌else◌, not, ◌&&◌, Option, None, Some, List, [], ◌∷◌, ◌++◌, refl, sym, ap, ◌∙◌}
-use Rattle.std.proofs.lemmas.Bool.{true≢false}
 use Rattle.std.specs.Bool.{then_some}
 use Rattle.cas_cell.specs.Deletions.{deletion_cmp}
 use Rattle.cas_cell.specs.declared.deletion.Deletion.{Deletion}
@@ -11,7 +10,7 @@ use Rattle.cas_cell.proofs.OrderLaws.{deletion_laws}
 use Rattle.std.specs.declared.cmp.Ordering.{Ordering}
 use Rattle.cas_atoms.proofs.GreatestLemmas.{greater_none}
 use Rattle.cas_atoms.specs.Greatest.{greater, greatest}
-use Rattle.cas_atoms.specs.Coordinates.{Coordinate, RowKey, clustered, static_row, row_of, lies_between, deletion_at, live_at_row, cell_at_path}
+use Rattle.cas_atoms.specs.Coordinates.{Coordinate, RowKey, clustered, static_row, row_of, lies_between}
 use Rattle.cas_atoms.specs.Winners.{cover}
 use Rattle.cas_atoms.specs.declared.atom.Atom.{Atom}
 use Rattle.cas_atoms.specs.declared.atom.Atom.TheVariants.{RangeDeletion}

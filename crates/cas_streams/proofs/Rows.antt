@@ -1,11 +1,9 @@
 -- Streams row by row.
-use Rattle.std.proofs.Common.{◌≡◌, ℕ, ℤ, Bool, true, false, Option, None, Some, List, [], ◌++◌, filter, refl, sym, ap, ◌∙◌}
+use Rattle.std.proofs.Common.{◌≡◌, ℕ, ℤ, Bool, false, Option, None, Some, List, ◌++◌, filter, refl, sym, ap, ◌∙◌}
 use Rattle.std.specs.List.{flat_map}
 use Rattle.std.specs.declared.cmp.Ordering.{Ordering}
 use Rattle.cas_types.specs.Orders.{Orders}
 use Rattle.cas_cell.specs.Deletions.{deletion_cmp}
-use Rattle.cas_cell.specs.Lives.{live_at, live_cmp}
-use Rattle.cas_cell.specs.Cells.{cell_at, cell_cmp}
 use Rattle.cas_cell.specs.Laws.{ByTime}
 use Rattle.cas_cell.specs.declared.deletion.Deletion.{Deletion}
 use Rattle.cas_cell.proofs.OrderLaws.{deletion_laws, live_laws, cell_laws}
@@ -16,7 +14,7 @@ use Rattle.cas_atoms.specs.Coordinates.{Coordinate, RowKey, row, clustered, stat
 use Rattle.cas_atoms.specs.Winners.{cover, standing, live_winner, cell_winner}
 use Rattle.cas_atoms.specs.declared.atom.Atom.{Atom}
 use Rattle.cas_atoms.specs.declared.atom.Atom.TheVariants.{PartitionDeletion, RangeDeletion}
-use Rattle.cas_atoms.proofs.GreatestLemmas.{greater_none, greatest-append}
+use Rattle.cas_atoms.proofs.GreatestLemmas.{greatest-append}
 use Rattle.cas_laws.specs.Inside.{SameWhere}
 use Rattle.cas_laws.proofs.JoinProofs.{cover_joins, winner_is, same_where_joins}
 use Rattle.cas_laws.proofs.ShownProofs.{equal_rows}

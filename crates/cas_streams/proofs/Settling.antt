@@ -1,17 +1,14 @@
 -- A settled stream is ordered as it was, and says the same.
-use Rattle.std.proofs.Common.{◌≡◌, ℕ, Bool, true, false, cond, Option, None, Some, List, [], ◌∷◌, ◌++◌, ◌⊎◌, inl, inr, refl, sym, ap, ◌∙◌, subst}
+use Rattle.std.proofs.Common.{◌≡◌, ℕ, Bool, true, false, cond, Option, None, Some, List, [], ◌∷◌, ◌++◌, inl, inr, refl, sym, ap, ◌∙◌, subst}
 use Rattle.std.proofs.lemmas.Bool.{true≢false}
 use Rattle.std.specs.List.{AllByRecursion, flat_map, cons_option}
-use Rattle.std.specs.Option.{option_cmp}
-use Rattle.std.specs.Cmp.Lexicographic.{options_total}
 use Rattle.std.specs.Ordering.{is_eq, is_lt, ordering_reverse}
 use Rattle.std.specs.declared.cmp.Ordering.{Ordering}
 use Rattle.std.specs.declared.cmp.Ordering.TheVariants.{Less, Equal, Greater}
 use Rattle.std.proofs.lemmas.Cmp.{tied_itself}
-use Rattle.cas_types.specs.Orders.{Orders}
 use Rattle.cas_cell.specs.Deletions.{deletion_cmp}
-use Rattle.cas_cell.specs.Lives.{live_at, live_cmp}
-use Rattle.cas_cell.specs.Cells.{cell_at, cell_cmp}
+use Rattle.cas_cell.specs.Lives.{live_at}
+use Rattle.cas_cell.specs.Cells.{cell_at}
 use Rattle.cas_cell.specs.declared.deletion.Deletion.{Deletion}
 use Rattle.cas_cell.proofs.OrderLaws.{deletion_laws, live_laws, cell_laws}
 use Rattle.cas_bounds.specs.Cuts.{is_past}
@@ -19,9 +16,9 @@ use Rattle.cas_bounds.specs.Points.{point_cmp, row_point, cut_point}
 use Rattle.cas_bounds.specs.declared.order.Ordered.{Ordered}
 use Rattle.cas_bounds.specs.declared.cuts.Cut.{Cut}
 use Rattle.cas_bounds.proofs.CutLaws.{point_laws}
-use Rattle.cas_atoms.specs.Greatest.{greater, greatest}
-use Rattle.cas_atoms.specs.Coordinates.{Coordinate, RowKey, row, clustered, static_row, row_of, same_row, deletion_at, live_at_row, cell_at_path}
-use Rattle.cas_atoms.specs.Winners.{cover, standing, live_winner, cell_winner, Same}
+use Rattle.cas_atoms.specs.Greatest.{greater}
+use Rattle.cas_atoms.specs.Coordinates.{Coordinate, RowKey, row, clustered, static_row, row_of, same_row, live_at_row, cell_at_path}
+use Rattle.cas_atoms.specs.Winners.{cover, standing, Same}
 use Rattle.cas_atoms.specs.declared.atom.Atom.{Atom}
 use Rattle.cas_atoms.specs.declared.row.Row.{Row}
 use Rattle.cas_atoms.proofs.GreatestLemmas.{greater_self}
@@ -29,14 +26,14 @@ use Rattle.cas_laws.specs.Given.{Has}
 use Rattle.cas_laws.proofs.JoinProofs.{cover_joins, winner_is}
 use Rattle.cas_laws.proofs.ShownProofs.{equal_rows}
 use Rattle.cas_streams.specs.Places.{Place, place_cmp, place_of}
-use Rattle.cas_streams.specs.Flat.{Change, changes, after, reaching, in_force, own, flat}
+use Rattle.cas_streams.specs.Flat.{changes, after, reaching, in_force, own}
 use Rattle.cas_streams.specs.Streams.{IsOf, IsOrdered, Differ}
-use Rattle.cas_streams.specs.Joined.{Stream, opened}
-use Rattle.cas_streams.specs.Settled.{if_said, bare, same_force, left_of, settled_from, settled}
+use Rattle.cas_streams.specs.Joined.{Stream}
+use Rattle.cas_streams.specs.Settled.{if_said, bare, same_force, settled_from, settled}
 use Rattle.cas_streams.specs.Merged.{flat_of}
 use Rattle.cas_streams.specs.declared.fragment.Fragment.{Fragment}
 use Rattle.cas_streams.specs.declared.fragment.Fragment.TheVariants as fragment
-use Rattle.cas_streams.proofs.Weaves.{Ascend, keys_ascend, ascend_by_keys}
+use Rattle.cas_streams.proofs.Weaves.{Ascend, keys_ascend}
 use Rattle.cas_streams.proofs.Rows.{stream_covers, stream_gives}
 use Rattle.cas_streams.proofs.Bare.{Below, below_left, below_right, Under, under_both, said, static_left, row_left}
 use Rattle.cas_streams.proofs.Forces.{Falls, Stopped, stopped, Behind, InOrder, later, stop_behind}

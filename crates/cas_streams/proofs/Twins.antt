@@ -1,25 +1,22 @@
 -- Fragments at one place are of one kind, and joined they give the greater of what each gives.
-use Rattle.std.proofs.Common.{◌≡◌, ℕ, Bool, true, false, cond, Option, None, Some, List, refl, sym, ap, ◌∙◌}
+use Rattle.std.proofs.Common.{◌≡◌, ℕ, Bool, true, false, cond, Option, None, List, refl, sym, ap, ◌∙◌}
 use Rattle.std.proofs.lemmas.Bool.{true≢false}
 use Rattle.std.specs.declared.cmp.Ordering.{Ordering}
-use Rattle.std.specs.declared.cmp.Ordering.TheVariants.{Less, Equal, Greater}
+use Rattle.std.specs.declared.cmp.Ordering.TheVariants.{Equal}
 use Rattle.std.specs.Ordering.{is_lt, is_gt}
 use Rattle.cas_cell.specs.Deletions.{deletion_cmp}
 use Rattle.cas_cell.specs.Lives.{live_cmp}
 use Rattle.cas_cell.specs.Cells.{cell_cmp}
 use Rattle.cas_cell.specs.declared.deletion.Deletion.{Deletion}
-use Rattle.cas_cell.specs.declared.liveness.Liveness.{Liveness}
-use Rattle.cas_cell.specs.declared.cell.Cell.{Cell}
 use Rattle.cas_cell.proofs.OrderLaws.{deletion_laws}
-use Rattle.cas_bounds.specs.declared.order.Ordered.{Ordered}
 use Rattle.cas_bounds.specs.declared.map_key.End.{End}
 use Rattle.cas_bounds.specs.declared.map_key.End.TheVariants.{Before, Row, After}
-use Rattle.cas_bounds.specs.Points.{Point, point_cmp, row_point, cut_point, side}
+use Rattle.cas_bounds.specs.Points.{row_point, cut_point, side}
 use Rattle.cas_bounds.proofs.CutLaws.{point_laws}
 use Rattle.cas_atoms.specs.Greatest.{greater, greatest}
 use Rattle.cas_atoms.specs.Coordinates.{Coordinate, RowKey, clustered, static_row, row_of, same_row, same_values, live_at_row, cell_at_path}
 use Rattle.cas_atoms.specs.Winners.{cover}
-use Rattle.cas_streams.specs.Places.{Place, place_cmp, place_of}
+use Rattle.cas_streams.specs.Places.{place_of}
 use Rattle.cas_streams.specs.Flat.{own}
 use Rattle.cas_streams.specs.Joined.{joined_columns, joined_row, joined_fragment, fragment_cmp, raised}
 use Rattle.cas_streams.specs.declared.fragment.Fragment.{Fragment}

@@ -1,5 +1,5 @@
 -- What two lists woven into one keep: a fact of each element, the order of their keys, and the greatest of what they give.
-use Rattle.std.proofs.Common.{◌≡◌, Option, None, Some, List, [], ◌∷◌, map, refl, sym, ap, ◌∙◌, subst}
+use Rattle.std.proofs.Common.{◌≡◌, Option, None, List, [], ◌∷◌, map, refl, sym, ap, ◌∙◌, subst}
 use Rattle.std.specs.List.{AllByRecursion}
 use Rattle.std.specs.List.Sorted.{IsStrictlySortedBy}
 use Rattle.std.specs.FinMap.Entries.{by_order}
@@ -9,7 +9,7 @@ use Rattle.std.specs.Ordering.{ordering_reverse}
 use Rattle.std.specs.Cmp.{IsTotalOrder}
 use Rattle.cas_types.specs.Orders.{Orders}
 use Rattle.cas_atoms.specs.Greatest.{greater, greatest}
-use Rattle.cas_atoms.proofs.GreatestLemmas.{greater_assoc, greater_comm, greater_none}
+use Rattle.cas_atoms.proofs.GreatestLemmas.{greater_assoc, greater_comm}
 use Rattle.cas_streams.specs.Weaving.{Weave, rights, among, woven}
 
 pub by_case : {A : Type 0} (P : A → Type 0) (r : Ordering) (a b c : A) → (r ≡ Less → P a) → (r ≡ Equal → P b) → (r ≡ Greater → P c) → P (by_order r a b c)

@@ -1,33 +1,31 @@
 -- In the merge, each write wins where it is written.
-use Rattle.std.proofs.Common.{◌≡◌, ℕ, ◌==◌, ℤ, Bool, true, false, cond, not, ◌&&◌, Option, None, Some, List, [], ◌∷◌, ◌++◌, map, filter, ◌⊎◌, inl, inr, refl, sym, ap, ◌∙◌, subst, arith}
+use Rattle.std.proofs.Common.{◌≡◌, ℕ, ◌==◌, ℤ, Bool, true, false, cond, not, ◌&&◌, Option, None, Some, List, [], ◌∷◌, filter, ◌⊎◌, inl, inr, refl, sym, ap, ◌∙◌, subst, arith}
 use Rattle.std.proofs.lemmas.Bool.{true≢false}
 use Rattle.std.proofs.lemmas.Bool.Decides.{nat_tests}
 use Rattle.std.specs.Bool.{then_some}
-use Rattle.std.specs.List.{AllByRecursion, flat_map, filter_map, cons_option}
-use Rattle.std.specs.Cmp.Lexicographic.{lists_total, slice_cmp}
-use Rattle.std.specs.Ordering.{is_lt, is_eq, is_gt, nat_cmp}
+use Rattle.std.specs.List.{AllByRecursion, flat_map, cons_option}
+use Rattle.std.specs.Cmp.Lexicographic.{lists_total}
+use Rattle.std.specs.Ordering.{is_lt, is_eq, nat_cmp}
 use Rattle.std.specs.declared.cmp.Ordering.{Ordering}
-use Rattle.std.specs.declared.cmp.Ordering.TheVariants.{Less, Equal, Greater}
+use Rattle.std.specs.declared.cmp.Ordering.TheVariants.{Less, Equal}
 use Rattle.std.proofs.lemmas.Cmp.{tied_itself, nat_cmp_total}
 use Rattle.cas_types.specs.Orders.{Orders}
-use Rattle.cas_types.specs.Values.{bytes_cmp}
 use Rattle.cas_types.specs.declared.tag.TypeTag.{TypeTag}
 use Rattle.cas_types.proofs.OrderLaws.{bytes_orders}
 use Rattle.cas_cell.specs.Deletions.{deletion_cmp, covered}
-use Rattle.cas_cell.specs.Lives.{live_at, live_cmp}
+use Rattle.cas_cell.specs.Lives.{live_at}
 use Rattle.cas_cell.specs.Cells.{cell_at, cell_cmp}
 use Rattle.cas_cell.specs.declared.deletion.Deletion.{Deletion}
 use Rattle.cas_cell.specs.declared.liveness.Liveness.{Liveness}
 use Rattle.cas_cell.specs.declared.cell.Cell.{Cell}
 use Rattle.cas_cell.proofs.OrderLaws.{deletion_laws, live_laws, cell_laws}
-use Rattle.cas_bounds.specs.Points.{Point, row_point, cut_point}
+use Rattle.cas_bounds.specs.Points.{Point, row_point}
 use Rattle.cas_bounds.proofs.CutLaws.{point_laws}
 use Rattle.cas_bounds.specs.Cuts.{is_past}
 use Rattle.cas_bounds.specs.declared.order.Ordered.{Ordered}
-use Rattle.cas_bounds.specs.declared.cuts.Cut.{Cut}
 use Rattle.cas_bounds.specs.declared.cuts.Clustering.{Clustering}
 use Rattle.cas_atoms.specs.Greatest.{greater, greatest}
-use Rattle.cas_atoms.specs.Coordinates.{Coordinate, RowKey, row, path, clustered, static_row, row_of, same_row, same_values, same_bytes, is_at, is_in_column, deletion_at, live_at_row, cell_at_path}
+use Rattle.cas_atoms.specs.Coordinates.{Coordinate, RowKey, row, path, clustered, static_row, same_row, same_bytes, is_in_column, deletion_at, live_at_row, cell_at_path}
 use Rattle.cas_atoms.specs.Winners.{cover, standing, live_winner, cell_winner}
 use Rattle.cas_atoms.specs.RowsAndPaths.{path_cmp}
 use Rattle.cas_atoms.specs.declared.atom.Atom.{Atom}
@@ -38,12 +36,12 @@ use Rattle.cas_atoms.proofs.GreatestLemmas.{greater_none, greater_assoc, greater
 use Rattle.cas_laws.specs.Given.{Has}
 use Rattle.cas_laws.proofs.JoinProofs.{winner_is}
 use Rattle.cas_laws.proofs.ShownProofs.{equal_rows, equal_bytes, path_orders}
-use Rattle.cas_streams.specs.Places.{Place, place_cmp, place_of, row_in}
+use Rattle.cas_streams.specs.Places.{place_cmp, place_of, row_in}
 use Rattle.cas_streams.specs.Flat.{changes, after, reaching, in_force, of_column, own, flat}
 use Rattle.cas_streams.specs.Streams.{IsOrdered}
 use Rattle.cas_streams.specs.Laws.{is_row}
-use Rattle.cas_streams.specs.Joined.{Stream, opened}
-use Rattle.cas_streams.specs.Settled.{is_bare, if_said, bare_column, bare_columns, bare_row, bare, same_force, settled_from}
+use Rattle.cas_streams.specs.Joined.{opened}
+use Rattle.cas_streams.specs.Settled.{is_bare, if_said, bare_column, bare_columns, bare, same_force, settled_from}
 use Rattle.cas_streams.specs.declared.fragment.Fragment.{Fragment}
 use Rattle.cas_streams.specs.declared.fragment.Fragment.TheVariants as fragment
 use Rattle.cas_streams.proofs.OwnRows.{Only, not_of_row, none_given}
@@ -51,7 +49,7 @@ use Rattle.cas_streams.proofs.Rows.{stream_covers, stream_gives}
 use Rattle.cas_streams.proofs.Weaves.{Ascend}
 use Rattle.cas_streams.proofs.Parts.{greatest_of_each, gives_none, deletes_in, writes_in, cells_in, columns_delete, columns_write, row_deletes, row_lives, row_writes}
 use Rattle.cas_streams.proofs.Forces.{InOrder, later, Behind, stopped}
-use Rattle.cas_streams.proofs.Bare.{Below, dropped, no_cells}
+use Rattle.cas_streams.proofs.Bare.{dropped, no_cells}
 use Rattle.cas_streams.proofs.Settling.{same_force_is, stopped_by_row, past_cut}
 use Rattle.cas_streams.proofs.Joining.{in_order}
 use Rattle.cas_streams.proofs.Single.{single}

@@ -1,15 +1,13 @@
 -- Where a stream has a write, one of its fragments does; so the merge is merged.
 use Rattle.std.proofs.Common.{◌≡◌, ℕ, Bool, Option, None, Some, List, [], ◌∷◌, ◌++◌, map, ◌⊎◌, inl, inr, refl, sym, ap, ◌∙◌, subst}
-use Rattle.std.specs.List.{AllByRecursion, flat_map}
+use Rattle.std.specs.List.{flat_map}
 use Rattle.std.specs.Ordering.{nat_cmp}
 use Rattle.cas_types.specs.Schemas.{is_static, is_regular, path_type}
-use Rattle.cas_types.specs.declared.tag.TypeTag.{TypeTag}
 use Rattle.cas_types.specs.declared.schema.Column.{Column}
 use Rattle.cas_types.specs.declared.schema.Kind.{Kind}
 use Rattle.cas_cell.specs.declared.deletion.Deletion.{Deletion}
 use Rattle.cas_cell.specs.declared.liveness.Liveness.{Liveness}
 use Rattle.cas_cell.specs.declared.cell.Cell.{Cell}
-use Rattle.cas_bounds.specs.ClusteringOrder.{clustering_order}
 use Rattle.cas_bounds.specs.declared.cuts.Cut.{Cut}
 use Rattle.cas_bounds.specs.declared.cuts.Clustering.{Clustering}
 use Rattle.cas_atoms.specs.Coordinates.{clustered, static_row, path}
@@ -17,7 +15,7 @@ use Rattle.cas_atoms.specs.Winners.{live_winner, cell_winner}
 use Rattle.cas_atoms.specs.RowsAndPaths.{path_cmp}
 use Rattle.cas_atoms.specs.declared.atom.ColumnRef.{ColumnRef}
 use Rattle.cas_atoms.specs.declared.atom.Atom.{Atom}
-use Rattle.cas_atoms.specs.declared.atom.Atom.TheVariants.{PartitionDeletion, RangeDeletion, RowDeletion, CollectionDeletion, Live, Write, StaticWrite, StaticCollectionDeletion}
+use Rattle.cas_atoms.specs.declared.atom.Atom.TheVariants.{PartitionDeletion, RangeDeletion, RowDeletion, Live, Write, StaticWrite}
 use Rattle.cas_atoms.specs.declared.row.Row.{Row}
 use Rattle.cas_atoms.specs.declared.row.RowColumn.{RowColumn}
 use Rattle.cas_atoms.specs.declared.row.PathCell.{PathCell}
@@ -25,8 +23,7 @@ use Rattle.cas_laws.specs.Given.{Has}
 use Rattle.cas_streams.specs.Flat.{atom_of, writes, empties, of_column, own, Change, between, ranges_after, ranges, changes, flat}
 use Rattle.cas_streams.specs.Streams.{IsColumn, AreColumns, IsFragment, WellFormed}
 use Rattle.cas_streams.specs.Joined.{Stream}
-use Rattle.cas_streams.specs.Settled.{settled_from}
-use Rattle.cas_streams.specs.Merged.{draw, joined_all, merged, IsMerged}
+use Rattle.cas_streams.specs.Merged.{draw, joined_all, merged}
 use Rattle.cas_streams.specs.Laws.{MergeIsMerged}
 use Rattle.cas_streams.specs.declared.fragment.Fragment.{Fragment}
 use Rattle.cas_streams.specs.declared.fragment.Fragment.TheVariants as fragment

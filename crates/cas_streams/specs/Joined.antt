@@ -1,6 +1,6 @@
 -- Two streams of a partition joined into one, place by place, with nothing left out.
 -- Cassandra documentation, "Operating: Compaction, tombstones"; own.
-use Rattle.std.specs.Prelude.{Option, None, Some, List, [], ◌∷◌}
+use Rattle.std.specs.Prelude.{Option, None, List, []}
 use Rattle.std.specs.Ordering.{nat_cmp, is_lt}
 use Rattle.std.specs.declared.cmp.Ordering.{Ordering}
 use Rattle.std.specs.Prelude.{if◌then◌else◌}
@@ -9,7 +9,6 @@ use Rattle.cas_cell.specs.Deletions.{deletion_cmp}
 use Rattle.cas_cell.specs.Lives.{live_cmp}
 use Rattle.cas_cell.specs.Cells.{cell_cmp}
 use Rattle.cas_cell.specs.declared.deletion.Deletion.{Deletion}
-use Rattle.cas_cell.specs.declared.cell.Cell.{Cell}
 use Rattle.cas_bounds.specs.declared.order.Ordered.{Ordered}
 use Rattle.cas_atoms.specs.Greatest.{greater}
 use Rattle.cas_atoms.specs.RowsAndPaths.{path_cmp}

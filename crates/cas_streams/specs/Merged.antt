@@ -1,9 +1,8 @@
 -- The merge of streams of one partition.
 -- Cassandra documentation, "Operating: Compaction"; in which pairs streams are joined is own, and doesn't matter to what the merge says.
-use Rattle.std.specs.Prelude.{◌≡◌, ℕ, Option, None, Some, List, [], ◌∷◌, fold}
+use Rattle.std.specs.Prelude.{◌≡◌, ℕ, None, Some, List, [], fold}
 use Rattle.std.specs.List.{flat_map}
 use Rattle.cas_types.specs.declared.schema.Column.{Column}
-use Rattle.cas_cell.specs.declared.deletion.Deletion.{Deletion}
 use Rattle.cas_cell.specs.declared.liveness.Liveness.{Liveness}
 use Rattle.cas_cell.specs.declared.cell.Cell.{Cell}
 use Rattle.cas_bounds.specs.declared.cuts.Clustering.{Clustering}

@@ -2,7 +2,7 @@
 use Rattle.std.specs.Prelude.{◌≡◌, ℕ, ◌+◌, Option, None, Some, List, [], ◌∷◌, Result}
 use Rattle.cas_cell.specs.declared.deletion.Deletion.{Deletion}
 use Rattle.cas_streams.specs.Weaving.{woven}
-use Rattle.cas_streams.specs.Joined.{by_place, Stream}
+use Rattle.cas_streams.specs.Joined.{by_place}
 use Rattle.cas_streams.specs.Sources.{TakesFirst, Shrinks}
 use Rattle.cas_streams.specs.Settled.{settled_from}
 use Rattle.cas_streams.specs.Merged.{Draw, nobody, one, pair}

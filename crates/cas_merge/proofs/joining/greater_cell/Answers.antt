@@ -1,6 +1,4 @@
-use Rattle.std.proofs.Common.{◌≡◌, true, false, cond, sym, ap, ◌∙◌}
-use Rattle.std.specs.Ordering.{is_lt}
-use Rattle.cas_cell.specs.Cells.{cell_cmp}
+use Rattle.std.proofs.Common.{true, false, cond, sym, ap, ◌∙◌}
 use Rattle.cas_cell.proofs.OrderLaws.{cell_laws}
 use Rattle.cas_atoms.proofs.Wins.{below}
 use Rattle.cas_merge.proofs.joining.greater_cell.Goals as goal

@@ -1,4 +1,4 @@
-use Rattle.std.proofs.Common.{◌≡◌, ◌++◌, Option, length}
+use Rattle.std.proofs.Common.{◌≡◌, ◌++◌, Option}
 use Rattle.std.specs.Vec.Iter.{into_iter_items, into_iter_len}
 use Rattle.cas_bounds.specs.declared.cuts.Clustering.{Clustering}
 use Rattle.cas_streams.specs.Settled.{bare_columns as bare_of}

@@ -1,4 +1,4 @@
-use Rattle.std.proofs.Common.{◌≡◌, true, false, sym, ◌∙◌}
+use Rattle.std.proofs.Common.{true, false, sym, ◌∙◌}
 use Rattle.cas_merge.proofs.Saying.{row_left as left}
 use Rattle.cas_merge.proofs.settling.row_left.Goals as goal
 

@@ -1,4 +1,4 @@
-use Rattle.std.proofs.Common.{◌≡◌, true, false, sym, ap, ◌∙◌}
+use Rattle.std.proofs.Common.{true, false, sym, ap, ◌∙◌}
 use Rattle.cas_merge.specs.Inner.Said.{any_says}
 use Rattle.cas_merge.proofs.Saying.{static_left as left}
 use Rattle.cas_merge.proofs.settling.static_left.Goals as goal

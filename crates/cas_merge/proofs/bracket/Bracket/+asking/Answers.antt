@@ -1,4 +1,4 @@
-use Rattle.std.proofs.Common.{◌≡◌, ◌+◌, ℕ, Option, Some, List, sym, ap, ◌∙◌, arith}
+use Rattle.std.proofs.Common.{◌≡◌, ◌+◌, ℕ, Option, List, sym, ap, ◌∙◌, arith}
 use Rattle.std.specs.contracts.alloc.AllocError.{the_row}
 use Rattle.cas_streams.specs.declared.fragment.Fragment.{Fragment}
 use Rattle.cas_merge.specs.Inner.Brackets.{of_both, with_next, side_room, coming, room}

@@ -1,0 +1,16 @@
+-- The streams that sources tell.
+use Rattle.std.specs.Prelude.{Option, None, Some, List, [], ◌∷◌}
+use Rattle.cas_cell.specs.declared.deletion.Deletion.{Deletion}
+use Rattle.cas_streams.specs.Joined.{Stream}
+use Rattle.cas_streams.specs.declared.fragment.Fragment.{Fragment}
+
+-- one more stream, where both are told
+abbrev pub told_first : Option Deletion → Option (List Fragment) → Option (List Stream) → Option (List Stream)
+told_first top None ss = None
+told_first top (Some fs) None = None
+told_first top (Some fs) (Some ss) = Some (record { top = top; fragments = fs } ∷ ss)
+
+-- of each source its top and what is to come, where all of them tell it
+abbrev pub streams_told : {I : Type 0} → (I → Option (List Fragment)) → (I → Option Deletion) → List I → Option (List Stream)
+streams_told tells tops [] = Some []
+streams_told tells tops (s ∷ ss) = told_first (tops s) (tells s) (streams_told tells tops ss)

@@ -1,0 +1,119 @@
+//! The merge of sources, itself a source.
+
+ghost use Rattle.std.specs.Prelude.{◌≡◌, List, Option, None, Some, IfOk};
+ghost use Rattle.cas_cell.specs.Deletions.{deletion_cmp};
+ghost use Rattle.cas_atoms.specs.Greatest.{greatest};
+ghost use Rattle.cas_streams.specs.Joined.{Stream};
+ghost use Rattle.cas_streams.specs.Merged.{draw, joined_all, merged};
+ghost use Rattle.cas_merge.specs.Told.{streams_told};
+ghost use Rattle.cas_merge.specs.Inner.Brackets.{coming, room};
+ghost use Rattle.cas_merge.specs.Inner.Mergers.{rooms, merger_to_come, merger_room};
+ghost use Rattle.cas_streams.specs.Sources.{TakesFirst, Shrinks};
+ghost use Rattle.cas_streams.specs.declared.fragment.Fragment.{Fragment};
+
+use crate::bracket::Bracket;
+use crate::joining::first_of;
+use cas_atoms::greater_deletion;
+use cas_cell::Deletion;
+use cas_streams::{Fragment, FragmentSource};
+use std::alloc::{AllocError, Global};
+use std::mem;
+
+// The greatest of the sources' deletions of the whole partition.
+fn greatest_top<I: FragmentSource>(sources: &[I]) -> Option<Deletion>
+    ensures { result ≡ greatest deletion_cmp I.over_all sources.now }
+{
+    match sources {
+        [] => None,
+        [source, rest @ ..] => greater_deletion(source.top(), greatest_top(rest)),
+    }
+}
+
+// The sources in pairs.
+fn bracket_of<I: FragmentSource>(alloc: Global, sources: Vec<I>) -> Result<Bracket<I>, AllocError>
+    ensures told { IfOk result (λ b. (ss : List Stream) → streams_told I.to_come I.over_all sources.items ≡ Some ss → coming I.to_come b ≡ Some (joined_all (draw ss)).fragments) }
+    ensures room { IfOk result (λ b. room I.at_most b ≡ rooms I.at_most sources.items) }
+{
+    let mut bracket = Bracket::Nobody;
+    let mut rest = sources.into_iter();
+    while let Some(source) = first_of(&mut rest) {
+        bracket.enter(alloc, source)?;
+    }
+    Ok(bracket)
+}
+
+/// The merge of sources of one partition.
+#[derive(Drop)]
+pub struct Merger<I: FragmentSource> {
+    top: Option<Deletion>,
+    in_force: Option<Deletion>,
+    waiting: Vec<I>,
+    bracket: Bracket<I>,
+    broken: Option<I::Fault>,
+}
+
+impl<I: FragmentSource> Merger<I> {
+    /// The merge of these sources. It takes no memory before the first fragment is asked for.
+    pub fn new(sources: Vec<I>) -> Self
+        ensures fragments { (ss : List Stream) → streams_told I.to_come I.over_all sources.items ≡ Some ss → ⟦<Merger<I> as FragmentSource>⟧.to_come result ≡ Some (merged ss).fragments }
+        ensures top { (ss : List Stream) → streams_told I.to_come I.over_all sources.items ≡ Some ss → ⟦<Merger<I> as FragmentSource>⟧.over_all result ≡ (merged ss).top }
+        ensures sound { ⟦<Merger<I> as FragmentSource>⟧.broken_by result ≡ None }
+    {
+        Merger {
+            top: greatest_top(&sources),
+            in_force: None,
+            waiting: sources,
+            bracket: Bracket::Nobody,
+            broken: None,
+        }
+    }
+
+    // The next fragment, of a merger that isn't broken.
+    fn advance(&mut self) -> Result<Option<Fragment>, I::Fault>
+        ensures top { self.new.top ≡ self.old.top }
+        ensures broken { self.new.broken ≡ self.old.broken }
+        ensures first { (fs : List Fragment) → merger_to_come I.to_come I.over_all self.old.top self.old.in_force self.old.waiting.items self.old.bracket ≡ Some fs → TakesFirst fs (merger_to_come I.to_come I.over_all self.new.top self.new.in_force self.new.waiting.items self.new.bracket) result }
+        ensures ends { Shrinks (merger_room I.at_most self.old.waiting.items self.old.bracket) (merger_room I.at_most self.new.waiting.items self.new.bracket) result }
+    {
+        if !self.waiting.is_empty() {
+            let alloc = *self.waiting.allocator();
+            let sources = mem::replace(&mut self.waiting, Vec::new(alloc));
+            let bracket = bracket_of(alloc, sources)?;
+            self.bracket = bracket;
+            self.in_force = None;
+        }
+        let alloc = *self.waiting.allocator();
+        self.bracket.next_left(alloc, self.top, &mut self.in_force)
+    }
+}
+
+impl<I: FragmentSource> FragmentSource for Merger<I> {
+    ghost use Rattle.cas_merge.specs.Inner.Mergers.{merger_to_come, merger_room};
+
+    type Fault = I::Fault;
+
+    ghost to_come = { λ m. merger_to_come I.to_come I.over_all m.top m.in_force m.waiting.items m.bracket };
+
+    ghost over_all = { λ m. m.top };
+
+    ghost at_most = { λ m. merger_room I.at_most m.waiting.items m.bracket };
+
+    ghost broken_by = { λ m. m.broken };
+
+    fn top(&self) -> Option<Deletion> {
+        self.top
+    }
+
+    fn next(&mut self) -> Result<Option<Fragment>, I::Fault> {
+        if let Some(fault) = self.broken {
+            return Err(fault);
+        }
+        match self.advance() {
+            Ok(fragment) => Ok(fragment),
+            Err(fault) => {
+                self.broken = Some(fault);
+                Err(fault)
+            }
+        }
+    }
+}
