@@ -1,9 +1,9 @@
-use Rattle.std.proofs.Common.{◌≡◌, ℕ, ◌+◌, ◌<◌, ◌≤◌, ◌∙◌, ◌++◌, Bool, cond, Some, arith, le-leb, ap, sym, subst}
+use Rattle.std.proofs.Common.{◌≡◌, ℕ, ◌+◌, ◌<◌, ◌≤◌, ◌∙◌, Bool, cond, Some, arith, le-leb, ap, sym, subst}
 use Rattle.cas_ledger.specs.declared.hand.Hand.{Hand}
-use Rattle.cas_ledger.specs.Hands.{Owns, shares, times, beyond, either_right}
+use Rattle.cas_ledger.specs.Hands.{shares, times, beyond, either_right}
 use Rattle.cas_ledger.proofs.Lists.{times_append}
 use Rattle.cas_ledger.proofs.Parts.{owned}
-use Rattle.cas_history.specs.Items.{items, listed}
+use Rattle.cas_history.specs.Items.{items}
 use Rattle.cas_history.proofs.maker.Maker.keep.Goals as goal
 
 makes_shares : {E : Type 0} (h : Hand E) (n r : ℕ) → h.from ≡ Some n → n ≤ r → 0 < shares r h
