@@ -1,10 +1,12 @@
 //! Who makes passes, and a new one.
 ghost use Rattle.std.specs.Prelude.{◌≡◌, ℕ, ◌+◌, ◌<◌, ◌≤◌, [], Some, IfOk, OnErr};
+ghost use mathlib.Core.List.{IsPrefix};
 ghost use Rattle.cas_ledger.specs.Hands.{Owns};
 ghost use Rattle.cas_history.specs.Items.{listed};
 
+use crate::front::Session;
 use crate::item::Item;
-use cas_ledger::{Opened, Pass, Store, deal};
+use cas_ledger::{Opened, Pass, Store, deal, join};
 use std::alloc::AllocError;
 
 /// It owns each list from `next` on, and those are empty.
@@ -46,5 +48,15 @@ impl<E, J: Store> Maker<E, J> {
         let pass = deal(&mut self.pass, (list - self.next + 1) as usize)?;
         self.next = list + 1;
         Ok(Fresh { pass, list })
+    }
+
+    /// A session has ended: its diary is the maker's from now on, and stays as it was.
+    pub fn keep(&mut self, session: Session<E, J>)
+        ensures next { self.new.next ≡ self.old.next }
+        ensures owns { Owns self.new.pass session.list }
+        ensures list { listed session.list self.new.pass.saw ≡ listed session.list session.pass.saw }
+        ensures seen { IsPrefix self.old.pass.saw self.new.pass.saw × IsPrefix session.pass.saw self.new.pass.saw }
+    {
+        join(&mut self.pass, session.pass);
     }
 }

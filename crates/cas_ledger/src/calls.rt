@@ -41,11 +41,11 @@ pub fn accept_two<E: Entries, J: Store, T: Tells<E>>(
     ensures legal { Legal E.rules one.new.saw }
     ensures two { two.new ≡ sees one.new.saw two.old }
 {
-    let mut group = one.lend();
-    one.gather(&mut group, two.lend());
-    let before = one.enter(&mut group, word, entry);
-    two.take_back(one.part(&mut group));
-    one.take_back(group);
+    let mut pair = one.lend();
+    one.gather(&mut pair, two.lend());
+    let before = one.enter(&mut pair, word, entry);
+    two.take_back(one.part(&mut pair));
+    one.take_back(pair);
     before
 }
 
@@ -118,11 +118,11 @@ pub fn look<E: Entries, J: Store>(one: &mut Pass<E, J>, two: &mut Pass<E, J>, wo
     ensures apart { Apart (one.old ∷ two.old ∷ []) }
     ensures count { result ≡ counted E.rules word one.new.saw % 2 ^ 64 }
 {
-    let mut group = one.lend();
-    one.gather(&mut group, two.lend());
-    let count = one.show(&mut group, word);
-    two.take_back(one.part(&mut group));
-    one.take_back(group);
+    let mut pair = one.lend();
+    one.gather(&mut pair, two.lend());
+    let count = one.show(&mut pair, word);
+    two.take_back(one.part(&mut pair));
+    one.take_back(pair);
     count
 }
 

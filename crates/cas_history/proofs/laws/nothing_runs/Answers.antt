@@ -1,4 +1,4 @@
-use Rattle.std.proofs.Common.{◌≡◌, ℕ, ◌+◌, ◌%◌, ◌<◌, ◌≤◌, ◌⊎◌, ◌∙◌, Bool, true, false, cond, Some, arith, le-leb, ap, sym, subst, ⊎_elim, true≢false}
+use Rattle.std.proofs.Common.{◌≡◌, ℕ, ◌+◌, ◌<◌, ◌≤◌, ◌∙◌, Bool, cond, Some, arith, le-leb, ap, sym, subst, ⊎_elim, true≢false}
 use Rattle.cas_ledger.specs.Hands.{shares, times, beyond}
 use Rattle.cas_ledger.specs.declared.hand.Hand.{Hand}
 use Rattle.cas_ledger.proofs.Parts.{owned}
