@@ -16,9 +16,9 @@ use Rattle.cas_changes.specs.declared.entry.Entry.{Entry}
 use Rattle.cas_changes.specs.declared.entry.Entry.TheVariants as entry
 use Rattle.cas_changes.specs.declared.said.TheConstants.{FILE_LIMIT, LISTED_LIMIT}
 use Rattle.cas_changes.specs.Saying.{Saying, nothing, after, said_by, listed_after}
-use Rattle.cas_changes.specs.Allowed.{FitsEntry, FitsNext, IsListable}
+use Rattle.cas_changes.specs.Allowed.{FitsEntry, FitsNext}
 use Rattle.cas_changes.specs.Spelling.{entry_bytes}
-use Rattle.cas_manifest.specs.File.{lengths, block, opened, front, MayFollow, IsManifest}
+use Rattle.cas_manifest.specs.File.{lengths, block, front, MayFollow}
 use Rattle.cas_manifest.specs.Manifests.{Place, Stands, MayHave, passes, Ends}
 use Rattle.cas_manifest.specs.declared.fault.Limit.{Limit}
 use Rattle.cas_manifest.specs.declared.fault.Limit.TheVariants.{Bytes}

@@ -1,15 +1,13 @@
 -- How a manifest comes to be.
-use Rattle.std.proofs.Common.{◌≡◌, ◌≢◌, ◌⊎◌, inl, inr, ℕ, ◌+◌, ◌≤◌, Bool, true, false, eqb, List, [], ◌∷◌, ◌++◌, length, Option, None, Some, refl, sym, ◌∙◌, ap, subst, arith}
+use Rattle.std.proofs.Common.{◌≡◌, ◌≢◌, ◌⊎◌, inl, inr, ℕ, ◌≤◌, Bool, true, false, eqb, List, [], ◌∷◌, ◌++◌, length, Option, None, Some, refl, ◌∙◌, ap, subst, arith}
 use Rattle.std.proofs.lemmas.Bool.{cases_eq, eqb-true}
-use Rattle.cas_disk.specs.declared.name.Name.{Name}
 use Rattle.cas_disk.specs.declared.name.Name.TheVariants.{Manifest as manifest_name}
 use Rattle.cas_disk.specs.Disk.{Image, Disk, During, Changed, Same, MayBeMade, MayTear, Torn, IsKept, bytes_of}
 use Rattle.cas_disk.proofs.Moments.{reworded, one_call_more}
 use Rattle.cas_disk.proofs.WrittenLasts.{then_same}
 use Rattle.cas_gates.specs.Gates.{MayOpen}
-use Rattle.cas_changes.specs.Saying.{nothing, said_by}
-use Rattle.cas_changes.specs.declared.said.TheConstants.{FILE_LIMIT}
-use Rattle.cas_manifest.specs.File.{front, MayFollow, IsManifest}
+use Rattle.cas_changes.specs.Saying.{said_by}
+use Rattle.cas_manifest.specs.File.{front, IsManifest}
 use Rattle.cas_manifest.specs.Manifests.{Stands, is_made, MayBegin}
 use Rattle.cas_manifest.specs.Inner.Making.{MayStayShut}
 

@@ -5,15 +5,12 @@ use Rattle.std.proofs.lemmas.Bool.{eqb-true, leb-true}
 use Rattle.std.proofs.lemmas.Bool.Decides.{nat_tests}
 use Rattle.std.proofs.lemmas.List.{length-append, append-nil}
 use Rattle.std.proofs.lemmas.Slice.Eq.{bytes_eq-Decides}
-use Rattle.cas_types.specs.declared.limits.TheConstants.{SHARD_LIMIT}
-use Rattle.cas_types.specs.declared.schema.TableSchema.{TableSchema}
 use Rattle.cas_codec.specs.declared.fault.ReadFault.TheVariants.{Bad}
 use Rattle.cas_codec.specs.Fields.{u8, u32}
 use Rattle.cas_codec.specs.Reading.{Left, Read, ◌>>=◌, checked, bytes_at, u8_at, u32_at}
 use Rattle.cas_codec.specs.Exact.{AreBytes, Begins, IsExact}
 use Rattle.cas_codec.proofs.Exactness.{bind_ok, test_ok, ok_is, read_left, AreBytes-rest, AreBytes-front, Begins-then, exact_checked}
 use Rattle.cas_codec.proofs.FieldLaws.{u8_field, u32_field, exact_bytes}
-use Rattle.cas_schemas.specs.declared.schemas.TheConstants.{TABLE_LIMIT}
 use Rattle.cas_changes.specs.declared.entry.Entry.{Entry}
 use Rattle.cas_changes.specs.declared.entry.Entry.TheVariants as entry
 use Rattle.cas_changes.specs.declared.said.TheConstants.{FILE_LIMIT}

@@ -1,4 +1,4 @@
-use Rattle.std.proofs.Common.{◌≡◌, ◌+◌, ◌<◌, ◌≤◌, ℕ, length, refl, sym, ◌∙◌, ap, arith}
+use Rattle.std.proofs.Common.{length, refl, sym, ◌∙◌, ap, arith}
 use Rattle.cas_changes.specs.Saying.{listed_after}
 use Rattle.cas_manifest.proofs.Appends.{append_during, append_done, told_few, block_long, none_passed, bytes_passed, ends_ok, ends_many, ends_failed}
 use Rattle.cas_manifest.proofs.manifest.Manifest.append.Goals as goal
