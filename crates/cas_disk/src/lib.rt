@@ -27,6 +27,3 @@ pub use laws::{
 pub use memory::{MemDraft, MemFolder, MemSealed};
 pub use name::{Entry, Name, same_name};
 pub use plan::FaultPlan;
-
-#[cfg(test)]
-mod tests;

@@ -5,8 +5,6 @@
 mod file;
 mod laws;
 mod reading;
-#[cfg(test)]
-mod tests;
 
 pub use file::replay;
 pub use laws::segments_are_exact;

@@ -7,15 +7,10 @@ ghost use Rattle.cas_replay.specs.Replays.{Replays};
 
 use cas_atoms::Mutation;
 use cas_codec::{ReadFault, Reader};
-use cas_log::LogFault;
+use cas_log::{GREATEST_SEGMENT, LEAST_SEGMENT, LogFault};
 use cas_mutations::read_record;
 use cas_types::TableSchema;
 use std::alloc::Global;
-
-// The least and the greatest size of a segment, in bytes.
-const LEAST_SEGMENT: u64 = 4096;
-
-const GREATEST_SEGMENT: u64 = 1 << 25;
 
 // The last of these mutations that is of the shard.
 fn last_of(before: &[Mutation], shard: u8) -> Option<&Mutation>

@@ -1,16 +1,16 @@
-//! A segment, written by hand.
+//! A segment of one INSERT, by hand: written, read back, and what its altered bytes answer.
 
 ghost use Rattle.std.specs.Prelude.{IfOk};
-ghost use Rattle.cas_types.specs.Limits.{IsNarrow};
-ghost use Rattle.cas_mutations.specs.Allowed.{AreTables};
 ghost use Rattle.cas_log.specs.Logs.{IsOfATable};
 
+use crate::insert::{RECORD, tables};
 use cas_atoms::Mutation;
 use cas_codec::{ReadFault, Reader};
 use cas_disk::{FaultPlan, Folder, MemFolder, Name};
 use cas_log::{Log, LogFault};
 use cas_mutations::{read_record, records_are_exact};
-use cas_types::{Column, Kind, List, Options, Shape, Strategy, TableSchema, Text, TypeTag, Unit};
+use cas_replay::{read_segment, replay};
+use cas_types::TableSchema;
 use std::alloc::{AllocError, Global};
 use std::test::Fail;
 
@@ -23,70 +23,12 @@ const BEFORE: [u8; 33] = [
     0, 0, 0, 85, 0, 0, 0, 1, // one record of 85 bytes
 ];
 
-// INSERT INTO t (k, c, v) VALUES (1, 1, 'a'), the first mutation of shard 0
-const RECORD: [u8; 85] = [
-    0, 0, 0, 81, // the bytes that follow
-    0, 0, // the table
-    0, // the shard
-    0, 0, 0, 0, 0, 0, 0, 1, // the mutation's number
-    1, // its timestamp was drawn
-    0, 0, 0, 0, 0, 0, 0, 0, // the timestamp
-    0, 0, 0, 0, 0, 0, 0, 0, // the moment
-    0, 4, 0, 0, 0, 1, // the key
-    0, 0, 0, 2, // two atoms
-    5, 1, 0, 4, 0, 0, 0, 1, 0, 0, 0, 0, 0, 0, 0, 0, 0, // the row is there
-    6, 1, 0, 4, 0, 0, 0, 1, // a cell of the row
-    0, 2, 0, 0, // of the third column, with no path
-    0, 0, 0, 0, 0, 0, 0, 0, 0, 0, 0, 0, 1, 0x61, // 'a'
-];
-
-fn column(alloc: Global, kind: Kind, shape: Shape, tag: TypeTag) -> Column {
-    Column {
-        name: Text::from_string(String::new(alloc)),
-        kind,
-        shape,
-        tag,
-        second: None,
-    }
-}
-
-// `k int, c int, v text, l list<int>, s text static, PRIMARY KEY (k, c)`
-fn columns(alloc: Global) -> Result<Vec<Column>, AllocError>
-    ensures { IfOk result (λ v. IsNarrow v.items) }
-{
-    Ok(vec![in alloc;
-        column(alloc, Kind::Partition, Shape::One, TypeTag::Int),
-        column(alloc, Kind::Ascending, Shape::One, TypeTag::Int),
-        column(alloc, Kind::Regular, Shape::One, TypeTag::Text),
-        column(alloc, Kind::Regular, Shape::List, TypeTag::Int),
-        column(alloc, Kind::Static, Shape::One, TypeTag::Text),
-    ]?)
-}
-
-fn tables(alloc: Global) -> Result<Vec<TableSchema>, AllocError>
-    ensures { IfOk result (λ v. AreTables v.items) }
-{
-    let options = Options {
-        gc_grace_seconds: 864_000,
-        default_time_to_live: 0,
-        strategy: Strategy::SizeTiered,
-        min_threshold: 4,
-        max_threshold: 32,
-        bucket_low: 50,
-        bucket_high: 150,
-        min_sstable_size: 52_428_800,
-        sstable_size_in_mb: 160,
-        fanout_size: 10,
-        unit: Unit::Days,
-        window: 1,
-    };
-    let table = TableSchema {
-        number: 0,
-        name: Text::from_string(String::new(alloc)),
-        columns: List::from_vec(columns(alloc)?),
-        options,
-    };
-    Ok(vec![in alloc; table]?)
+// The segment, with the next gate closed.
+fn segment(alloc: Global) -> Result<Vec<u8>, AllocError> {
+    let mut whole = Vec::from_slice(alloc, &BEFORE)?;
+    whole.extend_from_slice(&RECORD)?;
+    whole.push(0)?;
+    Ok(whole)
 }
 
 fn mutation(alloc: Global) -> Result<Mutation, ReadFault>
@@ -119,12 +61,62 @@ fn a_segment_of_one_block(rt: HostRuntime) -> Result<(), Fail> {
     let mut folder = MemFolder::new(rt.alloc(), FaultPlan::none(rt.alloc()));
     let mutation = mutation(rt.alloc()).ok().ok_or("a mutation")?;
     assert_eq!(rt; committed(rt.alloc(), &mut folder, &mutation), Ok(()));
-    let mut whole = Vec::from_slice(rt.alloc(), &BEFORE)?;
-    whole.extend_from_slice(&RECORD)?;
-    // the next gate is closed
-    whole.push(0)?;
     let mut found = [7; 130];
     assert_eq!(rt; folder.read_at(Name::Log(1), 0, &mut found).ok(), Some(119));
-    assert!(rt; found.starts_with(whole.as_slice()));
+    assert!(rt; found.starts_with(segment(rt.alloc())?.as_slice()));
+    let tables = tables(rt.alloc())?;
+    let replayed = replay(rt.alloc(), &mut folder, 1, &tables, 1)
+        .ok()
+        .ok_or("no segment")?;
+    let read = replayed.first().ok_or("no mutation")?;
+    assert_eq!(rt;
+        (replayed.len(), read.shard, read.number, read.atoms.len()),
+        (1, 0, 1, 2)
+    );
+    let missing = replay(rt.alloc(), &mut folder, 2, &tables, 1);
+    assert_eq!(rt; missing.err(), Some(LogFault::Bad { at: 0 }));
+    Ok(())
+}
+
+// How many mutations are read.
+fn count(alloc: Global, bytes: &[u8], tables: &[TableSchema]) -> Result<usize, LogFault> {
+    let mutations = read_segment(alloc, 1, tables, 1, bytes)?;
+    Ok(mutations.len())
+}
+
+#[test]
+fn altered_bytes_of_a_segment(rt: HostRuntime) -> Result<(), Fail> {
+    let tables = tables(rt.alloc())?;
+    let whole = segment(rt.alloc())?;
+    for (long, answer) in [
+        (4, Err(LogFault::Bad { at: 0 })),
+        (24, Err(LogFault::Bad { at: 24 })),
+        (119, Ok(1)),
+    ] {
+        let bytes = whole.get(..long).ok_or("fewer bytes")?;
+        assert_eq!(rt; count(rt.alloc(), bytes, &tables), answer);
+    }
+    let altered = [
+        (0, 0x44, Err(LogFault::Bad { at: 0 })), // another word
+        (15, 2, Err(LogFault::Bad { at: 8 })), // another number
+        (22, 0x0f, Err(LogFault::Bad { at: 16 })), // below 4,096
+        (24, 0, Ok(0)), // the gate is closed
+        (27, 0x10, Err(LogFault::Bad { at: 25 })), // past the segment's size
+        (28, 87, Err(LogFault::Bad { at: 25 })), // more than there is
+        (28, 86, Err(LogFault::Bad { at: 118 })), // a byte is left over
+        (28, 84, Err(LogFault::Bad { at: 33 })), // the record runs past the body
+        (32, 2, Err(LogFault::Bad { at: 118 })), // a record too many
+        (32, 0, Err(LogFault::Bad { at: 33 })), // and one too few
+        (39, 1, Err(LogFault::Bad { at: 39 })), // no such shard
+        (118, 1, Err(LogFault::Bad { at: 119 })), // open, and no block behind it
+        (118, 7, Ok(1)), // any other byte counts as closed
+    ];
+    for (place, byte, answer) in altered {
+        let mut bytes = segment(rt.alloc())?;
+        if let Some(at) = bytes.get_mut(place) {
+            *at = byte;
+        }
+        assert_eq!(rt; count(rt.alloc(), &bytes, &tables), answer);
+    }
     Ok(())
 }

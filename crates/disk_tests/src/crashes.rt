@@ -1,17 +1,15 @@
-//! Crashes by choice, faults by plan, and counts.
+//! A folder in memory: crashes by choice, faults by plan, and counts.
 
-use crate::{
-    Choice, Count, Draft, FaultCount, FaultPlan, Folder, FolderFault, MemDraft, MemFolder,
-    MemSealed, Name, Sealed,
+use cas_disk::{
+    Choice, Count, Draft, FaultCount, FaultPlan, Folder, FolderFault, MemFolder, MemSealed, Name,
+    Sealed,
 };
 use cas_io::Failed;
 use std::test::Fail;
 
+// Whether a file is made where none was.
 fn make(folder: &mut MemFolder, n: Name) -> bool {
-    if folder.has(n) {
-        return false;
-    }
-    folder.create(n).is_ok()
+    !folder.has(n) && folder.create(n).is_ok()
 }
 
 fn reads(folder: &mut MemFolder, n: Name, expected: &[u8]) -> bool {
@@ -24,74 +22,70 @@ fn reads(folder: &mut MemFolder, n: Name, expected: &[u8]) -> bool {
 
 #[test]
 fn a_crash_leaves_what_is_synced_and_any_bytes_of_the_rest(rt: HostRuntime) -> Result<(), Fail> {
-    let alloc = rt.alloc();
-    let mut folder = MemFolder::new(alloc, FaultPlan::none(alloc));
+    let mut folder = MemFolder::new(rt.alloc(), FaultPlan::none(rt.alloc()));
     let log = Name::Log(1);
     assert!(rt; make(&mut folder, Name::Manifest) && make(&mut folder, log));
     assert_eq!(rt; folder.write_at(log, 0, b"abcd"), Ok(()));
     assert_eq!(rt; folder.sync(log), Ok(()));
     assert_eq!(rt; folder.write_at(log, 2, b"xyz"), Ok(()));
-    let mut old = folder.image(Choice::Old)?;
-    assert!(rt; reads(&mut old, log, b"abcd"));
-    let mut new = folder.image(Choice::New)?;
-    assert!(rt; reads(&mut new, log, b"abxyz"));
-    let mut filled = folder.image(Choice::Fill(b'-'))?;
-    assert!(rt; reads(&mut filled, log, b"ab---"));
-    assert!(rt; !old.has(Name::Manifest) && new.has(Name::Manifest));
+    let cases: [(Choice, &[u8], bool); 3] = [
+        (Choice::Old, b"abcd", false),
+        (Choice::New, b"abxyz", true),
+        (Choice::Fill(b'-'), b"ab---", true),
+    ];
+    for (choice, bytes, has_manifest) in cases {
+        let mut left = folder.image(choice)?;
+        assert!(rt; reads(&mut left, log, bytes));
+        assert_eq!(rt; left.has(Name::Manifest), has_manifest);
+    }
     Ok(())
 }
 
 #[test]
 fn a_removal_lasts_once_the_manifest_is_synced(rt: HostRuntime) -> Result<(), Fail> {
-    let alloc = rt.alloc();
-    let mut folder = MemFolder::new(alloc, FaultPlan::none(alloc));
+    let mut folder = MemFolder::new(rt.alloc(), FaultPlan::none(rt.alloc()));
     let log = Name::Log(1);
     assert!(rt; make(&mut folder, Name::Manifest) && make(&mut folder, log));
     assert_eq!(rt; folder.sync(log), Ok(()));
     assert_eq!(rt; folder.remove(log), Ok(()));
-    assert!(rt; folder.image(Choice::Old)?.has(log));
-    assert!(rt; !folder.image(Choice::New)?.has(log));
+    assert!(rt; folder.image(Choice::Old)?.has(log) && !folder.image(Choice::New)?.has(log));
     assert_eq!(rt; folder.sync(Name::Manifest), Ok(()));
     assert!(rt; !folder.image(Choice::Old)?.has(log));
     assert_eq!(rt; folder.calls(), 5);
     Ok(())
 }
 
-fn drafted(folder: &mut MemFolder, number: u64) -> Result<MemDraft, FolderFault> {
-    if folder.has(Name::Table(number)) {
-        return Err(FolderFault::Failed);
+// Table 7 with "abcd", which its draft takes in four calls, the second of them planned to fail.
+fn table(folder: &mut MemFolder, tally: &mut FaultCount) -> Result<Option<MemSealed>, FolderFault> {
+    if folder.has(Name::Table(7)) {
+        return Ok(None);
     }
-    folder.draft(number)
-}
-
-fn admitted(folder: &mut MemFolder, draft: MemDraft) -> Result<MemSealed, FolderFault> {
-    if folder.has(Name::Table(draft.number)) || !draft.is_synced {
-        return Err(FolderFault::Failed);
+    let mut draft = folder.draft(7)?;
+    let taken = [
+        draft.append(b"ab", tally).is_ok(),
+        draft.append(b"--", tally).is_ok(),
+        draft.append(b"cd", tally).is_ok(),
+    ];
+    draft.sync(tally)?;
+    if taken != [true, false, true] || folder.has(Name::Table(7)) {
+        return Ok(None);
     }
-    folder.admit(draft)
+    Ok(Some(folder.admit(draft)?))
 }
 
 #[test]
 fn calls_fail_by_plan_and_are_counted(rt: HostRuntime) -> Result<(), Fail> {
-    let alloc = rt.alloc();
     let plan = FaultPlan {
-        calls: vec![in alloc; 2]?,
-        drafts: vec![in alloc; (1, 2)]?,
-        reads: vec![in alloc; (7, 1)]?,
+        calls: vec![in rt.alloc(); 2]?,
+        drafts: vec![in rt.alloc(); (1, 2)]?,
+        reads: vec![in rt.alloc(); (7, 1)]?,
     };
-    let mut folder = MemFolder::new(alloc, plan);
+    let mut folder = MemFolder::new(rt.alloc(), plan);
     let mut tally = FaultCount::fresh();
     assert!(rt; make(&mut folder, Name::Manifest));
     assert_eq!(rt; folder.sync(Name::Manifest), Err(Failed));
     assert_eq!(rt; folder.sync(Name::Manifest), Ok(()));
-    let Ok(mut draft) = drafted(&mut folder, 7) else {
-        panic!(rt; "no draft");
-    };
-    assert!(rt; draft.append(b"ab", &mut tally).is_ok());
-    assert!(rt; draft.append(b"--", &mut tally).is_err());
-    assert!(rt; draft.append(b"cd", &mut tally).is_ok());
-    assert_eq!(rt; draft.sync(&mut tally), Ok(()));
-    let Ok(table) = admitted(&mut folder, draft) else {
+    let Ok(Some(table)) = table(&mut folder, &mut tally) else {
         panic!(rt; "no table");
     };
     let mut into = [0u8; 8];
