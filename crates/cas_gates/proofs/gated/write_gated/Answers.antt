@@ -1,5 +1,5 @@
-use Rattle.std.proofs.Common.{List, ℕ, [], ◌∷◌, ◌++◌, ◌+◌, length, OnOk, subst, arith, length-append}
-use Rattle.cas_disk.specs.Disk.{MayTear, IsKept}
+use Rattle.std.proofs.Common.{List, ℕ, [], ◌∷◌, ◌++◌, OnOk, subst, arith, length-append}
+use Rattle.cas_disk.specs.Disk.{IsKept}
 use Rattle.cas_disk.proofs.Moments.{leaves_file, leaves_file_twice}
 use Rattle.cas_gates.specs.Gates.{MayOpen}
 use Rattle.cas_gates.proofs.Tearing.{block_put, gate_put, stays_closed, stays_whole}
