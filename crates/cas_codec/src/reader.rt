@@ -48,18 +48,37 @@ impl<'a> Reader<'a> {
         know_bytes(self.left);
     }
 
+    // A reader that stands where this one does, to read on while this one stays.
+    fn ahead(&self) -> Reader<'a>
+        ensures { result ≡ self.now }
+    {
+        Reader {
+            left: self.left,
+            at: self.at,
+        }
+    }
+
+    // The next bytes, of a field that begins at this place.
     #[tactic(auto, unfolding(crate::specs::Reading::bytes_at))]
-    fn take(&mut self, length: usize) -> Result<&'a [u8], ReadFault>
-        ensures answer { Answers (λ b. b.now) result self.new (bytes_at self.old.at length self.old) }
+    fn take_of(&mut self, length: usize, at: u64) -> Result<&'a [u8], ReadFault>
+        ensures answer { Answers (λ b. b.now) result self.new (bytes_at at length self.old) }
         ensures unchanged { OnErr result (self.new ≡ self.old) }
     {
         if self.left.len() < length {
-            return Err(ReadFault::Short { at: self.at });
+            return Err(ReadFault::Short { at });
         }
         let (front, rest) = self.left.split_at(length);
         self.left = rest;
         self.at += length as u64;
         Ok(front)
+    }
+
+    fn take(&mut self, length: usize) -> Result<&'a [u8], ReadFault>
+        ensures answer { Answers (λ b. b.now) result self.new (bytes_at self.old.at length self.old) }
+        ensures unchanged { OnErr result (self.new ≡ self.old) }
+    {
+        let at = self.at;
+        self.take_of(length, at)
     }
 
     #[tactic(auto, unfolding(crate::specs::Reading::u8_at, crate::specs::Reading::unsigned_at, crate::specs::Reading::bytes_at))]
@@ -115,14 +134,13 @@ impl<'a> Reader<'a> {
         ensures answer { Answers (λ there. there) result self.new (flag_at self.old) }
         ensures unchanged { OnErr result (self.new ≡ self.old) }
     {
-        let (left, at) = (self.left, self.at);
-        let byte = self.take_u8()?;
+        let mut ahead = self.ahead();
+        let byte = ahead.take_u8()?;
         if byte < 2 {
+            *self = ahead;
             return Ok(byte == 1);
         }
-        self.left = left;
-        self.at = at;
-        Err(ReadFault::Bad { at })
+        Err(ReadFault::Bad { at: self.at })
     }
 
     #[tactic(auto, unfolding(crate::specs::Reading::bytes16_at, crate::specs::Reading::bytes_at))]
@@ -130,16 +148,10 @@ impl<'a> Reader<'a> {
         ensures answer { Answers (λ b. b.now) result self.new (bytes16_at self.old) }
         ensures unchanged { OnErr result (self.new ≡ self.old) }
     {
-        let (left, at) = (self.left, self.at);
-        let count = self.take_u16()? as usize;
-        if self.left.len() < count {
-            self.left = left;
-            self.at = at;
-            return Err(ReadFault::Short { at });
-        }
-        let (bytes, rest) = self.left.split_at(count);
-        self.left = rest;
-        self.at += count as u64;
+        let mut ahead = self.ahead();
+        let count = ahead.take_u16()? as usize;
+        let bytes = ahead.take_of(count, self.at)?;
+        *self = ahead;
         Ok(bytes)
     }
 
@@ -148,16 +160,10 @@ impl<'a> Reader<'a> {
         ensures answer { Answers (λ b. b.now) result self.new (bytes32_at self.old) }
         ensures unchanged { OnErr result (self.new ≡ self.old) }
     {
-        let (left, at) = (self.left, self.at);
-        let count = self.take_u32()? as usize;
-        if self.left.len() < count {
-            self.left = left;
-            self.at = at;
-            return Err(ReadFault::Short { at });
-        }
-        let (bytes, rest) = self.left.split_at(count);
-        self.left = rest;
-        self.at += count as u64;
+        let mut ahead = self.ahead();
+        let count = ahead.take_u32()? as usize;
+        let bytes = ahead.take_of(count, self.at)?;
+        *self = ahead;
         Ok(bytes)
     }
 
@@ -166,18 +172,13 @@ impl<'a> Reader<'a> {
         ensures answer { Answers (λ number. number) result self.new (maybe_at i64_at self.old) }
         ensures unchanged { OnErr result (self.new ≡ self.old) }
     {
-        let (left, at) = (self.left, self.at);
-        if !self.take_flag()? {
-            return Ok(None);
-        }
-        match self.take_i64() {
-            Ok(number) => Ok(Some(number)),
-            Err(fault) => {
-                self.left = left;
-                self.at = at;
-                Err(fault)
-            }
-        }
+        let mut ahead = self.ahead();
+        let number = match ahead.take_flag()? {
+            true => Some(ahead.take_i64()?),
+            false => None,
+        };
+        *self = ahead;
+        Ok(number)
     }
 }
 
@@ -233,13 +234,8 @@ impl<'a> Reader<'a> {
         ensures unchanged { OnErr result (self.new ≡ self.old) }
     {
         let at = self.at;
-        if self.left.len() < count {
-            return Err(ReadFault::Short { at });
-        }
-        let (front, rest) = self.left.split_at(count);
-        self.left = rest;
-        self.at = at + count as u64;
-        Ok(Reader { left: front, at })
+        let left = self.take(count)?;
+        Ok(Reader { left, at })
     }
 
     /// A reader of the bytes that follow their number of four bytes; this one goes on after them.
@@ -249,21 +245,12 @@ impl<'a> Reader<'a> {
         ensures at { IfOk result (λ part. part.at ≡ self.old.at + 4) }
         ensures unchanged { OnErr result (self.new ≡ self.old) }
     {
-        let (left, at) = (self.left, self.at);
-        let count = self.take_u32()? as usize;
-        if self.left.len() < count {
-            self.left = left;
-            self.at = at;
-            return Err(ReadFault::Short { at });
-        }
-        let (front, rest) = self.left.split_at(count);
-        let begins = self.at;
-        self.left = rest;
-        self.at = begins + count as u64;
-        Ok(Reader {
-            left: front,
-            at: begins,
-        })
+        let mut ahead = self.ahead();
+        let count = ahead.take_u32()? as usize;
+        let at = ahead.at;
+        let left = ahead.take_of(count, self.at)?;
+        *self = ahead;
+        Ok(Reader { left, at })
     }
 
     /// A byte.
@@ -356,14 +343,13 @@ impl<'a> Reader<'a> {
         ensures found { IfOk result (λ n. Begins (u8 n) self.old self.new) }
         ensures unchanged { OnErr result (self.new ≡ self.old) }
     {
-        let (left, at) = (self.left, self.at);
-        let number = self.u8()?;
+        let mut ahead = self.ahead();
+        let number = ahead.u8()?;
         if least <= number && number <= greatest {
+            *self = ahead;
             return Ok(number);
         }
-        self.left = left;
-        self.at = at;
-        Err(ReadFault::Bad { at })
+        Err(ReadFault::Bad { at: self.at })
     }
 
     /// A number of two bytes, from least to greatest.
@@ -374,14 +360,13 @@ impl<'a> Reader<'a> {
         ensures found { IfOk result (λ n. Begins (u16 n) self.old self.new) }
         ensures unchanged { OnErr result (self.new ≡ self.old) }
     {
-        let (left, at) = (self.left, self.at);
-        let number = self.u16()?;
+        let mut ahead = self.ahead();
+        let number = ahead.u16()?;
         if least <= number && number <= greatest {
+            *self = ahead;
             return Ok(number);
         }
-        self.left = left;
-        self.at = at;
-        Err(ReadFault::Bad { at })
+        Err(ReadFault::Bad { at: self.at })
     }
 
     /// A number of four bytes, from least to greatest.
@@ -392,14 +377,13 @@ impl<'a> Reader<'a> {
         ensures found { IfOk result (λ n. Begins (u32 n) self.old self.new) }
         ensures unchanged { OnErr result (self.new ≡ self.old) }
     {
-        let (left, at) = (self.left, self.at);
-        let number = self.u32()?;
+        let mut ahead = self.ahead();
+        let number = ahead.u32()?;
         if least <= number && number <= greatest {
+            *self = ahead;
             return Ok(number);
         }
-        self.left = left;
-        self.at = at;
-        Err(ReadFault::Bad { at })
+        Err(ReadFault::Bad { at: self.at })
     }
 
     /// A number of eight bytes, from least to greatest.
@@ -410,14 +394,13 @@ impl<'a> Reader<'a> {
         ensures found { IfOk result (λ n. Begins (u64 n) self.old self.new) }
         ensures unchanged { OnErr result (self.new ≡ self.old) }
     {
-        let (left, at) = (self.left, self.at);
-        let number = self.u64()?;
+        let mut ahead = self.ahead();
+        let number = ahead.u64()?;
         if least <= number && number <= greatest {
+            *self = ahead;
             return Ok(number);
         }
-        self.left = left;
-        self.at = at;
-        Err(ReadFault::Bad { at })
+        Err(ReadFault::Bad { at: self.at })
     }
 
     /// A signed number of eight bytes, from least to greatest.
@@ -428,14 +411,13 @@ impl<'a> Reader<'a> {
         ensures found { IfOk result (λ n. Begins (i64 n) self.old self.new) }
         ensures unchanged { OnErr result (self.new ≡ self.old) }
     {
-        let (left, at) = (self.left, self.at);
-        let number = self.i64()?;
+        let mut ahead = self.ahead();
+        let number = ahead.i64()?;
         if least <= number && number <= greatest {
+            *self = ahead;
             return Ok(number);
         }
-        self.left = left;
-        self.at = at;
-        Err(ReadFault::Bad { at })
+        Err(ReadFault::Bad { at: self.at })
     }
 
     /// A copy of what `bytes16` gives.
@@ -443,16 +425,13 @@ impl<'a> Reader<'a> {
         ensures exact { Gives (λ b. b) result self.new (bytes16_at self.old) }
         ensures unchanged { OnErr result (self.new ≡ self.old) }
     {
-        let (left, at) = (self.left, self.at);
-        let bytes = self.take_bytes16()?;
-        match Bytes::copy_of(alloc, bytes) {
-            Ok(copy) => Ok(copy),
-            Err(_) => {
-                self.left = left;
-                self.at = at;
-                Err(ReadFault::Mem)
-            }
-        }
+        let mut ahead = self.ahead();
+        let bytes = ahead.take_bytes16()?;
+        let Ok(copy) = Bytes::copy_of(alloc, bytes) else {
+            return Err(ReadFault::Mem);
+        };
+        *self = ahead;
+        Ok(copy)
     }
 
     /// A copy of what `bytes32` gives.
@@ -460,15 +439,12 @@ impl<'a> Reader<'a> {
         ensures exact { Gives (λ b. b) result self.new (bytes32_at self.old) }
         ensures unchanged { OnErr result (self.new ≡ self.old) }
     {
-        let (left, at) = (self.left, self.at);
-        let bytes = self.take_bytes32()?;
-        match Bytes::copy_of(alloc, bytes) {
-            Ok(copy) => Ok(copy),
-            Err(_) => {
-                self.left = left;
-                self.at = at;
-                Err(ReadFault::Mem)
-            }
-        }
+        let mut ahead = self.ahead();
+        let bytes = ahead.take_bytes32()?;
+        let Ok(copy) = Bytes::copy_of(alloc, bytes) else {
+            return Err(ReadFault::Mem);
+        };
+        *self = ahead;
+        Ok(copy)
     }
 }

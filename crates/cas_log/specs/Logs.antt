@@ -1,5 +1,5 @@
 -- What a log stands for, and what its calls leave. Own.
-use Rattle.std.specs.Prelude.{◌≡◌, ◌⊎◌, ℕ, ◌+◌, ◌-◌, ◌/◌, ◌^◌, ◌≤◌, min, vec_len, List, [], ◌∷◌, ◌++◌, length, drop, Option, None, Some, Result, Ok, Err}
+use Rattle.std.specs.Prelude.{◌≡◌, ◌⊎◌, ℕ, ◌+◌, ◌-◌, ◌/◌, ◌^◌, ◌≤◌, min, vec_len, List, [], ◌∷◌, ◌++◌, length, Option, None, Some, Result, Ok, Err}
 use Rattle.std.specs.Vec.{vec_capacity}
 use Rattle.cas_io.specs.Causes.{Rose}
 use Rattle.cas_types.specs.declared.schema.TableSchema.{TableSchema}

@@ -1,13 +1,12 @@
 //! Writes a segment: mutations are pushed, and committed together.
 
-ghost use Rattle.std.specs.Prelude.{◌≡◌, ◌≢◌, ◌+◌, ◌*◌, ◌≤◌, ◌<◌, ◌^◌, ℕ, List, [], ◌∷◌, ◌++◌, length, drop};
+ghost use Rattle.std.specs.Prelude.{◌≡◌, ◌≢◌, ◌+◌, ◌≤◌, ◌<◌, ◌^◌, List, [], ◌∷◌, ◌++◌};
 ghost use Rattle.std.specs.Prelude.{OnOk, vec_len, None, Err, MatchResult, IfOk, nat_le};
-ghost use Rattle.std.specs.Vec.{vec_capacity};
 ghost use Rattle.cas_disk.specs.Disk.{Image, During, Changed, MayBeAnything};
 ghost use Rattle.cas_atoms.specs.declared.atom.Mutation.{Mutation as MutationOf};
 ghost use Rattle.cas_atoms.specs.LogLength.{record_length};
 ghost use Rattle.cas_log.specs.Segment.{IsSize};
-ghost use Rattle.cas_log.specs.Logs.{Stands, HasPushed, MayHave, Ends, Place, place_of, moved, block_length, IsOfATable, IsReserved, WhyNotReserved, half};
+ghost use Rattle.cas_log.specs.Logs.{Stands, HasPushed, MayHave, Ends, place_of, moved, block_length, IsOfATable, IsReserved, WhyNotReserved, half};
 
 use crate::blocks::{add_record, first_bytes, no_records, take_records};
 use crate::fault::LogFault;

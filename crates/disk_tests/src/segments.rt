@@ -58,22 +58,23 @@ fn committed(alloc: Global, folder: &mut MemFolder, mutation: &Mutation) -> Resu
 
 #[test]
 fn a_segment_of_one_block(rt: HostRuntime) -> Result<(), Fail> {
-    let alloc = rt.alloc();
-    let tables = tables(alloc)?;
-    let mut folder = MemFolder::new(alloc, FaultPlan::none(alloc));
-    let missing = replay(alloc, &mut folder, 1, &tables, 1);
-    assert_eq!(rt; missing.err(), Some(LogFault::Bad { at: 0 }));
-    let mutation = mutation(alloc).ok().ok_or("a mutation")?;
-    assert_eq!(rt; committed(alloc, &mut folder, &mutation), Ok(()));
+    let mut folder = MemFolder::new(rt.alloc(), FaultPlan::none(rt.alloc()));
+    let mutation = mutation(rt.alloc()).ok().ok_or("a mutation")?;
+    assert_eq!(rt; committed(rt.alloc(), &mut folder, &mutation), Ok(()));
     let mut found = [7; 130];
     assert_eq!(rt; folder.read_at(Name::Log(1), 0, &mut found).ok(), Some(119));
-    assert!(rt; found.starts_with(segment(alloc)?.as_slice()));
-    let replayed = replay(alloc, &mut folder, 1, &tables, 1)
+    assert!(rt; found.starts_with(segment(rt.alloc())?.as_slice()));
+    let tables = tables(rt.alloc())?;
+    let replayed = replay(rt.alloc(), &mut folder, 1, &tables, 1)
         .ok()
         .ok_or("no segment")?;
-    assert_eq!(rt; replayed.len(), 1);
     let read = replayed.first().ok_or("no mutation")?;
-    assert_eq!(rt; (read.shard, read.number, read.atoms.len()), (0, 1, 2));
+    assert_eq!(rt;
+        (replayed.len(), read.shard, read.number, read.atoms.len()),
+        (1, 0, 1, 2)
+    );
+    let missing = replay(rt.alloc(), &mut folder, 2, &tables, 1);
+    assert_eq!(rt; missing.err(), Some(LogFault::Bad { at: 0 }));
     Ok(())
 }
 

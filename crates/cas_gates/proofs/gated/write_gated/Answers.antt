@@ -1,5 +1,5 @@
-use Rattle.std.proofs.Common.{List, ℕ, [], ◌∷◌, ◌++◌, ◌+◌, length, drop, OnOk, subst, arith, length-append}
-use Rattle.cas_disk.specs.Disk.{MayTear, IsKept}
+use Rattle.std.proofs.Common.{List, ℕ, [], ◌∷◌, ◌++◌, length, drop, OnOk, subst, arith, length-append}
+use Rattle.cas_disk.specs.Disk.{IsKept}
 use Rattle.cas_disk.proofs.Moments.{leaves_file, leaves_file_twice}
 use Rattle.cas_gates.specs.Gates.{MayOpen, MayOpenOver}
 use Rattle.cas_gates.proofs.Tearing.{block_put, gate_put, stays_closed, stays_whole, block_put_over, gate_put_over, stays_closed_over, stays_whole_over}

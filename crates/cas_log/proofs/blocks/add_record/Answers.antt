@@ -1,4 +1,4 @@
-use Rattle.std.proofs.Common.{◌≡◌, ℕ, List, [], ◌∷◌, ◌++◌, length, take, drop, ◌+◌, ◌-◌, vec_len, ap, sym, ◌∙◌, arith}
+use Rattle.std.proofs.Common.{◌≡◌, ℕ, List, ◌++◌, length, take, drop, ◌+◌, ◌-◌, vec_len, ap, ◌∙◌, arith}
 use Rattle.cas_mutations.specs.Spelling.{record_bytes}
 use Rattle.cas_log.specs.Segment.{written}
 use Rattle.cas_log.proofs.Adding.{records_added}
