@@ -1,0 +1,6 @@
+//! Tests of the merge of a partition's streams. They stand apart since a crate with tests is proved
+//! twice.
+#![tactic(auto)]
+
+#[cfg(test)]
+mod merges;
