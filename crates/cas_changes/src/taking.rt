@@ -189,7 +189,11 @@ impl Said {
     }
 
     fn take_schema(&mut self, alloc: Global, table: &TableSchema) -> Result<(), Mem>
-        ensures { OnOk result (self.new ≡ record self.old { tables = self.old.tables ++ table.now ∷ []; parts = self.old.parts ++ replicate self.old.shards no_part }) }
+        ensures { OnOk result (self.new ≡ record self.old {
+          tables = self.old.tables ++ table.now ∷ [];
+          parts = self.old.parts
+              ++ replicate self.old.shards no_part;
+        }) }
     {
         add_parts(alloc, &mut self.parts, self.shards)?;
         self.tables.push(table.clone()?)?;

@@ -69,11 +69,13 @@ module _ {E : Type 0} where
   MayCome list before (Wrote shard session call number _) =
       (shard < 16) × (first_diary ≤ session) × (list ≡ front_list shard → number ≡ last_number before + 1) × (list ≡ session → call ≡ last_call before + 1)
   MayCome list before (Purged shard _) = shard < 16
-  MayCome list before (Faulted number committed first) = (last_fault before ≤ number) × (last_committed before ≤ committed) × (last_first before ≢ 0 → first ≡ last_first before)
+  MayCome list before (Faulted number committed first) = (last_fault before ≤ number) × (last_committed before ≤ committed)
+      × (last_first before ≢ 0 → first ≡ last_first before)
   MayCome list before (Read pass _) = first_diary ≤ pass
   MayCome list before (Rose shard pass micros) = (shard < 16) × (last_moment before < micros / 1000000)
   MayCome list before (Drew pass table) = (first_diary ≤ pass) × (list ≡ numbers_list → last_table before < table)
-  MayCome list before (Began works pass _) = (first_diary ≤ works) × (first_diary ≤ pass) × (works ≢ pass) × (pass % 2 ≡ 0) × (list ≡ works → runs works before ≡ None)
+  MayCome list before (Began works pass _) = (first_diary ≤ works) × (first_diary ≤ pass) × (works ≢ pass) × (pass % 2 ≡ 0)
+      × (list ≡ works → runs works before ≡ None)
   MayCome list before (Ended works pass) = (first_diary ≤ works) × (first_diary ≤ pass) × (works ≢ pass) × (list ≡ works → runs works before ≡ Some pass)
   MayCome list before (Changed shard pass added _) = (shard < 16) × (first_diary ≤ pass) × (list ≡ pass → Each (λ table. holds table before ≡ true) added)
 

@@ -101,11 +101,18 @@ pub fn install<E, J: Store, T: Tells<E>>(
 ) -> u64
     requires shard { (room.old.shard ≡ changes.old.shard) × (book.old.shard ≡ changes.old.shard) }
     requires held { Each (λ table. holds table (listed session.old.list session.old.pass.saw) ≡ true) added.now }
-    ensures changes { (changes.new.shard ≡ changes.old.shard) × (listed (changes_list changes.old.shard) changes.new.pass.saw ≡ listed (changes_list changes.old.shard) changes.old.pass.saw ++ Changed changes.old.shard session.old.list added.now (T.entry what.now) ∷ []) }
-    ensures room { (room.new.shard ≡ changes.old.shard) × (listed (room_changes changes.old.shard) room.new.pass.saw ≡ listed (room_changes changes.old.shard) room.old.pass.saw ++ Changed changes.old.shard session.old.list added.now (T.entry what.now) ∷ []) }
-    ensures book { (book.new.shard ≡ changes.old.shard) × (listed (book_changes changes.old.shard) book.new.pass.saw ≡ listed (book_changes changes.old.shard) book.old.pass.saw ++ Changed changes.old.shard session.old.list added.now (T.entry what.now) ∷ []) }
-    ensures session { (session.new.list ≡ session.old.list) × (session.new.calls ≡ session.old.calls) × (listed session.old.list session.new.pass.saw ≡ listed session.old.list session.old.pass.saw ++ Changed changes.old.shard session.old.list added.now (T.entry what.now) ∷ []) }
-    ensures seen { (room.new.pass.saw ≡ changes.new.pass.saw) × (book.new.pass.saw ≡ changes.new.pass.saw) × (session.new.pass.saw ≡ changes.new.pass.saw) × IsPrefix changes.old.pass.saw changes.new.pass.saw × IsPrefix session.old.pass.saw changes.new.pass.saw }
+    ensures changes { (changes.new.shard ≡ changes.old.shard) × (listed (changes_list changes.old.shard) changes.new.pass.saw
+        ≡ listed (changes_list changes.old.shard) changes.old.pass.saw ++ Changed changes.old.shard session.old.list added.now (T.entry what.now) ∷ []) }
+    ensures room { (room.new.shard ≡ changes.old.shard) × (listed (room_changes changes.old.shard) room.new.pass.saw ≡ listed
+        (room_changes changes.old.shard) room.old.pass.saw ++ Changed changes.old.shard session.old.list added.now (T.entry what.now) ∷ []) }
+    ensures book { (book.new.shard ≡ changes.old.shard) × (listed (book_changes changes.old.shard) book.new.pass.saw ≡ listed
+        (book_changes changes.old.shard) book.old.pass.saw ++ Changed changes.old.shard session.old.list added.now (T.entry what.now) ∷ []) }
+    ensures session { (session.new.list ≡ session.old.list) × (session.new.calls ≡ session.old.calls)
+        × (listed session.old.list session.new.pass.saw ≡ listed session.old.list session.old.pass.saw
+        ++ Changed changes.old.shard session.old.list added.now (T.entry what.now) ∷ []) }
+    ensures seen { (room.new.pass.saw ≡ changes.new.pass.saw) × (book.new.pass.saw ≡ changes.new.pass.saw)
+        × (session.new.pass.saw ≡ changes.new.pass.saw) × IsPrefix changes.old.pass.saw changes.new.pass.saw
+        × IsPrefix session.old.pass.saw changes.new.pass.saw }
 {
     let installing = Installing {
         shard: changes.shard,

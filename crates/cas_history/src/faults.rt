@@ -20,7 +20,8 @@ pub struct Faults<E, J: Store> {
     committed: u64,
     first: u64,
     ghost owns: { Owns pass faults_list },
-    ghost last: { (number ≡ last_fault (listed faults_list pass.saw)) × (committed ≡ last_committed (listed faults_list pass.saw)) × (first ≡ last_first (listed faults_list pass.saw)) },
+    ghost last: { (number ≡ last_fault (listed faults_list pass.saw)) × (committed ≡ last_committed (listed faults_list pass.saw))
+        × (first ≡ last_first (listed faults_list pass.saw)) },
 }
 
 #[derive(Drop)]
@@ -72,9 +73,12 @@ impl<E, J: Store> Faults<E, J> {
 
     /// A session gets to know what the room said last. It knew of no more.
     pub fn tell(&mut self, session: &mut Session<E, J>)
-        ensures same { (self.new.number ≡ self.old.number) × (self.new.committed ≡ self.old.committed) × (self.new.first ≡ self.old.first) × (listed faults_list self.new.pass.saw ≡ listed faults_list self.old.pass.saw) }
-        ensures seen { (session.new.pass.saw ≡ self.new.pass.saw) × IsPrefix self.old.pass.saw self.new.pass.saw × IsPrefix session.old.pass.saw self.new.pass.saw }
-        ensures session { (session.new.list ≡ session.old.list) × (session.new.calls ≡ session.old.calls) × (listed session.old.list session.new.pass.saw ≡ listed session.old.list session.old.pass.saw) }
+        ensures same { (self.new.number ≡ self.old.number) × (self.new.committed ≡ self.old.committed) × (self.new.first ≡ self.old.first)
+            × (listed faults_list self.new.pass.saw ≡ listed faults_list self.old.pass.saw) }
+        ensures seen { (session.new.pass.saw ≡ self.new.pass.saw) × IsPrefix self.old.pass.saw self.new.pass.saw
+            × IsPrefix session.old.pass.saw self.new.pass.saw }
+        ensures session { (session.new.list ≡ session.old.list) × (session.new.calls ≡ session.old.calls)
+            × (listed session.old.list session.new.pass.saw ≡ listed session.old.list session.old.pass.saw) }
         ensures known { last_fault (listed faults_list session.old.pass.saw) ≤ self.old.number }
         ensures committed { last_committed (listed faults_list session.old.pass.saw) ≤ self.old.committed }
         ensures first { last_first (listed faults_list session.old.pass.saw) ≢ 0 → last_first (listed faults_list session.old.pass.saw) ≡ self.old.first }

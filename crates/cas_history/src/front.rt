@@ -151,10 +151,14 @@ pub fn write<E, J: Store, T: Tells<E>>(
     requires numbers { (front.old.number + 1 < 18446744073709551616) × (session.old.calls + 1 < 18446744073709551616) }
     ensures number { (result ≡ front.old.number + 1) × (front.new.number ≡ result) × (front.new.shard ≡ front.old.shard) }
     ensures call { (session.new.calls ≡ session.old.calls + 1) × (session.new.list ≡ session.old.list) }
-    ensures log { listed log_list log.new.pass.saw ≡ listed log_list log.old.pass.saw ++ Wrote front.old.shard session.old.list session.new.calls result (T.entry what.now) ∷ [] }
-    ensures front { listed (front_list front.old.shard) front.new.pass.saw ≡ listed (front_list front.old.shard) front.old.pass.saw ++ Wrote front.old.shard session.old.list session.new.calls result (T.entry what.now) ∷ [] }
-    ensures session { listed session.old.list session.new.pass.saw ≡ listed session.old.list session.old.pass.saw ++ Wrote front.old.shard session.old.list session.new.calls result (T.entry what.now) ∷ [] }
-    ensures seen { (front.new.pass.saw ≡ log.new.pass.saw) × (session.new.pass.saw ≡ log.new.pass.saw) × IsPrefix log.old.pass.saw log.new.pass.saw × IsPrefix front.old.pass.saw log.new.pass.saw × IsPrefix session.old.pass.saw log.new.pass.saw }
+    ensures log { listed log_list log.new.pass.saw ≡ listed log_list log.old.pass.saw
+        ++ Wrote front.old.shard session.old.list session.new.calls result (T.entry what.now) ∷ [] }
+    ensures front { listed (front_list front.old.shard) front.new.pass.saw ≡ listed (front_list front.old.shard) front.old.pass.saw
+        ++ Wrote front.old.shard session.old.list session.new.calls result (T.entry what.now) ∷ [] }
+    ensures session { listed session.old.list session.new.pass.saw ≡ listed session.old.list session.old.pass.saw
+        ++ Wrote front.old.shard session.old.list session.new.calls result (T.entry what.now) ∷ [] }
+    ensures seen { (front.new.pass.saw ≡ log.new.pass.saw) × (session.new.pass.saw ≡ log.new.pass.saw) × IsPrefix log.old.pass.saw log.new.pass.saw
+        × IsPrefix front.old.pass.saw log.new.pass.saw × IsPrefix session.old.pass.saw log.new.pass.saw }
 {
     let writing = Writing {
         shard: front.shard,
@@ -178,7 +182,8 @@ pub fn write<E, J: Store, T: Tells<E>>(
 
 /// A purge is decided: it comes into the shard's list.
 pub fn purge<E, J: Store, T: Tells<E>>(front: &mut Front<E, J>, what: &T)
-    ensures front { listed (front_list front.old.shard) front.new.pass.saw ≡ listed (front_list front.old.shard) front.old.pass.saw ++ Purged front.old.shard (T.entry what.now) ∷ [] }
+    ensures front { listed (front_list front.old.shard) front.new.pass.saw ≡ listed (front_list front.old.shard) front.old.pass.saw
+        ++ Purged front.old.shard (T.entry what.now) ∷ [] }
     ensures same { (front.new.number ≡ front.old.number) × (front.new.shard ≡ front.old.shard) × IsPrefix front.old.pass.saw front.new.pass.saw }
 {
     let purging = Purging {

@@ -16,10 +16,13 @@ use cas_ledger::{Store, look, look_three};
 /// that the session was shown; from here on the session has the shard's list.
 pub fn show<E, J: Store>(front: &mut Front<E, J>, session: &mut Session<E, J>) -> u64
     ensures number { (result ≡ front.old.number) × (last_number (listed (front_list front.old.shard) session.old.pass.saw) ≤ result) }
-    ensures front { (front.new.number ≡ front.old.number) × (front.new.shard ≡ front.old.shard) × (listed (front_list front.old.shard) front.new.pass.saw ≡ listed (front_list front.old.shard) front.old.pass.saw) }
-    ensures session { (session.new.list ≡ session.old.list) × (session.new.calls ≡ session.old.calls) × (listed session.old.list session.new.pass.saw ≡ listed session.old.list session.old.pass.saw) }
+    ensures front { (front.new.number ≡ front.old.number) × (front.new.shard ≡ front.old.shard)
+        × (listed (front_list front.old.shard) front.new.pass.saw ≡ listed (front_list front.old.shard) front.old.pass.saw) }
+    ensures session { (session.new.list ≡ session.old.list) × (session.new.calls ≡ session.old.calls)
+        × (listed session.old.list session.new.pass.saw ≡ listed session.old.list session.old.pass.saw) }
     ensures shown { listed (front_list front.old.shard) session.new.pass.saw ≡ listed (front_list front.old.shard) front.old.pass.saw }
-    ensures seen { (session.new.pass.saw ≡ front.new.pass.saw) × IsPrefix front.old.pass.saw front.new.pass.saw × IsPrefix session.old.pass.saw front.new.pass.saw }
+    ensures seen { (session.new.pass.saw ≡ front.new.pass.saw) × IsPrefix front.old.pass.saw front.new.pass.saw
+        × IsPrefix session.old.pass.saw front.new.pass.saw }
 {
     look(&mut front.pass, &mut session.pass, 0);
     front.number
@@ -36,7 +39,8 @@ pub fn session_stands<E, J: Store>(log: &mut Log<E, J>, session: &mut Session<E,
 
 /// A shard's mutations in the room's list are those of the shard's list, in its order.
 pub fn shard_stands<E, J: Store>(log: &mut Log<E, J>, front: &mut Front<E, J>)
-    ensures law { writes_in front.old.shard (listed log_list log.old.pass.saw) ≡ writes_in front.old.shard (listed (front_list front.old.shard) front.old.pass.saw) }
+    ensures law { writes_in front.old.shard (listed log_list log.old.pass.saw)
+        ≡ writes_in front.old.shard (listed (front_list front.old.shard) front.old.pass.saw) }
     ensures same { (front.new.number ≡ front.old.number) × (front.new.shard ≡ front.old.shard) × IsPrefix front.old.pass.saw front.new.pass.saw }
 {
     look(&mut log.pass, &mut front.pass, 0);
@@ -71,7 +75,8 @@ pub fn nothing_runs<E, J: Store>(
     requires maker { (p : ℕ) → 0 < shares p maker.old.pass → turn works.old.list (listed p maker.old.pass.saw) ≡ false }
     requires session { turn works.old.list (listed session.old.list session.old.pass.saw) ≡ false }
     ensures none { works.old.running ≡ None }
-    ensures same { (works.new.running ≡ works.old.running) × (works.new.list ≡ works.old.list) × (maker.new.next ≡ maker.old.next) × (session.new.list ≡ session.old.list) × (session.new.calls ≡ session.old.calls) }
+    ensures same { (works.new.running ≡ works.old.running) × (works.new.list ≡ works.old.list) × (maker.new.next ≡ maker.old.next)
+        × (session.new.list ≡ session.old.list) × (session.new.calls ≡ session.old.calls) }
 {
     look_three(&mut works.pass, &mut maker.pass, &mut session.pass);
 }

@@ -94,8 +94,10 @@ impl<E, J: Store> Moments<E, J> {
         requires kept { Has session.old.pass.saw (Read session.old.list micros) }
         ensures moment { (result ≡ max self.old.seconds (micros / 1000000)) × (self.new.seconds ≡ result) × (self.new.shard ≡ self.old.shard) }
         ensures shown { last_moment (listed (moments_list self.old.shard) session.old.pass.saw) ≤ result }
-        ensures session { (session.new.list ≡ session.old.list) × (session.new.calls ≡ session.old.calls) × (listed session.old.list session.new.pass.saw ≡ listed session.old.list session.old.pass.saw) }
-        ensures seen { (session.new.pass.saw ≡ self.new.pass.saw) × IsPrefix self.old.pass.saw self.new.pass.saw × IsPrefix session.old.pass.saw self.new.pass.saw }
+        ensures session { (session.new.list ≡ session.old.list) × (session.new.calls ≡ session.old.calls)
+            × (listed session.old.list session.new.pass.saw ≡ listed session.old.list session.old.pass.saw) }
+        ensures seen { (session.new.pass.saw ≡ self.new.pass.saw) × IsPrefix self.old.pass.saw self.new.pass.saw
+            × IsPrefix session.old.pass.saw self.new.pass.saw }
     {
         let seconds = micros / 1_000_000;
         if seconds <= self.seconds {

@@ -56,9 +56,11 @@ impl<E, J: Store> Numbers<E, J> {
         requires room { self.old.last + 1 < 18446744073709551616 }
         ensures next { (result ≡ self.old.last + 1) × (self.new.last ≡ result) }
         ensures list { listed numbers_list self.new.pass.saw ≡ listed numbers_list self.old.pass.saw ++ Drew session.old.list result ∷ [] }
-        ensures session { (session.new.list ≡ session.old.list) × (session.new.calls ≡ session.old.calls) × (listed session.old.list session.new.pass.saw ≡ listed session.old.list session.old.pass.saw ++ Drew session.old.list result ∷ []) }
+        ensures session { (session.new.list ≡ session.old.list) × (session.new.calls ≡ session.old.calls)
+            × (listed session.old.list session.new.pass.saw ≡ listed session.old.list session.old.pass.saw ++ Drew session.old.list result ∷ []) }
         ensures held { holds result (listed session.old.list session.new.pass.saw) ≡ true }
-        ensures seen { (session.new.pass.saw ≡ self.new.pass.saw) × IsPrefix self.old.pass.saw self.new.pass.saw × IsPrefix session.old.pass.saw self.new.pass.saw }
+        ensures seen { (session.new.pass.saw ≡ self.new.pass.saw) × IsPrefix self.old.pass.saw self.new.pass.saw
+            × IsPrefix session.old.pass.saw self.new.pass.saw }
     {
         let table = self.last + 1;
         let drawing = Drawing {

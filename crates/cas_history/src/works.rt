@@ -66,11 +66,14 @@ impl<E, J: Store> Works<E, J> {
     /// Begins one. False exactly where one runs, and then nothing began.
     pub fn begin<T: Tells<E>>(&mut self, session: &mut Session<E, J>, what: &T) -> bool
         ensures yes_ { result ≡ true → (self.old.running ≡ None) × (self.new.running ≡ Some session.old.list) }
-        ensures list { result ≡ true → listed self.old.list self.new.pass.saw ≡ listed self.old.list self.old.pass.saw ++ Began self.old.list session.old.list (T.entry what.now) ∷ [] }
+        ensures list { result ≡ true → listed self.old.list self.new.pass.saw ≡ listed self.old.list self.old.pass.saw
+            ++ Began self.old.list session.old.list (T.entry what.now) ∷ [] }
         ensures turn { result ≡ true → turn self.old.list (listed session.old.list session.new.pass.saw) ≡ true }
-        ensures busy { result ≡ false → (self.old.running ≢ None) × (self.new.running ≡ self.old.running) × (listed session.old.list session.new.pass.saw ≡ listed session.old.list session.old.pass.saw) }
+        ensures busy { result ≡ false → (self.old.running ≢ None) × (self.new.running ≡ self.old.running)
+            × (listed session.old.list session.new.pass.saw ≡ listed session.old.list session.old.pass.saw) }
         ensures same { (self.new.list ≡ self.old.list) × (session.new.list ≡ session.old.list) × (session.new.calls ≡ session.old.calls) }
-        ensures seen { (session.new.pass.saw ≡ self.new.pass.saw) × IsPrefix self.old.pass.saw self.new.pass.saw × IsPrefix session.old.pass.saw self.new.pass.saw }
+        ensures seen { (session.new.pass.saw ≡ self.new.pass.saw) × IsPrefix self.old.pass.saw self.new.pass.saw
+            × IsPrefix session.old.pass.saw self.new.pass.saw }
     {
         if self.running.is_some() {
             look(&mut self.pass, &mut session.pass, 0);
@@ -93,8 +96,10 @@ impl<E, J: Store> Works<E, J> {
         ensures was { self.old.running ≡ Some session.old.list }
         ensures none { (self.new.running ≡ None) × (self.new.list ≡ self.old.list) }
         ensures list { listed self.old.list self.new.pass.saw ≡ listed self.old.list self.old.pass.saw ++ Ended self.old.list session.old.list ∷ [] }
-        ensures turn { (turn self.old.list (listed session.old.list session.new.pass.saw) ≡ false) × (session.new.list ≡ session.old.list) × (session.new.calls ≡ session.old.calls) }
-        ensures seen { (session.new.pass.saw ≡ self.new.pass.saw) × IsPrefix self.old.pass.saw self.new.pass.saw × IsPrefix session.old.pass.saw self.new.pass.saw }
+        ensures turn { (turn self.old.list (listed session.old.list session.new.pass.saw) ≡ false) × (session.new.list ≡ session.old.list)
+            × (session.new.calls ≡ session.old.calls) }
+        ensures seen { (session.new.pass.saw ≡ self.new.pass.saw) × IsPrefix self.old.pass.saw self.new.pass.saw
+            × IsPrefix session.old.pass.saw self.new.pass.saw }
     {
         look(&mut self.pass, &mut session.pass, 0);
         let ending = Ending {

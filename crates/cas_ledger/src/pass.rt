@@ -49,7 +49,8 @@ impl<E: Entries, J: Store> Model for Pass<E, J> {
 
     ghost view = { λ p. hand_of p.seat.me.0 };
 
-    ghost invariant = { λ p. ((arc_value p.table).shared.table_id ≡ J.table) × (p.seat.table_id ≡ J.table) × (p.seat.me ≡ (hand_of p.seat.me.0 ∷ [], [])) × (J.table.words ≡ 34) × Legal E.rules (hand_of p.seat.me.0).saw };
+    ghost invariant = { λ p. ((arc_value p.table).shared.table_id ≡ J.table) × (p.seat.table_id ≡ J.table)
+        × (p.seat.me ≡ (hand_of p.seat.me.0 ∷ [], [])) × (J.table.words ≡ 34) × Legal E.rules (hand_of p.seat.me.0).saw };
 }
 
 /// Hands of several passes, together for one step.

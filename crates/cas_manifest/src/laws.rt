@@ -13,5 +13,6 @@ ghost use Rattle.cas_manifest.specs.Reads.{IsRead};
 /// follows its closed gate.
 pub fn manifests_are_exact()
     ensures found { (file : List ℕ) (far : Far) (at : ℕ) → AreBytes file → manifest_of file ≡ Ok (far, at) → IsRead far at file }
-    ensures again { (file : List ℕ) (entries : List Entry) → AreBytes file → IsManifest entries file → manifest_of file ≡ Ok ((said_by entries, entries), length (front entries)) }
+    ensures again { (file : List ℕ) (entries : List Entry) → AreBytes file → IsManifest entries file
+        → manifest_of file ≡ Ok ((said_by entries, entries), length (front entries)) }
 {}

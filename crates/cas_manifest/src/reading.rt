@@ -83,7 +83,8 @@ fn add_blocks(
     said: &mut Said,
     entries: &mut Vec<Entry>,
 ) -> Result<u64, ReadFault>
-    ensures { Gives (λ at. ((said.new, entries.new.items), at)) result reader.new (blocks_at (length reader.old.bytes) (said.old, entries.old.items) reader.old) }
+    ensures { Gives (λ at. ((said.new, entries.new.items), at)) result reader.new
+        (blocks_at (length reader.old.bytes) (said.old, entries.old.items) reader.old) }
 {
     // There are fewer blocks than bytes.
     for _block in 0..reader.left().len() {

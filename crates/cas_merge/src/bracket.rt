@@ -134,7 +134,8 @@ impl<I: FragmentSource> Bracket<I> {
     pub fn enter(&mut self, alloc: Global, source: I) -> Result<(), AllocError>
         requires { IsFresh self.now }
         ensures fresh { OnOk result (IsFresh self.new) }
-        ensures told { OnOk result ((d : Draw) (s : Stream) → Tells I.to_come I.over_all self.old d → I.to_come source ≡ Some s.fragments → I.over_all source ≡ s.top → Tells I.to_come I.over_all self.new (entered d s)) }
+        ensures told { OnOk result ((d : Draw) (s : Stream) → Tells I.to_come I.over_all self.old d → I.to_come source ≡ Some s.fragments
+            → I.over_all source ≡ s.top → Tells I.to_come I.over_all self.new (entered d s)) }
         ensures room { OnOk result (room I.at_most self.new ≡ room I.at_most self.old + I.at_most source) }
     {
         match self {
@@ -163,7 +164,8 @@ impl<I: FragmentSource> Bracket<I> {
         top: Option<Deletion>,
         now: &mut Option<Deletion>,
     ) -> Result<Option<Fragment>, I::Fault>
-        ensures first { (fs : List Fragment) → left_to_come top now.old (coming I.to_come self.old) ≡ Some fs → TakesFirst fs (left_to_come top now.new (coming I.to_come self.new)) result }
+        ensures first { (fs : List Fragment) → left_to_come top now.old (coming I.to_come self.old) ≡ Some fs
+            → TakesFirst fs (left_to_come top now.new (coming I.to_come self.new)) result }
         ensures ends { Shrinks (room I.at_most self.old) (room I.at_most self.new) result }
     {
         while let Some(f) = self.next(alloc)? {
@@ -179,7 +181,8 @@ impl<I: FragmentSource> Bracket<I> {
     // Asks for the side's next fragment, if it wasn't asked for.
     #[cycle(asking)]
     fn ask(&mut self, alloc: Global, side: &mut Side) -> Result<(), I::Fault>
-        ensures same { OnOk result ((fs : List Fragment) → with_next side.old.ahead (coming I.to_come self.old) ≡ Some fs → with_next side.new.ahead (coming I.to_come self.new) ≡ Some fs) }
+        ensures same { OnOk result ((fs : List Fragment) → with_next side.old.ahead (coming I.to_come self.old) ≡ Some fs
+            → with_next side.new.ahead (coming I.to_come self.new) ≡ Some fs) }
         ensures ends { OnOk result (side_room side.new.ahead (room I.at_most self.new) ≤ side_room side.old.ahead (room I.at_most self.old)) }
         ensures force { side.new.in_force ≡ side.old.in_force }
         ensures asked { OnOk result (IsAsked side.new.ahead) }

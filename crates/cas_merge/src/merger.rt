@@ -31,7 +31,8 @@ fn greatest_top<I: FragmentSource>(sources: &[I]) -> Option<Deletion>
 
 // The sources in pairs.
 fn bracket_of<I: FragmentSource>(alloc: Global, sources: Vec<I>) -> Result<Bracket<I>, AllocError>
-    ensures told { IfOk result (λ b. (ss : List Stream) → streams_told I.to_come I.over_all sources.items ≡ Some ss → coming I.to_come b ≡ Some (joined_all (draw ss)).fragments) }
+    ensures told { IfOk result (λ b. (ss : List Stream) → streams_told I.to_come I.over_all sources.items ≡ Some ss
+        → coming I.to_come b ≡ Some (joined_all (draw ss)).fragments) }
     ensures room { IfOk result (λ b. room I.at_most b ≡ rooms I.at_most sources.items) }
 {
     let mut bracket = Bracket::Nobody;
@@ -55,8 +56,10 @@ pub struct Merger<I: FragmentSource> {
 impl<I: FragmentSource> Merger<I> {
     /// The merge of these sources. It takes no memory before the first fragment is asked for.
     pub fn new(sources: Vec<I>) -> Self
-        ensures fragments { (ss : List Stream) → streams_told I.to_come I.over_all sources.items ≡ Some ss → ⟦<Merger<I> as FragmentSource>⟧.to_come result ≡ Some (merged ss).fragments }
-        ensures top { (ss : List Stream) → streams_told I.to_come I.over_all sources.items ≡ Some ss → ⟦<Merger<I> as FragmentSource>⟧.over_all result ≡ (merged ss).top }
+        ensures fragments { (ss : List Stream) → streams_told I.to_come I.over_all sources.items ≡ Some ss
+            → ⟦<Merger<I> as FragmentSource>⟧.to_come result ≡ Some (merged ss).fragments }
+        ensures top { (ss : List Stream) → streams_told I.to_come I.over_all sources.items ≡ Some ss
+            → ⟦<Merger<I> as FragmentSource>⟧.over_all result ≡ (merged ss).top }
         ensures sound { ⟦<Merger<I> as FragmentSource>⟧.broken_by result ≡ None }
     {
         Merger {
@@ -72,8 +75,11 @@ impl<I: FragmentSource> Merger<I> {
     fn advance(&mut self) -> Result<Option<Fragment>, I::Fault>
         ensures top { self.new.top ≡ self.old.top }
         ensures broken { self.new.broken ≡ self.old.broken }
-        ensures first { (fs : List Fragment) → merger_to_come I.to_come I.over_all self.old.top self.old.in_force self.old.waiting.items self.old.bracket ≡ Some fs → TakesFirst fs (merger_to_come I.to_come I.over_all self.new.top self.new.in_force self.new.waiting.items self.new.bracket) result }
-        ensures ends { Shrinks (merger_room I.at_most self.old.waiting.items self.old.bracket) (merger_room I.at_most self.new.waiting.items self.new.bracket) result }
+        ensures first { (fs : List Fragment) → merger_to_come I.to_come I.over_all self.old.top self.old.in_force self.old.waiting.items
+            self.old.bracket ≡ Some fs → TakesFirst fs (merger_to_come I.to_come I.over_all self.new.top self.new.in_force self.new.waiting.items
+            self.new.bracket) result }
+        ensures ends { Shrinks (merger_room I.at_most self.old.waiting.items self.old.bracket)
+            (merger_room I.at_most self.new.waiting.items self.new.bracket) result }
     {
         if !self.waiting.is_empty() {
             let alloc = *self.waiting.allocator();

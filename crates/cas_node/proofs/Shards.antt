@@ -79,6 +79,9 @@ unfolding take_refusal
 is_low segment m e =
     not_drawn m.drawn m.at (neither (nat_lt (MUTATION_LIMIT) m.number) (m.drawn && int_lt (LAST_DRAWN) m.at) (second_false (nat_lt (segment / 2) (record_length m)) _ TOO_LARGE TOO_MANY e)).1
 
+-- what a mutation that isn't refused owes its shard
+pub ruleset unrefused = (is_few, is_low)
+
 either : (b : Bool) (at d : ℤ) → (b ≡ true → at ≤ℤ LAST_DRAWN) → d ≤ℤ LAST_DRAWN → (if b then at else d) ≤ℤ LAST_DRAWN
 either true at d h e = h refl
 either false at d h e = e

@@ -150,7 +150,7 @@ impl Shard {
 }
 
 impl Shard {
-    #[tactic(auto, using(crate::proofs::Shards::is_few, crate::proofs::Shards::is_low), unfolding(crate::specs::History::write_reply, crate::specs::History::write_entries))]
+    #[tactic(auto, using(crate::proofs::Shards::unrefused), unfolding(crate::specs::History::write_reply, crate::specs::History::write_entries))]
     fn try_take(
         &mut self,
         alloc: Global,

@@ -25,7 +25,8 @@ use Rattle.cas_where.specs.KeyTerms.{value_in}
 use Rattle.cas_where.specs.Keys.{sole_column, restricts_to_empty, compares_key_with_null, lacks_partition, lacks_clustering}
 use Rattle.cas_terms.specs.Names.{any_two}
 use Rattle.cas_where.specs.Slices.{follows_order}
-use Rattle.cas_reasons.specs.Statements.{Change, assigns, deletes, Mention, changes, compares, shows, relations_of, timestamp_of, ttl_of, key_terms_of, other_name}
+use Rattle.cas_reasons.specs.Statements.{Change, assigns, deletes, Mention, changes, compares}
+use Rattle.cas_reasons.specs.Statements.{shows, relations_of, timestamp_of, ttl_of, key_terms_of, other_name}
 use Rattle.cas_terms.specs.Terms.{term_fits, assigned_fits, key_fits}
 use Rattle.cas_where.specs.Where.{restricts}
 use Rattle.cas_types.specs.declared.limits.TheConstants.{ROW_LIMIT}

@@ -9,7 +9,8 @@ ghost use Rattle.cas_terms.specs.Columns.{column_named};
 ghost use Rattle.cas_reasons.specs.Inner.Borrowed.{change_in};
 ghost use Rattle.cas_reasons.specs.RowFaults.{is_same_constant, are_other_entries, entry_key, names_map};
 ghost use Rattle.cas_reasons.specs.RowFaults.{target_fits, has_writetime, pick_fits, mention_fits, is_of_another_type};
-ghost use Rattle.cas_reasons.specs.Statements.{changes, compares, shows, assigns, deletes, inserted, picked_name, changes_of, relations_of, shown_by, terms_used};
+ghost use Rattle.cas_reasons.specs.Statements.{changes, compares, shows, assigns, deletes};
+ghost use Rattle.cas_reasons.specs.Statements.{inserted, picked_name, changes_of, relations_of, shown_by, terms_used};
 
 use crate::change::RowChange;
 use crate::statements::{picked_name, relations_of, shown_by};

@@ -100,7 +100,8 @@ impl RefBook {
     /// A reader takes the table. Full exactly where 2^32-1 pins of it are out.
     pub fn pin(&mut self, id: u64) -> Result<Pin, Full>
         requires live { Live (at self.old id) }
-        ensures ok { IfOk result (λ p. (p.id ≡ id) × (pins_of (at self.old id) < 4294967295) × (at self.new id ≡ Some (record { pins = pins_of (at self.old id) + 1; retired = false }))) }
+        ensures ok { IfOk result (λ p. (p.id ≡ id) × (pins_of (at self.old id) < 4294967295)
+            × (at self.new id ≡ Some (record { pins = pins_of (at self.old id) + 1; retired = false }))) }
         ensures full { OnErr result ((pins_of (at self.old id) ≡ 4294967295) × (at self.new id ≡ at self.old id)) }
         ensures others { (k : ℕ) → k ≢ id → at self.new k ≡ at self.old k }
     {
@@ -136,7 +137,8 @@ impl RefBook {
     /// was retired. A pin of another book changes nothing where this one has none out.
     pub fn release(&mut self, pin: Pin) -> Option<Removal>
         ensures some { IfSome result (λ r. (r.id ≡ pin.id) × (at self.old pin.id ≡ Some (record { pins = 1; retired = true })) × (at self.new pin.id ≡ None)) }
-        ensures none { IfNone result ((at self.old pin.id ≢ Some (record { pins = 1; retired = true })) × (at self.new pin.id ≡ one_less (at self.old pin.id))) }
+        ensures none { IfNone result ((at self.old pin.id ≢ Some (record { pins = 1; retired = true }))
+            × (at self.new pin.id ≡ one_less (at self.old pin.id))) }
         ensures others { (k : ℕ) → k ≢ pin.id → at self.new k ≡ at self.old k }
     {
         let Pin { id } = pin;

@@ -12,7 +12,8 @@ ghost use Rattle.cas_schemas.specs.Allowed.{FitsTable, HasSpelling};
 /// The definitions of tables and the columns that are added to them are read where their spelling
 /// stands and nowhere else, whatever follows it; and each has room in its fields.
 pub fn schemas_are_exact()
-    ensures columns { (limit : ℕ) (new : Bool) (before : List Column) → limit ≤ 256 → IsExact (FitColumns limit new before) columns_bytes (columns_at limit new before) }
+    ensures columns { (limit : ℕ) (new : Bool) (before : List Column) → limit ≤ 256
+        → IsExact (FitColumns limit new before) columns_bytes (columns_at limit new before) }
     ensures table { (tables : List TableSchema) → IsExact (FitsTable tables) schema_bytes (schema_at tables) }
     ensures columns_spelled { (limit : ℕ) (new : Bool) (before columns : List Column) → limit ≤ 256 → FitColumns limit new before columns → HaveRoom columns }
     ensures spelled { (tables : List TableSchema) (t : TableSchema) → FitsTable tables t → HasSpelling t }

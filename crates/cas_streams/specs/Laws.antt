@@ -27,7 +27,8 @@ row_says top fs r = atom_of PartitionDeletion top ++ (atom_of PartitionDeletion 
 
 -- in each row, an ordered stream is the same as what it says of that row
 abbrev pub RowsSayAll : Type 0
-RowsSayAll = (order : List Ordered) (top : Option Deletion) (fs : List Fragment) → IsOrdered order fs → (r : RowKey) → SameWhere (same_row r) (flat top fs) (row_says top fs r)
+RowsSayAll = (order : List Ordered) (top : Option Deletion) (fs : List Fragment) → IsOrdered order fs → (r : RowKey)
+    → SameWhere (same_row r) (flat top fs) (row_says top fs r)
 
 -- an ordered stream is determined, in some rows, by its top, by the range deletion in force at each row, and by what its fragments say of their
 -- rows; where its cuts stand isn't, as long as no row stands between
@@ -44,7 +45,8 @@ MergeIsJoin = (order : List Ordered) (ss : List Stream) → AllByRecursion (λ s
 
 -- the merge of a table's well-formed streams is well formed
 abbrev pub MergeIsWellFormed : Type 0
-MergeIsWellFormed = (columns : List Column) (ss : List Stream) → AllByRecursion (λ s. WellFormed columns s.fragments) ss → WellFormed columns (merged ss).fragments
+MergeIsWellFormed = (columns : List Column) (ss : List Stream) → AllByRecursion (λ s. WellFormed columns s.fragments) ss
+    → WellFormed columns (merged ss).fragments
 
 -- and each of its writes wins where it is written
 abbrev pub MergeIsMerged : Type 0

@@ -54,5 +54,7 @@ flats ss = flat_map flat_of ss
 pub record IsMerged (columns : List Column) (s : Stream) : Type 0 where
   pub well_formed : WellFormed columns s.fragments
   pub lives : (c : Clustering) (l : Liveness) → Has (flat_of s) (Live c l) → live_winner (flat_of s) c.values ≡ Some l
-  pub cells : (c : Clustering) (column : ColumnRef) (p : List ℕ) (v : Cell) → Has (flat_of s) (Write c column p v) → cell_winner (flat_of s) (path (clustered c.values) column.number p) ≡ Some v
-  pub statics : (column : ColumnRef) (p : List ℕ) (v : Cell) → Has (flat_of s) (StaticWrite column p v) → cell_winner (flat_of s) (path static_row column.number p) ≡ Some v
+  pub cells : (c : Clustering) (column : ColumnRef) (p : List ℕ) (v : Cell) → Has (flat_of s) (Write c column p v)
+      → cell_winner (flat_of s) (path (clustered c.values) column.number p) ≡ Some v
+  pub statics : (column : ColumnRef) (p : List ℕ) (v : Cell) → Has (flat_of s) (StaticWrite column p v)
+      → cell_winner (flat_of s) (path static_row column.number p) ≡ Some v

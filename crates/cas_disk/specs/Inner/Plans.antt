@@ -29,10 +29,22 @@ begun plan = record { plan = plan; stops_after = None; calls = 0; drafts = 0; fa
 
 -- one fault more
 abbrev pub failed_once : Course → Course
-failed_once course = record { plan = course.plan; stops_after = course.stops_after; calls = course.calls; drafts = course.drafts; faults = sum_in_range course.faults 1 }
+failed_once course = record {
+  plan = course.plan;
+  stops_after = course.stops_after;
+  calls = course.calls;
+  drafts = course.drafts;
+  faults = sum_in_range course.faults 1;
+}
 
 -- one call more, that failed or didn't
 abbrev pub called : Bool → Course → Course
 called failed course =
-    let passed : Course = record { plan = course.plan; stops_after = course.stops_after; calls = sum_in_range course.calls 1; drafts = course.drafts; faults = course.faults } in
+    let passed : Course = record {
+      plan = course.plan;
+      stops_after = course.stops_after;
+      calls = sum_in_range course.calls 1;
+      drafts = course.drafts;
+      faults = course.faults;
+    } in
     if failed then failed_once passed else passed

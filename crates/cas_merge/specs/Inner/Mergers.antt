@@ -15,7 +15,8 @@ left_of_streams top None = None
 left_of_streams top (Some ss) = Some (settled_from top None (joined_all (draw ss)).fragments)
 
 -- what is to come of sources that wait, or, where none does, of the bracket
-abbrev pub merger_to_come : {I : Type 0} → (I → Option (List Fragment)) → (I → Option Deletion) → Option Deletion → Option Deletion → List I → Bracket I → Option (List Fragment)
+abbrev pub merger_to_come : {I : Type 0} → (I → Option (List Fragment)) → (I → Option Deletion) → Option Deletion → Option Deletion → List I
+    → Bracket I → Option (List Fragment)
 merger_to_come tells tops top now [] b = left_to_come top now (coming tells b)
 merger_to_come tells tops top now (s ∷ ss) b = left_of_streams top (streams_told tells tops (s ∷ ss))
 
@@ -30,7 +31,8 @@ merger_room holds [] b = room holds b
 merger_room holds (s ∷ ss) b = rooms holds (s ∷ ss)
 
 -- some of the streams entered the draw that a bracket tells, and the others are told by the sources that are left
-pub record Halfway {I : Type 0} (tells : I → Option (List Fragment)) (tops : I → Option Deletion) (b : Bracket I) (rest : List I) (all : List Stream) : Type 0 where
+pub record Halfway {I : Type 0} (tells : I → Option (List Fragment)) (tops : I → Option Deletion) (b : Bracket I) (rest : List I)
+    (all : List Stream) : Type 0 where
   pub drawn : Draw
   pub others : List Stream
   pub bracket : Tells tells tops b drawn
