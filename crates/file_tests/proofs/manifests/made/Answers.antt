@@ -1,6 +1,6 @@
 use Rattle.std.proofs.Common.{arith}
 use Rattle.cas_codec.specs.Fields.{u8}
-use Rattle.disk_tests.proofs.manifests.made.Goals as goal
+use Rattle.file_tests.proofs.manifests.made.Goals as goal
 
 pub append-requires-clause-short : goal.append-requires-clause-short
 unfolding u8

@@ -1,6 +1,6 @@
 use Rattle.std.proofs.Common.{List, ℕ, sym, subst, arith}
 use Rattle.cas_codec.specs.Exact.{AreBytes}
-use Rattle.disk_tests.proofs.mutations.again.Goals as goal
+use Rattle.file_tests.proofs.mutations.again.Goals as goal
 
 -- what was read fits a record
 pub put_record-requires : goal.put_record-requires
