@@ -4,7 +4,7 @@ use Rattle.std.proofs.lemmas.Bool.{cases_eq, eqb-true}
 use Rattle.cas_disk.specs.declared.name.Name.TheVariants.{Manifest as manifest_name}
 use Rattle.cas_disk.specs.Disk.{Image, Disk, During, Changed, Same, MayBeMade, MayTear, Torn, IsKept, bytes_of}
 use Rattle.cas_disk.proofs.Moments.{reworded, one_call_more}
-use Rattle.cas_disk.proofs.WrittenLasts.{then_same}
+use Rattle.cas_disk.proofs.WrittenLasts.{then_still}
 use Rattle.cas_gates.specs.Gates.{MayOpen}
 use Rattle.cas_changes.specs.Saying.{said_by}
 use Rattle.cas_manifest.specs.File.{front, IsManifest}
@@ -59,10 +59,7 @@ written o a b first fresh second =
     })
 
 pub synced : (o a b : Disk) → During (Changed manifest_name MayStayShut) o a → During Same a b → During (Changed manifest_name MayStayShut) o b
-synced o a b first second =
-    one_call_more (Changed manifest_name MayStayShut) Same o a b first second
-    (λ d c was mid same. record { here = inl (same manifest_name); others = λ k other. same k })
-    (λ e d c was before mid same. then_same manifest_name MayStayShut e d c before same)
+synced o a b first second = then_still manifest_name MayStayShut o a b (λ file. inl refl) first second
 
 may_begin : (old new : Option (List ℕ)) → MayStayShut old new → MayBegin old new
 may_begin old new (inl same) = inl same
