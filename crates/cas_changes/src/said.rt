@@ -149,6 +149,14 @@ impl Said {
         self.last_segment
     }
 
+    /// How many files are listed, over all tables and shards.
+    pub fn listed_count(&self) -> u64
+        ensures number { result ≡ self.now.listed }
+        ensures few { result ≤ LISTED_LIMIT }
+    {
+        self.listed
+    }
+
     /// The numbers of all table files that were ever added.
     pub fn numbers(&self) -> &[u64]
         ensures { result.now ≡ self.now.numbers }

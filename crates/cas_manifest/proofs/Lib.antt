@@ -1,4 +1,5 @@
 pub mod Appends
+pub mod Opens
 pub mod Begins
 pub mod Loops
 pub mod ManifestLaws

@@ -7,6 +7,7 @@ mod fault;
 mod laws;
 mod making;
 mod manifest;
+mod opening;
 mod reading;
 mod writing;
 

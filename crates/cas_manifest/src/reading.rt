@@ -4,7 +4,7 @@ ghost use Rattle.std.specs.Prelude.{◌≡◌, ◌==◌, length, IfOk};
 ghost use Rattle.cas_codec.specs.Reading.{Gives, checked, u8_at};
 ghost use Rattle.cas_changes.specs.Allowed.{IsListable};
 ghost use Rattle.cas_manifest.specs.Reading.{length_at, count_at, block_at, next_at, blocks_at, word_at, manifest_at, manifest_of};
-ghost use Rattle.cas_manifest.specs.Reads.{Reads};
+ghost use Rattle.cas_manifest.specs.Reads.{Reads, IsRead};
 
 use crate::fault::ManifestFault;
 use cas_changes::{Entry, FILE_LIMIT, Said, read_entry};
@@ -145,6 +145,7 @@ fn manifest(alloc: Global, reader: &mut Reader<'_>) -> Result<(Said, Vec<Entry>,
 #[tactic(auto, unfolding(crate::specs::Reading::manifest_of))]
 pub fn read_manifest(alloc: Global, file: &[u8]) -> Result<(Said, Vec<Entry>, u64), ManifestFault>
     ensures exact { Reads (λ m. ((m.0, m.1.items), m.2)) result (manifest_of file.now) }
+    ensures found { IfOk result (λ m. IsRead (m.0, m.1.items) m.2 file.now) }
 {
     let mut reader = Reader::new(file, 0);
     match manifest(alloc, &mut reader) {

@@ -1,4 +1,3 @@
 pub mod Loops
-pub mod Files
 pub mod SegmentLaws
 pub mod Order

@@ -25,11 +25,3 @@ IsReplayFault Failed = Unit {0}
 IsReplayFault Mem = Unit {0}
 IsReplayFault (TooLarge length limit) = ⊥
 IsReplayFault (Stopped first) = ⊥
-
--- a file wasn't read: the folder failed, or memory ran out
-abbrev pub IsFileFault : LogFault → Type 0
-IsFileFault Failed = Unit {0}
-IsFileFault Mem = Unit {0}
-IsFileFault (Bad at) = ⊥
-IsFileFault (TooLarge length limit) = ⊥
-IsFileFault (Stopped first) = ⊥

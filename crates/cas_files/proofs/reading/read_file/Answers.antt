@@ -1,6 +1,6 @@
 use Rattle.std.proofs.Common.{◌≡◌, ◌<◌, length, arith}
-use Rattle.cas_replay.proofs.Files.{same_more, reads_more, goes_on, is_whole}
-use Rattle.cas_replay.proofs.file.read_file.Goals as goal
+use Rattle.cas_files.proofs.Files.{same_more, reads_more, goes_on, is_whole}
+use Rattle.cas_files.proofs.reading.read_file.Goals as goal
 
 pub returns-in-Err-clause-reads : goal.returns-in-Err-clause-reads
 returns-in-Err-clause-reads g c = let disk = g.F.Folder.disk in reads_more (disk c.args.folder.now) (disk c.loop-piece.folder) (disk c.read_at.new.self) c.loop-piece.invariant.reads c.read_at.ensures.reads

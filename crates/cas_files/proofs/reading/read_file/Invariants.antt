@@ -1,6 +1,6 @@
 use Rattle.std.proofs.Common.{◌≡◌, ◌≤◌, length, take}
 use Rattle.cas_disk.specs.Disk.{Image, During, Follows, Same, bytes_of}
-use Rattle.cas_replay.proofs.file.read_file.Given as goal
+use Rattle.cas_files.proofs.reading.read_file.Given as goal
 
 abbrev pub invariant-loop-piece : goal.invariant-loop-piece
 invariant-loop-piece g l = record {

@@ -1,0 +1,6 @@
+//! Reads whole files of a folder.
+#![tactic(auto)]
+
+mod reading;
+
+pub use reading::read_file;
