@@ -2,5 +2,8 @@
 #![tactic(auto)]
 
 mod laws;
+mod viewer;
+mod views;
 
-pub use laws::streams_answer;
+pub use laws::{streams_answer, walks_show};
+pub use viewer::Viewer;
