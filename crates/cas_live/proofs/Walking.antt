@@ -1,12 +1,12 @@
 -- On the way through an ordered stream, what the markers before a row tell is in force at it, and the static row has come.
-use Rattle.std.proofs.Common.{◌≡◌, ℕ, ℤ, true, cond, Option, None, Some, List, [], ◌∷◌, ◌++◌, append_assoc, map, filter, inl, inr, refl, sym, ap, ◌∙◌}
+use Rattle.std.proofs.Common.{◌≡◌, ℕ, ℤ, cond, Option, None, Some, List, [], ◌∷◌, ◌++◌, append_assoc, filter, inl, inr, refl, sym, ap, ◌∙◌}
 use Rattle.std.proofs.lemmas.Bool.{true≢false}
 use Rattle.std.proofs.lemmas.List.{append-nil}
-use Rattle.std.specs.List.{AllByRecursion, cons_option, filter_map, flat_map}
+use Rattle.std.specs.List.{cons_option, filter_map, flat_map}
 use Rattle.std.specs.Ordering.{is_lt}
 use Rattle.cas_cell.specs.declared.deletion.Deletion.{Deletion}
 use Rattle.cas_bounds.specs.Cuts.{is_past}
-use Rattle.cas_bounds.specs.Points.{Point, row_point, cut_point}
+use Rattle.cas_bounds.specs.Points.{Point, row_point}
 use Rattle.cas_bounds.specs.declared.order.Ordered.{Ordered}
 use Rattle.cas_atoms.specs.Coordinates.{clustered, static_row}
 use Rattle.cas_atoms.specs.declared.atom.Atom.{Atom}
@@ -16,14 +16,13 @@ use Rattle.cas_atoms.specs.declared.row.Row.{Row}
 use Rattle.cas_laws.specs.Given.{Has}
 use Rattle.cas_streams.specs.Places.{row_in}
 use Rattle.cas_streams.specs.Flat.{atom_of, own, changes, after, reaching, in_force}
-use Rattle.cas_streams.specs.Streams.{IsOrdered}
 use Rattle.cas_streams.specs.Laws.{is_row}
 use Rattle.cas_streams.specs.declared.fragment.Fragment.{Fragment}
 use Rattle.cas_streams.specs.declared.fragment.Fragment.TheVariants as fragment
 use Rattle.cas_streams.proofs.Forces.{Behind, InOrder, later, stopped}
 use Rattle.cas_streams.proofs.Joining.{in_order}
 use Rattle.cas_streams.proofs.Settling.{stopped_by_row, past_cut}
-use Rattle.cas_live.specs.Views.{shared, row_view, if_answered, live_row, live_rows}
+use Rattle.cas_live.specs.Views.{shared, row_view, if_answered, live_row}
 use Rattle.cas_live.specs.Laws.{WalksShow}
 use Rattle.cas_live.specs.Walks.{walk, shared_after}
 
