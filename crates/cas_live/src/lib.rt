@@ -1,0 +1,9 @@
+//! The live view of a partition that comes as a stream: its live rows, one after another.
+#![tactic(auto)]
+
+mod laws;
+mod viewer;
+mod views;
+
+pub use laws::{streams_answer, walks_show};
+pub use viewer::Viewer;
