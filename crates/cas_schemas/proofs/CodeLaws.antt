@@ -1,7 +1,7 @@
 -- What stands for a kind, a shape, a type, a strategy or a unit is read exactly.
-use Rattle.std.proofs.Common.{◌≡◌, ℕ, zero, suc, ◌<◌, ◌≤◌, ◌^◌, leb, true, refl, ap, arith}
+use Rattle.std.proofs.Common.{◌≡◌, ◌≢◌, ℕ, zero, suc, ◌<◌, ◌≤◌, ◌^◌, leb, eqb, Bool, true, false, ◌&&◌, refl, ap, ◌∙◌, arith}
 use Rattle.std.specs.Int.{is_in_range}
-use Rattle.std.proofs.lemmas.Bool.{leb-true, le-leb, and_parts, and_from}
+use Rattle.std.proofs.lemmas.Bool.{leb-true, le-leb, eqb-true, eqb-false, and_parts, and_from}
 use Rattle.cas_types.specs.declared.tag.TypeTag.{TypeTag}
 use Rattle.cas_types.specs.declared.tag.TypeTag.TheVariants.{Ascii, BigInt, Blob, Boolean, Date, Int, SmallInt, Text, Time, Timestamp, TimeUuid, TinyInt, Uuid}
 use Rattle.cas_types.specs.declared.schema.Kind.{Kind}
@@ -27,151 +27,84 @@ ends least greatest n e =
 pub within : (least greatest n : ℕ) → least ≤ n → n ≤ greatest → is_in_range least greatest n ≡ true
 within least greatest n low high = and_from (leb least n) (leb n greatest) (le-leb least n low) (le-leb n greatest high)
 
--- each value has a code up to the last, and each such code is a value's
-record AreCodes {A : Type 0} (last : ℕ) (of : ℕ → A) (code : A → ℕ) : Type 0 where
-  short : last < 2 ^ 8
-  low : (a : A) → code a ≤ last
-  again : (a : A) → of (code a) ≡ a
-  found : (n : ℕ) → n ≤ last → code (of n) ≡ n
+-- the test holds of each number up to the last
+abbrev holds_to : ℕ → (ℕ → Bool) → Bool
+holds_to zero test = test zero
+holds_to (suc last) test = test (suc last) && holds_to last test
 
-coded : {A : Type 0} (last : ℕ) (of : ℕ → A) (code : A → ℕ) → AreCodes last of code → IsExact (λ a. Unit {0}) (λ a. u8 (code a)) (coded_at last of)
+holds_at : (last : ℕ) (test : ℕ → Bool) → holds_to last test ≡ true → (n : ℕ) → n ≤ last → test n ≡ true
+holds_at zero test all zero low = all
+holds_at zero test all (suc n) low = absurd (omega arith)
+holds_at (suc last) test all n low =
+    let both = and_parts (test (suc last)) (holds_to last test) all in
+    elim (eqb n (suc last)) as (λ b. eqb n (suc last) ≡ b → test n ≡ true) [
+      | true ↦ λ is. ap test (eqb-true n (suc last) is) ∙ both.0
+      | false ↦ λ other. holds_at last test both.1 n (let differ : n ≢ suc last = eqb-false n (suc last) other in omega (arith, differ))
+    ] refl
+
+-- a value's code is one up to the last, and stands for the value
+abbrev IsCoded : {A : Type 0} → ℕ → (ℕ → A) → (A → ℕ) → A → Type 0
+IsCoded last of code a = (code a ≤ last) × (of (code a) ≡ a)
+
+-- bytes of codes are read exactly where each code up to the last is its value's
+coded : {A : Type 0} (last : ℕ) (of : ℕ → A) (code : A → ℕ) → last < 2 ^ 8 → ((a : A) → IsCoded last of code a)
+    → holds_to last (λ n. eqb (code (of n)) n) ≡ true → IsExact (λ a. Unit {0}) (λ a. u8 (code a)) (coded_at last of)
 unfolding coded_at
-coded {A} last of code are =
+coded {A} last of code short are found =
     exact_map (λ n. (n < 2 ^ 8) × (is_in_range 0 last n ≡ true)) u8 (checked (is_in_range 0 last) u8_at) (λ a. Unit {0}) (λ a. u8 (code a)) of
     (exact_checked (λ n. n < 2 ^ 8) u8 u8_at (is_in_range 0 last) u8_field.exact)
-    (λ n fit. (tt, ap u8 (are.found n (ends 0 last n fit.1).1)))
-    (λ a fit. (code a, (omega (arith, are.low a, are.short), within 0 last (code a) (omega arith) (are.low a)), are.again a))
+    (λ n fit. (tt, ap u8 (eqb-true (code (of n)) n (holds_at last (λ n. eqb (code (of n)) n) found n (ends 0 last n fit.1).1))))
+    (λ a fit. (code a, (omega (arith, (are a).0, short), within 0 last (code a) (omega arith) (are a).0), (are a).1))
 
-kind_low : (a : Kind) → kind_code a ≤ 4
-kind_low Partition = omega arith
-kind_low Ascending = omega arith
-kind_low Descending = omega arith
-kind_low Regular = omega arith
-kind_low Static = omega arith
-
-kind_again : (a : Kind) → kind_of (kind_code a) ≡ a
-kind_again Partition = refl
-kind_again Ascending = refl
-kind_again Descending = refl
-kind_again Regular = refl
-kind_again Static = refl
-
-kind_found : (n : ℕ) → n ≤ 4 → kind_code (kind_of n) ≡ n
-kind_found zero low = refl
-kind_found (suc zero) low = refl
-kind_found (suc (suc zero)) low = refl
-kind_found (suc (suc (suc zero))) low = refl
-kind_found (suc (suc (suc (suc zero)))) low = refl
-kind_found (suc (suc (suc (suc (suc n))))) low = absurd (omega arith)
+kind_codes : (a : Kind) → IsCoded 4 kind_of kind_code a
+kind_codes Partition = (omega arith, refl)
+kind_codes Ascending = (omega arith, refl)
+kind_codes Descending = (omega arith, refl)
+kind_codes Regular = (omega arith, refl)
+kind_codes Static = (omega arith, refl)
 
 pub kind_exact : IsExact (λ a. Unit {0}) (λ a. u8 (kind_code a)) (coded_at 4 kind_of)
-kind_exact = coded 4 kind_of kind_code (record { short = omega arith; low = kind_low; again = kind_again; found = kind_found })
+kind_exact = coded 4 kind_of kind_code (omega arith) kind_codes refl
 
-shape_low : (a : Shape) → shape_code a ≤ 3
-shape_low shape.One = omega arith
-shape_low shape.Set = omega arith
-shape_low shape.List = omega arith
-shape_low shape.Map = omega arith
-
-shape_again : (a : Shape) → shape_of (shape_code a) ≡ a
-shape_again shape.One = refl
-shape_again shape.Set = refl
-shape_again shape.List = refl
-shape_again shape.Map = refl
-
-shape_found : (n : ℕ) → n ≤ 3 → shape_code (shape_of n) ≡ n
-shape_found zero low = refl
-shape_found (suc zero) low = refl
-shape_found (suc (suc zero)) low = refl
-shape_found (suc (suc (suc zero))) low = refl
-shape_found (suc (suc (suc (suc n)))) low = absurd (omega arith)
+shape_codes : (a : Shape) → IsCoded 3 shape_of shape_code a
+shape_codes shape.One = (omega arith, refl)
+shape_codes shape.Set = (omega arith, refl)
+shape_codes shape.List = (omega arith, refl)
+shape_codes shape.Map = (omega arith, refl)
 
 pub shape_exact : IsExact (λ a. Unit {0}) (λ a. u8 (shape_code a)) (coded_at 3 shape_of)
-shape_exact = coded 3 shape_of shape_code (record { short = omega arith; low = shape_low; again = shape_again; found = shape_found })
+shape_exact = coded 3 shape_of shape_code (omega arith) shape_codes refl
 
-tag_low : (a : TypeTag) → tag_code a ≤ 12
-tag_low Ascii = omega arith
-tag_low BigInt = omega arith
-tag_low Blob = omega arith
-tag_low Boolean = omega arith
-tag_low Date = omega arith
-tag_low Int = omega arith
-tag_low SmallInt = omega arith
-tag_low Text = omega arith
-tag_low Time = omega arith
-tag_low Timestamp = omega arith
-tag_low TimeUuid = omega arith
-tag_low TinyInt = omega arith
-tag_low Uuid = omega arith
-
-tag_again : (a : TypeTag) → tag_of (tag_code a) ≡ a
-tag_again Ascii = refl
-tag_again BigInt = refl
-tag_again Blob = refl
-tag_again Boolean = refl
-tag_again Date = refl
-tag_again Int = refl
-tag_again SmallInt = refl
-tag_again Text = refl
-tag_again Time = refl
-tag_again Timestamp = refl
-tag_again TimeUuid = refl
-tag_again TinyInt = refl
-tag_again Uuid = refl
-
-tag_found : (n : ℕ) → n ≤ 12 → tag_code (tag_of n) ≡ n
-tag_found zero low = refl
-tag_found (suc zero) low = refl
-tag_found (suc (suc zero)) low = refl
-tag_found (suc (suc (suc zero))) low = refl
-tag_found (suc (suc (suc (suc zero)))) low = refl
-tag_found (suc (suc (suc (suc (suc zero))))) low = refl
-tag_found (suc (suc (suc (suc (suc (suc zero)))))) low = refl
-tag_found (suc (suc (suc (suc (suc (suc (suc zero))))))) low = refl
-tag_found (suc (suc (suc (suc (suc (suc (suc (suc zero)))))))) low = refl
-tag_found (suc (suc (suc (suc (suc (suc (suc (suc (suc zero))))))))) low = refl
-tag_found (suc (suc (suc (suc (suc (suc (suc (suc (suc (suc zero)))))))))) low = refl
-tag_found (suc (suc (suc (suc (suc (suc (suc (suc (suc (suc (suc zero))))))))))) low = refl
-tag_found (suc (suc (suc (suc (suc (suc (suc (suc (suc (suc (suc (suc zero)))))))))))) low = refl
-tag_found (suc (suc (suc (suc (suc (suc (suc (suc (suc (suc (suc (suc (suc n))))))))))))) low = absurd (omega arith)
+tag_codes : (a : TypeTag) → IsCoded 12 tag_of tag_code a
+tag_codes Ascii = (omega arith, refl)
+tag_codes BigInt = (omega arith, refl)
+tag_codes Blob = (omega arith, refl)
+tag_codes Boolean = (omega arith, refl)
+tag_codes Date = (omega arith, refl)
+tag_codes Int = (omega arith, refl)
+tag_codes SmallInt = (omega arith, refl)
+tag_codes Text = (omega arith, refl)
+tag_codes Time = (omega arith, refl)
+tag_codes Timestamp = (omega arith, refl)
+tag_codes TimeUuid = (omega arith, refl)
+tag_codes TinyInt = (omega arith, refl)
+tag_codes Uuid = (omega arith, refl)
 
 pub tag_exact : IsExact (λ a. Unit {0}) (λ a. u8 (tag_code a)) (coded_at 12 tag_of)
-tag_exact = coded 12 tag_of tag_code (record { short = omega arith; low = tag_low; again = tag_again; found = tag_found })
+tag_exact = coded 12 tag_of tag_code (omega arith) tag_codes refl
 
-strategy_low : (a : Strategy) → strategy_code a ≤ 2
-strategy_low SizeTiered = omega arith
-strategy_low Leveled = omega arith
-strategy_low TimeWindow = omega arith
-
-strategy_again : (a : Strategy) → strategy_of (strategy_code a) ≡ a
-strategy_again SizeTiered = refl
-strategy_again Leveled = refl
-strategy_again TimeWindow = refl
-
-strategy_found : (n : ℕ) → n ≤ 2 → strategy_code (strategy_of n) ≡ n
-strategy_found zero low = refl
-strategy_found (suc zero) low = refl
-strategy_found (suc (suc zero)) low = refl
-strategy_found (suc (suc (suc n))) low = absurd (omega arith)
+strategy_codes : (a : Strategy) → IsCoded 2 strategy_of strategy_code a
+strategy_codes SizeTiered = (omega arith, refl)
+strategy_codes Leveled = (omega arith, refl)
+strategy_codes TimeWindow = (omega arith, refl)
 
 pub strategy_exact : IsExact (λ a. Unit {0}) (λ a. u8 (strategy_code a)) (coded_at 2 strategy_of)
-strategy_exact = coded 2 strategy_of strategy_code (record { short = omega arith; low = strategy_low; again = strategy_again; found = strategy_found })
+strategy_exact = coded 2 strategy_of strategy_code (omega arith) strategy_codes refl
 
-unit_low : (a : WindowUnit) → unit_code a ≤ 2
-unit_low Minutes = omega arith
-unit_low Hours = omega arith
-unit_low Days = omega arith
-
-unit_again : (a : WindowUnit) → unit_of (unit_code a) ≡ a
-unit_again Minutes = refl
-unit_again Hours = refl
-unit_again Days = refl
-
-unit_found : (n : ℕ) → n ≤ 2 → unit_code (unit_of n) ≡ n
-unit_found zero low = refl
-unit_found (suc zero) low = refl
-unit_found (suc (suc zero)) low = refl
-unit_found (suc (suc (suc n))) low = absurd (omega arith)
+unit_codes : (a : WindowUnit) → IsCoded 2 unit_of unit_code a
+unit_codes Minutes = (omega arith, refl)
+unit_codes Hours = (omega arith, refl)
+unit_codes Days = (omega arith, refl)
 
 pub unit_exact : IsExact (λ a. Unit {0}) (λ a. u8 (unit_code a)) (coded_at 2 unit_of)
-unit_exact = coded 2 unit_of unit_code (record { short = omega arith; low = unit_low; again = unit_again; found = unit_found })
+unit_exact = coded 2 unit_of unit_code (omega arith) unit_codes refl
