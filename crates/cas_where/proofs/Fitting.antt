@@ -27,7 +27,7 @@ use Rattle.cas_terms.specs.Terms.{term_value}
 use Rattle.cas_terms.proofs.TermValues.{IsOf, term_is}
 use Rattle.cas_where.specs.KeyTerms.{TermOf, term_in_where, value_of_term, value_in, is_missing, in_front, is_equal, partition_key, prefix_values, first_missing}
 use Rattle.cas_where.specs.Keys.{sole_column, restricts_to_empty, lacks_partition, lacks_clustering}
-use Rattle.cas_where.specs.Slices.{bound_value, cut_by, begin_cut, end_cut, slice_with, slice_of}
+use Rattle.cas_where.specs.Slices.{bound_value, cut_by, cut_at, slice_with, slice_of}
 use Rattle.cas_where.proofs.SliceLaws.{order_by, orders, found_passes}
 
 -- of at most 65,535 bytes
@@ -164,7 +164,7 @@ module _ (cs : List Column) (narrow : length cs ≤ COLUMN_LIMIT) (keyed : list_
     by_missing : (m : Option Column) → first_missing (term_in_where rs) (clustering_columns cs) ≡ m
         → AllByRecursion IsShort (with_missing m).lo.prefix → AllByRecursion IsShort (with_missing m).hi.prefix
         → FitsCut (clustering_order cs) (with_missing m).lo × FitsCut (clustering_order cs) (with_missing m).hi
-    unfolding begin_cut end_cut
+    unfolding cut_at
     by_missing None e lo hi = (
       cut_fits (with_missing None).lo refl (prefix_typed (term_in_where rs) (clustering_columns cs)) lo,
       cut_fits (with_missing None).hi refl (prefix_typed (term_in_where rs) (clustering_columns cs)) hi,

@@ -24,7 +24,7 @@ use Rattle.cql_parse.specs.declared.syntax.Relation.{Relation}
 use Rattle.cas_terms.specs.Columns.{clustering_columns}
 use Rattle.cas_terms.specs.Terms.{term_value}
 use Rattle.cas_where.specs.KeyTerms.{is_equal, term_in_where, value_of_term, value_in, is_missing, in_front, prefix_values, first_missing}
-use Rattle.cas_where.specs.Slices.{is_strict, is_at_begin, is_at_end, cut, cut_by, begin_cut, end_cut, slice_with, slice_of}
+use Rattle.cas_where.specs.Slices.{is_strict, is_at_begin, is_at_end, cut, cut_by, cut_at, slice_with, slice_of}
 use Rattle.cas_where.specs.Where.{is_lower, is_upper, count_on, count_all, is_fixed, is_bounded, is_free, makes_slice}
 use Rattle.cas_where.specs.WhereLaws.{operator_holds, relation_holds, column_meets, row_meets, compares_values, SliceLaw}
 
@@ -389,7 +389,7 @@ in_slice os rs prefix missing row = is_inside (slice_with os rs prefix missing).
 
 slice_more : (rs : List Relation) (o : Ordered) (os : List Ordered) (v b : List ℕ) (row prefix : List (List ℕ)) (c : Option Column)
     → in_slice (o ∷ os) rs (b ∷ prefix) c (v ∷ row) ≡ (is_eq (column_cmp o v b) && in_slice os rs prefix c row)
-unfolding begin_cut end_cut
+unfolding cut_at
 slice_more rs o os v b row prefix None = whole_more o os v b row prefix
 slice_more rs o os v b row prefix (Some c) = cuts_more o os v b row prefix c _ _
 
@@ -412,7 +412,7 @@ module _ (rs : List Relation) (c : Column) (os : List Ordered) (v : List ℕ) (r
       ∙ (λ j. (same_tie c.tag (is_descending c.kind) v b ∙ sym meets) j && others j)
 
   bounded_step : (rest : Bool) (x : Option (List ℕ)) → x ≡ None → list_all (given rs c) rs ≡ true → is_bounded rs c ≡ true → rest ≡ true → by_value x ≡ (column_meets rs c v && rest)
-  unfolding begin_cut end_cut
+  unfolding cut_at
   bounded_step rest x e all is free =
       ap by_value e ∙ bounded_column rs c v os row all is ∙ sym (and_true (column_meets rs c v)) ∙ ap (λ b. column_meets rs c v && b) (sym free)
 

@@ -47,18 +47,18 @@ abbrev pub cut_by : List Ordered → List (List ℕ) → Column → Bool → Opt
 cut_by order prefix c is_end None = cut order prefix is_end
 cut_by order prefix c is_end (Some r) = cut order (prefix ++ bound_value c r) (if is_end then not (is_strict r.operator) else is_strict r.operator)
 
--- where the slice begins: by the first bound of the column that is one at its begin, as `c > 1`
-unfoldable pub begin_cut : List Ordered → List Relation → List (List ℕ) → Column → Cut
-begin_cut order rs prefix c = cut_by order prefix c false (find (λ r. bytes_eq r.column c.name && is_at_begin (is_descending c.kind) r.operator) rs)
+-- the bound is one at that side of the slice
+abbrev pub is_at : Bool → Bool → Operator → Bool
+is_at is_end descending o = if is_end then is_at_end descending o else is_at_begin descending o
 
--- where the slice ends: by the first bound of the column that is one at its end, as `c <= 5`
-unfoldable pub end_cut : List Ordered → List Relation → List (List ℕ) → Column → Cut
-end_cut order rs prefix c = cut_by order prefix c true (find (λ r. bytes_eq r.column c.name && is_at_end (is_descending c.kind) r.operator) rs)
+-- where the slice begins or ends: by the first bound of the column that is one there, as `c > 1` at the begin and `c <= 5` at the end
+unfoldable pub cut_at : Bool → List Ordered → List Relation → List (List ℕ) → Column → Cut
+cut_at is_end order rs prefix c = cut_by order prefix c is_end (find (λ r. bytes_eq r.column c.name && is_at is_end (is_descending c.kind) r.operator) rs)
 
 -- the rows with the prefix, of which a column may bound more
 abbrev pub slice_with : List Ordered → List Relation → List (List ℕ) → Option Column → Slice
 slice_with order rs prefix None = record { lo = cut order prefix false; hi = cut order prefix true }
-slice_with order rs prefix (Some c) = record { lo = begin_cut order rs prefix c; hi = end_cut order rs prefix c }
+slice_with order rs prefix (Some c) = record { lo = cut_at false order rs prefix c; hi = cut_at true order rs prefix c }
 
 -- the rows that a WHERE leaves of its partition: the first clustering columns by `=` are the prefix, and the next one may be bounded
 unfoldable pub slice_of : List Column → List Relation → Slice

@@ -5,7 +5,7 @@ ghost use Rattle.std.specs.Str.{bytes_eq};
 ghost use Rattle.std.specs.Option.{option_copied};
 ghost use Rattle.std.specs.List.{find};
 ghost use Rattle.cas_types.specs.Schemas.{is_descending};
-ghost use Rattle.cas_where.specs.Slices.{is_strict, is_at_begin, is_at_end, bound_value, cut, cut_by, slice_with, begin_cut, end_cut, slice_of};
+ghost use Rattle.cas_where.specs.Slices.{is_strict, is_at, bound_value, cut, cut_by, cut_at, slice_with, slice_of};
 
 use crate::key_terms::{KeyTerms, first_missing, prefix_values};
 use crate::restrictions::{is_lower, is_upper};
@@ -22,43 +22,25 @@ fn is_strict(operator: Operator) -> bool
     matches!(operator, Operator::Less | Operator::Greater)
 }
 
-#[tactic(auto, unfolding(crate::specs::Slices::is_at_begin))]
-fn is_at_begin(descending: bool, operator: Operator) -> bool
-    ensures { result ≡ is_at_begin descending operator }
+// Whether a bound is one at which the slice begins, or ends: by place, so the other way round where
+// the column is DESC.
+#[tactic(auto, unfolding(crate::specs::Slices::is_at_begin, crate::specs::Slices::is_at_end))]
+fn is_at(is_end: bool, descending: bool, operator: Operator) -> bool
+    ensures { result ≡ is_at is_end descending operator }
 {
-    if descending {
-        is_upper(operator)
-    } else {
-        is_lower(operator)
-    }
-}
-
-#[tactic(auto, unfolding(crate::specs::Slices::is_at_end))]
-fn is_at_end(descending: bool, operator: Operator) -> bool
-    ensures { result ≡ is_at_end descending operator }
-{
-    if descending {
+    if is_end == descending {
         is_lower(operator)
     } else {
         is_upper(operator)
     }
 }
 
-fn first_begin<'a>(relations: &'a [Relation], column: &Column) -> Option<&'a Relation>
-    ensures { option_copied result ≡ find (λ r. bytes_eq r.column column.now.name && is_at_begin (is_descending column.now.kind) r.operator) relations.now }
+fn first_bound<'a>(is_end: bool, relations: &'a [Relation], column: &Column) -> Option<&'a Relation>
+    ensures { option_copied result ≡ find (λ r. bytes_eq r.column column.now.name && is_at is_end (is_descending column.now.kind) r.operator) relations.now }
 {
     relations.iter().find(|r| {
         same_name(r.column.as_str(), column.name.as_str())
-            && is_at_begin(column.kind.is_descending(), r.operator)
-    })
-}
-
-fn first_end<'a>(relations: &'a [Relation], column: &Column) -> Option<&'a Relation>
-    ensures { option_copied result ≡ find (λ r. bytes_eq r.column column.now.name && is_at_end (is_descending column.now.kind) r.operator) relations.now }
-{
-    relations.iter().find(|r| {
-        same_name(r.column.as_str(), column.name.as_str())
-            && is_at_end(column.kind.is_descending(), r.operator)
+            && is_at(is_end, column.kind.is_descending(), r.operator)
     })
 }
 
@@ -109,32 +91,20 @@ fn cut_by(
     }
 }
 
-#[tactic(auto, unfolding(crate::specs::Slices::begin_cut))]
-fn begin_cut(
+// Where the slice begins, or ends.
+#[tactic(auto, unfolding(crate::specs::Slices::cut_at))]
+fn cut_at(
     alloc: Global,
+    is_end: bool,
     order: &List<Ordered>,
     relations: &[Relation],
     prefix: &List<Bytes>,
     column: &Column,
 ) -> Result<Cut, AllocError>
-    ensures { IfOk result (λ c. c ≡ begin_cut order.now relations.now prefix.now column.now) }
+    ensures { IfOk result (λ c. c ≡ cut_at is_end order.now relations.now prefix.now column.now) }
 {
-    let bound = first_begin(relations, column);
-    cut_by(alloc, order, prefix, column, false, bound)
-}
-
-#[tactic(auto, unfolding(crate::specs::Slices::end_cut))]
-fn end_cut(
-    alloc: Global,
-    order: &List<Ordered>,
-    relations: &[Relation],
-    prefix: &List<Bytes>,
-    column: &Column,
-) -> Result<Cut, AllocError>
-    ensures { IfOk result (λ c. c ≡ end_cut order.now relations.now prefix.now column.now) }
-{
-    let bound = first_end(relations, column);
-    cut_by(alloc, order, prefix, column, true, bound)
+    let bound = first_bound(is_end, relations, column);
+    cut_by(alloc, order, prefix, column, is_end, bound)
 }
 
 fn slice_with(
@@ -152,8 +122,8 @@ fn slice_with(
             hi: cut(order, prefix, true)?,
         }),
         Some(column) => Ok(Slice {
-            lo: begin_cut(alloc, order, relations, prefix, column)?,
-            hi: end_cut(alloc, order, relations, prefix, column)?,
+            lo: cut_at(alloc, false, order, relations, prefix, column)?,
+            hi: cut_at(alloc, true, order, relations, prefix, column)?,
         }),
     }
 }
