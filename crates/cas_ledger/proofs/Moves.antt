@@ -14,7 +14,7 @@ use Rattle.atomic_table.specs.Table.{Allows, Splits, Joins, keeps}
 use Rattle.atomic_table.proofs.Lists.{at_set, at_snoc, set_else}
 use Rattle.cas_ledger.specs.declared.hand.Hand.{Hand}
 use Rattle.cas_ledger.specs.Log.{Rules, Each, Any, Has, part, counted, Follows, LegalAfter}
-use Rattle.cas_ledger.specs.Hands.{numbers, times, beyond, total, shares, stakes, Owns, sees, gave, given, plain, dealt, further, either_right, right_of, founder, Knows, Ready}
+use Rattle.cas_ledger.specs.Hands.{numbers, times, beyond, total, shares, stakes, Owns, sees, gave, given, dealt, further, either_right, founder, Knows, Ready}
 use Rattle.cas_ledger.specs.Inner.Table.{nobody, hand_of, others, lent, merged, Counts, Stands, Grew, Looked}
 use Rattle.cas_ledger.proofs.Lists.{begins_itself, begins_longer, each_weaker, each_map, each_kept, each_append, each_at, any_of_each, any_gives, has_begun, total_append, total_map, total_cut, total_set, total_at, total_two, named, times_append}
 
@@ -294,6 +294,3 @@ deals_less n h r = let d = right_dealt h.from in omega arith
 
 pub deals : {E : Type 0} (R : Rules E) → {S : Type 0} (id n : ℕ) (v : List (Hand E)) → Splits {S = S} {V = List (Hand E)} (λ s. Stands R s.words s.views) id v (map (gave n) v) (map (given n) v)
 deals R id n v = cuts_each R id (gave n) (given n) (λ h. (refl, refl)) (deals_less n) v
-
-pub yields : {E : Type 0} (R : Rules E) → {S : Type 0} (id : ℕ) (v : List (Hand E)) → Splits {S = S} {V = List (Hand E)} (λ s. Stands R s.words s.views) id v (map plain v) (map right_of v)
-yields R id v = cuts_each R id plain right_of (λ h. (refl, refl)) (λ h r. omega arith) v

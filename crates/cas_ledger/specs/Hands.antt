@@ -68,15 +68,7 @@ module _ {E : Type 0} where
   abbrev pub gave : ℕ → Hand E → Hand E
   gave n h = record { saw = h.saw; lists = h.lists; from = further n h.from }
 
-  -- the hand without the right to make passes (own)
-  abbrev pub plain : Hand E → Hand E
-  plain h = record { saw = h.saw; lists = h.lists; from = None }
-
-  -- its right to make passes alone (own)
-  abbrev pub right_of : Hand E → Hand E
-  right_of h = record { saw = h.saw; lists = []; from = h.from }
-
-  -- the first hand: it owns each list, and right_of is in the log (own)
+  -- the first hand: it owns each list, and nothing is in the log (own)
   abbrev pub founder : Hand E
   founder = record { saw = []; lists = []; from = Some 0 }
 

@@ -2,7 +2,7 @@
 //! right to make passes change hands.
 ghost use Rattle.std.specs.Prelude.{◌≡◌, ◌<◌, ◌%◌, ◌^◌, [], ◌∷◌, OnErr, IfOk};
 ghost use Rattle.cas_ledger.specs.Log.{Each, Legal, counted};
-ghost use Rattle.cas_ledger.specs.Hands.{Apart, Entered, Knows, Ready, both, gave, given, right_of, plain, sees};
+ghost use Rattle.cas_ledger.specs.Hands.{Apart, Entered, Knows, Ready, both, gave, given, sees};
 
 use crate::entries::{Entries, Tells};
 use crate::pass::{Pass, Store};
@@ -137,6 +137,7 @@ pub fn look_three<E: Entries, J: Store>(
     ensures legal { Legal E.rules one.new.saw }
     ensures two { two.new ≡ sees one.new.saw two.old }
     ensures three { three.new ≡ sees one.new.saw three.old }
+    ensures apart { Apart (one.old ∷ two.old ∷ three.old ∷ []) }
 {
     let mut group = one.lend();
     one.gather(&mut group, two.lend());
@@ -174,19 +175,6 @@ pub fn join<E: Entries, J: Store>(keeper: &mut Pass<E, J>, ended: Pass<E, J>)
     keeper.gather(&mut group, ended.lend());
     keeper.merge(&mut group);
     keeper.take_back(group);
-}
-
-/// The right to make passes goes to another pass.
-pub fn yield_right<E: Entries, J: Store>(from: &mut Pass<E, J>, to: &mut Pass<E, J>)
-    ensures from { from.new ≡ plain from.old }
-    ensures known { Each (Knows E.rules to.new.saw) (to.old ∷ right_of from.old ∷ []) }
-    ensures legal { Legal E.rules to.new.saw }
-    ensures to { to.new ≡ both to.new.saw to.old (right_of from.old) }
-{
-    let mut group = to.lend();
-    to.gather(&mut group, from.cede());
-    to.merge(&mut group);
-    to.take_back(group);
 }
 
 /// A pass that owns the next lists.

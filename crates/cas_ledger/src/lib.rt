@@ -11,7 +11,6 @@ mod steps;
 
 pub use calls::{
     accept_alone, accept_four, accept_three, accept_two, deal, join, look, look_alone, look_three,
-    yield_right,
 };
 pub use entries::{Entries, Tells};
 pub use hand::Hand;

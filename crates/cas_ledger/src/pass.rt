@@ -1,14 +1,12 @@
 //! A pass: one hand of the log, and the way to its table.
 ghost use Rattle.std.specs.Prelude.{◌≡◌, ℕ, ◌+◌, ◌<◌, ◌^◌, List, [], ◌∷◌, ◌++◌, map, None, IfOk, OnErr};
 ghost use Rattle.cas_ledger.specs.Log.{Legal};
-ghost use Rattle.cas_ledger.specs.Hands.{sees, Ready, given, gave, plain, right_of};
+ghost use Rattle.cas_ledger.specs.Hands.{sees, Ready, given, gave};
 ghost use Rattle.cas_ledger.specs.Inner.Table.{Grew, Looked, lent, hand_of, others, merged};
 
 use crate::entries::{Entries, Tells};
 use crate::hand::Hand;
-use crate::steps::{
-    Adds, Deals, Enters, Gathers, Hands, Lends, Looks, Many, Merges, Parts, Words, Yields,
-};
+use crate::steps::{Adds, Deals, Enters, Gathers, Hands, Lends, Looks, Many, Merges, Parts, Words};
 use atomic_table::Seat;
 use std::alloc::{AllocError, Global};
 use std::marker::{Brand, Model, PhantomData};
@@ -149,16 +147,6 @@ impl<E: Entries, J: Store> Pass<E, J> {
         ensures { (n : ℕ) × Looked E.rules merged 0 group.old n group.new }
     {
         self.table.shared.load::<Merges<E>>(&mut group.seat, 0);
-    }
-
-    /// The right to make passes leaves the pass.
-    pub(crate) fn cede(&mut self) -> Group<E, J>
-        ensures { (self.new ≡ plain self.old) × (result ≡ right_of self.old ∷ []) }
-    {
-        Group {
-            seat: self.table.shared.split_seat::<Yields<E>>(&mut self.seat),
-            of: PhantomData,
-        }
     }
 
     pub(crate) fn deal_picked<M: Many>(&mut self, lists: usize) -> Result<Pass<E, J>, AllocError>

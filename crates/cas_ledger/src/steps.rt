@@ -111,18 +111,6 @@ impl<E, M: Many> Split<Hands<E>> for Deals<E, M> {
     ghost right = { λ v. map (given M.many) v };
 }
 
-/// The right to make passes goes to a new seat.
-pub struct Yields<E>(PhantomData<E>);
-
-impl<E> Split<Hands<E>> for Yields<E> {
-    ghost use Rattle.std.specs.Prelude.{map};
-    ghost use Rattle.cas_ledger.specs.Hands.{plain, right_of};
-
-    ghost left = { λ v. map plain v };
-
-    ghost right = { λ v. map right_of v };
-}
-
 /// The hands of two seats come together in one.
 pub struct Gathers<E>(PhantomData<E>);
 
