@@ -15,3 +15,4 @@ pub mod Formed
 pub mod Single
 pub mod Winning
 pub mod Written
+pub mod Cutting

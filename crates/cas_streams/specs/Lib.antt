@@ -6,4 +6,5 @@ pub mod Joined
 pub mod Settled
 pub mod Merged
 pub mod Sources
+pub mod Slices
 pub mod Laws

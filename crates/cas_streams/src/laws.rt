@@ -1,6 +1,7 @@
 //! What streams say, for every order of the clustering columns.
 
-ghost use Rattle.cas_streams.specs.Laws.{RowsSayAll, SameByRows, MergeIsJoin, MergeIsWellFormed, MergeIsMerged};
+ghost use Rattle.cas_streams.specs.Laws.{RowsSayAll, SameByRows, CutKeepsTheSlice, CutIsWellFormed};
+ghost use Rattle.cas_streams.specs.Laws.{MergeIsJoin, MergeIsWellFormed, MergeIsMerged};
 
 /// At each row an ordered stream says what its top, the deletion in force there and the row's own
 /// fragments say, and nothing more.
@@ -12,6 +13,16 @@ pub fn rows_say_all()
 /// in force, and the fragments of their own are the same.
 pub fn same_by_rows()
     ensures { SameByRows }
+{}
+
+/// A stream cut to a slice is the same there.
+pub fn cut_keeps_the_slice()
+    ensures { CutKeepsTheSlice }
+{}
+
+/// And well formed, if the whole is.
+pub fn cut_is_well_formed()
+    ensures { CutIsWellFormed }
 {}
 
 /// The merge of ordered streams is the same as all their atoms one after another.

@@ -8,6 +8,9 @@ mod part;
 mod source;
 
 pub use fragment::Fragment;
-pub use laws::{merge_is_join, merge_is_merged, merge_is_well_formed, rows_say_all, same_by_rows};
+pub use laws::{
+    cut_is_well_formed, cut_keeps_the_slice, merge_is_join, merge_is_merged, merge_is_well_formed,
+    rows_say_all, same_by_rows,
+};
 pub use part::Part;
 pub use source::FragmentSource;
