@@ -1,14 +1,15 @@
 //! Whether a statement changes something twice. What it changes is sorted, so that this takes n log n
 //! steps for n changes.
 
-ghost use Rattle.std.specs.Prelude.{◌≡◌, ◌∷◌, map, None, false, IfOk, OnOk};
+ghost use Rattle.std.specs.Prelude.{◌≡◌, ◌∷◌, List, map, None, false, IfOk, OnOk};
 ghost use Rattle.std.specs.List.Sorted.{IsPermutation, IsSorted};
 ghost use Rattle.std.specs.Option.{option_copied, option_cmp};
 ghost use Rattle.std.specs.Prelude.{if◌then◌else◌};
 ghost use Rattle.cas_types.specs.Values.{bytes_cmp};
+ghost use Rattle.cas_types.specs.declared.schema.Column.{Column};
 ghost use Rattle.cas_terms.specs.Names.{any_two, stands_twice};
 ghost use Rattle.cas_reasons.specs.Inner.Borrowed.{change_in};
-ghost use Rattle.cas_reasons.specs.Inner.Spots.{in_spot, changed_in, constant_rank, bytes_in, number_in, constant_cmp};
+ghost use Rattle.cas_reasons.specs.Inner.Spots.{Changed, in_spot, changed_in, constant_rank, bytes_in, number_in, constant_cmp};
 ghost use Rattle.cas_reasons.specs.Inner.Spots.{spot_cmp, same_spot};
 ghost use Rattle.cas_terms.specs.Inner.Beside.{first_passes, any_beside};
 ghost use Rattle.cas_reasons.specs.RowFaults.{names_map, entry_key, change_the_same, changes_twice, has_other_count};
@@ -163,51 +164,54 @@ fn spot_of<'a>(columns: &[Column], name: &'a str, change: RowChange<'a>) -> Spot
     }
 }
 
-fn named_spots(alloc: Global, names: &[Text]) -> Result<Vec<Spot<'_>>, AllocError>
-    ensures { IfOk result (λ v. map in_spot v.items ≡ map (λ n. (n, None)) names.now) }
-{
-    let mut spots = Vec::with_capacity(alloc, names.len())?;
-    for name in names {
-        spots.push(Spot {
-            name: name.as_str(),
+/// What a statement lists, each to change something.
+trait Changes {
+    /// What it changes of a table with these columns.
+    ghost changed: { List Column → Self → Changed };
+
+    fn spot(&self, columns: &[Column]) -> Spot<'_>
+        ensures { in_spot result ≡ changed columns.now self.now };
+}
+
+impl Changes for Text {
+    ghost changed = { λ cs n. (n, None) };
+
+    fn spot(&self, _columns: &[Column]) -> Spot<'_> {
+        Spot {
+            name: self.as_str(),
             entry: None,
-        })?;
+        }
     }
-    Ok(spots)
 }
 
-fn assigned_spots<'a>(
-    alloc: Global,
-    columns: &[Column],
-    assignments: &'a [Assignment],
-) -> Result<Vec<Spot<'a>>, AllocError>
-    ensures { IfOk result (λ v. map in_spot v.items ≡ map (λ a. changed_in columns.now (a.column, assigns a.value)) assignments.now) }
-{
-    let mut spots = Vec::with_capacity(alloc, assignments.len())?;
-    for assignment in assignments {
-        spots.push(spot_of(
-            columns,
-            assignment.column.as_str(),
-            RowChange::Assign(&assignment.value),
-        ))?;
+impl Changes for Assignment {
+    ghost changed = { λ cs a. changed_in cs (a.column, assigns a.value) };
+
+    fn spot(&self, columns: &[Column]) -> Spot<'_> {
+        let change = RowChange::Assign(&self.value);
+        spot_of(columns, self.column.as_str(), change)
     }
-    Ok(spots)
 }
 
-fn deleted_spots<'a>(
+impl Changes for Target {
+    ghost changed = { λ cs t. changed_in cs (t.column, deletes t.key) };
+
+    fn spot(&self, columns: &[Column]) -> Spot<'_> {
+        let change = RowChange::Delete(&self.key);
+        spot_of(columns, self.column.as_str(), change)
+    }
+}
+
+fn spots<'a, T: Changes>(
     alloc: Global,
     columns: &[Column],
-    targets: &'a [Target],
+    items: &'a [T],
 ) -> Result<Vec<Spot<'a>>, AllocError>
-    ensures { IfOk result (λ v. map in_spot v.items ≡ map (λ t. changed_in columns.now (t.column, deletes t.key)) targets.now) }
+    ensures { IfOk result (λ v. map in_spot v.items ≡ map (T.changed columns.now) items.now) }
 {
-    let mut spots = Vec::with_capacity(alloc, targets.len())?;
-    for target in targets {
-        spots.push(spot_of(
-            columns,
-            target.column.as_str(),
-            RowChange::Delete(&target.key),
-        ))?;
+    let mut spots = Vec::with_capacity(alloc, items.len())?;
+    for item in items {
+        spots.push(item.spot(columns))?;
     }
     Ok(spots)
 }
@@ -217,7 +221,7 @@ fn deleted_spots<'a>(
 fn named_twice(alloc: Global, names: &[Text]) -> Result<bool, AllocError>
     ensures { IfOk result (λ b. b ≡ stands_twice names.now) }
 {
-    any_two(named_spots(alloc, names)?)
+    any_two(spots(alloc, &[], names)?)
 }
 
 fn assigned_twice(
@@ -227,13 +231,13 @@ fn assigned_twice(
 ) -> Result<bool, AllocError>
     ensures { IfOk result (λ b. b ≡ any_two (λ a b. change_the_same columns.now (a.column, assigns a.value) (b.column, assigns b.value)) assignments.now) }
 {
-    any_two(assigned_spots(alloc, columns, assignments)?)
+    any_two(spots(alloc, columns, assignments)?)
 }
 
 fn deleted_twice(alloc: Global, columns: &[Column], targets: &[Target]) -> Result<bool, AllocError>
     ensures { IfOk result (λ b. b ≡ any_two (λ a b. change_the_same columns.now (a.column, deletes a.key) (b.column, deletes b.key)) targets.now) }
 {
-    any_two(deleted_spots(alloc, columns, targets)?)
+    any_two(spots(alloc, columns, targets)?)
 }
 
 /// Whether the statement changes something twice. Of an INSERT there is a value to each column.
