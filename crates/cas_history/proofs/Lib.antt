@@ -1,3 +1,6 @@
 pub mod Rising
 pub mod Turns
 pub mod Shares
+pub mod Homes
+pub mod Once
+pub mod Orders

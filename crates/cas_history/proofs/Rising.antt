@@ -6,8 +6,8 @@ use mathlib.Core.List.{IsPrefix}
 use Rattle.cas_ledger.specs.Log.{Has, Legal}
 use Rattle.cas_ledger.proofs.Parts.{list_grows}
 use Rattle.cas_history.specs.declared.item.Item.{Item}
-use Rattle.cas_history.specs.declared.item.Item.TheVariants.{Found, Wrote, Purged, Faulted, Read, Rose, Drew, Began, Ended, Changed}
-use Rattle.cas_history.specs.Last.{number_after, last_number, fault_after, committed_after, first_after, moment_after, table_after, last_fault, last_committed, last_first, last_moment, last_table}
+use Rattle.cas_history.specs.declared.item.Item.TheVariants.{Found, Stood, Wrote, Purged, Faulted, Read, Rose, Drew, Began, Ended, Changed}
+use Rattle.cas_history.specs.Last.{number_after, last_number, fault_after, committed_after, first_after, moment_after, file_after, last_fault, last_committed, last_first, last_moment, last_file}
 use Rattle.cas_history.specs.Items.{items, listed, lists_of, MayCome, numbers_list, front_list}
 
 module _ {E : Type 0} where
@@ -27,13 +27,14 @@ module _ {E : Type 0} where
       up list (Faulted n c f) may = may.0
       up list (Found _ _) may = le_refl _
       up list (Wrote _ _ _ _ _) may = le_refl _
-      up list (Purged _ _) may = le_refl _
+      up list (Stood _ _ _ _ _) may = le_refl _
+      up list (Purged _ _ _ _) may = le_refl _
       up list (Read _ _) may = le_refl _
       up list (Rose _ _ _) may = le_refl _
       up list (Drew _ _) may = le_refl _
       up list (Began _ _ _) may = le_refl _
       up list (Ended _ _) may = le_refl _
-      up list (Changed _ _ _ _) may = le_refl _
+      up list (Changed _ _ _ _ _ _ _) may = le_refl _
 
   pub committed_rises : (r : ℕ) (p log : List (Item E)) → IsPrefix p log → Legal items log → last_committed (listed r p) ≤ last_committed (listed r log)
   committed_rises r = rises r committed_after (λ list e has. up list e)
@@ -42,13 +43,14 @@ module _ {E : Type 0} where
       up list (Faulted n c f) may = may.1
       up list (Found _ _) may = le_refl _
       up list (Wrote _ _ _ _ _) may = le_refl _
-      up list (Purged _ _) may = le_refl _
+      up list (Stood _ _ _ _ _) may = le_refl _
+      up list (Purged _ _ _ _) may = le_refl _
       up list (Read _ _) may = le_refl _
       up list (Rose _ _ _) may = le_refl _
       up list (Drew _ _) may = le_refl _
       up list (Began _ _ _) may = le_refl _
       up list (Ended _ _) may = le_refl _
-      up list (Changed _ _ _ _) may = le_refl _
+      up list (Changed _ _ _ _ _ _ _) may = le_refl _
 
   pub moments_rise : (r : ℕ) (p log : List (Item E)) → IsPrefix p log → Legal items log → last_moment (listed r p) ≤ last_moment (listed r log)
   moments_rise r = rises r moment_after (λ list e has. up list e)
@@ -58,27 +60,29 @@ module _ {E : Type 0} where
       up list (Rose _ _ _) may = let l = may.1 in omega arith
       up list (Faulted _ _ _) may = le_refl _
       up list (Wrote _ _ _ _ _) may = le_refl _
-      up list (Purged _ _) may = le_refl _
+      up list (Stood _ _ _ _ _) may = le_refl _
+      up list (Purged _ _ _ _) may = le_refl _
       up list (Read _ _) may = le_refl _
       up list (Drew _ _) may = le_refl _
       up list (Began _ _ _) may = le_refl _
       up list (Ended _ _) may = le_refl _
-      up list (Changed _ _ _ _) may = le_refl _
+      up list (Changed _ _ _ _ _ _ _) may = le_refl _
 
-  pub tables_rise : (p log : List (Item E)) → IsPrefix p log → Legal items log → last_table (listed numbers_list p) ≤ last_table (listed numbers_list log)
-  tables_rise = rises numbers_list table_after (λ list e has. up list e)
+  pub files_rise : (p log : List (Item E)) → IsPrefix p log → Legal items log → last_file (listed numbers_list p) ≤ last_file (listed numbers_list log)
+  files_rise = rises numbers_list file_after (λ list e has. up list e)
     where
-      up : (list : List (Item E)) (e : Item E) → MayCome numbers_list list e → fold table_after 0 list ≤ table_after (fold table_after 0 list) e
-      up list (Found _ n) may = let none : last_table list ≡ 0 = ap last_table may.1 in omega arith
+      up : (list : List (Item E)) (e : Item E) → MayCome numbers_list list e → fold file_after 0 list ≤ file_after (fold file_after 0 list) e
+      up list (Found _ n) may = let none : last_file list ≡ 0 = ap last_file may.1 in omega arith
       up list (Drew _ _) may = let l = may.1 refl in omega arith
       up list (Rose _ _ _) may = le_refl _
       up list (Faulted _ _ _) may = le_refl _
       up list (Wrote _ _ _ _ _) may = le_refl _
-      up list (Purged _ _) may = le_refl _
+      up list (Stood _ _ _ _ _) may = le_refl _
+      up list (Purged _ _ _ _) may = le_refl _
       up list (Read _ _) may = le_refl _
       up list (Began _ _ _) may = le_refl _
       up list (Ended _ _) may = le_refl _
-      up list (Changed _ _ _ _) may = le_refl _
+      up list (Changed _ _ _ _ _ _ _) may = le_refl _
 
   pub numbers_rise : (shard : ℕ) → shard < 16 → (p log : List (Item E)) → IsPrefix p log → Legal items log → last_number (listed (front_list shard) p) ≤ last_number (listed (front_list shard) log)
   numbers_rise shard low = rises (front_list shard) number_after up
@@ -93,11 +97,12 @@ module _ {E : Type 0} where
       up list (Drew _ _) has may = le_refl _
       up list (Rose _ _ _) has may = le_refl _
       up list (Faulted _ _ _) has may = le_refl _
-      up list (Purged _ _) has may = le_refl _
+      up list (Stood _ _ _ _ _) has may = le_refl _
+      up list (Purged _ _ _ _) has may = le_refl _
       up list (Read _ _) has may = le_refl _
       up list (Began _ _ _) has may = le_refl _
       up list (Ended _ _) has may = le_refl _
-      up list (Changed _ _ _ _) has may = le_refl _
+      up list (Changed _ _ _ _ _ _ _) has may = le_refl _
 
   -- the fault that stopped the room stays
   pub first_stays : (r : ℕ) (p log : List (Item E)) → IsPrefix p log → Legal items log → last_first (listed r p) ≢ 0 → last_first (listed r p) ≡ last_first (listed r log)
@@ -110,10 +115,11 @@ module _ {E : Type 0} where
       kept list (Faulted n c f) not may = sym (may.2 not)
       kept list (Found _ _) not may = refl
       kept list (Wrote _ _ _ _ _) not may = refl
-      kept list (Purged _ _) not may = refl
+      kept list (Stood _ _ _ _ _) not may = refl
+      kept list (Purged _ _ _ _) not may = refl
       kept list (Read _ _) not may = refl
       kept list (Rose _ _ _) not may = refl
       kept list (Drew _ _) not may = refl
       kept list (Began _ _ _) not may = refl
       kept list (Ended _ _) not may = refl
-      kept list (Changed _ _ _ _) not may = refl
+      kept list (Changed _ _ _ _ _ _ _) not may = refl

@@ -6,7 +6,7 @@ use Rattle.cas_ledger.specs.Log.{Has, Follows, Legal}
 use Rattle.cas_ledger.proofs.Lists.{has_or_not}
 use Rattle.cas_ledger.proofs.Parts.{part_gets, part_stays, legal_grows}
 use Rattle.cas_history.specs.declared.item.Item.{Item}
-use Rattle.cas_history.specs.declared.item.Item.TheVariants.{Found, Wrote, Purged, Faulted, Read, Rose, Drew, Began, Ended, Changed}
+use Rattle.cas_history.specs.declared.item.Item.TheVariants.{Found, Stood, Wrote, Purged, Faulted, Read, Rose, Drew, Began, Ended, Changed}
 use Rattle.cas_history.specs.Items.{items, listed, lists_of, log_list, front_list, changes_list, room_changes, book_changes}
 use Rattle.cas_history.specs.Laws.{is_write_of, is_write_in, writes_of, writes_in}
 
@@ -37,14 +37,15 @@ module _ {E : Type 0} where
       both : (e : Item E) → is_write_of session e ≡ true → Has (lists_of e) log_list × Has (lists_of e) session
       both (Wrote s p c n w) is = (inl refl, inr (inr (inl (eqb-true p session is))))
       both (Found _ _) is = absurd (true≢false (sym is))
-      both (Purged _ _) is = absurd (true≢false (sym is))
+      both (Stood _ _ _ _ _) is = absurd (true≢false (sym is))
+      both (Purged _ _ _ _) is = absurd (true≢false (sym is))
       both (Faulted _ _ _) is = absurd (true≢false (sym is))
       both (Read _ _) is = absurd (true≢false (sym is))
       both (Rose _ _ _) is = absurd (true≢false (sym is))
       both (Drew _ _) is = absurd (true≢false (sym is))
       both (Began _ _ _) is = absurd (true≢false (sym is))
       both (Ended _ _) is = absurd (true≢false (sym is))
-      both (Changed _ _ _ _) is = absurd (true≢false (sym is))
+      both (Changed _ _ _ _ _ _ _) is = absurd (true≢false (sym is))
 
   pub shard_writes : (shard : ℕ) (log : List (Item E)) → Legal items log → writes_in shard (listed log_list log) ≡ writes_in shard (listed (front_list shard) log)
   shard_writes shard = alike (is_write_in shard) log_list (front_list shard) both
@@ -52,22 +53,24 @@ module _ {E : Type 0} where
       both : (e : Item E) → is_write_in shard e ≡ true → Has (lists_of e) log_list × Has (lists_of e) (front_list shard)
       both (Wrote s p c n w) is = (inl refl, inr (inl (ap front_list (eqb-true s shard is))))
       both (Found _ _) is = absurd (true≢false (sym is))
-      both (Purged _ _) is = absurd (true≢false (sym is))
+      both (Stood _ _ _ _ _) is = absurd (true≢false (sym is))
+      both (Purged _ _ _ _) is = absurd (true≢false (sym is))
       both (Faulted _ _ _) is = absurd (true≢false (sym is))
       both (Read _ _) is = absurd (true≢false (sym is))
       both (Rose _ _ _) is = absurd (true≢false (sym is))
       both (Drew _ _) is = absurd (true≢false (sym is))
       both (Began _ _ _) is = absurd (true≢false (sym is))
       both (Ended _ _) is = absurd (true≢false (sym is))
-      both (Changed _ _ _ _) is = absurd (true≢false (sym is))
+      both (Changed _ _ _ _ _ _ _) is = absurd (true≢false (sym is))
 
   -- an entry of one of the lists of changes of a shard is a change of that shard, and so of the others too
   copied : (shard r : ℕ) (before : List (Item E)) (e : Item E) → shard < 16 → Follows items before e
       → (r ≡ changes_list shard) ⊎ (r ≡ room_changes shard) ⊎ (r ≡ book_changes shard) → Has (lists_of e) r → Has (lists_of e) (changes_list shard) × Has (lists_of e) (room_changes shard) × Has (lists_of e) (book_changes shard)
-  copied shard r before (Changed s p a w) low f which has = let p' = f.0.0.1 in let s' = f.0.0.0 in let same : s ≡ shard = grind (arith) in (inl (ap changes_list same), inr (inl (ap room_changes same)), inr (inr (inl (ap book_changes same))))
+  copied shard r before (Stood s t n fs w) low f which has = let s' = f.0.0.0 in let same : s ≡ shard = grind (arith) in (inr (inl (ap changes_list same)), inr (inr (inl (ap room_changes same))), inr (inr (inr (inl (ap book_changes same)))))
+  copied shard r before (Changed s p t n rm a w) low f which has = let p' = f.0.0.1 in let s' = f.0.0.0 in let same : s ≡ shard = grind (arith) in (inl (ap changes_list same), inr (inl (ap room_changes same)), inr (inr (inl (ap book_changes same))))
   copied shard r before (Found l n) low f which has = let p' = f.0.0.0 in absurd (grind (arith))
   copied shard r before (Wrote s p c n w) low f which has = let p' = f.0.0 in absurd (grind (arith))
-  copied shard r before (Purged s w) low f which has = let p' = f.0.0 in absurd (grind (arith))
+  copied shard r before (Purged s k p w) low f which has = let p' = f.0.0 in absurd (grind (arith))
   copied shard r before (Faulted _ _ _) low f which has = absurd (grind (arith))
   copied shard r before (Read p _) low f which has = let p' = f.0.0 in absurd (grind (arith))
   copied shard r before (Rose s _ _) low f which has = let p' = f.0.0 in absurd (grind (arith))

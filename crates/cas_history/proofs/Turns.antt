@@ -1,6 +1,6 @@
 -- What runs in a list of works, its beginner's diary has begun and not ended; and the other way round.
 use Rattle.std.proofs.Common.{◌%◌, ◌≤◌, ◌≡◌, ◌≢◌, ℕ, ◌⊎◌, List, [], ◌∷◌, ◌++◌, Bool, true, false, cond, refl, ap, sym, ◌∙◌, subst, inl, inr, ⊎_elim, eqb, eq-eqb, ne_eqb, true≢false}
-use Rattle.std.specs.Prelude.{Option, None, Some}
+use Rattle.std.specs.Prelude.{Option, None, Some, ◌==◌}
 use Rattle.std.specs.List.{fold}
 use Rattle.std.proofs.lemmas.Bool.Decides.{eqb_tells}
 use Rattle.std.proofs.lemmas.List.Sums.{fold-append}
@@ -8,25 +8,25 @@ use Rattle.cas_ledger.specs.Log.{Has, Follows, Legal}
 use Rattle.cas_ledger.proofs.Lists.{has_or_not}
 use Rattle.cas_ledger.proofs.Parts.{part_gets, part_stays, legal_grows}
 use Rattle.cas_history.specs.declared.item.Item.{Item}
-use Rattle.cas_history.specs.declared.item.Item.TheVariants.{Found, Wrote, Purged, Faulted, Read, Rose, Drew, Began, Ended, Changed}
-use Rattle.cas_history.specs.Last.{runs, runs_after, turn, turn_after}
+use Rattle.cas_history.specs.declared.item.Item.TheVariants.{Found, Stood, Wrote, Purged, Faulted, Read, Rose, Drew, Began, Ended, Changed}
+use Rattle.cas_history.specs.Last.{runs, runs_after, turn, turn_after, Idle}
 use Rattle.cas_history.specs.Items.{first_diary, items, listed, lists_of}
 
-some_one : (p q : ℕ) → Some p ≡ Some q → p ≡ q
+pub some_one : (p q : ℕ) → Some p ≡ Some q → p ≡ q
 some_one p q e = ap the e
   where
     the : Option ℕ → ℕ
     the None = 0
     the (Some k) = k
 
-none_some : (q : ℕ) → None ≡ Some q → ⊥
+pub none_some : (q : ℕ) → None ≡ Some q → ⊥
 none_some q e = true≢false (ap empty e)
   where
     empty : Option ℕ → Bool
     empty None = true
     empty (Some k) = false
 
-same_or : (a b : ℕ) → (a ≡ b) ⊎ (a ≢ b)
+pub same_or : (a b : ℕ) → (a ≡ b) ⊎ (a ≢ b)
 same_or a b = ⊎_elim (λ (t : (eqb a b ≡ true) × (a ≡ b)). inl t.1) (λ (f : (eqb a b ≡ false) × (a ≢ b)). inr f.1) (eqb_tells a b)
 
 module _ {E : Type 0} where
@@ -44,42 +44,45 @@ module _ {E : Type 0} where
   which works (Ended there pass) = ⊎_elim (λ (t : (eqb there works ≡ true) × (there ≡ works)). inr (inr (pass, ap (λ k. Ended k pass) t.1))) (λ (f : (eqb there works ≡ false) × (there ≢ works)). inl f.1) (eqb_tells there works)
   which works (Found _ _) = inl tt
   which works (Wrote _ _ _ _ _) = inl tt
-  which works (Purged _ _) = inl tt
+  which works (Stood _ _ _ _ _) = inl tt
+  which works (Purged _ _ _ _) = inl tt
   which works (Faulted _ _ _) = inl tt
   which works (Read _ _) = inl tt
   which works (Rose _ _ _) = inl tt
   which works (Drew _ _) = inl tt
-  which works (Changed _ _ _ _) = inl tt
+  which works (Changed _ _ _ _ _ _ _) = inl tt
 
   turn_kept : (works : ℕ) (e : Item E) → Other works e → (b : Bool) → turn_after works b e ≡ b
   turn_kept works (Began there p w) o b = ap (λ (t : Bool). cond t true b) (ne_eqb there works o)
   turn_kept works (Ended there p) o b = ap (λ (t : Bool). cond t false b) (ne_eqb there works o)
   turn_kept works (Found _ _) o b = refl
   turn_kept works (Wrote _ _ _ _ _) o b = refl
-  turn_kept works (Purged _ _) o b = refl
+  turn_kept works (Stood _ _ _ _ _) o b = refl
+  turn_kept works (Purged _ _ _ _) o b = refl
   turn_kept works (Faulted _ _ _) o b = refl
   turn_kept works (Read _ _) o b = refl
   turn_kept works (Rose _ _ _) o b = refl
   turn_kept works (Drew _ _) o b = refl
-  turn_kept works (Changed _ _ _ _) o b = refl
+  turn_kept works (Changed _ _ _ _ _ _ _) o b = refl
 
   runs_kept : (works : ℕ) (e : Item E) → Other works e → (p : Option ℕ) → runs_after works p e ≡ p
   runs_kept works (Began there q w) o p = ap (λ (t : Bool). cond t (Some q) p) (ne_eqb there works o)
   runs_kept works (Ended there q) o p = ap (λ (t : Bool). cond t None p) (ne_eqb there works o)
   runs_kept works (Found _ _) o p = refl
   runs_kept works (Wrote _ _ _ _ _) o p = refl
-  runs_kept works (Purged _ _) o p = refl
+  runs_kept works (Stood _ _ _ _ _) o p = refl
+  runs_kept works (Purged _ _ _ _) o p = refl
   runs_kept works (Faulted _ _ _) o p = refl
   runs_kept works (Read _ _) o p = refl
   runs_kept works (Rose _ _ _) o p = refl
   runs_kept works (Drew _ _) o p = refl
-  runs_kept works (Changed _ _ _ _) o p = refl
+  runs_kept works (Changed _ _ _ _ _ _ _) o p = refl
 
   -- what a list comes to, after an entry that it has, and after one that changes nothing
-  fold_gets : {S : Type 0} (f : S → Item E → S) (a : S) (r : ℕ) (before : List (Item E)) (e : Item E) → Has (lists_of e) r → fold f a (listed r (before ++ e ∷ [])) ≡ f (fold f a (listed r before)) e
+  pub fold_gets : {S : Type 0} (f : S → Item E → S) (a : S) (r : ℕ) (before : List (Item E)) (e : Item E) → Has (lists_of e) r → fold f a (listed r (before ++ e ∷ [])) ≡ f (fold f a (listed r before)) e
   fold_gets f a r before e has = ap (fold f a) (part_gets items before e r has) ∙ fold-append f a (listed r before) (e ∷ [])
 
-  fold_kept : {S : Type 0} (f : S → Item E → S) (a : S) (r : ℕ) (before : List (Item E)) (e : Item E) → ((s : S) → f s e ≡ s) → fold f a (listed r (before ++ e ∷ [])) ≡ fold f a (listed r before)
+  pub fold_kept : {S : Type 0} (f : S → Item E → S) (a : S) (r : ℕ) (before : List (Item E)) (e : Item E) → ((s : S) → f s e ≡ s) → fold f a (listed r (before ++ e ∷ [])) ≡ fold f a (listed r before)
   fold_kept f a r before e same =
       ⊎_elim
       (λ has. fold_gets f a r before e has ∙ same (fold f a (listed r before)))
@@ -177,6 +180,23 @@ module _ {E : Type 0} where
           fold_gets (runs_after works) None works before e has
           ∙ (ap (runs_after works (runs works (listed works before))) is.1 ∙ ap (λ (t : Bool). cond t None (runs works (listed works before))) (eq-eqb works works refl)) in
           absurd (none_some pass (sym over ∙ now))
+
+module _ {E : Type 0} where
+  -- what begins nothing leaves a diary without a turn
+  pub stays_idle : (list : List (Item E)) (e : Item E) → ((works : ℕ) → turn_after works false e ≡ false) → Idle list → Idle (list ++ e ∷ [])
+  stays_idle list e quiet idle works = fold-append (turn_after works) false list (e ∷ []) ∙ (ap (λ b. turn_after works b e) (idle works) ∙ quiet works)
+
+  -- a diary whose only turn has ended
+  pub idle_again : (works pass : ℕ) (list : List (Item E)) (what : E) → Idle list → Idle ((list ++ Began works pass what ∷ []) ++ Ended works pass ∷ [])
+  idle_again works pass list what idle k =
+      let begun : Item E = Began works pass what in
+      let ended : Item E = Ended works pass in
+      fold-append (turn_after {E = E} k) false (list ++ begun ∷ []) (ended ∷ [])
+      ∙ (ap (λ b. turn_after {E = E} k b ended) (fold-append (turn_after {E = E} k) false list (begun ∷ [])) ∙ over (works == k) (turn k list) (idle k))
+    where
+      over : (same was : Bool) → was ≡ false → cond same false (cond same true was) ≡ false
+      over true was none = refl
+      over false was none = none
 
 pub none_if : (o : Option ℕ) → ((p : ℕ) → o ≡ Some p → ⊥) → o ≡ None
 none_if None no_one = refl

@@ -9,6 +9,7 @@ ghost use Rattle.cas_history.specs.declared.item.Item.TheVariants.{Faulted};
 use crate::front::Session;
 use crate::item::Item;
 use crate::maker::Fresh;
+use crate::numbers::Files;
 use cas_ledger::{Pass, Store, Tells, accept_alone, look};
 use std::marker::PhantomData;
 
@@ -84,5 +85,20 @@ impl<E, J: Store> Faults<E, J> {
         ensures first { last_first (listed faults_list session.old.pass.saw) ≢ 0 → last_first (listed faults_list session.old.pass.saw) ≡ self.old.first }
     {
         look(&mut self.pass, &mut session.pass, 0);
+    }
+
+    /// Who writes files gets to know what the room said last: its count of faults is the answer.
+    pub fn tell_files(&mut self, files: &mut Files<E, J>) -> u64
+        ensures same { (self.new.number ≡ self.old.number) × (self.new.committed ≡ self.old.committed) × (self.new.first ≡ self.old.first)
+            × (listed faults_list self.new.pass.saw ≡ listed faults_list self.old.pass.saw) }
+        ensures seen { (files.new.pass.saw ≡ self.new.pass.saw) × IsPrefix self.old.pass.saw self.new.pass.saw
+            × IsPrefix files.old.pass.saw self.new.pass.saw }
+        ensures files { (files.new.list ≡ files.old.list)
+            × (listed files.old.list files.new.pass.saw ≡ listed files.old.list files.old.pass.saw) }
+        ensures number { (result ≡ self.old.number) × (result ≡ last_fault (listed faults_list files.new.pass.saw)) }
+        ensures known { last_fault (listed faults_list files.old.pass.saw) ≤ result }
+    {
+        look(&mut self.pass, &mut files.pass, 0);
+        self.number
     }
 }

@@ -4,7 +4,7 @@ ghost use mathlib.Core.List.{IsPrefix};
 ghost use Rattle.cas_ledger.specs.Hands.{Owns};
 ghost use Rattle.cas_history.specs.Items.{items, listed, log_list, front_list, first_diary};
 ghost use Rattle.cas_history.specs.Last.{last_number, last_call};
-ghost use Rattle.cas_history.specs.declared.item.Item.TheVariants.{Found, Wrote, Purged};
+ghost use Rattle.cas_history.specs.declared.item.Item.TheVariants.{Found, Wrote};
 
 use crate::item::Item;
 use crate::maker::Fresh;
@@ -35,6 +35,7 @@ pub struct Session<E, J: Store> {
     pub(crate) list: u64,
     calls: u64,
     ghost owns: { (first_diary ≤ list) × Owns pass list },
+    ghost alone: { pass.lists ≡ list ∷ [] },
     ghost even: { list % 2 ≡ 0 },
     ghost last: { calls ≡ last_call (listed list pass.saw) },
 }
@@ -67,19 +68,6 @@ impl<'a, E, T: Tells<E>> Tells<Item<E>> for Writing<'a, E, T> {
     ghost use Rattle.cas_history.specs.declared.item.Item.TheVariants.{Wrote};
 
     ghost entry = { λ w. Wrote w.shard w.session w.call w.number (T.entry w.what.now) };
-}
-
-#[derive(Drop)]
-struct Purging<'a, E, T> {
-    shard: u64,
-    what: &'a T,
-    of: PhantomData<E>,
-}
-
-impl<'a, E, T: Tells<E>> Tells<Item<E>> for Purging<'a, E, T> {
-    ghost use Rattle.cas_history.specs.declared.item.Item.TheVariants.{Purged};
-
-    ghost entry = { λ w. Purged w.shard (T.entry w.what.now) };
 }
 
 impl<E, J: Store> Log<E, J> {
@@ -121,7 +109,7 @@ impl<E, J: Store> Front<E, J> {
 }
 
 impl<E, J: Store> Session<E, J> {
-    pub fn new(fresh: Fresh<E, J>) -> Session<E, J>
+    pub(crate) fn new(fresh: Fresh<E, J>) -> Session<E, J>
         requires { (first_diary ≤ fresh.list) × (fresh.list % 2 ≡ 0) }
         ensures { (result.list ≡ fresh.list) × (result.calls ≡ 0) × (listed fresh.list result.pass.saw ≡ []) }
     {
@@ -178,18 +166,4 @@ pub fn write<E, J: Store, T: Tells<E>>(
     front.number += 1;
     session.calls += 1;
     front.number
-}
-
-/// A purge is decided: it comes into the shard's list.
-pub fn purge<E, J: Store, T: Tells<E>>(front: &mut Front<E, J>, what: &T)
-    ensures front { listed (front_list front.old.shard) front.new.pass.saw ≡ listed (front_list front.old.shard) front.old.pass.saw
-        ++ Purged front.old.shard (T.entry what.now) ∷ [] }
-    ensures same { (front.new.number ≡ front.old.number) × (front.new.shard ≡ front.old.shard) × IsPrefix front.old.pass.saw front.new.pass.saw }
-{
-    let purging = Purging {
-        shard: front.shard,
-        what,
-        of: PhantomData,
-    };
-    accept_alone(&mut front.pass, 0, &purging);
 }

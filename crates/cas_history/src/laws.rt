@@ -1,16 +1,18 @@
 //! What holds of two seats that meet, whatever ran before, in whichever thread.
-ghost use Rattle.std.specs.Prelude.{◌≡◌, ℕ, ◌%◌, ◌<◌, ◌≤◌, ◌⊎◌, false, None};
+ghost use Rattle.std.specs.Prelude.{◌≡◌, ℕ, ◌%◌, ◌<◌, ◌≤◌, [], ◌∷◌, ◌++◌, true, None, Some};
 ghost use mathlib.Core.List.{IsPrefix};
 ghost use Rattle.cas_history.specs.Items.{listed, log_list, front_list, changes_list, room_changes, book_changes, first_diary};
-ghost use Rattle.cas_ledger.specs.Hands.{shares};
-ghost use Rattle.cas_history.specs.Last.{last_number, turn};
-ghost use Rattle.cas_history.specs.Laws.{writes_of, writes_in};
+ghost use Rattle.cas_ledger.specs.Hands.{Owns};
+ghost use Rattle.cas_history.specs.Last.{last_number, turn, Idle};
+ghost use Rattle.cas_history.specs.Laws.{writes_of, writes_in, Stands};
+ghost use Rattle.cas_history.specs.declared.item.Item.TheVariants.{Began};
 
 use crate::changes::{BookCopy, Changes, RoomCopy};
 use crate::front::{Front, Log, Session};
+use crate::item::Item;
 use crate::maker::Maker;
 use crate::works::Works;
-use cas_ledger::{Store, look, look_three};
+use cas_ledger::{Kept, Store, Tells, join, look, look_three};
 
 /// A session is shown a shard. The answer is the number of the shard's last mutation, which isn't below one
 /// that the session was shown; from here on the session has the shard's list.
@@ -64,19 +66,66 @@ pub fn book_stands<E, J: Store>(changes: &mut Changes<E, J>, book: &mut BookCopy
     look(&mut changes.pass, &mut book.pass, 0);
 }
 
-/// In a lone line nothing runs: where each diary is the maker's, or this session's, and none of them has the
-/// turn of these works, `begin` is never busy.
+/// In a lone line nothing runs: where all other sessions have ended, and this one has no turn.
 pub fn nothing_runs<E, J: Store>(
     works: &mut Works<E, J>,
     maker: &mut Maker<E, J>,
     session: &mut Session<E, J>,
 )
-    requires whole { (p : ℕ) → first_diary ≤ p → p % 2 ≡ 0 → (0 < shares p maker.old.pass) ⊎ (p ≡ session.old.list) }
-    requires maker { (p : ℕ) → 0 < shares p maker.old.pass → turn works.old.list (listed p maker.old.pass.saw) ≡ false }
-    requires session { turn works.old.list (listed session.old.list session.old.pass.saw) ≡ false }
+    requires lone { maker.old.out ≡ 1 }
+    requires idle { Idle (listed session.old.list session.old.pass.saw) }
     ensures none { works.old.running ≡ None }
-    ensures same { (works.new.running ≡ works.old.running) × (works.new.list ≡ works.old.list) × (maker.new.next ≡ maker.old.next)
-        × (session.new.list ≡ session.old.list) × (session.new.calls ≡ session.old.calls) }
+    ensures works { (works.new.running ≡ works.old.running) × (works.new.list ≡ works.old.list)
+        × (listed works.old.list works.new.pass.saw ≡ listed works.old.list works.old.pass.saw) }
+    ensures maker { (maker.new.next ≡ maker.old.next) × (maker.new.out ≡ maker.old.out) }
+    ensures session { (session.new.list ≡ session.old.list) × (session.new.calls ≡ session.old.calls)
+        × (listed session.old.list session.new.pass.saw ≡ listed session.old.list session.old.pass.saw) }
+    ensures seen { (session.new.pass.saw ≡ works.new.pass.saw) × IsPrefix works.old.pass.saw works.new.pass.saw
+        × IsPrefix session.old.pass.saw works.new.pass.saw }
 {
     look_three(&mut works.pass, &mut maker.pass, &mut session.pass);
+}
+
+/// In a lone line a flush or a compaction begins, and nothing is ever in its way: whoever has the right to
+/// make passes has it while no other session is out.
+pub fn begin_alone<E, J: Store, T: Tells<E>>(
+    works: &mut Works<E, J>,
+    maker: &mut Maker<E, J>,
+    session: &mut Session<E, J>,
+    what: &T,
+)
+    requires lone { maker.old.out ≡ 1 }
+    requires idle { Idle (listed session.old.list session.old.pass.saw) }
+    ensures runs { (works.old.running ≡ None) × (works.new.running ≡ Some session.old.list) × (works.new.list ≡ works.old.list) }
+    ensures list { listed works.old.list works.new.pass.saw ≡ listed works.old.list works.old.pass.saw
+        ++ Began works.old.list session.old.list (T.entry what.now) ∷ [] }
+    ensures diary { listed session.old.list session.new.pass.saw ≡ listed session.old.list session.old.pass.saw
+        ++ Began works.old.list session.old.list (T.entry what.now) ∷ [] }
+    ensures turn { turn works.old.list (listed session.old.list session.new.pass.saw) ≡ true }
+    ensures same { (session.new.list ≡ session.old.list) × (session.new.calls ≡ session.old.calls)
+        × (maker.new.next ≡ maker.old.next) × (maker.new.out ≡ maker.old.out) }
+{
+    nothing_runs(works, maker, session);
+    let began = works.begin(session, what);
+    prove!(began);
+}
+
+/// One history, whatever ran, in whichever threads: what the room's list has to do with all others.
+pub fn history_stands<E, J: Store>(log: &Log<E, J>)
+    ensures law { Stands (listed log_list log.now.pass.saw) (λ shard. listed (front_list shard) log.now.pass.saw) (λ session. listed session log.now.pass.saw) }
+{
+    log.pass.stands();
+}
+
+/// A run has ended: its one history, in which the room's list and the diaries of all sessions that have
+/// ended are as they were.
+pub fn conclude<E, J: Store>(maker: Maker<E, J>, log: Log<E, J>) -> Kept<Item<E>>
+    ensures room { listed log_list result.saw ≡ listed log_list log.pass.saw }
+    ensures diaries { (p : ℕ) → Owns maker.pass p → listed p result.saw ≡ listed p maker.pass.saw }
+    ensures law { Stands (listed log_list result.saw) (λ shard. listed (front_list shard) result.saw) (λ session. listed session result.saw) }
+    ensures all { maker.out ≡ 0 → (p : ℕ) → first_diary ≤ p → p % 2 ≡ 0 → Idle (listed p result.saw) }
+{
+    let mut pass = maker.pass;
+    join(&mut pass, log.pass);
+    pass.kept()
 }

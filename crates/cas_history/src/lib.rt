@@ -12,12 +12,18 @@ mod moments;
 mod numbers;
 mod works;
 
-pub use changes::{BookCopy, Changes, RoomCopy, install};
+pub use changes::{
+    BookCopy, Change, Changes, RoomCopy, Standing, files_stand, held_is_unlisted, install,
+    list_found,
+};
 pub use faults::Faults;
-pub use front::{Front, Log, Session, purge, write};
+pub use front::{Front, Log, Session, write};
 pub use item::Item;
-pub use laws::{book_stands, nothing_runs, room_stands, session_stands, shard_stands, show};
+pub use laws::{
+    begin_alone, book_stands, conclude, history_stands, nothing_runs, room_stands, session_stands,
+    shard_stands, show,
+};
 pub use maker::{Fresh, Maker};
 pub use moments::Moments;
-pub use numbers::Numbers;
+pub use numbers::{Files, Numbers, held_once};
 pub use works::Works;

@@ -2,14 +2,14 @@
 ghost use Rattle.std.specs.Prelude.{◌≡◌, ◌≢◌, ◌≤◌, ◌%◌, Bool, true, false, None, Some, [], ◌∷◌, ◌++◌, OnErr, IfSome, IfNone};
 ghost use mathlib.Core.List.{IsPrefix};
 ghost use Rattle.cas_ledger.specs.Hands.{Owns};
-ghost use Rattle.cas_history.specs.Items.{listed, first_diary};
-ghost use Rattle.cas_history.specs.Last.{runs, turn};
-ghost use Rattle.cas_history.specs.declared.item.Item.TheVariants.{Began, Ended};
+ghost use Rattle.cas_history.specs.Items.{listed, first_diary, front_list};
+ghost use Rattle.cas_history.specs.Last.{runs, turn, decided};
+ghost use Rattle.cas_history.specs.declared.item.Item.TheVariants.{Began, Ended, Purged};
 
-use crate::front::Session;
+use crate::front::{Front, Session};
 use crate::item::Item;
 use crate::maker::Fresh;
-use cas_ledger::{Pass, Store, Tells, accept_two, look};
+use cas_ledger::{Pass, Store, Tells, accept_three, accept_two, look};
 use std::marker::PhantomData;
 
 /// A shard's seat for the flushes of one table, or for its compactions. It has the diary of who flushes or
@@ -39,6 +39,21 @@ impl<'a, E, T: Tells<E>> Tells<Item<E>> for Beginning<'a, E, T> {
 }
 
 #[derive(Drop)]
+struct Purging<'a, E, T> {
+    shard: u64,
+    works: u64,
+    pass: u64,
+    what: &'a T,
+    of: PhantomData<E>,
+}
+
+impl<'a, E, T: Tells<E>> Tells<Item<E>> for Purging<'a, E, T> {
+    ghost use Rattle.cas_history.specs.declared.item.Item.TheVariants.{Purged};
+
+    ghost entry = { λ p. Purged p.shard p.works p.pass (T.entry p.what.now) };
+}
+
+#[derive(Drop)]
 struct Ending<E> {
     works: u64,
     pass: u64,
@@ -52,7 +67,7 @@ impl<E> Tells<Item<E>> for Ending<E> {
 }
 
 impl<E, J: Store> Works<E, J> {
-    pub fn new(fresh: Fresh<E, J>) -> Works<E, J>
+    pub(crate) fn new(fresh: Fresh<E, J>) -> Works<E, J>
         requires { (first_diary ≤ fresh.list) × (fresh.list % 2 ≡ 1) }
         ensures { (result.list ≡ fresh.list) × (result.running ≡ None) }
     {
@@ -67,6 +82,8 @@ impl<E, J: Store> Works<E, J> {
     pub fn begin<T: Tells<E>>(&mut self, session: &mut Session<E, J>, what: &T) -> bool
         ensures yes_ { result ≡ true → (self.old.running ≡ None) × (self.new.running ≡ Some session.old.list) }
         ensures list { result ≡ true → listed self.old.list self.new.pass.saw ≡ listed self.old.list self.old.pass.saw
+            ++ Began self.old.list session.old.list (T.entry what.now) ∷ [] }
+        ensures diary { result ≡ true → listed session.old.list session.new.pass.saw ≡ listed session.old.list session.old.pass.saw
             ++ Began self.old.list session.old.list (T.entry what.now) ∷ [] }
         ensures turn { result ≡ true → turn self.old.list (listed session.old.list session.new.pass.saw) ≡ true }
         ensures busy { result ≡ false → (self.old.running ≢ None) × (self.new.running ≡ self.old.running)
@@ -90,12 +107,55 @@ impl<E, J: Store> Works<E, J> {
         true
     }
 
+    /// Who began it decides a purge, which comes into the shard's list: the turn, which its diary has, is all
+    /// that it asks.
+    pub fn decide<T: Tells<E>>(
+        &mut self,
+        front: &mut Front<E, J>,
+        session: &mut Session<E, J>,
+        what: &T,
+    )
+        requires turn { turn self.old.list (listed session.old.list session.old.pass.saw) ≡ true }
+        ensures runs { (self.old.running ≡ Some session.old.list) × (self.new.running ≡ self.old.running) × (self.new.list ≡ self.old.list) }
+        ensures list { listed self.old.list self.new.pass.saw ≡ listed self.old.list self.old.pass.saw
+            ++ Purged front.old.shard self.old.list session.old.list (T.entry what.now) ∷ [] }
+        ensures decided { decided self.old.list (listed self.old.list self.new.pass.saw)
+            ≡ decided self.old.list (listed self.old.list self.old.pass.saw) ++ T.entry what.now ∷ [] }
+        ensures front { (front.new.number ≡ front.old.number) × (front.new.shard ≡ front.old.shard)
+            × (listed (front_list front.old.shard) front.new.pass.saw ≡ listed (front_list front.old.shard) front.old.pass.saw
+            ++ Purged front.old.shard self.old.list session.old.list (T.entry what.now) ∷ []) }
+        ensures diary { (session.new.list ≡ session.old.list) × (session.new.calls ≡ session.old.calls)
+            × (listed session.old.list session.new.pass.saw ≡ listed session.old.list session.old.pass.saw
+            ++ Purged front.old.shard self.old.list session.old.list (T.entry what.now) ∷ []) }
+        ensures seen { (session.new.pass.saw ≡ self.new.pass.saw) × (front.new.pass.saw ≡ self.new.pass.saw)
+            × IsPrefix self.old.pass.saw self.new.pass.saw × IsPrefix front.old.pass.saw self.new.pass.saw
+            × IsPrefix session.old.pass.saw self.new.pass.saw }
+    {
+        look(&mut self.pass, &mut session.pass, 0);
+        let purging = Purging {
+            shard: front.shard,
+            works: self.list,
+            pass: session.list,
+            what,
+            of: PhantomData,
+        };
+        accept_three(
+            &mut front.pass,
+            &mut self.pass,
+            &mut session.pass,
+            0,
+            &purging,
+        );
+    }
+
     /// Who began it ends it: the turn, which its diary has, is all that it asks.
     pub fn end(&mut self, session: &mut Session<E, J>)
         requires turn { turn self.old.list (listed session.old.list session.old.pass.saw) ≡ true }
         ensures was { self.old.running ≡ Some session.old.list }
         ensures none { (self.new.running ≡ None) × (self.new.list ≡ self.old.list) }
         ensures list { listed self.old.list self.new.pass.saw ≡ listed self.old.list self.old.pass.saw ++ Ended self.old.list session.old.list ∷ [] }
+        ensures diary { listed session.old.list session.new.pass.saw ≡ listed session.old.list session.old.pass.saw
+            ++ Ended self.old.list session.old.list ∷ [] }
         ensures turn { (turn self.old.list (listed session.old.list session.new.pass.saw) ≡ false) × (session.new.list ≡ session.old.list)
             × (session.new.calls ≡ session.old.calls) }
         ensures seen { (session.new.pass.saw ≡ self.new.pass.saw) × IsPrefix self.old.pass.saw self.new.pass.saw

@@ -70,6 +70,13 @@ impl<E: Entries, J: Store> Model for Group<E, J> {
 }
 
 impl<E: Entries, J: Store> Pass<E, J> {
+    /// What a pass saw is a log by the rules: each entry may follow those before it.
+    pub fn stands(&self)
+        ensures { Legal E.rules self.now.saw }
+    {
+        let _table = &self.table;
+    }
+
     /// All that the pass holds, for a while.
     pub(crate) fn lend(&mut self) -> Group<E, J>
         ensures { (self.new ≡ lent self.old) × (result ≡ self.old ∷ []) }

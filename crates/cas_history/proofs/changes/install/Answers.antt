@@ -9,7 +9,7 @@ returns-clause-room g c =
     let changes = c.args.changes.now in
     let room = c.args.room.now in
     let r = room_changes changes.shard in
-    let hands = changes.pass ∷ room.pass ∷ c.args.book.now.pass ∷ c.args.session.now.pass ∷ [] in
+    let hands = changes.pass ∷ room.pass ∷ c.args.book.now.pass ∷ c.args.files.now.pass ∷ [] in
     let came = c.accept_four.ensures in (
       c.requires.shard.0,
       ap (λ h. listed r h.saw) came.two
@@ -21,7 +21,7 @@ returns-clause-book g c =
     let changes = c.args.changes.now in
     let book = c.args.book.now in
     let r = book_changes changes.shard in
-    let hands = changes.pass ∷ c.args.room.now.pass ∷ book.pass ∷ c.args.session.now.pass ∷ [] in
+    let hands = changes.pass ∷ c.args.room.now.pass ∷ book.pass ∷ c.args.files.now.pass ∷ [] in
     let came = c.accept_four.ensures in (
       c.requires.shard.1,
       ap (λ h. listed r h.saw) came.three

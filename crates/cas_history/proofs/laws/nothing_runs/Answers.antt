@@ -1,25 +1,18 @@
-use Rattle.std.proofs.Common.{◌≡◌, ℕ, ◌+◌, ◌<◌, ◌≤◌, ◌∙◌, Bool, cond, Some, arith, le-leb, ap, sym, subst, ⊎_elim, true≢false}
-use Rattle.cas_ledger.specs.Hands.{shares, times, beyond}
-use Rattle.cas_ledger.specs.declared.hand.Hand.{Hand}
+use Rattle.std.proofs.Common.{◌≡◌, ℕ, ◌+◌, ◌<◌, ◌≤◌, ◌∙◌, arith, ap, sym, subst, ⊎_elim, true≢false}
+use Rattle.cas_ledger.specs.Hands.{shares}
 use Rattle.cas_ledger.proofs.Parts.{owned}
 use Rattle.cas_history.specs.Items.{items, listed}
 use Rattle.cas_history.specs.Last.{runs, turn}
+use Rattle.cas_history.specs.Inner.Homes.{Homely}
+use Rattle.cas_history.proofs.Homes.{homely_sees, others_home}
 use Rattle.cas_history.proofs.Turns.{running, none_if}
 use Rattle.cas_history.proofs.laws.nothing_runs.Goals as goal
-
-makes_shares : {E : Type 0} (h : Hand E) (n r : ℕ) → h.from ≡ Some n → n ≤ r → 0 < shares r h
-makes_shares h n r makes le =
-    let one : beyond (Some n) r ≡ 1 = ap (λ (t : Bool). cond {A = ℕ} t 1 0) (le-leb n r le) in
-    subst (λ p. 0 < times r h.lists + beyond p r) (sym makes) (omega arith)
 
 pub invariant_of-maker : goal.invariant_of-maker
 invariant_of-maker g c =
     let maker = c.args.maker.now in
     let shown = c.look_three.ensures in
-    record {
-      makes = ap (λ h. h.from) shown.two ∙ maker.makes;
-      empty = λ r le. ap (λ h. listed r h.saw) shown.two ∙ (sym (shown.known.1.0.1 r (makes_shares maker.pass maker.next r maker.makes le)) ∙ maker.empty r le);
-    }
+    record { home = subst (Homely maker.next maker.out) (sym shown.two) (homely_sees maker.next maker.out _ maker.pass maker.home shown.known.1.0) }
 
 pub returns-clause-none : goal.returns-clause-none
 returns-clause-none g c =
@@ -35,6 +28,6 @@ returns-clause-none g c =
     ∙ none_if (runs works.list (listed works.list log)) (λ p is.
     let who = running works.list p log shown.legal is in
     ⊎_elim
-    (λ (mine : 0 < shares p maker.pass). true≢false (sym who.2 ∙ (sym (ap (turn works.list) (shown.known.1.0.1 p mine)) ∙ c.requires.maker p mine)))
-    (λ (same : p ≡ session.list). true≢false (sym who.2 ∙ (ap (λ (k : ℕ). turn works.list (listed k log)) same ∙ (sym (ap (turn works.list) diary) ∙ c.requires.session))))
-    (c.requires.whole p who.0 who.1)))
+    (λ (mine : 0 < shares p maker.pass). true≢false (sym who.2 ∙ (sym (ap (turn works.list) (shown.known.1.0.1 p mine)) ∙ maker.home.quiet p who.0 who.1 mine works.list)))
+    (λ (same : p ≡ session.list). true≢false (sym who.2 ∙ (ap (λ (k : ℕ). turn works.list (listed k log)) same ∙ (sym (ap (turn works.list) diary) ∙ c.requires.idle works.list))))
+    (others_home maker.next maker.out session.list maker.pass session.pass maker.home c.requires.lone (λ r. let a = shown.apart r in omega arith) session.owns.0 session.even session.owns.1 p who.0 who.1)))

@@ -1,24 +1,37 @@
-use Rattle.std.proofs.Common.{◌≡◌, ℕ, ◌+◌, ◌<◌, ◌≤◌, ◌∙◌, Bool, cond, Some, arith, le-leb, ap, sym, subst}
-use Rattle.cas_ledger.specs.declared.hand.Hand.{Hand}
-use Rattle.cas_ledger.specs.Hands.{shares, times, beyond, either_right}
+use Rattle.std.proofs.Common.{◌≡◌, ℕ, ◌+◌, ◌-◌, ◌<◌, ◌≤◌, ◌∙◌, ap, sym, subst, arith}
+use Rattle.cas_ledger.specs.Hands.{times}
 use Rattle.cas_ledger.proofs.Lists.{times_append}
 use Rattle.cas_ledger.proofs.Parts.{owned}
+use Rattle.cas_history.specs.Inner.Homes.{Homely}
 use Rattle.cas_history.specs.Items.{items}
+use Rattle.cas_history.proofs.Homes.{some_out, homely_keeps}
 use Rattle.cas_history.proofs.maker.Maker.keep.Goals as goal
 
-makes_shares : {E : Type 0} (h : Hand E) (n r : ℕ) → h.from ≡ Some n → n ≤ r → 0 < shares r h
-makes_shares h n r makes le =
-    let one : beyond (Some n) r ≡ 1 = ap (λ (t : Bool). cond {A = ℕ} t 1 0) (le-leb n r le) in
-    subst (λ p. 0 < times r h.lists + beyond p r) (sym makes) (omega arith)
+pub overflow_sub-self : goal.overflow_sub-self
+overflow_sub-self g c =
+    let self = c.args.self.now in
+    let session = c.args.session in
+    let some = some_out self.next self.out session.list self.pass session.pass self.home c.join.ensures.apart session.owns.0 session.even session.owns.1 in
+    omega arith
 
 pub invariant_of-self : goal.invariant_of-self
 invariant_of-self g c =
     let self = c.args.self.now in
-    let kept = c.join.ensures in
+    let session = c.args.session in
+    let join = c.join.ensures in
+    let some = some_out self.next self.out session.list self.pass session.pass self.home join.apart session.owns.0 session.even session.owns.1 in
+    let less : self.out - 1 + 1 ≡ self.out = omega arith in
     record {
-      makes = ap (λ h. h.from) kept.keeper ∙ ap (λ p. either_right p c.args.session.pass.from) self.makes;
-      empty = λ r le. sym (kept.known.0.1 r (makes_shares self.pass self.next r self.makes le)) ∙ self.empty r le;
+      home = subst (Homely self.next (self.out - 1)) (sym join.keeper)
+          (homely_keeps self.next self.out (self.out - 1) session.list c.join.new.keeper.saw self.pass session.pass self.home less join.known.0 join.known.1.0 join.apart session.owns.0 session.even session.alone session.owns.1 c.requires.idle);
     }
+
+pub returns-clause-out : goal.returns-clause-out
+returns-clause-out g c =
+    let self = c.args.self.now in
+    let session = c.args.session in
+    let some = some_out self.next self.out session.list self.pass session.pass self.home c.join.ensures.apart session.owns.0 session.even session.owns.1 in
+    omega arith
 
 pub returns-clause-owns : goal.returns-clause-owns
 returns-clause-owns g c =
