@@ -1,3 +1,5 @@
 pub mod RowViews
 pub mod Answering
 pub mod Walking
+pub mod Passing
+pub mod Keeping

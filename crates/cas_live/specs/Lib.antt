@@ -1,3 +1,5 @@
 pub mod Views
 pub mod Walks
+pub mod Rows
+pub mod Inner
 pub mod Laws

@@ -2,8 +2,10 @@
 #![tactic(auto)]
 
 mod laws;
+mod live_rows;
 mod viewer;
 mod views;
 
 pub use laws::{streams_answer, walks_show};
+pub use live_rows::LiveRows;
 pub use viewer::Viewer;

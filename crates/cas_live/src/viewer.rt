@@ -1,6 +1,6 @@
 //! The way through the fragments of a partition: what each of them shows.
 
-ghost use Rattle.std.specs.Prelude.{◌≡◌, ◌≤ℤ◌, pos, None, [], ◌∷◌, List, IfOk, OnOk};
+ghost use Rattle.std.specs.Prelude.{◌≡◌, ◌≤ℤ◌, pos, None, [], ◌∷◌, ◌++◌, List, IfOk, OnOk};
 ghost use Rattle.std.specs.List.{cons_option};
 ghost use Rattle.std.specs.Option.{option_to_list};
 ghost use Rattle.cas_atoms.specs.Answers.{AreNumbered, is_whole};
@@ -79,6 +79,8 @@ pub struct Viewer {
     moment: i64,
     shared: Vec<Atom>,
     in_force: Option<Deletion>,
+    ghost begun: { pos 0 ≤ℤ moment },
+    ghost columns: { AreNumbered query.columns },
 }
 
 impl Viewer {
@@ -90,27 +92,57 @@ impl Viewer {
         query: Query,
         moment: i64,
     ) -> Result<Self, AllocError>
+        requires begun { pos 0 ≤ℤ moment }
+        requires columns { AreNumbered query.columns }
         ensures query { IfOk result (λ v. v.query ≡ query) }
         ensures moment { IfOk result (λ v. v.moment ≡ moment) }
         ensures shared { IfOk result (λ v. v.shared.items ≡ atom_of PartitionDeletion top) }
         ensures in_force { IfOk result (λ v. v.in_force ≡ None) }
     {
-        let mut shared = Vec::new(alloc);
-        if let Some(d) = top {
-            shared.push(Atom::PartitionDeletion(d))?;
-        }
-        Ok(Viewer {
+        let mut viewer = Viewer::blank(alloc, query, moment);
+        viewer.enter(top)?;
+        Ok(viewer)
+    }
+
+    // A viewer that wasn't told yet what the deletion of the whole is.
+    pub(crate) fn blank(alloc: Global, query: Query, moment: i64) -> Self
+        requires begun { pos 0 ≤ℤ moment }
+        requires columns { AreNumbered query.columns }
+        ensures query { result.query ≡ query }
+        ensures moment { result.moment ≡ moment }
+        ensures shared { result.shared.items ≡ [] }
+        ensures in_force { result.in_force ≡ None }
+    {
+        Viewer {
             query,
             moment,
-            shared,
+            shared: Vec::new(alloc),
             in_force: None,
-        })
+        }
+    }
+
+    // All rows share this deletion, or none.
+    pub(crate) fn enter(&mut self, top: Option<Deletion>) -> Result<(), AllocError>
+        ensures query { self.new.query ≡ self.old.query }
+        ensures moment { self.new.moment ≡ self.old.moment }
+        ensures shared { OnOk result (self.new.shared.items ≡ self.old.shared.items ++ atom_of PartitionDeletion top) }
+        ensures in_force { self.new.in_force ≡ self.old.in_force }
+    {
+        if let Some(d) = top {
+            self.shared.push(Atom::PartitionDeletion(d))?;
+        }
+        Ok(())
+    }
+
+    // Whether rows are wanted in the reverse of the table's order.
+    pub(crate) fn is_reversed(&self) -> bool
+        ensures { result ≡ self.now.query.reversed }
+    {
+        self.query.reversed
     }
 
     /// What the next fragment shows: a row, where it answers.
     pub fn take(&mut self, alloc: Global, fragment: Fragment) -> Result<Option<LiveRow>, AllocError>
-        requires begun { pos 0 ≤ℤ self.old.moment }
-        requires columns { AreNumbered self.old.query.columns }
         ensures query { self.new.query ≡ self.old.query }
         ensures moment { self.new.moment ≡ self.old.moment }
         ensures rows { IfOk result (λ r. (fs : List Fragment) → walk self.old.query self.old.moment self.old.shared.items self.old.in_force (fragment ∷ fs)
@@ -139,8 +171,6 @@ impl Viewer {
 
     /// Where no row answered: the static row, if the query wants it and it has an alive cell.
     pub fn static_alone(&self, alloc: Global) -> Result<Option<LiveRow>, AllocError>
-        requires begun { pos 0 ≤ℤ self.now.moment }
-        requires columns { AreNumbered self.now.query.columns }
         ensures { IfOk result (λ r. option_to_list r ≡ or_static self.now.query self.now.moment self.now.shared.items []) }
     {
         if !is_whole(&self.query.slice) {

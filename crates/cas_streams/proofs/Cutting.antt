@@ -94,7 +94,7 @@ filter_twice t u h (x ∷ xs) =
     is_not true f = absurd (f refl)
     is_not false f = refl
 
-filter_append : {X : Type 0} (t : X → Bool) (xs ys : List X) → filter t (xs ++ ys) ≡ filter t xs ++ filter t ys
+pub filter_append : {X : Type 0} (t : X → Bool) (xs ys : List X) → filter t (xs ++ ys) ≡ filter t xs ++ filter t ys
 filter_append t [] ys = refl
 filter_append t (x ∷ xs) ys = ap (λ rest. cond (t x) (x ∷ rest) rest) (filter_append t xs ys) ∙ kept (t x)
   where
@@ -102,7 +102,7 @@ filter_append t (x ∷ xs) ys = ap (λ rest. cond (t x) (x ∷ rest) rest) (filt
     kept true = refl
     kept false = refl
 
-filter_none : {X : Type 0} (t : X → Bool) (xs : List X) → AllByRecursion (λ x. t x ≡ false) xs → filter t xs ≡ []
+pub filter_none : {X : Type 0} (t : X → Bool) (xs : List X) → AllByRecursion (λ x. t x ≡ false) xs → filter t xs ≡ []
 filter_none t [] a = refl
 filter_none t (x ∷ xs) a = ap (λ b. cond b (x ∷ filter t xs) (filter t xs)) a.0 ∙ filter_none t xs a.1
 
@@ -117,12 +117,12 @@ after_none : (t : Cut → Bool) (now : Option Deletion) (ms : List Change) → A
 after_none t now [] a = refl
 after_none t now (m ∷ ms) a = ap (λ b. after t (cond b m.to now) ms) a.0 ∙ after_none t now ms a.1
 
-after_append : (t : Cut → Bool) (now : Option Deletion) (ms ns : List Change) → after t now (ms ++ ns) ≡ after t (after t now ms) ns
+pub after_append : (t : Cut → Bool) (now : Option Deletion) (ms ns : List Change) → after t now (ms ++ ns) ≡ after t (after t now ms) ns
 after_append t now [] ns = refl
 after_append t now (m ∷ ms) ns = after_append t (cond (t m.at) m.to now) ms ns
 
 -- the same tests say the same
-after_alike : (t u : Cut → Bool) (now : Option Deletion) (ms : List Change) → AllByRecursion (λ n. t n.at ≡ u n.at) ms → after t now ms ≡ after u now ms
+pub after_alike : (t u : Cut → Bool) (now : Option Deletion) (ms : List Change) → AllByRecursion (λ n. t n.at ≡ u n.at) ms → after t now ms ≡ after u now ms
 after_alike t u now [] a = refl
 after_alike t u now (m ∷ ms) a = ap (λ b. after t (cond b m.to now) ms) a.0 ∙ after_alike t u (cond (u m.at) m.to now) ms a.1
 
@@ -180,7 +180,7 @@ differ_append now (m ∷ ms) ns a b = (a.0, differ_append m.to ms ns a.1 b)
 
 -- ---- changes of fragments
 
-changes_append : (fs gs : List Fragment) → changes (fs ++ gs) ≡ changes fs ++ changes gs
+pub changes_append : (fs gs : List Fragment) → changes (fs ++ gs) ≡ changes fs ++ changes gs
 changes_append [] gs = refl
 changes_append (fragment.Static cs ∷ fs) gs = changes_append fs gs
 changes_append (fragment.Row r ∷ fs) gs = changes_append fs gs

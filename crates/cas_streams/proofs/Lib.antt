@@ -16,3 +16,4 @@ pub mod Single
 pub mod Winning
 pub mod Written
 pub mod Cutting
+pub mod Halves

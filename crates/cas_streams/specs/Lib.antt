@@ -8,3 +8,4 @@ pub mod Merged
 pub mod Sources
 pub mod Slices
 pub mod Laws
+pub mod MergeLaws

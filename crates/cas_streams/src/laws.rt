@@ -2,6 +2,7 @@
 
 ghost use Rattle.cas_streams.specs.Laws.{RowsSayAll, SameByRows, CutKeepsTheSlice, CutIsWellFormed};
 ghost use Rattle.cas_streams.specs.Laws.{MergeIsJoin, MergeIsWellFormed, MergeIsMerged};
+ghost use Rattle.cas_streams.specs.MergeLaws.{MergeByPlaces, MergeInventsNothing, SameWritesAlike};
 
 /// At each row an ordered stream says what its top, the deletion in force there and the row's own
 /// fragments say, and nothing more.
@@ -38,4 +39,19 @@ pub fn merge_is_well_formed()
 /// And each write in it is the winner where it is written.
 pub fn merge_is_merged()
     ensures { MergeIsMerged }
+{}
+
+/// On its way a merge has lost nothing: by places, what was given and what is to come are the join.
+pub fn merge_by_places()
+    ensures { MergeByPlaces }
+{}
+
+/// It writes nothing that no stream writes there.
+pub fn merge_invents_nothing()
+    ensures { MergeInventsNothing }
+{}
+
+/// What is the same as a merged stream has its writes.
+pub fn same_writes_alike()
+    ensures { SameWritesAlike }
 {}
