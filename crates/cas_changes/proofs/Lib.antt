@@ -1,3 +1,4 @@
 pub mod EntryLaws
 pub mod EntryLengths
 pub mod Places
+pub mod Known

@@ -7,7 +7,7 @@ ghost use Rattle.cas_changes.specs.Allowed.{is_above, may_go, may_come};
 ghost use Rattle.cas_changes.specs.Reading.{is_below, where_at, marks_at, gone_at, come_at, counted_at, change_at};
 
 use crate::entry::Change;
-use crate::said::{FIRST_DRAWN, Said, has_file, is_listed};
+use crate::said::{FIRST_DRAWN, Said, has_file};
 use cas_codec::{ReadFault, Reader};
 use cas_info::{TableInfo, read_info};
 use cas_types::{LAST_DRAWN, LAST_SECOND, List, MUTATION_LIMIT, TableSchema};
@@ -122,7 +122,7 @@ fn read_come(
 {
     let at = reader.at();
     let info = read_info(alloc, reader)?;
-    if !is_listed(&said.numbers, info.number) && !has_file(before, info.number) {
+    if !said.numbers.has(info.number) && !has_file(before, info.number) {
         return Ok(info);
     }
     Err(ReadFault::Bad { at })

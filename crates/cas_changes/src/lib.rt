@@ -5,6 +5,7 @@
 mod changes;
 mod entry;
 mod laws;
+mod numbers;
 mod reading;
 mod said;
 mod taking;

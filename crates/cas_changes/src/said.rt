@@ -5,6 +5,7 @@ ghost use Rattle.cas_changes.specs.declared.said.TheConstants.{LISTED_LIMIT};
 ghost use Rattle.cas_changes.specs.Saying.{place_in, part_of, is_listed, has_file, listed_after};
 
 use crate::entry::Entry;
+use crate::numbers::Numbers;
 use cas_info::TableInfo;
 use cas_types::{List, TableSchema};
 use std::marker::Model;
@@ -43,7 +44,7 @@ pub struct Said {
     pub(crate) tables: Vec<TableSchema>,
     pub(crate) segments: Vec<u64>,
     pub(crate) last_segment: u64,
-    pub(crate) numbers: Vec<u64>,
+    pub(crate) numbers: Numbers,
     pub(crate) listed: u64,
     /// Of each table the parts in each shard, table by table.
     pub(crate) parts: Vec<Part>,
@@ -62,7 +63,7 @@ impl Model for Said {
       tables = s.tables.items;
       segments = s.segments.items;
       last_segment = s.last_segment;
-      numbers = s.numbers.items;
+      numbers = s.numbers.list.items;
       listed = s.listed;
       parts = s.parts.items;
       times = s.times.items;
@@ -161,7 +162,7 @@ impl Said {
     pub fn numbers(&self) -> &[u64]
         ensures { result.now ≡ self.now.numbers }
     {
-        &self.numbers
+        &self.numbers.list
     }
 
     /// Of each shard its last moment and the last timestamp that it drew.

@@ -6,6 +6,7 @@ ghost use Rattle.cas_changes.specs.Allowed.{IsListable};
 ghost use Rattle.cas_changes.specs.declared.entry.Entry.TheVariants as entries;
 
 use crate::entry::{Change, Entry};
+use crate::numbers::Numbers;
 use crate::said::{FIRST_DRAWN, Part, Said, ShardTimes, is_listed};
 use cas_info::TableInfo;
 use cas_types::{Column, List, Mem, TableSchema};
@@ -25,11 +26,11 @@ fn add_infos(into: &mut Vec<TableInfo>, infos: &[TableInfo]) -> Result<(), Mem>
 }
 
 // Adds the numbers of infos.
-fn add_numbers(into: &mut Vec<u64>, infos: &[TableInfo]) -> Result<(), Mem>
-    ensures { OnOk result (into.new.items ≡ into.old.items ++ map (λ i. i.number) infos.now) }
+fn add_numbers(into: &mut Numbers, infos: &[TableInfo]) -> Result<(), Mem>
+    ensures { OnOk result (into.new.list.items ≡ into.old.list.items ++ map (λ i. i.number) infos.now) }
 {
     for info in infos {
-        into.push(info.number)?;
+        into.add(info.number)?;
     }
     Ok(())
 }
@@ -173,7 +174,7 @@ impl Said {
             tables: Vec::new(alloc),
             segments: Vec::new(alloc),
             last_segment: 0,
-            numbers: Vec::new(alloc),
+            numbers: Numbers::new(alloc),
             listed: 0,
             parts: Vec::new(alloc),
             times: Vec::new(alloc),
