@@ -2,6 +2,7 @@
 
 ghost use Rattle.std.specs.Prelude.{◌≡◌, ◌&&◌, true, if◌then◌else◌};
 ghost use Rattle.std.specs.List.{list_all, list_any};
+ghost use Rattle.cas_types.specs.Schemas.{is_static};
 ghost use Rattle.cas_terms.specs.Columns.{names_static, names_partition};
 ghost use Rattle.cas_reasons.specs.Extents.{inserts_static, static_or_row, deletes_in, extent_of};
 
@@ -14,6 +15,12 @@ fn any_static(columns: &[Column], names: &[Text]) -> bool
     ensures { result ≡ list_any (names_static columns.now) names.now }
 {
     names.iter().any(|n| names_static(columns, n.as_str()))
+}
+
+fn has_static(columns: &[Column]) -> bool
+    ensures { result ≡ list_any (λ c. is_static c.kind) columns.now }
+{
+    columns.iter().any(|c| c.kind.is_static())
 }
 
 fn partition_or_static(columns: &[Column], name: &str) -> bool
@@ -35,11 +42,15 @@ fn all_static(columns: &[Column], names: &[Text]) -> bool
 }
 
 /// Whether an INSERT that names these columns is one of the static row.
-#[tactic(auto, unfolding(crate::specs::Extents::inserts_static))]
+#[tactic(auto, using(crate::proofs::StaticNames::no_static_row), unfolding(crate::specs::Extents::inserts_static))]
 pub fn inserts_static(columns: &[Column], names: &[Text]) -> bool
     ensures { result ≡ inserts_static columns.now names.now }
 {
-    any_static(columns, names) && all_static(columns, names)
+    if has_static(columns) {
+        any_static(columns, names) && all_static(columns, names)
+    } else {
+        false
+    }
 }
 
 fn static_or_row(is_static: bool) -> Extent

@@ -1,5 +1,5 @@
-//! Whether a statement changes something twice. What it changes is sorted, so that this takes n log n
-//! steps for n changes.
+//! Whether a statement changes something twice. What it changes is sorted where it is more than a few
+//! names, so that this takes n log n steps for n changes.
 
 ghost use Rattle.std.specs.Prelude.{◌≡◌, ◌∷◌, List, map, None, false, IfOk, OnOk};
 ghost use Rattle.std.specs.List.Sorted.{IsPermutation, IsSorted};
@@ -17,11 +17,14 @@ ghost use Rattle.cas_reasons.specs.Statements.{assigns, deletes, changes_of};
 
 use crate::change::RowChange;
 use crate::types_used::{are_other_entries, entry_key, names_map};
-use cas_terms::same_name;
+use cas_terms::{has_name, same_name};
 use cas_types::{Column, Text, compare_bytes};
 use cql_parse::{Assignment, Constant, Statement, Target};
 use std::alloc::{AllocError, Global};
 use std::cmp::Ordering;
+
+/// So many names are compared each with each, which takes no memory; more are sorted.
+const FEW: usize = 12;
 
 /// What is changed: a column by its name, or, where there is a key, one entry of a map.
 #[derive(Clone, Copy)]
@@ -218,10 +221,30 @@ fn spots<'a, T: Changes>(
 
 // ---- what is changed twice
 
-fn named_twice(alloc: Global, names: &[Text]) -> Result<bool, AllocError>
+/// Whether a name stands twice, each compared with those after it.
+fn repeats(names: &[Text]) -> bool
+    ensures { result ≡ stands_twice names.now }
+{
+    match names {
+        [] => false,
+        [name, more @ ..] => has_name(more, name.as_str()) || repeats(more),
+    }
+}
+
+fn repeats_among_many(alloc: Global, names: &[Text]) -> Result<bool, AllocError>
     ensures { IfOk result (λ b. b ≡ stands_twice names.now) }
 {
     any_two(spots(alloc, &[], names)?)
+}
+
+fn named_twice(alloc: Global, names: &[Text]) -> Result<bool, AllocError>
+    ensures { IfOk result (λ b. b ≡ stands_twice names.now) }
+{
+    if names.len() <= FEW {
+        Ok(repeats(names))
+    } else {
+        repeats_among_many(alloc, names)
+    }
 }
 
 fn assigned_twice(

@@ -6,7 +6,7 @@ use cas_io::{FreeGate, StdSink, StdSource, SystemClock};
 use cas_node::{Cause, Outcome, run};
 use std::io::ErrorKind;
 use std::process::ExitCode;
-use std::{env, io};
+use std::{env, io, mem};
 
 fn words(rt: &HostRuntime) -> io::Result<Vec<String>> {
     let mut words = Vec::new(rt.alloc());
@@ -41,7 +41,7 @@ fn main(rt: HostRuntime) -> ExitCode {
     let Outcome {
         status,
         cause,
-        pass: _pass,
+        pass,
         folder: _folder,
         tally: _tally,
     } = run(
@@ -53,6 +53,8 @@ fn main(rt: HostRuntime) -> ExitCode {
         &clock,
         &FreeGate,
     );
+    // The process ends here, and with it all its memory: the history isn't given back piece by piece.
+    mem::forget(pass);
     if cause == Cause::Words {
         return refuse(&rt);
     }
