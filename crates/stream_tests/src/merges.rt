@@ -24,7 +24,7 @@ fn values(alloc: Global, value: u8) -> Result<List<Bytes>, AllocError> {
 }
 
 // The row of that value, which an INSERT of that timestamp left alive.
-fn row(alloc: Global, value: u8, at: i64) -> Result<Fragment, AllocError> {
+pub(crate) fn row(alloc: Global, value: u8, at: i64) -> Result<Fragment, AllocError> {
     Ok(Fragment::Row(Row {
         clustering: Clustering {
             values: values(alloc, value)?,
@@ -37,7 +37,12 @@ fn row(alloc: Global, value: u8, at: i64) -> Result<Fragment, AllocError> {
 }
 
 // From before, or after, the row of that value on a deletion of that timestamp is in force, or none.
-fn marker(alloc: Global, value: u8, after: bool, at: Option<i64>) -> Result<Fragment, AllocError> {
+pub(crate) fn marker(
+    alloc: Global,
+    value: u8,
+    after: bool,
+    at: Option<i64>,
+) -> Result<Fragment, AllocError> {
     let cut = Cut {
         prefix: values(alloc, value)?,
         after,
@@ -72,7 +77,7 @@ fn first_byte(values: &List<Bytes>) -> u8 {
 }
 
 // A fragment in short: what it is, its value, and its timestamp.
-fn short(fragment: &Fragment) -> (char, u8, Option<i64>) {
+pub(crate) fn short(fragment: &Fragment) -> (char, u8, Option<i64>) {
     match fragment {
         Fragment::Static(_) => ('s', 0, None),
         Fragment::Row(row) => {

@@ -1,0 +1,4 @@
+pub mod Droppable
+pub mod Purged
+pub mod Laws
+pub mod Inner

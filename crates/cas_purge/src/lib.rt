@@ -1,0 +1,15 @@
+//! The purge of a partition that comes as a stream: without what has been dead for long enough and
+//! hides nothing elsewhere.
+#![tactic(auto)]
+
+mod ends;
+mod laws;
+mod purger;
+mod rows;
+
+pub use ends::droppable;
+pub use laws::{
+    merged_all_win, purge_drops_droppable, purge_is_merged, purge_is_same_above,
+    purge_is_well_formed, purge_keeps_answers,
+};
+pub use purger::Purger;
