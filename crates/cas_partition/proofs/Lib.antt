@@ -1,1 +1,5 @@
 pub mod Slots
+pub mod Raising
+pub mod Spots
+pub mod Taking
+pub mod Lists

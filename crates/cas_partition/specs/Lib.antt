@@ -1,2 +1,5 @@
 pub mod Ranges
+pub mod Spots
+pub mod Placed
+pub mod Partitions
 pub mod Inner

@@ -2,6 +2,10 @@
 //! the cuts at which what is in force changes.
 #![tactic(auto)]
 
+mod partition;
 mod ranges;
+mod spot;
 
+pub use partition::Partition;
 pub use ranges::Ranges;
+pub use spot::{Content, Addition, Spot, Room};

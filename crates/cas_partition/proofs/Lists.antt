@@ -1,0 +1,100 @@
+-- Lists of atoms, for which place is made and which are joined one after another.
+use Rattle.std.proofs.Common.{◌≡◌, List, [], ◌∷◌, ◌++◌, refl, sym, ap, ◌∙◌, subst, append_assoc}
+use Rattle.std.proofs.lemmas.List.{append-nil}
+use Rattle.std.specs.List.{AllByRecursion}
+use Rattle.cas_bounds.specs.declared.order.Ordered.{Ordered}
+use Rattle.cas_atoms.specs.Winners.{Same}
+use Rattle.cas_atoms.specs.declared.atom.Atom.{Atom}
+use Rattle.cas_laws.proofs.JoinProofs.{join_laws}
+use Rattle.cas_partition.specs.Partitions.{partition_atoms, IsOf, IsAtomOf, HasPlace, MakesPlace, Joins, AreAtomsOf, HavePlaces, MakesPlaces, JoinsAll}
+use Rattle.cas_partition.specs.declared.partition.Partition.{Partition}
+
+same_itself : (A : List Atom) → Same A A
+same_itself A = record { covers = λ x. refl; lives = λ c. refl; cells = λ x. refl }
+
+same_then : {A B C : List Atom} → Same A B → Same B C → Same A C
+same_then a b = record { covers = λ x. a.covers x ∙ b.covers x; lives = λ c. a.lives c ∙ b.lives c; cells = λ x. a.cells x ∙ b.cells x }
+
+-- ---- places
+
+-- place was made for some first atoms of the list, and is still to be made for the rest
+pub record Making (all rest : List Atom) (p q : Partition) : Type 0 where
+  pub same : (order : List Ordered) → IsOf order p → AreAtomsOf order all → Same (partition_atoms q) (partition_atoms p)
+  pub of : (order : List Ordered) → IsOf order p → AreAtomsOf order all → IsOf order q × AreAtomsOf order rest
+  pub others : (b : Atom) → HasPlace p b → HasPlace q b
+  pub made : (r : Partition) → ((b : Atom) → HasPlace q b → HasPlace r b) → HavePlaces r rest → HavePlaces r all
+
+pub making : (all : List Atom) (p : Partition) → Making all all p p
+making all p = record {
+  same = λ order of atoms. same_itself (partition_atoms p);
+  of = λ order of atoms. (of, atoms);
+  others = λ b h. h;
+  made = λ r kept h. h;
+}
+
+pub one_made : (all : List Atom) (a : Atom) (rest : List Atom) (p q r : Partition) → Making all (a ∷ rest) p q → MakesPlace a q r → HasPlace r a → Making all rest p r
+one_made all a rest p q r m one there = record {
+  same = λ order of atoms. let (now, left) = m.of order of atoms in same_then (one.same order now left.0) (m.same order of atoms);
+  of = λ order of atoms. let (now, left) = m.of order of atoms in (one.of order now left.0, left.1);
+  others = λ b h. one.others b (m.others b h);
+  made = λ s kept h. m.made s (λ b g. kept b (one.others b g)) (kept a there, h);
+}
+
+pub all_made : (all : List Atom) (p q : Partition) → Making all [] p q → MakesPlaces all p q
+all_made all p q m = record { same = m.same; of = λ order of atoms. (m.of order of atoms).0; others = m.others }
+
+pub all_there : (all : List Atom) (p q : Partition) → Making all [] p q → HavePlaces q all
+all_there all p q m = m.made q (λ b h. h) tt
+
+pub some_made : (all : List Atom) (a : Atom) (rest : List Atom) (p q r : Partition) → Making all (a ∷ rest) p q → MakesPlace a q r → MakesPlaces all p r
+some_made all a rest p q r m one = record {
+  same = λ order of atoms. let (now, left) = m.of order of atoms in same_then (one.same order now left.0) (m.same order of atoms);
+  of = λ order of atoms. let (now, left) = m.of order of atoms in one.of order now left.0;
+  others = λ b h. one.others b (m.others b h);
+}
+
+-- ---- joins
+
+-- some first atoms of the list were joined, and the rest have their places
+pub record Joining (all rest : List Atom) (p q : Partition) : Type 0 where
+  pub joined : (order : List Ordered) → IsOf order p → AreAtomsOf order all → Same (partition_atoms q ++ rest) (partition_atoms p ++ all)
+  pub of : (order : List Ordered) → IsOf order p → AreAtomsOf order all → IsOf order q × AreAtomsOf order rest
+  pub others : (b : Atom) → HasPlace p b → HasPlace q b
+  pub there : HavePlaces q rest
+
+pub joining : (all rest : List Atom) (p : Partition) → rest ≡ all → HavePlaces p all → Joining all rest p p
+joining all rest p e there = subst (λ l. Joining all l p p) (sym e) (record {
+  joined = λ order of atoms. same_itself (partition_atoms p ++ all);
+  of = λ order of atoms. (of, atoms);
+  others = λ b h. h;
+  there = there;
+})
+
+kept_places : (q r : Partition) (atoms : List Atom) → ((b : Atom) → HasPlace q b → HasPlace r b) → HavePlaces q atoms → HavePlaces r atoms
+kept_places q r [] h there = tt
+kept_places q r (a ∷ atoms) h there = (h a there.0, kept_places q r atoms h there.1)
+
+pub one_joined : (all rest : List Atom) (a : Atom) (others : List Atom) (p q r : Partition) → rest ≡ a ∷ others → Joining all rest p q → Joins a q r → Joining all others p r
+one_joined all rest a others p q r e h one =
+    let m : Joining all (a ∷ others) p q = subst (λ l. Joining all l p q) e h in
+    record {
+      joined = λ order of atoms.
+          let (now, left) = m.of order of atoms in
+          same_then (join_laws.kept (partition_atoms r) (partition_atoms q ++ a ∷ []) others (one.joined order now left.0))
+          (subst (λ l. Same l (partition_atoms p ++ all)) (sym (append_assoc (partition_atoms q) (a ∷ []) others)) (m.joined order of atoms));
+      of = λ order of atoms. let (now, left) = m.of order of atoms in (one.of order now left.0, left.1);
+      others = λ b g. one.others b (m.others b g);
+      there = kept_places q r others one.others m.there.1;
+    }
+
+pub first_there : (all rest : List Atom) (a : Atom) (others : List Atom) (p q : Partition) → rest ≡ a ∷ others → Joining all rest p q → HasPlace q a
+first_there all rest a others p q e m = (subst (HavePlaces q) e m.there).0
+
+pub all_joined : (all rest : List Atom) (p q : Partition) → rest ≡ [] → Joining all rest p q → JoinsAll all p q
+all_joined all rest p q e h =
+    let m : Joining all [] p q = subst (λ l. Joining all l p q) e h in
+    record {
+      joined = λ order of atoms. subst (λ l. Same l (partition_atoms p ++ all)) (append-nil (partition_atoms q)) (m.joined order of atoms);
+      of = λ order of atoms. (m.of order of atoms).0;
+      others = m.others;
+    }

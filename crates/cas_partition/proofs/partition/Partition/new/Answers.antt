@@ -1,0 +1,5 @@
+use Rattle.cas_partition.proofs.Taking.{empty_of}
+use Rattle.cas_partition.proofs.partition.Partition.new.Goals as goal
+
+pub returns-clause-of : goal.returns-clause-of
+returns-clause-of c order = empty_of order _ c.new.ensures c.new-2.ensures.empty

@@ -1,0 +1,122 @@
+-- What a partition in memory says, as atoms; what one more atom does to it; and the places that are made for atoms beforehand.
+-- Cassandra documentation, "Storage engine: memtables"; own.
+use Rattle.std.specs.Prelude.{◌≡◌, ℕ, Bool, true, false, ◌&&◌, Option, None, Some, List, [], ◌∷◌, ◌++◌, map, is_some, if◌then◌else◌}
+use Rattle.std.specs.List.{AllByRecursion, flat_map}
+use Rattle.std.specs.Map.{lookup}
+use Rattle.std.specs.BTreeMap.{insert_entry, is_at}
+use Rattle.std.specs.declared.cmp.Ordering.TheVariants.{Less}
+use Rattle.cas_types.specs.declared.tag.TypeTag.{TypeTag}
+use Rattle.cas_cell.specs.declared.deletion.Deletion.{Deletion}
+use Rattle.cas_bounds.specs.Cuts.{cut_cmp}
+use Rattle.cas_bounds.specs.declared.order.Ordered.{Ordered}
+use Rattle.cas_bounds.specs.declared.map_key.End.TheVariants.{Row}
+use Rattle.cas_bounds.specs.declared.map_key.MapKey.{MapKey}
+use Rattle.cas_atoms.specs.Winners.{Same}
+use Rattle.cas_atoms.specs.declared.atom.Atom.{Atom}
+use Rattle.cas_atoms.specs.declared.atom.Atom.TheVariants.{PartitionDeletion, RangeDeletion, RowDeletion, CollectionDeletion}
+use Rattle.cas_atoms.specs.declared.atom.Atom.TheVariants.{Live, Write, StaticWrite, StaticCollectionDeletion}
+use Rattle.cas_streams.specs.Flat.{Change, atom_of, own, ranges}
+use Rattle.cas_streams.specs.Streams.{IsOrdered}
+use Rattle.cas_streams.specs.declared.fragment.Fragment.{Fragment}
+use Rattle.cas_streams.specs.declared.fragment.Fragment.TheVariants as fragment
+use Rattle.cas_partition.specs.Ranges.{has_cut}
+use Rattle.cas_partition.specs.Spots.{spot_cmp, said, blank}
+use Rattle.cas_partition.specs.Placed.{wanted}
+use Rattle.cas_partition.specs.declared.spot.Spot.{Spot}
+use Rattle.cas_partition.specs.declared.spot.Content.{Content}
+use Rattle.cas_partition.specs.declared.spot.Room.{Room}
+use Rattle.cas_partition.specs.declared.spot.Room.TheVariants.{Whole, Cuts, At}
+use Rattle.cas_partition.specs.declared.partition.Partition.{Partition}
+
+-- ---- what it says
+
+-- what is said at all spots
+abbrev pub said_at : List (Spot × Content) → List Atom
+said_at es = flat_map (λ e. own (said e.0 e.1)) es
+
+-- the deletion of the whole, the range deletions, and what is said of rows
+abbrev pub atoms_with : Option Deletion → List Change → List (Spot × Content) → List Atom
+atoms_with top ms es = atom_of PartitionDeletion top ++ (ranges ms ++ said_at es)
+
+abbrev pub partition_atoms : Partition → List Atom
+partition_atoms p = atoms_with p.top p.ranges p.spots.entries
+
+-- ---- of which table
+
+-- the row is ordered as the table orders its rows
+abbrev pub IsRowOf : List Ordered → Option MapKey → Type 0
+IsRowOf order None = Unit {0}
+IsRowOf order (Some k) = (k.end ≡ Row) × (k.order ≡ order)
+
+-- a change, as a marker of a stream
+abbrev pub marker : Change → Fragment
+marker m = fragment.Marker m.at m.to
+
+-- cuts one after another in the table's order, at the last of which no deletion stays in force; and rows of that order
+pub record IsOf (order : List Ordered) (p : Partition) : Type 0 where
+  pub marks : IsOrdered order (map marker p.ranges)
+  pub rows : AllByRecursion (λ e. IsRowOf order e.0.row) p.spots.entries
+
+-- an atom of the table: its rows and cuts are in the table's order, and a range has its low cut below the high one
+abbrev pub IsAtomOf : List Ordered → Atom → Type 0
+IsAtomOf order (PartitionDeletion d) = Unit {0}
+IsAtomOf order (RangeDeletion lo hi d) = (lo.order ≡ order) × (hi.order ≡ order) × (cut_cmp lo hi ≡ Less)
+IsAtomOf order (RowDeletion c d) = c.order ≡ order
+IsAtomOf order (CollectionDeletion c ref d) = c.order ≡ order
+IsAtomOf order (Live c l) = c.order ≡ order
+IsAtomOf order (Write c ref p v) = c.order ≡ order
+IsAtomOf order (StaticWrite ref p v) = Unit {0}
+IsAtomOf order (StaticCollectionDeletion ref d) = Unit {0}
+
+-- ---- places
+
+-- the spot is among those of the partition
+abbrev pub has_spot : Spot → List (Spot × Content) → Bool
+has_spot s es = is_some (lookup (is_at (spot_cmp s)) es)
+
+-- there is place for what is kept there
+abbrev pub is_there : List Change → List (Spot × Content) → Room → Bool
+is_there ms es Whole = true
+is_there ms es (Cuts lo hi) = has_cut lo ms && has_cut hi ms
+is_there ms es (At s tag) = has_spot s es
+
+abbrev pub HasPlace : Partition → Atom → Type 0
+HasPlace p a = is_there p.ranges p.spots.entries (wanted a) ≡ true
+
+-- the entries with one more at a spot, where nothing is said, if none is there
+abbrev pub with_spot : Spot → Option TypeTag → List (Spot × Content) → List (Spot × Content)
+with_spot s tag es = if has_spot s es then es else insert_entry spot_cmp es s (blank tag)
+
+-- ---- what calls do
+
+-- place was made for an atom, which says nothing yet: for each table, and each other atom keeps its place
+pub record MakesPlace (a : Atom) (p q : Partition) : Type 0 where
+  pub same : (order : List Ordered) → IsOf order p → IsAtomOf order a → Same (partition_atoms q) (partition_atoms p)
+  pub of : (order : List Ordered) → IsOf order p → IsAtomOf order a → IsOf order q
+  pub others : (b : Atom) → HasPlace p b → HasPlace q b
+
+-- the atom was joined, and each atom keeps its place
+pub record Joins (a : Atom) (p q : Partition) : Type 0 where
+  pub joined : (order : List Ordered) → IsOf order p → IsAtomOf order a → Same (partition_atoms q) (partition_atoms p ++ a ∷ [])
+  pub of : (order : List Ordered) → IsOf order p → IsAtomOf order a → IsOf order q
+  pub others : (b : Atom) → HasPlace p b → HasPlace q b
+
+-- ---- lists of atoms
+
+abbrev pub AreAtomsOf : List Ordered → List Atom → Type 0
+AreAtomsOf order atoms = AllByRecursion (IsAtomOf order) atoms
+
+abbrev pub HavePlaces : Partition → List Atom → Type 0
+HavePlaces p atoms = AllByRecursion (HasPlace p) atoms
+
+-- the same for all atoms of a list: place was made for them, or for some first of them
+pub record MakesPlaces (atoms : List Atom) (p q : Partition) : Type 0 where
+  pub same : (order : List Ordered) → IsOf order p → AreAtomsOf order atoms → Same (partition_atoms q) (partition_atoms p)
+  pub of : (order : List Ordered) → IsOf order p → AreAtomsOf order atoms → IsOf order q
+  pub others : (b : Atom) → HasPlace p b → HasPlace q b
+
+-- and all of them were joined
+pub record JoinsAll (atoms : List Atom) (p q : Partition) : Type 0 where
+  pub joined : (order : List Ordered) → IsOf order p → AreAtomsOf order atoms → Same (partition_atoms q) (partition_atoms p ++ atoms)
+  pub of : (order : List Ordered) → IsOf order p → AreAtomsOf order atoms → IsOf order q
+  pub others : (b : Atom) → HasPlace p b → HasPlace q b
