@@ -41,6 +41,7 @@ use Rattle.cas_changes.specs.Allowed.{IsMade, IsDrawn, may_go, may_come, FitsCha
 use Rattle.cas_changes.specs.Spelling.{where_bytes, marks_bytes, removed_bytes, added_bytes, change_bytes, entry_bytes}
 use Rattle.cas_changes.specs.Reading.{is_below, where_at, marks_at, gone_at, come_at, counted_at, made_change, change_at}
 use Rattle.cas_changes.specs.Reading.{store_at, definition_at, new_segment_at, drop_segment_at, changing_at, behind_at, add_columns_at, may_be, kinded_at, fields_at, entry_at}
+use Rattle.cas_types.specs.declared.limits.TheConstants.{COLUMN_LIMIT}
 
 -- ---- numbers that pass a test
 
@@ -271,7 +272,7 @@ changing_exact s is =
 
 -- columns of a table with this number, where it is this one
 abbrev AreAdded : ℕ → Option TableSchema → Entry → Type 0
-AreAdded n found e = (t : TableSchema) × (columns : List Column) × (found ≡ Some t) × FitColumns (256 - length t.columns) false t.columns columns × (entry.AddColumns n columns ≡ e)
+AreAdded n found e = (t : TableSchema) × (columns : List Column) × (found ≡ Some t) × FitColumns (COLUMN_LIMIT - length t.columns) false t.columns columns × (entry.AddColumns n columns ≡ e)
 
 added_text : ℕ → Entry → List ℕ
 added_text n (entry.AddColumns table columns) = columns_bytes columns
@@ -283,17 +284,17 @@ some_is a b e = cc
 no_table : (t : TableSchema) → None ≡ Some t → ⊥
 no_table t e = cc
 
-behind_made : (n : ℕ) (t u : TableSchema) (columns : List Column) → Some t ≡ Some u → FitColumns (256 - length u.columns) false u.columns columns
-    → FitColumns (256 - length t.columns) false t.columns columns
-behind_made n t u columns e fit = subst (λ (x : TableSchema). FitColumns (256 - length x.columns) false x.columns columns) (sym (some_is t u e)) fit
+behind_made : (n : ℕ) (t u : TableSchema) (columns : List Column) → Some t ≡ Some u → FitColumns (COLUMN_LIMIT - length u.columns) false u.columns columns
+    → FitColumns (COLUMN_LIMIT - length t.columns) false t.columns columns
+behind_made n t u columns e fit = subst (λ (x : TableSchema). FitColumns (COLUMN_LIMIT - length x.columns) false x.columns columns) (sym (some_is t u e)) fit
 
 behind_exact : (place n : ℕ) (found : Option TableSchema) → IsExact (AreAdded n found) (added_text n) (λ left. behind_at place n left found)
 unfolding added_text
 behind_exact place n None = exact_never (AreAdded n None) (added_text n) _ (λ e fit. no_table fit.0 fit.2)
 behind_exact place n (Some t) =
-    exact_map (FitColumns (256 - length t.columns) false t.columns) columns_bytes (columns_at (256 - length t.columns) false t.columns) (AreAdded n (Some t)) (added_text n)
+    exact_map (FitColumns (COLUMN_LIMIT - length t.columns) false t.columns) columns_bytes (columns_at (COLUMN_LIMIT - length t.columns) false t.columns) (AreAdded n (Some t)) (added_text n)
     (λ columns. entry.AddColumns n columns)
-    (columns_exact (256 - length t.columns) false t.columns (omega arith))
+    (columns_exact (COLUMN_LIMIT - length t.columns) false t.columns (omega arith))
     (λ columns fit. ((t, columns, refl, fit, refl), refl))
     (λ e fit. (fit.1, behind_made n t fit.0 fit.1 fit.2 fit.3, fit.4))
 
@@ -481,4 +482,4 @@ spelled s (entry.DropSegment n) fit = tt
 spelled s (entry.Change c) fit = (fit.1.few_removed, fit.1.few_added, keys_short s [] c.added fit.1.added)
 spelled s (entry.AddColumns table columns) fit =
     let t : TableSchema = fit.1 in
-    columns_spelled (256 - length t.columns) false t.columns columns (omega arith) fit.3
+    columns_spelled (COLUMN_LIMIT - length t.columns) false t.columns columns (omega arith) fit.3

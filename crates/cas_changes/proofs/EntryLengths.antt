@@ -26,6 +26,7 @@ use Rattle.cas_changes.specs.declared.entry.Entry.TheVariants as entry
 use Rattle.cas_changes.specs.Saying.{Saying, listed_after}
 use Rattle.cas_changes.specs.Allowed.{may_come, FitsEntry, FitsNext, IsListable}
 use Rattle.cas_changes.specs.Spelling.{where_bytes, marks_bytes, removed_bytes, added_bytes, change_bytes, entry_bytes}
+use Rattle.cas_types.specs.declared.limits.TheConstants.{COLUMN_LIMIT}
 
 -- ---- fields
 
@@ -173,7 +174,7 @@ each_long new before [] fit = omega arith
 each_long new before (c ∷ columns) fit =
     omega (arith, two_long (schema.column_bytes c) (flat_map schema.column_bytes columns), column_long new before c fit.0, each_long new (before ++ c ∷ []) columns fit.1)
 
-columns_long : (limit : ℕ) (new : Bool) (before columns : List Column) → limit ≤ 256 → FitColumns limit new before columns → length (schema.columns_bytes columns) ≤ 13826
+columns_long : (limit : ℕ) (new : Bool) (before columns : List Column) → limit ≤ COLUMN_LIMIT → FitColumns limit new before columns → length (schema.columns_bytes columns) ≤ 13826
 columns_long limit new before columns few fit =
     omega (arith, few, fit.1, two_long (u16 (length columns)) (flat_map schema.column_bytes columns), u16_long (length columns), each_long new before columns fit.2)
 
@@ -190,7 +191,7 @@ schema_long tables t fit =
     let a = two_long (u16 t.number) (bytes16 t.name ++ (schema.columns_bytes t.columns ++ schema.options_bytes t.options)) in
     let b = two_long (bytes16 t.name) (schema.columns_bytes t.columns ++ schema.options_bytes t.options) in
     let c = two_long (schema.columns_bytes t.columns) (schema.options_bytes t.options) in
-    omega (arith, a, b, c, name, u16_long t.number, bytes16_long t.name, columns_long 256 true [] t.columns (omega arith) fit.columns, options_long t.options)
+    omega (arith, a, b, c, name, u16_long t.number, bytes16_long t.name, columns_long COLUMN_LIMIT true [] t.columns (omega arith) fit.columns, options_long t.options)
 
 -- ---- entries
 
@@ -244,5 +245,5 @@ entry_short s (entry.AddColumns table columns) fit =
       two_long (u16 table) (schema.columns_bytes columns),
       u8_long 6,
       u16_long table,
-      columns_long (256 - length t.columns) false t.columns columns (omega arith) fit.0.3,
+      columns_long (COLUMN_LIMIT - length t.columns) false t.columns columns (omega arith) fit.0.3,
     )

@@ -15,6 +15,7 @@ use Rattle.cas_changes.specs.declared.entry.Change.{Change}
 use Rattle.cas_changes.specs.declared.entry.Entry.{Entry}
 use Rattle.cas_changes.specs.declared.entry.Entry.TheVariants as entry
 use Rattle.cas_changes.specs.Saying.{Saying, part_of, is_listed, has_file, listed_after}
+use Rattle.cas_types.specs.declared.limits.TheConstants.{COLUMN_LIMIT}
 
 -- the store's number of shards was said
 abbrev pub IsMade : Saying → Type 0
@@ -57,7 +58,7 @@ FitsEntry s (entry.NewSegment n) = IsMade s × (s.last_segment < n) × (n ≤ SE
 FitsEntry s (entry.DropSegment n) = IsMade s × (n < 2 ^ 64) × (is_listed s.segments n ≡ true)
 FitsEntry s (entry.Change c) = IsMade s × FitsChange s c
 FitsEntry s (entry.AddColumns table columns) =
-    IsMade s × (t : TableSchema) × (slice_get s.tables table ≡ Some t) × FitColumns (256 - length t.columns) false t.columns columns
+    IsMade s × (t : TableSchema) × (slice_get s.tables table ≡ Some t) × FitColumns (COLUMN_LIMIT - length t.columns) false t.columns columns
 
 -- at most 4,096 files are listed after it
 abbrev pub IsListable : Saying → Entry → Type 0

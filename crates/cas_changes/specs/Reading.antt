@@ -16,6 +16,7 @@ use Rattle.cas_changes.specs.declared.entry.Entry.{Entry}
 use Rattle.cas_changes.specs.declared.entry.Entry.TheVariants as entry
 use Rattle.cas_changes.specs.Saying.{Saying, part_of, is_listed, listed_after}
 use Rattle.cas_changes.specs.Allowed.{may_go, may_come}
+use Rattle.cas_types.specs.declared.limits.TheConstants.{COLUMN_LIMIT}
 
 -- ---- changes
 
@@ -109,7 +110,7 @@ changing_at s left = do
 abbrev pub behind_at : ℕ → ℕ → Left → Option TableSchema → Read Entry
 behind_at place n left None = Err (Bad place)
 behind_at place n left (Some t) = do
-  columns ← columns_at (256 - length t.columns) false t.columns left
+  columns ← columns_at (COLUMN_LIMIT - length t.columns) false t.columns left
   Ok (entry.AddColumns n columns.0, columns.1)
 
 -- the number of a table, and the columns that it gets

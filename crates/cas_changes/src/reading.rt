@@ -12,11 +12,8 @@ use crate::entry::Entry;
 use crate::said::{SEGMENT_LIMIT, Said, is_listable, is_listed};
 use cas_codec::{ReadFault, Reader};
 use cas_schemas::{read_columns, read_schema};
-use cas_types::{SHARD_LIMIT, TableSchema};
+use cas_types::{COLUMN_LIMIT, SHARD_LIMIT, TableSchema};
 use std::alloc::Global;
-
-/// The most columns of a table.
-const COLUMNS: usize = 256;
 
 #[tactic(auto, unfolding(crate::specs::Reading::store_at))]
 fn read_store(reader: &mut Reader<'_>) -> Result<Entry, ReadFault>
@@ -92,7 +89,7 @@ fn read_behind(
 ) -> Result<Entry, ReadFault>
     ensures { Gives (λ e. e) result reader.new (behind_at at table reader.old (Some found.now)) }
 {
-    let limit = COLUMNS.saturating_sub(found.columns.len()) as u16;
+    let limit = (COLUMN_LIMIT as usize).saturating_sub(found.columns.len()) as u16;
     let columns = read_columns(alloc, reader, limit, false, &found.columns)?;
     Ok(Entry::AddColumns { table, columns })
 }

@@ -30,6 +30,7 @@ use Rattle.cas_schemas.specs.Reading.{second_at, types_at, made_column, column_a
 use Rattle.cas_schemas.proofs.CodeLaws.{ends, within, kind_exact, shape_exact, tag_exact}
 use Rattle.cas_schemas.proofs.EachLaws.{AreEach, exact_each}
 use Rattle.cas_schemas.proofs.OptionLaws.{options_exact}
+use Rattle.cas_types.specs.declared.limits.TheConstants.{COLUMN_LIMIT}
 
 -- ---- types
 
@@ -105,7 +106,7 @@ each_exact limit new before n counts =
     (exact_each (FitsColumn new) column_bytes (column_at new) (column_exact new) n before)
     (λ cs fit. ((omega (arith, fit.0, most.0), omega (arith, fit.0, most.1), fit.1), fit.0)) (λ cs fit. (fit.1, fit.0.2)) (λ cs. refl) (λ left. refl)
 
-pub columns_exact : (limit : ℕ) (new : Bool) (before : List Column) → limit ≤ 256 → IsExact (FitColumns limit new before) columns_bytes (columns_at limit new before)
+pub columns_exact : (limit : ℕ) (new : Bool) (before : List Column) → limit ≤ COLUMN_LIMIT → IsExact (FitColumns limit new before) columns_bytes (columns_at limit new before)
 unfolding columns_at
 columns_exact limit new before few =
     exact_then (IsCount limit) u16 (checked (is_in_range 1 limit) u16_at) (FitColumns limit new before) columns_bytes (λ n cs. length cs ≡ n)
@@ -119,7 +120,7 @@ each_short : (new : Bool) (before columns : List Column) → EachFits (FitsColum
 each_short new before [] fit = tt
 each_short new before (c ∷ cs) fit = (column_short before c.name fit.0.name, each_short new (before ++ c ∷ []) cs fit.1)
 
-pub columns_spelled : (limit : ℕ) (new : Bool) (before columns : List Column) → limit ≤ 256 → FitColumns limit new before columns → HaveRoom columns
+pub columns_spelled : (limit : ℕ) (new : Bool) (before columns : List Column) → limit ≤ COLUMN_LIMIT → FitColumns limit new before columns → HaveRoom columns
 columns_spelled limit new before columns few fit = (omega (arith, fit.1), each_short new before columns fit.2)
 
 -- ---- schemas
@@ -134,7 +135,7 @@ is_next : (count n : ℕ) → n ≡ count → n < TABLE_LIMIT → is_next_table 
 is_next count n same few = and_from _ (nat_lt n TABLE_LIMIT) (eq-eqb n count same) (lt-ltb n TABLE_LIMIT few)
 
 fits_table : (tables : List TableSchema) (number : ℕ) (name : List ℕ) (columns : List Column) (options : Options) → IsNext tables number
-    → (length name < 2 ^ 16) × (is_new_table tables name ≡ true) → FitColumns 256 true [] columns → FitsOptions options
+    → (length name < 2 ^ 16) × (is_new_table tables name ≡ true) → FitColumns COLUMN_LIMIT true [] columns → FitsOptions options
     → FitsTable tables (record { number = number; name = name; columns = columns; options = options })
 fits_table tables number name columns options fit-n fit-name fit-c fit-o =
     let next = next_of (length tables) number fit-n.1 in
@@ -145,12 +146,12 @@ unfolding schema_at
 schema_exact tables =
     exact_four (IsNext tables) u16 (checked (is_next_table (length tables)) u16_at)
     (λ n name. (length name < 2 ^ 16) × (is_new_table tables name ≡ true)) bytes16 (λ n. checked (is_new_table tables) bytes16_at)
-    (λ n name cs. FitColumns 256 true [] cs) columns_bytes (λ n name. columns_at 256 true [])
+    (λ n name cs. FitColumns COLUMN_LIMIT true [] cs) columns_bytes (λ n name. columns_at COLUMN_LIMIT true [])
     (λ n name cs o. FitsOptions o) options_bytes (λ n name cs. options_at)
     (FitsTable tables) schema_bytes (λ n name cs o. record { number = n; name = name; columns = cs; options = o })
     (exact_checked (λ n. n < 2 ^ 16) u16 u16_at (is_next_table (length tables)) u16_field.exact)
     (λ n fit. exact_checked (λ name. length name < 2 ^ 16) bytes16 bytes16_at (is_new_table tables) bytes16_field.exact)
-    (λ n name fit-n fit-name. columns_exact 256 true [] (omega arith))
+    (λ n name fit-n fit-name. columns_exact COLUMN_LIMIT true [] (omega arith))
     (λ n name cs fit-n fit-name fit-cs. options_exact)
     (λ n name cs o fit-n fit-name fit-cs fit-o. (fits_table tables n name cs o fit-n fit-name fit-cs fit-o, refl))
     (λ t fit. (
@@ -168,5 +169,5 @@ schema_exact tables =
 pub spelled : (tables : List TableSchema) (t : TableSchema) → FitsTable tables t → HasSpelling t
 spelled tables t fit = record {
   name = table_short tables t.name fit.name;
-  columns = columns_spelled 256 true [] t.columns (omega arith) fit.columns;
+  columns = columns_spelled COLUMN_LIMIT true [] t.columns (omega arith) fit.columns;
 }

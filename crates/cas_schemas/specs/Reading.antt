@@ -21,6 +21,7 @@ use Rattle.cas_schemas.specs.Each.{each_at}
 use Rattle.cas_schemas.specs.Names.{is_new_column, is_new_table}
 use Rattle.cas_schemas.specs.Options.{allows, is_leveled, has_buckets, has_windows, allows_most, allows_unit}
 use Rattle.cas_schemas.specs.Columns.{may_stand, may_have}
+use Rattle.cas_types.specs.declared.limits.TheConstants.{COLUMN_LIMIT}
 
 -- ---- columns
 
@@ -133,6 +134,6 @@ unfoldable pub schema_at : List TableSchema → Left → Read TableSchema
 schema_at tables left = do
   number ← checked (is_next_table (length tables)) u16_at left
   name ← checked (is_new_table tables) bytes16_at number.1
-  columns ← columns_at 256 true [] name.1
+  columns ← columns_at COLUMN_LIMIT true [] name.1
   options ← options_at columns.1
   Ok (record { number = number.0; name = name.0; columns = columns.0; options = options.0 }, options.1)

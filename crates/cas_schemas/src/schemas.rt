@@ -1,6 +1,7 @@
 //! Reads the definition of a table.
 
 ghost use Rattle.std.specs.Prelude.{◌≡◌, true, [], length};
+ghost use Rattle.cas_types.specs.declared.limits.TheConstants.{COLUMN_LIMIT};
 ghost use Rattle.cas_codec.specs.Reading.{Gives, checked, u16_at};
 ghost use Rattle.cas_schemas.specs.Reading.{columns_at, is_next_table, schema_at};
 
@@ -8,14 +9,11 @@ use crate::columns::read_columns;
 use crate::names::read_table_name;
 use crate::options::read_options;
 use cas_codec::{ReadFault, Reader};
-use cas_types::{Column, List, TableSchema};
+use cas_types::{COLUMN_LIMIT, Column, List, TableSchema};
 use std::alloc::Global;
 
 /// The most tables.
 pub const TABLE_LIMIT: u64 = 64;
-
-/// The most columns of a table.
-const COLUMNS: u16 = 256;
 
 // The number of the table after so many.
 #[tactic(auto, unfolding(cas_codec::specs::Reading::checked))]
@@ -31,10 +29,10 @@ fn read_number(reader: &mut Reader<'_>, count: usize) -> Result<u16, ReadFault>
 }
 
 fn read_new_columns(alloc: Global, reader: &mut Reader<'_>) -> Result<List<Column>, ReadFault>
-    ensures { Gives (λ l. l) result reader.new (columns_at 256 true [] reader.old) }
+    ensures { Gives (λ l. l) result reader.new (columns_at COLUMN_LIMIT true [] reader.old) }
 {
     let none = List::from_vec(Vec::new(alloc));
-    read_columns(alloc, reader, COLUMNS, true, &none)
+    read_columns(alloc, reader, COLUMN_LIMIT as u16, true, &none)
 }
 
 /// Reads the definition of the table that comes after these.
