@@ -21,6 +21,9 @@ use cas_where::{KeyTerms, is_clustering_fixed, is_clustering_free, prefix_values
 use cql_parse::{Assigned, Assignment, Constant, Relation, Statement, Target, Term};
 use std::alloc::{AllocError, Global};
 
+/// Room for the effects of most statements.
+const USUAL: usize = 4;
+
 /// The row with the values of the clustering columns.
 pub(crate) fn clustered_row(
     alloc: Global,
@@ -357,7 +360,7 @@ pub(crate) fn effects_of(
     ensures { IfOk result (λ v. v ≡ effects_of columns.now statement.now) }
 {
     let row = clustered_row(alloc, key_terms_of(statement), columns)?;
-    let mut effects = Vec::new(alloc);
+    let mut effects = Vec::with_capacity(alloc, USUAL)?;
     push_changes(alloc, columns, &row, statement, &mut effects)?;
     let effects = with_row_effects(alloc, columns, row, statement, effects)?;
     Ok(List::from_vec(effects))

@@ -103,20 +103,20 @@ pub fn column_ref(number: u16, column: &Column) -> ColumnRef
     }
 }
 
-fn located_from<'a>(number: u16, columns: &'a [Column], name: &str) -> Option<(u16, &'a Column)>
-    requires { number + length columns.now ≤ 65535 }
-    ensures { option_map (λ p. (p.0, p.1.now)) result ≡ find (λ p. bytes_eq p.1.name name.now) (enumerate_from number columns.now) }
+fn located_from<'a>(first: u16, columns: &'a [Column], name: &str) -> Option<(u16, &'a Column)>
+    requires { first + length columns.now ≤ 65535 }
+    ensures { option_map (λ p. (p.0, p.1.now)) result ≡ find (λ p. bytes_eq p.1.name name.now) (enumerate_from first columns.now) }
 {
-    match columns {
-        [] => None,
-        [column, rest @ ..] => {
-            if same_name(column.name.as_str(), name) {
-                Some((number, column))
-            } else {
-                located_from(number + 1, rest, name)
-            }
+    let mut number = first;
+    let mut rest = columns;
+    while let [column, more @ ..] = rest {
+        if same_name(column.name.as_str(), name) {
+            return Some((number, column));
         }
+        number += 1;
+        rest = more;
     }
+    None
 }
 
 /// The column of that name, with its number.

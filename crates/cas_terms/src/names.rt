@@ -1,6 +1,6 @@
 //! Names among names.
 
-ghost use Rattle.std.specs.Prelude.{◌≡◌, IfOk, OnOk};
+ghost use Rattle.std.specs.Prelude.{◌≡◌, IfOk, OnOk, false};
 ghost use Rattle.std.specs.List.{list_any};
 ghost use Rattle.std.specs.List.Sorted.{IsPermutation, IsSorted};
 ghost use Rattle.std.specs.Str.{bytes_eq};
@@ -12,11 +12,21 @@ use cas_types::{Text, compare_bytes};
 use std::alloc::AllocError;
 use std::cmp::Ordering;
 
+/// Whether the first bytes are one, which tells most names apart.
+fn begin_alike(a: &[u8], b: &[u8]) -> bool
+    ensures { result ≡ false → bytes_eq a.now b.now ≡ false }
+{
+    match (a, b) {
+        ([x, _xs @ ..], [y, _ys @ ..]) => *x == *y,
+        _ => true,
+    }
+}
+
 /// Whether the names are one. Names are lower-cased unless they were quoted.
 pub fn same_name(a: &str, b: &str) -> bool
     ensures { result ≡ bytes_eq a.now b.now }
 {
-    a == b
+    begin_alike(a.as_bytes(), b.as_bytes()) && a == b
 }
 
 /// Whether the name is among them.

@@ -158,6 +158,12 @@ fn push_prefix(
     }
 }
 
+fn clustering_count(columns: &[Column]) -> usize
+    ensures { result ≡ length (clustering_columns columns.now) }
+{
+    columns.iter().filter(|c| c.kind.is_clustering()).count()
+}
+
 /// The values of the clustering columns from the first on, as far as each is given one.
 pub fn prefix_values(
     alloc: Global,
@@ -166,7 +172,7 @@ pub fn prefix_values(
 ) -> Result<Vec<Bytes>, AllocError>
     ensures { IfOk result (λ v. v.items ≡ prefix_values (terms_of terms.entry) (clustering_columns columns.now)) }
 {
-    let mut values = Vec::new(alloc);
+    let mut values = Vec::with_capacity(alloc, clustering_count(columns))?;
     push_prefix(alloc, terms, columns, &mut values)?;
     Ok(values)
 }

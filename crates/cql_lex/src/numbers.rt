@@ -5,6 +5,9 @@ ghost use Rattle.cql_lex.specs.Numbers.{is_negative, unsigned, decimal_value, si
 
 use crate::characters::{all_digits, digits_size};
 
+/// A number up to this one has room for a digit more in 64 bits.
+const SMALL: u64 = 1_000_000_000_000_000_000;
+
 pub(crate) fn is_negative(text: &[u8]) -> bool
     ensures { result ≡ is_negative text.now }
 {
@@ -25,7 +28,7 @@ pub(crate) fn unsigned(text: &[u8]) -> &[u8]
 }
 
 /// The number that digits write; 2^128 - 1 stands for all that is greater.
-fn magnitude(digits: &[u8]) -> u128
+fn long_magnitude(digits: &[u8]) -> u128
     ensures { result ≡ min (decimal_value digits.now) (2 ^ 128 - 1) }
 {
     let mut total = 0u128;
@@ -35,6 +38,20 @@ fn magnitude(digits: &[u8]) -> u128
             .saturating_add(u128::from(byte.saturating_sub(b'0')));
     }
     total
+}
+
+/// The number that digits write; 2^128 - 1 stands for all that is greater. Most numbers are small.
+fn magnitude(digits: &[u8]) -> u128
+    ensures { result ≡ min (decimal_value digits.now) (2 ^ 128 - 1) }
+{
+    let mut total = 0u64;
+    for byte in digits {
+        if total > SMALL {
+            return long_magnitude(digits);
+        }
+        total = total * 10 + u64::from(byte.saturating_sub(b'0'));
+    }
+    u128::from(total)
 }
 
 fn signed(negative: bool, magnitude: u128) -> Option<i128>

@@ -11,6 +11,9 @@ use cas_types::{List, Mem, Text};
 use cql_lex::Mark;
 use std::alloc::Global;
 
+/// Room for the things of most lists.
+const USUAL: usize = 4;
+
 /// What stands between the things of a list.
 #[derive(Clone, Copy)]
 pub enum Separator {
@@ -80,7 +83,7 @@ pub fn list_from<X: Part + Drop>(
 pub fn only<X: Drop>(alloc: Global, thing: X) -> Result<Vec<X>, Mem>
     ensures { IfOk result (λ v. v.items ≡ thing ∷ []) }
 {
-    let mut items = Vec::new(alloc);
+    let mut items = Vec::with_capacity(alloc, USUAL)?;
     items.push(thing)?;
     Ok(items)
 }
