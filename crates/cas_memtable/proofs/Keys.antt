@@ -1,0 +1,193 @@
+-- What calls on the map of partitions do to what a memtable says.
+use Rattle.std.proofs.Common.{◌≡◌, ℕ, ℤ, Bool, true, false, cond, Option, None, Some, is_some, IsSome, List, [], ◌∷◌, ◌++◌, Result, Ok, Err, OnOk, OnErr, ◌⊎◌, inl, inr, refl, sym, ap, ◌∙◌, subst}
+use Rattle.std.proofs.lemmas.Bool.{true≢false}
+use Rattle.std.proofs.lemmas.Option.{none-some}
+use Rattle.std.proofs.lemmas.Cmp.{tied_itself}
+use Rattle.std.specs.Option.{unwrap_or}
+use Rattle.std.specs.Cmp.{Equal-is}
+use Rattle.std.specs.Map.{lookup}
+use Rattle.std.specs.BTreeMap.{is_at}
+use Rattle.std.specs.Ordering.{is_eq}
+use Rattle.std.specs.declared.cmp.Ordering.TheVariants.{Equal}
+use Rattle.cas_types.specs.Values.{bytes_cmp}
+use Rattle.cas_types.proofs.OrderLaws.{bytes_orders}
+use Rattle.cas_bounds.specs.declared.order.Ordered.{Ordered}
+use Rattle.cas_atoms.specs.Winners.{Same}
+use Rattle.cas_atoms.specs.declared.atom.Atom.{Atom}
+use Rattle.cas_atoms.specs.declared.atom.Mutation.{Mutation}
+use Rattle.cas_partition.specs.Partitions.{partition_atoms, IsOf, AreAtomsOf, HavePlaces, JoinsAll}
+use Rattle.cas_partition.specs.Partitions.{MakesPlaces as MakesIn}
+use Rattle.cas_partition.specs.declared.partition.Partition.{Partition}
+use Rattle.cas_memtable.specs.Memtables.{held_at, atoms_held, atoms_of, least_held, least_of, least_with, bytes_with, IsOfTable, PlacesIn, HasPlaces, MakesPlaces, Joins}
+use Rattle.cas_memtable.specs.Inner.Steps.{IsBlank, StaysOrBlank, Puts, ReservesAt, AppliesAt}
+use Rattle.cas_memtable.specs.declared.memtable.Held.{Held}
+use Rattle.cas_memtable.specs.declared.memtable.MemPart.{MemPart}
+
+abbrev Look : Type 0
+Look = List ℕ → Option Held
+
+equal_keys : (k q : List ℕ) → is_eq (bytes_cmp k q) ≡ true → k ≡ q
+equal_keys k q e = bytes_orders.ties k q ((Equal-is (bytes_cmp k q)).0 e)
+
+own_key : (k : List ℕ) → is_eq (bytes_cmp k k) ≡ true
+own_key k = ap is_eq (tied_itself bytes_orders.total k)
+
+-- ---- a blank partition
+
+pub stays : (o : Option Held) → StaysOrBlank o o
+stays None = inl refl
+stays (Some h) = refl
+
+pub stays_there : (o p : Option Held) → p ≡ o → StaysOrBlank o p
+stays_there o p e = subst (StaysOrBlank o) (sym e) (stays o)
+
+pub blank_put : (key : List ℕ) (h : Held) (before after : Look) → IsBlank h → is_some (before key) ≡ false → Puts key h before after → (q : List ℕ) → StaysOrBlank (before q) (after q)
+blank_put key h before after blank none puts q =
+    elim (is_eq (bytes_cmp key q)) as (λ b. is_eq (bytes_cmp key q) ≡ b → StaysOrBlank (before q) (after q)) [
+      | true ↦ λ e.
+          let is : after q ≡ Some h = puts q ∙ ap (λ b. cond b (Some h) (before q)) e in
+          let same : key ≡ q = equal_keys key q e in
+          fresh (before q) (after q) is (sym (ap (λ k. is_some (before k)) same) ∙ none)
+      | false ↦ λ e. stays_there (before q) (after q) (puts q ∙ ap (λ b. cond b (Some h) (before q)) e)
+    ] refl
+  where
+    fresh : (o p : Option Held) → p ≡ Some h → is_some o ≡ false → StaysOrBlank o p
+    fresh None p is e = inr (h, is, blank)
+    fresh (Some g) p is e = absurd (true≢false e)
+
+pub kept_put : (key copy : List ℕ) (h : Held) (before after : Look) → copy ≡ key → IsBlank h → is_some (before key) ≡ false → Puts copy h before after → (q : List ℕ) → StaysOrBlank (before q) (after q)
+kept_put key copy h before after e blank none puts = blank_put copy h before after blank (ap (λ k. is_some (before k)) e ∙ none) puts
+
+pub put_there : (key : List ℕ) (h : Held) (before after : Look) → Puts key h before after → after key ≡ Some h
+put_there key h before after puts = puts key ∙ ap (λ b. cond b (Some h) (before key)) (own_key key)
+
+stays_atoms : (o p : Option Held) → StaysOrBlank o p → atoms_held p ≡ atoms_held o
+stays_atoms (Some h) p e = ap atoms_held e
+stays_atoms None p (inl e) = ap atoms_held e
+stays_atoms None p (inr b) = ap atoms_held b.1 ∙ b.2.empty
+
+stays_least : (o p : Option Held) → StaysOrBlank o p → least_held p ≡ least_held o
+stays_least (Some h) p e = ap least_held e
+stays_least None p (inl e) = ap least_held e
+stays_least None p (inr b) = ap least_held b.1 ∙ b.2.least
+
+stays_of : (order : List Ordered) (o p : Option Held) → StaysOrBlank o p → ((h : Held) → o ≡ Some h → IsOf order h.partition) → (g : Held) → p ≡ Some g → IsOf order g.partition
+stays_of order (Some h) p e all g is = subst (λ k. IsOf order k.partition) (ap (λ o. unwrap_or o h) (sym e ∙ is)) (all h refl)
+stays_of order None p (inl e) all g is = absurd (none-some g (sym e ∙ is))
+stays_of order None p (inr b) all g is = subst (λ k. IsOf order k.partition) (ap (λ o. unwrap_or o b.0) (sym b.1 ∙ is)) (b.2.of order)
+
+-- ---- what is written through at a key
+
+pub reserves : {E : Type 0} (key : List ℕ) (atoms : List Atom) (h g : Held) (p : Partition) (before after : Look) (result : Result (Unit {0}) E) → before key ≡ Some h → Some g ≡ before key
+    → Puts key (record { partition = p; least = g.least }) before after → MakesIn atoms g.partition p → OnOk result (HavePlaces p atoms) → ReservesAt key atoms h before after result
+reserves key atoms h g p before after result is found puts makes places =
+    let same : g ≡ h = ap (λ o. unwrap_or o g) (found ∙ is) in
+    record {
+      held = record { partition = p; least = g.least };
+      puts = puts;
+      least = ap (λ k. k.least) same;
+      makes = subst (λ k. MakesIn atoms k.partition p) same makes;
+      places = places;
+    }
+
+pub applies : (key : List ℕ) (atoms : List Atom) (h g : Held) (p : Partition) (least : Option ℤ) (before after : Look) → before key ≡ Some h → Some g ≡ before key
+    → Puts key (record { partition = p; least = least }) before after → least ≡ least_with g.least atoms → JoinsAll atoms g.partition p → AppliesAt key atoms h before after
+applies key atoms h g p least before after is found puts lessened joins =
+    let same : g ≡ h = ap (λ o. unwrap_or o g) (found ∙ is) in
+    record {
+      held = record { partition = p; least = least };
+      puts = puts;
+      least = lessened ∙ ap (λ k. least_with k.least atoms) same;
+      joins = subst (λ k. JoinsAll atoms k.partition p) same joins;
+    }
+
+-- ---- whole memtables
+
+pub none_apart : {G : Type 0} (h : Held) (o : Option Held) → None ≡ o → o ≡ Some h → G
+none_apart h o e is = absurd (none-some h (e ∙ is))
+
+held_there : (o : Option Held) → IsSome o → (h : Held) × (o ≡ Some h)
+held_there None s = absurd (true≢false (sym s))
+held_there (Some h) s = (h, refl)
+
+at_key : (key q : List ℕ) (h : Held) (before after : Look) → Puts key h before after → (is_eq (bytes_cmp key q) ≡ true × (after q ≡ Some h)) ⊎ (is_eq (bytes_cmp key q) ≡ false × (after q ≡ before q))
+at_key key q h before after puts =
+    elim (is_eq (bytes_cmp key q)) as (λ b. is_eq (bytes_cmp key q) ≡ b → (is_eq (bytes_cmp key q) ≡ true × (after q ≡ Some h)) ⊎ (is_eq (bytes_cmp key q) ≡ false × (after q ≡ before q))) [
+      | true ↦ λ e. inl (e, puts q ∙ ap (λ b. cond b (Some h) (before q)) e)
+      | false ↦ λ e. inr (e, puts q ∙ ap (λ b. cond b (Some h) (before q)) e)
+    ] refl
+
+same_is : (A B : List Atom) → A ≡ B → Same A B
+same_is A B e = subst (Same A) e (record { covers = λ x. refl; lives = λ c. refl; cells = λ x. refl })
+
+module _ {E : Type 0} (w : Mutation) (m n : MemPart) (mid : Look) (result : Result (Unit {0}) E) (kept : (q : List ℕ) → StaysOrBlank (held_at m q) (mid q)) (bytes : n.bytes ≡ m.bytes) where
+  -- nothing but blank partitions came
+  pub only_blank : ((q : List ℕ) → held_at n q ≡ mid q) → MakesPlaces w m n
+  only_blank same = record {
+    same = λ order of atoms q. same_is (atoms_of n q) (atoms_of m q) (ap atoms_held (same q) ∙ stays_atoms (held_at m q) (mid q) (kept q));
+    of = λ order of atoms q g is. stays_of order (held_at m q) (mid q) (kept q) (of q) g (sym (same q) ∙ is);
+    least = λ q. ap least_held (same q) ∙ stays_least (held_at m q) (mid q) (kept q);
+    bytes = bytes;
+  }
+
+  module _ (there : IsSome (mid w.key)) (reserved : (h : Held) → mid w.key ≡ Some h → ReservesAt w.key w.atoms h mid (held_at n) result) where
+    pub places_made : OnOk result (HasPlaces n w)
+    places_made =
+        let (h, is) = held_there (mid w.key) there in
+        let r : ReservesAt w.key w.atoms h mid (held_at n) result = reserved h is in
+        also result (HavePlaces r.held.partition w.atoms) (HasPlaces n w) (λ p. subst (λ o. PlacesIn o w.atoms) (sym (put_there w.key r.held mid (held_at n) r.puts)) p) r.places
+      where
+        also : (r : Result (Unit {0}) E) (P Q : Type 0) → (P → Q) → OnOk r P → OnOk r Q
+        also (Ok x) P Q f p = f p
+        also (Err e) P Q f p = tt
+
+    pub makes_all : MakesPlaces w m n
+    makes_all =
+        let (h, is) = held_there (mid w.key) there in
+        let r : ReservesAt w.key w.atoms h mid (held_at n) result = reserved h is in
+        let of_mid : (order : List Ordered) → IsOfTable order m → (q : List ℕ) (g : Held) → mid q ≡ Some g → IsOf order g.partition = λ order of q g e. stays_of order (held_at m q) (mid q) (kept q) (of q) g e in
+        record {
+          same = λ order of atoms q. elim (at_key w.key q r.held mid (held_at n) r.puts) [
+            | inl hit ↦
+                let k : w.key ≡ q = equal_keys w.key q hit.0 in
+                let before : atoms_of m q ≡ partition_atoms h.partition = sym (stays_atoms (held_at m q) (mid q) (kept q)) ∙ ap (λ z. atoms_held (mid z)) (sym k) ∙ ap atoms_held is in
+                subst (λ B. Same (atoms_of n q) B) (sym before) (subst (λ A. Same A (partition_atoms h.partition)) (sym (ap atoms_held hit.1)) (r.makes.same order (of_mid order of w.key h is) atoms))
+            | inr miss ↦ same_is (atoms_of n q) (atoms_of m q) (ap atoms_held miss.1 ∙ stays_atoms (held_at m q) (mid q) (kept q))
+          ];
+          of = λ order of atoms q g e. elim (at_key w.key q r.held mid (held_at n) r.puts) [
+            | inl hit ↦ subst (λ k. IsOf order k.partition) (ap (λ o. unwrap_or o g) (sym hit.1 ∙ e)) (r.makes.of order (of_mid order of w.key h is) atoms)
+            | inr miss ↦ of_mid order of q g (sym miss.1 ∙ e)
+          ];
+          least = λ q. elim (at_key w.key q r.held mid (held_at n) r.puts) [
+            | inl hit ↦
+                let k : w.key ≡ q = equal_keys w.key q hit.0 in
+                ap least_held hit.1 ∙ r.least ∙ sym (ap least_held is) ∙ ap (λ z. least_held (mid z)) k ∙ stays_least (held_at m q) (mid q) (kept q)
+            | inr miss ↦ ap least_held miss.1 ∙ stays_least (held_at m q) (mid q) (kept q)
+          ];
+          bytes = bytes;
+        }
+
+found_place : (o : Option Held) (atoms : List Atom) → PlacesIn o atoms → (h : Held) × (o ≡ Some h)
+found_place None atoms p = absurd p
+found_place (Some h) atoms p = (h, refl)
+
+pub joins_all : (w : Mutation) (m n : MemPart) → HasPlaces m w → ((h : Held) → held_at m w.key ≡ Some h → AppliesAt w.key w.atoms h (held_at m) (held_at n)) → n.bytes ≡ bytes_with m.bytes w → Joins w m n
+joins_all w m n places applied bytes =
+    let (h, is) = found_place (held_at m w.key) w.atoms places in
+    let r : AppliesAt w.key w.atoms h (held_at m) (held_at n) = applied h is in
+    let now : held_at n w.key ≡ Some r.held = put_there w.key r.held (held_at m) (held_at n) r.puts in
+    record {
+      joined = λ order of atoms.
+          subst (λ B. Same (atoms_of n w.key) (B ++ w.atoms)) (sym (ap atoms_held is))
+          (subst (λ A. Same A (partition_atoms h.partition ++ w.atoms)) (sym (ap atoms_held now)) (r.joins.joined order (of w.key h is) atoms));
+      of = λ order of atoms q g e. elim (at_key w.key q r.held (held_at m) (held_at n) r.puts) [
+        | inl hit ↦ subst (λ k. IsOf order k.partition) (ap (λ o. unwrap_or o g) (sym hit.1 ∙ e)) (r.joins.of order (of w.key h is) atoms)
+        | inr miss ↦ of q g (sym miss.1 ∙ e)
+      ];
+      least = ap least_held now ∙ r.least ∙ ap (λ o. least_with (least_held o) w.atoms) (sym is);
+      others = λ q apart. elim (at_key w.key q r.held (held_at m) (held_at n) r.puts) [
+        | inl hit ↦ absurd (apart (sym (equal_keys w.key q hit.0)))
+        | inr miss ↦ miss.1
+      ];
+      bytes = bytes;
+    }

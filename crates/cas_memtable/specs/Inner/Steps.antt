@@ -1,0 +1,39 @@
+-- What calls on the map of partitions do at each key (own).
+use Rattle.std.specs.Prelude.{◌≡◌, ℕ, cond, Option, None, Some, List, [], ◌⊎◌, Result, OnOk}
+use Rattle.std.specs.Ordering.{is_eq}
+use Rattle.cas_types.specs.Values.{bytes_cmp}
+use Rattle.cas_bounds.specs.declared.order.Ordered.{Ordered}
+use Rattle.cas_atoms.specs.declared.atom.Atom.{Atom}
+use Rattle.cas_partition.specs.Partitions.{partition_atoms, IsOf, HavePlaces, MakesPlaces, JoinsAll}
+use Rattle.cas_memtable.specs.Memtables.{least_with}
+use Rattle.cas_memtable.specs.declared.memtable.Held.{Held}
+
+-- a partition that says nothing
+pub record IsBlank (h : Held) : Type 0 where
+  pub empty : partition_atoms h.partition ≡ []
+  pub least : h.least ≡ None
+  pub of : (order : List Ordered) → IsOf order h.partition
+
+-- what is held at a key stays; where nothing was, a blank partition may be
+abbrev pub StaysOrBlank : Option Held → Option Held → Type 0
+StaysOrBlank (Some h) after = after ≡ Some h
+StaysOrBlank None after = (after ≡ None) ⊎ ((h : Held) × (after ≡ Some h) × IsBlank h)
+
+-- what is held at the key becomes that; what is held at others stays
+abbrev pub Puts : List ℕ → Held → (List ℕ → Option Held) → (List ℕ → Option Held) → Type 0
+Puts key h before after = (q : List ℕ) → after q ≡ cond (is_eq (bytes_cmp key q)) (Some h) (before q)
+
+-- place was made for the atoms in what is held at the key
+pub record ReservesAt (key : List ℕ) (atoms : List Atom) (h : Held) (before after : List ℕ → Option Held) {E : Type 0} (result : Result (Unit {0}) E) : Type 0 where
+  pub held : Held
+  pub puts : Puts key held before after
+  pub least : held.least ≡ h.least
+  pub makes : MakesPlaces atoms h.partition held.partition
+  pub places : OnOk result (HavePlaces held.partition atoms)
+
+-- the atoms were joined to it
+pub record AppliesAt (key : List ℕ) (atoms : List Atom) (h : Held) (before after : List ℕ → Option Held) : Type 0 where
+  pub held : Held
+  pub puts : Puts key held before after
+  pub least : held.least ≡ least_with h.least atoms
+  pub joins : JoinsAll atoms h.partition held.partition

@@ -1,0 +1,2 @@
+pub mod Memtables
+pub mod Inner

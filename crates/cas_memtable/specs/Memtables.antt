@@ -1,0 +1,79 @@
+-- What a memtable says, partition by partition.
+-- Cassandra documentation, "Storage engine: memtables"; that it has the least timestamp of all that was written is own.
+use Rattle.std.specs.Prelude.{◌≡◌, ℕ, ℤ, int_lt, ◌+◌, ◌-◌, ◌^◌, min, Bool, true, Option, None, Some, List, [], ◌∷◌, ◌++◌, if◌then◌else◌}
+use Rattle.std.specs.BTreeMap.{get}
+use Rattle.cas_types.specs.Values.{bytes_cmp}
+use Rattle.cas_bounds.specs.declared.order.Ordered.{Ordered}
+use Rattle.cas_atoms.specs.Winners.{Same}
+use Rattle.cas_atoms.specs.Coordinates.{atom_at}
+use Rattle.cas_atoms.specs.LogLength.{record_length}
+use Rattle.cas_atoms.specs.declared.atom.Atom.{Atom}
+use Rattle.cas_atoms.specs.declared.atom.Mutation.{Mutation}
+use Rattle.cas_partition.specs.Partitions.{partition_atoms, IsOf, AreAtomsOf, HavePlaces}
+use Rattle.cas_memtable.specs.declared.memtable.Held.{Held}
+use Rattle.cas_memtable.specs.declared.memtable.MemPart.{MemPart}
+
+-- the partition of a key, if it is held
+abbrev pub held_at : MemPart → List ℕ → Option Held
+held_at m key = get bytes_cmp m.partitions key
+
+-- what it says
+abbrev pub atoms_held : Option Held → List Atom
+atoms_held None = []
+atoms_held (Some h) = partition_atoms h.partition
+
+abbrev pub atoms_of : MemPart → List ℕ → List Atom
+atoms_of m key = atoms_held (held_at m key)
+
+-- the least timestamp of all that was joined to it; none where nothing was
+abbrev pub least_held : Option Held → Option ℤ
+least_held None = None
+least_held (Some h) = h.least
+
+abbrev pub least_of : MemPart → List ℕ → Option ℤ
+least_of m key = least_held (held_at m key)
+
+-- the lesser of two timestamps, where there are two
+abbrev pub earlier : Option ℤ → ℤ → Option ℤ
+earlier None at = Some at
+earlier (Some b) at = if int_lt at b then Some at else Some b
+
+-- the least timestamp, these atoms among them
+abbrev pub least_with : Option ℤ → List Atom → Option ℤ
+least_with least [] = least
+least_with least (a ∷ atoms) = least_with (earlier least (atom_at a)) atoms
+
+-- the bytes of the records so far, this one among them, if it has atoms
+abbrev pub added : ℕ → List Atom → ℕ → ℕ
+added bytes [] length = bytes
+added bytes (a ∷ atoms) length = min (bytes + length) (2 ^ 64 - 1)
+
+abbrev pub bytes_with : ℕ → Mutation → ℕ
+bytes_with bytes m = added bytes m.atoms (record_length m)
+
+-- each partition is of a table that orders its rows so
+abbrev pub IsOfTable : List Ordered → MemPart → Type 0
+IsOfTable order m = (key : List ℕ) (h : Held) → held_at m key ≡ Some h → IsOf order h.partition
+
+-- the mutation's atoms have their places
+abbrev pub PlacesIn : Option Held → List Atom → Type 0
+PlacesIn None atoms = ⊥
+PlacesIn (Some h) atoms = HavePlaces h.partition atoms
+
+abbrev pub HasPlaces : MemPart → Mutation → Type 0
+HasPlaces m w = PlacesIn (held_at m w.key) w.atoms
+
+-- place was made: no partition says more or less, whatever was made
+pub record MakesPlaces (w : Mutation) (m n : MemPart) : Type 0 where
+  pub same : (order : List Ordered) → IsOfTable order m → AreAtomsOf order w.atoms → (key : List ℕ) → Same (atoms_of n key) (atoms_of m key)
+  pub of : (order : List Ordered) → IsOfTable order m → AreAtomsOf order w.atoms → IsOfTable order n
+  pub least : (key : List ℕ) → least_of n key ≡ least_of m key
+  pub bytes : n.bytes ≡ m.bytes
+
+-- the mutation was joined: its partition says the same as before together with its atoms; the others say what they said
+pub record Joins (w : Mutation) (m n : MemPart) : Type 0 where
+  pub joined : (order : List Ordered) → IsOfTable order m → AreAtomsOf order w.atoms → Same (atoms_of n w.key) (atoms_of m w.key ++ w.atoms)
+  pub of : (order : List Ordered) → IsOfTable order m → AreAtomsOf order w.atoms → IsOfTable order n
+  pub least : least_of n w.key ≡ least_with (least_of m w.key) w.atoms
+  pub others : (key : List ℕ) → (key ≡ w.key → ⊥) → held_at n key ≡ held_at m key
+  pub bytes : n.bytes ≡ bytes_with m.bytes w

@@ -1,0 +1,180 @@
+//! The partitions of a table in memory.
+
+ghost use Rattle.std.specs.Prelude.{◌≡◌, ℕ, Some, None, List as ListOf, OnOk, IsSome};
+ghost use Rattle.std.specs.BTreeMap.{get};
+ghost use Rattle.cas_types.specs.Values.{bytes_cmp};
+ghost use Rattle.cas_atoms.specs.Coordinates.{atom_at};
+ghost use Rattle.cas_memtable.specs.Memtables.{held_at, least_of, earlier, least_with, bytes_with, PlacesIn, HasPlaces, MakesPlaces, Joins};
+ghost use Rattle.cas_memtable.specs.Inner.Steps.{StaysOrBlank, ReservesAt, AppliesAt};
+
+use cas_atoms::{Atom, Mutation, length};
+use cas_partition::Partition;
+use cas_types::{Bytes, List};
+use std::alloc::{AllocError, Global};
+use std::collections::BTreeMap;
+
+/// A partition, and the least timestamp of all atoms that were joined to it.
+#[derive(Drop)]
+pub struct Held {
+    pub(crate) partition: Partition,
+    pub(crate) least: Option<i64>,
+}
+
+/// The partitions of a table by their keys, and the length of the records that wrote them.
+#[derive(Drop)]
+pub struct MemPart {
+    pub(crate) partitions: BTreeMap<Bytes, Held>,
+    pub(crate) bytes: u64,
+    alloc: Global,
+}
+
+fn atom_at(atom: &Atom) -> i64
+    ensures { result ≡ atom_at atom.now }
+{
+    match atom {
+        Atom::PartitionDeletion(d) => d.at,
+        Atom::RangeDeletion(_, _, d) => d.at,
+        Atom::RowDeletion(_, d) => d.at,
+        Atom::CollectionDeletion(_, _, d) => d.at,
+        Atom::Live(_, l) => l.at(),
+        Atom::Write(_, _, _, v) => v.at(),
+        Atom::StaticWrite(_, _, v) => v.at(),
+        Atom::StaticCollectionDeletion(_, d) => d.at,
+    }
+}
+
+fn earlier(a: Option<i64>, at: i64) -> Option<i64>
+    ensures { result ≡ earlier a at }
+{
+    match a {
+        None => Some(at),
+        Some(b) => { if at < b { Some(at) } else { Some(b) } }
+    }
+}
+
+// The least timestamp of these, too.
+fn least_with(least: Option<i64>, atoms: &[Atom]) -> Option<i64>
+    ensures { result ≡ least_with least atoms.now }
+{
+    let mut found = least;
+    let mut rest = atoms;
+    while let [atom, others @ ..] = rest {
+        found = earlier(found, atom_at(atom));
+        rest = others;
+    }
+    found
+}
+
+// The bytes of the records so far, this one's among them.
+fn bytes_with(bytes: u64, mutation: &Mutation) -> u64
+    ensures { result ≡ bytes_with bytes mutation.now }
+{
+    match mutation.atoms.as_slice() {
+        [] => bytes,
+        [_a, _as @ ..] => bytes.saturating_add(length(mutation)),
+    }
+}
+
+// A partition of the key, with nothing in it if there is none yet.
+fn reserve_key(
+    partitions: &mut BTreeMap<Bytes, Held>,
+    alloc: Global,
+    key: &Bytes,
+) -> Result<(), AllocError>
+    ensures there { OnOk result (IsSome (get bytes_cmp partitions.new key.now)) }
+    ensures kept { (q : ListOf ℕ) → StaysOrBlank (get bytes_cmp partitions.old q) (get bytes_cmp partitions.new q) }
+{
+    if partitions.contains_key(key) {
+        return Ok(());
+    }
+    let copy = key.clone()?;
+    let held = Held {
+        partition: Partition::new(alloc),
+        least: None,
+    };
+    partitions.insert(copy, held)?;
+    Ok(())
+}
+
+// Places for atoms of the partition of the key.
+fn reserve_atoms(
+    partitions: &mut BTreeMap<Bytes, Held>,
+    key: &Bytes,
+    atoms: &[Atom],
+) -> Result<(), AllocError>
+    ensures { (h : Held) → get bytes_cmp partitions.old key.now ≡ Some h
+        → ReservesAt key.now atoms.now h (get bytes_cmp partitions.old) (get bytes_cmp partitions.new) result }
+{
+    match partitions.get_mut(key) {
+        None => Ok(()),
+        Some(held) => held.partition.reserve_all(atoms),
+    }
+}
+
+// Joins atoms to the partition of the key.
+fn apply_atoms(partitions: &mut BTreeMap<Bytes, Held>, key: &Bytes, atoms: List<Atom>)
+    requires { PlacesIn (get bytes_cmp partitions.old key.now) atoms }
+    ensures { (h : Held) → get bytes_cmp partitions.old key.now ≡ Some h
+        → AppliesAt key.now atoms h (get bytes_cmp partitions.old) (get bytes_cmp partitions.new) }
+{
+    if let Some(held) = partitions.get_mut(key) {
+        held.least = least_with(held.least, atoms.as_slice());
+        held.partition.apply_all(atoms);
+    }
+}
+
+impl MemPart {
+    /// No partition.
+    pub fn new(alloc: Global) -> Self
+        ensures empty { (key : ListOf ℕ) → held_at result key ≡ None }
+        ensures bytes { result.bytes ≡ 0 }
+    {
+        MemPart {
+            partitions: BTreeMap::new(alloc),
+            bytes: 0,
+            alloc,
+        }
+    }
+
+    /// Makes place for a mutation, which `apply` then takes without memory. What the partitions say
+    /// stays the same, also after an error.
+    pub fn reserve(&mut self, mutation: &Mutation) -> Result<(), AllocError>
+        ensures places { OnOk result (HasPlaces self.new mutation.now) }
+        ensures makes { MakesPlaces mutation.now self.old self.new }
+    {
+        reserve_key(&mut self.partitions, self.alloc, &mutation.key)?;
+        reserve_atoms(
+            &mut self.partitions,
+            &mutation.key,
+            mutation.atoms.as_slice(),
+        )
+    }
+
+    /// Joins a mutation for which place was made.
+    pub fn apply(&mut self, mutation: Mutation)
+        requires { HasPlaces self.old mutation }
+        ensures { Joins mutation self.old self.new }
+    {
+        self.bytes = bytes_with(self.bytes, &mutation);
+        let key = mutation.key;
+        apply_atoms(&mut self.partitions, &key, mutation.atoms);
+    }
+
+    /// The least timestamp of all atoms that were joined to the partition of the key, whatever won
+    /// since; none where there are none.
+    pub fn least(&self, key: &Bytes) -> Option<i64>
+        ensures { result ≡ least_of self.now key.now }
+    {
+        match self.partitions.get(key) {
+            None => None,
+            Some(held) => held.least,
+        }
+    }
+
+    /// The sum of the lengths of the records that had atoms, and 2^64-1 where it is greater.
+    pub fn bytes(&self) -> u64
+        ensures { result ≡ self.now.bytes }
+    {
+        self.bytes
+    }
+}
