@@ -1,7 +1,8 @@
 -- The streams that sources tell.
-use Rattle.std.specs.Prelude.{Option, None, Some, List, [], ◌∷◌}
+use Rattle.std.specs.Prelude.{◌≡◌, Option, None, Some, List, [], ◌∷◌, ◌++◌}
 use Rattle.cas_cell.specs.declared.deletion.Deletion.{Deletion}
 use Rattle.cas_streams.specs.Joined.{Stream}
+use Rattle.cas_streams.specs.Merged.{merged}
 use Rattle.cas_streams.specs.declared.fragment.Fragment.{Fragment}
 
 -- one more stream, where both are told
@@ -14,3 +15,7 @@ told_first top (Some fs) (Some ss) = Some (record { top = top; fragments = fs } 
 abbrev pub streams_told : {I : Type 0} → (I → Option (List Fragment)) → (I → Option Deletion) → List I → Option (List Stream)
 streams_told tells tops [] = Some []
 streams_told tells tops (s ∷ ss) = told_first (tops s) (tells s) (streams_told tells tops ss)
+
+-- of the merge of streams these fragments were given, and the others are to come
+abbrev pub HasGiven : List Stream → List Fragment → Option (List Fragment) → Type 0
+HasGiven ss given told = (rest : List Fragment) × (told ≡ Some rest) × ((merged ss).fragments ≡ given ++ rest)

@@ -1,14 +1,15 @@
 //! The merge of sources, itself a source.
 
-ghost use Rattle.std.specs.Prelude.{◌≡◌, List, Option, None, Some, IfOk};
+ghost use Rattle.std.specs.Prelude.{◌≡◌, List, [], ◌++◌, Option, None, Some, IfOk};
+ghost use Rattle.std.specs.Option.{option_to_list};
 ghost use Rattle.cas_cell.specs.Deletions.{deletion_cmp};
 ghost use Rattle.cas_atoms.specs.Greatest.{greatest};
 ghost use Rattle.cas_streams.specs.Joined.{Stream};
 ghost use Rattle.cas_streams.specs.Merged.{draw, joined_all, merged};
-ghost use Rattle.cas_merge.specs.Told.{streams_told};
+ghost use Rattle.cas_merge.specs.Told.{streams_told, HasGiven};
 ghost use Rattle.cas_merge.specs.Inner.Brackets.{coming, room};
 ghost use Rattle.cas_merge.specs.Inner.Mergers.{rooms, merger_to_come, merger_room};
-ghost use Rattle.cas_streams.specs.Sources.{TakesFirst, Shrinks};
+ghost use Rattle.cas_streams.specs.Sources.{TakesFirst, Shrinks, KeepsFault};
 ghost use Rattle.cas_streams.specs.declared.fragment.Fragment.{Fragment};
 
 use crate::bracket::Bracket;
@@ -60,6 +61,8 @@ impl<I: FragmentSource> Merger<I> {
             → ⟦<Merger<I> as FragmentSource>⟧.to_come result ≡ Some (merged ss).fragments }
         ensures top { (ss : List Stream) → streams_told I.to_come I.over_all sources.items ≡ Some ss
             → ⟦<Merger<I> as FragmentSource>⟧.over_all result ≡ (merged ss).top }
+        ensures begins { (ss : List Stream) → streams_told I.to_come I.over_all sources.items ≡ Some ss
+            → HasGiven ss [] (⟦<Merger<I> as FragmentSource>⟧.to_come result) }
         ensures sound { ⟦<Merger<I> as FragmentSource>⟧.broken_by result ≡ None }
     {
         Merger {
@@ -110,7 +113,21 @@ impl<I: FragmentSource> FragmentSource for Merger<I> {
         self.top
     }
 
-    fn next(&mut self) -> Result<Option<Fragment>, I::Fault> {
+    /// At each call of a merger that tells its fragments, those given so far and those to come are the
+    /// merge, which is the join by places.
+    fn next(&mut self) -> Result<Option<Fragment>, I::Fault>
+        ensures same_top { self.new.top ≡ self.old.top }
+        ensures first { (fs : List Fragment) → merger_to_come I.to_come I.over_all self.old.top self.old.in_force self.old.waiting.items
+            self.old.bracket ≡ Some fs → TakesFirst fs (merger_to_come I.to_come I.over_all self.new.top self.new.in_force self.new.waiting.items
+            self.new.bracket) result }
+        ensures ends { Shrinks (merger_room I.at_most self.old.waiting.items self.old.bracket)
+            (merger_room I.at_most self.new.waiting.items self.new.bracket) result }
+        ensures faults { KeepsFault self.old.broken self.new.broken result }
+        ensures goes_on { IfOk result (λ f. (ss : List Stream) (given : List Fragment)
+            → HasGiven ss given (merger_to_come I.to_come I.over_all self.old.top self.old.in_force self.old.waiting.items self.old.bracket)
+            → HasGiven ss (given ++ option_to_list f) (merger_to_come I.to_come I.over_all self.new.top self.new.in_force self.new.waiting.items
+            self.new.bracket)) }
+    {
         if let Some(fault) = self.broken {
             return Err(fault);
         }
