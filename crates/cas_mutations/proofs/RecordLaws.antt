@@ -16,7 +16,7 @@ use Rattle.cas_types.specs.declared.schema.Column.{Column}
 use Rattle.cas_types.specs.declared.schema.TableSchema.{TableSchema}
 use Rattle.cas_codec.specs.declared.fault.ReadFault.TheVariants.{Bad}
 use Rattle.cas_codec.specs.Reading.{Left, checked, is_within, u8_at, u16_at, u32_at, u64_at, i64_at, flag_at, times_at}
-use Rattle.cas_codec.specs.Fields.{u8, u16, u32, u64, i64, flag, bytes16, bytes32}
+use Rattle.cas_codec.specs.Fields.{u8, u16, u32, u64, i64, flag, bytes16}
 use Rattle.cas_codec.specs.Exact.{Begins, IsExact}
 use Rattle.cas_codec.proofs.Exactness.{bind_ok, test_ok, exact_then, exact_checked, exact_as}
 use Rattle.cas_codec.proofs.FieldLaws.{u8_field, u16_field, u32_field, u64_field, i64_field, flag_field}

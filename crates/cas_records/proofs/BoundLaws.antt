@@ -12,11 +12,11 @@ use Rattle.cas_bounds.specs.declared.cuts.Clustering.{Clustering}
 use Rattle.cas_bounds.specs.declared.cuts.Cut.{Cut}
 use Rattle.cas_codec.specs.declared.fault.ReadFault.{ReadFault}
 use Rattle.cas_codec.specs.Reading.{Left, Read, Gives, ◌>>=◌, checked, u8_at, flag_at, bytes16_at}
-use Rattle.cas_codec.specs.Fields.{u8, u16, flag, bytes16}
+use Rattle.cas_codec.specs.Fields.{u8, flag, bytes16}
 use Rattle.cas_codec.specs.Exact.{IsExact}
 use Rattle.cas_codec.proofs.Exactness.{done, exact_then, exact_done, exact_checked, exact_map}
 use Rattle.cas_codec.proofs.FieldLaws.{u8_field, flag_field, bytes16_field}
-use Rattle.cas_codec.proofs.FieldLengths.{u8_long, u16_long, flag_long, bytes16_long}
+use Rattle.cas_codec.proofs.FieldLengths.{u8_long, flag_long, bytes16_long}
 use Rattle.cas_atoms.specs.LogLength.{short_length, values_length, cut_length}
 use Rattle.cas_atoms.specs.Fits.{FitsValue, FitsValues, FitsClustering, FitsCut}
 use Rattle.cas_records.specs.Spelling.{values_bytes, clustering_bytes, cut_bytes}

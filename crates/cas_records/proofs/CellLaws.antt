@@ -5,7 +5,7 @@ use Rattle.std.specs.Int.{w64, is_in_range}
 use Rattle.std.proofs.lemmas.Bool.{leb-true, le-leb, and_parts, and_from}
 use Rattle.std.proofs.lemmas.List.{length-append, append-nil}
 use Rattle.cas_codec.specs.Reading.{◌>>=◌, checked, u8_at, u32_at, i64_at, flag_at, bytes16_at, bytes32_at}
-use Rattle.cas_codec.specs.Fields.{u8, u32, u64, i64, flag, bytes16, bytes32}
+use Rattle.cas_codec.specs.Fields.{u8, u32, i64, flag, bytes16, bytes32}
 use Rattle.cas_codec.specs.Exact.{IsExact}
 use Rattle.cas_codec.proofs.Exactness.{exact_then, exact_done, exact_checked, exact_map, exact_as}
 use Rattle.cas_codec.proofs.FieldLaws.{u8_field, u32_field, i64_field, flag_field, bytes16_field, bytes32_field}
