@@ -16,10 +16,11 @@ use Rattle.cas_types.specs.declared.schema.Column.{Column}
 use Rattle.cas_types.specs.declared.schema.TableSchema.{TableSchema}
 use Rattle.cas_codec.specs.declared.fault.ReadFault.TheVariants.{Bad}
 use Rattle.cas_codec.specs.Reading.{Left, checked, is_within, u8_at, u16_at, u32_at, u64_at, i64_at, flag_at, times_at}
-use Rattle.cas_codec.specs.Fields.{u8, u16, u32, u64, i64, flag, bytes16, bytes32}
+use Rattle.cas_codec.specs.Fields.{u8, u16, u32, u64, i64, flag, bytes16}
 use Rattle.cas_codec.specs.Exact.{Begins, IsExact}
 use Rattle.cas_codec.proofs.Exactness.{bind_ok, test_ok, exact_then, exact_checked, exact_as}
 use Rattle.cas_codec.proofs.FieldLaws.{u8_field, u16_field, u32_field, u64_field, i64_field, flag_field}
+use Rattle.cas_codec.proofs.FieldLengths.{u8_long, u16_long, u32_long, u64_long, i64_long, flag_long, bytes16_long, bytes32_long}
 use Rattle.cas_codec.proofs.Sequences.{exact_three, exact_four, exact_enclosed}
 use Rattle.cas_codec.proofs.Times.{AreItems, exact_times}
 use Rattle.cas_bounds.specs.ClusteringOrder.{clustering_order}
@@ -44,39 +45,6 @@ use Rattle.cas_mutations.specs.Reading.{numbered_at, table_at, place_at, stamp_a
 use Rattle.cas_mutations.proofs.AtomLaws.{clustering_short, cut_short, atom_exact}
 
 -- ---- lengths
-
-u8_long : (n : ℕ) → length (u8 n) ≡ 1
-unfolding u8
-u8_long n = refl
-
-u16_long : (n : ℕ) → length (u16 n) ≡ 2
-unfolding u16
-u16_long n = refl
-
-u32_long : (n : ℕ) → length (u32 n) ≡ 4
-unfolding u32
-u32_long n = refl
-
-u64_long : (n : ℕ) → length (u64 n) ≡ 8
-unfolding u64
-u64_long n = refl
-
-i64_long : (z : ℤ) → length (i64 z) ≡ 8
-unfolding i64 u64
-i64_long z = refl
-
-flag_long : (b : Bool) → length (flag b) ≡ 1
-unfolding u8
-flag_long false = refl
-flag_long true = refl
-
-bytes16_long : (bytes : List ℕ) → length (bytes16 bytes) ≡ short_length bytes
-unfolding bytes16
-bytes16_long bytes = omega (arith, length-append (u16 (length bytes)) bytes, u16_long (length bytes))
-
-bytes32_long : (bytes : List ℕ) → length (bytes32 bytes) ≡ 4 + length bytes
-unfolding bytes32
-bytes32_long bytes = omega (arith, length-append (u32 (length bytes)) bytes, u32_long (length bytes))
 
 written_long : (ref : ColumnRef) (p : List ℕ) (v : Cell) → length (u16 ref.number ++ (bytes16 p ++ cell_bytes v)) ≡ 2 + (short_length p + cell_length v)
 written_long ref p v =

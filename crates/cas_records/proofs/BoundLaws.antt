@@ -12,10 +12,11 @@ use Rattle.cas_bounds.specs.declared.cuts.Clustering.{Clustering}
 use Rattle.cas_bounds.specs.declared.cuts.Cut.{Cut}
 use Rattle.cas_codec.specs.declared.fault.ReadFault.{ReadFault}
 use Rattle.cas_codec.specs.Reading.{Left, Read, Gives, ◌>>=◌, checked, u8_at, flag_at, bytes16_at}
-use Rattle.cas_codec.specs.Fields.{u8, u16, flag, bytes16}
+use Rattle.cas_codec.specs.Fields.{u8, flag, bytes16}
 use Rattle.cas_codec.specs.Exact.{IsExact}
 use Rattle.cas_codec.proofs.Exactness.{done, exact_then, exact_done, exact_checked, exact_map}
 use Rattle.cas_codec.proofs.FieldLaws.{u8_field, flag_field, bytes16_field}
+use Rattle.cas_codec.proofs.FieldLengths.{u8_long, flag_long, bytes16_long}
 use Rattle.cas_atoms.specs.LogLength.{short_length, values_length, cut_length}
 use Rattle.cas_atoms.specs.Fits.{FitsValue, FitsValues, FitsClustering, FitsCut}
 use Rattle.cas_records.specs.Spelling.{values_bytes, clustering_bytes, cut_bytes}
@@ -224,31 +225,14 @@ cut_exact order =
 
 -- ---- lengths
 
-u16_long : (n : ℕ) → length (u16 n) ≡ 2
-unfolding u16
-u16_long n = refl
-
-bytes16_long : (bytes : List ℕ) → length (bytes16 bytes) ≡ short_length bytes
-unfolding bytes16
-bytes16_long bytes = omega (arith, length-append (u16 (length bytes)) bytes, u16_long (length bytes))
-
 each_long : (vs : List (List ℕ)) → length (flat_map bytes16 vs) ≡ sum_by short_length vs
 each_long [] = refl
 each_long (v ∷ vs) =
     length-append (bytes16 v) (flat_map bytes16 vs) ∙ omega (arith, bytes16_long v, each_long vs, values_longer v vs)
 
-u8_long : (n : ℕ) → length (u8 n) ≡ 1
-unfolding u8
-u8_long n = refl
-
 pub clustering_long : (c : Clustering) → length (clustering_bytes c) ≡ values_length c.values
 clustering_long c =
     omega (arith, length-append (u8 (length c.values)) (flat_map bytes16 c.values), u8_long (length c.values), each_long c.values)
-
-flag_long : (b : Bool) → length (flag b) ≡ 1
-unfolding u8
-flag_long false = refl
-flag_long true = refl
 
 pub cut_long : (c : Cut) → length (cut_bytes c) ≡ cut_length c
 cut_long c =

@@ -5,10 +5,11 @@ use Rattle.std.specs.Int.{w64, is_in_range}
 use Rattle.std.proofs.lemmas.Bool.{leb-true, le-leb, and_parts, and_from}
 use Rattle.std.proofs.lemmas.List.{length-append, append-nil}
 use Rattle.cas_codec.specs.Reading.{◌>>=◌, checked, u8_at, u32_at, i64_at, flag_at, bytes16_at, bytes32_at}
-use Rattle.cas_codec.specs.Fields.{u8, u32, u64, i64, flag, bytes16, bytes32}
+use Rattle.cas_codec.specs.Fields.{u8, u32, i64, flag, bytes16, bytes32}
 use Rattle.cas_codec.specs.Exact.{IsExact}
 use Rattle.cas_codec.proofs.Exactness.{exact_then, exact_done, exact_checked, exact_map, exact_as}
 use Rattle.cas_codec.proofs.FieldLaws.{u8_field, u32_field, i64_field, flag_field, bytes16_field, bytes32_field}
+use Rattle.cas_codec.proofs.FieldLengths.{u8_long, u32_long, i64_long, bytes32_long}
 use Rattle.cas_cell.specs.declared.deletion.Deletion.{Deletion}
 use Rattle.cas_cell.specs.declared.liveness.Liveness.{Liveness}
 use Rattle.cas_cell.specs.declared.liveness.Liveness.TheVariants as live
@@ -310,22 +311,6 @@ cell_exact allows =
     (λ n c fit is. cell_spelled n c is)
 
 -- ---- lengths
-
-u8_long : (n : ℕ) → length (u8 n) ≡ 1
-unfolding u8
-u8_long n = refl
-
-u32_long : (n : ℕ) → length (u32 n) ≡ 4
-unfolding u32
-u32_long n = refl
-
-i64_long : (z : ℤ) → length (i64 z) ≡ 8
-unfolding i64 u64
-i64_long z = refl
-
-bytes32_long : (bytes : List ℕ) → length (bytes32 bytes) ≡ 4 + length bytes
-unfolding bytes32
-bytes32_long bytes = omega (arith, length-append (u32 (length bytes)) bytes, u32_long (length bytes))
 
 pub deletion_long : (d : Deletion) → length (deletion_bytes d) ≡ deletion_length
 unfolding deletion_bytes
