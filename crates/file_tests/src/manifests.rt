@@ -1,8 +1,6 @@
-//! A manifest, written by hand, what its altered bytes answer, and what an append writes.
+//! A manifest, written by hand, and what its altered bytes answer.
 
-use cas_changes::Entry;
-use cas_disk::{FaultPlan, Folder, MemFolder, Name};
-use cas_manifest::{Manifest, ManifestFault, read_manifest};
+use cas_manifest::{ManifestFault, read_manifest};
 use std::alloc::Global;
 use std::test::Fail;
 
@@ -93,29 +91,5 @@ fn a_manifest_by_hand(rt: HostRuntime) -> Result<(), Fail> {
         };
         assert_eq!(rt; count(rt.alloc(), &bytes), expected);
     }
-    Ok(())
-}
-
-// A manifest that is made, and the number of shards.
-fn made(alloc: Global, folder: &mut MemFolder) -> Result<(), ManifestFault> {
-    let mut first = None;
-    if folder.has(Name::Manifest) {
-        return Err(ManifestFault::Failed);
-    }
-    let mut manifest = Manifest::make(folder, &mut first)?;
-    manifest.append(alloc, folder, &mut first, &Entry::Store { shards: 1 })
-}
-
-#[test]
-fn a_manifest_is_made(rt: HostRuntime) -> Result<(), Fail> {
-    let mut folder = MemFolder::new(rt.alloc(), FaultPlan::none(rt.alloc()));
-    assert_eq!(rt; made(rt.alloc(), &mut folder), Ok(()));
-    let mut found = [7; 30];
-    assert_eq!(rt;
-        folder.read_at(Name::Manifest, 0, &mut found).ok(),
-        Some(21)
-    );
-    assert!(rt; found.starts_with(&MANIFEST[..20]));
-    assert_eq!(rt; found[20], 0);
     Ok(())
 }
