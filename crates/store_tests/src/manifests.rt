@@ -93,3 +93,38 @@ fn a_manifest_by_hand(rt: HostRuntime) -> Result<(), Fail> {
     }
     Ok(())
 }
+
+// The manifest of a store of one shard.
+pub(crate) const STORE: [u8; 21] = *b"\x01CASSMAN1\x01\0\0\0\x02\0\0\0\x01\x01\x01\0";
+
+#[test]
+fn each_byte_of_a_new_store(rt: HostRuntime) -> Result<(), Fail> {
+    assert_eq!(rt; count(rt.alloc(), &STORE), Ok(1));
+    // Another byte at each of these places: where the manifest is refused, or how many entries are read.
+    let altered = [
+        (0, 0, 0, Err(0)), // it isn't made
+        (1, 8, 0, Err(1)), // another word
+        (9, 9, 0, Ok(0)), // the gate is closed
+        (10, 12, 1, Err(10)), // more than there is
+        (13, 13, 3, Err(20)), // a byte is left over
+        (14, 16, 1, Err(14)), // a block has one entry
+        (17, 17, 0, Err(14)),
+        (18, 18, 2, Err(18)), // the shards come first
+        (19, 19, 17, Err(19)), // at most 16
+        (20, 20, 1, Err(21)), // open, and no block behind it
+    ];
+    for (first, last, byte, answer) in altered {
+        for place in first..=last {
+            let mut bytes = STORE;
+            if let Some(at) = bytes.get_mut(place) {
+                *at = byte;
+            }
+            let expected = match answer {
+                Ok(entries) => Ok(entries),
+                Err(at) => Err(ManifestFault::Bad { at }),
+            };
+            assert_eq!(rt; count(rt.alloc(), &bytes), expected);
+        }
+    }
+    Ok(())
+}
