@@ -1,2 +1,2 @@
 pub mod Making
-pub mod Opening
+pub mod Loading

@@ -2,5 +2,5 @@ pub mod File
 pub mod Manifests
 pub mod Reading
 pub mod Reads
-pub mod Opening
+pub mod Loading
 pub mod Inner

@@ -2,7 +2,9 @@
 
 ghost use Rattle.std.specs.Prelude.{◌≡◌};
 ghost use Rattle.cas_manifest.specs.declared.fault.ManifestFault.TheVariants.{Mem};
+ghost use Rattle.cas_manifest.specs.Inner.Making.{of_folder};
 
+use cas_disk::FolderFault;
 use cas_gates::First;
 use std::alloc::{AllocError, AllocFailed};
 
@@ -42,5 +44,16 @@ impl<T: Drop> From<AllocFailed<T>> for ManifestFault {
 
     fn from(_: AllocFailed<T>) -> Self {
         ManifestFault::Mem
+    }
+}
+
+impl From<FolderFault> for ManifestFault {
+    ghost from_gives = { λ g f. f ≡ of_folder g };
+
+    fn from(fault: FolderFault) -> Self {
+        match fault {
+            FolderFault::Failed => ManifestFault::Failed,
+            FolderFault::Mem => ManifestFault::Mem,
+        }
     }
 }

@@ -4,10 +4,11 @@
 
 mod blocks;
 mod fault;
+mod finding;
 mod laws;
+mod loading;
 mod making;
 mod manifest;
-mod opening;
 mod reading;
 mod writing;
 

@@ -1,13 +1,11 @@
-//! Tests of files: fields, records, segments of the commit log and the manifest as bytes worked out by
-//! hand. They stand apart since a crate with tests is proved twice.
+//! Tests of files: fields, records and segments of the commit log as bytes worked out by hand. They
+//! stand apart since a crate with tests is proved twice.
 #![tactic(auto)]
 
 #[cfg(test)]
 mod fields;
 #[cfg(test)]
 mod insert;
-#[cfg(test)]
-mod manifests;
 #[cfg(test)]
 mod mutations;
 #[cfg(test)]

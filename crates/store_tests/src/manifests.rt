@@ -1,8 +1,6 @@
-//! A manifest, written by hand, what its altered bytes answer, and what an append writes.
+//! A manifest, written by hand, and what its altered bytes answer.
 
-use cas_changes::Entry;
-use cas_disk::{FaultPlan, Folder, MemFolder, Name};
-use cas_manifest::{Manifest, ManifestFault, read_manifest};
+use cas_manifest::{ManifestFault, read_manifest};
 use std::alloc::Global;
 use std::test::Fail;
 
@@ -96,26 +94,37 @@ fn a_manifest_by_hand(rt: HostRuntime) -> Result<(), Fail> {
     Ok(())
 }
 
-// A manifest that is made, and the number of shards.
-fn made(alloc: Global, folder: &mut MemFolder) -> Result<(), ManifestFault> {
-    let mut first = None;
-    if folder.has(Name::Manifest) {
-        return Err(ManifestFault::Failed);
-    }
-    let mut manifest = Manifest::make(folder, &mut first)?;
-    manifest.append(alloc, folder, &mut first, &Entry::Store { shards: 1 })
-}
+// The manifest of a store of one shard.
+pub(crate) const STORE: [u8; 21] = *b"\x01CASSMAN1\x01\0\0\0\x02\0\0\0\x01\x01\x01\0";
 
 #[test]
-fn a_manifest_is_made(rt: HostRuntime) -> Result<(), Fail> {
-    let mut folder = MemFolder::new(rt.alloc(), FaultPlan::none(rt.alloc()));
-    assert_eq!(rt; made(rt.alloc(), &mut folder), Ok(()));
-    let mut found = [7; 30];
-    assert_eq!(rt;
-        folder.read_at(Name::Manifest, 0, &mut found).ok(),
-        Some(21)
-    );
-    assert!(rt; found.starts_with(&MANIFEST[..20]));
-    assert_eq!(rt; found[20], 0);
+fn each_byte_of_a_new_store(rt: HostRuntime) -> Result<(), Fail> {
+    assert_eq!(rt; count(rt.alloc(), &STORE), Ok(1));
+    // Another byte at each of these places: where the manifest is refused, or how many entries are read.
+    let altered = [
+        (0, 0, 0, Err(0)), // it isn't made
+        (1, 8, 0, Err(1)), // another word
+        (9, 9, 0, Ok(0)), // the gate is closed
+        (10, 12, 1, Err(10)), // more than there is
+        (13, 13, 3, Err(20)), // a byte is left over
+        (14, 16, 1, Err(14)), // a block has one entry
+        (17, 17, 0, Err(14)),
+        (18, 18, 2, Err(18)), // the shards come first
+        (19, 19, 17, Err(19)), // at most 16
+        (20, 20, 1, Err(21)), // open, and no block behind it
+    ];
+    for (first, last, byte, answer) in altered {
+        for place in first..=last {
+            let mut bytes = STORE;
+            if let Some(at) = bytes.get_mut(place) {
+                *at = byte;
+            }
+            let expected = match answer {
+                Ok(entries) => Ok(entries),
+                Err(at) => Err(ManifestFault::Bad { at }),
+            };
+            assert_eq!(rt; count(rt.alloc(), &bytes), expected);
+        }
+    }
     Ok(())
 }

@@ -1,7 +1,7 @@
 use Rattle.cas_disk.proofs.WrittenLasts.{make_kept}
 use Rattle.cas_disk.specs.declared.name.Name.TheVariants.{Manifest as manifest_name}
 use Rattle.cas_manifest.proofs.Begins.{created, written, synced}
-use Rattle.cas_manifest.proofs.making.make_shut.Goals as goal
+use Rattle.cas_manifest.proofs.making.create_shut.Goals as goal
 
 pub returns-in_err-create-clause-during : goal.returns-in_err-create-clause-during
 returns-in_err-create-clause-during g c = created _ _ c.create.ensures.during
