@@ -4,3 +4,4 @@ pub mod Shares
 pub mod Homes
 pub mod Once
 pub mod Orders
+pub mod Listed

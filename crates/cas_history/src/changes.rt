@@ -1,5 +1,5 @@
 //! Changes of a shard's table files, and the copies of them that the room and the book have.
-ghost use Rattle.std.specs.Prelude.{◌≡◌, ◌<◌, ◌≤◌, true, [], ◌∷◌, ◌++◌};
+ghost use Rattle.std.specs.Prelude.{◌≡◌, ◌≢◌, ℕ, ◌<◌, ◌≤◌, true, [], ◌∷◌, ◌++◌};
 ghost use mathlib.Core.List.{IsPrefix};
 ghost use Rattle.cas_ledger.specs.Log.{Each, Has};
 ghost use Rattle.cas_ledger.specs.Hands.{Owns};
@@ -161,8 +161,8 @@ pub fn list_found<E, J: Store, T: Tells<E>>(
 }
 
 /// A change comes into the history: into the shard's list, the room's and the book's, and into the list of
-/// who drew the numbers of the files that it adds, which holds them no longer. The answer is how many
-/// changes of the shard there were.
+/// who drew the numbers of the files that it adds, which holds them no longer. The shard has the removed
+/// files no longer. The answer is how many changes of the shard there were.
 pub fn install<E, J: Store, T: Tells<E>>(
     changes: &mut Changes<E, J>,
     room: &mut RoomCopy<E, J>,
@@ -189,6 +189,7 @@ pub fn install<E, J: Store, T: Tells<E>>(
     ensures files { (files.new.list ≡ files.old.list) × (listed files.old.list files.new.pass.saw ≡ listed files.old.list files.old.pass.saw
         ++ Changed changes.old.shard files.old.list change.entry.table change.entry.frontier change.entry.removed.now
         change.entry.added.now (T.entry change.entry.what.now) ∷ []) }
+    ensures gone { (k : ℕ) → Has change.entry.removed.now k → Has (files_of (listed (changes_list changes.old.shard) changes.new.pass.saw)) k → ⊥ }
     ensures seen { (room.new.pass.saw ≡ changes.new.pass.saw) × (book.new.pass.saw ≡ changes.new.pass.saw)
         × (files.new.pass.saw ≡ changes.new.pass.saw) × IsPrefix changes.old.pass.saw changes.new.pass.saw
         × IsPrefix files.old.pass.saw changes.new.pass.saw }
@@ -223,6 +224,18 @@ pub fn held_is_unlisted<E, J: Store>(
 {
     let _file = file;
     look(&mut changes.pass, &mut files.pass, 0);
+}
+
+/// No file is of two shards, nor ever was.
+pub fn files_apart<E, J: Store>(one: &mut Changes<E, J>, two: &mut Changes<E, J>)
+    requires { one.old.shard ≢ two.old.shard }
+    ensures law { (k : ℕ) → Has (all_added (listed (changes_list one.old.shard) one.old.pass.saw)) k
+        → Has (all_added (listed (changes_list two.old.shard) two.old.pass.saw)) k → ⊥ }
+    ensures same { (one.new.shard ≡ one.old.shard) × (two.new.shard ≡ two.old.shard)
+        × (listed (changes_list one.old.shard) one.new.pass.saw ≡ listed (changes_list one.old.shard) one.old.pass.saw)
+        × (listed (changes_list two.old.shard) two.new.pass.saw ≡ listed (changes_list two.old.shard) two.old.pass.saw) }
+{
+    look(&mut one.pass, &mut two.pass, 0);
 }
 
 /// Each file of a shard was listed once, and its number was found or drawn.

@@ -13,8 +13,8 @@ mod numbers;
 mod works;
 
 pub use changes::{
-    BookCopy, Change, Changes, RoomCopy, Standing, files_stand, held_is_unlisted, install,
-    list_found,
+    BookCopy, Change, Changes, RoomCopy, Standing, files_apart, files_stand, held_is_unlisted,
+    install, list_found,
 };
 pub use faults::Faults;
 pub use front::{Front, Log, Session, write};

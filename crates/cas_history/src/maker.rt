@@ -155,7 +155,8 @@ impl<E, J: Store> Maker<E, J> {
         Ok(Works::new(fresh))
     }
 
-    /// A session has ended, without a turn: its diary is the maker's from now on, and stays as it was.
+    /// A session has ended, without a turn: its diary is the maker's from now on, and stays as it was. What
+    /// the session was shown the maker holds.
     pub fn keep(&mut self, session: Session<E, J>)
         requires idle { Idle (listed session.list session.pass.saw) }
         ensures out { self.new.out + 1 ≡ self.old.out }
@@ -163,6 +164,7 @@ impl<E, J: Store> Maker<E, J> {
         ensures owns { Owns self.new.pass session.list }
         ensures list { listed session.list self.new.pass.saw ≡ listed session.list session.pass.saw }
         ensures seen { IsPrefix self.old.pass.saw self.new.pass.saw × IsPrefix session.pass.saw self.new.pass.saw }
+        ensures holds { (list : ℕ) → IsPrefix (listed list session.pass.saw) (listed list self.new.pass.saw) }
     {
         join(&mut self.pass, session.pass);
         self.out -= 1;
