@@ -5,3 +5,4 @@ pub mod Homes
 pub mod Once
 pub mod Orders
 pub mod Listed
+pub mod Books

@@ -10,7 +10,7 @@ use Rattle.cas_history.specs.declared.item.Item.{Item}
 use Rattle.cas_history.specs.declared.item.Item.TheVariants.{Found, Stood, Wrote, Purged, Faulted, Read, Rose, Drew, Began, Ended, Changed}
 use Rattle.cas_history.specs.Items.{items, listed, lists_of, Distinct, first_diary, changes_list}
 use Rattle.cas_history.specs.Last.{adds, all_added, without, files_after, files_of}
-use Rattle.cas_history.proofs.Once.{Kept, Which, which, keeps, nothing_kept, adds_new, part_brings, brings_more, has_either, listed_once}
+use Rattle.cas_history.proofs.Once.{Kept, Which, which, keeps, nothing_kept, adds_new, part_brings, brings_more, has_either, has_left}
 
 -- what passes a test
 passes_in : (test : ℕ → Bool) (xs : List ℕ) (k : ℕ) → Has (filter test xs) k → Has xs k × (test k ≡ true)
@@ -36,7 +36,7 @@ apart_in (x ∷ xs) ys k d (inl e) hy = d.0 (subst (λ m. Has (xs ++ ys) m) (sym
 apart_in (x ∷ xs) ys k d (inr h) hy = apart_in xs ys k d.1 h hy
 
 module _ {E : Type 0} where
-  stays_or_comes : (files : List ℕ) (e : Item E) (k : ℕ) → Has (files_after files e) k → Has files k ⊎ Has (adds e) k
+  pub stays_or_comes : (files : List ℕ) (e : Item E) (k : ℕ) → Has (files_after files e) k → Has files k ⊎ Has (adds e) k
   stays_or_comes files (Stood _ _ _ found _) k h = has_either files found k h
   stays_or_comes files (Changed _ _ _ _ gone new _) k h =
       ⊎_elim (λ l. inl (passes_in (λ (m : ℕ). not (list_any (λ j. j == m) gone)) files k l).0) (λ r. inr r) (has_either (without gone files) new k h)
@@ -70,6 +70,10 @@ module _ {E : Type 0} where
 
   pub was_listed : (list : List (Item E)) (k : ℕ) → Has (files_of list) k → Has (all_added list) k
   was_listed list k h = ⊎_elim (λ none. absurd none) (λ all. all) (were_listed list [] k h)
+
+  -- what a change removes was listed, and still was
+  pub was_before : (list : List (Item E)) (e : Item E) (k : ℕ) → Has (files_of list) k → Has (all_added (list ++ e ∷ [])) k
+  was_before list e k h = subst (λ l. Has l k) (sym (brings_more adds list e)) (has_left (all_added list) (adds e) k (was_listed list k h))
 
   -- what a change removes is gone with it
   pub removed_gone : (s p t n : ℕ) (gone new : List ℕ) (w : E) (list : List (Item E)) (k : ℕ)

@@ -15,7 +15,7 @@ use Rattle.cas_history.specs.Items.{items, listed, lists_of, MayCome, Distinct, 
 use Rattle.cas_history.specs.Last.{uses, used, adds, all_added, holds, holds_after, file_after, last_file}
 use Rattle.cas_history.proofs.Turns.{some_one, none_some, same_or, none_if, fold_gets, fold_kept}
 
-has_left : (xs ys : List ℕ) (k : ℕ) → Has xs k → Has (xs ++ ys) k
+pub has_left : (xs ys : List ℕ) (k : ℕ) → Has xs k → Has (xs ++ ys) k
 has_left [] ys k h = absurd h
 has_left (x ∷ xs) ys k (inl e) = inl e
 has_left (x ∷ xs) ys k (inr h) = inr (has_left xs ys k h)

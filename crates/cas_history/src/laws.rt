@@ -7,7 +7,8 @@ ghost use Rattle.cas_history.specs.Last.{last_number, turn, Idle};
 ghost use Rattle.cas_history.specs.Laws.{writes_of, writes_in, Stands};
 ghost use Rattle.cas_history.specs.declared.item.Item.TheVariants.{Began};
 
-use crate::changes::{BookCopy, Changes, RoomCopy};
+use crate::book::Book;
+use crate::changes::{Changes, RoomCopy};
 use crate::front::{Front, Log, Session};
 use crate::item::Item;
 use crate::maker::Maker;
@@ -60,10 +61,9 @@ pub fn room_stands<E, J: Store>(changes: &mut Changes<E, J>, room: &mut RoomCopy
 }
 
 /// The book's copy of a shard's changes is the shard's list.
-pub fn book_stands<E, J: Store>(changes: &mut Changes<E, J>, book: &mut BookCopy<E, J>)
-    requires { book.old.shard ≡ changes.old.shard }
+pub fn book_stands<E, J: Store>(changes: &mut Changes<E, J>, book: &mut Book<E, J>)
     ensures law { listed (changes_list changes.old.shard) changes.old.pass.saw ≡ listed (book_changes changes.old.shard) book.old.pass.saw }
-    ensures same { (changes.new.shard ≡ changes.old.shard) × (book.new.shard ≡ book.old.shard) }
+    ensures same { (changes.new.shard ≡ changes.old.shard) × (book.new.refs ≡ book.old.refs) }
 {
     look(&mut changes.pass, &mut book.pass, 0);
 }

@@ -2,15 +2,17 @@
 ghost use Rattle.std.specs.Prelude.{◌≡◌, ℕ, ◌+◌, ◌%◌, ◌<◌, ◌≤◌, max, [], ◌∷◌, None, IfOk, OnOk, OnErr};
 ghost use mathlib.Core.List.{IsPrefix};
 ghost use Rattle.cas_ledger.specs.Hands.{Owns};
-ghost use Rattle.cas_history.specs.Items.{listed, first_diary};
+ghost use Rattle.cas_history.specs.Items.{listed, first_diary, book_changes};
 ghost use Rattle.cas_history.specs.Last.{Idle};
 ghost use Rattle.cas_history.specs.Inner.Homes.{Homely};
 
+use crate::book::Book;
 use crate::front::Session;
 use crate::item::Item;
 use crate::numbers::Files;
 use crate::works::Works;
 use cas_ledger::{Opened, Pass, Store, deal, join};
+use cas_refs::RefBook;
 use std::alloc::AllocError;
 
 /// Whoever has it has the right to make passes: it owns each list from `next` on, and those are empty. It
@@ -115,6 +117,19 @@ impl<E, J: Store> Maker<E, J> {
         ensures out { self.new.out ≡ self.old.out }
     {
         self.list(list)
+    }
+
+    /// The seat of a new book, with the book's list of each shard.
+    pub fn book(&mut self, refs: RefBook) -> Result<Book<E, J>, AllocError>
+        requires next { self.old.next ≤ 80 }
+        ensures ok { IfOk result (λ b. (b.refs ≡ refs) × (self.new.next ≡ 96) × ((s : ℕ) → s < 16 → listed (book_changes s) b.pass.saw ≡ [])) }
+        ensures next { (self.old.next ≤ self.new.next) × (self.new.next ≤ 96) }
+        ensures out { self.new.out ≡ self.old.out }
+    {
+        self.reach(80)?;
+        let pass = deal(&mut self.pass, 16)?;
+        self.next = 96;
+        Ok(Book { refs, pass })
     }
 
     /// A session, or a worker, with an empty diary.
