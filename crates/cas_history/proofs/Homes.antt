@@ -100,53 +100,57 @@ module _ {E : Type 0} where
         (below_or_not 1 (shares p h)),
   )
 
-  -- the next list goes to another
-  gives_away : (next out more : ℕ) (h : Hand (Item E)) → Homely next out h → IsOut more (gave 1 h) → Homely (next + 1) more (gave 1 h)
-  gives_away next out more h home away = record {
-    makes = ap (further 1) home.makes;
+  -- the next lists go to another
+  gives_away : (next out more n : ℕ) (h : Hand (Item E)) → Homely next out h → IsOut more (gave n h) → Homely (next + n) more (gave n h)
+  gives_away next out more n h home away = record {
+    makes = ap (further n) home.makes;
     empty = λ r le. home.empty r (omega arith);
     away = away;
     quiet = λ p low even s.
         ⊎_elim
         (λ le. no_turn (listed p h.saw) (home.empty p le))
         (λ lt. home.quiet p low even
-        (⊎_elim (λ t. lists_share h p t) (λ (le : next + 1 ≤ p). absurd (omega arith)) (owns_or_makes (gave 1 h) (next + 1) p (ap (further 1) home.makes) s)))
+        (⊎_elim (λ t. lists_share h p t) (λ (le : next + n ≤ p). absurd (omega arith)) (owns_or_makes (gave n h) (next + n) p (ap (further n) home.makes) s)))
         (below_or_not next p);
   }
 
-  -- of what a hand owns, it gives away the next list alone
-  still_owns : (next p : ℕ) (h : Hand (Item E)) → h.from ≡ Some next → 0 < shares p h → p ≢ next → 0 < shares p (gave 1 h)
-  still_owns next p h makes s not =
-      ⊎_elim
-      (λ t. lists_share (gave 1 h) p t)
-      (λ le. makes_shares (gave 1 h) (next + 1) p (ap (further 1) makes) (omega arith))
-      (owns_or_makes h next p makes s)
-
-  -- what the hand doesn't own without the next list, it doesn't own
-  still_away : (next p : ℕ) (h : Hand (Item E)) → h.from ≡ Some next → p ≢ next → IsAway (gave 1 h) p → IsAway h p
-  still_away next p h makes not away = less_away h (gave 1 h) p (λ s. still_owns next p h makes s not) away
+  -- what the hand doesn't own without the next lists, it doesn't own
+  still_away : (next n p : ℕ) (h : Hand (Item E)) → h.from ≡ Some next → (next ≤ p → next + n ≤ p) → IsAway (gave n h) p → IsAway h p
+  still_away next n p h makes far away =
+      less_away h (gave n h) p
+      (λ s. ⊎_elim
+      (λ t. lists_share (gave n h) p t)
+      (λ le. makes_shares (gave n h) (next + n) p (ap (further n) makes) (far le))
+      (owns_or_makes h next p makes s))
+      away
 
   pub homely_lends : (next out : ℕ) (h : Hand (Item E)) → Homely next out h → Homely (next + 1) (out + 1) (gave 1 h)
   homely_lends next out h home =
-      gives_away next out (out + 1) h home
+      gives_away next out (out + 1) 1 h home
       (λ ps d e.
       let less = take_out (IsAway (gave 1 h)) next ps d e in
-      let all = each_weaker_at (IsAway (gave 1 h)) (IsAway h) less.rest (λ p has. still_away next p h home.makes (λ (is : p ≡ next). less.none (subst (Has less.rest) is has))) less.all in
+      let all = each_weaker_at (IsAway (gave 1 h)) (IsAway h) less.rest
+      (λ p has. let not : p ≢ next = λ (is : p ≡ next). less.none (subst (Has less.rest) is has) in still_away next 1 p h home.makes (λ le. omega arith))
+      less.all in
       let few = home.away less.rest less.distinct all in
       let short = less.short in
       omega arith)
 
-  pub homely_seats : (next out : ℕ) (h : Hand (Item E)) → Homely next out h → (first_diary ≤ next → next % 2 ≡ 1) → Homely (next + 1) out (gave 1 h)
-  homely_seats next out h home odd =
-      gives_away next out out h home
+  pub homely_seats : (next out n : ℕ) (h : Hand (Item E)) → Homely next out h → ((p : ℕ) → next ≤ p → p < next + n → first_diary ≤ p → p % 2 ≡ 1) → Homely (next + n) out (gave n h)
+  homely_seats next out n h home odd =
+      gives_away next out out n h home
       (λ ps d e.
       home.away ps d
-      (each_weaker_at (IsAway (gave 1 h)) (IsAway h) ps
-      (λ p has away. still_away next p h home.makes
-      (λ (is : p ≡ next).
-      let o : next % 2 ≡ 1 = odd (subst (λ (k : ℕ). first_diary ≤ k) is away.0) in
-      let ev : next % 2 ≡ 0 = subst (λ (k : ℕ). k % 2 ≡ 0) is away.1 in
-      omega arith)
+      (each_weaker_at (IsAway (gave n h)) (IsAway h) ps
+      (λ p has away. still_away next n p h home.makes
+      (λ le.
+      ⊎_elim
+      (λ far. far)
+      (λ near.
+      let o : p % 2 ≡ 1 = odd p le near away.0 in
+      let ev : p % 2 ≡ 0 = away.1 in
+      absurd (omega arith))
+      (below_or_not (next + n) p))
       away)
       e))
 

@@ -4,3 +4,5 @@ pub mod Shares
 pub mod Homes
 pub mod Once
 pub mod Orders
+pub mod Listed
+pub mod Books

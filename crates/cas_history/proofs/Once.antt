@@ -15,7 +15,7 @@ use Rattle.cas_history.specs.Items.{items, listed, lists_of, MayCome, Distinct, 
 use Rattle.cas_history.specs.Last.{uses, used, adds, all_added, holds, holds_after, file_after, last_file}
 use Rattle.cas_history.proofs.Turns.{some_one, none_some, same_or, none_if, fold_gets, fold_kept}
 
-has_left : (xs ys : List ℕ) (k : ℕ) → Has xs k → Has (xs ++ ys) k
+pub has_left : (xs ys : List ℕ) (k : ℕ) → Has xs k → Has (xs ++ ys) k
 has_left [] ys k h = absurd h
 has_left (x ∷ xs) ys k (inl e) = inl e
 has_left (x ∷ xs) ys k (inr h) = inr (has_left xs ys k h)
@@ -24,7 +24,7 @@ has_right : (xs ys : List ℕ) (k : ℕ) → Has ys k → Has (xs ++ ys) k
 has_right [] ys k h = h
 has_right (x ∷ xs) ys k h = inr (has_right xs ys k h)
 
-has_either : (xs ys : List ℕ) (k : ℕ) → Has (xs ++ ys) k → Has xs k ⊎ Has ys k
+pub has_either : (xs ys : List ℕ) (k : ℕ) → Has (xs ++ ys) k → Has xs k ⊎ Has ys k
 has_either [] ys k h = inr h
 has_either (x ∷ xs) ys k (inl e) = inl (inl e)
 has_either (x ∷ xs) ys k (inr h) = ⊎_elim (λ a. inl (inr a)) (λ b. inr b) (has_either xs ys k h)
@@ -42,11 +42,11 @@ each_from P (x ∷ xs) f = (f x (inl refl), each_from P xs (λ k h. f k (inr h))
 
 module _ {E : Type 0} where
   -- what entries bring, after one more
-  brings_more : (f : Item E → List ℕ) (list : List (Item E)) (e : Item E) → flat_map f (list ++ e ∷ []) ≡ flat_map f list ++ f e
+  pub brings_more : (f : Item E → List ℕ) (list : List (Item E)) (e : Item E) → flat_map f (list ++ e ∷ []) ≡ flat_map f list ++ f e
   brings_more f list e = flat_map-append f list (e ∷ []) ∙ ap (λ l. flat_map f list ++ l) (append-nil (f e))
 
   -- what a part of a list brings, the list brings
-  part_brings : (f : Item E → List ℕ) (test : Item E → Bool) (list : List (Item E)) (k : ℕ) → Has (flat_map f (filter test list)) k → Has (flat_map f list) k
+  pub part_brings : (f : Item E → List ℕ) (test : Item E → Bool) (list : List (Item E)) (k : ℕ) → Has (flat_map f (filter test list)) k → Has (flat_map f list) k
   part_brings f test [] k h = h
   part_brings f test (e ∷ es) k h = by (test e) (part_brings f test es k) h
     where
@@ -119,7 +119,7 @@ module _ {E : Type 0} where
     pub known : Has (all_added log) file → Has (used (listed numbers_list log)) file
 
   -- an entry that neither draws nor lists the number
-  record Aside (file : ℕ) (e : Item E) : Type 0 where
+  pub record Aside (file : ℕ) (e : Item E) : Type 0 where
     pub who : (p : Option ℕ) → holder_after file p e ≡ p
     pub held : (b : Bool) → holds_after file b e ≡ b
     pub none : Has (adds e) file → ⊥
@@ -127,12 +127,12 @@ module _ {E : Type 0} where
   aside : (file : ℕ) (e : Item E) → ((p : Option ℕ) → holder_after file p e ≡ p) → ((b : Bool) → holds_after file b e ≡ b) → (Has (adds e) file → ⊥) → Aside file e
   aside file e who held none = record { who = who; held = held; none = none }
 
-  abbrev Which : ℕ → Item E → Type 0
+  abbrev pub Which : ℕ → Item E → Type 0
   Which file e = Aside file e ⊎ ((pass : ℕ) × (e ≡ Drew pass file))
       ⊎ ((s : ℕ) × (t : ℕ) × (n : ℕ) × (fs : List ℕ) × (w : E) × (e ≡ Stood s t n fs w) × Has fs file)
       ⊎ ((s : ℕ) × (p : ℕ) × (t : ℕ) × (n : ℕ) × (rm : List ℕ) × (fs : List ℕ) × (w : E) × (e ≡ Changed s p t n rm fs w) × Has fs file)
 
-  which : (file : ℕ) (e : Item E) → Which file e
+  pub which : (file : ℕ) (e : Item E) → Which file e
   which file (Drew pass drawn) =
       ⊎_elim
       (λ (t : (eqb drawn file ≡ true) × (drawn ≡ file)). inr (inl (pass, ap (λ k. Drew pass k) t.1)))
@@ -271,7 +271,7 @@ module _ {E : Type 0} where
       elsewhere p low not small (inr (inr (inr (inl is)))) = not is
       elsewhere p low not small (inr (inr (inr (inr none)))) = none
 
-  keeps : (file : ℕ) (before : List (Item E)) (e : Item E) → Kept file before → Follows items before e → Kept file (before ++ e ∷ [])
+  pub keeps : (file : ℕ) (before : List (Item E)) (e : Item E) → Kept file before → Follows items before e → Kept file (before ++ e ∷ [])
   keeps file before e k f = by (which file e)
     where
       by : Which file e → Kept file (before ++ e ∷ [])
@@ -282,7 +282,7 @@ module _ {E : Type 0} where
       by (inr (inr (inr (s, p, t, n, rm, fs, w, is, has)))) =
           subst (λ x. Kept file (before ++ x ∷ [])) (sym is) (keeps_taken file s p t n rm fs w before has k (subst (Follows items before) is f))
 
-  nothing_kept : (file : ℕ) → Kept file []
+  pub nothing_kept : (file : ℕ) → Kept file []
   nothing_kept file = record {
     numbers = (tt, λ k h. absurd h);
     one = λ p low h. absurd (true≢false (sym h));
@@ -321,7 +321,7 @@ module _ {E : Type 0} where
   adds_others before (Ended _ _) f = tt
 
   -- what an entry lists was not listed before
-  adds_new : (file : ℕ) (before : List (Item E)) (e : Item E) → Kept file before → Follows items before e → Has (adds e) file → Has (all_added before) file → ⊥
+  pub adds_new : (file : ℕ) (before : List (Item E)) (e : Item E) → Kept file before → Follows items before e → Has (adds e) file → Has (all_added before) file → ⊥
   adds_new file before e k f has was = by (which file e)
     where
       by : Which file e → ⊥

@@ -1,6 +1,8 @@
 -- In a legal log, the mutations of a session in the room's list are those of its diary, those of a shard are those of its list, and the copies of a shard's changes are its changes.
 use Rattle.std.proofs.Common.{◌≡◌, ◌⊎◌, ℕ, ◌<◌, List, [], ◌∷◌, ◌++◌, Bool, true, false, cond, refl, ap, sym, ◌∙◌, inl, inr, ⊎_elim, arith, append-nil, eqb-true, true≢false}
-use Rattle.std.specs.List.{filter}
+use Rattle.std.specs.Prelude.{◌==◌}
+use Rattle.std.specs.List.{filter, list_any}
+use mathlib.Core.List.{IsPrefix}
 use Rattle.std.proofs.lemmas.List.Elements.{filter-append}
 use Rattle.cas_ledger.specs.Log.{Has, Follows, Legal}
 use Rattle.cas_ledger.proofs.Lists.{has_or_not}
@@ -11,6 +13,10 @@ use Rattle.cas_history.specs.Items.{items, listed, lists_of, log_list, front_lis
 use Rattle.cas_history.specs.Laws.{is_write_of, is_write_in, writes_of, writes_in}
 
 module _ {E : Type 0} where
+  -- each list goes on from what it was in a beginning of the log
+  pub list_begins : (list : ℕ) (p log : List (Item E)) → IsPrefix p log → IsPrefix (listed list p) (listed list log)
+  list_begins list p log begin = (listed list begin.0, sym (filter-append (λ e. list_any (λ k. k == list) (lists_of e)) p begin.0) ∙ ap (listed list) begin.1)
+
   -- what a test finds in a list, after an entry that the list has, and after one that fails the test
   found_here : (test : Item E → Bool) (r : ℕ) (before : List (Item E)) (e : Item E) → Has (lists_of e) r → filter test (listed r (before ++ e ∷ [])) ≡ filter test (listed r before) ++ filter test (e ∷ [])
   found_here test r before e has = ap (filter test) (part_gets items before e r has) ∙ filter-append test (listed r before) (e ∷ [])

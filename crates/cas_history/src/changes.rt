@@ -1,12 +1,15 @@
 //! Changes of a shard's table files, and the copies of them that the room and the book have.
-ghost use Rattle.std.specs.Prelude.{◌≡◌, ◌<◌, ◌≤◌, true, [], ◌∷◌, ◌++◌};
+ghost use Rattle.std.specs.Prelude.{◌≡◌, ◌≢◌, ℕ, ◌<◌, ◌≤◌, true, [], ◌∷◌, ◌++◌};
 ghost use mathlib.Core.List.{IsPrefix};
 ghost use Rattle.cas_ledger.specs.Log.{Each, Has};
 ghost use Rattle.cas_ledger.specs.Hands.{Owns};
 ghost use Rattle.cas_history.specs.Items.{listed, changes_list, room_changes, book_changes, numbers_list, Distinct};
 ghost use Rattle.cas_history.specs.Last.{holds, used, all_added, files_of, frontier_of};
+ghost use Rattle.cas_history.specs.Books.{is_live};
+ghost use Rattle.cas_refs.specs.Counts.{at};
 ghost use Rattle.cas_history.specs.declared.item.Item.TheVariants.{Changed, Stood};
 
+use crate::book::Book;
 use crate::item::Item;
 use crate::maker::Fresh;
 use crate::numbers::{Files, Numbers};
@@ -27,14 +30,6 @@ pub struct RoomCopy<E, J: Store> {
     pub(crate) pass: Pass<Item<E>, J>,
     pub(crate) shard: u64,
     ghost owns: { (shard < 16) × Owns pass (room_changes shard) },
-}
-
-/// The book's seat for a shard's changes.
-#[derive(Drop)]
-pub struct BookCopy<E, J: Store> {
-    pub(crate) pass: Pass<Item<E>, J>,
-    pub(crate) shard: u64,
-    ghost owns: { (shard < 16) × Owns pass (book_changes shard) },
 }
 
 /// What the opening found of a table in a shard.
@@ -108,29 +103,18 @@ impl<E, J: Store> RoomCopy<E, J> {
     }
 }
 
-impl<E, J: Store> BookCopy<E, J> {
-    pub fn new(fresh: Fresh<E, J>, shard: u64) -> BookCopy<E, J>
-        requires { (shard < 16) × (fresh.list ≡ book_changes shard) }
-        ensures { (result.shard ≡ shard) × (listed (book_changes shard) result.pass.saw ≡ []) }
-    {
-        BookCopy {
-            pass: fresh.pass,
-            shard,
-        }
-    }
-}
-
 /// What the opening found of a table comes into the history, before a file number is drawn or a change made.
 pub fn list_found<E, J: Store, T: Tells<E>>(
     numbers: &mut Numbers<E, J>,
     changes: &mut Changes<E, J>,
     room: &mut RoomCopy<E, J>,
-    book: &mut BookCopy<E, J>,
+    book: &mut Book<E, J>,
     found: Standing<'_, T>,
 )
-    requires shard { (room.old.shard ≡ changes.old.shard) × (book.old.shard ≡ changes.old.shard) }
+    requires shard { room.old.shard ≡ changes.old.shard }
     requires files { Distinct found.files.now
         × Each (λ k. (k ≤ numbers.old.last) × (Has (used (listed numbers_list numbers.old.pass.saw)) k → ⊥)) found.files.now }
+    requires live { Each (λ k. is_live (at book.old.refs k) ≡ true) found.files.now }
     requires frontier { frontier_of found.table (listed (changes_list changes.old.shard) changes.old.pass.saw) ≤ found.frontier }
     ensures numbers { (numbers.new.last ≡ numbers.old.last) × (listed numbers_list numbers.new.pass.saw ≡ listed numbers_list numbers.old.pass.saw
         ++ Stood changes.old.shard found.entry.table found.entry.frontier
@@ -141,7 +125,7 @@ pub fn list_found<E, J: Store, T: Tells<E>>(
     ensures room { (room.new.shard ≡ changes.old.shard) × (listed (room_changes changes.old.shard) room.new.pass.saw ≡ listed
         (room_changes changes.old.shard) room.old.pass.saw ++ Stood changes.old.shard found.entry.table found.entry.frontier
         found.entry.files.now (T.entry found.entry.what.now) ∷ []) }
-    ensures book { (book.new.shard ≡ changes.old.shard) × (listed (book_changes changes.old.shard) book.new.pass.saw ≡ listed
+    ensures book { (book.new.refs ≡ book.old.refs) × (listed (book_changes changes.old.shard) book.new.pass.saw ≡ listed
         (book_changes changes.old.shard) book.old.pass.saw ++ Stood changes.old.shard found.entry.table found.entry.frontier
         found.entry.files.now (T.entry found.entry.what.now) ∷ []) }
 {
@@ -161,17 +145,18 @@ pub fn list_found<E, J: Store, T: Tells<E>>(
 }
 
 /// A change comes into the history: into the shard's list, the room's and the book's, and into the list of
-/// who drew the numbers of the files that it adds, which holds them no longer. The answer is how many
-/// changes of the shard there were.
+/// who drew the numbers of the files that it adds, which holds them no longer. No shard has the removed
+/// files any longer, so the book may retire them. The answer is how many changes of the shard there were.
 pub fn install<E, J: Store, T: Tells<E>>(
     changes: &mut Changes<E, J>,
     room: &mut RoomCopy<E, J>,
-    book: &mut BookCopy<E, J>,
+    book: &mut Book<E, J>,
     files: &mut Files<E, J>,
     change: Change<'_, T>,
 ) -> u64
-    requires shard { (room.old.shard ≡ changes.old.shard) × (book.old.shard ≡ changes.old.shard) }
+    requires shard { room.old.shard ≡ changes.old.shard }
     requires added { Distinct change.added.now × Each (λ k. holds k (listed files.old.list files.old.pass.saw) ≡ true) change.added.now }
+    requires live { Each (λ k. is_live (at book.old.refs k) ≡ true) change.added.now }
     requires removed { Each (λ k. Has (files_of (listed (changes_list changes.old.shard) changes.old.pass.saw)) k) change.removed.now }
     requires frontier { frontier_of change.table (listed (changes_list changes.old.shard) changes.old.pass.saw) ≤ change.frontier }
     ensures changes { (changes.new.shard ≡ changes.old.shard) × (listed (changes_list changes.old.shard) changes.new.pass.saw
@@ -182,13 +167,15 @@ pub fn install<E, J: Store, T: Tells<E>>(
         ≡ listed (room_changes changes.old.shard) room.old.pass.saw
         ++ Changed changes.old.shard files.old.list change.entry.table change.entry.frontier change.entry.removed.now
         change.entry.added.now (T.entry change.entry.what.now) ∷ []) }
-    ensures book { (book.new.shard ≡ changes.old.shard) × (listed (book_changes changes.old.shard) book.new.pass.saw
+    ensures book { (book.new.refs ≡ book.old.refs) × (listed (book_changes changes.old.shard) book.new.pass.saw
         ≡ listed (book_changes changes.old.shard) book.old.pass.saw
         ++ Changed changes.old.shard files.old.list change.entry.table change.entry.frontier change.entry.removed.now
         change.entry.added.now (T.entry change.entry.what.now) ∷ []) }
     ensures files { (files.new.list ≡ files.old.list) × (listed files.old.list files.new.pass.saw ≡ listed files.old.list files.old.pass.saw
         ++ Changed changes.old.shard files.old.list change.entry.table change.entry.frontier change.entry.removed.now
         change.entry.added.now (T.entry change.entry.what.now) ∷ []) }
+    ensures gone { (k : ℕ) → Has change.entry.removed.now k → Has (files_of (listed (changes_list changes.old.shard) changes.new.pass.saw)) k → ⊥ }
+    ensures retires { (s k : ℕ) → s < 16 → Has change.entry.removed.now k → Has (files_of (listed (book_changes s) book.new.pass.saw)) k → ⊥ }
     ensures seen { (room.new.pass.saw ≡ changes.new.pass.saw) × (book.new.pass.saw ≡ changes.new.pass.saw)
         × (files.new.pass.saw ≡ changes.new.pass.saw) × IsPrefix changes.old.pass.saw changes.new.pass.saw
         × IsPrefix files.old.pass.saw changes.new.pass.saw }
@@ -223,6 +210,18 @@ pub fn held_is_unlisted<E, J: Store>(
 {
     let _file = file;
     look(&mut changes.pass, &mut files.pass, 0);
+}
+
+/// No file is of two shards, nor ever was.
+pub fn files_apart<E, J: Store>(one: &mut Changes<E, J>, two: &mut Changes<E, J>)
+    requires { one.old.shard ≢ two.old.shard }
+    ensures law { (k : ℕ) → Has (all_added (listed (changes_list one.old.shard) one.old.pass.saw)) k
+        → Has (all_added (listed (changes_list two.old.shard) two.old.pass.saw)) k → ⊥ }
+    ensures same { (one.new.shard ≡ one.old.shard) × (two.new.shard ≡ two.old.shard)
+        × (listed (changes_list one.old.shard) one.new.pass.saw ≡ listed (changes_list one.old.shard) one.old.pass.saw)
+        × (listed (changes_list two.old.shard) two.new.pass.saw ≡ listed (changes_list two.old.shard) two.old.pass.saw) }
+{
+    look(&mut one.pass, &mut two.pass, 0);
 }
 
 /// Each file of a shard was listed once, and its number was found or drawn.

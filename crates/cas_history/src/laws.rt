@@ -7,7 +7,8 @@ ghost use Rattle.cas_history.specs.Last.{last_number, turn, Idle};
 ghost use Rattle.cas_history.specs.Laws.{writes_of, writes_in, Stands};
 ghost use Rattle.cas_history.specs.declared.item.Item.TheVariants.{Began};
 
-use crate::changes::{BookCopy, Changes, RoomCopy};
+use crate::book::Book;
+use crate::changes::{Changes, RoomCopy};
 use crate::front::{Front, Log, Session};
 use crate::item::Item;
 use crate::maker::Maker;
@@ -15,7 +16,8 @@ use crate::works::Works;
 use cas_ledger::{Kept, Store, Tells, join, look, look_three};
 
 /// A session is shown a shard. The answer is the number of the shard's last mutation, which isn't below one
-/// that the session was shown; from here on the session has the shard's list.
+/// that the session was shown; from here on the session has the shard's list. What it was shown before, of
+/// any list, it still holds.
 pub fn show<E, J: Store>(front: &mut Front<E, J>, session: &mut Session<E, J>) -> u64
     ensures number { (result ≡ front.old.number) × (last_number (listed (front_list front.old.shard) session.old.pass.saw) ≤ result) }
     ensures front { (front.new.number ≡ front.old.number) × (front.new.shard ≡ front.old.shard)
@@ -23,6 +25,7 @@ pub fn show<E, J: Store>(front: &mut Front<E, J>, session: &mut Session<E, J>) -
     ensures session { (session.new.list ≡ session.old.list) × (session.new.calls ≡ session.old.calls)
         × (listed session.old.list session.new.pass.saw ≡ listed session.old.list session.old.pass.saw) }
     ensures shown { listed (front_list front.old.shard) session.new.pass.saw ≡ listed (front_list front.old.shard) front.old.pass.saw }
+    ensures holds { (list : ℕ) → IsPrefix (listed list session.old.pass.saw) (listed list session.new.pass.saw) }
     ensures seen { (session.new.pass.saw ≡ front.new.pass.saw) × IsPrefix front.old.pass.saw front.new.pass.saw
         × IsPrefix session.old.pass.saw front.new.pass.saw }
 {
@@ -58,10 +61,9 @@ pub fn room_stands<E, J: Store>(changes: &mut Changes<E, J>, room: &mut RoomCopy
 }
 
 /// The book's copy of a shard's changes is the shard's list.
-pub fn book_stands<E, J: Store>(changes: &mut Changes<E, J>, book: &mut BookCopy<E, J>)
-    requires { book.old.shard ≡ changes.old.shard }
+pub fn book_stands<E, J: Store>(changes: &mut Changes<E, J>, book: &mut Book<E, J>)
     ensures law { listed (changes_list changes.old.shard) changes.old.pass.saw ≡ listed (book_changes changes.old.shard) book.old.pass.saw }
-    ensures same { (changes.new.shard ≡ changes.old.shard) × (book.new.shard ≡ book.old.shard) }
+    ensures same { (changes.new.shard ≡ changes.old.shard) × (book.new.refs ≡ book.old.refs) }
 {
     look(&mut changes.pass, &mut book.pass, 0);
 }
@@ -118,9 +120,10 @@ pub fn history_stands<E, J: Store>(log: &Log<E, J>)
 }
 
 /// A run has ended: its one history, in which the room's list and the diaries of all sessions that have
-/// ended are as they were.
+/// ended are as they were, and each list goes on from what any of them was shown of it.
 pub fn conclude<E, J: Store>(maker: Maker<E, J>, log: Log<E, J>) -> Kept<Item<E>>
     ensures room { listed log_list result.saw ≡ listed log_list log.pass.saw }
+    ensures holds { (list : ℕ) → IsPrefix (listed list maker.pass.saw) (listed list result.saw) }
     ensures diaries { (p : ℕ) → Owns maker.pass p → listed p result.saw ≡ listed p maker.pass.saw }
     ensures law { Stands (listed log_list result.saw) (λ shard. listed (front_list shard) result.saw) (λ session. listed session result.saw) }
     ensures all { maker.out ≡ 0 → (p : ℕ) → first_diary ≤ p → p % 2 ≡ 0 → Idle (listed p result.saw) }

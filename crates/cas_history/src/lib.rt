@@ -2,6 +2,7 @@
 //! `cas_ledger`. A seat a rule: each struct has the pass of its own lists.
 #![tactic(auto)]
 
+mod book;
 mod changes;
 mod faults;
 mod front;
@@ -12,8 +13,9 @@ mod moments;
 mod numbers;
 mod works;
 
+pub use book::Book;
 pub use changes::{
-    BookCopy, Change, Changes, RoomCopy, Standing, files_stand, held_is_unlisted, install,
+    Change, Changes, RoomCopy, Standing, files_apart, files_stand, held_is_unlisted, install,
     list_found,
 };
 pub use faults::Faults;

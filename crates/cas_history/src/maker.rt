@@ -2,15 +2,17 @@
 ghost use Rattle.std.specs.Prelude.{◌≡◌, ℕ, ◌+◌, ◌%◌, ◌<◌, ◌≤◌, max, [], ◌∷◌, None, IfOk, OnOk, OnErr};
 ghost use mathlib.Core.List.{IsPrefix};
 ghost use Rattle.cas_ledger.specs.Hands.{Owns};
-ghost use Rattle.cas_history.specs.Items.{listed, first_diary};
+ghost use Rattle.cas_history.specs.Items.{listed, first_diary, book_changes};
 ghost use Rattle.cas_history.specs.Last.{Idle};
 ghost use Rattle.cas_history.specs.Inner.Homes.{Homely};
 
+use crate::book::Book;
 use crate::front::Session;
 use crate::item::Item;
 use crate::numbers::Files;
 use crate::works::Works;
 use cas_ledger::{Opened, Pass, Store, deal, join};
+use cas_refs::RefBook;
 use std::alloc::AllocError;
 
 /// Whoever has it has the right to make passes: it owns each list from `next` on, and those are empty. It
@@ -117,6 +119,19 @@ impl<E, J: Store> Maker<E, J> {
         self.list(list)
     }
 
+    /// The seat of a new book, with the book's list of each shard.
+    pub fn book(&mut self, refs: RefBook) -> Result<Book<E, J>, AllocError>
+        requires next { self.old.next ≤ 80 }
+        ensures ok { IfOk result (λ b. (b.refs ≡ refs) × (self.new.next ≡ 96) × ((s : ℕ) → s < 16 → listed (book_changes s) b.pass.saw ≡ [])) }
+        ensures next { (self.old.next ≤ self.new.next) × (self.new.next ≤ 96) }
+        ensures out { self.new.out ≡ self.old.out }
+    {
+        self.reach(80)?;
+        let pass = deal(&mut self.pass, 16)?;
+        self.next = 96;
+        Ok(Book { refs, pass })
+    }
+
     /// A session, or a worker, with an empty diary.
     pub fn session(&mut self) -> Result<Session<E, J>, AllocError>
         requires next { self.old.next < 4294967000 }
@@ -155,7 +170,8 @@ impl<E, J: Store> Maker<E, J> {
         Ok(Works::new(fresh))
     }
 
-    /// A session has ended, without a turn: its diary is the maker's from now on, and stays as it was.
+    /// A session has ended, without a turn: its diary is the maker's from now on, and stays as it was. What
+    /// the session was shown the maker holds.
     pub fn keep(&mut self, session: Session<E, J>)
         requires idle { Idle (listed session.list session.pass.saw) }
         ensures out { self.new.out + 1 ≡ self.old.out }
@@ -163,6 +179,7 @@ impl<E, J: Store> Maker<E, J> {
         ensures owns { Owns self.new.pass session.list }
         ensures list { listed session.list self.new.pass.saw ≡ listed session.list session.pass.saw }
         ensures seen { IsPrefix self.old.pass.saw self.new.pass.saw × IsPrefix session.pass.saw self.new.pass.saw }
+        ensures holds { (list : ℕ) → IsPrefix (listed list session.pass.saw) (listed list self.new.pass.saw) }
     {
         join(&mut self.pass, session.pass);
         self.out -= 1;

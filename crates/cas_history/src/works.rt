@@ -127,6 +127,7 @@ impl<E, J: Store> Works<E, J> {
         ensures diary { (session.new.list ≡ session.old.list) × (session.new.calls ≡ session.old.calls)
             × (listed session.old.list session.new.pass.saw ≡ listed session.old.list session.old.pass.saw
             ++ Purged front.old.shard self.old.list session.old.list (T.entry what.now) ∷ []) }
+        ensures turn { turn self.old.list (listed session.old.list session.new.pass.saw) ≡ true }
         ensures seen { (session.new.pass.saw ≡ self.new.pass.saw) × (front.new.pass.saw ≡ self.new.pass.saw)
             × IsPrefix self.old.pass.saw self.new.pass.saw × IsPrefix front.old.pass.saw self.new.pass.saw
             × IsPrefix session.old.pass.saw self.new.pass.saw }

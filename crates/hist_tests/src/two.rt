@@ -1,8 +1,12 @@
-// Two clients, in a thread each, write to one shard and look at it, through a lock.
-ghost use Rattle.std.specs.Prelude.{◌≡◌};
+// Two clients, in a thread each, write to one shard and look at it, through a lock. When both have ended, a
+// lone line has all to itself, and the one history holds.
+ghost use Rattle.std.specs.Prelude.{◌≡◌, ◌+◌, ◌<◌, ◌≤◌, max, IfOk};
+ghost use Rattle.cas_history.specs.Items.{listed, log_list, front_list};
+ghost use Rattle.cas_history.specs.Last.{Idle};
+ghost use Rattle.cas_history.specs.Laws.{Stands};
 
-use cas_history::{Front, Item, Log, Maker, Session, show, write};
-use cas_ledger::{Opened, Store, Tells};
+use cas_history::{Front, Item, Log, Maker, Session, begin_alone, conclude, show, write};
+use cas_ledger::{Kept, Opened, Store, Tells};
 use std::marker::Brand;
 use std::sync::{Mutex, Wait};
 use std::test::*;
@@ -22,40 +26,90 @@ struct Node<J: Store> {
     front: Front<u64, J>,
 }
 
-// How many of the rounds answered a number above the last that this client was answered or shown.
-fn client<J: Store>(rt: &impl Wait, node: &Mutex<Node<J>>, mut session: Session<u64, J>) -> u64 {
-    let mut last = 0;
-    let mut good = 0u64;
-    for round in 0..10_000u64 {
-        let mut node = node.lock(rt);
-        let node = &mut *node;
-        if node.front.number() < 1_000_000 && session.calls() < 1_000_000 {
-            let number = write(&mut node.log, &mut node.front, &mut session, &Value(round));
-            let shown = show(&mut node.front, &mut session);
-            if last < number && number <= shown {
-                good = good.saturating_add(1);
-            }
-            last = shown;
-        }
+/// A client's session, and how many of its rounds answered a number above the last that it was answered or
+/// shown.
+#[derive(Drop)]
+struct Client<J: Store> {
+    session: Session<u64, J>,
+    good: u64,
+    ghost idle: { Idle (listed session.list session.pass.saw) },
+}
+
+// One round: it writes, where numbers are left, and looks. The answer is the last number shown.
+fn round<J: Store>(node: &mut Node<J>, client: &mut Client<J>, last: u64, value: u64) -> u64 {
+    if node.front.number() >= 1_000_000 || client.session.calls() >= 1_000_000 {
+        return last;
     }
-    good
+    let number = write(
+        &mut node.log,
+        &mut node.front,
+        &mut client.session,
+        &Value(value),
+    );
+    let shown = show(&mut node.front, &mut client.session);
+    let rose = last < number && number <= shown;
+    client.good = client.good.saturating_add(rose as u64);
+    shown
+}
+
+fn run_client<J: Store>(rt: &impl Wait, node: &Mutex<Node<J>>, mut client: Client<J>) -> Client<J> {
+    let mut last = 0;
+    for value in 0..10_000u64 {
+        let mut node = node.lock(rt);
+        last = round(&mut node, &mut client, last, value);
+    }
+    client
+}
+
+fn new_client<J: Store>(maker: &mut Maker<u64, J>) -> Result<Client<J>, Fail>
+    requires { (maker.old.next < 4294967000) × (maker.old.out < 100) }
+    ensures ok { IfOk result (λ c. maker.new.out ≡ maker.old.out + 1) }
+    ensures next { maker.new.next ≤ max maker.old.next 96 + 2 }
+{
+    let session = maker.session()?;
+    Ok(Client { session, good: 0 })
+}
+
+/// How many rounds of each client were good, and how many mutations the shard has.
+#[derive(PartialEq, Drop)]
+struct Counts {
+    one: u64,
+    two: u64,
+    all: u64,
 }
 
 fn clients<J: Store + Send + Sync, R: Threads + Wait + Sync>(
     rt: &R,
     opened: Opened<Item<u64>>,
-) -> Result<(u64, u64, u64), Fail>
+) -> Result<(Kept<Item<u64>>, Counts), Fail>
     requires { opened.seat.table_id ≡ J.table }
+    ensures law { IfOk result (λ r. Stands (listed log_list r.0.saw) (λ shard. listed (front_list shard) r.0.saw) (λ session. listed session r.0.saw)) }
 {
     let mut maker = Maker::<u64, J>::first(opened);
     let log = Log::new(maker.fresh(0)?);
     let front = Front::new(maker.fresh(16)?, 0, 0);
-    let one = Session::new(maker.fresh(96)?);
-    let two = Session::new(maker.fresh(98)?);
+    let mut zero = maker.session()?;
+    let mut works = maker.works()?;
+    let one = new_client(&mut maker)?;
+    let two = new_client(&mut maker)?;
     let node = Mutex::new(Node { log, front });
-    let (a, b) = join(rt, || client(rt, &node, one), || client(rt, &node, two));
-    let all = node.lock(rt).front.number();
-    Ok((a, b, all))
+    let (one, two) = join(
+        rt,
+        || run_client(rt, &node, one),
+        || run_client(rt, &node, two),
+    );
+    let Node { log, front } = node.into_inner();
+    let counts = Counts {
+        one: one.good,
+        two: two.good,
+        all: front.number(),
+    };
+    maker.keep(one.session);
+    maker.keep(two.session);
+    begin_alone(&mut works, &mut maker, &mut zero, &Value(1));
+    works.end(&mut zero);
+    maker.keep(zero);
+    Ok((conclude(maker, log), counts))
 }
 
 /// Ten thousand rounds each: every answer is above what the client had seen, and the shard's last number is
@@ -63,7 +117,12 @@ fn clients<J: Store + Send + Sync, R: Threads + Wait + Sync>(
 #[test]
 fn two_clients(rt: HostRuntime) -> Result<(), Fail> {
     let opened = Opened::<Item<u64>>::new(rt.alloc())?;
-    let counts = clients::<Brand, _>(&rt, opened)?;
-    assert!(rt; counts == (10_000, 10_000, 20_000));
+    let (_history, counts) = clients::<Brand, _>(&rt, opened)?;
+    let expected = Counts {
+        one: 10_000,
+        two: 10_000,
+        all: 20_000,
+    };
+    assert!(rt; counts == expected);
     Ok(())
 }

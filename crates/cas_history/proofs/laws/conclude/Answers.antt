@@ -5,7 +5,9 @@ use Rattle.cas_history.specs.Items.{items, listed, log_list, front_list}
 use Rattle.cas_history.specs.Last.{Idle, turn}
 use Rattle.cas_history.specs.Laws.{Stands}
 use Rattle.cas_history.proofs.Homes.{all_home}
+use mathlib.Core.List.{IsPrefix}
 use Rattle.cas_history.proofs.Orders.{stands}
+use Rattle.cas_history.proofs.Shares.{list_begins}
 use Rattle.cas_history.proofs.laws.conclude.Goals as goal
 
 pub returns-clause-room : goal.returns-clause-room
@@ -26,3 +28,7 @@ returns-clause-all g c none p low even works =
     let maker = c.args.maker in
     let mine = all_home maker.next maker.out maker.pass maker.home none p low even in
     ap (λ h. turn works (listed p h.saw)) c.kept.ensures ∙ (ap (turn works) (sym (c.join.ensures.known.0.1 p mine)) ∙ maker.home.quiet p low even mine works)
+
+pub returns-clause-holds : goal.returns-clause-holds
+returns-clause-holds g c r =
+    subst (λ h. IsPrefix (listed r c.args.maker.pass.saw) (listed r h.saw)) (sym c.kept.ensures) (list_begins r _ _ c.join.ensures.known.0.0)

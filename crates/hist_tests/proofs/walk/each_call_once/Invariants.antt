@@ -1,4 +1,13 @@
 use Rattle.hist_tests.proofs.walk.each_call_once.Given as goal
 
-abbrev pub ghosts-line : goal.ghosts-line
-ghosts-line g a = record { table = a.opened.seat.table_id }
+abbrev pub ghosts-writes : goal.ghosts-writes
+ghosts-writes g a = record { table = a.opened.seat.table_id }
+
+abbrev pub ghosts-compaction : goal.ghosts-compaction
+ghosts-compaction g a = record { table = a.opened.seat.table_id }
+
+abbrev pub ghosts-failed_flush : goal.ghosts-failed_flush
+ghosts-failed_flush g a = record { table = a.opened.seat.table_id }
+
+abbrev pub ghosts-flush : goal.ghosts-flush
+ghosts-flush g a = record { table = a.opened.seat.table_id }

@@ -5,6 +5,7 @@ use Rattle.cas_ledger.proofs.Parts.{owned}
 use Rattle.cas_history.specs.Inner.Homes.{Homely}
 use Rattle.cas_history.specs.Items.{items}
 use Rattle.cas_history.proofs.Homes.{some_out, homely_keeps}
+use Rattle.cas_history.proofs.Shares.{list_begins}
 use Rattle.cas_history.proofs.maker.Maker.keep.Goals as goal
 
 pub overflow_sub-self : goal.overflow_sub-self
@@ -44,3 +45,6 @@ pub returns-clause-list : goal.returns-clause-list
 returns-clause-list g c =
     let session = c.args.session in
     sym (c.join.ensures.known.1.0.1 session.list (owned items session.pass session.list session.owns.1))
+
+pub returns-clause-holds : goal.returns-clause-holds
+returns-clause-holds g c r = list_begins r _ _ c.join.ensures.known.1.0.0

@@ -1,4 +1,4 @@
-use Rattle.std.proofs.Common.{◌≡◌, ◌≢◌, ℕ, ◌+◌, ◌%◌, ◌<◌, ◌≤◌, ◌∙◌, ◌++◌, [], ◌∷◌, Bool, cond, ap, refl, sym, subst, inl, inr, eq-eqb, arith}
+use Rattle.std.proofs.Common.{◌≡◌, ◌≢◌, ℕ, ◌+◌, ◌%◌, ◌<◌, ◌≤◌, ◌∙◌, ◌++◌, [], ◌∷◌, Bool, false, cond, ap, refl, sym, subst, inl, inr, eq-eqb, arith}
 use Rattle.std.specs.Prelude.{None}
 use Rattle.std.proofs.lemmas.List.Sums.{fold-append}
 use Rattle.cas_ledger.specs.Hands.{Owns}
@@ -6,7 +6,7 @@ use Rattle.cas_ledger.proofs.Parts.{owned, gets}
 use Rattle.cas_history.specs.declared.item.Item.{Item}
 use Rattle.cas_history.specs.declared.item.Item.TheVariants.{Purged}
 use Rattle.cas_history.specs.Items.{items, listed, front_list, first_diary}
-use Rattle.cas_history.specs.Last.{runs, runs_after, turn, decided, decided_after, last_number, number_after, last_call, call_after}
+use Rattle.cas_history.specs.Last.{runs, runs_after, turn, turn_after, decided, decided_after, last_number, number_after, last_call, call_after}
 use Rattle.cas_history.proofs.Turns.{turned}
 use Rattle.cas_history.proofs.works.Works.decide.Goals as goal
 
@@ -79,6 +79,12 @@ returns-clause-diary g c =
           ∙ (gets items hands _ _ _ c.look.new.two session.list came.entered (inr (inr (inl refl))) (subst (λ h. Owns h session.list) (sym shown.two) session.owns.1) (inr (inr (inl refl)))
           ∙ ap (λ l. l ++ Purged c.args.front.now.shard c.args.self.now.list session.list (g.T.Tells.entry c.args.what.now) ∷ []) (ap (λ h. listed session.list h.saw) shown.two ∙ sym diary)),
     )
+
+pub returns-clause-turn : goal.returns-clause-turn
+returns-clause-turn g c =
+    let self = c.args.self.now in
+    let session = c.args.session.now in
+    ap (turn self.list) (returns-clause-diary g c).2 ∙ (fold-append (turn_after self.list) false (listed session.list session.pass.saw) (_ ∷ []) ∙ c.requires.turn)
 
 pub invariant_of-front : goal.invariant_of-front
 invariant_of-front g c =
