@@ -1,6 +1,10 @@
-//! Tests of the merge of a partition's streams. They stand apart since a crate with tests is proved
-//! twice.
+//! Tests of the streams of a partition: their merge, and what they show. They stand apart since a
+//! crate with tests is proved twice.
 #![tactic(auto)]
 
+#[cfg(test)]
+mod fragments;
+#[cfg(test)]
+mod lives;
 #[cfg(test)]
 mod merges;
