@@ -32,8 +32,9 @@ use Rattle.cas_streams.specs.Laws.{is_row, row_says}
 use Rattle.cas_streams.specs.declared.fragment.Fragment.{Fragment}
 use Rattle.cas_streams.specs.declared.fragment.Fragment.TheVariants as fragment
 use Rattle.cas_streams.proofs.Rows.{rows_say_all}
+use Rattle.cas_streams.proofs.Single.{has_made}
 use Rattle.cas_live.specs.Views.{shared, row_view, live_row, live_rows, or_static, stream_answer}
-use Rattle.cas_live.specs.Laws.{StreamsAnswer}
+use Rattle.cas_live.specs.Laws.{StreamsAnswer, ShowsWhatIsWritten}
 use Rattle.cas_live.proofs.RowViews.{at_moment, same_itself, same_view}
 
 -- ---- the rows of a stream
@@ -152,6 +153,17 @@ module _ (q : Query) (now : ℤ) (top : Option Deletion) (fs : List Fragment) (o
       ∙ ap (λ cs. limited q.limit (alive.or_static q all now (turned q.reversed (map (λ c. row_shown q all now (clustered c)) cs)))) (sym answering)
       ∙ ap (λ rows. limited q.limit (alive.or_static q all now (turned q.reversed rows))) (shown_each fs (λ r has. has))
       ∙ ap (limited q.limit) (static_alike (turned q.reversed (live_rows q now top fs)))
+
+  -- each row that is shown is one that an atom of the stream writes in
+  is_written : (r : LiveRow) → Has (live_rows q now top fs) r → (c : List (List ℕ)) × Gives written_row all c × (r ≡ row_shown q all now (clustered c))
+  is_written r has =
+      let shows : List (List ℕ) → LiveRow = λ c. row_shown q all now (clustered c) in
+      let (c, there, e) = has_made shows (filter (is_answered q all now) (row_values fs)) r (subst (λ rows. Has rows r) (sym (shown_each fs (λ r has. has))) has) in
+      let answers : is_answered q all now c ≡ true = (left (is_answered q all now) c (row_values fs) there).1 in
+      (c, row_written all now q.columns c (both_hold (is_inside q.slice.lo q.slice.hi c) (is_shown all now q.columns c) answers).1, sym e)
+
+pub shows_what_is_written : ShowsWhatIsWritten
+shows_what_is_written q now top fs ordered r has = is_written q now top fs ordered r has
 
 pub streams_answer : StreamsAnswer
 streams_answer q now top fs ordered = answers q now top fs ordered

@@ -6,6 +6,6 @@ mod live_rows;
 mod viewer;
 mod views;
 
-pub use laws::{streams_answer, walks_show};
+pub use laws::{shows_what_is_written, streams_answer, walks_show};
 pub use live_rows::LiveRows;
 pub use viewer::Viewer;

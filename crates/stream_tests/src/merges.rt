@@ -1,55 +1,11 @@
 //! Two streams of one partition, and what their merge gives, by hand.
 
-use cas_atoms::Row;
-use cas_bounds::{Clustering, Cut, Ordered};
-use cas_cell::{Deletion, Liveness};
+use crate::fragments::{first_byte, marker, row};
+use cas_cell::Deletion;
 use cas_merge::Merger;
 use cas_streams::{Fragment, FragmentSource, Part};
-use cas_types::{Bytes, List, TypeTag};
 use std::alloc::{AllocError, Global};
 use std::test::Fail;
-
-// One ascending clustering column.
-fn order(alloc: Global) -> Result<List<Ordered>, AllocError> {
-    Ok(List::from_vec(vec![in alloc;
-        Ordered {
-            tag: TypeTag::TinyInt,
-            descending: false,
-        },
-    ]?))
-}
-
-fn values(alloc: Global, value: u8) -> Result<List<Bytes>, AllocError> {
-    Ok(List::from_vec(vec![in alloc; Bytes::copy_of(alloc, &[value])?]?))
-}
-
-// The row of that value, which an INSERT of that timestamp left alive.
-pub(crate) fn row(alloc: Global, value: u8, at: i64) -> Result<Fragment, AllocError> {
-    Ok(Fragment::Row(Row {
-        clustering: Clustering {
-            values: values(alloc, value)?,
-            order: order(alloc)?,
-        },
-        deletion: None,
-        live: Some(Liveness::Plain { at }),
-        columns: List::from_vec(Vec::new(alloc)),
-    }))
-}
-
-// From before, or after, the row of that value on a deletion of that timestamp is in force, or none.
-pub(crate) fn marker(
-    alloc: Global,
-    value: u8,
-    after: bool,
-    at: Option<i64>,
-) -> Result<Fragment, AllocError> {
-    let cut = Cut {
-        prefix: values(alloc, value)?,
-        after,
-        order: order(alloc)?,
-    };
-    Ok(Fragment::Marker(cut, at.map(|at| Deletion { at, second: 0 })))
-}
 
 // The rows from 2 to 5 are deleted at 20, and row 1 is there.
 fn deleting(alloc: Global) -> Result<Part, AllocError> {
@@ -67,13 +23,6 @@ fn inserting(alloc: Global) -> Result<Part, AllocError> {
     fragments.push(row(alloc, 4, 30)?)?;
     fragments.push(row(alloc, 6, 5)?)?;
     Ok(Part::new(Some(Deletion { at: 1, second: 0 }), fragments))
-}
-
-fn first_byte(values: &List<Bytes>) -> u8 {
-    match values.as_slice() {
-        [value, ..] => value.as_slice().first().copied().unwrap_or(0),
-        [] => 0,
-    }
 }
 
 // A fragment in short: what it is, its value, and its timestamp.

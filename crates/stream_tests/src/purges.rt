@@ -1,6 +1,7 @@
 //! Which atoms may be dropped, and what a purge leaves of a stream, by hand.
 
-use crate::merges::{marker, row, short};
+use crate::fragments::{marker, row};
+use crate::merges::short;
 use cas_atoms::{Atom, ColumnRef};
 use cas_cell::{Cell, Deletion, Liveness};
 use cas_purge::{Purger, droppable};
