@@ -54,7 +54,7 @@ either_way (Err e) P Q G p q h k = k q
 
 -- ---- markers
 
-marked : (ms : List Change) → changes (map marker ms) ≡ ms
+pub marked : (ms : List Change) → changes (map marker ms) ≡ ms
 marked [] = refl
 marked (m ∷ ms) = ap (λ l. m ∷ l) (marked ms)
 
