@@ -1,5 +1,5 @@
 -- A slice of a partition says in the slice what the partition says.
-use Rattle.std.proofs.Common.{◌≡◌, ℕ, ℤ, Bool, true, false, cond, not, ◌&&◌, Option, None, Some, List, [], ◌∷◌, ◌++◌, map, filter, refl, sym, ap, ◌∙◌, subst, append_assoc}
+use Rattle.std.proofs.Common.{◌≡◌, ℕ, ℤ, Bool, true, false, cond, not, ◌&&◌, Option, None, Some, List, [], ◌∷◌, ◌++◌, map, filter, Result, Ok, Err, IfOk, refl, sym, ap, ◌∙◌, subst, append_assoc}
 use Rattle.std.proofs.lemmas.Bool.{true≢false}
 use Rattle.std.proofs.lemmas.List.{append-nil}
 use Rattle.std.specs.Option.{option_cmp}
@@ -45,6 +45,7 @@ use Rattle.cas_streams.specs.declared.fragment.Fragment.{Fragment}
 use Rattle.cas_streams.proofs.OwnRows.{Only, not_of_row, none_given}
 use Rattle.cas_streams.proofs.Joining.{Alike, alike_then, alike_both}
 use Rattle.cas_streams.proofs.Merges.{merge_is_join, merge_ordered}
+use Rattle.cas_merge.specs.Told.{told_first, streams_told}
 use Rattle.cas_partition.specs.Ranges.{key_of}
 use Rattle.cas_partition.specs.Spots.{spot_cmp, piece, said}
 use Rattle.cas_partition.specs.Partitions.{said_at, atoms_with, partition_atoms, marker, IsOf, IsRowOf}
@@ -131,9 +132,9 @@ module _ (order : List Ordered) (s : Slice) (low : s.lo.order ≡ order) (high :
           ∙ greater_assoc o a (greatest cmp given (said_at S)) (greatest cmp given (said_at B)) ∙ ap (greater cmp a) ih ∙ sym (greatest-append o given (own (piece_of e)) (said_at es))
       go (Some k) is ih =
           (λ i. greater cmp (greatest cmp given (said_at (cond (kept_static order e.0.row (rest e.0) k is rows.0 i) (e ∷ S) S)))
-              (greatest cmp given (said_at (cond (kept_row order s e.0.row (rest e.0) k low high is rows.0 i) (e ∷ B) B))))
+          (greatest cmp given (said_at (cond (kept_row order s e.0.row (rest e.0) k low high is rows.0 i) (e ∷ B) B))))
           ∙ elim (is_inside s.lo s.hi k.values) as (λ b. is_inside s.lo s.hi k.values ≡ b
-              → greater cmp (greatest cmp given (said_at S)) (greatest cmp given (said_at (cond b (e ∷ B) B))) ≡ greatest cmp given (said_at (e ∷ es))) [
+          → greater cmp (greatest cmp given (said_at S)) (greatest cmp given (said_at (cond b (e ∷ B) B))) ≡ greatest cmp given (said_at (e ∷ es))) [
             | true ↦ λ within.
                 ap (greater cmp (greatest cmp given (said_at S))) (greatest-append o given (own (piece_of e)) (said_at B))
                 ∙ middle (greatest cmp given (said_at S)) a (greatest cmp given (said_at B)) ∙ ap (greater cmp a) ih ∙ sym (greatest-append o given (own (piece_of e)) (said_at es))
@@ -314,8 +315,8 @@ shows s p rows top fs sorted e t f = subst (λ d. Shows s p d fs) (sym t) (subst
         let G : List Atom = flat_map own rows in
         let R : List Atom = ranges p.ranges in
         let flat_rows : flats ss ≡ T ++ (G ++ R) =
-            (λ i. (T ++ (ranges ((in_rows order of).1 i) ++ G)) ++ ((ranges (marked p.ranges i) ++ no_own p.ranges i) ++ []))
-            ∙ ap (λ l. (T ++ G) ++ (l ++ [])) (append-nil R) ∙ regroup T G R in
+        (λ i. (T ++ (ranges ((in_rows order of).1 i) ++ G)) ++ ((ranges (marked p.ranges i) ++ no_own p.ranges i) ++ []))
+        ∙ ap (λ l. (T ++ G) ++ (l ++ [])) (append-nil R) ∙ regroup T G R in
         in_then s (flats ss) (T ++ (R ++ G)) (partition_atoms p)
         (everywhere s (flats ss) (T ++ (R ++ G)) (alike_then (alike_is (flats ss) (T ++ (G ++ R)) flat_rows) (alike_both (alike_itself T) (swap G R))))
         (behind_same s T (R ++ G) (R ++ said_at p.spots.entries)
@@ -324,3 +325,14 @@ shows s p rows top fs sorted e t f = subst (λ d. Shows s p d fs) (sym t) (subst
 
 pub slices_show : SlicesShow
 slices_show s p sorted = shows s p _ _ _ sorted refl refl refl
+
+-- ---- from what calls ensure
+
+pub if_ok_too : {A E : Type 0} (r : Result A E) (P Q : A → Type 0) → ((x : A) → P x → Q x) → IfOk r P → IfOk r Q
+if_ok_too (Ok x) P Q h p = h x p
+if_ok_too (Err e) P Q h p = tt
+
+pub two_told : {I : Type 0} (tells : I → Option (List Fragment)) (tops : I → Option Deletion) (a b : I) (parts : List I) (x y : List Fragment) (t u : Option Deletion) → parts ≡ a ∷ b ∷ []
+    → tells a ≡ Some x → tells b ≡ Some y → tops a ≡ t → tops b ≡ u → streams_told tells tops parts ≡ Some (record { top = t; fragments = x } ∷ record { top = u; fragments = y } ∷ [])
+two_told tells tops a b parts x y t u e f g h i =
+    ap (streams_told tells tops) e ∙ (λ j. told_first (h j) (f j) (told_first (i j) (g j) (Some [])))

@@ -66,7 +66,7 @@ from_alike : (f : Fragment) (gs : List Fragment) → Alike (flat_map own (groupe
 from_alike f [] = alike_itself (own f ++ [])
 from_alike f (g ∷ gs) =
     elim (is_eq (fragment_cmp f g)) as (λ b. is_eq (fragment_cmp f g) ≡ b
-        → Alike (flat_map own (cond b (grouped_from (joined_fragment f g) gs) (f ∷ grouped_from g gs))) (own f ++ (own g ++ flat_map own gs))) [
+    → Alike (flat_map own (cond b (grouped_from (joined_fragment f g) gs) (f ∷ grouped_from g gs))) (own f ++ (own g ++ flat_map own gs))) [
       | true ↦ λ e.
           alike_then (from_alike (joined_fragment f g) gs)
           (alike_then (alike_both (twins_alike f g (twins f g ((Equal-is (fragment_cmp f g)).0 e))) (alike_itself (flat_map own gs)))
@@ -174,12 +174,14 @@ module _ (order : List Ordered) where
   grouped_ordered [] all weak = (record { places = tt; of = tt; closed = refl }, refl)
   grouped_ordered (f ∷ fs) all weak =
       let rows : AllByRecursion OfRow (grouped_from f fs) = from_all f fs all.0 all.1 in
-      let none : changes (grouped_from f fs) ≡ [] = no_changes (grouped_from f fs) rows in
-      (record {
-        places = keys_ascend (place_cmp order) place_of (grouped_from f fs) (from_ascend f fs all.0 all.1 weak.0 weak.1);
-        of = orders_of (grouped_from f fs) rows;
-        closed = ap (at_end None) none;
-      }, none)
+      let none : changes (grouped_from f fs) ≡ [] = no_changes (grouped_from f fs) rows in (
+        record {
+          places = keys_ascend (place_cmp order) place_of (grouped_from f fs) (from_ascend f fs all.0 all.1 weak.0 weak.1);
+          of = orders_of (grouped_from f fs) rows;
+          closed = ap (at_end None) none;
+        },
+        none,
+      )
 
   -- ---- pieces by their spots
 
@@ -232,8 +234,9 @@ module _ (order : List Ordered) where
     kept_behind e (f ∷ es) row rows less =
         elim (p f) as (λ b. Behind (place_of (piece_of e)) (map piece_of (cond b (f ∷ filter p es) (filter p es)))) [
           | true ↦ (
-              (λ i. is_gt (place_cmp order (stands e.0.row e.0.column e.0.path e.1 i) (stands f.0.row f.0.column f.0.path f.1 i))) ∙ rows_weak e.0.row f.0.row _ row rows.0 less.0,
-              kept_behind e es row rows.1 less.1)
+            (λ i. is_gt (place_cmp order (stands e.0.row e.0.column e.0.path e.1 i) (stands f.0.row f.0.column f.0.path f.1 i))) ∙ rows_weak e.0.row f.0.row _ row rows.0 less.0,
+            kept_behind e es row rows.1 less.1,
+          )
           | false ↦ kept_behind e es row rows.1 less.1
         ]
 
@@ -300,6 +303,6 @@ module _ (order : List Ordered) where
   pub past_key : (cut : Cut) (k : MapKey) (o : Ordering) → cut.order ≡ order → IsRowOf order (Some k) → is_le (ordering_then (key_cmp (key_of cut) k) o) ≡ is_past cut k.values
   past_key cut k o e of =
       let turned : key_cmp (key_of cut) k ≡ point_cmp order (cut_point cut) (row_point k.values) =
-          keys_are_points (key_of cut) k (e ∙ sym of.1) ∙ (λ i. point_cmp (e i) (cut_point cut) (as_row k of.0 i)) in
+      keys_are_points (key_of cut) k (e ∙ sym of.1) ∙ (λ i. point_cmp (e i) (cut_point cut) (as_row k of.0 i)) in
       ap (λ r. is_le (ordering_then r o)) turned ∙ then_le (point_cmp order (cut_point cut) (row_point k.values)) o (no_tie cut k.values)
       ∙ sym (point_laws.past cut k.values ∙ ap (λ q. is_lt (point_cmp q (cut_point cut) (row_point k.values))) e)

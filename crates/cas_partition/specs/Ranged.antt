@@ -22,10 +22,17 @@ spot_at k = record { row = Some k; column = None; path = None }
 abbrev pub below_rows : MapKey
 below_rows = record { values = []; end = Before; order = [] }
 
--- the entries below that
-abbrev pub statics_of : List (Spot × Content) → List (Spot × Content)
-statics_of es = filter (λ e. true && not (is_le (spot_cmp (spot_at below_rows) e.0))) es
+-- the entries below a spot, and those between two
+abbrev pub spots_below : Spot → List (Spot × Content) → List (Spot × Content)
+spots_below first es = filter (λ e. true && not (is_le (spot_cmp first e.0))) es
 
--- the entries between two cuts
+abbrev pub spots_between : Spot → Spot → List (Spot × Content) → List (Spot × Content)
+spots_between low high es = filter (λ e. is_le (spot_cmp low e.0) && not (is_le (spot_cmp high e.0))) es
+
+-- those of the static row
+abbrev pub statics_of : List (Spot × Content) → List (Spot × Content)
+statics_of es = spots_below (spot_at below_rows) es
+
+-- those of rows between two cuts
 abbrev pub rows_between : Cut → Cut → List (Spot × Content) → List (Spot × Content)
-rows_between lo hi es = filter (λ e. is_le (spot_cmp (spot_at (key_of lo)) e.0) && not (is_le (spot_cmp (spot_at (key_of hi)) e.0))) es
+rows_between lo hi es = spots_between (spot_at (key_of lo)) (spot_at (key_of hi)) es
