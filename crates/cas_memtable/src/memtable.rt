@@ -177,7 +177,8 @@ impl MemPart {
     /// The partition of the key as a stream, in the slice and of the static row; none exactly where
     /// no atom was joined to it.
     pub fn part(&self, key: &Bytes, slice: &Slice) -> Result<Option<Merger<Part>>, AllocError>
-        ensures { IfOk result (λ part. GivesPart slice.now (held_at self.now key.now) ⟦<Merger<Part> as FragmentSource>⟧.to_come ⟦<Merger<Part> as FragmentSource>⟧.over_all part) }
+        ensures { IfOk result (λ part. GivesPart slice.now (held_at self.now key.now) ⟦<Merger<Part> as FragmentSource>⟧.to_come
+            ⟦<Merger<Part> as FragmentSource>⟧.over_all part) }
     {
         match self.partitions.get(key) {
             None => Ok(None),

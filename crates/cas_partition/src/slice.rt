@@ -143,7 +143,8 @@ fn add_below(
     spots: &BTreeMap<Spot, Content>,
     first: &Spot,
 ) -> Result<Option<Fragment>, AllocError>
-    ensures added { IfOk result (λ l. (gs : ListOf Fragment) → done.new.items ++ grouped l gs ≡ done.old.items ++ grouped None (map piece_of (spots_below first.now spots.now.entries) ++ gs)) }
+    ensures added { IfOk result (λ l. (gs : ListOf Fragment) → done.new.items ++ grouped l gs ≡ done.old.items
+        ++ grouped None (map piece_of (spots_below first.now spots.now.entries) ++ gs)) }
     ensures sorted { IsStrictlySortedBy spot_cmp (keys_of spots.now.entries) }
 {
     add_range(alloc, done, None, spots.range(..first))
@@ -158,7 +159,8 @@ fn add_between(
     low: &Spot,
     high: &Spot,
 ) -> Result<Option<Fragment>, AllocError>
-    ensures { IfOk result (λ l. (gs : ListOf Fragment) → done.new.items ++ grouped l gs ≡ done.old.items ++ grouped last (map piece_of (spots_between low.now high.now spots.now.entries) ++ gs)) }
+    ensures { IfOk result (λ l. (gs : ListOf Fragment) → done.new.items ++ grouped l gs ≡ done.old.items
+        ++ grouped last (map piece_of (spots_between low.now high.now spots.now.entries) ++ gs)) }
 {
     if low.cmp(high).is_lt() {
         add_range(alloc, done, last, spots.range(low..high))
@@ -184,7 +186,8 @@ fn rows_in(
     spots: &BTreeMap<Spot, Content>,
     slice: &Slice,
 ) -> Result<Vec<Fragment>, AllocError>
-    ensures rows { IfOk result (λ v. v.items ≡ grouped None (map piece_of (statics_of spots.now.entries ++ rows_between slice.now.lo slice.now.hi spots.now.entries))) }
+    ensures rows { IfOk result (λ v. v.items ≡ grouped None (map piece_of (statics_of spots.now.entries
+        ++ rows_between slice.now.lo slice.now.hi spots.now.entries))) }
     ensures sorted { OnOk result (IsStrictlySortedBy spot_cmp (keys_of spots.now.entries)) }
 {
     let first = at(MapKey {
