@@ -3,12 +3,16 @@
 use Rattle.std.specs.Prelude.{◌≡◌, ℕ, ℤ, int_lt, ◌+◌, ◌-◌, ◌^◌, min, Bool, true, Option, None, Some, List, [], ◌∷◌, ◌++◌, if◌then◌else◌}
 use Rattle.std.specs.BTreeMap.{get}
 use Rattle.cas_types.specs.Values.{bytes_cmp}
+use Rattle.cas_cell.specs.declared.deletion.Deletion.{Deletion}
 use Rattle.cas_bounds.specs.declared.order.Ordered.{Ordered}
+use Rattle.cas_bounds.specs.declared.cuts.Slice.{Slice}
 use Rattle.cas_atoms.specs.Winners.{Same}
 use Rattle.cas_atoms.specs.Coordinates.{atom_at}
 use Rattle.cas_atoms.specs.LogLength.{record_length}
 use Rattle.cas_atoms.specs.declared.atom.Atom.{Atom}
 use Rattle.cas_atoms.specs.declared.atom.Mutation.{Mutation}
+use Rattle.cas_streams.specs.declared.fragment.Fragment.{Fragment}
+use Rattle.cas_partition.specs.Slices.{Shows}
 use Rattle.cas_partition.specs.Partitions.{partition_atoms, IsOf, AreAtomsOf, HavePlaces}
 use Rattle.cas_memtable.specs.declared.memtable.Held.{Held}
 use Rattle.cas_memtable.specs.declared.memtable.MemPart.{MemPart}
@@ -77,3 +81,10 @@ pub record Joins (w : Mutation) (m n : MemPart) : Type 0 where
   pub least : least_of n w.key ≡ least_with (least_of m w.key) w.atoms
   pub others : (key : List ℕ) → (key ≡ w.key → ⊥) → held_at n key ≡ held_at m key
   pub bytes : n.bytes ≡ bytes_with m.bytes w
+
+-- a source is given of a partition to which atoms were joined, and none of others: of those that tell what is to come, it shows what the partition
+-- says in the slice
+abbrev pub GivesPart : {M : Type 0} → Slice → Option Held → (M → Option (List Fragment)) → (M → Option Deletion) → Option M → Type 0
+GivesPart s held tells tops None = least_held held ≡ None
+GivesPart s None tells tops (Some m) = ⊥
+GivesPart s (Some h) tells tops (Some m) = (least_held (Some h) ≡ None → ⊥) × (fs : List Fragment) × (tells m ≡ Some fs) × Shows s h.partition (tops m) fs

@@ -1,14 +1,17 @@
 //! The partitions of a table in memory.
 
-ghost use Rattle.std.specs.Prelude.{◌≡◌, ℕ, Some, None, List as ListOf, OnOk, IsSome};
+ghost use Rattle.std.specs.Prelude.{◌≡◌, ℕ, Some, None, List as ListOf, IfOk, OnOk, IsSome};
 ghost use Rattle.std.specs.BTreeMap.{get};
 ghost use Rattle.cas_types.specs.Values.{bytes_cmp};
 ghost use Rattle.cas_atoms.specs.Coordinates.{atom_at};
-ghost use Rattle.cas_memtable.specs.Memtables.{held_at, least_of, earlier, least_with, bytes_with, PlacesIn, HasPlaces, MakesPlaces, Joins};
+ghost use Rattle.cas_memtable.specs.Memtables.{held_at, least_of, earlier, least_with, bytes_with, PlacesIn, HasPlaces, MakesPlaces, Joins, GivesPart};
 ghost use Rattle.cas_memtable.specs.Inner.Steps.{StaysOrBlank, ReservesAt, AppliesAt};
 
 use cas_atoms::{Atom, Mutation, length};
+use cas_bounds::Slice;
+use cas_merge::Merger;
 use cas_partition::Partition;
+use cas_streams::{FragmentSource, Part};
 use cas_types::{Bytes, List};
 use std::alloc::{AllocError, Global};
 use std::collections::BTreeMap;
@@ -168,6 +171,23 @@ impl MemPart {
         match self.partitions.get(key) {
             None => None,
             Some(held) => held.least,
+        }
+    }
+
+    /// The partition of the key as a stream, in the slice and of the static row; none exactly where
+    /// no atom was joined to it.
+    pub fn part(&self, key: &Bytes, slice: &Slice) -> Result<Option<Merger<Part>>, AllocError>
+        ensures { IfOk result (λ part. GivesPart slice.now (held_at self.now key.now) ⟦<Merger<Part> as FragmentSource>⟧.to_come
+            ⟦<Merger<Part> as FragmentSource>⟧.over_all part) }
+    {
+        match self.partitions.get(key) {
+            None => Ok(None),
+            Some(held) => {
+                if held.least.is_none() {
+                    return Ok(None);
+                }
+                Ok(Some(held.partition.slice(self.alloc, slice)?))
+            }
         }
     }
 

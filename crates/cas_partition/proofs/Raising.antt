@@ -277,9 +277,11 @@ module _ (order : List Ordered) where
             (c_of, (under, over_too c m.at ms under rise.1), rise)
         go ih Equal e = absurd (true≢false (ap (λ b. b || has_cut c ms) (sym (ap is_eq e)) ∙ none))
         go ih Greater e =
-            subst (λ b. Rise order (cond b (record { at = c; to = now } ∷ m ∷ ms) (m ∷ inserted m.to c ms))) (sym (ap is_lt e))
-            (rise.0, inserted_over m.at m.to ms (turn m.at c ∙ ap ordering_reverse (sym (as_points c m.at c_of rise.0) ∙ e)) rise.1,
-            ih (ap (λ b. b || has_cut c ms) (sym (ap is_eq e)) ∙ none))
+            subst (λ b. Rise order (cond b (record { at = c; to = now } ∷ m ∷ ms) (m ∷ inserted m.to c ms))) (sym (ap is_lt e)) (
+              rise.0,
+              inserted_over m.at m.to ms (turn m.at c ∙ ap ordering_reverse (sym (as_points c m.at c_of rise.0) ∙ e)) rise.1,
+              ih (ap (λ b. b || has_cut c ms) (sym (ap is_eq e)) ∙ none),
+            )
 
     pub with_cut_rise : (ms : List Change) → Rise order ms → Rise order (with_cut c ms)
     with_cut_rise ms rise =

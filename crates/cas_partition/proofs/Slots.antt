@@ -55,7 +55,7 @@ unfolding last_force
 by_last key now [] fs = refl
 by_last key now (e ∷ es) fs =
     elim (not (is_le (key_cmp key e.0))) as (λ b. force_below key (cond b (get_or fs e.1 None) now) es fs
-        ≡ last_force now (cond b (e ∷ filter (λ e. true && not (is_le (key_cmp key e.0))) es) (filter (λ e. true && not (is_le (key_cmp key e.0))) es)) fs) [
+    ≡ last_force now (cond b (e ∷ filter (λ e. true && not (is_le (key_cmp key e.0))) es) (filter (λ e. true && not (is_le (key_cmp key e.0))) es)) fs) [
       | true ↦ by_last key (get_or fs e.1 None) es fs
       | false ↦ by_last key now es fs
     ]
@@ -101,11 +101,11 @@ module _ (d : Deletion) (p : Slot → Bool) where
   raised_changes t [] fs tests within apart = refl
   raised_changes t (e ∷ es) fs tests within apart =
       elim (p e) as (λ b. p e ≡ b → change_of (raised_at d (cond b (e ∷ filter p es) (filter p es)) fs) e ∷ changes_of es (raised_at d (cond b (e ∷ filter p es) (filter p es)) fs)
-          ≡ raised t d (changes_of (e ∷ es) fs)) [
+      ≡ raised t d (changes_of (e ∷ es) fs)) [
         | true ↦ λ q.
             let v : Option Deletion = greater deletion_cmp (get_or fs e.1 None) (Some d) in
             (λ j. record { at = cut_of e.0; to = (untouched e.1 es (slice_set fs e.1 v) apart.0 ∙ get_or-set_same fs e.1 v None within.0) j }
-                ∷ raised_changes t es (slice_set fs e.1 v) tests.1 (subst (λ n. AllByRecursion (λ f. f.1 < n) es) (sym (length-set fs e.1 v)) within.1) apart.1 j)
+            ∷ raised_changes t es (slice_set fs e.1 v) tests.1 (subst (λ n. AllByRecursion (λ f. f.1 < n) es) (sym (length-set fs e.1 v)) within.1) apart.1 j)
             ∙ (λ j. record { at = cut_of e.0; to = v } ∷ raised t d (kept_slots e.1 v es fs apart.0 j))
             ∙ ap (λ b. record { at = cut_of e.0; to = cond b v (get_or fs e.1 None) } ∷ raised t d (changes_of es fs)) (sym (tests.0 ∙ q))
         | false ↦ λ q.
@@ -272,15 +272,15 @@ module _ (c : Cut) (key : MapKey) (same : key ≡ key_of c) (fs : Forces) (v : O
       λ i. record { at = (ap cut_of same ∙ cut_back c) i; to = (at_end fs v ∙ force) i } ∷ []
   put_change now (e ∷ es) force none sorted cuts within =
       elim (key_cmp key e.0) as (λ r. key_cmp key e.0 ≡ r → changes_of (match_ordering r ((key, length fs) ∷ e ∷ es) ((e.0, length fs) ∷ es) (e ∷ insert_entry key_cmp es key (length fs))) (fs ++ v ∷ [])
-          ≡ inserted now c (changes_of (e ∷ es) fs)) [
+      ≡ inserted now c (changes_of (e ∷ es) fs)) [
         | Less ↦ λ r.
             (λ i. record { at = (ap cut_of same ∙ cut_back c) i; to = (at_end fs v ∙ force ∙ all_above key now (e ∷ es) fs (r, above_too key e.0 (keys_of es) r sorted.0)) i } ∷ kept_within v (e ∷ es) fs within i)
             ∙ sym (ap (λ t. cond t (record { at = c; to = now } ∷ changes_of (e ∷ es) fs) (change_of fs e ∷ inserted (get_or fs e.1 None) c (changes_of es fs))) (turned r))
         | Equal ↦ λ r. absurd (true≢false (sym (ap (λ q. is_some (cond (is_eq q) (Some e.1) (lookup (is_at (key_cmp key)) es))) r) ∙ none))
         | Greater ↦ λ r.
             (λ i. record { at = cut_of e.0; to = get_or_append_left fs (v ∷ []) None e.1 within.0 i } ∷
-                put_change (get_or fs e.1 None) es (force ∙ ap (λ q. force_below key (cond (not (is_le q)) (get_or fs e.1 None) now) es fs) r)
-                    (sym (ap (λ q. is_some (cond (is_eq q) (Some e.1) (lookup (is_at (key_cmp key)) es))) r) ∙ none) sorted.1 cuts.1 within.1 i)
+            put_change (get_or fs e.1 None) es (force ∙ ap (λ q. force_below key (cond (not (is_le q)) (get_or fs e.1 None) now) es fs) r)
+            (sym (ap (λ q. is_some (cond (is_eq q) (Some e.1) (lookup (is_at (key_cmp key)) es))) r) ∙ none) sorted.1 cuts.1 within.1 i)
             ∙ sym (ap (λ t. cond t (record { at = c; to = now } ∷ changes_of (e ∷ es) fs) (change_of fs e ∷ inserted (get_or fs e.1 None) c (changes_of es fs))) (turned r))
       ] refl
     where

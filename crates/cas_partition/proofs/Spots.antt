@@ -179,7 +179,7 @@ pub set_said : (s : Spot) (c new : Content) (es : Entries) → lookup (is_at (sp
 set_said s c new [] there = absurd (none-some c there)
 set_said s c new (e ∷ es) there =
     elim (is_eq (spot_cmp s e.0)) as (λ b. is_eq (spot_cmp s e.0) ≡ b → cond b (Some e.1) (lookup (is_at (spot_cmp s)) es) ≡ Some c
-        → Alike (said_at (cond b ((e.0, joined_content c new) ∷ es) (e ∷ set_value (is_at (spot_cmp s)) es (joined_content c new)))) (said_at (e ∷ es) ++ own (said s new))) [
+    → Alike (said_at (cond b ((e.0, joined_content c new) ∷ es) (e ∷ set_value (is_at (spot_cmp s)) es (joined_content c new)))) (said_at (e ∷ es) ++ own (said s new))) [
       | true ↦ λ hit h. taken s e.0 c e.1 new (said_at es) hit (ap (λ o. unwrap_or o c) h)
       | false ↦ λ hit h.
           at_back (own (said e.0 e.1)) (said_at (set_value (is_at (spot_cmp s)) es (joined_content c new))) (said_at es) (own (said s new)) (set_said s c new es h)
@@ -189,7 +189,7 @@ put_blank : (s : Spot) (tag : Option TypeTag) (es : Entries) → has_spot s es �
 put_blank s tag [] none = ap (λ l. l ++ []) (nothing s.row s.column s.path tag)
 put_blank s tag (e ∷ es) none =
     elim (spot_cmp s e.0) as (λ r. is_some (cond (is_eq r) (Some e.1) (lookup (is_at (spot_cmp s)) es)) ≡ false
-        → said_at (match_ordering r ((s, blank tag) ∷ e ∷ es) ((e.0, blank tag) ∷ es) (e ∷ insert_entry spot_cmp es s (blank tag))) ≡ said_at (e ∷ es)) [
+    → said_at (match_ordering r ((s, blank tag) ∷ e ∷ es) ((e.0, blank tag) ∷ es) (e ∷ insert_entry spot_cmp es s (blank tag))) ≡ said_at (e ∷ es)) [
       | Less ↦ λ h. ap (λ l. l ++ said_at (e ∷ es)) (nothing s.row s.column s.path tag)
       | Equal ↦ λ h. absurd (true≢false h)
       | Greater ↦ λ h. ap (λ l. own (said e.0 e.1) ++ l) (put_blank s tag es h)
@@ -203,7 +203,6 @@ with_spot_says s tag es =
     ] refl
 
 -- ---- which spots there are
-
 
 passed_on : (b : Bool) (v w : Content) (o p : Option Content) → (is_some o ≡ true → is_some p ≡ true) → is_some (cond b (Some v) o) ≡ true → is_some (cond b (Some w) p) ≡ true
 passed_on true v w o p h e = refl

@@ -54,7 +54,7 @@ either_way (Err e) P Q G p q h k = k q
 
 -- ---- markers
 
-marked : (ms : List Change) → changes (map marker ms) ≡ ms
+pub marked : (ms : List Change) → changes (map marker ms) ≡ ms
 marked [] = refl
 marked (m ∷ ms) = ap (λ l. m ∷ l) (marked ms)
 
@@ -146,7 +146,7 @@ with_ranges p ns = record { top = p.top; ranges = ns; spots = p.spots }
 
 with_changes : (a : Atom) (p : Partition) (ns : List Change)
     → ((order : List Ordered) → IsAtomOf order a → Rise order p.ranges → at_end None p.ranges ≡ None
-        → Rise order ns × (at_end None ns ≡ None) × ((x : Coordinate) → cover (ranges ns) x ≡ cover (ranges p.ranges) x))
+    → Rise order ns × (at_end None ns ≡ None) × ((x : Coordinate) → cover (ranges ns) x ≡ cover (ranges p.ranges) x))
     → ((c : Cut) → has_cut c p.ranges ≡ true → has_cut c ns ≡ true) → MakesPlace a p (with_ranges p ns)
 with_changes a p ns h kept = record {
   same = λ order of atom.
@@ -184,8 +184,8 @@ one_cut a p ns lo hi w e =
     subst (λ l. MakesPlace a p (with_ranges p l)) (sym e)
     (with_changes a p (with_cut lo p.ranges)
     (λ order atom rise closed.
-        let (l, h) = cuts_of order a lo hi w atom in
-        (with_cut_rise order lo l p.ranges rise, with_cut_closed order lo l p.ranges rise closed, λ x. with_cut_covers order lo l p.ranges rise closed x (row_of x) refl))
+    let (l, h) = cuts_of order a lo hi w atom in
+    (with_cut_rise order lo l p.ranges rise, with_cut_closed order lo l p.ranges rise closed, λ x. with_cut_covers order lo l p.ranges rise closed x (row_of x) refl))
     (λ c. with_cut_has c lo p.ranges))
 
 pub both_cuts : (a : Atom) (p : Partition) (ns : List Change) (lo hi : Cut) → wanted a ≡ wants.Cuts lo hi → ns ≡ with_cut hi (with_cut lo p.ranges) → MakesPlace a p (with_ranges p ns)
@@ -193,11 +193,13 @@ both_cuts a p ns lo hi w e =
     subst (λ l. MakesPlace a p (with_ranges p l)) (sym e)
     (with_changes a p (with_cut hi (with_cut lo p.ranges))
     (λ order atom rise closed.
-        let (l, h) = cuts_of order a lo hi w atom in
-        let first : Rise order (with_cut lo p.ranges) = with_cut_rise order lo l p.ranges rise in
-        let ends : at_end None (with_cut lo p.ranges) ≡ None = with_cut_closed order lo l p.ranges rise closed in
-        (with_cut_rise order hi h (with_cut lo p.ranges) first, with_cut_closed order hi h (with_cut lo p.ranges) first ends,
-        λ x. with_cut_covers order hi h (with_cut lo p.ranges) first ends x (row_of x) refl ∙ with_cut_covers order lo l p.ranges rise closed x (row_of x) refl))
+    let (l, h) = cuts_of order a lo hi w atom in
+    let first : Rise order (with_cut lo p.ranges) = with_cut_rise order lo l p.ranges rise in
+    let ends : at_end None (with_cut lo p.ranges) ≡ None = with_cut_closed order lo l p.ranges rise closed in (
+      with_cut_rise order hi h (with_cut lo p.ranges) first,
+      with_cut_closed order hi h (with_cut lo p.ranges) first ends,
+      λ x. with_cut_covers order hi h (with_cut lo p.ranges) first ends x (row_of x) refl ∙ with_cut_covers order lo l p.ranges rise closed x (row_of x) refl,
+    ))
     (λ c has. with_cut_has c hi (with_cut lo p.ranges) (with_cut_has c lo p.ranges has)))
 
 pub cuts_there : (a : Atom) (p : Partition) (ns : List Change) (lo hi : Cut) → wanted a ≡ wants.Cuts lo hi → ns ≡ with_cut hi (with_cut lo p.ranges) → HasPlace (with_ranges p ns) a

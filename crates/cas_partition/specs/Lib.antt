@@ -2,4 +2,6 @@ pub mod Ranges
 pub mod Spots
 pub mod Placed
 pub mod Partitions
+pub mod Ranged
+pub mod Slices
 pub mod Inner

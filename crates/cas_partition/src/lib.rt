@@ -2,10 +2,13 @@
 //! the cuts at which what is in force changes.
 #![tactic(auto)]
 
+mod laws;
 mod partition;
 mod ranges;
+mod slice;
 mod spot;
 
+pub use laws::slices_show;
 pub use partition::Partition;
 pub use ranges::Ranges;
-pub use spot::{Content, Addition, Spot, Room};
+pub use spot::{Addition, Content, Room, Spot};

@@ -13,7 +13,7 @@ ghost use Rattle.cas_partition.specs.Inner.Firsts.{with_first};
 ghost use Rattle.cas_partition.specs.declared.spot.Content.{Content};
 
 use crate::ranges::Ranges;
-use crate::spot::{Content, Addition, Spot, Room, given, wanted};
+use crate::spot::{Addition, Content, Room, Spot, given, wanted};
 use cas_atoms::{Atom, greater_deletion};
 use cas_bounds::Cut;
 use cas_cell::Deletion;

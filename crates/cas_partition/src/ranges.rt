@@ -1,14 +1,16 @@
 //! The range deletions of a partition in memory.
 
-ghost use Rattle.std.specs.Prelude.{◌≡◌, None, Some, OnOk, OnErr, [], get_or, slice_set};
+ghost use Rattle.std.specs.Prelude.{◌≡◌, None, Some, OnOk, OnErr, IfOk, [], map, get_or, slice_set};
 ghost use Rattle.cas_cell.specs.Deletions.{deletion_cmp};
 ghost use Rattle.cas_atoms.specs.Greatest.{greater};
 ghost use Rattle.cas_partition.specs.Ranges.{lies, raised, with_cut};
-ghost use Rattle.cas_partition.specs.Inner.Slots.{raised_at, force_below, between};
+ghost use Rattle.cas_partition.specs.Inner.Slots.{cut_of, changes_of, raised_at, force_below, between};
+ghost use Rattle.cas_partition.specs.Partitions.{marker};
 
 use cas_atoms::greater_deletion;
-use cas_bounds::{Cut, MapKey};
+use cas_bounds::{Cut, End, MapKey};
 use cas_cell::Deletion;
+use cas_streams::Fragment;
 use std::alloc::{AllocError, Global};
 use std::collections::BTreeMap;
 use std::marker::Model;
@@ -37,7 +39,11 @@ impl Model for Ranges {
 fn force_at(forces: &[Option<Deletion>], slot: usize) -> Option<Deletion>
     ensures { result ≡ get_or forces.now slot None }
 {
-    if slot < forces.len() { forces[slot] } else { None }
+    if slot < forces.len() {
+        forces[slot]
+    } else {
+        None
+    }
 }
 
 // What is in force before the key: at the last cut below it.
@@ -80,6 +86,37 @@ fn raise_between(
     }
 }
 
+// The cut of a key.
+fn cut_of(key: &MapKey) -> Result<Cut, AllocError>
+    ensures { IfOk result (λ c. c ≡ cut_of key.now) }
+{
+    let after = match key.end {
+        End::Before | End::Row => false,
+        End::After => true,
+    };
+    Ok(Cut {
+        prefix: key.values.clone()?,
+        after,
+        order: key.order.clone()?,
+    })
+}
+
+fn markers_of(
+    alloc: Global,
+    cuts: &BTreeMap<MapKey, usize>,
+    forces: &[Option<Deletion>],
+) -> Result<Vec<Fragment>, AllocError>
+    ensures { IfOk result (λ v. v.items ≡ map marker (changes_of cuts.now.entries forces.now)) }
+{
+    let mut markers = Vec::new(alloc);
+    let mut rest = cuts.iter();
+    while let Some((key, slot)) = rest.next() {
+        let cut = cut_of(key)?;
+        markers.push(Fragment::Marker(cut, force_at(forces, *slot)))?;
+    }
+    Ok(markers)
+}
+
 impl Ranges {
     /// No range deletion.
     pub fn new(alloc: Global) -> Self
@@ -115,5 +152,12 @@ impl Ranges {
         let from = MapKey::of_cut(lo);
         let to = MapKey::of_cut(hi);
         raise_between(&self.cuts, &mut self.forces, &from, &to, d);
+    }
+
+    /// The changes as markers of a stream.
+    pub(crate) fn markers(&self, alloc: Global) -> Result<Vec<Fragment>, AllocError>
+        ensures { IfOk result (λ v. v.items ≡ map marker self.now) }
+    {
+        markers_of(alloc, &self.cuts, &self.forces)
     }
 }

@@ -174,10 +174,16 @@ pub(crate) fn given(atom: Atom) -> Addition
         }
         Atom::Live(row, live) => Addition::At(of_row(row), Content::lives(live)),
         Atom::Write(row, column, path, cell) => {
-            Addition::At(of_cell(row, column, path), Content::wrote(column.path, cell))
+            Addition::At(
+                of_cell(row, column, path),
+                Content::wrote(column.path, cell),
+            )
         }
         Atom::StaticWrite(column, path, cell) => {
-            Addition::At(of_static(column, Some(path)), Content::wrote(column.path, cell))
+            Addition::At(
+                of_static(column, Some(path)),
+                Content::wrote(column.path, cell),
+            )
         }
         Atom::StaticCollectionDeletion(column, d) => {
             Addition::At(of_static(column, None), Content::deleted(column.path, d))

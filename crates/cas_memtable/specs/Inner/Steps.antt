@@ -24,7 +24,8 @@ abbrev pub Puts : List ℕ → Held → (List ℕ → Option Held) → (List ℕ
 Puts key h before after = (q : List ℕ) → after q ≡ cond (is_eq (bytes_cmp key q)) (Some h) (before q)
 
 -- place was made for the atoms in what is held at the key
-pub record ReservesAt (key : List ℕ) (atoms : List Atom) (h : Held) (before after : List ℕ → Option Held) {E : Type 0} (result : Result (Unit {0}) E) : Type 0 where
+pub record ReservesAt (key : List ℕ) (atoms : List Atom) (h : Held) (before after : List ℕ → Option Held) {E : Type 0}
+    (result : Result (Unit {0}) E) : Type 0 where
   pub held : Held
   pub puts : Puts key held before after
   pub least : held.least ≡ h.least

@@ -1,0 +1,338 @@
+-- A slice of a partition says in the slice what the partition says.
+use Rattle.std.proofs.Common.{◌≡◌, ℕ, ℤ, Bool, true, false, cond, not, ◌&&◌, Option, None, Some, List, [], ◌∷◌, ◌++◌, map, filter, Result, Ok, Err, IfOk, refl, sym, ap, ◌∙◌, subst, append_assoc}
+use Rattle.std.proofs.lemmas.Bool.{true≢false}
+use Rattle.std.proofs.lemmas.List.{append-nil}
+use Rattle.std.specs.Option.{option_cmp}
+use Rattle.std.specs.List.{AllByRecursion, flat_map}
+use Rattle.std.specs.List.Sorted.{IsStrictlySortedBy}
+use Rattle.std.specs.Map.{keys_of}
+use Rattle.std.specs.declared.cmp.Ordering.{Ordering}
+use Rattle.cas_types.specs.Values.{bytes_cmp}
+use Rattle.std.specs.Ordering.{nat_cmp, is_eq, is_le, is_lt, ordering_then, ordering_reverse}
+use Rattle.std.specs.declared.cmp.Ordering.TheVariants.{Less, Equal, Greater}
+use Rattle.std.specs.Cmp.{IsTotalOrder, then_total, on_total, nat_cmp_total}
+use Rattle.std.specs.Cmp.Lexicographic.{options_total}
+use Rattle.cas_types.proofs.OrderLaws.{bytes_orders}
+use Rattle.cas_types.specs.Orders.{Orders}
+use Rattle.cas_cell.specs.Deletions.{deletion_cmp}
+use Rattle.cas_cell.specs.Lives.{live_at, live_cmp}
+use Rattle.cas_cell.specs.Cells.{cell_at, cell_cmp}
+use Rattle.cas_cell.specs.declared.deletion.Deletion.{Deletion}
+use Rattle.cas_cell.proofs.OrderLaws.{deletion_laws, live_laws, cell_laws}
+use Rattle.cas_bounds.specs.Cuts.{is_inside}
+use Rattle.cas_bounds.specs.Keys.{key_cmp}
+use Rattle.cas_bounds.specs.Inner.KeyLaws.{key_total}
+use Rattle.cas_bounds.specs.declared.order.Ordered.{Ordered}
+use Rattle.cas_bounds.specs.declared.cuts.Cut.{Cut}
+use Rattle.cas_bounds.specs.declared.cuts.Slice.{Slice}
+use Rattle.cas_bounds.specs.declared.map_key.MapKey.{MapKey}
+use Rattle.cas_atoms.specs.Greatest.{greater, greatest}
+use Rattle.cas_atoms.specs.Coordinates.{Coordinate, RowKey, row, clustered, static_row, row_of, same_row, deletion_at, live_at_row, cell_at_path}
+use Rattle.cas_atoms.specs.Winners.{cover, standing, Same}
+use Rattle.cas_atoms.specs.declared.atom.Atom.{Atom}
+use Rattle.cas_atoms.specs.declared.atom.Atom.TheVariants.{PartitionDeletion}
+use Rattle.cas_atoms.proofs.GreatestLemmas.{greater_none, greater_comm, greater_assoc, greatest-append}
+use Rattle.cas_laws.specs.Inside.{SameWhere, SameIn, is_in}
+use Rattle.cas_laws.proofs.JoinProofs.{cover_joins, winner_is}
+use Rattle.cas_laws.proofs.ShownProofs.{equal_rows}
+use Rattle.cas_streams.specs.Places.{place_of, row_in}
+use Rattle.cas_streams.specs.Flat.{Change, atom_of, own, changes, ranges, at_end, flat}
+use Rattle.cas_streams.specs.Streams.{IsOrdered}
+use Rattle.cas_streams.specs.Joined.{Stream, joined_fragment, fragment_cmp}
+use Rattle.cas_streams.specs.Merged.{merged, flat_of, flats}
+use Rattle.cas_streams.specs.Laws.{is_row}
+use Rattle.cas_streams.specs.declared.fragment.Fragment.{Fragment}
+use Rattle.cas_streams.proofs.OwnRows.{Only, not_of_row, none_given}
+use Rattle.cas_streams.proofs.Joining.{Alike, alike_then, alike_both}
+use Rattle.cas_streams.proofs.Merges.{merge_is_join, merge_ordered}
+use Rattle.cas_merge.specs.Told.{told_first, streams_told}
+use Rattle.cas_partition.specs.Ranges.{key_of}
+use Rattle.cas_partition.specs.Spots.{spot_cmp, piece, said}
+use Rattle.cas_partition.specs.Partitions.{said_at, atoms_with, partition_atoms, marker, IsOf, IsRowOf}
+use Rattle.cas_partition.specs.Slices.{grouped_from, grouped, Shows, slice_streams, SlicesShow}
+use Rattle.cas_partition.specs.Ranged.{piece_of, spot_at, below_rows, statics_of, rows_between}
+use Rattle.cas_partition.specs.declared.spot.Spot.{Spot}
+use Rattle.cas_partition.specs.declared.spot.Content.{Content}
+use Rattle.cas_partition.specs.declared.partition.Partition.{Partition}
+use Rattle.cas_partition.proofs.Spots.{alike_itself, alike_is, in_front, at_back, Rows}
+use Rattle.cas_partition.proofs.Taking.{marked}
+use Rattle.cas_partition.proofs.Slicing.{grouped_alike, grouped_ordered, Weak, OfRow, pieces_of, kept_rows, kept_weak, cross, no_key, past_key}
+
+abbrev Entries : Type 0
+Entries = List (Spot × Content)
+
+-- ---- which entries are kept
+
+kept_static : (order : List Ordered) (key : Option MapKey) (o : Ordering) (k : MapKey) → key ≡ Some k → IsRowOf order key → (true && not (is_le (ordering_then (option_cmp key_cmp (Some below_rows) key) o))) ≡ false
+kept_static order key o k e of =
+    ap (λ r. true && not (is_le (ordering_then (option_cmp key_cmp (Some below_rows) r) o))) e
+    ∙ ap (λ r. true && not (is_le (ordering_then r o))) (no_key order k (subst (IsRowOf order) e of).0)
+
+kept_row : (order : List Ordered) (s : Slice) (key : Option MapKey) (o : Ordering) (k : MapKey) → s.lo.order ≡ order → s.hi.order ≡ order → key ≡ Some k → IsRowOf order key
+    → (is_le (ordering_then (option_cmp key_cmp (Some (key_of s.lo)) key) o) && not (is_le (ordering_then (option_cmp key_cmp (Some (key_of s.hi)) key) o))) ≡ is_inside s.lo s.hi k.values
+kept_row order s key o k l h e of =
+    let is : IsRowOf order (Some k) = subst (IsRowOf order) e of in
+    ap (λ r. is_le (ordering_then (option_cmp key_cmp (Some (key_of s.lo)) r) o) && not (is_le (ordering_then (option_cmp key_cmp (Some (key_of s.hi)) r) o))) e
+    ∙ (λ i. past_key order s.lo k o l is i && not (past_key order s.hi k o h is i))
+
+static_kept : (key : Option MapKey) (o : Ordering) → key ≡ None → (true && not (is_le (ordering_then (option_cmp key_cmp (Some below_rows) key) o))) ≡ true
+static_kept key o e = ap (λ r. true && not (is_le (ordering_then (option_cmp key_cmp (Some below_rows) r) o))) e
+
+static_left : (s : Slice) (key : Option MapKey) (o : Ordering) → key ≡ None
+    → (is_le (ordering_then (option_cmp key_cmp (Some (key_of s.lo)) key) o) && not (is_le (ordering_then (option_cmp key_cmp (Some (key_of s.hi)) key) o))) ≡ false
+static_left s key o e = ap (λ r. is_le (ordering_then (option_cmp key_cmp (Some (key_of s.lo)) r) o) && not (is_le (ordering_then (option_cmp key_cmp (Some (key_of s.hi)) r) o))) e
+
+-- ---- what is kept says in the slice what all says
+
+row_is : (key : Option MapKey) (column : Option ℕ) (path : Option (List ℕ)) (c : Content) (k : MapKey) → key ≡ Some k → row_in (piece key column path c) ≡ Some (clustered k.values)
+row_is key column path c k e = ap (λ r. row_in (piece r column path c)) e
+
+-- a spot of a column against another of its row
+abbrev rest : Spot → Ordering
+rest t = ordering_then (option_cmp nat_cmp None t.column) (option_cmp bytes_cmp None t.path)
+
+module _ (order : List Ordered) (s : Slice) (low : s.lo.order ≡ order) (high : s.hi.order ≡ order) {Y : Type 0} {cmp : Y → Y → Ordering} (o : Orders cmp) (given : Atom → Option Y) (x : RowKey)
+    (silent : (r : RowKey) (a : Atom) → Only r a → same_row r x ≡ false → given a ≡ None) (inside : is_in s x ≡ true) where
+  abbrev g : List Atom → Option Y
+  g A = greatest cmp given A
+
+  other_row : (k : MapKey) → is_inside s.lo s.hi k.values ≡ false → same_row (clustered k.values) x ≡ false
+  other_row k out =
+      elim (same_row (clustered k.values) x) as (λ b. same_row (clustered k.values) x ≡ b → b ≡ false) [
+        | true ↦ λ e. absurd (true≢false (sym inside ∙ ap (is_in s) (sym (equal_rows (clustered k.values) x e)) ∙ out))
+        | false ↦ λ e. refl
+      ] refl
+
+  outside : (e : Spot × Content) (k : MapKey) → e.0.row ≡ Some k → is_inside s.lo s.hi k.values ≡ false → g (own (piece_of e)) ≡ None
+  outside e k is out =
+      let (r, only, apart) = not_of_row (piece_of e) x (ap (is_row x) (row_is e.0.row e.0.column e.0.path e.1 k is) ∙ other_row k out) in
+      none_given o given x silent r (own (piece_of e)) only apart
+
+  middle : (a b c : Option Y) → greater cmp a (greater cmp b c) ≡ greater cmp b (greater cmp a c)
+  middle a b c = sym (greater_assoc o a b c) ∙ ap (λ d. greater cmp d c) (greater_comm o a b) ∙ greater_assoc o b a c
+
+  split : (es : Entries) → Rows order es → greater cmp (g (said_at (statics_of es))) (g (said_at (rows_between s.lo s.hi es))) ≡ g (said_at es)
+  split [] rows = refl
+  split (e ∷ es) rows = go e.0.row refl (split es rows.1)
+    where
+      S : Entries
+      S = statics_of es
+
+      B : Entries
+      B = rows_between s.lo s.hi es
+
+      a : Option Y
+      a = greatest cmp given (own (piece_of e))
+
+      go : (r : Option MapKey) → e.0.row ≡ r → greater cmp (greatest cmp given (said_at S)) (greatest cmp given (said_at B)) ≡ greatest cmp given (said_at es)
+          → greater cmp (greatest cmp given (said_at (statics_of (e ∷ es)))) (greatest cmp given (said_at (rows_between s.lo s.hi (e ∷ es)))) ≡ greatest cmp given (said_at (e ∷ es))
+      go None is ih =
+          (λ i. greater cmp (greatest cmp given (said_at (cond (static_kept e.0.row (rest e.0) is i) (e ∷ S) S))) (greatest cmp given (said_at (cond (static_left s e.0.row (rest e.0) is i) (e ∷ B) B))))
+          ∙ (λ i. greater cmp (greatest-append o given (own (piece_of e)) (said_at S) i) (greatest cmp given (said_at B)))
+          ∙ greater_assoc o a (greatest cmp given (said_at S)) (greatest cmp given (said_at B)) ∙ ap (greater cmp a) ih ∙ sym (greatest-append o given (own (piece_of e)) (said_at es))
+      go (Some k) is ih =
+          (λ i. greater cmp (greatest cmp given (said_at (cond (kept_static order e.0.row (rest e.0) k is rows.0 i) (e ∷ S) S)))
+          (greatest cmp given (said_at (cond (kept_row order s e.0.row (rest e.0) k low high is rows.0 i) (e ∷ B) B))))
+          ∙ elim (is_inside s.lo s.hi k.values) as (λ b. is_inside s.lo s.hi k.values ≡ b
+          → greater cmp (greatest cmp given (said_at S)) (greatest cmp given (said_at (cond b (e ∷ B) B))) ≡ greatest cmp given (said_at (e ∷ es))) [
+            | true ↦ λ within.
+                ap (greater cmp (greatest cmp given (said_at S))) (greatest-append o given (own (piece_of e)) (said_at B))
+                ∙ middle (greatest cmp given (said_at S)) a (greatest cmp given (said_at B)) ∙ ap (greater cmp a) ih ∙ sym (greatest-append o given (own (piece_of e)) (said_at es))
+            | false ↦ λ out. ih ∙ sym (greatest-append o given (own (piece_of e)) (said_at es) ∙ ap (λ d. greater cmp d (greatest cmp given (said_at es))) (outside e k is out))
+          ] refl
+
+-- ---- alike in a slice
+
+pub record AlikeIn (s : Slice) (A B : List Atom) : Type 0 where
+  pub covers : (x : Coordinate) → is_in s (row_of x) ≡ true → cover A x ≡ cover B x
+  pub lives : (c : List (List ℕ)) → is_in s (clustered c) ≡ true → greatest live_cmp (live_at_row c) A ≡ greatest live_cmp (live_at_row c) B
+  pub cells : (x : Coordinate) → is_in s (row_of x) ≡ true → greatest cell_cmp (cell_at_path x) A ≡ greatest cell_cmp (cell_at_path x) B
+
+everywhere : (s : Slice) (A B : List Atom) → Alike A B → AlikeIn s A B
+everywhere s A B a = record { covers = λ x e. a.covers x; lives = λ c e. a.lives c; cells = λ x e. a.cells x }
+
+in_then : (s : Slice) (A B C : List Atom) → AlikeIn s A B → AlikeIn s B C → AlikeIn s A C
+in_then s A B C a b = record { covers = λ x e. a.covers x e ∙ b.covers x e; lives = λ c e. a.lives c e ∙ b.lives c e; cells = λ x e. a.cells x e ∙ b.cells x e }
+
+behind_same : (s : Slice) (A B C : List Atom) → AlikeIn s B C → AlikeIn s (A ++ B) (A ++ C)
+behind_same s A B C a = record {
+  covers = λ x e. cover_joins A B x ∙ ap (greater deletion_cmp (cover A x)) (a.covers x e) ∙ sym (cover_joins A C x);
+  lives = λ c e. greatest-append live_laws.orders (live_at_row c) A B ∙ ap (greater live_cmp (greatest live_cmp (live_at_row c) A)) (a.lives c e) ∙ sym (greatest-append live_laws.orders (live_at_row c) A C);
+  cells = λ x e. greatest-append cell_laws.orders (cell_at_path x) A B ∙ ap (greater cell_cmp (greatest cell_cmp (cell_at_path x) A)) (a.cells x e) ∙ sym (greatest-append cell_laws.orders (cell_at_path x) A C);
+}
+
+in_same : (s : Slice) (A B : List Atom) → AlikeIn s A B → SameWhere (is_in s) A B
+in_same s A B a = record {
+  covers = a.covers;
+  lives = λ c e. winner_is live_laws.orders live_laws.by_time (live_at_row c) (row c) A ∙ (λ i. standing live_at (a.covers (row c) e i) (a.lives c e i))
+      ∙ sym (winner_is live_laws.orders live_laws.by_time (live_at_row c) (row c) B);
+  cells = λ x e. winner_is cell_laws.orders cell_laws.by_time (cell_at_path x) x A ∙ (λ i. standing cell_at (a.covers x e i) (a.cells x e i))
+      ∙ sym (winner_is cell_laws.orders cell_laws.by_time (cell_at_path x) x B);
+}
+
+two_parts : (A B : Entries) → said_at (A ++ B) ≡ said_at A ++ said_at B
+two_parts [] B = refl
+two_parts (e ∷ A) B = ap (λ l. own (piece_of e) ++ l) (two_parts A B) ∙ sym (append_assoc (own (piece_of e)) (said_at A) (said_at B))
+
+said_pieces : (es : Entries) → flat_map own (map piece_of es) ≡ said_at es
+said_pieces [] = refl
+said_pieces (e ∷ es) = ap (λ l. own (piece_of e) ++ l) (said_pieces es)
+
+parts_say : (order : List Ordered) (s : Slice) (es : Entries) → s.lo.order ≡ order → s.hi.order ≡ order → Rows order es
+    → AlikeIn s (said_at (statics_of es) ++ said_at (rows_between s.lo s.hi es)) (said_at es)
+parts_say order s es low high rows = record {
+  covers = λ x e. cover_joins (said_at (statics_of es)) (said_at (rows_between s.lo s.hi es)) x
+      ∙ split order s low high deletion_laws.orders (deletion_at x) (row_of x) (λ r a only apart. only.deletes x apart) e es rows;
+  lives = λ c e. greatest-append live_laws.orders (live_at_row c) (said_at (statics_of es)) (said_at (rows_between s.lo s.hi es))
+      ∙ split order s low high live_laws.orders (live_at_row c) (clustered c) (λ r a only apart. only.lives c apart) e es rows;
+  cells = λ x e. greatest-append cell_laws.orders (cell_at_path x) (said_at (statics_of es)) (said_at (rows_between s.lo s.hi es))
+      ∙ split order s low high cell_laws.orders (cell_at_path x) (row_of x) (λ r a only apart. only.cells x apart) e es rows;
+}
+
+-- the rows of the slice, put together
+pub rows_say : (order : List Ordered) (s : Slice) (es : Entries) → s.lo.order ≡ order → s.hi.order ≡ order → Rows order es
+    → AlikeIn s (flat_map own (grouped None (map piece_of (statics_of es ++ rows_between s.lo s.hi es)))) (said_at es)
+rows_say order s es low high rows =
+    let S : Entries = statics_of es in
+    let B : Entries = rows_between s.lo s.hi es in
+    in_then s (flat_map own (grouped None (map piece_of (S ++ B)))) (said_at S ++ said_at B) (said_at es)
+    (everywhere s (flat_map own (grouped None (map piece_of (S ++ B)))) (said_at S ++ said_at B)
+    (alike_then (grouped_alike (map piece_of (S ++ B))) (alike_is (flat_map own (map piece_of (S ++ B))) (said_at S ++ said_at B) (said_pieces (S ++ B) ∙ two_parts S B))))
+    (parts_say order s es low high rows)
+
+-- ---- where they stand
+
+append_pieces : (A B : Entries) → map piece_of (A ++ B) ≡ map piece_of A ++ map piece_of B
+append_pieces [] B = refl
+append_pieces (e ∷ A) B = ap (λ l. piece_of e ∷ l) (append_pieces A B)
+
+append_rows : (order : List Ordered) (A B : Entries) → Rows order A → Rows order B → Rows order (A ++ B)
+append_rows order [] B a b = b
+append_rows order (e ∷ A) B a b = (a.0, append_rows order A B a.1 b)
+
+all_static : (order : List Ordered) (es : Entries) → Rows order es → AllByRecursion (λ f. place_of f ≡ None) (map piece_of (statics_of es))
+all_static order [] rows = tt
+all_static order (e ∷ es) rows = go (all_static order es rows.1) e.0.row refl
+  where
+    none_at : (r : Option MapKey) → r ≡ None → place_of (piece r e.0.column e.0.path e.1) ≡ None
+    none_at r is = ap (λ q. place_of (piece q e.0.column e.0.path e.1)) is
+
+    go : AllByRecursion (λ f. place_of f ≡ None) (map piece_of (statics_of es)) → (r : Option MapKey) → e.0.row ≡ r → AllByRecursion (λ f. place_of f ≡ None) (map piece_of (statics_of (e ∷ es)))
+    go ih None is = subst (λ b. AllByRecursion (λ f. place_of f ≡ None) (map piece_of (cond b (e ∷ statics_of es) (statics_of es)))) (sym (static_kept e.0.row (rest e.0) is))
+        (none_at e.0.row is, ih)
+    go ih (Some k) is = subst (λ b. AllByRecursion (λ f. place_of f ≡ None) (map piece_of (cond b (e ∷ statics_of es) (statics_of es)))) (sym (kept_static order e.0.row (rest e.0) k is rows.0))
+        ih
+
+pub rows_ordered : (order : List Ordered) (lo hi : Cut) (es : Entries) → IsStrictlySortedBy spot_cmp (keys_of es) → Rows order es
+    → IsOrdered order (grouped None (map piece_of (statics_of es ++ rows_between lo hi es))) × (changes (grouped None (map piece_of (statics_of es ++ rows_between lo hi es))) ≡ [])
+rows_ordered order lo hi es sorted rows =
+    let S : Entries = statics_of es in
+    let B : Entries = rows_between lo hi es in
+    let first : Rows order S = kept_rows order (λ e. true && not (is_le (spot_cmp (spot_at below_rows) e.0))) es rows in
+    let later : Rows order B = kept_rows order (λ e. is_le (spot_cmp (spot_at (key_of lo)) e.0) && not (is_le (spot_cmp (spot_at (key_of hi)) e.0))) es rows in
+    grouped_ordered order (map piece_of (S ++ B)) (pieces_of order (S ++ B) (append_rows order S B first later))
+    (subst (Weak order) (sym (append_pieces S B))
+    (cross order (map piece_of S) (map piece_of B) (all_static order es rows)
+    (kept_weak order (λ e. true && not (is_le (spot_cmp (spot_at below_rows) e.0))) es sorted rows)
+    (kept_weak order (λ e. is_le (spot_cmp (spot_at (key_of lo)) e.0) && not (is_le (spot_cmp (spot_at (key_of hi)) e.0))) es sorted rows)))
+
+-- ---- what the program gathers
+
+spot_total : IsTotalOrder spot_cmp
+spot_total = then_total (on_total (λ (s : Spot). s.row) (options_total key_total)) (then_total (on_total (λ (s : Spot). s.column) (options_total nat_cmp_total)) (on_total (λ (s : Spot). s.path) (options_total bytes_orders.total)))
+
+pub none_between : (from to : Spot) → is_lt (spot_cmp from to) ≡ false → (es : Entries) → filter (λ e. is_le (spot_cmp from e.0) && not (is_le (spot_cmp to e.0))) es ≡ []
+none_between from to low [] = refl
+none_between from to low (e ∷ es) =
+    ap (λ b. cond b (e ∷ filter (λ f. is_le (spot_cmp from f.0) && not (is_le (spot_cmp to f.0))) es) (filter (λ f. is_le (spot_cmp from f.0) && not (is_le (spot_cmp to f.0))) es))
+    (never (spot_cmp from e.0) (spot_cmp to e.0) refl refl) ∙ none_between from to low es
+  where
+    never : (r s : Ordering) → spot_cmp from e.0 ≡ r → spot_cmp to e.0 ≡ s → (is_le r && not (is_le s)) ≡ false
+    never Greater s a b = refl
+    never Less Less a b = refl
+    never Less Equal a b = refl
+    never Equal Less a b = refl
+    never Equal Equal a b = refl
+    never Less Greater a b = absurd (true≢false (sym (ap is_lt (spot_total.trans from e.0 to a (spot_total.antisymm e.0 to ∙ ap ordering_reverse b))) ∙ low))
+    never Equal Greater a b = absurd (true≢false (sym (ap is_lt (spot_total.congr from e.0 to a ∙ spot_total.antisymm e.0 to ∙ ap ordering_reverse b)) ∙ low))
+
+abbrev pub Gathers : List Fragment → Option Fragment → Entries → List Fragment → Option Fragment → Type 0
+Gathers done last es more next = (gs : List Fragment) → more ++ grouped next gs ≡ done ++ grouped last (map piece_of es ++ gs)
+
+pub gathered : (S B : Entries) (d1 d2 : List Fragment) (l1 l2 : Option Fragment) → Gathers [] None S d1 l1 → Gathers d1 l1 B d2 l2 → d2 ++ grouped l2 [] ≡ grouped None (map piece_of (S ++ B))
+gathered S B d1 d2 l1 l2 a b =
+    b [] ∙ a (map piece_of B ++ []) ∙ ap (grouped None) (ap (λ l. map piece_of S ++ l) (append-nil (map piece_of B)) ∙ sym (append_pieces S B))
+
+pub gathered_first : (S B : Entries) (d : List Fragment) (l : Option Fragment) → Gathers [] None S d l → B ≡ [] → d ++ grouped l [] ≡ grouped None (map piece_of (S ++ B))
+gathered_first S B d l a none = a [] ∙ ap (grouped None) (ap (λ r. map piece_of S ++ r) (ap (map piece_of) (sym none)) ∙ sym (append_pieces S B))
+
+pub closed_up : (d all : List Fragment) (l : Option Fragment) → l ≡ None → d ++ grouped l [] ≡ all → d ≡ all
+closed_up d all l none e = sym (append-nil d) ∙ ap (λ o. d ++ grouped o []) (sym none) ∙ e
+
+pub one_put : (last : Fragment) (piece : Fragment) (d : List Fragment) (b : Bool) (gs : List Fragment) → is_eq (fragment_cmp last piece) ≡ b
+    → cond b (d ++ grouped_from (joined_fragment last piece) gs) ((d ++ last ∷ []) ++ grouped_from piece gs) ≡ d ++ grouped (Some last) (piece ∷ gs)
+one_put last piece d true gs e = ap (λ t. d ++ cond t (grouped_from (joined_fragment last piece) gs) (last ∷ grouped_from piece gs)) (sym e)
+one_put last piece d false gs e =
+    append_assoc d (last ∷ []) (grouped_from piece gs) ∙ ap (λ t. d ++ cond t (grouped_from (joined_fragment last piece) gs) (last ∷ grouped_from piece gs)) (sym e)
+
+-- ---- both streams
+
+no_own : (ms : List Change) → flat_map own (map marker ms) ≡ []
+no_own [] = refl
+no_own (m ∷ ms) = no_own ms
+
+pub shows : (s : Slice) (p : Partition) (rows : List Fragment) (top : Option Deletion) (fs : List Fragment) → IsStrictlySortedBy spot_cmp (keys_of p.spots.entries)
+    → rows ≡ grouped None (map piece_of (statics_of p.spots.entries ++ rows_between s.lo s.hi p.spots.entries))
+    → top ≡ (merged (record { top = p.top; fragments = rows } ∷ record { top = None; fragments = map marker p.ranges } ∷ [])).top
+    → fs ≡ (merged (record { top = p.top; fragments = rows } ∷ record { top = None; fragments = map marker p.ranges } ∷ [])).fragments
+    → Shows s p top fs
+shows s p rows top fs sorted e t f = subst (λ d. Shows s p d fs) (sym t) (subst (λ l. Shows s p (merged ss).top l) (sym f) (record {
+  ordered = λ order of low high. merge_ordered order ss (both order of);
+  same = λ order of low high. chained (merge_is_join order ss (both order of)) (in_same s (flats ss) (partition_atoms p) (all_say order of low high));
+}))
+  where
+    ss : List Stream
+    ss = record { top = p.top; fragments = rows } ∷ record { top = None; fragments = map marker p.ranges } ∷ []
+
+    in_rows : (order : List Ordered) → IsOf order p → IsOrdered order rows × (changes rows ≡ [])
+    in_rows order of = subst (λ l. IsOrdered order l × (changes l ≡ [])) (sym e) (rows_ordered order s.lo s.hi p.spots.entries sorted of.rows)
+
+    both : (order : List Ordered) → IsOf order p → AllByRecursion (λ z. IsOrdered order z.fragments) ss
+    both order of = ((in_rows order of).0, (of.marks, tt))
+
+    chained : {A B C : List Atom} → Same A B → SameWhere (is_in s) B C → SameWhere (is_in s) A C
+    chained a b = record { covers = λ x i. a.covers x ∙ b.covers x i; lives = λ c i. a.lives c ∙ b.lives c i; cells = λ x i. a.cells x ∙ b.cells x i }
+
+    regroup : (T G R : List Atom) → (T ++ G) ++ (R ++ []) ≡ T ++ (G ++ R)
+    regroup T G R = ap (λ l. (T ++ G) ++ l) (append-nil R) ∙ append_assoc T G R
+
+    swap : (G R : List Atom) → Alike (G ++ R) (R ++ G)
+    swap G R = alike_then (alike_is (G ++ R) (G ++ (R ++ [])) (ap (λ l. G ++ l) (sym (append-nil R)))) (alike_then (in_front G [] G (R ++ []) (alike_itself G)) (alike_is ((R ++ []) ++ G) (R ++ G) (ap (λ l. l ++ G) (append-nil R))))
+
+    all_say : (order : List Ordered) → IsOf order p → s.lo.order ≡ order → s.hi.order ≡ order → AlikeIn s (flats ss) (partition_atoms p)
+    all_say order of low high =
+        let T : List Atom = atom_of PartitionDeletion p.top in
+        let G : List Atom = flat_map own rows in
+        let R : List Atom = ranges p.ranges in
+        let flat_rows : flats ss ≡ T ++ (G ++ R) =
+        (λ i. (T ++ (ranges ((in_rows order of).1 i) ++ G)) ++ ((ranges (marked p.ranges i) ++ no_own p.ranges i) ++ []))
+        ∙ ap (λ l. (T ++ G) ++ (l ++ [])) (append-nil R) ∙ regroup T G R in
+        in_then s (flats ss) (T ++ (R ++ G)) (partition_atoms p)
+        (everywhere s (flats ss) (T ++ (R ++ G)) (alike_then (alike_is (flats ss) (T ++ (G ++ R)) flat_rows) (alike_both (alike_itself T) (swap G R))))
+        (behind_same s T (R ++ G) (R ++ said_at p.spots.entries)
+        (behind_same s R G (said_at p.spots.entries)
+        (subst (λ l. AlikeIn s (flat_map own l) (said_at p.spots.entries)) (sym e) (rows_say order s p.spots.entries low high of.rows))))
+
+pub slices_show : SlicesShow
+slices_show s p sorted = shows s p _ _ _ sorted refl refl refl
+
+-- ---- from what calls ensure
+
+pub if_ok_too : {A E : Type 0} (r : Result A E) (P Q : A → Type 0) → ((x : A) → P x → Q x) → IfOk r P → IfOk r Q
+if_ok_too (Ok x) P Q h p = h x p
+if_ok_too (Err e) P Q h p = tt
+
+pub two_told : {I : Type 0} (tells : I → Option (List Fragment)) (tops : I → Option Deletion) (a b : I) (parts : List I) (x y : List Fragment) (t u : Option Deletion) → parts ≡ a ∷ b ∷ []
+    → tells a ≡ Some x → tells b ≡ Some y → tops a ≡ t → tops b ≡ u → streams_told tells tops parts ≡ Some (record { top = t; fragments = x } ∷ record { top = u; fragments = y } ∷ [])
+two_told tells tops a b parts x y t u e f g h i =
+    ap (streams_told tells tops) e ∙ (λ j. told_first (h j) (f j) (told_first (i j) (g j) (Some [])))

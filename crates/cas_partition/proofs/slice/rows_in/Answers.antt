@@ -1,0 +1,23 @@
+use Rattle.std.proofs.Common.{◌≡◌, ◌++◌, None, map, ap, ◌∙◌}
+use Rattle.cas_bounds.specs.declared.map_key.End.TheVariants.{Before}
+use Rattle.cas_partition.specs.Ranges.{key_of}
+use Rattle.cas_partition.specs.Slices.{grouped}
+use Rattle.cas_partition.specs.Ranged.{piece_of, spot_at, below_rows, spots_below, spots_between, statics_of, rows_between}
+use Rattle.cas_partition.proofs.Slots.{as_key}
+use Rattle.cas_partition.proofs.Shown.{if_ok_too, gathered}
+use Rattle.cas_partition.proofs.slice.rows_in.Goals as goal
+
+pub returns-clause-rows : goal.returns-clause-rows
+returns-clause-rows c =
+    let es = c.args.spots.now.entries in
+    let first : c.at-first.result ≡ spot_at below_rows =
+    c.at-first.ensures ∙ (λ i. spot_at (record { values = (c.from_vec.ensures ∙ c.new.ensures.items) i; end = Before; order = (c.from_vec-2.ensures ∙ c.new-2.ensures.items) i })) in
+    let low : c.at-low.result ≡ spot_at (key_of c.args.slice.now.lo) =
+    c.at-low.ensures ∙ ap spot_at (as_key c.of_cut.result c.in_ok-copied.field-0 c.of_cut.ensures.point c.of_cut.ensures.order ∙ ap key_of c.in_ok-copied.ensures) in
+    let high : c.at-high.result ≡ spot_at (key_of c.args.slice.now.hi) =
+    c.at-high.ensures ∙ ap spot_at (as_key c.of_cut-2.result c.in_ok-copied-2.field-0 c.of_cut-2.ensures.point c.of_cut-2.ensures.order ∙ ap key_of c.in_ok-copied-2.ensures) in
+    if_ok_too c.closed.result _ _
+    (λ v e. e ∙ gathered (statics_of es) (rows_between c.args.slice.now.lo c.args.slice.now.hi es) c.add_below.new.done.items c.add_between.new.done.items c.in_ok-shared.shared c.in_ok-last.last
+    (λ gs. c.in_ok-shared.ensures.added gs ∙ (λ i. c.new-done.ensures.items i ++ grouped None (map piece_of (spots_below (first i) es) ++ gs)))
+    (λ gs. c.in_ok-last.ensures gs ∙ (λ i. c.add_below.new.done.items ++ grouped c.in_ok-shared.shared (map piece_of (spots_between (low i) (high i) es) ++ gs))))
+    c.closed.ensures

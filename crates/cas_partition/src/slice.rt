@@ -1,0 +1,219 @@
+//! A partition in memory as a stream, or a slice of it.
+
+ghost use Rattle.std.specs.Prelude.{◌≡◌, List as ListOf, Option, None, Some, [], IfOk, OnOk, map, ◌++◌, ◌∷◌};
+ghost use Rattle.std.specs.List.Sorted.{IsStrictlySortedBy};
+ghost use Rattle.std.specs.Map.{keys_of};
+ghost use Rattle.cas_streams.specs.declared.fragment.Fragment.{Fragment};
+ghost use Rattle.cas_partition.specs.Spots.{spot_cmp, columns_at, cells_at, said};
+ghost use Rattle.cas_partition.specs.Slices.{grouped, grouped_from, Shows};
+ghost use Rattle.cas_partition.specs.Ranged.{piece_of, spot_at, spots_below, spots_between, statics_of, rows_between};
+
+use crate::partition::Partition;
+use crate::spot::{Content, Spot};
+use cas_atoms::{ColumnRef, PathCell, Row, RowColumn};
+use cas_bounds::{Clustering, End, MapKey, Slice};
+use cas_cell::Cell;
+use cas_merge::{Merger, compare_fragments, joined_fragment};
+use cas_streams::{Fragment, FragmentSource, Part};
+use cas_types::{Bytes, List};
+use std::alloc::{AllocError, Global};
+use std::collections::BTreeMap;
+use std::collections::btree_map::Range;
+
+// The cell, where there is one and a path.
+fn cells_at(
+    alloc: Global,
+    path: &Option<Bytes>,
+    cell: &Option<Cell>,
+) -> Result<Vec<PathCell>, AllocError>
+    ensures { IfOk result (λ v. v.items ≡ cells_at path.now cell.now) }
+{
+    let mut cells = Vec::new(alloc);
+    if let (Some(path), Some(cell)) = (path, cell) {
+        cells.push(PathCell {
+            path: path.clone()?,
+            cell: cell.copied()?,
+        })?;
+    }
+    Ok(cells)
+}
+
+// The column, where there is one.
+fn columns_at(
+    alloc: Global,
+    column: Option<u16>,
+    path: &Option<Bytes>,
+    content: &Content,
+) -> Result<Vec<RowColumn>, AllocError>
+    ensures { IfOk result (λ v. v.items ≡ columns_at column path.now content.now) }
+{
+    let mut columns = Vec::new(alloc);
+    if let Some(number) = column {
+        let cells = cells_at(alloc, path, &content.cell)?;
+        columns.push(RowColumn {
+            column: ColumnRef {
+                number,
+                path: content.tag,
+            },
+            deletion: content.deletion,
+            cells: List::from_vec(cells),
+        })?;
+    }
+    Ok(columns)
+}
+
+// What is said at a spot, as a piece of its row.
+fn piece(alloc: Global, spot: &Spot, content: &Content) -> Result<Fragment, AllocError>
+    ensures { IfOk result (λ f. f ≡ said spot.now content.now) }
+{
+    let columns = List::from_vec(columns_at(alloc, spot.column, &spot.path, content)?);
+    match &spot.row {
+        None => Ok(Fragment::Static(columns)),
+        Some(key) => {
+            let clustering = Clustering {
+                values: key.values.clone()?,
+                order: key.order.clone()?,
+            };
+            let whole = spot.column.is_none();
+            Ok(Fragment::Row(Row {
+                clustering,
+                deletion: if whole { content.deletion } else { None },
+                live: if whole { content.live } else { None },
+                columns,
+            }))
+        }
+    }
+}
+
+// The next piece, put together with the last one where both are of one row; what comes last then.
+fn add_piece(
+    alloc: Global,
+    done: &mut Vec<Fragment>,
+    last: Option<Fragment>,
+    piece: Fragment,
+) -> Result<Fragment, AllocError>
+    ensures { IfOk result (λ f. (gs : ListOf Fragment) → done.new.items ++ grouped_from f gs ≡ done.old.items ++ grouped last (piece ∷ gs)) }
+{
+    match last {
+        None => Ok(piece),
+        Some(f) => {
+            if compare_fragments(&f, &piece).is_eq() {
+                joined_fragment(alloc, f, piece)
+            } else {
+                done.push(f)?;
+                Ok(piece)
+            }
+        }
+    }
+}
+
+// The pieces of a range of spots; what comes last then.
+fn add_range(
+    alloc: Global,
+    done: &mut Vec<Fragment>,
+    before: Option<Fragment>,
+    spots: Range<'_, Spot, Content>,
+) -> Result<Option<Fragment>, AllocError>
+    ensures { IfOk result (λ l. (gs : ListOf Fragment) → done.new.items ++ grouped l gs ≡ done.old.items ++ grouped before (map piece_of spots.entry ++ gs)) }
+{
+    let mut last = before;
+    let mut rest = spots;
+    while let Some((spot, content)) = rest.next() {
+        let next = piece(alloc, spot, content)?;
+        last = Some(add_piece(alloc, done, last, next)?);
+    }
+    Ok(last)
+}
+
+// The key below all rows, and that of a cut.
+fn at(row: MapKey) -> Spot
+    ensures { result ≡ spot_at row }
+{
+    Spot {
+        row: Some(row),
+        column: None,
+        path: None,
+    }
+}
+
+// What is said at the spots below one.
+fn add_below(
+    alloc: Global,
+    done: &mut Vec<Fragment>,
+    spots: &BTreeMap<Spot, Content>,
+    first: &Spot,
+) -> Result<Option<Fragment>, AllocError>
+    ensures added { IfOk result (λ l. (gs : ListOf Fragment) → done.new.items ++ grouped l gs ≡ done.old.items
+        ++ grouped None (map piece_of (spots_below first.now spots.now.entries) ++ gs)) }
+    ensures sorted { IsStrictlySortedBy spot_cmp (keys_of spots.now.entries) }
+{
+    add_range(alloc, done, None, spots.range(..first))
+}
+
+// What is said at the spots between two.
+fn add_between(
+    alloc: Global,
+    done: &mut Vec<Fragment>,
+    last: Option<Fragment>,
+    spots: &BTreeMap<Spot, Content>,
+    low: &Spot,
+    high: &Spot,
+) -> Result<Option<Fragment>, AllocError>
+    ensures { IfOk result (λ l. (gs : ListOf Fragment) → done.new.items ++ grouped l gs ≡ done.old.items
+        ++ grouped last (map piece_of (spots_between low.now high.now spots.now.entries) ++ gs)) }
+{
+    if low.cmp(high).is_lt() {
+        add_range(alloc, done, last, spots.range(low..high))
+    } else {
+        Ok(last)
+    }
+}
+
+// The rows that are done and the last one.
+fn closed(done: Vec<Fragment>, last: Option<Fragment>) -> Result<Vec<Fragment>, AllocError>
+    ensures { IfOk result (λ v. v.items ≡ done.items ++ grouped last []) }
+{
+    let mut rows = done;
+    if let Some(f) = last {
+        rows.push(f)?;
+    }
+    Ok(rows)
+}
+
+// What is said of the static row and of the rows of the slice.
+fn rows_in(
+    alloc: Global,
+    spots: &BTreeMap<Spot, Content>,
+    slice: &Slice,
+) -> Result<Vec<Fragment>, AllocError>
+    ensures rows { IfOk result (λ v. v.items ≡ grouped None (map piece_of (statics_of spots.now.entries
+        ++ rows_between slice.now.lo slice.now.hi spots.now.entries))) }
+    ensures sorted { OnOk result (IsStrictlySortedBy spot_cmp (keys_of spots.now.entries)) }
+{
+    let first = at(MapKey {
+        values: List::from_vec(Vec::new(alloc)),
+        end: End::Before,
+        order: List::from_vec(Vec::new(alloc)),
+    });
+    let low = at(MapKey::of_cut(slice.lo.copied()?));
+    let high = at(MapKey::of_cut(slice.hi.copied()?));
+    let mut done = Vec::new(alloc);
+    let shared = add_below(alloc, &mut done, spots, &first)?;
+    let last = add_between(alloc, &mut done, shared, spots, &low, &high)?;
+    closed(done, last)
+}
+
+impl Partition {
+    /// The partition as a stream, in the slice and of the static row. What is covered is left out.
+    pub fn slice(&self, alloc: Global, slice: &Slice) -> Result<Merger<Part>, AllocError>
+        ensures { IfOk result (λ m. (fs : ListOf Fragment) × (⟦<Merger<Part> as FragmentSource>⟧.to_come m ≡ Some fs)
+            × Shows slice.now self.now (⟦<Merger<Part> as FragmentSource>⟧.over_all m) fs) }
+    {
+        let rows = rows_in(alloc, &self.spots, slice)?;
+        let marks = self.ranges.markers(alloc)?;
+        let mut parts = Vec::new(alloc);
+        parts.push(Part::new(self.top, rows))?;
+        parts.push(Part::new(None, marks))?;
+        Ok(Merger::new(parts))
+    }
+}
