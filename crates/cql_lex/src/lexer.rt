@@ -34,8 +34,6 @@ fn add(found: &mut Vec<Token>, from: usize, piece: Piece) -> Result<(), LexFault
 }
 
 /// The tokens of one line. Their spans ascend within it; a token's text is its span of the source.
-// Its loop is slower inside its caller.
-#[inline(never)]
 pub fn tokens(alloc: Global, source: &str) -> Result<Vec<Token>, LexFault>
     // The tokens are those that the rules give,
     ensures lexed { IfOk result (λ tokens. Lexes source.now tokens.items) }

@@ -91,8 +91,6 @@ fn lexeme_at(alloc: Global, token: Token, source: &[u8]) -> Result<Lexeme, Parse
 }
 
 /// The tokens of a source, each with its meaning.
-// Its loop is slower inside its caller.
-#[inline(never)]
 pub fn lexemes(alloc: Global, tokens: &[Token], source: &[u8]) -> Result<Vec<Lexeme>, ParseFault>
     ensures { Gives (λ v. v.items) result (lexemes_of source.now tokens.now) }
 {
