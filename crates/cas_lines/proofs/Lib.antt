@@ -1,3 +1,4 @@
 pub mod LineLemmas
 pub mod LineReading
 pub mod OneLine
+pub mod Feeds

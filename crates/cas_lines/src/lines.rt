@@ -4,16 +4,17 @@ ghost use Rattle.std.specs.Prelude.{◌≡◌, ◌<◌, ◌∷◌, ◌==◌, len
 ghost use Rattle.std.specs.List.{position_or_len};
 ghost use Rattle.std.specs.Str.Lines.{lines, strip_carriage_return};
 
+use memchr::memchr;
+
 /// The place of the first line feed, or the length where there is none.
+#[tactic(auto, using(crate::proofs::Feeds::feed_found, crate::proofs::Feeds::feed_missing))]
 fn feed_place(text: &[u8]) -> usize
     ensures { result ≡ position_or_len (λ b. b == 10) text.now }
 {
-    for (i, b) in text.iter().enumerate() {
-        if *b == b'\n' {
-            return i;
-        }
+    match memchr(b'\n', text) {
+        Some(place) => place,
+        None => text.len(),
     }
-    text.len()
 }
 
 /// The line without the one carriage return that may stand at its end.
