@@ -16,6 +16,7 @@ pub fn schemas_are_exact()
     ensures columns { (limit : ℕ) (new : Bool) (before : List Column) → limit ≤ COLUMN_LIMIT
         → IsExact (FitColumns limit new before) columns_bytes (columns_at limit new before) }
     ensures table { (tables : List TableSchema) → IsExact (FitsTable tables) schema_bytes (schema_at tables) }
-    ensures columns_spelled { (limit : ℕ) (new : Bool) (before columns : List Column) → limit ≤ COLUMN_LIMIT → FitColumns limit new before columns → HaveRoom columns }
+    ensures columns_spelled { (limit : ℕ) (new : Bool) (before columns : List Column) → limit ≤ COLUMN_LIMIT
+        → FitColumns limit new before columns → HaveRoom columns }
     ensures spelled { (tables : List TableSchema) (t : TableSchema) → FitsTable tables t → HasSpelling t }
 {}

@@ -38,7 +38,8 @@ force_from now fs (clustered c) = reaching now (changes fs) c
 
 -- all that fragments to come say of a row
 abbrev pub says_from : Option Deletion → Option Deletion → List Fragment → RowKey → List Atom
-says_from top now fs r = atom_of PartitionDeletion top ++ (atom_of PartitionDeletion (force_from now fs r) ++ flat_map own (filter (λ f. is_row r (row_in f)) fs))
+says_from top now fs r =
+    atom_of PartitionDeletion top ++ (atom_of PartitionDeletion (force_from now fs r) ++ flat_map own (filter (λ f. is_row r (row_in f)) fs))
 
 -- at each moment all streams are the same: in a row that all fragments to come stand behind, as what was given; in a row that stands behind all that
 -- was given, as what is to come, if what is in force then stays so until the next marker

@@ -8,8 +8,8 @@ pub returns-clause-next : goal.returns-clause-next
 returns-clause-next g c =
     let reads = (g.F.Folder.disk c.args.folder.now).reads in
     subst (λ (a : Ahead). OnOk c.read_on.result ((image : Image) → reads image → AreNext a.at (bytes_of (image a.name)) a.bytes
-        → AreNext a.at (bytes_of (image a.name)) c.read_on.new.bytes.items × AreEnough c.args.count a.at (bytes_of (image a.name)) c.read_on.new.bytes.items))
+    → AreNext a.at (bytes_of (image a.name)) c.read_on.new.bytes.items × AreEnough c.args.count a.at (bytes_of (image a.name)) c.read_on.new.bytes.items))
     c.self.view_is
     (subst (λ (l : List ℕ). OnOk c.read_on.result ((image : Image) → reads image → AreNext c.self.inside.at (bytes_of (image c.self.inside.name)) l
-        → AreNext c.self.inside.at (bytes_of (image c.self.inside.name)) c.read_on.new.bytes.items × AreEnough c.args.count c.self.inside.at (bytes_of (image c.self.inside.name)) c.read_on.new.bytes.items))
+    → AreNext c.self.inside.at (bytes_of (image c.self.inside.name)) c.read_on.new.bytes.items × AreEnough c.args.count c.self.inside.at (bytes_of (image c.self.inside.name)) c.read_on.new.bytes.items))
     c.drop_front.ensures.items c.read_on.ensures.next)
