@@ -1,11 +1,11 @@
 -- A store that is loaded, or made.
-use Rattle.std.proofs.Common.{◌≡◌, ◌≢◌, ◌⊎◌, inl, inr, ⊎_elim, ℕ, ◌≤◌, Bool, true, false, List, [], ◌∷◌, length, Option, None, Some, is_some, Result, Ok, Err, IfOk, IfErr, eqb, refl, sym, ◌∙◌, ap, subst, arith}
+use Rattle.std.proofs.Common.{◌≡◌, inl, inr, ℕ, Bool, true, false, List, [], ◌∷◌, length, Option, None, Some, is_some, Result, Ok, Err, IfOk, IfErr, eqb, refl, sym, ◌∙◌, ap, subst, arith}
 use Rattle.std.proofs.lemmas.Bool.{eqb-true}
 use Rattle.cas_types.specs.Limits.{IsShardCount}
 use Rattle.cas_io.specs.Causes.{Rose}
 use Rattle.cas_codec.specs.Fields.{u8}
 use Rattle.cas_disk.specs.declared.name.Name.TheVariants.{Manifest as manifest_name}
-use Rattle.cas_disk.specs.Disk.{Image, Disk, During, Follows, Changed, Same, bytes_of}
+use Rattle.cas_disk.specs.Disk.{Image, Disk, During, Follows, Changed, Same}
 use Rattle.cas_disk.proofs.Moments.{reworded, one_call_more, reads_on}
 use Rattle.cas_gates.specs.declared.first.First.{First}
 use Rattle.cas_changes.specs.declared.entry.Entry.{Entry}

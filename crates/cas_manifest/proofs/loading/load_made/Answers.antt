@@ -1,4 +1,4 @@
-use Rattle.std.proofs.Common.{◌≡◌, [], length, arith}
+use Rattle.std.proofs.Common.{◌≡◌, [], arith}
 use Rattle.cas_manifest.specs.Loading.{IsEmpty}
 use Rattle.cas_manifest.proofs.Loads.{begun_loads, is_empty, no_items}
 use Rattle.cas_manifest.proofs.loading.load_made.Goals as goal

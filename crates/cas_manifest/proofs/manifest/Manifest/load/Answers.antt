@@ -1,9 +1,8 @@
-use Rattle.std.proofs.Common.{◌≡◌, Bool, true, false, List, ℕ, [], Option, None, Some, is_some, sym, ◌∙◌, ap, subst}
+use Rattle.std.proofs.Common.{◌≡◌, List, ℕ, None, Some, sym, ◌∙◌, ap, subst}
 use Rattle.cas_disk.specs.declared.name.Name.TheVariants.{Manifest as manifest_name}
 use Rattle.cas_disk.specs.declared.name.Entry.{Entry as FileEntry}
 use Rattle.cas_disk.specs.Disk.{IsListing}
 use Rattle.cas_files.proofs.Files.{same_more}
-use Rattle.cas_manifest.specs.Loading.{IsBare, HasOthers}
 use Rattle.cas_manifest.proofs.Loads.{same_news, news_more, loads, loads_missing, is_new, others_or_new, not_there, after_list, before_list}
 use Rattle.cas_manifest.proofs.manifest.Manifest.load.Goals as goal
 
