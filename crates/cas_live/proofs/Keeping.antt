@@ -1,8 +1,8 @@
 -- The last rows of a stream, kept as they come; what is left to come after each step of live rows.
-use Rattle.std.proofs.Common.{◌≡◌, ◌≢◌, ℕ, zero, suc, ◌-◌, ◌==◌, is_some, take, ◌+◌, ℤ, Bool, true, false, Option, None, Some, IfSome, List, [], ◌∷◌, ◌++◌, append_assoc, reverse, length, arith, refl, sym, ap, ◌∙◌, subst}
+use Rattle.std.proofs.Common.{◌≡◌, ◌≢◌, ℕ, zero, suc, ◌-◌, ◌==◌, is_some, take, ◌+◌, ℤ, Bool, true, false, Option, None, Some, IfSome, List, [], ◌∷◌, ◌++◌, append_assoc, reverse, length, arith, refl, sym, ap, ◌∙◌}
 use Rattle.std.proofs.lemmas.Bool.{true≢false, eqb-true, eqb-false}
 use Rattle.std.proofs.lemmas.List.{append-nil, reverse-reverse, reverse-append}
-use Rattle.std.specs.Prelude.{Result, Ok}
+use Rattle.std.specs.Prelude.{Ok}
 use Rattle.std.specs.Option.{option_map, option_to_list}
 use Rattle.cas_cell.specs.declared.deletion.Deletion.{Deletion}
 use Rattle.cas_atoms.specs.Answers.{turned, limited}

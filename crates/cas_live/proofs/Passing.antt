@@ -2,21 +2,18 @@
 use Rattle.std.proofs.Common.{◌≡◌, ℤ, Option, None, Some, List, [], ◌∷◌, ◌++◌, append_assoc, refl, sym, ap, ◌∙◌}
 use Rattle.std.proofs.lemmas.List.{append-nil}
 use Rattle.std.specs.List.{cons_option}
-use Rattle.std.specs.Prelude.{Result, Ok}
 use Rattle.cas_bounds.specs.ClusteringOrder.{clustering_order}
 use Rattle.cas_cell.specs.declared.deletion.Deletion.{Deletion}
 use Rattle.cas_atoms.specs.Answers.{turned, limited, answer}
-use Rattle.cas_atoms.specs.declared.atom.Atom.{Atom}
 use Rattle.cas_atoms.specs.declared.atom.Atom.TheVariants.{PartitionDeletion}
 use Rattle.cas_atoms.specs.declared.query.LiveRow.{LiveRow}
 use Rattle.cas_atoms.specs.declared.query.Query.{Query}
 use Rattle.cas_streams.specs.Flat.{atom_of, flat}
 use Rattle.cas_streams.specs.Streams.{IsOrdered}
-use Rattle.cas_streams.specs.Sources.{TakesFirst}
 use Rattle.cas_streams.specs.declared.fragment.Fragment.{Fragment}
 use Rattle.cas_live.specs.Views.{or_static}
 use Rattle.cas_live.specs.Walks.{walk, shared_after}
-use Rattle.cas_live.specs.Inner.Coming.{rows_ahead, shared_at_end, all_rows, rows_to_come, ReadsToARow, ShowsRow}
+use Rattle.cas_live.specs.Inner.Coming.{rows_ahead, shared_at_end, rows_to_come, ShowsRow}
 use Rattle.cas_live.specs.declared.viewer.Viewer.{Viewer}
 use Rattle.cas_live.specs.declared.live_rows.Stage.TheVariants.{Unasked}
 use Rattle.std.specs.Option.{option_map}

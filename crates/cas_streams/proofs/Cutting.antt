@@ -1,5 +1,5 @@
 -- A stream cut to a slice is ordered and well formed, and says the same in the slice.
-use Rattle.std.proofs.Common.{◌≡◌, ℕ, Bool, true, false, not, ◌&&◌, cond, Option, None, Some, List, [], ◌∷◌, ◌++◌, filter, map, refl, sym, ap, ◌∙◌, subst}
+use Rattle.std.proofs.Common.{◌≡◌, ℕ, Bool, true, false, not, ◌&&◌, cond, Option, None, Some, List, [], ◌∷◌, ◌++◌, filter, refl, sym, ap, ◌∙◌, subst}
 use Rattle.std.proofs.lemmas.Bool.{true≢false}
 use Rattle.std.proofs.lemmas.List.{append-nil}
 use Rattle.std.specs.List.{AllByRecursion, flat_map}
@@ -9,28 +9,25 @@ use Rattle.std.specs.Cmp.Lexicographic.{lists_total}
 use Rattle.std.specs.declared.cmp.Ordering.{Ordering}
 use Rattle.std.specs.declared.cmp.Ordering.TheVariants.{Less, Equal, Greater}
 use Rattle.cas_types.proofs.OrderLaws.{bytes_orders}
-use Rattle.cas_types.specs.declared.schema.Column.{Column}
 use Rattle.cas_cell.specs.declared.deletion.Deletion.{Deletion}
 use Rattle.cas_bounds.specs.ClusteringOrder.{clustering_order}
 use Rattle.cas_bounds.specs.Cuts.{is_past, is_inside, cut_cmp}
-use Rattle.cas_bounds.specs.Points.{Point, point_cmp, row_point, cut_point, side}
+use Rattle.cas_bounds.specs.Points.{point_cmp, row_point, cut_point, side}
 use Rattle.cas_bounds.specs.declared.map_key.End.{End}
 use Rattle.cas_bounds.specs.declared.map_key.End.TheVariants as end
 use Rattle.cas_bounds.specs.declared.order.Ordered.{Ordered}
 use Rattle.cas_bounds.specs.declared.cuts.Cut.{Cut}
 use Rattle.cas_bounds.specs.declared.cuts.Slice.{Slice}
 use Rattle.cas_bounds.proofs.CutLaws.{point_laws, cuts_divide_rows}
-use Rattle.cas_atoms.specs.Coordinates.{RowKey, clustered, static_row, row_of, same_row, same_values}
+use Rattle.cas_atoms.specs.Coordinates.{RowKey, clustered, static_row, row_of, same_row}
 use Rattle.cas_atoms.specs.Winners.{cover, live_winner, cell_winner}
-use Rattle.cas_atoms.specs.declared.atom.Atom.{Atom}
 use Rattle.cas_atoms.specs.declared.atom.Atom.TheVariants.{PartitionDeletion}
-use Rattle.cas_atoms.specs.declared.row.Row.{Row}
 use Rattle.cas_laws.specs.Inside.{SameWhere, is_in}
 use Rattle.cas_laws.proofs.GreatestProofs.{no_none}
 use Rattle.cas_laws.proofs.ShownProofs.{both_hold, equal_values}
 use Rattle.cas_streams.specs.Places.{Place, place_cmp, place_of, row_in}
 use Rattle.cas_streams.specs.Flat.{Change, changes, after, at_end, reaching, in_force, atom_of, own, flat}
-use Rattle.cas_streams.specs.Streams.{IsOf, IsOrdered, IsFragment, Differ, WellFormed}
+use Rattle.cas_streams.specs.Streams.{IsOf, IsOrdered, IsFragment, Differ}
 use Rattle.cas_streams.specs.Slices.{stands_before, IsSliceOf, is_static, lies_in, force_behind, force_before, opened_at, closed_at, between_cuts, cut_to}
 use Rattle.cas_streams.specs.Laws.{is_row, row_says, CutKeepsTheSlice, CutIsWellFormed}
 use Rattle.cas_streams.specs.declared.fragment.Fragment.{Fragment}

@@ -11,8 +11,6 @@ use Rattle.cas_types.specs.Orders.{Orders}
 use Rattle.cas_types.specs.declared.schema.Column.{Column}
 use Rattle.cas_cell.specs.Deletions.{deletion_cmp, covered}
 use Rattle.cas_cell.specs.Laws.{ByTime}
-use Rattle.cas_cell.specs.Lives.{live_cmp, live_at}
-use Rattle.cas_cell.specs.Cells.{cell_cmp, cell_at}
 use Rattle.cas_cell.specs.declared.deletion.Deletion.{Deletion}
 use Rattle.cas_cell.proofs.OrderLaws.{live_laws, cell_laws}
 use Rattle.cas_bounds.specs.ClusteringOrder.{clustering_order}
@@ -32,7 +30,7 @@ use Rattle.cas_laws.proofs.GreatestProofs.{no_none, Gives-greatest}
 use Rattle.cas_laws.proofs.JoinProofs.{winner_is}
 use Rattle.cas_laws.proofs.ShownProofs.{equal_rows}
 use Rattle.cas_streams.specs.Places.{place_of, place_cmp, row_in}
-use Rattle.cas_streams.specs.Flat.{Change, atom_of, own, changes, after, at_end, in_force}
+use Rattle.cas_streams.specs.Flat.{atom_of, own, changes, after, at_end, in_force}
 use Rattle.cas_streams.specs.Streams.{IsOf, IsOrdered, WellFormed}
 use Rattle.cas_streams.specs.Joined.{Stream}
 use Rattle.cas_streams.specs.Merged.{merged, flat_of, flats}

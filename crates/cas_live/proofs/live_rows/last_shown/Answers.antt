@@ -1,5 +1,4 @@
-use Rattle.std.proofs.Common.{◌≡◌, ◌<◌, ◌≤◌, List, [], ◌∷◌, Some, length, reverse, arith, ◌∙◌}
-use Rattle.cas_streams.specs.declared.fragment.Fragment.{Fragment}
+use Rattle.std.proofs.Common.{◌≡◌, ◌<◌, ◌≤◌, [], Some, length, arith, ◌∙◌}
 use Rattle.cas_live.specs.Inner.Coming.{rows_ahead, shared_at_end, ShowsRow}
 use Rattle.cas_live.proofs.Keeping.{Gathered, one_gathered, rows_came, none_came, empty_items, some_items, if_some_then}
 use Rattle.cas_live.proofs.live_rows.last_shown.Goals as goal

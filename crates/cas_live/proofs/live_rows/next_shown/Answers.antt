@@ -1,6 +1,6 @@
-use Rattle.std.proofs.Common.{◌≡◌, ◌<◌, List, [], ◌∷◌, Option, None, Some, arith, sym, ap, ◌∙◌}
+use Rattle.std.proofs.Common.{◌≡◌, ◌<◌, List, [], ◌∷◌, Some, arith, ◌∙◌}
 use Rattle.cas_streams.specs.declared.fragment.Fragment.{Fragment}
-use Rattle.cas_live.proofs.Passing.{Passed, none_passed, one_more, one_shown, none_left}
+use Rattle.cas_live.proofs.Passing.{Passed, one_more, one_shown, none_left}
 use Rattle.cas_live.proofs.live_rows.next_shown.Goals as goal
 
 pub returns-in-Some-2-clause-first : goal.returns-in-Some-2-clause-first

@@ -1,4 +1,4 @@
-use Rattle.std.proofs.Common.{rules, ◌≡◌, List, Some, reverse, length, sym, ap}
+use Rattle.std.proofs.Common.{rules, ◌≡◌, sym, ap}
 use Rattle.cas_live.specs.Inner.Coming.{rows_of_stage, rows_left}
 use Rattle.cas_live.specs.declared.live_rows.Stage.TheVariants as stages
 use Rattle.cas_live.proofs.Keeping.{last_given, last_ends, nothing_read}
