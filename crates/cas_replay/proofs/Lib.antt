@@ -1,3 +1,8 @@
+pub mod Answering
+pub mod AtHand
+pub mod Local
 pub mod Loops
-pub mod SegmentLaws
 pub mod Order
+pub mod SegmentLaws
+pub mod Steps
+pub mod Whole

@@ -1,6 +1,6 @@
 -- A segment is read where it stands and nowhere else.
 use Rattle.std.proofs.Common.{◌≡◌, ◌≢◌, inl, inr, ℕ, zero, suc, ◌+◌, ◌<◌, ◌≤◌, ◌^◌, leb, eqb, cond, Bool, true}
-use Rattle.std.proofs.Common.{false, List, [], ◌∷◌, ◌++◌, length, Ok, Err, refl, sym, ap, subst, ◌∙◌, append_assoc, arith, codes, bytes_eq}
+use Rattle.std.proofs.Common.{false, List, [], ◌∷◌, ◌++◌, length, Result, Ok, Err, refl, sym, ap, subst, ◌∙◌, append_assoc, arith, codes, bytes_eq}
 use Rattle.std.specs.Int.{is_in_range}
 use Rattle.std.specs.List.{AllByRecursion}
 use Rattle.std.proofs.Math.Nat.{add-zero}
@@ -11,6 +11,7 @@ use Rattle.std.proofs.lemmas.List.Elements.{recursion_from_All}
 use Rattle.std.proofs.lemmas.Slice.Eq.{bytes_eq-Decides}
 use Rattle.cas_types.specs.Limits.{IsShardCount}
 use Rattle.cas_types.specs.declared.schema.TableSchema.{TableSchema}
+use Rattle.cas_codec.specs.declared.fault.ReadFault.{ReadFault}
 use Rattle.cas_codec.specs.declared.fault.ReadFault.TheVariants.{Bad}
 use Rattle.cas_codec.specs.Fields.{u8, u32, u64, bytes32}
 use Rattle.cas_codec.specs.Reading.{Left, Read, ◌>>=◌, checked, bytes_at, u8_at, u32_at, u64_at}
@@ -23,8 +24,8 @@ use Rattle.cas_mutations.specs.Allowed.{AreTables, FitsRecord}
 use Rattle.cas_mutations.specs.Reading.{record_at}
 use Rattle.cas_mutations.proofs.RecordLaws.{record_exact}
 use Rattle.cas_log.specs.Segment.{IsSize, header, lengths, body, block, opened, joined, front}
-use Rattle.cas_replay.specs.Reading.{follows, next_at, records_at, length_at, block_at, blocks_at, header_at, segment_at, segment_of}
-use Rattle.cas_replay.specs.Grammar.{AreInOrder, IsSegmentOf}
+use Rattle.cas_replay.specs.Reading.{follows, next_at, records_at, length_at, block_at, blocks_at, header_at, segment_at, segment_of, in_segment, log_of}
+use Rattle.cas_replay.specs.Grammar.{AreInOrder, IsSegmentOf, AreSegments, IsLog}
 use Rattle.cas_replay.proofs.Order.{Follow, in_order, each_follows}
 
 begins_none : (left : Left) → Begins [] left left
@@ -114,7 +115,7 @@ with_named named = checked (is_in_range 4096 (2 ^ 25)) u64_at named.1
 abbrev with_word : ℕ → List ℕ × Left → Read ℕ
 with_word number w = checked (λ n. eqb n number) u64_at w.1 >>= λ named. with_named named
 
-header_found : (number size : ℕ) (old new : Left) → AreBytes old.bytes → header_at number old ≡ Ok (size, new)
+pub header_found : (number size : ℕ) (old new : Left) → AreBytes old.bytes → header_at number old ≡ Ok (size, new)
     → IsSize size × Begins (header number size) old new
 unfolding header_at header
 header_found number size old new bytes e =
@@ -372,38 +373,48 @@ module _ (tables : List TableSchema) (shards : ℕ) (are : AreTables tables) (so
 
   -- ---- a segment
 
-  pub segment_found : (number : ℕ) (all : List Mutation) (file : List ℕ) → AreBytes file → segment_of tables shards number file ≡ Ok all
-      → IsSegmentOf tables shards number all file
+  -- what a segment has behind these mutations
+  pub record Behind (number : ℕ) (before all : List Mutation) (file : List ℕ) : Type 0 where
+    pub mutations : List Mutation
+    pub is : all ≡ before ++ mutations
+    pub segment : IsSegmentOf tables shards number mutations file
+    pub follow : Follow before mutations
+
+  pub segment_found : (number : ℕ) (before all : List Mutation) (file : List ℕ) → AreBytes file → segment_of tables shards number before file ≡ Ok all
+      → Behind number before all file
   unfolding segment_of segment_at
-  segment_found number all file bytes e =
+  segment_found number before all file bytes e =
       let start = read_left file 0 in
-      let p = bind_ok (segment_at tables shards number start) (λ (found : List Mutation × Left). Ok found.0) all e in
-      let h = bind_ok (header_at number start) (λ (size : ℕ × Left). blocks_at tables shards (length size.1.bytes) size.0 [] size.1) p.0 p.1 in
+      let p = bind_ok (segment_at tables shards number before start) (λ (found : List Mutation × Left). Ok found.0) all e in
+      let h = bind_ok (header_at number start) (λ (size : ℕ × Left). blocks_at tables shards (length size.1.bytes) size.0 before size.1) p.0 p.1 in
       let f = header_found number h.0.0 start h.0.1 bytes h.1 in
-      let b = blocks_found (length h.0.1.bytes) h.0.0 [] p.0.0 h.0.1 p.0.1 (AreBytes-rest file (header number h.0.0) h.0.1.bytes bytes f.1.bytes) h.2
+      let b = blocks_found (length h.0.1.bytes) h.0.0 before p.0.0 h.0.1 p.0.1 (AreBytes-rest file (header number h.0.0) h.0.1.bytes bytes f.1.bytes) h.2
       (omega (arith, f.0.0, f.1.at, length-header number h.0.0)) in
-      let same : joined b.blocks ≡ all = sym b.are_all ∙ ok_is p.0.0 all p.2 in
       record {
+        mutations = joined b.blocks;
+        is = sym (ok_is p.0.0 all p.2) ∙ b.are_all;
         segment = record {
-          size = h.0.0;
-          blocks = b.blocks;
-          gate = b.gate;
-          rest = p.0.1.bytes;
-          spelled = f.1.bytes ∙ ap (λ (l : List ℕ). header number h.0.0 ++ l) (b.begins.bytes ∙ ap (λ (l : List ℕ). opened b.blocks ++ l) b.there)
-              ∙ sym (append_assoc (header number h.0.0) (opened b.blocks) (b.gate ∷ p.0.1.bytes));
-          closed = b.shut;
-          all = same;
-          sized = f.0;
-          within = omega (arith, b.within, f.1.at, length-append (header number h.0.0) (opened b.blocks));
+          segment = record {
+            size = h.0.0;
+            blocks = b.blocks;
+            gate = b.gate;
+            rest = p.0.1.bytes;
+            spelled = f.1.bytes ∙ ap (λ (l : List ℕ). header number h.0.0 ++ l) (b.begins.bytes ∙ ap (λ (l : List ℕ). opened b.blocks ++ l) b.there)
+                ∙ sym (append_assoc (header number h.0.0) (opened b.blocks) (b.gate ∷ p.0.1.bytes));
+            closed = b.shut;
+            all = refl;
+            sized = f.0;
+            within = omega (arith, b.within, f.1.at, length-append (header number h.0.0) (opened b.blocks));
+          };
+          fit = b.fit;
         };
-        fit = subst (λ (l : List Mutation). AllByRecursion Fits l) same b.fit;
-        ordered = subst AreInOrder same (in_order [] (joined b.blocks) (λ shard. tt) b.follow);
+        follow = b.follow;
       }
 
-  pub segment_again : (number : ℕ) (all : List Mutation) (file : List ℕ) → number < 2 ^ 64 → AreBytes file → IsSegmentOf tables shards number all file
-      → segment_of tables shards number file ≡ Ok all
+  pub segment_again : (number : ℕ) (before ms : List Mutation) (file : List ℕ) → number < 2 ^ 64 → AreBytes file → IsSegmentOf tables shards number ms file
+      → Follow before ms → segment_of tables shards number before file ≡ Ok (before ++ ms)
   unfolding segment_of segment_at
-  segment_again number all file lt bytes is =
+  segment_again number before ms file lt bytes is follow =
       let s = is.segment in
       let x = s.gate ∷ s.rest in
       let head = header number s.size in
@@ -412,11 +423,56 @@ module _ (tables : List TableSchema) (shards : ℕ) (are : AreTables tables) (so
       let byte : s.gate < 2 ^ 8 = (recursion_from_All (λ b. b < 256) x (AreBytes-rest file (front number s.size s.blocks) x bytes s.spelled).each).0 in
       let long : length tail ≡ length (opened s.blocks) + 1 + length s.rest = omega (arith, length-append (opened s.blocks) x) in
       ap (λ (l : List ℕ). (header_at number (read_left l 0) >>= λ size. blocks_at tables shards
-      (length size.1.bytes) size.0 [] size.1) >>= λ found. Ok found.0) whole
-      ∙ ap (λ (r : Read ℕ). (r >>= λ size. blocks_at tables shards (length size.1.bytes) size.0 [] size.1) >>= λ found. Ok found.0)
+      (length size.1.bytes) size.0 before size.1) >>= λ found. Ok found.0) whole
+      ∙ ap (λ (r : Read ℕ). (r >>= λ size. blocks_at tables shards (length size.1.bytes) size.0 before size.1) >>= λ found. Ok found.0)
       (header_again number s.size tail 0 lt s.sized)
       ∙ ap (λ (r : Read (List Mutation)). r >>= λ found. Ok found.0)
-      (blocks_again (length tail) s.size [] s.blocks s.gate s.rest (0 + length head) s.closed byte (omega (arith, long, many_blocks s.blocks))
-      (subst (λ (l : List Mutation). AllByRecursion Fits l) (sym s.all) is.fit) (each_follows [] (joined s.blocks) (subst AreInOrder (sym s.all) is.ordered))
+      (blocks_again (length tail) s.size before s.blocks s.gate s.rest (0 + length head) s.closed byte (omega (arith, long, many_blocks s.blocks))
+      (subst (λ (l : List Mutation). AllByRecursion Fits l) (sym s.all) is.fit) (subst (λ (l : List Mutation). Follow before l) (sym s.all) follow)
       (omega (arith, s.within, length-append head (opened s.blocks))) s.sized.1)
-      ∙ ap (λ (l : List Mutation). Ok l) s.all
+      ∙ ap (λ (l : List Mutation). Ok (before ++ l)) s.all
+
+  -- ---- a log
+
+  in_segment_ok : (number : ℕ) (others : List Mutation → Result (List Mutation) (ℕ × ReadFault)) (r : Result (List Mutation) ReadFault) (all : List Mutation)
+      → in_segment number others r ≡ Ok all → (found : List Mutation) × (r ≡ Ok found) × (others found ≡ Ok all)
+  in_segment_ok number others (Ok found) all e = (found, refl, e)
+  in_segment_ok number others (Err f) all e = absurd cc
+
+  log_found : (file : ℕ → List ℕ) → ((n : ℕ) → AreBytes (file n)) → (numbers : List ℕ) (before all : List Mutation) → log_of tables shards file numbers before ≡ Ok all
+      → (parts : List (List Mutation)) × AreSegments tables shards file numbers parts × (all ≡ before ++ joined parts) × Follow before (joined parts)
+  unfolding log_of
+  log_found file bytes [] before all e = let same : before ≡ all = cc in ([], tt, sym same ∙ sym (append-nil before), tt)
+  log_found file bytes (n ∷ numbers) before all e =
+      let p = in_segment_ok n (log_of tables shards file numbers) (segment_of tables shards n before (file n)) all e in
+      let f = segment_found n before p.0 (file n) (bytes n) p.1 in
+      let (parts, are_segments, is, follow) = log_found file bytes numbers p.0 all p.2 in
+      let ms = f.mutations in (
+        ms ∷ parts,
+        (f.segment, are_segments),
+        is ∙ ap (λ (l : List Mutation). l ++ joined parts) f.is ∙ append_assoc before ms (joined parts),
+        follow_both before ms (joined parts) f.follow (subst (λ (l : List Mutation). Follow l (joined parts)) f.is follow),
+      )
+
+  log_again : (file : ℕ → List ℕ) → ((n : ℕ) → AreBytes (file n)) → (numbers : List ℕ) → AllByRecursion (λ n. n < 2 ^ 64) numbers → (before : List Mutation) (parts : List (List Mutation))
+      → AreSegments tables shards file numbers parts → Follow before (joined parts) → log_of tables shards file numbers before ≡ Ok (before ++ joined parts)
+  unfolding log_of
+  log_again file bytes [] few before [] are_segments follow = ap (λ (l : List Mutation). Ok l) (sym (append-nil before))
+  log_again file bytes [] few before (ms ∷ parts) are_segments follow = absurd are_segments
+  log_again file bytes (n ∷ numbers) few before [] are_segments follow = absurd are_segments
+  log_again file bytes (n ∷ numbers) few before (ms ∷ parts) are_segments follow =
+      let both = follow_parts before ms (joined parts) follow in
+      ap (λ (r : Result (List Mutation) ReadFault). in_segment n (log_of tables shards file numbers) r) (segment_again n before ms (file n) few.0 (bytes n) are_segments.0 both.0)
+      ∙ log_again file bytes numbers few.1 (before ++ ms) parts are_segments.1 both.1
+      ∙ ap (λ (l : List Mutation). Ok l) (append_assoc before ms (joined parts))
+
+  pub is_log : (file : ℕ → List ℕ) → ((n : ℕ) → AreBytes (file n)) → (numbers : List ℕ) (all : List Mutation) → log_of tables shards file numbers [] ≡ Ok all
+      → IsLog tables shards file numbers all
+  is_log file bytes numbers all e =
+      let (parts, are_segments, is, follow) = log_found file bytes numbers [] all e in
+      record { parts = parts; segments = are_segments; all = sym is; ordered = subst AreInOrder (sym is) (in_order [] (joined parts) (λ shard. tt) follow) }
+
+  pub of_log : (file : ℕ → List ℕ) → ((n : ℕ) → AreBytes (file n)) → (numbers : List ℕ) → AllByRecursion (λ n. n < 2 ^ 64) numbers → (all : List Mutation)
+      → IsLog tables shards file numbers all → log_of tables shards file numbers [] ≡ Ok all
+  of_log file bytes numbers few all is =
+      log_again file bytes numbers few [] is.parts is.segments (each_follows [] (joined is.parts) (subst AreInOrder (sym is.all) is.ordered)) ∙ ap (λ (l : List Mutation). Ok l) is.all

@@ -1,10 +1,10 @@
--- Which files are read: segments whose mutations are of the store's tables, and whose numbers ascend. Own format.
+-- Which files are read: segments whose mutations are of the store's tables, and over which their numbers ascend. Own format.
 use Rattle.std.specs.Prelude.{◌≡◌, ◌+◌, ◌==◌, ℕ, List, [], ◌∷◌, if◌then◌else◌}
 use Rattle.std.specs.List.{AllByRecursion, flat_map}
 use Rattle.cas_types.specs.declared.schema.TableSchema.{TableSchema}
 use Rattle.cas_atoms.specs.declared.atom.Mutation.{Mutation}
 use Rattle.cas_mutations.specs.Allowed.{FitsRecord}
-use Rattle.cas_log.specs.Segment.{IsSegment}
+use Rattle.cas_log.specs.Segment.{IsSegment, joined}
 
 -- the numbers of a shard's mutations
 abbrev pub numbers_of : ℕ → List Mutation → List ℕ
@@ -20,9 +20,22 @@ AscendByOne (n ∷ next ∷ others) = (next ≡ n + 1) × AscendByOne (next ∷ 
 abbrev pub AreInOrder : List Mutation → Type 0
 AreInOrder mutations = (shard : ℕ) → AscendByOne (numbers_of shard mutations)
 
--- The file is the segment of this number with these mutations, each of one of the tables, and per shard their numbers
--- ascend by one.
+-- the file is the segment of this number with these mutations, each of one of the tables
 pub record IsSegmentOf (tables : List TableSchema) (shards number : ℕ) (mutations : List Mutation) (file : List ℕ) : Type 0 where
   pub segment : IsSegment number mutations file
   pub fit : AllByRecursion (FitsRecord tables shards) mutations
+
+-- each number's file is its segment, with the mutations that stand in its place
+abbrev pub AreSegments : List TableSchema → ℕ → (ℕ → List ℕ) → List ℕ → List (List Mutation) → Type 0
+AreSegments tables shards file [] [] = Unit {0}
+AreSegments tables shards file (n ∷ numbers) (ms ∷ parts) = IsSegmentOf tables shards n ms (file n) × AreSegments tables shards file numbers parts
+AreSegments tables shards file [] (ms ∷ parts) = ⊥
+AreSegments tables shards file (n ∷ numbers) [] = ⊥
+
+-- The files of these numbers are the segments of a log with these mutations: each is its segment, with mutations of the tables, and over all
+-- of them, in this order, the numbers of a shard ascend by one.
+pub record IsLog (tables : List TableSchema) (shards : ℕ) (file : ℕ → List ℕ) (numbers : List ℕ) (mutations : List Mutation) : Type 0 where
+  pub parts : List (List Mutation)
+  pub segments : AreSegments tables shards file numbers parts
+  pub all : joined parts ≡ mutations
   pub ordered : AreInOrder mutations

@@ -1,10 +1,12 @@
--- Reading a segment of the commit log from left to right: its mutations, or the first field that isn't as it must be.
+-- Reading the segments of the commit log from left to right: their mutations, or the first field that isn't as it must be.
 -- Own format. The place of a refusal is that of the refused field's first byte.
-use Rattle.std.specs.Prelude.{ℕ, zero, suc, ◌+◌, ◌^◌, ◌==◌, nat_le, bytes_eq, codes, Bool, true, List}
-use Rattle.std.specs.Prelude.{[], ◌∷◌, ◌++◌, length, reverse, Option, None, Some, Result, Ok, Err, if◌then◌else◌}
+use Rattle.std.specs.Prelude.{ℕ, zero, suc, ◌+◌, ◌*◌, ◌^◌, ◌==◌, nat_le, nat_lt, bytes_eq, codes, Bool, true, List}
+use Rattle.std.specs.Prelude.{[], ◌∷◌, ◌++◌, length, reverse, filter, slice_get, unwrap_or, Option, None, Some, Result, Ok, Err, if◌then◌else◌}
 use Rattle.std.specs.List.{find}
 use Rattle.std.specs.Int.{is_in_range}
 use Rattle.cas_types.specs.declared.schema.TableSchema.{TableSchema}
+use Rattle.cas_disk.specs.declared.name.Name.TheVariants.{Log}
+use Rattle.cas_disk.specs.Disk.{Image, bytes_of}
 use Rattle.cas_codec.specs.declared.fault.ReadFault.{ReadFault}
 use Rattle.cas_codec.specs.declared.fault.ReadFault.TheVariants.{Short, Bad}
 use Rattle.cas_codec.specs.Reading.{Left, Read, ◌>>=◌, checked, bytes_at, u8_at, u32_at, u64_at}
@@ -62,14 +64,47 @@ header_at number left = do
   named ← checked (λ n. n == number) u64_at word.1
   checked (is_in_range 4096 (2 ^ 25)) u64_at named.1
 
--- a segment of this number; there are fewer blocks than bytes
-unfoldable pub segment_at : List TableSchema → ℕ → ℕ → Left → Read (List Mutation)
-segment_at tables shards number left = do
+-- a segment of this number, behind these mutations; there are fewer blocks than bytes
+unfoldable pub segment_at : List TableSchema → ℕ → ℕ → List Mutation → Left → Read (List Mutation)
+segment_at tables shards number before left = do
   size ← header_at number left
-  blocks_at tables shards (length size.1.bytes) size.0 [] size.1
+  blocks_at tables shards (length size.1.bytes) size.0 before size.1
 
--- the mutations of the segment of this number that the file is, of these tables, in a store of so many shards
-unfoldable pub segment_of : List TableSchema → ℕ → ℕ → List ℕ → Result (List Mutation) ReadFault
-segment_of tables shards number file = do
-  found ← segment_at tables shards number (record { bytes = file; at = 0 })
+-- these mutations, and behind them those of the segment of this number that the file is, of these tables, in a store of so many shards
+unfoldable pub segment_of : List TableSchema → ℕ → ℕ → List Mutation → List ℕ → Result (List Mutation) ReadFault
+segment_of tables shards number before file = do
+  found ← segment_at tables shards number before (record { bytes = file; at = 0 })
   Ok found.0
+
+-- ---- several segments
+
+-- what was read of a segment goes before what is read of those behind it; a fault is one of this segment
+abbrev pub in_segment : ℕ → (List Mutation → Result (List Mutation) (ℕ × ReadFault)) → Result (List Mutation) ReadFault → Result (List Mutation) (ℕ × ReadFault)
+in_segment number others (Ok found) = others found
+in_segment number others (Err f) = Err (number, f)
+
+-- these mutations, and behind them those of the segments of these numbers, one after another; or the first segment with a field that isn't as it
+-- must be, and why
+unfoldable pub log_of : List TableSchema → ℕ → (ℕ → List ℕ) → List ℕ → List Mutation → Result (List Mutation) (ℕ × ReadFault)
+log_of tables shards file [] before = Ok before
+log_of tables shards file (number ∷ numbers) before =
+    in_segment number (log_of tables shards file numbers) (segment_of tables shards number before (file number))
+
+-- the bytes of a segment in an image, none where it isn't there
+abbrev pub segment_in : Image → ℕ → List ℕ
+segment_in c number = bytes_of (c (Log number))
+
+-- ---- frontiers
+
+-- the frontier of a table in a shard, up to which its files hold all mutations: they stand table by table, and one that isn't there is 0
+abbrev pub frontier_of : ℕ → List ℕ → ℕ → ℕ → ℕ
+frontier_of shards frontiers table shard = unwrap_or (slice_get frontiers (table * shards + shard)) 0
+
+-- a mutation above the frontier of its table and shard
+abbrev pub is_above : ℕ → List ℕ → Mutation → Bool
+is_above shards frontiers m = nat_lt (frontier_of shards frontiers m.table m.shard) m.number
+
+-- of what was read the mutations above their frontiers, in order
+abbrev pub above_in : ℕ → List ℕ → Result (List Mutation) (ℕ × ReadFault) → Result (List Mutation) (ℕ × ReadFault)
+above_in shards frontiers (Ok found) = Ok (filter (is_above shards frontiers) found)
+above_in shards frontiers (Err f) = Err f

@@ -1,27 +1,31 @@
 -- How a replay ends. Own.
-use Rattle.std.specs.Prelude.{◌≡◌, ◌⊎◌, ℕ, Result, Ok, Err}
+use Rattle.std.specs.Prelude.{◌≡◌, ◌⊎◌, ℕ, List, Result, Ok, Err}
+use Rattle.std.specs.List.{AllByRecursion}
 use Rattle.cas_codec.specs.declared.fault.ReadFault.{ReadFault}
 use Rattle.cas_codec.specs.declared.fault.ReadFault.TheVariants.{Short, Bad as BadField}
-use Rattle.cas_log.specs.declared.fault.LogFault.{LogFault}
-use Rattle.cas_log.specs.declared.fault.LogFault.TheVariants.{TooLarge, Failed, Stopped, Bad, Mem}
+use Rattle.cas_disk.specs.declared.name.Name.TheVariants.{Log}
+use Rattle.cas_disk.specs.Disk.{Image, Disk}
+use Rattle.cas_replay.specs.declared.fault.ReplayFault.{ReplayFault}
+use Rattle.cas_replay.specs.declared.fault.ReplayFault.TheVariants.{Failed, Bad, Mem}
 
 -- the field at this place is short, or isn't allowed there
 abbrev pub IsRefusedAt : {Y : Type 0} → ℕ → Result Y ReadFault → Type 0
 IsRefusedAt at read = (read ≡ Err (Short at)) ⊎ (read ≡ Err (BadField at))
 
--- What a replay answers, its value seen by view, is what the reading gives, unless the folder failed or memory ran out.
-abbrev pub Replays : {X Y : Type 0} → (X → Y) → Result X LogFault → Result Y ReadFault → Type 0
+-- What is answered of one segment, its value seen by view, is what the reading gives, unless the folder failed or memory ran out.
+abbrev pub ReplaysOne : {X Y : Type 0} → (X → Y) → ℕ → Result X ReplayFault → Result Y ReadFault → Type 0
+ReplaysOne view segment (Ok x) read = read ≡ Ok (view x)
+ReplaysOne view segment (Err (Bad of at)) read = (of ≡ segment) × IsRefusedAt at read
+ReplaysOne view segment (Err Failed) read = Unit {0}
+ReplaysOne view segment (Err Mem) read = Unit {0}
+
+-- What a replay answers, its value seen by view, is what the reading of the segments gives, unless the folder failed or memory ran out.
+abbrev pub Replays : {X Y : Type 0} → (X → Y) → Result X ReplayFault → Result Y (ℕ × ReadFault) → Type 0
 Replays view (Ok x) read = read ≡ Ok (view x)
-Replays view (Err (Bad at)) read = IsRefusedAt at read
+Replays view (Err (Bad segment at)) read = (read ≡ Err (segment, Short at)) ⊎ (read ≡ Err (segment, BadField at))
 Replays view (Err Failed) read = Unit {0}
 Replays view (Err Mem) read = Unit {0}
-Replays view (Err (TooLarge length limit)) read = ⊥
-Replays view (Err (Stopped first)) read = ⊥
 
--- a segment's bytes aren't as they must be, the folder failed, or memory ran out
-abbrev pub IsReplayFault : LogFault → Type 0
-IsReplayFault (Bad at) = Unit {0}
-IsReplayFault Failed = Unit {0}
-IsReplayFault Mem = Unit {0}
-IsReplayFault (TooLarge length limit) = ⊥
-IsReplayFault (Stopped first) = ⊥
+-- these segments last: what a crash may leave of each is what is read
+abbrev pub Last : List ℕ → Disk → Type 0
+Last numbers disk = (c : Image) → disk.may_leave c → AllByRecursion (λ n. (read : Image) × disk.reads read × (c (Log n) ≡ read (Log n))) numbers

@@ -1,41 +1,228 @@
-//! Reads a segment from its folder.
+//! Reads a segment from its folder, block by block.
 
-ghost use Rattle.std.specs.Prelude.{Ok, IfErr, IsErrOf};
-ghost use Rattle.cas_types.specs.Limits.{IsShardCount};
+ghost use Rattle.std.specs.Prelude.{◌≡◌, ◌+◌, ◌≤◌, ◌^◌, ℕ, true, List, ◌∷◌, [], length, drop, IfOk, OnOk, IsErrOf};
 ghost use Rattle.cas_disk.specs.Counts.{Counted};
 ghost use Rattle.cas_disk.specs.Disk.{Image, During, Follows, Same, bytes_of};
-ghost use Rattle.cas_mutations.specs.Allowed.{AreTables};
-ghost use Rattle.cas_replay.specs.Reading.{segment_of};
-ghost use Rattle.cas_replay.specs.Replays.{Replays, IsReplayFault};
+ghost use Rattle.cas_files.specs.Ahead.{AreNext};
+ghost use Rattle.cas_replay.specs.Reading.{header_at, blocks_at, segment_of, segment_in};
+ghost use Rattle.cas_replay.specs.Replays.{ReplaysOne, Last};
+ghost use Rattle.cas_replay.specs.Inner.Steps.{gated_at, left_of, values_of, HasBlock, ReadsOn, Reaches, StepsOn};
 
-use crate::reading::read_segment;
+use crate::fault::{ReplayFault, of_field};
+use crate::reading::{add_gated, read_header, read_opened};
 use cas_atoms::Mutation;
+use cas_codec::Reader;
 use cas_disk::{Folder, FolderFault, Name};
-use cas_files::read_file;
-use cas_log::LogFault;
+use cas_files::FileReader;
+use cas_io::Failed;
 use cas_types::TableSchema;
 use std::alloc::Global;
 
-/// The mutations of a segment in its folder, which are of these tables, in a store of so many shards,
-/// or the place of the first field that isn't as it must be. A segment that isn't there reads as one
-/// without bytes.
-pub fn replay<F: Folder>(
-    alloc: Global,
+/// So many bytes has a segment before its first gate.
+const HEADER: usize = 24;
+
+/// So many has a gate with the lengths of its block.
+const HEAD: usize = 9;
+
+// The size that the header tells; the reader goes on behind it.
+fn take_header<F: Folder>(
     folder: &mut F,
-    number: u64,
-    tables: &[TableSchema],
-    shards: u8,
-) -> Result<Vec<Mutation>, LogFault>
-    ensures exact { (c : Image) → (F.disk folder.old).reads c
-        → Replays (λ v. v.items) result (segment_of tables.now shards number (bytes_of (c (Name.Log number)))) }
-    ensures why { IfErr result (λ f. IsReplayFault f) }
+    file: &mut FileReader,
+    segment: u64,
+) -> Result<u64, ReplayFault>
+    requires { file.old.at ≤ 2 ^ 25 }
+    ensures name { file.new.name ≡ file.old.name }
+    ensures at { OnOk result (file.new.at ≡ file.old.at + 24) }
+    ensures size { IfOk result (λ size. (4096 ≤ size) × (size ≤ 2 ^ 25)) }
+    ensures exact { (c : Image) → (F.disk folder.old).reads c → AreNext file.old.at (bytes_of (c file.old.name)) file.old.bytes
+        → ReadsOn (λ size. size) segment (bytes_of (c file.old.name)) file.new result (header_at segment (left_of (bytes_of (c file.old.name)) file.old.at)) }
     ensures reads { Follows Same (F.disk folder.old).reads (F.disk folder.new).reads }
     ensures during { During Same (F.disk folder.old) (F.disk folder.new) }
-    ensures count { Counted (F.faults_of folder.old) (F.faults_of folder.new) (IsErrOf result LogFault.Failed) }
+    ensures count { Counted (F.faults_of folder.old) (F.faults_of folder.new) (IsErrOf result ReplayFault.Failed) }
 {
-    match read_file(alloc, folder, Name::Log(number)) {
-        Ok(bytes) => read_segment(alloc, number, tables, shards, &bytes),
-        Err(FolderFault::Failed) => Err(LogFault::Failed),
-        Err(FolderFault::Mem) => Err(LogFault::Mem),
+    match file.reach(folder, HEADER) {
+        Ok(()) => {}
+        Err(FolderFault::Failed) => return Err(ReplayFault::Failed),
+        Err(FolderFault::Mem) => return Err(ReplayFault::Mem),
+    }
+    let mut reader = Reader::new(file.ahead(), file.at());
+    match read_header(&mut reader, segment) {
+        Ok(size) => {
+            file.pass(HEADER);
+            Ok(size)
+        }
+        Err(fault) => Err(of_field(segment, fault)),
+    }
+}
+
+// Reads until the next block is at hand, or all that the file has; false where its gate isn't open.
+fn reach_block<F: Folder>(
+    folder: &mut F,
+    file: &mut FileReader,
+    segment: u64,
+    size: u64,
+) -> Result<bool, ReplayFault>
+    requires place { file.old.at ≤ 2 ^ 25 }
+    ensures name { file.new.name ≡ file.old.name }
+    ensures at { file.new.at ≡ file.old.at }
+    ensures exact { (c : Image) → (F.disk folder.old).reads c → AreNext file.old.at (bytes_of (c file.old.name)) file.old.bytes
+        → Reaches segment size file.old.at (bytes_of (c file.old.name)) file.new result }
+    ensures reads { Follows Same (F.disk folder.old).reads (F.disk folder.new).reads }
+    ensures during { During Same (F.disk folder.old) (F.disk folder.new) }
+    ensures count { Counted (F.faults_of folder.old) (F.faults_of folder.new) (IsErrOf result ReplayFault.Failed) }
+{
+    match file.reach(folder, HEAD) {
+        Ok(()) => {}
+        Err(FolderFault::Failed) => return Err(ReplayFault::Failed),
+        Err(FolderFault::Mem) => return Err(ReplayFault::Mem),
+    }
+    let mut reader = Reader::new(file.ahead(), file.at());
+    let long = match read_opened(&mut reader, size) {
+        Ok(Some(long)) => long as usize,
+        Ok(None) => return Ok(false),
+        Err(fault) => return Err(of_field(segment, fault)),
+    };
+    match file.reach(folder, HEAD + long) {
+        Ok(()) => Ok(true),
+        Err(FolderFault::Failed) => Err(ReplayFault::Failed),
+        Err(FolderFault::Mem) => Err(ReplayFault::Mem),
+    }
+}
+
+// Adds the mutations of the block at hand, and passes over it; false where its gate isn't open.
+fn take_at_hand(
+    alloc: Global,
+    file: &mut FileReader,
+    segment: u64,
+    tables: &[TableSchema],
+    shards: u8,
+    size: u64,
+    mutations: &mut Vec<Mutation>,
+) -> Result<bool, ReplayFault>
+    requires place { file.old.at ≤ 2 ^ 25 }
+    ensures name { file.new.name ≡ file.old.name }
+    ensures on { IfOk result (λ opened. opened ≡ true → (file.old.at + 9 ≤ file.new.at) × (file.new.at + 1 ≤ size)) }
+    ensures exact { (f : List ℕ) → AreNext file.old.at f file.old.bytes → HasBlock size file.old.at f file.old.bytes
+        → StepsOn segment f file.new mutations.new.items result (gated_at tables.now shards size mutations.old.items (left_of f file.old.at)) }
+    ensures failed { IsErrOf result ReplayFault.Failed → ⊥ }
+{
+    let mut reader = Reader::new(file.ahead(), file.at());
+    let before = reader.left().len();
+    match add_gated(alloc, &mut reader, tables, shards, size, mutations) {
+        Ok(opened) => {
+            let taken = before - reader.left().len();
+            file.pass(taken);
+            Ok(opened)
+        }
+        Err(fault) => Err(of_field(segment, fault)),
+    }
+}
+
+// Adds the mutations of the next block; false where its gate isn't open.
+fn take_block<F: Folder>(
+    alloc: Global,
+    folder: &mut F,
+    file: &mut FileReader,
+    segment: u64,
+    tables: &[TableSchema],
+    shards: u8,
+    size: u64,
+    mutations: &mut Vec<Mutation>,
+) -> Result<bool, ReplayFault>
+    requires place { file.old.at ≤ 2 ^ 25 }
+    ensures name { file.new.name ≡ file.old.name }
+    ensures on { IfOk result (λ opened. opened ≡ true → (file.old.at + 9 ≤ file.new.at) × (file.new.at + 1 ≤ size)) }
+    ensures exact { (c : Image) → (F.disk folder.old).reads c → AreNext file.old.at (bytes_of (c file.old.name)) file.old.bytes
+        → StepsOn segment (bytes_of (c file.old.name)) file.new mutations.new.items result
+        (gated_at tables.now shards size mutations.old.items (left_of (bytes_of (c file.old.name)) file.old.at)) }
+    ensures reads { Follows Same (F.disk folder.old).reads (F.disk folder.new).reads }
+    ensures during { During Same (F.disk folder.old) (F.disk folder.new) }
+    ensures count { Counted (F.faults_of folder.old) (F.faults_of folder.new) (IsErrOf result ReplayFault.Failed) }
+{
+    match reach_block(folder, file, segment, size) {
+        Ok(true) => take_at_hand(alloc, file, segment, tables, shards, size, mutations),
+        Ok(false) => Ok(false),
+        Err(fault) => Err(fault),
+    }
+}
+
+// Adds the mutations of the blocks up to the first gate that isn't open.
+fn take_blocks<F: Folder>(
+    alloc: Global,
+    folder: &mut F,
+    file: &mut FileReader,
+    segment: u64,
+    tables: &[TableSchema],
+    shards: u8,
+    size: u64,
+    mutations: &mut Vec<Mutation>,
+) -> Result<(), ReplayFault>
+    requires place { file.old.at ≤ size }
+    requires size { size ≤ 2 ^ 25 }
+    ensures exact { (c : Image) → (F.disk folder.old).reads c → AreNext file.old.at (bytes_of (c file.old.name)) file.old.bytes
+        → ReplaysOne (λ _. mutations.new.items) segment result (values_of (blocks_at tables.now shards
+        (length (drop file.old.at (bytes_of (c file.old.name)))) size mutations.old.items (left_of (bytes_of (c file.old.name)) file.old.at))) }
+    ensures reads { Follows Same (F.disk folder.old).reads (F.disk folder.new).reads }
+    ensures during { During Same (F.disk folder.old) (F.disk folder.new) }
+    ensures count { Counted (F.faults_of folder.old) (F.faults_of folder.new) (IsErrOf result ReplayFault.Failed) }
+{
+    'turns: loop {
+        match take_block(
+            alloc, folder, file, segment, tables, shards, size, mutations,
+        ) {
+            Ok(true) => {}
+            Ok(false) => return Ok(()),
+            Err(fault) => return Err(fault),
+        }
+    }
+}
+
+// Adds the mutations of a segment.
+fn read_segment<F: Folder>(
+    alloc: Global,
+    folder: &mut F,
+    segment: u64,
+    tables: &[TableSchema],
+    shards: u8,
+    mutations: &mut Vec<Mutation>,
+) -> Result<(), ReplayFault>
+    ensures exact { (c : Image) → (F.disk folder.old).reads c
+        → ReplaysOne (λ _. mutations.new.items) segment result (segment_of tables.now shards segment mutations.old.items (segment_in c segment)) }
+    ensures reads { Follows Same (F.disk folder.old).reads (F.disk folder.new).reads }
+    ensures during { During Same (F.disk folder.old) (F.disk folder.new) }
+    ensures count { Counted (F.faults_of folder.old) (F.faults_of folder.new) (IsErrOf result ReplayFault.Failed) }
+{
+    let mut file = FileReader::new(alloc, Name::Log(segment));
+    match take_header(folder, &mut file, segment) {
+        Ok(size) => take_blocks(
+            alloc, folder, &mut file, segment, tables, shards, size, mutations,
+        ),
+        Err(fault) => Err(fault),
+    }
+}
+
+/// Adds the mutations of a segment, and makes it last. A segment that isn't there reads as one without
+/// bytes.
+pub(crate) fn replay_segment<F: Folder>(
+    alloc: Global,
+    folder: &mut F,
+    segment: u64,
+    tables: &[TableSchema],
+    shards: u8,
+    mutations: &mut Vec<Mutation>,
+) -> Result<(), ReplayFault>
+    ensures exact { (c : Image) → (F.disk folder.old).reads c
+        → ReplaysOne (λ _. mutations.new.items) segment result (segment_of tables.now shards segment mutations.old.items (segment_in c segment)) }
+    ensures lasts { OnOk result (Last (segment ∷ []) (F.disk folder.new)) }
+    ensures reads { Follows Same (F.disk folder.old).reads (F.disk folder.new).reads }
+    ensures during { During Same (F.disk folder.old) (F.disk folder.new) }
+    ensures count { Counted (F.faults_of folder.old) (F.faults_of folder.new) (IsErrOf result ReplayFault.Failed) }
+{
+    if let Err(fault) = read_segment(alloc, folder, segment, tables, shards, mutations) {
+        return Err(fault);
+    }
+    match folder.sync(Name::Log(segment)) {
+        Ok(()) => Ok(()),
+        Err(Failed) => Err(ReplayFault::Failed),
     }
 }

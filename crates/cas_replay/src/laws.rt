@@ -1,21 +1,22 @@
 //! The files that are read are the segments of the grammar.
 
-ghost use Rattle.std.specs.Prelude.{◌≡◌, ◌<◌, ◌^◌, ℕ, List, Ok};
+ghost use Rattle.std.specs.Prelude.{◌≡◌, ◌<◌, ◌^◌, ℕ, List, [], Ok};
+ghost use Rattle.std.specs.List.{AllByRecursion};
 ghost use Rattle.cas_types.specs.Limits.{IsShardCount};
 ghost use Rattle.cas_types.specs.declared.schema.TableSchema.{TableSchema};
 ghost use Rattle.cas_codec.specs.Exact.{AreBytes};
 ghost use Rattle.cas_atoms.specs.declared.atom.Mutation.{Mutation};
 ghost use Rattle.cas_mutations.specs.Allowed.{AreTables};
-ghost use Rattle.cas_replay.specs.Reading.{segment_of};
-ghost use Rattle.cas_replay.specs.Grammar.{IsSegmentOf};
+ghost use Rattle.cas_replay.specs.Reading.{log_of};
+ghost use Rattle.cas_replay.specs.Grammar.{IsLog};
 
-/// What is a segment of these tables is read, with its mutations, whatever follows its closed gate;
-/// and what is read is such a segment.
-pub fn segments_are_exact()
-    ensures again { (tables : List TableSchema) (shards number : ℕ) (mutations : List Mutation) (file : List ℕ) → AreTables tables
-        → IsShardCount shards → number < 2 ^ 64 → AreBytes file → IsSegmentOf tables shards number mutations file
-        → segment_of tables shards number file ≡ Ok mutations }
-    ensures found { (tables : List TableSchema) (shards number : ℕ) (mutations : List Mutation) (file : List ℕ) → AreTables tables
-        → IsShardCount shards → AreBytes file → segment_of tables shards number file ≡ Ok mutations
-        → IsSegmentOf tables shards number mutations file }
+/// What is a log of these tables is read, with its mutations, whatever follows its closed gates; and
+/// what is read is such a log.
+pub fn logs_are_exact()
+    ensures again { (tables : List TableSchema) (shards : ℕ) (file : ℕ → List ℕ) (numbers : List ℕ) (mutations : List Mutation) → AreTables tables
+        → IsShardCount shards → ((n : ℕ) → AreBytes (file n)) → AllByRecursion (λ n. n < 2 ^ 64) numbers → IsLog tables shards file numbers mutations
+        → log_of tables shards file numbers [] ≡ Ok mutations }
+    ensures found { (tables : List TableSchema) (shards : ℕ) (file : ℕ → List ℕ) (numbers : List ℕ) (mutations : List Mutation) → AreTables tables
+        → IsShardCount shards → ((n : ℕ) → AreBytes (file n)) → log_of tables shards file numbers [] ≡ Ok mutations
+        → IsLog tables shards file numbers mutations }
 {}

@@ -1,13 +1,13 @@
-//! The fields of a segment, from left to right.
+//! The fields of a segment, from left to right, of the bytes at hand.
 
-ghost use Rattle.std.specs.Prelude.{◌≡◌, ◌≢◌, length, Err, option_map};
+ghost use Rattle.std.specs.Prelude.{◌≡◌, option_map};
 ghost use Rattle.cas_codec.specs.Reading.{Gives};
-ghost use Rattle.cas_replay.specs.Reading.{last_of, follows, next_at, records_at, length_at, block_at, blocks_at, header_at, segment_at, segment_of};
-ghost use Rattle.cas_replay.specs.Replays.{Replays};
+ghost use Rattle.cas_replay.specs.Reading.{last_of, follows, next_at, records_at, length_at, block_at, header_at};
+ghost use Rattle.cas_replay.specs.Inner.Steps.{opened_at, gated_at};
 
 use cas_atoms::Mutation;
 use cas_codec::{ReadFault, Reader};
-use cas_log::{GREATEST_SEGMENT, LEAST_SEGMENT, LogFault};
+use cas_log::{GREATEST_SEGMENT, LEAST_SEGMENT};
 use cas_mutations::read_record;
 use cas_types::TableSchema;
 use std::alloc::Global;
@@ -108,34 +108,40 @@ fn add_block(
     Ok(())
 }
 
-// Adds the mutations of the blocks up to the first gate that isn't open.
-fn add_blocks(
+/// The length of the body behind the next gate, where that is open.
+#[tactic(auto, unfolding(crate::specs::Inner::Steps::opened_at))]
+pub(crate) fn read_opened(reader: &mut Reader<'_>, size: u64) -> Result<Option<u32>, ReadFault>
+    ensures { Gives (λ n. n) result reader.new (opened_at size reader.old) }
+{
+    if reader.u8()? != 1 {
+        return Ok(None);
+    }
+    Ok(Some(read_length(reader, size)?))
+}
+
+/// Adds the mutations of the block behind the next gate, and says whether that is open.
+#[tactic(auto, unfolding(crate::specs::Inner::Steps::gated_at))]
+pub(crate) fn add_gated(
     alloc: Global,
     reader: &mut Reader<'_>,
     tables: &[TableSchema],
     shards: u8,
     size: u64,
     mutations: &mut Vec<Mutation>,
-) -> Result<(), ReadFault>
-    ensures { Gives (λ _. mutations.new.items) result reader.new (blocks_at tables.now shards (length reader.old.bytes) size mutations.old.items reader.old) }
+) -> Result<bool, ReadFault>
+    ensures { Gives (λ opened. (opened, mutations.new.items)) result reader.new (gated_at tables.now shards size mutations.old.items reader.old) }
 {
-    // There are fewer blocks than bytes.
-    for _block in 0..reader.left().len() {
-        match reader.u8() {
-            Ok(1) => {}
-            Ok(_) => return Ok(()),
-            Err(fault) => return Err(fault),
-        }
-        if let Err(fault) = add_block(alloc, reader, tables, shards, size, mutations) {
-            return Err(fault);
-        }
+    let gate = reader.u8()?;
+    if gate != 1 {
+        return Ok(false);
     }
-    Err(ReadFault::Short { at: reader.at() })
+    add_block(alloc, reader, tables, shards, size, mutations)?;
+    Ok(true)
 }
 
-// The word, the number and the size.
+/// The word, the number and the size, of which the size is told.
 #[tactic(auto, unfolding(crate::specs::Reading::header_at, cas_codec::specs::Reading::checked))]
-fn read_header(reader: &mut Reader<'_>, number: u64) -> Result<u64, ReadFault>
+pub(crate) fn read_header(reader: &mut Reader<'_>, number: u64) -> Result<u64, ReadFault>
     ensures { Gives (λ size. size) result reader.new (header_at number reader.old) }
 {
     let at = reader.at();
@@ -148,42 +154,4 @@ fn read_header(reader: &mut Reader<'_>, number: u64) -> Result<u64, ReadFault>
         return Err(ReadFault::Bad { at });
     }
     reader.u64_within(LEAST_SEGMENT, GREATEST_SEGMENT)
-}
-
-// Reads a segment.
-#[tactic(auto, unfolding(crate::specs::Reading::segment_at))]
-fn segment(
-    alloc: Global,
-    reader: &mut Reader<'_>,
-    tables: &[TableSchema],
-    shards: u8,
-    number: u64,
-) -> Result<Vec<Mutation>, ReadFault>
-    ensures { Gives (λ v. v.items) result reader.new (segment_at tables.now shards number reader.old) }
-{
-    let size = read_header(reader, number)?;
-    let mut mutations = Vec::new(alloc);
-    add_blocks(alloc, reader, tables, shards, size, &mut mutations)?;
-    Ok(mutations)
-}
-
-/// The mutations of a segment's bytes, which are of these tables, in a store of so many shards, or
-/// the place of the first field that isn't as it must be.
-#[tactic(auto, unfolding(crate::specs::Reading::segment_of))]
-pub fn read_segment(
-    alloc: Global,
-    number: u64,
-    tables: &[TableSchema],
-    shards: u8,
-    file: &[u8],
-) -> Result<Vec<Mutation>, LogFault>
-    ensures exact { Replays (λ v. v.items) result (segment_of tables.now shards number file.now) }
-    ensures why { result ≢ Err LogFault.Failed }
-{
-    let mut reader = Reader::new(file, 0);
-    match segment(alloc, &mut reader, tables, shards, number) {
-        Ok(mutations) => Ok(mutations),
-        Err(ReadFault::Short { at } | ReadFault::Bad { at }) => Err(LogFault::Bad { at }),
-        Err(ReadFault::Mem) => Err(LogFault::Mem),
-    }
 }

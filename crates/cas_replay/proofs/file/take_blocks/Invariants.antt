@@ -1,0 +1,23 @@
+use Rattle.std.proofs.Common.{◌≡◌, ◌≤◌, ◌-◌, length, drop}
+use Rattle.cas_disk.specs.Disk.{Image, During, Follows, Same, bytes_of}
+use Rattle.cas_files.specs.Ahead.{AreNext}
+use Rattle.cas_replay.specs.Reading.{blocks_at}
+use Rattle.cas_replay.specs.Inner.Steps.{left_of}
+use Rattle.cas_replay.proofs.Steps.{Comes}
+use Rattle.cas_replay.proofs.file.take_blocks.Given as goal
+
+abbrev pub invariant-turns : goal.invariant-turns
+invariant-turns g l = record {
+  name : l.file.name ≡ l.fn.file.name;
+  place : l.file.at ≤ l.size;
+  exact : (c : Image) → (g.F.Folder.disk l.fn.folder).reads c → AreNext l.fn.file.at (bytes_of (c l.fn.file.name)) l.fn.file.bytes
+      → AreNext l.file.at (bytes_of (c l.fn.file.name)) l.file.bytes
+      × Comes l.tables l.shards l.size l.mutations.items (left_of (bytes_of (c l.fn.file.name)) l.file.at)
+      (blocks_at l.tables l.shards (length (drop l.fn.file.at (bytes_of (c l.fn.file.name)))) l.size l.fn.mutations.items (left_of (bytes_of (c l.fn.file.name)) l.fn.file.at));
+  reads : Follows Same (g.F.Folder.disk l.fn.folder).reads (g.F.Folder.disk l.folder).reads;
+  during : During Same (g.F.Folder.disk l.fn.folder) (g.F.Folder.disk l.folder);
+  faults : g.F.Folder.faults_of l.fn.folder ≤ g.F.Folder.faults_of l.folder;
+}
+
+abbrev pub decreases-turns : goal.decreases-turns
+decreases-turns g l = l.size - l.file.at
