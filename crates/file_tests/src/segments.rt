@@ -131,7 +131,8 @@ fn a_log_of_20_segments(rt: HostRuntime) -> Result<(), Fail> {
         assert!(rt; put(&mut folder, number as u64, &bytes));
         segments.push(number as u64)?;
     }
-    let (front, behind) = (&segments[..6], &segments[7..]);
+    let front = segments.get(..6).ok_or("six segments")?;
+    let behind = segments.get(7..).ok_or("seven segments")?;
     let cases: [(&[u64], u64, Result<usize, (u64, u64)>); 6] = [
         (&segments, 0, Ok(20)),
         (&segments, 12, Ok(8)), // up to the frontier they are in table files
