@@ -1,0 +1,4 @@
+mod Tests
+mod Columns
+mod Options
+mod Tables
