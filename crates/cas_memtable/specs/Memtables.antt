@@ -26,6 +26,7 @@ abbrev pub atoms_held : Option Held → List Atom
 atoms_held None = []
 atoms_held (Some h) = partition_atoms h.partition
 
+-- what the memtable says under a key
 abbrev pub atoms_of : MemPart → List ℕ → List Atom
 atoms_of m key = atoms_held (held_at m key)
 
@@ -34,6 +35,7 @@ abbrev pub least_held : Option Held → Option ℤ
 least_held None = None
 least_held (Some h) = h.least
 
+-- the least timestamp under a key
 abbrev pub least_of : MemPart → List ℕ → Option ℤ
 least_of m key = least_held (held_at m key)
 
@@ -52,6 +54,7 @@ abbrev pub added : ℕ → List Atom → ℕ → ℕ
 added bytes [] length = bytes
 added bytes (a ∷ atoms) length = min (bytes + length) (2 ^ 64 - 1)
 
+-- the bytes with a mutation's record
 abbrev pub bytes_with : ℕ → Mutation → ℕ
 bytes_with bytes m = added bytes m.atoms (record_length m)
 
@@ -64,6 +67,7 @@ abbrev pub PlacesIn : Option Held → List Atom → Type 0
 PlacesIn None atoms = ⊥
 PlacesIn (Some h) atoms = HavePlaces h.partition atoms
 
+-- in the partition of its key
 abbrev pub HasPlaces : MemPart → Mutation → Type 0
 HasPlaces m w = PlacesIn (held_at m w.key) w.atoms
 

@@ -38,6 +38,7 @@ said_at es = flat_map (λ e. own (said e.0 e.1)) es
 abbrev pub atoms_with : Option Deletion → List Change → List (Spot × Content) → List Atom
 atoms_with top ms es = atom_of PartitionDeletion top ++ (ranges ms ++ said_at es)
 
+-- what the partition says
 abbrev pub partition_atoms : Partition → List Atom
 partition_atoms p = atoms_with p.top p.ranges p.spots.entries
 
@@ -80,6 +81,7 @@ is_there ms es Whole = true
 is_there ms es (Cuts lo hi) = has_cut lo ms && has_cut hi ms
 is_there ms es (At s tag) = has_spot s es
 
+-- the partition has the place that the atom wants
 abbrev pub HasPlace : Partition → Atom → Type 0
 HasPlace p a = is_there p.ranges p.spots.entries (wanted a) ≡ true
 
@@ -103,9 +105,11 @@ pub record Joins (a : Atom) (p q : Partition) : Type 0 where
 
 -- ---- lists of atoms
 
+-- each is of a table that orders its rows so
 abbrev pub AreAtomsOf : List Ordered → List Atom → Type 0
 AreAtomsOf order atoms = AllByRecursion (IsAtomOf order) atoms
 
+-- each has its place
 abbrev pub HavePlaces : Partition → List Atom → Type 0
 HavePlaces p atoms = AllByRecursion (HasPlace p) atoms
 

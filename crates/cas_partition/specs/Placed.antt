@@ -21,6 +21,7 @@ use Rattle.cas_partition.specs.declared.spot.Addition.TheVariants as gives
 abbrev pub row_key : Clustering → MapKey
 row_key c = record { values = c.values; end = Row; order = c.order }
 
+-- a spot of a row or of the static row: of the row itself, of a column as a whole, or of one cell of it
 abbrev pub spot : Option MapKey → Option ℕ → Option (List ℕ) → Spot
 spot row column path = record { row = row; column = column; path = path }
 
@@ -39,9 +40,11 @@ wanted (StaticCollectionDeletion ref d) = wants.At (spot None (Some ref.number) 
 abbrev pub deleted : Option TypeTag → Deletion → Content
 deleted tag d = record { tag = tag; deletion = Some d; live = None; cell = None }
 
+-- that a row lives by its INSERT
 abbrev pub lives : Liveness → Content
 lives l = record { tag = None; deletion = None; live = Some l; cell = None }
 
+-- a cell
 abbrev pub wrote : Option TypeTag → Cell → Content
 wrote tag v = record { tag = tag; deletion = None; live = None; cell = Some v }
 

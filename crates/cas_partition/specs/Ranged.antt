@@ -26,6 +26,7 @@ below_rows = record { values = []; end = Before; order = [] }
 abbrev pub spots_below : Spot → List (Spot × Content) → List (Spot × Content)
 spots_below first es = filter (λ e. true && not (is_le (spot_cmp first e.0))) es
 
+-- those from one spot on, before another
 abbrev pub spots_between : Spot → Spot → List (Spot × Content) → List (Spot × Content)
 spots_between low high es = filter (λ e. is_le (spot_cmp low e.0) && not (is_le (spot_cmp high e.0))) es
 

@@ -71,5 +71,6 @@ piece (Some k) column path c = fragment.Row (record {
   columns = columns_at column path c;
 })
 
+-- what is said at a spot, as a fragment
 abbrev pub said : Spot → Content → Fragment
 said s c = piece s.row s.column s.path c

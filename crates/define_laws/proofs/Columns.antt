@@ -112,6 +112,7 @@ clustering_stands before (c ∷ cs) some e all =
   where
     behind : (has_some before && list_all (λ c. is_key c.kind) before) ≡ true
     behind = both (has_some before) (list_all (λ c. is_key c.kind) before) some e
+
     stands : (k : Kind) → is_clustering k ≡ true → may_stand true before k ≡ true
     stands Partition is = cc
     stands Ascending is = both (has_some before && list_all (λ c. is_key c.kind) before) true behind refl

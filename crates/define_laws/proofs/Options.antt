@@ -107,6 +107,7 @@ module _ (s : Strategy) (ss : List Suboption) (known : list_all (λ o. is_subopt
       others =
           each_back (λ o. is_keyed name o.key ≡ false) ss
           (each_of (λ o. is_suboption s o.key ≡ true) (λ o. is_keyed name o.key ≡ false) (λ o e. other_key name s o.key apart e) ss (passes (λ o. is_suboption s o.key) ss known))
+
       of : (o : Option Suboption) → find (λ o. is_keyed name o.key) (reverse ss) ≡ o → option_map (λ o. o.value) o ≡ None
       of None e = refl
       of (Some o) e =

@@ -252,8 +252,8 @@ module _ (options : List TableOption) (ds : List DefinedColumn) (k : PrimaryKey)
       passed (λ c. is_key c.kind) parts (each_of (λ c. is_partition c.kind ≡ true) (λ c. is_key c.kind ≡ true) (λ c e. first_so (is_partition c.kind) (is_clustering c.kind) e) parts parts_are) in
       let clustered : nat_lt 0 (length k.clustering) ≡ true → list_any (λ c. is_clustering c.kind) (parts ++ clusters) ≡ true =
       λ e. list_any-append (λ c. is_clustering c.kind) parts clusters
-          ∙ second_so (list_any (λ c. is_clustering c.kind) parts) (list_any (λ c. is_clustering c.kind) clusters)
-          (one_clusters clusters (some_made k.clustering (backs (λ n. may_be_key ds n ≡ true) k.partition k.clustering may_each) e) are) in
+      ∙ second_so (list_any (λ c. is_clustering c.kind) parts) (list_any (λ c. is_clustering c.kind) clusters)
+      (one_clusters clusters (some_made k.clustering (backs (λ n. may_be_key ds n ≡ true) k.partition k.clustering may_each) e) are) in
       let key : EachFits (Stands true) [] (parts ++ clusters) =
       each_on (Stands true) [] parts clusters (partition_stands [] parts refl parts_are) (clustering_stands parts clusters some keys are) in
       let all : EachFits (Stands true) [] ((parts ++ clusters) ++ others) =
