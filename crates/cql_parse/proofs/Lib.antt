@@ -1,3 +1,2 @@
-pub mod ChangeAgree
 pub mod SelectAgree
 pub mod StatementAgree

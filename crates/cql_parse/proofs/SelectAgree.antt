@@ -17,10 +17,12 @@ use Rattle.cql_phrases.specs.Inner.Reading.{done, after_word, after_mark, word_a
 use Rattle.cql_phrases.proofs.Agree.{Agrees, Shrinks, unstep, step, unchoose, choose, choose_other, phrase_at}
 use Rattle.cql_phrases.proofs.Tokens.{word_sound, word_full, other_word, mark_sound, mark_full, other_mark, word_at_sound, word_at_full, mark_at_sound, mark_at_full, name_agrees, name_shrinks, no_mark, word_no_mark}
 use Rattle.cql_phrases.proofs.ClauseAgree.{MayGoOn, AfterList, NotWord, Starts, list_agrees, number_behind_agrees, blob_behind_agrees, starts_word, starts_mark, starts_behind, starts_maybe}
-use Rattle.cql_parse.specs.Inner.StatementReading.{relation_at, after_call, called, pick_at, picks_at, order_at, select_at}
+use Rattle.cql_parse.specs.Inner.StatementReading.{after_call, called, pick_at, picks_at, order_at, select_at}
+use Rattle.cql_changes.specs.Inner.ChangeReading.{relation_at}
 use Rattle.cql_phrases.specs.Phrases.{Phrase, keyword, sign, Some_of, Behind, IsName, IsNumber, IsBlob}
-use Rattle.cql_parse.specs.Grammar.{IsRelation, Called, IsPick, IsPicks, IsSelect}
-use Rattle.cql_parse.proofs.ChangeAgree.{where_agrees}
+use Rattle.cql_parse.specs.Grammar.{Called, IsPick, IsPicks, IsSelect}
+use Rattle.cql_changes.specs.Changes.{IsRelation}
+use Rattle.cql_changes.proofs.ChangeAgree.{where_agrees}
 use Rattle.cql_tables.specs.Inner.TableReading.{table_at, column_order_at}
 use Rattle.cql_tables.specs.Tables.{IsColumnOrder}
 use Rattle.cql_tables.proofs.TableAgree.{NotMark, End, table_agrees, not_and, not_comma, NoDirection, order_agrees, order_shrinks, order_goes_on}

@@ -13,7 +13,8 @@ use Rattle.cql_parse.specs.declared.syntax.Statement.{Statement}
 use Rattle.cql_parse.specs.declared.syntax.Statement.TheVariants as statement
 use Rattle.cql_phrases.specs.Symbols.{spelling}
 use Rattle.cql_phrases.specs.Inner.Reading.{done, after_word, after_mark, Gives}
-use Rattle.cql_parse.specs.Inner.StatementReading.{insert_at, update_at, delete_at, select_at, definition_at, change_at, statement_at, semicolon_at, whole_statement, statement_of}
+use Rattle.cql_parse.specs.Inner.StatementReading.{select_at, definition_at, change_at, statement_at, semicolon_at, whole_statement, statement_of}
+use Rattle.cql_changes.specs.Inner.ChangeReading.{insert_at, update_at, delete_at}
 use Rattle.cql_tables.specs.Inner.TableReading.{create_at, alter_at, ended}
 use Rattle.cql_phrases.specs.Phrases.{Phrase, keyword, sign, nothing, ◌∣◌}
 use Rattle.cql_parse.specs.Grammar.{Of, IsStatement}
@@ -21,7 +22,7 @@ use Rattle.cql_phrases.specs.Lexemes.{lexemes_of}
 use Rattle.cql_parse.specs.Means.{Means, IsAnswer, OneStatement}
 use Rattle.cql_phrases.proofs.Agree.{unstep, step, unchoose, choose, choose_other, some_is, same, phrase_at}
 use Rattle.cql_phrases.proofs.Tokens.{word_sound, word_full, other_word, mark_sound, mark_full}
-use Rattle.cql_parse.proofs.ChangeAgree.{insert_sound, insert_full, update_sound, update_full, delete_sound, delete_full}
+use Rattle.cql_changes.proofs.ChangeAgree.{insert_sound, insert_full, update_sound, update_full, delete_sound, delete_full}
 use Rattle.cql_parse.proofs.SelectAgree.{select_sound, select_full}
 use Rattle.cql_tables.proofs.TableAgree.{End, ended_is}
 use Rattle.cql_tables.proofs.DefineAgree.{create_sound, create_full, alter_sound, alter_full}

@@ -2,8 +2,6 @@
 //! are, which stand twice, which constants fit.
 #![tactic(auto)]
 
-mod changes;
-mod clauses;
 pub mod fault;
 pub mod lexeme;
 mod parse;

@@ -6,9 +6,9 @@ ghost use Rattle.cql_parse.specs.Inner.StatementReading.{definition_at, change_a
 ghost use Rattle.cql_parse.specs.Means.{Means, IsAnswer, OneStatement};
 ghost use Rattle.cql_parse.specs.declared.syntax.Statement.{Statement};
 
-use crate::changes::{delete, insert, update};
 use crate::select::select;
 use crate::syntax::Statement;
+use cql_changes::changes::{delete, insert, update};
 use cql_lex::{Mark, Token};
 use cql_phrases::front::{after_mark, after_word};
 use cql_phrases::lexemes::lexemes;

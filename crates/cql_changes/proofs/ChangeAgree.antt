@@ -8,18 +8,18 @@ use Rattle.cql_lex.specs.declared.token.Mark.TheVariants as mark
 use Rattle.cql_phrases.specs.declared.lists.Separator.TheVariants as separator
 use Rattle.cql_phrases.specs.declared.term.Constant.{Constant}
 use Rattle.cql_phrases.specs.declared.term.Term.TheVariants as term
-use Rattle.cql_parse.specs.declared.syntax.Insert.{Insert}
-use Rattle.cql_parse.specs.declared.syntax.Use.{Use}
-use Rattle.cql_parse.specs.declared.syntax.Use.TheVariants as «use»
-use Rattle.cql_parse.specs.declared.syntax.Update.{Update}
-use Rattle.cql_parse.specs.declared.syntax.Assignment.{Assignment}
-use Rattle.cql_parse.specs.declared.syntax.Assigned.{Assigned}
-use Rattle.cql_parse.specs.declared.syntax.Assigned.TheVariants as assigned
-use Rattle.cql_parse.specs.declared.syntax.Delete.{Delete}
-use Rattle.cql_parse.specs.declared.syntax.Target.{Target}
-use Rattle.cql_parse.specs.declared.syntax.Relation.{Relation}
-use Rattle.cql_parse.specs.declared.syntax.Operator.{Operator}
-use Rattle.cql_parse.specs.declared.syntax.Operator.TheVariants as operator
+use Rattle.cql_changes.specs.declared.syntax.Insert.{Insert}
+use Rattle.cql_changes.specs.declared.syntax.Use.{Use}
+use Rattle.cql_changes.specs.declared.syntax.Use.TheVariants as «use»
+use Rattle.cql_changes.specs.declared.syntax.Update.{Update}
+use Rattle.cql_changes.specs.declared.syntax.Assignment.{Assignment}
+use Rattle.cql_changes.specs.declared.syntax.Assigned.{Assigned}
+use Rattle.cql_changes.specs.declared.syntax.Assigned.TheVariants as assigned
+use Rattle.cql_changes.specs.declared.syntax.Delete.{Delete}
+use Rattle.cql_changes.specs.declared.syntax.Target.{Target}
+use Rattle.cql_changes.specs.declared.syntax.Relation.{Relation}
+use Rattle.cql_changes.specs.declared.syntax.Operator.{Operator}
+use Rattle.cql_changes.specs.declared.syntax.Operator.TheVariants as operator
 use Rattle.cql_phrases.specs.declared.term.Constant.TheVariants as constant
 use Rattle.cql_phrases.specs.Symbols.{spelling, is_reserved}
 use Rattle.cql_phrases.specs.Inner.Reading.{done, after_word, after_mark, after_open_bracket, word_at, mark_at, close_bracket_at, name_at, whole_number_at, list_at, in_parens, list_behind, place}
@@ -28,9 +28,9 @@ use Rattle.cql_phrases.proofs.Agree.{Agrees, Anything, Shrinks, unstep, step, un
 use Rattle.cql_phrases.proofs.Tokens.{word_sound, word_full, other_word, mark_sound, mark_full, other_mark, word_at_sound, word_at_full, mark_at_sound, mark_at_full, open_bracket_sound, open_bracket_full, close_bracket_at_sound, close_bracket_at_full, name_agrees, name_shrinks, number_agrees, no_word, word_no_mark}
 use Rattle.cql_phrases.proofs.ClauseAgree.{MayGoOn, AfterList, MayClose, AfterClause, NotWord, Starts, list_agrees, parens_agrees, behind_agrees, starts_word, starts_mark, starts_behind}
 use Rattle.cql_phrases.proofs.TermAgree.{constant_agrees, constant_shrinks, literal_agrees, literal_shrinks, literal_is_opened, term_agrees, term_shrinks, either}
-use Rattle.cql_parse.specs.Inner.StatementReading.{use_at, insert_at, operator_at, relation_at, name_comes, entry_assigned, literal_assigned, changed, name_assigned, term_assigned, right_side, assigned_at, assignment_at, update_at, target_at, targets_at, timestamp_at, delete_at}
+use Rattle.cql_changes.specs.Inner.ChangeReading.{use_at, insert_at, operator_at, relation_at, name_comes, entry_assigned, literal_assigned, changed, name_assigned, term_assigned, right_side, assigned_at, assignment_at, update_at, target_at, targets_at, timestamp_at, delete_at}
 use Rattle.cql_phrases.specs.Phrases.{Phrase, keyword, sign, open_bracket, close_bracket, Some_of, Behind, InParens, Maybe, IsName, IsNumber, IsConstant, IsTerm}
-use Rattle.cql_parse.specs.Grammar.{IsUse, IsOperator, IsRelation, InBrackets, IsInsert, IsAssigned, IsAssignment, IsUpdate, Keyed, IsTarget, Targets, IsDelete}
+use Rattle.cql_changes.specs.Changes.{IsUse, IsOperator, IsRelation, InBrackets, IsInsert, IsAssigned, IsAssignment, IsUpdate, Keyed, IsTarget, Targets, IsDelete}
 use Rattle.cql_tables.specs.Inner.TableReading.{table_at}
 use Rattle.cql_tables.proofs.TableAgree.{NotMark, End, table_agrees, not_comma, not_and}
 

@@ -2,7 +2,7 @@
 
 ghost use Rattle.std.specs.Prelude.{◌≡◌};
 ghost use Rattle.cql_phrases.specs.Inner.Reading.{Gives};
-ghost use Rattle.cql_parse.specs.Inner.StatementReading.{operator_at, use_at};
+ghost use Rattle.cql_changes.specs.Inner.ChangeReading.{operator_at, use_at};
 
 use crate::syntax::{Operator, Relation, Use};
 use cql_lex::Mark;
@@ -12,11 +12,11 @@ use cql_phrases::{Keyword, Lexeme, ParseFault, Term};
 use std::alloc::Global;
 
 impl Part for Use {
-    ghost use Rattle.cql_parse.specs.Inner.StatementReading.{use_at};
+    ghost use Rattle.cql_changes.specs.Inner.ChangeReading.{use_at};
 
     ghost reads = { use_at };
 
-    #[tactic(auto, unfolding(crate::specs::Inner::StatementReading::use_at))]
+    #[tactic(auto, unfolding(crate::specs::Inner::ChangeReading::use_at))]
     fn read(_alloc: Global, input: &[Lexeme]) -> Result<(Self, &[Lexeme]), ParseFault> {
         match after_word(input, Keyword::Timestamp) {
             Some(rest) => {
@@ -32,7 +32,7 @@ impl Part for Use {
     }
 }
 
-#[tactic(auto, unfolding(crate::specs::Inner::StatementReading::operator_at))]
+#[tactic(auto, unfolding(crate::specs::Inner::ChangeReading::operator_at))]
 fn operator(input: &[Lexeme]) -> Result<(Operator, &[Lexeme]), ParseFault>
     ensures { Gives (λ x. (x.0, x.1.now)) result (operator_at input.now) }
 {
@@ -47,11 +47,11 @@ fn operator(input: &[Lexeme]) -> Result<(Operator, &[Lexeme]), ParseFault>
 }
 
 impl Part for Relation {
-    ghost use Rattle.cql_parse.specs.Inner.StatementReading.{relation_at};
+    ghost use Rattle.cql_changes.specs.Inner.ChangeReading.{relation_at};
 
     ghost reads = { relation_at };
 
-    #[tactic(auto, unfolding(crate::specs::Inner::StatementReading::relation_at))]
+    #[tactic(auto, unfolding(crate::specs::Inner::ChangeReading::relation_at))]
     fn read(alloc: Global, input: &[Lexeme]) -> Result<(Self, &[Lexeme]), ParseFault> {
         let (column, rest) = name(alloc, input)?;
         let (operator, rest) = operator(rest)?;

@@ -2,8 +2,8 @@
 
 ghost use Rattle.std.specs.Prelude.{◌≡◌};
 ghost use Rattle.cql_phrases.specs.Inner.Reading.{Gives};
-ghost use Rattle.cql_parse.specs.Inner.StatementReading.{insert_at, name_comes, entry_assigned, literal_assigned, changed, name_assigned};
-ghost use Rattle.cql_parse.specs.Inner.StatementReading.{term_assigned, right_side, assigned_at, update_at, targets_at, timestamp_at, delete_at};
+ghost use Rattle.cql_changes.specs.Inner.ChangeReading.{insert_at, name_comes, entry_assigned, literal_assigned, changed, name_assigned};
+ghost use Rattle.cql_changes.specs.Inner.ChangeReading.{term_assigned, right_side, assigned_at, update_at, targets_at, timestamp_at, delete_at};
 
 use crate::syntax::{Assigned, Assignment, Delete, Insert, Relation, Target, Update, Use};
 use cas_types::{List, Text};
@@ -19,7 +19,7 @@ use cql_tables::clauses::table;
 use std::alloc::Global;
 
 /// What follows INSERT.
-#[tactic(auto, unfolding(crate::specs::Inner::StatementReading::insert_at))]
+#[tactic(auto, unfolding(crate::specs::Inner::ChangeReading::insert_at))]
 pub fn insert(alloc: Global, input: &[Lexeme]) -> Result<(Insert, &[Lexeme]), ParseFault>
     ensures { Gives (λ x. (x.0, x.1.now)) result (insert_at input.now) }
 {
@@ -39,7 +39,7 @@ pub fn insert(alloc: Global, input: &[Lexeme]) -> Result<(Insert, &[Lexeme]), Pa
 }
 
 /// Whether a name stands here.
-#[tactic(auto, unfolding(crate::specs::Inner::StatementReading::name_comes))]
+#[tactic(auto, unfolding(crate::specs::Inner::ChangeReading::name_comes))]
 fn name_comes(input: &[Lexeme]) -> bool
     ensures { result ≡ name_comes input.now }
 {
@@ -51,7 +51,7 @@ fn name_comes(input: &[Lexeme]) -> bool
 }
 
 /// What follows the opening bracket of an entry that is assigned.
-#[tactic(auto, unfolding(crate::specs::Inner::StatementReading::entry_assigned))]
+#[tactic(auto, unfolding(crate::specs::Inner::ChangeReading::entry_assigned))]
 fn entry_assigned(alloc: Global, input: &[Lexeme]) -> Result<(Assigned, &[Lexeme]), ParseFault>
     ensures { Gives (λ x. (x.0, x.1.now)) result (entry_assigned input.now) }
 {
@@ -63,7 +63,7 @@ fn entry_assigned(alloc: Global, input: &[Lexeme]) -> Result<(Assigned, &[Lexeme
 }
 
 /// A right side that begins with a literal.
-#[tactic(auto, unfolding(crate::specs::Inner::StatementReading::literal_assigned))]
+#[tactic(auto, unfolding(crate::specs::Inner::ChangeReading::literal_assigned))]
 fn literal_assigned(alloc: Global, input: &[Lexeme]) -> Result<(Assigned, &[Lexeme]), ParseFault>
     ensures { Gives (λ x. (x.0, x.1.now)) result (literal_assigned input.now) }
 {
@@ -78,7 +78,7 @@ fn literal_assigned(alloc: Global, input: &[Lexeme]) -> Result<(Assigned, &[Lexe
 }
 
 /// What follows the name on a right side.
-#[tactic(auto, unfolding(crate::specs::Inner::StatementReading::changed))]
+#[tactic(auto, unfolding(crate::specs::Inner::ChangeReading::changed))]
 fn changed(
     alloc: Global,
     source: Text,
@@ -99,7 +99,7 @@ fn changed(
     }
 }
 
-#[tactic(auto, unfolding(crate::specs::Inner::StatementReading::name_assigned))]
+#[tactic(auto, unfolding(crate::specs::Inner::ChangeReading::name_assigned))]
 fn name_assigned(alloc: Global, input: &[Lexeme]) -> Result<(Assigned, &[Lexeme]), ParseFault>
     ensures { Gives (λ x. (x.0, x.1.now)) result (name_assigned input.now) }
 {
@@ -107,7 +107,7 @@ fn name_assigned(alloc: Global, input: &[Lexeme]) -> Result<(Assigned, &[Lexeme]
     changed(alloc, source, rest)
 }
 
-#[tactic(auto, unfolding(crate::specs::Inner::StatementReading::term_assigned))]
+#[tactic(auto, unfolding(crate::specs::Inner::ChangeReading::term_assigned))]
 fn term_assigned(alloc: Global, input: &[Lexeme]) -> Result<(Assigned, &[Lexeme]), ParseFault>
     ensures { Gives (λ x. (x.0, x.1.now)) result (term_assigned input.now) }
 {
@@ -115,7 +115,7 @@ fn term_assigned(alloc: Global, input: &[Lexeme]) -> Result<(Assigned, &[Lexeme]
     Ok((Assigned::Whole(value), rest))
 }
 
-#[tactic(auto, unfolding(crate::specs::Inner::StatementReading::right_side))]
+#[tactic(auto, unfolding(crate::specs::Inner::ChangeReading::right_side))]
 fn right_side(alloc: Global, input: &[Lexeme]) -> Result<(Assigned, &[Lexeme]), ParseFault>
     ensures { Gives (λ x. (x.0, x.1.now)) result (right_side input.now) }
 {
@@ -128,7 +128,7 @@ fn right_side(alloc: Global, input: &[Lexeme]) -> Result<(Assigned, &[Lexeme]), 
     }
 }
 
-#[tactic(auto, unfolding(crate::specs::Inner::StatementReading::assigned_at))]
+#[tactic(auto, unfolding(crate::specs::Inner::ChangeReading::assigned_at))]
 fn assigned(alloc: Global, input: &[Lexeme]) -> Result<(Assigned, &[Lexeme]), ParseFault>
     ensures { Gives (λ x. (x.0, x.1.now)) result (assigned_at input.now) }
 {
@@ -142,11 +142,11 @@ fn assigned(alloc: Global, input: &[Lexeme]) -> Result<(Assigned, &[Lexeme]), Pa
 }
 
 impl Part for Assignment {
-    ghost use Rattle.cql_parse.specs.Inner.StatementReading.{assignment_at};
+    ghost use Rattle.cql_changes.specs.Inner.ChangeReading.{assignment_at};
 
     ghost reads = { assignment_at };
 
-    #[tactic(auto, unfolding(crate::specs::Inner::StatementReading::assignment_at))]
+    #[tactic(auto, unfolding(crate::specs::Inner::ChangeReading::assignment_at))]
     fn read(alloc: Global, input: &[Lexeme]) -> Result<(Self, &[Lexeme]), ParseFault> {
         let (column, rest) = name(alloc, input)?;
         let (value, rest) = assigned(alloc, rest)?;
@@ -155,7 +155,7 @@ impl Part for Assignment {
 }
 
 /// What follows UPDATE.
-#[tactic(auto, unfolding(crate::specs::Inner::StatementReading::update_at))]
+#[tactic(auto, unfolding(crate::specs::Inner::ChangeReading::update_at))]
 pub fn update(alloc: Global, input: &[Lexeme]) -> Result<(Update, &[Lexeme]), ParseFault>
     ensures { Gives (λ x. (x.0, x.1.now)) result (update_at input.now) }
 {
@@ -175,11 +175,11 @@ pub fn update(alloc: Global, input: &[Lexeme]) -> Result<(Update, &[Lexeme]), Pa
 }
 
 impl Part for Target {
-    ghost use Rattle.cql_parse.specs.Inner.StatementReading.{target_at};
+    ghost use Rattle.cql_changes.specs.Inner.ChangeReading.{target_at};
 
     ghost reads = { target_at };
 
-    #[tactic(auto, unfolding(crate::specs::Inner::StatementReading::target_at))]
+    #[tactic(auto, unfolding(crate::specs::Inner::ChangeReading::target_at))]
     fn read(alloc: Global, input: &[Lexeme]) -> Result<(Self, &[Lexeme]), ParseFault> {
         let (column, rest) = name(alloc, input)?;
         match after_open_bracket(rest) {
@@ -194,7 +194,7 @@ impl Part for Target {
     }
 }
 
-#[tactic(auto, unfolding(crate::specs::Inner::StatementReading::targets_at))]
+#[tactic(auto, unfolding(crate::specs::Inner::ChangeReading::targets_at))]
 fn targets(alloc: Global, input: &[Lexeme]) -> Result<(List<Target>, &[Lexeme]), ParseFault>
     ensures { Gives (λ x. (x.0, x.1.now)) result (targets_at input.now) }
 {
@@ -204,7 +204,7 @@ fn targets(alloc: Global, input: &[Lexeme]) -> Result<(List<Target>, &[Lexeme]),
     }
 }
 
-#[tactic(auto, unfolding(crate::specs::Inner::StatementReading::timestamp_at))]
+#[tactic(auto, unfolding(crate::specs::Inner::ChangeReading::timestamp_at))]
 fn timestamp(input: &[Lexeme]) -> Result<(Option<i128>, &[Lexeme]), ParseFault>
     ensures { Gives (λ x. (x.0, x.1.now)) result (timestamp_at input.now) }
 {
@@ -219,7 +219,7 @@ fn timestamp(input: &[Lexeme]) -> Result<(Option<i128>, &[Lexeme]), ParseFault>
 }
 
 /// What follows DELETE.
-#[tactic(auto, unfolding(crate::specs::Inner::StatementReading::delete_at))]
+#[tactic(auto, unfolding(crate::specs::Inner::ChangeReading::delete_at))]
 pub fn delete(alloc: Global, input: &[Lexeme]) -> Result<(Delete, &[Lexeme]), ParseFault>
     ensures { Gives (λ x. (x.0, x.1.now)) result (delete_at input.now) }
 {
