@@ -1,5 +1,5 @@
 -- Reading INSERT, UPDATE and DELETE, with USING and WHERE.
-use Rattle.std.specs.Prelude.{ℕ, ℤ, Bool, true, false, not, List, [], ◌∷◌, Option, None, Some}
+use Rattle.std.specs.Prelude.{ℕ, ℤ, Bool, true, false, not, List, [], ◌∷◌, Option, None, Some, if◌then◌else◌}
 use Rattle.cql_phrases.specs.declared.lexeme.Lexeme.{Lexeme}
 use Rattle.cql_phrases.specs.declared.lexeme.Lexeme.TheVariants as lexeme
 use Rattle.cql_phrases.specs.declared.keyword.Keyword.TheVariants as word
