@@ -1,8 +1,8 @@
 -- What the book's seat keeps.
-use Rattle.std.proofs.Common.{◌≡◌, ◌≢◌, ℕ, ◌+◌, ◌<◌, ◌≤◌, ◌⊎◌, List, [], ◌∷◌, ◌++◌, Bool, true, false, refl, ap, sym, ◌∙◌, subst, inl, inr, ⊎_elim, arith, true≢false}
+use Rattle.std.proofs.Common.{◌≡◌, ℕ, ◌<◌, List, [], ◌∷◌, Bool, true, false, refl, sym, subst, ⊎_elim, true≢false}
 use Rattle.std.specs.Prelude.{not, Option, None, Some}
 use Rattle.cas_ledger.specs.Log.{Has, Legal}
-use Rattle.cas_ledger.specs.Hands.{Owns, Knows, Entered, sees}
+use Rattle.cas_ledger.specs.Hands.{Knows, Entered, sees}
 use Rattle.cas_ledger.specs.declared.hand.Hand.{Hand}
 use Rattle.cas_ledger.proofs.Parts.{owned, gets, stays}
 use Rattle.cas_ledger.proofs.Lists.{has_or_not}
@@ -13,9 +13,9 @@ use Rattle.cas_refs.specs.Counts.{at, Live, one_less}
 use Rattle.cas_history.specs.declared.item.Item.{Item}
 use Rattle.cas_history.specs.Items.{items, listed, lists_of, changes_list, book_changes}
 use Rattle.cas_history.specs.Last.{adds, files_of, files_after}
-use Rattle.cas_history.specs.Books.{is_live, Booked}
+use Rattle.cas_lifecycle.specs.Books.{is_live, Booked}
 use Rattle.cas_history.proofs.Shares.{book_copies}
-use Rattle.cas_history.proofs.Listed.{stays_or_comes}
+use Rattle.cas_lifecycle.proofs.Listed.{stays_or_comes}
 
 pub live_is : (o : Option Count) → is_live o ≡ true → Live o
 live_is None live = true≢false (sym live)

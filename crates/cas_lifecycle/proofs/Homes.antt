@@ -1,16 +1,16 @@
 -- What the maker of passes keeps when it gives lists away, takes back what it gave, and sees the log.
-use Rattle.std.proofs.Common.{◌≡◌, ◌≢◌, ℕ, zero, suc, ◌+◌, ◌%◌, ◌<◌, ◌≤◌, ◌⊎◌, List, [], ◌∷◌, ◌++◌, length, Bool, true, false, cond, refl, ap, sym, ◌∙◌, subst, inl, inr, ⊎_elim, arith, leb, le-leb, eq-eqb, eqb}
-use Rattle.std.specs.Prelude.{Option, None, Some, nat_le, ◌==◌}
-use Rattle.std.proofs.lemmas.Bool.Decides.{leb_tells, eqb_tells, nat_tests}
+use Rattle.std.proofs.Common.{◌≡◌, ◌≢◌, ℕ, zero, suc, ◌+◌, ◌%◌, ◌<◌, ◌≤◌, ◌⊎◌, List, [], ◌∷◌, length, Bool, true, false, cond, refl, ap, sym, ◌∙◌, subst, inl, inr, ⊎_elim, arith, leb, le-leb, eqb}
+use Rattle.std.specs.Prelude.{None, Some, ◌==◌}
+use Rattle.std.proofs.lemmas.Bool.Decides.{leb_tells, eqb_tells}
 use Rattle.cas_ledger.specs.declared.hand.Hand.{Hand}
 use Rattle.cas_ledger.specs.Log.{Has, Each}
-use Rattle.cas_ledger.specs.Hands.{numbers, times, shares, stakes, beyond, Owns, Knows, Apart, sees, gave, given, both, founder, dealt, further, either_right}
+use Rattle.cas_ledger.specs.Hands.{numbers, times, shares, beyond, Owns, Knows, Apart, sees, gave, given, both, founder, dealt, further, either_right}
 use Rattle.cas_ledger.proofs.Lists.{times_append, each_at}
 use Rattle.cas_ledger.proofs.Parts.{deals_all}
 use Rattle.cas_history.specs.declared.item.Item.{Item}
 use Rattle.cas_history.specs.Items.{items, listed, first_diary, Distinct}
 use Rattle.cas_history.specs.Last.{Idle, turn}
-use Rattle.cas_history.specs.Inner.Homes.{IsAway, IsOut, Homely}
+use Rattle.cas_lifecycle.specs.Inner.Homes.{IsAway, IsOut, Homely}
 
 -- the right to make lists from n on is one to each of those
 beyond_all : (n r : ℕ) → n ≤ r → beyond (Some n) r ≡ 1

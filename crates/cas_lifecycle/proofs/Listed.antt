@@ -1,16 +1,18 @@
--- Files of shards: no two shards list the same, and what a change removes its shard has no longer.
-use Rattle.std.proofs.Common.{◌≡◌, ◌≢◌, ◌⊎◌, ℕ, ◌<◌, ◌≤◌, List, [], ◌∷◌, ◌++◌, Bool, true, false, cond, refl, ap, sym, ◌∙◌, subst, inl, inr, ⊎_elim, arith, true≢false}
+-- Files of shards: no two shards list the same, and what a change removes its shard has no longer; no frontier is above the shard's last number.
+use Rattle.std.proofs.Common.{◌≡◌, ◌≢◌, ◌⊎◌, ℕ, ◌<◌, ◌≤◌, List, [], ◌∷◌, ◌++◌, Bool, true, false, cond, refl, ap, sym, ◌∙◌, subst, inl, inr, ⊎_elim, arith, true≢false, le_refl}
 use Rattle.std.specs.Prelude.{not, ◌==◌}
 use Rattle.std.specs.List.{fold, filter, list_any}
 use Rattle.std.proofs.lemmas.List.Sums.{fold-append}
 use Rattle.cas_ledger.specs.Log.{Has, Follows, Legal}
-use Rattle.cas_ledger.proofs.Lists.{has_or_not}
+use Rattle.cas_ledger.proofs.Lists.{has_or_not, each_at}
 use Rattle.cas_ledger.proofs.Parts.{part_gets, part_stays, legal_grows, names_it}
 use Rattle.cas_history.specs.declared.item.Item.{Item}
 use Rattle.cas_history.specs.declared.item.Item.TheVariants.{Found, Stood, Wrote, Purged, Faulted, Read, Rose, Drew, Began, Ended, Changed}
-use Rattle.cas_history.specs.Items.{items, listed, lists_of, Distinct, first_diary, changes_list}
-use Rattle.cas_history.specs.Last.{adds, all_added, without, files_after, files_of}
-use Rattle.cas_history.proofs.Once.{Kept, Which, which, keeps, nothing_kept, adds_new, part_brings, brings_more, has_either, has_left}
+use Rattle.cas_history.specs.Items.{items, listed, lists_of, MayCome, Distinct, first_diary, front_list, changes_list}
+use Rattle.cas_history.specs.Last.{adds, all_added, without, files_after, files_of, frontier_of, frontier_after, last_number, number_after}
+use Rattle.cas_history.proofs.Lists.{has_either, has_left, has_right, fold_gets}
+use Rattle.cas_history.proofs.Rising.{number_rises}
+use Rattle.cas_history.proofs.Once.{Kept, Which, which, keeps, nothing_kept, adds_new, part_brings, brings_more}
 
 -- what passes a test
 passes_in : (test : ℕ → Bool) (xs : List ℕ) (k : ℕ) → Has (filter test xs) k → Has xs k × (test k ≡ true)
@@ -28,12 +30,12 @@ gone_from gone xs k has h =
 
 apart_in : (xs ys : List ℕ) (k : ℕ) → Distinct (xs ++ ys) → Has xs k → Has ys k → ⊥
 apart_in [] ys k d hx hy = hx
-apart_in (x ∷ xs) ys k d (inl e) hy = d.0 (subst (λ m. Has (xs ++ ys) m) (sym e) (in_right xs ys k hy))
-  where
-    in_right : (xs ys : List ℕ) (k : ℕ) → Has ys k → Has (xs ++ ys) k
-    in_right [] ys k h = h
-    in_right (x ∷ xs) ys k h = inr (in_right xs ys k h)
+apart_in (x ∷ xs) ys k d (inl e) hy = d.0 (subst (λ m. Has (xs ++ ys) m) (sym e) (has_right xs ys k hy))
 apart_in (x ∷ xs) ys k d (inr h) hy = apart_in xs ys k d.1 h hy
+
+one_of : {n m k : ℕ} (b : Bool) → n ≤ k → m ≤ k → cond b n m ≤ k
+one_of true one other = one
+one_of false one other = other
 
 module _ {E : Type 0} where
   pub stays_or_comes : (files : List ℕ) (e : Item E) (k : ℕ) → Has (files_after files e) k → Has files k ⊎ Has (adds e) k
@@ -55,18 +57,9 @@ module _ {E : Type 0} where
   were_listed [] files k h = inl h
   were_listed (e ∷ es) files k h =
       ⊎_elim
-      (λ there. ⊎_elim (λ a. inl a) (λ b. inr (in_left (adds e) (all_added es) k b)) (stays_or_comes files e k there))
-      (λ later. inr (in_right (adds e) (all_added es) k later))
+      (λ there. ⊎_elim (λ a. inl a) (λ b. inr (has_left (adds e) (all_added es) k b)) (stays_or_comes files e k there))
+      (λ later. inr (has_right (adds e) (all_added es) k later))
       (were_listed es (files_after files e) k h)
-    where
-      in_left : (xs ys : List ℕ) (k : ℕ) → Has xs k → Has (xs ++ ys) k
-      in_left [] ys k h = absurd h
-      in_left (x ∷ xs) ys k (inl e) = inl e
-      in_left (x ∷ xs) ys k (inr h) = inr (in_left xs ys k h)
-
-      in_right : (xs ys : List ℕ) (k : ℕ) → Has ys k → Has (xs ++ ys) k
-      in_right [] ys k h = h
-      in_right (x ∷ xs) ys k h = inr (in_right xs ys k h)
 
   pub was_listed : (list : List (Item E)) (k : ℕ) → Has (files_of list) k → Has (all_added list) k
   was_listed list k h = ⊎_elim (λ none. absurd none) (λ all. all) (were_listed list [] k h)
@@ -94,24 +87,27 @@ module _ {E : Type 0} where
       (λ none. inl (subst (λ l. Has (all_added l) k) (part_stays items before e r none) h))
       (has_or_not (lists_of e) r)
 
+  -- the shard of an entry that stands in a list of changes
+  stood : (a m : ℕ) → a < 16 → m < 16 → (t n : ℕ) (fs : List ℕ) (w : E) → Has (lists_of (Stood a t n fs w)) (changes_list m) → a ≡ m
+  stood a m la lm t n fs w (inl is) = omega arith
+  stood a m la lm t n fs w (inr (inl is)) = omega arith
+  stood a m la lm t n fs w (inr (inr (inl is))) = omega arith
+  stood a m la lm t n fs w (inr (inr (inr (inl is)))) = omega arith
+  stood a m la lm t n fs w (inr (inr (inr (inr (inl is))))) = omega arith
+  stood a m la lm t n fs w (inr (inr (inr (inr (inr none))))) = absurd none
+
+  changed : (a m p : ℕ) → a < 16 → m < 16 → first_diary ≤ p → (t n : ℕ) (rm fs : List ℕ) (w : E) → Has (lists_of (Changed a p t n rm fs w)) (changes_list m) → a ≡ m
+  changed a m p la lm low t n rm fs w (inl is) = omega arith
+  changed a m p la lm low t n rm fs w (inr (inl is)) = omega arith
+  changed a m p la lm low t n rm fs w (inr (inr (inl is))) = omega arith
+  changed a m p la lm low t n rm fs w (inr (inr (inr (inl is)))) = omega arith
+  changed a m p la lm low t n rm fs w (inr (inr (inr (inr (inl is))))) = omega arith
+  changed a m p la lm low t n rm fs w (inr (inr (inr (inr (inr none))))) = absurd none
+
   -- an entry lists files in one shard
   one_shard : (s z k : ℕ) → s < 16 → z < 16 → (before : List (Item E)) (e : Item E) → Follows items before e → Has (adds e) k → Has (lists_of e) (changes_list s) → Has (lists_of e) (changes_list z) → s ≡ z
   one_shard s z k ls lz before e f new hs hz = by (which k e)
     where
-      stood : (a m : ℕ) → a < 16 → m < 16 → (t n : ℕ) (fs : List ℕ) (w : E) → Has (lists_of (Stood a t n fs w)) (changes_list m) → a ≡ m
-      stood a m la lm t n fs w (inl is) = omega arith
-      stood a m la lm t n fs w (inr (inl is)) = omega arith
-      stood a m la lm t n fs w (inr (inr (inl is))) = omega arith
-      stood a m la lm t n fs w (inr (inr (inr (inl is)))) = omega arith
-      stood a m la lm t n fs w (inr (inr (inr (inr none)))) = absurd none
-
-      changed : (a m p : ℕ) → a < 16 → m < 16 → first_diary ≤ p → (t n : ℕ) (rm fs : List ℕ) (w : E) → Has (lists_of (Changed a p t n rm fs w)) (changes_list m) → a ≡ m
-      changed a m p la lm low t n rm fs w (inl is) = omega arith
-      changed a m p la lm low t n rm fs w (inr (inl is)) = omega arith
-      changed a m p la lm low t n rm fs w (inr (inr (inl is))) = omega arith
-      changed a m p la lm low t n rm fs w (inr (inr (inr (inl is)))) = omega arith
-      changed a m p la lm low t n rm fs w (inr (inr (inr (inr none)))) = absurd none
-
       by : Which k e → s ≡ z
       by (inl a) = absurd (a.none new)
       by (inr (inl d)) = absurd (subst (λ x. Has (adds x) k) d.1 new)
@@ -139,3 +135,45 @@ module _ {E : Type 0} where
       more before e kept so f k (inl a) (inr b) = adds_new k before e (kept k) f b.1 (part_brings adds (λ x. list_any (λ j. j == changes_list s) (lists_of x)) before k a)
       more before e kept so f k (inr a) (inl b) = adds_new k before e (kept k) f a.1 (part_brings adds (λ x. list_any (λ j. j == changes_list z) (lists_of x)) before k b)
       more before e kept so f k (inr a) (inr b) = differ (one_shard s z k ls lz before e f a.1 a.0 b.0)
+
+  -- the frontier that an entry leaves is one that the shard has given
+  frontier_given : (s table n : ℕ) → s < 16 → (before : List (Item E)) (e : Item E) → Follows items before e → Has (lists_of e) (changes_list s)
+      → n ≤ last_number (listed (front_list s) before) → frontier_after table n e ≤ last_number (listed (front_list s) before)
+  frontier_given s table n low before (Stood a t front fs w) f has so =
+      let same = stood a s f.0.0.0 low t front fs w has in
+      one_of (t == table) (subst (λ (m : ℕ). front ≤ last_number (listed (front_list m) before)) same (f.0.1.1.1.1.0.4 refl)) so
+  frontier_given s table n low before (Changed a p t front rm fs w) f has so =
+      let same = changed a s p f.0.0.0 low f.0.0.1 t front rm fs w has in
+      one_of (t == table) (subst (λ (m : ℕ). front ≤ last_number (listed (front_list m) before)) same (f.0.1.1.1.1.0.5 refl)) so
+  frontier_given s table n low before (Found _ _) f has so = so
+  frontier_given s table n low before (Wrote _ _ _ _ _) f has so = so
+  frontier_given s table n low before (Purged _ _ _ _) f has so = so
+  frontier_given s table n low before (Faulted _ _ _) f has so = so
+  frontier_given s table n low before (Read _ _) f has so = so
+  frontier_given s table n low before (Rose _ _ _) f has so = so
+  frontier_given s table n low before (Drew _ _) f has so = so
+  frontier_given s table n low before (Began _ _ _) f has so = so
+  frontier_given s table n low before (Ended _ _) f has so = so
+
+  pub frontier_below : (s table : ℕ) → s < 16 → (log : List (Item E)) → Legal items log → frontier_of table (listed (changes_list s) log) ≤ last_number (listed (front_list s) log)
+  frontier_below s table low log legal =
+      legal_grows items (λ l. frontier_of table (listed (changes_list s) l) ≤ last_number (listed (front_list s) l)) (le_refl 0)
+      (λ before e so f. let up = rises before e f in let le = stays before e so f in omega arith)
+      log legal
+    where
+      rises : (before : List (Item E)) (e : Item E) → Follows items before e → last_number (listed (front_list s) before) ≤ last_number (listed (front_list s) (before ++ e ∷ []))
+      rises before e f =
+          ⊎_elim
+          (λ has. subst (λ (n : ℕ). last_number (listed (front_list s) before) ≤ n) (sym (fold_gets number_after 0 (front_list s) before e has))
+          (number_rises s low (listed (front_list s) before) e has (each_at (λ r. MayCome r (listed r before) e) (lists_of e) (front_list s) f.0 has)))
+          (λ none. subst (λ l. last_number (listed (front_list s) before) ≤ last_number l) (sym (part_stays items before e (front_list s) none)) (le_refl _))
+          (has_or_not (lists_of e) (front_list s))
+
+      stays : (before : List (Item E)) (e : Item E) → frontier_of table (listed (changes_list s) before) ≤ last_number (listed (front_list s) before) → Follows items before e
+          → frontier_of table (listed (changes_list s) (before ++ e ∷ [])) ≤ last_number (listed (front_list s) before)
+      stays before e so f =
+          ⊎_elim
+          (λ has. subst (λ (n : ℕ). n ≤ last_number (listed (front_list s) before)) (sym (fold_gets (frontier_after table) 0 (changes_list s) before e has))
+          (frontier_given s table (frontier_of table (listed (changes_list s) before)) low before e f has so))
+          (λ none. subst (λ l. frontier_of table l ≤ last_number (listed (front_list s) before)) (sym (part_stays items before e (changes_list s) none)) so)
+          (has_or_not (lists_of e) (changes_list s))

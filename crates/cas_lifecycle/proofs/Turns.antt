@@ -1,33 +1,15 @@
 -- What runs in a list of works, its beginner's diary has begun and not ended; and the other way round.
 use Rattle.std.proofs.Common.{◌%◌, ◌≤◌, ◌≡◌, ◌≢◌, ℕ, ◌⊎◌, List, [], ◌∷◌, ◌++◌, Bool, true, false, cond, refl, ap, sym, ◌∙◌, subst, inl, inr, ⊎_elim, eqb, eq-eqb, ne_eqb, true≢false}
 use Rattle.std.specs.Prelude.{Option, None, Some, ◌==◌}
-use Rattle.std.specs.List.{fold}
 use Rattle.std.proofs.lemmas.Bool.Decides.{eqb_tells}
 use Rattle.std.proofs.lemmas.List.Sums.{fold-append}
 use Rattle.cas_ledger.specs.Log.{Has, Follows, Legal}
-use Rattle.cas_ledger.proofs.Lists.{has_or_not}
-use Rattle.cas_ledger.proofs.Parts.{part_gets, part_stays, legal_grows}
+use Rattle.cas_ledger.proofs.Parts.{part_stays, legal_grows}
 use Rattle.cas_history.specs.declared.item.Item.{Item}
 use Rattle.cas_history.specs.declared.item.Item.TheVariants.{Found, Stood, Wrote, Purged, Faulted, Read, Rose, Drew, Began, Ended, Changed}
 use Rattle.cas_history.specs.Last.{runs, runs_after, turn, turn_after, Idle}
 use Rattle.cas_history.specs.Items.{first_diary, items, listed, lists_of}
-
-pub some_one : (p q : ℕ) → Some p ≡ Some q → p ≡ q
-some_one p q e = ap the e
-  where
-    the : Option ℕ → ℕ
-    the None = 0
-    the (Some k) = k
-
-pub none_some : (q : ℕ) → None ≡ Some q → ⊥
-none_some q e = true≢false (ap empty e)
-  where
-    empty : Option ℕ → Bool
-    empty None = true
-    empty (Some k) = false
-
-pub same_or : (a b : ℕ) → (a ≡ b) ⊎ (a ≢ b)
-same_or a b = ⊎_elim (λ (t : (eqb a b ≡ true) × (a ≡ b)). inl t.1) (λ (f : (eqb a b ≡ false) × (a ≢ b)). inr f.1) (eqb_tells a b)
+use Rattle.cas_history.proofs.Lists.{some_one, none_some, same_or, fold_gets, fold_kept}
 
 module _ {E : Type 0} where
   -- an entry that begins and ends nothing in these works
@@ -77,17 +59,6 @@ module _ {E : Type 0} where
   runs_kept works (Rose _ _ _) o p = refl
   runs_kept works (Drew _ _) o p = refl
   runs_kept works (Changed _ _ _ _ _ _ _) o p = refl
-
-  -- what a list comes to, after an entry that it has, and after one that changes nothing
-  pub fold_gets : {S : Type 0} (f : S → Item E → S) (a : S) (r : ℕ) (before : List (Item E)) (e : Item E) → Has (lists_of e) r → fold f a (listed r (before ++ e ∷ [])) ≡ f (fold f a (listed r before)) e
-  fold_gets f a r before e has = ap (fold f a) (part_gets items before e r has) ∙ fold-append f a (listed r before) (e ∷ [])
-
-  pub fold_kept : {S : Type 0} (f : S → Item E → S) (a : S) (r : ℕ) (before : List (Item E)) (e : Item E) → ((s : S) → f s e ≡ s) → fold f a (listed r (before ++ e ∷ [])) ≡ fold f a (listed r before)
-  fold_kept f a r before e same =
-      ⊎_elim
-      (λ has. fold_gets f a r before e has ∙ same (fold f a (listed r before)))
-      (λ none. ap (fold f a) (part_stays items before e r none))
-      (has_or_not (lists_of e) r)
 
   -- the diary has the turn only where it runs for it
   abbrev pub Turned : ℕ → ℕ → List (Item E) → Type 0
@@ -197,7 +168,3 @@ module _ {E : Type 0} where
       over : (same was : Bool) → was ≡ false → cond same false (cond same true was) ≡ false
       over true was none = refl
       over false was none = none
-
-pub none_if : (o : Option ℕ) → ((p : ℕ) → o ≡ Some p → ⊥) → o ≡ None
-none_if None no_one = refl
-none_if (Some p) no_one = absurd (no_one p refl)

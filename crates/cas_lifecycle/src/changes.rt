@@ -3,17 +3,15 @@ ghost use Rattle.std.specs.Prelude.{◌≡◌, ◌≢◌, ℕ, ◌<◌, ◌≤�
 ghost use mathlib.Core.List.{IsPrefix};
 ghost use Rattle.cas_ledger.specs.Log.{Each, Has};
 ghost use Rattle.cas_ledger.specs.Hands.{Owns};
-ghost use Rattle.cas_history.specs.Items.{listed, changes_list, room_changes, book_changes, numbers_list, Distinct};
+ghost use Rattle.cas_history.specs.Items.{listed, front_list, changes_list, room_changes, book_changes, numbers_list, Distinct};
 ghost use Rattle.cas_history.specs.Last.{holds, used, all_added, files_of, frontier_of};
-ghost use Rattle.cas_history.specs.Books.{is_live};
+ghost use Rattle.cas_lifecycle.specs.Books.{is_live};
 ghost use Rattle.cas_refs.specs.Counts.{at};
 ghost use Rattle.cas_history.specs.declared.item.Item.TheVariants.{Changed, Stood};
 
 use crate::book::Book;
-use crate::item::Item;
-use crate::maker::Fresh;
-use crate::numbers::{Files, Numbers};
-use cas_ledger::{Pass, Store, Tells, accept_four, look};
+use cas_history::{Files, Fresh, Front, Item, Numbers};
+use cas_ledger::{Pass, Store, Tells, accept_five, look};
 use std::marker::PhantomData;
 
 /// The shard's seat for its changes.
@@ -109,13 +107,15 @@ pub fn list_found<E, J: Store, T: Tells<E>>(
     changes: &mut Changes<E, J>,
     room: &mut RoomCopy<E, J>,
     book: &mut Book<E, J>,
+    front: &mut Front<E, J>,
     found: Standing<'_, T>,
 )
-    requires shard { room.old.shard ≡ changes.old.shard }
+    requires shard { (room.old.shard ≡ changes.old.shard) × (front.old.shard ≡ changes.old.shard) }
     requires files { Distinct found.files.now
         × Each (λ k. (k ≤ numbers.old.last) × (Has (used (listed numbers_list numbers.old.pass.saw)) k → ⊥)) found.files.now }
     requires live { Each (λ k. is_live (at book.old.refs k) ≡ true) found.files.now }
-    requires frontier { frontier_of found.table (listed (changes_list changes.old.shard) changes.old.pass.saw) ≤ found.frontier }
+    requires frontier { (frontier_of found.table (listed (changes_list changes.old.shard) changes.old.pass.saw) ≤ found.frontier)
+        × (found.frontier ≤ front.old.number) }
     ensures numbers { (numbers.new.last ≡ numbers.old.last) × (listed numbers_list numbers.new.pass.saw ≡ listed numbers_list numbers.old.pass.saw
         ++ Stood changes.old.shard found.entry.table found.entry.frontier
         found.entry.files.now (T.entry found.entry.what.now) ∷ []) }
@@ -128,23 +128,27 @@ pub fn list_found<E, J: Store, T: Tells<E>>(
     ensures book { (book.new.refs ≡ book.old.refs) × (listed (book_changes changes.old.shard) book.new.pass.saw ≡ listed
         (book_changes changes.old.shard) book.old.pass.saw ++ Stood changes.old.shard found.entry.table found.entry.frontier
         found.entry.files.now (T.entry found.entry.what.now) ∷ []) }
+    ensures front { (front.new.number ≡ front.old.number) × (front.new.shard ≡ changes.old.shard)
+        × (listed (front_list changes.old.shard) front.new.pass.saw ≡ listed (front_list changes.old.shard) front.old.pass.saw
+        ++ Stood changes.old.shard found.entry.table found.entry.frontier found.entry.files.now (T.entry found.entry.what.now) ∷ []) }
 {
     let listing = Listing {
         shard: changes.shard,
         found,
         of: PhantomData,
     };
-    accept_four(
+    accept_five(
         &mut numbers.pass,
         &mut changes.pass,
         &mut room.pass,
         &mut book.pass,
+        &mut front.pass,
         0,
         &listing,
     );
 }
 
-/// A change comes into the history: into the shard's list, the room's and the book's, and into the list of
+/// A change comes into the history: into the shard's lists, the room's and the book's, and into the list of
 /// who drew the numbers of the files that it adds, which holds them no longer. No shard has the removed
 /// files any longer, so the book may retire them. The answer is how many changes of the shard there were.
 pub fn install<E, J: Store, T: Tells<E>>(
@@ -152,13 +156,15 @@ pub fn install<E, J: Store, T: Tells<E>>(
     room: &mut RoomCopy<E, J>,
     book: &mut Book<E, J>,
     files: &mut Files<E, J>,
+    front: &mut Front<E, J>,
     change: Change<'_, T>,
 ) -> u64
-    requires shard { room.old.shard ≡ changes.old.shard }
+    requires shard { (room.old.shard ≡ changes.old.shard) × (front.old.shard ≡ changes.old.shard) }
     requires added { Distinct change.added.now × Each (λ k. holds k (listed files.old.list files.old.pass.saw) ≡ true) change.added.now }
     requires live { Each (λ k. is_live (at book.old.refs k) ≡ true) change.added.now }
     requires removed { Each (λ k. Has (files_of (listed (changes_list changes.old.shard) changes.old.pass.saw)) k) change.removed.now }
-    requires frontier { frontier_of change.table (listed (changes_list changes.old.shard) changes.old.pass.saw) ≤ change.frontier }
+    requires frontier { (frontier_of change.table (listed (changes_list changes.old.shard) changes.old.pass.saw) ≤ change.frontier)
+        × (change.frontier ≤ front.old.number) }
     ensures changes { (changes.new.shard ≡ changes.old.shard) × (listed (changes_list changes.old.shard) changes.new.pass.saw
         ≡ listed (changes_list changes.old.shard) changes.old.pass.saw
         ++ Changed changes.old.shard files.old.list change.entry.table change.entry.frontier change.entry.removed.now
@@ -174,11 +180,16 @@ pub fn install<E, J: Store, T: Tells<E>>(
     ensures files { (files.new.list ≡ files.old.list) × (listed files.old.list files.new.pass.saw ≡ listed files.old.list files.old.pass.saw
         ++ Changed changes.old.shard files.old.list change.entry.table change.entry.frontier change.entry.removed.now
         change.entry.added.now (T.entry change.entry.what.now) ∷ []) }
+    ensures front { (front.new.number ≡ front.old.number) × (front.new.shard ≡ changes.old.shard)
+        × (listed (front_list changes.old.shard) front.new.pass.saw ≡ listed (front_list changes.old.shard) front.old.pass.saw
+        ++ Changed changes.old.shard files.old.list change.entry.table change.entry.frontier change.entry.removed.now
+        change.entry.added.now (T.entry change.entry.what.now) ∷ []) }
     ensures gone { (k : ℕ) → Has change.entry.removed.now k → Has (files_of (listed (changes_list changes.old.shard) changes.new.pass.saw)) k → ⊥ }
     ensures retires { (s k : ℕ) → s < 16 → Has change.entry.removed.now k → Has (files_of (listed (book_changes s) book.new.pass.saw)) k → ⊥ }
     ensures seen { (room.new.pass.saw ≡ changes.new.pass.saw) × (book.new.pass.saw ≡ changes.new.pass.saw)
-        × (files.new.pass.saw ≡ changes.new.pass.saw) × IsPrefix changes.old.pass.saw changes.new.pass.saw
-        × IsPrefix files.old.pass.saw changes.new.pass.saw }
+        × (files.new.pass.saw ≡ changes.new.pass.saw) × (front.new.pass.saw ≡ changes.new.pass.saw)
+        × IsPrefix changes.old.pass.saw changes.new.pass.saw × IsPrefix files.old.pass.saw changes.new.pass.saw
+        × IsPrefix front.old.pass.saw changes.new.pass.saw }
 {
     let installing = Installing {
         shard: changes.shard,
@@ -186,11 +197,12 @@ pub fn install<E, J: Store, T: Tells<E>>(
         change,
         of: PhantomData,
     };
-    accept_four(
+    accept_five(
         &mut changes.pass,
         &mut room.pass,
         &mut book.pass,
         &mut files.pass,
+        &mut front.pass,
         18 + changes.shard as usize,
         &installing,
     )
@@ -234,4 +246,15 @@ pub fn files_stand<E, J: Store>(numbers: &mut Numbers<E, J>, changes: &mut Chang
         × (listed (changes_list changes.old.shard) changes.new.pass.saw ≡ listed (changes_list changes.old.shard) changes.old.pass.saw) }
 {
     look(&mut numbers.pass, &mut changes.pass, 0);
+}
+
+/// The frontier of each of a shard's tables is no greater than the number of the shard's last mutation.
+pub fn frontiers_stand<E, J: Store>(changes: &mut Changes<E, J>, front: &mut Front<E, J>)
+    requires { front.old.shard ≡ changes.old.shard }
+    ensures law { (table : ℕ) → frontier_of table (listed (changes_list changes.old.shard) changes.old.pass.saw) ≤ front.old.number }
+    ensures same { (changes.new.shard ≡ changes.old.shard) × (front.new.shard ≡ front.old.shard) × (front.new.number ≡ front.old.number)
+        × (listed (changes_list changes.old.shard) changes.new.pass.saw ≡ listed (changes_list changes.old.shard) changes.old.pass.saw)
+        × (listed (front_list front.old.shard) front.new.pass.saw ≡ listed (front_list front.old.shard) front.old.pass.saw) }
+{
+    look(&mut changes.pass, &mut front.pass, 0);
 }

@@ -1,16 +1,14 @@
-//! Who makes passes, and a new one.
+//! Who makes passes.
 ghost use Rattle.std.specs.Prelude.{◌≡◌, ℕ, ◌+◌, ◌%◌, ◌<◌, ◌≤◌, max, [], ◌∷◌, None, IfOk, OnOk, OnErr};
 ghost use mathlib.Core.List.{IsPrefix};
 ghost use Rattle.cas_ledger.specs.Hands.{Owns};
 ghost use Rattle.cas_history.specs.Items.{listed, first_diary, book_changes};
 ghost use Rattle.cas_history.specs.Last.{Idle};
-ghost use Rattle.cas_history.specs.Inner.Homes.{Homely};
+ghost use Rattle.cas_lifecycle.specs.Inner.Homes.{Homely};
 
 use crate::book::Book;
-use crate::front::Session;
-use crate::item::Item;
-use crate::numbers::Files;
 use crate::works::Works;
+use cas_history::{Files, Fresh, Item, Session};
 use cas_ledger::{Opened, Pass, Store, deal, join};
 use cas_refs::RefBook;
 use std::alloc::AllocError;
@@ -23,16 +21,6 @@ pub struct Maker<E, J: Store> {
     next: u64,
     out: u64,
     ghost home: { Homely next out pass },
-}
-
-/// A pass with an empty list of its own.
-#[derive(Drop)]
-pub struct Fresh<E, J: Store> {
-    pub(crate) pass: Pass<Item<E>, J>,
-    pub(crate) list: u64,
-    ghost owns: { Owns pass list },
-    ghost alone: { pass.lists ≡ list ∷ [] },
-    ghost empty: { listed list pass.saw ≡ [] },
 }
 
 // The next number of a diary.

@@ -6,9 +6,7 @@ ghost use Rattle.cas_history.specs.Items.{listed, first_diary, front_list};
 ghost use Rattle.cas_history.specs.Last.{runs, turn, decided};
 ghost use Rattle.cas_history.specs.declared.item.Item.TheVariants.{Began, Ended, Purged};
 
-use crate::front::{Front, Session};
-use crate::item::Item;
-use crate::maker::Fresh;
+use cas_history::{Fresh, Front, Item, Session};
 use cas_ledger::{Pass, Store, Tells, accept_three, accept_two, look};
 use std::marker::PhantomData;
 

@@ -1,10 +1,10 @@
-use Rattle.std.proofs.Common.{sym, subst}
+use Rattle.std.proofs.Common.{subst}
 use Rattle.cas_ledger.specs.Log.{Has}
 use Rattle.cas_ledger.proofs.Parts.{owned}
-use Rattle.cas_history.specs.Items.{items, listed, changes_list}
+use Rattle.cas_history.specs.Items.{items, changes_list}
 use Rattle.cas_history.specs.Last.{all_added}
-use Rattle.cas_history.proofs.Listed.{shards_apart}
-use Rattle.cas_history.proofs.changes.files_apart.Goals as goal
+use Rattle.cas_lifecycle.proofs.Listed.{shards_apart}
+use Rattle.cas_lifecycle.proofs.changes.files_apart.Goals as goal
 
 pub returns-clause-law : goal.returns-clause-law
 returns-clause-law g c k first second =

@@ -1,10 +1,11 @@
-use Rattle.std.proofs.Common.{◌∙◌, sym, subst}
-use Rattle.cas_ledger.specs.Log.{Has, Each}
+use Rattle.std.proofs.Common.{sym, subst}
+use Rattle.cas_ledger.specs.Log.{Has}
 use Rattle.cas_ledger.proofs.Parts.{owned}
 use Rattle.cas_history.specs.Items.{items, listed, changes_list, numbers_list, Distinct}
 use Rattle.cas_history.specs.Last.{all_added, used}
-use Rattle.cas_history.proofs.Once.{listed_once, listed_used, each_from}
-use Rattle.cas_history.proofs.changes.files_stand.Goals as goal
+use Rattle.cas_history.proofs.Lists.{each_from}
+use Rattle.cas_history.proofs.Once.{listed_once, listed_used}
+use Rattle.cas_lifecycle.proofs.changes.files_stand.Goals as goal
 
 pub returns-clause-once : goal.returns-clause-once
 returns-clause-once g c =

@@ -1,10 +1,10 @@
 use Rattle.std.proofs.Common.{◌∙◌, ap, sym, subst}
 use Rattle.cas_ledger.specs.Log.{Has}
 use Rattle.cas_ledger.proofs.Parts.{owned}
-use Rattle.cas_history.specs.Items.{items, listed, changes_list}
+use Rattle.cas_history.specs.Items.{items, changes_list}
 use Rattle.cas_history.specs.Last.{holds, all_added}
 use Rattle.cas_history.proofs.Once.{held_unlisted}
-use Rattle.cas_history.proofs.changes.held_is_unlisted.Goals as goal
+use Rattle.cas_lifecycle.proofs.changes.held_is_unlisted.Goals as goal
 
 pub returns-clause-law : goal.returns-clause-law
 returns-clause-law g c has =

@@ -1,10 +1,10 @@
 use Rattle.std.proofs.Common.{◌∙◌, sym, subst}
 use Rattle.cas_ledger.proofs.Parts.{owned}
 use Rattle.cas_history.specs.Items.{items, changes_list, book_changes}
-use Rattle.cas_history.specs.Books.{Booked}
-use Rattle.cas_history.proofs.Books.{booked_sees}
+use Rattle.cas_lifecycle.specs.Books.{Booked}
+use Rattle.cas_lifecycle.proofs.Books.{booked_sees}
 use Rattle.cas_history.proofs.Shares.{book_copies}
-use Rattle.cas_history.proofs.laws.book_stands.Goals as goal
+use Rattle.cas_lifecycle.proofs.laws.book_stands.Goals as goal
 
 pub invariant_of-book : goal.invariant_of-book
 invariant_of-book g c =

@@ -1,14 +1,13 @@
 use Rattle.std.proofs.Common.{◌∙◌, ap, sym, subst}
-use Rattle.cas_ledger.specs.Hands.{shares}
 use Rattle.cas_ledger.proofs.Parts.{owned}
 use Rattle.cas_history.specs.Items.{items, listed, log_list, front_list}
-use Rattle.cas_history.specs.Last.{Idle, turn}
+use Rattle.cas_history.specs.Last.{turn}
 use Rattle.cas_history.specs.Laws.{Stands}
-use Rattle.cas_history.proofs.Homes.{all_home}
+use Rattle.cas_lifecycle.proofs.Homes.{all_home}
 use mathlib.Core.List.{IsPrefix}
 use Rattle.cas_history.proofs.Orders.{stands}
 use Rattle.cas_history.proofs.Shares.{list_begins}
-use Rattle.cas_history.proofs.laws.conclude.Goals as goal
+use Rattle.cas_lifecycle.proofs.laws.conclude.Goals as goal
 
 pub returns-clause-room : goal.returns-clause-room
 returns-clause-room g c =

@@ -1,12 +1,13 @@
-use Rattle.std.proofs.Common.{◌≡◌, ℕ, ◌+◌, ◌<◌, ◌≤◌, ◌∙◌, arith, ap, sym, subst, ⊎_elim, true≢false}
+use Rattle.std.proofs.Common.{◌≡◌, ℕ, ◌<◌, ◌∙◌, arith, ap, sym, subst, ⊎_elim, true≢false}
 use Rattle.cas_ledger.specs.Hands.{shares}
 use Rattle.cas_ledger.proofs.Parts.{owned}
 use Rattle.cas_history.specs.Items.{items, listed}
 use Rattle.cas_history.specs.Last.{runs, turn}
-use Rattle.cas_history.specs.Inner.Homes.{Homely}
-use Rattle.cas_history.proofs.Homes.{homely_sees, others_home}
-use Rattle.cas_history.proofs.Turns.{running, none_if}
-use Rattle.cas_history.proofs.laws.nothing_runs.Goals as goal
+use Rattle.cas_lifecycle.specs.Inner.Homes.{Homely}
+use Rattle.cas_lifecycle.proofs.Homes.{homely_sees, others_home}
+use Rattle.cas_lifecycle.proofs.Turns.{running}
+use Rattle.cas_history.proofs.Lists.{none_if}
+use Rattle.cas_lifecycle.proofs.laws.nothing_runs.Goals as goal
 
 pub invariant_of-maker : goal.invariant_of-maker
 invariant_of-maker g c =

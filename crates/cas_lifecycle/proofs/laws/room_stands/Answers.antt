@@ -3,7 +3,7 @@ use Rattle.cas_ledger.specs.Hands.{Owns}
 use Rattle.cas_ledger.proofs.Parts.{owned}
 use Rattle.cas_history.specs.Items.{items, changes_list, room_changes}
 use Rattle.cas_history.proofs.Shares.{room_copies}
-use Rattle.cas_history.proofs.laws.room_stands.Goals as goal
+use Rattle.cas_lifecycle.proofs.laws.room_stands.Goals as goal
 
 pub returns-clause-law : goal.returns-clause-law
 returns-clause-law g c =

@@ -1,8 +1,8 @@
-use Rattle.std.proofs.Common.{◌≡◌, ◌∙◌, ap, sym, true≢false}
+use Rattle.std.proofs.Common.{◌∙◌, ap, sym, true≢false}
 use Rattle.cas_refs.specs.Counts.{at}
-use Rattle.cas_history.specs.Books.{is_live}
-use Rattle.cas_history.proofs.Books.{booked_more}
-use Rattle.cas_history.proofs.book.Book.add.Goals as goal
+use Rattle.cas_lifecycle.specs.Books.{is_live}
+use Rattle.cas_lifecycle.proofs.Books.{booked_more}
+use Rattle.cas_lifecycle.proofs.book.Book.add.Goals as goal
 
 pub invariant_of-self : goal.invariant_of-self
 invariant_of-self g c =

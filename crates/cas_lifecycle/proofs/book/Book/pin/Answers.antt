@@ -6,12 +6,12 @@ use Rattle.cas_refs.specs.Counts.{at, pins_of}
 use Rattle.cas_refs.specs.declared.Pin.{Pin}
 use Rattle.cas_refs.specs.declared.Full.{Full}
 use Rattle.cas_refs.specs.declared.RefBook.{RefBook}
-use Rattle.cas_history.specs.Items.{items, listed, changes_list}
+use Rattle.cas_history.specs.Items.{items, changes_list}
 use Rattle.cas_history.specs.Last.{files_of}
-use Rattle.cas_history.specs.Books.{is_live, Booked}
-use Rattle.cas_history.proofs.Books.{live_is, shard_live, booked_sees, booked_more}
-use Rattle.cas_history.proofs.Turns.{same_or}
-use Rattle.cas_history.proofs.book.Book.pin.Goals as goal
+use Rattle.cas_lifecycle.specs.Books.{is_live, Booked}
+use Rattle.cas_lifecycle.proofs.Books.{live_is, shard_live, booked_sees, booked_more}
+use Rattle.cas_history.proofs.Lists.{same_or}
+use Rattle.cas_lifecycle.proofs.book.Book.pin.Goals as goal
 
 pub pin-requires : goal.pin-requires
 pin-requires g c =

@@ -3,10 +3,10 @@ use Rattle.std.specs.Prelude.{Option, Some, None, IfSome, IfNone}
 use Rattle.cas_refs.specs.Counts.{at, one_less}
 use Rattle.cas_refs.specs.declared.Removal.{Removal}
 use Rattle.cas_refs.specs.declared.RefBook.{RefBook}
-use Rattle.cas_history.specs.Books.{is_live}
-use Rattle.cas_history.proofs.Books.{less_live, booked_more}
-use Rattle.cas_history.proofs.Turns.{same_or}
-use Rattle.cas_history.proofs.book.Book.release.Goals as goal
+use Rattle.cas_lifecycle.specs.Books.{is_live}
+use Rattle.cas_lifecycle.proofs.Books.{less_live, booked_more}
+use Rattle.cas_history.proofs.Lists.{same_or}
+use Rattle.cas_lifecycle.proofs.book.Book.release.Goals as goal
 
 still : (old new : RefBook) (id : ℕ) (res : Option Removal)
     → IfSome res (λ r. (r.id ≡ id) × (at old id ≡ Some (record { pins = 1; retired = true })) × (at new id ≡ None))

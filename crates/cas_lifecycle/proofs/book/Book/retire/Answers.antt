@@ -3,9 +3,9 @@ use Rattle.cas_ledger.specs.Log.{Has}
 use Rattle.cas_refs.specs.Counts.{at}
 use Rattle.cas_history.specs.Items.{listed, book_changes}
 use Rattle.cas_history.specs.Last.{files_of}
-use Rattle.cas_history.specs.Books.{is_live}
-use Rattle.cas_history.proofs.Books.{live_is, booked_more}
-use Rattle.cas_history.proofs.book.Book.retire.Goals as goal
+use Rattle.cas_lifecycle.specs.Books.{is_live}
+use Rattle.cas_lifecycle.proofs.Books.{live_is, booked_more}
+use Rattle.cas_lifecycle.proofs.book.Book.retire.Goals as goal
 
 pub retire-requires : goal.retire-requires
 retire-requires g c = record { live = live_is (at c.args.self.now.refs c.args.file) c.requires.live }

@@ -1,13 +1,12 @@
 use Rattle.std.proofs.Common.{◌≡◌, ℕ, ◌+◌, ◌%◌, ◌<◌, ◌≤◌, ◌∙◌, refl, ap, sym, subst, arith}
-use Rattle.std.specs.Prelude.{Some}
 use Rattle.cas_ledger.specs.Log.{Has}
 use Rattle.cas_ledger.specs.Hands.{Owns, dealt, times}
 use Rattle.cas_ledger.proofs.Parts.{deals_all}
 use Rattle.cas_history.specs.Items.{listed, book_changes, first_diary}
 use Rattle.cas_history.specs.Last.{files_of}
-use Rattle.cas_history.specs.Inner.Homes.{Homely}
-use Rattle.cas_history.proofs.Homes.{homely_seats}
-use Rattle.cas_history.proofs.maker.Maker.book.Goals as goal
+use Rattle.cas_lifecycle.specs.Inner.Homes.{Homely}
+use Rattle.cas_lifecycle.proofs.Homes.{homely_seats}
+use Rattle.cas_lifecycle.proofs.maker.Maker.book.Goals as goal
 
 never_odd : (p : ℕ) → 80 ≤ p → p < 80 + 16 → first_diary ≤ p → p % 2 ≡ 1
 never_odd p le lt low = absurd (omega arith)

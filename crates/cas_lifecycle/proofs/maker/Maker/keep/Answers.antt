@@ -1,12 +1,12 @@
-use Rattle.std.proofs.Common.{◌≡◌, ℕ, ◌+◌, ◌-◌, ◌<◌, ◌≤◌, ◌∙◌, ap, sym, subst, arith}
+use Rattle.std.proofs.Common.{◌≡◌, ◌+◌, ◌-◌, ◌<◌, ◌∙◌, ap, sym, subst, arith}
 use Rattle.cas_ledger.specs.Hands.{times}
 use Rattle.cas_ledger.proofs.Lists.{times_append}
 use Rattle.cas_ledger.proofs.Parts.{owned}
-use Rattle.cas_history.specs.Inner.Homes.{Homely}
+use Rattle.cas_lifecycle.specs.Inner.Homes.{Homely}
 use Rattle.cas_history.specs.Items.{items}
-use Rattle.cas_history.proofs.Homes.{some_out, homely_keeps}
+use Rattle.cas_lifecycle.proofs.Homes.{some_out, homely_keeps}
 use Rattle.cas_history.proofs.Shares.{list_begins}
-use Rattle.cas_history.proofs.maker.Maker.keep.Goals as goal
+use Rattle.cas_lifecycle.proofs.maker.Maker.keep.Goals as goal
 
 pub overflow_sub-self : goal.overflow_sub-self
 overflow_sub-self g c =

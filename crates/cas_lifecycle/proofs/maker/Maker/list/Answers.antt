@@ -1,8 +1,8 @@
 use Rattle.std.proofs.Common.{◌≡◌, ℕ, ◌+◌, ◌%◌, ◌<◌, ◌≤◌, sym, subst, arith}
 use Rattle.cas_history.specs.Items.{first_diary}
-use Rattle.cas_history.specs.Inner.Homes.{Homely}
-use Rattle.cas_history.proofs.Homes.{homely_seats}
-use Rattle.cas_history.proofs.maker.Maker.list.Goals as goal
+use Rattle.cas_lifecycle.specs.Inner.Homes.{Homely}
+use Rattle.cas_lifecycle.proofs.Homes.{homely_seats}
+use Rattle.cas_lifecycle.proofs.maker.Maker.list.Goals as goal
 
 only : (list p : ℕ) → list ≤ p → p < list + 1 → list ≡ p
 only list p le lt = omega arith

@@ -1,9 +1,9 @@
-use Rattle.std.proofs.Common.{◌≡◌, ℕ, ◌+◌, ◌-◌, ◌≤◌, ◌∙◌, sym, subst, arith}
+use Rattle.std.proofs.Common.{ℕ, ◌-◌, ◌≤◌, ◌∙◌, sym, subst, arith}
 use Rattle.cas_ledger.specs.Hands.{Knows, gave, given, both}
-use Rattle.cas_history.specs.Inner.Homes.{Homely}
+use Rattle.cas_lifecycle.specs.Inner.Homes.{Homely}
 use Rattle.cas_history.specs.Items.{items}
-use Rattle.cas_history.proofs.Homes.{homely_reaches}
-use Rattle.cas_history.proofs.maker.Maker.reach.Goals as goal
+use Rattle.cas_lifecycle.proofs.Homes.{homely_reaches}
+use Rattle.cas_lifecycle.proofs.maker.Maker.reach.Goals as goal
 
 pub invariant_of-self-2 : goal.invariant_of-self-2
 invariant_of-self-2 g c =

@@ -1,7 +1,7 @@
 use Rattle.std.proofs.Common.{ℕ, ◌+◌, sym, subst}
-use Rattle.cas_history.specs.Inner.Homes.{Homely}
-use Rattle.cas_history.proofs.Homes.{homely_lends}
-use Rattle.cas_history.proofs.maker.Maker.session.Goals as goal
+use Rattle.cas_lifecycle.specs.Inner.Homes.{Homely}
+use Rattle.cas_lifecycle.proofs.Homes.{homely_lends}
+use Rattle.cas_lifecycle.proofs.maker.Maker.session.Goals as goal
 
 pub invariant_of-self-2 : goal.invariant_of-self-2
 invariant_of-self-2 g c =

@@ -4,8 +4,8 @@ use Rattle.cas_ledger.proofs.Parts.{owned, gets}
 use Rattle.cas_history.specs.declared.item.Item.TheVariants.{Ended}
 use Rattle.cas_history.specs.Items.{items}
 use Rattle.cas_history.specs.Last.{runs, turn}
-use Rattle.cas_history.proofs.Turns.{turned}
-use Rattle.cas_history.proofs.works.Works.end.Goals as goal
+use Rattle.cas_lifecycle.proofs.Turns.{turned}
+use Rattle.cas_lifecycle.proofs.works.Works.end.Goals as goal
 
 apart : (works diary : ℕ) → works % 2 ≡ 1 → diary % 2 ≡ 0 → works ≢ diary
 apart works diary odd even same = let m = ap (λ (k : ℕ). k % 2) same in omega arith
