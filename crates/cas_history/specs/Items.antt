@@ -72,7 +72,7 @@ module _ {E : Type 0} where
   -- what the opening found comes first; of its files none stood before, nor was drawn; a mutation has the next number of its shard, and is its
   -- session's next write; a purge is decided by whose turn it is; what the room tells of its disk doesn't fall, and the fault that stopped it
   -- stays; a moment rises; so do file numbers; works begin where none run, and are ended by who began them; a change adds other files, which
-  -- its maker drew, and no change took, removes files that the shard has, and doesn't let the frontier fall; a frontier is no greater than the shard's last number
+  -- its maker drew, and no change took, removes files that the shard has, and doesn't let the frontier fall, nor set it above the shard's last number
   abbrev pub MayCome : ℕ → List (Item E) → Item E → Type 0
   MayCome list before (Found there _) = (there < 48) × (before ≡ [])
   MayCome list before (Stood shard table frontier found _) =
