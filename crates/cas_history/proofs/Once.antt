@@ -13,21 +13,7 @@ use Rattle.cas_history.specs.declared.item.Item.{Item}
 use Rattle.cas_history.specs.declared.item.Item.TheVariants.{Found, Stood, Wrote, Purged, Faulted, Read, Rose, Drew, Began, Ended, Changed}
 use Rattle.cas_history.specs.Items.{items, listed, lists_of, MayCome, Distinct, first_diary, numbers_list, changes_list}
 use Rattle.cas_history.specs.Last.{uses, used, adds, all_added, holds, holds_after, file_after, last_file}
-use Rattle.cas_history.proofs.Turns.{some_one, none_some, same_or, none_if, fold_gets, fold_kept}
-
-pub has_left : (xs ys : List ℕ) (k : ℕ) → Has xs k → Has (xs ++ ys) k
-has_left [] ys k h = absurd h
-has_left (x ∷ xs) ys k (inl e) = inl e
-has_left (x ∷ xs) ys k (inr h) = inr (has_left xs ys k h)
-
-has_right : (xs ys : List ℕ) (k : ℕ) → Has ys k → Has (xs ++ ys) k
-has_right [] ys k h = h
-has_right (x ∷ xs) ys k h = inr (has_right xs ys k h)
-
-pub has_either : (xs ys : List ℕ) (k : ℕ) → Has (xs ++ ys) k → Has xs k ⊎ Has ys k
-has_either [] ys k h = inr h
-has_either (x ∷ xs) ys k (inl e) = inl (inl e)
-has_either (x ∷ xs) ys k (inr h) = ⊎_elim (λ a. inl (inr a)) (λ b. inr b) (has_either xs ys k h)
+use Rattle.cas_history.proofs.Lists.{some_one, none_some, same_or, none_if, has_left, has_right, has_either, fold_gets, fold_kept}
 
 distinct_append : (xs ys : List ℕ) → Distinct xs → Distinct ys → ((k : ℕ) → Has ys k → Has xs k → ⊥) → Distinct (xs ++ ys)
 distinct_append [] ys dx dy apart = dy
@@ -35,10 +21,6 @@ distinct_append (x ∷ xs) ys dx dy apart = (
   λ h. ⊎_elim dx.0 (λ there. apart x there (inl refl)) (has_either xs ys x h),
   distinct_append xs ys dx.1 dy (λ k hy hx. apart k hy (inr hx)),
 )
-
-pub each_from : (P : ℕ → Type 0) (xs : List ℕ) → ((k : ℕ) → Has xs k → P k) → Each P xs
-each_from P [] f = tt
-each_from P (x ∷ xs) f = (f x (inl refl), each_from P xs (λ k h. f k (inr h)))
 
 module _ {E : Type 0} where
   -- what entries bring, after one more
@@ -269,7 +251,8 @@ module _ {E : Type 0} where
       elsewhere p low not small (inr (inl is)) = omega arith
       elsewhere p low not small (inr (inr (inl is))) = omega arith
       elsewhere p low not small (inr (inr (inr (inl is)))) = not is
-      elsewhere p low not small (inr (inr (inr (inr none)))) = none
+      elsewhere p low not small (inr (inr (inr (inr (inl is))))) = omega arith
+      elsewhere p low not small (inr (inr (inr (inr (inr none))))) = none
 
   pub keeps : (file : ℕ) (before : List (Item E)) (e : Item E) → Kept file before → Follows items before e → Kept file (before ++ e ∷ [])
   keeps file before e k f = by (which file e)

@@ -84,25 +84,26 @@ module _ {E : Type 0} where
       up list (Ended _ _) may = le_refl _
       up list (Changed _ _ _ _ _ _ _) may = le_refl _
 
+  -- no entry of a shard's list brings a lower number
+  pub number_rises : (shard : ℕ) → shard < 16 → (list : List (Item E)) (e : Item E) → Has (lists_of e) (front_list shard) → MayCome (front_list shard) list e → last_number list ≤ number_after (last_number list) e
+  number_rises shard low list (Found _ n) has may = let none : last_number list ≡ 0 = ap last_number may.1 in omega arith
+  number_rises shard low list (Wrote s p c n w) has may =
+      let diary = may.1 in
+      let here : front_list shard ≡ front_list s = grind (arith) in
+      let next = may.2 here in
+      omega arith
+  number_rises shard low list (Drew _ _) has may = le_refl _
+  number_rises shard low list (Rose _ _ _) has may = le_refl _
+  number_rises shard low list (Faulted _ _ _) has may = le_refl _
+  number_rises shard low list (Stood _ _ _ _ _) has may = le_refl _
+  number_rises shard low list (Purged _ _ _ _) has may = le_refl _
+  number_rises shard low list (Read _ _) has may = le_refl _
+  number_rises shard low list (Began _ _ _) has may = le_refl _
+  number_rises shard low list (Ended _ _) has may = le_refl _
+  number_rises shard low list (Changed _ _ _ _ _ _ _) has may = le_refl _
+
   pub numbers_rise : (shard : ℕ) → shard < 16 → (p log : List (Item E)) → IsPrefix p log → Legal items log → last_number (listed (front_list shard) p) ≤ last_number (listed (front_list shard) log)
-  numbers_rise shard low = rises (front_list shard) number_after up
-    where
-      up : (list : List (Item E)) (e : Item E) → Has (lists_of e) (front_list shard) → MayCome (front_list shard) list e → fold number_after 0 list ≤ number_after (fold number_after 0 list) e
-      up list (Found _ n) has may = let none : last_number list ≡ 0 = ap last_number may.1 in omega arith
-      up list (Wrote s p c n w) has may =
-          let diary = may.1 in
-          let here : front_list shard ≡ front_list s = grind (arith) in
-          let next = may.2 here in
-          omega arith
-      up list (Drew _ _) has may = le_refl _
-      up list (Rose _ _ _) has may = le_refl _
-      up list (Faulted _ _ _) has may = le_refl _
-      up list (Stood _ _ _ _ _) has may = le_refl _
-      up list (Purged _ _ _ _) has may = le_refl _
-      up list (Read _ _) has may = le_refl _
-      up list (Began _ _ _) has may = le_refl _
-      up list (Ended _ _) has may = le_refl _
-      up list (Changed _ _ _ _ _ _ _) has may = le_refl _
+  numbers_rise shard low = rises (front_list shard) number_after (number_rises shard low)
 
   -- the fault that stopped the room stays
   pub first_stays : (r : ℕ) (p log : List (Item E)) → IsPrefix p log → Legal items log → last_first (listed r p) ≢ 0 → last_first (listed r p) ≡ last_first (listed r log)

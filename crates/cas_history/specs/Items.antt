@@ -18,7 +18,7 @@ faults_list = 1
 abbrev pub numbers_list : ℕ
 numbers_list = 2
 
--- the list of a shard: its mutations and its purges (own)
+-- the list of a shard: its mutations, its purges and its changes (own)
 abbrev pub front_list : ℕ → ℕ
 front_list shard = 16 + shard
 
@@ -51,7 +51,7 @@ Distinct (k ∷ ks) = (Has ks k → ⊥) × Distinct ks
 module _ {E : Type 0} where
   abbrev pub lists_of : Item E → List ℕ
   lists_of (Found list _) = list ∷ []
-  lists_of (Stood shard _ _ _ _) = numbers_list ∷ changes_list shard ∷ room_changes shard ∷ book_changes shard ∷ []
+  lists_of (Stood shard _ _ _ _) = numbers_list ∷ changes_list shard ∷ room_changes shard ∷ book_changes shard ∷ front_list shard ∷ []
   lists_of (Wrote shard session _ _ _) = log_list ∷ front_list shard ∷ session ∷ []
   lists_of (Purged shard works pass _) = front_list shard ∷ works ∷ pass ∷ []
   lists_of (Faulted _ _ _) = faults_list ∷ []
@@ -60,7 +60,7 @@ module _ {E : Type 0} where
   lists_of (Drew pass _) = numbers_list ∷ pass ∷ []
   lists_of (Began works pass _) = works ∷ pass ∷ []
   lists_of (Ended works pass) = works ∷ pass ∷ []
-  lists_of (Changed shard pass _ _ _ _ _) = changes_list shard ∷ room_changes shard ∷ book_changes shard ∷ pass ∷ []
+  lists_of (Changed shard pass _ _ _ _ _) = changes_list shard ∷ room_changes shard ∷ book_changes shard ∷ pass ∷ front_list shard ∷ []
 
   -- a word for each shard's mutations, from 2 on; one for each shard's changes, from 18 on; all else by the first (own)
   abbrev pub word_of : Item E → ℕ
@@ -72,12 +72,12 @@ module _ {E : Type 0} where
   -- what the opening found comes first; of its files none stood before, nor was drawn; a mutation has the next number of its shard, and is its
   -- session's next write; a purge is decided by whose turn it is; what the room tells of its disk doesn't fall, and the fault that stopped it
   -- stays; a moment rises; so do file numbers; works begin where none run, and are ended by who began them; a change adds other files, which
-  -- its maker drew, and no change took, removes files that the shard has, and doesn't let the frontier fall
+  -- its maker drew, and no change took, removes files that the shard has, and doesn't let the frontier fall, nor set it above the shard's last number
   abbrev pub MayCome : ℕ → List (Item E) → Item E → Type 0
   MayCome list before (Found there _) = (there < 48) × (before ≡ [])
   MayCome list before (Stood shard table frontier found _) =
       (shard < 16) × Distinct found × (list ≡ numbers_list → Each (λ k. (k ≤ last_file before) × (Has (used before) k → ⊥)) found)
-      × (list ≡ changes_list shard → frontier_of table before ≤ frontier)
+      × (list ≡ changes_list shard → frontier_of table before ≤ frontier) × (list ≡ front_list shard → frontier ≤ last_number before)
   MayCome list before (Wrote shard session call number _) =
       (shard < 16) × (first_diary ≤ session) × (list ≡ front_list shard → number ≡ last_number before + 1) × (list ≡ session → call ≡ last_call before + 1)
   MayCome list before (Purged shard works pass _) = (shard < 16) × (first_diary ≤ works) × (first_diary ≤ pass) × (works ≢ pass)
@@ -93,6 +93,7 @@ module _ {E : Type 0} where
   MayCome list before (Changed shard pass table frontier removed added _) = (shard < 16) × (first_diary ≤ pass) × Distinct added
       × (list ≡ pass → Each (λ k. holds k before ≡ true) added)
       × (list ≡ changes_list shard → (frontier_of table before ≤ frontier) × Each (λ k. Has (files_of before) k) removed)
+      × (list ≡ front_list shard → frontier ≤ last_number before)
 
   -- a moment rests on the reading that raised it (own)
   abbrev pub rests_on : Item E → List (Item E)

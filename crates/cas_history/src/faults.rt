@@ -6,9 +6,9 @@ ghost use Rattle.cas_history.specs.Items.{listed, faults_list};
 ghost use Rattle.cas_history.specs.Last.{last_fault, last_committed, last_first};
 ghost use Rattle.cas_history.specs.declared.item.Item.TheVariants.{Faulted};
 
+use crate::fresh::Fresh;
 use crate::front::Session;
 use crate::item::Item;
-use crate::maker::Fresh;
 use crate::numbers::Files;
 use cas_ledger::{Pass, Store, Tells, accept_alone, look};
 use std::marker::PhantomData;

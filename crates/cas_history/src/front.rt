@@ -6,38 +6,38 @@ ghost use Rattle.cas_history.specs.Items.{items, listed, log_list, front_list, f
 ghost use Rattle.cas_history.specs.Last.{last_number, last_call};
 ghost use Rattle.cas_history.specs.declared.item.Item.TheVariants.{Found, Wrote};
 
+use crate::fresh::Fresh;
 use crate::item::Item;
-use crate::maker::Fresh;
 use cas_ledger::{Pass, Store, Tells, accept_alone, accept_three};
 use std::marker::PhantomData;
 
 /// The room's seat: it owns the list of all mutations.
 #[derive(Drop)]
 pub struct Log<E, J: Store> {
-    pub(crate) pass: Pass<Item<E>, J>,
-    ghost owns: { Owns pass log_list },
+    pub pass: Pass<Item<E>, J>,
+    pub ghost owns: { Owns pass log_list },
 }
 
 /// A shard's seat: it owns the list of the shard, and has the number of the last mutation there.
 #[derive(Drop)]
 pub struct Front<E, J: Store> {
-    pub(crate) pass: Pass<Item<E>, J>,
-    pub(crate) shard: u64,
+    pub pass: Pass<Item<E>, J>,
+    pub shard: u64,
     pub(crate) number: u64,
-    ghost owns: { (shard < 16) × Owns pass (front_list shard) },
-    ghost last: { number ≡ last_number (listed (front_list shard) pass.saw) },
+    pub ghost owns: { (shard < 16) × Owns pass (front_list shard) },
+    pub ghost last: { number ≡ last_number (listed (front_list shard) pass.saw) },
 }
 
 /// A session's seat, or a worker's: it owns its diary, and has the number of its last write.
 #[derive(Drop)]
 pub struct Session<E, J: Store> {
-    pub(crate) pass: Pass<Item<E>, J>,
-    pub(crate) list: u64,
+    pub pass: Pass<Item<E>, J>,
+    pub list: u64,
     calls: u64,
-    ghost owns: { (first_diary ≤ list) × Owns pass list },
-    ghost alone: { pass.lists ≡ list ∷ [] },
-    ghost even: { list % 2 ≡ 0 },
-    ghost last: { calls ≡ last_call (listed list pass.saw) },
+    pub ghost owns: { (first_diary ≤ list) × Owns pass list },
+    pub ghost alone: { pass.lists ≡ list ∷ [] },
+    pub ghost even: { list % 2 ≡ 0 },
+    pub ghost last: { calls ≡ last_call (listed list pass.saw) },
 }
 
 // What the opening found.
@@ -109,7 +109,7 @@ impl<E, J: Store> Front<E, J> {
 }
 
 impl<E, J: Store> Session<E, J> {
-    pub(crate) fn new(fresh: Fresh<E, J>) -> Session<E, J>
+    pub fn new(fresh: Fresh<E, J>) -> Session<E, J>
         requires { (first_diary ≤ fresh.list) × (fresh.list % 2 ≡ 0) }
         ensures { (result.list ≡ fresh.list) × (result.calls ≡ 0) × (listed fresh.list result.pass.saw ≡ []) }
     {

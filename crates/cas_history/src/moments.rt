@@ -7,9 +7,9 @@ ghost use Rattle.cas_history.specs.Items.{listed, moments_list};
 ghost use Rattle.cas_history.specs.Last.{last_moment};
 ghost use Rattle.cas_history.specs.declared.item.Item.TheVariants.{Found, Read};
 
+use crate::fresh::Fresh;
 use crate::front::{Finding, Session};
 use crate::item::Item;
-use crate::maker::Fresh;
 use cas_ledger::{Pass, Store, Tells, accept_alone, accept_two, look};
 use std::marker::PhantomData;
 

@@ -7,29 +7,29 @@ ghost use Rattle.cas_history.specs.Items.{listed, numbers_list, first_diary, Dis
 ghost use Rattle.cas_history.specs.Last.{last_file, holds, used};
 ghost use Rattle.cas_history.specs.declared.item.Item.TheVariants.{Found, Drew};
 
+use crate::fresh::Fresh;
 use crate::front::{Finding, Session};
 use crate::item::Item;
-use crate::maker::Fresh;
 use cas_ledger::{Pass, Store, Tells, accept_alone, accept_two, look};
 use std::marker::PhantomData;
 
 /// The room's seat for file numbers. It has the last one.
 #[derive(Drop)]
 pub struct Numbers<E, J: Store> {
-    pub(crate) pass: Pass<Item<E>, J>,
+    pub pass: Pass<Item<E>, J>,
     last: u64,
-    ghost owns: { Owns pass numbers_list },
-    ghost is_last: { last ≡ last_file (listed numbers_list pass.saw) },
+    pub ghost owns: { Owns pass numbers_list },
+    pub ghost is_last: { last ≡ last_file (listed numbers_list pass.saw) },
 }
 
 /// Where a session or worker keeps the file numbers that it drew. It is a seat of its own, so that whoever
 /// writes files can have it while others have the session.
 #[derive(Drop)]
 pub struct Files<E, J: Store> {
-    pub(crate) pass: Pass<Item<E>, J>,
-    pub(crate) list: u64,
-    ghost owns: { (first_diary ≤ list) × Owns pass list },
-    ghost odd: { list % 2 ≡ 1 },
+    pub pass: Pass<Item<E>, J>,
+    pub list: u64,
+    pub ghost owns: { (first_diary ≤ list) × Owns pass list },
+    pub ghost odd: { list % 2 ≡ 1 },
 }
 
 #[derive(Drop)]
@@ -46,7 +46,7 @@ impl<E> Tells<Item<E>> for Drawing<E> {
 }
 
 impl<E, J: Store> Files<E, J> {
-    pub(crate) fn new(fresh: Fresh<E, J>) -> Files<E, J>
+    pub fn new(fresh: Fresh<E, J>) -> Files<E, J>
         requires { (first_diary ≤ fresh.list) × (fresh.list % 2 ≡ 1) }
         ensures { (result.list ≡ fresh.list) × (listed fresh.list result.pass.saw ≡ []) }
     {

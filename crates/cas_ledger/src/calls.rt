@@ -108,6 +108,44 @@ pub fn accept_four<E: Entries, J: Store, T: Tells<E>>(
     before
 }
 
+/// The same for five passes, as those of a shard's changes and mutations, a room, a book and a worker at an
+/// install.
+pub fn accept_five<E: Entries, J: Store, T: Tells<E>>(
+    one: &mut Pass<E, J>,
+    two: &mut Pass<E, J>,
+    three: &mut Pass<E, J>,
+    four: &mut Pass<E, J>,
+    five: &mut Pass<E, J>,
+    word: usize,
+    entry: &T,
+) -> u64
+    requires word { (E.rules.word (T.entry entry.now) ≡ word) × (word < 34) }
+    requires ready { Ready E.rules (one.old ∷ two.old ∷ three.old ∷ four.old ∷ five.old ∷ []) (T.entry entry.now) }
+    ensures entered { Entered E.rules (one.old ∷ two.old ∷ three.old ∷ four.old ∷ five.old ∷ []) (T.entry entry.now) one.new.saw result }
+    ensures one { one.new ≡ sees one.new.saw one.old }
+    ensures legal { Legal E.rules one.new.saw }
+    ensures two { two.new ≡ sees one.new.saw two.old }
+    ensures three { three.new ≡ sees one.new.saw three.old }
+    ensures four { four.new ≡ sees one.new.saw four.old }
+    ensures five { five.new ≡ sees one.new.saw five.old }
+{
+    let mut group = one.lend();
+    one.gather(&mut group, two.lend());
+    one.gather(&mut group, three.lend());
+    one.gather(&mut group, four.lend());
+    one.gather(&mut group, five.lend());
+    let before = one.enter(&mut group, word, entry);
+    let mut others = one.part(&mut group);
+    let mut after_two = one.part(&mut others);
+    let mut after_three = one.part(&mut after_two);
+    five.take_back(one.part(&mut after_three));
+    four.take_back(after_three);
+    three.take_back(after_two);
+    two.take_back(others);
+    one.take_back(group);
+    before
+}
+
 /// Two passes meet, and are shown the log so far. The answer is how many entries of the word it has.
 pub fn look<E: Entries, J: Store>(one: &mut Pass<E, J>, two: &mut Pass<E, J>, word: usize) -> u64
     requires word { word < 34 }

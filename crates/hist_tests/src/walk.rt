@@ -1,17 +1,21 @@
 // Each call of the history once, on one line: writes and readings; a compaction that decides a purge; a
-// flush that fails after it drew a number; one that goes through, and a reader of its file.
+// flush that fails after it drew a number; a reader of a file that the opening found and a compaction removes.
 ghost use Rattle.std.specs.Prelude.{◌≡◌, ◌<◌, ◌≤◌};
 ghost use Rattle.cas_history.specs.Items.{listed, changes_list};
-ghost use Rattle.cas_history.specs.Last.{frontier_of};
+ghost use Rattle.cas_history.specs.Last.{frontier_of, files_of};
+ghost use Rattle.cas_ledger.specs.Log.{Has};
 
 use crate::two::Value;
 use cas_history::{
-    Book, Change, Changes, Faults, Files, Front, Item, Log, Maker, Moments, Numbers, RoomCopy,
-    begin_alone, book_stands, files_stand, history_stands, install, session_stands, shard_stands,
-    show, write,
+    Faults, Files, Front, Item, Log, Moments, Numbers, held_once, history_stands, session_stands,
+    shard_stands, show, write,
 };
 use cas_ledger::{Opened, Store};
-use cas_refs::RefBook;
+use cas_lifecycle::{
+    Book, Change, Changes, Maker, RoomCopy, Standing, begin_alone, book_stands, files_apart,
+    files_stand, frontiers_stand, held_is_unlisted, install, list_found, room_stands,
+};
+use cas_refs::{RefBook, Removal};
 use std::alloc::Global;
 use std::marker::Brand;
 use std::test::*;
@@ -73,47 +77,102 @@ fn failed_flush<J: Store>(opened: Opened<Item<u64>>) -> Result<(u64, u64, u64), 
     Ok((failed, told, file))
 }
 
-// How many changes there were before a flush, and its file's number.
-fn flush_one<J: Store>(
+/// The laws of a number that is held, and of two shards.
+fn held<J: Store>(opened: Opened<Item<u64>>) -> Result<u64, Fail>
+    requires { opened.seat.table_id ≡ J.table }
+{
+    let mut maker = Maker::<u64, J>::first(opened);
+    let mut numbers = Numbers::new(maker.fresh(2)?, 7);
+    let mut one = Changes::new(maker.fresh(48)?, 0);
+    let mut two = Changes::new(maker.fresh(49)?, 1);
+    let mut files = maker.files()?;
+    let mut others = maker.files()?;
+    let file = numbers.draw(&mut files);
+    held_is_unlisted(&mut one, &mut files, file);
+    held_once(&mut files, &mut others, file);
+    files_apart(&mut one, &mut two);
+    Ok(file)
+}
+
+// A compaction while a reader has file 3, which the compaction removes. Its file's number, what retiring file
+// 3 gives, and what the reader's release gives then.
+fn compact<J: Store>(
     numbers: &mut Numbers<u64, J>,
     changes: &mut Changes<u64, J>,
     room: &mut RoomCopy<u64, J>,
     book: &mut Book<u64, J>,
     files: &mut Files<u64, J>,
-) -> Result<(u64, u64), Fail>
-    requires last { numbers.old.last < 1000 }
-    requires shard { room.old.shard ≡ changes.old.shard }
-    requires frontier { frontier_of 1 (listed (changes_list changes.old.shard) changes.old.pass.saw) ≤ 42 }
+    front: &mut Front<u64, J>,
+) -> Result<(u64, Option<u64>, Option<u64>), Fail>
+    requires last { (7 ≤ numbers.old.last) × (numbers.old.last < 1000) }
+    requires shard { (room.old.shard ≡ changes.old.shard) × (front.old.shard ≡ changes.old.shard) }
+    requires frontier { (frontier_of 1 (listed (changes_list changes.old.shard) changes.old.pass.saw) ≤ 42) × (42 ≤ front.old.number) }
+    requires has { Has (files_of (listed (changes_list changes.old.shard) changes.old.pass.saw)) 3 }
+    ensures shard { (changes.new.shard ≡ changes.old.shard) × (room.new.shard ≡ changes.old.shard) × (front.new.shard ≡ changes.old.shard) }
 {
     let file = numbers.draw(files);
     if book.count(file).is_some() {
-        return Ok((0, 0));
+        return Ok((0, None, None));
     }
     book.add(file)?;
+    let Ok(pin) = book.pin(changes, 3) else {
+        return Ok((0, None, None));
+    };
     let change = Change {
         table: 1,
         frontier: 42,
-        removed: &[],
+        removed: &[3],
         added: &[file],
         what: &Value(6),
     };
-    Ok((install(changes, room, book, files, change), file))
+    install(changes, room, book, files, front, change);
+    let early = book.retire(3).map(Removal::into_id);
+    let last = book.release(pin).map(Removal::into_id);
+    Ok((file, early, last))
 }
 
-/// A flush, and the laws after it.
-fn flush<J: Store>(alloc: Global, opened: Opened<Item<u64>>) -> Result<(u64, u64), Fail>
+/// A compaction of a file that the opening found, and the laws after it.
+fn found<J: Store>(
+    alloc: Global,
+    opened: Opened<Item<u64>>,
+) -> Result<(u64, Option<u64>, Option<u64>), Fail>
     requires { opened.seat.table_id ≡ J.table }
 {
     let mut maker = Maker::<u64, J>::first(opened);
     let mut numbers = Numbers::new(maker.fresh(2)?, 7);
+    let mut front = Front::new(maker.fresh(16)?, 0, 42);
     let mut changes = Changes::new(maker.fresh(48)?, 0);
     let mut room = RoomCopy::new(maker.fresh(64)?, 0);
     let mut book = maker.book(RefBook::new(alloc))?;
     let mut files = maker.files()?;
-    let flushed = flush_one(&mut numbers, &mut changes, &mut room, &mut book, &mut files)?;
+    book.add(3)?;
+    let stood = Standing {
+        table: 1,
+        frontier: 41,
+        files: &[3],
+        what: &Value(7),
+    };
+    list_found(
+        &mut numbers,
+        &mut changes,
+        &mut room,
+        &mut book,
+        &mut front,
+        stood,
+    );
+    let compacted = compact(
+        &mut numbers,
+        &mut changes,
+        &mut room,
+        &mut book,
+        &mut files,
+        &mut front,
+    )?;
+    room_stands(&mut changes, &mut room);
     book_stands(&mut changes, &mut book);
     files_stand(&mut numbers, &mut changes);
-    Ok(flushed)
+    frontiers_stand(&mut changes, &mut front);
+    Ok(compacted)
 }
 
 #[test]
@@ -128,7 +187,10 @@ fn each_call_once(rt: HostRuntime) -> Result<(), Fail> {
     let failed = failed_flush::<Brand>(opened)?;
     assert!(rt; failed == (8, 1, 9));
     let opened = Opened::<Item<u64>>::new(rt.alloc())?;
-    let flushed = flush::<Brand>(rt.alloc(), opened)?;
-    assert!(rt; flushed == (0, 8));
+    let number = held::<Brand>(opened)?;
+    assert!(rt; number == 8);
+    let opened = Opened::<Item<u64>>::new(rt.alloc())?;
+    let compacted = found::<Brand>(rt.alloc(), opened)?;
+    assert!(rt; compacted == (8, None, Some(3)));
     Ok(())
 }

@@ -1,7 +1,7 @@
 use Rattle.std.proofs.Common.{◌∙◌, ap, refl}
 use Rattle.cas_history.specs.Items.{listed}
 use Rattle.cas_history.specs.Last.{turn}
-use Rattle.cas_history.proofs.Turns.{stays_idle}
+use Rattle.cas_lifecycle.proofs.Turns.{stays_idle}
 use Rattle.hist_tests.proofs.two.round.Goals as goal
 
 pub invariant_of-client : goal.invariant_of-client

@@ -9,5 +9,8 @@ ghosts-compaction g a = record { table = a.opened.seat.table_id }
 abbrev pub ghosts-failed_flush : goal.ghosts-failed_flush
 ghosts-failed_flush g a = record { table = a.opened.seat.table_id }
 
-abbrev pub ghosts-flush : goal.ghosts-flush
-ghosts-flush g a = record { table = a.opened.seat.table_id }
+abbrev pub ghosts-held : goal.ghosts-held
+ghosts-held g a = record { table = a.opened.seat.table_id }
+
+abbrev pub ghosts-found : goal.ghosts-found
+ghosts-found g a = record { table = a.opened.seat.table_id }

@@ -1,0 +1,4 @@
+pub mod Turns
+pub mod Homes
+pub mod Listed
+pub mod Books
