@@ -46,13 +46,23 @@ fn lists(folder: &mut HostFolder<'_, HostRuntime>) -> bool {
     }
 }
 
-fn folder_at<'a>(rt: &'a HostRuntime, path: &str) -> Option<HostFolder<'a, HostRuntime>> {
-    let _ = fs::remove_dir_all(rt, path);
+/// The folder of this path, as it is.
+pub(crate) fn opened<'a>(rt: &'a HostRuntime, path: &str) -> Option<HostFolder<'a, HostRuntime>> {
     let path = String::from_str(rt.alloc(), path).ok()?;
     Some(HostFolder::new(rt, rt.alloc(), path))
 }
 
-fn is_written(rt: &HostRuntime, path: &str, wanted: &[u8]) -> bool {
+/// The folder of this path, which isn't there.
+pub(crate) fn folder_at<'a>(
+    rt: &'a HostRuntime,
+    path: &str,
+) -> Option<HostFolder<'a, HostRuntime>> {
+    let _ = fs::remove_dir_all(rt, path);
+    opened(rt, path)
+}
+
+/// Whether the file has these bytes.
+pub(crate) fn is_written(rt: &HostRuntime, path: &str, wanted: &[u8]) -> bool {
     match fs::read(rt, path) {
         Ok(bytes) => bytes.as_slice() == wanted,
         Err(_) => false,

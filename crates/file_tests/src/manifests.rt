@@ -98,7 +98,7 @@ fn a_manifest_by_hand(rt: HostRuntime) {
 }
 
 // The manifest of a store of one shard.
-pub(crate) const STORE: [u8; 21] = *b"\x01CASSMAN1\x01\0\0\0\x02\0\0\0\x01\x01\x01\0";
+const STORE: [u8; 21] = *b"\x01CASSMAN1\x01\0\0\0\x02\0\0\0\x01\x01\x01\0";
 
 // Another byte at each place from one to another: how many entries are read, or where the manifest is refused.
 const ALTERED_STORE: [(usize, usize, u8, Result<usize, u64>); 11] = [

@@ -4,11 +4,11 @@
 ghost use Rattle.std.specs.Prelude.{IfOk};
 ghost use Rattle.cas_log.specs.Logs.{IsOfATable};
 
+use crate::host::{folder_at, is_written, opened};
 use crate::insert::{RECORD, tables};
 use cas_atoms::Mutation;
 use cas_codec::{ReadFault, Reader};
 use cas_disk::{Choice, FaultPlan, Folder, MemFolder, Name};
-use cas_hostdisk::HostFolder;
 use cas_log::{Log, LogFault};
 use cas_mutations::{read_record, records_are_exact};
 use cas_replay::{ReplayFault, replay};
@@ -232,21 +232,33 @@ fn each_stop_of_a_commit(rt: HostRuntime) -> Result<(), Fail> {
     Ok(())
 }
 
-#[test]
-fn a_segment_of_a_real_folder(rt: HostRuntime) -> Result<(), Fail> {
-    let alloc = rt.alloc();
-    let _ = fs::remove_dir_all(&rt, "c_folder");
-    let mutation = mutation(alloc).ok().ok_or("a mutation")?;
-    let mut folder = HostFolder::new(&rt, alloc, String::from_str(alloc, "c_folder")?);
-    let Ok(mut log) = Log::begin(alloc, &mut folder, &mut None, 1, 4096) else {
-        panic!(rt; "no segment");
+// Whether the mutation is committed to a segment of a real folder.
+fn is_committed(rt: &HostRuntime, mutation: &Mutation) -> bool
+    requires { IsOfATable mutation.now }
+{
+    let Some(mut folder) = folder_at(rt, "c_folder") else {
+        return false;
     };
-    assert!(rt; commit(&mut folder, &mut log, &mutation).is_ok());
-    let written = fs::read(&rt, "c_folder/log-0000000000000001")?;
-    assert!(rt; written.as_slice() == segment(1).as_slice());
-    let mut again = HostFolder::new(&rt, alloc, String::from_str(alloc, "c_folder")?);
-    assert!(rt; count(alloc, &mut again, &[1], 0) == Ok(1));
-    assert!(rt; count(alloc, &mut again, &[2], 0) == Err((2, 0)));
-    fs::remove_dir_all(&rt, "c_folder")?;
-    Ok(())
+    match Log::begin(rt.alloc(), &mut folder, &mut None, 1, 4096) {
+        Ok(mut log) => commit(&mut folder, &mut log, mutation).is_ok(),
+        Err(_) => false,
+    }
+}
+
+fn count_opened(rt: &HostRuntime, segment: u64) -> Result<usize, (u64, u64)> {
+    match opened(rt, "c_folder") {
+        Some(mut folder) => count(rt.alloc(), &mut folder, &[segment], 0),
+        None => Err((0, 0)),
+    }
+}
+
+#[test]
+fn a_segment_of_a_real_folder(rt: HostRuntime) {
+    let Ok(mutation) = mutation(rt.alloc()) else {
+        panic!(rt; "no mutation");
+    };
+    assert!(rt; is_committed(&rt, &mutation));
+    assert!(rt; is_written(&rt, "c_folder/log-0000000000000001", &segment(1)));
+    assert!(rt; count_opened(&rt, 1) == Ok(1) && count_opened(&rt, 2) == Err((2, 0)));
+    assert!(rt; fs::remove_dir_all(&rt, "c_folder").is_ok());
 }

@@ -1,14 +1,12 @@
 //! The manifest of a store: made, loaded and appended to in a folder in memory and a real one, and
 //! what a stop at each call leaves.
 
-use crate::manifests::STORE;
+use crate::host::{folder_at, is_written, opened};
 use cas_changes::Entry;
 use cas_disk::{Choice, FaultPlan, Folder, MemFolder, Name};
-use cas_hostdisk::HostFolder;
 use cas_manifest::{Manifest, ManifestFault};
 use std::alloc::Global;
 use std::fs;
-use std::test::Fail;
 
 // What a crash may leave of what isn't synced.
 const CHOICES: [Choice; 5] = [
@@ -158,19 +156,31 @@ fn folders_are_loaded(rt: HostRuntime) {
     }
 }
 
+// Whether the store of a real folder is made and lists a segment.
+fn is_added(rt: &HostRuntime) -> bool {
+    match folder_at(rt, "d_folder") {
+        Some(mut folder) => {
+            add_segment(rt.alloc(), &mut folder, 1).is_ok() && folder.faults() == 0
+        }
+        None => false,
+    }
+}
+
+fn is_loaded(rt: &HostRuntime) -> bool {
+    match opened(rt, "d_folder") {
+        Some(mut folder) => count(rt.alloc(), &mut folder) == Ok(2) && folder.faults() == 0,
+        None => false,
+    }
+}
+
+// The manifest of a store of one shard that lists segment 1.
+const LISTING: [u8; 39] =
+    *b"\x01CASSMAN1\x01\0\0\0\x02\0\0\0\x01\x01\x01\x01\0\0\0\x09\0\0\0\x01\x03\0\0\0\0\0\0\0\x01\0";
+
 #[test]
-fn a_store_in_a_real_folder(rt: HostRuntime) -> Result<(), Fail> {
-    let alloc = rt.alloc();
-    let _ = fs::remove_dir_all(&rt, "d_folder");
-    let mut folder = HostFolder::new(&rt, alloc, String::from_str(alloc, "d_folder")?);
-    assert!(rt; add_segment(alloc, &mut folder, 1).is_ok());
-    let mut again = HostFolder::new(&rt, alloc, String::from_str(alloc, "d_folder")?);
-    assert!(rt; count(alloc, &mut again) == Ok(2));
-    assert!(rt; (folder.faults(), again.faults()) == (0, 0));
-    let written = fs::read(&rt, "d_folder/manifest")?;
-    assert!(rt; written.starts_with(&STORE[..20]));
-    let segment = b"\x01\0\0\0\x09\0\0\0\x01\x03\0\0\0\0\0\0\0\x01\0".as_slice();
-    assert!(rt; written.ends_with(segment) && written.len() == 39);
-    fs::remove_dir_all(&rt, "d_folder")?;
-    Ok(())
+fn a_store_in_a_real_folder(rt: HostRuntime) {
+    assert!(rt; is_added(&rt));
+    assert!(rt; is_loaded(&rt));
+    assert!(rt; is_written(&rt, "d_folder/manifest", &LISTING));
+    assert!(rt; fs::remove_dir_all(&rt, "d_folder").is_ok());
 }
