@@ -5,123 +5,153 @@ use cas_bounds::{
     inside, own_places, row_orders,
 };
 use cas_types::{Bytes, List, TypeTag};
-use std::alloc::{AllocError, Global};
+use std::alloc::Global;
 use std::cmp::Ordering;
-use std::test::Fail;
 
-// The first column is ascending and the second descending, both of type int.
-fn order(alloc: Global) -> Result<List<Ordered>, AllocError> {
-    Ok(List::from_vec(vec![in alloc;
-        Ordered {
-            tag: TypeTag::Int,
-            descending: false,
-        },
-        Ordered {
-            tag: TypeTag::Int,
-            descending: true,
-        },
-    ]?))
-}
+// Rows and cuts in their order. The first clustering column is ascending and the second descending, both of
+// type int; what comes behind them is ordered by its bytes.
+const PLACES: &str = "\
+before
+row -4 4
+row 0 7
+before 1
+row 1
+row 1 7
+row 1 6
+before 1 5
+row 1 5
+after 1 5
+before 1 4
+row 1 4
+row 1 2
+row 1 2 1
+row 1 2 -1
+after 1
+row 2 7
+row 2 1
+before 9
+after 9
+after";
 
-fn ints(alloc: Global, numbers: &[i32]) -> Result<List<Bytes>, AllocError> {
-    let mut values = Vec::new(alloc);
-    for number in numbers {
-        values.push(Bytes::copy_of(alloc, &number.to_be_bytes())?)?;
+fn order(alloc: Global) -> Option<List<Ordered>> {
+    let mut order = Vec::new(alloc);
+    for descending in [false, true] {
+        let tag = TypeTag::Int;
+        order.push(Ordered { tag, descending }).ok()?;
     }
-    Ok(List::from_vec(values))
+    Some(List::from_vec(order))
 }
 
-fn cut(alloc: Global, prefix: &[i32], after: bool) -> Result<Cut, AllocError> {
-    Ok(Cut {
-        prefix: ints(alloc, prefix)?,
-        after,
+fn values(alloc: Global, line: &str) -> Option<List<Bytes>> {
+    let mut values = Vec::new(alloc);
+    for word in line.split(' ').skip(1) {
+        let number: i32 = word.parse().ok()?;
+        let value = Bytes::copy_of(alloc, &number.to_be_bytes()).ok()?;
+        values.push(value).ok()?;
+    }
+    Some(List::from_vec(values))
+}
+
+fn cut(alloc: Global, line: &str) -> Option<Cut> {
+    Some(Cut {
+        prefix: values(alloc, line)?,
+        after: line.starts_with("after"),
         order: order(alloc)?,
     })
 }
 
-#[test]
-fn rows_are_ordered_column_by_column(rt: HostRuntime) -> Result<(), Fail> {
-    let alloc = rt.alloc();
-    let columns = order(alloc)?;
-    let cases: [(&[i32], &[i32], Ordering); 7] = [
-        (&[], &[], Ordering::Equal),
-        (&[-1], &[1], Ordering::Less),
-        (&[1, 2], &[2, 1], Ordering::Less),
-        (&[1, 2], &[1, 3], Ordering::Greater),
-        (&[1], &[1, 5], Ordering::Less),
-        (&[1, 2, -1], &[1, 2, 1], Ordering::Greater),
-        (&[1, 2, 3], &[1, 2, 3], Ordering::Equal),
-    ];
-    for (i, (a, b, want)) in cases.iter().enumerate() {
-        let a = ints(alloc, a)?;
-        let b = ints(alloc, b)?;
-        let got = compare_values(columns.as_slice(), a.as_slice(), b.as_slice());
-        assert_eq!(rt; got, *want, "at {i}");
+fn row(alloc: Global, line: &str) -> Option<Clustering> {
+    Some(Clustering {
+        values: values(alloc, line)?,
+        order: order(alloc)?,
+    })
+}
+
+fn is_row(line: &str) -> bool {
+    line.starts_with("row")
+}
+
+fn key(alloc: Global, line: &str) -> Option<MapKey> {
+    if is_row(line) {
+        Some(MapKey::of_row(row(alloc, line)?))
+    } else {
+        Some(MapKey::of_cut(cut(alloc, line)?))
     }
-    let down = Ordered {
-        tag: TypeTag::TinyInt,
-        descending: true,
-    };
-    assert_eq!(rt; down.compare(&[0xff], &[0x01]), Ordering::Greater);
-    row_orders();
-    Ok(())
+}
+
+fn order_of_cuts(alloc: Global, a: &str, b: &str) -> Option<Ordering> {
+    let a = cut(alloc, a)?;
+    let mut b = cut(alloc, b)?;
+    b.order = a.order.clone().ok()?;
+    Some(cmp_cut(&a, &b))
+}
+
+fn order_of_rows(alloc: Global, a: &str, b: &str) -> Option<Ordering> {
+    let order = order(alloc)?;
+    let a = values(alloc, a)?;
+    let b = values(alloc, b)?;
+    Some(compare_values(order.as_slice(), a.as_slice(), b.as_slice()))
+}
+
+// One of the partition's ends.
+fn end(alloc: Global, after: bool) -> Cut {
+    Cut {
+        prefix: List::from_vec(Vec::new(alloc)),
+        after,
+        order: List::from_vec(Vec::new(alloc)),
+    }
+}
+
+fn slice_from(alloc: Global, line: &str) -> Option<Slice> {
+    let lo = cut(alloc, line)?;
+    let hi = end(alloc, true);
+    Some(Slice { lo, hi })
+}
+
+fn slice_to(alloc: Global, line: &str) -> Option<Slice> {
+    let hi = cut(alloc, line)?;
+    let lo = end(alloc, false);
+    Some(Slice { lo, hi })
+}
+
+fn is_inside(alloc: Global, line: &str, slice: Option<Slice>) -> Option<bool> {
+    let row = row(alloc, line)?;
+    Some(inside(&row, &slice?))
+}
+
+// Whether two places stand so, by what rows and cuts say.
+fn stand(alloc: Global, a: &str, b: &str, order: Ordering) -> bool {
+    match (is_row(a), is_row(b)) {
+        (true, true) => order_of_rows(alloc, a, b) == Some(order),
+        (false, false) => order_of_cuts(alloc, a, b) == Some(order),
+        (true, false) => is_inside(alloc, a, slice_to(alloc, b)) == Some(order.is_lt()),
+        (false, true) => is_inside(alloc, b, slice_from(alloc, a)) == Some(order.is_lt()),
+    }
+}
+
+// Whether their keys stand so.
+fn keys_stand(alloc: Global, a: &str, b: &str, order: Ordering) -> Option<bool> {
+    let a = key(alloc, a)?;
+    let b = key(alloc, b)?;
+    Some(a.cmp(&b) == order)
 }
 
 #[test]
-fn cuts_are_ordered(rt: HostRuntime) -> Result<(), Fail> {
-    let alloc = rt.alloc();
-    let cases: [(&[i32], bool, &[i32], bool, Ordering); 10] = [
-        (&[], false, &[], true, Ordering::Less),
-        (&[], false, &[9], false, Ordering::Less),
-        (&[], true, &[9], true, Ordering::Greater),
-        (&[1], false, &[1], false, Ordering::Equal),
-        (&[1], true, &[1], false, Ordering::Greater),
-        (&[1], false, &[1, 5], false, Ordering::Less),
-        (&[1], true, &[1, 5], true, Ordering::Greater),
-        (&[1, 5], false, &[1], false, Ordering::Greater),
-        (&[1, 5], true, &[1], true, Ordering::Less),
-        (&[1, 2], false, &[1, 3], true, Ordering::Greater),
-    ];
-    for (i, (a, a_after, b, b_after, want)) in cases.iter().enumerate() {
-        let a = cut(alloc, a, *a_after)?;
-        let mut b = cut(alloc, b, *b_after)?;
-        b.order = a.order.clone()?;
-        assert_eq!(rt; cmp_cut(&a, &b), *want, "at {i}");
+fn rows_and_cuts_stand_in_their_order(rt: HostRuntime) {
+    for (i, a) in PLACES.lines().enumerate() {
+        for (j, b) in PLACES.lines().enumerate() {
+            let order = i.cmp(&j);
+            assert!(rt; stand(rt.alloc(), a, b, order));
+            assert!(rt; keys_stand(rt.alloc(), a, b, order) == Some(true));
+        }
     }
+}
+
+// Laws have no body: they are called, and nothing is run.
+#[test]
+fn laws_of_places(rt: HostRuntime) {
+    row_orders();
     cut_orders();
     cuts_divide_rows();
-    Ok(())
-}
-
-#[test]
-fn slices_have_their_rows(rt: HostRuntime) -> Result<(), Fail> {
-    let alloc = rt.alloc();
-    let cases: [(&[i32], bool, &[i32], bool, &[i32], bool); 10] = [
-        (&[], false, &[], true, &[-4, 4], true),
-        (&[1], false, &[1], true, &[1, 7], true),
-        (&[1], false, &[1], true, &[1], true),
-        (&[1], false, &[1], true, &[0, 7], false),
-        (&[1], false, &[1], true, &[2, 7], false),
-        (&[1, 5], true, &[1], true, &[1, 5], false),
-        (&[1, 5], true, &[1], true, &[1, 6], false),
-        (&[1, 5], true, &[1], true, &[1, 4], true),
-        (&[1, 5], false, &[1, 4], false, &[1, 5], true),
-        (&[1, 5], false, &[1, 4], false, &[1, 4], false),
-    ];
-    for (i, (lo, lo_after, hi, hi_after, row, want)) in cases.iter().enumerate() {
-        let slice = Slice {
-            lo: cut(alloc, lo, *lo_after)?,
-            hi: cut(alloc, hi, *hi_after)?,
-        };
-        let row = Clustering {
-            values: ints(alloc, row)?,
-            order: order(alloc)?,
-        };
-        assert_eq!(rt; inside(&row, &slice), *want, "at {i}");
-        let key = MapKey::of_row(row);
-        let is_between = MapKey::of_cut(slice.lo) < key && key < MapKey::of_cut(slice.hi);
-        assert_eq!(rt; is_between, *want, "key at {i}");
-    }
     own_places();
-    Ok(())
 }

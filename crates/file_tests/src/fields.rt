@@ -3,7 +3,7 @@ use cas_codec::{
     put_maybe_i64, put_u8, put_u16, put_u32, put_u64,
 };
 use cas_types::Mem;
-use std::test::Fail;
+use std::alloc::Global;
 
 // One field of each kind, written by hand.
 const FIELDS: [u8; 50] = [
@@ -40,7 +40,7 @@ fn write_fields(out: &mut Vec<u8>) -> Result<(), Mem> {
 fn fields_are_written_as_by_hand(rt: HostRuntime) {
     let mut out = Vec::new(rt.alloc());
     assert!(rt; write_fields(&mut out).is_ok());
-    assert_eq!(rt; out.as_slice(), &FIELDS[..49]);
+    assert!(rt; out.as_slice() == &FIELDS[..49]);
     fields_are_exact();
 }
 
@@ -54,51 +54,69 @@ fn numbers(reader: &mut Reader<'_>) -> Result<(u8, u16, u32, u64, i64), ReadFaul
     ))
 }
 
+fn is_read(bytes: Result<&[u8], ReadFault>, wanted: &[u8]) -> bool {
+    match bytes {
+        Ok(bytes) => bytes == wanted,
+        Err(_) => false,
+    }
+}
+
+fn is_copied(alloc: Global, reader: &mut Reader<'_>, wanted: &[u8]) -> bool {
+    match reader.copy16(alloc) {
+        Ok(bytes) => bytes.as_slice() == wanted,
+        Err(_) => false,
+    }
+}
+
+fn are_read(alloc: Global, reader: &mut Reader<'_>) -> bool {
+    numbers(reader) == Ok((7, 258, 65_536, 1 << 32, -2))
+        && reader.flag() == Ok(true)
+        && is_copied(alloc, reader, b"hi")
+        && is_read(reader.bytes32(), b"!")
+        && reader.maybe_i64() == Ok(None)
+        && reader.maybe_i64() == Ok(Some(i64::MIN))
+        && is_read(reader.bytes16(), b"")
+}
+
 #[test]
-fn fields_are_read_as_by_hand(rt: HostRuntime) -> Result<(), Fail> {
+fn fields_are_read_as_by_hand(rt: HostRuntime) {
     let mut reader = Reader::new(&FIELDS, 1000);
-    assert_eq!(rt; numbers(&mut reader), Ok((7, 258, 65_536, 1 << 32, -2)));
-    assert_eq!(rt; reader.flag(), Ok(true));
-    let hi = reader.copy16(rt.alloc()).ok().ok_or("memory")?;
-    assert_eq!(rt; hi.as_slice(), b"hi".as_slice());
-    assert_eq!(rt; reader.bytes32(), Ok(b"!".as_slice()));
-    assert_eq!(rt; reader.maybe_i64(), Ok(None));
-    assert_eq!(rt; reader.maybe_i64(), Ok(Some(i64::MIN)));
-    assert_eq!(rt; reader.bytes16(), Ok(b"".as_slice()));
-    assert_eq!(rt; reader.at(), 1045);
-    assert_eq!(rt; reader.left().len(), 5);
-    let mut part = reader.part(4).ok().ok_or("four bytes")?;
-    assert_eq!(rt; part.bytes32(), Ok(b"".as_slice()));
-    assert!(rt; part.is_empty());
-    assert_eq!(rt; reader.u8(), Ok(9));
-    assert_eq!(rt; reader.u8(), Err(ReadFault::Short { at: 1050 }));
-    Ok(())
+    assert!(rt; are_read(rt.alloc(), &mut reader));
+    assert!(rt; reader.at() == 1045 && reader.left().len() == 5);
+    let Ok(mut part) = reader.part(4) else {
+        panic!(rt; "fewer than four bytes");
+    };
+    assert!(rt; is_read(part.bytes32(), b"") && part.is_empty());
+    assert!(rt; reader.u8() == Ok(9) && reader.u8() == Err(ReadFault::Short { at: 1050 }));
+}
+
+// How so many zeros behind a first byte are refused as a number that may be absent.
+fn fault(first: u8, zeros: usize) -> Option<ReadFault> {
+    let mut bytes = [0; 16];
+    bytes[0] = first;
+    Reader::new(&bytes[..zeros.min(14) + 1], 8)
+        .maybe_i64()
+        .err()
+}
+
+const SHORT: Option<ReadFault> = Some(ReadFault::Short { at: 8 });
+
+const BAD: Option<ReadFault> = Some(ReadFault::Bad { at: 8 });
+
+fn are_refused() -> bool {
+    fault(2, 0) == BAD
+        && fault(2, 8) == BAD
+        && fault(0xff, 0) == BAD
+        && fault(1, 0) == Some(ReadFault::Short { at: 9 })
+        && fault(1, 7) == Some(ReadFault::Short { at: 9 })
+        && Reader::new(b"", 8).maybe_i64().err() == SHORT
+        && Reader::new(b"\0\x03hi", 8).bytes16().err() == SHORT
+        && Reader::new(b"\0\0\0\x02!", 8).bytes32().err() == SHORT
+        && Reader::new(b"\x09", 8).u8_within(0, 8).err() == BAD
+        && Reader::new(b"\x08", 8).u8_within(0, 8) == Ok(8)
 }
 
 #[test]
 fn a_refusal_names_the_first_byte_of_the_field(rt: HostRuntime) {
-    let cases: [(&[u8], ReadFault); 6] = [
-        (b"", ReadFault::Short { at: 8 }),
-        (b"\x02", ReadFault::Bad { at: 8 }),
-        (b"\x01\0\0\0\0\0\0\0", ReadFault::Short { at: 9 }),
-        (b"\xff", ReadFault::Bad { at: 8 }),
-        (b"\x01", ReadFault::Short { at: 9 }),
-        (b"\x02\0\0\0\0\0\0\0\0", ReadFault::Bad { at: 8 }),
-    ];
-    for (bytes, fault) in cases {
-        assert_eq!(rt; Reader::new(bytes, 8).maybe_i64(), Err(fault));
-    }
-    assert_eq!(rt;
-        Reader::new(b"\0\x03hi", 8).bytes16(),
-        Err(ReadFault::Short { at: 8 })
-    );
-    assert_eq!(rt;
-        Reader::new(b"\0\0\0\x02!", 8).bytes32(),
-        Err(ReadFault::Short { at: 8 })
-    );
-    assert_eq!(rt;
-        Reader::new(b"\x09", 8).u8_within(0, 8),
-        Err(ReadFault::Bad { at: 8 })
-    );
-    assert_eq!(rt; Reader::new(b"\x08", 8).u8_within(0, 8), Ok(8));
+    assert!(rt; are_refused());
 }

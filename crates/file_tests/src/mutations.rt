@@ -4,10 +4,10 @@ ghost use Rattle.std.specs.Prelude.{◌≤◌, length};
 ghost use Rattle.cas_mutations.specs.Allowed.{AreTables};
 
 use crate::insert::{RECORD, columns, tables};
-use cas_bounds::clustering_order;
+use cas_bounds::{Ordered, clustering_order};
 use cas_codec::{ReadFault, Reader};
 use cas_mutations::{put_record, read_atom, read_record, records_are_exact};
-use cas_types::TableSchema;
+use cas_types::{Column, List, TableSchema};
 use std::alloc::Global;
 use std::test::Fail;
 
@@ -26,81 +26,94 @@ fn again(alloc: Global, bytes: &[u8], tables: &[TableSchema]) -> Result<Vec<u8>,
     }
 }
 
+// Another byte at a place, and where the record is refused.
+const ALTERED: [(usize, u8, ReadFault); 17] = [
+    (3, 82, ReadFault::Short { at: 0 }), // more than there is
+    (3, 80, ReadFault::Short { at: 80 }), // less than the mutation fills
+    (5, 1, ReadFault::Bad { at: 4 }), // no such table
+    (6, 1, ReadFault::Bad { at: 6 }), // no such shard
+    (14, 0, ReadFault::Bad { at: 7 }), // numbers count from 1
+    (15, 2, ReadFault::Bad { at: 15 }), // neither no nor yes
+    (16, 0x80, ReadFault::Bad { at: 16 }), // a drawn timestamp below 0
+    (24, 1, ReadFault::Bad { at: 24 }), // after the year 9999
+    (33, 0, ReadFault::Bad { at: 32 }), // a key has a byte
+    (41, 1, ReadFault::Bad { at: 59 }), // an atom too many
+    (41, 3, ReadFault::Short { at: 85 }), // and one too few
+    (42, 9, ReadFault::Bad { at: 42 }), // no such atom
+    (43, 2, ReadFault::Bad { at: 43 }), // one clustering column
+    (68, 1, ReadFault::Bad { at: 67 }), // a clustering column
+    (68, 4, ReadFault::Bad { at: 67 }), // a static column
+    (70, 1, ReadFault::Bad { at: 69 }), // a plain column has no path
+    (84, 0xff, ReadFault::Bad { at: 80 }), // no UTF-8
+];
+
+fn fault_of_altered(
+    alloc: Global,
+    tables: &[TableSchema],
+    place: usize,
+    byte: u8,
+) -> Option<ReadFault>
+    requires { AreTables tables.now }
+{
+    let mut bytes = RECORD;
+    if let Some(at) = bytes.get_mut(place) {
+        *at = byte;
+    }
+    again(alloc, &bytes, tables).err()
+}
+
 #[test]
 fn the_record_of_an_insert(rt: HostRuntime) -> Result<(), Fail> {
     let tables = tables(rt.alloc())?;
-    let same = again(rt.alloc(), &RECORD, &tables).ok().ok_or("a record")?;
-    assert_eq!(rt; same.as_slice(), RECORD.as_slice());
-    let altered = [
-        (3, 82, ReadFault::Short { at: 0 }), // more than there is
-        (3, 80, ReadFault::Short { at: 80 }), // less than the mutation fills
-        (5, 1, ReadFault::Bad { at: 4 }), // no such table
-        (6, 1, ReadFault::Bad { at: 6 }), // no such shard
-        (14, 0, ReadFault::Bad { at: 7 }), // numbers count from 1
-        (15, 2, ReadFault::Bad { at: 15 }), // neither no nor yes
-        (16, 0x80, ReadFault::Bad { at: 16 }), // a drawn timestamp below 0
-        (24, 1, ReadFault::Bad { at: 24 }), // after the year 9999
-        (33, 0, ReadFault::Bad { at: 32 }), // a key has a byte
-        (41, 1, ReadFault::Bad { at: 59 }), // an atom too many
-        (41, 3, ReadFault::Short { at: 85 }), // and one too few
-        (42, 9, ReadFault::Bad { at: 42 }), // no such atom
-        (43, 2, ReadFault::Bad { at: 43 }), // one clustering column
-        (68, 1, ReadFault::Bad { at: 67 }), // a clustering column
-        (68, 4, ReadFault::Bad { at: 67 }), // a static column
-        (70, 1, ReadFault::Bad { at: 69 }), // a plain column has no path
-        (84, 0xff, ReadFault::Bad { at: 80 }), // no UTF-8
-    ];
-    for (place, byte, fault) in altered {
-        let mut bytes = RECORD;
-        if let Some(at) = bytes.get_mut(place) {
-            *at = byte;
-        }
-        assert_eq!(rt; again(rt.alloc(), &bytes, &tables).err(), Some(fault));
+    let same = again(rt.alloc(), &RECORD, &tables).unwrap_or(Vec::new(rt.alloc()));
+    assert!(rt; same.as_slice() == RECORD.as_slice());
+    for i in 0..17 {
+        let (place, byte, fault) = ALTERED[i];
+        let found = fault_of_altered(rt.alloc(), &tables, place, byte);
+        assert!(rt; found == Some(fault), "{place}");
     }
     Ok(())
+}
+
+// The place where an atom is refused, or `-` where none is, and its bytes: of a range from before the row 1 to
+// after it, and the other way round; of an element of a list whose path is a byte short, and whole; of the static
+// column, and of another one that isn't; of a collection that is none.
+const ATOMS: &str = "\
+- 02 00 01 0004 00000001 01 01 0004 00000001 0000000000000005 0000000000000000
+9 02 01 01 0004 00000001 00 01 0004 00000001 0000000000000005 0000000000000000
+10 06 01 0004 00000001 0003 000f 6162636465666768696a6b6c6d6e6f 02 0000000000000005 0000000000000000
+- 06 01 0004 00000001 0003 0010 6162636465666768696a6b6c6d6e6f70 02 0000000000000005 0000000000000000
+- 07 0004 0000 00 0000000000000005 00000001 61
+1 07 0002 0000 00 0000000000000005 00000001 61
+1 08 0004 0000000000000005 0000000000000000";
+
+fn bytes_of(alloc: Global, words: &str) -> Option<Vec<u8>> {
+    let mut bytes = Vec::new(alloc);
+    for word in words.split(' ') {
+        bytes
+            .extend_from_slice(&hex::decode(alloc, word).ok()?)
+            .ok()?;
+    }
+    Some(bytes)
+}
+
+// Whether the line's bytes are read as it says.
+fn is_told(alloc: Global, order: &List<Ordered>, columns: &[Column], line: &str) -> Option<bool> {
+    let (at, words) = line.split_once(' ')?;
+    let bytes = bytes_of(alloc, words)?;
+    let fault = read_atom(alloc, &mut Reader::new(&bytes, 0), order, columns).err();
+    let expected = at.parse().ok().map(|at| ReadFault::Bad { at });
+    Some(fault == expected)
 }
 
 #[test]
 fn atoms_by_hand(rt: HostRuntime) -> Result<(), Fail> {
     let columns = columns(rt.alloc())?;
     let order = clustering_order(rt.alloc(), &columns)?;
-    let cases: [(&[u8], Option<ReadFault>); 7] = [
-        // from before the row 1 to after it
-        (
-            b"\x02\0\x01\0\x04\0\0\0\x01\x01\x01\0\x04\0\0\0\x01\0\0\0\0\0\0\0\x05\0\0\0\0\0\0\0\0",
-            None,
-        ),
-        // the other way round
-        (
-            b"\x02\x01\x01\0\x04\0\0\0\x01\0\x01\0\x04\0\0\0\x01\0\0\0\0\0\0\0\x05\0\0\0\0\0\0\0\0",
-            Some(ReadFault::Bad { at: 9 }),
-        ),
-        // a path of a list, one byte short, and whole
-        (
-            b"\x06\x01\0\x04\0\0\0\x01\0\x03\0\x0fabcdefghijklmno\x02\0\0\0\0\0\0\0\x05\0\0\0\0\0\0\0\0",
-            Some(ReadFault::Bad { at: 10 }),
-        ),
-        (
-            b"\x06\x01\0\x04\0\0\0\x01\0\x03\0\x10abcdefghijklmnop\x02\0\0\0\0\0\0\0\x05\0\0\0\0\0\0\0\0",
-            None,
-        ),
-        // the static column, and another one
-        (b"\x07\0\x04\0\0\0\0\0\0\0\0\0\0\x05\0\0\0\x01a", None),
-        (
-            b"\x07\0\x02\0\0\0\0\0\0\0\0\0\0\x05\0\0\0\x01a",
-            Some(ReadFault::Bad { at: 1 }),
-        ),
-        // it is no collection
-        (
-            b"\x08\0\x04\0\0\0\0\0\0\0\x05\0\0\0\0\0\0\0\0",
-            Some(ReadFault::Bad { at: 1 }),
-        ),
-    ];
-    for (bytes, fault) in cases {
-        let mut reader = Reader::new(bytes, 0);
-        assert_eq!(rt;
-            read_atom(rt.alloc(), &mut reader, &order, &columns).err(),
-            fault
+    for line in ATOMS.lines() {
+        assert!(rt;
+            is_told(rt.alloc(), &order, &columns, line) == Some(true),
+            "{line}"
         );
     }
     Ok(())

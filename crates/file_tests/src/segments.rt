@@ -4,15 +4,15 @@
 ghost use Rattle.std.specs.Prelude.{IfOk};
 ghost use Rattle.cas_log.specs.Logs.{IsOfATable};
 
+use crate::host::{folder_at, is_written, opened};
 use crate::insert::{RECORD, tables};
 use cas_atoms::Mutation;
 use cas_codec::{ReadFault, Reader};
 use cas_disk::{Choice, FaultPlan, Folder, MemFolder, Name};
-use cas_hostdisk::HostFolder;
 use cas_log::{Log, LogFault};
 use cas_mutations::{read_record, records_are_exact};
 use cas_replay::{ReplayFault, replay};
-use std::alloc::{AllocError, Global};
+use std::alloc::Global;
 use std::fs;
 use std::test::Fail;
 
@@ -26,19 +26,16 @@ const BEFORE: [u8; 33] = [
 ];
 
 // The segment of this number with the mutation of this number, and the next gate closed.
-fn segment(alloc: Global, number: u8) -> Result<Vec<u8>, AllocError> {
-    let mut whole = Vec::from_slice(alloc, &BEFORE)?;
-    whole.extend_from_slice(&RECORD)?;
-    whole.push(0)?;
-    for place in [15, 47] {
-        if let Some(at) = whole.get_mut(place) {
-            *at = number;
-        }
-    }
-    Ok(whole)
+fn segment(number: u8) -> [u8; 119] {
+    let mut whole = [0; 119];
+    whole[..33].copy_from_slice(&BEFORE);
+    whole[33..118].copy_from_slice(&RECORD);
+    whole[15] = number;
+    whole[47] = number;
+    whole
 }
 
-// A folder in which these bytes are a segment's.
+// Whether these bytes become a segment's, in a folder in which it isn't there.
 fn put(folder: &mut MemFolder, number: u64, bytes: &[u8]) -> bool {
     let name = Name::Log(number);
     !folder.has(name) && folder.create(name).is_ok() && folder.write_at(name, 0, bytes).is_ok()
@@ -65,6 +62,93 @@ fn count<F: Folder>(
     }
 }
 
+// What is read of the first segment, cut to so many bytes, with another byte at a place.
+fn count_altered(alloc: Global, long: usize, place: usize, byte: u8) -> Result<usize, (u64, u64)> {
+    let mut bytes = segment(1);
+    if let Some(at) = bytes.get_mut(place) {
+        *at = byte;
+    }
+    let mut folder = empty(alloc);
+    if !put(&mut folder, 1, &bytes[..long.min(119)]) {
+        return Err((0, 0));
+    }
+    count(alloc, &mut folder, &[1], 0)
+}
+
+// How long the segment is cut, another byte at a place, and what is read of it.
+const ALTERED: [(usize, usize, u8, Result<usize, (u64, u64)>); 17] = [
+    (4, 0, 0x43, Err((1, 0))), // cut within its first word
+    (24, 0, 0x43, Err((1, 24))), // cut behind its header
+    (119, 0, 0x43, Ok(1)), // whole
+    (119, 0, 0x44, Err((1, 0))), // another word
+    (119, 15, 2, Err((1, 8))), // another number
+    (119, 22, 0x0f, Err((1, 16))), // below 4,096
+    (119, 24, 0, Ok(0)), // the gate is closed
+    (119, 27, 0x10, Err((1, 25))), // past the segment's size
+    (119, 28, 87, Err((1, 25))), // more than there is
+    (119, 28, 86, Err((1, 118))), // a byte is left over
+    (119, 28, 84, Err((1, 33))), // the record runs past the body
+    (119, 32, 2, Err((1, 118))), // a record too many
+    (119, 32, 0, Err((1, 33))), // and one too few
+    (119, 38, 1, Err((1, 37))), // no such table
+    (119, 39, 1, Err((1, 39))), // no such shard
+    (119, 118, 1, Err((1, 119))), // open, and no block behind it
+    (119, 118, 7, Ok(1)), // any other byte counts as closed
+];
+
+#[test]
+fn altered_bytes_of_a_segment(rt: HostRuntime) {
+    for i in 0..17 {
+        let (long, place, byte, answer) = ALTERED[i];
+        assert!(rt;
+            count_altered(rt.alloc(), long, place, byte) == answer,
+            "{place}"
+        );
+    }
+}
+
+// Whether so many segments of one mutation each are put into the folder.
+fn put_segments(folder: &mut MemFolder, count: u8) -> bool {
+    for number in 1..=count {
+        if !put(folder, number as u64, &segment(number)) {
+            return false;
+        }
+    }
+    true
+}
+
+const LISTED: [u64; 20] = [
+    1, 2, 3, 4, 5, 6, 7, 8, 9, 10, 11, 12, 13, 14, 15, 16, 17, 18, 19, 20,
+];
+
+fn counts(alloc: Global, folder: &mut MemFolder) -> [Result<usize, (u64, u64)>; 7] {
+    [
+        count(alloc, folder, &LISTED, 0),
+        count(alloc, folder, &LISTED, 12), // up to the frontier they are in table files
+        count(alloc, folder, &LISTED, 20),
+        count(alloc, folder, &LISTED[..6], 3),
+        count(alloc, folder, &LISTED[7..], 0), // the first of a shard may have any number
+        count(alloc, folder, &[3, 5], 0), // 4 is skipped
+        count(alloc, folder, &[1, 2, 21], 0), // it isn't there
+    ]
+}
+
+#[test]
+fn a_log_of_20_segments(rt: HostRuntime) {
+    let mut folder = empty(rt.alloc());
+    assert!(rt; put_segments(&mut folder, 20));
+    let expected = [
+        Ok(20),
+        Ok(8),
+        Ok(0),
+        Ok(3),
+        Ok(13),
+        Err((5, 33)),
+        Err((21, 0)),
+    ];
+    assert!(rt; counts(rt.alloc(), &mut folder) == expected);
+}
+
 fn mutation(alloc: Global) -> Result<Mutation, ReadFault>
     ensures { IfOk result (λ m. IsOfATable m) }
 {
@@ -86,68 +170,6 @@ fn commit<F: Folder>(folder: &mut F, log: &mut Log, mutation: &Mutation) -> Resu
     log.commit(folder, &mut first)
 }
 
-#[test]
-fn altered_bytes_of_a_segment(rt: HostRuntime) -> Result<(), Fail> {
-    let whole = segment(rt.alloc(), 1)?;
-    for (long, answer) in [(4, Err((1, 0))), (24, Err((1, 24))), (119, Ok(1))] {
-        let mut folder = empty(rt.alloc());
-        assert!(rt; put(&mut folder, 1, whole.get(..long).ok_or("fewer bytes")?));
-        assert_eq!(rt; count(rt.alloc(), &mut folder, &[1], 0), answer);
-    }
-    let altered = [
-        (0, 0x44, Err((1, 0))), // another word
-        (15, 2, Err((1, 8))), // another number
-        (22, 0x0f, Err((1, 16))), // below 4,096
-        (24, 0, Ok(0)), // the gate is closed
-        (27, 0x10, Err((1, 25))), // past the segment's size
-        (28, 87, Err((1, 25))), // more than there is
-        (28, 86, Err((1, 118))), // a byte is left over
-        (28, 84, Err((1, 33))), // the record runs past the body
-        (32, 2, Err((1, 118))), // a record too many
-        (32, 0, Err((1, 33))), // and one too few
-        (38, 1, Err((1, 37))), // no such table
-        (39, 1, Err((1, 39))), // no such shard
-        (118, 1, Err((1, 119))), // open, and no block behind it
-        (118, 7, Ok(1)), // any other byte counts as closed
-    ];
-    for (place, byte, answer) in altered {
-        let mut bytes = segment(rt.alloc(), 1)?;
-        if let Some(at) = bytes.get_mut(place) {
-            *at = byte;
-        }
-        let mut folder = empty(rt.alloc());
-        assert!(rt; put(&mut folder, 1, &bytes));
-        assert_eq!(rt; count(rt.alloc(), &mut folder, &[1], 0), answer);
-    }
-    Ok(())
-}
-
-#[test]
-fn a_log_of_20_segments(rt: HostRuntime) -> Result<(), Fail> {
-    let mut folder = empty(rt.alloc());
-    let mut segments = Vec::new(rt.alloc());
-    for number in 1..21u8 {
-        let bytes = segment(rt.alloc(), number)?;
-        assert!(rt; put(&mut folder, number as u64, &bytes));
-        segments.push(number as u64)?;
-    }
-    let front = segments.get(..6).ok_or("six segments")?;
-    let behind = segments.get(7..).ok_or("seven segments")?;
-    let cases: [(&[u64], u64, Result<usize, (u64, u64)>); 6] = [
-        (&segments, 0, Ok(20)),
-        (&segments, 12, Ok(8)), // up to the frontier they are in table files
-        (&segments, 20, Ok(0)),
-        (behind, 0, Ok(13)), // the first of a shard may have any number
-        (&[3, 5], 0, Err((5, 33))), // 4 is skipped
-        (&[1, 2, 21], 0, Err((21, 0))), // it isn't there
-    ];
-    for (listed, frontier, answer) in cases {
-        assert_eq!(rt; count(rt.alloc(), &mut folder, listed, frontier), answer);
-    }
-    assert_eq!(rt; count(rt.alloc(), &mut folder, front, 3), Ok(3));
-    Ok(())
-}
-
 // A segment is begun and the mutation committed to it, over a folder whose calls may fail.
 fn write(alloc: Global, folder: &mut MemFolder, mutation: &Mutation) -> Result<(), LogFault>
     requires { IsOfATable mutation.now }
@@ -159,65 +181,84 @@ fn write(alloc: Global, folder: &mut MemFolder, mutation: &Mutation) -> Result<(
     commit(folder, &mut log, mutation)
 }
 
-// Of each image that a crash leaves, how many mutations are read, or the place that is refused.
-fn images(alloc: Global, folder: &MemFolder) -> Result<[Result<usize, u64>; 5], AllocError> {
-    let mut read = [Ok(0); 5];
-    let choices = [
-        Choice::Old,
-        Choice::New,
-        Choice::Fill(0),
-        Choice::Fill(1),
-        Choice::Fill(255),
-    ];
-    for place in 0..5 {
-        let mut image = folder.image(choices[place])?;
-        read[place] = match count(alloc, &mut image, &[1], 0) {
-            Ok(found) => Ok(found),
-            Err((_, at)) => Err(at),
-        };
+// What is read of the image that a crash leaves: how many mutations, or the place that is refused.
+fn left(alloc: Global, folder: &MemFolder, choice: Choice) -> Result<usize, u64> {
+    let Ok(mut image) = folder.image(choice) else {
+        return Err(99);
+    };
+    match count(alloc, &mut image, &[1], 0) {
+        Ok(found) => Ok(found),
+        Err((_, at)) => Err(at),
     }
-    Ok(read)
 }
+
+// A commit to a folder that stops after so many calls.
+fn stopped(alloc: Global, mutation: &Mutation, calls: u64) -> (bool, [Result<usize, u64>; 5])
+    requires { IsOfATable mutation.now }
+{
+    let mut folder = empty(alloc);
+    folder.stop_after(calls);
+    let acknowledged = write(alloc, &mut folder, mutation).is_ok();
+    let read = [
+        left(alloc, &folder, Choice::Old),
+        left(alloc, &folder, Choice::New),
+        left(alloc, &folder, Choice::Fill(0)),
+        left(alloc, &folder, Choice::Fill(1)),
+        left(alloc, &folder, Choice::Fill(255)),
+    ];
+    (acknowledged, read)
+}
+
+// After so many calls the folder stops: whether the mutation is acknowledged, and what is read of each image.
+const STOPS: [(u64, bool, [Result<usize, u64>; 5]); 8] = [
+    (0, false, [Err(0), Err(0), Err(0), Err(0), Err(0)]),
+    (1, false, [Err(0), Err(0), Err(0), Err(0), Err(0)]), // the file is made
+    (2, false, [Err(0), Ok(0), Err(0), Err(0), Err(0)]), // its header is written
+    (3, false, [Ok(0), Ok(0), Ok(0), Ok(0), Ok(0)]), // and synced
+    (4, false, [Ok(0), Ok(0), Ok(0), Ok(0), Ok(0)]), // the block is written
+    (5, false, [Ok(0), Ok(0), Ok(0), Ok(0), Ok(0)]), // and synced
+    (6, false, [Ok(0), Ok(1), Ok(0), Ok(1), Ok(0)]), // the gate is opened
+    (7, true, [Ok(1), Ok(1), Ok(1), Ok(1), Ok(1)]), // and synced
+];
 
 #[test]
 fn each_stop_of_a_commit(rt: HostRuntime) -> Result<(), Fail> {
     let mutation = mutation(rt.alloc()).ok().ok_or("a mutation")?;
-    // After so many calls the folder stops: whether the mutation is acknowledged, and what the images have.
-    let stops = [
-        (0, false, [Err(0), Err(0), Err(0), Err(0), Err(0)]),
-        (1, false, [Err(0), Err(0), Err(0), Err(0), Err(0)]), // the file is made
-        (2, false, [Err(0), Ok(0), Err(0), Err(0), Err(0)]), // its header is written
-        (3, false, [Ok(0), Ok(0), Ok(0), Ok(0), Ok(0)]), // and synced
-        (4, false, [Ok(0), Ok(0), Ok(0), Ok(0), Ok(0)]), // the block is written
-        (5, false, [Ok(0), Ok(0), Ok(0), Ok(0), Ok(0)]), // and synced
-        (6, false, [Ok(0), Ok(1), Ok(0), Ok(1), Ok(0)]), // the gate is opened
-        (7, true, [Ok(1), Ok(1), Ok(1), Ok(1), Ok(1)]), // and synced
-    ];
-    for (calls, acknowledged, read) in stops {
-        let mut folder = empty(rt.alloc());
-        folder.stop_after(calls);
-        let done = write(rt.alloc(), &mut folder, &mutation);
-        assert_eq!(rt; done.is_ok(), acknowledged);
-        assert_eq!(rt; images(rt.alloc(), &folder)?, read);
+    for i in 0..8 {
+        let (calls, acknowledged, read) = STOPS[i];
+        let found = stopped(rt.alloc(), &mutation, calls);
+        assert!(rt; found == (acknowledged, read), "{calls}");
     }
     Ok(())
 }
 
+// Whether the mutation is committed to a segment of a real folder.
+fn is_committed(rt: &HostRuntime, mutation: &Mutation) -> bool
+    requires { IsOfATable mutation.now }
+{
+    let Some(mut folder) = folder_at(rt, "c_folder") else {
+        return false;
+    };
+    match Log::begin(rt.alloc(), &mut folder, &mut None, 1, 4096) {
+        Ok(mut log) => commit(&mut folder, &mut log, mutation).is_ok(),
+        Err(_) => false,
+    }
+}
+
+fn count_opened(rt: &HostRuntime, segment: u64) -> Result<usize, (u64, u64)> {
+    match opened(rt, "c_folder") {
+        Some(mut folder) => count(rt.alloc(), &mut folder, &[segment], 0),
+        None => Err((0, 0)),
+    }
+}
+
 #[test]
-fn a_segment_of_a_real_folder(rt: HostRuntime) -> Result<(), Fail> {
-    let alloc = rt.alloc();
-    let _ = fs::remove_dir_all(&rt, "c_folder");
-    let mutation = mutation(alloc).ok().ok_or("a mutation")?;
-    let mut folder = HostFolder::new(&rt, alloc, String::from_str(alloc, "c_folder")?);
-    let mut log = Log::begin(alloc, &mut folder, &mut None, 1, 4096)
-        .ok()
-        .ok_or("no segment")?;
-    assert_eq!(rt; commit(&mut folder, &mut log, &mutation), Ok(()));
-    let written = fs::read(&rt, "c_folder/log-0000000000000001")?;
-    assert_eq!(rt; written.as_slice(), segment(alloc, 1)?.as_slice());
-    let mut again = HostFolder::new(&rt, alloc, String::from_str(alloc, "c_folder")?);
-    assert_eq!(rt; count(alloc, &mut again, &[1], 0), Ok(1));
-    assert_eq!(rt; count(alloc, &mut again, &[2], 0), Err((2, 0)));
-    fs::remove_dir_all(&rt, "c_folder")?;
-    Ok(())
+fn a_segment_of_a_real_folder(rt: HostRuntime) {
+    let Ok(mutation) = mutation(rt.alloc()) else {
+        panic!(rt; "no mutation");
+    };
+    assert!(rt; is_committed(&rt, &mutation));
+    assert!(rt; is_written(&rt, "c_folder/log-0000000000000001", &segment(1)));
+    assert!(rt; count_opened(&rt, 1) == Ok(1) && count_opened(&rt, 2) == Err((2, 0)));
+    assert!(rt; fs::remove_dir_all(&rt, "c_folder").is_ok());
 }

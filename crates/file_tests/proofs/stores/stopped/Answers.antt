@@ -1,6 +1,6 @@
 use Rattle.std.proofs.Common.{◌≡◌, ◌++◌, length, refl, arith}
 use Rattle.cas_codec.specs.Fields.{u8, u64}
-use Rattle.store_tests.proofs.stores.stopped.Goals as goal
+use Rattle.file_tests.proofs.stores.stopped.Goals as goal
 
 pub append-requires-clause-short : goal.append-requires-clause-short
 unfolding u8 u64

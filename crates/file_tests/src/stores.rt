@@ -1,0 +1,186 @@
+//! The manifest of a store: made, loaded and appended to in a folder in memory and a real one, and
+//! what a stop at each call leaves.
+
+use crate::host::{folder_at, is_written, opened};
+use cas_changes::Entry;
+use cas_disk::{Choice, FaultPlan, Folder, MemFolder, Name};
+use cas_manifest::{Manifest, ManifestFault};
+use std::alloc::Global;
+use std::fs;
+
+// What a crash may leave of what isn't synced.
+const CHOICES: [Choice; 5] = [
+    Choice::Old,
+    Choice::New,
+    Choice::Fill(0),
+    Choice::Fill(1),
+    Choice::Fill(255),
+];
+
+// How many entries the store of a folder has, which is made where none is, or where its manifest is bad; 99 where
+// the folder fails, and 100 for any other fault.
+fn count<F: Folder>(alloc: Global, folder: &mut F) -> Result<usize, u64> {
+    match Manifest::load(alloc, folder, 1) {
+        Ok((_manifest, _said, entries)) => Ok(entries.len()),
+        Err(ManifestFault::Bad { at }) => Err(at),
+        Err(ManifestFault::Failed) => Err(99),
+        Err(_) => Err(100),
+    }
+}
+
+fn empty(alloc: Global) -> MemFolder {
+    MemFolder::new(alloc, FaultPlan::none(alloc))
+}
+
+// The store of a folder lists a segment more.
+fn add_segment<F: Folder>(alloc: Global, folder: &mut F, number: u64) -> Result<(), ManifestFault> {
+    let mut first = None;
+    let (mut manifest, _said, _entries) = Manifest::load(alloc, folder, 1)?;
+    manifest.append(alloc, folder, &mut first, &Entry::NewSegment { number })
+}
+
+// The folder stops after so many calls of an append to a store of two entries.
+fn stopped(alloc: Global, folder: &mut MemFolder, calls: u64) -> Result<(), ManifestFault> {
+    let mut first = None;
+    let (mut manifest, _said, _entries) = Manifest::load(alloc, folder, 1)?;
+    manifest.append(alloc, folder, &mut first, &Entry::NewSegment { number: 1 })?;
+    folder.stop_after(folder.calls().saturating_add(calls));
+    manifest.append(alloc, folder, &mut first, &Entry::NewSegment { number: 2 })
+}
+
+// Whether the image loads with so many entries, and takes another: what a crash left behind the gate is written over.
+fn is_left(alloc: Global, folder: &MemFolder, choice: Choice, found: usize) -> bool {
+    let Ok(mut left) = folder.image(choice) else {
+        return false;
+    };
+    count(alloc, &mut left) == Ok(found)
+        && add_segment(alloc, &mut left, 9).is_ok()
+        && count(alloc, &mut left) == Ok(found.saturating_add(1))
+}
+
+fn leaves(alloc: Global, folder: &MemFolder, entries: [usize; 5]) -> bool {
+    for i in 0..5 {
+        if !is_left(alloc, folder, CHOICES[i], entries[i]) {
+            return false;
+        }
+    }
+    true
+}
+
+// After so many calls of an append the folder stops: what is answered, and how many entries each image has.
+const STOPS: [(u64, Result<(), ManifestFault>, [usize; 5]); 5] = [
+    (0, Err(ManifestFault::Failed), [2, 2, 2, 2, 2]),
+    (1, Err(ManifestFault::Failed), [2, 2, 2, 2, 2]), // the block is written
+    (2, Err(ManifestFault::Failed), [2, 2, 2, 2, 2]), // and synced
+    (3, Err(ManifestFault::Failed), [2, 3, 2, 3, 2]), // its gate is written
+    (4, Ok(()), [3, 3, 3, 3, 3]),
+];
+
+#[test]
+fn every_stop_of_an_append(rt: HostRuntime) {
+    for i in 0..5 {
+        let (calls, answer, entries) = STOPS[i];
+        let mut folder = empty(rt.alloc());
+        assert!(rt; stopped(rt.alloc(), &mut folder, calls) == answer);
+        assert!(rt; leaves(rt.alloc(), &folder, entries), "after {calls} calls");
+    }
+}
+
+#[test]
+fn every_stop_while_a_store_is_made(rt: HostRuntime) {
+    for calls in 0..=12 {
+        let mut folder = empty(rt.alloc());
+        folder.stop_after(calls);
+        let answer = count(rt.alloc(), &mut folder);
+        assert!(rt; answer == if calls < 12 { Err(99) } else { Ok(1) });
+        assert!(rt; leaves(rt.alloc(), &folder, [1; 5]), "after {calls} calls");
+    }
+}
+
+// How many entries are loaded, or after `!` where the manifest is bad; another file of the folder; the manifest.
+const FOLDERS: &str = "\
+1 - -
+1 import -
+!0 log -
+!0 table -
+1 - 0x
+!0 log 0x
+1 - 0x01
+!0 table 0x01
+1 - 0x00434153534d414e3100ffff
+!0 log 0x02434153534d414e3100
+1 - 0x01434153534d414e3100
+1 log 0x01434153534d414e3102
+!9 - 0x01434153534d414e31
+!1 - 0x01434153534d414e3200
+1 log 0x01434153534d414e31010000000200000001010100
+!18 - 0x01434153534d414e31010000000200000001630100
+!19 - 0x01434153534d414e31010000000200000001010000";
+
+fn put(folder: &mut MemFolder, name: Name, bytes: &[u8]) -> bool {
+    !folder.has(name) && folder.create(name).is_ok() && folder.write_at(name, 0, bytes).is_ok()
+}
+
+fn folder_of(alloc: Global, other: &str, manifest: &str) -> Option<MemFolder> {
+    let mut folder = empty(alloc);
+    let mut is_filled = true;
+    if let Some(digits) = manifest.strip_prefix("0x") {
+        let bytes = hex::decode(alloc, digits).ok()?;
+        is_filled = put(&mut folder, Name::Manifest, &bytes);
+    }
+    let is_put = match other {
+        "log" => put(&mut folder, Name::Log(1), b""),
+        "table" => put(&mut folder, Name::Table(1), b""),
+        "import" => put(&mut folder, Name::Import(1), b""),
+        _ => true,
+    };
+    (is_filled && is_put).then_some(folder)
+}
+
+// Whether the line's folder is loaded as it says.
+fn is_told(alloc: Global, line: &str) -> Option<bool> {
+    let mut words = line.split(' ');
+    let answer = words.next()?;
+    let mut folder = folder_of(alloc, words.next()?, words.next()?)?;
+    let expected = match answer.strip_prefix("!") {
+        Some(at) => Err(at.parse().ok()?),
+        None => Ok(answer.parse().ok()?),
+    };
+    Some(count(alloc, &mut folder) == expected)
+}
+
+#[test]
+fn folders_are_loaded(rt: HostRuntime) {
+    for line in FOLDERS.lines() {
+        assert!(rt; is_told(rt.alloc(), line) == Some(true), "{line}");
+    }
+}
+
+// Whether the store of a real folder is made and lists a segment.
+fn is_added(rt: &HostRuntime) -> bool {
+    match folder_at(rt, "d_folder") {
+        Some(mut folder) => {
+            add_segment(rt.alloc(), &mut folder, 1).is_ok() && folder.faults() == 0
+        }
+        None => false,
+    }
+}
+
+fn is_loaded(rt: &HostRuntime) -> bool {
+    match opened(rt, "d_folder") {
+        Some(mut folder) => count(rt.alloc(), &mut folder) == Ok(2) && folder.faults() == 0,
+        None => false,
+    }
+}
+
+// The manifest of a store of one shard that lists segment 1.
+const LISTING: [u8; 39] =
+    *b"\x01CASSMAN1\x01\0\0\0\x02\0\0\0\x01\x01\x01\x01\0\0\0\x09\0\0\0\x01\x03\0\0\0\0\0\0\0\x01\0";
+
+#[test]
+fn a_store_in_a_real_folder(rt: HostRuntime) {
+    assert!(rt; is_added(&rt));
+    assert!(rt; is_loaded(&rt));
+    assert!(rt; is_written(&rt, "d_folder/manifest", &LISTING));
+    assert!(rt; fs::remove_dir_all(&rt, "d_folder").is_ok());
+}
