@@ -1,5 +1,5 @@
 -- A slice of a partition says in the slice what the partition says.
-use Rattle.std.proofs.Common.{◌≡◌, ℕ, ℤ, Bool, true, false, cond, not, ◌&&◌, Option, None, Some, List, [], ◌∷◌, ◌++◌, map, filter, Result, Ok, Err, IfOk, refl, sym, ap, ◌∙◌, subst, append_assoc}
+use Rattle.std.proofs.Common.{◌≡◌, ℕ, Bool, true, false, cond, not, ◌&&◌, Option, None, Some, List, [], ◌∷◌, ◌++◌, map, filter, Result, Ok, Err, IfOk, refl, sym, ap, ◌∙◌, subst, append_assoc}
 use Rattle.std.proofs.lemmas.Bool.{true≢false}
 use Rattle.std.proofs.lemmas.List.{append-nil}
 use Rattle.std.specs.Option.{option_cmp}
@@ -14,11 +14,13 @@ use Rattle.std.specs.Cmp.{IsTotalOrder, then_total, on_total, nat_cmp_total}
 use Rattle.std.specs.Cmp.Lexicographic.{options_total}
 use Rattle.cas_types.proofs.OrderLaws.{bytes_orders}
 use Rattle.cas_types.specs.Orders.{Orders}
+use Rattle.cas_types.specs.declared.schema.Column.{Column}
 use Rattle.cas_cell.specs.Deletions.{deletion_cmp}
 use Rattle.cas_cell.specs.Lives.{live_at, live_cmp}
 use Rattle.cas_cell.specs.Cells.{cell_at, cell_cmp}
 use Rattle.cas_cell.specs.declared.deletion.Deletion.{Deletion}
 use Rattle.cas_cell.proofs.OrderLaws.{deletion_laws, live_laws, cell_laws}
+use Rattle.cas_bounds.specs.ClusteringOrder.{clustering_order}
 use Rattle.cas_bounds.specs.Cuts.{is_inside}
 use Rattle.cas_bounds.specs.Keys.{key_cmp}
 use Rattle.cas_bounds.specs.Inner.KeyLaws.{key_total}
@@ -27,36 +29,41 @@ use Rattle.cas_bounds.specs.declared.cuts.Cut.{Cut}
 use Rattle.cas_bounds.specs.declared.cuts.Slice.{Slice}
 use Rattle.cas_bounds.specs.declared.map_key.MapKey.{MapKey}
 use Rattle.cas_atoms.specs.Greatest.{greater, greatest}
-use Rattle.cas_atoms.specs.Coordinates.{Coordinate, RowKey, row, clustered, static_row, row_of, same_row, deletion_at, live_at_row, cell_at_path}
+use Rattle.cas_atoms.specs.Coordinates.{Coordinate, RowKey, row, clustered, row_of, same_row, deletion_at, live_at_row, cell_at_path}
 use Rattle.cas_atoms.specs.Winners.{cover, standing, Same}
 use Rattle.cas_atoms.specs.declared.atom.Atom.{Atom}
 use Rattle.cas_atoms.specs.declared.atom.Atom.TheVariants.{PartitionDeletion}
-use Rattle.cas_atoms.proofs.GreatestLemmas.{greater_none, greater_comm, greater_assoc, greatest-append}
-use Rattle.cas_laws.specs.Inside.{SameWhere, SameIn, is_in}
-use Rattle.cas_laws.proofs.JoinProofs.{cover_joins, winner_is}
+use Rattle.cas_atoms.proofs.GreatestLemmas.{greater_comm, greater_assoc, greatest-append}
+use Rattle.cas_laws.specs.Inside.{SameWhere, is_in}
+use Rattle.cas_laws.proofs.JoinProofs.{cover_joins, winner_is, same_where_joins}
 use Rattle.cas_laws.proofs.ShownProofs.{equal_rows}
 use Rattle.cas_streams.specs.Places.{place_of, row_in}
-use Rattle.cas_streams.specs.Flat.{Change, atom_of, own, changes, ranges, at_end, flat}
+use Rattle.cas_streams.specs.Flat.{Change, atom_of, own, changes, ranges, flat}
 use Rattle.cas_streams.specs.Streams.{IsOrdered}
 use Rattle.cas_streams.specs.Joined.{Stream, joined_fragment, fragment_cmp}
-use Rattle.cas_streams.specs.Merged.{merged, flat_of, flats}
+use Rattle.cas_streams.specs.Merged.{merged, flats}
 use Rattle.cas_streams.specs.Laws.{is_row}
 use Rattle.cas_streams.specs.declared.fragment.Fragment.{Fragment}
 use Rattle.cas_streams.proofs.OwnRows.{Only, not_of_row, none_given}
 use Rattle.cas_streams.proofs.Joining.{Alike, alike_then, alike_both}
 use Rattle.cas_streams.proofs.Merges.{merge_is_join, merge_ordered}
 use Rattle.cas_merge.specs.Told.{told_first, streams_told}
-use Rattle.cas_partition.specs.Ranges.{key_of}
-use Rattle.cas_partition.specs.Spots.{spot_cmp, piece, said}
-use Rattle.cas_partition.specs.Partitions.{said_at, atoms_with, partition_atoms, marker, IsOf, IsRowOf}
-use Rattle.cas_partition.specs.Slices.{grouped_from, grouped, Shows, slice_streams, SlicesShow}
+use Rattle.cas_partition.specs.Ranges.{key_of, clipped}
+use Rattle.cas_partition.specs.Spots.{spot_cmp, piece}
+use Rattle.cas_partition.specs.Partitions.{said_at, partition_atoms, marker, IsOf, IsRowOf, AreIn}
+use Rattle.cas_partition.specs.Slices.{grouped_from, grouped, Shows, SlicesShow}
 use Rattle.cas_partition.specs.Ranged.{piece_of, spot_at, below_rows, statics_of, rows_between}
 use Rattle.cas_partition.specs.declared.spot.Spot.{Spot}
 use Rattle.cas_partition.specs.declared.spot.Content.{Content}
 use Rattle.cas_partition.specs.declared.partition.Partition.{Partition}
-use Rattle.cas_partition.proofs.Spots.{alike_itself, alike_is, in_front, at_back, Rows}
-use Rattle.cas_partition.proofs.Taking.{marked}
-use Rattle.cas_partition.proofs.Slicing.{grouped_alike, grouped_ordered, Weak, OfRow, pieces_of, kept_rows, kept_weak, cross, no_key, past_key}
+use Rattle.cas_partition.proofs.Spots.{alike_itself, alike_is, in_front, Rows}
+use Rattle.cas_partition.proofs.Taking.{marked, rising}
+use Rattle.cas_partition.proofs.Slicing.{grouped_alike, grouped_ordered, Weak, pieces_of, kept_rows, kept_weak, cross, no_key, past_key}
+use Rattle.cas_streams.proofs.Formed.{Tabled}
+use Rattle.cas_streams.specs.Slices.{cut_to}
+use Rattle.cas_streams.proofs.Cutting.{cut_keeps_the_slice}
+use Rattle.cas_partition.proofs.Clipping.{clipped_is_cut}
+use Rattle.cas_partition.proofs.Forming.{pieces_have, kept_in_table, grouped_have, markers_have, merge_forms}
 
 abbrev Entries : Type 0
 Entries = List (Spot × Content)
@@ -236,6 +243,19 @@ rows_ordered order lo hi es sorted rows =
     (kept_weak order (λ e. true && not (is_le (spot_cmp (spot_at below_rows) e.0))) es sorted rows)
     (kept_weak order (λ e. is_le (spot_cmp (spot_at (key_of lo)) e.0) && not (is_le (spot_cmp (spot_at (key_of hi)) e.0))) es sorted rows)))
 
+append_in : (columns : List Column) (A B : Entries) → AreIn columns A → AreIn columns B → AreIn columns (A ++ B)
+append_in columns [] B a b = b
+append_in columns (e ∷ A) B a b = (a.0, append_in columns A B a.1 b)
+
+rows_have : (columns : List Column) (lo hi : Cut) (es : Entries) → AreIn columns es
+    → AllByRecursion (Tabled columns) (grouped None (map piece_of (statics_of es ++ rows_between lo hi es)))
+rows_have columns lo hi es all =
+    let S : Entries = statics_of es in
+    let B : Entries = rows_between lo hi es in
+    grouped_have columns (map piece_of (S ++ B)) (pieces_have columns (S ++ B)
+    (append_in columns S B (kept_in_table columns (λ e. true && not (is_le (spot_cmp (spot_at below_rows) e.0))) es all)
+    (kept_in_table columns (λ e. is_le (spot_cmp (spot_at (key_of lo)) e.0) && not (is_le (spot_cmp (spot_at (key_of hi)) e.0))) es all)))
+
 -- ---- what the program gathers
 
 spot_total : IsTotalOrder spot_cmp
@@ -283,25 +303,53 @@ no_own (m ∷ ms) = no_own ms
 
 pub shows : (s : Slice) (p : Partition) (rows : List Fragment) (top : Option Deletion) (fs : List Fragment) → IsStrictlySortedBy spot_cmp (keys_of p.spots.entries)
     → rows ≡ grouped None (map piece_of (statics_of p.spots.entries ++ rows_between s.lo s.hi p.spots.entries))
-    → top ≡ (merged (record { top = p.top; fragments = rows } ∷ record { top = None; fragments = map marker p.ranges } ∷ [])).top
-    → fs ≡ (merged (record { top = p.top; fragments = rows } ∷ record { top = None; fragments = map marker p.ranges } ∷ [])).fragments
+    → top ≡ (merged (record { top = p.top; fragments = rows } ∷ record { top = None; fragments = map marker (clipped s p.ranges) } ∷ [])).top
+    → fs ≡ (merged (record { top = p.top; fragments = rows } ∷ record { top = None; fragments = map marker (clipped s p.ranges) } ∷ [])).fragments
     → Shows s p top fs
 shows s p rows top fs sorted e t f = subst (λ d. Shows s p d fs) (sym t) (subst (λ l. Shows s p (merged ss).top l) (sym f) (record {
-  ordered = λ order of low high. merge_ordered order ss (both order of);
-  same = λ order of low high. chained (merge_is_join order ss (both order of)) (in_same s (flats ss) (partition_atoms p) (all_say order of low high));
+  ordered = λ order of low high. merge_ordered order ss (both order of low high);
+  same = λ order of low high. chained (merge_is_join order ss (both order of low high)) (in_slice order of low high);
+  formed = λ columns t low high. merge_forms columns ss (both (clustering_order columns) t.of low high)
+      (subst (AllByRecursion (Tabled columns)) (sym e) (rows_have columns s.lo s.hi p.spots.entries t.entries), (markers_have columns (clipped s p.ranges), tt));
 }))
   where
+    with_markers : List Change → List Stream
+    with_markers ms = record { top = p.top; fragments = rows } ∷ record { top = None; fragments = map marker ms } ∷ []
+
     ss : List Stream
-    ss = record { top = p.top; fragments = rows } ∷ record { top = None; fragments = map marker p.ranges } ∷ []
+    ss = with_markers (clipped s p.ranges)
 
     in_rows : (order : List Ordered) → IsOf order p → IsOrdered order rows × (changes rows ≡ [])
     in_rows order of = subst (λ l. IsOrdered order l × (changes l ≡ [])) (sym e) (rows_ordered order s.lo s.hi p.spots.entries sorted of.rows)
 
-    both : (order : List Ordered) → IsOf order p → AllByRecursion (λ z. IsOrdered order z.fragments) ss
-    both order of = ((in_rows order of).0, (of.marks, tt))
+    cut : (order : List Ordered) → IsOf order p → s.lo.order ≡ order → s.hi.order ≡ order → map marker (clipped s p.ranges) ≡ cut_to s (map marker p.ranges)
+    cut order of low high = clipped_is_cut order s low high p.ranges (rising order p.ranges of.marks)
+
+    both : (order : List Ordered) → IsOf order p → s.lo.order ≡ order → s.hi.order ≡ order → AllByRecursion (λ z. IsOrdered order z.fragments) ss
+    both order of low high = (
+      (in_rows order of).0,
+      (subst (IsOrdered order) (sym (cut order of low high)) (cut_keeps_the_slice.ordered order s (map marker p.ranges) (record { lo = low; hi = high }) of.marks), tt),
+    )
 
     chained : {A B C : List Atom} → Same A B → SameWhere (is_in s) B C → SameWhere (is_in s) A C
     chained a b = record { covers = λ x i. a.covers x ∙ b.covers x i; lives = λ c i. a.lives c ∙ b.lives c i; cells = λ x i. a.cells x ∙ b.cells x i }
+
+    then_in : {A B C : List Atom} → SameWhere (is_in s) A B → SameWhere (is_in s) B C → SameWhere (is_in s) A C
+    then_in a b = record { covers = λ x i. a.covers x i ∙ b.covers x i; lives = λ c i. a.lives c i ∙ b.lives c i; cells = λ x i. a.cells x i ∙ b.cells x i }
+
+    itself : (A : List Atom) → SameWhere (is_in s) A A
+    itself A = record { covers = λ x i. refl; lives = λ c i. refl; cells = λ x i. refl }
+
+    -- the markers in the slice say there what all markers say
+    cut_says : (order : List Ordered) → IsOf order p → s.lo.order ≡ order → s.hi.order ≡ order → SameWhere (is_in s) (flats ss) (flats (with_markers p.ranges))
+    cut_says order of low high =
+        let C : List Atom = flat None (map marker (clipped s p.ranges)) in
+        let M : List Atom = flat None (map marker p.ranges) in
+        let R : List Atom = flat p.top rows in
+        let one : SameWhere (is_in s) C M =
+        subst (λ l. SameWhere (is_in s) (flat None l) M) (sym (cut order of low high)) (cut_keeps_the_slice.same order s None (map marker p.ranges) (record { lo = low; hi = high }) of.marks) in
+        same_where_joins (is_in s) R R (C ++ []) (M ++ []) (itself R)
+        (subst (λ l. SameWhere (is_in s) l (M ++ [])) (sym (append-nil C)) (subst (λ l. SameWhere (is_in s) C l) (sym (append-nil M)) one))
 
     regroup : (T G R : List Atom) → (T ++ G) ++ (R ++ []) ≡ T ++ (G ++ R)
     regroup T G R = ap (λ l. (T ++ G) ++ l) (append-nil R) ∙ append_assoc T G R
@@ -309,19 +357,22 @@ shows s p rows top fs sorted e t f = subst (λ d. Shows s p d fs) (sym t) (subst
     swap : (G R : List Atom) → Alike (G ++ R) (R ++ G)
     swap G R = alike_then (alike_is (G ++ R) (G ++ (R ++ [])) (ap (λ l. G ++ l) (sym (append-nil R)))) (alike_then (in_front G [] G (R ++ []) (alike_itself G)) (alike_is ((R ++ []) ++ G) (R ++ G) (ap (λ l. l ++ G) (append-nil R))))
 
-    all_say : (order : List Ordered) → IsOf order p → s.lo.order ≡ order → s.hi.order ≡ order → AlikeIn s (flats ss) (partition_atoms p)
+    all_say : (order : List Ordered) → IsOf order p → s.lo.order ≡ order → s.hi.order ≡ order → AlikeIn s (flats (with_markers p.ranges)) (partition_atoms p)
     all_say order of low high =
         let T : List Atom = atom_of PartitionDeletion p.top in
         let G : List Atom = flat_map own rows in
         let R : List Atom = ranges p.ranges in
-        let flat_rows : flats ss ≡ T ++ (G ++ R) =
+        let flat_rows : flats (with_markers p.ranges) ≡ T ++ (G ++ R) =
         (λ i. (T ++ (ranges ((in_rows order of).1 i) ++ G)) ++ ((ranges (marked p.ranges i) ++ no_own p.ranges i) ++ []))
         ∙ ap (λ l. (T ++ G) ++ (l ++ [])) (append-nil R) ∙ regroup T G R in
-        in_then s (flats ss) (T ++ (R ++ G)) (partition_atoms p)
-        (everywhere s (flats ss) (T ++ (R ++ G)) (alike_then (alike_is (flats ss) (T ++ (G ++ R)) flat_rows) (alike_both (alike_itself T) (swap G R))))
+        in_then s (flats (with_markers p.ranges)) (T ++ (R ++ G)) (partition_atoms p)
+        (everywhere s (flats (with_markers p.ranges)) (T ++ (R ++ G)) (alike_then (alike_is (flats (with_markers p.ranges)) (T ++ (G ++ R)) flat_rows) (alike_both (alike_itself T) (swap G R))))
         (behind_same s T (R ++ G) (R ++ said_at p.spots.entries)
         (behind_same s R G (said_at p.spots.entries)
         (subst (λ l. AlikeIn s (flat_map own l) (said_at p.spots.entries)) (sym e) (rows_say order s p.spots.entries low high of.rows))))
+
+    in_slice : (order : List Ordered) → IsOf order p → s.lo.order ≡ order → s.hi.order ≡ order → SameWhere (is_in s) (flats ss) (partition_atoms p)
+    in_slice order of low high = then_in (cut_says order of low high) (in_same s (flats (with_markers p.ranges)) (partition_atoms p) (all_say order of low high))
 
 pub slices_show : SlicesShow
 slices_show s p sorted = shows s p _ _ _ sorted refl refl refl

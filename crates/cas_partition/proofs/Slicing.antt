@@ -1,54 +1,43 @@
 -- The pieces of a partition put together row by row: ordered, and alike to all of them; and which of them a slice wants.
-use Rattle.std.proofs.Common.{◌≡◌, ℕ, Bool, true, false, cond, not, ◌&&◌, Option, None, Some, List, [], ◌∷◌, ◌++◌, map, filter, refl, sym, ap, ◌∙◌, subst, append_assoc}
+use Rattle.std.proofs.Common.{◌≡◌, ℕ, Bool, true, false, cond, Option, None, Some, List, [], ◌∷◌, ◌++◌, map, filter, refl, sym, ap, ◌∙◌, subst, append_assoc}
 use Rattle.std.proofs.lemmas.Bool.{true≢false}
 use Rattle.std.specs.Option.{option_cmp}
-use Rattle.std.specs.Cmp.{Equal-is, IsTotalOrder}
+use Rattle.std.specs.Cmp.{Equal-is}
 use Rattle.std.specs.List.{AllByRecursion, flat_map}
 use Rattle.std.specs.List.Sorted.{IsStrictlySortedBy}
 use Rattle.std.specs.Map.{keys_of}
 use Rattle.std.specs.declared.cmp.Ordering.{Ordering}
 use Rattle.std.specs.declared.cmp.Ordering.TheVariants.{Less, Equal, Greater}
 use Rattle.std.specs.Ordering.{is_lt, is_gt, is_eq, is_le, ordering_then, ordering_reverse}
-use Rattle.cas_types.specs.Orders.{Orders}
-use Rattle.cas_cell.specs.Lives.{live_cmp}
-use Rattle.cas_cell.specs.Cells.{cell_cmp}
 use Rattle.cas_cell.proofs.OrderLaws.{live_laws, cell_laws}
-use Rattle.cas_bounds.specs.Cuts.{is_past, is_inside}
-use Rattle.cas_bounds.specs.Points.{Point, point_cmp, row_point, cut_point, side}
+use Rattle.cas_bounds.specs.Cuts.{is_past}
+use Rattle.cas_bounds.specs.Points.{point_cmp, row_point, cut_point, side}
 use Rattle.cas_bounds.specs.Keys.{key_cmp, key_point}
 use Rattle.cas_bounds.specs.Inner.KeyLaws.{keys_are_points}
 use Rattle.cas_bounds.specs.declared.order.Ordered.{Ordered}
 use Rattle.cas_bounds.specs.declared.cuts.Cut.{Cut}
-use Rattle.cas_bounds.specs.declared.cuts.Slice.{Slice}
 use Rattle.cas_bounds.specs.declared.map_key.End.{End}
 use Rattle.cas_bounds.specs.declared.map_key.End.TheVariants.{Before, Row, After}
 use Rattle.cas_bounds.specs.declared.map_key.MapKey.{MapKey}
 use Rattle.cas_bounds.proofs.CutLaws.{point_laws}
-use Rattle.cas_atoms.specs.Greatest.{greater, greatest}
-use Rattle.cas_atoms.specs.Coordinates.{Coordinate, RowKey, clustered, static_row, same_row, live_at_row, cell_at_path}
-use Rattle.cas_atoms.specs.Winners.{cover}
-use Rattle.cas_atoms.specs.declared.atom.Atom.{Atom}
-use Rattle.cas_atoms.proofs.GreatestLemmas.{greater_none, greater_comm, greater_assoc, greatest-append}
-use Rattle.cas_laws.specs.Inside.{is_in}
+use Rattle.cas_atoms.specs.Coordinates.{live_at_row, cell_at_path}
+use Rattle.cas_atoms.proofs.GreatestLemmas.{greatest-append}
 use Rattle.cas_laws.proofs.JoinProofs.{cover_joins}
-use Rattle.cas_laws.proofs.ShownProofs.{equal_rows}
-use Rattle.cas_streams.specs.Places.{Place, place_cmp, place_of, row_in}
+use Rattle.cas_streams.specs.Places.{Place, place_cmp, place_of}
 use Rattle.cas_streams.specs.Flat.{own, changes, at_end}
 use Rattle.cas_streams.specs.Streams.{IsOf as IsFragmentOf, IsOrdered}
 use Rattle.cas_streams.specs.Joined.{joined_fragment, fragment_cmp}
-use Rattle.cas_streams.specs.Laws.{is_row}
 use Rattle.cas_streams.specs.declared.fragment.Fragment.{Fragment}
 use Rattle.cas_streams.specs.declared.fragment.Fragment.TheVariants as fragment
 use Rattle.cas_streams.proofs.Weaves.{Ascend, keys_ascend}
 use Rattle.cas_streams.proofs.Twins.{Twins, twins, same_place, twins_delete, twins_live, twins_write}
 use Rattle.cas_streams.proofs.Forces.{as_places, places_total}
-use Rattle.cas_streams.proofs.OwnRows.{Only, not_of_row, none_given}
 use Rattle.cas_streams.proofs.Joining.{Alike, alike_then, alike_both}
 use Rattle.cas_partition.specs.Ranges.{key_of}
-use Rattle.cas_partition.specs.Spots.{spot_cmp, piece, said}
-use Rattle.cas_partition.specs.Partitions.{said_at, IsRowOf}
+use Rattle.cas_partition.specs.Spots.{spot_cmp, piece}
+use Rattle.cas_partition.specs.Partitions.{IsRowOf}
 use Rattle.cas_partition.specs.Slices.{grouped_from, grouped}
-use Rattle.cas_partition.specs.Ranged.{piece_of, spot_at, below_rows, statics_of, rows_between}
+use Rattle.cas_partition.specs.Ranged.{piece_of, below_rows}
 use Rattle.cas_partition.specs.declared.spot.Spot.{Spot}
 use Rattle.cas_partition.specs.declared.spot.Content.{Content}
 use Rattle.cas_partition.proofs.Spots.{alike_itself, alike_is, Rows}

@@ -210,7 +210,7 @@ impl Partition {
             × Shows slice.now self.now (⟦<Merger<Part> as FragmentSource>⟧.over_all m) fs) }
     {
         let rows = rows_in(alloc, &self.spots, slice)?;
-        let marks = self.ranges.markers(alloc)?;
+        let marks = self.ranges.markers(alloc, slice)?;
         let mut parts = Vec::new(alloc);
         parts.push(Part::new(self.top, rows))?;
         parts.push(Part::new(None, marks))?;
