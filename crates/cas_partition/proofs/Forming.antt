@@ -3,8 +3,6 @@ use Rattle.std.proofs.Common.{◌≡◌, ℕ, Bool, true, false, cond, Option, N
 use Rattle.std.proofs.lemmas.Option.{none-some}
 use Rattle.std.specs.List.{AllByRecursion, cons_option}
 use Rattle.std.specs.List.Sorted.{IsStrictlySortedBy}
-use Rattle.std.specs.Cmp.{Equal-is}
-use Rattle.std.specs.Ordering.{is_eq}
 use Rattle.std.specs.declared.cmp.Ordering.{Ordering}
 use Rattle.cas_types.specs.Schemas.{is_static, is_regular}
 use Rattle.cas_types.specs.declared.schema.Column.{Column}
@@ -20,7 +18,7 @@ use Rattle.cas_atoms.specs.declared.row.Row.{Row}
 use Rattle.cas_atoms.specs.declared.row.RowColumn.{RowColumn}
 use Rattle.cas_streams.specs.Flat.{Change, own}
 use Rattle.cas_streams.specs.Streams.{IsOrdered, IsThere, AreColumns, IsFragment, WellFormed}
-use Rattle.cas_streams.specs.Joined.{Stream, raised, joined_fragment, fragment_cmp, by_place}
+use Rattle.cas_streams.specs.Joined.{Stream, raised, joined_fragment, by_place}
 use Rattle.cas_streams.specs.Settled.{if_said, bare_columns, bare_row, same_force, settled_from}
 use Rattle.cas_streams.specs.Merged.{Draw, nobody, one, pair, draw, joined_all, merged}
 use Rattle.cas_streams.specs.declared.fragment.Fragment.{Fragment}
@@ -34,8 +32,9 @@ use Rattle.cas_streams.proofs.Settling.{settled_differ}
 use Rattle.cas_streams.proofs.Merges.{Each, all_drawn, merge_ordered}
 use Rattle.cas_partition.specs.Spots.{cells_at, columns_at, piece}
 use Rattle.cas_partition.specs.Partitions.{marker, kept_in, IsColumnIn, IsIn, AreIn}
-use Rattle.cas_partition.specs.Slices.{grouped_from, grouped}
+use Rattle.cas_partition.specs.Slices.{Halves, pieces_in, rows_by}
 use Rattle.cas_partition.specs.Ranged.{piece_of}
+use Rattle.cas_partition.proofs.Slicing.{halves_each}
 use Rattle.cas_partition.specs.declared.spot.Spot.{Spot}
 use Rattle.cas_partition.specs.declared.spot.Content.{Content}
 
@@ -92,17 +91,8 @@ module _ (columns : List Column) where
   joined_has (fragment.Marker cut d) (fragment.Marker other e) t h k = tt
   joined_has f g t h k = absurd t
 
-  from_have : (f : Fragment) (gs : List Fragment) → Tabled columns f → AllByRecursion (Tabled columns) gs → AllByRecursion (Tabled columns) (grouped_from f gs)
-  from_have f [] h all = (h, tt)
-  from_have f (g ∷ gs) h all =
-      elim (is_eq (fragment_cmp f g)) as (λ b. is_eq (fragment_cmp f g) ≡ b → AllByRecursion (Tabled columns) (cond b (grouped_from (joined_fragment f g) gs) (f ∷ grouped_from g gs))) [
-        | true ↦ λ e. from_have (joined_fragment f g) gs (joined_has f g (twins f g ((Equal-is (fragment_cmp f g)).0 e)) h all.0) all.1
-        | false ↦ λ e. (h, from_have g gs all.0 all.1)
-      ] refl
-
-  pub grouped_have : (fs : List Fragment) → AllByRecursion (Tabled columns) fs → AllByRecursion (Tabled columns) (grouped None fs)
-  grouped_have [] all = tt
-  grouped_have (f ∷ fs) all = from_have f fs all.0 all.1
+  pub rows_have : (h : Halves) → AllByRecursion (Tabled columns) (pieces_in h) → AllByRecursion (Tabled columns) (rows_by h)
+  rows_have h all = halves_each (Tabled columns) joined_has h all
 
   pub markers_have : (ms : List Change) → AllByRecursion (Tabled columns) (map marker ms)
   markers_have [] = tt
