@@ -1,24 +1,22 @@
 -- What calls on the map of partitions do to what a memtable says.
-use Rattle.std.proofs.Common.{◌≡◌, ℕ, ℤ, Bool, true, false, cond, Option, None, Some, is_some, IsSome, List, [], ◌∷◌, ◌++◌, Result, Ok, Err, OnOk, OnErr, ◌⊎◌, inl, inr, refl, sym, ap, ◌∙◌, subst}
+use Rattle.std.proofs.Common.{◌≡◌, ℕ, ℤ, true, false, cond, Option, None, Some, is_some, IsSome, List, ◌++◌, Result, Ok, Err, OnOk, ◌⊎◌, inl, inr, refl, sym, ap, ◌∙◌, subst}
 use Rattle.std.proofs.lemmas.Bool.{true≢false}
 use Rattle.std.proofs.lemmas.Option.{none-some}
 use Rattle.std.proofs.lemmas.Cmp.{tied_itself}
 use Rattle.std.specs.Option.{unwrap_or}
 use Rattle.std.specs.Cmp.{Equal-is}
-use Rattle.std.specs.Map.{lookup}
-use Rattle.std.specs.BTreeMap.{is_at}
 use Rattle.std.specs.Ordering.{is_eq}
-use Rattle.std.specs.declared.cmp.Ordering.TheVariants.{Equal}
 use Rattle.cas_types.specs.Values.{bytes_cmp}
+use Rattle.cas_types.specs.declared.schema.Column.{Column}
 use Rattle.cas_types.proofs.OrderLaws.{bytes_orders}
 use Rattle.cas_bounds.specs.declared.order.Ordered.{Ordered}
 use Rattle.cas_atoms.specs.Winners.{Same}
 use Rattle.cas_atoms.specs.declared.atom.Atom.{Atom}
 use Rattle.cas_atoms.specs.declared.atom.Mutation.{Mutation}
-use Rattle.cas_partition.specs.Partitions.{partition_atoms, IsOf, AreAtomsOf, HavePlaces, JoinsAll}
-use Rattle.cas_partition.specs.Partitions.{MakesPlaces as MakesIn}
+use Rattle.cas_partition.specs.Partitions.{partition_atoms, IsOf, HavePlaces, JoinsAll}
+use Rattle.cas_partition.specs.Partitions.{MakesPlaces as MakesIn, IsOfTable as IsPartitionOf}
 use Rattle.cas_partition.specs.declared.partition.Partition.{Partition}
-use Rattle.cas_memtable.specs.Memtables.{held_at, atoms_held, atoms_of, least_held, least_of, least_with, bytes_with, IsOfTable, PlacesIn, HasPlaces, MakesPlaces, Joins}
+use Rattle.cas_memtable.specs.Memtables.{held_at, atoms_held, atoms_of, least_held, least_with, bytes_with, IsOfTable, IsOfColumns, PlacesIn, HasPlaces, MakesPlaces, Joins}
 use Rattle.cas_memtable.specs.Inner.Steps.{IsBlank, StaysOrBlank, Puts, ReservesAt, AppliesAt}
 use Rattle.cas_memtable.specs.declared.memtable.Held.{Held}
 use Rattle.cas_memtable.specs.declared.memtable.MemPart.{MemPart}
@@ -71,10 +69,12 @@ stays_least (Some h) p e = ap least_held e
 stays_least None p (inl e) = ap least_held e
 stays_least None p (inr b) = ap least_held b.1 ∙ b.2.least
 
-stays_of : (order : List Ordered) (o p : Option Held) → StaysOrBlank o p → ((h : Held) → o ≡ Some h → IsOf order h.partition) → (g : Held) → p ≡ Some g → IsOf order g.partition
-stays_of order (Some h) p e all g is = subst (λ k. IsOf order k.partition) (ap (λ o. unwrap_or o h) (sym e ∙ is)) (all h refl)
-stays_of order None p (inl e) all g is = absurd (none-some g (sym e ∙ is))
-stays_of order None p (inr b) all g is = subst (λ k. IsOf order k.partition) (ap (λ o. unwrap_or o b.0) (sym b.1 ∙ is)) (b.2.of order)
+-- a fact of each partition that a blank one has, too
+stays_fact : (P : Partition → Type 0) → ((h : Held) → IsBlank h → P h.partition) → (o p : Option Held) → StaysOrBlank o p → ((h : Held) → o ≡ Some h → P h.partition)
+    → (g : Held) → p ≡ Some g → P g.partition
+stays_fact P blank (Some h) p e all g is = subst (λ k. P k.partition) (ap (λ o. unwrap_or o h) (sym e ∙ is)) (all h refl)
+stays_fact P blank None p (inl e) all g is = absurd (none-some g (sym e ∙ is))
+stays_fact P blank None p (inr b) all g is = subst (λ k. P k.partition) (ap (λ o. unwrap_or o b.0) (sym b.1 ∙ is)) (blank b.0 b.2)
 
 -- ---- what is written through at a key
 
@@ -125,7 +125,8 @@ module _ {E : Type 0} (w : Mutation) (m n : MemPart) (mid : Look) (result : Resu
   pub only_blank : ((q : List ℕ) → held_at n q ≡ mid q) → MakesPlaces w m n
   only_blank same = record {
     same = λ order of atoms q. same_is (atoms_of n q) (atoms_of m q) (ap atoms_held (same q) ∙ stays_atoms (held_at m q) (mid q) (kept q));
-    of = λ order of atoms q g is. stays_of order (held_at m q) (mid q) (kept q) (of q) g (sym (same q) ∙ is);
+    of = λ order of atoms q g is. stays_fact (IsOf order) (λ h b. b.of order) (held_at m q) (mid q) (kept q) (of q) g (sym (same q) ∙ is);
+    fits = λ columns t fit q g is. stays_fact (IsPartitionOf columns) (λ h b. b.table columns) (held_at m q) (mid q) (kept q) (t q) g (sym (same q) ∙ is);
     least = λ q. ap least_held (same q) ∙ stays_least (held_at m q) (mid q) (kept q);
     bytes = bytes;
   }
@@ -145,7 +146,10 @@ module _ {E : Type 0} (w : Mutation) (m n : MemPart) (mid : Look) (result : Resu
     makes_all =
         let (h, is) = held_there (mid w.key) there in
         let r : ReservesAt w.key w.atoms h mid (held_at n) result = reserved h is in
-        let of_mid : (order : List Ordered) → IsOfTable order m → (q : List ℕ) (g : Held) → mid q ≡ Some g → IsOf order g.partition = λ order of q g e. stays_of order (held_at m q) (mid q) (kept q) (of q) g e in
+        let of_mid : (order : List Ordered) → IsOfTable order m → (q : List ℕ) (g : Held) → mid q ≡ Some g → IsOf order g.partition =
+        λ order of q g e. stays_fact (IsOf order) (λ b blank. blank.of order) (held_at m q) (mid q) (kept q) (of q) g e in
+        let table_mid : (columns : List Column) → IsOfColumns columns m → (q : List ℕ) (g : Held) → mid q ≡ Some g → IsPartitionOf columns g.partition =
+        λ columns t q g e. stays_fact (IsPartitionOf columns) (λ b blank. blank.table columns) (held_at m q) (mid q) (kept q) (t q) g e in
         record {
           same = λ order of atoms q. elim (at_key w.key q r.held mid (held_at n) r.puts) [
             | inl hit ↦
@@ -157,6 +161,10 @@ module _ {E : Type 0} (w : Mutation) (m n : MemPart) (mid : Look) (result : Resu
           of = λ order of atoms q g e. elim (at_key w.key q r.held mid (held_at n) r.puts) [
             | inl hit ↦ subst (λ k. IsOf order k.partition) (ap (λ o. unwrap_or o g) (sym hit.1 ∙ e)) (r.makes.of order (of_mid order of w.key h is) atoms)
             | inr miss ↦ of_mid order of q g (sym miss.1 ∙ e)
+          ];
+          fits = λ columns t fit q g e. elim (at_key w.key q r.held mid (held_at n) r.puts) [
+            | inl hit ↦ subst (λ k. IsPartitionOf columns k.partition) (ap (λ o. unwrap_or o g) (sym hit.1 ∙ e)) (r.makes.fits columns (table_mid columns t w.key h is) fit)
+            | inr miss ↦ table_mid columns t q g (sym miss.1 ∙ e)
           ];
           least = λ q. elim (at_key w.key q r.held mid (held_at n) r.puts) [
             | inl hit ↦
@@ -183,6 +191,10 @@ joins_all w m n places applied bytes =
       of = λ order of atoms q g e. elim (at_key w.key q r.held (held_at m) (held_at n) r.puts) [
         | inl hit ↦ subst (λ k. IsOf order k.partition) (ap (λ o. unwrap_or o g) (sym hit.1 ∙ e)) (r.joins.of order (of w.key h is) atoms)
         | inr miss ↦ of q g (sym miss.1 ∙ e)
+      ];
+      fits = λ columns t fit q g e. elim (at_key w.key q r.held (held_at m) (held_at n) r.puts) [
+        | inl hit ↦ subst (λ k. IsPartitionOf columns k.partition) (ap (λ o. unwrap_or o g) (sym hit.1 ∙ e)) (r.joins.fits columns (t w.key h is) fit)
+        | inr miss ↦ t q g (sym miss.1 ∙ e)
       ];
       least = ap least_held now ∙ r.least ∙ ap (λ o. least_with (least_held o) w.atoms) (sym is);
       others = λ q apart. elim (at_key w.key q r.held (held_at m) (held_at n) r.puts) [

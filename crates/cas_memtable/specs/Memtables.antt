@@ -1,8 +1,10 @@
 -- What a memtable says, partition by partition.
 -- Cassandra documentation, "Storage engine: memtables"; that it has the least timestamp of all that was written is own.
-use Rattle.std.specs.Prelude.{◌≡◌, ℕ, ℤ, int_lt, ◌+◌, ◌-◌, ◌^◌, min, Bool, true, Option, None, Some, List, [], ◌∷◌, ◌++◌, if◌then◌else◌}
+use Rattle.std.specs.Prelude.{◌≡◌, ℕ, ℤ, int_lt, ◌+◌, ◌-◌, ◌^◌, min, Bool, true, false, Option, None, Some, IsSome, List, [], ◌∷◌, ◌++◌, if◌then◌else◌}
 use Rattle.std.specs.BTreeMap.{get}
+use Rattle.std.specs.Ordering.{is_lt, is_gt}
 use Rattle.cas_types.specs.Values.{bytes_cmp}
+use Rattle.cas_types.specs.declared.schema.Column.{Column}
 use Rattle.cas_cell.specs.declared.deletion.Deletion.{Deletion}
 use Rattle.cas_bounds.specs.declared.order.Ordered.{Ordered}
 use Rattle.cas_bounds.specs.declared.cuts.Slice.{Slice}
@@ -13,7 +15,8 @@ use Rattle.cas_atoms.specs.declared.atom.Atom.{Atom}
 use Rattle.cas_atoms.specs.declared.atom.Mutation.{Mutation}
 use Rattle.cas_streams.specs.declared.fragment.Fragment.{Fragment}
 use Rattle.cas_partition.specs.Slices.{Shows}
-use Rattle.cas_partition.specs.Partitions.{partition_atoms, IsOf, AreAtomsOf, HavePlaces}
+use Rattle.cas_partition.specs.Partitions.{partition_atoms, IsOf, AreAtomsOf, AllFit, HavePlaces}
+use Rattle.cas_partition.specs.Partitions.{IsOfTable as IsPartitionOf}
 use Rattle.cas_memtable.specs.declared.memtable.Held.{Held}
 use Rattle.cas_memtable.specs.declared.memtable.MemPart.{MemPart}
 
@@ -58,9 +61,29 @@ added bytes (a ∷ atoms) length = min (bytes + length) (2 ^ 64 - 1)
 abbrev pub bytes_with : ℕ → Mutation → ℕ
 bytes_with bytes m = added bytes m.atoms (record_length m)
 
+-- ---- scans
+
+-- the key stands above that one, if there is one
+abbrev pub is_above : Option (List ℕ) → List ℕ → Bool
+is_above None key = true
+is_above (Some after) key = is_lt (bytes_cmp after key)
+
+-- the least key above that one, or of all, under which the memtable has atoms; none where there is none
+abbrev pub IsNextKey : MemPart → Option (List ℕ) → Option (List ℕ) → Type 0
+IsNextKey m after None = (key : List ℕ) → is_above after key ≡ true → least_of m key ≡ None
+IsNextKey m after (Some next) =
+    (is_above after next ≡ true) × IsSome (least_of m next)
+    × ((key : List ℕ) → is_above after key ≡ true → IsSome (least_of m key) → is_gt (bytes_cmp next key) ≡ false)
+
+-- ---- what calls do
+
 -- each partition is of a table that orders its rows so
 abbrev pub IsOfTable : List Ordered → MemPart → Type 0
 IsOfTable order m = (key : List ℕ) (h : Held) → held_at m key ≡ Some h → IsOf order h.partition
+
+-- and with these columns
+abbrev pub IsOfColumns : List Column → MemPart → Type 0
+IsOfColumns columns m = (key : List ℕ) (h : Held) → held_at m key ≡ Some h → IsPartitionOf columns h.partition
 
 -- the mutation's atoms have their places
 abbrev pub PlacesIn : Option Held → List Atom → Type 0
@@ -75,6 +98,7 @@ HasPlaces m w = PlacesIn (held_at m w.key) w.atoms
 pub record MakesPlaces (w : Mutation) (m n : MemPart) : Type 0 where
   pub same : (order : List Ordered) → IsOfTable order m → AreAtomsOf order w.atoms → (key : List ℕ) → Same (atoms_of n key) (atoms_of m key)
   pub of : (order : List Ordered) → IsOfTable order m → AreAtomsOf order w.atoms → IsOfTable order n
+  pub fits : (columns : List Column) → IsOfColumns columns m → AllFit columns w.atoms → IsOfColumns columns n
   pub least : (key : List ℕ) → least_of n key ≡ least_of m key
   pub bytes : n.bytes ≡ m.bytes
 
@@ -82,6 +106,7 @@ pub record MakesPlaces (w : Mutation) (m n : MemPart) : Type 0 where
 pub record Joins (w : Mutation) (m n : MemPart) : Type 0 where
   pub joined : (order : List Ordered) → IsOfTable order m → AreAtomsOf order w.atoms → Same (atoms_of n w.key) (atoms_of m w.key ++ w.atoms)
   pub of : (order : List Ordered) → IsOfTable order m → AreAtomsOf order w.atoms → IsOfTable order n
+  pub fits : (columns : List Column) → IsOfColumns columns m → AllFit columns w.atoms → IsOfColumns columns n
   pub least : least_of n w.key ≡ least_with (least_of m w.key) w.atoms
   pub others : (key : List ℕ) → (key ≡ w.key → ⊥) → held_at n key ≡ held_at m key
   pub bytes : n.bytes ≡ bytes_with m.bytes w

@@ -1,11 +1,14 @@
 //! The partitions of a table in memory.
 
 ghost use Rattle.std.specs.Prelude.{◌≡◌, ℕ, Some, None, List as ListOf, IfOk, OnOk, IsSome};
+ghost use Rattle.std.specs.Option.{option_copied};
 ghost use Rattle.std.specs.BTreeMap.{get};
+ghost use Rattle.std.specs.BTreeMap.Range.{is_from_start};
+ghost use Rattle.std.specs.Range.Bound.{bound_map};
 ghost use Rattle.cas_types.specs.Values.{bytes_cmp};
 ghost use Rattle.cas_atoms.specs.Coordinates.{atom_at};
-ghost use Rattle.cas_memtable.specs.Memtables.{held_at, least_of, earlier, least_with, bytes_with, PlacesIn, HasPlaces, MakesPlaces, Joins, GivesPart};
-ghost use Rattle.cas_memtable.specs.Inner.Steps.{StaysOrBlank, ReservesAt, AppliesAt};
+ghost use Rattle.cas_memtable.specs.Memtables.{held_at, least_of, earlier, least_with, bytes_with, PlacesIn, HasPlaces, MakesPlaces, Joins, GivesPart, is_above, IsNextKey};
+ghost use Rattle.cas_memtable.specs.Inner.Steps.{StaysOrBlank, ReservesAt, AppliesAt, first_key};
 
 use cas_atoms::{Atom, Mutation, length};
 use cas_bounds::Slice;
@@ -15,6 +18,8 @@ use cas_streams::{FragmentSource, Part};
 use cas_types::{Bytes, List};
 use std::alloc::{AllocError, Global};
 use std::collections::BTreeMap;
+use std::collections::btree_map::Range;
+use std::ops::Bound;
 
 /// A partition, and the least timestamp of all atoms that were joined to it.
 #[derive(Drop)]
@@ -126,6 +131,29 @@ fn apply_atoms(partitions: &mut BTreeMap<Bytes, Held>, key: &Bytes, atoms: List<
     }
 }
 
+// What begins right behind the key, or at the first one of all.
+fn behind(key: Option<&Bytes>) -> Bound<&Bytes>
+    ensures { (q : ListOf ℕ) → is_from_start bytes_cmp (bound_map (λ k. k.now) result) q ≡ is_above (option_copied key.entry) q }
+{
+    match key {
+        None => Bound::Unbounded,
+        Some(key) => Bound::Excluded(key),
+    }
+}
+
+// The first key under which there are atoms.
+fn first_key<'a>(partitions: Range<'a, Bytes, Held>) -> Option<&'a Bytes>
+    ensures { option_copied result ≡ first_key partitions.entry }
+{
+    let mut rest = partitions;
+    while let Some((key, held)) = rest.next() {
+        if held.least.is_some() {
+            return Some(key);
+        }
+    }
+    None
+}
+
 impl MemPart {
     /// No partition.
     pub fn new(alloc: Global) -> Self
@@ -189,6 +217,14 @@ impl MemPart {
                 Ok(Some(held.partition.slice(self.alloc, slice)?))
             }
         }
+    }
+
+    /// The least key above that one, or of all, under which there are atoms; none where there is
+    /// none.
+    pub fn next_key(&self, after: Option<&Bytes>) -> Option<&Bytes>
+        ensures { IsNextKey self.now (option_copied after.entry) (option_copied result) }
+    {
+        first_key(self.partitions.range((behind(after), Bound::Unbounded)))
     }
 
     /// The sum of the lengths of the records that had atoms, and 2^64-1 where it is greater.

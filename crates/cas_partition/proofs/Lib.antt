@@ -1,7 +1,10 @@
 pub mod Slots
 pub mod Raising
 pub mod Spots
+pub mod Tabling
 pub mod Taking
 pub mod Lists
 pub mod Slicing
+pub mod Forming
+pub mod Clipping
 pub mod Shown

@@ -1,12 +1,12 @@
 -- Lists of atoms, for which place is made and which are joined one after another.
-use Rattle.std.proofs.Common.{◌≡◌, List, [], ◌∷◌, ◌++◌, refl, sym, ap, ◌∙◌, subst, append_assoc}
+use Rattle.std.proofs.Common.{◌≡◌, List, [], ◌∷◌, ◌++◌, refl, sym, ◌∙◌, subst, append_assoc}
 use Rattle.std.proofs.lemmas.List.{append-nil}
-use Rattle.std.specs.List.{AllByRecursion}
+use Rattle.cas_types.specs.declared.schema.Column.{Column}
 use Rattle.cas_bounds.specs.declared.order.Ordered.{Ordered}
 use Rattle.cas_atoms.specs.Winners.{Same}
 use Rattle.cas_atoms.specs.declared.atom.Atom.{Atom}
 use Rattle.cas_laws.proofs.JoinProofs.{join_laws}
-use Rattle.cas_partition.specs.Partitions.{partition_atoms, IsOf, IsAtomOf, HasPlace, MakesPlace, Joins, AreAtomsOf, HavePlaces, MakesPlaces, JoinsAll}
+use Rattle.cas_partition.specs.Partitions.{partition_atoms, IsOf, HasPlace, MakesPlace, Joins, AreAtomsOf, IsOfTable, AllFit, HavePlaces, MakesPlaces, JoinsAll}
 use Rattle.cas_partition.specs.declared.partition.Partition.{Partition}
 
 same_itself : (A : List Atom) → Same A A
@@ -21,6 +21,7 @@ same_then a b = record { covers = λ x. a.covers x ∙ b.covers x; lives = λ c.
 pub record Making (all rest : List Atom) (p q : Partition) : Type 0 where
   pub same : (order : List Ordered) → IsOf order p → AreAtomsOf order all → Same (partition_atoms q) (partition_atoms p)
   pub of : (order : List Ordered) → IsOf order p → AreAtomsOf order all → IsOf order q × AreAtomsOf order rest
+  pub fits : (columns : List Column) → IsOfTable columns p → AllFit columns all → IsOfTable columns q × AllFit columns rest
   pub others : (b : Atom) → HasPlace p b → HasPlace q b
   pub made : (r : Partition) → ((b : Atom) → HasPlace q b → HasPlace r b) → HavePlaces r rest → HavePlaces r all
 
@@ -28,6 +29,7 @@ pub making : (all : List Atom) (p : Partition) → Making all all p p
 making all p = record {
   same = λ order of atoms. same_itself (partition_atoms p);
   of = λ order of atoms. (of, atoms);
+  fits = λ columns t all_fit. (t, all_fit);
   others = λ b h. h;
   made = λ r kept h. h;
 }
@@ -36,12 +38,13 @@ pub one_made : (all : List Atom) (a : Atom) (rest : List Atom) (p q r : Partitio
 one_made all a rest p q r m one there = record {
   same = λ order of atoms. let (now, left) = m.of order of atoms in same_then (one.same order now left.0) (m.same order of atoms);
   of = λ order of atoms. let (now, left) = m.of order of atoms in (one.of order now left.0, left.1);
+  fits = λ columns t all_fit. let (now, left) = m.fits columns t all_fit in (one.fits columns now left.0, left.1);
   others = λ b h. one.others b (m.others b h);
   made = λ s kept h. m.made s (λ b g. kept b (one.others b g)) (kept a there, h);
 }
 
 pub all_made : (all : List Atom) (p q : Partition) → Making all [] p q → MakesPlaces all p q
-all_made all p q m = record { same = m.same; of = λ order of atoms. (m.of order of atoms).0; others = m.others }
+all_made all p q m = record { same = m.same; of = λ order of atoms. (m.of order of atoms).0; fits = λ columns t all_fit. (m.fits columns t all_fit).0; others = m.others }
 
 pub all_there : (all : List Atom) (p q : Partition) → Making all [] p q → HavePlaces q all
 all_there all p q m = m.made q (λ b h. h) tt
@@ -50,6 +53,7 @@ pub some_made : (all : List Atom) (a : Atom) (rest : List Atom) (p q r : Partiti
 some_made all a rest p q r m one = record {
   same = λ order of atoms. let (now, left) = m.of order of atoms in same_then (one.same order now left.0) (m.same order of atoms);
   of = λ order of atoms. let (now, left) = m.of order of atoms in one.of order now left.0;
+  fits = λ columns t all_fit. let (now, left) = m.fits columns t all_fit in one.fits columns now left.0;
   others = λ b h. one.others b (m.others b h);
 }
 
@@ -59,6 +63,7 @@ some_made all a rest p q r m one = record {
 pub record Joining (all rest : List Atom) (p q : Partition) : Type 0 where
   pub joined : (order : List Ordered) → IsOf order p → AreAtomsOf order all → Same (partition_atoms q ++ rest) (partition_atoms p ++ all)
   pub of : (order : List Ordered) → IsOf order p → AreAtomsOf order all → IsOf order q × AreAtomsOf order rest
+  pub fits : (columns : List Column) → IsOfTable columns p → AllFit columns all → IsOfTable columns q × AllFit columns rest
   pub others : (b : Atom) → HasPlace p b → HasPlace q b
   pub there : HavePlaces q rest
 
@@ -66,6 +71,7 @@ pub joining : (all rest : List Atom) (p : Partition) → rest ≡ all → HavePl
 joining all rest p e there = subst (λ l. Joining all l p p) (sym e) (record {
   joined = λ order of atoms. same_itself (partition_atoms p ++ all);
   of = λ order of atoms. (of, atoms);
+  fits = λ columns t all_fit. (t, all_fit);
   others = λ b h. h;
   there = there;
 })
@@ -83,6 +89,7 @@ one_joined all rest a others p q r e h one =
           same_then (join_laws.kept (partition_atoms r) (partition_atoms q ++ a ∷ []) others (one.joined order now left.0))
           (subst (λ l. Same l (partition_atoms p ++ all)) (sym (append_assoc (partition_atoms q) (a ∷ []) others)) (m.joined order of atoms));
       of = λ order of atoms. let (now, left) = m.of order of atoms in (one.of order now left.0, left.1);
+      fits = λ columns t all_fit. let (now, left) = m.fits columns t all_fit in (one.fits columns now left.0, left.1);
       others = λ b g. one.others b (m.others b g);
       there = kept_places q r others one.others m.there.1;
     }
@@ -96,5 +103,6 @@ all_joined all rest p q e h =
     record {
       joined = λ order of atoms. subst (λ l. Same l (partition_atoms p ++ all)) (append-nil (partition_atoms q)) (m.joined order of atoms);
       of = λ order of atoms. (m.of order of atoms).0;
+      fits = λ columns t all_fit. (m.fits columns t all_fit).0;
       others = m.others;
     }

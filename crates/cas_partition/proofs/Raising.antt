@@ -1,26 +1,24 @@
 -- What is in force once changes are raised between two cuts, and once a cut is put among them.
-use Rattle.std.proofs.Common.{◌≡◌, ℕ, Bool, true, false, cond, not, ◌&&◌, ◌||◌, Option, None, Some, List, [], ◌∷◌, ◌++◌, map, ◌⊎◌, inl, inr, refl, sym, ap, ◌∙◌, subst}
+use Rattle.std.proofs.Common.{◌≡◌, Bool, true, false, cond, not, ◌&&◌, ◌||◌, Option, None, Some, List, [], ◌∷◌, ◌⊎◌, inl, inr, refl, sym, ap, ◌∙◌, subst}
 use Rattle.std.proofs.lemmas.Bool.{true≢false}
 use Rattle.std.proofs.lemmas.Cmp.{tied_itself}
 use Rattle.std.specs.Bool.{then_some}
 use Rattle.std.specs.Cmp.{Equal-is, IsTotalOrder}
 use Rattle.std.specs.List.{AllByRecursion}
-use Rattle.std.specs.List.Sorted.{IsStrictlySortedBy}
 use Rattle.std.specs.declared.cmp.Ordering.{Ordering}
 use Rattle.std.specs.declared.cmp.Ordering.TheVariants.{Less, Equal, Greater}
-use Rattle.std.specs.Ordering.{is_le, is_lt, is_eq, is_gt, ordering_reverse}
-use Rattle.cas_types.specs.Orders.{Orders}
+use Rattle.std.specs.Ordering.{is_le, is_lt, is_eq, ordering_reverse}
 use Rattle.cas_cell.specs.Deletions.{deletion_cmp}
 use Rattle.cas_cell.specs.declared.deletion.Deletion.{Deletion}
 use Rattle.cas_cell.proofs.OrderLaws.{deletion_laws}
 use Rattle.cas_bounds.specs.Cuts.{is_past, is_inside, cut_cmp}
-use Rattle.cas_bounds.specs.Points.{Point, point_cmp, cut_point}
+use Rattle.cas_bounds.specs.Points.{point_cmp, cut_point}
 use Rattle.cas_bounds.specs.Keys.{key_cmp}
 use Rattle.cas_bounds.specs.Inner.KeyLaws.{key_total, keys_are_points}
 use Rattle.cas_bounds.specs.declared.order.Ordered.{Ordered}
 use Rattle.cas_bounds.specs.declared.cuts.Cut.{Cut}
 use Rattle.cas_bounds.proofs.CutLaws.{point_laws}
-use Rattle.cas_atoms.specs.Greatest.{greater, greatest}
+use Rattle.cas_atoms.specs.Greatest.{greater}
 use Rattle.cas_atoms.specs.Coordinates.{Coordinate, RowKey, clustered, static_row, row_of, lies_between, deletion_at}
 use Rattle.cas_atoms.specs.Winners.{cover}
 use Rattle.cas_atoms.specs.declared.atom.Atom.TheVariants.{RangeDeletion}

@@ -1,5 +1,5 @@
 -- A slice of a partition says in the slice what the partition says.
-use Rattle.std.proofs.Common.{◌≡◌, ℕ, ℤ, Bool, true, false, cond, not, ◌&&◌, Option, None, Some, List, [], ◌∷◌, ◌++◌, map, filter, Result, Ok, Err, IfOk, refl, sym, ap, ◌∙◌, subst, append_assoc}
+use Rattle.std.proofs.Common.{◌≡◌, ℕ, true, false, cond, not, ◌&&◌, Option, None, Some, List, [], ◌∷◌, ◌++◌, map, filter, Result, Ok, Err, IfOk, refl, sym, ap, ◌∙◌, subst, append_assoc}
 use Rattle.std.proofs.lemmas.Bool.{true≢false}
 use Rattle.std.proofs.lemmas.List.{append-nil}
 use Rattle.std.specs.Option.{option_cmp}
@@ -8,17 +8,19 @@ use Rattle.std.specs.List.Sorted.{IsStrictlySortedBy}
 use Rattle.std.specs.Map.{keys_of}
 use Rattle.std.specs.declared.cmp.Ordering.{Ordering}
 use Rattle.cas_types.specs.Values.{bytes_cmp}
-use Rattle.std.specs.Ordering.{nat_cmp, is_eq, is_le, is_lt, ordering_then, ordering_reverse}
+use Rattle.std.specs.Ordering.{nat_cmp, is_le, is_lt, ordering_then, ordering_reverse}
 use Rattle.std.specs.declared.cmp.Ordering.TheVariants.{Less, Equal, Greater}
 use Rattle.std.specs.Cmp.{IsTotalOrder, then_total, on_total, nat_cmp_total}
 use Rattle.std.specs.Cmp.Lexicographic.{options_total}
 use Rattle.cas_types.proofs.OrderLaws.{bytes_orders}
 use Rattle.cas_types.specs.Orders.{Orders}
+use Rattle.cas_types.specs.declared.schema.Column.{Column}
 use Rattle.cas_cell.specs.Deletions.{deletion_cmp}
 use Rattle.cas_cell.specs.Lives.{live_at, live_cmp}
 use Rattle.cas_cell.specs.Cells.{cell_at, cell_cmp}
 use Rattle.cas_cell.specs.declared.deletion.Deletion.{Deletion}
 use Rattle.cas_cell.proofs.OrderLaws.{deletion_laws, live_laws, cell_laws}
+use Rattle.cas_bounds.specs.ClusteringOrder.{clustering_order}
 use Rattle.cas_bounds.specs.Cuts.{is_inside}
 use Rattle.cas_bounds.specs.Keys.{key_cmp}
 use Rattle.cas_bounds.specs.Inner.KeyLaws.{key_total}
@@ -27,36 +29,41 @@ use Rattle.cas_bounds.specs.declared.cuts.Cut.{Cut}
 use Rattle.cas_bounds.specs.declared.cuts.Slice.{Slice}
 use Rattle.cas_bounds.specs.declared.map_key.MapKey.{MapKey}
 use Rattle.cas_atoms.specs.Greatest.{greater, greatest}
-use Rattle.cas_atoms.specs.Coordinates.{Coordinate, RowKey, row, clustered, static_row, row_of, same_row, deletion_at, live_at_row, cell_at_path}
+use Rattle.cas_atoms.specs.Coordinates.{Coordinate, RowKey, row, clustered, row_of, same_row, deletion_at, live_at_row, cell_at_path}
 use Rattle.cas_atoms.specs.Winners.{cover, standing, Same}
 use Rattle.cas_atoms.specs.declared.atom.Atom.{Atom}
 use Rattle.cas_atoms.specs.declared.atom.Atom.TheVariants.{PartitionDeletion}
-use Rattle.cas_atoms.proofs.GreatestLemmas.{greater_none, greater_comm, greater_assoc, greatest-append}
-use Rattle.cas_laws.specs.Inside.{SameWhere, SameIn, is_in}
-use Rattle.cas_laws.proofs.JoinProofs.{cover_joins, winner_is}
+use Rattle.cas_atoms.proofs.GreatestLemmas.{greater_comm, greater_assoc, greatest-append}
+use Rattle.cas_laws.specs.Inside.{SameWhere, is_in}
+use Rattle.cas_laws.proofs.JoinProofs.{cover_joins, winner_is, same_where_joins}
 use Rattle.cas_laws.proofs.ShownProofs.{equal_rows}
 use Rattle.cas_streams.specs.Places.{place_of, row_in}
-use Rattle.cas_streams.specs.Flat.{Change, atom_of, own, changes, ranges, at_end, flat}
+use Rattle.cas_streams.specs.Flat.{Change, atom_of, own, changes, ranges, flat}
 use Rattle.cas_streams.specs.Streams.{IsOrdered}
-use Rattle.cas_streams.specs.Joined.{Stream, joined_fragment, fragment_cmp}
-use Rattle.cas_streams.specs.Merged.{merged, flat_of, flats}
+use Rattle.cas_streams.specs.Joined.{Stream}
+use Rattle.cas_streams.specs.Merged.{merged, flats}
 use Rattle.cas_streams.specs.Laws.{is_row}
 use Rattle.cas_streams.specs.declared.fragment.Fragment.{Fragment}
 use Rattle.cas_streams.proofs.OwnRows.{Only, not_of_row, none_given}
 use Rattle.cas_streams.proofs.Joining.{Alike, alike_then, alike_both}
 use Rattle.cas_streams.proofs.Merges.{merge_is_join, merge_ordered}
 use Rattle.cas_merge.specs.Told.{told_first, streams_told}
-use Rattle.cas_partition.specs.Ranges.{key_of}
-use Rattle.cas_partition.specs.Spots.{spot_cmp, piece, said}
-use Rattle.cas_partition.specs.Partitions.{said_at, atoms_with, partition_atoms, marker, IsOf, IsRowOf}
-use Rattle.cas_partition.specs.Slices.{grouped_from, grouped, Shows, slice_streams, SlicesShow}
+use Rattle.cas_partition.specs.Ranges.{key_of, clipped}
+use Rattle.cas_partition.specs.Spots.{spot_cmp, piece}
+use Rattle.cas_partition.specs.Partitions.{said_at, partition_atoms, marker, IsOf, IsRowOf, AreIn}
+use Rattle.cas_partition.specs.Slices.{grouped_from, meet, Halves, both, pieces_in, rows_by, AreRowsOf, Shows, slice_pieces, slice_streams, SlicesShow}
 use Rattle.cas_partition.specs.Ranged.{piece_of, spot_at, below_rows, statics_of, rows_between}
 use Rattle.cas_partition.specs.declared.spot.Spot.{Spot}
 use Rattle.cas_partition.specs.declared.spot.Content.{Content}
 use Rattle.cas_partition.specs.declared.partition.Partition.{Partition}
-use Rattle.cas_partition.proofs.Spots.{alike_itself, alike_is, in_front, at_back, Rows}
-use Rattle.cas_partition.proofs.Taking.{marked}
-use Rattle.cas_partition.proofs.Slicing.{grouped_alike, grouped_ordered, Weak, OfRow, pieces_of, kept_rows, kept_weak, cross, no_key, past_key}
+use Rattle.cas_partition.proofs.Spots.{alike_itself, alike_is, in_front, Rows}
+use Rattle.cas_partition.proofs.Taking.{marked, rising}
+use Rattle.cas_partition.proofs.Slicing.{halves_alike, halves_ordered, Weak, OfRow, pieces_of, kept_rows, kept_weak, cross, no_key, past_key}
+use Rattle.cas_streams.proofs.Formed.{Tabled}
+use Rattle.cas_streams.specs.Slices.{cut_to}
+use Rattle.cas_streams.proofs.Cutting.{cut_keeps_the_slice}
+use Rattle.cas_partition.proofs.Clipping.{clipped_is_cut}
+use Rattle.cas_partition.proofs.Forming.{pieces_have, kept_in_table, rows_have, markers_have, merge_forms}
 
 abbrev Entries : Type 0
 Entries = List (Spot × Content)
@@ -190,14 +197,14 @@ parts_say order s es low high rows = record {
 }
 
 -- the rows of the slice, put together
-pub rows_say : (order : List Ordered) (s : Slice) (es : Entries) → s.lo.order ≡ order → s.hi.order ≡ order → Rows order es
-    → AlikeIn s (flat_map own (grouped None (map piece_of (statics_of es ++ rows_between s.lo s.hi es)))) (said_at es)
-rows_say order s es low high rows =
+pub rows_say : (order : List Ordered) (s : Slice) (es : Entries) (h : Halves) → pieces_in h ≡ map piece_of (statics_of es ++ rows_between s.lo s.hi es)
+    → s.lo.order ≡ order → s.hi.order ≡ order → Rows order es → AlikeIn s (flat_map own (rows_by h)) (said_at es)
+rows_say order s es h e low high rows =
     let S : Entries = statics_of es in
     let B : Entries = rows_between s.lo s.hi es in
-    in_then s (flat_map own (grouped None (map piece_of (S ++ B)))) (said_at S ++ said_at B) (said_at es)
-    (everywhere s (flat_map own (grouped None (map piece_of (S ++ B)))) (said_at S ++ said_at B)
-    (alike_then (grouped_alike (map piece_of (S ++ B))) (alike_is (flat_map own (map piece_of (S ++ B))) (said_at S ++ said_at B) (said_pieces (S ++ B) ∙ two_parts S B))))
+    in_then s (flat_map own (rows_by h)) (said_at S ++ said_at B) (said_at es)
+    (everywhere s (flat_map own (rows_by h)) (said_at S ++ said_at B)
+    (alike_then (halves_alike h) (alike_is (flat_map own (pieces_in h)) (said_at S ++ said_at B) (ap (flat_map own) e ∙ said_pieces (S ++ B) ∙ two_parts S B))))
     (parts_say order s es low high rows)
 
 -- ---- where they stand
@@ -223,18 +230,31 @@ all_static order (e ∷ es) rows = go (all_static order es rows.1) e.0.row refl
     go ih (Some k) is = subst (λ b. AllByRecursion (λ f. place_of f ≡ None) (map piece_of (cond b (e ∷ statics_of es) (statics_of es)))) (sym (kept_static order e.0.row (rest e.0) k is rows.0))
         ih
 
-pub rows_ordered : (order : List Ordered) (lo hi : Cut) (es : Entries) → IsStrictlySortedBy spot_cmp (keys_of es) → Rows order es
-    → IsOrdered order (grouped None (map piece_of (statics_of es ++ rows_between lo hi es))) × (changes (grouped None (map piece_of (statics_of es ++ rows_between lo hi es))) ≡ [])
-rows_ordered order lo hi es sorted rows =
+pub rows_ordered : (order : List Ordered) (lo hi : Cut) (es : Entries) (h : Halves) → pieces_in h ≡ map piece_of (statics_of es ++ rows_between lo hi es)
+    → IsStrictlySortedBy spot_cmp (keys_of es) → Rows order es → IsOrdered order (rows_by h) × (changes (rows_by h) ≡ [])
+rows_ordered order lo hi es h e sorted rows =
     let S : Entries = statics_of es in
     let B : Entries = rows_between lo hi es in
     let first : Rows order S = kept_rows order (λ e. true && not (is_le (spot_cmp (spot_at below_rows) e.0))) es rows in
     let later : Rows order B = kept_rows order (λ e. is_le (spot_cmp (spot_at (key_of lo)) e.0) && not (is_le (spot_cmp (spot_at (key_of hi)) e.0))) es rows in
-    grouped_ordered order (map piece_of (S ++ B)) (pieces_of order (S ++ B) (append_rows order S B first later))
-    (subst (Weak order) (sym (append_pieces S B))
+    halves_ordered order h (subst (AllByRecursion (OfRow order)) (sym e) (pieces_of order (S ++ B) (append_rows order S B first later)))
+    (subst (Weak order) (sym (e ∙ append_pieces S B))
     (cross order (map piece_of S) (map piece_of B) (all_static order es rows)
     (kept_weak order (λ e. true && not (is_le (spot_cmp (spot_at below_rows) e.0))) es sorted rows)
     (kept_weak order (λ e. is_le (spot_cmp (spot_at (key_of lo)) e.0) && not (is_le (spot_cmp (spot_at (key_of hi)) e.0))) es sorted rows)))
+
+append_in : (columns : List Column) (A B : Entries) → AreIn columns A → AreIn columns B → AreIn columns (A ++ B)
+append_in columns [] B a b = b
+append_in columns (e ∷ A) B a b = (a.0, append_in columns A B a.1 b)
+
+rows_in_table : (columns : List Column) (lo hi : Cut) (es : Entries) (h : Halves) → pieces_in h ≡ map piece_of (statics_of es ++ rows_between lo hi es) → AreIn columns es
+    → AllByRecursion (Tabled columns) (rows_by h)
+rows_in_table columns lo hi es h e all =
+    let S : Entries = statics_of es in
+    let B : Entries = rows_between lo hi es in
+    rows_have columns h (subst (AllByRecursion (Tabled columns)) (sym e) (pieces_have columns (S ++ B)
+    (append_in columns S B (kept_in_table columns (λ e. true && not (is_le (spot_cmp (spot_at below_rows) e.0))) es all)
+    (kept_in_table columns (λ e. is_le (spot_cmp (spot_at (key_of lo)) e.0) && not (is_le (spot_cmp (spot_at (key_of hi)) e.0))) es all))))
 
 -- ---- what the program gathers
 
@@ -256,24 +276,24 @@ none_between from to low (e ∷ es) =
     never Less Greater a b = absurd (true≢false (sym (ap is_lt (spot_total.trans from e.0 to a (spot_total.antisymm e.0 to ∙ ap ordering_reverse b))) ∙ low))
     never Equal Greater a b = absurd (true≢false (sym (ap is_lt (spot_total.congr from e.0 to a ∙ spot_total.antisymm e.0 to ∙ ap ordering_reverse b)) ∙ low))
 
-abbrev pub Gathers : List Fragment → Option Fragment → Entries → List Fragment → Option Fragment → Type 0
-Gathers done last es more next = (gs : List Fragment) → more ++ grouped next gs ≡ done ++ grouped last (map piece_of es ++ gs)
+pub all_pieces : (S B : Entries) (first then : List Fragment) → first ≡ map piece_of S → then ≡ first ++ map piece_of B → then ≡ map piece_of (S ++ B)
+all_pieces S B first then e f = f ∙ ap (λ l. l ++ map piece_of B) e ∙ sym (append_pieces S B)
 
-pub gathered : (S B : Entries) (d1 d2 : List Fragment) (l1 l2 : Option Fragment) → Gathers [] None S d1 l1 → Gathers d1 l1 B d2 l2 → d2 ++ grouped l2 [] ≡ grouped None (map piece_of (S ++ B))
-gathered S B d1 d2 l1 l2 a b =
-    b [] ∙ a (map piece_of B ++ []) ∙ ap (grouped None) (ap (λ l. map piece_of S ++ l) (append-nil (map piece_of B)) ∙ sym (append_pieces S B))
+-- rows that end at a last one, and others
+meet_last : (front : List Fragment) (h f : Fragment) (gs : List Fragment) → meet (h ∷ front ++ f ∷ []) gs ≡ h ∷ meet (front ++ f ∷ []) gs
+meet_last [] h f gs = refl
+meet_last (k ∷ front) h f gs = refl
 
-pub gathered_first : (S B : Entries) (d : List Fragment) (l : Option Fragment) → Gathers [] None S d l → B ≡ [] → d ++ grouped l [] ≡ grouped None (map piece_of (S ++ B))
-gathered_first S B d l a none = a [] ∙ ap (grouped None) (ap (λ r. map piece_of S ++ r) (ap (map piece_of) (sym none)) ∙ sym (append_pieces S B))
+pub meet_next : (front : List Fragment) (f g : Fragment) (gs : List Fragment) → meet (front ++ f ∷ []) (g ∷ gs) ≡ front ++ (grouped_from f (g ∷ []) ++ gs)
+meet_next [] f g gs = refl
+meet_next (h ∷ front) f g gs = meet_last front h f (g ∷ gs) ∙ ap (λ l. h ∷ l) (meet_next front f g gs)
 
-pub closed_up : (d all : List Fragment) (l : Option Fragment) → l ≡ None → d ++ grouped l [] ≡ all → d ≡ all
-closed_up d all l none e = sym (append-nil d) ∙ ap (λ o. d ++ grouped o []) (sym none) ∙ e
+pub meet_none : (front : List Fragment) (f : Fragment) → meet (front ++ f ∷ []) [] ≡ front ++ f ∷ []
+meet_none [] f = refl
+meet_none (h ∷ front) f = meet_last front h f [] ∙ ap (λ l. h ∷ l) (meet_none front f)
 
-pub one_put : (last : Fragment) (piece : Fragment) (d : List Fragment) (b : Bool) (gs : List Fragment) → is_eq (fragment_cmp last piece) ≡ b
-    → cond b (d ++ grouped_from (joined_fragment last piece) gs) ((d ++ last ∷ []) ++ grouped_from piece gs) ≡ d ++ grouped (Some last) (piece ∷ gs)
-one_put last piece d true gs e = ap (λ t. d ++ cond t (grouped_from (joined_fragment last piece) gs) (last ∷ grouped_from piece gs)) (sym e)
-one_put last piece d false gs e =
-    append_assoc d (last ∷ []) (grouped_from piece gs) ∙ ap (λ t. d ++ cond t (grouped_from (joined_fragment last piece) gs) (last ∷ grouped_from piece gs)) (sym e)
+pub in_both : (all front back left right : List Fragment) → front ++ back ≡ all → AreRowsOf front left → AreRowsOf back right → AreRowsOf all (meet left right)
+in_both all front back left right e a b = (both a.0 b.0, (λ i. a.1 i ++ b.1 i) ∙ e, (λ i. meet (a.2 i) (b.2 i)))
 
 -- ---- both streams
 
@@ -282,26 +302,51 @@ no_own [] = refl
 no_own (m ∷ ms) = no_own ms
 
 pub shows : (s : Slice) (p : Partition) (rows : List Fragment) (top : Option Deletion) (fs : List Fragment) → IsStrictlySortedBy spot_cmp (keys_of p.spots.entries)
-    → rows ≡ grouped None (map piece_of (statics_of p.spots.entries ++ rows_between s.lo s.hi p.spots.entries))
-    → top ≡ (merged (record { top = p.top; fragments = rows } ∷ record { top = None; fragments = map marker p.ranges } ∷ [])).top
-    → fs ≡ (merged (record { top = p.top; fragments = rows } ∷ record { top = None; fragments = map marker p.ranges } ∷ [])).fragments
-    → Shows s p top fs
-shows s p rows top fs sorted e t f = subst (λ d. Shows s p d fs) (sym t) (subst (λ l. Shows s p (merged ss).top l) (sym f) (record {
-  ordered = λ order of low high. merge_ordered order ss (both order of);
-  same = λ order of low high. chained (merge_is_join order ss (both order of)) (in_same s (flats ss) (partition_atoms p) (all_say order of low high));
+    → AreRowsOf (slice_pieces s p) rows → top ≡ (merged (slice_streams s p rows)).top → fs ≡ (merged (slice_streams s p rows)).fragments → Shows s p top fs
+shows s p rows top fs sorted are t f = subst (λ d. Shows s p d fs) (sym t) (subst (λ l. Shows s p (merged ss).top l) (sym f) (record {
+  ordered = λ order of low high. merge_ordered order ss (each_ordered order of low high);
+  same = λ order of low high. chained (merge_is_join order ss (each_ordered order of low high)) (in_slice order of low high);
+  formed = λ columns t low high. merge_forms columns ss (each_ordered (clustering_order columns) t.of low high)
+      (subst (AllByRecursion (Tabled columns)) are.2 (rows_in_table columns s.lo s.hi p.spots.entries are.0 are.1 t.entries), (markers_have columns (clipped s p.ranges), tt));
 }))
   where
+    with_markers : List Change → List Stream
+    with_markers ms = record { top = p.top; fragments = rows } ∷ record { top = None; fragments = map marker ms } ∷ []
+
     ss : List Stream
-    ss = record { top = p.top; fragments = rows } ∷ record { top = None; fragments = map marker p.ranges } ∷ []
+    ss = with_markers (clipped s p.ranges)
 
     in_rows : (order : List Ordered) → IsOf order p → IsOrdered order rows × (changes rows ≡ [])
-    in_rows order of = subst (λ l. IsOrdered order l × (changes l ≡ [])) (sym e) (rows_ordered order s.lo s.hi p.spots.entries sorted of.rows)
+    in_rows order of = subst (λ l. IsOrdered order l × (changes l ≡ [])) are.2 (rows_ordered order s.lo s.hi p.spots.entries are.0 are.1 sorted of.rows)
 
-    both : (order : List Ordered) → IsOf order p → AllByRecursion (λ z. IsOrdered order z.fragments) ss
-    both order of = ((in_rows order of).0, (of.marks, tt))
+    cut : (order : List Ordered) → IsOf order p → s.lo.order ≡ order → s.hi.order ≡ order → map marker (clipped s p.ranges) ≡ cut_to s (map marker p.ranges)
+    cut order of low high = clipped_is_cut order s low high p.ranges (rising order p.ranges of.marks)
+
+    each_ordered : (order : List Ordered) → IsOf order p → s.lo.order ≡ order → s.hi.order ≡ order → AllByRecursion (λ z. IsOrdered order z.fragments) ss
+    each_ordered order of low high = (
+      (in_rows order of).0,
+      (subst (IsOrdered order) (sym (cut order of low high)) (cut_keeps_the_slice.ordered order s (map marker p.ranges) (record { lo = low; hi = high }) of.marks), tt),
+    )
 
     chained : {A B C : List Atom} → Same A B → SameWhere (is_in s) B C → SameWhere (is_in s) A C
     chained a b = record { covers = λ x i. a.covers x ∙ b.covers x i; lives = λ c i. a.lives c ∙ b.lives c i; cells = λ x i. a.cells x ∙ b.cells x i }
+
+    then_in : {A B C : List Atom} → SameWhere (is_in s) A B → SameWhere (is_in s) B C → SameWhere (is_in s) A C
+    then_in a b = record { covers = λ x i. a.covers x i ∙ b.covers x i; lives = λ c i. a.lives c i ∙ b.lives c i; cells = λ x i. a.cells x i ∙ b.cells x i }
+
+    itself : (A : List Atom) → SameWhere (is_in s) A A
+    itself A = record { covers = λ x i. refl; lives = λ c i. refl; cells = λ x i. refl }
+
+    -- the markers in the slice say there what all markers say
+    cut_says : (order : List Ordered) → IsOf order p → s.lo.order ≡ order → s.hi.order ≡ order → SameWhere (is_in s) (flats ss) (flats (with_markers p.ranges))
+    cut_says order of low high =
+        let C : List Atom = flat None (map marker (clipped s p.ranges)) in
+        let M : List Atom = flat None (map marker p.ranges) in
+        let R : List Atom = flat p.top rows in
+        let one : SameWhere (is_in s) C M =
+        subst (λ l. SameWhere (is_in s) (flat None l) M) (sym (cut order of low high)) (cut_keeps_the_slice.same order s None (map marker p.ranges) (record { lo = low; hi = high }) of.marks) in
+        same_where_joins (is_in s) R R (C ++ []) (M ++ []) (itself R)
+        (subst (λ l. SameWhere (is_in s) l (M ++ [])) (sym (append-nil C)) (subst (λ l. SameWhere (is_in s) C l) (sym (append-nil M)) one))
 
     regroup : (T G R : List Atom) → (T ++ G) ++ (R ++ []) ≡ T ++ (G ++ R)
     regroup T G R = ap (λ l. (T ++ G) ++ l) (append-nil R) ∙ append_assoc T G R
@@ -309,22 +354,25 @@ shows s p rows top fs sorted e t f = subst (λ d. Shows s p d fs) (sym t) (subst
     swap : (G R : List Atom) → Alike (G ++ R) (R ++ G)
     swap G R = alike_then (alike_is (G ++ R) (G ++ (R ++ [])) (ap (λ l. G ++ l) (sym (append-nil R)))) (alike_then (in_front G [] G (R ++ []) (alike_itself G)) (alike_is ((R ++ []) ++ G) (R ++ G) (ap (λ l. l ++ G) (append-nil R))))
 
-    all_say : (order : List Ordered) → IsOf order p → s.lo.order ≡ order → s.hi.order ≡ order → AlikeIn s (flats ss) (partition_atoms p)
+    all_say : (order : List Ordered) → IsOf order p → s.lo.order ≡ order → s.hi.order ≡ order → AlikeIn s (flats (with_markers p.ranges)) (partition_atoms p)
     all_say order of low high =
         let T : List Atom = atom_of PartitionDeletion p.top in
         let G : List Atom = flat_map own rows in
         let R : List Atom = ranges p.ranges in
-        let flat_rows : flats ss ≡ T ++ (G ++ R) =
+        let flat_rows : flats (with_markers p.ranges) ≡ T ++ (G ++ R) =
         (λ i. (T ++ (ranges ((in_rows order of).1 i) ++ G)) ++ ((ranges (marked p.ranges i) ++ no_own p.ranges i) ++ []))
         ∙ ap (λ l. (T ++ G) ++ (l ++ [])) (append-nil R) ∙ regroup T G R in
-        in_then s (flats ss) (T ++ (R ++ G)) (partition_atoms p)
-        (everywhere s (flats ss) (T ++ (R ++ G)) (alike_then (alike_is (flats ss) (T ++ (G ++ R)) flat_rows) (alike_both (alike_itself T) (swap G R))))
+        in_then s (flats (with_markers p.ranges)) (T ++ (R ++ G)) (partition_atoms p)
+        (everywhere s (flats (with_markers p.ranges)) (T ++ (R ++ G)) (alike_then (alike_is (flats (with_markers p.ranges)) (T ++ (G ++ R)) flat_rows) (alike_both (alike_itself T) (swap G R))))
         (behind_same s T (R ++ G) (R ++ said_at p.spots.entries)
         (behind_same s R G (said_at p.spots.entries)
-        (subst (λ l. AlikeIn s (flat_map own l) (said_at p.spots.entries)) (sym e) (rows_say order s p.spots.entries low high of.rows))))
+        (subst (λ l. AlikeIn s (flat_map own l) (said_at p.spots.entries)) are.2 (rows_say order s p.spots.entries are.0 are.1 low high of.rows))))
+
+    in_slice : (order : List Ordered) → IsOf order p → s.lo.order ≡ order → s.hi.order ≡ order → SameWhere (is_in s) (flats ss) (partition_atoms p)
+    in_slice order of low high = then_in (cut_says order of low high) (in_same s (flats (with_markers p.ranges)) (partition_atoms p) (all_say order of low high))
 
 pub slices_show : SlicesShow
-slices_show s p sorted = shows s p _ _ _ sorted refl refl refl
+slices_show s p rows sorted are = shows s p rows _ _ sorted are refl refl
 
 -- ---- from what calls ensure
 

@@ -1,54 +1,43 @@
 -- The pieces of a partition put together row by row: ordered, and alike to all of them; and which of them a slice wants.
-use Rattle.std.proofs.Common.{◌≡◌, ℕ, Bool, true, false, cond, not, ◌&&◌, Option, None, Some, List, [], ◌∷◌, ◌++◌, map, filter, refl, sym, ap, ◌∙◌, subst, append_assoc}
+use Rattle.std.proofs.Common.{◌≡◌, ℕ, Bool, true, false, cond, Option, None, Some, List, [], ◌∷◌, ◌++◌, map, filter, refl, sym, ap, ◌∙◌, subst, append_assoc}
 use Rattle.std.proofs.lemmas.Bool.{true≢false}
 use Rattle.std.specs.Option.{option_cmp}
-use Rattle.std.specs.Cmp.{Equal-is, IsTotalOrder}
+use Rattle.std.specs.Cmp.{Equal-is}
 use Rattle.std.specs.List.{AllByRecursion, flat_map}
 use Rattle.std.specs.List.Sorted.{IsStrictlySortedBy}
 use Rattle.std.specs.Map.{keys_of}
 use Rattle.std.specs.declared.cmp.Ordering.{Ordering}
 use Rattle.std.specs.declared.cmp.Ordering.TheVariants.{Less, Equal, Greater}
 use Rattle.std.specs.Ordering.{is_lt, is_gt, is_eq, is_le, ordering_then, ordering_reverse}
-use Rattle.cas_types.specs.Orders.{Orders}
-use Rattle.cas_cell.specs.Lives.{live_cmp}
-use Rattle.cas_cell.specs.Cells.{cell_cmp}
 use Rattle.cas_cell.proofs.OrderLaws.{live_laws, cell_laws}
-use Rattle.cas_bounds.specs.Cuts.{is_past, is_inside}
-use Rattle.cas_bounds.specs.Points.{Point, point_cmp, row_point, cut_point, side}
+use Rattle.cas_bounds.specs.Cuts.{is_past}
+use Rattle.cas_bounds.specs.Points.{point_cmp, row_point, cut_point, side}
 use Rattle.cas_bounds.specs.Keys.{key_cmp, key_point}
 use Rattle.cas_bounds.specs.Inner.KeyLaws.{keys_are_points}
 use Rattle.cas_bounds.specs.declared.order.Ordered.{Ordered}
 use Rattle.cas_bounds.specs.declared.cuts.Cut.{Cut}
-use Rattle.cas_bounds.specs.declared.cuts.Slice.{Slice}
 use Rattle.cas_bounds.specs.declared.map_key.End.{End}
 use Rattle.cas_bounds.specs.declared.map_key.End.TheVariants.{Before, Row, After}
 use Rattle.cas_bounds.specs.declared.map_key.MapKey.{MapKey}
 use Rattle.cas_bounds.proofs.CutLaws.{point_laws}
-use Rattle.cas_atoms.specs.Greatest.{greater, greatest}
-use Rattle.cas_atoms.specs.Coordinates.{Coordinate, RowKey, clustered, static_row, same_row, live_at_row, cell_at_path}
-use Rattle.cas_atoms.specs.Winners.{cover}
-use Rattle.cas_atoms.specs.declared.atom.Atom.{Atom}
-use Rattle.cas_atoms.proofs.GreatestLemmas.{greater_none, greater_comm, greater_assoc, greatest-append}
-use Rattle.cas_laws.specs.Inside.{is_in}
+use Rattle.cas_atoms.specs.Coordinates.{live_at_row, cell_at_path}
+use Rattle.cas_atoms.proofs.GreatestLemmas.{greatest-append}
 use Rattle.cas_laws.proofs.JoinProofs.{cover_joins}
-use Rattle.cas_laws.proofs.ShownProofs.{equal_rows}
-use Rattle.cas_streams.specs.Places.{Place, place_cmp, place_of, row_in}
+use Rattle.cas_streams.specs.Places.{Place, place_cmp, place_of}
 use Rattle.cas_streams.specs.Flat.{own, changes, at_end}
 use Rattle.cas_streams.specs.Streams.{IsOf as IsFragmentOf, IsOrdered}
 use Rattle.cas_streams.specs.Joined.{joined_fragment, fragment_cmp}
-use Rattle.cas_streams.specs.Laws.{is_row}
 use Rattle.cas_streams.specs.declared.fragment.Fragment.{Fragment}
 use Rattle.cas_streams.specs.declared.fragment.Fragment.TheVariants as fragment
 use Rattle.cas_streams.proofs.Weaves.{Ascend, keys_ascend}
 use Rattle.cas_streams.proofs.Twins.{Twins, twins, same_place, twins_delete, twins_live, twins_write}
 use Rattle.cas_streams.proofs.Forces.{as_places, places_total}
-use Rattle.cas_streams.proofs.OwnRows.{Only, not_of_row, none_given}
 use Rattle.cas_streams.proofs.Joining.{Alike, alike_then, alike_both}
 use Rattle.cas_partition.specs.Ranges.{key_of}
-use Rattle.cas_partition.specs.Spots.{spot_cmp, piece, said}
-use Rattle.cas_partition.specs.Partitions.{said_at, IsRowOf}
-use Rattle.cas_partition.specs.Slices.{grouped_from, grouped}
-use Rattle.cas_partition.specs.Ranged.{piece_of, spot_at, below_rows, statics_of, rows_between}
+use Rattle.cas_partition.specs.Spots.{spot_cmp, piece}
+use Rattle.cas_partition.specs.Partitions.{IsRowOf}
+use Rattle.cas_partition.specs.Slices.{grouped_from, grouped, meet_from, meet, Halves, few, both, pieces_in, rows_by}
+use Rattle.cas_partition.specs.Ranged.{piece_of, below_rows}
 use Rattle.cas_partition.specs.declared.spot.Spot.{Spot}
 use Rattle.cas_partition.specs.declared.spot.Content.{Content}
 use Rattle.cas_partition.proofs.Spots.{alike_itself, alike_is, Rows}
@@ -74,9 +63,74 @@ from_alike f (g ∷ gs) =
       | false ↦ λ e. alike_both (alike_itself (own f)) (from_alike g gs)
     ] refl
 
-pub grouped_alike : (fs : List Fragment) → Alike (flat_map own (grouped None fs)) (flat_map own fs)
+grouped_alike : (fs : List Fragment) → Alike (flat_map own (grouped None fs)) (flat_map own fs)
 grouped_alike [] = alike_itself []
 grouped_alike (f ∷ fs) = from_alike f fs
+
+flat_append : (A B : List Fragment) → flat_map own (A ++ B) ≡ flat_map own A ++ flat_map own B
+flat_append [] B = refl
+flat_append (f ∷ A) B = ap (λ l. own f ++ l) (flat_append A B) ∙ sym (append_assoc (own f) (flat_map own A) (flat_map own B))
+
+meet_from_alike : (f : Fragment) (fs gs : List Fragment) → Alike (flat_map own (meet_from f fs gs)) (own f ++ (flat_map own fs ++ flat_map own gs))
+meet_from_alike f [] [] = alike_itself (own f ++ [])
+meet_from_alike f [] (g ∷ gs) =
+    alike_then (alike_is (flat_map own (grouped_from f (g ∷ []) ++ gs)) (flat_map own (grouped_from f (g ∷ [])) ++ flat_map own gs) (flat_append (grouped_from f (g ∷ [])) gs))
+    (alike_then (alike_both (from_alike f (g ∷ [])) (alike_itself (flat_map own gs)))
+    (alike_is ((own f ++ (own g ++ [])) ++ flat_map own gs) (own f ++ (own g ++ flat_map own gs))
+    (append_assoc (own f) (own g ++ []) (flat_map own gs) ∙ ap (λ l. own f ++ l) (append_assoc (own g) [] (flat_map own gs)))))
+meet_from_alike f (h ∷ fs) gs =
+    alike_then (alike_both (alike_itself (own f)) (meet_from_alike h fs gs))
+    (alike_is (own f ++ (own h ++ (flat_map own fs ++ flat_map own gs))) (own f ++ ((own h ++ flat_map own fs) ++ flat_map own gs))
+    (ap (λ l. own f ++ l) (sym (append_assoc (own h) (flat_map own fs) (flat_map own gs)))))
+
+meet_alike : (fs gs : List Fragment) → Alike (flat_map own (meet fs gs)) (flat_map own fs ++ flat_map own gs)
+meet_alike [] gs = alike_itself (flat_map own gs)
+meet_alike (f ∷ fs) gs =
+    alike_then (meet_from_alike f fs gs)
+    (alike_is (own f ++ (flat_map own fs ++ flat_map own gs)) ((own f ++ flat_map own fs) ++ flat_map own gs) (sym (append_assoc (own f) (flat_map own fs) (flat_map own gs))))
+
+-- the rows say what their pieces say
+pub halves_alike : (h : Halves) → Alike (flat_map own (rows_by h)) (flat_map own (pieces_in h))
+halves_alike (few fs) = grouped_alike fs
+halves_alike (both a b) =
+    alike_then (meet_alike (rows_by a) (rows_by b))
+    (alike_then (alike_both (halves_alike a) (halves_alike b))
+    (alike_is (flat_map own (pieces_in a) ++ flat_map own (pieces_in b)) (flat_map own (pieces_in a ++ pieces_in b)) (sym (flat_append (pieces_in a) (pieces_in b)))))
+
+-- ---- a fact of each piece that is kept when two are put together
+
+module _ (P : Fragment → Type 0) (joins : (f g : Fragment) → Twins f g → P f → P g → P (joined_fragment f g)) where
+  append_each : (A B : List Fragment) → AllByRecursion P A → AllByRecursion P B → AllByRecursion P (A ++ B)
+  append_each [] B a b = b
+  append_each (f ∷ A) B a b = (a.0, append_each A B a.1 b)
+
+  split_each : (A B : List Fragment) → AllByRecursion P (A ++ B) → AllByRecursion P A × AllByRecursion P B
+  split_each [] B all = (tt, all)
+  split_each (f ∷ A) B all = let (a, b) = split_each A B all.1 in ((all.0, a), b)
+
+  from_each : (f : Fragment) (gs : List Fragment) → P f → AllByRecursion P gs → AllByRecursion P (grouped_from f gs)
+  from_each f [] p all = (p, tt)
+  from_each f (g ∷ gs) p all =
+      elim (is_eq (fragment_cmp f g)) as (λ b. is_eq (fragment_cmp f g) ≡ b → AllByRecursion P (cond b (grouped_from (joined_fragment f g) gs) (f ∷ grouped_from g gs))) [
+        | true ↦ λ e. from_each (joined_fragment f g) gs (joins f g (twins f g ((Equal-is (fragment_cmp f g)).0 e)) p all.0) all.1
+        | false ↦ λ e. (p, from_each g gs all.0 all.1)
+      ] refl
+
+  pub meet_from_each : (f : Fragment) (fs gs : List Fragment) → P f → AllByRecursion P fs → AllByRecursion P gs → AllByRecursion P (meet_from f fs gs)
+  meet_from_each f [] [] p a b = (p, tt)
+  meet_from_each f [] (g ∷ gs) p a b = append_each (grouped_from f (g ∷ [])) gs (from_each f (g ∷ []) p (b.0, tt)) b.1
+  meet_from_each f (h ∷ fs) gs p a b = (p, meet_from_each h fs gs a.0 a.1 b)
+
+  meet_each : (fs gs : List Fragment) → AllByRecursion P fs → AllByRecursion P gs → AllByRecursion P (meet fs gs)
+  meet_each [] gs a b = b
+  meet_each (f ∷ fs) gs a b = meet_from_each f fs gs a.0 a.1 b
+
+  pub halves_each : (h : Halves) → AllByRecursion P (pieces_in h) → AllByRecursion P (rows_by h)
+  halves_each (few []) all = tt
+  halves_each (few (f ∷ fs)) all = from_each f fs all.0 all.1
+  halves_each (both a b) all =
+      let (left, right) = split_each (pieces_in a) (pieces_in b) all in
+      meet_each (rows_by a) (rows_by b) (halves_each a left) (halves_each b right)
 
 -- ---- where they stand
 
@@ -109,14 +163,6 @@ module _ (order : List Ordered) where
 
   abbrev Past : Place → List Fragment → Type 0
   Past p fs = AllByRecursion (λ g. place_cmp order p (place_of g) ≡ Less) fs
-
-  from_all : (f : Fragment) (gs : List Fragment) → OfRow f → AllByRecursion OfRow gs → AllByRecursion OfRow (grouped_from f gs)
-  from_all f [] of all = (of, tt)
-  from_all f (g ∷ gs) of all =
-      elim (is_eq (fragment_cmp f g)) as (λ b. is_eq (fragment_cmp f g) ≡ b → AllByRecursion OfRow (cond b (grouped_from (joined_fragment f g) gs) (f ∷ grouped_from g gs))) [
-        | true ↦ λ e. from_all (joined_fragment f g) gs (joined_row_of f g (twins f g ((Equal-is (fragment_cmp f g)).0 e)) of) all.1
-        | false ↦ λ e. (of, from_all g gs all.0 all.1)
-      ] refl
 
   from_after : (p : Place) (f : Fragment) (gs : List Fragment) → place_cmp order p (place_of f) ≡ Less → Past p gs → Past p (grouped_from f gs)
   from_after p f [] lt all = (lt, tt)
@@ -169,15 +215,86 @@ module _ (order : List Ordered) where
   orders_of [] all = tt
   orders_of (f ∷ fs) all = (all.0.0, orders_of fs all.1)
 
-  pub grouped_ordered : (fs : List Fragment) → AllByRecursion OfRow fs → Weak fs → IsOrdered order (grouped None fs) × (changes (grouped None fs) ≡ [])
-  unfolding Weak IsStrictlySortedBy
-  grouped_ordered [] all weak = (record { places = tt; of = tt; closed = refl }, refl)
-  grouped_ordered (f ∷ fs) all weak =
-      let rows : AllByRecursion OfRow (grouped_from f fs) = from_all f fs all.0 all.1 in
-      let none : changes (grouped_from f fs) ≡ [] = no_changes (grouped_from f fs) rows in (
+  placed : (Q : Place → Type 0) (f g : Fragment) → Twins f g → Q (place_of f) → Q (place_of g) → Q (place_of (joined_fragment f g))
+  placed Q f g t p q = subst Q (sym (same_place f g)) p
+
+  later : (f g : Fragment) (gs : List Fragment) → place_cmp order (place_of f) (place_of g) ≡ Less → Past (place_of g) gs → Past (place_of f) gs
+  later f g [] lt past = tt
+  later f g (h ∷ gs) lt past = ((places_total order).trans (place_of f) (place_of g) (place_of h) lt past.0, later f g gs lt past.1)
+
+  likewise : (f g : Fragment) (gs : List Fragment) → place_cmp order (place_of f) (place_of g) ≡ Equal → Past (place_of g) gs → Past (place_of f) gs
+  likewise f g [] eq past = tt
+  likewise f g (h ∷ gs) eq past = ((places_total order).congr (place_of f) (place_of g) (place_of h) eq ∙ past.0, likewise f g gs eq past.1)
+
+  abbrev Rises : List Fragment → Type 0
+  Rises fs = Ascend (place_cmp order) place_of fs
+
+  two_ascend : (f g : Fragment) (gs : List Fragment) → OfRow f → is_gt (place_cmp order (place_of f) (place_of g)) ≡ false → Rises (g ∷ gs) → Rises (grouped_from f (g ∷ []) ++ gs)
+  two_ascend f g gs of weak rise =
+      elim (is_eq (fragment_cmp f g)) as (λ b. is_eq (fragment_cmp f g) ≡ b → Rises (cond b (joined_fragment f g ∷ []) (f ∷ g ∷ []) ++ gs)) [
+        | true ↦ λ e.
+            let eq : place_cmp order (place_of f) (place_of g) ≡ Equal = sym (as_places order f g of.0) ∙ (Equal-is (fragment_cmp f g)).0 e in
+            (subst (λ p. Past p gs) (sym (same_place f g)) (likewise f g gs eq rise.0), rise.1)
+        | false ↦ λ e.
+            let lt : place_cmp order (place_of f) (place_of g) ≡ Less = less_of (place_cmp order (place_of f) (place_of g)) weak (ap is_eq (sym (as_places order f g of.0)) ∙ e) in
+            ((lt, later f g gs lt rise.0), rise)
+      ] refl
+
+  abbrev Across : List Fragment → List Fragment → Type 0
+  Across fs gs = AllByRecursion (λ f. Behind (place_of f) gs) fs
+
+  meet_from_ascend : (f : Fragment) (fs gs : List Fragment) → OfRow f → AllByRecursion OfRow fs → Rises (f ∷ fs) → Rises gs → Across (f ∷ fs) gs → Rises (meet_from f fs gs)
+  meet_from_ascend f [] [] of all a b across = (tt, tt)
+  meet_from_ascend f [] (g ∷ gs) of all a b across = two_ascend f g gs of across.0.0 b
+  meet_from_ascend f (h ∷ fs) gs of all a b across = (
+    meet_from_each (λ k. place_cmp order (place_of f) (place_of k) ≡ Less) (λ k l t p q. placed (λ r. place_cmp order (place_of f) r ≡ Less) k l t p q) h fs gs
+        a.0.0 a.0.1 (after_weak (place_of f) (place_of h) gs a.0.0 across.1.0),
+    meet_from_ascend h fs gs all.0 all.1 a.1 b across.1,
+  )
+
+  meet_ascend : (fs gs : List Fragment) → AllByRecursion OfRow fs → Rises fs → Rises gs → Across fs gs → Rises (meet fs gs)
+  meet_ascend [] gs all a b across = b
+  meet_ascend (f ∷ fs) gs all a b across = meet_from_ascend f fs gs all.0 all.1 a b across
+
+  behind_parts : (p : Place) (A B : List Fragment) → Behind p (A ++ B) → Behind p A × Behind p B
+  behind_parts p [] B b = (tt, b)
+  behind_parts p (f ∷ A) B b = let (x, y) = behind_parts p A B b.1 in ((b.0, x), y)
+
+  weak_parts : (A B : List Fragment) → Weak (A ++ B) → Weak A × Weak B × Across A B
+  unfolding Weak
+  weak_parts [] B w = (tt, w, tt)
+  weak_parts (f ∷ A) B w =
+      let (a, b, c) = weak_parts A B w.1 in
+      let (x, y) = behind_parts (place_of f) A B w.0 in
+      ((x, a), b, (y, c))
+
+  across_rows : (A : List Fragment) (h : Halves) → Across A (pieces_in h) → Across A (rows_by h)
+  across_rows [] h a = tt
+  across_rows (f ∷ A) h a = (
+    halves_each (λ g. is_gt (place_cmp order (place_of f) (place_of g)) ≡ false) (λ k l t p q. placed (λ r. is_gt (place_cmp order (place_of f) r) ≡ false) k l t p q) h a.0,
+    across_rows A h a.1,
+  )
+
+  all_of_rows : (h : Halves) → AllByRecursion OfRow (pieces_in h) → AllByRecursion OfRow (rows_by h)
+  all_of_rows h all = halves_each OfRow (λ f g t p q. joined_row_of f g t p) h all
+
+  halves_ascend : (h : Halves) → AllByRecursion OfRow (pieces_in h) → Weak (pieces_in h) → Rises (rows_by h)
+  unfolding Weak
+  halves_ascend (few []) all weak = tt
+  halves_ascend (few (f ∷ fs)) all weak = from_ascend f fs all.0 all.1 weak.0 weak.1
+  halves_ascend (both a b) all weak =
+      let (left, right, across) = weak_parts (pieces_in a) (pieces_in b) weak in
+      let (mine, others) = split_each OfRow (λ f g t p q. joined_row_of f g t p) (pieces_in a) (pieces_in b) all in
+      meet_ascend (rows_by a) (rows_by b) (all_of_rows a mine) (halves_ascend a mine left) (halves_ascend b others right)
+      (halves_each (λ f. Behind (place_of f) (rows_by b)) (λ k l t p q. placed (λ r. Behind r (rows_by b)) k l t p q) a (across_rows (pieces_in a) b across))
+
+  pub halves_ordered : (h : Halves) → AllByRecursion OfRow (pieces_in h) → Weak (pieces_in h) → IsOrdered order (rows_by h) × (changes (rows_by h) ≡ [])
+  halves_ordered h all weak =
+      let rows : AllByRecursion OfRow (rows_by h) = all_of_rows h all in
+      let none : changes (rows_by h) ≡ [] = no_changes (rows_by h) rows in (
         record {
-          places = keys_ascend (place_cmp order) place_of (grouped_from f fs) (from_ascend f fs all.0 all.1 weak.0 weak.1);
-          of = orders_of (grouped_from f fs) rows;
+          places = keys_ascend (place_cmp order) place_of (rows_by h) (halves_ascend h all weak);
+          of = orders_of (rows_by h) rows;
           closed = ap (at_end None) none;
         },
         none,

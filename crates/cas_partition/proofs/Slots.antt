@@ -1,8 +1,7 @@
 -- What becomes of changes that are kept in slots.
-use Rattle.std.proofs.Common.{◌≡◌, ℕ, ◌+◌, ◌<◌, Bool, true, false, cond, not, ◌&&◌, ◌||◌, Option, None, Some, is_some, List, [], ◌∷◌, ◌++◌, length, map, filter, get_or, Result, Ok, Err, OnErr, refl, sym, ap, ◌∙◌, subst, arith}
+use Rattle.std.proofs.Common.{◌≡◌, ℕ, ◌+◌, ◌<◌, Bool, true, false, cond, not, ◌&&◌, ◌||◌, Option, None, Some, is_some, List, [], ◌∷◌, ◌++◌, length, filter, get_or, Result, Ok, Err, OnErr, refl, sym, ap, ◌∙◌, subst, arith}
 use Rattle.std.proofs.lemmas.Bool.{true≢false}
 use Rattle.std.proofs.lemmas.List.{get_or-set_same, get_or-set_other, length-set, length-append, get_or_append_left}
-use Rattle.std.proofs.lemmas.Map.Keys.{sorted_head, sorted_tail}
 use Rattle.std.specs.List.{AllByRecursion, slice_set}
 use Rattle.std.specs.List.Sorted.{IsStrictlySortedBy}
 use Rattle.std.specs.Map.{keys_of, lookup}
@@ -16,11 +15,12 @@ use Rattle.cas_bounds.specs.Points.{cut_point, side}
 use Rattle.cas_bounds.specs.Keys.{key_cmp, key_point}
 use Rattle.cas_bounds.specs.Inner.KeyLaws.{key_total}
 use Rattle.cas_bounds.specs.declared.cuts.Cut.{Cut}
+use Rattle.cas_bounds.specs.declared.cuts.Slice.{Slice}
 use Rattle.cas_bounds.specs.declared.map_key.MapKey.{MapKey}
 use Rattle.cas_atoms.specs.Greatest.{greater}
-use Rattle.cas_streams.specs.Flat.{Change}
-use Rattle.cas_partition.specs.Ranges.{key_of, lies, raised, has_cut, inserted, with_cut}
-use Rattle.cas_partition.specs.Inner.Slots.{is_after, cut_of, change_of, changes_of, Apart, IsWhole, between, force_below, raised_at}
+use Rattle.cas_streams.specs.Flat.{Change, after}
+use Rattle.cas_partition.specs.Ranges.{key_of, lies, raised, has_cut, inserted, with_cut, is_above, is_below, change_at, clipped}
+use Rattle.cas_partition.specs.Inner.Slots.{is_after, cut_of, change_of, changes_of, Apart, IsWhole, between, amid, last_force, force_by, force_below, force_behind, raised_at}
 
 abbrev Slot : Type 0
 Slot = MapKey × ℕ
@@ -45,33 +45,17 @@ is_key_of_cut k c e = subst (λ q. key_of (cut_of q) ≡ q) (sym e) (ap key_of (
 
 -- ---- what is in force below a key
 
-last_force : Option Deletion → List Slot → Forces → Option Deletion
-last_force now [] fs = now
-last_force now (e ∷ es) fs = last_force (get_or fs e.1 None) es fs
-
-by_last : (key : MapKey) (now : Option Deletion) (es : List Slot) (fs : Forces)
-    → force_below key now es fs ≡ last_force now (filter (λ e. true && not (is_le (key_cmp key e.0))) es) fs
-unfolding last_force
-by_last key now [] fs = refl
-by_last key now (e ∷ es) fs =
-    elim (not (is_le (key_cmp key e.0))) as (λ b. force_below key (cond b (get_or fs e.1 None) now) es fs
-    ≡ last_force now (cond b (e ∷ filter (λ e. true && not (is_le (key_cmp key e.0))) es) (filter (λ e. true && not (is_le (key_cmp key e.0))) es)) fs) [
-      | true ↦ by_last key (get_or fs e.1 None) es fs
-      | false ↦ by_last key now es fs
+pub by_last : (t : MapKey → Bool) (now : Option Deletion) (es : List Slot) (fs : Forces) → force_by t now es fs ≡ last_force now (filter (λ e. true && t e.0) es) fs
+by_last t now [] fs = refl
+by_last t now (e ∷ es) fs =
+    elim (t e.0) as (λ b. force_by t (cond b (get_or fs e.1 None) now) es fs ≡ last_force now (cond b (e ∷ filter (λ e. true && t e.0) es) (filter (λ e. true && t e.0) es)) fs) [
+      | true ↦ by_last t (get_or fs e.1 None) es fs
+      | false ↦ by_last t now es fs
     ]
 
-of_last : (now : Option Deletion) (front : List Slot) (e : Slot) (fs : Forces) → last_force now (front ++ e ∷ []) fs ≡ get_or fs e.1 None
-unfolding last_force
+pub of_last : (now : Option Deletion) (front : List Slot) (e : Slot) (fs : Forces) → last_force now (front ++ e ∷ []) fs ≡ get_or fs e.1 None
 of_last now [] e fs = refl
 of_last now (f ∷ front) e fs = of_last (get_or fs f.1 None) front e fs
-
-pub nothing_below : (key : MapKey) (es : List Slot) (fs : Forces) → filter (λ e. true && not (is_le (key_cmp key e.0))) es ≡ [] → None ≡ force_below key None es fs
-unfolding last_force
-nothing_below key es fs none = sym (by_last key None es fs ∙ ap (λ l. last_force None l fs) none)
-
-pub last_below : (key : MapKey) (es front : List Slot) (e : Slot) (fs : Forces) → filter (λ e. true && not (is_le (key_cmp key e.0))) es ≡ front ++ e ∷ []
-    → force_below key None es fs ≡ get_or fs e.1 None
-last_below key es front e fs last = by_last key None es fs ∙ ap (λ l. last_force None l fs) last ∙ of_last None front e fs
 
 -- ---- slots that are raised
 
@@ -293,3 +277,49 @@ put_in c key es new fs room v n k len put more force none whole =
     (λ i. changes_of ((put ∙ ap (insert_entry key_cmp es key) len) i) (more i))
     ∙ put_change c key k fs v None es force none whole.sorted whole.cuts whole.slots
     ∙ sym (ap (λ b. cond b (changes_of es fs) (inserted None c (changes_of es fs))) (sym (found c key es fs k whole.cuts) ∙ none))
+
+-- ---- in a slice
+
+-- by a test of keys and one of cuts that agree
+module _ (t : MapKey → Bool) (u : Cut → Bool) (alike : (k : MapKey) → key_of (cut_of k) ≡ k → u (cut_of k) ≡ t k) where
+  pub after_slots : (now : Option Deletion) (es : List Slot) (fs : Forces) → AllByRecursion (λ e. key_of (cut_of e.0) ≡ e.0) es → after u now (changes_of es fs) ≡ force_by t now es fs
+  after_slots now [] fs cuts = refl
+  after_slots now (e ∷ es) fs cuts =
+      ap (λ b. after u (cond b (get_or fs e.1 None) now) (changes_of es fs)) (alike e.0 cuts.0) ∙ after_slots (cond (t e.0) (get_or fs e.1 None) now) es fs cuts.1
+
+  pub among_slots : (es : List Slot) (fs : Forces) → AllByRecursion (λ e. key_of (cut_of e.0) ≡ e.0) es → filter (λ m. u m.at) (changes_of es fs) ≡ changes_of (filter (λ e. t e.0) es) fs
+  among_slots [] fs cuts = refl
+  among_slots (e ∷ es) fs cuts =
+      ap (λ b. cond b (change_of fs e ∷ filter (λ m. u m.at) (changes_of es fs)) (filter (λ m. u m.at) (changes_of es fs))) (alike e.0 cuts.0)
+      ∙ elim (t e.0) as (λ b. cond b (change_of fs e ∷ filter (λ m. u m.at) (changes_of es fs)) (filter (λ m. u m.at) (changes_of es fs)) ≡ changes_of (cond b (e ∷ filter (λ e. t e.0) es) (filter (λ e. t e.0) es)) fs) [
+        | true ↦ ap (λ l. change_of fs e ∷ l) (among_slots es fs cuts.1)
+        | false ↦ among_slots es fs cuts.1
+      ]
+
+-- the changes of a slice, as they are kept
+pub slice_of_slots : (s : Slice) (low high : MapKey) (es : List Slot) (fs : Forces) → low ≡ key_of s.lo → high ≡ key_of s.hi → AllByRecursion (λ e. key_of (cut_of e.0) ≡ e.0) es
+    → is_lt (key_cmp low high) ≡ true
+    → change_at s.lo (force_behind low None es fs) (force_behind low None es fs) ++ (changes_of (amid low high es) fs ++ change_at s.hi (force_below high None es fs) None)
+    ≡ clipped s (changes_of es fs)
+slice_of_slots s low high es fs l h cuts below =
+    sym (ap (λ b. cond b (change_at s.lo (after (λ c. not (is_above s.lo c)) None ms) (after (λ c. not (is_above s.lo c)) None ms)
+    ++ (filter (λ m. is_above s.lo m.at && is_below s.hi m.at) ms ++ change_at s.hi (after (is_below s.hi) None ms) None)) []) ((λ i. is_lt (key_cmp (sym l i) (sym h i))) ∙ below)
+    ∙ (λ i. change_at s.lo (behind i) (behind i) ++ (inside i ++ change_at s.hi (before i) None)))
+  where
+    ms : List Change
+    ms = changes_of es fs
+
+    behind : after (λ c. not (is_above s.lo c)) None (changes_of es fs) ≡ force_behind low None es fs
+    behind = after_slots (λ k. not (is_lt (key_cmp low k))) (λ c. not (is_above s.lo c)) (λ k e. λ i. not (is_lt (key_cmp (sym l i) (e i)))) None es fs cuts
+
+    before : after (is_below s.hi) None (changes_of es fs) ≡ force_below high None es fs
+    before = after_slots (λ k. not (is_le (key_cmp high k))) (is_below s.hi) (λ k e. λ i. not (is_le (key_cmp (sym h i) (e i)))) None es fs cuts
+
+    inside : filter (λ m. is_above s.lo m.at && is_below s.hi m.at) (changes_of es fs) ≡ changes_of (amid low high es) fs
+    inside = among_slots (λ k. is_lt (key_cmp low k) && not (is_le (key_cmp high k))) (λ c. is_above s.lo c && is_below s.hi c)
+        (λ k e. λ i. is_lt (key_cmp (sym l i) (e i)) && not (is_le (key_cmp (sym h i) (e i)))) es fs cuts
+
+pub empty_slice : (s : Slice) (low high : MapKey) (ms : List Change) → low ≡ key_of s.lo → high ≡ key_of s.hi → is_lt (key_cmp low high) ≡ false → clipped s ms ≡ []
+empty_slice s low high ms l h none =
+    ap (λ b. cond b (change_at s.lo (after (λ c. not (is_above s.lo c)) None ms) (after (λ c. not (is_above s.lo c)) None ms)
+    ++ (filter (λ m. is_above s.lo m.at && is_below s.hi m.at) ms ++ change_at s.hi (after (is_below s.hi) None ms) None)) []) ((λ i. is_lt (key_cmp (sym l i) (sym h i))) ∙ none)

@@ -1,13 +1,13 @@
 -- What is said at the spots of a partition, once more is said at one of them.
-use Rattle.std.proofs.Common.{◌≡◌, ℕ, Bool, true, false, cond, Option, None, Some, is_some, List, [], ◌∷◌, ◌++◌, map, refl, sym, ap, ◌∙◌, subst, append_assoc}
+use Rattle.std.proofs.Common.{◌≡◌, ℕ, Bool, true, false, cond, Option, None, Some, is_some, List, [], ◌∷◌, ◌++◌, refl, sym, ap, ◌∙◌, subst, append_assoc}
 use Rattle.std.proofs.lemmas.Bool.{true≢false}
 use Rattle.std.proofs.lemmas.Option.{none-some}
 use Rattle.std.proofs.lemmas.Cmp.{tied_itself}
 use Rattle.std.specs.Option.{option_cmp, unwrap_or}
-use Rattle.std.specs.Cmp.{Equal-is, IsTotalOrder, nat_cmp_total}
+use Rattle.std.specs.Cmp.{Equal-is, nat_cmp_total}
 use Rattle.std.specs.FinMap.{nat_cmp-IsAntisymmetric}
 use Rattle.std.specs.FinMap.Entries.{by_order}
-use Rattle.std.specs.List.{AllByRecursion, flat_map}
+use Rattle.std.specs.List.{AllByRecursion}
 use Rattle.std.specs.Map.{lookup, set_value}
 use Rattle.std.specs.BTreeMap.{insert_entry, is_at}
 use Rattle.std.specs.declared.cmp.Ordering.{Ordering}
@@ -26,13 +26,12 @@ use Rattle.cas_bounds.specs.Inner.KeyLaws.{key_total, key_ties}
 use Rattle.cas_bounds.specs.declared.order.Ordered.{Ordered}
 use Rattle.cas_bounds.specs.declared.map_key.MapKey.{MapKey}
 use Rattle.cas_atoms.specs.Greatest.{greater, greatest}
-use Rattle.cas_atoms.specs.RowsAndPaths.{path_cmp}
 use Rattle.cas_atoms.specs.Coordinates.{live_at_row, cell_at_path}
 use Rattle.cas_atoms.specs.Winners.{cover}
 use Rattle.cas_atoms.specs.declared.atom.Atom.{Atom}
 use Rattle.cas_atoms.specs.declared.row.RowColumn.{RowColumn}
 use Rattle.cas_atoms.specs.declared.row.PathCell.{PathCell}
-use Rattle.cas_atoms.proofs.GreatestLemmas.{greater_none, greater_comm, greatest-append}
+use Rattle.cas_atoms.proofs.GreatestLemmas.{greater_comm, greatest-append}
 use Rattle.cas_laws.proofs.JoinProofs.{cover_joins}
 use Rattle.cas_laws.proofs.ShownProofs.{path_orders}
 use Rattle.cas_streams.specs.Flat.{own}

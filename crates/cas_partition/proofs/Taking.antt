@@ -1,5 +1,5 @@
 -- What places that are made, and atoms that are joined, do to a partition.
-use Rattle.std.proofs.Common.{◌≡◌, ℕ, Bool, true, false, cond, ◌&&◌, Option, None, Some, is_some, List, [], ◌∷◌, ◌++◌, map, Result, Ok, Err, OnOk, OnErr, refl, sym, ap, ◌∙◌, subst}
+use Rattle.std.proofs.Common.{◌≡◌, ℕ, Bool, true, false, ◌&&◌, Option, None, Some, is_some, List, [], ◌∷◌, ◌++◌, map, Result, Ok, Err, OnOk, OnErr, refl, sym, ap, ◌∙◌, subst}
 use Rattle.std.proofs.lemmas.Bool.{true≢false}
 use Rattle.std.specs.List.{AllByRecursion}
 use Rattle.std.specs.List.Sorted.{IsStrictlySortedBy}
@@ -7,15 +7,16 @@ use Rattle.std.specs.Map.{lookup, set_value}
 use Rattle.std.specs.BTreeMap.{BTreeMap, is_at}
 use Rattle.std.specs.declared.cmp.Ordering.TheVariants.{Less}
 use Rattle.cas_types.specs.declared.tag.TypeTag.{TypeTag}
+use Rattle.cas_types.specs.declared.schema.Column.{Column}
 use Rattle.cas_cell.specs.Deletions.{deletion_cmp}
 use Rattle.cas_cell.specs.Lives.{live_cmp}
 use Rattle.cas_cell.specs.Cells.{cell_cmp}
 use Rattle.cas_cell.specs.declared.deletion.Deletion.{Deletion}
 use Rattle.cas_cell.proofs.OrderLaws.{deletion_laws, live_laws, cell_laws}
+use Rattle.cas_bounds.specs.ClusteringOrder.{clustering_order}
 use Rattle.cas_bounds.specs.Points.{point_cmp, cut_point}
 use Rattle.cas_bounds.specs.declared.order.Ordered.{Ordered}
 use Rattle.cas_bounds.specs.declared.cuts.Cut.{Cut}
-use Rattle.cas_bounds.specs.declared.map_key.End.TheVariants.{Row}
 use Rattle.cas_atoms.specs.Greatest.{greater, greatest}
 use Rattle.cas_atoms.specs.Coordinates.{Coordinate, row_of, deletion_at, live_at_row, cell_at_path}
 use Rattle.cas_atoms.specs.Winners.{cover, Same}
@@ -24,16 +25,16 @@ use Rattle.cas_atoms.specs.declared.atom.Atom.TheVariants.{PartitionDeletion, Ra
 use Rattle.cas_atoms.specs.declared.atom.Atom.TheVariants.{Live, Write, StaticWrite, StaticCollectionDeletion}
 use Rattle.cas_atoms.proofs.GreatestLemmas.{greater_none, greatest-append}
 use Rattle.cas_laws.proofs.JoinProofs.{cover_joins}
-use Rattle.cas_streams.specs.Places.{Place, place_cmp, place_of}
+use Rattle.cas_streams.specs.Places.{place_cmp, place_of}
 use Rattle.cas_streams.specs.Flat.{Change, atom_of, own, changes, ranges, at_end}
 use Rattle.cas_streams.specs.Streams.{IsOf as IsFragmentOf, IsOrdered}
 use Rattle.cas_streams.proofs.InOrder.{Rise, changes_rise}
 use Rattle.cas_streams.proofs.Ranges.{ranges_give}
-use Rattle.cas_streams.proofs.Joining.{Alike, alike_then, alike_both, alike_same}
+use Rattle.cas_streams.proofs.Joining.{Alike, alike_both, alike_same}
 use Rattle.cas_partition.specs.Ranges.{lies, raised, has_cut, with_cut}
 use Rattle.cas_partition.specs.Spots.{spot_cmp, joined_content, said}
 use Rattle.cas_partition.specs.Placed.{wanted, given}
-use Rattle.cas_partition.specs.Partitions.{said_at, atoms_with, partition_atoms, marker, IsOf, IsAtomOf, IsRowOf, has_spot, is_there, HasPlace, with_spot, MakesPlace, Joins}
+use Rattle.cas_partition.specs.Partitions.{said_at, atoms_with, partition_atoms, marker, IsOf, IsAtomOf, IsRowOf, AreIn, IsOfTable, has_spot, is_there, HasPlace, with_spot, MakesPlace, Joins}
 use Rattle.cas_partition.specs.declared.spot.Spot.{Spot}
 use Rattle.cas_partition.specs.declared.spot.Content.{Content}
 use Rattle.cas_partition.specs.declared.spot.Room.{Room}
@@ -43,6 +44,7 @@ use Rattle.cas_partition.specs.declared.spot.Addition.TheVariants as gives
 use Rattle.cas_partition.specs.declared.partition.Partition.{Partition}
 use Rattle.cas_partition.proofs.Raising.{raised_rise, raised_closed, raised_covers, with_cut_rise, with_cut_closed, with_cut_covers, raised_has, with_cut_has, with_cut_itself}
 use Rattle.cas_partition.proofs.Spots.{alike_itself, alike_is, in_front, at_back, set_said, with_spot_says, with_spot_there, with_spot_kept, set_kept, Rows, set_rows, with_spot_rows}
+use Rattle.cas_partition.proofs.Tabling.{fits_of, wanted_in, given_in, set_in, with_spot_in}
 
 pub on_ok_too : {A E : Type 0} (r : Result A E) (P Q : Type 0) → (P → Q) → OnOk r P → OnOk r Q
 on_ok_too (Ok x) P Q h p = h p
@@ -133,10 +135,14 @@ empty_of order p none nobody = record {
   rows = subst (Rows order) (sym nobody) tt;
 }
 
+pub empty_of_table : (columns : List Column) (p : Partition) → p.ranges ≡ [] → p.spots.entries ≡ [] → IsOfTable columns p
+empty_of_table columns p none nobody = record { of = empty_of (clustering_order columns) p none nobody; entries = subst (AreIn columns) (sym nobody) tt }
+
 pub nothing_made : (a : Atom) (p : Partition) → MakesPlace a p p
 nothing_made a p = record {
   same = λ order of atom. alike_same (alike_itself (partition_atoms p));
   of = λ order of atom. of;
+  fits = λ columns t f. t;
   others = λ b e. e;
 }
 
@@ -152,11 +158,15 @@ with_changes a p ns h kept = record {
   same = λ order of atom.
       let (rise, closed, covers) = h order atom (rising order p.ranges of.marks) (closes order p.ranges of.marks) in
       alike_same (alike_both (alike_itself (atom_of PartitionDeletion p.top)) (alike_both (same_ranges p.ranges ns covers) (alike_itself (said_at p.spots.entries))));
-  of = λ order of atom.
-      let (rise, closed, covers) = h order atom (rising order p.ranges of.marks) (closes order p.ranges of.marks) in
-      record { marks = in_marks order ns rise closed; rows = of.rows };
+  of = in_order;
+  fits = λ columns t f. record { of = in_order (clustering_order columns) t.of (fits_of columns a f); entries = t.entries };
   others = λ b e. cuts_kept p.ranges ns p.spots.entries kept (wanted b) e;
 }
+  where
+    in_order : (order : List Ordered) → IsOf order p → IsAtomOf order a → IsOf order (with_ranges p ns)
+    in_order order of atom =
+        let (rise, closed, covers) = h order atom (rising order p.ranges of.marks) (closes order p.ranges of.marks) in
+        record { marks = in_marks order ns rise closed; rows = of.rows }
 
 -- where an atom is kept at cuts, they are in the table's order
 cuts_of : (order : List Ordered) (a : Atom) (lo hi : Cut) → wanted a ≡ wants.Cuts lo hi → IsAtomOf order a → (lo.order ≡ order) × (hi.order ≡ order)
@@ -242,12 +252,19 @@ one_spot a p m s tag w e = record {
   same = λ order of atom.
       alike_same (alike_is (partition_atoms (with_spots p m)) (partition_atoms p)
       (ap (λ l. atom_of PartitionDeletion p.top ++ (ranges p.ranges ++ l)) (ap said_at e ∙ with_spot_says s tag p.spots.entries)));
-  of = λ order of atom. record {
-    marks = of.marks;
-    rows = subst (Rows order) (sym e) (with_spot_rows order s tag p.spots.entries (spot_row order a s tag w atom) of.rows);
+  of = in_order;
+  fits = λ columns t f. record {
+    of = in_order (clustering_order columns) t.of (fits_of columns a f);
+    entries = subst (AreIn columns) (sym e) (with_spot_in columns s tag p.spots.entries (wanted_in columns a s tag w f) t.entries);
   };
   others = λ b h. spots_kept p.ranges p.spots.entries m.entries (λ t there. ap (has_spot t) e ∙ with_spot_kept t s tag p.spots.entries there) (wanted b) h;
 }
+  where
+    in_order : (order : List Ordered) → IsOf order p → IsAtomOf order a → IsOf order (with_spots p m)
+    in_order order of atom = record {
+      marks = of.marks;
+      rows = subst (Rows order) (sym e) (with_spot_rows order s tag p.spots.entries (spot_row order a s tag w atom) of.rows);
+    }
 
 pub spot_there : (a : Atom) (p : Partition) (m : BTreeMap Spot Content) (s : Spot) (tag : Option TypeTag) → wanted a ≡ wants.At s tag → m.entries ≡ with_spot s tag p.spots.entries
     → HasPlace (with_spots p m) a
@@ -257,6 +274,10 @@ pub same_spots : (a : Atom) (p : Partition) (m : BTreeMap Spot Content) → m.en
 same_spots a p m e = record {
   same = λ order of atom. alike_same (alike_is (partition_atoms (with_spots p m)) (partition_atoms p) (ap (λ l. atom_of PartitionDeletion p.top ++ (ranges p.ranges ++ said_at l)) e));
   of = λ order of atom. record { marks = of.marks; rows = subst (Rows order) (sym e) of.rows };
+  fits = λ columns t f. record {
+    of = record { marks = t.of.marks; rows = subst (Rows (clustering_order columns)) (sym e) t.of.rows };
+    entries = subst (AreIn columns) (sym e) t.entries;
+  };
   others = λ b h. ap (λ l. is_there p.ranges l (wanted b)) e ∙ h;
 }
 
@@ -275,6 +296,7 @@ whole_joins a p top d g e = record {
       (alike_same (in_front (atom_of PartitionDeletion (greater deletion_cmp p.top (Some d))) (atom_of PartitionDeletion p.top) (PartitionDeletion d ∷ [])
       (ranges p.ranges ++ said_at p.spots.entries) (raised_top p.top d))));
   of = λ order of atom. record { marks = of.marks; rows = of.rows };
+  fits = λ columns t f. record { of = record { marks = t.of.marks; rows = t.of.rows }; entries = t.entries };
   others = λ b h. h;
 }
   where
@@ -327,17 +349,21 @@ module _ (a : Atom) (lo hi : Cut) (d : Deletion) (g : given a ≡ gives.Range lo
             (in_front (ranges (raised (lies lo hi) d p.ranges)) (ranges p.ranges) (RangeDeletion lo hi d ∷ []) (said_at p.spots.entries)
             (more_ranges p.ranges (raised (lies lo hi) d p.ranges) lo hi d
             (λ x. raised_covers order lo hi d p.ranges lo_of hi_of below low high rise closed x (row_of x) refl))))));
-        of = λ order of atom.
-            let (lo_of, hi_of, below) = subst (IsAtomOf order) (sym range_is) atom in
-            let rise : Rise order p.ranges = rising order p.ranges of.marks in
-            let closed : at_end None p.ranges ≡ None = closes order p.ranges of.marks in
-            record {
-              marks = subst (λ l. IsOrdered order (map marker l)) (sym e)
-                  (in_marks order (raised (lies lo hi) d p.ranges) (raised_rise order (lies lo hi) d p.ranges rise) (raised_closed order lo hi d p.ranges lo_of hi_of below low high rise closed));
-              rows = of.rows;
-            };
+        of = in_order low high;
+        fits = λ columns t f. record { of = in_order low high (clustering_order columns) t.of (fits_of columns a f); entries = t.entries };
         others = λ b h. cuts_kept p.ranges ns p.spots.entries (λ c has. ap (has_cut c) e ∙ raised_has c (lies lo hi) d p.ranges ∙ has) (wanted b) h;
       }
+    where
+      in_order : has_cut lo p.ranges ≡ true → has_cut hi p.ranges ≡ true → (order : List Ordered) → IsOf order p → IsAtomOf order a → IsOf order (with_ranges p ns)
+      in_order low high order of atom =
+          let (lo_of, hi_of, below) = subst (IsAtomOf order) (sym range_is) atom in
+          let rise : Rise order p.ranges = rising order p.ranges of.marks in
+          let closed : at_end None p.ranges ≡ None = closes order p.ranges of.marks in
+          record {
+            marks = subst (λ l. IsOrdered order (map marker l)) (sym e)
+                (in_marks order (raised (lies lo hi) d p.ranges) (raised_rise order (lies lo hi) d p.ranges rise) (raised_closed order lo hi d p.ranges lo_of hi_of below low high rise closed));
+            rows = of.rows;
+          }
 
 module _ (a : Atom) (s : Spot) (c : Content) (g : given a ≡ gives.At s c) where
   says : Addition → List Atom
@@ -398,5 +424,9 @@ module _ (a : Atom) (s : Spot) (c : Content) (g : given a ≡ gives.At s c) wher
             (at_back (ranges p.ranges) (said_at m.entries) (said_at p.spots.entries) (own (said s c))
             (subst (λ l. Alike (said_at l) (said_at p.spots.entries ++ own (said s c))) (sym e) (set_said s old c p.spots.entries is)))));
         of = λ order of atom. record { marks = of.marks; rows = subst (Rows order) (sym e) (set_rows order (is_at (spot_cmp s)) (joined_content old c) p.spots.entries of.rows) };
+        fits = λ columns t f. record {
+          of = record { marks = t.of.marks; rows = subst (Rows (clustering_order columns)) (sym e) (set_rows (clustering_order columns) (is_at (spot_cmp s)) (joined_content old c) p.spots.entries t.of.rows) };
+          entries = subst (AreIn columns) (sym e) (set_in columns s old c p.spots.entries is (given_in columns a s c g f) t.entries);
+        };
         others = λ b h. spots_kept p.ranges p.spots.entries m.entries (λ t has. ap (has_spot t) e ∙ set_kept t (is_at (spot_cmp s)) (joined_content old c) p.spots.entries has) (wanted b) h;
       }

@@ -5,12 +5,17 @@ use Rattle.std.specs.List.{AllByRecursion, flat_map}
 use Rattle.std.specs.Map.{lookup}
 use Rattle.std.specs.BTreeMap.{insert_entry, is_at}
 use Rattle.std.specs.declared.cmp.Ordering.TheVariants.{Less}
+use Rattle.cas_types.specs.Schemas.{is_static, is_regular, is_plain}
+use Rattle.cas_types.specs.declared.schema.Column.{Column}
+use Rattle.cas_types.specs.declared.schema.Kind.{Kind}
 use Rattle.cas_types.specs.declared.tag.TypeTag.{TypeTag}
 use Rattle.cas_cell.specs.declared.deletion.Deletion.{Deletion}
+use Rattle.cas_bounds.specs.ClusteringOrder.{clustering_order}
 use Rattle.cas_bounds.specs.Cuts.{cut_cmp}
 use Rattle.cas_bounds.specs.declared.order.Ordered.{Ordered}
 use Rattle.cas_bounds.specs.declared.map_key.End.TheVariants.{Row}
 use Rattle.cas_bounds.specs.declared.map_key.MapKey.{MapKey}
+use Rattle.cas_atoms.specs.Fits.{Fits, Names, is_path}
 use Rattle.cas_atoms.specs.Winners.{Same}
 use Rattle.cas_atoms.specs.declared.atom.Atom.{Atom}
 use Rattle.cas_atoms.specs.declared.atom.Atom.TheVariants.{PartitionDeletion, RangeDeletion, RowDeletion, CollectionDeletion}
@@ -69,6 +74,38 @@ IsAtomOf order (Write c ref p v) = c.order ≡ order
 IsAtomOf order (StaticWrite ref p v) = Unit {0}
 IsAtomOf order (StaticCollectionDeletion ref d) = Unit {0}
 
+-- ---- of a table with these columns
+
+-- the columns that are kept there: static ones in the static row, regular ones in rows
+abbrev pub kept_in : Option MapKey → Kind → Bool
+kept_in None = is_static
+kept_in (Some k) = is_regular
+
+-- a collection as a whole, or a cell at a path of the column, which has no deletion of its own
+abbrev pub IsPathOf : Column → Option (List ℕ) → Content → Type 0
+IsPathOf column None c = is_plain column.shape ≡ false
+IsPathOf column (Some p) c = (is_path column p ≡ true) × (c.deletion ≡ None)
+
+-- what is said of the column with that number is said of one of the table's
+pub record IsColumnIn (columns : List Column) (row : Option MapKey) (n : ℕ) (path : Option (List ℕ)) (c : Content) : Type 0 where
+  pub column : Column
+  pub named : Names columns (record { number = n; path = c.tag }) column
+  pub kind : kept_in row column.kind ≡ true
+  pub at : IsPathOf column path c
+
+-- it is said of a row itself, or of a column of the table
+abbrev pub IsIn : List Column → Option MapKey → Option ℕ → Option (List ℕ) → Content → Type 0
+IsIn columns row None path c = Unit {0}
+IsIn columns row (Some n) path c = IsColumnIn columns row n path c
+
+abbrev pub AreIn : List Column → List (Spot × Content) → Type 0
+AreIn columns es = AllByRecursion (λ e. IsIn columns e.0.row e.0.column e.0.path e.1) es
+
+-- a partition of the table: its rows and cuts are in the table's order, and what is said is said of the table's columns
+pub record IsOfTable (columns : List Column) (p : Partition) : Type 0 where
+  pub of : IsOf (clustering_order columns) p
+  pub entries : AreIn columns p.spots.entries
+
 -- ---- places
 
 -- the spot is among those of the partition
@@ -91,16 +128,18 @@ with_spot s tag es = if has_spot s es then es else insert_entry spot_cmp es s (b
 
 -- ---- what calls do
 
--- place was made for an atom, which says nothing yet: for each table, and each other atom keeps its place
+-- place was made for an atom, which says nothing yet: for each table and order of its rows; and each other atom keeps its place
 pub record MakesPlace (a : Atom) (p q : Partition) : Type 0 where
   pub same : (order : List Ordered) → IsOf order p → IsAtomOf order a → Same (partition_atoms q) (partition_atoms p)
   pub of : (order : List Ordered) → IsOf order p → IsAtomOf order a → IsOf order q
+  pub fits : (columns : List Column) → IsOfTable columns p → Fits columns a → IsOfTable columns q
   pub others : (b : Atom) → HasPlace p b → HasPlace q b
 
 -- the atom was joined, and each atom keeps its place
 pub record Joins (a : Atom) (p q : Partition) : Type 0 where
   pub joined : (order : List Ordered) → IsOf order p → IsAtomOf order a → Same (partition_atoms q) (partition_atoms p ++ a ∷ [])
   pub of : (order : List Ordered) → IsOf order p → IsAtomOf order a → IsOf order q
+  pub fits : (columns : List Column) → IsOfTable columns p → Fits columns a → IsOfTable columns q
   pub others : (b : Atom) → HasPlace p b → HasPlace q b
 
 -- ---- lists of atoms
@@ -108,6 +147,10 @@ pub record Joins (a : Atom) (p q : Partition) : Type 0 where
 -- each is of a table that orders its rows so
 abbrev pub AreAtomsOf : List Ordered → List Atom → Type 0
 AreAtomsOf order atoms = AllByRecursion (IsAtomOf order) atoms
+
+-- each is one that the table may hold
+abbrev pub AllFit : List Column → List Atom → Type 0
+AllFit columns atoms = AllByRecursion (Fits columns) atoms
 
 -- each has its place
 abbrev pub HavePlaces : Partition → List Atom → Type 0
@@ -117,10 +160,12 @@ HavePlaces p atoms = AllByRecursion (HasPlace p) atoms
 pub record MakesPlaces (atoms : List Atom) (p q : Partition) : Type 0 where
   pub same : (order : List Ordered) → IsOf order p → AreAtomsOf order atoms → Same (partition_atoms q) (partition_atoms p)
   pub of : (order : List Ordered) → IsOf order p → AreAtomsOf order atoms → IsOf order q
+  pub fits : (columns : List Column) → IsOfTable columns p → AllFit columns atoms → IsOfTable columns q
   pub others : (b : Atom) → HasPlace p b → HasPlace q b
 
 -- and all of them were joined
 pub record JoinsAll (atoms : List Atom) (p q : Partition) : Type 0 where
   pub joined : (order : List Ordered) → IsOf order p → AreAtomsOf order atoms → Same (partition_atoms q) (partition_atoms p ++ atoms)
   pub of : (order : List Ordered) → IsOf order p → AreAtomsOf order atoms → IsOf order q
+  pub fits : (columns : List Column) → IsOfTable columns p → AllFit columns atoms → IsOfTable columns q
   pub others : (b : Atom) → HasPlace p b → HasPlace q b

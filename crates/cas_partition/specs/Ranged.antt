@@ -1,5 +1,5 @@
 -- The spots of a slice, as two ranges of the keys: the static row, and the rows between two cuts (own).
-use Rattle.std.specs.Prelude.{◌≡◌, Bool, true, not, ◌&&◌, Option, None, Some, List, [], filter}
+use Rattle.std.specs.Prelude.{true, not, ◌&&◌, None, Some, List, [], filter}
 use Rattle.std.specs.Ordering.{is_le}
 use Rattle.cas_bounds.specs.declared.cuts.Cut.{Cut}
 use Rattle.cas_bounds.specs.declared.map_key.End.TheVariants.{Before}

@@ -4,17 +4,20 @@ use Rattle.std.specs.Prelude.{◌≡◌, Option, None, Some, List, [], ◌∷◌
 use Rattle.std.specs.List.Sorted.{IsStrictlySortedBy}
 use Rattle.std.specs.Map.{keys_of}
 use Rattle.std.specs.Ordering.{is_eq}
+use Rattle.cas_types.specs.declared.schema.Column.{Column}
 use Rattle.cas_cell.specs.declared.deletion.Deletion.{Deletion}
+use Rattle.cas_bounds.specs.ClusteringOrder.{clustering_order}
 use Rattle.cas_bounds.specs.declared.order.Ordered.{Ordered}
 use Rattle.cas_bounds.specs.declared.cuts.Slice.{Slice}
 use Rattle.cas_laws.specs.Inside.{SameIn}
 use Rattle.cas_streams.specs.Flat.{flat}
-use Rattle.cas_streams.specs.Streams.{IsOrdered}
+use Rattle.cas_streams.specs.Streams.{IsOrdered, WellFormed}
 use Rattle.cas_streams.specs.Joined.{joined_fragment, fragment_cmp, Stream}
 use Rattle.cas_streams.specs.Merged.{merged}
 use Rattle.cas_streams.specs.declared.fragment.Fragment.{Fragment}
+use Rattle.cas_partition.specs.Ranges.{clipped}
 use Rattle.cas_partition.specs.Spots.{spot_cmp}
-use Rattle.cas_partition.specs.Partitions.{partition_atoms, marker, IsOf}
+use Rattle.cas_partition.specs.Partitions.{partition_atoms, marker, IsOf, IsOfTable}
 use Rattle.cas_partition.specs.Ranged.{piece_of, statics_of, rows_between}
 use Rattle.cas_partition.specs.declared.partition.Partition.{Partition}
 
@@ -29,20 +32,52 @@ grouped (Some f) gs = grouped_from f gs
 grouped None [] = []
 grouped None (g ∷ gs) = grouped_from g gs
 
--- a stream that tells these fragments under that deletion says in the slice what the partition says, for each table: its fragments are in order
+-- a stream that tells these fragments under that deletion says in the slice what the partition says: its fragments are in order, and well formed where
+-- the partition is of a table with these columns
 pub record Shows (s : Slice) (p : Partition) (top : Option Deletion) (fs : List Fragment) : Type 0 where
   pub ordered : (order : List Ordered) → IsOf order p → s.lo.order ≡ order → s.hi.order ≡ order → IsOrdered order fs
   pub same : (order : List Ordered) → IsOf order p → s.lo.order ≡ order → s.hi.order ≡ order → SameIn s (flat top fs) (partition_atoms p)
+  pub formed : (columns : List Column) → IsOfTable columns p → s.lo.order ≡ clustering_order columns → s.hi.order ≡ clustering_order columns
+      → WellFormed columns fs
+
+-- rows one after another: where the first of the later ones is the last of the earlier ones, both are put together
+abbrev pub meet_from : Fragment → List Fragment → List Fragment → List Fragment
+meet_from f [] [] = f ∷ []
+meet_from f [] (g ∷ gs) = grouped_from f (g ∷ []) ++ gs
+meet_from f (h ∷ fs) gs = f ∷ meet_from h fs gs
+
+abbrev pub meet : List Fragment → List Fragment → List Fragment
+meet [] gs = gs
+meet (f ∷ fs) gs = meet_from f fs gs
+
+-- pieces in halves, and those in halves again; a few are one after another
+pub data Halves : Type 0 where
+  few : List Fragment → Halves
+  both : Halves → Halves → Halves
+
+abbrev pub pieces_in : Halves → List Fragment
+pieces_in (few fs) = fs
+pieces_in (both a b) = pieces_in a ++ pieces_in b
+
+abbrev pub rows_by : Halves → List Fragment
+rows_by (few fs) = grouped None fs
+rows_by (both a b) = meet (rows_by a) (rows_by b)
+
+-- the rows of these pieces, in whichever halves they are put together
+abbrev pub AreRowsOf : List Fragment → List Fragment → Type 0
+AreRowsOf pieces rows = (h : Halves) × (pieces_in h ≡ pieces) × (rows_by h ≡ rows)
 
 -- ---- a slice as two streams
 
--- the rows of the slice and the static row, under the deletion of the whole; and the range deletions
-abbrev pub slice_streams : Slice → Partition → List Stream
-slice_streams s p =
-    record { top = p.top; fragments = grouped None (map piece_of (statics_of p.spots.entries ++ rows_between s.lo s.hi p.spots.entries)) }
-    ∷ record { top = None; fragments = map marker p.ranges } ∷ []
+-- what is said of the static row and of the rows of the slice, piece by piece
+abbrev pub slice_pieces : Slice → Partition → List Fragment
+slice_pieces s p = map piece_of (statics_of p.spots.entries ++ rows_between s.lo s.hi p.spots.entries)
 
--- the merge of both is in order, and says in the slice what the partition says
+-- the rows under the deletion of the whole, and the range deletions in the slice
+abbrev pub slice_streams : Slice → Partition → List Fragment → List Stream
+slice_streams s p rows = record { top = p.top; fragments = rows } ∷ record { top = None; fragments = map marker (clipped s p.ranges) } ∷ []
+
+-- the merge of both is in order and well formed, and says in the slice what the partition says
 abbrev pub SlicesShow : Type 0
-SlicesShow = (s : Slice) (p : Partition) → IsStrictlySortedBy spot_cmp (keys_of p.spots.entries)
-    → Shows s p (merged (slice_streams s p)).top (merged (slice_streams s p)).fragments
+SlicesShow = (s : Slice) (p : Partition) (rows : List Fragment) → IsStrictlySortedBy spot_cmp (keys_of p.spots.entries) → AreRowsOf (slice_pieces s p) rows
+    → Shows s p (merged (slice_streams s p rows)).top (merged (slice_streams s p rows)).fragments

@@ -5,10 +5,11 @@ ghost use Rattle.std.specs.Map.{lookup, set_value};
 ghost use Rattle.std.specs.BTreeMap.{is_at};
 ghost use Rattle.std.specs.Vec.Iter.{into_iter_items};
 ghost use Rattle.cas_types.specs.declared.tag.TypeTag.{TypeTag};
+ghost use Rattle.cas_types.specs.declared.schema.Column.{Column};
 ghost use Rattle.cas_bounds.specs.declared.order.Ordered.{Ordered};
 ghost use Rattle.cas_partition.specs.Ranges.{with_cut};
 ghost use Rattle.cas_partition.specs.Spots.{spot_cmp, joined_content};
-ghost use Rattle.cas_partition.specs.Partitions.{partition_atoms, IsOf, HasPlace, HavePlaces, with_spot, MakesPlace, MakesPlaces, Joins, JoinsAll};
+ghost use Rattle.cas_partition.specs.Partitions.{partition_atoms, IsOf, IsOfTable, HasPlace, HavePlaces, with_spot, MakesPlace, MakesPlaces, Joins, JoinsAll};
 ghost use Rattle.cas_partition.specs.Inner.Firsts.{with_first};
 ghost use Rattle.cas_partition.specs.declared.spot.Content.{Content};
 
@@ -78,6 +79,7 @@ impl Partition {
     pub fn new(alloc: Global) -> Self
         ensures empty { partition_atoms result ≡ [] }
         ensures of { (order : ListOf Ordered) → IsOf order result }
+        ensures table { (columns : ListOf Column) → IsOfTable columns result }
     {
         Partition {
             top: None,

@@ -1,19 +1,23 @@
 //! The range deletions of a partition in memory.
 
-ghost use Rattle.std.specs.Prelude.{◌≡◌, None, Some, OnOk, OnErr, IfOk, [], map, get_or, slice_set};
+ghost use Rattle.std.specs.Prelude.{◌≡◌, None, Some, OnOk, OnErr, IfOk, [], ◌++◌, map, get_or, slice_set};
+ghost use Rattle.std.specs.declared.cmp.Ordering.TheVariants.{Less};
 ghost use Rattle.cas_cell.specs.Deletions.{deletion_cmp};
+ghost use Rattle.cas_bounds.specs.Keys.{key_cmp};
 ghost use Rattle.cas_atoms.specs.Greatest.{greater};
-ghost use Rattle.cas_partition.specs.Ranges.{lies, raised, with_cut};
-ghost use Rattle.cas_partition.specs.Inner.Slots.{cut_of, changes_of, raised_at, force_below, between};
+ghost use Rattle.cas_partition.specs.Ranges.{lies, raised, with_cut, change_at, clipped};
+ghost use Rattle.cas_partition.specs.Inner.Slots.{cut_of, changes_of, raised_at, last_force, force_below, force_behind, between, amid};
 ghost use Rattle.cas_partition.specs.Partitions.{marker};
 
 use cas_atoms::greater_deletion;
-use cas_bounds::{Cut, End, MapKey};
+use cas_bounds::{Cut, End, MapKey, Slice};
 use cas_cell::Deletion;
 use cas_streams::Fragment;
 use std::alloc::{AllocError, Global};
 use std::collections::BTreeMap;
+use std::collections::btree_map::Range;
 use std::marker::Model;
+use std::ops::Bound;
 
 /// The range deletions of a partition: cuts in order, from each of which on up to the next one a
 /// deletion is in force, or none. Contracts see it as the list of these changes.
@@ -46,7 +50,18 @@ fn force_at(forces: &[Option<Deletion>], slot: usize) -> Option<Deletion>
     }
 }
 
-// What is in force before the key: at the last cut below it.
+// What is in force from the last of these cuts on.
+fn last_force(forces: &[Option<Deletion>], cuts: Range<'_, MapKey, usize>) -> Option<Deletion>
+    ensures { result ≡ last_force None cuts.entry forces.now }
+{
+    let mut rest = cuts;
+    match rest.next_back() {
+        None => None,
+        Some((_, slot)) => force_at(forces, *slot),
+    }
+}
+
+// What is in force right before the key.
 fn force_below(
     cuts: &BTreeMap<MapKey, usize>,
     forces: &[Option<Deletion>],
@@ -54,10 +69,18 @@ fn force_below(
 ) -> Option<Deletion>
     ensures { result ≡ force_below key.now None cuts.now.entries forces.now }
 {
-    match cuts.range(..key).next_back() {
-        None => None,
-        Some((_, slot)) => force_at(forces, *slot),
-    }
+    last_force(forces, cuts.range(..key))
+}
+
+// What is in force right behind the key.
+fn force_behind(
+    cuts: &BTreeMap<MapKey, usize>,
+    forces: &[Option<Deletion>],
+    key: &MapKey,
+) -> Option<Deletion>
+    ensures { result ≡ force_behind key.now None cuts.now.entries forces.now }
+{
+    last_force(forces, cuts.range(..=key))
 }
 
 fn raise_slot(forces: &mut Vec<Option<Deletion>>, slot: usize, d: Deletion)
@@ -101,20 +124,53 @@ fn cut_of(key: &MapKey) -> Result<Cut, AllocError>
     })
 }
 
-fn markers_of(
-    alloc: Global,
-    cuts: &BTreeMap<MapKey, usize>,
-    forces: &[Option<Deletion>],
-) -> Result<Vec<Fragment>, AllocError>
-    ensures { IfOk result (λ v. v.items ≡ map marker (changes_of cuts.now.entries forces.now)) }
+// A marker at the cut, where a deletion is in force.
+fn add_change(
+    markers: &mut Vec<Fragment>,
+    cut: &Cut,
+    in_force: Option<Deletion>,
+    to: Option<Deletion>,
+) -> Result<(), AllocError>
+    ensures { OnOk result (markers.new.items ≡ markers.old.items ++ map marker (change_at cut.now in_force to)) }
 {
-    let mut markers = Vec::new(alloc);
-    let mut rest = cuts.iter();
+    if in_force.is_some() {
+        markers.push(Fragment::Marker(cut.copied()?, to))?;
+    }
+    Ok(())
+}
+
+// The markers of these cuts.
+fn add_markers(
+    markers: &mut Vec<Fragment>,
+    forces: &[Option<Deletion>],
+    cuts: Range<'_, MapKey, usize>,
+) -> Result<(), AllocError>
+    ensures { OnOk result (markers.new.items ≡ markers.old.items ++ map marker (changes_of cuts.entry forces.now)) }
+{
+    let mut rest = cuts;
     while let Some((key, slot)) = rest.next() {
         let cut = cut_of(key)?;
         markers.push(Fragment::Marker(cut, force_at(forces, *slot)))?;
     }
-    Ok(markers)
+    Ok(())
+}
+
+// The markers of the cuts between two keys.
+fn add_amid(
+    markers: &mut Vec<Fragment>,
+    cuts: &BTreeMap<MapKey, usize>,
+    forces: &[Option<Deletion>],
+    low: &MapKey,
+    high: &MapKey,
+) -> Result<(), AllocError>
+    requires { key_cmp low.now high.now ≡ Less }
+    ensures { OnOk result (markers.new.items ≡ markers.old.items ++ map marker (changes_of (amid low.now high.now cuts.now.entries) forces.now)) }
+{
+    add_markers(
+        markers,
+        forces,
+        cuts.range((Bound::Excluded(low), Bound::Excluded(high))),
+    )
 }
 
 impl Ranges {
@@ -154,10 +210,21 @@ impl Ranges {
         raise_between(&self.cuts, &mut self.forces, &from, &to, d);
     }
 
-    /// The changes as markers of a stream.
-    pub(crate) fn markers(&self, alloc: Global) -> Result<Vec<Fragment>, AllocError>
-        ensures { IfOk result (λ v. v.items ≡ map marker self.now) }
+    /// The changes in the slice as markers of a stream: it begins with the deletion in force where
+    /// the slice begins, and closes the one in force at its end.
+    pub(crate) fn markers(&self, alloc: Global, slice: &Slice) -> Result<Vec<Fragment>, AllocError>
+        ensures { IfOk result (λ v. v.items ≡ map marker (clipped slice.now self.now)) }
     {
-        markers_of(alloc, &self.cuts, &self.forces)
+        let low = MapKey::of_cut(slice.lo.copied()?);
+        let high = MapKey::of_cut(slice.hi.copied()?);
+        let mut markers = Vec::new(alloc);
+        if low.cmp(&high).is_lt() {
+            let begun = force_behind(&self.cuts, &self.forces, &low);
+            add_change(&mut markers, &slice.lo, begun, begun)?;
+            add_amid(&mut markers, &self.cuts, &self.forces, &low, &high)?;
+            let ended = force_below(&self.cuts, &self.forces, &high);
+            add_change(&mut markers, &slice.hi, ended, None)?;
+        }
+        Ok(markers)
     }
 }

@@ -3,10 +3,12 @@
 ghost use Rattle.std.specs.Prelude.{◌≡◌, List as ListOf, Option, None, Some, [], IfOk, OnOk, map, ◌++◌, ◌∷◌};
 ghost use Rattle.std.specs.List.Sorted.{IsStrictlySortedBy};
 ghost use Rattle.std.specs.Map.{keys_of};
+ghost use Rattle.std.specs.Vec.Iter.{into_iter_items};
 ghost use Rattle.cas_streams.specs.declared.fragment.Fragment.{Fragment};
 ghost use Rattle.cas_partition.specs.Spots.{spot_cmp, columns_at, cells_at, said};
-ghost use Rattle.cas_partition.specs.Slices.{grouped, grouped_from, Shows};
+ghost use Rattle.cas_partition.specs.Slices.{grouped, grouped_from, meet, AreRowsOf, Shows};
 ghost use Rattle.cas_partition.specs.Ranged.{piece_of, spot_at, spots_below, spots_between, statics_of, rows_between};
+ghost use Rattle.cas_partition.specs.Inner.Firsts.{with_first};
 
 use crate::partition::Partition;
 use crate::spot::{Content, Spot};
@@ -19,6 +21,7 @@ use cas_types::{Bytes, List};
 use std::alloc::{AllocError, Global};
 use std::collections::BTreeMap;
 use std::collections::btree_map::Range;
+use std::vec::IntoIter;
 
 // The cell, where there is one and a path.
 fn cells_at(
@@ -107,22 +110,19 @@ fn add_piece(
     }
 }
 
-// The pieces of a range of spots; what comes last then.
+// The pieces of a range of spots.
 fn add_range(
     alloc: Global,
-    done: &mut Vec<Fragment>,
-    before: Option<Fragment>,
+    pieces: &mut Vec<Fragment>,
     spots: Range<'_, Spot, Content>,
-) -> Result<Option<Fragment>, AllocError>
-    ensures { IfOk result (λ l. (gs : ListOf Fragment) → done.new.items ++ grouped l gs ≡ done.old.items ++ grouped before (map piece_of spots.entry ++ gs)) }
+) -> Result<(), AllocError>
+    ensures { OnOk result (pieces.new.items ≡ pieces.old.items ++ map piece_of spots.entry) }
 {
-    let mut last = before;
     let mut rest = spots;
     while let Some((spot, content)) = rest.next() {
-        let next = piece(alloc, spot, content)?;
-        last = Some(add_piece(alloc, done, last, next)?);
+        pieces.push(piece(alloc, spot, content)?)?;
     }
-    Ok(last)
+    Ok(())
 }
 
 // The key below all rows, and that of a cut.
@@ -139,33 +139,30 @@ fn at(row: MapKey) -> Spot
 // What is said at the spots below one.
 fn add_below(
     alloc: Global,
-    done: &mut Vec<Fragment>,
+    pieces: &mut Vec<Fragment>,
     spots: &BTreeMap<Spot, Content>,
     first: &Spot,
-) -> Result<Option<Fragment>, AllocError>
-    ensures added { IfOk result (λ l. (gs : ListOf Fragment) → done.new.items ++ grouped l gs ≡ done.old.items
-        ++ grouped None (map piece_of (spots_below first.now spots.now.entries) ++ gs)) }
+) -> Result<(), AllocError>
+    ensures added { OnOk result (pieces.new.items ≡ pieces.old.items ++ map piece_of (spots_below first.now spots.now.entries)) }
     ensures sorted { IsStrictlySortedBy spot_cmp (keys_of spots.now.entries) }
 {
-    add_range(alloc, done, None, spots.range(..first))
+    add_range(alloc, pieces, spots.range(..first))
 }
 
 // What is said at the spots between two.
 fn add_between(
     alloc: Global,
-    done: &mut Vec<Fragment>,
-    last: Option<Fragment>,
+    pieces: &mut Vec<Fragment>,
     spots: &BTreeMap<Spot, Content>,
     low: &Spot,
     high: &Spot,
-) -> Result<Option<Fragment>, AllocError>
-    ensures { IfOk result (λ l. (gs : ListOf Fragment) → done.new.items ++ grouped l gs ≡ done.old.items
-        ++ grouped last (map piece_of (spots_between low.now high.now spots.now.entries) ++ gs)) }
+) -> Result<(), AllocError>
+    ensures { OnOk result (pieces.new.items ≡ pieces.old.items ++ map piece_of (spots_between low.now high.now spots.now.entries)) }
 {
     if low.cmp(high).is_lt() {
-        add_range(alloc, done, last, spots.range(low..high))
+        add_range(alloc, pieces, spots.range(low..high))
     } else {
-        Ok(last)
+        Ok(())
     }
 }
 
@@ -180,14 +177,100 @@ fn closed(done: Vec<Fragment>, last: Option<Fragment>) -> Result<Vec<Fragment>, 
     Ok(rows)
 }
 
+// The next fragment, and the others stay.
+fn first_of(rest: &mut IntoIter<Fragment>) -> Option<Fragment>
+    ensures { with_first result (into_iter_items rest.new) ≡ into_iter_items rest.old }
+{
+    rest.next()
+}
+
+// Pieces put together one after another.
+fn few_rows(alloc: Global, pieces: Vec<Fragment>) -> Result<Vec<Fragment>, AllocError>
+    ensures { IfOk result (λ v. v.items ≡ grouped None pieces.items) }
+{
+    let mut rows = Vec::new(alloc);
+    let mut last = None;
+    let mut rest = pieces.into_iter();
+    while let Some(piece) = first_of(&mut rest) {
+        last = Some(add_piece(alloc, &mut rows, last, piece)?);
+    }
+    closed(rows, last)
+}
+
+fn add_all(rows: &mut Vec<Fragment>, others: IntoIter<Fragment>) -> Result<(), AllocError>
+    ensures { OnOk result (rows.new.items ≡ rows.old.items ++ into_iter_items others) }
+{
+    let mut rest = others;
+    while let Some(row) = first_of(&mut rest) {
+        rows.push(row)?;
+    }
+    Ok(())
+}
+
+// Rows behind others, the last of which may go on in the first of them.
+fn go_on(
+    alloc: Global,
+    rows: Vec<Fragment>,
+    last: Fragment,
+    first: Fragment,
+    others: IntoIter<Fragment>,
+) -> Result<Vec<Fragment>, AllocError>
+    ensures { IfOk result (λ v. v.items ≡ rows.items ++ (grouped_from last (first ∷ []) ++ into_iter_items others)) }
+{
+    let mut all = rows;
+    let next = add_piece(alloc, &mut all, Some(last), first)?;
+    all.push(next)?;
+    add_all(&mut all, others)?;
+    Ok(all)
+}
+
+// Rows one after another: the last of the first ones may go on in the others.
+fn meet(
+    alloc: Global,
+    left: Vec<Fragment>,
+    right: Vec<Fragment>,
+) -> Result<Vec<Fragment>, AllocError>
+    ensures { IfOk result (λ v. v.items ≡ meet left.items right.items) }
+{
+    let mut rows = left;
+    match rows.pop() {
+        None => Ok(right),
+        Some(last) => {
+            let mut rest = right.into_iter();
+            match first_of(&mut rest) {
+                None => {
+                    rows.push(last)?;
+                    Ok(rows)
+                }
+                Some(first) => go_on(alloc, rows, last, first, rest),
+            }
+        }
+    }
+}
+
+// Pieces put together: few one after another, many in halves, so that each is moved a few times.
+fn rows_of(alloc: Global, pieces: Vec<Fragment>) -> Result<Vec<Fragment>, AllocError>
+    ensures { IfOk result (λ v. AreRowsOf pieces.items v.items) }
+{
+    let half = pieces.len() / 2;
+    if half < 8 {
+        return few_rows(alloc, pieces);
+    }
+    let mut front = pieces;
+    let back = front.split_off(half)?;
+    let left = rows_of(alloc, front)?;
+    let right = rows_of(alloc, back)?;
+    meet(alloc, left, right)
+}
+
 // What is said of the static row and of the rows of the slice.
 fn rows_in(
     alloc: Global,
     spots: &BTreeMap<Spot, Content>,
     slice: &Slice,
 ) -> Result<Vec<Fragment>, AllocError>
-    ensures rows { IfOk result (λ v. v.items ≡ grouped None (map piece_of (statics_of spots.now.entries
-        ++ rows_between slice.now.lo slice.now.hi spots.now.entries))) }
+    ensures rows { IfOk result (λ v. AreRowsOf (map piece_of (statics_of spots.now.entries
+        ++ rows_between slice.now.lo slice.now.hi spots.now.entries)) v.items) }
     ensures sorted { OnOk result (IsStrictlySortedBy spot_cmp (keys_of spots.now.entries)) }
 {
     let first = at(MapKey {
@@ -197,10 +280,10 @@ fn rows_in(
     });
     let low = at(MapKey::of_cut(slice.lo.copied()?));
     let high = at(MapKey::of_cut(slice.hi.copied()?));
-    let mut done = Vec::new(alloc);
-    let shared = add_below(alloc, &mut done, spots, &first)?;
-    let last = add_between(alloc, &mut done, shared, spots, &low, &high)?;
-    closed(done, last)
+    let mut pieces = Vec::new(alloc);
+    add_below(alloc, &mut pieces, spots, &first)?;
+    add_between(alloc, &mut pieces, spots, &low, &high)?;
+    rows_of(alloc, pieces)
 }
 
 impl Partition {
@@ -210,7 +293,7 @@ impl Partition {
             × Shows slice.now self.now (⟦<Merger<Part> as FragmentSource>⟧.over_all m) fs) }
     {
         let rows = rows_in(alloc, &self.spots, slice)?;
-        let marks = self.ranges.markers(alloc)?;
+        let marks = self.ranges.markers(alloc, slice)?;
         let mut parts = Vec::new(alloc);
         parts.push(Part::new(self.top, rows))?;
         parts.push(Part::new(None, marks))?;

@@ -28,7 +28,7 @@ fn join(
     Ok(())
 }
 
-// The UPDATE at 8 is older than what the INSERT at 10 wrote.
+// The UPDATE at 8 is older than what the INSERT at 10 wrote. Under 3 there is only a place.
 fn written(alloc: Global) -> Result<MemPart, AllocError> {
     let mut part = MemPart::new(alloc);
     let statements = [
@@ -43,6 +43,7 @@ fn written(alloc: Global) -> Result<MemPart, AllocError> {
     for (k, what, at) in statements {
         join(&mut part, alloc, k, what, at)?;
     }
+    part.reserve(&mutation(alloc, 3, Statement::Insert(1), 40)?)?;
     Ok(part)
 }
 
@@ -108,6 +109,16 @@ fn shown(
     }
 }
 
+// The key that comes behind that one, or first.
+fn behind(part: &MemPart, alloc: Global, k: u8) -> Result<u8, AllocError> {
+    let after = key(alloc, k)?;
+    let next = part.next_key(if k == 0 { None } else { Some(&after) });
+    Ok(match next {
+        Some(found) => found.as_slice().first().copied().unwrap_or(0),
+        None => 0,
+    })
+}
+
 #[test]
 fn a_memtable_says_what_was_written(rt: HostRuntime) -> Result<(), Fail> {
     let alloc = rt.alloc();
@@ -117,8 +128,12 @@ fn a_memtable_says_what_was_written(rt: HostRuntime) -> Result<(), Fail> {
     let n = NOTHING;
     let table = [
         (1, None, Some([s, r3, from, r5, to, r7, n])),
-        (1, Some(5), Some([s, from, r5, to, n, n, n])),
-        (1, Some(7), Some([s, from, to, r7, n, n, n])),
+        (
+            1,
+            Some(5),
+            Some([s, ('b', 5, 15), r5, ('a', 5, 0), n, n, n]),
+        ),
+        (1, Some(7), Some([s, r7, n, n, n, n, n])),
         (2, None, Some([('r', 1, 30), n, n, n, n, n, n])),
         (3, None, None),
     ];
@@ -127,6 +142,9 @@ fn a_memtable_says_what_was_written(rt: HostRuntime) -> Result<(), Fail> {
     }
     for (k, want) in [(1, Some(8)), (2, Some(30)), (3, None)] {
         assert_eq!(rt; part.least(&key(alloc, k)?), want, "{k}");
+    }
+    for (k, next) in [(0, 1), (1, 2), (2, 0)] {
+        assert_eq!(rt; behind(&part, alloc, k)?, next, "{k}");
     }
     assert_eq!(rt; part.bytes(), 474);
     Ok(())

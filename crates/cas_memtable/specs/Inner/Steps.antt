@@ -1,10 +1,11 @@
 -- What calls on the map of partitions do at each key (own).
-use Rattle.std.specs.Prelude.{◌≡◌, ℕ, cond, Option, None, Some, List, [], ◌⊎◌, Result, OnOk}
+use Rattle.std.specs.Prelude.{◌≡◌, ℕ, cond, Option, None, Some, is_some, List, [], ◌∷◌, ◌⊎◌, Result, OnOk, if◌then◌else◌}
 use Rattle.std.specs.Ordering.{is_eq}
 use Rattle.cas_types.specs.Values.{bytes_cmp}
+use Rattle.cas_types.specs.declared.schema.Column.{Column}
 use Rattle.cas_bounds.specs.declared.order.Ordered.{Ordered}
 use Rattle.cas_atoms.specs.declared.atom.Atom.{Atom}
-use Rattle.cas_partition.specs.Partitions.{partition_atoms, IsOf, HavePlaces, MakesPlaces, JoinsAll}
+use Rattle.cas_partition.specs.Partitions.{partition_atoms, IsOf, IsOfTable, HavePlaces, MakesPlaces, JoinsAll}
 use Rattle.cas_memtable.specs.Memtables.{least_with}
 use Rattle.cas_memtable.specs.declared.memtable.Held.{Held}
 
@@ -13,6 +14,7 @@ pub record IsBlank (h : Held) : Type 0 where
   pub empty : partition_atoms h.partition ≡ []
   pub least : h.least ≡ None
   pub of : (order : List Ordered) → IsOf order h.partition
+  pub table : (columns : List Column) → IsOfTable columns h.partition
 
 -- what is held at a key stays; where nothing was, a blank partition may be
 abbrev pub StaysOrBlank : Option Held → Option Held → Type 0
@@ -38,3 +40,8 @@ pub record AppliesAt (key : List ℕ) (atoms : List Atom) (h : Held) (before aft
   pub puts : Puts key held before after
   pub least : held.least ≡ least_with h.least atoms
   pub joins : JoinsAll atoms h.partition held.partition
+
+-- the first key at which something is held
+abbrev pub first_key : List (List ℕ × Held) → Option (List ℕ)
+first_key [] = None
+first_key (e ∷ es) = if is_some e.1.least then Some e.0 else first_key es

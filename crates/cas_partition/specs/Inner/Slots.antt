@@ -3,7 +3,7 @@ use Rattle.std.specs.Prelude.{◌≡◌, ℕ, ◌<◌, Bool, true, false, not, �
 use Rattle.std.specs.List.{AllByRecursion, slice_set}
 use Rattle.std.specs.List.Sorted.{IsStrictlySortedBy}
 use Rattle.std.specs.Map.{keys_of}
-use Rattle.std.specs.Ordering.{is_le}
+use Rattle.std.specs.Ordering.{is_le, is_lt}
 use Rattle.cas_cell.specs.Deletions.{deletion_cmp}
 use Rattle.cas_cell.specs.declared.deletion.Deletion.{Deletion}
 use Rattle.cas_bounds.specs.Keys.{key_cmp}
@@ -48,10 +48,26 @@ pub record IsWhole (entries : List (MapKey × ℕ)) (forces : List (Option Delet
 abbrev pub between : MapKey → MapKey → List (MapKey × ℕ) → List (MapKey × ℕ)
 between from to entries = filter (λ e. is_le (key_cmp from e.0) && not (is_le (key_cmp to e.0))) entries
 
--- what is in force before a key
+-- the entries between two keys, at neither of them
+abbrev pub amid : MapKey → MapKey → List (MapKey × ℕ) → List (MapKey × ℕ)
+amid from to entries = filter (λ e. is_lt (key_cmp from e.0) && not (is_le (key_cmp to e.0))) entries
+
+-- what is in force from the last of these entries on
+abbrev pub last_force : Option Deletion → List (MapKey × ℕ) → List (Option Deletion) → Option Deletion
+last_force now [] forces = now
+last_force now (e ∷ es) forces = last_force (get_or forces e.1 None) es forces
+
+-- what is in force from the last entry on whose key passes a test
+abbrev pub force_by : (MapKey → Bool) → Option Deletion → List (MapKey × ℕ) → List (Option Deletion) → Option Deletion
+force_by passes now [] forces = now
+force_by passes now (e ∷ es) forces = force_by passes (if passes e.0 then get_or forces e.1 None else now) es forces
+
+-- what is in force right before a key, and right behind it
 abbrev pub force_below : MapKey → Option Deletion → List (MapKey × ℕ) → List (Option Deletion) → Option Deletion
-force_below key now [] forces = now
-force_below key now (e ∷ es) forces = force_below key (if not (is_le (key_cmp key e.0)) then get_or forces e.1 None else now) es forces
+force_below key now entries forces = force_by (λ k. not (is_le (key_cmp key k))) now entries forces
+
+abbrev pub force_behind : MapKey → Option Deletion → List (MapKey × ℕ) → List (Option Deletion) → Option Deletion
+force_behind key now entries forces = force_by (λ k. not (is_lt (key_cmp key k))) now entries forces
 
 -- the slots of these entries raised
 abbrev pub raised_at : Deletion → List (MapKey × ℕ) → List (Option Deletion) → List (Option Deletion)

@@ -1,10 +1,10 @@
-use Rattle.std.proofs.Common.{◌≡◌, ◌++◌, None, map, ap, ◌∙◌}
+use Rattle.std.proofs.Common.{◌≡◌, ◌++◌, map, ap, ◌∙◌, subst}
 use Rattle.cas_bounds.specs.declared.map_key.End.TheVariants.{Before}
 use Rattle.cas_partition.specs.Ranges.{key_of}
-use Rattle.cas_partition.specs.Slices.{grouped}
+use Rattle.cas_partition.specs.Slices.{AreRowsOf}
 use Rattle.cas_partition.specs.Ranged.{piece_of, spot_at, below_rows, spots_below, spots_between, statics_of, rows_between}
 use Rattle.cas_partition.proofs.Slots.{as_key}
-use Rattle.cas_partition.proofs.Shown.{if_ok_too, gathered}
+use Rattle.cas_partition.proofs.Shown.{if_ok_too, all_pieces}
 use Rattle.cas_partition.proofs.slice.rows_in.Goals as goal
 
 pub returns-clause-rows : goal.returns-clause-rows
@@ -16,8 +16,8 @@ returns-clause-rows c =
     c.at-low.ensures ∙ ap spot_at (as_key c.of_cut.result c.in_ok-copied.field-0 c.of_cut.ensures.point c.of_cut.ensures.order ∙ ap key_of c.in_ok-copied.ensures) in
     let high : c.at-high.result ≡ spot_at (key_of c.args.slice.now.hi) =
     c.at-high.ensures ∙ ap spot_at (as_key c.of_cut-2.result c.in_ok-copied-2.field-0 c.of_cut-2.ensures.point c.of_cut-2.ensures.order ∙ ap key_of c.in_ok-copied-2.ensures) in
-    if_ok_too c.closed.result _ _
-    (λ v e. e ∙ gathered (statics_of es) (rows_between c.args.slice.now.lo c.args.slice.now.hi es) c.add_below.new.done.items c.add_between.new.done.items c.in_ok-shared.shared c.in_ok-last.last
-    (λ gs. c.in_ok-shared.ensures.added gs ∙ (λ i. c.new-done.ensures.items i ++ grouped None (map piece_of (spots_below (first i) es) ++ gs)))
-    (λ gs. c.in_ok-last.ensures gs ∙ (λ i. c.add_below.new.done.items ++ grouped c.in_ok-shared.shared (map piece_of (spots_between (low i) (high i) es) ++ gs))))
-    c.closed.ensures
+    let gathered : c.add_between.new.pieces.items ≡ map piece_of (statics_of es ++ rows_between c.args.slice.now.lo c.args.slice.now.hi es) =
+    all_pieces (statics_of es) (rows_between c.args.slice.now.lo c.args.slice.now.hi es) c.add_below.new.pieces.items c.add_between.new.pieces.items
+    (c.in_ok-add_below.ensures.added ∙ (λ i. c.new-pieces.ensures.items i ++ map piece_of (spots_below (first i) es)))
+    (c.in_ok-add_between.ensures ∙ (λ i. c.add_below.new.pieces.items ++ map piece_of (spots_between (low i) (high i) es))) in
+    if_ok_too c.rows_of.result _ _ (λ v are. subst (λ ps. AreRowsOf ps v.items) gathered are) c.rows_of.ensures

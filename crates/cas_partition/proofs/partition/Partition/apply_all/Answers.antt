@@ -1,7 +1,7 @@
 use Rattle.std.proofs.Common.{sym, ap, ◌∙◌}
 use Rattle.std.specs.Vec.Iter.{into_iter_items}
 use Rattle.cas_partition.specs.Inner.Firsts.{with_first}
-use Rattle.cas_partition.proofs.Lists.{joining, one_joined, first_there, all_joined}
+use Rattle.cas_partition.proofs.Lists.{joining, one_joined, all_joined}
 use Rattle.cas_partition.proofs.partition.Partition.apply_all.Goals as goal
 
 pub loop-atom-init : goal.loop-atom-init

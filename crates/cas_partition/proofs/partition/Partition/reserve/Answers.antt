@@ -1,4 +1,4 @@
-use Rattle.std.proofs.Common.{◌≡◌, ◌⊎◌, inl, inr, sym, ◌∙◌}
+use Rattle.std.proofs.Common.{◌≡◌, inl, inr, sym, ◌∙◌}
 use Rattle.cas_partition.specs.Placed.{wanted}
 use Rattle.cas_partition.specs.declared.spot.Room.TheVariants as wants
 use Rattle.cas_partition.proofs.Taking.{on_ok_too, either_way, same_changes, one_cut, both_cuts, cuts_there, one_spot, spot_there, same_spots}

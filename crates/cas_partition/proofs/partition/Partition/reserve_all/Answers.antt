@@ -1,7 +1,6 @@
 use Rattle.std.proofs.Common.{◌≡◌, ◌+◌, drop, ◌∷◌, sym, ap, ◌∙◌, subst, arith}
 use Rattle.std.proofs.lemmas.List.{drop_more, drop_all}
 use Rattle.cas_partition.proofs.Lists.{Making, one_made, all_made, all_there, some_made}
-use Rattle.cas_partition.proofs.Taking.{on_ok_too}
 use Rattle.cas_partition.proofs.partition.Partition.reserve_all.Goals as goal
 
 pub returns-in_err-reserve-clause-makes : goal.returns-in_err-reserve-clause-makes

@@ -1,5 +1,4 @@
-use Rattle.std.proofs.Common.{◌≡◌, ◌++◌, None, sym, ap, ◌∙◌, subst}
-use Rattle.cas_bounds.specs.declared.map_key.MapKey.{MapKey}
+use Rattle.std.proofs.Common.{◌≡◌, None, sym, ap, ◌∙◌}
 use Rattle.cas_partition.specs.Ranges.{key_of, with_cut}
 use Rattle.cas_partition.specs.Inner.Slots.{force_below}
 use Rattle.cas_partition.proofs.Slots.{as_key, already, more_whole, more_same, put_whole, put_in, on_err}
