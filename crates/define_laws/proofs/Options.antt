@@ -2,7 +2,6 @@
 use Rattle.std.proofs.Common.{◌≡◌, ℕ, ℤ, pos, negsuc, ◌≤◌, ◌≤ℤ◌, int_le, nat_le, unsigned_abs, Bool, true, false, ◌&&◌, List, [], ◌∷◌, reverse, find, bytes_eq, codes, Option, None, Some, option_map, unwrap_or, if◌then◌else◌, refl, sym, ap, subst, arith}
 use mathlib.Core.List.{reverse-cons}
 use Rattle.std.specs.Bool.{then_some}
-use Rattle.std.specs.Int.{is_in_range}
 use Rattle.std.specs.List.{AllByRecursion, list_all, list_any}
 use Rattle.std.specs.Option.{option_and_then}
 use Rattle.std.proofs.lemmas.Bool.{eq-eqb}
