@@ -35,7 +35,7 @@ use Rattle.cas_define.specs.CreateReasons.{create_reasons, create_means}
 use Rattle.cas_define.specs.CreateTests.{may_be_key, orders_fit, statics_fit, key_fits_table, one_key_fits, names_defined, option_names, create_is_malformed}
 use Rattle.cas_define.specs.IsTable.{IsTable}
 use Rattle.cas_define.specs.Limits.{has_name_length, is_table_name}
-use Rattle.cas_define.specs.Options.{options_of}
+use Rattle.cas_options.specs.Options.{options_of}
 use Rattle.cas_define.specs.Outcomes.{outcome}
 use Rattle.cas_define.specs.Schemas.{shape_of, column_of, other_kind, columns_defined, defined_named, keys_said, key_names, key_kind, key_column, other_column, orders_descending, columns_with, columns_of, schema_of, added_column, addition_of}
 use Rattle.cas_define.proofs.Reasoning.{none_bad, few_tables, few_columns, few_together}
