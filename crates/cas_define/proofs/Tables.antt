@@ -24,7 +24,7 @@ use Rattle.cas_define.specs.CreateReasons.{create_reasons}
 use Rattle.cas_define.specs.CreateTests.{may_be_key, orders_fit, statics_fit, key_fits_table, one_key_fits, names_defined, create_is_malformed}
 use Rattle.cas_define.specs.IsTable.{IsTable}
 use Rattle.cas_define.specs.Limits.{has_name_length}
-use Rattle.cas_define.specs.Options.{options_of}
+use Rattle.cas_options.specs.Options.{options_of}
 use Rattle.cas_define.specs.Schemas.{shape_of, column_of, other_kind, columns_defined, defined_named, keys_said, key_names, key_kind, key_column, other_column, columns_with, columns_of, schema_of, added_column}
 use Rattle.cas_define.proofs.Reasoning.{none_bad}
 

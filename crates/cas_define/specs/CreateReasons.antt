@@ -12,7 +12,7 @@ use Rattle.cas_effects.specs.declared.refusal.Refusal.{Refusal}
 use Rattle.cas_terms.specs.Columns.{is_local}
 use Rattle.cas_define.specs.Outcomes.{outcome}
 use Rattle.cas_define.specs.CreateTests.{create_is_malformed}
-use Rattle.cas_define.specs.Options.{options_fit}
+use Rattle.cas_options.specs.Options.{options_fit}
 use Rattle.cas_define.specs.Limits.{too_many_tables, too_many_columns}
 use Rattle.cas_define.specs.Schemas.{columns_of, schema_of}
 

@@ -1,8 +1,6 @@
 pub mod CreateReasons
 pub mod CreateTests
 pub mod AlterReasons
-pub mod Options
-pub mod Settings
 pub mod Schemas
 pub mod IsTable
 pub mod Limits

@@ -23,7 +23,7 @@ use Rattle.cql_parse.specs.declared.syntax.Item.{Item}
 use Rattle.cql_parse.specs.declared.syntax.Item.TheVariants as item
 use Rattle.cql_parse.specs.declared.syntax.TableOption.{TableOption}
 use Rattle.cql_parse.specs.declared.syntax.TableOption.TheVariants as table_option
-use Rattle.cas_define.specs.Options.{options_of}
+use Rattle.cas_options.specs.Options.{options_of}
 use Rattle.cas_define.specs.declared.addition.Addition.{Addition}
 
 -- ---- types

@@ -13,10 +13,10 @@ ghost use Rattle.cas_define.specs.IsTable.{IsTable};
 ghost use Rattle.cas_define.specs.Outcomes.{Binds};
 
 use crate::limits::{has_name_length, is_table_name, too_many_columns, too_many_tables};
-use crate::options::options_fit;
 use crate::parts::{columns_defined, defined_named, key_names, keys_said};
 use crate::schemas::{columns_of, schema_of, shape_of};
 use cas_effects::{BindFault, Reasons, either};
+use cas_options::options_fit;
 use cas_terms::{is_local, push_some, same_name, stands_twice};
 use cas_types::{TableSchema, Text};
 use cql_parse::{ColumnOrder, CreateTable, DefinedColumn, PrimaryKey, TableOption};

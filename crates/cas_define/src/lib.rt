@@ -4,14 +4,10 @@
 
 mod addition;
 mod alter;
-mod compaction;
 mod create;
 mod limits;
-mod options;
 mod parts;
-mod ranges;
 mod schemas;
-mod settings;
 
 pub use addition::Addition;
 pub use alter::bind_alter;

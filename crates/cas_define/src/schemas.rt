@@ -9,8 +9,8 @@ ghost use Rattle.cas_define.specs.Schemas.{shape_of, first_type, second_type, co
 ghost use Rattle.cas_define.specs.Schemas.{key_names, other_column, columns_with, columns_of, schema_of, added_column, addition_of};
 
 use crate::addition::Addition;
-use crate::options::options_of;
 use crate::parts::{columns_defined, defined_named, key_names, keys_said, orders_descending};
+use cas_options::options_of;
 use cas_terms::{has_name, push_some};
 use cas_types::{Column, Kind, List, Shape, TableSchema, Text, TypeTag};
 use cql_parse::{

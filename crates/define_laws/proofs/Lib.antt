@@ -2,3 +2,5 @@ mod Tests
 mod Columns
 mod Options
 mod Tables
+mod Texts
+mod Stated

@@ -2,7 +2,6 @@
 use Rattle.std.proofs.Common.{◌≡◌, ℕ, ℤ, pos, negsuc, ◌≤◌, ◌≤ℤ◌, int_le, nat_le, unsigned_abs, Bool, true, false, ◌&&◌, List, [], ◌∷◌, reverse, find, bytes_eq, codes, Option, None, Some, option_map, unwrap_or, if◌then◌else◌, refl, sym, ap, subst, arith}
 use mathlib.Core.List.{reverse-cons}
 use Rattle.std.specs.Bool.{then_some}
-use Rattle.std.specs.Int.{is_in_range}
 use Rattle.std.specs.List.{AllByRecursion, list_all, list_any}
 use Rattle.std.specs.Option.{option_and_then}
 use Rattle.std.proofs.lemmas.Bool.{eq-eqb}
@@ -19,10 +18,10 @@ use Rattle.cql_parse.specs.declared.syntax.OptionValue.TheVariants as value
 use Rattle.cql_parse.specs.declared.syntax.Suboption.{Suboption}
 use Rattle.cql_parse.specs.declared.syntax.TableOption.{TableOption}
 use Rattle.cas_terms.specs.Constants as constants
-use Rattle.cas_define.specs.Options.{is_keyed, suboption_named, suboption_number, suboption_fits, strategy_given, suboption_names, is_suboption, thresholds_fit, sized_fit, leveled_fit, window_fits, compaction_fits, option_given, is_known_option, whole_option, map_option, compaction_given, options_fit, options_of}
-use Rattle.cas_define.specs.Settings.{value_or, is_readable, number_in_range, number_setting, whole_setting, ratio_setting, unit_setting, strategy_setting}
-use Rattle.cas_define.specs.declared.ranges.OptionRange.{OptionRange}
-use Rattle.cas_define.specs.declared.ranges.TheConstants as given
+use Rattle.cas_options.specs.Options.{is_keyed, suboption_named, suboption_number, suboption_fits, strategy_given, suboption_names, is_suboption, thresholds_fit, sized_fit, leveled_fit, window_fits, compaction_fits, option_given, is_known_option, whole_option, map_option, compaction_given, options_fit, options_of}
+use Rattle.cas_options.specs.Settings.{value_or, is_readable, number_in_range, number_setting, whole_setting, ratio_setting, unit_setting, strategy_setting}
+use Rattle.cas_options.specs.declared.ranges.OptionRange.{OptionRange}
+use Rattle.cas_options.specs.declared.ranges.TheConstants as given
 use Rattle.cas_schemas.specs.Options.{allows, is_leveled, has_buckets, has_windows, allows_unit, FitsOptions}
 use Rattle.cas_schemas.proofs.CodeLaws.{within}
 use Rattle.define_laws.proofs.Tests.{front, back, both, passes, together, each_of, found, found_so}

@@ -13,7 +13,7 @@ use Rattle.std.proofs.lemmas.Slice.Eq.{bytes_eq-Decides}
 use Rattle.std.proofs.lemmas.Str.{IsUtf8-from_ascii, is_utf8-from_IsUtf8}
 use Rattle.std.proofs.lemmas.Str.Ascii.{IsAscii-nil, IsAscii-cons}
 use Rattle.std.specs.Prelude.{IsAscii}
-use Rattle.cas_types.specs.Schemas.{is_partition, is_clustering, is_key, is_static, is_plain}
+use Rattle.cas_types.specs.Schemas.{is_partition, is_clustering, is_key, is_plain}
 use Rattle.cas_types.specs.declared.limits.TheConstants.{COLUMN_LIMIT}
 use Rattle.cas_types.specs.declared.schema.Column.{Column}
 use Rattle.cas_types.specs.declared.schema.Kind.TheVariants.{Ascending, Descending}
@@ -35,7 +35,7 @@ use Rattle.cas_define.specs.CreateReasons.{create_reasons, create_means}
 use Rattle.cas_define.specs.CreateTests.{may_be_key, orders_fit, statics_fit, key_fits_table, one_key_fits, names_defined, option_names, create_is_malformed}
 use Rattle.cas_define.specs.IsTable.{IsTable}
 use Rattle.cas_define.specs.Limits.{has_name_length, is_table_name}
-use Rattle.cas_define.specs.Options.{options_of}
+use Rattle.cas_options.specs.Options.{options_of}
 use Rattle.cas_define.specs.Outcomes.{outcome}
 use Rattle.cas_define.specs.Schemas.{shape_of, column_of, other_kind, columns_defined, defined_named, keys_said, key_names, key_kind, key_column, other_column, orders_descending, columns_with, columns_of, schema_of, added_column, addition_of}
 use Rattle.cas_define.proofs.Reasoning.{none_bad, few_tables, few_columns, few_together}
@@ -45,9 +45,9 @@ use Rattle.cas_schemas.specs.Columns.{FitColumns, has_some}
 use Rattle.cas_schemas.specs.Each.{EachFits}
 use Rattle.cas_schemas.specs.Options.{FitsOptions}
 use Rattle.cas_schemas.specs.Names.{is_name, is_new_table, has_letters}
-use Rattle.cas_schemas.proofs.CodeLaws.{within, ends}
+use Rattle.cas_schemas.proofs.CodeLaws.{within}
 use Rattle.define_laws.specs.Fits.{AreTexts, MadeTableFits, AddedColumnsFit}
-use Rattle.define_laws.proofs.Columns.{names, IsFine, Stands, IsOther, columns_fit, fine_column, partition_stands, clustering_stands, others_stand, other_is, some_there}
+use Rattle.define_laws.proofs.Columns.{IsFine, Stands, IsOther, columns_fit, fine_column, partition_stands, clustering_stands, others_stand, other_is, some_there}
 use Rattle.define_laws.proofs.Options.{made_options_fit}
 use Rattle.define_laws.proofs.Tests.{front, back, both, not_first, not_second, neither, first_so, second_so, so, not_so, its_not, both_of, each_of, of_any, together, fronts, backs, passes, passed, none_passes, found, each_on, made, made_parts}
 

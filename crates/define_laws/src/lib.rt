@@ -3,4 +3,4 @@
 
 mod laws;
 
-pub use laws::{added_columns_fit, made_table_fits};
+pub use laws::{added_columns_fit, made_table_fits, stated_columns_fit, stated_tables_fit};

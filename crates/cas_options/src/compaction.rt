@@ -4,9 +4,9 @@ ghost use Rattle.std.specs.Prelude.{◌≡◌, ◌≤◌, ◌<◌, ◌^◌, code
 ghost use Rattle.std.specs.Option.{option_copied};
 ghost use Rattle.std.specs.List.{list_all, list_any};
 ghost use Rattle.cas_types.specs.declared.schema.Unit.TheVariants as unit;
-ghost use Rattle.cas_define.specs.Settings.{value_or, is_readable, unit_setting, strategy_setting};
-ghost use Rattle.cas_define.specs.Options.{is_keyed, suboption_named, suboption_number, suboption_fits, strategy_given, sized_names, is_suboption};
-ghost use Rattle.cas_define.specs.Options.{thresholds_fit, sized_fit, leveled_fit, window_fits, compaction_fits};
+ghost use Rattle.cas_options.specs.Settings.{value_or, is_readable, unit_setting, strategy_setting};
+ghost use Rattle.cas_options.specs.Options.{is_keyed, suboption_named, suboption_number, suboption_fits, strategy_given, sized_names, is_suboption};
+ghost use Rattle.cas_options.specs.Options.{thresholds_fit, sized_fit, leveled_fit, window_fits, compaction_fits};
 
 use crate::ranges::{
     BUCKET_HIGH, BUCKET_LOW, COMPACTION_WINDOW_SIZE, FANOUT_SIZE, MAX_THRESHOLD, MIN_SSTABLE_SIZE,

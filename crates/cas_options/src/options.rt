@@ -4,9 +4,9 @@ ghost use Rattle.std.specs.Prelude.{◌≡◌, ◌≤◌, ◌<◌, ◌^◌, code
 ghost use Rattle.std.specs.Option.{option_copied};
 ghost use Rattle.std.specs.List.{find, list_all};
 ghost use Rattle.cas_types.specs.declared.limits.TheConstants.{TTL_LIMIT};
-ghost use Rattle.cas_define.specs.Settings.{value_or, is_readable};
-ghost use Rattle.cas_define.specs.Options.{is_option_named, value_given, option_given, is_known_option, whole_option, map_option};
-ghost use Rattle.cas_define.specs.Options.{compaction_given, options_fit, options_of, suboption_number};
+ghost use Rattle.cas_options.specs.Settings.{value_or, is_readable};
+ghost use Rattle.cas_options.specs.Options.{is_option_named, value_given, option_given, is_known_option, whole_option, map_option};
+ghost use Rattle.cas_options.specs.Options.{compaction_given, options_fit, options_of, suboption_number};
 
 use crate::compaction::{compaction_fits, strategy_given, suboption_number, unit_given};
 use crate::ranges::{
@@ -132,7 +132,7 @@ fn is_map_given(options: &[TableOption]) -> bool
 
 /// Whether every option is one that there is, with a value that it can have.
 #[tactic(auto, unfolding(crate::specs::Options::options_fit))]
-pub(crate) fn options_fit(options: &[TableOption]) -> bool
+pub fn options_fit(options: &[TableOption]) -> bool
     ensures { result ≡ options_fit options.now }
 {
     are_known_options(options)
@@ -159,7 +159,7 @@ fn hundredths(given: &[Suboption], name: &str, range: &OptionRange) -> u32
 
 /// The options of a table, by what a CREATE TABLE gives them.
 #[tactic(auto, unfolding(crate::specs::Options::options_of))]
-pub(crate) fn options_of(options: &[TableOption]) -> Options
+pub fn options_of(options: &[TableOption]) -> Options
     ensures given { result ≡ options_of options.now }
     ensures lives { result.default_time_to_live ≤ TTL_LIMIT }
 {

@@ -13,7 +13,7 @@ use Rattle.cql_lex.specs.Numbers.{number_value, ratio_value}
 use Rattle.cql_parse.specs.declared.term.Setting.{Setting}
 use Rattle.cql_parse.specs.declared.term.Setting.TheVariants as setting
 use Rattle.cas_terms.specs.Constants.{is_in_range}
-use Rattle.cas_define.specs.declared.ranges.OptionRange.{OptionRange}
+use Rattle.cas_options.specs.declared.ranges.OptionRange.{OptionRange}
 
 -- what is given, where it can be read, and else the default
 abbrev pub value_or : {A X : Type 0} → (A → Option X) → X → Option A → X

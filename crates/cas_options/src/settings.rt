@@ -3,7 +3,7 @@
 ghost use Rattle.std.specs.Prelude.{◌≡◌, ◌≤◌, pos, ◌*ℤ◌, option_map, IfSome};
 ghost use Rattle.std.specs.Option.{option_and_then, option_or};
 ghost use Rattle.cql_lex.specs.Numbers.{number_value, ratio_value};
-ghost use Rattle.cas_define.specs.Settings.{number_in_range, whole_setting, ratio_setting, number_setting, unit_setting, strategy_setting};
+ghost use Rattle.cas_options.specs.Settings.{number_in_range, whole_setting, ratio_setting, number_setting, unit_setting, strategy_setting};
 
 use crate::ranges::OptionRange;
 use cas_terms::is_in_range;

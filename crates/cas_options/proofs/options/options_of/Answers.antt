@@ -1,6 +1,6 @@
 use Rattle.std.proofs.Common.{sym}
-use Rattle.cas_define.specs.Options.{options_of}
-use Rattle.cas_define.proofs.options.options_of.Goals as goal
+use Rattle.cas_options.specs.Options.{options_of}
+use Rattle.cas_options.proofs.options.options_of.Goals as goal
 
 pub returns-clause-given : goal.returns-clause-given
 unfolding options_of

@@ -16,10 +16,10 @@ use Rattle.cql_parse.specs.declared.syntax.TableOption.TheVariants as table_opti
 use Rattle.cql_parse.specs.declared.syntax.OptionValue.{OptionValue}
 use Rattle.cql_parse.specs.declared.syntax.OptionValue.TheVariants as value
 use Rattle.cql_parse.specs.declared.syntax.Suboption.{Suboption}
-use Rattle.cas_define.specs.Settings.{value_or, is_readable, number_in_range, number_setting, unit_setting, strategy_setting}
-use Rattle.cas_define.specs.declared.ranges.OptionRange.{OptionRange}
-use Rattle.cas_define.specs.declared.ranges.TheConstants.{GC_GRACE_SECONDS, DEFAULT_TIME_TO_LIVE, MIN_THRESHOLD, MAX_THRESHOLD, BUCKET_LOW, BUCKET_HIGH}
-use Rattle.cas_define.specs.declared.ranges.TheConstants.{MIN_SSTABLE_SIZE, SSTABLE_SIZE_IN_MB, FANOUT_SIZE, COMPACTION_WINDOW_SIZE}
+use Rattle.cas_options.specs.Settings.{value_or, is_readable, number_in_range, number_setting, unit_setting, strategy_setting}
+use Rattle.cas_options.specs.declared.ranges.OptionRange.{OptionRange}
+use Rattle.cas_options.specs.declared.ranges.TheConstants.{GC_GRACE_SECONDS, DEFAULT_TIME_TO_LIVE, MIN_THRESHOLD, MAX_THRESHOLD, BUCKET_LOW, BUCKET_HIGH}
+use Rattle.cas_options.specs.declared.ranges.TheConstants.{MIN_SSTABLE_SIZE, SSTABLE_SIZE_IN_MB, FANOUT_SIZE, COMPACTION_WINDOW_SIZE}
 
 -- ---- suboptions of compaction
 
