@@ -111,7 +111,8 @@ fn take_at_hand(
     ensures name { file.new.name ≡ file.old.name }
     ensures on { IfOk result (λ opened. opened ≡ true → (file.old.at + 9 ≤ file.new.at) × (file.new.at + 1 ≤ size)) }
     ensures exact { (f : List ℕ) → AreNext file.old.at f file.old.bytes → HasBlock size file.old.at f file.old.bytes
-        → StepsOn of.now.number f file.new mutations.new.items result (gated_at of.now.tables.now of.now.shards size mutations.old.items (left_of f file.old.at)) }
+        → StepsOn of.now.number f file.new mutations.new.items result
+        (gated_at of.now.tables.now of.now.shards size mutations.old.items (left_of f file.old.at)) }
     ensures failed { IsErrOf result ReplayFault.Failed → ⊥ }
 {
     let mut reader = Reader::new(file.ahead(), file.at());
@@ -184,7 +185,8 @@ fn read_segment<F: Folder>(
     mutations: &mut Vec<Mutation>,
 ) -> Result<(), ReplayFault>
     ensures exact { (c : Image) → (F.disk folder.old).reads c
-        → ReplaysOne (λ _. mutations.new.items) of.now.number result (segment_of of.now.tables.now of.now.shards of.now.number mutations.old.items (segment_in c of.now.number)) }
+        → ReplaysOne (λ _. mutations.new.items) of.now.number result
+        (segment_of of.now.tables.now of.now.shards of.now.number mutations.old.items (segment_in c of.now.number)) }
     ensures reads { Follows Same (F.disk folder.old).reads (F.disk folder.new).reads }
     ensures during { During Same (F.disk folder.old) (F.disk folder.new) }
     ensures count { Counted (F.faults_of folder.old) (F.faults_of folder.new) (IsErrOf result ReplayFault.Failed) }
@@ -204,7 +206,8 @@ pub(crate) fn replay_segment<F: Folder>(
     mutations: &mut Vec<Mutation>,
 ) -> Result<(), ReplayFault>
     ensures exact { (c : Image) → (F.disk folder.old).reads c
-        → ReplaysOne (λ _. mutations.new.items) of.now.number result (segment_of of.now.tables.now of.now.shards of.now.number mutations.old.items (segment_in c of.now.number)) }
+        → ReplaysOne (λ _. mutations.new.items) of.now.number result
+        (segment_of of.now.tables.now of.now.shards of.now.number mutations.old.items (segment_in c of.now.number)) }
     ensures lasts { OnOk result (Last (of.now.number ∷ []) (F.disk folder.new)) }
     ensures reads { Follows Same (F.disk folder.old).reads (F.disk folder.new).reads }
     ensures during { During Same (F.disk folder.old) (F.disk folder.new) }
