@@ -1,6 +1,7 @@
 //! The manifest that is written.
 
-ghost use Rattle.std.specs.Prelude.{◌+◌, ◌≤◌, ◌^◌};
+ghost use Rattle.std.specs.Prelude.{◌+◌, ◌≤◌};
+ghost use Rattle.cas_changes.specs.declared.said.TheConstants.{FILE_LIMIT, LISTED_LIMIT};
 
 /// The manifest of a store.
 #[derive(Drop)]
@@ -9,6 +10,6 @@ pub struct Manifest {
     pub(crate) end: u64,
     /// How many table files are listed.
     pub(crate) listed: u64,
-    ghost within: { end + 1 ≤ 2 ^ 40 },
-    ghost few: { listed ≤ 4096 },
+    ghost within: { end + 1 ≤ FILE_LIMIT },
+    ghost few: { listed ≤ LISTED_LIMIT },
 }

@@ -12,6 +12,9 @@ use cas_records::{read_key, read_timestamp};
 use cas_types::{Column, LAST_DRAWN, LAST_SECOND, List, MUTATION_LIMIT, TableSchema};
 use std::alloc::Global;
 
+// For so many atoms there is room at once, whatever number of them is told.
+const AT_ONCE: u32 = 16;
+
 // The number of a table, and the table.
 #[tactic(auto, unfolding(crate::specs::Reading::table_at))]
 fn read_table<'a>(
@@ -92,7 +95,7 @@ fn read_each(
 ) -> Result<Vec<Atom>, ReadFault>
     ensures { Gives (λ v. v.items) result reader.new (times_at count (atom_at order.now columns.now) reader.old) }
 {
-    let mut atoms = Vec::new(alloc);
+    let mut atoms = Vec::with_capacity(alloc, count.min(AT_ONCE) as usize)?;
     for _done in 0..count {
         match read_atom(alloc, reader, order, columns) {
             Ok(atom) => atoms.push(atom)?,

@@ -73,7 +73,7 @@ pub fn read_clustering(
     ensures { Gives (λ c. c) result reader.new (clustering_at order.now reader.old) }
 {
     read_count(reader, order.len(), order.len())?;
-    let mut values = Vec::new(alloc);
+    let mut values = Vec::with_capacity(alloc, order.len())?;
     read_values(alloc, reader, order.as_slice(), &mut values)?;
     Ok(Clustering {
         values: List::from_vec(values),
@@ -93,7 +93,7 @@ pub fn read_cut(
 {
     let after = reader.flag()?;
     let count = read_count(reader, 0, order.len())?;
-    let mut prefix = Vec::new(alloc);
+    let mut prefix = Vec::with_capacity(alloc, count as usize)?;
     read_values(
         alloc,
         reader,

@@ -1,6 +1,6 @@
 -- Reading the segments of the commit log from left to right: their mutations, or the first field that isn't as it must be.
 -- Own format. The place of a refusal is that of the refused field's first byte.
-use Rattle.std.specs.Prelude.{ℕ, zero, suc, ◌+◌, ◌*◌, ◌^◌, ◌==◌, nat_le, nat_lt, bytes_eq, codes, Bool, true, List}
+use Rattle.std.specs.Prelude.{ℕ, zero, suc, ◌+◌, ◌*◌, ◌==◌, nat_le, nat_lt, bytes_eq, codes, Bool, true, List}
 use Rattle.std.specs.Prelude.{[], ◌∷◌, ◌++◌, length, reverse, filter, slice_get, unwrap_or, Option, None, Some, Result, Ok, Err, if◌then◌else◌}
 use Rattle.std.specs.List.{find}
 use Rattle.std.specs.Int.{is_in_range}
@@ -12,6 +12,7 @@ use Rattle.cas_codec.specs.declared.fault.ReadFault.TheVariants.{Short, Bad}
 use Rattle.cas_codec.specs.Reading.{Left, Read, ◌>>=◌, checked, bytes_at, u8_at, u32_at, u64_at}
 use Rattle.cas_atoms.specs.declared.atom.Mutation.{Mutation}
 use Rattle.cas_mutations.specs.Reading.{record_at}
+use Rattle.cas_log.specs.declared.log.TheConstants.{LEAST_SEGMENT, GREATEST_SEGMENT}
 
 -- the last of these mutations that is of the shard
 abbrev pub last_of : ℕ → List Mutation → Option Mutation
@@ -62,7 +63,7 @@ unfoldable pub header_at : ℕ → Left → Read ℕ
 header_at number left = do
   word ← checked (λ w. bytes_eq w (codes "CASSLOG1")) (λ l. bytes_at l.at 8 l) left
   named ← checked (λ n. n == number) u64_at word.1
-  checked (is_in_range 4096 (2 ^ 25)) u64_at named.1
+  checked (is_in_range LEAST_SEGMENT GREATEST_SEGMENT) u64_at named.1
 
 -- a segment of this number, behind these mutations; there are fewer blocks than bytes
 unfoldable pub segment_at : List TableSchema → ℕ → ℕ → List Mutation → Left → Read (List Mutation)

@@ -1,9 +1,11 @@
 //! Reads a segment from its folder, block by block.
 
-ghost use Rattle.std.specs.Prelude.{◌≡◌, ◌+◌, ◌≤◌, ◌^◌, ℕ, true, List, ◌∷◌, [], length, drop, IfOk, OnOk, IsErrOf};
+ghost use Rattle.std.specs.Prelude.{◌≡◌, ◌+◌, ◌≤◌, ℕ, true, List, ◌∷◌, [], length, drop, IfOk, OnOk, IsErrOf};
 ghost use Rattle.cas_disk.specs.Counts.{Counted};
 ghost use Rattle.cas_disk.specs.Disk.{Image, During, Follows, Same, bytes_of};
 ghost use Rattle.cas_files.specs.Ahead.{AreNext};
+ghost use Rattle.cas_log.specs.Segment.{IsSize};
+ghost use Rattle.cas_log.specs.declared.log.TheConstants.{GREATEST_SEGMENT};
 ghost use Rattle.cas_replay.specs.Reading.{header_at, blocks_at, segment_of, segment_in};
 ghost use Rattle.cas_replay.specs.Replays.{ReplaysOne, Last};
 ghost use Rattle.cas_replay.specs.Inner.Steps.{gated_at, left_of, values_of, HasBlock, ReadsOn, Reaches, StepsOn};
@@ -24,16 +26,25 @@ const HEADER: usize = 24;
 /// So many has a gate with the lengths of its block.
 const HEAD: usize = 9;
 
+/// A segment that is read: its number, and the tables and shards of its store.
+#[derive(Drop)]
+pub(crate) struct Segment<'a> {
+    pub(crate) alloc: Global,
+    pub(crate) number: u64,
+    pub(crate) tables: &'a [TableSchema],
+    pub(crate) shards: u8,
+}
+
 // The size that the header tells; the reader goes on behind it.
 fn take_header<F: Folder>(
     folder: &mut F,
     file: &mut FileReader,
     segment: u64,
 ) -> Result<u64, ReplayFault>
-    requires { file.old.at ≤ 2 ^ 25 }
+    requires { file.old.at ≤ GREATEST_SEGMENT }
     ensures name { file.new.name ≡ file.old.name }
     ensures at { OnOk result (file.new.at ≡ file.old.at + 24) }
-    ensures size { IfOk result (λ size. (4096 ≤ size) × (size ≤ 2 ^ 25)) }
+    ensures size { IfOk result IsSize }
     ensures exact { (c : Image) → (F.disk folder.old).reads c → AreNext file.old.at (bytes_of (c file.old.name)) file.old.bytes
         → ReadsOn (λ size. size) segment (bytes_of (c file.old.name)) file.new result (header_at segment (left_of (bytes_of (c file.old.name)) file.old.at)) }
     ensures reads { Follows Same (F.disk folder.old).reads (F.disk folder.new).reads }
@@ -62,7 +73,7 @@ fn reach_block<F: Folder>(
     segment: u64,
     size: u64,
 ) -> Result<bool, ReplayFault>
-    requires place { file.old.at ≤ 2 ^ 25 }
+    requires place { file.old.at ≤ GREATEST_SEGMENT }
     ensures name { file.new.name ≡ file.old.name }
     ensures at { file.new.at ≡ file.old.at }
     ensures exact { (c : Image) → (F.disk folder.old).reads c → AreNext file.old.at (bytes_of (c file.old.name)) file.old.bytes
@@ -91,56 +102,51 @@ fn reach_block<F: Folder>(
 
 // Adds the mutations of the block at hand, and passes over it; false where its gate isn't open.
 fn take_at_hand(
-    alloc: Global,
     file: &mut FileReader,
-    segment: u64,
-    tables: &[TableSchema],
-    shards: u8,
+    of: &Segment<'_>,
     size: u64,
     mutations: &mut Vec<Mutation>,
 ) -> Result<bool, ReplayFault>
-    requires place { file.old.at ≤ 2 ^ 25 }
+    requires place { file.old.at ≤ GREATEST_SEGMENT }
     ensures name { file.new.name ≡ file.old.name }
     ensures on { IfOk result (λ opened. opened ≡ true → (file.old.at + 9 ≤ file.new.at) × (file.new.at + 1 ≤ size)) }
     ensures exact { (f : List ℕ) → AreNext file.old.at f file.old.bytes → HasBlock size file.old.at f file.old.bytes
-        → StepsOn segment f file.new mutations.new.items result (gated_at tables.now shards size mutations.old.items (left_of f file.old.at)) }
+        → StepsOn of.now.number f file.new mutations.new.items result
+        (gated_at of.now.tables.now of.now.shards size mutations.old.items (left_of f file.old.at)) }
     ensures failed { IsErrOf result ReplayFault.Failed → ⊥ }
 {
     let mut reader = Reader::new(file.ahead(), file.at());
     let before = reader.left().len();
-    match add_gated(alloc, &mut reader, tables, shards, size, mutations) {
+    match add_gated(of.alloc, &mut reader, of.tables, of.shards, size, mutations) {
         Ok(opened) => {
             let taken = before - reader.left().len();
             file.pass(taken);
             Ok(opened)
         }
-        Err(fault) => Err(of_field(segment, fault)),
+        Err(fault) => Err(of_field(of.number, fault)),
     }
 }
 
 // Adds the mutations of the next block; false where its gate isn't open.
 fn take_block<F: Folder>(
-    alloc: Global,
     folder: &mut F,
     file: &mut FileReader,
-    segment: u64,
-    tables: &[TableSchema],
-    shards: u8,
+    of: &Segment<'_>,
     size: u64,
     mutations: &mut Vec<Mutation>,
 ) -> Result<bool, ReplayFault>
-    requires place { file.old.at ≤ 2 ^ 25 }
+    requires place { file.old.at ≤ GREATEST_SEGMENT }
     ensures name { file.new.name ≡ file.old.name }
     ensures on { IfOk result (λ opened. opened ≡ true → (file.old.at + 9 ≤ file.new.at) × (file.new.at + 1 ≤ size)) }
     ensures exact { (c : Image) → (F.disk folder.old).reads c → AreNext file.old.at (bytes_of (c file.old.name)) file.old.bytes
-        → StepsOn segment (bytes_of (c file.old.name)) file.new mutations.new.items result
-        (gated_at tables.now shards size mutations.old.items (left_of (bytes_of (c file.old.name)) file.old.at)) }
+        → StepsOn of.now.number (bytes_of (c file.old.name)) file.new mutations.new.items result
+        (gated_at of.now.tables.now of.now.shards size mutations.old.items (left_of (bytes_of (c file.old.name)) file.old.at)) }
     ensures reads { Follows Same (F.disk folder.old).reads (F.disk folder.new).reads }
     ensures during { During Same (F.disk folder.old) (F.disk folder.new) }
     ensures count { Counted (F.faults_of folder.old) (F.faults_of folder.new) (IsErrOf result ReplayFault.Failed) }
 {
-    match reach_block(folder, file, segment, size) {
-        Ok(true) => take_at_hand(alloc, file, segment, tables, shards, size, mutations),
+    match reach_block(folder, file, of.number, size) {
+        Ok(true) => take_at_hand(file, of, size, mutations),
         Ok(false) => Ok(false),
         Err(fault) => Err(fault),
     }
@@ -148,28 +154,23 @@ fn take_block<F: Folder>(
 
 // Adds the mutations of the blocks up to the first gate that isn't open.
 fn take_blocks<F: Folder>(
-    alloc: Global,
     folder: &mut F,
     file: &mut FileReader,
-    segment: u64,
-    tables: &[TableSchema],
-    shards: u8,
+    of: &Segment<'_>,
     size: u64,
     mutations: &mut Vec<Mutation>,
 ) -> Result<(), ReplayFault>
     requires place { file.old.at ≤ size }
-    requires size { size ≤ 2 ^ 25 }
+    requires size { size ≤ GREATEST_SEGMENT }
     ensures exact { (c : Image) → (F.disk folder.old).reads c → AreNext file.old.at (bytes_of (c file.old.name)) file.old.bytes
-        → ReplaysOne (λ _. mutations.new.items) segment result (values_of (blocks_at tables.now shards
+        → ReplaysOne (λ _. mutations.new.items) of.now.number result (values_of (blocks_at of.now.tables.now of.now.shards
         (length (drop file.old.at (bytes_of (c file.old.name)))) size mutations.old.items (left_of (bytes_of (c file.old.name)) file.old.at))) }
     ensures reads { Follows Same (F.disk folder.old).reads (F.disk folder.new).reads }
     ensures during { During Same (F.disk folder.old) (F.disk folder.new) }
     ensures count { Counted (F.faults_of folder.old) (F.faults_of folder.new) (IsErrOf result ReplayFault.Failed) }
 {
     'turns: loop {
-        match take_block(
-            alloc, folder, file, segment, tables, shards, size, mutations,
-        ) {
+        match take_block(folder, file, of, size, mutations) {
             Ok(true) => {}
             Ok(false) => return Ok(()),
             Err(fault) => return Err(fault),
@@ -179,24 +180,20 @@ fn take_blocks<F: Folder>(
 
 // Adds the mutations of a segment.
 fn read_segment<F: Folder>(
-    alloc: Global,
     folder: &mut F,
-    segment: u64,
-    tables: &[TableSchema],
-    shards: u8,
+    of: &Segment<'_>,
     mutations: &mut Vec<Mutation>,
 ) -> Result<(), ReplayFault>
     ensures exact { (c : Image) → (F.disk folder.old).reads c
-        → ReplaysOne (λ _. mutations.new.items) segment result (segment_of tables.now shards segment mutations.old.items (segment_in c segment)) }
+        → ReplaysOne (λ _. mutations.new.items) of.now.number result
+        (segment_of of.now.tables.now of.now.shards of.now.number mutations.old.items (segment_in c of.now.number)) }
     ensures reads { Follows Same (F.disk folder.old).reads (F.disk folder.new).reads }
     ensures during { During Same (F.disk folder.old) (F.disk folder.new) }
     ensures count { Counted (F.faults_of folder.old) (F.faults_of folder.new) (IsErrOf result ReplayFault.Failed) }
 {
-    let mut file = FileReader::new(alloc, Name::Log(segment));
-    match take_header(folder, &mut file, segment) {
-        Ok(size) => take_blocks(
-            alloc, folder, &mut file, segment, tables, shards, size, mutations,
-        ),
+    let mut file = FileReader::new(of.alloc, Name::Log(of.number));
+    match take_header(folder, &mut file, of.number) {
+        Ok(size) => take_blocks(folder, &mut file, of, size, mutations),
         Err(fault) => Err(fault),
     }
 }
@@ -204,24 +201,22 @@ fn read_segment<F: Folder>(
 /// Adds the mutations of a segment, and makes it last. A segment that isn't there reads as one without
 /// bytes.
 pub(crate) fn replay_segment<F: Folder>(
-    alloc: Global,
     folder: &mut F,
-    segment: u64,
-    tables: &[TableSchema],
-    shards: u8,
+    of: &Segment<'_>,
     mutations: &mut Vec<Mutation>,
 ) -> Result<(), ReplayFault>
     ensures exact { (c : Image) → (F.disk folder.old).reads c
-        → ReplaysOne (λ _. mutations.new.items) segment result (segment_of tables.now shards segment mutations.old.items (segment_in c segment)) }
-    ensures lasts { OnOk result (Last (segment ∷ []) (F.disk folder.new)) }
+        → ReplaysOne (λ _. mutations.new.items) of.now.number result
+        (segment_of of.now.tables.now of.now.shards of.now.number mutations.old.items (segment_in c of.now.number)) }
+    ensures lasts { OnOk result (Last (of.now.number ∷ []) (F.disk folder.new)) }
     ensures reads { Follows Same (F.disk folder.old).reads (F.disk folder.new).reads }
     ensures during { During Same (F.disk folder.old) (F.disk folder.new) }
     ensures count { Counted (F.faults_of folder.old) (F.faults_of folder.new) (IsErrOf result ReplayFault.Failed) }
 {
-    if let Err(fault) = read_segment(alloc, folder, segment, tables, shards, mutations) {
+    if let Err(fault) = read_segment(folder, of, mutations) {
         return Err(fault);
     }
-    match folder.sync(Name::Log(segment)) {
+    match folder.sync(Name::Log(of.number)) {
         Ok(()) => Ok(()),
         Err(Failed) => Err(ReplayFault::Failed),
     }

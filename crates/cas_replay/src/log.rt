@@ -7,7 +7,7 @@ ghost use Rattle.cas_replay.specs.Reading.{log_of, segment_in, is_above, above_i
 ghost use Rattle.cas_replay.specs.Replays.{Replays, Last};
 
 use crate::fault::ReplayFault;
-use crate::file::replay_segment;
+use crate::file::{Segment, replay_segment};
 use cas_atoms::Mutation;
 use cas_disk::Folder;
 use cas_types::TableSchema;
@@ -48,14 +48,13 @@ fn read_log<F: Folder>(
 {
     let mut mutations = Vec::new(alloc);
     for segment in segments {
-        if let Err(fault) = replay_segment(
+        let of = Segment {
             alloc,
-            folder,
-            *segment,
+            number: *segment,
             tables,
             shards,
-            &mut mutations,
-        ) {
+        };
+        if let Err(fault) = replay_segment(folder, &of, &mut mutations) {
             return Err(fault);
         }
     }

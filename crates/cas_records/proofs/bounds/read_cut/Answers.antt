@@ -7,6 +7,6 @@ returns-clause-order c = same_from_all_zip _ _ _ c.in_ok-clone.ensures.cases (λ
 
 pub returns-clause-exact : goal.returns-clause-exact
 returns-clause-exact c =
-    cut_answer c.args.order.now _ _ _ _ _ _ _ _ _ _ _ _ c.len.ensures c.as_slice.ensures c.new-prefix.ensures.items c.from_vec.ensures
+    cut_answer c.args.order.now _ _ _ _ _ _ _ _ _ _ _ _ c.len.ensures c.as_slice.ensures c.in_ok-prefix.ensures.items c.from_vec.ensures
     (same_from_all_zip _ _ _ c.in_ok-clone.ensures.cases (λ x y r. r))
     c.in_ok-after.ensures.exact c.in_ok-count.ensures.exact c.in_ok-read_values.ensures

@@ -15,17 +15,17 @@ use Rattle.cas_replay.proofs.file.read_segment.Goals as goal
 pub returns-in-Ok-clause-exact : goal.returns-in-Ok-clause-exact
 returns-in-Ok-clause-exact g c image read =
     let disk = g.F.Folder.disk in
-    let file = segment_in image c.args.segment in
+    let file = segment_in image c.args.of.now.number in
     let header = subst (λ (a : Ahead). AreNext a.at (bytes_of (image a.name)) a.bytes
-    → ReadsOn (λ (n : ℕ). n) c.args.segment (bytes_of (image a.name)) c.take_header.new.file (Ok c.in-Ok.size) (header_at c.args.segment (left_of (bytes_of (image a.name)) a.at)))
+    → ReadsOn (λ (n : ℕ). n) c.args.of.now.number (bytes_of (image a.name)) c.take_header.new.file (Ok c.in-Ok.size) (header_at c.args.of.now.number (left_of (bytes_of (image a.name)) a.at)))
     c.new-file.ensures (c.in-Ok.ensures.exact image read) (none_next file) in
     let name = c.take_header.ensures.name ∙ ap (λ (a : Ahead). a.name) c.new-file.ensures in
-    let blocks = at_start (disk c.args.folder.now) (disk c.take_header.new.folder) c.take_header.ensures.during c.take_header.ensures.reads (Log c.args.segment) c.take_header.new.file.name name
-    (λ f. AreNext c.take_header.new.file.at f c.take_header.new.file.bytes → ReplaysOne (λ _. c.take_blocks.new.mutations.items) c.args.segment c.take_blocks.result
-    (values_of (blocks_at c.args.tables.now c.args.shards (length (drop c.take_header.new.file.at f)) c.in-Ok.size c.args.mutations.now.items (left_of f c.take_header.new.file.at))))
+    let blocks = at_start (disk c.args.folder.now) (disk c.take_header.new.folder) c.take_header.ensures.during c.take_header.ensures.reads (Log c.args.of.now.number) c.take_header.new.file.name name
+    (λ f. AreNext c.take_header.new.file.at f c.take_header.new.file.bytes → ReplaysOne (λ _. c.take_blocks.new.mutations.items) c.args.of.now.number c.take_blocks.result
+    (values_of (blocks_at c.args.of.now.tables.now c.args.of.now.shards (length (drop c.take_header.new.file.at f)) c.in-Ok.size c.args.mutations.now.items (left_of f c.take_header.new.file.at))))
     c.take_blocks.ensures.exact image read header.1 in
-    subst (λ (r : Result (List Mutation) ReadFault). ReplaysOne (λ _. c.take_blocks.new.mutations.items) c.args.segment c.take_blocks.result r)
-    (sym (segment_blocks c.args.tables.now c.args.shards c.args.segment c.args.mutations.now.items file c.in-Ok.size (left_of file c.take_header.new.file.at) header.0)) blocks
+    subst (λ (r : Result (List Mutation) ReadFault). ReplaysOne (λ _. c.take_blocks.new.mutations.items) c.args.of.now.number c.take_blocks.result r)
+    (sym (segment_blocks c.args.of.now.tables.now c.args.of.now.shards c.args.of.now.number c.args.mutations.now.items file c.in-Ok.size (left_of file c.take_header.new.file.at) header.0)) blocks
 
 pub returns-in-Ok-clause-reads : goal.returns-in-Ok-clause-reads
 returns-in-Ok-clause-reads g c = let disk = g.F.Folder.disk in reads_more (disk c.args.folder.now) (disk c.take_header.new.folder) (disk c.take_blocks.new.folder) c.take_header.ensures.reads c.take_blocks.ensures.reads
@@ -35,10 +35,10 @@ returns-in-Ok-clause-during g c = let disk = g.F.Folder.disk in same_more (disk 
 
 pub returns-clause-exact : goal.returns-clause-exact
 returns-clause-exact g c image read =
-    let file = segment_in image c.args.segment in
+    let file = segment_in image c.args.of.now.number in
     let header = subst (λ (a : Ahead). AreNext a.at (bytes_of (image a.name)) a.bytes
-    → ReadsOn (λ (n : ℕ). n) c.args.segment (bytes_of (image a.name)) c.take_header.new.file (Err c.in-Err.fault) (header_at c.args.segment (left_of (bytes_of (image a.name)) a.at)))
+    → ReadsOn (λ (n : ℕ). n) c.args.of.now.number (bytes_of (image a.name)) c.take_header.new.file (Err c.in-Err.fault) (header_at c.args.of.now.number (left_of (bytes_of (image a.name)) a.at)))
     c.new-file.ensures (c.in-Err.ensures.exact image read) (none_next file) in
-    header_refused {X = Unit {0}} (λ _. c.args.mutations.now.items) c.args.segment file c.take_header.new.file c.in-Err.fault (header_at c.args.segment (left_of file 0))
-    (segment_of c.args.tables.now c.args.shards c.args.segment c.args.mutations.now.items file) header
-    (λ f e. segment_fault c.args.tables.now c.args.shards c.args.segment c.args.mutations.now.items file f e)
+    header_refused {X = Unit {0}} (λ _. c.args.mutations.now.items) c.args.of.now.number file c.take_header.new.file c.in-Err.fault (header_at c.args.of.now.number (left_of file 0))
+    (segment_of c.args.of.now.tables.now c.args.of.now.shards c.args.of.now.number c.args.mutations.now.items file) header
+    (λ f e. segment_fault c.args.of.now.tables.now c.args.of.now.shards c.args.of.now.number c.args.mutations.now.items file f e)

@@ -9,20 +9,20 @@ use Rattle.cas_replay.proofs.file.take_block.Goals as goal
 pub returns-in-Ok-true-clause-exact : goal.returns-in-Ok-true-clause-exact
 returns-in-Ok-true-clause-exact g c image read next =
     let file = bytes_of (image c.args.file.now.name) in
-    let has = subst (λ (b : Bool). Reaches c.args.segment c.args.size c.args.file.now.at file c.reach_block.new.file (Ok b)) c.in-Ok-true.field-0-test (c.in-Ok-true.ensures.exact image read next) in
+    let has = subst (λ (b : Bool). Reaches c.args.of.now.number c.args.size c.args.file.now.at file c.reach_block.new.file (Ok b)) c.in-Ok-true.field-0-test (c.in-Ok-true.ensures.exact image read next) in
     subst (λ (at : ℕ). AreNext at file c.reach_block.new.file.bytes → HasBlock c.args.size at file c.reach_block.new.file.bytes
-    → StepsOn c.args.segment file c.take_at_hand.new.file c.take_at_hand.new.mutations.items c.take_at_hand.result (gated_at c.args.tables.now c.args.shards c.args.size c.args.mutations.now.items (left_of file at)))
+    → StepsOn c.args.of.now.number file c.take_at_hand.new.file c.take_at_hand.new.mutations.items c.take_at_hand.result (gated_at c.args.of.now.tables.now c.args.of.now.shards c.args.size c.args.mutations.now.items (left_of file at)))
     c.reach_block.ensures.at (c.take_at_hand.ensures.exact file) has.0 has.1
 
 pub returns-in-Ok-false-clause-exact : goal.returns-in-Ok-false-clause-exact
 returns-in-Ok-false-clause-exact g c image read next =
     let file = bytes_of (image c.args.file.now.name) in
-    let shut = subst (λ (b : Bool). Reaches c.args.segment c.args.size c.args.file.now.at file c.reach_block.new.file (Ok b)) c.in-Ok-false.field-0-test (c.in-Ok-false.ensures.exact image read next) in
-    gated_shut c.args.tables.now c.args.shards c.args.size c.args.mutations.now.items (left_of file c.args.file.now.at) shut.0 shut.1
+    let shut = subst (λ (b : Bool). Reaches c.args.of.now.number c.args.size c.args.file.now.at file c.reach_block.new.file (Ok b)) c.in-Ok-false.field-0-test (c.in-Ok-false.ensures.exact image read next) in
+    gated_shut c.args.of.now.tables.now c.args.of.now.shards c.args.size c.args.mutations.now.items (left_of file c.args.file.now.at) shut.0 shut.1
 
 pub returns-in-Err-clause-exact : goal.returns-in-Err-clause-exact
 returns-in-Err-clause-exact g c image read next =
     let file = bytes_of (image c.args.file.now.name) in
-    step_refused c.args.segment c.args.size c.args.file.now.at file c.reach_block.new.file c.reach_block.new.file c.args.mutations.now.items c.in-Err.fault
-    (gated_at c.args.tables.now c.args.shards c.args.size c.args.mutations.now.items (left_of file c.args.file.now.at)) (c.in-Err.ensures.exact image read next)
-    (λ f e. gated_refused c.args.tables.now c.args.shards c.args.size c.args.mutations.now.items (left_of file c.args.file.now.at) f e)
+    step_refused c.args.of.now.number c.args.size c.args.file.now.at file c.reach_block.new.file c.reach_block.new.file c.args.mutations.now.items c.in-Err.fault
+    (gated_at c.args.of.now.tables.now c.args.of.now.shards c.args.size c.args.mutations.now.items (left_of file c.args.file.now.at)) (c.in-Err.ensures.exact image read next)
+    (λ f e. gated_refused c.args.of.now.tables.now c.args.of.now.shards c.args.size c.args.mutations.now.items (left_of file c.args.file.now.at) f e)

@@ -20,11 +20,11 @@ turns-preserved g c =
           let file = bytes_of (image c.args.file.now.name) in
           let (here, comes) = c.turns.invariant.exact image read next in
           let step = at_start (disk c.args.folder.now) (disk c.turns.folder) c.turns.invariant.during c.turns.invariant.reads c.args.file.now.name c.turns.file.name c.turns.invariant.name
-          (λ f. AreNext c.turns.file.at f c.turns.file.bytes → StepsOn c.args.segment f c.take_block.new.file c.take_block.new.mutations.items (Ok c.in-Ok-true.field-0)
-          (gated_at c.args.tables.now c.args.shards c.args.size c.turns.mutations.items (left_of f c.turns.file.at))) c.in-Ok-true.ensures.exact image read here in
-          let done = subst (λ (b : Bool). StepsOn c.args.segment file c.take_block.new.file c.take_block.new.mutations.items (Ok b)
-          (gated_at c.args.tables.now c.args.shards c.args.size c.turns.mutations.items (left_of file c.turns.file.at))) c.in-Ok-true.field-0-test step in
-          (done.1, comes_more c.args.tables.now c.args.shards c.args.size c.turns.mutations.items c.take_block.new.mutations.items c.turns.file.at c.take_block.new.file.at file _ comes done.0);
+          (λ f. AreNext c.turns.file.at f c.turns.file.bytes → StepsOn c.args.of.now.number f c.take_block.new.file c.take_block.new.mutations.items (Ok c.in-Ok-true.field-0)
+          (gated_at c.args.of.now.tables.now c.args.of.now.shards c.args.size c.turns.mutations.items (left_of f c.turns.file.at))) c.in-Ok-true.ensures.exact image read here in
+          let done = subst (λ (b : Bool). StepsOn c.args.of.now.number file c.take_block.new.file c.take_block.new.mutations.items (Ok b)
+          (gated_at c.args.of.now.tables.now c.args.of.now.shards c.args.size c.turns.mutations.items (left_of file c.turns.file.at))) c.in-Ok-true.field-0-test step in
+          (done.1, comes_more c.args.of.now.tables.now c.args.of.now.shards c.args.size c.turns.mutations.items c.take_block.new.mutations.items c.turns.file.at c.take_block.new.file.at file _ comes done.0);
       reads = reads_more (disk c.args.folder.now) (disk c.turns.folder) (disk c.take_block.new.folder) c.turns.invariant.reads c.take_block.ensures.reads;
       during = same_more (disk c.args.folder.now) (disk c.turns.folder) (disk c.take_block.new.folder) c.turns.invariant.during c.take_block.ensures.during;
       faults = omega (arith, c.turns.invariant.faults, c.take_block.ensures.count);
@@ -36,11 +36,11 @@ returns-in-Ok-false-clause-exact g c image read next =
     let file = bytes_of (image c.args.file.now.name) in
     let (here, comes) = c.turns.invariant.exact image read next in
     let step = at_start (disk c.args.folder.now) (disk c.turns.folder) c.turns.invariant.during c.turns.invariant.reads c.args.file.now.name c.turns.file.name c.turns.invariant.name
-    (λ f. AreNext c.turns.file.at f c.turns.file.bytes → StepsOn c.args.segment f c.take_block.new.file c.take_block.new.mutations.items (Ok c.in-Ok-false.field-0)
-    (gated_at c.args.tables.now c.args.shards c.args.size c.turns.mutations.items (left_of f c.turns.file.at))) c.in-Ok-false.ensures.exact image read here in
-    let last = subst (λ (b : Bool). StepsOn c.args.segment file c.take_block.new.file c.take_block.new.mutations.items (Ok b)
-    (gated_at c.args.tables.now c.args.shards c.args.size c.turns.mutations.items (left_of file c.turns.file.at))) c.in-Ok-false.field-0-test step in
-    ap values_of (no_more c.args.tables.now c.args.shards c.args.size c.turns.mutations.items c.take_block.new.mutations.items (left_of file c.turns.file.at) last.0 _ comes last.1)
+    (λ f. AreNext c.turns.file.at f c.turns.file.bytes → StepsOn c.args.of.now.number f c.take_block.new.file c.take_block.new.mutations.items (Ok c.in-Ok-false.field-0)
+    (gated_at c.args.of.now.tables.now c.args.of.now.shards c.args.size c.turns.mutations.items (left_of f c.turns.file.at))) c.in-Ok-false.ensures.exact image read here in
+    let last = subst (λ (b : Bool). StepsOn c.args.of.now.number file c.take_block.new.file c.take_block.new.mutations.items (Ok b)
+    (gated_at c.args.of.now.tables.now c.args.of.now.shards c.args.size c.turns.mutations.items (left_of file c.turns.file.at))) c.in-Ok-false.field-0-test step in
+    ap values_of (no_more c.args.of.now.tables.now c.args.of.now.shards c.args.size c.turns.mutations.items c.take_block.new.mutations.items (left_of file c.turns.file.at) last.0 _ comes last.1)
 
 pub returns-in-Ok-false-clause-reads : goal.returns-in-Ok-false-clause-reads
 returns-in-Ok-false-clause-reads g c = let disk = g.F.Folder.disk in reads_more (disk c.args.folder.now) (disk c.turns.folder) (disk c.take_block.new.folder) c.turns.invariant.reads c.take_block.ensures.reads
@@ -54,10 +54,10 @@ returns-in-Err-clause-exact g c image read next =
     let file = bytes_of (image c.args.file.now.name) in
     let (here, comes) = c.turns.invariant.exact image read next in
     let step = at_start (disk c.args.folder.now) (disk c.turns.folder) c.turns.invariant.during c.turns.invariant.reads c.args.file.now.name c.turns.file.name c.turns.invariant.name
-    (λ f. AreNext c.turns.file.at f c.turns.file.bytes → StepsOn c.args.segment f c.take_block.new.file c.take_block.new.mutations.items (Err c.in-Err.fault)
-    (gated_at c.args.tables.now c.args.shards c.args.size c.turns.mutations.items (left_of f c.turns.file.at))) c.in-Err.ensures.exact image read here in
-    blocks_refused {X = Unit {0}} (λ _. c.take_block.new.mutations.items) c.args.segment file c.take_block.new.file c.take_block.new.mutations.items c.in-Err.fault _ _ step
-    (λ f e. refused c.args.tables.now c.args.shards c.args.size c.turns.mutations.items (left_of file c.turns.file.at) f _ comes e)
+    (λ f. AreNext c.turns.file.at f c.turns.file.bytes → StepsOn c.args.of.now.number f c.take_block.new.file c.take_block.new.mutations.items (Err c.in-Err.fault)
+    (gated_at c.args.of.now.tables.now c.args.of.now.shards c.args.size c.turns.mutations.items (left_of f c.turns.file.at))) c.in-Err.ensures.exact image read here in
+    blocks_refused {X = Unit {0}} (λ _. c.take_block.new.mutations.items) c.args.of.now.number file c.take_block.new.file c.take_block.new.mutations.items c.in-Err.fault _ _ step
+    (λ f e. refused c.args.of.now.tables.now c.args.of.now.shards c.args.size c.turns.mutations.items (left_of file c.turns.file.at) f _ comes e)
 
 pub returns-in-Err-clause-reads : goal.returns-in-Err-clause-reads
 returns-in-Err-clause-reads g c = let disk = g.F.Folder.disk in reads_more (disk c.args.folder.now) (disk c.turns.folder) (disk c.take_block.new.folder) c.turns.invariant.reads c.take_block.ensures.reads

@@ -12,8 +12,8 @@ invariant-turns g l = record {
   place : l.file.at ≤ l.size;
   exact : (c : Image) → (g.F.Folder.disk l.fn.folder).reads c → AreNext l.fn.file.at (bytes_of (c l.fn.file.name)) l.fn.file.bytes
       → AreNext l.file.at (bytes_of (c l.fn.file.name)) l.file.bytes
-      × Comes l.tables l.shards l.size l.mutations.items (left_of (bytes_of (c l.fn.file.name)) l.file.at)
-      (blocks_at l.tables l.shards (length (drop l.fn.file.at (bytes_of (c l.fn.file.name)))) l.size l.fn.mutations.items (left_of (bytes_of (c l.fn.file.name)) l.fn.file.at));
+      × Comes l.of.tables.now l.of.shards l.size l.mutations.items (left_of (bytes_of (c l.fn.file.name)) l.file.at)
+      (blocks_at l.of.tables.now l.of.shards (length (drop l.fn.file.at (bytes_of (c l.fn.file.name)))) l.size l.fn.mutations.items (left_of (bytes_of (c l.fn.file.name)) l.fn.file.at));
   reads : Follows Same (g.F.Folder.disk l.fn.folder).reads (g.F.Folder.disk l.folder).reads;
   during : During Same (g.F.Folder.disk l.fn.folder) (g.F.Folder.disk l.folder);
   faults : g.F.Folder.faults_of l.fn.folder ≤ g.F.Folder.faults_of l.folder;
