@@ -7,7 +7,8 @@ ghost use Rattle.std.specs.BTreeMap.Range.{is_from_start};
 ghost use Rattle.std.specs.Range.Bound.{bound_map};
 ghost use Rattle.cas_types.specs.Values.{bytes_cmp};
 ghost use Rattle.cas_atoms.specs.Coordinates.{atom_at};
-ghost use Rattle.cas_memtable.specs.Memtables.{held_at, least_of, earlier, least_with, bytes_with, PlacesIn, HasPlaces, MakesPlaces, Joins, GivesPart, is_above, IsNextKey};
+ghost use Rattle.cas_memtable.specs.Memtables.{held_at, least_of, earlier, least_with, bytes_with, PlacesIn, HasPlaces, MakesPlaces};
+ghost use Rattle.cas_memtable.specs.Memtables.{Joins, GivesPart, is_above, IsNextKey};
 ghost use Rattle.cas_memtable.specs.Inner.Steps.{StaysOrBlank, ReservesAt, AppliesAt, first_key};
 
 use cas_atoms::{Atom, Mutation, length};

@@ -44,5 +44,5 @@ StatedTablesFit =
 -- and each ALTER TABLE, which names a column at least
 abbrev pub StatedColumnsFit : Type 0
 StatedColumnsFit =
-    (source : List ℕ) (tokens : List Token) (a : AlterTable) → Means source tokens (statement.Alter a) → (t : TableSchema) (d : Addition) → IsTable t → alter_means t a ≡ Ok d
-    → FitColumns (COLUMN_LIMIT - length t.columns) false t.columns d.columns
+    (source : List ℕ) (tokens : List Token) (a : AlterTable) → Means source tokens (statement.Alter a) → (t : TableSchema) (d : Addition)
+    → IsTable t → alter_means t a ≡ Ok d → FitColumns (COLUMN_LIMIT - length t.columns) false t.columns d.columns
