@@ -1,6 +1,5 @@
 -- The rows that a SELECT shows of the memtables are the live view of all that was written to the partition.
-use Rattle.std.proofs.Common.{◌≡◌, ◌≤◌, ℕ, ℤ, Option, None, Some, List, [], ◌∷◌, ◌++◌, refl, sym, ap, ◌∙◌, subst, arith, append-nil, false, Result, Ok, Err, IfOk}
-use Rattle.std.proofs.lemmas.Option.{none-some}
+use Rattle.std.proofs.Common.{◌≡◌, ◌≤◌, ℕ, ℤ, Option, None, Some, List, [], ◌∷◌, refl, sym, ap, ◌∙◌, subst, arith, append-nil, false, Result, Ok, Err, IfOk}
 use Rattle.std.specs.Prelude.{slice_get, is_some, Bool, true, if◌then◌else◌, int_lt}
 use Rattle.std.proofs.lemmas.Bool.{true≢false}
 use Rattle.std.specs.List.{AllByRecursion}
@@ -15,7 +14,7 @@ use Rattle.cas_atoms.specs.Winners.{Same}
 use Rattle.cas_atoms.specs.declared.atom.Atom.{Atom}
 use Rattle.cas_atoms.specs.declared.query.Query.{Query}
 use Rattle.cas_atoms.specs.declared.query.LiveRow.{LiveRow}
-use Rattle.cas_laws.specs.Inside.{SameIn, SameWhere, is_in}
+use Rattle.cas_laws.specs.Inside.{SameIn}
 use Rattle.cas_laws.proofs.AliveProofs.{same_in_answers}
 use Rattle.cas_streams.specs.Flat.{flat}
 use Rattle.cas_streams.specs.Joined.{Stream}
@@ -25,8 +24,7 @@ use Rattle.cas_streams.specs.declared.fragment.Fragment.{Fragment}
 use Rattle.cas_streams.proofs.Merges.{merge_is_join, merge_ordered}
 use Rattle.cas_merge.specs.Told.{streams_told, told_first}
 use Rattle.cas_partition.specs.Partitions.{partition_atoms, IsOf}
-use Rattle.cas_partition.specs.Slices.{Shows}
-use Rattle.cas_memtable.specs.Memtables.{GivesPart, atoms_held, earlier, held_at, least_held, least_with}
+use Rattle.cas_memtable.specs.Memtables.{GivesPart, atoms_held, held_at, least_held, least_with}
 use Rattle.cas_memtable.specs.declared.memtable.Held.{Held}
 use Rattle.cas_memtable.specs.declared.memtable.MemPart.{MemPart}
 use Rattle.cas_bounds.specs.declared.cuts.Slice.{Slice}

@@ -9,7 +9,7 @@ use Rattle.cas_memtable.specs.Memtables.{held_at, atoms_held, least_held, least_
 use Rattle.cas_memtable.specs.declared.memtable.Held.{Held}
 use Rattle.cas_memtable.specs.declared.memtable.MemPart.{MemPart}
 use Rattle.cas_shard.specs.Stands.{held, held_in, AreOf}
-use Rattle.cas_shard.specs.Inner.Parts.{HasRoom, JoinsRoom, MakesRoom, OthersStay, StayFew}
+use Rattle.cas_shard.specs.Inner.Parts.{HasRoom, JoinsRoom, MakesRoom, StayFew}
 
 -- ---- lists of memtables
 

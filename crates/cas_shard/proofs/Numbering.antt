@@ -9,7 +9,7 @@ use Rattle.cas_effects.specs.declared.effect.BoundWrite.{BoundWrite}
 use Rattle.cas_entries.specs.declared.entry.Entry.{Entry}
 use Rattle.cas_entries.specs.declared.entry.Entry.TheVariants.{Wrote}
 use Rattle.cas_entries.specs.Entries.{AreNumbered, last_number, number_after}
-use Rattle.cas_shard.specs.Shards.{ShardHistory, Takes, after_entries, all_entries, entry_unless, mutation_at, next_number, number_of, take_refusal, wants, write_entries}
+use Rattle.cas_shard.specs.Shards.{ShardHistory, Takes, after_entries, all_entries, entry_unless, mutation_at, number_of, take_refusal, wants, write_entries}
 use Rattle.cas_shard.specs.Stands.{NumbersRise}
 use Rattle.cas_shard.specs.declared.answers.TakeFault.{TakeFault}
 

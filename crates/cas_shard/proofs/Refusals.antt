@@ -1,5 +1,5 @@
 -- What a mutation that isn't refused owes its shard.
-use Rattle.std.proofs.Common.{◌≡◌, ◌≤◌, ◌/◌, ℕ, ℤ, ◌≤ℤ◌, Bool, true, false, Option, None, Some, refl, arith}
+use Rattle.std.proofs.Common.{◌≡◌, ◌≤◌, ◌/◌, ℕ, ℤ, ◌≤ℤ◌, Bool, true, false, None, Some, refl, arith}
 use Rattle.std.proofs.lemmas.Int.{ints}
 use Rattle.std.proofs.lemmas.Bool.{ltb-false}
 use Rattle.std.specs.Prelude.{if◌then◌else◌, ◌&&◌, ◌||◌, nat_lt, int_lt}

@@ -1,5 +1,5 @@
 -- A shard stands for its history after a write and after a SELECT.
-use Rattle.std.proofs.Common.{◌≡◌, ◌≢◌, ◌⊎◌, inl, inr, ◌≤◌, ◌<◌, ◌+◌, ◌==◌, ℕ, zero, suc, ℤ, pos, neg_ℤ, Bool, true, false, ◌&&◌, if◌then◌else◌, Option, None, Some, Result, Ok, Err, List, [], ◌∷◌, ◌++◌, length, refl, sym, ap, ◌∙◌, subst, arith, append-nil}
+use Rattle.std.proofs.Common.{◌≡◌, ◌≢◌, ◌⊎◌, inl, inr, ◌≤◌, ◌+◌, ◌==◌, ℕ, zero, suc, ℤ, pos, neg_ℤ, Bool, true, false, ◌&&◌, if◌then◌else◌, Option, None, Some, Result, Ok, Err, List, [], ◌∷◌, ◌++◌, length, refl, sym, ap, ◌∙◌, subst, arith, append-nil}
 use Rattle.std.proofs.lemmas.Bool.Decides.{nat_tests}
 use Rattle.std.proofs.lemmas.Bool.{true≢false}
 use Rattle.std.proofs.lemmas.Option.{none-some, slice_get_within}
@@ -7,7 +7,6 @@ use Rattle.std.proofs.lemmas.Cmp.{tied_itself}
 use Rattle.std.proofs.lemmas.Grind.{flat_map-append}
 use Rattle.std.specs.Cmp.{Equal-is}
 use Rattle.std.specs.Ordering.{is_eq}
-use Rattle.std.specs.Prelude.{slice_get}
 use Rattle.cas_types.specs.Values.{bytes_cmp}
 use Rattle.cas_types.specs.declared.schema.TableSchema.{TableSchema}
 use Rattle.cas_types.proofs.OrderLaws.{bytes_orders}
@@ -20,16 +19,15 @@ use Rattle.cas_laws.proofs.JoinProofs.{join_laws}
 use Rattle.cas_effects.specs.AtomsOf.{mutation_of}
 use Rattle.cas_effects.specs.declared.effect.BoundWrite.{BoundWrite}
 use Rattle.cas_partition.specs.Partitions.{AreAtomsOf}
-use Rattle.cas_memtable.specs.Memtables.{atoms_held, least_held, least_with, earlier}
+use Rattle.cas_memtable.specs.Memtables.{atoms_held, least_held, least_with}
 use Rattle.cas_memtable.specs.declared.memtable.Held.{Held}
 use Rattle.cas_memtable.specs.declared.memtable.MemPart.{MemPart}
 use Rattle.cas_entries.specs.declared.entry.Entry.{Entry}
 use Rattle.cas_entries.specs.declared.entry.Entry.TheVariants.{Wrote}
-use Rattle.cas_entries.specs.Entries.{is_of_partition, last_drawn, last_number}
 use Rattle.cas_entries.proofs.Numbers.{drawn_of_none, last_of_none, last_drawn_more, last_number_more}
-use Rattle.cas_shard.specs.Shards.{ShardHistory, Takes, after_entries, all_entries, drawn_of, empty_shard, entry_unless, found_shard, later_drawn, later_moment}
-use Rattle.cas_shard.specs.Shards.{mutation_at, next_number, number_of, take_refusal, taken_unless, wants, write_answer, write_entries}
-use Rattle.cas_shard.specs.Stands.{AreOf, Keeps, NumbersRise, Stands, Suits, held, order_at, written_to}
+use Rattle.cas_shard.specs.Shards.{ShardHistory, after_entries, all_entries, drawn_of, empty_shard, entry_unless, found_shard, later_drawn, later_moment}
+use Rattle.cas_shard.specs.Shards.{mutation_at, next_number, take_refusal, taken_unless, wants, write_answer, write_entries}
+use Rattle.cas_shard.specs.Stands.{Keeps, NumbersRise, Stands, Suits, held, order_at, written_to}
 use Rattle.cas_shard.specs.Inner.Parts.{JoinsRoom, MakesRoom}
 use Rattle.cas_shard.specs.Inner.Turns.{Entered, IsNext, Took, raised, with_entries}
 use Rattle.cas_shard.specs.declared.answers.TakeFault.{TakeFault}

@@ -15,10 +15,7 @@ use cas_merge::Merger;
 use cas_streams::{FragmentSource, Part};
 use std::alloc::{AllocError, Global};
 
-fn listed(
-    alloc: Global,
-    source: Option<Merger<Part>>,
-) -> Result<Vec<Merger<Part>>, AllocError>
+fn listed(alloc: Global, source: Option<Merger<Part>>) -> Result<Vec<Merger<Part>>, AllocError>
     ensures { IfOk result (λ v. v.items ≡ option_to_list source) }
 {
     let mut sources = Vec::new(alloc);
@@ -29,11 +26,7 @@ fn listed(
 }
 
 // The sources of the query's partition: so far its memtable's, where something was written to it.
-fn sources(
-    alloc: Global,
-    parts: &[MemPart],
-    query: &Query,
-) -> Result<Vec<Merger<Part>>, AllocError>
+fn sources(alloc: Global, parts: &[MemPart], query: &Query) -> Result<Vec<Merger<Part>>, AllocError>
     ensures { IfOk result (λ v. Sources query.now.slice (held parts.now query.now.table query.now.key)
         ⟦<Merger<Part> as FragmentSource>⟧.to_come ⟦<Merger<Part> as FragmentSource>⟧.over_all v.items) }
 {

@@ -142,12 +142,7 @@ impl Shard {
 
     // Enters a mutation, or tells why it isn't entered.
     #[tactic(auto, using(crate::proofs::Refusals::unrefused))]
-    fn answer(
-        &mut self,
-        alloc: Global,
-        segment: u64,
-        mutation: Mutation,
-    ) -> Result<u64, TakeFault>
+    fn answer(&mut self, alloc: Global, segment: u64, mutation: Mutation) -> Result<u64, TakeFault>
         ensures { (tables : ListOf Schema) (s : ShardHistory) (session call : ℕ) → Stands tables s self.old → IsNext tables s mutation
             → Entered tables segment s session call mutation result self.new }
     {

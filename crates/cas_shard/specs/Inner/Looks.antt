@@ -1,6 +1,5 @@
 -- What a SELECT reads of a partition in memory (own).
 use Rattle.std.specs.Prelude.{◌≡◌, ℤ, Option, None, Some, List, [], ◌∷◌}
-use Rattle.std.specs.List.{AllByRecursion}
 use Rattle.cas_cell.specs.declared.deletion.Deletion.{Deletion}
 use Rattle.cas_bounds.specs.ClusteringOrder.{clustering_order}
 use Rattle.cas_bounds.specs.declared.cuts.Slice.{Slice}
