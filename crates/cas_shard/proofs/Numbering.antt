@@ -1,17 +1,12 @@
 -- The numbers of a shard's mutations rise by one, whatever is entered.
-use Rattle.std.proofs.Common.{◌≡◌, ℕ, ◌+◌, ℤ, List, [], ◌∷◌, ◌++◌, refl, sym, ap, ◌∙◌, subst, append_assoc, Option, Some, None}
-use Rattle.std.specs.Prelude.{Bool, true, false, if◌then◌else◌, Result}
+use Rattle.std.proofs.Common.{◌≡◌, ℕ, ◌+◌, ℤ, List, [], ◌∷◌, ◌++◌, sym, ap, ◌∙◌, subst, append_assoc}
 use Rattle.std.specs.List.{fold}
 use Rattle.std.proofs.lemmas.List.Sums.{fold-append}
-use Rattle.cas_atoms.specs.declared.atom.Mutation.{Mutation}
-use Rattle.cas_effects.specs.AtomsOf.{mutation_of}
-use Rattle.cas_effects.specs.declared.effect.BoundWrite.{BoundWrite}
 use Rattle.cas_entries.specs.declared.entry.Entry.{Entry}
 use Rattle.cas_entries.specs.declared.entry.Entry.TheVariants.{Wrote}
 use Rattle.cas_entries.specs.Entries.{AreNumbered, last_number, number_after}
-use Rattle.cas_shard.specs.Shards.{ShardHistory, Takes, after_entries, all_entries, entry_unless, mutation_at, number_of, take_refusal, wants, write_entries}
+use Rattle.cas_shard.specs.Shards.{ShardHistory, after_entries, all_entries, number_of}
 use Rattle.cas_shard.specs.Stands.{NumbersRise}
-use Rattle.cas_shard.specs.declared.answers.TakeFault.{TakeFault}
 
 more : (n : ℕ) (xs ys : List Entry) → AreNumbered n xs → AreNumbered (fold number_after n xs) ys → AreNumbered n (xs ++ ys)
 more n [] ys h e = e
@@ -38,20 +33,3 @@ entered reading new s h e = record {
   rise = subst (AreNumbered 0) (append_assoc s.found.entries s.entries new)
       (numbered_more 0 (all_entries s) new h.rise (subst (λ k. AreNumbered k new) (number_is s h) e));
 }
-
-unless : (o : Option ℕ) (n session call : ℕ) (m : Mutation) → m.number ≡ n + 1 → AreNumbered n (entry_unless o session call m)
-unless None n session call m h = (h, tt)
-unless (Some x) n session call m h = tt
-
-written : (segment : ℕ) (reading : ℤ) (s : ShardHistory) (session call : ℕ) (w : BoundWrite) → AreNumbered (number_of s) (write_entries segment reading s session call w)
-unfolding write_entries mutation_at mutation_of
-written segment reading s session call w = unless (take_refusal segment (mutation_at reading s w)) (number_of s) session call (mutation_at reading s w) refl
-
--- what a write takes is numbered from the shard's last on, whether or not memory runs out
-pub taken : (segment : ℕ) (s : ShardHistory) (reading : ℤ) (session call : ℕ) (w : BoundWrite) (entries : List Entry) (r : Result ℕ TakeFault)
-    → Takes segment s reading session call w entries r → AreNumbered (number_of s) entries
-taken segment s reading session call w entries r t = subst (AreNumbered (number_of s)) (sym t.entered) (by (wants r))
-  where
-    by : (b : Bool) → AreNumbered (number_of s) (if b then [] else write_entries segment reading s session call w)
-    by true = tt
-    by false = written segment reading s session call w

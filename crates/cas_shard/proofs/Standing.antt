@@ -1,5 +1,5 @@
 -- A shard stands for its history after a write and after a SELECT.
-use Rattle.std.proofs.Common.{◌≡◌, ◌≢◌, ◌⊎◌, inl, inr, ◌≤◌, ◌+◌, ◌==◌, ℕ, zero, suc, ℤ, pos, neg_ℤ, Bool, true, false, ◌&&◌, if◌then◌else◌, Option, None, Some, Result, Ok, Err, List, [], ◌∷◌, ◌++◌, length, refl, sym, ap, ◌∙◌, subst, arith, append-nil}
+use Rattle.std.proofs.Common.{◌≡◌, ◌≢◌, ◌⊎◌, inl, inr, ◌≤◌, ◌+◌, ◌==◌, ℕ, zero, suc, ℤ, pos, neg_ℤ, Bool, true, false, ◌&&◌, if◌then◌else◌, Option, None, Result, Ok, Err, List, [], ◌∷◌, ◌++◌, length, refl, sym, ap, ◌∙◌, subst, arith, append-nil}
 use Rattle.std.proofs.lemmas.Bool.Decides.{nat_tests}
 use Rattle.std.proofs.lemmas.Bool.{true≢false}
 use Rattle.std.proofs.lemmas.Option.{none-some, slice_get_within}
@@ -216,17 +216,6 @@ none_entered s = ap (λ l. record s { entries = l }) (sym (append-nil s.entries)
 pub as_none : (tables : List TableSchema) (s : ShardHistory) (y : Shard) → Stands tables s y → Stands tables (with_entries [] s) y
 as_none tables s y h = subst (λ z. Stands tables z y) (none_entered s) h
 
-refused : (tables : List TableSchema) (segment : ℕ) (s : ShardHistory) (session call : ℕ) (w : Mutation) (n : ℕ) (x : Shard) → Stands tables s x → take_refusal segment w ≡ Some n
-    → Entered tables segment s session call w (Err (fault.Refused n)) x
-refused tables segment s session call w n x h e = record {
-  answered = λ told. sym (ap (λ o. taken_unless o w.number) e);
-  stands = subst (λ l. Stands tables (with_entries l s) x) (sym (ap (λ o. entry_unless o session call w) e)) (as_none tables s x h);
-}
-
-pub is_refused : (tables : List TableSchema) (segment : ℕ) (s : ShardHistory) (session call : ℕ) (w : Mutation) (n : ℕ) (o : Option ℕ) (x : Shard) → Stands tables s x → o ≡ take_refusal segment w → o ≡ Some n
-    → Entered tables segment s session call w (Err (fault.Refused n)) x
-is_refused tables segment s session call w n o x h e f = refused tables segment s session call w n x h (sym e ∙ f)
-
 pub is_starved : (tables : List TableSchema) (segment : ℕ) (s : ShardHistory) (session call : ℕ) (w : Mutation) (x y : Shard) → Stands tables s x → IsNext tables s w
     → y.number ≡ x.number → y.drawn ≡ x.drawn → y.moment ≡ x.moment → MakesRoom w x.parts.items y.parts.items
     → Entered tables segment s session call w (Err fault.Mem) y
@@ -315,6 +304,3 @@ took_nothing tables segment s reading session call w y h = record {
   takes = record { answered = λ told. absurd (true≢false told); entered = refl };
   stands = as_none tables (raised reading s) y h;
 }
-
-pub looked : (tables : List TableSchema) (s : ShardHistory) (reading : ℤ) (y : Shard) → Stands tables (raised reading s) y → Stands tables (after_entries reading [] s) y
-looked tables s reading y h = as_none tables (raised reading s) y h

@@ -11,8 +11,8 @@ use Rattle.cas_shard.specs.declared.answers.TakeFault.{TakeFault}
 use Rattle.cas_shard.specs.declared.shard.Shard.{Shard}
 
 -- a write was answered so by a shard that stood for the history `s`, and stands for that with what was entered
-pub record Took (tables : List TableSchema) (segment : ℕ) (s : ShardHistory) (reading : ℤ) (session call : ℕ) (w : BoundWrite) (r : Result ℕ TakeFault) (x : Shard)
-    : Type 0 where
+pub record Took (tables : List TableSchema) (segment : ℕ) (s : ShardHistory) (reading : ℤ) (session call : ℕ) (w : BoundWrite)
+    (r : Result ℕ TakeFault) (x : Shard) : Type 0 where
   pub entries : List Entry
   pub takes : Takes segment s reading session call w entries r
   pub stands : Stands tables (after_entries reading entries s) x
