@@ -1,4 +1,4 @@
--- Tests of all that a statement uses, from tests of its parts.
+-- Tests of all names that a statement uses, from tests of its parts.
 use Rattle.std.proofs.Common.{◌≡◌, ℕ, Bool, true, false, ◌||◌, List, [], ◌∷◌, ◌++◌, map, Option, None, Some, refl, ap, ◌∙◌}
 use Rattle.std.specs.List.{list_any, flat_map}
 use Rattle.std.specs.Option.{option_map_or, option_to_list}
@@ -7,18 +7,13 @@ use Rattle.cql_parse.specs.declared.syntax.Assignment.{Assignment}
 use Rattle.cql_parse.specs.declared.syntax.Update.{Update}
 use Rattle.cql_parse.specs.declared.syntax.Delete.{Delete}
 use Rattle.cql_parse.specs.declared.syntax.Select.{Select}
-use Rattle.cql_parse.specs.declared.syntax.Statement.{Statement}
 use Rattle.cql_parse.specs.declared.syntax.Statement.TheVariants as statement
-use Rattle.cas_reasons.specs.Statements.{Mention, changes, compares, shows, relations_of, changes_of, shown_by, picks_in, other_name, assignment_names, picked_name, names_used, terms_used}
+use Rattle.cas_reasons.specs.Statements.{picks_in, other_name, assignment_names, picked_name, names_used}
+pub use Rattle.cas_mentions.proofs.Used.{any_map, any_term}
 
 pub or_true_between : (a b : Bool) → (a || (true || b)) ≡ true
 or_true_between true b = refl
 or_true_between false b = refl
-
-module _ {X Y : Type 0} (p : Y → Bool) (f : X → Y) where
-  pub any_map : (xs : List X) → list_any p (map f xs) ≡ list_any (λ x. p (f x)) xs
-  any_map [] = refl
-  any_map (x ∷ xs) = ap (λ b. p (f x) || b) (any_map xs)
 
 module _ {X Y : Type 0} (p : Y → Bool) (f : X → List Y) where
   pub any_flat_map : (xs : List X) → list_any p (flat_map f xs) ≡ list_any (λ x. list_any p (f x)) xs
@@ -56,14 +51,3 @@ module _ (p : List ℕ → Bool) where
       list_any-append p (map picked_name (picks_in s.picks)) (map (λ r. r.column) s.relations ++ map (λ o. o.name) s.order)
       ∙ ap (λ b. list_any p (map picked_name (picks_in s.picks)) || b) (list_any-append p (map (λ r. r.column) s.relations) (map (λ o. o.name) s.order))
       ∙ (λ j. any_map p picked_name (picks_in s.picks) j || (any_map p (λ r. r.column) s.relations j || any_map p (λ o. o.name) s.order j))
-
-module _ (p : List ℕ × Mention → Bool) where
-  pub any_term : (s : Statement) → list_any p (terms_used s)
-      ≡ (list_any (λ q. p (q.0, changes q.1)) (changes_of s) || (list_any (λ r. p (r.column, compares r.value)) (relations_of s) || list_any (λ k. p (picked_name k, shows k)) (shown_by s)))
-  unfolding terms_used
-  any_term s =
-      list_any-append p (map (λ q. (q.0, changes q.1)) (changes_of s)) (map (λ r. (r.column, compares r.value)) (relations_of s) ++ map (λ k. (picked_name k, shows k)) (shown_by s))
-      ∙ ap (λ b. list_any p (map (λ q. (q.0, changes q.1)) (changes_of s)) || b)
-      (list_any-append p (map (λ r. (r.column, compares r.value)) (relations_of s)) (map (λ k. (picked_name k, shows k)) (shown_by s)))
-      ∙ (λ j. any_map p (λ q. (q.0, changes q.1)) (changes_of s) j
-      || (any_map p (λ r. (r.column, compares r.value)) (relations_of s) j || any_map p (λ k. (picked_name k, shows k)) (shown_by s) j))

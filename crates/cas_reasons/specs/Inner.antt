@@ -1,2 +1,1 @@
-pub mod Borrowed
-pub mod Spots
+pub use Rattle.cas_mentions.specs.Inner.Borrowed

@@ -9,10 +9,10 @@ use Rattle.cql_parse.specs.declared.syntax.Statement.{Statement}
 use Rattle.cas_terms.specs.Columns.{is_unknown}
 use Rattle.cas_effects.specs.Refusals.{no_reason}
 use Rattle.cas_effects.specs.declared.reasons.Reasons.{Reasons}
-use Rattle.cas_reasons.specs.RowFaults.{changes_twice, has_other_count, uses_twice, is_outside, is_of_another_type}
-use Rattle.cas_reasons.specs.RowFaults.{gives_empty_key, lacks_key, has_bad_restriction}
+use Rattle.cas_mentions.specs.ColumnFaults.{changes_twice, has_other_count, is_of_another_type}
 use Rattle.cas_reasons.specs.Statements.{uses_of, timestamp_in, ttl_in, changes_of, names_used, terms_used}
 use Rattle.cas_effects.specs.declared.refusal.Refusal.{Refusal}
+use Rattle.cas_reasons.specs.RowFaults.{uses_twice, is_outside, gives_empty_key, lacks_key, has_bad_restriction}
 
 -- something is said twice; a name is of no column; TIMESTAMP is out of range; a column is given what isn't of its type; the partition
 -- key is empty; a column of the key has no value; a WHERE, ORDER BY or LIMIT can't be had; TTL is out of range; a value is too large

@@ -101,8 +101,6 @@ pub(crate) fn extent_of(columns: &[Column], statement: &Statement) -> Extent
             static_or_row(assigns_static(columns, update.assignments.as_slice()))
         }
         Statement::Delete(delete) => deletes_in(columns, delete.targets.as_slice()),
-        Statement::Create(_) => Extent::Slice,
-        Statement::Alter(_) => Extent::Slice,
-        Statement::Select(_) => Extent::Slice,
+        Statement::Create(_) | Statement::Alter(_) | Statement::Select(_) => Extent::Slice,
     }
 }

@@ -1,15 +1,13 @@
-//! What INSERT, UPDATE, DELETE and SELECT say of columns and rows, and why they are refused.
+//! Which rows INSERT, UPDATE, DELETE and SELECT are of, which names and numbers they use, and why they
+//! are refused.
 #![tactic(auto)]
 
-mod change;
 mod extents;
 mod row_reasons;
 mod statements;
-mod twice;
-mod types_used;
 mod using;
 
-pub use change::RowChange;
+pub use cas_mentions::RowChange;
 pub use extents::inserts_static;
 pub use row_reasons::row_refusal;
 pub use statements::key_terms_of;

@@ -7,24 +7,25 @@ ghost use Rattle.cas_effects.specs.Refusals.{refusal_for};
 ghost use Rattle.cas_terms.specs.Columns.{names_key};
 ghost use Rattle.cas_where.specs.Where.{restricts};
 ghost use Rattle.cas_reasons.specs.Extents.{extent_of};
-ghost use Rattle.cas_reasons.specs.RowFaults.{changes_twice, has_other_count, uses_twice, gives_empty, gives_empty_key, is_row, lacks_key};
+ghost use Rattle.cas_mentions.specs.ColumnFaults.{changes_twice, has_other_count};
+ghost use Rattle.cas_mentions.specs.Mentions.{relations_of, changes_of};
+ghost use Rattle.cas_reasons.specs.RowFaults.{uses_twice, gives_empty, gives_empty_key, is_row, lacks_key};
 ghost use Rattle.cas_reasons.specs.RowFaults.{is_another, assigns_key_or_other, follows_no_order, reads_outside_limits, has_bad_restriction};
 ghost use Rattle.cas_reasons.specs.RowReasons.{row_reasons};
-ghost use Rattle.cas_reasons.specs.Statements.{relations_of, uses_of, changes_of};
+ghost use Rattle.cas_reasons.specs.Statements.{uses_of};
 
 use crate::extents::extent_of;
-use crate::statements::{has_other_count, key_terms_of, other_name, relations_of, uses_unknown};
-use crate::twice::changes_twice;
-use crate::types_used::uses_another_type;
+use crate::statements::{key_terms_of, other_name, uses_unknown};
 use crate::using::{has_use_twice, is_outside, stated_timestamp, stated_ttl};
 use cas_effects::{Reasons, Refusal};
+use cas_mentions::{changes_twice, has_other_count, relations_of, uses_another_type};
 use cas_terms::{names_key, same_name};
 use cas_types::{Column, GREATEST_TIMESTAMP, LEAST_TIMESTAMP, ROW_LIMIT, TTL_LIMIT, TableSchema};
 use cas_where::{
     Extent, compares_key_with_null, follows_order, is_given_empty, lacks_clustering,
     lacks_partition, restricts, restricts_to_empty, sole_column,
 };
-use cql_parse::{Assignment, ColumnOrder, Select, Statement, Target};
+use cql_parse::{Assignment, ColumnOrder, Relation, Select, Statement, Target};
 use std::alloc::{AllocError, Global};
 
 #[tactic(auto, using(crate::proofs::Used::or_true_between))]
@@ -45,11 +46,11 @@ fn gives_empty(statement: &Statement, column: &Column) -> bool
 {
     match statement {
         Statement::Insert(_) => is_given_empty(key_terms_of(statement), column),
-        Statement::Create(_) => restricts_to_empty(relations_of(statement), column),
-        Statement::Alter(_) => restricts_to_empty(relations_of(statement), column),
-        Statement::Update(_) => restricts_to_empty(relations_of(statement), column),
-        Statement::Delete(_) => restricts_to_empty(relations_of(statement), column),
-        Statement::Select(_) => restricts_to_empty(relations_of(statement), column),
+        Statement::Create(_)
+        | Statement::Alter(_)
+        | Statement::Update(_)
+        | Statement::Delete(_)
+        | Statement::Select(_) => restricts_to_empty(relations_of(statement), column),
     }
 }
 
@@ -135,36 +136,30 @@ fn reads_outside_limits(columns: &[Column], select: &Select) -> bool
         || (is_outside(1, i128::from(ROW_LIMIT), select.limit) || is_paged(select))
 }
 
-fn restricts_rows(columns: &[Column], statement: &Statement) -> bool
-    ensures { result ≡ restricts (extent_of columns.now statement.now) columns.now (relations_of statement.now) }
+fn restricts_rows(columns: &[Column], statement: &Statement, relations: &[Relation]) -> bool
+    ensures { result ≡ restricts (extent_of columns.now statement.now) columns.now relations.now }
 {
-    restricts(
-        extent_of(columns, statement),
-        columns,
-        relations_of(statement),
-    )
+    restricts(extent_of(columns, statement), columns, relations)
 }
 
-#[tactic(auto, unfolding(crate::specs::RowFaults::has_bad_restriction, crate::specs::Statements::relations_of, crate::specs::Extents::extent_of))]
+#[tactic(auto, unfolding(crate::specs::RowFaults::has_bad_restriction))]
 fn has_bad_restriction(columns: &[Column], statement: &Statement) -> bool
     ensures { result ≡ has_bad_restriction columns.now statement.now }
 {
     match statement {
         Statement::Update(update) => {
             any_assigns_key_or_other(columns, update.assignments.as_slice())
-                || !restricts_rows(columns, statement)
+                || !restricts_rows(columns, statement, update.relations.as_slice())
         }
         Statement::Delete(delete) => {
             any_deletes_key(columns, delete.targets.as_slice())
-                || !restricts_rows(columns, statement)
+                || !restricts_rows(columns, statement, delete.relations.as_slice())
         }
         Statement::Select(select) => {
             !restricts(Extent::Slice, columns, select.relations.as_slice())
                 || reads_outside_limits(columns, select)
         }
-        Statement::Create(_) => false,
-        Statement::Alter(_) => false,
-        Statement::Insert(_) => false,
+        Statement::Create(_) | Statement::Alter(_) | Statement::Insert(_) => false,
     }
 }
 

@@ -1,65 +1,24 @@
-//! The parts of INSERT, UPDATE, DELETE and SELECT, and the names that they use.
+//! The terms of a statement's key, and the names that it uses.
 
-ghost use Rattle.std.specs.Prelude.{◌≡◌, ◌||◌, ◌==◌, false, not, length};
+ghost use Rattle.std.specs.Prelude.{◌≡◌, ◌||◌, false};
 ghost use Rattle.std.specs.List.{list_any};
 ghost use Rattle.std.specs.Option.{option_copied, option_map_or};
 ghost use Rattle.cas_terms.specs.Columns.{is_unknown};
 ghost use Rattle.cas_where.specs.Inner.Sources.{terms_of};
-ghost use Rattle.cas_reasons.specs.RowFaults.{has_other_count};
-ghost use Rattle.cas_reasons.specs.Statements.{relations_of, picks_in, shown_by, key_terms_of, other_name, assignment_names, picked_name, names_used};
+ghost use Rattle.cas_mentions.specs.Mentions.{picked_name};
+ghost use Rattle.cas_reasons.specs.Statements.{key_terms_of, other_name, assignment_names, names_used};
 ghost use Rattle.cql_parse.specs.declared.syntax.Statement.TheVariants as statements;
 
+use cas_mentions::{picked_name, picks_in, relations_of};
 use cas_terms::is_unknown;
 use cas_types::{Column, Text};
 use cas_where::KeyTerms;
 use cql_parse::{
-    Assigned, Assignment, ColumnOrder, Delete, Pick, Picks, Relation, Select, Statement, Target,
-    Update,
+    Assigned, Assignment, ColumnOrder, Delete, Pick, Relation, Select, Statement, Target, Update,
 };
 
-/// The restrictions of the statement's WHERE.
-#[tactic(auto, unfolding(crate::specs::Statements::relations_of))]
-pub(crate) fn relations_of(statement: &Statement) -> &[Relation]
-    ensures { result.now ≡ relations_of statement.now }
-{
-    match statement {
-        Statement::Update(update) => update.relations.as_slice(),
-        Statement::Delete(delete) => delete.relations.as_slice(),
-        Statement::Select(select) => select.relations.as_slice(),
-        Statement::Create(_) => &[],
-        Statement::Alter(_) => &[],
-        Statement::Insert(_) => &[],
-    }
-}
-
-/// What a SELECT names to be shown.
-#[tactic(auto, unfolding(crate::specs::Statements::picks_in))]
-fn picks_in(picks: &Picks) -> &[Pick]
-    ensures { result.now ≡ picks_in picks.now }
-{
-    match picks {
-        Picks::All => &[],
-        Picks::These(picks) => picks.as_slice(),
-    }
-}
-
-/// What the statement shows of columns.
-#[tactic(auto, unfolding(crate::specs::Statements::shown_by))]
-pub(crate) fn shown_by(statement: &Statement) -> &[Pick]
-    ensures { result.now ≡ shown_by statement.now }
-{
-    match statement {
-        Statement::Select(select) => picks_in(&select.picks),
-        Statement::Create(_) => &[],
-        Statement::Alter(_) => &[],
-        Statement::Insert(_) => &[],
-        Statement::Update(_) => &[],
-        Statement::Delete(_) => &[],
-    }
-}
-
 /// Where the statement gives its columns their terms.
-#[tactic(auto, unfolding(crate::specs::Statements::key_terms_of, crate::specs::Statements::relations_of))]
+#[tactic(auto, unfolding(crate::specs::Statements::key_terms_of))]
 pub fn key_terms_of(statement: &Statement) -> KeyTerms<'_>
     ensures { terms_of result ≡ key_terms_of statement.now }
 {
@@ -67,26 +26,11 @@ pub fn key_terms_of(statement: &Statement) -> KeyTerms<'_>
         Statement::Insert(insert) => {
             KeyTerms::Insert(insert.columns.as_slice(), insert.values.as_slice())
         }
-        Statement::Update(update) => KeyTerms::Where(update.relations.as_slice()),
-        Statement::Delete(delete) => KeyTerms::Where(delete.relations.as_slice()),
-        Statement::Select(select) => KeyTerms::Where(select.relations.as_slice()),
-        Statement::Create(_) => KeyTerms::Where(&[]),
-        Statement::Alter(_) => KeyTerms::Where(&[]),
-    }
-}
-
-/// Whether it is an INSERT of more or fewer values than columns.
-#[tactic(auto, unfolding(crate::specs::RowFaults::has_other_count))]
-pub(crate) fn has_other_count(statement: &Statement) -> bool
-    ensures { result ≡ has_other_count statement.now }
-{
-    match statement {
-        Statement::Insert(insert) => insert.columns.len() != insert.values.len(),
-        Statement::Create(_) => false,
-        Statement::Alter(_) => false,
-        Statement::Update(_) => false,
-        Statement::Delete(_) => false,
-        Statement::Select(_) => false,
+        Statement::Create(_)
+        | Statement::Alter(_)
+        | Statement::Update(_)
+        | Statement::Delete(_)
+        | Statement::Select(_) => KeyTerms::Where(relations_of(statement)),
     }
 }
 
@@ -101,18 +45,6 @@ pub(crate) fn other_name(value: &Assigned) -> Option<&str>
         Assigned::Prepend(_, name) => Some(name.as_str()),
         Assigned::Remove(name, _) => Some(name.as_str()),
         Assigned::Entry(_, _) => None,
-    }
-}
-
-/// The name of the column of which something is shown.
-#[tactic(auto, unfolding(crate::specs::Statements::picked_name))]
-pub(crate) fn picked_name(pick: &Pick) -> &str
-    ensures { result.now ≡ picked_name pick.now }
-{
-    match pick {
-        Pick::Value(name) => name.as_str(),
-        Pick::WriteTime(name) => name.as_str(),
-        Pick::Ttl(name) => name.as_str(),
     }
 }
 
@@ -210,7 +142,6 @@ pub(crate) fn uses_unknown(columns: &[Column], statement: &Statement) -> bool
         Statement::Update(update) => update_unknown(columns, update),
         Statement::Delete(delete) => delete_unknown(columns, delete),
         Statement::Select(select) => select_unknown(columns, select),
-        Statement::Create(_) => false,
-        Statement::Alter(_) => false,
+        Statement::Create(_) | Statement::Alter(_) => false,
     }
 }

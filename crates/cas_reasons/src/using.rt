@@ -1,6 +1,6 @@
 //! USING TIMESTAMP and USING TTL, and numbers that have a range.
 
-ghost use Rattle.std.specs.Prelude.{◌≡◌, ◌<◌, ◌||◌, pos, nat_lt, length, false, unwrap_or, option_map, unsigned_abs};
+ghost use Rattle.std.specs.Prelude.{◌≡◌, ◌<◌, ◌||◌, pos, length, false, unwrap_or, option_map, unsigned_abs};
 ghost use Rattle.std.specs.List.{filter_map};
 ghost use Rattle.cas_types.specs.declared.limits.TheConstants.{LEAST_TIMESTAMP, GREATEST_TIMESTAMP, ROW_LIMIT, TTL_LIMIT};
 ghost use Rattle.cas_reasons.specs.RowFaults.{uses_twice, is_outside};
@@ -83,9 +83,7 @@ pub(crate) fn has_use_twice(statement: &Statement) -> bool
         Statement::Insert(insert) => uses_twice(insert.uses.as_slice()),
         Statement::Update(update) => uses_twice(update.uses.as_slice()),
         Statement::Delete(_) => false,
-        Statement::Create(_) => false,
-        Statement::Alter(_) => false,
-        Statement::Select(_) => false,
+        Statement::Create(_) | Statement::Alter(_) | Statement::Select(_) => false,
     }
 }
 
@@ -98,9 +96,7 @@ pub fn stated_timestamp(statement: &Statement) -> Option<i128>
         Statement::Insert(insert) => timestamp_in(insert.uses.as_slice()),
         Statement::Update(update) => timestamp_in(update.uses.as_slice()),
         Statement::Delete(delete) => delete.timestamp,
-        Statement::Create(_) => None,
-        Statement::Alter(_) => None,
-        Statement::Select(_) => None,
+        Statement::Create(_) | Statement::Alter(_) | Statement::Select(_) => None,
     }
 }
 
@@ -113,9 +109,7 @@ pub fn stated_ttl(statement: &Statement) -> Option<i128>
         Statement::Insert(insert) => ttl_in(insert.uses.as_slice()),
         Statement::Update(update) => ttl_in(update.uses.as_slice()),
         Statement::Delete(_) => None,
-        Statement::Create(_) => None,
-        Statement::Alter(_) => None,
-        Statement::Select(_) => None,
+        Statement::Create(_) | Statement::Alter(_) | Statement::Select(_) => None,
     }
 }
 

@@ -25,8 +25,8 @@ use Rattle.cas_terms.specs.Columns.{partition_columns, clustering_columns}
 use Rattle.cas_terms.specs.Constants.{gives_no_bytes}
 use Rattle.cas_terms.specs.Terms.{term_value}
 use Rattle.cas_terms.proofs.TermValues.{IsOf, term_is}
-use Rattle.cas_where.specs.KeyTerms.{TermOf, term_in_where, value_of_term, value_in, is_missing, in_front, is_equal, partition_key, prefix_values, first_missing}
-use Rattle.cas_where.specs.Keys.{sole_column, restricts_to_empty, lacks_partition, lacks_clustering}
+use Rattle.cas_keys.specs.KeyTerms.{TermOf, term_in_where, value_of_term, value_in, is_missing, in_front, is_equal, partition_key, prefix_values, first_missing}
+use Rattle.cas_keys.specs.Keys.{sole_column, restricts_to_empty, lacks_partition, lacks_clustering}
 use Rattle.cas_where.specs.Slices.{bound_value, cut_by, cut_at, slice_with, slice_of}
 use Rattle.cas_where.proofs.SliceLaws.{order_by, orders, found_passes}
 

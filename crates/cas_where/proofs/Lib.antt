@@ -1,4 +1,2 @@
-pub mod KeyLemmas
-pub mod KeysBack
 pub mod SliceLaws
 pub mod Fitting

@@ -23,7 +23,7 @@ use Rattle.cql_parse.specs.declared.syntax.Operator.TheVariants as operator
 use Rattle.cql_parse.specs.declared.syntax.Relation.{Relation}
 use Rattle.cas_terms.specs.Columns.{clustering_columns}
 use Rattle.cas_terms.specs.Terms.{term_value}
-use Rattle.cas_where.specs.KeyTerms.{is_equal, term_in_where, value_of_term, value_in, is_missing, in_front, prefix_values, first_missing}
+use Rattle.cas_keys.specs.KeyTerms.{is_equal, term_in_where, value_of_term, value_in, is_missing, in_front, prefix_values, first_missing}
 use Rattle.cas_where.specs.Slices.{is_strict, is_at_begin, is_at_end, cut, cut_by, cut_at, slice_with, slice_of}
 use Rattle.cas_where.specs.Where.{is_lower, is_upper, count_on, count_all, is_fixed, is_bounded, is_free, makes_slice}
 use Rattle.cas_where.specs.WhereLaws.{operator_holds, relation_holds, column_meets, row_meets, compares_values, SliceLaw}

@@ -1,1 +1,1 @@
-pub mod Sources
+pub use Rattle.cas_keys.specs.Inner.Sources

@@ -1,5 +1,5 @@
-pub mod KeyTerms
-pub mod Keys
+pub use Rattle.cas_keys.specs.KeyTerms
+pub use Rattle.cas_keys.specs.Keys
 pub mod Where
 pub mod Slices
 pub mod WhereLaws

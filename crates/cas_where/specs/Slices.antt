@@ -16,7 +16,7 @@ use Rattle.cql_parse.specs.declared.syntax.ColumnOrder.{ColumnOrder}
 use Rattle.cas_types.specs.Schemas.{is_descending}
 use Rattle.cas_bounds.specs.ClusteringOrder.{clustering_order}
 use Rattle.cas_terms.specs.Columns.{clustering_columns}
-use Rattle.cas_where.specs.KeyTerms.{term_in_where, prefix_values, first_missing}
+use Rattle.cas_keys.specs.KeyTerms.{term_in_where, prefix_values, first_missing}
 use Rattle.cas_terms.specs.Terms.{term_value}
 use Rattle.cas_where.specs.Where.{is_lower, is_upper}
 

@@ -10,7 +10,7 @@ use Rattle.cql_parse.specs.declared.syntax.Relation.{Relation}
 use Rattle.cas_where.specs.declared.restrictions.Extent.{Extent}
 use Rattle.cas_where.specs.declared.restrictions.Extent.TheVariants as extent
 use Rattle.cas_terms.specs.Columns.{names_key, partition_columns, clustering_columns}
-use Rattle.cas_where.specs.KeyTerms.{is_equal}
+use Rattle.cas_keys.specs.KeyTerms.{is_equal}
 
 -- `>` and `>=`
 unfoldable pub is_lower : Operator → Bool

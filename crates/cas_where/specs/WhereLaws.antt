@@ -1,18 +1,14 @@
 -- What a WHERE means to the rows of its partition, said of each relation alone: a law over `slice_of`, which says it by two cuts.
--- And what a partition key's bytes tell of the values that it was made of.
--- CQL documentation, "Data manipulation: SELECT, the WHERE clause" and "Data definition: the primary key".
-use Rattle.std.specs.Prelude.{◌≡◌, ℕ, ◌≤◌, Bool, true, false, not, ◌&&◌, ◌||◌, List, [], ◌∷◌, length, All, is_some}
+-- CQL documentation, "Data manipulation: SELECT, the WHERE clause".
+use Rattle.std.specs.Prelude.{◌≡◌, ℕ, Bool, true, false, not, ◌&&◌, ◌||◌, List, [], ◌∷◌, length, is_some}
 use Rattle.std.specs.List.{list_all}
 use Rattle.std.specs.Option.{option_map_or}
 use Rattle.std.specs.Ordering.{is_lt, is_gt, is_eq}
 use Rattle.std.specs.Str.{bytes_eq}
 use Rattle.std.specs.declared.cmp.Ordering.{Ordering}
-use Rattle.cas_types.specs.Keys.{key_of}
 use Rattle.cas_types.specs.Values.{value_cmp}
-use Rattle.cas_types.specs.declared.limits.TheConstants.{KEY_LIMIT}
 use Rattle.cas_types.specs.declared.schema.Column.{Column}
 use Rattle.cas_bounds.specs.Cuts.{is_inside}
-use Rattle.cas_atoms.specs.PartitionKeys.{key_values}
 use Rattle.cql_parse.specs.declared.syntax.Operator.{Operator}
 use Rattle.cql_parse.specs.declared.syntax.Operator.TheVariants as operator
 use Rattle.cql_parse.specs.declared.syntax.Relation.{Relation}
@@ -53,7 +49,3 @@ SliceLaw =
     (cs : List Column) (rs : List Relation) (row : List (List ℕ)) → makes_slice rs (clustering_columns cs) ≡ true
     → compares_values rs (clustering_columns cs) ≡ true
     → length row ≡ length (clustering_columns cs) → is_inside (slice_of cs rs).lo (slice_of cs rs).hi row ≡ row_meets rs (clustering_columns cs) row
-
--- a partition key reads back as the values that it was made of, none of which has more than 65,535 bytes; so two keys are one only where all values are
-abbrev pub KeysReadBack : Type 0
-KeysReadBack = (values : List (List ℕ)) → All (λ v. length v ≤ KEY_LIMIT) values → key_values (length values) (key_of values) ≡ values

@@ -3,35 +3,22 @@
 ghost use Rattle.std.specs.Prelude.{◌≡◌, ◌&&◌, nat_le};
 ghost use Rattle.std.specs.List.{list_all};
 ghost use Rattle.cas_terms.specs.Columns.{partition_columns, clustering_columns, names_key};
-ghost use Rattle.cas_where.specs.KeyTerms.{is_equal};
+ghost use Rattle.cas_keys.specs.KeyTerms.{is_equal};
 ghost use Rattle.cas_where.specs.Where.{is_lower, is_upper, count_on, count_all, is_fixed, is_bounded, is_free, makes_slice};
 ghost use Rattle.cas_where.specs.Where.{is_clustering_free, is_clustering_fixed, is_of_one_partition, picks_rows, restricts};
 
-use crate::key_terms::is_equal;
+use crate::operators::{is_lower, is_upper};
+use cas_keys::is_equal;
 use cas_terms::{names_key, same_name};
 use cas_types::Column;
-use cql_parse::{Operator, Relation};
+use cql_parse::Relation;
 
 /// What a statement is of: the static row of a partition, one row, or a slice of its rows.
-#[derive(Clone, Copy, Debug, PartialEq, Eq)]
+#[derive(Clone, Copy)]
 pub enum Extent {
     StaticRow,
     Row,
     Slice,
-}
-
-#[tactic(auto, unfolding(crate::specs::Where::is_lower))]
-pub(crate) fn is_lower(operator: Operator) -> bool
-    ensures { result ≡ is_lower operator }
-{
-    matches!(operator, Operator::Greater | Operator::AtLeast)
-}
-
-#[tactic(auto, unfolding(crate::specs::Where::is_upper))]
-pub(crate) fn is_upper(operator: Operator) -> bool
-    ensures { result ≡ is_upper operator }
-{
-    matches!(operator, Operator::Less | Operator::AtMost)
 }
 
 #[tactic(auto, unfolding(crate::specs::Where::count_on))]

@@ -5,22 +5,15 @@ ghost use Rattle.std.specs.Str.{bytes_eq};
 ghost use Rattle.std.specs.Option.{option_copied};
 ghost use Rattle.std.specs.List.{find};
 ghost use Rattle.cas_types.specs.Schemas.{is_descending};
-ghost use Rattle.cas_where.specs.Slices.{is_strict, is_at, bound_value, cut, cut_by, cut_at, slice_with, slice_of};
+ghost use Rattle.cas_where.specs.Slices.{is_at, bound_value, cut, cut_by, cut_at, slice_with, slice_of};
 
-use crate::key_terms::{KeyTerms, first_missing, prefix_values};
-use crate::restrictions::{is_lower, is_upper};
+use crate::operators::{is_lower, is_strict, is_upper};
 use cas_bounds::{Cut, Ordered, Slice, clustering_order};
+use cas_keys::{KeyTerms, first_missing, prefix_values};
 use cas_terms::{push_some, same_name, term_value};
 use cas_types::{Bytes, Column, List};
 use cql_parse::{Operator, Relation};
 use std::alloc::{AllocError, Global};
-
-#[tactic(auto, unfolding(crate::specs::Slices::is_strict))]
-fn is_strict(operator: Operator) -> bool
-    ensures { result ≡ is_strict operator }
-{
-    matches!(operator, Operator::Less | Operator::Greater)
-}
 
 // Whether a bound is one at which the slice begins, or ends: by place, so the other way round where
 // the column is DESC.

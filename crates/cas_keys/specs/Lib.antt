@@ -1,0 +1,4 @@
+pub mod KeyTerms
+pub mod Keys
+pub mod KeyLaws
+pub mod Inner

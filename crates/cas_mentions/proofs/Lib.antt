@@ -1,0 +1,3 @@
+pub mod Used
+pub mod Changed
+pub mod Sorting
