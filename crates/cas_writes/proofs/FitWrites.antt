@@ -43,14 +43,14 @@ use Rattle.cas_where.specs.Slices.{slice_of}
 use Rattle.cas_where.specs.Where.{is_fixed, is_clustering_free, is_clustering_fixed}
 use Rattle.cas_where.proofs.Fitting.{IsShort, front_of, rest_of, row_fits, slice_fits, key_fits, not_empty}
 use Rattle.cas_where.proofs.SliceLaws.{given, fixed_column}
-use Rattle.cas_bind.specs.Changes.{change_effects, clustered_row, deletion_effect, deletion_effects, live_effect, row_effects, effects_of, time_to_live, bound_change}
+use Rattle.cas_writes.specs.Changes.{change_effects, clustered_row, deletion_effect, deletion_effects, live_effect, row_effects, effects_of, time_to_live, bound_change}
 use Rattle.cas_reasons.specs.Extents.{inserts_static, static_or_row, deletes_in, extent_of}
 use Rattle.cas_define.specs.IsTable.{IsTable}
 use Rattle.cas_define.proofs.Tables.{each_named}
 use Rattle.cas_reasons.specs.RowFaults.{is_outside, mention_fits, is_of_another_type, gives_empty, gives_empty_key, is_row, lacks_key}
 use Rattle.cas_reasons.specs.RowReasons.{row_reasons}
 use Rattle.cas_reasons.specs.Statements.{Change, assigns, deletes, changes, compares, inserted, relations_of, uses_of, timestamp_in, ttl_in, key_terms_of, changes_of, terms_used}
-use Rattle.cas_bind.proofs.FitChanges.{neither, nor, joined, all_short, is_there, IsPlaced, all_changes}
+use Rattle.cas_writes.proofs.FitChanges.{neither, nor, joined, all_short, is_there, IsPlaced, all_changes}
 use Rattle.cas_reasons.proofs.Used.{any_term}
 
 -- ---- what isn't told of a statement

@@ -3,18 +3,18 @@
 ghost use Rattle.std.specs.Prelude.{◌≡◌, pos, false, IfOk};
 ghost use Rattle.cas_types.specs.Limits.{IsNarrow, IsShardCount};
 ghost use Rattle.cas_types.specs.declared.limits.TheConstants.{LEAST_TIMESTAMP, GREATEST_TIMESTAMP, TTL_LIMIT};
+ghost use Rattle.cas_define.specs.IsTable.{IsTable};
 ghost use Rattle.cas_define.specs.Outcomes.{Binds, outcome};
+ghost use Rattle.cas_effects.specs.FitsBound.{FitsBound};
 ghost use Rattle.cas_effects.specs.TooLarge.{write_too_large};
 ghost use Rattle.cas_where.specs.KeyTerms.{partition_key};
 ghost use Rattle.cas_where.specs.Inner.Sources.{terms_of};
-ghost use Rattle.cas_bind.specs.Changes.{bound_change, time_to_live};
-ghost use Rattle.cas_bind.specs.Inner.Gives.{WriteGives};
-ghost use Rattle.cas_bind.specs.Meaning.{change_means};
+ghost use Rattle.cas_writes.specs.Changes.{bound_change, time_to_live};
+ghost use Rattle.cas_writes.specs.Inner.Gives.{WriteGives};
+ghost use Rattle.cas_writes.specs.ChangeMeaning.{IsWriteWithin, change_means};
 ghost use Rattle.cas_reasons.specs.RowFaults.{is_outside};
 ghost use Rattle.cas_reasons.specs.Statements.{key_terms_of, uses_of, timestamp_in, ttl_in};
-ghost use Rattle.cas_bind.specs.declared.bound.Bound.TheVariants as bounds;
 
-use crate::bound::Bound;
 use crate::effects::effects_of;
 use cas_effects::{BindFault, BoundWrite, write_too_large};
 use cas_reasons::{
@@ -87,23 +87,22 @@ fn bound_change(
     }
 }
 
-fn if_small(write: BoundWrite) -> Result<Bound, BindFault>
-    ensures { Binds result (outcome (write_too_large write) (bounds.Write write)) }
+fn if_small(write: BoundWrite) -> Result<BoundWrite, BindFault>
+    ensures { Binds result (outcome (write_too_large write) write) }
 {
     match write_too_large(&write) {
         Some(refusal) => Err(BindFault::Refused(refusal)),
-        None => Ok(Bound::Write(write)),
+        None => Ok(write),
     }
 }
 
-/// What the INSERT, UPDATE or DELETE means to its table.
 #[tactic(auto, using(crate::proofs::RowLemmas::rows_good, crate::proofs::RowLemmas::change_refused, crate::proofs::RowLemmas::change_decided))]
-pub(crate) fn bind_change(
+fn change_meant(
     alloc: Global,
     shards: u8,
     table: &TableSchema,
     statement: &Statement,
-) -> Result<Bound, BindFault>
+) -> Result<BoundWrite, BindFault>
     requires shards { IsShardCount shards }
     requires narrow { IsNarrow table.now.columns }
     ensures { Binds result (change_means shards table.now statement.now) }
@@ -112,4 +111,21 @@ pub(crate) fn bind_change(
         Some(refusal) => Err(BindFault::Refused(refusal)),
         None => if_small(bound_change(alloc, shards, table, statement)?),
     }
+}
+
+/// What the INSERT, UPDATE or DELETE writes to its table, or why it is refused. The write is of one of
+/// the shards, and one that the table can take, where it is as every table is.
+pub fn bind_change(
+    alloc: Global,
+    shards: u8,
+    table: &TableSchema,
+    statement: &Statement,
+) -> Result<BoundWrite, BindFault>
+    requires shards { IsShardCount shards }
+    requires narrow { IsNarrow table.now.columns }
+    ensures means { Binds result (change_means shards table.now statement.now) }
+    ensures within { IfOk result (λ w. IsWriteWithin shards w) }
+    ensures fits { IfOk result (λ w. IsTable table.now → FitsBound table.now shards w) }
+{
+    change_meant(alloc, shards, table, statement)
 }

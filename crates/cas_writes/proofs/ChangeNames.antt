@@ -48,12 +48,11 @@ use Rattle.cas_reasons.specs.RowFaults.{has_other_count, mention_fits, is_of_ano
 use Rattle.cas_reasons.specs.RowReasons.{row_reasons}
 use Rattle.cas_reasons.specs.Statements.{Change, assigns, deletes, changes, inserted, key_terms_of, changes_of, terms_used}
 use Rattle.cas_reasons.proofs.Used.{any_map, any_term}
-use Rattle.cas_bind.specs.ChangeLaws.{has_parts, changes_something, names_changed, ChangesItsNames}
-use Rattle.cas_bind.specs.Changes.{row_for, whole_effect, assigned_effect, deleted_effect, column_effect, outside_key, change_effects, clustered_row, deletion_effect, deletion_effects, live_effect, row_effects, effects_of, bound_change}
-use Rattle.cas_bind.specs.declared.bound.Bound.TheVariants as bound
-use Rattle.cas_bind.proofs.FitChanges.{neither, nor, is_there}
-use Rattle.cas_bind.proofs.FitWrites.{Clear, clear}
-use Rattle.cas_bind.proofs.Kept.{change_comes}
+use Rattle.cas_writes.specs.ChangeLaws.{has_parts, changes_something, names_changed, ChangesItsNames}
+use Rattle.cas_writes.specs.Changes.{row_for, whole_effect, assigned_effect, deleted_effect, column_effect, outside_key, change_effects, clustered_row, deletion_effect, deletion_effects, live_effect, row_effects, effects_of, bound_change}
+use Rattle.cas_writes.proofs.FitChanges.{neither, nor, is_there}
+use Rattle.cas_writes.proofs.FitWrites.{Clear, clear}
+use Rattle.cas_writes.proofs.RowLemmas.{change_comes}
 
 -- ---- tests
 
@@ -401,8 +400,8 @@ effects_named t is n s count types =
 pub changes_its_names : ChangesItsNames
 unfolding row_reasons bound_change
 changes_its_names shards t s w is e drawn moment number n =
-    let comes = change_comes shards t s (bound.Write w) e in
+    let comes = change_comes shards t s w e in
     let c : Clear (row_reasons t (write_too_large (bound_change shards t s)) s) = clear (row_reasons t (write_too_large (bound_change shards t s)) s) comes.0 in
-    let same : bound_change shards t s ≡ w = cc in
+    let same : bound_change shards t s ≡ w = comes.1 in
     (write_laws w drawn moment number).columns n ∙ ap (λ w. list_any (changes_column n) w.effects) (sym same)
     ∙ effects_named t is n s (neither _ _ (nor _ _ c.bad_definition)) c.wrong_type

@@ -1,8 +1,8 @@
 use Rattle.std.proofs.Common.{◌++◌, ◌∙◌, ap}
-use Rattle.cas_bind.specs.Changes.{change_effects}
+use Rattle.cas_writes.specs.Changes.{change_effects}
 use Rattle.cas_reasons.specs.Statements.{assigns}
-use Rattle.cas_bind.proofs.EffectLemmas.{pushed_step}
-use Rattle.cas_bind.proofs.effects.push_assigned.Goals as goal
+use Rattle.cas_writes.proofs.EffectLemmas.{pushed_step}
+use Rattle.cas_writes.proofs.effects.push_assigned.Goals as goal
 
 pub loop-assignment-preserved : goal.loop-assignment-preserved
 loop-assignment-preserved c =

@@ -1,8 +1,8 @@
 use Rattle.std.proofs.Common.{◌++◌, ◌∙◌, ap}
-use Rattle.cas_bind.specs.Changes.{change_effects}
+use Rattle.cas_writes.specs.Changes.{change_effects}
 use Rattle.cas_reasons.specs.Statements.{deletes}
-use Rattle.cas_bind.proofs.EffectLemmas.{pushed_step}
-use Rattle.cas_bind.proofs.effects.push_deleted.Goals as goal
+use Rattle.cas_writes.proofs.EffectLemmas.{pushed_step}
+use Rattle.cas_writes.proofs.effects.push_deleted.Goals as goal
 
 pub loop-target-preserved : goal.loop-target-preserved
 loop-target-preserved c =

@@ -16,8 +16,7 @@ use Rattle.cas_effects.specs.WriteLaws.{is_of_column}
 use Rattle.cas_effects.specs.declared.effect.BoundWrite.{BoundWrite}
 use Rattle.cas_terms.specs.Terms.{elements_in, entries_in}
 use Rattle.cas_define.specs.IsTable.{IsTable}
-use Rattle.cas_bind.specs.Meaning.{change_means}
-use Rattle.cas_bind.specs.declared.bound.Bound.TheVariants as bound
+use Rattle.cas_writes.specs.ChangeMeaning.{change_means}
 
 -- something stands in `{..}` or `[..]`
 abbrev pub has_parts : Literal → Bool
@@ -41,6 +40,6 @@ names_changed _ = []
 -- where that is
 abbrev pub ChangesItsNames : Type 0
 ChangesItsNames =
-    (shards : ℕ) (t : TableSchema) (s : Statement) (w : BoundWrite) → IsTable t → change_means shards t s ≡ Ok (bound.Write w)
+    (shards : ℕ) (t : TableSchema) (s : Statement) (w : BoundWrite) → IsTable t → change_means shards t s ≡ Ok w
     → (drawn moment : ℤ) (number n : ℕ) → list_any (is_of_column n) (mutation_of w drawn moment number).atoms
     ≡ option_map_or (λ c. not (is_key c.kind) && list_any (bytes_eq c.name) (names_changed s)) (slice_get t.columns n) false
