@@ -1,32 +1,18 @@
-//! Words of the command; words that are none stand in `cas_rows`.
+//! The words of the command with what they set; words that are none stand in `cas_rows`.
 
-use crate::words::{ClockKind, Command, path_of, read_words};
-use cas_bind::Limits;
-use std::alloc::Global;
+use crate::runs::words_of;
+use cas_words::{ClockKind, Command, path_of, read_words};
 use std::test::Fail;
 
-const USUAL: Limits = Limits {
-    shards: 4,
-    segment: 33_554_432,
-    memtable: 4_194_304,
-    compactors: 1,
-};
+/// Limits as numbers: shards, the bytes of a segment and of a memtable, compactors.
+const USUAL: (u8, u64, u64, u8) = (4, 33_554_432, 4_194_304, 1);
 
-const LEAST: Limits = Limits {
-    shards: 1,
-    segment: 4_096,
-    memtable: 4_096,
-    compactors: 0,
-};
+const LEAST: (u8, u64, u64, u8) = (1, 4_096, 4_096, 0);
 
-const MOST: Limits = Limits {
-    shards: 16,
-    segment: 33_554_432,
-    memtable: 1_073_741_824,
-    compactors: 4,
-};
+const MOST: (u8, u64, u64, u8) = (16, 33_554_432, 1_073_741_824, 4);
 
-fn parts(limits: &Limits) -> (u8, u64, u64, u8) {
+fn numbers_of(command: &Command) -> (u8, u64, u64, u8) {
+    let limits = &command.limits;
     (
         limits.shards,
         limits.segment,
@@ -35,19 +21,10 @@ fn parts(limits: &Limits) -> (u8, u64, u64, u8) {
     )
 }
 
-/// The words that the text has between its blanks.
-fn words_of(alloc: Global, text: &str) -> Result<Vec<String>, Fail> {
-    let mut list = Vec::new(alloc);
-    for word in text.split(' ') {
-        list.push(String::from_str(alloc, word)?)?;
-    }
-    Ok(list)
-}
-
 #[test]
 fn words_of_the_command(rt: HostRuntime) -> Result<(), Fail> {
     let alloc = rt.alloc();
-    let cases: [(&'static str, Limits, ClockKind, &'static str); 8] = [
+    let cases: [(&'static str, (u8, u64, u64, u8), ClockKind, &'static str); 8] = [
         ("store", USUAL, ClockKind::System, "store"),
         ("--clock manual a/b", USUAL, ClockKind::Manual, "a/b"),
         ("store --clock=system", USUAL, ClockKind::System, "store"),
@@ -70,15 +47,11 @@ fn words_of_the_command(rt: HostRuntime) -> Result<(), Fail> {
     for (text, limits, clock, folder) in &cases {
         let words = words_of(alloc, text)?;
         match read_words(alloc, &words)? {
-            Some(
-                Command {
-                    limits: found,
-                    clock: kind,
-                    folder: name,
-                },
-            ) => {
+            Some(command) => {
                 assert!(rt;
-                    parts(&found) == parts(limits) && kind == *clock && name.is(folder),
+                    numbers_of(&command) == *limits
+                        && command.clock == *clock
+                        && command.folder.is(folder),
                     "{text}"
                 );
             }
