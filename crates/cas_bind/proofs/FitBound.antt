@@ -13,16 +13,21 @@ use Rattle.cql_parse.specs.declared.syntax.Select.{Select}
 use Rattle.cql_parse.specs.declared.syntax.Statement.{Statement}
 use Rattle.cql_parse.specs.declared.syntax.Statement.TheVariants as statement
 use Rattle.cql_parse.specs.declared.syntax.TableName.{TableName}
-use Rattle.cas_bind.specs.Changes.{bound_change}
+use Rattle.cas_writes.specs.ChangeMeaning.{change_means}
+use Rattle.cas_writes.specs.Changes.{bound_change}
 use Rattle.cas_bind.specs.Fitting.{BoundFits}
-use Rattle.cas_bind.specs.Meaning.{bound_as, of_table, change_means, select_means, meaning}
-use Rattle.cas_bind.specs.Selects.{bound_select}
+use Rattle.cas_bind.specs.Meaning.{bound_as, of_table, meaning}
+use Rattle.cas_bind.specs.Selects.{bound_select, select_means}
 use Rattle.cas_bind.specs.Tables.{AreInPlace, AreTables}
 use Rattle.cas_bind.specs.declared.bound.Bound.{Bound}
 use Rattle.cas_bind.specs.declared.bound.Bound.TheVariants as bound
-use Rattle.cas_bind.proofs.Kept.{change_comes, select_comes, found}
+use Rattle.cas_bind.specs.declared.bound.BoundRead.{BoundRead}
+use Rattle.cas_effects.specs.declared.effect.BoundWrite.{BoundWrite}
+use Rattle.cas_writes.proofs.RowLemmas.{change_comes}
+use Rattle.cas_bind.proofs.Kept.{found}
+use Rattle.cas_bind.proofs.RowLemmas.{select_comes}
 use Rattle.cas_bind.proofs.TableLemmas.{named_holds}
-use Rattle.cas_bind.proofs.FitWrites.{write_fits}
+use Rattle.cas_writes.proofs.FitWrites.{write_fits}
 use Rattle.cas_bind.proofs.FitReads.{read_fits}
 
 -- a table that is found stands at its number
@@ -52,19 +57,33 @@ module _ (shards : ℕ) (tables : List TableSchema) (shard : IsShardCount shards
   created kind fits (Ok x) b e = let same : kind x ≡ b = cc in subst (BoundFits shards tables) same (fits x)
   created kind fits (Err r) b e = cc
 
-  changed : (n : TableName) (s : Statement) (b : Bound) (o : Option TableSchema) → table_named tables n ≡ o → of_table o (λ t. change_means shards t s) ≡ Ok b → BoundFits shards tables b
-  unfolding bound_change
-  changed n s b None f e = cc
-  changed n s b (Some t) f e =
-      let comes = change_comes shards t s b e in
-      subst (BoundFits shards tables) comes.1 (t, at_number tables n t are f, write_fits t (named_one (λ t. IsNarrow t.columns) tables n t are.narrow f) (named_one IsTable tables n t are.each f) shards s shard comes.0)
+  bound_one : {X : Type 0} (kind : X → Bound) (r : Result X Refusal) → ((x : X) → r ≡ Ok x → BoundFits shards tables (kind x)) → (b : Bound) → bound_as kind r ≡ Ok b → BoundFits shards tables b
+  bound_one kind (Ok x) fits b e = let same : kind x ≡ b = cc in subst (BoundFits shards tables) same (fits x refl)
+  bound_one kind (Err r) fits b e = cc
 
-  selected : (s : Select) (b : Bound) (o : Option TableSchema) → table_named tables s.table ≡ o → of_table o (λ t. select_means shards t s) ≡ Ok b → BoundFits shards tables b
+  written : (n : TableName) (s : Statement) (t : TableSchema) → table_named tables n ≡ Some t → (w : BoundWrite) → change_means shards t s ≡ Ok w → BoundFits shards tables (bound.Write w)
+  unfolding bound_change
+  written n s t f w e =
+      let comes = change_comes shards t s w e in
+      subst (λ w. BoundFits shards tables (bound.Write w)) comes.1
+      (t, at_number tables n t are f, write_fits t (named_one (λ t. IsNarrow t.columns) tables n t are.narrow f) (named_one IsTable tables n t are.each f) shards s shard comes.0)
+
+  changed : (n : TableName) (s : Statement) (b : Bound) (o : Option TableSchema) → table_named tables n ≡ o
+      → of_table o (λ t. bound_as (λ w. bound.Write w) (change_means shards t s)) ≡ Ok b → BoundFits shards tables b
+  changed n s b None f e = cc
+  changed n s b (Some t) f e = bound_one (λ w. bound.Write w) (change_means shards t s) (written n s t f) b e
+
+  read : (s : Select) (t : TableSchema) → table_named tables s.table ≡ Some t → (r : BoundRead) → select_means shards t s ≡ Ok r → BoundFits shards tables (bound.Read r)
   unfolding bound_select
+  read s t f r e =
+      let comes = select_comes shards t s r e in
+      subst (λ r. BoundFits shards tables (bound.Read r)) comes.1
+      (t, at_number tables s.table t are f, read_fits t (named_one (λ t. IsNarrow t.columns) tables s.table t are.narrow f) (named_one IsTable tables s.table t are.each f) shards s comes.0)
+
+  selected : (s : Select) (b : Bound) (o : Option TableSchema) → table_named tables s.table ≡ o
+      → of_table o (λ t. bound_as (λ r. bound.Read r) (select_means shards t s)) ≡ Ok b → BoundFits shards tables b
   selected s b None f e = cc
-  selected s b (Some t) f e =
-      let comes = select_comes shards t s b e in
-      subst (BoundFits shards tables) comes.1 (t, at_number tables s.table t are f, read_fits t (named_one (λ t. IsNarrow t.columns) tables s.table t are.narrow f) (named_one IsTable tables s.table t are.each f) shards s comes.0)
+  selected s b (Some t) f e = bound_one (λ r. bound.Read r) (select_means shards t s) (read s t f) b e
 
   by_meaning : (s : Statement) (b : Bound) → meaning shards tables s ≡ Ok b → BoundFits shards tables b
   unfolding meaning

@@ -33,8 +33,8 @@ use Rattle.cas_reasons.specs.RowReasons.{row_reasons}
 use Rattle.cas_bind.specs.Selects.{numbered, by_name, named_numbers, key_numbers, all_numbers, number_named, asked_of, asked_by, bound_select, read_too_large}
 use Rattle.cas_reasons.specs.Statements.{shows, picked_name, picks_in, shown_by, relations_of, key_terms_of}
 use Rattle.cas_types.specs.declared.limits.TheConstants.{ROW_LIMIT}
-use Rattle.cas_bind.proofs.FitChanges.{neither, nor, joined, all_short}
-use Rattle.cas_bind.proofs.FitWrites.{Clear, clear, both_true, le_from, key_of_it}
+use Rattle.cas_writes.proofs.FitChanges.{neither, nor, joined, all_short}
+use Rattle.cas_writes.proofs.FitWrites.{Clear, clear, both_true, le_from, key_of_it}
 use Rattle.cas_reasons.proofs.Used.{any_term, any_in_select}
 
 -- ---- the numbers of `*`

@@ -1,10 +1,6 @@
-pub mod EffectLemmas
 pub mod RowLemmas
 pub mod TableLemmas
 pub mod KeptTables
 pub mod Kept
-pub mod FitChanges
-pub mod FitWrites
 pub mod FitReads
 pub mod FitBound
-pub mod ChangeNames

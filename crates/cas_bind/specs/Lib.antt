@@ -1,7 +1,5 @@
-pub mod Changes
 pub mod Selects
 pub mod Meaning
 pub mod Tables
 pub mod Fitting
-pub mod ChangeLaws
 pub mod Inner

@@ -1,7 +1,7 @@
 -- What a SELECT asks of a partition: which columns, in which order, and of which rows.
 -- CQL documentation, "Data manipulation: SELECT"; the order of `*` is own: partition key, clustering columns, then the static ones
 -- and then the others, each by name.
-use Rattle.std.specs.Prelude.{ℕ, Bool, false, not, List, [], ◌∷◌, ◌++◌, map, filter, Option, option_map, unsigned_abs}
+use Rattle.std.specs.Prelude.{ℕ, Bool, false, not, List, [], ◌∷◌, ◌++◌, map, filter, Option, option_map, unsigned_abs, Result}
 use Rattle.std.specs.List.{enumerate_from, position_or_len}
 use Rattle.std.specs.Str.{bytes_eq}
 use Rattle.std.specs.BTreeMap.{insert_entry}
@@ -21,8 +21,12 @@ use Rattle.cql_parse.specs.declared.syntax.Picks.TheVariants as picks
 use Rattle.cas_terms.specs.Columns.{clustering_columns}
 use Rattle.cas_where.specs.KeyTerms.{term_in_where, partition_key}
 use Rattle.cas_where.specs.Slices.{slice_of, follows_order}
+use Rattle.cas_effects.specs.Refusals.{refusal_for}
 use Rattle.cas_effects.specs.TooLarge.{too_large}
 use Rattle.cas_effects.specs.declared.refusal.Refusal.{Refusal}
+use Rattle.cas_define.specs.Outcomes.{outcome}
+use Rattle.cas_reasons.specs.RowReasons.{row_reasons}
+use Rattle.cql_parse.specs.declared.syntax.Statement.TheVariants as statement
 use Rattle.cas_bind.specs.declared.bound.BoundRead.{BoundRead}
 
 -- ---- the columns of `*`
@@ -85,3 +89,7 @@ bound_select shards t s =
 -- the refusal of the first of the key and of the slice's values that has more than 65,535 bytes
 unfoldable pub read_too_large : BoundRead → Option Refusal
 read_too_large r = too_large (r.query.key ∷ (r.query.slice.lo.prefix ++ r.query.slice.hi.prefix))
+
+-- a SELECT of the table: what it asks of its partition, or the refusal
+unfoldable pub select_means : ℕ → TableSchema → Select → Result BoundRead Refusal
+select_means shards t s = outcome (refusal_for (row_reasons t (read_too_large (bound_select shards t s)) (statement.Select s))) (bound_select shards t s)

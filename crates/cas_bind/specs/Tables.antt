@@ -1,11 +1,11 @@
 -- The tables after a definition is done, and what holds of tables and of what is bound.
 -- CQL documentation, "Data definition: CREATE TABLE, ALTER TABLE"; that a table's number is its place, and the limits, are own.
-use Rattle.std.specs.Prelude.{◌≡◌, ℕ, ◌==◌, ◌+◌, ◌<◌, ◌≤ℤ◌, ⊤, All, IfSome, List, [], ◌∷◌, ◌++◌, map, if◌then◌else◌}
+use Rattle.std.specs.Prelude.{◌≡◌, ℕ, ◌==◌, ◌+◌, ◌<◌, ⊤, All, List, [], ◌∷◌, ◌++◌, map, if◌then◌else◌}
 use Rattle.cas_types.specs.declared.schema.TableSchema.{TableSchema}
 use Rattle.cas_types.specs.Limits.{IsNarrow}
-use Rattle.cas_types.specs.declared.limits.TheConstants.{LEAST_TIMESTAMP}
 use Rattle.cas_define.specs.IsTable.{IsTable}
 use Rattle.cas_define.specs.declared.addition.Addition.{Addition}
+use Rattle.cas_writes.specs.ChangeMeaning.{IsWriteWithin}
 use Rattle.cas_bind.specs.declared.bound.Bound.{Bound}
 use Rattle.cas_bind.specs.declared.bound.Bound.TheVariants as bound
 
@@ -35,5 +35,5 @@ pub record AreTables (ts : List TableSchema) : Type 0 where
 abbrev pub IsWithin : ℕ → Bound → Type 0
 IsWithin shards (bound.Create t) = ⊤
 IsWithin shards (bound.Alter a) = ⊤
-IsWithin shards (bound.Write w) = (w.shard < shards) × IfSome w.timestamp (λ at. LEAST_TIMESTAMP ≤ℤ at)
+IsWithin shards (bound.Write w) = IsWriteWithin shards w
 IsWithin shards (bound.Read r) = (r.shard < shards) × IsNarrow r.query.columns

@@ -7,7 +7,7 @@ use cas_types::TableSchema;
 
 /// The limits that a store was opened with: its number of shards, the bytes of a log segment and of
 /// a memtable, and how many compactors there are.
-#[derive(Clone, Copy, Debug)]
+#[derive(Clone, Copy)]
 pub struct Limits {
     pub shards: u8,
     pub segment: u64,

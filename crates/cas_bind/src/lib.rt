@@ -3,13 +3,9 @@
 #![tactic(auto)]
 
 mod bound;
-mod effects;
-mod laws;
 mod meaning;
 mod reads;
 mod selects;
-mod writes;
 
 pub use bound::{Bound, BoundRead, Limits};
-pub use laws::changes_its_names;
 pub use meaning::bind;

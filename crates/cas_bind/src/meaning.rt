@@ -8,19 +8,21 @@ ghost use Rattle.cas_define.specs.AlterReasons.{alter_means};
 ghost use Rattle.cas_define.specs.CreateReasons.{create_means};
 ghost use Rattle.cas_define.specs.Outcomes.{Binds};
 ghost use Rattle.cas_terms.specs.Columns.{table_named};
+ghost use Rattle.cas_writes.specs.ChangeMeaning.{change_means};
 ghost use Rattle.cas_bind.specs.Fitting.{BoundFits};
-ghost use Rattle.cas_bind.specs.Meaning.{bound_as, of_table, change_means, select_means, meaning};
+ghost use Rattle.cas_bind.specs.Meaning.{bound_as, of_table, meaning};
+ghost use Rattle.cas_bind.specs.Selects.{select_means};
 ghost use Rattle.cas_bind.specs.Tables.{AreTables, IsWithin, tables_after};
 ghost use Rattle.cas_bind.specs.declared.bound.Bound.TheVariants as bounds;
 ghost use Rattle.cql_parse.specs.declared.syntax.Statement.TheVariants as statements;
 
 use crate::bound::{Bound, Limits};
 use crate::reads::bind_select;
-use crate::writes::bind_change;
 use cas_define::{bind_alter, bind_create};
 use cas_effects::{BindFault, Refusal};
 use cas_terms::table_named;
 use cas_types::TableSchema;
+use cas_writes::bind_change;
 use cql_parse::{AlterTable, CreateTable, Select, Statement, TableName};
 use std::alloc::Global;
 
@@ -77,12 +79,15 @@ fn change_rows(
 ) -> Result<Bound, BindFault>
     requires shards { IsShardCount shards }
     requires tables { AreTables tables.now }
-    ensures means { Binds result (of_table (table_named tables.now name.now) (λ t. change_means shards t statement.now)) }
+    ensures means { Binds result (of_table (table_named tables.now name.now) (λ t. bound_as (λ w. bounds.Write w) (change_means shards t statement.now))) }
     ensures kept { IfOk result (λ b. AreTables (tables_after tables.now b)) }
     ensures within { IfOk result (λ b. IsWithin shards b) }
 {
     match narrow_table(tables, name) {
-        Some(table) => bind_change(alloc, shards, table, statement),
+        Some(table) => match bind_change(alloc, shards, table, statement) {
+            Ok(write) => Ok(Bound::Write(write)),
+            Err(fault) => Err(fault),
+        },
         None => Err(BindFault::Refused(Refusal::NoTable)),
     }
 }
@@ -97,12 +102,15 @@ fn select_rows(
     requires shards { IsShardCount shards }
     requires tables { AreTables tables.now }
     requires select { statement.now ≡ statements.Select select.now }
-    ensures means { Binds result (of_table (table_named tables.now select.now.table) (λ t. select_means shards t select.now)) }
+    ensures means { Binds result (of_table (table_named tables.now select.now.table) (λ t. bound_as (λ r. bounds.Read r) (select_means shards t select.now))) }
     ensures kept { IfOk result (λ b. AreTables (tables_after tables.now b)) }
     ensures within { IfOk result (λ b. IsWithin shards b) }
 {
     match narrow_table(tables, &select.table) {
-        Some(table) => bind_select(alloc, shards, table, statement, select),
+        Some(table) => match bind_select(alloc, shards, table, statement, select) {
+            Ok(read) => Ok(Bound::Read(read)),
+            Err(fault) => Err(fault),
+        },
         None => Err(BindFault::Refused(Refusal::NoTable)),
     }
 }

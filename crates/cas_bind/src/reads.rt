@@ -7,16 +7,14 @@ ghost use Rattle.cas_terms.specs.Columns.{clustering_columns};
 ghost use Rattle.cas_where.specs.KeyTerms.{term_in_where, partition_key};
 ghost use Rattle.cas_where.specs.Slices.{follows_order};
 ghost use Rattle.cas_bind.specs.Inner.Gives.{ReadGives};
-ghost use Rattle.cas_bind.specs.Meaning.{select_means};
 ghost use Rattle.cas_reasons.specs.RowFaults.{is_outside};
 ghost use Rattle.cas_reasons.specs.RowReasons.{row_reasons};
 ghost use Rattle.cas_effects.specs.Refusals.{refusal_for};
-ghost use Rattle.cas_bind.specs.Selects.{bound_select, read_too_large};
-ghost use Rattle.cas_bind.specs.declared.bound.Bound.TheVariants as bounds;
+ghost use Rattle.cas_bind.specs.Selects.{bound_select, read_too_large, select_means};
 ghost use Rattle.cas_types.specs.declared.limits.TheConstants.{ROW_LIMIT};
 ghost use Rattle.cql_parse.specs.declared.syntax.Statement.TheVariants as statements;
 
-use crate::bound::{Bound, BoundRead};
+use crate::bound::BoundRead;
 use crate::selects::asked_by;
 use cas_atoms::Query;
 use cas_effects::{BindFault, Refusal, any_too_large, either, one_too_large};
@@ -98,12 +96,12 @@ fn bound_select(
     }
 }
 
-fn if_small(read: BoundRead) -> Result<Bound, BindFault>
-    ensures { Binds result (outcome (read_too_large read) (bounds.Read read)) }
+fn if_small(read: BoundRead) -> Result<BoundRead, BindFault>
+    ensures { Binds result (outcome (read_too_large read) read) }
 {
     match read_too_large(&read) {
         Some(refusal) => Err(BindFault::Refused(refusal)),
-        None => Ok(Bound::Read(read)),
+        None => Ok(read),
     }
 }
 
@@ -128,7 +126,7 @@ pub(crate) fn bind_select(
     table: &TableSchema,
     statement: &Statement,
     select: &Select,
-) -> Result<Bound, BindFault>
+) -> Result<BoundRead, BindFault>
     requires shards { IsShardCount shards }
     requires narrow { IsNarrow table.now.columns }
     requires select { statement.now ≡ statements.Select select.now }

@@ -1,8 +1,6 @@
 //! The words of the command `cassnode`: what they set, and which words are the command's.
 #![tactic(auto)]
 
-#[cfg(test)]
-mod tests;
 mod words;
 
 pub use words::{

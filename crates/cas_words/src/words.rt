@@ -39,7 +39,7 @@ pub const COMPACTOR_LIMIT: u64 = 4;
 pub const COMPACTORS_USUAL: u64 = 1;
 
 /// Which clock a run reads.
-#[derive(Clone, Copy, Debug, PartialEq, Eq)]
+#[derive(Clone, Copy, PartialEq, Eq)]
 pub enum ClockKind {
     System,
     Manual,
@@ -54,7 +54,7 @@ pub struct Command {
 }
 
 /// What a word, or two of them, sets.
-#[derive(Clone, Copy, Debug, PartialEq, Eq)]
+#[derive(Clone, Copy)]
 pub(crate) enum Setting {
     Shards,
     Segment,

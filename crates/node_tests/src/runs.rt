@@ -21,7 +21,7 @@ struct Ended {
 }
 
 /// The words that the text has between its blanks.
-fn words_of(alloc: Global, text: &str) -> Result<Vec<String>, Fail> {
+pub(crate) fn words_of(alloc: Global, text: &str) -> Result<Vec<String>, Fail> {
     let mut list = Vec::new(alloc);
     for word in text.split(' ') {
         list.push(String::from_str(alloc, word)?)?;

@@ -1,8 +1,0 @@
-use Rattle.std.proofs.Common.{◌≡◌, ◌++◌, take}
-use Rattle.std.specs.List.{flat_map}
-use Rattle.cas_bind.specs.Changes.{change_effects}
-use Rattle.cas_reasons.specs.Statements.{assigns}
-use Rattle.cas_bind.proofs.effects.push_assigned.Given as goal
-
-abbrev pub invariant-loop-assignment : goal.invariant-loop-assignment
-invariant-loop-assignment l = l.effects.items ≡ l.initial.effects.items ++ flat_map (λ x. change_effects l.columns l.row (x.column, assigns x.value)) (take l.assignment-index l.assignments)

@@ -1,5 +1,0 @@
-use Rattle.cas_bind.proofs.ChangeNames.{changes_its_names}
-use Rattle.cas_bind.proofs.laws.changes_its_names.Goals as goal
-
-pub returns : goal.returns
-returns c = changes_its_names

@@ -1,8 +1,0 @@
-//! What holds of all bound statements.
-
-ghost use Rattle.cas_bind.specs.ChangeLaws.{ChangesItsNames};
-
-/// Exactly the columns that a statement names are written or deleted.
-pub fn changes_its_names()
-    ensures { ChangesItsNames }
-{}

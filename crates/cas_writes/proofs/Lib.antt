@@ -1,0 +1,7 @@
+pub mod EffectLemmas
+pub mod ReasonOrder
+pub mod RowLemmas
+pub mod FitChanges
+pub mod FitWrites
+pub mod Bound
+pub mod ChangeNames

@@ -1,0 +1,4 @@
+pub mod Changes
+pub mod ChangeMeaning
+pub mod ChangeLaws
+pub mod Inner
