@@ -28,7 +28,10 @@ bound_as kind (Err r) = Err r
 unfoldable pub meaning : ℕ → List TableSchema → Statement → Result Bound Refusal
 meaning shards tables (statement.Create c) = bound_as (λ t. bound.Create t) (create_means tables c)
 meaning shards tables (statement.Alter a) = of_table (table_named tables a.table) (λ t. bound_as (λ x. bound.Alter x) (alter_means t a))
-meaning shards tables (statement.Insert i) = of_table (table_named tables i.table) (λ t. bound_as (λ w. bound.Write w) (change_means shards t (statement.Insert i)))
-meaning shards tables (statement.Update u) = of_table (table_named tables u.table) (λ t. bound_as (λ w. bound.Write w) (change_means shards t (statement.Update u)))
-meaning shards tables (statement.Delete d) = of_table (table_named tables d.table) (λ t. bound_as (λ w. bound.Write w) (change_means shards t (statement.Delete d)))
+meaning shards tables (statement.Insert i) =
+    of_table (table_named tables i.table) (λ t. bound_as (λ w. bound.Write w) (change_means shards t (statement.Insert i)))
+meaning shards tables (statement.Update u) =
+    of_table (table_named tables u.table) (λ t. bound_as (λ w. bound.Write w) (change_means shards t (statement.Update u)))
+meaning shards tables (statement.Delete d) =
+    of_table (table_named tables d.table) (λ t. bound_as (λ w. bound.Write w) (change_means shards t (statement.Delete d)))
 meaning shards tables (statement.Select s) = of_table (table_named tables s.table) (λ t. bound_as (λ r. bound.Read r) (select_means shards t s))
