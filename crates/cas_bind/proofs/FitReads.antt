@@ -24,18 +24,21 @@ use Rattle.cql_parse.specs.declared.syntax.Picks.TheVariants as picks
 use Rattle.cql_parse.specs.declared.syntax.Select.{Select}
 use Rattle.cql_parse.specs.declared.syntax.Statement.TheVariants as statement
 use Rattle.cas_terms.specs.Columns.{column_named, is_unknown}
-use Rattle.cas_where.specs.KeyTerms.{term_in_where, partition_key}
+use Rattle.cas_keys.specs.KeyTerms.{term_in_where, partition_key}
 use Rattle.cas_where.specs.Slices.{slice_of}
 use Rattle.cas_where.proofs.Fitting.{IsShort, front_of, rest_of, slice_fits}
 use Rattle.cas_define.specs.IsTable.{IsTable}
-use Rattle.cas_reasons.specs.RowFaults.{is_outside, has_writetime, pick_fits, mention_fits, is_of_another_type, reads_outside_limits, has_bad_restriction}
+use Rattle.cas_mentions.specs.ColumnFaults.{has_writetime, pick_fits, mention_fits, is_of_another_type}
+use Rattle.cas_reasons.specs.RowFaults.{is_outside, reads_outside_limits, has_bad_restriction}
 use Rattle.cas_reasons.specs.RowReasons.{row_reasons}
 use Rattle.cas_bind.specs.Selects.{numbered, by_name, named_numbers, key_numbers, all_numbers, number_named, asked_of, asked_by, bound_select, read_too_large}
-use Rattle.cas_reasons.specs.Statements.{shows, picked_name, picks_in, shown_by, relations_of, key_terms_of}
+use Rattle.cas_mentions.specs.Mentions.{shows, picked_name, picks_in, shown_by, relations_of}
+use Rattle.cas_reasons.specs.Statements.{key_terms_of}
 use Rattle.cas_types.specs.declared.limits.TheConstants.{ROW_LIMIT}
 use Rattle.cas_writes.proofs.FitChanges.{neither, nor, joined, all_short}
 use Rattle.cas_writes.proofs.FitWrites.{Clear, clear, both_true, le_from, key_of_it}
-use Rattle.cas_reasons.proofs.Used.{any_term, any_in_select}
+use Rattle.cas_mentions.proofs.Used.{any_term}
+use Rattle.cas_reasons.proofs.Used.{any_in_select}
 
 -- ---- the numbers of `*`
 

@@ -10,9 +10,9 @@ use Rattle.cas_effects.specs.declared.refusal.BindFault.{BindFault}
 use Rattle.cas_effects.specs.declared.refusal.BindFault.TheVariants as fault
 use Rattle.cas_effects.specs.declared.refusal.Refusal.{Refusal}
 use Rattle.cas_effects.proofs.LargeValues as large_values
-use Rattle.cas_where.specs.KeyTerms.{term_in_where, partition_key}
+use Rattle.cas_keys.specs.KeyTerms.{term_in_where, partition_key}
 use Rattle.cas_where.specs.Where.{restricts}
-use Rattle.cas_where.specs.Inner.Sources.{KeyGives}
+use Rattle.cas_keys.specs.Inner.Sources.{KeyGives}
 use Rattle.cas_where.specs.declared.restrictions.Extent.TheVariants as extent
 use Rattle.cql_parse.specs.declared.syntax.Select.{Select}
 use Rattle.cql_parse.specs.declared.syntax.Statement.TheVariants as statement

@@ -19,7 +19,7 @@ use Rattle.cql_parse.specs.declared.syntax.Pick.TheVariants as pick
 use Rattle.cql_parse.specs.declared.syntax.Picks.{Picks}
 use Rattle.cql_parse.specs.declared.syntax.Picks.TheVariants as picks
 use Rattle.cas_terms.specs.Columns.{clustering_columns}
-use Rattle.cas_where.specs.KeyTerms.{term_in_where, partition_key}
+use Rattle.cas_keys.specs.KeyTerms.{term_in_where, partition_key}
 use Rattle.cas_where.specs.Slices.{slice_of, follows_order}
 use Rattle.cas_effects.specs.Refusals.{refusal_for}
 use Rattle.cas_effects.specs.TooLarge.{too_large}

@@ -4,7 +4,7 @@ ghost use Rattle.std.specs.Prelude.{◌≡◌, None, pos, not, false, IfOk};
 ghost use Rattle.cas_types.specs.Limits.{IsNarrow, IsShardCount};
 ghost use Rattle.cas_define.specs.Outcomes.{Binds, outcome};
 ghost use Rattle.cas_terms.specs.Columns.{clustering_columns};
-ghost use Rattle.cas_where.specs.KeyTerms.{term_in_where, partition_key};
+ghost use Rattle.cas_keys.specs.KeyTerms.{term_in_where, partition_key};
 ghost use Rattle.cas_where.specs.Slices.{follows_order};
 ghost use Rattle.cas_bind.specs.Inner.Gives.{ReadGives};
 ghost use Rattle.cas_reasons.specs.RowFaults.{is_outside};

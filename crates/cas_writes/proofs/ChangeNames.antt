@@ -39,15 +39,16 @@ use Rattle.cas_terms.specs.Columns.{column_named, located, column_ref}
 use Rattle.cas_terms.specs.Constants.{constant_bytes}
 use Rattle.cas_terms.specs.Names.{any_two}
 use Rattle.cas_terms.specs.Terms.{term_value, literal_value, entry_value, with_entry, by_path, elements_in, entries_in, set_elements, map_elements, given_elements, whole_elements, prepended_elements, removed_elements, entry_elements, is_literal_of, removal_fits, key_fits, assigned_fits}
-use Rattle.cas_where.specs.KeyTerms.{term_in_where}
+use Rattle.cas_keys.specs.KeyTerms.{term_in_where}
 use Rattle.cas_where.specs.Slices.{slice_of}
 use Rattle.cas_where.specs.Where.{is_clustering_free, is_clustering_fixed}
 use Rattle.cas_define.specs.IsTable.{IsTable}
 use Rattle.cas_reasons.specs.Extents.{inserts_static}
-use Rattle.cas_reasons.specs.RowFaults.{has_other_count, mention_fits, is_of_another_type}
+use Rattle.cas_mentions.specs.ColumnFaults.{has_other_count, mention_fits, is_of_another_type}
 use Rattle.cas_reasons.specs.RowReasons.{row_reasons}
-use Rattle.cas_reasons.specs.Statements.{Change, assigns, deletes, changes, inserted, key_terms_of, changes_of, terms_used}
-use Rattle.cas_reasons.proofs.Used.{any_map, any_term}
+use Rattle.cas_mentions.specs.Mentions.{Change, assigns, deletes, changes, inserted, changes_of, terms_used}
+use Rattle.cas_reasons.specs.Statements.{key_terms_of}
+use Rattle.cas_mentions.proofs.Used.{any_map, any_term}
 use Rattle.cas_writes.specs.ChangeLaws.{has_parts, changes_something, names_changed, ChangesItsNames}
 use Rattle.cas_writes.specs.Changes.{row_for, whole_effect, assigned_effect, deleted_effect, column_effect, outside_key, change_effects, clustered_row, deletion_effect, deletion_effects, live_effect, row_effects, effects_of, bound_change}
 use Rattle.cas_writes.proofs.FitChanges.{neither, nor, is_there}

@@ -8,7 +8,7 @@ use Rattle.cql_parse.specs.declared.syntax.Insert.{Insert}
 use Rattle.cql_parse.specs.declared.syntax.Select.{Select}
 use Rattle.cql_parse.specs.declared.syntax.Statement.TheVariants as statement
 use Rattle.cql_parse.specs.declared.syntax.Update.{Update}
-use Rattle.cas_reasons.specs.Statements.{assigns, deletes, inserted, changes_of}
+use Rattle.cas_mentions.specs.Mentions.{assigns, deletes, inserted, changes_of}
 use Rattle.cas_effects.proofs.Steps.{flat_map_step}
 
 pub flat_map_map : {X Y Z : Type 0} (g : Y → List Z) (f : X → Y) (xs : List X) → flat_map g (map f xs) ≡ flat_map (λ x. g (f x)) xs

@@ -31,8 +31,8 @@ use Rattle.cas_terms.specs.Terms.{term_value, whole_elements, assigned_fits}
 use Rattle.cas_terms.proofs.TermValues.{IsOf, AreOf, in_one, term_is, given_are, whole_are, prepended_are, removed_are, entry_are}
 use Rattle.cas_where.proofs.Fitting.{IsShort, front_of, rest_of}
 use Rattle.cas_writes.specs.Changes.{row_for, whole_effect, assigned_effect, deleted_effect, column_effect, outside_key, change_effects}
-use Rattle.cas_reasons.specs.RowFaults.{target_fits, mention_fits, is_of_another_type}
-use Rattle.cas_reasons.specs.Statements.{Change, assigns, deletes, changes}
+use Rattle.cas_mentions.specs.ColumnFaults.{target_fits, mention_fits, is_of_another_type}
+use Rattle.cas_mentions.specs.Mentions.{Change, assigns, deletes, changes}
 
 pub neither : (a b : Bool) → (a || b) ≡ false → a ≡ false
 neither true b n = cc

@@ -37,8 +37,8 @@ use Rattle.cql_parse.specs.declared.syntax.Target.{Target}
 use Rattle.cas_terms.specs.Columns.{column_named, names_static, names_partition, names_key, clustering_columns}
 use Rattle.cas_terms.specs.Constants.{gives_no_bytes}
 use Rattle.cas_terms.specs.Terms.{term_value, is_literal_of, term_fits}
-use Rattle.cas_where.specs.KeyTerms.{TermOf, term_in_where, value_in, is_missing, prefix_values, partition_key, is_equal}
-use Rattle.cas_where.specs.Keys.{is_null, compares_key_with_null, lacks_clustering}
+use Rattle.cas_keys.specs.KeyTerms.{TermOf, term_in_where, value_in, is_missing, prefix_values, partition_key, is_equal}
+use Rattle.cas_keys.specs.Keys.{is_null, compares_key_with_null, lacks_clustering}
 use Rattle.cas_where.specs.Slices.{slice_of}
 use Rattle.cas_where.specs.Where.{is_fixed, is_clustering_free, is_clustering_fixed}
 use Rattle.cas_where.proofs.Fitting.{IsShort, front_of, rest_of, row_fits, slice_fits, key_fits, not_empty}
@@ -47,11 +47,13 @@ use Rattle.cas_writes.specs.Changes.{change_effects, clustered_row, deletion_eff
 use Rattle.cas_reasons.specs.Extents.{inserts_static, static_or_row, deletes_in, extent_of}
 use Rattle.cas_define.specs.IsTable.{IsTable}
 use Rattle.cas_define.proofs.Tables.{each_named}
-use Rattle.cas_reasons.specs.RowFaults.{is_outside, mention_fits, is_of_another_type, gives_empty, gives_empty_key, is_row, lacks_key}
+use Rattle.cas_mentions.specs.ColumnFaults.{mention_fits, is_of_another_type}
+use Rattle.cas_reasons.specs.RowFaults.{is_outside, gives_empty, gives_empty_key, is_row, lacks_key}
 use Rattle.cas_reasons.specs.RowReasons.{row_reasons}
-use Rattle.cas_reasons.specs.Statements.{Change, assigns, deletes, changes, compares, inserted, relations_of, uses_of, timestamp_in, ttl_in, key_terms_of, changes_of, terms_used}
+use Rattle.cas_mentions.specs.Mentions.{Change, assigns, deletes, changes, compares, inserted, relations_of, changes_of, terms_used}
+use Rattle.cas_reasons.specs.Statements.{uses_of, timestamp_in, ttl_in, key_terms_of}
 use Rattle.cas_writes.proofs.FitChanges.{neither, nor, joined, all_short, is_there, IsPlaced, all_changes}
-use Rattle.cas_reasons.proofs.Used.{any_term}
+use Rattle.cas_mentions.proofs.Used.{any_term}
 
 -- ---- what isn't told of a statement
 

@@ -9,8 +9,8 @@ use Rattle.cas_effects.specs.declared.effect.BoundWrite.{BoundWrite}
 use Rattle.cas_effects.specs.declared.refusal.BindFault.{BindFault}
 use Rattle.cas_effects.specs.declared.refusal.BindFault.TheVariants as fault
 use Rattle.cas_effects.specs.declared.refusal.Refusal.{Refusal}
-use Rattle.cas_where.specs.KeyTerms.{partition_key}
-use Rattle.cas_where.specs.Inner.Sources.{KeyGives}
+use Rattle.cas_keys.specs.KeyTerms.{partition_key}
+use Rattle.cas_keys.specs.Inner.Sources.{KeyGives}
 use Rattle.cql_parse.specs.declared.syntax.Statement.{Statement}
 use Rattle.cas_reasons.specs.RowFaults.{is_outside}
 use Rattle.cas_reasons.specs.RowReasons.{row_reasons}

@@ -19,10 +19,11 @@ use Rattle.cql_parse.specs.declared.syntax.Relation.{Relation}
 use Rattle.cas_bounds.specs.ClusteringOrder.{clustering_order}
 use Rattle.cas_terms.specs.Columns.{located, clustering_columns, column_ref}
 use Rattle.cas_terms.specs.Constants.{constant_bytes}
-use Rattle.cas_where.specs.KeyTerms.{TermOf, term_in_where, prefix_values, partition_key}
+use Rattle.cas_keys.specs.KeyTerms.{TermOf, term_in_where, prefix_values, partition_key}
 use Rattle.cas_where.specs.Slices.{slice_of}
 use Rattle.cas_reasons.specs.Extents.{inserts_static}
-use Rattle.cas_reasons.specs.Statements.{Change, assigns, deletes, key_terms_of, uses_of, timestamp_in, ttl_in, changes_of}
+use Rattle.cas_mentions.specs.Mentions.{Change, assigns, deletes, changes_of}
+use Rattle.cas_reasons.specs.Statements.{key_terms_of, uses_of, timestamp_in, ttl_in}
 use Rattle.cas_terms.specs.Terms.{term_value, given_elements, whole_elements, prepended_elements, removed_elements, entry_elements}
 use Rattle.cas_where.specs.Where.{is_clustering_free, is_clustering_fixed}
 use Rattle.cas_effects.specs.declared.effect.BoundWrite.{BoundWrite}

@@ -3,11 +3,12 @@
 ghost use Rattle.std.specs.Prelude.{◌≡◌, ◌++◌, map, IfOk, OnOk};
 ghost use Rattle.std.specs.List.{flat_map, zip};
 ghost use Rattle.cas_types.specs.Limits.{IsNarrow};
-ghost use Rattle.cas_where.specs.Inner.Sources.{terms_of};
+ghost use Rattle.cas_keys.specs.Inner.Sources.{terms_of};
 ghost use Rattle.cas_writes.specs.Changes.{row_for, whole_effect, assigned_effect, deleted_effect, column_effect, change_effects};
 ghost use Rattle.cas_writes.specs.Changes.{clustered_row, deletion_effect, live_effect, deletion_effects, row_effects, effects_of};
-ghost use Rattle.cas_reasons.specs.Inner.Borrowed.{change_in};
-ghost use Rattle.cas_reasons.specs.Statements.{assigns, deletes, inserted, key_terms_of, changes_of};
+ghost use Rattle.cas_mentions.specs.Inner.Borrowed.{change_in};
+ghost use Rattle.cas_mentions.specs.Mentions.{assigns, deletes, inserted, changes_of};
+ghost use Rattle.cas_reasons.specs.Statements.{key_terms_of};
 
 use cas_bounds::{Clustering, clustering_order};
 use cas_effects::Effect;

@@ -1,7 +1,7 @@
 use Rattle.std.proofs.Common.{◌≡◌, ◌++◌, take}
 use Rattle.std.specs.List.{flat_map}
 use Rattle.cas_writes.specs.Changes.{change_effects}
-use Rattle.cas_reasons.specs.Statements.{assigns}
+use Rattle.cas_mentions.specs.Mentions.{assigns}
 use Rattle.cas_writes.proofs.effects.push_assigned.Given as goal
 
 abbrev pub invariant-loop-assignment : goal.invariant-loop-assignment

@@ -1,6 +1,6 @@
 use Rattle.std.proofs.Common.{◌++◌, ◌∙◌, ap}
 use Rattle.cas_writes.specs.Changes.{change_effects}
-use Rattle.cas_reasons.specs.Statements.{deletes}
+use Rattle.cas_mentions.specs.Mentions.{deletes}
 use Rattle.cas_writes.proofs.EffectLemmas.{pushed_step}
 use Rattle.cas_writes.proofs.effects.push_deleted.Goals as goal
 
