@@ -45,6 +45,7 @@ IsTime micros = (pos 0 ≤ℤ micros) × (micros ≤ℤ LAST_MICROSECOND)
 abbrev pub later_moment : ℤ → ℤ → ℤ
 later_moment reading moment = int_max (int_div reading (pos 1000000)) moment
 
+-- the shard's moment once it has met this reading
 abbrev pub moment_at : ℤ → ShardHistory → ℤ
 moment_at reading s = later_moment reading s.moment
 
@@ -64,6 +65,7 @@ drawn_of s = last_drawn s.found.drawn s.entries
 abbrev pub later_drawn : ℤ → ℤ → ℤ
 later_drawn reading drawn = int_max reading (drawn +ℤ pos 2)
 
+-- what the shard draws at this reading
 abbrev pub drawn_at : ℤ → ShardHistory → ℤ
 drawn_at reading s = later_drawn reading (drawn_of s)
 
