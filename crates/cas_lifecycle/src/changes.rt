@@ -150,7 +150,7 @@ pub fn list_found<E, J: Store, T: Tells<E>>(
 
 /// A change comes into the history: into the shard's lists, the room's and the book's, and into the list of
 /// who drew the numbers of the files that it adds, which holds them no longer. No shard has the removed
-/// files any longer, so the book may retire them. The answer is how many changes of the shard there were.
+/// files any longer, so the book may retire them.
 pub fn install<E, J: Store, T: Tells<E>>(
     changes: &mut Changes<E, J>,
     room: &mut RoomCopy<E, J>,
@@ -158,7 +158,7 @@ pub fn install<E, J: Store, T: Tells<E>>(
     files: &mut Files<E, J>,
     front: &mut Front<E, J>,
     change: Change<'_, T>,
-) -> u64
+)
     requires shard { (room.old.shard ≡ changes.old.shard) × (front.old.shard ≡ changes.old.shard) }
     requires added { Distinct change.added.now × Each (λ k. holds k (listed files.old.list files.old.pass.saw) ≡ true) change.added.now }
     requires live { Each (λ k. is_live (at book.old.refs k) ≡ true) change.added.now }
@@ -205,7 +205,7 @@ pub fn install<E, J: Store, T: Tells<E>>(
         &mut front.pass,
         18 + changes.shard as usize,
         &installing,
-    )
+    );
 }
 
 /// A file number that is held is in no change of any shard, nor did the opening find it.
