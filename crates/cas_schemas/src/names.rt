@@ -60,7 +60,7 @@ fn text_of(alloc: Global, name: &[u8]) -> Result<Text, AllocError>
     let Ok(text) = from_utf8(name) else {
         return Err(AllocError);
     };
-    Ok(Text::from_string(String::from_str(alloc, text)?))
+    Ok(Text::copy_of(alloc, text)?)
 }
 
 // The bytes of a name that none of the columns has.

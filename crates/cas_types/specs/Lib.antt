@@ -4,3 +4,4 @@ pub mod Orders
 pub mod Schemas
 pub mod Keys
 pub mod Laws
+pub mod Inner

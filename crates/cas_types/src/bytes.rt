@@ -3,6 +3,7 @@
 ghost use Rattle.std.specs.Prelude.{◌≡◌, ◌==◌, IsTrue, ◌↔◌, length, IfOk, IfErr};
 ghost use Rattle.cas_types.specs.Values.{bytes_cmp};
 
+use crate::short::{IN_PLACE, Short};
 use std::alloc::{AllocError, Global};
 use std::cmp::Ordering;
 use std::marker::Model;
@@ -29,45 +30,63 @@ pub fn compare_bytes(a: &[u8], b: &[u8]) -> Ordering
     x.cmp(&y)
 }
 
+/// Where the bytes stand: short ones in place, so that they take no memory of their own.
+#[derive(Drop)]
+enum Kept {
+    Here(Short),
+    Apart(Vec<u8>),
+}
+
 /// A byte string, which contracts see as the list of its bytes.
 #[derive(Drop)]
 pub struct Bytes {
-    bytes: Vec<u8>,
+    kept: Kept,
 }
 
 impl Model for Bytes {
     ghost use Rattle.std.specs.Prelude.{List, ℕ};
+    ghost use Rattle.cas_types.specs.Inner.Kept.{kept_bytes};
 
     ghost Value = { List ℕ };
 
-    ghost view = { λ b. b.bytes.items };
+    ghost view = { λ b. kept_bytes b.kept };
 }
 
 impl Bytes {
     pub fn from_vec(bytes: Vec<u8>) -> Self
         ensures { result ≡ bytes.items }
     {
-        Bytes { bytes }
+        if bytes.len() <= IN_PLACE {
+            return Bytes {
+                kept: Kept::Here(Short::of(&bytes)),
+            };
+        }
+        Bytes {
+            kept: Kept::Apart(bytes),
+        }
     }
 
-    pub fn into_vec(self) -> Vec<u8>
-        ensures { result.items ≡ self }
-    {
-        self.bytes
-    }
-
+    #[inline]
     pub fn as_slice(&self) -> &[u8]
         ensures { result.now ≡ self.now }
     {
-        &self.bytes
+        match &self.kept {
+            Kept::Here(short) => short.as_slice(),
+            Kept::Apart(bytes) => bytes.as_slice(),
+        }
     }
 
     /// A copy of the bytes.
     pub fn copy_of(alloc: Global, bytes: &[u8]) -> Result<Self, AllocError>
         ensures { IfOk result (λ b. b ≡ bytes.now) }
     {
+        if bytes.len() <= IN_PLACE {
+            return Ok(Bytes {
+                kept: Kept::Here(Short::of(bytes)),
+            });
+        }
         Ok(Bytes {
-            bytes: bytes.to_vec(alloc)?,
+            kept: Kept::Apart(bytes.to_vec(alloc)?),
         })
     }
 }
@@ -76,9 +95,14 @@ impl Clone for Bytes {
     ghost is_clone = { λ b c. c ≡ b };
 
     fn clone(&self) -> Result<Self, AllocError> {
-        Ok(Bytes {
-            bytes: self.bytes.clone()?,
-        })
+        match &self.kept {
+            Kept::Here(short) => Ok(Bytes {
+                kept: Kept::Here(short.copied()),
+            }),
+            Kept::Apart(bytes) => Ok(Bytes {
+                kept: Kept::Apart(bytes.clone()?),
+            }),
+        }
     }
 }
 
@@ -92,7 +116,7 @@ impl PartialEq for Bytes {
     ghost laws = { partial_equiv_from_equiv nat_list_eq_equiv };
 
     fn eq(&self, other: &Self) -> bool {
-        self.bytes.as_slice() == other.bytes.as_slice()
+        self.as_slice() == other.as_slice()
     }
 }
 

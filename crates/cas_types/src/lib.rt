@@ -10,6 +10,7 @@ mod list;
 mod mem;
 mod schema;
 mod shard;
+mod short;
 mod tag;
 mod text;
 mod uuid_order;

@@ -1,48 +1,58 @@
 //! Texts as contracts see them.
 
-ghost use Rattle.std.specs.Prelude.{◌≡◌, IsTrue, ◌↔◌, string_bytes};
+ghost use Rattle.std.specs.Prelude.{◌≡◌, IsTrue, ◌↔◌, IfOk, string_bytes};
 
-use std::alloc::AllocError;
+use crate::bytes::Bytes;
+use std::alloc::{AllocError, Global};
 use std::marker::Model;
+use std::str::from_utf8_unchecked;
 
-/// A text, which contracts see as the list of its UTF-8 bytes.
+/// A text, which contracts see as the list of its UTF-8 bytes. A short one stands in place.
 #[derive(Drop)]
 pub struct Text {
-    text: String,
+    bytes: Bytes,
 }
 
 impl Model for Text {
-    ghost use Rattle.std.specs.Prelude.{List, ℕ, string_bytes};
+    ghost use Rattle.std.specs.Prelude.{List, ℕ, IsUtf8};
 
     ghost Value = { List ℕ };
 
-    ghost view = { λ t. string_bytes t.text };
+    ghost view = { λ t. t.bytes };
+
+    ghost invariant = { λ t. IsUtf8 t.bytes };
 }
 
 impl Text {
     pub fn from_string(text: String) -> Self
         ensures { result ≡ string_bytes text }
     {
-        Text { text }
+        Text {
+            bytes: Bytes::from_vec(text.into_bytes()),
+        }
     }
 
-    pub fn into_string(self) -> String
-        ensures { string_bytes result ≡ self }
+    /// A copy of the text.
+    pub fn copy_of(alloc: Global, text: &str) -> Result<Self, AllocError>
+        ensures { IfOk result (λ t. t ≡ text.now) }
     {
-        self.text
+        Ok(Text {
+            bytes: Bytes::copy_of(alloc, text.as_bytes())?,
+        })
     }
 
     pub fn as_str(&self) -> &str
         ensures { result.now ≡ self.now }
     {
-        self.text.as_str()
+        // The invariant says that they are UTF-8.
+        unsafe { from_utf8_unchecked(self.bytes.as_slice()) }
     }
 
     /// Whether it is this text.
     pub fn is(&self, other: &str) -> bool
         ensures { IsTrue result ↔ (self.now ≡ other.now) }
     {
-        self.text.as_str() == other
+        self.as_str() == other
     }
 }
 
@@ -51,7 +61,7 @@ impl Clone for Text {
 
     fn clone(&self) -> Result<Self, AllocError> {
         Ok(Text {
-            text: self.text.clone()?,
+            bytes: self.bytes.clone()?,
         })
     }
 }

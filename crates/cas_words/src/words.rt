@@ -288,7 +288,7 @@ fn command_from(alloc: Global, matches: &ArgMatches<'_>) -> Result<Option<Comman
     let Some(folder) = folder_of(matches) else {
         return Ok(None);
     };
-    let folder = Text::from_string(String::from_str(alloc, folder)?);
+    let folder = Text::copy_of(alloc, folder)?;
     Ok(Some(Command {
         limits,
         clock,
@@ -348,7 +348,7 @@ pub fn path_of(alloc: Global, words: &[String]) -> Result<Option<String>, Mem>
     ensures { IfOk result (λ o. option_map string_bytes o ≡ path (map string_bytes words.now)) }
 {
     match read_words(alloc, words)? {
-        Some(Command { folder, .. }) => Ok(Some(folder.into_string())),
+        Some(Command { folder, .. }) => Ok(Some(String::from_str(alloc, folder.as_str())?)),
         None => Ok(None),
     }
 }

@@ -5,11 +5,11 @@ ghost use Rattle.std.specs.Str.{bytes_eq};
 ghost use Rattle.cql_lex.specs.Constants.{is_name, name_value};
 
 use crate::characters::{all_words, begins_letter};
-use crate::texts::text_of;
 use cas_types::{Mem, Text};
 use smallvec::SmallVec;
 use std::alloc::Global;
 use std::marker::Model;
+use std::str::from_utf8_unchecked;
 
 /// A name in small letters, of which one of at most 16 bytes takes no memory of its own.
 #[derive(Drop)]
@@ -76,9 +76,8 @@ impl Name {
     pub fn text(&self, alloc: Global) -> Result<Text, Mem>
         ensures { IfOk result (λ text. text ≡ self.now) }
     {
-        match text_of(self.letters.as_slice().to_vec(alloc)?) {
-            Some(text) => Ok(text),
-            None => unreachable!(),
-        }
+        // The invariant says that they are UTF-8.
+        let letters = unsafe { from_utf8_unchecked(self.letters.as_slice()) };
+        Ok(Text::copy_of(alloc, letters)?)
     }
 }

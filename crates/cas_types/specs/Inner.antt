@@ -1,0 +1,2 @@
+-- What only helps this crate's own contracts.
+pub mod Kept
