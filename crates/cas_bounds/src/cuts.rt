@@ -4,6 +4,7 @@ ghost use Rattle.std.specs.Prelude.{◌≡◌, IfOk};
 ghost use Rattle.cas_bounds.specs.Cuts.{is_past, is_inside, prefixes_cmp, cut_cmp};
 
 use crate::order::{Ordered, compare_first, compare_values, later};
+use crate::row_order::RowOrder;
 use cas_types::{Bytes, List};
 use std::alloc::AllocError;
 use std::cmp::Ordering;
@@ -12,7 +13,7 @@ use std::cmp::Ordering;
 #[derive(Clone, Drop)]
 pub struct Clustering {
     pub values: List<Bytes>,
-    pub order: List<Ordered>,
+    pub order: RowOrder,
 }
 
 impl Clustering {
@@ -30,7 +31,7 @@ impl Clustering {
 pub struct Cut {
     pub prefix: List<Bytes>,
     pub after: bool,
-    pub order: List<Ordered>,
+    pub order: RowOrder,
 }
 
 impl Cut {

@@ -9,6 +9,7 @@ ghost use Rattle.cas_bounds.specs.Inner.KeyLaws.{key_total};
 
 use crate::cuts::{Clustering, Cut};
 use crate::order::{Ordered, compare_first, later};
+use crate::row_order::RowOrder;
 use cas_types::{Bytes, List, TypeTag};
 use std::cmp::Ordering;
 
@@ -49,7 +50,7 @@ impl End {
 pub struct MapKey {
     pub values: List<Bytes>,
     pub end: End,
-    pub order: List<Ordered>,
+    pub order: RowOrder,
 }
 
 impl MapKey {

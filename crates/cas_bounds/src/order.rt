@@ -1,11 +1,12 @@
 //! How clustering columns order the rows of a partition.
 
-ghost use Rattle.std.specs.Prelude.{◌≡◌, drop, IfOk};
+ghost use Rattle.std.specs.Prelude.{◌≡◌, ◌++◌, drop, IfOk, IfSome};
 ghost use Rattle.std.specs.List.{filter_map};
 ghost use Rattle.cas_bounds.specs.Orders.{column_cmp, first_cmp, values_cmp};
 ghost use Rattle.cas_bounds.specs.ClusteringOrder.{ordered_by, clustering_order};
 
-use cas_types::{Bytes, Column, List, TypeTag, compare, compare_bytes};
+use crate::row_order::{Few, RowOrder};
+use cas_types::{Bytes, Column, TypeTag, compare, compare_bytes};
 use std::alloc::{AllocError, Global};
 use std::cmp::Ordering;
 
@@ -40,6 +41,19 @@ fn ordered_by(column: &Column) -> Option<Ordered>
     })
 }
 
+// The orders of these clustering columns, after those so far, where they are few.
+fn few_orders(columns: &[Column], so_far: Few) -> Option<Few>
+    ensures { IfSome result (λ few. few ≡ so_far ++ filter_map ordered_by columns.now) }
+{
+    match columns {
+        [] => Some(so_far),
+        [first, others @ ..] => match ordered_by(first) {
+            Some(ordered) => few_orders(others, so_far.with(ordered)?),
+            None => few_orders(others, so_far),
+        },
+    }
+}
+
 fn orders(alloc: Global, columns: &[Column]) -> Result<Vec<Ordered>, AllocError>
     ensures { IfOk result (λ v. v.items ≡ filter_map ordered_by columns.now) }
 {
@@ -48,10 +62,13 @@ fn orders(alloc: Global, columns: &[Column]) -> Result<Vec<Ordered>, AllocError>
 
 /// How the table of these columns orders its rows.
 #[tactic(auto, unfolding(crate::specs::ClusteringOrder::clustering_order))]
-pub fn clustering_order(alloc: Global, columns: &[Column]) -> Result<List<Ordered>, AllocError>
+pub fn clustering_order(alloc: Global, columns: &[Column]) -> Result<RowOrder, AllocError>
     ensures { IfOk result (λ l. l ≡ clustering_order columns.now) }
 {
-    Ok(List::from_vec(orders(alloc, columns)?))
+    match few_orders(columns, Few::none()) {
+        Some(few) => Ok(RowOrder::of_few(few)),
+        None => Ok(RowOrder::from_vec(orders(alloc, columns)?)),
+    }
 }
 
 /// The order of two values of the first column.

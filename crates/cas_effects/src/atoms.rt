@@ -11,7 +11,7 @@ ghost use Rattle.cas_effects.specs.AtomsOf.{stamp_of, mutation_of};
 use crate::effect::{BoundWrite, Effect, Elements};
 use crate::stamped::{Stamp, cell_of, deletion_before, deletion_of, liveness};
 use cas_atoms::{Atom, ColumnRef, Mutation};
-use cas_bounds::{Clustering, Cut, Ordered, cmp_cut};
+use cas_bounds::{Clustering, Cut, RowOrder, cmp_cut};
 use cas_cell::{Cell, Deletion};
 use cas_types::{Bytes, List, Mem};
 use std::alloc::{AllocError, Global};
@@ -133,7 +133,7 @@ fn push(atoms: &mut Vec<Atom>, atom: Atom) -> Result<(), AllocError>
 }
 
 // The cut, in the order of another one's table.
-fn in_order(cut: &Cut, order: &List<Ordered>) -> Result<Cut, AllocError>
+fn in_order(cut: &Cut, order: &RowOrder) -> Result<Cut, AllocError>
     ensures { IfOk result (λ c. c ≡ record { prefix = cut.now.prefix; after = cut.now.after; order = order.now }) }
 {
     Ok(Cut {

@@ -7,12 +7,12 @@ ghost use Rattle.cas_mutations.specs.Reading.{collection_deletion_at, live_atom_
 ghost use Rattle.cas_mutations.specs.Reading.{static_collection_deletion_at, atom_at};
 
 use cas_atoms::Atom;
-use cas_bounds::{Cut, Ordered, cmp_cut};
+use cas_bounds::{Cut, RowOrder, cmp_cut};
 use cas_codec::{ReadFault, Reader};
 use cas_records::{
     Wanted, read_cell, read_clustering, read_column, read_cut, read_deletion, read_live, read_path,
 };
-use cas_types::{Column, List};
+use cas_types::Column;
 use std::alloc::Global;
 
 #[tactic(auto, unfolding(crate::specs::Reading::partition_deletion_at))]
@@ -27,7 +27,7 @@ fn read_partition_deletion(reader: &mut Reader<'_>) -> Result<Atom, ReadFault>
 fn read_above(
     alloc: Global,
     reader: &mut Reader<'_>,
-    order: &List<Ordered>,
+    order: &RowOrder,
     lo: &Cut,
 ) -> Result<Cut, ReadFault>
     requires { lo.now.order ≡ order.now }
@@ -45,7 +45,7 @@ fn read_above(
 fn read_range_deletion(
     alloc: Global,
     reader: &mut Reader<'_>,
-    order: &List<Ordered>,
+    order: &RowOrder,
 ) -> Result<Atom, ReadFault>
     ensures { Gives (λ a. a) result reader.new (range_deletion_at order.now reader.old) }
 {
@@ -59,7 +59,7 @@ fn read_range_deletion(
 fn read_row_deletion(
     alloc: Global,
     reader: &mut Reader<'_>,
-    order: &List<Ordered>,
+    order: &RowOrder,
 ) -> Result<Atom, ReadFault>
     ensures { Gives (λ a. a) result reader.new (row_deletion_at order.now reader.old) }
 {
@@ -72,7 +72,7 @@ fn read_row_deletion(
 fn read_collection_deletion(
     alloc: Global,
     reader: &mut Reader<'_>,
-    order: &List<Ordered>,
+    order: &RowOrder,
     columns: &[Column],
 ) -> Result<Atom, ReadFault>
     ensures { Gives (λ a. a) result reader.new (collection_deletion_at order.now columns.now reader.old) }
@@ -87,7 +87,7 @@ fn read_collection_deletion(
 fn read_live_atom(
     alloc: Global,
     reader: &mut Reader<'_>,
-    order: &List<Ordered>,
+    order: &RowOrder,
 ) -> Result<Atom, ReadFault>
     ensures { Gives (λ a. a) result reader.new (live_atom_at order.now reader.old) }
 {
@@ -100,7 +100,7 @@ fn read_live_atom(
 fn read_write(
     alloc: Global,
     reader: &mut Reader<'_>,
-    order: &List<Ordered>,
+    order: &RowOrder,
     columns: &[Column],
 ) -> Result<Atom, ReadFault>
     ensures { Gives (λ a. a) result reader.new (write_at order.now columns.now reader.old) }
@@ -143,7 +143,7 @@ fn read_static_collection_deletion(
 pub fn read_atom(
     alloc: Global,
     reader: &mut Reader<'_>,
-    order: &List<Ordered>,
+    order: &RowOrder,
     columns: &[Column],
 ) -> Result<Atom, ReadFault>
     ensures { Gives (λ a. a) result reader.new (atom_at order.now columns.now reader.old) }

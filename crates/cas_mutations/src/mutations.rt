@@ -6,7 +6,7 @@ ghost use Rattle.cas_mutations.specs.Reading.{table_at, place_at, stamp_at, time
 
 use crate::atoms::read_atom;
 use cas_atoms::{Atom, Mutation};
-use cas_bounds::{Ordered, clustering_order};
+use cas_bounds::{RowOrder, clustering_order};
 use cas_codec::{ReadFault, Reader};
 use cas_records::{read_key, read_timestamp};
 use cas_types::{Column, LAST_DRAWN, LAST_SECOND, List, MUTATION_LIMIT, TableSchema};
@@ -89,7 +89,7 @@ fn read_times(reader: &mut Reader<'_>) -> Result<(bool, i64, i64), ReadFault>
 fn read_each(
     alloc: Global,
     reader: &mut Reader<'_>,
-    order: &List<Ordered>,
+    order: &RowOrder,
     columns: &[Column],
     count: u32,
 ) -> Result<Vec<Atom>, ReadFault>

@@ -13,7 +13,7 @@ ghost use Rattle.cas_partition.specs.Inner.Firsts.{with_first};
 use crate::partition::Partition;
 use crate::spot::{Content, Spot};
 use cas_atoms::{ColumnRef, PathCell, Row, RowColumn};
-use cas_bounds::{Clustering, End, MapKey, Slice};
+use cas_bounds::{Clustering, End, MapKey, RowOrder, Slice};
 use cas_cell::Cell;
 use cas_merge::{Merger, compare_fragments, joined_fragment};
 use cas_streams::{Fragment, FragmentSource, Part};
@@ -276,7 +276,7 @@ fn rows_in(
     let first = at(MapKey {
         values: List::from_vec(Vec::new(alloc)),
         end: End::Before,
-        order: List::from_vec(Vec::new(alloc)),
+        order: RowOrder::from_vec(Vec::new(alloc)),
     });
     let low = at(MapKey::of_cut(slice.lo.copied()?));
     let high = at(MapKey::of_cut(slice.hi.copied()?));

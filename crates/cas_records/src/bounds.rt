@@ -11,7 +11,7 @@ ghost use Rattle.cas_records.specs.Spelling.{values_bytes, clustering_bytes, cut
 ghost use Rattle.cas_records.specs.Reading.{value_at, values_at, clustering_at, cut_at};
 ghost use Rattle.cas_records.specs.Inner.Values.{after_values};
 
-use cas_bounds::{Clustering, Cut, Ordered};
+use cas_bounds::{Clustering, Cut, Ordered, RowOrder};
 use cas_codec::{ReadFault, Reader, put_bytes16, put_flag, put_u8};
 use cas_types::{Bytes, List, Mem, TypeTag, check};
 use std::alloc::Global;
@@ -68,7 +68,7 @@ fn read_count(reader: &mut Reader<'_>, least: usize, greatest: usize) -> Result<
 pub fn read_clustering(
     alloc: Global,
     reader: &mut Reader<'_>,
-    order: &List<Ordered>,
+    order: &RowOrder,
 ) -> Result<Clustering, ReadFault>
     ensures { Gives (λ c. c) result reader.new (clustering_at order.now reader.old) }
 {
@@ -86,7 +86,7 @@ pub fn read_clustering(
 pub fn read_cut(
     alloc: Global,
     reader: &mut Reader<'_>,
-    order: &List<Ordered>,
+    order: &RowOrder,
 ) -> Result<Cut, ReadFault>
     ensures exact { Gives (λ c. c) result reader.new (cut_at order.now reader.old) }
     ensures order { IfOk result (λ c. c.order ≡ order.now) }

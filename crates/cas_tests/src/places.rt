@@ -1,7 +1,7 @@
 //! The order of rows and cuts, and what lies between two cuts, by hand.
 
 use cas_bounds::{
-    Clustering, Cut, MapKey, Ordered, Slice, cmp_cut, compare_values, cut_orders, cuts_divide_rows,
+    Clustering, Cut, MapKey, Ordered, RowOrder, Slice, cmp_cut, compare_values, cut_orders, cuts_divide_rows,
     inside, own_places, row_orders,
 };
 use cas_types::{Bytes, List, TypeTag};
@@ -33,13 +33,13 @@ before 9
 after 9
 after";
 
-fn order(alloc: Global) -> Option<List<Ordered>> {
+fn order(alloc: Global) -> Option<RowOrder> {
     let mut order = Vec::new(alloc);
     for descending in [false, true] {
         let tag = TypeTag::Int;
         order.push(Ordered { tag, descending }).ok()?;
     }
-    Some(List::from_vec(order))
+    Some(RowOrder::from_vec(order))
 }
 
 fn values(alloc: Global, line: &str) -> Option<List<Bytes>> {
@@ -98,7 +98,7 @@ fn end(alloc: Global, after: bool) -> Cut {
     Cut {
         prefix: List::from_vec(Vec::new(alloc)),
         after,
-        order: List::from_vec(Vec::new(alloc)),
+        order: RowOrder::from_vec(Vec::new(alloc)),
     }
 }
 

@@ -5,13 +5,14 @@ ghost use Rattle.cas_types.specs.declared.short.TheConstants.{IN_PLACE};
 
 use std::marker::Model;
 
-/// So many bytes stand in place: with their length they take no more room than a `Vec`.
-pub(crate) const IN_PLACE: usize = 23;
+/// So many bytes stand in place: with their number they take no more room than a `Vec`, and whole
+/// words, which are moved faster than odd bytes.
+pub(crate) const IN_PLACE: usize = 16;
 
 /// A byte string in place, which contracts see as the list of its bytes.
 #[derive(Drop)]
 pub(crate) struct Short {
-    len: u8,
+    len: usize,
     bytes: [u8; IN_PLACE],
 }
 
@@ -36,7 +37,7 @@ impl Short {
         let mut places = [0; IN_PLACE];
         places[..bytes.len()].copy_from_slice(bytes);
         Short {
-            len: bytes.len() as u8,
+            len: bytes.len(),
             bytes: places,
         }
     }
@@ -45,7 +46,7 @@ impl Short {
     pub(crate) fn as_slice(&self) -> &[u8]
         ensures { result.now ≡ self.now }
     {
-        &self.bytes[..self.len as usize]
+        &self.bytes[..self.len]
     }
 
     #[inline]

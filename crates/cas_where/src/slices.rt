@@ -8,7 +8,7 @@ ghost use Rattle.cas_types.specs.Schemas.{is_descending};
 ghost use Rattle.cas_where.specs.Slices.{is_at, bound_value, cut, cut_by, cut_at, slice_with, slice_of};
 
 use crate::operators::{is_lower, is_strict, is_upper};
-use cas_bounds::{Cut, Ordered, Slice, clustering_order};
+use cas_bounds::{Cut, RowOrder, Slice, clustering_order};
 use cas_keys::{KeyTerms, first_missing, prefix_values};
 use cas_terms::{push_some, same_name, term_value};
 use cas_types::{Bytes, Column, List};
@@ -37,7 +37,7 @@ fn first_bound<'a>(is_end: bool, relations: &'a [Relation], column: &Column) -> 
     })
 }
 
-fn cut(order: &List<Ordered>, prefix: &List<Bytes>, after: bool) -> Result<Cut, AllocError>
+fn cut(order: &RowOrder, prefix: &List<Bytes>, after: bool) -> Result<Cut, AllocError>
     ensures { IfOk result (λ c. c ≡ cut order.now prefix.now after) }
 {
     Ok(Cut {
@@ -62,7 +62,7 @@ fn longer_prefix(
 
 fn cut_by(
     alloc: Global,
-    order: &List<Ordered>,
+    order: &RowOrder,
     prefix: &List<Bytes>,
     column: &Column,
     is_end: bool,
@@ -89,7 +89,7 @@ fn cut_by(
 fn cut_at(
     alloc: Global,
     is_end: bool,
-    order: &List<Ordered>,
+    order: &RowOrder,
     relations: &[Relation],
     prefix: &List<Bytes>,
     column: &Column,
@@ -102,7 +102,7 @@ fn cut_at(
 
 fn slice_with(
     alloc: Global,
-    order: &List<Ordered>,
+    order: &RowOrder,
     relations: &[Relation],
     prefix: &List<Bytes>,
     column: Option<&Column>,

@@ -4,7 +4,7 @@ ghost use Rattle.std.specs.Prelude.{◌≤◌, length};
 ghost use Rattle.cas_mutations.specs.Allowed.{AreTables};
 
 use crate::insert::{RECORD, columns, tables};
-use cas_bounds::{Ordered, clustering_order};
+use cas_bounds::{RowOrder, clustering_order};
 use cas_codec::{ReadFault, Reader};
 use cas_mutations::{put_record, read_atom, read_record, records_are_exact};
 use cas_types::{Column, List, TableSchema};
@@ -98,7 +98,7 @@ fn bytes_of(alloc: Global, words: &str) -> Option<Vec<u8>> {
 }
 
 // Whether the line's bytes are read as it says.
-fn is_told(alloc: Global, order: &List<Ordered>, columns: &[Column], line: &str) -> Option<bool> {
+fn is_told(alloc: Global, order: &RowOrder, columns: &[Column], line: &str) -> Option<bool> {
     let (at, words) = line.split_once(' ')?;
     let bytes = bytes_of(alloc, words)?;
     let fault = read_atom(alloc, &mut Reader::new(&bytes, 0), order, columns).err();

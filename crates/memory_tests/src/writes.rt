@@ -1,7 +1,7 @@
 //! Statements on the table `k tinyint, c tinyint, v tinyint, s tinyint static, PRIMARY KEY (k, c)`.
 
 use cas_atoms::{Atom, ColumnRef, Mutation};
-use cas_bounds::{Clustering, Cut, Ordered, Slice};
+use cas_bounds::{Clustering, Cut, Ordered, RowOrder, Slice};
 use cas_cell::{Cell, Deletion, Liveness};
 use cas_types::{Bytes, List, TypeTag};
 use std::alloc::{AllocError, Global};
@@ -21,8 +21,8 @@ pub(crate) enum Statement {
     DeleteRows(u8, u8),
 }
 
-fn order(alloc: Global) -> Result<List<Ordered>, AllocError> {
-    Ok(List::from_vec(vec![in alloc;
+fn order(alloc: Global) -> Result<RowOrder, AllocError> {
+    Ok(RowOrder::from_vec(vec![in alloc;
         Ordered {
             tag: TypeTag::TinyInt,
             descending: false,

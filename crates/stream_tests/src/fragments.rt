@@ -1,15 +1,15 @@
 //! Fragments of a table `k tinyint, c tinyint`, by hand.
 
 use cas_atoms::Row;
-use cas_bounds::{Clustering, Cut, Ordered};
+use cas_bounds::{Clustering, Cut, Ordered, RowOrder};
 use cas_cell::{Deletion, Liveness};
 use cas_streams::Fragment;
 use cas_types::{Bytes, List, TypeTag};
 use std::alloc::{AllocError, Global};
 
 // One ascending clustering column.
-pub(crate) fn order(alloc: Global) -> Result<List<Ordered>, AllocError> {
-    Ok(List::from_vec(vec![in alloc;
+pub(crate) fn order(alloc: Global) -> Result<RowOrder, AllocError> {
+    Ok(RowOrder::from_vec(vec![in alloc;
         Ordered {
             tag: TypeTag::TinyInt,
             descending: false,
