@@ -1,9 +1,8 @@
-use Rattle.std.proofs.lemmas.List.Elements.{same_from_all_zip}
 use Rattle.cas_records.proofs.BoundLaws.{clustering_answer}
 use Rattle.cas_records.proofs.bounds.read_clustering.Goals as goal
 
 pub returns : goal.returns
 returns c =
     clustering_answer c.args.order.now _ _ _ _ _ _ _ _ _ _ _ c.len.ensures c.len-2.ensures c.as_slice.ensures c.in_ok-values.ensures.items c.from_vec.ensures
-    (same_from_all_zip _ _ _ c.in_ok-clone.ensures.cases (λ x y r. r))
+    c.in_ok-clone.ensures.cases
     c.in_ok-read_count.ensures.exact c.in_ok-read_values.ensures
