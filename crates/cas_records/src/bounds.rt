@@ -83,11 +83,7 @@ pub fn read_clustering(
 
 /// Reads a cut between the rows of a table of this order.
 #[tactic(auto, using(crate::proofs::BoundLaws::values_from_none), unfolding(crate::specs::Reading::cut_at))]
-pub fn read_cut(
-    alloc: Global,
-    reader: &mut Reader<'_>,
-    order: &RowOrder,
-) -> Result<Cut, ReadFault>
+pub fn read_cut(alloc: Global, reader: &mut Reader<'_>, order: &RowOrder) -> Result<Cut, ReadFault>
     ensures exact { Gives (λ c. c) result reader.new (cut_at order.now reader.old) }
     ensures order { IfOk result (λ c. c.order ≡ order.now) }
 {

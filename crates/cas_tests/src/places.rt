@@ -1,8 +1,8 @@
 //! The order of rows and cuts, and what lies between two cuts, by hand.
 
 use cas_bounds::{
-    Clustering, Cut, MapKey, Ordered, RowOrder, Slice, cmp_cut, compare_values, cut_orders, cuts_divide_rows,
-    inside, own_places, row_orders,
+    Clustering, Cut, MapKey, Ordered, RowOrder, Slice, cmp_cut, compare_values, cut_orders,
+    cuts_divide_rows, inside, own_places, row_orders,
 };
 use cas_types::{Bytes, List, TypeTag};
 use std::alloc::Global;
