@@ -1,17 +1,17 @@
 -- File numbers: each is used up once, held by one alone, and listed once.
-use Rattle.std.proofs.Common.{◌≡◌, ◌≢◌, ◌⊎◌, ℕ, ◌<◌, ◌≤◌, List, [], ◌∷◌, ◌++◌, Bool, true, false, cond, refl, ap, sym, ◌∙◌, subst, inl, inr, ⊎_elim, arith, append-nil, eqb, eq-eqb, ne_eqb, true≢false, le_refl}
+use Rattle.std.proofs.Common.{◌≡◌, ◌≢◌, ◌⊎◌, ℕ, ◌<◌, ◌≤◌, List, [], ◌∷◌, ◌++◌, Bool, true, false, cond, refl, ap, sym, ◌∙◌, subst, inl, inr, ⊎_elim, arith, append-nil, eqb, eq-eqb, true≢false, le_refl}
 use Rattle.std.specs.Prelude.{Option, None, Some, ◌==◌}
 use Rattle.std.specs.List.{fold, filter, flat_map, list_any}
 use Rattle.std.proofs.lemmas.Bool.{false_from_ne_true}
 use Rattle.std.proofs.lemmas.Bool.Decides.{eqb_tells}
 use Rattle.std.proofs.lemmas.Grind.{flat_map-append}
 use Rattle.std.proofs.lemmas.List.Sums.{fold-append}
-use Rattle.cas_ledger.specs.Log.{Has, Each, Follows, Legal}
+use Rattle.cas_ledger.specs.Log.{Has, Follows, Legal}
 use Rattle.cas_ledger.proofs.Lists.{has_or_not, each_at, named}
 use Rattle.cas_ledger.proofs.Parts.{part_gets, part_stays, list_grows, legal_grows, names_it}
 use Rattle.cas_history.specs.declared.item.Item.{Item}
 use Rattle.cas_history.specs.declared.item.Item.TheVariants.{Found, Stood, Wrote, Purged, Faulted, Read, Rose, Drew, Began, Ended, Changed}
-use Rattle.cas_history.specs.Items.{items, listed, lists_of, MayCome, Distinct, first_diary, numbers_list, changes_list}
+use Rattle.cas_history.specs.Items.{items, listed, lists_of, MayCome, Distinct, first_diary, numbers_list}
 use Rattle.cas_history.specs.Last.{uses, used, adds, all_added, holds, holds_after, file_after, last_file}
 use Rattle.cas_history.proofs.Lists.{some_one, none_some, same_or, none_if, has_left, has_right, has_either, fold_gets, fold_kept}
 

@@ -4,7 +4,7 @@ use Rattle.std.specs.List.{fold, filter, flat_map}
 use Rattle.cas_ledger.specs.Hands.{numbers}
 use Rattle.cas_history.specs.declared.item.Item.{Item}
 use Rattle.cas_history.specs.declared.item.Item.TheVariants.{Found, Wrote}
-use Rattle.cas_history.specs.Items.{listed, log_list, front_list, first_diary}
+use Rattle.cas_history.specs.Items.{first_diary}
 
 module _ {E : Type 0} where
   -- whether an entry is a mutation of this session (own)

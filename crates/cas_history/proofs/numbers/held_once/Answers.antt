@@ -1,7 +1,7 @@
-use Rattle.std.proofs.Common.{◌≡◌, ℕ, ◌+◌, ◌≤◌, ◌∙◌, true, ap, sym, subst, arith}
-use Rattle.cas_ledger.specs.Hands.{Owns, stakes, shares}
+use Rattle.std.proofs.Common.{◌≡◌, ℕ, ◌+◌, ◌≤◌, ◌∙◌, ap, sym, subst, arith}
+use Rattle.cas_ledger.specs.Hands.{Owns, shares}
 use Rattle.cas_ledger.proofs.Parts.{owned}
-use Rattle.cas_history.specs.Items.{items, listed}
+use Rattle.cas_history.specs.Items.{items}
 use Rattle.cas_history.specs.Last.{holds}
 use Rattle.cas_history.proofs.Once.{holds_once}
 use Rattle.cas_history.proofs.numbers.held_once.Goals as goal
