@@ -44,12 +44,15 @@ pub record Holds (t : Told) (c : Image) : Type 0 where
 abbrev pub named : List ℕ → List Entry
 named numbers = map NewSegment numbers
 
+-- what failed is what failed before, or the name of a segment
+abbrev pub FailedToName : List Entry → List Entry → Type 0
+FailedToName before now = (now ≡ before) ⊎ ((number : ℕ) × (now ≡ NewSegment number ∷ []))
+
 -- From one to the other the journal made room: segments were begun and named, and mutations committed, no others taken and nothing defined.
 pub record MadeRoom (t u : Told) : Type 0 where
   pub numbers : List ℕ
   pub entries : u.entries ≡ t.entries ++ named numbers
-  pub failing : List ℕ
-  pub failed : u.failed ≡ named failing
+  pub failed : FailedToName t.failed u.failed
   pub taken : u.taken ≡ t.taken
   pub committed : t.committed ≤ u.committed
 

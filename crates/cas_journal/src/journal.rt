@@ -1,6 +1,10 @@
 //! The journal of a store.
 
+ghost use Rattle.std.specs.Prelude.{◌≡◌};
+ghost use Rattle.std.specs.Option.{ForSome};
 ghost use Rattle.cas_log.specs.Segment.{IsSize};
+ghost use Rattle.cas_log.specs.Logs.{place_of};
+ghost use Rattle.cas_journal.specs.Fresh.{IsFresh, IsOfSize};
 
 use cas_gates::First;
 use cas_log::Log;
@@ -14,11 +18,13 @@ pub struct Journal {
     pub(crate) log: Option<Log>,
     /// A segment that was begun and isn't named yet, since memory or the manifest's limit stood in the way.
     pub(crate) spare: Option<Log>,
-    /// The greatest number of a segment that the manifest named so far.
+    /// The greatest number under which a segment was begun, or tried to, or named. No file is above it.
     pub(crate) last_segment: u64,
-    /// How long a segment that is begun may be, in bytes.
+    /// How long a segment is, in bytes.
     pub(crate) size: u64,
     /// The first failed create, write or sync of manifest or log. Once one is kept, neither is written.
     pub(crate) first: Option<First>,
     ghost sized: { IsSize size },
+    ghost log_size: { ForSome log (λ l. IsOfSize size l) },
+    ghost spare_size: { ForSome spare (λ l. IsFresh size l) },
 }

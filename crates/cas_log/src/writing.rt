@@ -45,6 +45,8 @@ impl Log {
         ensures place { IfOk result (λ log. ((place_of log).number ≡ number) × ((place_of log).size ≡ size)) }
         ensures stands { IfOk result (λ log. Stands (place_of log) (F.disk folder.new) []) }
         ensures pushed { IfOk result (λ log. HasPushed log []) }
+        // The header has 24 bytes; a block without records has 9.
+        ensures short { IfOk result (λ log. ((place_of log).end ≡ 24) × (block_length log ≡ 10)) }
         ensures during { During (Changed (Name.Log number) MayBeAnything) (F.disk folder.old) (F.disk folder.new) }
         ensures outcome { Ends first.old first.new (F.faults_of folder.old) (F.faults_of folder.new) result }
         ensures count { F.faults_of folder.old ≤ F.faults_of folder.new }
@@ -87,6 +89,13 @@ impl Log {
         }
         self.block.reserve(length as usize)?;
         Ok(())
+    }
+
+    /// How many bytes the records of what is pushed have.
+    pub fn pending(&self) -> u64
+        ensures { result + 10 ≡ block_length self.now }
+    {
+        self.block.len() as u64 - 9
     }
 
     /// Whether a mutation's record fits behind those that are pushed.
