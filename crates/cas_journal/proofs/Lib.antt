@@ -1,0 +1,5 @@
+pub mod Lists
+pub mod Fitting
+pub mod Sayings
+pub mod Segments
+pub mod Holding
