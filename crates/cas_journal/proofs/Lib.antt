@@ -3,3 +3,4 @@ pub mod Fitting
 pub mod Sayings
 pub mod Segments
 pub mod Holding
+pub mod Moving

@@ -100,8 +100,10 @@ impl Journal {
         let Some(log) = &mut self.log else {
             return Ok(());
         };
-        log.commit(folder, &mut self.first)?;
-        Ok(())
+        match log.commit(folder, &mut self.first) {
+            Ok(()) => Ok(()),
+            Err(fault) => Err(JournalFault::from(fault)),
+        }
     }
 
     // Appends an entry to the manifest.
