@@ -1,7 +1,8 @@
 -- What a call leaves of a journal, by the files that it doesn't change.
 use Rattle.std.proofs.Common.{◌≡◌, ◌≢◌, ◌⊎◌, inl, inr, ⊎_elim, ℕ, ◌+◌, ◌<◌, ◌≤◌, List, [], ◌∷◌, ◌++◌, length, take, Option, None, Some, refl, sym, ap, subst, ◌∙◌, arith, append_assoc, length-append}
 use Rattle.std.specs.List.{AllByRecursion}
-use Rattle.std.proofs.lemmas.List.{append-nil, take_all}
+use Rattle.std.specs.Prelude.{Err}
+use Rattle.std.proofs.lemmas.List.{append-nil, take_all, take-append-le}
 use Rattle.cas_types.specs.declared.schema.TableSchema.{TableSchema}
 use Rattle.cas_disk.specs.declared.name.Name.{Name}
 use Rattle.cas_disk.specs.declared.name.Name.TheVariants.{Manifest as manifest_name, Log as log_name}
@@ -13,8 +14,10 @@ use Rattle.cas_mutations.specs.Allowed.{FitsRecord}
 use Rattle.cas_changes.specs.declared.entry.Entry.{Entry}
 use Rattle.cas_changes.specs.Saying.{Saying, said_by}
 use Rattle.cas_log.specs.Segment.{IsSegment, joined}
-use Rattle.cas_log.specs.Logs.{Place, place_of, HasPushed, Stands as LogStands, MayHave as MayHaveLog}
+use Rattle.cas_log.specs.Logs.{Place, place_of, HasPushed, Stands as LogStands, MayHave as MayHaveLog, Ends as LogEnds}
 use Rattle.cas_log.specs.declared.log.Log.{Log}
+use Rattle.cas_log.specs.declared.fault.LogFault.{LogFault}
+use Rattle.cas_log.specs.declared.fault.LogFault.TheVariants as log_fault
 use Rattle.cas_manifest.specs.Manifests.{Place as ManifestPlace, place_of as manifest_place, Stands as ManifestStands}
 use Rattle.cas_replay.specs.Reading.{segment_in}
 use Rattle.cas_replay.specs.Grammar.{AreSegments, AreInOrder, IsLog}
@@ -205,3 +208,71 @@ module _ (j : Journal) (log : Log) (old : Disk) (t : Told) (goes : Goes j old t)
     where
       step : Image → Image → Type 0
       step = Changed (log_name log.number) MayBeAnything
+
+-- ---- what is known of a journal
+
+pub no_first : {X : Type 0} (o : Option X) → ((x : X) → o ≡ Some x → ⊥) → o ≡ None
+no_first None not = refl
+no_first (Some x) not = absurd (not x refl)
+
+-- the segment that is written is one of those begun
+pub number_begun : (j : Journal) (log : Log) → j.log ≡ Some log → log.number ≤ j.last_segment
+number_begun j log is = (j.written log is).known
+
+-- a fault of a commit is kept
+pub commit_kept : (first kept : Option First) (before now : ℕ) (f : LogFault) → first ≡ None → LogEnds {T = Unit {0}} first kept before now (Err f)
+    → (f ≡ log_fault.Mem → ⊥) → kept ≡ None → ⊥
+commit_kept None kept before now log_fault.Failed none ends not_memory unkept = cc
+commit_kept None kept before now log_fault.Mem none ends not_memory unkept = not_memory refl
+commit_kept None kept before now (log_fault.TooLarge long most) none ends not_memory unkept = ends
+commit_kept None kept before now (log_fault.Stopped x) none ends not_memory unkept = ends
+commit_kept None kept before now (log_fault.Bad at) none ends not_memory unkept = ends
+commit_kept (Some x) kept before now f none ends not_memory unkept = cc
+
+-- ---- a push
+
+module _ (j k : Journal) (disk : Disk) (t : Told) (m : Mutation) where
+  -- an image that holds what was told before
+  pub holds_took : (c : Image) → Holds t c → Holds (took m t) c
+  holds_took c holds = record {
+    entries = holds.entries;
+    listed = holds.listed;
+    count = holds.count;
+    least = holds.least;
+    most = omega (arith, holds.most, length-append t.taken (m ∷ []));
+    store = subst (λ (ms : List Mutation). IsStore holds.entries ms c) (sym (take-append-le holds.count t.taken (m ∷ []) holds.most)) holds.store;
+  }
+
+  module _ (log after : Log) (is : j.log ≡ Some log) (now : k.log ≡ Some after) (place : place_of after ≡ place_of log)
+      (more : (pushed : List Mutation) → HasPushed log pushed → HasPushed after (pushed ++ m ∷ []))
+      (manifest : k.manifest ≡ j.manifest) (spare : k.spare ≡ j.spare) (last : k.last_segment ≡ j.last_segment) where
+    pub push_goes : Goes j disk t → MayTake t m → Goes k disk (took m t)
+    push_goes goes may =
+        let said = said_by t.entries in
+        let writes : Writes (Some log) said.segments goes.before goes.written goes.pushed disk = writes_it j log disk t goes is in
+        record {
+          manifest = subst (λ x. ManifestStands (manifest_place x) disk t.entries) (sym manifest) goes.manifest;
+          none_failed = goes.none_failed;
+          made = goes.made;
+          before = goes.before;
+          parts = goes.parts;
+          earlier = goes.earlier;
+          written = goes.written;
+          pushed = goes.pushed ++ m ∷ [];
+          writes = subst (λ (o : Option Log). Writes o said.segments goes.before goes.written (goes.pushed ++ m ∷ []) disk) (sym now) (
+            writes.0 ∙ ap (λ (p : Place). goes.before ++ p.number ∷ []) (sym place),
+            subst (λ (p : Place). LogStands p disk goes.written) (sym place) writes.1,
+            more goes.pushed writes.2,
+          );
+          all = ap (λ (l : List Mutation). joined goes.parts ++ l) (sym (append_assoc goes.written goes.pushed (m ∷ [])))
+              ∙ sym (append_assoc (joined goes.parts) (goes.written ++ goes.pushed) (m ∷ [])) ∙ ap (λ (l : List Mutation). l ++ m ∷ []) goes.all;
+          committed = goes.committed;
+          fit = all_more (FitsRecord said.tables said.shards) t.taken m goes.fit may.fits;
+          ordered = may.next;
+          last = subst (λ (n : ℕ). said.last_segment ≤ n) (sym last) goes.last;
+          spare = subst (λ (o : Option Log). IsSpare o said.last_segment disk) (sym spare) goes.spare;
+        }
+
+    pub push_lasts : k.first ≡ j.first → Lasts j disk t → MayTake t m → Lasts k disk (took m t)
+    push_lasts first lasts may =
+        record { holds = λ c left. holds_took c (lasts.holds c left); goes = λ none. push_goes (lasts.goes (sym first ∙ none)) may }
