@@ -4,3 +4,4 @@ pub mod Sayings
 pub mod Segments
 pub mod Holding
 pub mod Moving
+pub mod Entries
