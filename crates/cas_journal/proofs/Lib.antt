@@ -5,3 +5,4 @@ pub mod Segments
 pub mod Holding
 pub mod Moving
 pub mod Entries
+pub mod Defining
