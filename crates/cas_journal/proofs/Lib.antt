@@ -6,3 +6,4 @@ pub mod Holding
 pub mod Moving
 pub mod Entries
 pub mod Defining
+pub mod Beginning
