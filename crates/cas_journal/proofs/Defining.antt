@@ -19,7 +19,8 @@ use Rattle.cas_journal.specs.declared.fault.JournalFault.TheVariants.{TooLarge, 
 use Rattle.cas_journal.specs.declared.journal.Journal.{Journal}
 use Rattle.cas_journal.proofs.Moving.{still_so, manifest_still, earlier_still, spare_still, holds_same, lasting, lasting_stopped}
 use Rattle.cas_journal.proofs.Entries.{append_leaves, append_fails, writes_still, definition_goes, definition_appended, definition_has}
-use Rattle.cas_journal.proofs.Holding.{same_files}
+use Rattle.cas_journal.proofs.Holding.{same_files, HasItsSegment}
+use Rattle.cas_journal.proofs.Fitting.{IsAppended}
 
 -- ---- where nothing was written
 
@@ -65,25 +66,61 @@ module _ (j k : Journal) (old new : Disk) (t : Told) (call : During Same old new
     goes = λ none. same_goes (lasts.goes (unkept none));
   }
 
+-- ---- an append
+
+module _ (j k : Journal) (old new : Disk) (t : Told) (e : Entry) (lasts : Lasts j old t) (is : IsAppended e)
+    (ready : Goes j old t → FitsEntry (said_by t.entries) e × ((d : Image) → old.may_leave d → HasItsSegment e d)) (before now : ℕ)
+    (during : (entries : List Entry) → ManifestStands (manifest_place j.manifest) old entries → FitsEntry (said_by entries) e
+    → During (Changed manifest_name (λ _ f. MayHaveManifest entries e f)) old new) where
+  abbrev either : Image → Type 0
+  either c = Holds t c ⊎ Holds (failed_at e t) c
+
+  pub leaves_going : j.first ≡ None → During (λ _ c. either c) old new
+  leaves_going none =
+      let goes = lasts.goes none in
+      append_leaves j old t e goes is (ready goes).0 (ready goes).1 new (during t.entries goes.manifest (ready goes).0)
+
+  pub leaves_either : (first : Option First) → j.first ≡ first → (r : Result (Unit {0}) JournalFault) → Ends first k.first before now r
+      → IfErr r (λ f. WritesNothing f → During Same old new) → During (λ _ c. either c) old new
+  leaves_either None none r ends untouched = leaves_going none
+  leaves_either (Some x) kept r ends untouched =
+      let still : During Same old new = subst (λ (q : Result (Unit {0}) JournalFault). IfErr q (λ f. WritesNothing f → During Same old new)) ends.0 untouched tt in
+      reworded Same (λ _ c. either c) old new still (λ d c was same. inl (holds_same t d c (lasts.holds d was) same))
+
+  failed_lasts : (first : Option First) → j.first ≡ first → Ends {T = Unit {0}} first k.first before now (Err Failed) → Lasts k new (failed_at e t)
+  failed_lasts None none failed =
+      let goes = lasts.goes none in
+      lasting_stopped k new (failed_at e t) (append_fails j old t e goes is (ready goes).0 (ready goes).1 new (leaves_going none))
+      (λ unkept. absurd (kept_some (record { number = now }) failed.1 unkept))
+    where
+      kept_some : (f : First) → k.first ≡ Some f → k.first ≡ None → ⊥
+      kept_some f some none = cc
+  failed_lasts (Some x) kept failed = cc
+
+  -- after a fault
+  pub fault_lasts : (f : JournalFault) → Ends {T = Unit {0}} j.first k.first before now (Err f) → (WritesNothing f → During Same old new)
+      → manifest_place k.manifest ≡ manifest_place j.manifest → k.log ≡ j.log → k.spare ≡ j.spare → k.last_segment ≡ j.last_segment → Lasts k new (told_after f e t)
+  fault_lasts Failed ends untouched stays log spare last = failed_lasts j.first refl ends
+  fault_lasts Mem ends untouched stays log spare last =
+      same_lasts j k old new t (untouched tt) stays log spare (omega (arith, last)) (none_before j.first k.first before now (Err Mem) ends) lasts
+  fault_lasts (TooMany what most) ends untouched stays log spare last =
+      same_lasts j k old new t (untouched tt) stays log spare (omega (arith, last)) (none_before j.first k.first before now (Err (TooMany what most)) ends) lasts
+  fault_lasts (TooLarge long most) ends untouched stays log spare last =
+      same_lasts j k old new t (untouched tt) stays log spare (omega (arith, last)) (none_before j.first k.first before now (Err (TooLarge long most)) ends) lasts
+  fault_lasts (Stopped x) ends untouched stays log spare last =
+      same_lasts j k old new t (untouched tt) stays log spare (omega (arith, last)) (none_before j.first k.first before now (Err (Stopped x)) ends) lasts
+
 -- ---- a definition
 
 module _ (j k : Journal) (old new : Disk) (t : Told) (e : Entry) (lasts : Lasts j old t) (is : IsDefinition e) (fits : FitsEntry (said_by t.entries) e)
     (before now : ℕ) (during : (entries : List Entry) → ManifestStands (manifest_place j.manifest) old entries → FitsEntry (said_by entries) e
     → During (Changed manifest_name (λ _ f. MayHaveManifest entries e f)) old new) where
-  abbrev either : Image → Type 0
-  either c = Holds t c ⊎ Holds (failed_at e t) c
+  abbrev ready : Goes j old t → FitsEntry (said_by t.entries) e × ((d : Image) → old.may_leave d → HasItsSegment e d)
+  ready goes = (fits, λ d was. definition_has e is d)
 
-  leaves_going : j.first ≡ None → During (λ _ c. either c) old new
-  leaves_going none =
-      let goes = lasts.goes none in
-      append_leaves j old t e goes (definition_appended e is) fits (λ d was. definition_has e is d) new (during t.entries goes.manifest fits)
-
-  pub define_leaves : (first : Option First) → j.first ≡ first → (r : Result (Unit {0}) JournalFault) → Ends first k.first before now r
-      → IfErr r (λ f. WritesNothing f → During Same old new) → During (λ _ c. either c) old new
-  define_leaves None none r ends untouched = leaves_going none
-  define_leaves (Some x) kept r ends untouched =
-      let still : During Same old new = subst (λ (q : Result (Unit {0}) JournalFault). IfErr q (λ f. WritesNothing f → During Same old new)) ends.0 untouched tt in
-      reworded Same (λ _ c. either c) old new still (λ d c was same. inl (holds_same t d c (lasts.holds d was) same))
+  pub define_leaves : (r : Result (Unit {0}) JournalFault) → Ends j.first k.first before now r
+      → IfErr r (λ f. WritesNothing f → During Same old new) → During (λ _ c. Holds t c ⊎ Holds (failed_at e t) c) old new
+  define_leaves r ends untouched = leaves_either j k old new t e lasts (definition_appended e is) ready before now during j.first refl r ends untouched
 
   pub define_lasts : (r : Result (Unit {0}) JournalFault) → Ends j.first k.first before now r
       → IfErr r (λ f. WritesNothing f → During Same old new) → IfErr r (λ _. manifest_place k.manifest ≡ manifest_place j.manifest)
@@ -94,22 +131,5 @@ module _ (j k : Journal) (old new : Disk) (t : Told) (e : Entry) (lasts : Lasts 
   define_lasts (Ok x) ends untouched stays done others log spare last =
       let goes = lasts.goes (none_where_ok j.first k.first before now x ends) in
       lasting k new (appended e t) (definition_goes j k old new t e goes fits others (done t.entries goes.manifest fits) is log spare last)
-  define_lasts (Err Failed) ends untouched stays done others log spare last = by_first j.first refl ends
-    where
-      by_first : (first : Option First) → j.first ≡ first → Ends {T = Unit {0}} first k.first before now (Err Failed) → Lasts k new (failed_at e t)
-      by_first None none failed =
-          lasting_stopped k new (failed_at e t)
-          (append_fails j old t e (lasts.goes none) (definition_appended e is) fits (λ d was. definition_has e is d) new (leaves_going none))
-          (λ unkept. absurd (kept_some (record { number = now }) failed.1 unkept))
-        where
-          kept_some : (f : First) → k.first ≡ Some f → k.first ≡ None → ⊥
-          kept_some f some none = cc
-      by_first (Some x) kept failed = cc
-  define_lasts (Err Mem) ends untouched stays done others log spare last =
-      same_lasts j k old new t (untouched tt) stays log spare (omega (arith, last)) (none_before j.first k.first before now _ ends) lasts
-  define_lasts (Err (TooMany what most)) ends untouched stays done others log spare last =
-      same_lasts j k old new t (untouched tt) stays log spare (omega (arith, last)) (none_before j.first k.first before now _ ends) lasts
-  define_lasts (Err (TooLarge long most)) ends untouched stays done others log spare last =
-      same_lasts j k old new t (untouched tt) stays log spare (omega (arith, last)) (none_before j.first k.first before now _ ends) lasts
-  define_lasts (Err (Stopped x)) ends untouched stays done others log spare last =
-      same_lasts j k old new t (untouched tt) stays log spare (omega (arith, last)) (none_before j.first k.first before now _ ends) lasts
+  define_lasts (Err f) ends untouched stays done others log spare last =
+      fault_lasts j k old new t e lasts (definition_appended e is) ready before now during f ends untouched stays log spare last

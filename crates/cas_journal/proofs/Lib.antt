@@ -7,3 +7,4 @@ pub mod Moving
 pub mod Entries
 pub mod Defining
 pub mod Beginning
+pub mod Naming

@@ -169,4 +169,58 @@ impl Journal {
         }
         self.begin_spare(alloc, folder)
     }
+
+    // Makes memory for a record in the segment that is begun and not named.
+    fn reserve_spare<F: Folder>(
+        &mut self,
+        folder: &F,
+        mutation: &Mutation,
+    ) -> Result<(), JournalFault>
+        requires short { record_length mutation.now ≤ half self.old.size }
+        ensures memory { OnOk result (HasMemory self.new.spare mutation.now) }
+        ensures why { IfErr result (λ f. f ≡ JournalFault.Mem) }
+        ensures lasts { (t : Told) → Lasts self.old (F.disk folder.now) t → Lasts self.new (F.disk folder.now) t }
+        ensures begun { IsSome self.old.spare → IsSome self.new.spare }
+        ensures manifest { self.new.manifest ≡ self.old.manifest }
+        ensures log { self.new.log ≡ self.old.log }
+        ensures last { self.new.last_segment ≡ self.old.last_segment }
+        ensures size { self.new.size ≡ self.old.size }
+        ensures first { self.new.first ≡ self.old.first }
+    {
+        let Some(log) = &mut self.spare else {
+            return Ok(());
+        };
+        match log.reserve(mutation) {
+            Ok(()) => Ok(()),
+            Err(fault) => Err(JournalFault::from(fault)),
+        }
+    }
+
+    // Names the segment that was begun last, which is written from then on.
+    #[tactic(auto, unfolding(cas_codec::specs::Fields::u8, cas_codec::specs::Fields::u64))]
+    fn name_next<F: Folder>(&mut self, alloc: Global, folder: &mut F) -> Result<(), JournalFault>
+        requires begun { IsSome self.old.spare }
+        requires free { AreFree self.old (F.disk folder.old) }
+        requires going { self.old.first ≡ None }
+        ensures free { AreFree self.new (F.disk folder.new) }
+        ensures lasts { (t : Told) → Lasts self.old (F.disk folder.old) t → t.committed ≡ length t.taken
+            → MatchResult result (λ _. Lasts self.new (F.disk folder.new) (appended (NewSegment self.old.last_segment) t))
+            (λ f. Lasts self.new (F.disk folder.new) (told_after f (NewSegment self.old.last_segment) t)) }
+        ensures during { (t : Told) → Lasts self.old (F.disk folder.old) t
+            → Leaves (λ c. Holds t c ⊎ Holds (failed_at (NewSegment self.old.last_segment) t) c) (F.disk folder.old) (F.disk folder.new) }
+        ensures outcome { Ends self.old.first self.new.first (F.faults_of folder.old) (F.faults_of folder.new) result }
+        ensures limit { (what : _) (most : _) → result ≡ Err (JournalFault.TooMany what most) → next_limit self.new.spare self.new ≡ Some (JournalFault.TooMany what most) }
+        ensures count { F.faults_of folder.old ≤ F.faults_of folder.new }
+        ensures log { MatchResult result (λ _. self.new.log ≡ self.old.spare) (λ _. self.new.log ≡ self.old.log) }
+        ensures size { self.new.size ≡ self.old.size }
+    {
+        let number = self.last_segment;
+        match self.append(alloc, folder, &Entry::NewSegment { number }) {
+            Ok(()) => {
+                self.log = self.spare.take();
+                Ok(())
+            }
+            Err(fault) => Err(fault),
+        }
+    }
 }

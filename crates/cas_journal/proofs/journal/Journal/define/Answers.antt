@@ -1,5 +1,5 @@
 -- A definition, by the clauses of the append.
-use Rattle.std.proofs.Common.{◌<◌, ℕ, refl, subst, arith}
+use Rattle.std.proofs.Common.{◌<◌, ℕ, subst}
 use Rattle.cas_disk.specs.Disk.{MayBeAnything, Changed}
 use Rattle.cas_disk.specs.declared.name.Name.TheVariants.{Manifest as manifest_name}
 use Rattle.cas_journal.proofs.Moving.{still_free, manifest_changed}
@@ -23,4 +23,4 @@ pub returns-clause-during : goal.returns-clause-during
 returns-clause-during g c t lasts fits =
     let disk = g.F.Folder.disk in
     define_leaves c.args.self.now c.append.new.self (disk c.args.folder.now) (disk c.append.new.folder) t c.args.entry.now lasts c.requires.definition fits _ _
-    c.append.ensures.during c.args.self.now.first refl c.append.result c.append.ensures.outcome c.append.ensures.untouched
+    c.append.ensures.during c.append.result c.append.ensures.outcome c.append.ensures.untouched
