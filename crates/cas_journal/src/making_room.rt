@@ -7,7 +7,7 @@ ghost use Rattle.cas_atoms.specs.LogLength.{record_length};
 ghost use Rattle.cas_changes.specs.declared.entry.Entry.TheVariants.{NewSegment};
 ghost use Rattle.cas_log.specs.Logs.{half};
 ghost use Rattle.cas_manifest.specs.Manifests.{place_of};
-ghost use Rattle.cas_journal.specs.Stores.{Told, Holds, MadeRoom, committed_all, appended, failed_at};
+ghost use Rattle.cas_journal.specs.Stores.{Told, Holds, MadeRoom, HoldsWithRoom, appended, failed_at};
 ghost use Rattle.cas_journal.specs.Journals.{Lasts, AreFree, HasMemory, IsPrepared};
 ghost use Rattle.cas_journal.specs.Ends.{Ends, IsOfFolder, IsToldAtOnce, Limits, next_limit, entry_limit, told_after, NeedsNext, Prepares, TellsLimit};
 ghost use Rattle.cas_journal.specs.Inner.Parts.{Asks, fits_in, FitsOrSettled, MayBegin};
@@ -222,5 +222,61 @@ impl Journal {
             }
             Err(fault) => Err(fault),
         }
+    }
+
+    // Begins the next segment, and names it once there is memory for a record in it.
+    fn next_segment<F: Folder>(
+        &mut self,
+        alloc: Global,
+        folder: &mut F,
+        mutation: &Mutation,
+    ) -> Result<(), JournalFault>
+        requires short { record_length mutation.now ≤ half self.old.size }
+        requires free { AreFree self.old (F.disk folder.old) }
+        requires going { self.old.first ≡ None }
+        ensures free { AreFree self.new (F.disk folder.new) }
+        ensures prepared { OnOk result (IsPrepared self.new mutation.now) }
+        ensures lasts { (t : Told) → Lasts self.old (F.disk folder.old) t → t.committed ≡ length t.taken
+            → (u : Told) × MadeRoom t u × Lasts self.new (F.disk folder.new) u }
+        ensures during { (t : Told) → Lasts self.old (F.disk folder.old) t → t.committed ≡ length t.taken
+            → Leaves (λ c. HoldsWithRoom t c) (F.disk folder.old) (F.disk folder.new) }
+        ensures outcome { Ends self.old.first self.new.first (F.faults_of folder.old) (F.faults_of folder.new) result }
+        ensures limit { (what : _) (most : _) → result ≡ Err (JournalFault.TooMany what most)
+            → (next_limit self.new.spare self.new ≡ Some (JournalFault.TooMany what most)) × (self.new.log ≡ self.old.log) }
+        ensures count { F.faults_of folder.old ≤ F.faults_of folder.new }
+        ensures size { self.new.size ≡ self.old.size }
+    {
+        self.begin_next(alloc, folder)?;
+        self.reserve_spare(folder, mutation)?;
+        self.name_next(alloc, folder)
+    }
+
+    /// Makes room for a mutation, so that it can be pushed: memory for its record, and place in the
+    /// segment that is written. What is pending is committed where it would get too long with the
+    /// record, and the next segment begun where the record doesn't fit behind that.
+    pub fn prepare<F: Folder>(
+        &mut self,
+        alloc: Global,
+        folder: &mut F,
+        mutation: &Mutation,
+    ) -> Result<(), JournalFault>
+        requires free { AreFree self.old (F.disk folder.old) }
+        ensures free { AreFree self.new (F.disk folder.new) }
+        ensures prepared { OnOk result (IsPrepared self.new mutation.now) }
+        ensures lasts { (t : Told) → Lasts self.old (F.disk folder.old) t → (u : Told) × MadeRoom t u × Lasts self.new (F.disk folder.new) u }
+        ensures during { (t : Told) → Lasts self.old (F.disk folder.old) t → Leaves (λ c. HoldsWithRoom t c) (F.disk folder.old) (F.disk folder.new) }
+        ensures outcome { Prepares (record_length mutation.now) (half self.old.size) self.old.first self.new.first (F.faults_of folder.old) (F.faults_of folder.new) result }
+        ensures limit { TellsLimit self.new mutation.now result }
+        ensures untouched { IfErr result (λ f. IsToldAtOnce f → During Same (F.disk folder.old) (F.disk folder.new)) }
+        ensures count { F.faults_of folder.old ≤ F.faults_of folder.new }
+        ensures size { self.new.size ≡ self.old.size }
+    {
+        self.ask(mutation)?;
+        self.reserve(folder, mutation)?;
+        self.settle(folder, mutation)?;
+        if self.has_room(mutation) {
+            return Ok(());
+        }
+        self.next_segment(alloc, folder, mutation)
     }
 }
