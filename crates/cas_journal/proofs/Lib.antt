@@ -8,3 +8,4 @@ pub mod Entries
 pub mod Defining
 pub mod Beginning
 pub mod Naming
+pub mod Rooms
