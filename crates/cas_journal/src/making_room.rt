@@ -138,7 +138,8 @@ impl Journal {
         ensures during { (t : Told) → Lasts self.old (F.disk folder.old) t → Leaves (λ c. Holds t c) (F.disk folder.old) (F.disk folder.new) }
         ensures begun { OnOk result (IsSome self.new.spare) }
         ensures outcome { Ends self.old.first self.new.first (F.faults_of folder.old) (F.faults_of folder.new) result }
-        ensures limit { (what : _) (most : _) → result ≡ Err (JournalFault.TooMany what most) → next_limit self.new.spare self.new ≡ Some (JournalFault.TooMany what most) }
+        ensures limit { (what : _) (most : _) → result ≡ Err (JournalFault.TooMany what most)
+            → next_limit self.new.spare self.new ≡ Some (JournalFault.TooMany what most) }
         ensures count { F.faults_of folder.old ≤ F.faults_of folder.new }
         ensures manifest { self.new.manifest ≡ self.old.manifest }
         ensures log { self.new.log ≡ self.old.log }
@@ -195,7 +196,8 @@ impl Journal {
         ensures during { (t : Told) → Lasts self.old (F.disk folder.old) t
             → Leaves (λ c. Holds t c ⊎ Holds (failed_at (NewSegment self.old.last_segment) t) c) (F.disk folder.old) (F.disk folder.new) }
         ensures outcome { Ends self.old.first self.new.first (F.faults_of folder.old) (F.faults_of folder.new) result }
-        ensures limit { (what : _) (most : _) → result ≡ Err (JournalFault.TooMany what most) → next_limit self.new.spare self.new ≡ Some (JournalFault.TooMany what most) }
+        ensures limit { (what : _) (most : _) → result ≡ Err (JournalFault.TooMany what most)
+            → next_limit self.new.spare self.new ≡ Some (JournalFault.TooMany what most) }
         ensures count { F.faults_of folder.old ≤ F.faults_of folder.new }
         ensures log { MatchResult result (λ _. self.new.log ≡ self.old.spare) (λ _. self.new.log ≡ self.old.log) }
         ensures size { self.new.size ≡ self.old.size }
@@ -251,7 +253,8 @@ impl Journal {
         ensures prepared { OnOk result (IsPrepared self.new mutation.now) }
         ensures lasts { (t : Told) → Lasts self.old (F.disk folder.old) t → (u : Told) × MadeRoom t u × Lasts self.new (F.disk folder.new) u }
         ensures during { (t : Told) → Lasts self.old (F.disk folder.old) t → Leaves (λ c. HoldsWithRoom t c) (F.disk folder.old) (F.disk folder.new) }
-        ensures outcome { Prepares (record_length mutation.now) (half self.old.size) self.old.first self.new.first (F.faults_of folder.old) (F.faults_of folder.new) result }
+        ensures outcome { Prepares (record_length mutation.now) (half self.old.size) self.old.first self.new.first
+            (F.faults_of folder.old) (F.faults_of folder.new) result }
         ensures limit { TellsLimit self.new mutation.now result }
         ensures untouched { IfErr result (λ f. IsToldAtOnce f → During Same (F.disk folder.old) (F.disk folder.new)) }
         ensures count { F.faults_of folder.old ≤ F.faults_of folder.new }
