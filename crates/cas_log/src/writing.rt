@@ -2,7 +2,7 @@
 
 ghost use Rattle.std.specs.Prelude.{◌≡◌, ◌≢◌, ◌+◌, ◌≤◌, ◌<◌, ◌^◌, List, [], ◌∷◌, ◌++◌};
 ghost use Rattle.std.specs.Prelude.{OnOk, vec_len, None, Err, MatchResult, IfOk, nat_le};
-ghost use Rattle.cas_disk.specs.Disk.{Image, During, Changed, MayBeAnything};
+ghost use Rattle.cas_disk.specs.Disk.{Image, During, Changed, MayBeAnything, Same};
 ghost use Rattle.cas_atoms.specs.declared.atom.Mutation.{Mutation as MutationOf};
 ghost use Rattle.cas_atoms.specs.LogLength.{record_length};
 ghost use Rattle.cas_log.specs.Segment.{IsSize};
@@ -45,6 +45,8 @@ impl Log {
         ensures place { IfOk result (λ log. ((place_of log).number ≡ number) × ((place_of log).size ≡ size)) }
         ensures stands { IfOk result (λ log. Stands (place_of log) (F.disk folder.new) []) }
         ensures pushed { IfOk result (λ log. HasPushed log []) }
+        // The header has 24 bytes; a block without records has 9.
+        ensures short { IfOk result (λ log. ((place_of log).end ≡ 24) × (block_length log ≡ 10)) }
         ensures during { During (Changed (Name.Log number) MayBeAnything) (F.disk folder.old) (F.disk folder.new) }
         ensures outcome { Ends first.old first.new (F.faults_of folder.old) (F.faults_of folder.new) result }
         ensures count { F.faults_of folder.old ≤ F.faults_of folder.new }
@@ -89,6 +91,13 @@ impl Log {
         Ok(())
     }
 
+    /// How many bytes the records of what is pushed have.
+    pub fn pending(&self) -> u64
+        ensures { result + 10 ≡ block_length self.now }
+    {
+        self.block.len() as u64 - 9
+    }
+
     /// Whether a mutation's record fits behind those that are pushed.
     pub fn has_room(&self, mutation: &Mutation) -> bool
         requires { record_length mutation.now < 2 ^ 32 }
@@ -130,6 +139,7 @@ impl Log {
         ensures number { (place_of self.new).number ≡ (place_of self.old).number }
         ensures size { (place_of self.new).size ≡ (place_of self.old).size }
         ensures outcome { Ends first.old first.new (F.faults_of folder.old) (F.faults_of folder.new) result }
+        ensures idle { HasPushed self.old [] → During Same (F.disk folder.old) (F.disk folder.new) }
         ensures reserved { (m : MutationOf) → IsReserved self.old m → IsReserved self.new m }
         ensures no_memory { result ≢ Err LogFault.Mem }
         ensures count { F.faults_of folder.old ≤ F.faults_of folder.new }

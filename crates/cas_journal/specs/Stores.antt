@@ -1,0 +1,77 @@
+-- The store that a folder's files are, and what every image of it has. Storage engine: commit log; own.
+use Rattle.std.specs.Prelude.{◌≡◌, ◌≢◌, ◌⊎◌, ℕ, ◌≤◌, List, [], ◌∷◌, ◌++◌, length, map, take, Some}
+use Rattle.cas_disk.specs.declared.name.Name.TheVariants.{Manifest as manifest_name}
+use Rattle.cas_disk.specs.Disk.{Image}
+use Rattle.cas_atoms.specs.declared.atom.Mutation.{Mutation}
+use Rattle.cas_changes.specs.declared.entry.Entry.{Entry}
+use Rattle.cas_changes.specs.declared.entry.Entry.TheVariants.{NewSegment}
+use Rattle.cas_changes.specs.Saying.{said_by}
+use Rattle.cas_manifest.specs.File.{IsManifest}
+use Rattle.cas_replay.specs.Reading.{segment_in}
+use Rattle.cas_replay.specs.Grammar.{IsLog}
+
+-- The image is a store with these entries in its manifest, of which the first makes it, and with these mutations in the segments that it lists, in
+-- the order of the log.
+pub record IsStore (entries : List Entry) (mutations : List Mutation) (c : Image) : Type 0 where
+  pub file : List ℕ
+  pub there : c manifest_name ≡ Some file
+  pub manifest : IsManifest entries file
+  pub made : entries ≢ []
+  pub log : IsLog (said_by entries).tables (said_by entries).shards (segment_in c) (said_by entries).segments mutations
+
+-- What a journal was told: the entries that the manifest has; one that failed, which may be there or not; the mutations that it took, behind those
+-- that it was opened with; and how many of them are committed.
+pub record Told : Type 0 where
+  pub entries : List Entry
+  pub failed : List Entry
+  pub taken : List Mutation
+  pub committed : ℕ
+
+-- entries that an image may have: those that the manifest has, or that one more
+abbrev pub MayList : Told → List Entry → Type 0
+MayList t entries = (entries ≡ t.entries) ⊎ (entries ≡ t.entries ++ t.failed)
+
+-- The image is the store, with what was told: every entry, and a front of the mutations, with each that is committed, whole.
+pub record Holds (t : Told) (c : Image) : Type 0 where
+  pub entries : List Entry
+  pub listed : MayList t entries
+  pub count : ℕ
+  pub least : t.committed ≤ count
+  pub most : count ≤ length t.taken
+  pub store : IsStore entries (take count t.taken) c
+
+-- so many segments more are listed
+abbrev pub named : List ℕ → List Entry
+named numbers = map NewSegment numbers
+
+-- what failed is what failed before, or the name of a segment
+abbrev pub FailedToName : List Entry → List Entry → Type 0
+FailedToName before now = (now ≡ before) ⊎ ((number : ℕ) × (now ≡ NewSegment number ∷ []))
+
+-- From one to the other the journal made room: segments were begun and named, and mutations committed, no others taken and nothing defined.
+pub record MadeRoom (t u : Told) : Type 0 where
+  pub numbers : List ℕ
+  pub entries : u.entries ≡ t.entries ++ named numbers
+  pub failed : FailedToName t.failed u.failed
+  pub taken : u.taken ≡ t.taken
+  pub committed : t.committed ≤ u.committed
+
+-- the image holds what was told, or that with room made
+abbrev pub HoldsWithRoom : Told → Image → Type 0
+HoldsWithRoom t c = (u : Told) × MadeRoom t u × Holds u c
+
+-- the same, with one mutation more at its end
+abbrev pub took : Mutation → Told → Told
+took m t = record t { taken = t.taken ++ m ∷ [] }
+
+-- the same, all of it committed
+abbrev pub committed_all : Told → Told
+committed_all t = record t { committed = length t.taken }
+
+-- the same, with one entry more
+abbrev pub appended : Entry → Told → Told
+appended e t = record t { entries = t.entries ++ e ∷ [] }
+
+-- the same, with an entry that may be there or not
+abbrev pub failed_at : Entry → Told → Told
+failed_at e t = record t { failed = e ∷ [] }
