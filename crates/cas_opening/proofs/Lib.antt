@@ -1,0 +1,5 @@
+pub mod Saids
+pub mod Counts
+pub mod Sweeps
+pub mod Keeps
+pub mod Readings
