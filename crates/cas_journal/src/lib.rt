@@ -4,6 +4,7 @@
 
 mod fault;
 mod journal;
+mod writing;
 
-pub use fault::JournalFault;
+pub use fault::{Counted, JournalFault};
 pub use journal::Journal;
