@@ -25,7 +25,7 @@ use Rattle.cas_opening.specs.Inner.Sweeping.{Spares}
 
 -- ---- listed numbers
 
-all_listed_from : (P : ℕ → Type 0) (ns : List ℕ) → ((n : ℕ) → is_listed ns n ≡ true → P n) → AllByRecursion P ns
+pub all_listed_from : (P : ℕ → Type 0) (ns : List ℕ) → ((n : ℕ) → is_listed ns n ≡ true → P n) → AllByRecursion P ns
 all_listed_from P [] each = tt
 all_listed_from P (n ∷ ns) each = (
   each n (here n),
@@ -104,6 +104,7 @@ module _ (place : Place) (entries : List Entry) (mutations : List Mutation) wher
             (keeps.segments made.0 made.1))
             (left_after (Spares s) a z call c left);
         all = keeps.all;
+        fit = keeps.fit;
         ordered = keeps.ordered;
       }
 

@@ -3,3 +3,5 @@ pub mod Counts
 pub mod Sweeps
 pub mod Keeps
 pub mod Readings
+pub mod Names
+pub mod Opens

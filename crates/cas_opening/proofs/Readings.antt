@@ -198,6 +198,7 @@ module _ (shards : ℕ) (place : Place) (s : Saying) (entries : List Entry) (c :
                   (λ n lasts. let (e, before, stays) = same lasts.0 lasts.1 in ap bytes_of (lasts.2 ∙ stays (log_name n) ∙ l.one e d before now (log_name n) ∙ alike (log_name n)))
                   s.segments (last x left))) store.log.segments;
               all = store.log.all;
+              fit = fit;
               ordered = store.log.ordered;
             };
             above = sym filtered ∙ subst (λ (u : Saying). filter (is_above_in u.shards (frontiers_below u (length u.tables))) all ≡ filter (is_above t) all) (sym says) (filter_same t all fit);
@@ -218,6 +219,7 @@ module _ (shards : ℕ) (place : Place) (s : Saying) (entries : List Entry) (c :
               parts = [];
               segments = λ x left. subst (λ (ns : List ℕ). AreSegments (said_by entries).tables (said_by entries).shards (segment_in x) ns []) (sym none.0 ∙ ap (λ (u : Saying). u.segments) says) tt;
               all = refl;
+              fit = tt;
               ordered = λ shard. tt;
             };
             above = sym filtered ∙ ap (filter (is_above_in s.shards (frontiers_below s (length s.tables)))) empty;

@@ -4,10 +4,13 @@
 
 mod collecting;
 mod fault;
+mod naming;
 mod opened;
+mod opening;
 mod reading;
 mod stored;
 mod sweeping;
 
 pub use fault::OpenFault;
 pub use opened::Opened;
+pub use opening::open;

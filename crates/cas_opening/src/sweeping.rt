@@ -1,10 +1,11 @@
 //! Removes the files that the manifest doesn't list.
 
-ghost use Rattle.std.specs.Prelude.{◌≡◌, true, false, None, OnOk, IsErr, IsErrOf};
+ghost use Rattle.std.specs.Prelude.{◌≡◌, true, false, None, OnOk, IfErr, IsErr, IsErrOf};
 ghost use Rattle.cas_disk.specs.declared.name.Name.{Name as NameOf};
 ghost use Rattle.cas_disk.specs.Counts.{Counted};
 ghost use Rattle.cas_disk.specs.Disk.{Image, During, IsListing};
 ghost use Rattle.cas_changes.specs.Saying.{IsSaid, is_listed};
+ghost use Rattle.cas_opening.specs.Inner.Faults.{IsOfFolder};
 ghost use Rattle.cas_opening.specs.Inner.Sweeping.{stays_of, Sweeps, Spares, HasOnlyListed};
 
 use crate::collecting::listed_tables;
@@ -62,6 +63,7 @@ pub(crate) fn sweep<F: Folder>(
     requires { IsSaid said.now }
     ensures during { During (Spares said.now) (F.disk folder.old) (F.disk folder.new) }
     ensures gone { OnOk result (HasOnlyListed said.now.segments (F.disk folder.new)) }
+    ensures why { IfErr result (λ f. IsOfFolder f) }
     ensures count { Counted (F.faults_of folder.old) (F.faults_of folder.new) (IsErrOf result OpenFault.Failed) }
 {
     let tables = match listed_tables(alloc, said) {

@@ -27,3 +27,9 @@ of_replay replay_fault.Mem = Mem
 abbrev pub of_folder : FolderFault → OpenFault
 of_folder folder_fault.Failed = Failed
 of_folder folder_fault.Mem = Mem
+
+-- the folder failed, or memory ran out
+abbrev pub IsOfFolder : OpenFault → Type 0
+IsOfFolder Failed = Unit {0}
+IsOfFolder Mem = Unit {0}
+IsOfFolder (Bad name at) = ⊥

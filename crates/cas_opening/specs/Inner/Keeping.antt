@@ -1,11 +1,12 @@
 -- What every image has of a store that was read. Own.
 use Rattle.std.specs.Prelude.{◌≡◌, ◌≢◌, ℕ, ◌+◌, ◌≤◌, List, []}
-use Rattle.cas_disk.specs.declared.name.Name.TheVariants.{Log as log_name}
+use Rattle.std.specs.List.{AllByRecursion}
 use Rattle.cas_disk.specs.Disk.{Image, Disk}
 use Rattle.cas_atoms.specs.declared.atom.Mutation.{Mutation}
+use Rattle.cas_mutations.specs.Allowed.{FitsRecord}
 use Rattle.cas_changes.specs.declared.entry.Entry.{Entry}
 use Rattle.cas_changes.specs.declared.said.TheConstants.{FILE_LIMIT}
-use Rattle.cas_changes.specs.Saying.{Saying, said_by, is_listed}
+use Rattle.cas_changes.specs.Saying.{said_by}
 use Rattle.cas_manifest.specs.Manifests.{Place, Stands}
 use Rattle.cas_replay.specs.Reading.{segment_in}
 use Rattle.cas_replay.specs.Grammar.{AreSegments, AreInOrder}
@@ -19,4 +20,5 @@ pub record Keeps (place : Place) (entries : List Entry) (mutations : List Mutati
   pub parts : List (List Mutation)
   pub segments : (c : Image) → disk.may_leave c → AreSegments (said_by entries).tables (said_by entries).shards (segment_in c) (said_by entries).segments parts
   pub all : joined parts ≡ mutations
+  pub fit : AllByRecursion (FitsRecord (said_by entries).tables (said_by entries).shards) mutations
   pub ordered : AreInOrder mutations
