@@ -1,21 +1,24 @@
 -- A store that is read, swept and begun, and what its opening leaves.
-use Rattle.std.proofs.Common.{◌≡◌, ◌≢◌, ◌⊎◌, inl, inr, ⊎_elim, ℕ, List, [], ◌∷◌, filter, Option, Result, Ok, Err, IfOk, refl, sym, ◌∙◌, ap, subst}
+use Rattle.std.proofs.Common.{◌≡◌, ◌≢◌, ◌⊎◌, inl, inr, ⊎_elim, ℕ, List, [], ◌∷◌, filter, Option, Result, Ok, Err, IfOk, IfErr, Vec, refl, sym, ◌∙◌, ap, subst}
+use Rattle.std.specs.declared.alloc.Global.{Global}
 use Rattle.cas_disk.specs.declared.name.Name.{Name}
 use Rattle.cas_disk.specs.declared.name.Name.TheVariants.{Manifest as manifest_name}
 use Rattle.cas_disk.specs.Disk.{Image, Disk, During, Changed, Same}
 use Rattle.cas_disk.proofs.Moments.{reworded, one_call_more}
 use Rattle.cas_atoms.specs.declared.atom.Mutation.{Mutation}
 use Rattle.cas_changes.specs.declared.entry.Entry.{Entry}
-use Rattle.cas_changes.specs.Saying.{said_by}
+use Rattle.cas_changes.specs.Saying.{Saying, said_by}
 use Rattle.cas_manifest.specs.Manifests.{Place}
 use Rattle.cas_manifest.specs.Loading.{IsNew, MayBeNewStore, first_entries}
 use Rattle.cas_journal.specs.Stores.{IsStore}
+use Rattle.cas_journal.specs.declared.journal.Journal.{Journal}
 use Rattle.cas_opening.specs.declared.opened.Opened.{Opened}
 use Rattle.cas_opening.specs.declared.fault.OpenFault.{OpenFault}
 use Rattle.cas_opening.specs.declared.fault.OpenFault.TheVariants.{Bad, Failed, Mem}
 use Rattle.cas_opening.specs.Opening.{IsOfBytes, OpensAs, Answers, Ends, IsOpened, HasStayed, MayBeOpened, MayBeMadeNew, is_above}
 use Rattle.cas_opening.specs.Inner.Faults.{IsOfFolder}
 use Rattle.cas_opening.specs.Inner.Keeping.{Keeps}
+use Rattle.cas_opening.specs.Inner.Naming.{IsBegunWith}
 use Rattle.cas_opening.specs.Inner.Reading.{IsRead}
 use Rattle.cas_opening.specs.Inner.Sweeping.{Spares}
 use Rattle.cas_opening.proofs.Keeps.{keeps_store}
@@ -83,15 +86,26 @@ answers_still T U shards c (Bad name at) answers = answers
 
 -- ---- a store that was read
 
-module _ (shards : ℕ) (place : Place) (read : List Entry) (given : List Mutation) (c : Image) (bytes : IsOfBytes c) (l z : Disk) (is : IsRead shards place read given c l)
-    (entries : List Entry) (ms : List Mutation) (opens : OpensAs shards entries ms c) where
-  -- it is this one
-  pub read_is : (P : List Entry → List Mutation → Type 0) → P read is.mutations → P entries ms
-  read_is P holds =
-      let same = one_store c bytes shards read entries is.mutations ms is.opens opens in
-      subst (λ (l : List Mutation). P entries l) same.1 (subst (λ (es : List Entry). P es is.mutations) same.0 holds)
+-- with the journal that was begun
+pub opened_with : (entries : List Entry) (ms : List Mutation) (j : Journal) (s : Saying) (given : Vec Mutation Global) (disk : Disk) → IsBegunWith entries ms j s disk
+    → given.items ≡ filter (is_above (said_by entries)) ms → IsOpened entries ms (record { journal = j; said = s; mutations = given }) disk
+opened_with entries ms j s given disk begun above = record { numbers = begun.numbers; begins = begun.begins; lasts = begun.lasts; said = begun.said; above = above }
 
-pub opened_ends : (entries : List Entry) (ms : List Mutation) (disk : Disk) (r : Result Opened OpenFault) → IfOk r (λ o. IsOpened entries ms o disk)
-    → ((f : OpenFault) → r ≡ Err f → IsOfFolder f) → Ends entries ms disk r
-opened_ends entries ms disk (Ok o) is why = is
-opened_ends entries ms disk (Err f) is why = folder_ends entries ms disk f (why f refl)
+-- it is the store that is there
+pub it_is : (shards : ℕ) (place : Place) (entries others : List Entry) (given ms : List Mutation) (c : Image) → IsOfBytes c → (disk : Disk) → IsRead shards place entries given c disk
+    → OpensAs shards others ms c → (P : List Entry → List Mutation → Type 0)
+    → ((ns : List Mutation) → Keeps place entries ns disk → given ≡ filter (is_above (said_by entries)) ns → P entries ns) → P others ms
+it_is shards place entries others given ms c bytes disk is opens P says =
+    let same = one_store c bytes shards entries others is.mutations ms is.opens opens in
+    subst (λ (l : List Mutation). P others l) same.1 (subst (λ (es : List Entry). P es is.mutations) same.0 (says is.mutations is.keeps is.above))
+
+-- how its opening ends
+pub opened_ends : (entries : List Entry) (ms : List Mutation) (disk : Disk) (r : Result Opened OpenFault) → IfErr r (λ f. IsOfFolder f) → IfOk r (λ o. IsOpened entries ms o disk) → Ends entries ms disk r
+opened_ends entries ms disk (Ok o) why is = is
+opened_ends entries ms disk (Err f) why is = folder_ends entries ms disk f why
+
+-- where there is no store and none may be made, none was read
+pub no_store : (shards : ℕ) (entries : List Entry) (ms : List Mutation) (c : Image) → OpensAs shards entries ms c → (IsNew c → ⊥)
+    → ((es : List Entry) (ns : List Mutation) → IsStore es ns c → ⊥) → ⊥
+no_store shards entries ms c (inl store) old none = none entries ms store
+no_store shards entries ms c (inr new) old none = old new.0
