@@ -56,7 +56,7 @@ holds_failed t e c none holds = record {
 }
 
 -- the segment that is written stays where no log file changes
-writes_still : (step : Image → Image → Type 0) (old new : Disk) → During step old new → ((d c : Image) → step d c → (n : ℕ) → c (log_name n) ≡ d (log_name n))
+pub writes_still : (step : Image → Image → Type 0) (old new : Disk) → During step old new → ((d c : Image) → step d c → (n : ℕ) → c (log_name n) ≡ d (log_name n))
     → (o : Option Log) (listed before : List ℕ) (written pushed : List Mutation) → Writes o listed before written pushed old → Writes o listed before written pushed new
 writes_still step old new call same None listed before written pushed writes = writes
 writes_still step old new call same (Some log) listed before written pushed writes =

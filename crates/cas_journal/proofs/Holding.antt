@@ -77,6 +77,11 @@ store_apart entries ms d c n store other others same = record {
       (others_agree c d n (said_by entries).segments same others) store.log;
 }
 
+-- of the same files
+pub same_files : (c d : Image) → ((k : Name) → c k ≡ d k) → (ns : List ℕ) → AllByRecursion (λ k. segment_in c k ≡ segment_in d k) ns
+same_files c d same [] = tt
+same_files c d same (n ∷ ns) = (ap bytes_of (same (log_name n)), same_files c d same ns)
+
 -- the same store in an image with the same files
 pub store_same : (entries : List Entry) (ms : List Mutation) (d c : Image) → IsStore entries ms d → ((k : Name) → c k ≡ d k) → IsStore entries ms c
 store_same entries ms d c store same = record {
@@ -85,19 +90,15 @@ store_same entries ms d c store same = record {
   manifest = store.manifest;
   made = store.made;
   log = log_agrees (said_by entries).tables (said_by entries).shards (segment_in d) (segment_in c) (said_by entries).segments ms
-      (all_same (said_by entries).segments) store.log;
+      (same_files c d same (said_by entries).segments) store.log;
 }
-  where
-    all_same : (ns : List ℕ) → AllByRecursion (λ k. segment_in c k ≡ segment_in d k) ns
-    all_same [] = tt
-    all_same (n ∷ ns) = (ap bytes_of (same (log_name n)), all_same ns)
 
--- the log of what is said after an entry, in an image of the log before it
 -- where an entry names a segment, the image has that, without mutations
 abbrev pub HasItsSegment : Entry → Image → Type 0
 HasItsSegment (entry.NewSegment n) c = IsSegment n [] (segment_in c n)
 HasItsSegment _ c = Unit {0}
 
+-- the log of what is said after an entry, in an image of the log before it
 log_after : (s : Saying) (e : Entry) (ms : List Mutation) (c : Image) → IsAppended e → FitsEntry s e → HasItsSegment e c
     → IsLog s.tables s.shards (segment_in c) s.segments ms → IsLog (after s e).tables (after s e).shards (segment_in c) (after s e).segments ms
 log_after s (entry.Schema t) ms c is fits has log =

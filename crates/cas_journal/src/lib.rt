@@ -4,6 +4,7 @@
 
 mod fault;
 mod journal;
+mod making_room;
 mod writing;
 
 pub use fault::{Counted, JournalFault};

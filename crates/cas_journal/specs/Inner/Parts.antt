@@ -48,3 +48,9 @@ fits_in (Some log) m = nat_le ((place_of log).end + block_length log + record_le
 -- the record fits, or all that was taken is committed
 abbrev pub FitsOrSettled : Journal → Mutation → Disk → Told → Type 0
 FitsOrSettled j m disk t = ((fits_in j.log m ≡ true) × Lasts j disk t) ⊎ Lasts j disk (committed_all t)
+
+-- a fault with which the beginning of a segment may end
+abbrev pub MayBegin : JournalFault → Type 0
+MayBegin Failed = Unit {0}
+MayBegin Mem = Unit {0}
+MayBegin _ = ⊥
