@@ -34,7 +34,8 @@ use Rattle.cas_opening.specs.Opening.{Stays, HasStayed, next_segment, while_name
 use Rattle.cas_opening.specs.Inner.Keeping.{Keeps}
 use Rattle.cas_opening.specs.Inner.Naming.{HasBegun, IsNamed, IsBegunWith}
 use Rattle.cas_opening.specs.Inner.Sweeping.{Spares, HasOnlyListed}
-use Rattle.cas_opening.proofs.Saids.{sound, made, above_listed}
+use Rattle.cas_journal.proofs.Sayings.{is_made as made}
+use Rattle.cas_opening.proofs.Saids.{sound, above_listed}
 use Rattle.cas_opening.proofs.Keeps.{all_listed_from, keeps_store, spares_keeps, same_spares}
 
 pub short_name : (n : ℕ) → length (u8 3 ++ u64 n) < 2 ^ 32

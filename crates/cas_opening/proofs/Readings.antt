@@ -34,7 +34,8 @@ use Rattle.cas_opening.specs.Opening.{IsOfBytes, OpensAs, IsBadLog, IsRefused, A
 use Rattle.cas_opening.specs.Inner.Counting.{frontiers_below}
 use Rattle.cas_opening.specs.Inner.Keeping.{Keeps}
 use Rattle.cas_opening.specs.Inner.Reading.{log_in, above, ReplaysSaid, IsRead}
-use Rattle.cas_opening.proofs.Saids.{IsSound, sound, made, are_tables, shard_count, short_numbers}
+use Rattle.cas_journal.proofs.Sayings.{is_made as made}
+use Rattle.cas_opening.proofs.Saids.{sound, are_tables, shard_count, short_numbers}
 use Rattle.cas_opening.proofs.Counts.{filter_same}
 use Rattle.cas_opening.proofs.Keeps.{all_fit, stands_on}
 

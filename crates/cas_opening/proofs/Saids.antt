@@ -19,16 +19,9 @@ use Rattle.cas_changes.specs.Allowed.{FitsEntry, IsMade}
 use Rattle.cas_mutations.specs.Allowed.{AreTables}
 use Rattle.cas_manifest.specs.File.{MayFollow}
 use Rattle.cas_manifest.proofs.ManifestLaws.{is_said_after, none_said}
+use Rattle.cas_journal.proofs.Lists.{all_more, all_mapped}
 
 -- ---- lists
-
-all_push : {A : Type 0} (P : A → Type 0) (xs : List A) (x : A) → AllByRecursion P xs → P x → AllByRecursion P (xs ++ x ∷ [])
-all_push P [] x all is = (is, tt)
-all_push P (y ∷ xs) x all is = (all.0, all_push P xs x all.1 is)
-
-all_weaker : {A : Type 0} (P Q : A → Type 0) → ((x : A) → P x → Q x) → (xs : List A) → AllByRecursion P xs → AllByRecursion Q xs
-all_weaker P Q so [] all = tt
-all_weaker P Q so (x ∷ xs) all = (so x all.0, all_weaker P Q so xs all.1)
 
 all_filter : {A : Type 0} (P : A → Type 0) (p : A → Bool) (xs : List A) → AllByRecursion P xs → AllByRecursion P (filter p xs)
 all_filter P p [] all = tt
@@ -86,8 +79,8 @@ sound_after s (entry.Schema t) is fit = record {
 sound_after s (entry.NewSegment n) is fit = record {
   said = is_said_after s (entry.NewSegment n) is.said fit;
   tables = is.tables;
-  segments = all_push (λ m. m ≤ n) s.segments n
-      (all_weaker (λ m. m ≤ s.last_segment) (λ m. m ≤ n) (λ m low. omega (arith, low, fit.1)) s.segments is.segments) (omega arith);
+  segments = all_more (λ m. m ≤ n) s.segments n
+      (all_mapped (λ m. m ≤ s.last_segment) (λ m. m ≤ n) (λ m low. omega (arith, low, fit.1)) s.segments is.segments) (omega arith);
   last = fit.2;
 }
 sound_after s (entry.DropSegment n) is fit = record {
@@ -125,24 +118,6 @@ pub sound : (entries : List Entry) → MayFollow nothing entries → IsSound (sa
 unfolding said_by
 sound entries follow = sound_fold nothing entries none_sound follow
 
--- once an entry is there, the number of shards was said
-made_after : (s : Saying) (e : Entry) → FitsEntry s e → IsMade (after s e)
-made_after s (entry.Store shards) fit = fit.1.0
-made_after s (entry.Schema t) fit = fit.0
-made_after s (entry.NewSegment n) fit = fit.0
-made_after s (entry.DropSegment n) fit = fit.0
-made_after s (entry.Change c) fit = fit.0
-made_after s (entry.AddColumns table columns) fit = fit.0
-
-made_fold : (s : Saying) (entries : List Entry) → IsMade s → MayFollow s entries → IsMade (fold after s entries)
-made_fold s [] made follow = made
-made_fold s (e ∷ entries) made follow = made_fold (after s e) entries (made_after s e follow.0.0) follow.1
-
-pub made : (entries : List Entry) → entries ≢ [] → MayFollow nothing entries → IsMade (said_by entries)
-unfolding said_by
-made [] some follow = absurd (some refl)
-made (e ∷ entries) some follow = made_fold (after nothing e) entries (made_after nothing e follow.0.0) follow.1
-
 -- the limits that a log's grammar asks for
 pub are_tables : (s : Saying) → IsSound s → AreTables s.tables
 are_tables s is = record {
@@ -154,7 +129,7 @@ pub shard_count : (s : Saying) → IsSound s → IsMade s → IsShardCount s.sha
 shard_count s is made = (made, is.said.shards)
 
 pub short_numbers : (s : Saying) → IsSound s → AllByRecursion (λ n. n < 2 ^ 64) s.segments
-short_numbers s is = all_weaker (λ n. n ≤ s.last_segment) (λ n. n < 2 ^ 64) (λ n low. omega (arith, low, is.last)) s.segments is.segments
+short_numbers s is = all_mapped (λ n. n ≤ s.last_segment) (λ n. n < 2 ^ 64) (λ n low. omega (arith, low, is.last)) s.segments is.segments
 
 -- a number above the last one's isn't listed
 above_all : (last : ℕ) (numbers : List ℕ) (n : ℕ) → AllByRecursion (λ m. m ≤ last) numbers → last < n → is_listed numbers n ≡ false

@@ -1,6 +1,6 @@
 //! Begins the segment that is written, and names it.
 
-ghost use Rattle.std.specs.Prelude.{◌≡◌, ◌≤◌, List, ◌∷◌, [], IfOk, IfErr, IsErrOf};
+ghost use Rattle.std.specs.Prelude.{◌≡◌, ◌≤◌, List, ◌∷◌, [], None, IfOk, IfErr, IsErrOf};
 ghost use Rattle.cas_disk.specs.Counts.{Counted};
 ghost use Rattle.cas_disk.specs.Disk.{Image, During, Changed, MayBeAnything};
 ghost use Rattle.cas_atoms.specs.declared.atom.Mutation.{Mutation as MutationOf};
@@ -93,6 +93,7 @@ pub(crate) fn begin<F: Folder>(
     ensures begun { (entries : List EntryOf) (mutations : List MutationOf) → Keeps (place_of manifest) entries mutations (F.disk folder.old) → said ≡ said_by entries
         → IfOk result (λ r. IsBegunWith entries mutations r.0 r.1 (F.disk folder.new)) }
     ensures free { IfOk result (λ r. AreFree r.0 (F.disk folder.new)) }
+    ensures runs { IfOk result (λ r. (r.0.first ≡ None) × (r.0.size ≡ size)) }
     ensures during { (entries : List EntryOf) (mutations : List MutationOf) → Keeps (place_of manifest) entries mutations (F.disk folder.old) → said ≡ said_by entries
         → During (HasStayed entries mutations) (F.disk folder.old) (F.disk folder.new) }
     ensures why { IfErr result (λ f. IsOfFolder f) }

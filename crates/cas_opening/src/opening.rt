@@ -1,6 +1,6 @@
 //! Opens the store of a folder, or makes one.
 
-ghost use Rattle.std.specs.Prelude.{◌≡◌, List, filter, IfOk, IfErr, IsErrOf};
+ghost use Rattle.std.specs.Prelude.{◌≡◌, List, filter, None, IfOk, IfErr, IsErrOf};
 ghost use Rattle.cas_types.specs.Limits.{IsShardCount};
 ghost use Rattle.cas_disk.specs.Counts.{Counted};
 ghost use Rattle.cas_disk.specs.Disk.{Image, During, Same};
@@ -40,6 +40,7 @@ fn open_stored<F: Folder>(
         → stored.mutations.items ≡ filter (is_above (said_by stored.entries.items)) mutations
         → IfOk result (λ o. IsOpened stored.entries.items mutations o (F.disk folder.new)) }
     ensures free { IfOk result (λ o. AreFree o.journal (F.disk folder.new)) }
+    ensures runs { IfOk result (λ o. (o.journal.first ≡ None) × (o.journal.size ≡ size)) }
     ensures during { (mutations : List MutationOf) → Keeps (place_of stored.manifest) stored.entries.items mutations (F.disk folder.old)
         → During (HasStayed stored.entries.items mutations) (F.disk folder.old) (F.disk folder.new) }
     ensures why { IfErr result (λ f. IsOfFolder f) }
@@ -74,6 +75,7 @@ pub fn open<F: Folder>(
         → OpensAs shards entries mutations c → Ends entries mutations (F.disk folder.new) result }
     ensures answers { (c : Image) → (F.disk folder.old).reads c → IsOfBytes c → Answers shards c result }
     ensures free { IfOk result (λ o. AreFree o.journal (F.disk folder.new)) }
+    ensures runs { IfOk result (λ o. (o.journal.first ≡ None) × (o.journal.size ≡ size)) }
     // A crash at any moment leaves what was there before, or the store that was there.
     ensures stays { (c : Image) → (F.disk folder.old).reads c → IsOfBytes c → (entries : List EntryOf) (mutations : List MutationOf)
         → IsStore entries mutations c → During (MayBeOpened entries mutations) (F.disk folder.old) (F.disk folder.new) }
