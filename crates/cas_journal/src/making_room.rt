@@ -79,11 +79,7 @@ impl Journal {
 
     // Commits what is pending where the record doesn't fit behind it, or would make it longer than half
     // a segment.
-    fn settle<F: Folder>(
-        &mut self,
-        folder: &mut F,
-        mutation: &Mutation,
-    ) -> Result<(), JournalFault>
+    fn settle<F: Folder>(&mut self, folder: &mut F, mutation: &Mutation) -> Result<(), JournalFault>
         requires short { record_length mutation.now ≤ half self.old.size }
         requires free { AreFree self.old (F.disk folder.old) }
         requires going { self.old.first ≡ None }
@@ -107,11 +103,7 @@ impl Journal {
     }
 
     // Begins the segment with the next number. It waits as the spare one until it is named.
-    fn begin_spare<F: Folder>(
-        &mut self,
-        alloc: Global,
-        folder: &mut F,
-    ) -> Result<(), JournalFault>
+    fn begin_spare<F: Folder>(&mut self, alloc: Global, folder: &mut F) -> Result<(), JournalFault>
         requires unspared { self.old.spare ≡ None }
         requires allowed { self.old.last_segment < SEGMENT_LIMIT }
         requires free { AreFree self.old (F.disk folder.old) }
@@ -128,13 +120,7 @@ impl Journal {
         ensures size { self.new.size ≡ self.old.size }
     {
         self.last_segment += 1;
-        match Log::begin(
-            alloc,
-            folder,
-            &mut self.first,
-            self.last_segment,
-            self.size,
-        ) {
+        match Log::begin(alloc, folder, &mut self.first, self.last_segment, self.size) {
             Ok(log) => {
                 self.spare = Some(log);
                 Ok(())

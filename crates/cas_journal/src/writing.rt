@@ -69,8 +69,11 @@ impl Journal {
         requires prepared { IsPrepared self.old mutation.now }
         requires mutation { IsOfATable mutation.now }
         ensures lasts { (t : Told) → Lasts self.old (F.disk folder.now) t → MayTake t mutation.now → Lasts self.new (F.disk folder.now) (took mutation.now t) }
-        ensures first { self.new.first ≡ self.old.first }
+        ensures manifest { self.new.manifest ≡ self.old.manifest }
+        ensures spare { self.new.spare ≡ self.old.spare }
         ensures last { self.new.last_segment ≡ self.old.last_segment }
+        ensures size { self.new.size ≡ self.old.size }
+        ensures first { self.new.first ≡ self.old.first }
     {
         if let Some(log) = &mut self.log {
             log.push(mutation);
