@@ -1,14 +1,13 @@
 -- What is collected table by table has what is said of each table in each shard.
-use Rattle.std.proofs.Common.{◌≡◌, ◌⊎◌, inl, inr, ⊎_elim, ℕ, zero, suc, ◌+◌, ◌*◌, ◌<◌, ◌≤◌, eqb, Bool, true, false, cond, ◌||◌, List, [], ◌∷◌, ◌++◌, length, map, filter, Option, None, Some, refl, sym, ◌∙◌, ap, subst, arith, length-append, nat_lt}
+use Rattle.std.proofs.Common.{◌≡◌, ◌⊎◌, inl, inr, ⊎_elim, ℕ, zero, suc, ◌+◌, ◌*◌, ◌<◌, eqb, Bool, true, false, cond, ◌||◌, List, [], ◌∷◌, ◌++◌, length, filter, Option, Some, refl, sym, ◌∙◌, ap, arith, length-append, nat_lt}
 use Rattle.std.specs.Prelude.{slice_get, unwrap_or}
-use Rattle.std.specs.List.{list_any, AllByRecursion}
+use Rattle.std.specs.List.{AllByRecursion}
 use Rattle.std.proofs.lemmas.List.Folds.{list_any-append}
 use Rattle.cas_types.specs.declared.schema.TableSchema.{TableSchema}
 use Rattle.cas_info.specs.declared.info.TableInfo.{TableInfo}
 use Rattle.cas_atoms.specs.declared.atom.Mutation.{Mutation}
 use Rattle.cas_mutations.specs.Allowed.{FitsRecord}
 use Rattle.cas_changes.specs.Saying.{Saying, part_of, is_listed, has_file}
-use Rattle.cas_replay.specs.Reading.{frontier_of}
 use Rattle.cas_replay.specs.Reading.{is_above as is_above_in}
 use Rattle.cas_opening.specs.Opening.{IsListedTable, is_above}
 use Rattle.cas_opening.specs.Inner.Counting.{numbers_of, frontiers_in, frontiers_below, listed_in, listed_below}

@@ -1,9 +1,8 @@
 -- What every image has of a store, and goes on having where files that aren't listed change.
-use Rattle.std.proofs.Common.{◌≡◌, ◌≢◌, ◌⊎◌, inl, inr, ⊎_elim, ℕ, ◌+◌, ◌≤◌, eqb, Bool, true, false, ◌||◌, List, [], ◌∷◌, ◌++◌, length, Option, None, Some, refl, sym, ◌∙◌, ap, subst, arith}
+use Rattle.std.proofs.Common.{◌≡◌, ⊎_elim, ℕ, ◌+◌, ◌≤◌, eqb, Bool, true, false, ◌||◌, List, [], ◌∷◌, ◌++◌, Some, refl, ◌∙◌, ap, arith}
 use Rattle.std.specs.List.{AllByRecursion}
 use Rattle.std.proofs.lemmas.Bool.Decides.{nat_tests}
 use Rattle.cas_types.specs.declared.schema.TableSchema.{TableSchema}
-use Rattle.cas_disk.specs.declared.name.Name.{Name}
 use Rattle.cas_disk.specs.declared.name.Name.TheVariants.{Manifest as manifest_name, Log as log_name}
 use Rattle.cas_disk.specs.Disk.{Image, Disk, During, Same, bytes_of}
 use Rattle.cas_disk.proofs.Moments.{left_after, reworded}
@@ -19,7 +18,6 @@ use Rattle.cas_replay.specs.Reading.{segment_in}
 use Rattle.cas_replay.specs.Grammar.{AreSegments}
 use Rattle.cas_journal.specs.Stores.{IsStore}
 use Rattle.cas_journal.proofs.Segments.{segments_agree}
-use Rattle.cas_opening.specs.Opening.{Stays}
 use Rattle.cas_opening.specs.Inner.Keeping.{Keeps}
 use Rattle.cas_opening.specs.Inner.Sweeping.{Spares}
 

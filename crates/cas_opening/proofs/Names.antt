@@ -1,5 +1,5 @@
 -- A segment that is begun behind those of a store, and named.
-use Rattle.std.proofs.Common.{◌≡◌, ◌≢◌, ◌⊎◌, inl, inr, ⊎_elim, ℕ, ◌+◌, ◌<◌, ◌≤◌, ◌^◌, Bool, true, false, List, [], ◌∷◌, ◌++◌, length, take, Option, None, Some, refl, sym, ◌∙◌, ap, subst, arith}
+use Rattle.std.proofs.Common.{◌≡◌, ◌≢◌, inl, inr, ⊎_elim, ℕ, ◌+◌, ◌<◌, ◌≤◌, ◌^◌, true, false, List, [], ◌∷◌, ◌++◌, length, take, Option, None, Some, refl, sym, ◌∙◌, ap, subst, arith}
 use Rattle.std.specs.List.{AllByRecursion}
 use Rattle.std.proofs.lemmas.List.{append-nil, take_all}
 use Rattle.cas_codec.specs.Fields.{u8, u64}
@@ -20,12 +20,12 @@ use Rattle.cas_manifest.specs.Manifests.{Place, place_of, MayHave, Stands}
 use Rattle.cas_manifest.specs.declared.manifest.Manifest.{Manifest}
 use Rattle.cas_manifest.proofs.Appends.{said_more}
 use Rattle.cas_log.specs.Segment.{IsSegment, joined}
-use Rattle.cas_log.specs.Logs.{place_of as log_place, HasPushed, Stands as LogStands}
+use Rattle.cas_log.specs.Logs.{place_of as log_place}
 use Rattle.cas_log.specs.declared.log.Log.{Log}
 use Rattle.cas_replay.specs.Reading.{segment_in}
 use Rattle.cas_replay.specs.Grammar.{AreSegments}
 use Rattle.cas_journal.specs.Stores.{IsStore, Holds}
-use Rattle.cas_journal.specs.Journals.{Writes, IsSpare, NoneAbove, Goes, Lasts}
+use Rattle.cas_journal.specs.Journals.{Writes, IsSpare, NoneAbove, Lasts}
 use Rattle.cas_journal.specs.declared.journal.Journal.{Journal}
 use Rattle.cas_journal.proofs.Segments.{segments_agree, log_agrees, others_agree, none_is_manifest, other_log, log_is_no_manifest}
 use Rattle.cas_journal.proofs.Holding.{log_file, store_with}

@@ -1,7 +1,6 @@
 -- A store that is read, swept and begun, and what its opening leaves.
-use Rattle.std.proofs.Common.{◌≡◌, ◌≢◌, ◌⊎◌, inl, inr, ⊎_elim, ℕ, List, [], ◌∷◌, filter, Option, Result, Ok, Err, IfOk, IfErr, Vec, refl, sym, ◌∙◌, ap, subst}
+use Rattle.std.proofs.Common.{◌≡◌, inl, inr, ℕ, List, [], filter, Result, Ok, Err, IfOk, IfErr, Vec, ◌∙◌, subst}
 use Rattle.std.specs.declared.alloc.Global.{Global}
-use Rattle.cas_disk.specs.declared.name.Name.{Name}
 use Rattle.cas_disk.specs.declared.name.Name.TheVariants.{Manifest as manifest_name}
 use Rattle.cas_disk.specs.Disk.{Image, Disk, During, Changed, Same}
 use Rattle.cas_disk.proofs.Moments.{reworded, one_call_more}

@@ -1,5 +1,5 @@
 -- What is read of an image is the store that it is, and an image has one store.
-use Rattle.std.proofs.Common.{◌≡◌, ◌≢◌, ◌⊎◌, inl, inr, ⊎_elim, ℕ, ◌+◌, ◌≤◌, Bool, true, false, List, [], ◌∷◌, ◌++◌, length, filter, Option, None, Some, Result, Ok, Err, refl, sym, ◌∙◌, ap, subst, arith}
+use Rattle.std.proofs.Common.{◌≡◌, ◌⊎◌, inl, inr, ⊎_elim, ℕ, ◌+◌, ◌≤◌, true, List, [], ◌∷◌, ◌++◌, length, filter, Option, None, Some, Result, Ok, Err, refl, sym, ◌∙◌, ap, subst}
 use Rattle.std.specs.List.{AllByRecursion}
 use Rattle.cas_disk.specs.declared.name.Name.{Name}
 use Rattle.cas_disk.specs.declared.name.Name.TheVariants.{Manifest as manifest_name, Log as log_name, Table as table_name, Import as import_name}
@@ -15,15 +15,12 @@ use Rattle.cas_changes.specs.Saying.{Saying, nothing, said_by}
 use Rattle.cas_manifest.specs.File.{front, IsManifest}
 use Rattle.cas_manifest.specs.Manifests.{Place, Stands, is_made}
 use Rattle.cas_manifest.specs.Reading.{Far, manifest_of}
-use Rattle.cas_manifest.specs.Reads.{IsRead as IsManifestRead}
 use Rattle.cas_manifest.specs.Loading.{manifest_in, HasStore, IsNew, first_entries, new_store}
 use Rattle.cas_manifest.proofs.ManifestLaws.{manifest_found}
 use Rattle.cas_manifest.proofs.ManifestAgain.{manifest_again}
-use Rattle.cas_manifest.proofs.Loads.{said_first}
-use Rattle.cas_log.specs.Segment.{joined}
 use Rattle.cas_replay.specs.Reading.{log_of, segment_in, above_in, is_above as is_above_in}
 use Rattle.cas_replay.specs.Replays.{Last}
-use Rattle.cas_replay.specs.Grammar.{IsLog, AreSegments}
+use Rattle.cas_replay.specs.Grammar.{AreSegments}
 use Rattle.cas_replay.proofs.SegmentLaws.{is_log, of_log}
 use Rattle.cas_journal.specs.Stores.{IsStore}
 use Rattle.cas_journal.proofs.Segments.{segments_agree}
@@ -32,7 +29,6 @@ use Rattle.cas_opening.specs.declared.fault.OpenFault.{OpenFault}
 use Rattle.cas_opening.specs.declared.fault.OpenFault.TheVariants.{Bad, Failed, Mem}
 use Rattle.cas_opening.specs.Opening.{IsOfBytes, OpensAs, IsBadLog, IsRefused, Answers, is_above}
 use Rattle.cas_opening.specs.Inner.Counting.{frontiers_below}
-use Rattle.cas_opening.specs.Inner.Keeping.{Keeps}
 use Rattle.cas_opening.specs.Inner.Reading.{log_in, above, ReplaysSaid, IsRead}
 use Rattle.cas_journal.proofs.Sayings.{is_made as made}
 use Rattle.cas_opening.proofs.Saids.{sound, are_tables, shard_count, short_numbers}

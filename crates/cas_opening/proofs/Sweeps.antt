@@ -4,8 +4,8 @@ use Rattle.std.proofs.lemmas.Bool.{cases_Bool}
 use Rattle.cas_disk.specs.declared.name.Name.{Name}
 use Rattle.cas_disk.specs.declared.name.Name.TheVariants.{Manifest as manifest_name, Log as log_name, Table as table_name, Import as import_name}
 use Rattle.cas_disk.specs.declared.name.Entry.{Entry}
-use Rattle.cas_disk.specs.Names.{same_name, is_table}
-use Rattle.cas_disk.specs.Disk.{Image, Disk, During, Follows, Same, Changed, MayGo, IsGone, IsListing, IsSynced, sizes_of, size_of}
+use Rattle.cas_disk.specs.Names.{same_name}
+use Rattle.cas_disk.specs.Disk.{Image, Disk, During, Follows, Same, Changed, MayGo, IsGone, IsListing, sizes_of, size_of}
 use Rattle.cas_disk.specs.Inner.PastLaws.{same_self, same_is}
 use Rattle.cas_disk.proofs.Moments.{reworded, one_call_more}
 use Rattle.cas_disk.proofs.WrittenLasts.{Syncs}

@@ -55,11 +55,7 @@ fn sweep_files<F: Folder>(
 }
 
 /// Removes the segments and tables that aren't listed, and makes it last that no such segment is there.
-pub(crate) fn sweep<F: Folder>(
-    alloc: Global,
-    folder: &mut F,
-    said: &Said,
-) -> Result<(), OpenFault>
+pub(crate) fn sweep<F: Folder>(alloc: Global, folder: &mut F, said: &Said) -> Result<(), OpenFault>
     requires { IsSaid said.now }
     ensures during { During (Spares said.now) (F.disk folder.old) (F.disk folder.new) }
     ensures gone { OnOk result (HasOnlyListed said.now.segments (F.disk folder.new)) }

@@ -1,5 +1,5 @@
 -- What every image has of a store that was read. Own.
-use Rattle.std.specs.Prelude.{◌≡◌, ◌≢◌, ℕ, ◌+◌, ◌≤◌, List, []}
+use Rattle.std.specs.Prelude.{◌≡◌, ◌≢◌, ◌+◌, ◌≤◌, List, []}
 use Rattle.std.specs.List.{AllByRecursion}
 use Rattle.cas_disk.specs.Disk.{Image, Disk}
 use Rattle.cas_atoms.specs.declared.atom.Mutation.{Mutation}

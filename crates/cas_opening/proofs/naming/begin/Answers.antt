@@ -1,5 +1,4 @@
-use Rattle.std.proofs.Common.{◌≡◌, ◌+◌, ◌≤◌, ℕ, Bool, true, false, List, Option, sym, ◌∙◌, ap, subst, arith}
-use Rattle.cas_disk.specs.Disk.{Disk}
+use Rattle.std.proofs.Common.{◌≡◌, ◌+◌, ◌≤◌, ℕ, Bool, List, ◌∙◌, ap, subst, arith}
 use Rattle.cas_changes.specs.declared.entry.Entry.{Entry}
 use Rattle.cas_changes.specs.declared.entry.Entry.TheVariants.{NewSegment}
 use Rattle.cas_changes.specs.declared.said.TheConstants.{SEGMENT_LIMIT}

@@ -1,11 +1,11 @@
-use Rattle.std.proofs.Common.{◌≡◌, inl, inr, refl, List, []}
-use Rattle.cas_disk.specs.Disk.{Disk, During, Same}
+use Rattle.std.proofs.Common.{inl, inr, refl, List, []}
+use Rattle.cas_disk.specs.Disk.{During}
 use Rattle.cas_atoms.specs.declared.atom.Mutation.{Mutation}
 use Rattle.cas_changes.specs.declared.entry.Entry.{Entry}
 use Rattle.cas_manifest.specs.Manifests.{place_of}
-use Rattle.cas_manifest.specs.Loading.{IsNew, first_entries}
+use Rattle.cas_manifest.specs.Loading.{first_entries}
 use Rattle.cas_opening.specs.declared.stored.Stored.{Stored}
-use Rattle.cas_opening.specs.Opening.{Ends, HasStayed, OpensAs}
+use Rattle.cas_opening.specs.Opening.{Ends, HasStayed}
 use Rattle.cas_opening.proofs.Readings.{not_new}
 use Rattle.cas_opening.proofs.Opens.{it_is, opened_ends, refused_ends, only_read, read_and_opened, made_and_opened, no_store}
 use Rattle.cas_opening.proofs.opening.open.Goals as goal

@@ -1,9 +1,7 @@
-use Rattle.std.proofs.Common.{◌≡◌, sym, subst}
-use Rattle.cas_disk.specs.Disk.{Disk, During}
+use Rattle.std.proofs.Common.{sym, subst}
+use Rattle.cas_disk.specs.Disk.{During}
 use Rattle.cas_changes.specs.Saying.{Saying, IsSaid, said_by}
 use Rattle.cas_manifest.specs.Manifests.{place_of}
-use Rattle.cas_opening.specs.Inner.Keeping.{Keeps}
-use Rattle.cas_opening.specs.Inner.Naming.{IsBegunWith}
 use Rattle.cas_opening.specs.Inner.Sweeping.{Spares}
 use Rattle.cas_opening.proofs.Saids.{sound}
 use Rattle.cas_opening.proofs.Keeps.{spares_keeps}

@@ -1,7 +1,6 @@
-use Rattle.std.proofs.Common.{◌≡◌, refl, sym, subst, inl, ℕ, List, Option, Vec}
+use Rattle.std.proofs.Common.{refl, sym, subst, inl, Vec}
 use Rattle.std.specs.declared.alloc.Global.{Global}
 use Rattle.cas_atoms.specs.declared.atom.Mutation.{Mutation}
-use Rattle.cas_disk.specs.Disk.{Disk, Image}
 use Rattle.cas_disk.specs.declared.name.Name.TheVariants.{Manifest as manifest_name}
 use Rattle.cas_disk.proofs.WrittenLasts.{then_still}
 use Rattle.cas_files.proofs.Files.{same_more}

@@ -1,6 +1,6 @@
-use Rattle.std.proofs.Common.{◌≡◌, ℕ, List, true, length, sym, ◌∙◌, ap, subst}
+use Rattle.std.proofs.Common.{ℕ, List, sym, subst}
 use Rattle.cas_disk.specs.declared.name.Entry.{Entry}
-use Rattle.cas_disk.specs.Disk.{Disk, Image, During, IsListing}
+use Rattle.cas_disk.specs.Disk.{IsListing}
 use Rattle.cas_opening.specs.Inner.Sweeping.{HasOnlyListed}
 use Rattle.cas_opening.proofs.Sweeps.{listing_on, only_listed, all_spared, still_spared}
 use Rattle.cas_opening.proofs.sweeping.sweep.Goals as goal

@@ -1,8 +1,7 @@
-use Rattle.std.proofs.Common.{◌≡◌, true, false, ◌∷◌, List, drop, drop-cons, get_or, ◌+◌, ◌<◌, add-one, length, sym, ◌∙◌, ap, subst, arith}
+use Rattle.std.proofs.Common.{◌≡◌, true, false, ◌∷◌, List, drop, drop-cons, get_or, ◌+◌, ◌<◌, add-one, length, sym, ◌∙◌, subst, arith}
 use Rattle.std.proofs.lemmas.List.{drop_all}
 use Rattle.cas_disk.specs.declared.name.Entry.{Entry}
 use Rattle.cas_disk.specs.declared.name.Name.TheVariants.{Manifest}
-use Rattle.cas_disk.specs.Disk.{Disk, During}
 use Rattle.cas_opening.specs.Inner.Sweeping.{stays_of, Sweeps}
 use Rattle.cas_disk.proofs.Moments.{no_call}
 use Rattle.cas_opening.proofs.Sweeps.{sweeps_more, removed_sweeps, AreAmong, all_among, kept_first, removed_first, none_left}
