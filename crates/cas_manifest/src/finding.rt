@@ -3,7 +3,7 @@
 ghost use Rattle.std.specs.Prelude.{◌≡◌, true, false, Some, is_some, IfOk, IsErrOf};
 ghost use Rattle.std.specs.List.{list_any};
 ghost use Rattle.cas_disk.specs.Counts.{Counted};
-ghost use Rattle.cas_disk.specs.Disk.{Image, During, Same, IsListing, IsKept};
+ghost use Rattle.cas_disk.specs.Disk.{Image, During, Follows, Same, IsListing, IsKept};
 ghost use Rattle.cas_disk.specs.Names.{same_name};
 ghost use Rattle.cas_manifest.specs.Loading.{is_beside, IsBare, HasOthers};
 
@@ -19,6 +19,7 @@ pub(crate) fn lasting_bytes<F: Folder>(
     requires { (c : Image) → (F.disk folder.old).reads c → is_some (c Name.Manifest) ≡ true }
     ensures kept { IfOk result (λ v. IsKept Name.Manifest v.items (F.disk folder.new)) }
     ensures read { IfOk result (λ v. (c : Image) → (F.disk folder.old).reads c → c Name.Manifest ≡ Some v.items) }
+    ensures reads { Follows Same (F.disk folder.old).reads (F.disk folder.new).reads }
     ensures during { During Same (F.disk folder.old) (F.disk folder.new) }
     ensures count { Counted (F.faults_of folder.old) (F.faults_of folder.new) (IsErrOf result FolderFault.Failed) }
 {

@@ -3,7 +3,7 @@
 ghost use Rattle.std.specs.Prelude.{◌≡◌, true, false, Some, IfOk, IfErr, IsErrOf};
 ghost use Rattle.cas_types.specs.Limits.{IsShardCount};
 ghost use Rattle.cas_disk.specs.Counts.{Counted};
-ghost use Rattle.cas_disk.specs.Disk.{Image, During, Changed, Same, IsKept};
+ghost use Rattle.cas_disk.specs.Disk.{Image, During, Follows, Changed, Same, IsKept};
 ghost use Rattle.cas_changes.specs.Saying.{said_by};
 ghost use Rattle.cas_manifest.specs.Manifests.{place_of, Stands, is_made};
 ghost use Rattle.cas_manifest.specs.Loading.{Loads, IsNew, IsEmpty, MayBeNewStore, EndsLoading};
@@ -64,6 +64,7 @@ fn make_store<F: Folder>(
     ensures said { IfOk result (λ m. m.1 ≡ said_by m.2.items) }
     ensures during { During (Changed Name.Manifest (MayBeNewStore shards)) (F.disk folder.old) (F.disk folder.new) }
     ensures untouched { others ≡ true → During Same (F.disk folder.old) (F.disk folder.new) }
+    ensures reads { others ≡ true → Follows Same (F.disk folder.old).reads (F.disk folder.new).reads }
     ensures count { Counted (F.faults_of folder.old) (F.faults_of folder.new) (IsErrOf result ManifestFault.Failed) }
     ensures why { IfErr result (λ f. EndsLoading f) }
 {
@@ -88,6 +89,7 @@ fn load_made<F: Folder>(
     ensures said { IfOk result (λ m. m.1 ≡ said_by m.2.items) }
     ensures during { During (Changed Name.Manifest (MayBeNewStore shards)) (F.disk folder.old) (F.disk folder.new) }
     ensures untouched { (IsEmpty file.now → ⊥) → During Same (F.disk folder.old) (F.disk folder.new) }
+    ensures reads { (IsEmpty file.now → ⊥) → Follows Same (F.disk folder.old).reads (F.disk folder.new).reads }
     ensures count { Counted (F.faults_of folder.old) (F.faults_of folder.new) (IsErrOf result ManifestFault.Failed) }
     ensures why { IfErr result (λ f. EndsLoading f) }
 {
@@ -116,6 +118,7 @@ fn load_file<F: Folder>(
     ensures said { IfOk result (λ m. m.1 ≡ said_by m.2.items) }
     ensures during { During (Changed Name.Manifest (MayBeNewStore shards)) (F.disk folder.old) (F.disk folder.new) }
     ensures untouched { (MayMake (Some file.now) others → ⊥) → During Same (F.disk folder.old) (F.disk folder.new) }
+    ensures reads { (MayMake (Some file.now) others → ⊥) → Follows Same (F.disk folder.old).reads (F.disk folder.new).reads }
     ensures count { Counted (F.faults_of folder.old) (F.faults_of folder.new) (IsErrOf result ManifestFault.Failed) }
     ensures why { IfErr result (λ f. EndsLoading f) }
 {
@@ -140,6 +143,7 @@ impl Manifest {
         ensures said { IfOk result (λ m. m.1 ≡ said_by m.2.items) }
         ensures during { During (Changed Name.Manifest (MayBeNewStore shards)) (F.disk folder.old) (F.disk folder.new) }
         ensures untouched { (c : Image) → (F.disk folder.old).reads c → (IsNew c → ⊥) → During Same (F.disk folder.old) (F.disk folder.new) }
+        ensures reads { (c : Image) → (F.disk folder.old).reads c → (IsNew c → ⊥) → Follows Same (F.disk folder.old).reads (F.disk folder.new).reads }
         ensures count { Counted (F.faults_of folder.old) (F.faults_of folder.new) (IsErrOf result ManifestFault.Failed) }
         ensures why { IfErr result (λ f. EndsLoading f) }
     {

@@ -15,6 +15,8 @@ mod manifests;
 #[cfg(test)]
 mod mutations;
 #[cfg(test)]
+mod openings;
+#[cfg(test)]
 mod segments;
 #[cfg(test)]
 mod stores;

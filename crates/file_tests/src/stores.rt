@@ -9,7 +9,7 @@ use std::alloc::Global;
 use std::fs;
 
 // What a crash may leave of what isn't synced.
-const CHOICES: [Choice; 5] = [
+pub(crate) const CHOICES: [Choice; 5] = [
     Choice::Old,
     Choice::New,
     Choice::Fill(0),

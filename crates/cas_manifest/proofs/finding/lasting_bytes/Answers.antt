@@ -1,5 +1,5 @@
 use Rattle.std.proofs.lemmas.Result.{IfOk-weaker}
-use Rattle.cas_files.proofs.Files.{same_more}
+use Rattle.cas_files.proofs.Files.{same_more, reads_more}
 use Rattle.cas_manifest.proofs.Opens.{read_lasts, read_before}
 use Rattle.cas_manifest.proofs.finding.lasting_bytes.Goals as goal
 
@@ -21,3 +21,8 @@ pub returns-clause-during : goal.returns-clause-during
 returns-clause-during g c =
     let disk = g.F.Folder.disk in
     same_more (disk c.args.folder.now) (disk c.sync.new.self) (disk c.read_file.new.folder) c.sync.ensures.during c.read_file.ensures.during
+
+pub returns-clause-reads : goal.returns-clause-reads
+returns-clause-reads g c =
+    let disk = g.F.Folder.disk in
+    reads_more (disk c.args.folder.now) (disk c.sync.new.self) (disk c.read_file.new.folder) c.sync.ensures.reads c.read_file.ensures.reads

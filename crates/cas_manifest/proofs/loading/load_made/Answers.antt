@@ -14,3 +14,8 @@ pub returns-clause-untouched : goal.returns-clause-untouched
 returns-clause-untouched g c full =
     let none : c.in-Ok.read.2.items ≡ [] = no_items c.in-Ok.read.2.items c.in-Ok.read.2.len c.is_empty.result (omega (arith, c.in-Ok.read.2.ok.0)) c.is_empty.ensures c.if-not-is_empty.false in
     absurd (full (is_empty c.args.file.now (c.in-Ok.read.1, c.in-Ok.read.2.items) c.in-Ok.read.0.end c.in-Ok.ensures.exact c.in-Ok.ensures.found.said none))
+
+pub returns-clause-reads : goal.returns-clause-reads
+returns-clause-reads g c full =
+    let none : c.in-Ok.read.2.items ≡ [] = no_items c.in-Ok.read.2.items c.in-Ok.read.2.len c.is_empty.result (omega (arith, c.in-Ok.read.2.ok.0)) c.is_empty.ensures c.if-not-is_empty.false in
+    absurd (full (is_empty c.args.file.now (c.in-Ok.read.1, c.in-Ok.read.2.items) c.in-Ok.read.0.end c.in-Ok.ensures.exact c.in-Ok.ensures.found.said none))

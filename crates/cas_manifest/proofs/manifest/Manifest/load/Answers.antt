@@ -2,7 +2,7 @@ use Rattle.std.proofs.Common.{◌≡◌, List, ℕ, None, Some, sym, ◌∙◌, 
 use Rattle.cas_disk.specs.declared.name.Name.TheVariants.{Manifest as manifest_name}
 use Rattle.cas_disk.specs.declared.name.Entry.{Entry as FileEntry}
 use Rattle.cas_disk.specs.Disk.{IsListing}
-use Rattle.cas_files.proofs.Files.{same_more}
+use Rattle.cas_files.proofs.Files.{same_more, reads_more}
 use Rattle.cas_manifest.proofs.Loads.{same_news, news_more, loads, loads_missing, is_new, others_or_new, not_there, after_list, before_list}
 use Rattle.cas_manifest.proofs.manifest.Manifest.load.Goals as goal
 
@@ -77,3 +77,30 @@ returns-clause-untouched g c image read old =
     others_or_new image c.has_others-others.result (c.has_others-others.ensures.some image listing) (c.has_others-others.ensures.none image listing)
     (not_there (image manifest_name) (sym (c.has_manifest.ensures image again) ∙ c.if-has_manifest.false)) old
     (λ some. same_more (disk c.args.folder.now) (disk c.list.new.self) (disk c.make_store.new.folder) c.list.ensures.during (c.make_store.ensures.untouched some))
+
+pub returns-in_err-file-clause-reads : goal.returns-in_err-file-clause-reads
+returns-in_err-file-clause-reads g c image read old =
+    let disk = g.F.Folder.disk in
+    reads_more (disk c.args.folder.now) (disk c.list.new.self) (disk c.lasting_bytes.new.folder) c.list.ensures.reads c.lasting_bytes.ensures.reads
+
+pub returns-then-has_manifest-clause-reads : goal.returns-then-has_manifest-clause-reads
+returns-then-has_manifest-clause-reads g c image read old =
+    let disk = g.F.Folder.disk in
+    let listing : IsListing image c.deref.result.now = subst (λ (l : List FileEntry). IsListing image l) (sym c.deref.ensures.value) (c.in_ok-files.ensures.listed image read) in
+    let file = c.deref-then-has_manifest.result.now in
+    let is : image manifest_name ≡ Some file =
+    before_list (λ f. f ≡ Some c.in_ok-file.file.items) (disk c.args.folder.now) (disk c.list.new.self) c.list.ensures.during c.list.ensures.reads c.in_ok-file.ensures.read image read
+    ∙ ap (λ (l : List ℕ). Some l) (sym c.deref-then-has_manifest.ensures.value) in
+    reads_more (disk c.args.folder.now) (disk c.lasting_bytes.new.folder) (disk c.load_file.new.folder)
+    (reads_more (disk c.args.folder.now) (disk c.list.new.self) (disk c.lasting_bytes.new.folder) c.list.ensures.reads c.lasting_bytes.ensures.reads)
+    (c.load_file.ensures.reads (λ make.
+    old (is_new image c.has_others-others.result (c.has_others-others.ensures.some image listing) (c.has_others-others.ensures.none image listing) (Some file) is make)))
+
+pub returns-clause-reads : goal.returns-clause-reads
+returns-clause-reads g c image read old =
+    let disk = g.F.Folder.disk in
+    let listing : IsListing image c.deref.result.now = subst (λ (l : List FileEntry). IsListing image l) (sym c.deref.ensures.value) (c.in_ok-files.ensures.listed image read) in
+    let again : IsListing image c.deref-2.result.now = subst (λ (l : List FileEntry). IsListing image l) (sym c.deref-2.ensures.value) (c.in_ok-files.ensures.listed image read) in
+    others_or_new image c.has_others-others.result (c.has_others-others.ensures.some image listing) (c.has_others-others.ensures.none image listing)
+    (not_there (image manifest_name) (sym (c.has_manifest.ensures image again) ∙ c.if-has_manifest.false)) old
+    (λ some. reads_more (disk c.args.folder.now) (disk c.list.new.self) (disk c.make_store.new.folder) c.list.ensures.reads (c.make_store.ensures.reads some))

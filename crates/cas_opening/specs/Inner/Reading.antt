@@ -1,0 +1,37 @@
+-- What is read of a store's log. Own.
+use Rattle.std.specs.Prelude.{◌≡◌, ℕ, List, [], length, filter, Result, Ok, Err}
+use Rattle.cas_codec.specs.declared.fault.ReadFault.{ReadFault}
+use Rattle.cas_disk.specs.declared.name.Name.TheVariants.{Log}
+use Rattle.cas_disk.specs.Disk.{Image, Disk}
+use Rattle.cas_atoms.specs.declared.atom.Mutation.{Mutation}
+use Rattle.cas_changes.specs.declared.entry.Entry.{Entry}
+use Rattle.cas_changes.specs.Saying.{Saying, said_by}
+use Rattle.cas_manifest.specs.Manifests.{Place}
+use Rattle.cas_replay.specs.Reading.{log_of, segment_in, above_in}
+use Rattle.cas_opening.specs.declared.fault.OpenFault.{OpenFault}
+use Rattle.cas_opening.specs.declared.fault.OpenFault.TheVariants.{Bad, Failed, Mem}
+use Rattle.cas_opening.specs.Opening.{IsBadLog, OpensAs, is_above}
+use Rattle.cas_opening.specs.Inner.Counting.{frontiers_below}
+use Rattle.cas_opening.specs.Inner.Keeping.{Keeps}
+
+-- the reading of the listed segments
+abbrev pub log_in : Saying → Image → Result (List Mutation) (ℕ × ReadFault)
+log_in s c = log_of s.tables s.shards (segment_in c) s.segments []
+
+-- and of it the mutations above their frontiers
+abbrev pub above : Saying → Image → Result (List Mutation) (ℕ × ReadFault)
+above s c = above_in s.shards (frontiers_below s (length s.tables)) (log_in s c)
+
+-- what a replay of the listed segments answers, its value seen by view
+abbrev pub ReplaysSaid : {T : Type 0} → (T → List Mutation) → Saying → Image → Result T OpenFault → Type 0
+ReplaysSaid view s c (Ok x) = above s c ≡ Ok (view x)
+ReplaysSaid view s c (Err (Bad name at)) = (number : ℕ) × (name ≡ Log number) × IsBadLog s number at c
+ReplaysSaid view s c (Err Failed) = Unit {0}
+ReplaysSaid view s c (Err Mem) = Unit {0}
+
+-- What was read of a store: of these entries and of some mutations, of which those above their frontiers are given; and every image has it.
+pub record IsRead (shards : ℕ) (place : Place) (entries : List Entry) (given : List Mutation) (c : Image) (disk : Disk) : Type 0 where
+  pub mutations : List Mutation
+  pub opens : OpensAs shards entries mutations c
+  pub keeps : Keeps place entries mutations disk
+  pub above : given ≡ filter (is_above (said_by entries)) mutations

@@ -1,0 +1,16 @@
+//! Opens the store of a folder, or makes one, so that it can be written on: what lasts is exactly what
+//! was read.
+#![tactic(auto)]
+
+mod collecting;
+mod fault;
+mod naming;
+mod opened;
+mod opening;
+mod reading;
+mod stored;
+mod sweeping;
+
+pub use fault::OpenFault;
+pub use opened::Opened;
+pub use opening::open;

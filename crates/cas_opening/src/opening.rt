@@ -1,0 +1,91 @@
+//! Opens the store of a folder, or makes one.
+
+ghost use Rattle.std.specs.Prelude.{◌≡◌, List, filter, None, IfOk, IfErr, IsErrOf};
+ghost use Rattle.cas_types.specs.Limits.{IsShardCount};
+ghost use Rattle.cas_disk.specs.Counts.{Counted};
+ghost use Rattle.cas_disk.specs.Disk.{Image, During, Same};
+ghost use Rattle.cas_atoms.specs.declared.atom.Mutation.{Mutation as MutationOf};
+ghost use Rattle.cas_changes.specs.declared.entry.Entry.{Entry as EntryOf};
+ghost use Rattle.cas_changes.specs.Saying.{nothing, said_by};
+ghost use Rattle.cas_log.specs.Segment.{IsSize};
+ghost use Rattle.cas_manifest.specs.File.{MayFollow};
+ghost use Rattle.cas_manifest.specs.Loading.{IsNew};
+ghost use Rattle.cas_manifest.specs.Manifests.{place_of};
+ghost use Rattle.cas_journal.specs.Stores.{IsStore};
+ghost use Rattle.cas_journal.specs.Journals.{AreFree};
+ghost use Rattle.cas_opening.specs.Opening.{IsOfBytes, OpensAs, Answers, Ends, IsOpened, HasStayed, MayBeOpened, MayBeMadeNew, is_above};
+ghost use Rattle.cas_opening.specs.Inner.Faults.{IsOfFolder};
+ghost use Rattle.cas_opening.specs.Inner.Keeping.{Keeps};
+
+use crate::fault::OpenFault;
+use crate::naming::begin;
+use crate::opened::Opened;
+use crate::reading::read_store;
+use crate::stored::Stored;
+use crate::sweeping::sweep;
+use cas_disk::Folder;
+use std::alloc::Global;
+
+// Opens a store that was read: removes what isn't listed, and begins the segment that is written.
+fn open_stored<F: Folder>(
+    alloc: Global,
+    folder: &mut F,
+    stored: Stored,
+    size: u64,
+) -> Result<Opened, OpenFault>
+    requires size { IsSize size }
+    requires said { stored.said ≡ said_by stored.entries.items }
+    requires follow { MayFollow nothing stored.entries.items }
+    ensures opened { (mutations : List MutationOf) → Keeps (place_of stored.manifest) stored.entries.items mutations (F.disk folder.old)
+        → stored.mutations.items ≡ filter (is_above (said_by stored.entries.items)) mutations
+        → IfOk result (λ o. IsOpened stored.entries.items mutations o (F.disk folder.new)) }
+    ensures free { IfOk result (λ o. AreFree o.journal (F.disk folder.new)) }
+    ensures runs { IfOk result (λ o. (o.journal.first ≡ None) × (o.journal.size ≡ size)) }
+    ensures during { (mutations : List MutationOf) → Keeps (place_of stored.manifest) stored.entries.items mutations (F.disk folder.old)
+        → During (HasStayed stored.entries.items mutations) (F.disk folder.old) (F.disk folder.new) }
+    ensures why { IfErr result (λ f. IsOfFolder f) }
+    ensures count { Counted (F.faults_of folder.old) (F.faults_of folder.new) (IsErrOf result OpenFault.Failed) }
+{
+    if let Err(fault) = sweep(alloc, folder, &stored.said) {
+        return Err(fault);
+    }
+    match begin(alloc, folder, stored.manifest, stored.said, size) {
+        Ok((journal, said)) => Ok(Opened {
+            journal,
+            said,
+            mutations: stored.mutations,
+        }),
+        Err(fault) => Err(fault),
+    }
+}
+
+/// Opens the store that a folder has, or makes one of so many shards where there is none yet, so that
+/// it can be written on, in segments of so many bytes. What is read lasts: the manifest and the listed
+/// segments are synced before they are read. Segments and tables that aren't listed are removed, and a
+/// new segment is begun and named.
+pub fn open<F: Folder>(
+    alloc: Global,
+    folder: &mut F,
+    shards: u8,
+    size: u64,
+) -> Result<Opened, OpenFault>
+    requires shards { IsShardCount shards }
+    requires size { IsSize size }
+    ensures opens { (c : Image) → (F.disk folder.old).reads c → IsOfBytes c → (entries : List EntryOf) (mutations : List MutationOf)
+        → OpensAs shards entries mutations c → Ends entries mutations (F.disk folder.new) result }
+    ensures answers { (c : Image) → (F.disk folder.old).reads c → IsOfBytes c → Answers shards c result }
+    ensures free { IfOk result (λ o. AreFree o.journal (F.disk folder.new)) }
+    ensures runs { IfOk result (λ o. (o.journal.first ≡ None) × (o.journal.size ≡ size)) }
+    // A crash at any moment leaves what was there before, or the store that was there.
+    ensures stays { (c : Image) → (F.disk folder.old).reads c → IsOfBytes c → (entries : List EntryOf) (mutations : List MutationOf)
+        → IsStore entries mutations c → During (MayBeOpened entries mutations) (F.disk folder.old) (F.disk folder.new) }
+    ensures made { (c : Image) → (F.disk folder.old).reads c → IsOfBytes c → IsNew c → During (MayBeMadeNew shards) (F.disk folder.old) (F.disk folder.new) }
+    ensures untouched { (c : Image) → (F.disk folder.old).reads c → IsOfBytes c → (IsNew c → ⊥)
+        → ((entries : List EntryOf) (mutations : List MutationOf) → IsStore entries mutations c → ⊥) → During Same (F.disk folder.old) (F.disk folder.new) }
+    ensures count { Counted (F.faults_of folder.old) (F.faults_of folder.new) (IsErrOf result OpenFault.Failed) }
+{
+    match read_store(alloc, folder, shards) {
+        Ok(stored) => open_stored(alloc, folder, stored, size),
+        Err(fault) => Err(fault),
+    }
+}
