@@ -5,8 +5,7 @@ use Rattle.cas_disk.specs.declared.name.Name.TheVariants.{Log as log_name}
 use Rattle.cas_disk.specs.Disk.{Image, Disk}
 use Rattle.cas_atoms.specs.declared.atom.Mutation.{Mutation}
 use Rattle.cas_atoms.specs.LogLength.{record_length}
-use Rattle.cas_changes.specs.declared.said.TheConstants.{SEGMENT_LIMIT}
-use Rattle.cas_changes.specs.Saying.{Saying, said_by}
+use Rattle.cas_changes.specs.Saying.{said_by}
 use Rattle.cas_mutations.specs.Allowed.{FitsRecord}
 use Rattle.cas_log.specs.Segment.{joined}
 use Rattle.cas_log.specs.Logs.{place_of, block_length, HasPushed, IsReserved, Stands as LogStands}
@@ -24,18 +23,21 @@ Writes None listed before written pushed disk = (listed ≡ before) × (written 
 Writes (Some log) listed before written pushed disk =
     (listed ≡ before ++ (place_of log).number ∷ []) × LogStands (place_of log) disk written × HasPushed log pushed
 
--- a segment that was begun last, and that no entry names yet: it lasts, without mutations
-abbrev pub IsSpare : Option Log → ℕ → ℕ → Disk → Type 0
-IsSpare None named last disk = Unit {0}
-IsSpare (Some log) named last disk =
-    (named < last) × (last ≤ SEGMENT_LIMIT) × ((place_of log).number ≡ last) × LogStands (place_of log) disk [] × HasPushed log []
+-- a segment that was begun, and that no entry names yet: it lasts, without mutations
+abbrev pub IsSpare : Option Log → ℕ → Disk → Type 0
+IsSpare None last disk = Unit {0}
+IsSpare (Some log) last disk = (last < (place_of log).number) × LogStands (place_of log) disk [] × HasPushed log []
 
 -- whatever a crash leaves, there is no segment above this number
 abbrev pub NoneAbove : ℕ → Disk → Type 0
 NoneAbove last disk = (c : Image) → disk.may_leave c → (n : ℕ) → last < n → c (log_name n) ≡ None
 
+-- whatever a crash leaves, no segment has a number above those that the journal began
+abbrev pub AreFree : Journal → Disk → Type 0
+AreFree j disk = NoneAbove j.last_segment disk
+
 -- The journal goes on where this ends: the manifest has all entries, and none failed; the segments before the one that is written last; what is in
--- them, what that one has and what is pushed are the mutations, of the tables, in order; and above the segments begun so far there is none.
+-- them, what that one has and what is pushed are the mutations, of the tables, in order.
 pub record Goes (j : Journal) (disk : Disk) (t : Told) : Type 0 where
   pub manifest : ManifestStands (manifest_place j.manifest) disk t.entries
   pub none_failed : t.failed ≡ []
@@ -51,8 +53,7 @@ pub record Goes (j : Journal) (disk : Disk) (t : Told) : Type 0 where
   pub fit : AllByRecursion (FitsRecord (said_by t.entries).tables (said_by t.entries).shards) t.taken
   pub ordered : AreInOrder t.taken
   pub last : (said_by t.entries).last_segment ≤ j.last_segment
-  pub above : NoneAbove j.last_segment disk
-  pub spare : IsSpare j.spare (said_by t.entries).last_segment j.last_segment disk
+  pub spare : IsSpare j.spare (said_by t.entries).last_segment disk
 
 -- What the journal was told lasts: whatever a crash leaves holds it; and while no fault is kept, the journal goes on from there.
 pub record Lasts (j : Journal) (disk : Disk) (t : Told) : Type 0 where
@@ -62,6 +63,11 @@ pub record Lasts (j : Journal) (disk : Disk) (t : Told) : Type 0 where
 -- the record fits behind what is pushed to the segment, with the next gate
 abbrev pub Fits : Log → Mutation → Type 0
 Fits log m = (place_of log).end + block_length log + record_length m ≤ (place_of log).size
+
+-- there is memory for the record, where a segment is written
+abbrev pub HasMemory : Option Log → Mutation → Type 0
+HasMemory None m = Unit {0}
+HasMemory (Some log) m = IsReserved log m
 
 -- a segment is written in which the mutation has room, and there is memory for its record
 abbrev pub IsPreparedIn : Option Log → Mutation → Type 0

@@ -1,3 +1,5 @@
 pub mod Fresh
 pub mod Stores
 pub mod Journals
+pub mod Ends
+pub mod Inner

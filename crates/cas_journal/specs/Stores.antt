@@ -56,6 +56,10 @@ pub record MadeRoom (t u : Told) : Type 0 where
   pub taken : u.taken ≡ t.taken
   pub committed : t.committed ≤ u.committed
 
+-- the image holds what was told, or that with room made
+abbrev pub HoldsWithRoom : Told → Image → Type 0
+HoldsWithRoom t c = (u : Told) × MadeRoom t u × Holds u c
+
 -- the same, with one mutation more at its end
 abbrev pub took : Mutation → Told → Told
 took m t = record t { taken = t.taken ++ m ∷ [] }

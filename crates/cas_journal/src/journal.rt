@@ -1,10 +1,8 @@
 //! The journal of a store.
 
-ghost use Rattle.std.specs.Prelude.{◌≡◌};
 ghost use Rattle.std.specs.Option.{ForSome};
 ghost use Rattle.cas_log.specs.Segment.{IsSize};
-ghost use Rattle.cas_log.specs.Logs.{place_of};
-ghost use Rattle.cas_journal.specs.Fresh.{IsFresh, IsOfSize};
+ghost use Rattle.cas_journal.specs.Fresh.{IsBegun, IsFresh};
 
 use cas_gates::First;
 use cas_log::Log;
@@ -25,6 +23,6 @@ pub struct Journal {
     /// The first failed create, write or sync of manifest or log. Once one is kept, neither is written.
     pub(crate) first: Option<First>,
     ghost sized: { IsSize size },
-    ghost log_size: { ForSome log (λ l. IsOfSize size l) },
-    ghost spare_size: { ForSome spare (λ l. IsFresh size l) },
+    ghost written: { ForSome log (λ l. IsBegun size last_segment l) },
+    ghost fresh: { ForSome spare (λ l. IsFresh size last_segment l) },
 }

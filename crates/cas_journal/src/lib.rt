@@ -4,6 +4,8 @@
 
 mod fault;
 mod journal;
+mod making_room;
+mod writing;
 
-pub use fault::JournalFault;
+pub use fault::{Counted, JournalFault};
 pub use journal::Journal;

@@ -1,0 +1,11 @@
+pub mod Lists
+pub mod Fitting
+pub mod Sayings
+pub mod Segments
+pub mod Holding
+pub mod Moving
+pub mod Entries
+pub mod Defining
+pub mod Beginning
+pub mod Naming
+pub mod Rooms
