@@ -21,9 +21,9 @@ pub fn accept_alone<E: Entries, J: Store, T: Tells<E>>(
     ensures one { one.new ≡ sees one.new.saw one.old }
     ensures legal { Legal E.rules one.new.saw }
 {
-    let mut group = one.lend();
-    let before = one.enter(&mut group, word, entry);
-    one.take_back(group);
+    let mut own = one.lend();
+    let before = one.enter(&mut own, word, entry);
+    one.take_first(own);
     before
 }
 
@@ -41,11 +41,9 @@ pub fn accept_two<E: Entries, J: Store, T: Tells<E>>(
     ensures legal { Legal E.rules one.new.saw }
     ensures two { two.new ≡ sees one.new.saw two.old }
 {
-    let mut pair = one.lend();
-    one.gather(&mut pair, two.lend());
-    let before = one.enter(&mut pair, word, entry);
-    two.take_back(one.part(&mut pair));
-    one.take_back(pair);
+    let mut group = two.lend_to(one.lend());
+    let before = one.enter(&mut group, word, entry);
+    two.take_first(one.take_first(group));
     before
 }
 
@@ -65,46 +63,9 @@ pub fn accept_three<E: Entries, J: Store, T: Tells<E>>(
     ensures two { two.new ≡ sees one.new.saw two.old }
     ensures three { three.new ≡ sees one.new.saw three.old }
 {
-    let mut group = one.lend();
-    one.gather(&mut group, two.lend());
-    one.gather(&mut group, three.lend());
+    let mut group = three.lend_to(two.lend_to(one.lend()));
     let before = one.enter(&mut group, word, entry);
-    let mut others = one.part(&mut group);
-    three.take_back(one.part(&mut others));
-    two.take_back(others);
-    one.take_back(group);
-    before
-}
-
-/// The same for four passes, as those of a shard, a room, a book and a worker at an install.
-pub fn accept_four<E: Entries, J: Store, T: Tells<E>>(
-    one: &mut Pass<E, J>,
-    two: &mut Pass<E, J>,
-    three: &mut Pass<E, J>,
-    four: &mut Pass<E, J>,
-    word: usize,
-    entry: &T,
-) -> u64
-    requires word { (E.rules.word (T.entry entry.now) ≡ word) × (word < 34) }
-    requires ready { Ready E.rules (one.old ∷ two.old ∷ three.old ∷ four.old ∷ []) (T.entry entry.now) }
-    ensures entered { Entered E.rules (one.old ∷ two.old ∷ three.old ∷ four.old ∷ []) (T.entry entry.now) one.new.saw result }
-    ensures one { one.new ≡ sees one.new.saw one.old }
-    ensures legal { Legal E.rules one.new.saw }
-    ensures two { two.new ≡ sees one.new.saw two.old }
-    ensures three { three.new ≡ sees one.new.saw three.old }
-    ensures four { four.new ≡ sees one.new.saw four.old }
-{
-    let mut group = one.lend();
-    one.gather(&mut group, two.lend());
-    one.gather(&mut group, three.lend());
-    one.gather(&mut group, four.lend());
-    let before = one.enter(&mut group, word, entry);
-    let mut others = one.part(&mut group);
-    let mut last = one.part(&mut others);
-    four.take_back(one.part(&mut last));
-    three.take_back(last);
-    two.take_back(others);
-    one.take_back(group);
+    three.take_first(two.take_first(one.take_first(group)));
     before
 }
 
@@ -129,20 +90,11 @@ pub fn accept_five<E: Entries, J: Store, T: Tells<E>>(
     ensures four { four.new ≡ sees one.new.saw four.old }
     ensures five { five.new ≡ sees one.new.saw five.old }
 {
-    let mut group = one.lend();
-    one.gather(&mut group, two.lend());
-    one.gather(&mut group, three.lend());
-    one.gather(&mut group, four.lend());
-    one.gather(&mut group, five.lend());
+    let first = three.lend_to(two.lend_to(one.lend()));
+    let mut group = five.lend_to(four.lend_to(first));
     let before = one.enter(&mut group, word, entry);
-    let mut others = one.part(&mut group);
-    let mut after_two = one.part(&mut others);
-    let mut after_three = one.part(&mut after_two);
-    five.take_back(one.part(&mut after_three));
-    four.take_back(after_three);
-    three.take_back(after_two);
-    two.take_back(others);
-    one.take_back(group);
+    let last = three.take_first(two.take_first(one.take_first(group)));
+    five.take_first(four.take_first(last));
     before
 }
 
@@ -156,11 +108,9 @@ pub fn look<E: Entries, J: Store>(one: &mut Pass<E, J>, two: &mut Pass<E, J>, wo
     ensures apart { Apart (one.old ∷ two.old ∷ []) }
     ensures count { result ≡ counted E.rules word one.new.saw % 2 ^ 64 }
 {
-    let mut pair = one.lend();
-    one.gather(&mut pair, two.lend());
-    let count = one.show(&mut pair, word);
-    two.take_back(one.part(&mut pair));
-    one.take_back(pair);
+    let mut group = two.lend_to(one.lend());
+    let count = one.show(&mut group, word);
+    two.take_first(one.take_first(group));
     count
 }
 
@@ -177,28 +127,9 @@ pub fn look_three<E: Entries, J: Store>(
     ensures three { three.new ≡ sees one.new.saw three.old }
     ensures apart { Apart (one.old ∷ two.old ∷ three.old ∷ []) }
 {
-    let mut group = one.lend();
-    one.gather(&mut group, two.lend());
-    one.gather(&mut group, three.lend());
+    let mut group = three.lend_to(two.lend_to(one.lend()));
     one.show(&mut group, 0);
-    let mut others = one.part(&mut group);
-    three.take_back(one.part(&mut others));
-    two.take_back(others);
-    one.take_back(group);
-}
-
-/// One pass is shown the log so far.
-pub fn look_alone<E: Entries, J: Store>(one: &mut Pass<E, J>, word: usize) -> u64
-    requires word { word < 34 }
-    ensures known { Knows E.rules one.new.saw one.old }
-    ensures one { one.new ≡ sees one.new.saw one.old }
-    ensures legal { Legal E.rules one.new.saw }
-    ensures count { result ≡ counted E.rules word one.new.saw % 2 ^ 64 }
-{
-    let mut group = one.lend();
-    let count = one.show(&mut group, word);
-    one.take_back(group);
-    count
+    three.take_first(two.take_first(one.take_first(group)));
 }
 
 /// A pass that has ended: the keeper owns what it owned.
@@ -209,10 +140,9 @@ pub fn join<E: Entries, J: Store>(keeper: &mut Pass<E, J>, ended: Pass<E, J>)
     ensures apart { Apart (keeper.old ∷ ended ∷ []) }
 {
     let mut ended = ended;
-    let mut group = keeper.lend();
-    keeper.gather(&mut group, ended.lend());
+    let mut group = ended.lend_to(keeper.lend());
     keeper.merge(&mut group);
-    keeper.take_back(group);
+    keeper.take_first(group);
 }
 
 /// A pass that owns the next lists.

@@ -10,8 +10,7 @@ mod pass;
 mod steps;
 
 pub use calls::{
-    accept_alone, accept_five, accept_four, accept_three, accept_two, deal, join, look, look_alone,
-    look_three,
+    accept_alone, accept_five, accept_three, accept_two, deal, join, look, look_three,
 };
 pub use entries::{Entries, Tells};
 pub use hand::Hand;

@@ -87,30 +87,28 @@ impl<E: Entries, J: Store> Pass<E, J> {
         }
     }
 
-    /// It holds what it lent again.
-    pub(crate) fn take_back(&mut self, group: Group<E, J>)
-        requires { (group ≡ hand_of group ∷ []) × Legal E.rules (hand_of group).saw }
-        ensures { self.new ≡ hand_of group }
+    /// All that the pass holds goes to the group, for a while.
+    pub(crate) fn lend_to(&mut self, group: Group<E, J>) -> Group<E, J>
+        ensures { (self.new ≡ lent self.old) × (result ≡ group ++ self.old ∷ []) }
     {
-        let Group { seat, of: _ } = group;
-        self.seat = seat;
-    }
-
-    pub(crate) fn gather(&self, group: &mut Group<E, J>, other: Group<E, J>)
-        ensures { group.new ≡ group.old ++ other }
-    {
-        let Group { seat, of: _ } = other;
+        let mut group = group;
+        let Group { seat, of: _ } = self.lend();
         self.table
             .shared
             .join_seat::<Gathers<E>>(&mut group.seat, seat);
+        group
     }
 
-    /// All hands but the first leave the group.
-    pub(crate) fn part(&self, group: &mut Group<E, J>) -> Group<E, J>
-        ensures { (group.new ≡ hand_of group.old ∷ []) × (result ≡ others group.old) }
+    /// The pass holds the first hand of the group from now on. The answer is the others.
+    pub(crate) fn take_first(&mut self, group: Group<E, J>) -> Group<E, J>
+        requires { Legal E.rules (hand_of group).saw }
+        ensures { (self.new ≡ hand_of group) × (result ≡ others group) }
     {
+        let Group { mut seat, of: _ } = group;
+        let others = self.table.shared.split_seat::<Parts<E>>(&mut seat);
+        self.seat = seat;
         Group {
-            seat: self.table.shared.split_seat::<Parts<E>>(&mut group.seat),
+            seat: others,
             of: PhantomData,
         }
     }

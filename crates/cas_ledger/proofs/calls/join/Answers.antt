@@ -1,6 +1,8 @@
-use Rattle.std.proofs.Common.{◌∙◌, ◌++◌, subst}
+use Rattle.std.proofs.Common.{[], ◌∷◌, ◌++◌, ◌∙◌, subst}
 use Rattle.cas_ledger.specs.Hands.{Apart}
 use Rattle.cas_ledger.proofs.calls.join.Goals as goal
 
 pub returns-clause-apart : goal.returns-clause-apart
-returns-clause-apart g c = subst Apart (c.gather.ensures ∙ (λ k. c.lend-group.ensures.1 k ++ c.lend.ensures.1 k)) c.merge.ensures.1.5
+returns-clause-apart g c =
+    let pair = c.lend_to-group.ensures.1 ∙ (λ k. c.lend.ensures.1 k ++ c.args.ended ∷ []) in
+    subst Apart pair c.merge.ensures.1.5

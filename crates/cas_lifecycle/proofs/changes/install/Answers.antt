@@ -3,7 +3,7 @@ use Rattle.std.proofs.lemmas.List.Sums.{fold-append}
 use Rattle.cas_ledger.specs.Hands.{Owns}
 use Rattle.cas_ledger.specs.Log.{Has}
 use Rattle.cas_ledger.proofs.Lists.{each_at}
-use Rattle.cas_ledger.proofs.Parts.{gets}
+use Rattle.cas_ledger.proofs.Parts.{gets, begins}
 use Rattle.cas_refs.specs.Counts.{at}
 use Rattle.cas_history.specs.Items.{items, listed, front_list, changes_list, room_changes, book_changes, Distinct}
 use Rattle.cas_history.specs.Last.{all_added, files_of, last_number, number_after}
@@ -43,6 +43,52 @@ accept_five-requires-clause-ready g c =
     let fifth =
     inr (inr (inr (inr (inl (own_front, (small, high, differ, (λ same. absurd (below (front_list changes.shard) files.list (omega arith) high same)), (λ (same : front_list changes.shard ≡ changes_list changes.shard). absurd (omega arith)), (λ same. given))))))) in
     ((first, (second, (third, (fourth, (fifth, tt))))), tt)
+
+pub invariant_of-changes : goal.invariant_of-changes
+invariant_of-changes g c =
+    let changes = c.args.changes.now in
+    record { owns = (changes.owns.0, subst (λ h. Owns h (changes_list changes.shard)) (sym c.accept_five.ensures.one) changes.owns.1) }
+
+pub invariant_of-room : goal.invariant_of-room
+invariant_of-room g c =
+    let room = c.args.room.now in
+    record { owns = (room.owns.0, subst (λ h. Owns h (room_changes room.shard)) (sym c.accept_five.ensures.two) room.owns.1) }
+
+pub invariant_of-files : goal.invariant_of-files
+invariant_of-files g c =
+    let files = c.args.files.now in
+    record { owns = (files.owns.0, subst (λ h. Owns h files.list) (sym c.accept_five.ensures.four) files.owns.1); odd = files.odd }
+
+pub returns-clause-changes : goal.returns-clause-changes
+returns-clause-changes g c =
+    let changes = c.args.changes.now in
+    let hands = changes.pass ∷ c.args.room.now.pass ∷ c.args.book.now.pass ∷ c.args.files.now.pass ∷ c.args.front.now.pass ∷ [] in
+    (refl, gets items hands _ _ _ changes.pass (changes_list changes.shard) c.accept_five.ensures.entered (inl refl) changes.owns.1 (inl refl))
+
+pub returns-clause-files : goal.returns-clause-files
+returns-clause-files g c =
+    let files = c.args.files.now in
+    let hands = c.args.changes.now.pass ∷ c.args.room.now.pass ∷ c.args.book.now.pass ∷ files.pass ∷ c.args.front.now.pass ∷ [] in
+    let came = c.accept_five.ensures in (
+      refl,
+      ap (λ h. listed files.list h.saw) came.four
+          ∙ gets items hands _ _ _ files.pass files.list came.entered (inr (inr (inr (inl refl)))) files.owns.1 (inr (inr (inr (inl refl)))),
+    )
+
+pub returns-clause-seen : goal.returns-clause-seen
+returns-clause-seen g c =
+    let front = c.args.front.now in
+    let files = c.args.files.now in
+    let hands = c.args.changes.now.pass ∷ c.args.room.now.pass ∷ c.args.book.now.pass ∷ files.pass ∷ front.pass ∷ [] in
+    let came = c.accept_five.ensures in (
+      ap (λ h. h.saw) came.two,
+      ap (λ h. h.saw) came.three,
+      ap (λ h. h.saw) came.four,
+      ap (λ h. h.saw) came.five,
+      begins items hands _ _ _ c.args.changes.now.pass came.entered (inl refl),
+      begins items hands _ _ _ files.pass came.entered (inr (inr (inr (inl refl)))),
+      begins items hands _ _ _ front.pass came.entered (inr (inr (inr (inr (inl refl))))),
+    )
 
 pub invariant_of-front : goal.invariant_of-front
 invariant_of-front g c =

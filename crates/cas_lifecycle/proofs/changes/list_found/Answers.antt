@@ -37,6 +37,16 @@ accept_five-requires-clause-ready g c =
     inr (inr (inr (inr (inl (own_front, (small, differ, (λ (same : front_list changes.shard ≡ numbers_list). absurd (omega arith)), (λ (same : front_list changes.shard ≡ changes_list changes.shard). absurd (omega arith)), (λ same. given))))))) in
     ((first, (second, (third, (fourth, (fifth, tt))))), tt)
 
+pub invariant_of-changes : goal.invariant_of-changes
+invariant_of-changes g c =
+    let changes = c.args.changes.now in
+    record { owns = (changes.owns.0, subst (λ h. Owns h (changes_list changes.shard)) (sym c.accept_five.ensures.two) changes.owns.1) }
+
+pub invariant_of-room : goal.invariant_of-room
+invariant_of-room g c =
+    let room = c.args.room.now in
+    record { owns = (room.owns.0, subst (λ h. Owns h (room_changes room.shard)) (sym c.accept_five.ensures.three) room.owns.1) }
+
 pub invariant_of-front : goal.invariant_of-front
 invariant_of-front g c =
     let front = c.args.front.now in

@@ -1,6 +1,6 @@
 use Rattle.std.proofs.Common.{◌≡◌, ap, sym, ◌∙◌, arith}
 use Rattle.cas_ledger.proofs.Moves.{meets}
-use Rattle.cas_ledger.proofs.pass.Pass.gather.Goals as goal
+use Rattle.cas_ledger.proofs.pass.Pass.lend_to.Goals as goal
 
 pub join_seat-requires : goal.join_seat-requires
 join_seat-requires g c =
@@ -8,8 +8,8 @@ join_seat-requires g c =
     let table = ap (λ t. t.shared.table_id) c.deref.ensures ∙ i.0 in
     let words = ap (λ t. t.words) table ∙ i.3 in (
       c.group.invariant.0 ∙ sym table,
-      c.other.invariant.0 ∙ sym table,
-      c.other.invariant.1,
+      c.seat.invariant.0 ∙ sym table,
+      c.seat.invariant.1,
       (let w : _ ≡ 34 = words in omega arith),
-      meets g.E.Entries.rules _ _ c.group.inside.seat.me.0 c.other.inside.seat.me.0,
+      meets g.E.Entries.rules _ _ c.group.inside.seat.me.0 c.seat.inside.seat.me.0,
     )

@@ -1,9 +1,9 @@
 use Rattle.std.proofs.Common.{◌≡◌, ap, sym, ◌∙◌, arith}
 use Rattle.cas_ledger.proofs.Moves.{parts}
-use Rattle.cas_ledger.proofs.pass.Pass.part.Goals as goal
+use Rattle.cas_ledger.proofs.pass.Pass.take_first.Goals as goal
 
-pub split_seat-requires : goal.split_seat-requires
-split_seat-requires g c =
+pub split_seat-others-requires : goal.split_seat-others-requires
+split_seat-others-requires g c =
     let i = c.self.invariant in
     let table = ap (λ t. t.shared.table_id) c.deref.ensures ∙ i.0 in
     let words = ap (λ t. t.words) table ∙ i.3 in (
