@@ -5,7 +5,11 @@ ghost use Rattle.std.specs.Prelude.{◌≡◌, ◌≢◌, ◌+◌, ◌<◌, ◌�
 ghost use Rattle.cas_disk.specs.Disk.{Leaves};
 ghost use Rattle.cas_atoms.specs.declared.atom.Mutation.{Mutation as MutationOf};
 ghost use Rattle.cas_log.specs.Logs.{IsOfATable};
-ghost use Rattle.cas_journal.specs.Stores.{Told, Holds, MadeRoom, took, committed_all};
+ghost use Rattle.cas_changes.specs.Allowed.{FitsEntry, HasSpelling};
+ghost use Rattle.cas_changes.specs.Saying.{said_by};
+ghost use Rattle.cas_changes.specs.Spelling.{entry_bytes};
+ghost use Rattle.cas_journal.specs.Ends.{Ends, IsDefinition};
+ghost use Rattle.cas_journal.specs.Stores.{Told, Holds, HoldsWithRoom, MadeRoom};
 ghost use Rattle.cas_journal.specs.Journals.{Lasts, AreFree, MayTake};
 ghost use Rattle.cas_history.specs.Items.{listed, log_list, front_list, faults_list};
 ghost use Rattle.cas_history.specs.declared.item.Item.TheVariants.{Wrote};
@@ -14,6 +18,7 @@ ghost use Rattle.cas_room.specs.Keeping.{Keeps};
 
 use crate::event::{Accepted, Event};
 use cas_atoms::Mutation;
+use cas_changes::Entry;
 use cas_disk::Folder;
 use cas_gates::First;
 use cas_history::{Faults, Front, Log, Session, write};
@@ -127,7 +132,7 @@ impl<F: Folder, J: Store> Room<F, J> {
             × Keeps self.new.journal (F.disk self.new.folder) (listed log_list self.new.log.pass.saw) self.new.faults.committed found
             (after_accept result mutation.now u) }
         ensures crash { (t : Told) → Lasts self.old.journal (F.disk self.old.folder) t
-            → Leaves (λ c. (u : Told) × MadeRoom t u × Holds u c) (F.disk self.old.folder) (F.disk self.new.folder) }
+            → Leaves (λ c. HoldsWithRoom t c) (F.disk self.old.folder) (F.disk self.new.folder) }
         ensures number { IfOk result (λ n. n ≡ mutation.now.number) }
         ensures entered { OnOk result (Accepts mutation.now (session.old.calls + 1) session.old.list
             (listed log_list self.old.log.pass.saw) (listed log_list self.new.log.pass.saw)
