@@ -40,11 +40,11 @@ fits_still : (t u : Told) (m : Mutation) → MadeRoom t u → FitsRecord (said_b
     → FitsRecord (said_by u.entries).tables (said_by u.entries).shards m
 fits_still t u m made fits =
     let tables : (said_by t.entries).tables ≡ (said_by u.entries).tables =
-        sym (ap (λ (es : List Entry). (said_by es).tables) made.entries ∙ same_tables t.entries made.numbers) in
+    sym (ap (λ (es : List Entry). (said_by es).tables) made.entries ∙ same_tables t.entries made.numbers) in
     let shards : (said_by t.entries).shards ≡ (said_by u.entries).shards =
-        sym (ap (λ (es : List Entry). (said_by es).shards) made.entries ∙ same_shards t.entries made.numbers) in
+    sym (ap (λ (es : List Entry). (said_by es).shards) made.entries ∙ same_shards t.entries made.numbers) in
     subst (λ (ts : List TableSchema). FitsRecord ts (said_by u.entries).shards m) tables
-        (subst (λ (n : ℕ). FitsRecord (said_by t.entries).tables n m) shards fits)
+    (subst (λ (n : ℕ). FitsRecord (said_by t.entries).tables n m) shards fits)
 
 -- the mutation may still be taken
 pub may_still : (t u : Told) (m : Mutation) → MadeRoom t u → MayTake t m → MayTake u m
@@ -64,7 +64,7 @@ pub counts_one_more : (n : ℕ) (list : List (Item Event)) (shard session call n
 counts_one_more n list shard session call number m few =
     let e : Item Event = Wrote shard session call number (event.Accepted m) in
     let more : length (accepted_in (list ++ e ∷ [])) ≡ length (accepted_in list) + 1 =
-        ap length (more_accepted list e) ∙ length-append (accepted_in list) (m ∷ []) in
+    ap length (more_accepted list e) ∙ length-append (accepted_in list) (m ∷ []) in
     omega (arith, few, more)
 
 -- what the room keeps, once room was made and the mutation was pushed

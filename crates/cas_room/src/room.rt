@@ -1,20 +1,21 @@
 //! The room.
 
 ghost use mathlib.Core.List.{IsPrefix};
-ghost use Rattle.std.specs.Prelude.{◌≡◌, ◌≢◌, ◌+◌, ◌<◌, ◌≤◌, ◌^◌, List, [], ◌∷◌, ◌++◌, length, IfOk, OnOk, OnErr, MatchResult};
-ghost use Rattle.cas_disk.specs.Disk.{Leaves};
+ghost use Rattle.std.specs.Prelude.{◌≡◌, ◌≢◌, ◌⊎◌, ◌+◌, ◌<◌, ◌≤◌, ◌^◌, List, [], ◌∷◌, ◌++◌, length, IfOk, IfErr, OnOk, OnErr};
+ghost use Rattle.cas_disk.specs.Disk.{Image, During, Leaves, Same};
+ghost use Rattle.cas_atoms.specs.LogLength.{record_length};
 ghost use Rattle.cas_atoms.specs.declared.atom.Mutation.{Mutation as MutationOf};
-ghost use Rattle.cas_log.specs.Logs.{IsOfATable};
+ghost use Rattle.cas_log.specs.Logs.{IsOfATable, half};
 ghost use Rattle.cas_changes.specs.Allowed.{FitsEntry, HasSpelling};
 ghost use Rattle.cas_changes.specs.Saying.{said_by};
 ghost use Rattle.cas_changes.specs.Spelling.{entry_bytes};
-ghost use Rattle.cas_journal.specs.Ends.{Ends, IsDefinition};
-ghost use Rattle.cas_journal.specs.Stores.{Told, Holds, HoldsWithRoom, MadeRoom};
+ghost use Rattle.cas_journal.specs.Ends.{Ends, IsDefinition, IsOfFolder, IsToldAtOnce, Limits, Prepares, WritesNothing, entry_limit};
+ghost use Rattle.cas_journal.specs.Stores.{Told, Holds, HoldsWithRoom, MadeRoom, MayList, failed_at};
 ghost use Rattle.cas_journal.specs.Journals.{Lasts, AreFree, MayTake};
 ghost use Rattle.cas_history.specs.Items.{listed, log_list, front_list, faults_list};
 ghost use Rattle.cas_history.specs.declared.item.Item.TheVariants.{Wrote};
 ghost use Rattle.cas_room.specs.Rooms.{accepted_in, first_number, Accepts, Knows, after_accept, after_commit, after_define};
-ghost use Rattle.cas_room.specs.Keeping.{Keeps};
+ghost use Rattle.cas_room.specs.Keeping.{Keeps, StandsFor};
 
 use crate::event::{Accepted, Event};
 use cas_atoms::Mutation;
@@ -146,6 +147,10 @@ impl<F: Folder, J: Store> Room<F, J> {
         ensures seats { (session.new.list ≡ session.old.list) × (front.new.shard ≡ front.old.shard) × IsPrefix session.old.pass.saw session.new.pass.saw }
         ensures known { OnErr result (Knows self.new.faults.number self.new.faults.committed self.new.faults.first (listed faults_list session.new.pass.saw)) }
         ensures first { self.new.faults.first ≡ first_number self.new.journal.first }
+        ensures outcome { Prepares (record_length mutation.now) (half self.old.journal.size) self.old.journal.first self.new.journal.first
+            (F.faults_of self.old.folder) (F.faults_of self.new.folder) result }
+        ensures untouched { IfErr result (λ f. IsToldAtOnce f → During Same (F.disk self.old.folder) (F.disk self.new.folder)) }
+        ensures count { F.faults_of self.old.folder ≤ F.faults_of self.new.folder }
     {
         if let Err(fault) = self.journal.prepare(alloc, &mut self.folder, mutation) {
             note(
@@ -180,6 +185,9 @@ impl<F: Folder, J: Store> Room<F, J> {
         ensures all { OnOk result (self.new.faults.committed ≡ self.old.accepted) }
         ensures first { self.new.faults.first ≡ first_number self.new.journal.first }
         ensures outcome { Ends self.old.journal.first self.new.journal.first (F.faults_of self.old.folder) (F.faults_of self.new.folder) result }
+        ensures why { IfErr result (λ f. IsOfFolder f) }
+        ensures untouched { IfErr result (λ f. IsToldAtOnce f → During Same (F.disk self.old.folder) (F.disk self.new.folder)) }
+        ensures count { F.faults_of self.old.folder ≤ F.faults_of self.new.folder }
     {
         let result = self.journal.commit(&mut self.folder);
         if result.is_ok() {
@@ -214,8 +222,14 @@ impl<F: Folder, J: Store> Room<F, J> {
         ensures session { (session.new.list ≡ session.old.list) × (session.new.calls ≡ session.old.calls)
             × (listed session.old.list session.new.pass.saw ≡ listed session.old.list session.old.pass.saw)
             × IsPrefix session.old.pass.saw session.new.pass.saw }
-        ensures known { OnErr result (Knows self.new.faults.number self.new.faults.committed self.new.faults.first (listed faults_list session.new.pass.saw)) }
+        ensures crash { (t : Told) → Lasts self.old.journal (F.disk self.old.folder) t → FitsEntry (said_by t.entries) entry.now
+            → Leaves (λ c. Holds t c ⊎ Holds (failed_at entry.now t) c) (F.disk self.old.folder) (F.disk self.new.folder) }
+        ensures known { Knows self.new.faults.number self.new.faults.committed self.new.faults.first (listed faults_list session.new.pass.saw) }
         ensures first { self.new.faults.first ≡ first_number self.new.journal.first }
+        ensures outcome { Ends self.old.journal.first self.new.journal.first (F.faults_of self.old.folder) (F.faults_of self.new.folder) result }
+        ensures limits { Limits (entry_limit self.old.journal entry.now) result }
+        ensures untouched { IfErr result (λ f. WritesNothing f → During Same (F.disk self.old.folder) (F.disk self.new.folder)) }
+        ensures count { F.faults_of self.old.folder ≤ F.faults_of self.new.folder }
     {
         let result = self.journal.define(alloc, &mut self.folder, entry);
         note(
@@ -227,4 +241,14 @@ impl<F: Folder, J: Store> Room<F, J> {
         );
         result
     }
+
+    /// Whatever a crash leaves now stands for a front of the history: what the opening found, and behind it
+    /// the first mutations of the room's list, each that was said to be committed among them.
+    #[tactic(auto, using(crate::proofs::Standing::images_stand))]
+    pub fn images_stand(&self)
+        ensures law { (found : List MutationOf) (t : Told)
+            → Keeps self.now.journal (F.disk self.now.folder) (listed log_list self.now.log.pass.saw) self.now.faults.committed found t
+            → (c : Image) → (F.disk self.now.folder).may_leave c
+            → StandsFor (MayList t) found (accepted_in (listed log_list self.now.log.pass.saw)) self.now.faults.committed c }
+    {}
 }

@@ -12,8 +12,8 @@ pub invariant_of-self-2-clause-counted : goal.invariant_of-self-2-clause-counted
 invariant_of-self-2-clause-counted g c =
     subst (λ (n : ℕ). n ≤ length (accepted_in (listed log_list c.write-number.new.log.pass.saw))) (sym c.saturating_add-self.ensures)
     (subst (λ (list : List (Item Event)). min (c.args.self.now.accepted + 1) (2 ^ 64 - 1) ≤ length (accepted_in list)) (sym c.write-number.ensures.log)
-        (counts_one_more c.args.self.now.accepted (listed log_list c.args.self.now.log.pass.saw) c.args.front.now.shard c.args.session.now.list
-        c.write-number.new.session.calls c.write-number.result c.args.mutation.now c.args.self.now.counted))
+    (counts_one_more c.args.self.now.accepted (listed log_list c.args.self.now.log.pass.saw) c.args.front.now.shard c.args.session.now.list
+    c.write-number.new.session.calls c.write-number.result c.args.mutation.now c.args.self.now.counted))
 
 pub invariant_of-self-2-clause-free : goal.invariant_of-self-2-clause-free
 invariant_of-self-2-clause-free g c = λ d left n above. c.prepare.ensures.free d left n (omega (arith, above, c.push.ensures.last))
@@ -21,8 +21,10 @@ invariant_of-self-2-clause-free g c = λ d left n above. c.prepare.ensures.free 
 pub returns-clause-kept : goal.returns-clause-kept
 returns-clause-kept g c found t keeps may =
     let (u, made, lasts) = c.prepare.ensures.lasts t keeps.lasts in
-    let pushed = c.push.ensures.lasts u lasts (may_still t u c.args.mutation.now made may) in
-    (u, made,
-        subst (λ (list : List (Item Event)). Keeps c.push.new.self (g.F.Folder.disk c.prepare.new.folder) list c.args.self.now.faults.committed found
-            (took c.args.mutation.now u)) (sym c.write-number.ensures.log)
-        (keeps_one_more _ _ _ _ found t u _ _ _ _ c.args.mutation.now keeps.all keeps.committed made pushed))
+    let pushed = c.push.ensures.lasts u lasts (may_still t u c.args.mutation.now made may) in (
+      u,
+      made,
+      subst (λ (list : List (Item Event)). Keeps c.push.new.self (g.F.Folder.disk c.prepare.new.folder) list c.args.self.now.faults.committed found
+          (took c.args.mutation.now u)) (sym c.write-number.ensures.log)
+          (keeps_one_more _ _ _ _ found t u _ _ _ _ c.args.mutation.now keeps.all keeps.committed made pushed),
+    )
