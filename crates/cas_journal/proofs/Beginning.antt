@@ -1,27 +1,21 @@
 -- What the beginning of a segment leaves of a journal.
-use Rattle.std.proofs.Common.{◌≡◌, ◌≢◌, inl, inr, ⊎_elim, ℕ, ◌+◌, ◌<◌, ◌≤◌, List, [], ◌∷◌, ◌++◌, length, take, Option, None, Some, Err, refl, sym, ap, subst, ◌∙◌, arith}
+use Rattle.std.proofs.Common.{◌≡◌, inl, ℕ, ◌+◌, ◌<◌, ◌≤◌, List, [], ◌∷◌, take, Option, None, Some, refl, sym, subst, ◌∙◌, arith}
 use Rattle.std.specs.List.{AllByRecursion}
-use Rattle.cas_disk.specs.declared.name.Name.{Name}
 use Rattle.cas_disk.specs.declared.name.Name.TheVariants.{Manifest as manifest_name, Log as log_name}
 use Rattle.cas_disk.specs.Disk.{Image, Disk, During, Changed, MayBeAnything}
 use Rattle.cas_disk.proofs.Moments.{reworded}
-use Rattle.cas_gates.specs.declared.first.First.{First}
-use Rattle.cas_atoms.specs.declared.atom.Mutation.{Mutation}
 use Rattle.cas_changes.specs.Saying.{Saying, said_by}
-use Rattle.cas_log.specs.Logs.{place_of, HasPushed, Stands as LogStands, Ends as LogEnds}
+use Rattle.cas_log.specs.Logs.{place_of}
 use Rattle.cas_log.specs.declared.log.Log.{Log}
-use Rattle.cas_log.specs.declared.fault.LogFault.{LogFault}
-use Rattle.cas_log.specs.declared.fault.LogFault.TheVariants as log_fault
 use Rattle.cas_manifest.specs.Manifests.{place_of as manifest_place, Stands as ManifestStands}
-use Rattle.cas_replay.specs.Reading.{segment_in}
 use Rattle.cas_journal.specs.Stores.{Told, Holds}
-use Rattle.cas_journal.specs.Journals.{Goes, Lasts, Writes, IsSpare, NoneAbove}
+use Rattle.cas_journal.specs.Journals.{Goes, Writes, IsSpare, NoneAbove}
 use Rattle.cas_journal.specs.declared.journal.Journal.{Journal}
 use Rattle.cas_journal.proofs.Lists.{all_mapped, all_front}
 use Rattle.cas_journal.proofs.Sayings.{all_below}
 use Rattle.cas_journal.proofs.Segments.{manifest_is_no_log, other_log, others_agree, below_differ}
 use Rattle.cas_journal.proofs.Holding.{store_apart, store_now, committed_few, listed_in_order}
-use Rattle.cas_journal.proofs.Moving.{still_so, manifest_still, earlier_still, log_still, number_begun, lasting}
+use Rattle.cas_journal.proofs.Moving.{still_so, manifest_still, earlier_still, log_still, number_begun}
 
 -- a segment whose number is known isn't the one that is begun
 module _ (number : ℕ) where

@@ -1,5 +1,5 @@
 -- How an append to the manifest ends for what a journal was told.
-use Rattle.std.proofs.Common.{◌≡◌, ◌≢◌, ◌⊎◌, inl, inr, ℕ, ◌≤◌, List, ◌∷◌, [], ◌++◌, Option, None, Some, Result, Ok, Err, refl, sym, ap, subst, ◌∙◌, arith}
+use Rattle.std.proofs.Common.{◌≡◌, ◌⊎◌, inl, ℕ, ◌≤◌, List, ◌∷◌, [], ◌++◌, Option, None, Some, Result, Ok, Err, refl, sym, subst, arith}
 use Rattle.std.specs.Prelude.{OnOk, IfErr, MatchResult}
 use Rattle.cas_disk.specs.declared.name.Name.TheVariants.{Manifest as manifest_name, Log as log_name}
 use Rattle.cas_disk.specs.Disk.{Image, Disk, During, Changed, MayBeAnything, Same}
@@ -10,10 +10,9 @@ use Rattle.cas_changes.specs.Saying.{said_by}
 use Rattle.cas_changes.specs.Allowed.{FitsEntry}
 use Rattle.cas_log.specs.declared.log.Log.{Log}
 use Rattle.cas_manifest.specs.Manifests.{Place, place_of as manifest_place, Stands as ManifestStands, MayHave as MayHaveManifest}
-use Rattle.cas_replay.specs.Reading.{segment_in}
 use Rattle.cas_journal.specs.Stores.{Told, Holds, appended, failed_at}
 use Rattle.cas_journal.specs.Journals.{Goes, Lasts, Writes, IsSpare}
-use Rattle.cas_journal.specs.Ends.{Ends, EndsBy, WritesNothing, told_after, IsDefinition}
+use Rattle.cas_journal.specs.Ends.{Ends, WritesNothing, told_after, IsDefinition}
 use Rattle.cas_journal.specs.declared.fault.JournalFault.{JournalFault}
 use Rattle.cas_journal.specs.declared.fault.JournalFault.TheVariants.{TooLarge, TooMany, Stopped, Failed, Mem}
 use Rattle.cas_journal.specs.declared.journal.Journal.{Journal}

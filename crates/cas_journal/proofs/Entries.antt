@@ -1,20 +1,18 @@
 -- What an entry that is appended to the manifest leaves of a journal: a definition, or the name of a segment.
-use Rattle.std.proofs.Common.{◌≡◌, ◌≢◌, ◌⊎◌, inl, inr, ⊎_elim, ℕ, ◌+◌, ◌<◌, ◌≤◌, List, [], ◌∷◌, ◌++◌, length, take, Option, None, Some, refl, sym, ap, subst, ◌∙◌, arith, append_assoc, length-append}
+use Rattle.std.proofs.Common.{◌≡◌, ◌≢◌, ◌⊎◌, inl, inr, ⊎_elim, ℕ, ◌≤◌, List, [], ◌∷◌, ◌++◌, take, Option, None, Some, refl, sym, ap, subst, ◌∙◌, arith}
 use Rattle.std.specs.List.{AllByRecursion}
-use Rattle.std.proofs.lemmas.List.{append-nil, nil_from_length}
+use Rattle.std.proofs.lemmas.List.{append-nil}
 use Rattle.cas_disk.specs.declared.name.Name.{Name}
 use Rattle.cas_disk.specs.declared.name.Name.TheVariants.{Manifest as manifest_name, Log as log_name}
-use Rattle.cas_disk.specs.Disk.{Image, Disk, During, Changed, MayBeAnything, Same}
+use Rattle.cas_disk.specs.Disk.{Image, Disk, During, Changed, MayBeAnything}
 use Rattle.cas_disk.proofs.Moments.{reworded}
 use Rattle.cas_atoms.specs.declared.atom.Mutation.{Mutation}
 use Rattle.cas_mutations.specs.Allowed.{FitsRecord}
 use Rattle.cas_changes.specs.declared.entry.Entry.{Entry}
 use Rattle.cas_changes.specs.declared.entry.Entry.TheVariants as entry
-use Rattle.cas_changes.specs.declared.said.TheConstants.{SEGMENT_LIMIT}
 use Rattle.cas_changes.specs.Saying.{Saying, after, said_by}
 use Rattle.cas_changes.specs.Allowed.{FitsEntry}
-use Rattle.cas_log.specs.Segment.{joined}
-use Rattle.cas_log.specs.Logs.{place_of, HasPushed, Stands as LogStands}
+use Rattle.cas_log.specs.Logs.{place_of}
 use Rattle.cas_log.specs.declared.log.Log.{Log}
 use Rattle.cas_manifest.specs.File.{IsManifest}
 use Rattle.cas_manifest.specs.Manifests.{place_of as manifest_place, Stands as ManifestStands, MayHave as MayHaveManifest}
@@ -22,15 +20,14 @@ use Rattle.cas_manifest.proofs.Appends.{said_more}
 use Rattle.cas_replay.specs.Reading.{segment_in}
 use Rattle.cas_replay.specs.Grammar.{AreSegments}
 use Rattle.cas_journal.specs.Stores.{IsStore, Told, Holds, appended, failed_at}
-use Rattle.cas_journal.specs.Journals.{Goes, Lasts, Writes, IsSpare}
+use Rattle.cas_journal.specs.Journals.{Goes, Writes, IsSpare}
 use Rattle.cas_journal.specs.Ends.{IsDefinition}
 use Rattle.cas_journal.specs.declared.journal.Journal.{Journal}
-use Rattle.cas_journal.proofs.Lists.{all_mapped, all_front}
+use Rattle.cas_journal.proofs.Lists.{all_mapped}
 use Rattle.cas_journal.proofs.Fitting.{IsAppended, goes_on_fitting}
-use Rattle.cas_journal.proofs.Sayings.{is_made}
-use Rattle.cas_journal.proofs.Segments.{joined_more, segments_more, segments_fit, log_agrees, others_agree, none_is_manifest}
-use Rattle.cas_journal.proofs.Holding.{HasItsSegment, log_file, store_with, store_now, holds_now, committed_few, all_fit}
-use Rattle.cas_journal.proofs.Moving.{still_so, manifest_still, log_still, earlier_still, spare_still, manifest_changed, holds_same}
+use Rattle.cas_journal.proofs.Segments.{segments_fit, log_agrees, others_agree, none_is_manifest}
+use Rattle.cas_journal.proofs.Holding.{HasItsSegment, store_with, store_now, holds_now, committed_few}
+use Rattle.cas_journal.proofs.Moving.{still_so, log_still, earlier_still, spare_still, manifest_changed}
 
 -- the manifest is written again, with the same entries
 store_rewritten : (entries : List Entry) (ms : List Mutation) (d c : Image) → IsStore entries ms d → ((k : Name) → k ≢ manifest_name → c k ≡ d k)

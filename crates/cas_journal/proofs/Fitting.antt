@@ -1,12 +1,12 @@
 -- A mutation that fits goes on fitting while tables are added, and columns behind those of a table.
-use Rattle.std.proofs.Common.{◌≡◌, ℕ, zero, suc, ◌+◌, ◌<◌, ◌≤◌, Bool, true, false, cond, List, [], ◌∷◌, ◌++◌, length, map, take, Option, None, Some, refl, sym, ap, subst, ◌∙◌, arith}
-use Rattle.std.specs.Prelude.{◌&&◌, ◌||◌, ◌==◌, not, slice_get, eqb}
+use Rattle.std.proofs.Common.{◌≡◌, ℕ, zero, suc, Bool, true, false, cond, List, [], ◌∷◌, ◌++◌, map, Option, None, Some, refl, sym, ap, subst, ◌∙◌}
+use Rattle.std.specs.Prelude.{◌&&◌, ◌||◌, not, slice_get, eqb}
 use Rattle.std.specs.List.{All, AllByRecursion, filter_map}
 use Rattle.std.proofs.lemmas.List.{append-nil}
 use Rattle.std.specs.Option.{option_map}
 use Rattle.std.proofs.lemmas.List.Elements.{filter_map-append, All-from_recursion, recursion_from_All}
 use Rattle.std.proofs.lemmas.Option.{slice_get-map}
-use Rattle.cas_types.specs.Schemas.{is_key, is_clustering, is_partition}
+use Rattle.cas_types.specs.Schemas.{is_key}
 use Rattle.cas_types.specs.declared.schema.Column.{Column}
 use Rattle.cas_types.specs.declared.schema.Kind.{Kind}
 use Rattle.cas_types.specs.declared.schema.Kind.TheVariants.{Partition, Ascending, Descending, Static, Regular}
@@ -22,7 +22,7 @@ use Rattle.cas_atoms.specs.declared.atom.Mutation.{Mutation}
 use Rattle.cas_atoms.specs.Fits.{Fits, FitsMutation, FitsWrite, FitsEmptied, FitsClustering, FitsRange, Names}
 use Rattle.cas_mutations.specs.Allowed.{FitsRecord}
 use Rattle.cas_schemas.specs.Each.{EachFits}
-use Rattle.cas_schemas.specs.Columns.{FitsColumn, FitColumns, comes_after, may_stand}
+use Rattle.cas_schemas.specs.Columns.{FitsColumn, FitColumns, comes_after}
 use Rattle.cas_changes.specs.declared.entry.Entry.{Entry}
 use Rattle.cas_changes.specs.declared.entry.Entry.TheVariants as entry
 use Rattle.cas_changes.specs.Saying.{Saying, after, with_columns}

@@ -1,19 +1,18 @@
 -- What each image of a journal that goes on has, and what an image has where one file changed.
-use Rattle.std.proofs.Common.{◌≡◌, ◌≢◌, ◌⊎◌, inl, inr, ⊎_elim, ℕ, ◌+◌, ◌<◌, ◌≤◌, List, [], ◌∷◌, ◌++◌, length, take, Option, None, Some, refl, sym, ap, subst, ◌∙◌, arith, append_assoc, length-append}
+use Rattle.std.proofs.Common.{◌≡◌, ◌≢◌, inl, ℕ, ◌≤◌, List, [], ◌∷◌, ◌++◌, length, take, Option, None, Some, refl, sym, ap, subst, ◌∙◌, arith, append_assoc, length-append}
 use Rattle.std.specs.List.{AllByRecursion}
-use Rattle.std.proofs.lemmas.List.{append-nil, take_all}
-use Rattle.cas_types.specs.declared.schema.TableSchema.{TableSchema}
+use Rattle.std.proofs.lemmas.List.{append-nil}
 use Rattle.cas_disk.specs.declared.name.Name.{Name}
 use Rattle.cas_disk.specs.declared.name.Name.TheVariants.{Manifest as manifest_name, Log as log_name}
-use Rattle.cas_disk.specs.Disk.{Image, Disk, Changed, bytes_of}
+use Rattle.cas_disk.specs.Disk.{Image, Disk, bytes_of}
 use Rattle.cas_atoms.specs.declared.atom.Mutation.{Mutation}
 use Rattle.cas_mutations.specs.Allowed.{FitsRecord}
 use Rattle.cas_changes.specs.declared.entry.Entry.{Entry}
 use Rattle.cas_changes.specs.declared.entry.Entry.TheVariants as entry
-use Rattle.cas_changes.specs.Saying.{Saying, nothing, after, said_by}
+use Rattle.cas_changes.specs.Saying.{Saying, after, said_by}
 use Rattle.cas_changes.specs.Allowed.{FitsEntry}
-use Rattle.cas_log.specs.Segment.{IsSegment, joined, front}
-use Rattle.cas_log.specs.Logs.{place_of, Stands as LogStands, MayHave as MayHaveLog}
+use Rattle.cas_log.specs.Segment.{IsSegment, joined}
+use Rattle.cas_log.specs.Logs.{place_of, Stands as LogStands}
 use Rattle.cas_log.specs.declared.log.Log.{Log}
 use Rattle.cas_manifest.specs.File.{IsManifest, MayFollow}
 use Rattle.cas_manifest.specs.File as file
@@ -21,15 +20,15 @@ use Rattle.cas_manifest.specs.Manifests.{place_of as manifest_place, Stands as M
 use Rattle.cas_manifest.specs.declared.manifest.Manifest.{Manifest}
 use Rattle.cas_manifest.proofs.Appends.{said_more}
 use Rattle.cas_replay.specs.Reading.{segment_in}
-use Rattle.cas_replay.specs.Grammar.{IsSegmentOf, AreSegments, AreInOrder, IsLog}
-use Rattle.cas_journal.specs.Stores.{IsStore, Told, Holds, MayList}
+use Rattle.cas_replay.specs.Grammar.{AreSegments, AreInOrder, IsLog}
+use Rattle.cas_journal.specs.Stores.{IsStore, Told, Holds}
 use Rattle.cas_journal.specs.Journals.{Goes, Writes}
 use Rattle.cas_journal.specs.declared.journal.Journal.{Journal}
 use Rattle.cas_journal.proofs.Lists.{all_front, all_back, front_in_order, take_front}
 use Rattle.cas_journal.proofs.Fitting.{IsAppended, goes_on_fitting}
-use Rattle.cas_journal.proofs.Sayings.{InOrder, in_order, all_below, before_last, is_made}
-use Rattle.cas_journal.proofs.Segments.{joined_more, segments_more, log_with_empty, log_agrees, log_fits, log_is_no_manifest, manifest_is_no_log}
-use Rattle.cas_journal.proofs.Segments.{other_log, others_agree, none_is_manifest, below_differ}
+use Rattle.cas_journal.proofs.Sayings.{InOrder, in_order}
+use Rattle.cas_journal.proofs.Segments.{joined_more, segments_more, log_with_empty, log_agrees, log_fits}
+use Rattle.cas_journal.proofs.Segments.{others_agree, none_is_manifest}
 
 -- ---- what stands is in each image
 

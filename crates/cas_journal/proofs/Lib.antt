@@ -9,3 +9,4 @@ pub mod Defining
 pub mod Beginning
 pub mod Naming
 pub mod Rooms
+pub mod Taking

@@ -21,11 +21,11 @@ use Rattle.cas_log.specs.declared.fault.LogFault.TheVariants as log_fault
 use Rattle.cas_manifest.specs.Manifests.{Place as ManifestPlace, place_of as manifest_place, Stands as ManifestStands}
 use Rattle.cas_replay.specs.Reading.{segment_in}
 use Rattle.cas_replay.specs.Grammar.{AreSegments, AreInOrder, IsLog}
-use Rattle.cas_journal.specs.Stores.{IsStore, Told, Holds, MayList, committed_all, took}
+use Rattle.cas_journal.specs.Stores.{IsStore, Told, Holds, committed_all, took}
 use Rattle.cas_journal.specs.Journals.{Goes, Lasts, Writes, IsSpare, NoneAbove, MayTake}
 use Rattle.cas_journal.specs.declared.journal.Journal.{Journal}
 use Rattle.cas_journal.proofs.Lists.{all_front, all_back, all_more, front_in_order}
-use Rattle.cas_journal.proofs.Sayings.{Ascends, InOrder, all_below, before_last}
+use Rattle.cas_journal.proofs.Sayings.{Ascends, all_below, before_last}
 use Rattle.cas_journal.proofs.Segments.{segments_agree, log_is_no_manifest, manifest_is_no_log, other_log, others_agree, below_differ}
 use Rattle.cas_journal.proofs.Holding.{manifest_file, store_same, listed_in_order, all_fit, committed_front, committed_few, holds_now, log_of_parts}
 

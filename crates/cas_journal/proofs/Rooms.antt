@@ -1,14 +1,13 @@
 -- Room that is made in several steps.
-use Rattle.std.proofs.Common.{◌≡◌, ◌⊎◌, inl, inr, ⊎_elim, ℕ, ◌≤◌, List, [], ◌∷◌, ◌++◌, length, Bool, true, false, Result, Ok, Err, refl, sym, ap, subst, ◌∙◌, arith}
+use Rattle.std.proofs.Common.{◌≡◌, ◌⊎◌, inl, inr, ℕ, ◌≤◌, [], ◌∷◌, length, Bool, true, false, Result, Ok, Err, refl, sym, ◌∙◌, arith}
 use Rattle.std.specs.Prelude.{MatchResult}
 use Rattle.std.proofs.lemmas.List.{append-nil}
 use Rattle.cas_disk.specs.Disk.{Image, Disk, During}
 use Rattle.cas_disk.proofs.Moments.{reworded, leaves_either}
 use Rattle.cas_atoms.specs.declared.atom.Mutation.{Mutation}
-use Rattle.cas_changes.specs.declared.entry.Entry.{Entry}
 use Rattle.cas_changes.specs.declared.entry.Entry.TheVariants.{NewSegment}
 use Rattle.cas_journal.specs.Stores.{Told, Holds, MadeRoom, HoldsWithRoom, committed_all, appended, failed_at}
-use Rattle.cas_journal.specs.Journals.{Goes, Lasts}
+use Rattle.cas_journal.specs.Journals.{Lasts}
 use Rattle.cas_journal.specs.Ends.{told_after}
 use Rattle.cas_journal.specs.Inner.Parts.{fits_in, FitsOrSettled}
 use Rattle.cas_journal.specs.declared.fault.JournalFault.{JournalFault}

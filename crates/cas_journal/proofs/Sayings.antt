@@ -1,11 +1,11 @@
 -- What entries that may follow one another say together: the store is made, and the segments that are listed ascend.
-use Rattle.std.proofs.Common.{◌≡◌, ◌≢◌, ℕ, ◌+◌, ◌<◌, ◌≤◌, Bool, true, false, cond, List, [], ◌∷◌, ◌++◌, length, refl, sym, ap, subst, ◌∙◌, arith}
-use Rattle.std.specs.Prelude.{filter, not, ◌==◌, eqb}
+use Rattle.std.proofs.Common.{◌≢◌, ℕ, ◌+◌, ◌<◌, ◌≤◌, Bool, true, false, cond, List, [], ◌∷◌, ◌++◌, refl, arith}
+use Rattle.std.specs.Prelude.{filter}
 use Rattle.std.specs.List.{AllByRecursion, fold}
 use Rattle.cas_changes.specs.declared.entry.Entry.{Entry}
 use Rattle.cas_changes.specs.declared.entry.Entry.TheVariants as entry
 use Rattle.cas_changes.specs.Saying.{Saying, nothing, after, said_by}
-use Rattle.cas_changes.specs.Allowed.{FitsEntry, FitsNext, IsMade}
+use Rattle.cas_changes.specs.Allowed.{FitsEntry, IsMade}
 use Rattle.cas_manifest.specs.File.{MayFollow}
 
 -- ---- the store is made

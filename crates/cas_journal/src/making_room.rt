@@ -79,11 +79,7 @@ impl Journal {
 
     // Commits what is pending where the record doesn't fit behind it, or would make it longer than half
     // a segment.
-    fn settle<F: Folder>(
-        &mut self,
-        folder: &mut F,
-        mutation: &Mutation,
-    ) -> Result<(), JournalFault>
+    fn settle<F: Folder>(&mut self, folder: &mut F, mutation: &Mutation) -> Result<(), JournalFault>
         requires short { record_length mutation.now ≤ half self.old.size }
         requires free { AreFree self.old (F.disk folder.old) }
         requires going { self.old.first ≡ None }
@@ -107,11 +103,7 @@ impl Journal {
     }
 
     // Begins the segment with the next number. It waits as the spare one until it is named.
-    fn begin_spare<F: Folder>(
-        &mut self,
-        alloc: Global,
-        folder: &mut F,
-    ) -> Result<(), JournalFault>
+    fn begin_spare<F: Folder>(&mut self, alloc: Global, folder: &mut F) -> Result<(), JournalFault>
         requires unspared { self.old.spare ≡ None }
         requires allowed { self.old.last_segment < SEGMENT_LIMIT }
         requires free { AreFree self.old (F.disk folder.old) }
@@ -128,13 +120,7 @@ impl Journal {
         ensures size { self.new.size ≡ self.old.size }
     {
         self.last_segment += 1;
-        match Log::begin(
-            alloc,
-            folder,
-            &mut self.first,
-            self.last_segment,
-            self.size,
-        ) {
+        match Log::begin(alloc, folder, &mut self.first, self.last_segment, self.size) {
             Ok(log) => {
                 self.spare = Some(log);
                 Ok(())
@@ -152,7 +138,8 @@ impl Journal {
         ensures during { (t : Told) → Lasts self.old (F.disk folder.old) t → Leaves (λ c. Holds t c) (F.disk folder.old) (F.disk folder.new) }
         ensures begun { OnOk result (IsSome self.new.spare) }
         ensures outcome { Ends self.old.first self.new.first (F.faults_of folder.old) (F.faults_of folder.new) result }
-        ensures limit { (what : _) (most : _) → result ≡ Err (JournalFault.TooMany what most) → next_limit self.new.spare self.new ≡ Some (JournalFault.TooMany what most) }
+        ensures limit { (what : _) (most : _) → result ≡ Err (JournalFault.TooMany what most)
+            → next_limit self.new.spare self.new ≡ Some (JournalFault.TooMany what most) }
         ensures count { F.faults_of folder.old ≤ F.faults_of folder.new }
         ensures manifest { self.new.manifest ≡ self.old.manifest }
         ensures log { self.new.log ≡ self.old.log }
@@ -209,7 +196,8 @@ impl Journal {
         ensures during { (t : Told) → Lasts self.old (F.disk folder.old) t
             → Leaves (λ c. Holds t c ⊎ Holds (failed_at (NewSegment self.old.last_segment) t) c) (F.disk folder.old) (F.disk folder.new) }
         ensures outcome { Ends self.old.first self.new.first (F.faults_of folder.old) (F.faults_of folder.new) result }
-        ensures limit { (what : _) (most : _) → result ≡ Err (JournalFault.TooMany what most) → next_limit self.new.spare self.new ≡ Some (JournalFault.TooMany what most) }
+        ensures limit { (what : _) (most : _) → result ≡ Err (JournalFault.TooMany what most)
+            → next_limit self.new.spare self.new ≡ Some (JournalFault.TooMany what most) }
         ensures count { F.faults_of folder.old ≤ F.faults_of folder.new }
         ensures log { MatchResult result (λ _. self.new.log ≡ self.old.spare) (λ _. self.new.log ≡ self.old.log) }
         ensures size { self.new.size ≡ self.old.size }
@@ -265,7 +253,8 @@ impl Journal {
         ensures prepared { OnOk result (IsPrepared self.new mutation.now) }
         ensures lasts { (t : Told) → Lasts self.old (F.disk folder.old) t → (u : Told) × MadeRoom t u × Lasts self.new (F.disk folder.new) u }
         ensures during { (t : Told) → Lasts self.old (F.disk folder.old) t → Leaves (λ c. HoldsWithRoom t c) (F.disk folder.old) (F.disk folder.new) }
-        ensures outcome { Prepares (record_length mutation.now) (half self.old.size) self.old.first self.new.first (F.faults_of folder.old) (F.faults_of folder.new) result }
+        ensures outcome { Prepares (record_length mutation.now) (half self.old.size) self.old.first self.new.first
+            (F.faults_of folder.old) (F.faults_of folder.new) result }
         ensures limit { TellsLimit self.new mutation.now result }
         ensures untouched { IfErr result (λ f. IsToldAtOnce f → During Same (F.disk folder.old) (F.disk folder.new)) }
         ensures count { F.faults_of folder.old ≤ F.faults_of folder.new }

@@ -69,8 +69,11 @@ impl Journal {
         requires prepared { IsPrepared self.old mutation.now }
         requires mutation { IsOfATable mutation.now }
         ensures lasts { (t : Told) → Lasts self.old (F.disk folder.now) t → MayTake t mutation.now → Lasts self.new (F.disk folder.now) (took mutation.now t) }
-        ensures first { self.new.first ≡ self.old.first }
+        ensures manifest { self.new.manifest ≡ self.old.manifest }
+        ensures spare { self.new.spare ≡ self.old.spare }
         ensures last { self.new.last_segment ≡ self.old.last_segment }
+        ensures size { self.new.size ≡ self.old.size }
+        ensures first { self.new.first ≡ self.old.first }
     {
         if let Some(log) = &mut self.log {
             log.push(mutation);
@@ -87,6 +90,7 @@ impl Journal {
         ensures outcome { Ends self.old.first self.new.first (F.faults_of folder.old) (F.faults_of folder.new) result }
         ensures why { IfErr result (λ f. IsOfFolder f) }
         ensures untouched { IfErr result (λ f. IsToldAtOnce f → During Same (F.disk folder.old) (F.disk folder.new)) }
+        ensures idle { (t : Told) → Lasts self.old (F.disk folder.old) t → t.committed ≡ length t.taken → During Same (F.disk folder.old) (F.disk folder.new) }
         ensures count { F.faults_of folder.old ≤ F.faults_of folder.new }
         ensures manifest { self.new.manifest ≡ self.old.manifest }
         ensures spare { self.new.spare ≡ self.old.spare }
@@ -147,7 +151,8 @@ impl Journal {
         requires free { AreFree self.old (F.disk folder.old) }
         ensures free { AreFree self.new (F.disk folder.new) }
         ensures lasts { (t : Told) → Lasts self.old (F.disk folder.old) t → FitsEntry (said_by t.entries) entry.now
-            → MatchResult result (λ _. Lasts self.new (F.disk folder.new) (appended entry.now t)) (λ f. Lasts self.new (F.disk folder.new) (told_after f entry.now t)) }
+            → MatchResult result (λ _. Lasts self.new (F.disk folder.new) (appended entry.now t))
+            (λ f. Lasts self.new (F.disk folder.new) (told_after f entry.now t)) }
         ensures during { (t : Told) → Lasts self.old (F.disk folder.old) t → FitsEntry (said_by t.entries) entry.now
             → Leaves (λ c. Holds t c ⊎ Holds (failed_at entry.now t) c) (F.disk folder.old) (F.disk folder.new) }
         ensures outcome { Ends self.old.first self.new.first (F.faults_of folder.old) (F.faults_of folder.new) result }

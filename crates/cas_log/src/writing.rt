@@ -2,7 +2,7 @@
 
 ghost use Rattle.std.specs.Prelude.{◌≡◌, ◌≢◌, ◌+◌, ◌≤◌, ◌<◌, ◌^◌, List, [], ◌∷◌, ◌++◌};
 ghost use Rattle.std.specs.Prelude.{OnOk, vec_len, None, Err, MatchResult, IfOk, nat_le};
-ghost use Rattle.cas_disk.specs.Disk.{Image, During, Changed, MayBeAnything};
+ghost use Rattle.cas_disk.specs.Disk.{Image, During, Changed, MayBeAnything, Same};
 ghost use Rattle.cas_atoms.specs.declared.atom.Mutation.{Mutation as MutationOf};
 ghost use Rattle.cas_atoms.specs.LogLength.{record_length};
 ghost use Rattle.cas_log.specs.Segment.{IsSize};
@@ -139,6 +139,7 @@ impl Log {
         ensures number { (place_of self.new).number ≡ (place_of self.old).number }
         ensures size { (place_of self.new).size ≡ (place_of self.old).size }
         ensures outcome { Ends first.old first.new (F.faults_of folder.old) (F.faults_of folder.new) result }
+        ensures idle { HasPushed self.old [] → During Same (F.disk folder.old) (F.disk folder.new) }
         ensures reserved { (m : MutationOf) → IsReserved self.old m → IsReserved self.new m }
         ensures no_memory { result ≢ Err LogFault.Mem }
         ensures count { F.faults_of folder.old ≤ F.faults_of folder.new }

@@ -1,11 +1,10 @@
 -- A segment is begun, by the clauses of the log's.
-use Rattle.std.proofs.Common.{◌≡◌, ◌<◌, ◌≤◌, ◌+◌, ℕ, Option, None, Some, arith, refl, sym, subst}
+use Rattle.std.proofs.Common.{◌≡◌, ◌<◌, ◌+◌, Option, arith, refl, sym, subst}
 use Rattle.cas_changes.specs.Saying.{said_by}
 use Rattle.cas_log.specs.declared.log.Log.{Log}
-use Rattle.cas_journal.specs.Stores.{Holds}
 use Rattle.cas_journal.specs.Journals.{IsSpare}
 use Rattle.cas_journal.proofs.Beginning.{above_free, begin_leaves, begin_goes}
-use Rattle.cas_journal.proofs.Moving.{still_so, lasting}
+use Rattle.cas_journal.proofs.Moving.{lasting}
 use Rattle.cas_journal.proofs.journal.Journal.begin_spare.Goals as goal
 
 pub returns-in-Ok-clause-free : goal.returns-in-Ok-clause-free

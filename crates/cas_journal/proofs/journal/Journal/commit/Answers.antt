@@ -1,5 +1,5 @@
 -- A commit, by the clauses of the log's.
-use Rattle.std.proofs.Common.{◌≡◌, ◌<◌, ◌≤◌, ℕ, None, Some, Err, ap, arith, refl}
+use Rattle.std.proofs.Common.{◌≤◌, Err, ap, arith, refl}
 use Rattle.cas_disk.specs.Disk.{MayBeAnything, Changed}
 use Rattle.cas_disk.specs.declared.name.Name.TheVariants.{Log as log_name}
 use Rattle.cas_journal.specs.Stores.{Holds, committed_all}

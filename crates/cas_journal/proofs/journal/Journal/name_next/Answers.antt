@@ -1,5 +1,5 @@
 -- The next segment is named, by the clauses of the append.
-use Rattle.std.proofs.Common.{◌≡◌, ◌<◌, ◌∙◌, ℕ, refl, subst}
+use Rattle.std.proofs.Common.{◌<◌, ◌∙◌, ℕ, subst}
 use Rattle.cas_disk.specs.Disk.{MayBeAnything, Changed}
 use Rattle.cas_disk.specs.declared.name.Name.TheVariants.{Manifest as manifest_name}
 use Rattle.cas_changes.specs.declared.entry.Entry.TheVariants.{NewSegment}

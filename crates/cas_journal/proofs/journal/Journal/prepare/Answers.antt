@@ -1,5 +1,5 @@
 -- Room for a mutation, step by step.
-use Rattle.std.proofs.Common.{◌<◌, ◌≤◌, ℕ, length, subst}
+use Rattle.std.proofs.Common.{◌<◌, ℕ, subst}
 use Rattle.cas_journal.specs.Stores.{committed_all}
 use Rattle.std.proofs.Common.{refl}
 use Rattle.cas_journal.proofs.Holding.{committed_few}
