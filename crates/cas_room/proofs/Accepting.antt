@@ -1,4 +1,4 @@
--- A mutation that may be taken still may be once room was made, and what the room keeps then has it.
+-- The room's list with one mutation more, and what the room keeps of it.
 use Rattle.std.proofs.Common.{◌≡◌, ℕ, ◌+◌, ◌-◌, ◌^◌, ◌≤◌, min, List, [], ◌∷◌, ◌++◌, length, refl, sym, ap, subst, ◌∙◌, arith, append_assoc, length-append}
 use Rattle.std.specs.List.{flat_map}
 use Rattle.std.proofs.lemmas.List.{append-nil}
@@ -21,37 +21,6 @@ use Rattle.cas_room.specs.declared.event.Event.{Event}
 use Rattle.cas_room.specs.declared.event.Event.TheVariants as event
 use Rattle.cas_room.specs.Rooms.{accepted_in, mutation_of}
 use Rattle.cas_room.specs.Keeping.{Keeps}
-
--- ---- room that is made defines nothing
-
-same_tables : (entries : List Entry) (ns : List ℕ) → (said_by (entries ++ named ns)).tables ≡ (said_by entries).tables
-same_tables entries [] = ap (λ (es : List Entry). (said_by es).tables) (append-nil entries)
-same_tables entries (n ∷ ns) =
-    ap (λ (es : List Entry). (said_by es).tables) (sym (append_assoc entries (NewSegment n ∷ []) (named ns)))
-    ∙ same_tables (entries ++ NewSegment n ∷ []) ns ∙ ap (λ s. s.tables) (said_more entries (NewSegment n))
-
-same_shards : (entries : List Entry) (ns : List ℕ) → (said_by (entries ++ named ns)).shards ≡ (said_by entries).shards
-same_shards entries [] = ap (λ (es : List Entry). (said_by es).shards) (append-nil entries)
-same_shards entries (n ∷ ns) =
-    ap (λ (es : List Entry). (said_by es).shards) (sym (append_assoc entries (NewSegment n ∷ []) (named ns)))
-    ∙ same_shards (entries ++ NewSegment n ∷ []) ns ∙ ap (λ s. s.shards) (said_more entries (NewSegment n))
-
-fits_still : (t u : Told) (m : Mutation) → MadeRoom t u → FitsRecord (said_by t.entries).tables (said_by t.entries).shards m
-    → FitsRecord (said_by u.entries).tables (said_by u.entries).shards m
-fits_still t u m made fits =
-    let tables : (said_by t.entries).tables ≡ (said_by u.entries).tables =
-    sym (ap (λ (es : List Entry). (said_by es).tables) made.entries ∙ same_tables t.entries made.numbers) in
-    let shards : (said_by t.entries).shards ≡ (said_by u.entries).shards =
-    sym (ap (λ (es : List Entry). (said_by es).shards) made.entries ∙ same_shards t.entries made.numbers) in
-    subst (λ (ts : List TableSchema). FitsRecord ts (said_by u.entries).shards m) tables
-    (subst (λ (n : ℕ). FitsRecord (said_by t.entries).tables n m) shards fits)
-
--- the mutation may still be taken
-pub may_still : (t u : Told) (m : Mutation) → MadeRoom t u → MayTake t m → MayTake u m
-may_still t u m made may = record {
-  fits = fits_still t u m made may.fits;
-  next = subst (λ (ms : List Mutation). AreInOrder (ms ++ m ∷ [])) (sym made.taken) may.next;
-}
 
 -- ---- one mutation more
 

@@ -5,7 +5,8 @@ use Rattle.cas_journal.specs.Stores.{took}
 use Rattle.cas_room.specs.declared.event.Event.{Event}
 use Rattle.cas_room.specs.Rooms.{accepted_in}
 use Rattle.cas_room.specs.Keeping.{Keeps}
-use Rattle.cas_room.proofs.Accepting.{may_still, counts_one_more, keeps_one_more}
+use Rattle.cas_journal.proofs.Taking.{may_still_take}
+use Rattle.cas_room.proofs.Accepting.{counts_one_more, keeps_one_more}
 use Rattle.cas_room.proofs.room.Room.accept.Goals as goal
 
 pub invariant_of-self-2-clause-counted : goal.invariant_of-self-2-clause-counted
@@ -21,7 +22,7 @@ invariant_of-self-2-clause-free g c = λ d left n above. c.prepare.ensures.free 
 pub returns-clause-kept : goal.returns-clause-kept
 returns-clause-kept g c found t keeps may =
     let (u, made, lasts) = c.prepare.ensures.lasts t keeps.lasts in
-    let pushed = c.push.ensures.lasts u lasts (may_still t u c.args.mutation.now made may) in (
+    let pushed = c.push.ensures.lasts u lasts (may_still_take t u c.args.mutation.now made may) in (
       u,
       made,
       subst (λ (list : List (Item Event)). Keeps c.push.new.self (g.F.Folder.disk c.prepare.new.folder) list c.args.self.now.faults.committed found
