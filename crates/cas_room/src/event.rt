@@ -1,0 +1,23 @@
+//! What the entries of the history tell.
+
+use cas_atoms::Mutation;
+use cas_ledger::Tells;
+
+/// What an entry of the history tells.
+#[derive(Drop)]
+pub enum Event {
+    /// A mutation that was accepted.
+    Accepted(Mutation),
+}
+
+/// Tells of a mutation that it was accepted, without a copy of it.
+#[derive(Drop)]
+pub struct Accepted<'a> {
+    pub mutation: &'a Mutation,
+}
+
+impl<'a> Tells<Event> for Accepted<'a> {
+    ghost use Rattle.cas_room.specs.declared.event.Event.TheVariants as event;
+
+    ghost entry = { λ a. event.Accepted a.mutation.now };
+}
