@@ -14,6 +14,7 @@ use Rattle.cas_bounds.specs.Keys.{key_cmp}
 use Rattle.cas_bounds.specs.declared.cuts.Clustering.{Clustering}
 use Rattle.cas_bounds.specs.declared.map_key.MapKey.{MapKey}
 use Rattle.cas_atoms.specs.Greatest.{greater}
+use Rattle.cas_atoms.specs.declared.row.Row.{Row}
 use Rattle.cas_atoms.specs.declared.row.RowColumn.{RowColumn}
 use Rattle.cas_atoms.specs.declared.row.PathCell.{PathCell}
 use Rattle.cas_streams.specs.declared.fragment.Fragment.{Fragment}
@@ -61,15 +62,19 @@ abbrev pub of_row : {X : Type 0} → Option ℕ → Option X → Option X
 of_row None x = x
 of_row (Some n) x = None
 
--- what is said there, as a piece of the row that has nothing else
-abbrev pub piece : Option MapKey → Option ℕ → Option (List ℕ) → Content → Fragment
-piece None column path c = fragment.Static (columns_at column path c)
-piece (Some k) column path c = fragment.Row (record {
-  clustering = clustering_of k;
+-- what is said there of the row that stands there
+abbrev pub row_piece : Clustering → Option ℕ → Option (List ℕ) → Content → Row
+row_piece at column path c = record {
+  clustering = at;
   deletion = of_row column c.deletion;
   live = of_row column c.live;
   columns = columns_at column path c;
-})
+}
+
+-- what is said there, as a piece of the row that has nothing else
+abbrev pub piece : Option MapKey → Option ℕ → Option (List ℕ) → Content → Fragment
+piece None column path c = fragment.Static (columns_at column path c)
+piece (Some k) column path c = fragment.Row (row_piece (clustering_of k) column path c)
 
 -- what is said at a spot, as a fragment
 abbrev pub said : Spot → Content → Fragment
