@@ -52,10 +52,14 @@ cells_at None c = []
 cells_at (Some p) None = []
 cells_at (Some p) (Some c) = record { path = p; cell = c } ∷ []
 
+-- what is said of a column, or of a cell of it
+abbrev pub column_at : ℕ → Option (List ℕ) → Content → RowColumn
+column_at n path c = record { column = record { number = n; path = c.tag }; deletion = c.deletion; cells = cells_at path c.cell }
+
 -- the column, where there is one
 abbrev pub columns_at : Option ℕ → Option (List ℕ) → Content → List RowColumn
 columns_at None path c = []
-columns_at (Some n) path c = record { column = record { number = n; path = c.tag }; deletion = c.deletion; cells = cells_at path c.cell } ∷ []
+columns_at (Some n) path c = column_at n path c ∷ []
 
 -- what is said of the row itself, where no column is meant
 abbrev pub of_row : {X : Type 0} → Option ℕ → Option X → Option X

@@ -6,11 +6,12 @@ ghost use Rattle.std.specs.Map.{keys_of};
 ghost use Rattle.std.specs.Vec.Iter.{into_iter_items};
 ghost use Rattle.cas_streams.specs.declared.fragment.Fragment.{Fragment};
 ghost use Rattle.cas_streams.specs.Joined.{joined_fragment};
-ghost use Rattle.cas_partition.specs.Spots.{spot_cmp, columns_at, cells_at, said, row_piece};
+ghost use Rattle.cas_partition.specs.Spots.{spot_cmp, column_at, columns_at, cells_at, said, row_piece};
 ghost use Rattle.cas_partition.specs.Slices.{grouped, grouped_from, meet, AreRowsOf, Shows};
 ghost use Rattle.cas_partition.specs.Ranged.{piece_of, spot_at, spots_below, spots_between, statics_of, rows_between};
 ghost use Rattle.cas_partition.specs.Inner.Firsts.{with_first};
-ghost use Rattle.cas_partition.specs.Inner.Entries.{lent_piece, GoesOn};
+ghost use Rattle.cas_partition.specs.Inner.Entries.{lent_piece, GoesOn, are_below};
+ghost use Rattle.cas_streams.specs.declared.fragment.Fragment.TheVariants as fragment;
 
 use crate::partition::Partition;
 use crate::spot::{Content, Spot};
@@ -43,6 +44,26 @@ fn cells_at(
     Ok(cells)
 }
 
+// What is said of a column, or of a cell of it.
+fn column_at(
+    alloc: Global,
+    number: u16,
+    path: &Option<Bytes>,
+    content: &Content,
+) -> Result<RowColumn, AllocError>
+    ensures { IfOk result (λ c. c ≡ column_at number path.now content.now) }
+{
+    let cells = cells_at(alloc, path, &content.cell)?;
+    Ok(RowColumn {
+        column: ColumnRef {
+            number,
+            path: content.tag,
+        },
+        deletion: content.deletion,
+        cells: List::from_vec(cells),
+    })
+}
+
 // The column, where there is one.
 fn columns_at(
     alloc: Global,
@@ -54,15 +75,7 @@ fn columns_at(
 {
     let mut columns = Vec::new(alloc);
     if let Some(number) = column {
-        let cells = cells_at(alloc, path, &content.cell)?;
-        columns.push(RowColumn {
-            column: ColumnRef {
-                number,
-                path: content.tag,
-            },
-            deletion: content.deletion,
-            cells: List::from_vec(cells),
-        })?;
+        columns.push(column_at(alloc, number, path, content)?)?;
     }
     Ok(columns)
 }
@@ -156,6 +169,56 @@ fn add_piece(
     }
 }
 
+// Whether all columns have lower numbers.
+fn are_below(columns: &[RowColumn], number: u16) -> bool
+    ensures { result ≡ are_below columns.now number }
+{
+    match columns {
+        [] => true,
+        [c, rest @ ..] => c.column.number < number && are_below(rest, number),
+    }
+}
+
+// A row with what is said at a further spot of it.
+fn row_with(alloc: Global, row: Row, spot: &Spot, content: &Content) -> Result<Fragment, AllocError>
+    requires { IsSome spot.now.row }
+    ensures { IfOk result (λ f. f ≡ joined_fragment (fragment.Row row) (said spot.now content.now)) }
+{
+    if let Some(number) = spot.column {
+        if are_below(row.columns.as_slice(), number) {
+            let mut columns = row.columns.into_vec();
+            columns.push(column_at(alloc, number, &spot.path, content)?)?;
+            return Ok(Fragment::Row(Row {
+                clustering: row.clustering,
+                deletion: row.deletion,
+                live: row.live,
+                columns: List::from_vec(columns),
+            }));
+        }
+    }
+    let piece = further(alloc, spot, content)?;
+    joined_fragment(alloc, Fragment::Row(row), piece)
+}
+
+// The last piece with what is said at a further spot of its row.
+fn add_to(
+    alloc: Global,
+    last: Fragment,
+    spot: &Spot,
+    content: &Content,
+) -> Result<Fragment, AllocError>
+    requires { IsSome spot.now.row }
+    ensures { IfOk result (λ f. f ≡ joined_fragment last (said spot.now content.now)) }
+{
+    match last {
+        Fragment::Row(row) => row_with(alloc, row, spot, content),
+        other => {
+            let piece = further(alloc, spot, content)?;
+            joined_fragment(alloc, other, piece)
+        }
+    }
+}
+
 // An entry's piece, put together with the last one where both are of one row; what comes last then.
 fn add_entry(
     alloc: Global,
@@ -172,10 +235,7 @@ fn add_entry(
     }
     match last {
         None => piece(alloc, spot, content),
-        Some(f) => {
-            let piece = further(alloc, spot, content)?;
-            joined_fragment(alloc, f, piece)
-        }
+        Some(f) => add_to(alloc, f, spot, content),
     }
 }
 
