@@ -8,3 +8,4 @@ pub mod Slicing
 pub mod Forming
 pub mod Clipping
 pub mod Shown
+pub mod Going

@@ -111,7 +111,7 @@ and_true : (b c : Bool) → b ≡ true → c ≡ true → (b && c) ≡ true
 and_true true c e f = f
 and_true false c e f = absurd (true≢false (sym e))
 
-both_true : (b c : Bool) → (b && c) ≡ true → (b ≡ true) × (c ≡ true)
+pub both_true : (b c : Bool) → (b && c) ≡ true → (b ≡ true) × (c ≡ true)
 both_true true c e = (refl, e)
 both_true false c e = absurd (true≢false (sym e))
 

@@ -14,6 +14,7 @@ use Rattle.cas_bounds.specs.Keys.{key_cmp}
 use Rattle.cas_bounds.specs.declared.cuts.Clustering.{Clustering}
 use Rattle.cas_bounds.specs.declared.map_key.MapKey.{MapKey}
 use Rattle.cas_atoms.specs.Greatest.{greater}
+use Rattle.cas_atoms.specs.declared.row.Row.{Row}
 use Rattle.cas_atoms.specs.declared.row.RowColumn.{RowColumn}
 use Rattle.cas_atoms.specs.declared.row.PathCell.{PathCell}
 use Rattle.cas_streams.specs.declared.fragment.Fragment.{Fragment}
@@ -51,25 +52,33 @@ cells_at None c = []
 cells_at (Some p) None = []
 cells_at (Some p) (Some c) = record { path = p; cell = c } ∷ []
 
+-- what is said of a column, or of a cell of it
+abbrev pub column_at : ℕ → Option (List ℕ) → Content → RowColumn
+column_at n path c = record { column = record { number = n; path = c.tag }; deletion = c.deletion; cells = cells_at path c.cell }
+
 -- the column, where there is one
 abbrev pub columns_at : Option ℕ → Option (List ℕ) → Content → List RowColumn
 columns_at None path c = []
-columns_at (Some n) path c = record { column = record { number = n; path = c.tag }; deletion = c.deletion; cells = cells_at path c.cell } ∷ []
+columns_at (Some n) path c = column_at n path c ∷ []
 
 -- what is said of the row itself, where no column is meant
 abbrev pub of_row : {X : Type 0} → Option ℕ → Option X → Option X
 of_row None x = x
 of_row (Some n) x = None
 
--- what is said there, as a piece of the row that has nothing else
-abbrev pub piece : Option MapKey → Option ℕ → Option (List ℕ) → Content → Fragment
-piece None column path c = fragment.Static (columns_at column path c)
-piece (Some k) column path c = fragment.Row (record {
-  clustering = clustering_of k;
+-- what is said there of the row that stands there
+abbrev pub row_piece : Clustering → Option ℕ → Option (List ℕ) → Content → Row
+row_piece at column path c = record {
+  clustering = at;
   deletion = of_row column c.deletion;
   live = of_row column c.live;
   columns = columns_at column path c;
-})
+}
+
+-- what is said there, as a piece of the row that has nothing else
+abbrev pub piece : Option MapKey → Option ℕ → Option (List ℕ) → Content → Fragment
+piece None column path c = fragment.Static (columns_at column path c)
+piece (Some k) column path c = fragment.Row (row_piece (clustering_of k) column path c)
 
 -- what is said at a spot, as a fragment
 abbrev pub said : Spot → Content → Fragment

@@ -21,6 +21,7 @@ use cas_cell::Deletion;
 use cas_types::{List, TypeTag};
 use std::alloc::{AllocError, Global};
 use std::collections::BTreeMap;
+use std::collections::btree_map::Entry;
 use std::vec::IntoIter;
 
 /// One partition in memory: its deletion as a whole, its range deletions, and what is said of its
@@ -41,10 +42,12 @@ fn reserve_at(
     ensures ok { OnOk result (spots.new.entries ≡ with_spot spot tag spots.old.entries) }
     ensures err { OnErr result (spots.new.entries ≡ spots.old.entries) }
 {
-    if spots.contains_key(&spot) {
-        return Ok(());
+    match spots.entry(spot)? {
+        Entry::Occupied(_) => {}
+        Entry::Vacant(place) => {
+            place.insert(Content::blank(tag));
+        }
     }
-    spots.insert(spot, Content::blank(tag))?;
     Ok(())
 }
 

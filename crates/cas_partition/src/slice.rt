@@ -1,19 +1,22 @@
 //! A partition in memory as a stream, or a slice of it.
 
-ghost use Rattle.std.specs.Prelude.{◌≡◌, List as ListOf, Option, None, Some, [], IfOk, OnOk, map, ◌++◌, ◌∷◌};
+ghost use Rattle.std.specs.Prelude.{◌≡◌, true, List as ListOf, Option, None, Some, [], IfOk, OnOk, IsSome, map, ◌++◌, ◌∷◌};
 ghost use Rattle.std.specs.List.Sorted.{IsStrictlySortedBy};
 ghost use Rattle.std.specs.Map.{keys_of};
 ghost use Rattle.std.specs.Vec.Iter.{into_iter_items};
 ghost use Rattle.cas_streams.specs.declared.fragment.Fragment.{Fragment};
-ghost use Rattle.cas_partition.specs.Spots.{spot_cmp, columns_at, cells_at, said};
+ghost use Rattle.cas_streams.specs.Joined.{joined_fragment};
+ghost use Rattle.cas_partition.specs.Spots.{spot_cmp, column_at, columns_at, cells_at, said, row_piece};
 ghost use Rattle.cas_partition.specs.Slices.{grouped, grouped_from, meet, AreRowsOf, Shows};
 ghost use Rattle.cas_partition.specs.Ranged.{piece_of, spot_at, spots_below, spots_between, statics_of, rows_between};
 ghost use Rattle.cas_partition.specs.Inner.Firsts.{with_first};
+ghost use Rattle.cas_partition.specs.Inner.Entries.{lent_piece, GoesOn, are_below};
+ghost use Rattle.cas_streams.specs.declared.fragment.Fragment.TheVariants as fragment;
 
 use crate::partition::Partition;
 use crate::spot::{Content, Spot};
 use cas_atoms::{ColumnRef, PathCell, Row, RowColumn};
-use cas_bounds::{Clustering, End, MapKey, RowOrder, Slice};
+use cas_bounds::{Clustering, End, MapKey, RowOrder, Slice, compare_points};
 use cas_cell::Cell;
 use cas_merge::{Merger, compare_fragments, joined_fragment};
 use cas_streams::{Fragment, FragmentSource, Part};
@@ -41,6 +44,26 @@ fn cells_at(
     Ok(cells)
 }
 
+// What is said of a column, or of a cell of it.
+fn column_at(
+    alloc: Global,
+    number: u16,
+    path: &Option<Bytes>,
+    content: &Content,
+) -> Result<RowColumn, AllocError>
+    ensures { IfOk result (λ c. c ≡ column_at number path.now content.now) }
+{
+    let cells = cells_at(alloc, path, &content.cell)?;
+    Ok(RowColumn {
+        column: ColumnRef {
+            number,
+            path: content.tag,
+        },
+        deletion: content.deletion,
+        cells: List::from_vec(cells),
+    })
+}
+
 // The column, where there is one.
 fn columns_at(
     alloc: Global,
@@ -52,39 +75,75 @@ fn columns_at(
 {
     let mut columns = Vec::new(alloc);
     if let Some(number) = column {
-        let cells = cells_at(alloc, path, &content.cell)?;
-        columns.push(RowColumn {
-            column: ColumnRef {
-                number,
-                path: content.tag,
-            },
-            deletion: content.deletion,
-            cells: List::from_vec(cells),
-        })?;
+        columns.push(column_at(alloc, number, path, content)?)?;
     }
     Ok(columns)
+}
+
+// What is said at a spot, as a piece of the row that stands there.
+fn piece_at(
+    alloc: Global,
+    clustering: Clustering,
+    spot: &Spot,
+    content: &Content,
+) -> Result<Row, AllocError>
+    ensures { IfOk result (λ r. r ≡ row_piece clustering spot.now.column spot.now.path content.now) }
+{
+    let whole = spot.column.is_none();
+    let columns = columns_at(alloc, spot.column, &spot.path, content)?;
+    Ok(Row {
+        clustering,
+        deletion: if whole { content.deletion } else { None },
+        live: if whole { content.live } else { None },
+        columns: List::from_vec(columns),
+    })
 }
 
 // What is said at a spot, as a piece of its row.
 fn piece(alloc: Global, spot: &Spot, content: &Content) -> Result<Fragment, AllocError>
     ensures { IfOk result (λ f. f ≡ said spot.now content.now) }
 {
-    let columns = List::from_vec(columns_at(alloc, spot.column, &spot.path, content)?);
     match &spot.row {
-        None => Ok(Fragment::Static(columns)),
+        None => {
+            let columns = columns_at(alloc, spot.column, &spot.path, content)?;
+            Ok(Fragment::Static(List::from_vec(columns)))
+        }
         Some(key) => {
             let clustering = Clustering {
                 values: key.values.clone()?,
                 order: key.order.clone()?,
             };
-            let whole = spot.column.is_none();
-            Ok(Fragment::Row(Row {
-                clustering,
-                deletion: if whole { content.deletion } else { None },
-                live: if whole { content.live } else { None },
-                columns,
-            }))
+            Ok(Fragment::Row(piece_at(alloc, clustering, spot, content)?))
         }
+    }
+}
+
+// The same for a row that is there already: its place isn't copied.
+fn further(alloc: Global, spot: &Spot, content: &Content) -> Result<Fragment, AllocError>
+    requires { IsSome spot.now.row }
+    ensures { IfOk result (λ g. (f : Fragment) → joined_fragment f g ≡ joined_fragment f (said spot.now content.now)) }
+{
+    let nowhere = Clustering {
+        values: List::from_vec(Vec::new(alloc)),
+        order: List::from_vec(Vec::new(alloc)),
+    };
+    Ok(Fragment::Row(piece_at(alloc, nowhere, spot, content)?))
+}
+
+// Whether the last piece is of the row of the spot.
+fn is_of(last: &Option<Fragment>, spot: &Spot) -> bool
+    ensures { result ≡ true → GoesOn last.now spot.now }
+{
+    match (last, &spot.row) {
+        (Some(Fragment::Row(row)), Some(key)) => compare_points(
+            row.clustering.order.as_slice(),
+            End::Row,
+            row.clustering.values.as_slice(),
+            End::Row,
+            key.values.as_slice(),
+        )
+        .is_eq(),
+        _ => false,
     }
 }
 
@@ -110,17 +169,86 @@ fn add_piece(
     }
 }
 
-// The pieces of a range of spots.
-fn add_range(
+// Whether all columns have lower numbers.
+fn are_below(columns: &[RowColumn], number: u16) -> bool
+    ensures { result ≡ are_below columns.now number }
+{
+    match columns {
+        [] => true,
+        [c, rest @ ..] => c.column.number < number && are_below(rest, number),
+    }
+}
+
+// A row with what is said at a further spot of it.
+fn row_with(alloc: Global, row: Row, spot: &Spot, content: &Content) -> Result<Fragment, AllocError>
+    requires { IsSome spot.now.row }
+    ensures { IfOk result (λ f. f ≡ joined_fragment (fragment.Row row) (said spot.now content.now)) }
+{
+    if let Some(number) = spot.column {
+        if are_below(row.columns.as_slice(), number) {
+            let mut columns = row.columns.into_vec();
+            columns.push(column_at(alloc, number, &spot.path, content)?)?;
+            return Ok(Fragment::Row(Row {
+                clustering: row.clustering,
+                deletion: row.deletion,
+                live: row.live,
+                columns: List::from_vec(columns),
+            }));
+        }
+    }
+    let piece = further(alloc, spot, content)?;
+    joined_fragment(alloc, Fragment::Row(row), piece)
+}
+
+// The last piece with what is said at a further spot of its row.
+fn add_to(
     alloc: Global,
-    pieces: &mut Vec<Fragment>,
-    spots: Range<'_, Spot, Content>,
+    last: Fragment,
+    spot: &Spot,
+    content: &Content,
+) -> Result<Fragment, AllocError>
+    requires { IsSome spot.now.row }
+    ensures { IfOk result (λ f. f ≡ joined_fragment last (said spot.now content.now)) }
+{
+    match last {
+        Fragment::Row(row) => row_with(alloc, row, spot, content),
+        other => {
+            let piece = further(alloc, spot, content)?;
+            joined_fragment(alloc, other, piece)
+        }
+    }
+}
+
+// An entry's piece, put together with the last one where both are of one row; what comes last then.
+fn add_entry(
+    alloc: Global,
+    done: &mut Vec<Fragment>,
+    last: Option<Fragment>,
+    spot: &Spot,
+    content: &Content,
+) -> Result<Fragment, AllocError>
+    ensures { IfOk result (λ f. (gs : ListOf Fragment) → done.new.items ++ grouped_from f gs ≡ done.old.items ++ grouped last (said spot.now content.now ∷ gs)) }
+{
+    if !is_of(&last, spot) {
+        let piece = piece(alloc, spot, content)?;
+        return add_piece(alloc, done, last, piece);
+    }
+    match last {
+        None => piece(alloc, spot, content),
+        Some(f) => add_to(alloc, f, spot, content),
+    }
+}
+
+// The entries of a range, lent.
+fn add_range<'a>(
+    entries: &mut Vec<(&'a Spot, &'a Content)>,
+    spots: Range<'a, Spot, Content>,
 ) -> Result<(), AllocError>
-    ensures { OnOk result (pieces.new.items ≡ pieces.old.items ++ map piece_of spots.entry) }
+    ensures { OnOk result (map lent_piece entries.new.items ≡ map lent_piece entries.old.items ++ map piece_of spots.entry) }
 {
     let mut rest = spots;
     while let Some((spot, content)) = rest.next() {
-        pieces.push(piece(alloc, spot, content)?)?;
+        entries.push((spot, content))?;
     }
     Ok(())
 }
@@ -137,30 +265,30 @@ fn at(row: MapKey) -> Spot
 }
 
 // What is said at the spots below one.
-fn add_below(
-    alloc: Global,
-    pieces: &mut Vec<Fragment>,
-    spots: &BTreeMap<Spot, Content>,
+fn add_below<'a>(
+    entries: &mut Vec<(&'a Spot, &'a Content)>,
+    spots: &'a BTreeMap<Spot, Content>,
     first: &Spot,
 ) -> Result<(), AllocError>
-    ensures added { OnOk result (pieces.new.items ≡ pieces.old.items ++ map piece_of (spots_below first.now spots.now.entries)) }
+    ensures added { OnOk result (map lent_piece entries.new.items ≡ map lent_piece entries.old.items
+        ++ map piece_of (spots_below first.now spots.now.entries)) }
     ensures sorted { IsStrictlySortedBy spot_cmp (keys_of spots.now.entries) }
 {
-    add_range(alloc, pieces, spots.range(..first))
+    add_range(entries, spots.range(..first))
 }
 
 // What is said at the spots between two.
-fn add_between(
-    alloc: Global,
-    pieces: &mut Vec<Fragment>,
-    spots: &BTreeMap<Spot, Content>,
+fn add_between<'a>(
+    entries: &mut Vec<(&'a Spot, &'a Content)>,
+    spots: &'a BTreeMap<Spot, Content>,
     low: &Spot,
     high: &Spot,
 ) -> Result<(), AllocError>
-    ensures { OnOk result (pieces.new.items ≡ pieces.old.items ++ map piece_of (spots_between low.now high.now spots.now.entries)) }
+    ensures { OnOk result (map lent_piece entries.new.items ≡ map lent_piece entries.old.items
+        ++ map piece_of (spots_between low.now high.now spots.now.entries)) }
 {
     if low.cmp(high).is_lt() {
-        add_range(alloc, pieces, spots.range(low..high))
+        add_range(entries, spots.range(low..high))
     } else {
         Ok(())
     }
@@ -184,15 +312,16 @@ fn first_of(rest: &mut IntoIter<Fragment>) -> Option<Fragment>
     rest.next()
 }
 
-// Pieces put together one after another.
-fn few_rows(alloc: Global, pieces: Vec<Fragment>) -> Result<Vec<Fragment>, AllocError>
-    ensures { IfOk result (λ v. v.items ≡ grouped None pieces.items) }
+// The pieces of entries put together one after another.
+fn few_rows(alloc: Global, entries: &[(&Spot, &Content)]) -> Result<Vec<Fragment>, AllocError>
+    ensures { IfOk result (λ v. v.items ≡ grouped None (map lent_piece entries.now)) }
 {
     let mut rows = Vec::new(alloc);
     let mut last = None;
-    let mut rest = pieces.into_iter();
-    while let Some(piece) = first_of(&mut rest) {
-        last = Some(add_piece(alloc, &mut rows, last, piece)?);
+    let mut rest = entries;
+    while let [(spot, content), others @ ..] = rest {
+        last = Some(add_entry(alloc, &mut rows, last, spot, content)?);
+        rest = others;
     }
     closed(rows, last)
 }
@@ -248,16 +377,15 @@ fn meet(
     }
 }
 
-// Pieces put together: few one after another, many in halves, so that each is moved a few times.
-fn rows_of(alloc: Global, pieces: Vec<Fragment>) -> Result<Vec<Fragment>, AllocError>
-    ensures { IfOk result (λ v. AreRowsOf pieces.items v.items) }
+// The pieces of entries put together: few one after another, many in halves, so that each is moved a few times.
+fn rows_of(alloc: Global, entries: &[(&Spot, &Content)]) -> Result<Vec<Fragment>, AllocError>
+    ensures { IfOk result (λ v. AreRowsOf (map lent_piece entries.now) v.items) }
 {
-    let half = pieces.len() / 2;
+    let half = entries.len() / 2;
     if half < 8 {
-        return few_rows(alloc, pieces);
+        return few_rows(alloc, entries);
     }
-    let mut front = pieces;
-    let back = front.split_off(half)?;
+    let (front, back) = entries.split_at(half);
     let left = rows_of(alloc, front)?;
     let right = rows_of(alloc, back)?;
     meet(alloc, left, right)
@@ -280,10 +408,10 @@ fn rows_in(
     });
     let low = at(MapKey::of_cut(slice.lo.copied()?));
     let high = at(MapKey::of_cut(slice.hi.copied()?));
-    let mut pieces = Vec::new(alloc);
-    add_below(alloc, &mut pieces, spots, &first)?;
-    add_between(alloc, &mut pieces, spots, &low, &high)?;
-    rows_of(alloc, pieces)
+    let mut entries = Vec::new(alloc);
+    add_below(&mut entries, spots, &first)?;
+    add_between(&mut entries, spots, &low, &high)?;
+    rows_of(alloc, &entries)
 }
 
 impl Partition {

@@ -2,4 +2,4 @@ use Rattle.std.proofs.Common.{length}
 use Rattle.cas_partition.proofs.slice.+rows_of.Given as goal
 
 abbrev pub decreases-rows_of : goal.decreases-rows_of
-decreases-rows_of l = length l.pieces.items
+decreases-rows_of l = length l.entries.now

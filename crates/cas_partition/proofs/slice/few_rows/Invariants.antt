@@ -1,10 +1,10 @@
-use Rattle.std.proofs.Common.{◌≡◌, ◌++◌, None}
-use Rattle.std.specs.Vec.Iter.{into_iter_items, into_iter_len}
+use Rattle.std.proofs.Common.{◌≡◌, ◌++◌, None, map, length}
 use Rattle.cas_partition.specs.Slices.{grouped}
+use Rattle.cas_partition.specs.Inner.Entries.{lent_piece}
 use Rattle.cas_partition.proofs.slice.few_rows.Given as goal
 
-abbrev pub invariant-loop-piece : goal.invariant-loop-piece
-invariant-loop-piece l = l.rows.items ++ grouped l.last (into_iter_items l.rest) ≡ grouped None l.fn.pieces.items
+abbrev pub invariant-loop-rest : goal.invariant-loop-rest
+invariant-loop-rest l = l.rows.items ++ grouped l.last (map lent_piece l.rest) ≡ grouped None (map lent_piece l.fn.entries)
 
-abbrev pub decreases-loop-piece : goal.decreases-loop-piece
-decreases-loop-piece l = into_iter_len l.rest
+abbrev pub decreases-loop-rest : goal.decreases-loop-rest
+decreases-loop-rest l = length l.rest
