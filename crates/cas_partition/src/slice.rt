@@ -125,7 +125,7 @@ fn further(alloc: Global, spot: &Spot, content: &Content) -> Result<Fragment, Al
 {
     let nowhere = Clustering {
         values: List::from_vec(Vec::new(alloc)),
-        order: List::from_vec(Vec::new(alloc)),
+        order: RowOrder::from_vec(Vec::new(alloc)),
     };
     Ok(Fragment::Row(piece_at(alloc, nowhere, spot, content)?))
 }
