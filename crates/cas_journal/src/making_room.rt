@@ -1,15 +1,14 @@
 //! Makes room for a mutation: where the segment that is written has none left, the next one is begun
 //! and named.
 
-ghost use Rattle.std.specs.Prelude.{◌≡◌, ◌⊎◌, ◌+◌, ◌<◌, ◌≤◌, ◌^◌, ◌∷◌, ◌++◌, None, Err, Ok, OnOk, IfErr, MatchResult, length, IsSome, Some};
+ghost use Rattle.std.specs.Prelude.{◌≡◌, ◌⊎◌, ◌+◌, ◌<◌, ◌≤◌, ◌^◌, None, Err, Ok, OnOk, IfErr, MatchResult, length, IsSome, Some};
 ghost use Rattle.cas_disk.specs.Disk.{During, Same, Leaves};
 ghost use Rattle.cas_atoms.specs.LogLength.{record_length};
 ghost use Rattle.cas_changes.specs.declared.entry.Entry.TheVariants.{NewSegment};
 ghost use Rattle.cas_log.specs.Logs.{half};
-ghost use Rattle.cas_manifest.specs.Manifests.{place_of};
 ghost use Rattle.cas_journal.specs.Stores.{Told, Holds, MadeRoom, HoldsWithRoom, appended, failed_at};
 ghost use Rattle.cas_journal.specs.Journals.{Lasts, AreFree, HasMemory, IsPrepared};
-ghost use Rattle.cas_journal.specs.Ends.{Ends, IsOfFolder, IsToldAtOnce, Limits, next_limit, entry_limit, told_after, NeedsNext, Prepares, TellsLimit};
+ghost use Rattle.cas_journal.specs.Ends.{Ends, IsOfFolder, IsToldAtOnce, next_limit, told_after, Prepares, TellsLimit};
 ghost use Rattle.cas_journal.specs.Inner.Parts.{Asks, fits_in, FitsOrSettled, MayBegin};
 
 use crate::fault::{Counted, JournalFault};
