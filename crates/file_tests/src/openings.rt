@@ -60,9 +60,15 @@ fn every_stop_of_an_opening(rt: HostRuntime) {
             let before = folder.calls();
             folder.stop_after(before.saturating_add(calls));
             let answer = last_segment(rt.alloc(), &mut folder);
-            assert!(rt; answer == Err(OpenFault::Failed) || answer == Ok(2), "after {calls} calls");
+            assert!(rt;
+                answer == Err(OpenFault::Failed) || answer == Ok(2),
+                "after {calls} calls"
+            );
             for choice in CHOICES {
-                assert!(rt; is_opened(rt.alloc(), &folder, choice), "after {calls} calls");
+                assert!(rt;
+                    is_opened(rt.alloc(), &folder, choice),
+                    "after {calls} calls"
+                );
             }
         }
     }
@@ -73,11 +79,23 @@ fn every_stop_of_an_opening(rt: HostRuntime) {
 fn what_is_no_store_is_refused(rt: HostRuntime) {
     let mut lost = MemFolder::new(rt.alloc(), FaultPlan::none(rt.alloc()));
     assert!(rt; make(&mut lost, Name::Log(1)));
-    assert_eq!(rt; last_segment(rt.alloc(), &mut lost), Err(OpenFault::Bad { name: Name::Manifest, at: 0 }));
+    assert_eq!(rt;
+        last_segment(rt.alloc(), &mut lost),
+        Err(OpenFault::Bad {
+            name: Name::Manifest,
+            at: 0
+        })
+    );
     assert!(rt; lost.has(Name::Log(1)));
     let mut cut = MemFolder::new(rt.alloc(), FaultPlan::none(rt.alloc()));
     assert_eq!(rt; last_segment(rt.alloc(), &mut cut), Ok(1));
     assert!(rt; cut.remove(Name::Log(1)).is_ok());
     assert!(rt; make(&mut cut, Name::Log(1)));
-    assert_eq!(rt; last_segment(rt.alloc(), &mut cut), Err(OpenFault::Bad { name: Name::Log(1), at: 0 }));
+    assert_eq!(rt;
+        last_segment(rt.alloc(), &mut cut),
+        Err(OpenFault::Bad {
+            name: Name::Log(1),
+            at: 0
+        })
+    );
 }
