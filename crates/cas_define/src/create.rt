@@ -1,6 +1,6 @@
 //! What a CREATE TABLE comes to.
 
-ghost use Rattle.std.specs.Prelude.{◌≡◌, ◌==◌, ◌&&◌, filter, map, length, IfOk};
+ghost use Rattle.std.specs.Prelude.{◌≡◌, ◌≤◌, ◌==◌, ◌&&◌, filter, map, length, IfOk};
 ghost use Rattle.std.specs.Str.{bytes_eq};
 ghost use Rattle.std.specs.List.{list_all, list_any, zip};
 ghost use Rattle.cas_types.specs.Limits.{IsNarrow};
@@ -73,9 +73,16 @@ fn is_order(option: &TableOption) -> bool
 }
 
 fn order_count(options: &[TableOption]) -> usize
-    ensures { result ≡ length (filter is_order options.now) }
+    ensures count { result ≡ length (filter is_order options.now) }
+    ensures bound { result ≤ length options.now }
 {
-    options.iter().filter(|o| is_order(o)).count()
+    match options {
+        [] => 0,
+        [option, others @ ..] => {
+            let count = order_count(others);
+            if is_order(option) { count + 1 } else { count }
+        }
+    }
 }
 
 #[tactic(auto, unfolding(crate::specs::CreateTests::orders_fit))]
