@@ -88,9 +88,6 @@ commit_keeps k disk list before now accepted found t (Ok x) lasts all committed 
 commit_keeps k disk list before now accepted found t (Err fault) lasts all committed few done undone =
     record { lasts = lasts; all = all; committed = omega (arith, undone refl, committed) }
 
-pub not_both : true ≡ false → ⊥
-not_both e = cc
-
 -- ---- a number that is drawn
 
 -- the number that was drawn stays with its seat once that was told of a fault

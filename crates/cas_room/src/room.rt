@@ -194,6 +194,7 @@ impl<F: Folder, J: Store> Room<F, J> {
 
     /// Commits what was accepted: after Ok each mutation that the room accepted is in every image, and the
     /// session knows it.
+    #[tactic(auto, using(crate::proofs::Tables::commit_keeps))]
     pub fn commit(&mut self, session: &mut Session<Event, J>) -> Result<(), JournalFault>
         ensures kept { (found : List MutationOf) (t : Told)
             → Keeps self.old.journal (F.disk self.old.folder) (listed log_list self.old.log.pass.saw) self.old.faults.committed found t
