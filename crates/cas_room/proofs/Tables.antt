@@ -1,7 +1,6 @@
 -- The files of tables: those whose numbers weren't drawn yet, and what a call on one leaves of what the room keeps.
-use Rattle.std.proofs.Common.{◌≡◌, ◌≢◌, inl, inr, ⊎_elim, ◌∙◌, ℕ, ◌+◌, ◌<◌, ◌≤◌, true, false, List, [], ◌∷◌, ◌++◌, length, Option, None, Result, Ok, Err, refl, sym, ap, subst, arith, length-append}
-use Rattle.std.specs.Prelude.{MatchResult}
-use Rattle.std.specs.Result.{is_ok}
+use Rattle.std.proofs.Common.{◌≡◌, ◌≢◌, inl, inr, ⊎_elim, ◌∙◌, ℕ, ◌+◌, ◌<◌, ◌≤◌, true, List, [], ◌∷◌, ◌++◌, length, Option, None, Result, Ok, Err, sym, ap, subst, arith, length-append}
+use Rattle.std.specs.Prelude.{MatchResult, OnOk, OnErr}
 use Rattle.std.proofs.lemmas.Bool.{cases_Bool}
 use Rattle.cas_disk.specs.declared.name.Name.{Name}
 use Rattle.cas_disk.specs.declared.name.Name.TheVariants.{Table as table_name}
@@ -82,11 +81,11 @@ table_keeps n change old new call j list said found t keeps =
 pub commit_keeps : (k : Journal) (disk : Disk) (list : List (Item Event)) (before now accepted : ℕ) (found : List Mutation) (t : Told) (r : Result (Unit {0}) JournalFault)
     → MatchResult r (λ _. Lasts k disk (committed_all t)) (λ _. Lasts k disk t)
     → t.taken ≡ found ++ accepted_in list → length found + before ≤ t.committed → accepted ≤ length (accepted_in list)
-    → (is_ok r ≡ true → now ≡ accepted) → (is_ok r ≡ false → now ≡ before) → Keeps k disk list now found (after_commit r t)
+    → OnOk r (now ≡ accepted) → OnErr r (now ≡ before) → Keeps k disk list now found (after_commit r t)
 commit_keeps k disk list before now accepted found t (Ok x) lasts all committed few done undone =
-    record { lasts = lasts; all = all; committed = omega (arith, done refl, few, ap length all, length-append found (accepted_in list)) }
+    record { lasts = lasts; all = all; committed = omega (arith, done, few, ap length all, length-append found (accepted_in list)) }
 commit_keeps k disk list before now accepted found t (Err fault) lasts all committed few done undone =
-    record { lasts = lasts; all = all; committed = omega (arith, undone refl, committed) }
+    record { lasts = lasts; all = all; committed = omega (arith, undone, committed) }
 
 -- ---- a number that is drawn
 

@@ -135,6 +135,17 @@ fn note<F: Folder, J: Store>(
     faults.tell(session);
 }
 
+// How many mutations are committed, once a commit ended so: all that were accepted, or as many as before.
+fn committed_by(ended: &Result<(), JournalFault>, accepted: u64, committed: u64) -> u64
+    ensures all { OnOk ended.now (result ≡ accepted) }
+    ensures same { OnErr ended.now (result ≡ committed) }
+{
+    if ended.is_ok() {
+        return accepted;
+    }
+    committed
+}
+
 impl<F: Folder, J: Store> Room<F, J> {
     /// Accepts a mutation of a shard, by a session: it comes into the history, behind all others, and the
     /// next commit writes it. All that can fail is done before, and then nothing is accepted; what was
@@ -217,9 +228,7 @@ impl<F: Folder, J: Store> Room<F, J> {
         ensures count { F.faults_of self.old.folder ≤ F.faults_of self.new.folder }
     {
         let result = self.journal.commit(&mut self.folder);
-        if result.is_ok() {
-            self.committed = self.accepted;
-        }
+        self.committed = committed_by(&result, self.accepted, self.committed);
         note(
             &self.folder,
             &self.journal,
