@@ -85,6 +85,13 @@ impl<E, J: Store> Numbers<E, J> {
         Numbers { pass, last }
     }
 
+    /// The last number that was found or drawn.
+    pub fn last(&self) -> u64
+        ensures { (result ≡ self.now.last) × (result ≡ last_file (listed numbers_list self.now.pass.saw)) }
+    {
+        self.last
+    }
+
     /// The next number, which no file has had so far. The session or worker holds it from now on.
     pub fn draw(&mut self, files: &mut Files<E, J>) -> u64
         requires room { self.old.last + 1 < 18446744073709551616 }

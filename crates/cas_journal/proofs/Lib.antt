@@ -10,3 +10,4 @@ pub mod Beginning
 pub mod Naming
 pub mod Rooms
 pub mod Taking
+pub mod Tables

@@ -1,6 +1,6 @@
 -- The store that a folder's files are, and what every image of it has. Storage engine: commit log; own.
 use Rattle.std.specs.Prelude.{◌≡◌, ◌≢◌, ◌⊎◌, ℕ, ◌≤◌, List, [], ◌∷◌, ◌++◌, length, map, take, Some}
-use Rattle.cas_disk.specs.declared.name.Name.TheVariants.{Manifest as manifest_name}
+use Rattle.cas_disk.specs.declared.name.Name.TheVariants.{Manifest as manifest_name, Table as table_name}
 use Rattle.cas_disk.specs.Disk.{Image}
 use Rattle.cas_atoms.specs.declared.atom.Mutation.{Mutation}
 use Rattle.cas_changes.specs.declared.entry.Entry.{Entry}
@@ -75,3 +75,7 @@ appended e t = record t { entries = t.entries ++ e ∷ [] }
 -- the same, with an entry that may be there or not
 abbrev pub failed_at : Entry → Told → Told
 failed_at e t = record t { failed = e ∷ [] }
+
+-- the file of every table is as it was
+abbrev pub SameTables : Image → Image → Type 0
+SameTables d c = (n : ℕ) → c (table_name n) ≡ d (table_name n)

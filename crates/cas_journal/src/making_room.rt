@@ -6,7 +6,7 @@ ghost use Rattle.cas_disk.specs.Disk.{During, Same, Leaves};
 ghost use Rattle.cas_atoms.specs.LogLength.{record_length};
 ghost use Rattle.cas_changes.specs.declared.entry.Entry.TheVariants.{NewSegment};
 ghost use Rattle.cas_log.specs.Logs.{half};
-ghost use Rattle.cas_journal.specs.Stores.{Told, Holds, MadeRoom, HoldsWithRoom, appended, failed_at};
+ghost use Rattle.cas_journal.specs.Stores.{Told, Holds, MadeRoom, HoldsWithRoom, SameTables, appended, failed_at};
 ghost use Rattle.cas_journal.specs.Journals.{Lasts, AreFree, HasMemory, IsPrepared};
 ghost use Rattle.cas_journal.specs.Ends.{Ends, IsOfFolder, IsToldAtOnce, next_limit, told_after, Prepares, TellsLimit};
 ghost use Rattle.cas_journal.specs.Inner.Parts.{Asks, fits_in, FitsOrSettled, MayBegin};
@@ -86,6 +86,7 @@ impl Journal {
         ensures lasts { (t : Told) → Lasts self.old (F.disk folder.old) t
             → MatchResult result (λ _. FitsOrSettled self.new mutation.now (F.disk folder.new) t) (λ _. Lasts self.new (F.disk folder.new) t) }
         ensures during { (t : Told) → Lasts self.old (F.disk folder.old) t → Leaves (λ c. Holds t c) (F.disk folder.old) (F.disk folder.new) }
+        ensures tables { During SameTables (F.disk folder.old) (F.disk folder.new) }
         ensures outcome { Ends self.old.first self.new.first (F.faults_of folder.old) (F.faults_of folder.new) result }
         ensures why { IfErr result (λ f. IsOfFolder f) }
         ensures count { F.faults_of folder.old ≤ F.faults_of folder.new }
@@ -110,6 +111,7 @@ impl Journal {
         ensures free { AreFree self.new (F.disk folder.new) }
         ensures lasts { (t : Told) → Lasts self.old (F.disk folder.old) t → Lasts self.new (F.disk folder.new) t }
         ensures during { (t : Told) → Lasts self.old (F.disk folder.old) t → Leaves (λ c. Holds t c) (F.disk folder.old) (F.disk folder.new) }
+        ensures tables { During SameTables (F.disk folder.old) (F.disk folder.new) }
         ensures begun { OnOk result (IsSome self.new.spare) }
         ensures outcome { Ends self.old.first self.new.first (F.faults_of folder.old) (F.faults_of folder.new) result }
         ensures why { IfErr result (λ f. MayBegin f) }
@@ -135,6 +137,7 @@ impl Journal {
         ensures free { AreFree self.new (F.disk folder.new) }
         ensures lasts { (t : Told) → Lasts self.old (F.disk folder.old) t → Lasts self.new (F.disk folder.new) t }
         ensures during { (t : Told) → Lasts self.old (F.disk folder.old) t → Leaves (λ c. Holds t c) (F.disk folder.old) (F.disk folder.new) }
+        ensures tables { During SameTables (F.disk folder.old) (F.disk folder.new) }
         ensures begun { OnOk result (IsSome self.new.spare) }
         ensures outcome { Ends self.old.first self.new.first (F.faults_of folder.old) (F.faults_of folder.new) result }
         ensures limit { (what : _) (most : _) → result ≡ Err (JournalFault.TooMany what most)
@@ -194,6 +197,7 @@ impl Journal {
             (λ f. Lasts self.new (F.disk folder.new) (told_after f (NewSegment self.old.last_segment) t)) }
         ensures during { (t : Told) → Lasts self.old (F.disk folder.old) t
             → Leaves (λ c. Holds t c ⊎ Holds (failed_at (NewSegment self.old.last_segment) t) c) (F.disk folder.old) (F.disk folder.new) }
+        ensures tables { During SameTables (F.disk folder.old) (F.disk folder.new) }
         ensures outcome { Ends self.old.first self.new.first (F.faults_of folder.old) (F.faults_of folder.new) result }
         ensures limit { (what : _) (most : _) → result ≡ Err (JournalFault.TooMany what most)
             → next_limit self.new.spare self.new ≡ Some (JournalFault.TooMany what most) }
@@ -227,6 +231,7 @@ impl Journal {
             → (u : Told) × MadeRoom t u × Lasts self.new (F.disk folder.new) u }
         ensures during { (t : Told) → Lasts self.old (F.disk folder.old) t → t.committed ≡ length t.taken
             → Leaves (λ c. HoldsWithRoom t c) (F.disk folder.old) (F.disk folder.new) }
+        ensures tables { During SameTables (F.disk folder.old) (F.disk folder.new) }
         ensures outcome { Ends self.old.first self.new.first (F.faults_of folder.old) (F.faults_of folder.new) result }
         ensures limit { (what : _) (most : _) → result ≡ Err (JournalFault.TooMany what most)
             → (next_limit self.new.spare self.new ≡ Some (JournalFault.TooMany what most)) × (self.new.log ≡ self.old.log) }
@@ -252,6 +257,7 @@ impl Journal {
         ensures prepared { OnOk result (IsPrepared self.new mutation.now) }
         ensures lasts { (t : Told) → Lasts self.old (F.disk folder.old) t → (u : Told) × MadeRoom t u × Lasts self.new (F.disk folder.new) u }
         ensures during { (t : Told) → Lasts self.old (F.disk folder.old) t → Leaves (λ c. HoldsWithRoom t c) (F.disk folder.old) (F.disk folder.new) }
+        ensures tables { During SameTables (F.disk folder.old) (F.disk folder.new) }
         ensures outcome { Prepares (record_length mutation.now) (half self.old.size) self.old.first self.new.first
             (F.faults_of folder.old) (F.faults_of folder.new) result }
         ensures limit { TellsLimit self.new mutation.now result }

@@ -12,7 +12,7 @@ ghost use Rattle.cas_log.specs.Segment.{IsSize};
 ghost use Rattle.cas_log.specs.Logs.{IsOfATable};
 ghost use Rattle.cas_manifest.specs.Manifests.{place_of, Stands, MayHave};
 ghost use Rattle.cas_journal.specs.Fresh.{IsBegun, IsFresh};
-ghost use Rattle.cas_journal.specs.Stores.{Told, Holds, took, committed_all, appended, failed_at};
+ghost use Rattle.cas_journal.specs.Stores.{Told, Holds, SameTables, took, committed_all, appended, failed_at};
 ghost use Rattle.cas_journal.specs.Journals.{Lasts, AreFree, HasMemory, IsPrepared, MayTake};
 ghost use Rattle.cas_journal.specs.Ends.{Ends, IsOfFolder, IsToldAtOnce, WritesNothing, Limits, entry_limit, told_after, IsDefinition};
 
@@ -87,6 +87,7 @@ impl Journal {
         ensures lasts { (t : Told) → Lasts self.old (F.disk folder.old) t
             → MatchResult result (λ _. Lasts self.new (F.disk folder.new) (committed_all t)) (λ _. Lasts self.new (F.disk folder.new) t) }
         ensures during { (t : Told) → Lasts self.old (F.disk folder.old) t → Leaves (λ c. Holds t c) (F.disk folder.old) (F.disk folder.new) }
+        ensures tables { During SameTables (F.disk folder.old) (F.disk folder.new) }
         ensures outcome { Ends self.old.first self.new.first (F.faults_of folder.old) (F.faults_of folder.new) result }
         ensures why { IfErr result (λ f. IsOfFolder f) }
         ensures untouched { IfErr result (λ f. IsToldAtOnce f → During Same (F.disk folder.old) (F.disk folder.new)) }
@@ -155,6 +156,7 @@ impl Journal {
             (λ f. Lasts self.new (F.disk folder.new) (told_after f entry.now t)) }
         ensures during { (t : Told) → Lasts self.old (F.disk folder.old) t → FitsEntry (said_by t.entries) entry.now
             → Leaves (λ c. Holds t c ⊎ Holds (failed_at entry.now t) c) (F.disk folder.old) (F.disk folder.new) }
+        ensures tables { During SameTables (F.disk folder.old) (F.disk folder.new) }
         ensures outcome { Ends self.old.first self.new.first (F.faults_of folder.old) (F.faults_of folder.new) result }
         ensures limits { Limits (entry_limit self.old entry.now) result }
         ensures untouched { IfErr result (λ f. WritesNothing f → During Same (F.disk folder.old) (F.disk folder.new)) }

@@ -1,21 +1,13 @@
 -- The room's list with one mutation more, and what the room keeps of it.
-use Rattle.std.proofs.Common.{◌≡◌, ℕ, ◌+◌, ◌-◌, ◌^◌, ◌≤◌, min, List, [], ◌∷◌, ◌++◌, length, refl, sym, ap, subst, ◌∙◌, arith, append_assoc, length-append}
-use Rattle.std.specs.List.{flat_map}
+use Rattle.std.proofs.Common.{◌≡◌, ℕ, ◌+◌, ◌-◌, ◌^◌, ◌≤◌, min, List, [], ◌∷◌, ◌++◌, length, sym, ap, ◌∙◌, arith, append_assoc, length-append}
 use Rattle.std.proofs.lemmas.List.{append-nil}
 use Rattle.std.proofs.lemmas.Grind.{flat_map-append}
-use Rattle.cas_types.specs.declared.schema.TableSchema.{TableSchema}
 use Rattle.cas_disk.specs.Disk.{Disk}
 use Rattle.cas_atoms.specs.declared.atom.Mutation.{Mutation}
-use Rattle.cas_mutations.specs.Allowed.{FitsRecord}
-use Rattle.cas_changes.specs.declared.entry.Entry.{Entry}
-use Rattle.cas_changes.specs.declared.entry.Entry.TheVariants.{NewSegment}
-use Rattle.cas_changes.specs.Saying.{said_by}
-use Rattle.cas_manifest.proofs.Appends.{said_more}
-use Rattle.cas_replay.specs.Grammar.{AreInOrder}
 use Rattle.cas_history.specs.declared.item.Item.{Item}
 use Rattle.cas_history.specs.declared.item.Item.TheVariants.{Wrote}
-use Rattle.cas_journal.specs.Stores.{Told, MadeRoom, named, took}
-use Rattle.cas_journal.specs.Journals.{Lasts, MayTake}
+use Rattle.cas_journal.specs.Stores.{Told, MadeRoom, took}
+use Rattle.cas_journal.specs.Journals.{Lasts}
 use Rattle.cas_journal.specs.declared.journal.Journal.{Journal}
 use Rattle.cas_room.specs.declared.event.Event.{Event}
 use Rattle.cas_room.specs.declared.event.Event.TheVariants as event

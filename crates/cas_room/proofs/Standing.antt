@@ -1,5 +1,5 @@
 -- What the journal holds of each image, in the words of the room's list.
-use Rattle.std.proofs.Common.{◌≡◌, ℕ, ◌+◌, ◌-◌, ◌≤◌, List, ◌++◌, length, take, sym, ap, subst, ◌∙◌, arith, length-append}
+use Rattle.std.proofs.Common.{◌≡◌, ℕ, ◌+◌, ◌-◌, ◌≤◌, List, ◌++◌, length, take, ap, subst, ◌∙◌, arith, length-append}
 use Rattle.std.proofs.Math.Seq.{take-append-add}
 use Rattle.cas_disk.specs.Disk.{Image, Disk}
 use Rattle.cas_atoms.specs.declared.atom.Mutation.{Mutation}

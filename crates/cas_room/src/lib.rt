@@ -3,7 +3,11 @@
 #![tactic(auto)]
 
 mod event;
+mod fault;
 mod room;
+mod table_files;
 
 pub use event::{Accepted, Event};
+pub use fault::FreshFault;
 pub use room::Room;
+pub use table_files::LIVE_LIMIT;

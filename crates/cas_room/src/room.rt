@@ -10,36 +10,39 @@ ghost use Rattle.cas_changes.specs.Allowed.{FitsEntry, HasSpelling};
 ghost use Rattle.cas_changes.specs.Saying.{said_by};
 ghost use Rattle.cas_changes.specs.Spelling.{entry_bytes};
 ghost use Rattle.cas_journal.specs.Ends.{Ends, IsDefinition, IsOfFolder, IsToldAtOnce, Limits, Prepares, WritesNothing, entry_limit};
-ghost use Rattle.cas_journal.specs.Stores.{Told, Holds, HoldsWithRoom, MadeRoom, MayList, failed_at};
+ghost use Rattle.cas_journal.specs.Stores.{Told, Holds, HoldsWithRoom, MadeRoom, MayList, SameTables, failed_at};
 ghost use Rattle.cas_journal.specs.Journals.{Lasts, AreFree, MayTake};
 ghost use Rattle.cas_history.specs.Items.{listed, log_list, front_list, faults_list};
 ghost use Rattle.cas_history.specs.declared.item.Item.TheVariants.{Wrote};
 ghost use Rattle.cas_room.specs.Rooms.{accepted_in, first_number, Accepts, Knows, after_accept, after_commit, after_define};
 ghost use Rattle.cas_room.specs.Keeping.{Keeps, StandsFor};
+ghost use Rattle.cas_room.specs.Tables.{NoTableAbove};
 
 use crate::event::{Accepted, Event};
 use cas_atoms::Mutation;
 use cas_changes::Entry;
 use cas_disk::Folder;
 use cas_gates::First;
-use cas_history::{Faults, Front, Log, Session, write};
+use cas_history::{Faults, Front, Log, Numbers, Session, write};
 use cas_journal::{Journal, JournalFault};
 use cas_ledger::Store;
 use std::alloc::Global;
 
 /// The folder of a store with its journal, and the seats of what came onto it: the list of all mutations,
-/// and what the room says of its disk.
+/// what the room says of its disk, and the numbers of table files.
 #[derive(Drop)]
 pub struct Room<F: Folder, J: Store> {
     pub(crate) folder: F,
     pub(crate) journal: Journal,
     pub(crate) log: Log<Event, J>,
     pub(crate) faults: Faults<Event, J>,
+    pub(crate) numbers: Numbers<Event, J>,
     /// How many mutations were accepted.
     pub(crate) accepted: u64,
     /// How many of them the room said are committed.
     pub(crate) committed: u64,
     ghost free: { AreFree journal (F.disk folder) },
+    ghost drawn: { NoTableAbove numbers.last (F.disk folder) },
     ghost counted: { accepted ≤ length (accepted_in (listed log_list log.pass.saw)) },
     ghost told: { (faults.committed ≡ committed) × (committed ≤ accepted) },
     ghost faulted: { faults.number ≤ F.faults_of folder },
@@ -53,19 +56,23 @@ impl<F: Folder, J: Store> Room<F, J> {
         journal: Journal,
         log: Log<Event, J>,
         faults: Faults<Event, J>,
+        numbers: Numbers<Event, J>,
     ) -> Room<F, J>
         requires free { AreFree journal (F.disk folder) }
+        requires drawn { NoTableAbove numbers.last (F.disk folder) }
         requires new { (faults.number ≡ 0) × (faults.committed ≡ 0) × (faults.first ≡ first_number journal.first) }
         ensures folder { result.folder ≡ folder }
         ensures journal { result.journal ≡ journal }
         ensures log { result.log ≡ log }
         ensures faults { result.faults ≡ faults }
+        ensures numbers { result.numbers ≡ numbers }
     {
         Room {
             folder,
             journal,
             log,
             faults,
+            numbers,
             accepted: 0,
             committed: 0,
         }
@@ -88,6 +95,25 @@ impl<F: Folder, J: Store> Room<F, J> {
     }
 }
 
+// The room says what it knows of its disk, with so many mutations committed.
+pub(crate) fn say<F: Folder, J: Store>(
+    folder: &F,
+    journal: &Journal,
+    committed: u64,
+    faults: &mut Faults<Event, J>,
+)
+    requires rises { (faults.old.number ≤ F.faults_of folder.now) × (faults.old.committed ≤ committed)
+        × (faults.old.first ≢ 0 → first_number journal.now.first ≡ faults.old.first) }
+    ensures said { (faults.new.number ≡ F.faults_of folder.now) × (faults.new.committed ≡ committed)
+        × (faults.new.first ≡ first_number journal.now.first) }
+{
+    let first = match journal.stopped() {
+        Some(first) => first.number,
+        None => 0,
+    };
+    faults.say(folder.faults(), committed, first);
+}
+
 // The room says what it knows of its disk, with so many mutations committed, and the session gets to know it.
 fn note<F: Folder, J: Store>(
     folder: &F,
@@ -105,12 +131,19 @@ fn note<F: Folder, J: Store>(
         × (listed session.old.list session.new.pass.saw ≡ listed session.old.list session.old.pass.saw)
         × IsPrefix session.old.pass.saw session.new.pass.saw }
 {
-    let first = match journal.stopped() {
-        Some(first) => first.number,
-        None => 0,
-    };
-    faults.say(folder.faults(), committed, first);
+    say(folder, journal, committed, faults);
     faults.tell(session);
+}
+
+// How many mutations are committed, once a commit ended so: all that were accepted, or as many as before.
+fn committed_by(ended: &Result<(), JournalFault>, accepted: u64, committed: u64) -> u64
+    ensures all { OnOk ended.now (result ≡ accepted) }
+    ensures same { OnErr ended.now (result ≡ committed) }
+{
+    if ended.is_ok() {
+        return accepted;
+    }
+    committed
 }
 
 impl<F: Folder, J: Store> Room<F, J> {
@@ -134,6 +167,7 @@ impl<F: Folder, J: Store> Room<F, J> {
             (after_accept result mutation.now u) }
         ensures crash { (t : Told) → Lasts self.old.journal (F.disk self.old.folder) t
             → Leaves (λ c. HoldsWithRoom t c) (F.disk self.old.folder) (F.disk self.new.folder) }
+        ensures tables { During SameTables (F.disk self.old.folder) (F.disk self.new.folder) }
         ensures number { IfOk result (λ n. n ≡ mutation.now.number) }
         ensures entered { OnOk result (Accepts mutation.now (session.old.calls + 1) session.old.list
             (listed log_list self.old.log.pass.saw) (listed log_list self.new.log.pass.saw)
@@ -147,6 +181,7 @@ impl<F: Folder, J: Store> Room<F, J> {
         ensures seats { (session.new.list ≡ session.old.list) × (front.new.shard ≡ front.old.shard) × IsPrefix session.old.pass.saw session.new.pass.saw }
         ensures known { OnErr result (Knows self.new.faults.number self.new.faults.committed self.new.faults.first (listed faults_list session.new.pass.saw)) }
         ensures first { self.new.faults.first ≡ first_number self.new.journal.first }
+        ensures numbers { self.new.numbers ≡ self.old.numbers }
         ensures outcome { Prepares (record_length mutation.now) (half self.old.journal.size) self.old.journal.first self.new.journal.first
             (F.faults_of self.old.folder) (F.faults_of self.new.folder) result }
         ensures untouched { IfErr result (λ f. IsToldAtOnce f → During Same (F.disk self.old.folder) (F.disk self.new.folder)) }
@@ -170,6 +205,7 @@ impl<F: Folder, J: Store> Room<F, J> {
 
     /// Commits what was accepted: after Ok each mutation that the room accepted is in every image, and the
     /// session knows it.
+    #[tactic(auto, using(crate::proofs::Tables::commit_keeps))]
     pub fn commit(&mut self, session: &mut Session<Event, J>) -> Result<(), JournalFault>
         ensures kept { (found : List MutationOf) (t : Told)
             → Keeps self.old.journal (F.disk self.old.folder) (listed log_list self.old.log.pass.saw) self.old.faults.committed found t
@@ -177,6 +213,7 @@ impl<F: Folder, J: Store> Room<F, J> {
             (after_commit result t) }
         ensures crash { (t : Told) → Lasts self.old.journal (F.disk self.old.folder) t
             → Leaves (λ c. Holds t c) (F.disk self.old.folder) (F.disk self.new.folder) }
+        ensures tables { During SameTables (F.disk self.old.folder) (F.disk self.new.folder) }
         ensures log { self.new.log ≡ self.old.log }
         ensures session { (session.new.list ≡ session.old.list) × (session.new.calls ≡ session.old.calls)
             × (listed session.old.list session.new.pass.saw ≡ listed session.old.list session.old.pass.saw)
@@ -184,15 +221,14 @@ impl<F: Folder, J: Store> Room<F, J> {
         ensures known { Knows self.new.faults.number self.new.faults.committed self.new.faults.first (listed faults_list session.new.pass.saw) }
         ensures all { OnOk result (self.new.faults.committed ≡ self.old.accepted) }
         ensures first { self.new.faults.first ≡ first_number self.new.journal.first }
+        ensures numbers { self.new.numbers ≡ self.old.numbers }
         ensures outcome { Ends self.old.journal.first self.new.journal.first (F.faults_of self.old.folder) (F.faults_of self.new.folder) result }
         ensures why { IfErr result (λ f. IsOfFolder f) }
         ensures untouched { IfErr result (λ f. IsToldAtOnce f → During Same (F.disk self.old.folder) (F.disk self.new.folder)) }
         ensures count { F.faults_of self.old.folder ≤ F.faults_of self.new.folder }
     {
         let result = self.journal.commit(&mut self.folder);
-        if result.is_ok() {
-            self.committed = self.accepted;
-        }
+        self.committed = committed_by(&result, self.accepted, self.committed);
         note(
             &self.folder,
             &self.journal,
@@ -224,8 +260,10 @@ impl<F: Folder, J: Store> Room<F, J> {
             × IsPrefix session.old.pass.saw session.new.pass.saw }
         ensures crash { (t : Told) → Lasts self.old.journal (F.disk self.old.folder) t → FitsEntry (said_by t.entries) entry.now
             → Leaves (λ c. Holds t c ⊎ Holds (failed_at entry.now t) c) (F.disk self.old.folder) (F.disk self.new.folder) }
+        ensures tables { During SameTables (F.disk self.old.folder) (F.disk self.new.folder) }
         ensures known { Knows self.new.faults.number self.new.faults.committed self.new.faults.first (listed faults_list session.new.pass.saw) }
         ensures first { self.new.faults.first ≡ first_number self.new.journal.first }
+        ensures numbers { self.new.numbers ≡ self.old.numbers }
         ensures outcome { Ends self.old.journal.first self.new.journal.first (F.faults_of self.old.folder) (F.faults_of self.new.folder) result }
         ensures limits { Limits (entry_limit self.old.journal entry.now) result }
         ensures untouched { IfErr result (λ f. WritesNothing f → During Same (F.disk self.old.folder) (F.disk self.new.folder)) }
