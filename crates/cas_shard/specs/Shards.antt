@@ -136,8 +136,8 @@ entered entries s = record s { entries = s.entries ++ entries }
 abbrev pub drawn_with : ℤ → Mutation → ℤ
 drawn_with drawn m = if m.drawn then int_max drawn m.at else drawn
 
--- What a shard is opened with, and a mutation more, read back from the log: no call of this run wrote it, so it tells session 0 and call 0. The shard's
--- number, its drawn timestamp and its moment become the mutation's where that is greater.
+-- What a shard is opened with, and a mutation more, read back from the log. No call of this run wrote it, so it tells session 0 and call 0; calls are
+-- numbered from 1. The shard's number, its drawn timestamp and its moment become the mutation's where that is greater.
 abbrev pub restored : Mutation → ShardOpening → ShardOpening
 restored m o =
     record {

@@ -20,7 +20,7 @@ use Rattle.cas_memtable.specs.declared.memtable.Held.{Held}
 use Rattle.cas_memtable.specs.declared.memtable.MemPart.{MemPart}
 use Rattle.cas_entries.specs.declared.entry.Entry.{Entry}
 use Rattle.cas_entries.specs.declared.entry.Entry.TheVariants.{Wrote}
-use Rattle.cas_entries.specs.Entries.{AreNumbered, last_number}
+use Rattle.cas_entries.specs.Entries.{AreNumbered, first, last_number}
 use Rattle.cas_entries.specs.Laws.{atoms_of_partition}
 use Rattle.cas_shard.specs.Shards.{ShardHistory, all_entries, number_of, drawn_of}
 use Rattle.cas_shard.specs.declared.shard.Shard.{Shard}
@@ -42,6 +42,10 @@ pub record NumbersRise (s : ShardHistory) : Type 0 where
 -- the atoms of all mutations of a partition, one mutation after another
 abbrev pub written_to : ℕ → List Entry → List ℕ → List Atom
 written_to table entries key = flat_map (atoms_of_partition table key) entries
+
+-- all that was found and entered in a partition is numbered up to the shard's number, so a look there shows all of it
+abbrev pub AreShown : ShardHistory → Type 0
+AreShown s = (table : ℕ) (key : List ℕ) → first (number_of s) table key (all_entries s) ≡ written_to table (all_entries s) key
 
 -- ---- tables
 

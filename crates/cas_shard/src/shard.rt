@@ -70,7 +70,7 @@ impl Shard {
     ghost use Rattle.cas_entries.specs.declared.entry.ShardOpening.{ShardOpening as Opening};
     ghost use Rattle.cas_shard.specs.Shards.{IsTime, Prepares, ShardHistory, Shows, after_restore, empty_shard, entered, found_shard};
     ghost use Rattle.cas_shard.specs.Shards.{later_drawn, later_moment, number_of, raised, take_refusal, told_shard};
-    ghost use Rattle.cas_shard.specs.Stands.{Asks, Belongs, HasRoom, IsPrepared, IsReady, Stands, Suits};
+    ghost use Rattle.cas_shard.specs.Stands.{AreShown, Asks, Belongs, HasRoom, IsPrepared, IsReady, Stands, Suits};
     ghost use Rattle.cas_shard.specs.Inner.Parts.{MakesRoom};
     ghost use Rattle.cas_shard.specs.Inner.Turns.{Answered, Took};
 
@@ -270,4 +270,9 @@ impl Shard {
             now: self.moment,
         })
     }
+
+    /// A look shows all mutations of its partition that the shard stands for.
+    pub fn all_are_shown(&self)
+        ensures { (tables : ListOf Schema) (s : ShardHistory) → Stands tables s self.now → AreShown s }
+    {}
 }
