@@ -1,5 +1,5 @@
 pub mod Refusals
-pub mod Orders
+pub mod Preparing
 pub mod Memory
 pub mod Numbering
 pub mod Standing

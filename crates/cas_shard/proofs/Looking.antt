@@ -1,5 +1,5 @@
 -- The rows that a SELECT shows of the memtables are the live view of all that was written to the partition.
-use Rattle.std.proofs.Common.{◌≡◌, ◌≤◌, ℕ, ℤ, Option, None, Some, List, [], ◌∷◌, refl, sym, ap, ◌∙◌, subst, arith, append-nil, false, Result, Ok, Err, IfOk}
+use Rattle.std.proofs.Common.{◌≡◌, ℕ, ℤ, Option, None, Some, List, [], ◌∷◌, refl, sym, ap, ◌∙◌, subst, append-nil, false, Result, Ok, Err, IfOk}
 use Rattle.std.specs.Prelude.{slice_get, is_some, Bool, true, if◌then◌else◌, int_lt}
 use Rattle.std.proofs.lemmas.Bool.{true≢false}
 use Rattle.std.specs.List.{AllByRecursion}
@@ -29,14 +29,12 @@ use Rattle.cas_memtable.specs.declared.memtable.Held.{Held}
 use Rattle.cas_memtable.specs.declared.memtable.MemPart.{MemPart}
 use Rattle.cas_bounds.specs.declared.cuts.Slice.{Slice}
 use Rattle.cas_entries.specs.Entries.{first}
-use Rattle.cas_entries.proofs.Numbers.{all_stand_up_to}
-use Rattle.cas_shard.specs.Shards.{ShardHistory, all_entries, look_at, moment_at, number_of}
+use Rattle.cas_shard.specs.Shards.{ShardHistory, all_entries, look_at, moment_at, number_of, raised}
 use Rattle.cas_shard.specs.Stands.{Asks, Keeps, Stands, held, held_in, order_at, order_of, written_to}
 use Rattle.cas_shard.specs.Inner.Looks.{Answers, Gathers, Sources}
-use Rattle.cas_shard.specs.Inner.Turns.{raised}
 use Rattle.cas_shard.specs.declared.answers.Look.{Look}
 use Rattle.cas_shard.specs.declared.shard.Shard.{Shard}
-use Rattle.cas_shard.proofs.Numbering.{number_is}
+use Rattle.cas_shard.proofs.Numbering.{all_stand}
 
 -- ---- sources
 
@@ -131,11 +129,6 @@ answered q now o written rows a of low high same least =
     (same_written q.slice order o a.streams written a.gathers of low high same least))
     now
 
--- all that was entered stands up to the front
-all_stand : (s : ShardHistory) (table : ℕ) (key : List ℕ) → (tables : List TableSchema) (x : Shard) → Stands tables s x → first (number_of s) table key (all_entries s) ≡ written_to table (all_entries s) key
-all_stand s table key tables x h =
-    all_stand_up_to 0 (number_of s) table key (all_entries s) h.numbers.rise (subst (λ k. k ≤ number_of s) (number_is s h.numbers) (omega arith))
-
 shown : (tables : List TableSchema) (s : ShardHistory) (x : Shard) (q : Query) (now : ℤ) (rows : List LiveRow) → Stands tables s x → Asks tables q
     → Answers q now (held x.parts.items q.table q.key) rows → rows ≡ answer q (first (number_of s) q.table q.key (all_entries s)) now
 shown tables s x q now rows h asks a =
@@ -145,7 +138,7 @@ shown tables s x q now rows h asks a =
     subst (λ o. Keeps o (held x.parts.items q.table) (written_to q.table (all_entries s))) order (h.kept q.table) in
     let to_query : clustering_order t.columns ≡ clustering_order q.columns = ap clustering_order (sym asks.2.columns) in
     answered q now (held x.parts.items q.table q.key) (written_to q.table (all_entries s) q.key) rows a (k.of q.key) (asks.2.low.0 ∙ to_query) (asks.2.high.0 ∙ to_query) (k.same q.key) (k.least q.key)
-    ∙ ap (λ l. answer q l now) (sym (all_stand s q.table q.key tables x h))
+    ∙ ap (λ l. answer q l now) (sym (all_stand s q.table q.key h.numbers))
 
 pub shows : (tables : List TableSchema) (s : ShardHistory) (x : Shard) (reading : ℤ) (q : Query) (l : Look) (ps : List MemPart) (rows : List LiveRow) → Stands tables (raised reading s) x → Asks tables q
     → Answers q l.now (held ps q.table q.key) rows → ps ≡ x.parts.items → l.rows ≡ rows → l.front ≡ x.number → l.now ≡ x.moment → l ≡ look_at reading s q

@@ -8,8 +8,8 @@ use Rattle.cas_atoms.specs.declared.atom.Mutation.{Mutation}
 use Rattle.cas_memtable.specs.Memtables.{held_at, atoms_held, least_held, least_with, PlacesIn, HasPlaces, MakesPlaces, Joins}
 use Rattle.cas_memtable.specs.declared.memtable.Held.{Held}
 use Rattle.cas_memtable.specs.declared.memtable.MemPart.{MemPart}
-use Rattle.cas_shard.specs.Stands.{held, held_in, AreOf}
-use Rattle.cas_shard.specs.Inner.Parts.{HasRoom, JoinsRoom, MakesRoom, StayFew}
+use Rattle.cas_shard.specs.Stands.{held, held_in, AreOf, HasRoom}
+use Rattle.cas_shard.specs.Inner.Parts.{JoinsRoom, MakesRoom, StayFew}
 
 -- ---- lists of memtables
 
@@ -59,6 +59,9 @@ reached w ps qs same few = record {
   others = λ t apart key. same t key;
   few = few;
 }
+
+pub untouched : (w : Mutation) (ps qs : List MemPart) → qs ≡ ps → MakesRoom w ps qs
+untouched w ps qs e = reached w ps qs (λ t key. ap (λ l. held l t key) e) (λ k a b. subst (λ l. length l ≤ k) (sym e) a)
 
 -- place was made in the table's own
 pub made : (w : Mutation) (ps mid qs : List MemPart) (m n : MemPart) → ((t : ℕ) (key : List ℕ) → held mid t key ≡ held ps t key) → StayFew w.table ps mid

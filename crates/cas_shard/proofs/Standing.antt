@@ -1,11 +1,12 @@
 -- A shard stands for its history after a write and after a SELECT.
-use Rattle.std.proofs.Common.{◌≡◌, ◌≢◌, ◌⊎◌, inl, inr, ◌≤◌, ◌+◌, ◌==◌, ℕ, zero, suc, ℤ, pos, neg_ℤ, Bool, true, false, ◌&&◌, if◌then◌else◌, Option, None, Result, Ok, Err, List, [], ◌∷◌, ◌++◌, length, refl, sym, ap, ◌∙◌, subst, arith, append-nil}
+use Rattle.std.proofs.Common.{◌≡◌, ◌≢◌, ◌⊎◌, inl, inr, ◌<◌, ◌≤◌, ◌+◌, ◌==◌, max, ℕ, zero, suc, ℤ, Bool, true, false, ◌&&◌, if◌then◌else◌, Option, None, Some, IfSome, Result, Ok, Err, List, [], ◌∷◌, ◌++◌, length, refl, sym, ap, ◌∙◌, subst, arith, append-nil}
 use Rattle.std.proofs.lemmas.Bool.Decides.{nat_tests}
 use Rattle.std.proofs.lemmas.Bool.{true≢false}
 use Rattle.std.proofs.lemmas.Option.{none-some, slice_get_within}
 use Rattle.std.proofs.lemmas.Cmp.{tied_itself}
 use Rattle.std.proofs.lemmas.Grind.{flat_map-append}
 use Rattle.std.specs.Cmp.{Equal-is}
+use Rattle.std.specs.Int.{int_max}
 use Rattle.std.specs.Ordering.{is_eq}
 use Rattle.cas_types.specs.Values.{bytes_cmp}
 use Rattle.cas_types.specs.declared.schema.TableSchema.{TableSchema}
@@ -24,18 +25,20 @@ use Rattle.cas_memtable.specs.declared.memtable.Held.{Held}
 use Rattle.cas_memtable.specs.declared.memtable.MemPart.{MemPart}
 use Rattle.cas_entries.specs.declared.entry.Entry.{Entry}
 use Rattle.cas_entries.specs.declared.entry.Entry.TheVariants.{Wrote}
+use Rattle.cas_entries.specs.declared.entry.ShardOpening.{ShardOpening}
+use Rattle.cas_entries.specs.Entries.{last_number}
 use Rattle.cas_entries.proofs.Numbers.{drawn_of_none, last_of_none, last_drawn_more, last_number_more}
-use Rattle.cas_shard.specs.Shards.{ShardHistory, after_entries, all_entries, drawn_of, empty_shard, entry_unless, found_shard, later_drawn, later_moment}
-use Rattle.cas_shard.specs.Shards.{mutation_at, next_number, take_refusal, taken_unless, wants, write_answer, write_entries}
-use Rattle.cas_shard.specs.Stands.{Keeps, NumbersRise, Stands, Suits, held, order_at, written_to}
+use Rattle.cas_shard.specs.Shards.{Prepares, ShardHistory, all_entries, drawn_with, entered, entry_unless, found_shard, later_drawn, later_moment}
+use Rattle.cas_shard.specs.Shards.{mutation_at, next_number, prepare_answer, raised, restored, take_refusal, taken_unless, told_shard, write_answer, write_entries}
+use Rattle.cas_shard.specs.Stands.{Belongs, Keeps, Stands, held, order_at, written_to}
 use Rattle.cas_shard.specs.Inner.Parts.{JoinsRoom, MakesRoom}
-use Rattle.cas_shard.specs.Inner.Turns.{Entered, IsNext, Took, raised, with_entries}
+use Rattle.cas_shard.specs.Inner.Turns.{Answered, Took}
 use Rattle.cas_shard.specs.declared.answers.TakeFault.{TakeFault}
 use Rattle.cas_shard.specs.declared.answers.TakeFault.TheVariants as fault
 use Rattle.cas_shard.specs.declared.shard.Shard.{Shard}
 use Rattle.cas_shard.proofs.Memory.{same_same}
-use Rattle.cas_shard.proofs.Numbering.{all_joined, entered}
-use Rattle.cas_shard.proofs.Orders.{write_in_order}
+use Rattle.cas_shard.proofs.Numbering.{all_joined, all_restored, one_entered, one_restored}
+use Rattle.cas_shard.proofs.Preparing.{in_order, taken_ok}
 
 -- ---- lists of atoms
 
@@ -189,11 +192,12 @@ module _ (tables : List TableSchema) (w : Mutation) (are : AreAtomsOf (order_at 
 
 -- ---- shards
 
-pub at_first : (tables : List TableSchema) (x : Shard) → x.parts.items ≡ [] → x.number ≡ 0 → x.drawn ≡ neg_ℤ (pos 2) → x.moment ≡ pos 0 → Stands tables (found_shard empty_shard) x
-at_first tables x p n d m = record {
-  numbers = record { found = sym (last_of_none 0); rise = tt };
-  number = n ∙ sym (last_of_none 0);
-  drawn = d ∙ sym (drawn_of_none (neg_ℤ (pos 2)));
+pub as_opened : (tables : List TableSchema) (number : ℕ) (drawn moment : ℤ) (x : Shard) → x.parts.items ≡ [] → x.number ≡ number → x.drawn ≡ drawn → x.moment ≡ moment
+    → Stands tables (found_shard (told_shard number drawn moment)) x
+as_opened tables number drawn moment x p n d m = record {
+  numbers = record { ascend = tt; found = subst (λ k. k ≤ number) (sym (last_of_none 0)) (omega arith); rise = tt };
+  number = n ∙ sym (last_of_none number);
+  drawn = d ∙ sym (drawn_of_none drawn);
   moment = m;
   kept = λ t. subst (λ ps. Keeps (order_at tables t) (held ps t) (written_to t [])) (sym p) (record { of = λ key h e. absurd (none-some h e); same = λ key. same_same []; least = λ key. refl });
   few = subst (λ ps. length ps ≤ length tables) (sym p) (omega arith);
@@ -202,7 +206,7 @@ at_first tables x p n d m = record {
 pub moment_raised : (tables : List TableSchema) (s : ShardHistory) (x y : Shard) (reading : ℤ) → Stands tables s x → y.parts.items ≡ x.parts.items → y.number ≡ x.number → y.drawn ≡ x.drawn
     → y.moment ≡ later_moment reading x.moment → Stands tables (raised reading s) y
 moment_raised tables s x y reading h p n d m = record {
-  numbers = record { found = h.numbers.found; rise = h.numbers.rise };
+  numbers = record { ascend = h.numbers.ascend; found = h.numbers.found; rise = h.numbers.rise };
   number = n ∙ h.number;
   drawn = d ∙ h.drawn;
   moment = m ∙ ap (later_moment reading) h.moment;
@@ -210,54 +214,56 @@ moment_raised tables s x y reading h p n d m = record {
   few = subst (λ ps. length ps ≤ length tables) (sym p) h.few;
 }
 
-none_entered : (s : ShardHistory) → s ≡ with_entries [] s
+none_entered : (s : ShardHistory) → s ≡ entered [] s
 none_entered s = ap (λ l. record s { entries = l }) (sym (append-nil s.entries))
 
-pub as_none : (tables : List TableSchema) (s : ShardHistory) (y : Shard) → Stands tables s y → Stands tables (with_entries [] s) y
+as_none : (tables : List TableSchema) (s : ShardHistory) (y : Shard) → Stands tables s y → Stands tables (entered [] s) y
 as_none tables s y h = subst (λ z. Stands tables z y) (none_entered s) h
 
-pub is_starved : (tables : List TableSchema) (segment : ℕ) (s : ShardHistory) (session call : ℕ) (w : Mutation) (x y : Shard) → Stands tables s x → IsNext tables s w
-    → y.number ≡ x.number → y.drawn ≡ x.drawn → y.moment ≡ x.moment → MakesRoom w x.parts.items y.parts.items
-    → Entered tables segment s session call w (Err fault.Mem) y
-is_starved tables segment s session call w x y h is n d m makes = record {
-  answered = λ told. absurd (true≢false told);
-  stands = as_none tables s y (record {
-    numbers = h.numbers;
-    number = n ∙ h.number;
-    drawn = d ∙ h.drawn;
-    moment = m ∙ h.moment;
-    kept = room_keeps tables w is.atoms (all_entries s) x.parts.items y.parts.items h.kept makes;
-    few = makes.few (length tables) h.few is.there;
-  });
+-- what says nothing yet changes nothing
+pub room_made : (tables : List TableSchema) (shards : ℕ) (s : ShardHistory) (w : Mutation) (x y : Shard) → Stands tables s x → Belongs tables shards w
+    → y.number ≡ x.number → y.drawn ≡ x.drawn → y.moment ≡ x.moment → MakesRoom w x.parts.items y.parts.items → Stands tables s y
+room_made tables shards s w x y h is n d m makes = record {
+  numbers = h.numbers;
+  number = n ∙ h.number;
+  drawn = d ∙ h.drawn;
+  moment = m ∙ h.moment;
+  kept = room_keeps tables w (in_order tables shards w is) (all_entries s) x.parts.items y.parts.items h.kept makes;
+  few = makes.few (length tables) h.few (slice_get_within tables w.table is.0 is.1);
 }
 
-pub is_entered : (tables : List TableSchema) (segment : ℕ) (s : ShardHistory) (session call : ℕ) (w : Mutation) (ps : List MemPart) (number : ℕ) (x y : Shard) → Stands tables s x → IsNext tables s w
-    → take_refusal segment w ≡ None → number ≡ w.number → MakesRoom w x.parts.items ps → JoinsRoom w ps y.parts.items
-    → y.number ≡ w.number → y.drawn ≡ (if w.drawn then w.at else x.drawn) → y.moment ≡ x.moment
-    → Entered tables segment s session call w (Ok number) y
-is_entered tables segment s session call w ps number x y h is none is_number makes joins n d m = record {
-  answered = λ told. ap (λ k. Ok k) is_number ∙ sym (ap (λ o. taken_unless o w.number) none);
-  stands = subst (λ l. Stands tables (with_entries l s) y) (sym (ap (λ o. entry_unless o session call w) none)) after;
+-- ---- entered
+
+pub one_enters : (tables : List TableSchema) (shards : ℕ) (s : ShardHistory) (session call : ℕ) (w : Mutation) (x y : Shard) → Stands tables s x → Belongs tables shards w → w.number ≡ x.number + 1
+    → JoinsRoom w x.parts.items y.parts.items → y.number ≡ w.number → y.drawn ≡ (if w.drawn then w.at else x.drawn) → y.moment ≡ x.moment
+    → Stands tables (entered (Wrote session call w ∷ []) s) y
+one_enters tables shards s session call w x y h is next joins n d m = record {
+  numbers = one_entered session call w s h.numbers (next ∙ ap (λ k. k + 1) h.number);
+  number = n ∙ sym (last_number_more s.found.number s.entries (Wrote session call w));
+  drawn = d ∙ ap (λ k. if w.drawn then w.at else k) h.drawn ∙ sym (last_drawn_more s.found.drawn s.entries (Wrote session call w));
+  moment = m ∙ h.moment;
+  kept = λ t. subst (λ l. Keeps (order_at tables t) (held y.parts.items t) (written_to t l)) (sym (all_joined s (Wrote session call w ∷ [])))
+      (join_keeps tables w (in_order tables shards w is) (all_entries s) session call x.parts.items y.parts.items h.kept joins t);
+  few = subst (λ c. c ≤ length tables) (sym joins.count) h.few;
+}
+
+-- ---- restored
+
+pub one_is_restored : (tables : List TableSchema) (shards : ℕ) (o : ShardOpening) (w : Mutation) (ps : List MemPart) (x y : Shard) → Stands tables (found_shard o) x → Belongs tables shards w
+    → last_number 0 o.entries < w.number → MakesRoom w x.parts.items ps → JoinsRoom w ps y.parts.items
+    → y.number ≡ max x.number w.number → y.drawn ≡ drawn_with x.drawn w → y.moment ≡ int_max x.moment w.moment → Stands tables (found_shard (restored w o)) y
+one_is_restored tables shards o w ps x y h is above makes joins n d m = record {
+  numbers = one_restored w o h.numbers above;
+  number = n ∙ ap (λ k. max k w.number) (h.number ∙ last_of_none o.number) ∙ sym (last_of_none (max o.number w.number));
+  drawn = d ∙ ap (λ k. drawn_with k w) (h.drawn ∙ drawn_of_none o.drawn) ∙ sym (drawn_of_none (drawn_with o.drawn w));
+  moment = m ∙ ap (λ k. int_max k w.moment) h.moment;
+  kept = λ t. subst (λ l. Keeps (order_at tables t) (held y.parts.items t) (written_to t l)) (sym (all_restored o w))
+      (join_keeps tables w order (all_entries (found_shard o)) 0 0 ps y.parts.items (room_keeps tables w order (all_entries (found_shard o)) x.parts.items ps h.kept makes) joins t);
+  few = subst (λ c. c ≤ length tables) (sym joins.count) (makes.few (length tables) h.few (slice_get_within tables w.table is.0 is.1));
 }
   where
-    one : List Entry
-    one = Wrote session call w ∷ []
-
-    rises : NumbersRise (after_entries (pos 0) one s)
-    rises = entered (pos 0) one s h.numbers (is.number, tt)
-
-    kept : (t : ℕ) → Keeps (order_at tables t) (held y.parts.items t) (written_to t (all_entries s ++ one))
-    kept = join_keeps tables w is.atoms (all_entries s) session call ps y.parts.items (room_keeps tables w is.atoms (all_entries s) x.parts.items ps h.kept makes) joins
-
-    after : Stands tables (with_entries one s) y
-    after = record {
-      numbers = record { found = rises.found; rise = rises.rise };
-      number = n ∙ sym (last_number_more s.found.number s.entries (Wrote session call w));
-      drawn = d ∙ ap (λ k. if w.drawn then w.at else k) h.drawn ∙ sym (last_drawn_more s.found.drawn s.entries (Wrote session call w));
-      moment = m ∙ h.moment;
-      kept = λ t. subst (λ l. Keeps (order_at tables t) (held y.parts.items t) (written_to t l)) (sym (all_joined s one)) (kept t);
-      few = subst (λ c. c ≤ length tables) (sym joins.count) (makes.few (length tables) h.few is.there);
-    }
+    order : AreAtomsOf (order_at tables w.table) w.atoms
+    order = in_order tables shards w is
 
 -- ---- writes
 
@@ -266,40 +272,68 @@ made_at : (s : ShardHistory) (x : Shard) (tables : List TableSchema) (reading : 
 unfolding mutation_at
 made_at s x tables reading w m h e = e ∙ (λ i. mutation_of w (later_drawn reading (h.drawn i)) (later_moment reading (h.moment i)) (h.number i + 1))
 
-next_at : (tables : List TableSchema) (s : ShardHistory) (reading : ℤ) (w : BoundWrite) → Suits tables w → IsNext tables (raised reading s) (mutation_at reading s w)
-unfolding mutation_at mutation_of
-next_at tables s reading w suits = record {
-  number = refl;
-  atoms = write_in_order tables w (later_drawn reading (drawn_of s)) (later_moment reading s.moment) (next_number s) suits;
-  there = slice_get_within tables w.table suits.0 suits.1;
-}
+pub prepares : (tables : List TableSchema) (segment : ℕ) (s : ShardHistory) (x : Shard) (reading : ℤ) (w : BoundWrite) (m : Mutation) (r : Result Mutation TakeFault) → Stands tables s x
+    → m ≡ mutation_of w (later_drawn reading x.drawn) (later_moment reading x.moment) (x.number + 1) → Answered segment m r → Prepares segment s reading w r
+unfolding prepare_answer
+prepares tables segment s x reading w m r h e a told = a told ∙ ap (λ k. taken_unless (take_refusal segment k) k) (made_at s x tables reading w m h e)
 
-pub may_follow : (tables : List TableSchema) (s : ShardHistory) (x : Shard) (reading : ℤ) (w : BoundWrite) (m : Mutation) → Stands tables s x → Suits tables w
-    → m ≡ mutation_of w (later_drawn reading x.drawn) (later_moment reading x.moment) (x.number + 1) → IsNext tables (raised reading s) m
-may_follow tables s x reading w m h suits e = subst (IsNext tables (raised reading s)) (sym (made_at s x tables reading w m h e)) (next_at tables s reading w suits)
+pub nothing_prepared : (segment : ℕ) (s : ShardHistory) (reading : ℤ) (w : BoundWrite) → Prepares segment s reading w (Err fault.Mem)
+nothing_prepared segment s reading w told = absurd (true≢false told)
+
+-- the places of a mutation were made, unless it was refused
+pub stays : (tables : List TableSchema) (shards segment : ℕ) (s : ShardHistory) (w : Mutation) (x y : Shard) → Stands tables s x → (take_refusal segment w ≡ None → Belongs tables shards w)
+    → y.number ≡ x.number → y.drawn ≡ x.drawn → y.moment ≡ x.moment → MakesRoom w x.parts.items y.parts.items → IfSome (take_refusal segment w) (λ k. y.parts.items ≡ x.parts.items)
+    → Stands tables s y
+stays tables shards segment s w x y h belongs n d m makes same = by (take_refusal segment w) refl same
+  where
+    by : (o : Option ℕ) → take_refusal segment w ≡ o → IfSome o (λ k. y.parts.items ≡ x.parts.items) → Stands tables s y
+    by None e p = room_made tables shards s w x y h (belongs e) n d m makes
+    by (Some k) e p = record {
+      numbers = h.numbers;
+      number = n ∙ h.number;
+      drawn = d ∙ h.drawn;
+      moment = m ∙ h.moment;
+      kept = λ t. subst (λ ps. Keeps (order_at tables t) (held ps t) (written_to t (all_entries s))) (sym p) (h.kept t);
+      few = subst (λ ps. length ps ≤ length tables) (sym p) h.few;
+    }
 
 number_at : (reading : ℤ) (s : ShardHistory) (w : BoundWrite) → (mutation_at reading s w).number ≡ next_number s
 unfolding mutation_at mutation_of
 number_at reading s w = refl
 
-took_at : (tables : List TableSchema) (segment : ℕ) (s : ShardHistory) (reading : ℤ) (session call : ℕ) (w : BoundWrite) (r : Result ℕ TakeFault) (y : Shard)
-    → Entered tables segment (raised reading s) session call (mutation_at reading s w) r y → Took tables segment s reading session call w r y
-unfolding write_entries write_answer
-took_at tables segment s reading session call w r y n = record {
-  entries = if wants r then [] else entry_unless (take_refusal segment (mutation_at reading s w)) session call (mutation_at reading s w);
-  takes = record { answered = λ told. n.answered told ∙ ap (taken_unless (take_refusal segment (mutation_at reading s w))) (number_at reading s w); entered = refl };
-  stands = n.stands;
-}
+-- the two halves in a row
+pub took : (tables : List TableSchema) (shards segment : ℕ) (s : ShardHistory) (reading : ℤ) (session call : ℕ) (w : BoundWrite) (m : Mutation) (y : Shard) → Prepares segment s reading w (Ok m)
+    → Stands tables (entered (Wrote session call m ∷ []) (raised reading s)) y → Took tables segment s reading session call w (Ok m.number) y
+unfolding prepare_answer write_answer write_entries
+took tables shards segment s reading session call w m y prepared h =
+    let is : (take_refusal segment (mutation_at reading s w) ≡ None) × (m ≡ mutation_at reading s w) = taken_ok (take_refusal segment (mutation_at reading s w)) (mutation_at reading s w) m (prepared refl) in
+    record {
+      entries = Wrote session call m ∷ [];
+      takes = record {
+        answered = λ told. ap (λ k. Ok k) (ap (λ k. k.number) is.1 ∙ number_at reading s w) ∙ sym (ap (λ o. taken_unless o (next_number s)) is.0);
+        entered = ap (λ k. Wrote session call k ∷ []) is.1 ∙ sym (ap (λ o. entry_unless o session call (mutation_at reading s w)) is.0);
+      };
+      stands = h;
+    }
 
-pub took : (tables : List TableSchema) (segment : ℕ) (s : ShardHistory) (x : Shard) (reading : ℤ) (session call : ℕ) (w : BoundWrite) (m : Mutation) (r : Result ℕ TakeFault) (y : Shard) → Stands tables s x
-    → m ≡ mutation_of w (later_drawn reading x.drawn) (later_moment reading x.moment) (x.number + 1)
-    → Entered tables segment (raised reading s) session call m r y → Took tables segment s reading session call w r y
-took tables segment s x reading session call w m r y h e into =
-    took_at tables segment s reading session call w r y (subst (λ k. Entered tables segment (raised reading s) session call k r y) (made_at s x tables reading w m h e) into)
+refused_is : (o : Option ℕ) (w : Mutation) (n : ℕ) → Err (fault.Refused n) ≡ taken_unless o w → o ≡ Some n
+refused_is None w n e = cc
+refused_is (Some k) w n e = cc
 
-pub took_nothing : (tables : List TableSchema) (segment : ℕ) (s : ShardHistory) (reading : ℤ) (session call : ℕ) (w : BoundWrite) (y : Shard) → Stands tables (raised reading s) y
-    → Took tables segment s reading session call w (Err fault.Mem) y
-took_nothing tables segment s reading session call w y h = record {
+pub took_nothing : (tables : List TableSchema) (segment : ℕ) (s : ShardHistory) (reading : ℤ) (session call : ℕ) (w : BoundWrite) (f : TakeFault) (y : Shard) → Prepares segment s reading w (Err f)
+    → Stands tables (raised reading s) y → Took tables segment s reading session call w (Err f) y
+unfolding prepare_answer write_answer write_entries
+took_nothing tables segment s reading session call w (fault.Refused n) y prepared h =
+    let is : take_refusal segment (mutation_at reading s w) ≡ Some n = refused_is (take_refusal segment (mutation_at reading s w)) (mutation_at reading s w) n (prepared refl) in
+    record {
+      entries = [];
+      takes = record {
+        answered = λ told. sym (ap (λ o. taken_unless o (next_number s)) is);
+        entered = sym (ap (λ o. entry_unless o session call (mutation_at reading s w)) is);
+      };
+      stands = as_none tables (raised reading s) y h;
+    }
+took_nothing tables segment s reading session call w fault.Mem y prepared h = record {
   entries = [];
   takes = record { answered = λ told. absurd (true≢false told); entered = refl };
   stands = as_none tables (raised reading s) y h;

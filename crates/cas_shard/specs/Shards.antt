@@ -1,6 +1,7 @@
--- What a write and a SELECT are answered by the shard that their partition lies in, and what a write enters into its history.
+-- What a write and a SELECT are answered by the shard that their partition lies in, and what a write enters into its history; with which history a
+-- shard is opened.
 -- CQL documentation, "Data manipulation"; numbers, timestamps and moments are own.
-use Rattle.std.specs.Prelude.{◌≡◌, ℕ, ◌+◌, ◌/◌, nat_lt, ℤ, pos, neg_ℤ, ◌≤ℤ◌, ◌+ℤ◌, int_lt, int_div}
+use Rattle.std.specs.Prelude.{◌≡◌, ℕ, ◌+◌, ◌/◌, max, nat_lt, ℤ, pos, neg_ℤ, ◌≤ℤ◌, ◌+ℤ◌, int_lt, int_div}
 use Rattle.std.specs.Prelude.{Bool, true, false, ◌&&◌, ◌||◌, if◌then◌else◌, Option, None, Some, Result, Ok, Err, IfOk, List, [], ◌∷◌, ◌++◌}
 use Rattle.std.specs.Int.{int_max}
 use Rattle.cas_types.specs.declared.limits.TheConstants.{LAST_DRAWN, LAST_MICROSECOND, MUTATION_LIMIT}
@@ -27,13 +28,17 @@ pub record ShardHistory : Type 0 where
   pub entries : List Entry
   pub moment : ℤ
 
--- a shard without a mutation
-abbrev pub empty_shard : ShardOpening
-empty_shard = record { entries = []; number = 0; drawn = neg_ℤ (pos 2); moment = pos 0 }
+-- a shard of which no mutation is in memory: its last number, its last drawn timestamp and its moment are told
+abbrev pub told_shard : ℕ → ℤ → ℤ → ShardOpening
+told_shard number drawn moment = record { entries = []; number = number; drawn = drawn; moment = moment }
 
 -- a shard into which nothing has been entered since it was found
 abbrev pub found_shard : ShardOpening → ShardHistory
 found_shard o = record { found = o; entries = []; moment = o.moment }
+
+-- a shard without a mutation
+abbrev pub empty_shard : ShardOpening
+empty_shard = told_shard 0 (neg_ℤ (pos 2)) (pos 0)
 
 -- ---- moments, timestamps, numbers
 
@@ -96,12 +101,16 @@ entry_unless (Some refused) session call m = []
 unfoldable pub write_entries : ℕ → ℤ → ShardHistory → ℕ → ℕ → BoundWrite → List Entry
 write_entries segment reading s session call w = entry_unless (take_refusal segment (mutation_at reading s w)) session call (mutation_at reading s w)
 
--- the mutation's number, unless it was refused
-abbrev pub taken_unless : Option ℕ → ℕ → Result ℕ TakeFault
-taken_unless None number = Ok number
-taken_unless (Some refused) number = Err (fault.Refused refused)
+-- an answer, unless the mutation was refused
+abbrev pub taken_unless : {T : Type 0} → Option ℕ → T → Result T TakeFault
+taken_unless None answer = Ok answer
+taken_unless (Some refused) answer = Err (fault.Refused refused)
 
--- what a write is answered
+-- what a write is answered before it is entered: its mutation
+unfoldable pub prepare_answer : ℕ → ℤ → ShardHistory → BoundWrite → Result Mutation TakeFault
+prepare_answer segment reading s w = taken_unless (take_refusal segment (mutation_at reading s w)) (mutation_at reading s w)
+
+-- what a write is answered: its mutation's number
 unfoldable pub write_answer : ℕ → ℤ → ShardHistory → BoundWrite → Result ℕ TakeFault
 write_answer segment reading s w = taken_unless (take_refusal segment (mutation_at reading s w)) (next_number s)
 
@@ -113,16 +122,47 @@ look_at reading s q = record {
   now = moment_at reading s;
 }
 
--- the shard with what was entered at a reading, which raises its moment also where nothing was
-abbrev pub after_entries : ℤ → List Entry → ShardHistory → ShardHistory
-after_entries reading entries s = record s { entries = s.entries ++ entries; moment = moment_at reading s }
+-- ---- what becomes of a shard
+
+-- the shard once it has met a reading, which raises its moment also where nothing is entered
+abbrev pub raised : ℤ → ShardHistory → ShardHistory
+raised reading s = record s { moment = moment_at reading s }
+
+-- the shard with these entered
+abbrev pub entered : List Entry → ShardHistory → ShardHistory
+entered entries s = record s { entries = s.entries ++ entries }
+
+-- the last drawn timestamp with a mutation that was read back: where that one's was drawn, the greater of the two
+abbrev pub drawn_with : ℤ → Mutation → ℤ
+drawn_with drawn m = if m.drawn then int_max drawn m.at else drawn
+
+-- What a shard is opened with, and a mutation more, read back from the log. No call of this run wrote it, so it tells session 0 and call 0; calls are
+-- numbered from 1. The shard's number, its drawn timestamp and its moment become the mutation's where that is greater.
+abbrev pub restored : Mutation → ShardOpening → ShardOpening
+restored m o =
+    record {
+      entries = o.entries ++ Wrote 0 0 m ∷ [];
+      number = max o.number m.number;
+      drawn = drawn_with o.drawn m;
+      moment = int_max o.moment m.moment;
+    }
+
+-- the same where memory ran out, and nothing was restored
+abbrev pub after_restore : {T E : Type 0} → Result T E → Mutation → ShardOpening → ShardOpening
+after_restore (Ok x) m o = restored m o
+after_restore (Err e) m o = o
 
 -- ---- where memory runs out
 
 -- memory ran out
-abbrev pub wants : Result ℕ TakeFault → Bool
+abbrev pub wants : {T : Type 0} → Result T TakeFault → Bool
+wants (Ok x) = false
+wants (Err (fault.Refused refused)) = false
 wants (Err fault.Mem) = true
-wants _ = false
+
+-- a write is prepared so: its answer is its mutation, or why it is refused; or memory runs out
+abbrev pub Prepares : ℕ → ShardHistory → ℤ → BoundWrite → Result Mutation TakeFault → Type 0
+Prepares segment s reading w r = wants r ≡ false → r ≡ prepare_answer segment reading s w
 
 -- A write takes these entries: its mutation, and it is answered that one's number; or none, where it is refused or memory runs out.
 -- It is the call of this number of this session.

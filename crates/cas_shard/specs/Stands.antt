@@ -1,36 +1,51 @@
--- A shard's state stands for its history: what its memtables hold says the same as all that was entered.
+-- A shard's state stands for its history: what its memtables hold says the same as all that was entered; and when a mutation can be entered.
 -- Cassandra documentation, "Storage engine: memtables"; own.
-use Rattle.std.specs.Prelude.{◌≡◌, ℕ, ◌≤◌, Option, None, Some, List, [], length, slice_get}
+use Rattle.std.specs.Prelude.{◌≡◌, ℕ, ◌+◌, ◌/◌, ◌<◌, ◌≤◌, ◌≤ℤ◌, true, Option, None, Some, List, [], ◌∷◌, length, slice_get}
 use Rattle.std.specs.List.{flat_map}
+use Rattle.cas_types.specs.declared.limits.TheConstants.{LAST_DRAWN, MUTATION_LIMIT}
 use Rattle.cas_types.specs.declared.schema.TableSchema.{TableSchema}
 use Rattle.cas_bounds.specs.ClusteringOrder.{clustering_order}
 use Rattle.cas_bounds.specs.declared.order.Ordered.{Ordered}
 use Rattle.cas_atoms.specs.Winners.{Same}
-use Rattle.cas_atoms.specs.Fits.{FitsQuery}
+use Rattle.cas_atoms.specs.Fits.{FitsMutation, FitsQuery}
+use Rattle.cas_atoms.specs.LogLength.{record_length}
 use Rattle.cas_atoms.specs.declared.atom.Atom.{Atom}
+use Rattle.cas_atoms.specs.declared.atom.Mutation.{Mutation}
 use Rattle.cas_atoms.specs.declared.query.Query.{Query}
 use Rattle.cas_effects.specs.FitsBound.{FitsBound}
 use Rattle.cas_effects.specs.declared.effect.BoundWrite.{BoundWrite}
 use Rattle.cas_partition.specs.Partitions.{IsOf}
-use Rattle.cas_memtable.specs.Memtables.{held_at, atoms_held, least_held, least_with}
+use Rattle.cas_memtable.specs.Memtables.{held_at, atoms_held, least_held, least_with, PlacesIn}
 use Rattle.cas_memtable.specs.declared.memtable.Held.{Held}
 use Rattle.cas_memtable.specs.declared.memtable.MemPart.{MemPart}
 use Rattle.cas_entries.specs.declared.entry.Entry.{Entry}
-use Rattle.cas_entries.specs.Entries.{AreNumbered, last_number}
+use Rattle.cas_entries.specs.declared.entry.Entry.TheVariants.{Wrote}
+use Rattle.cas_entries.specs.Entries.{AreNumbered, first, last_number}
 use Rattle.cas_entries.specs.Laws.{atoms_of_partition}
 use Rattle.cas_shard.specs.Shards.{ShardHistory, all_entries, number_of, drawn_of}
 use Rattle.cas_shard.specs.declared.shard.Shard.{Shard}
 
 -- ---- a history
 
--- a shard's mutations are numbered by one, from 1, those from before the run among them
+-- the mutations' numbers ascend, from above n
+abbrev pub Ascend : ℕ → List Entry → Type 0
+Ascend n [] = Unit {0}
+Ascend n (Wrote session call m ∷ entries) = (n < m.number) × Ascend m.number entries
+
+-- The numbers of the mutations that were found ascend, and none is above the shard's number then; what was entered since is numbered by one, from the
+-- one after that. What is missing among those that were found is in tables' files, of each table up to a number of its own.
 pub record NumbersRise (s : ShardHistory) : Type 0 where
-  pub found : s.found.number ≡ last_number 0 s.found.entries
-  pub rise : AreNumbered 0 (all_entries s)
+  pub ascend : Ascend 0 s.found.entries
+  pub found : last_number 0 s.found.entries ≤ s.found.number
+  pub rise : AreNumbered s.found.number s.entries
 
 -- the atoms of all mutations of a partition, one mutation after another
 abbrev pub written_to : ℕ → List Entry → List ℕ → List Atom
 written_to table entries key = flat_map (atoms_of_partition table key) entries
+
+-- all that was found and entered in a partition is numbered up to the shard's number, so a look there shows all of it
+abbrev pub AreShown : ShardHistory → Type 0
+AreShown s = (table : ℕ) (key : List ℕ) → first (number_of s) table key (all_entries s) ≡ written_to table (all_entries s) key
 
 -- ---- tables
 
@@ -43,9 +58,13 @@ order_of (Some t) = clustering_order t.columns
 abbrev pub order_at : List TableSchema → ℕ → List Ordered
 order_at tables table = order_of (slice_get tables table)
 
--- the write is of one of the tables, and one that this can take
-abbrev pub Suits : List TableSchema → BoundWrite → Type 0
-Suits tables w = (t : TableSchema) × (slice_get tables w.table ≡ Some t) × ((shards : ℕ) × FitsBound t shards w)
+-- the write is of one of the tables, and one that this can take, in a store with so many shards
+abbrev pub Suits : List TableSchema → ℕ → BoundWrite → Type 0
+Suits tables shards w = (t : TableSchema) × (slice_get tables w.table ≡ Some t) × FitsBound t shards w
+
+-- the mutation is of one of the tables, and one that the log may hold of this, in a store with so many shards
+abbrev pub Belongs : List TableSchema → ℕ → Mutation → Type 0
+Belongs tables shards m = (t : TableSchema) × (slice_get tables m.table ≡ Some t) × FitsMutation t shards m
 
 -- the query is of one of the tables, and may be put to it
 abbrev pub Asks : List TableSchema → Query → Type 0
@@ -80,3 +99,25 @@ pub record Stands (tables : List TableSchema) (s : ShardHistory) (x : Shard) : T
   pub moment : x.moment ≡ s.moment
   pub kept : (table : ℕ) → Keeps (order_at tables table) (held x.parts.items table) (written_to table (all_entries s))
   pub few : length x.parts.items ≤ length tables
+
+-- ---- what can be entered
+
+-- the mutation's atoms have their places in the memtable of its table
+abbrev pub HasRoom : Mutation → List MemPart → Type 0
+HasRoom m parts = (m.table < length parts) × PlacesIn (held parts m.table m.key) m.atoms
+
+-- A shard is prepared for the mutation, which then enters without memory: it has its places, it is the next one, and neither its number nor what was
+-- drawn for it is past its limit.
+pub record IsPrepared (x : Shard) (m : Mutation) : Type 0 where
+  pub room : HasRoom m x.parts.items
+  pub next : m.number ≡ x.number + 1
+  pub few : m.number ≤ MUTATION_LIMIT
+  pub low : m.drawn ≡ true → m.at ≤ℤ LAST_DRAWN
+
+-- The mutation of a write is ready for the log: it is of the write's table and shard, its record isn't longer than half a segment, and of a table that
+-- can take the write it is one that the log may hold.
+pub record IsReady (segment : ℕ) (w : BoundWrite) (m : Mutation) : Type 0 where
+  pub table : m.table ≡ w.table
+  pub shard : m.shard ≡ w.shard
+  pub short : record_length m ≤ segment / 2
+  pub fits : (t : TableSchema) (shards : ℕ) → FitsBound t shards w → FitsMutation t shards m

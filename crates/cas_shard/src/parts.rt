@@ -1,8 +1,8 @@
 //! The memtables of a shard, one for each table, at the tables' numbers.
 
 ghost use Rattle.std.specs.Prelude.{◌≡◌, ℕ, ◌<◌, List as ListOf, length, OnOk};
-ghost use Rattle.cas_shard.specs.Stands.{held};
-ghost use Rattle.cas_shard.specs.Inner.Parts.{HasRoom, JoinsRoom, MakesRoom, StayFew};
+ghost use Rattle.cas_shard.specs.Stands.{held, HasRoom};
+ghost use Rattle.cas_shard.specs.Inner.Parts.{JoinsRoom, MakesRoom, StayFew};
 
 use cas_atoms::Mutation;
 use cas_memtable::MemPart;

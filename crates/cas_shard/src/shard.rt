@@ -3,7 +3,7 @@
 ghost use Rattle.std.specs.Prelude.{◌≡◌, ◌≤◌, ◌≤ℤ◌, if◌then◌else◌};
 ghost use Rattle.cas_types.specs.Limits.{IsMoment};
 ghost use Rattle.cas_types.specs.declared.limits.TheConstants.{LAST_DRAWN, MUTATION_LIMIT};
-ghost use Rattle.cas_shard.specs.Shards.{take_refusal};
+ghost use Rattle.cas_shard.specs.Shards.{drawn_with, take_refusal};
 
 use crate::answers::{Look, TakeFault};
 use crate::parts::{join, reserve};
@@ -41,39 +41,85 @@ fn take_refusal(segment: u64, mutation: &Mutation) -> Option<u8>
     }
 }
 
-// The last timestamp that was drawn once the mutation is entered.
+// The last timestamp that was drawn once the mutation is entered, which is the next.
 fn drawn_after(drawn: i64, mutation: &Mutation) -> i64
     ensures { result ≡ (if mutation.now.drawn then mutation.now.at else drawn) }
 {
     if mutation.drawn { mutation.at } else { drawn }
 }
 
+// The last timestamp that was drawn once the mutation is restored.
+fn drawn_with(drawn: i64, mutation: &Mutation) -> i64
+    ensures { result ≡ drawn_with drawn mutation.now }
+{
+    if mutation.drawn {
+        drawn.max(mutation.at)
+    } else {
+        drawn
+    }
+}
+
 impl Shard {
-    ghost use Rattle.std.specs.Prelude.{◌≡◌, ◌+◌, ◌^◌, ◌≤◌, ◌≤ℤ◌, true, [], ℕ, List as ListOf, IfOk, IfSome, if◌then◌else◌};
+    ghost use Rattle.std.specs.Prelude.{◌≡◌, ◌+◌, ◌^◌, ◌<◌, ◌≤◌, ◌≤ℤ◌, ◌∷◌, [], max, true, ℕ, List as ListOf, IfOk, IfSome, OnOk, if◌then◌else◌};
     ghost use Rattle.cas_types.specs.Limits.{IsMoment, IsNarrow};
     ghost use Rattle.cas_types.specs.declared.limits.TheConstants.{LAST_DRAWN, LEAST_TIMESTAMP, MUTATION_LIMIT};
     ghost use Rattle.cas_types.specs.declared.schema.TableSchema.{TableSchema as Schema};
     ghost use Rattle.cas_effects.specs.AtomsOf.{mutation_of};
-    ghost use Rattle.cas_shard.specs.Shards.{IsTime, ShardHistory, Shows, after_entries, empty_shard, found_shard, later_drawn, later_moment, number_of};
-    ghost use Rattle.cas_shard.specs.Stands.{Asks, Stands, Suits};
-    ghost use Rattle.cas_shard.specs.Inner.Parts.{HasRoom, JoinsRoom};
-    ghost use Rattle.cas_shard.specs.Inner.Turns.{Entered, IsNext, Took, raised};
+    ghost use Rattle.cas_entries.specs.Entries.{last_number};
+    ghost use Rattle.cas_entries.specs.declared.entry.Entry.TheVariants.{Wrote};
+    ghost use Rattle.cas_entries.specs.declared.entry.ShardOpening.{ShardOpening as Opening};
+    ghost use Rattle.cas_shard.specs.Shards.{IsTime, Prepares, ShardHistory, Shows, after_restore, empty_shard, entered, found_shard};
+    ghost use Rattle.cas_shard.specs.Shards.{later_drawn, later_moment, number_of, raised, take_refusal, told_shard};
+    ghost use Rattle.cas_shard.specs.Stands.{AreShown, Asks, Belongs, HasRoom, IsPrepared, IsReady, Stands, Suits};
+    ghost use Rattle.cas_shard.specs.Inner.Parts.{MakesRoom};
+    ghost use Rattle.cas_shard.specs.Inner.Turns.{Answered, Took};
 
     /// A shard without a mutation.
     pub fn new(alloc: Global) -> Self
         ensures { (tables : ListOf Schema) → Stands tables (found_shard empty_shard) result }
     {
+        Self::open(alloc, 0, -2, 0)
+    }
+
+    /// A shard of a store that is opened, before a mutation is restored: what the store tells of it
+    /// is the number of its last mutation, the last timestamp that it drew and its last moment.
+    pub fn open(alloc: Global, number: u64, drawn: i64, moment: i64) -> Self
+        requires few { number ≤ MUTATION_LIMIT }
+        requires low { drawn ≤ℤ LAST_DRAWN }
+        requires begun { IsMoment moment }
+        ensures stands { (tables : ListOf Schema) → Stands tables (found_shard (told_shard number drawn moment)) result }
+        ensures number { result.number ≡ number }
+    {
         Shard {
             parts: Vec::new(alloc),
-            number: 0,
-            drawn: -2,
-            moment: 0,
+            number,
+            drawn,
+            moment,
         }
+    }
+
+    /// Enters a mutation that was read back from the log, above those that were restored before it.
+    /// Where memory runs out nothing is restored.
+    pub fn restore(&mut self, alloc: Global, mutation: Mutation) -> Result<(), Mem>
+        requires few { mutation.number ≤ MUTATION_LIMIT }
+        requires low { mutation.drawn ≡ true → mutation.at ≤ℤ LAST_DRAWN }
+        requires begun { IsMoment mutation.moment }
+        ensures stands { (tables : ListOf Schema) (shards : ℕ) (found : Opening) → Stands tables (found_shard found) self.old → Belongs tables shards mutation
+            → last_number 0 found.entries < mutation.number → Stands tables (found_shard (after_restore result mutation found)) self.new }
+        ensures number { OnOk result (self.new.number ≡ max self.old.number mutation.number) }
+    {
+        reserve(&mut self.parts, alloc, &mutation)?;
+        self.number = self.number.max(mutation.number);
+        self.drawn = drawn_with(self.drawn, &mutation);
+        self.moment = self.moment.max(mutation.moment);
+        join(&mut self.parts, mutation);
+        Ok(())
     }
 
     /// The number of its last mutation; before the first it is 0.
     pub fn number(&self) -> u64
-        ensures { (tables : ListOf Schema) (s : ShardHistory) → Stands tables s self.now → result ≡ number_of s }
+        ensures value { result ≡ self.now.number }
+        ensures stands { (tables : ListOf Schema) (s : ShardHistory) → Stands tables s self.now → result ≡ number_of s }
     {
         self.number
     }
@@ -125,43 +171,71 @@ impl Shard {
         self.moment = self.moment_at(reading);
     }
 
-    // Enters a mutation for which place was made.
-    fn enter(&mut self, mutation: Mutation)
-        requires few { mutation.number ≤ MUTATION_LIMIT }
-        requires low { mutation.drawn ≡ true → mutation.at ≤ℤ LAST_DRAWN }
-        requires room { HasRoom mutation self.old.parts.items }
-        ensures number { self.new.number ≡ mutation.number }
-        ensures drawn { self.new.drawn ≡ (if mutation.drawn then mutation.at else self.old.drawn) }
+    // Makes the places of a mutation, or tells why it can't be entered.
+    fn place(
+        &mut self,
+        alloc: Global,
+        segment: u64,
+        mutation: Mutation,
+    ) -> Result<Mutation, TakeFault>
+        ensures answered { Answered segment mutation result }
+        ensures room { IfOk result (λ m. HasRoom m self.new.parts.items) }
+        ensures makes { MakesRoom mutation self.old.parts.items self.new.parts.items }
+        ensures refused { IfSome (take_refusal segment mutation) (λ why. self.new.parts.items ≡ self.old.parts.items) }
+        ensures number { self.new.number ≡ self.old.number }
+        ensures drawn { self.new.drawn ≡ self.old.drawn }
         ensures moment { self.new.moment ≡ self.old.moment }
-        ensures parts { JoinsRoom mutation self.old.parts.items self.new.parts.items }
+    {
+        if let Some(refused) = take_refusal(segment, &mutation) {
+            return Err(TakeFault::Refused(refused));
+        }
+        match reserve(&mut self.parts, alloc, &mutation) {
+            Ok(()) => Ok(mutation),
+            Err(AllocError) => Err(TakeFault::Mem),
+        }
+    }
+
+    /// Makes the mutation of a write and its places, so that it can be entered, or refuses it. The
+    /// moment rises, also where it is refused and where memory runs out; all else that the shard says
+    /// stays. It takes the time of the write's atoms, and for each the logarithm of what its partition
+    /// holds.
+    pub fn prepare(
+        &mut self,
+        alloc: Global,
+        segment: u64,
+        reading: i64,
+        write: BoundWrite,
+    ) -> Result<Mutation, TakeFault>
+        requires time { IsTime reading }
+        requires stated { IfSome write.timestamp (λ at. LEAST_TIMESTAMP ≤ℤ at) }
+        ensures answered { (tables : ListOf Schema) (s : ShardHistory) → Stands tables s self.old → Prepares segment s reading write result }
+        ensures stands { (tables : ListOf Schema) (shards : ℕ) (s : ShardHistory) → Stands tables s self.old → Suits tables shards write
+            → Stands tables (raised reading s) self.new }
+        ensures prepared { IfOk result (λ m. IsPrepared self.new m) }
+        ensures ready { IfOk result (λ m. IsReady segment write m) }
+        ensures number { self.new.number ≡ self.old.number }
+    {
+        let mutation = self.mutation_at(alloc, reading, write);
+        self.raise(reading);
+        match mutation {
+            Ok(mutation) => self.place(alloc, segment, mutation),
+            Err(Mem) => Err(TakeFault::Mem),
+        }
+    }
+
+    /// Enters the mutation that it is prepared for, at the end. It takes no memory.
+    pub fn enter(&mut self, mutation: Mutation)
+        requires { IsPrepared self.old mutation }
+        ensures stands { (tables : ListOf Schema) (shards : ℕ) (s : ShardHistory) (session call : ℕ) → Stands tables s self.old
+            → Belongs tables shards mutation → Stands tables (entered (Wrote session call mutation ∷ []) s) self.new }
+        ensures number { self.new.number ≡ mutation.number }
     {
         self.number = mutation.number;
         self.drawn = drawn_after(self.drawn, &mutation);
         join(&mut self.parts, mutation);
     }
 
-    // Enters a mutation, or tells why it isn't entered.
-    #[tactic(auto, using(crate::proofs::Refusals::unrefused))]
-    fn answer(&mut self, alloc: Global, segment: u64, mutation: Mutation) -> Result<u64, TakeFault>
-        ensures { (tables : ListOf Schema) (s : ShardHistory) (session call : ℕ) → Stands tables s self.old → IsNext tables s mutation
-            → Entered tables segment s session call mutation result self.new }
-    {
-        if let Some(refused) = take_refusal(segment, &mutation) {
-            return Err(TakeFault::Refused(refused));
-        }
-        let number = mutation.number;
-        match reserve(&mut self.parts, alloc, &mutation) {
-            Ok(()) => {
-                self.enter(mutation);
-                Ok(number)
-            }
-            Err(AllocError) => Err(TakeFault::Mem),
-        }
-    }
-
-    /// Takes the mutation of a write, or refuses it. The moment rises also where it is refused and
-    /// where memory runs out; all else that the shard says then stays. It takes the time of the
-    /// write's atoms, and for each the logarithm of what its partition holds.
+    /// Prepares a write and enters its mutation at once, where nothing comes between.
     pub fn take(
         &mut self,
         alloc: Global,
@@ -171,15 +245,13 @@ impl Shard {
     ) -> Result<u64, TakeFault>
         requires time { IsTime reading }
         requires stated { IfSome write.timestamp (λ at. LEAST_TIMESTAMP ≤ℤ at) }
-        ensures { (tables : ListOf Schema) (s : ShardHistory) (session call : ℕ) → Stands tables s self.old → Suits tables write
+        ensures { (tables : ListOf Schema) (shards : ℕ) (s : ShardHistory) (session call : ℕ) → Stands tables s self.old → Suits tables shards write
             → Took tables segment s reading session call write result self.new }
     {
-        let mutation = self.mutation_at(alloc, reading, write);
-        self.raise(reading);
-        match mutation {
-            Ok(mutation) => self.answer(alloc, segment, mutation),
-            Err(Mem) => Err(TakeFault::Mem),
-        }
+        let mutation = self.prepare(alloc, segment, reading, write)?;
+        let number = mutation.number;
+        self.enter(mutation);
+        Ok(number)
     }
 
     /// Shows the rows of a SELECT. The moment rises also where memory runs out. It reads what the
@@ -188,7 +260,7 @@ impl Shard {
         requires time { IsTime reading }
         requires columns { IsNarrow query.columns }
         ensures shows { (tables : ListOf Schema) (s : ShardHistory) → Stands tables s self.old → Asks tables query → Shows s reading query result }
-        ensures stands { (tables : ListOf Schema) (s : ShardHistory) → Stands tables s self.old → Stands tables (after_entries reading [] s) self.new }
+        ensures stands { (tables : ListOf Schema) (s : ShardHistory) → Stands tables s self.old → Stands tables (raised reading s) self.new }
     {
         self.raise(reading);
         let rows = rows_of(alloc, &self.parts, query, self.moment)?;
@@ -198,4 +270,9 @@ impl Shard {
             now: self.moment,
         })
     }
+
+    /// A look shows all mutations of its partition that the shard stands for.
+    pub fn all_are_shown(&self)
+        ensures { (tables : ListOf Schema) (s : ShardHistory) → Stands tables s self.now → AreShown s }
+    {}
 }

@@ -4,7 +4,7 @@ use Rattle.cas_bounds.specs.declared.order.Ordered.{Ordered}
 use Rattle.cas_atoms.specs.Winners.{Same}
 use Rattle.cas_atoms.specs.declared.atom.Mutation.{Mutation}
 use Rattle.cas_partition.specs.Partitions.{AreAtomsOf}
-use Rattle.cas_memtable.specs.Memtables.{atoms_held, least_held, least_with, PlacesIn}
+use Rattle.cas_memtable.specs.Memtables.{atoms_held, least_held, least_with}
 use Rattle.cas_memtable.specs.declared.memtable.MemPart.{MemPart}
 use Rattle.cas_shard.specs.Stands.{held, AreOf}
 
@@ -24,10 +24,6 @@ pub record MakesRoom (w : Mutation) (ps qs : List MemPart) : Type 0 where
   pub least : (key : List ℕ) → least_held (held qs w.table key) ≡ least_held (held ps w.table key)
   pub others : OthersStay w.table ps qs
   pub few : StayFew w.table ps qs
-
--- its atoms have their places
-abbrev pub HasRoom : Mutation → List MemPart → Type 0
-HasRoom w ps = (w.table < length ps) × PlacesIn (held ps w.table w.key) w.atoms
 
 -- the mutation was joined: its partition says the same as before together with its atoms
 pub record JoinsRoom (w : Mutation) (ps qs : List MemPart) : Type 0 where

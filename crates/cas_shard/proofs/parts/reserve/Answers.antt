@@ -2,7 +2,7 @@ use Rattle.std.proofs.Common.{refl}
 use Rattle.std.specs.Prelude.{slice_set}
 use Rattle.std.proofs.lemmas.Option.{slice_get_read}
 use Rattle.cas_memtable.specs.Memtables.{HasPlaces}
-use Rattle.cas_shard.specs.Inner.Parts.{HasRoom}
+use Rattle.cas_shard.specs.Stands.{HasRoom}
 use Rattle.cas_shard.proofs.Memory.{reached, made, has_room, on_ok_too}
 use Rattle.cas_shard.proofs.parts.reserve.Goals as goal
 

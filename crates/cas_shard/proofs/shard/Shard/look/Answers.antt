@@ -1,7 +1,7 @@
 use Rattle.std.proofs.Common.{◌≡◌, arith, of_z, to_z, w64, refl, subst}
 use Rattle.std.proofs.lemmas.Int.{ints}
+use Rattle.cas_shard.specs.Shards.{raised}
 use Rattle.cas_shard.specs.Stands.{Stands}
-use Rattle.cas_shard.specs.Inner.Turns.{raised}
 use Rattle.cas_shard.proofs.Looking.{shows}
 use Rattle.cas_shard.proofs.shard.Shard.look.Goals as goal
 
