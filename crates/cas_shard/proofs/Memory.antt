@@ -60,9 +60,6 @@ reached w ps qs same few = record {
   few = few;
 }
 
-pub untouched : (w : Mutation) (ps qs : List MemPart) → qs ≡ ps → MakesRoom w ps qs
-untouched w ps qs e = reached w ps qs (λ t key. ap (λ l. held l t key) e) (λ k a b. subst (λ l. length l ≤ k) (sym e) a)
-
 -- place was made in the table's own
 pub made : (w : Mutation) (ps mid qs : List MemPart) (m n : MemPart) → ((t : ℕ) (key : List ℕ) → held mid t key ≡ held ps t key) → StayFew w.table ps mid
     → w.table < length mid → slice_get mid w.table ≡ Some m → qs ≡ slice_set mid w.table n → MakesPlaces w m n → MakesRoom w ps qs
