@@ -112,8 +112,8 @@ pub trait Folder {
         ensures count { Counted (faults_of self.old) (faults_of self.new) (IsErr result) };
 
     /// Begins a table's file. Until it is admitted it isn't read, and a crash may leave anything of it.
+    /// A folder may fail where there is a file of that number.
     fn draft(&mut self, number: u64) -> Result<Self::Draft, FolderFault>
-        requires { (c : Image) → (disk self.old).reads c → c (Name.Table number) ≡ None }
         ensures number { IfOk result (λ draft. Self.Draft.number draft ≡ number) }
         ensures empty { IfOk result (λ draft. (b : List ℕ) → Self.Draft.written draft b → b ≡ []) }
         ensures reads { Follows Same (disk self.old).reads (disk self.new).reads }
@@ -123,7 +123,6 @@ pub trait Folder {
     /// Puts a draft into the folder, for good.
     fn admit(&mut self, draft: Self::Draft) -> Result<Self::Sealed, FolderFault>
         requires synced { Self.Draft.is_synced draft }
-        requires absent { (c : Image) → (disk self.old).reads c → c (Name.Table (Self.Draft.number draft)) ≡ None }
         ensures holds { IfOk result (λ file. (b : List ℕ) → Self.Sealed.holds file b → Self.Draft.written draft b) }
         ensures stands { OnOk result ((c : Image) → (disk self.new).may_leave c
             → (b : List ℕ) × Self.Draft.written draft b × (c (Name.Table (Self.Draft.number draft)) ≡ Some b)) }

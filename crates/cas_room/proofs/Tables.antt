@@ -1,4 +1,4 @@
--- The files of tables: those whose numbers weren't drawn yet, and what a call on one leaves of what the room keeps.
+-- The files of tables: what a call on one leaves of what the room keeps, and a number that is drawn.
 use Rattle.std.proofs.Common.{◌≡◌, ◌≢◌, inl, inr, ⊎_elim, ◌∙◌, ℕ, ◌+◌, ◌<◌, ◌≤◌, true, List, [], ◌∷◌, ◌++◌, length, Option, None, Result, Ok, Err, sym, ap, subst, arith, length-append}
 use Rattle.std.specs.Prelude.{MatchResult, OnOk, OnErr}
 use Rattle.std.proofs.lemmas.Bool.{cases_Bool}
@@ -21,54 +21,6 @@ use Rattle.cas_room.specs.declared.event.Event.{Event}
 use Rattle.cas_room.specs.Rooms.{accepted_in, after_commit}
 use Rattle.cas_room.specs.Keeping.{Keeps}
 use Rattle.cas_room.specs.Tables.{NoTableAbove, Draws}
-
--- ---- numbers above which there is no file
-
-module _ (step : Image → Image → Type 0) (old new : Disk) (call : During step old new) (low high : ℕ) (more : low ≤ high) where
-  none_above : ((d c : Image) → step d c → (n : ℕ) → high < n → d (table_name n) ≡ None → c (table_name n) ≡ None) → NoTableAbove low old → NoTableAbove high new
-  none_above same none =
-      still_so step old new call (λ c. (n : ℕ) → high < n → c (table_name n) ≡ None)
-      (λ d c was made n above. same d c made n above (was n above)) (λ c left n above. none c left n (omega (arith, above, more)))
-
--- a call that leaves the files of tables
-pub tables_none : (old new : Disk) (last : ℕ) → During SameTables old new → NoTableAbove last old → NoTableAbove last new
-tables_none old new last call none =
-    none_above SameTables old new call last last (omega arith) (λ d c same n above was. same n ∙ was) none
-
-number_of : Name → ℕ
-number_of (table_name n) = n
-number_of _ = 0
-
-other_table : (k n : ℕ) → k ≢ n → table_name k ≢ table_name n
-unfolding number_of
-other_table k n other e = other (ap number_of e)
-
--- a draft of a number behind the last, which is the last from then on
-pub draft_none : (old new : Disk) (last number now : ℕ) → last < number → now ≡ number → During (Changed (table_name number) MayBeAnything) old new
-    → NoTableAbove last old → NoTableAbove now new
-draft_none old new last number now behind is call none =
-    none_above (Changed (table_name number) MayBeAnything) old new call last now (omega (arith, behind, is))
-    (λ d c made n above was. made.others (table_name n) (other_table n number (λ e. absurd (omega (arith, e, is, above)))) ∙ was) none
-
--- what goes isn't there where it wasn't
-still_none : (old new : Option (List ℕ)) → MayGo old new → old ≡ None → new ≡ None
-still_none old new goes none = ⊎_elim (λ same. same ∙ none) (λ gone. gone) goes
-
--- a removal
-pub remove_none : (old new : Disk) (last number : ℕ) → During (Changed (table_name number) MayGo) old new → NoTableAbove last old → NoTableAbove last new
-remove_none old new last number call none =
-    none_above (Changed (table_name number) MayGo) old new call last last (omega arith) (λ d c made n above was. stays d c made n was) none
-  where
-    stays : (d c : Image) → Changed (table_name number) MayGo d c → (n : ℕ) → d (table_name n) ≡ None → c (table_name n) ≡ None
-    stays d c made n was =
-        elim (cases_Bool (same_name (table_name n) (table_name number))) [
-          | inl is ↦
-              let same = same_is (table_name n) (table_name number) is in
-              ap c same ∙ still_none (d (table_name number)) (c (table_name number)) made.here (ap d (sym same) ∙ was)
-          | inr isnt ↦
-              made.others (table_name n) (λ same. let self : same_name (table_name n) (table_name number) ≡ true =
-              ap (same_name (table_name n)) (sym same) ∙ same_self (table_name n) in absurd cc) ∙ was
-        ]
 
 -- ---- what the room keeps
 

@@ -1,10 +1,8 @@
 -- The files of tables in a room's folder: what their numbers are, and how one is begun. Storage engine: SSTable generations; own.
-use Rattle.std.specs.Prelude.{◌≡◌, ◌⊎◌, ℕ, ◌<◌, ◌≤◌, List, [], ◌∷◌, ◌++◌, None, Result, Ok, Err}
+use Rattle.std.specs.Prelude.{◌≡◌, ◌⊎◌, ℕ, ◌≤◌, List, [], ◌∷◌, ◌++◌, Result, Ok, Err}
 use Rattle.cas_io.specs.Causes.{Rose}
-use Rattle.cas_disk.specs.declared.name.Name.TheVariants.{Table as table_name}
 use Rattle.cas_disk.specs.declared.fault.FolderFault.{FolderFault}
 use Rattle.cas_disk.specs.declared.fault.FolderFault.TheVariants as folder_fault
-use Rattle.cas_disk.specs.Disk.{Image, Disk}
 use Rattle.cas_info.specs.declared.info.TheConstants.{FILE_NUMBER_LIMIT}
 use Rattle.cas_history.specs.declared.item.Item.{Item}
 use Rattle.cas_history.specs.declared.item.Item.TheVariants.{Drew}
@@ -12,10 +10,6 @@ use Rattle.cas_room.specs.declared.event.Event.{Event}
 use Rattle.cas_room.specs.declared.fault.FreshFault.{FreshFault}
 use Rattle.cas_room.specs.declared.fault.FreshFault.TheVariants.{Full, Failed, Mem}
 use Rattle.cas_room.specs.declared.table_files.TheConstants.{LIVE_LIMIT}
-
--- whatever a crash leaves, no table's file has a number above this one
-abbrev pub NoTableAbove : ℕ → Disk → Type 0
-NoTableAbove last disk = (c : Image) → disk.may_leave c → (n : ℕ) → last < n → c (table_name n) ≡ None
 
 -- no table's file may be begun: as many are live as may be, or the last number was drawn
 abbrev pub IsFull : ℕ → ℕ → Type 0

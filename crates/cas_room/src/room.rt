@@ -16,7 +16,6 @@ ghost use Rattle.cas_history.specs.Items.{listed, log_list, front_list, faults_l
 ghost use Rattle.cas_history.specs.declared.item.Item.TheVariants.{Wrote};
 ghost use Rattle.cas_room.specs.Rooms.{accepted_in, first_number, Accepts, Knows, after_accept, after_commit, after_define};
 ghost use Rattle.cas_room.specs.Keeping.{Keeps, StandsFor};
-ghost use Rattle.cas_room.specs.Tables.{NoTableAbove};
 
 use crate::event::{Accepted, Event};
 use cas_atoms::Mutation;
@@ -42,7 +41,6 @@ pub struct Room<F: Folder, J: Store> {
     /// How many of them the room said are committed.
     pub(crate) committed: u64,
     ghost free: { AreFree journal (F.disk folder) },
-    ghost drawn: { NoTableAbove numbers.last (F.disk folder) },
     ghost counted: { accepted ≤ length (accepted_in (listed log_list log.pass.saw)) },
     ghost told: { (faults.committed ≡ committed) × (committed ≤ accepted) },
     ghost faulted: { faults.number ≤ F.faults_of folder },
@@ -59,7 +57,6 @@ impl<F: Folder, J: Store> Room<F, J> {
         numbers: Numbers<Event, J>,
     ) -> Room<F, J>
         requires free { AreFree journal (F.disk folder) }
-        requires drawn { NoTableAbove numbers.last (F.disk folder) }
         requires new { (faults.number ≡ 0) × (faults.committed ≡ 0) × (faults.first ≡ first_number journal.first) }
         ensures folder { result.folder ≡ folder }
         ensures journal { result.journal ≡ journal }

@@ -11,7 +11,7 @@ ghost use Rattle.cas_history.specs.Items.{listed, log_list, numbers_list, faults
 ghost use Rattle.cas_history.specs.Last.{holds, last_fault};
 ghost use Rattle.cas_room.specs.Rooms.{first_number};
 ghost use Rattle.cas_room.specs.Keeping.{Keeps};
-ghost use Rattle.cas_room.specs.Tables.{Begins, Draws, IsFull, NoTableAbove};
+ghost use Rattle.cas_room.specs.Tables.{Begins, Draws, IsFull};
 
 use crate::event::Event;
 use crate::fault::FreshFault;

@@ -6,7 +6,6 @@ use Rattle.cas_room.specs.declared.event.Event.{Event}
 use Rattle.cas_room.specs.Rooms.{accepted_in}
 use Rattle.cas_room.specs.Keeping.{Keeps}
 use Rattle.cas_journal.proofs.Taking.{may_still_take}
-use Rattle.cas_room.proofs.Tables.{tables_none}
 use Rattle.cas_room.proofs.Accepting.{counts_one_more, keeps_one_more}
 use Rattle.cas_room.proofs.room.Room.accept.Goals as goal
 
@@ -16,16 +15,6 @@ invariant_of-self-2-clause-counted g c =
     (subst (λ (list : List (Item Event)). min (c.args.self.now.accepted + 1) (2 ^ 64 - 1) ≤ length (accepted_in list)) (sym c.write-number.ensures.log)
     (counts_one_more c.args.self.now.accepted (listed log_list c.args.self.now.log.pass.saw) c.args.front.now.shard c.args.session.now.list
     c.write-number.new.session.calls c.write-number.result c.args.mutation.now c.args.self.now.counted))
-
-pub invariant_of-self-clause-drawn : goal.invariant_of-self-clause-drawn
-invariant_of-self-clause-drawn g c =
-    let disk = g.F.Folder.disk in
-    tables_none (disk c.args.self.now.folder) (disk c.prepare.new.folder) c.args.self.now.numbers.last c.prepare.ensures.tables c.args.self.now.drawn
-
-pub invariant_of-self-2-clause-drawn : goal.invariant_of-self-2-clause-drawn
-invariant_of-self-2-clause-drawn g c =
-    let disk = g.F.Folder.disk in
-    tables_none (disk c.args.self.now.folder) (disk c.prepare.new.folder) c.args.self.now.numbers.last c.prepare.ensures.tables c.args.self.now.drawn
 
 pub invariant_of-self-2-clause-free : goal.invariant_of-self-2-clause-free
 invariant_of-self-2-clause-free g c = λ d left n above. c.prepare.ensures.free d left n (omega (arith, above, c.push.ensures.last))

@@ -4,7 +4,7 @@ use Rattle.cas_disk.specs.Disk.{MayBeAnything}
 use Rattle.cas_history.specs.Items.{listed, log_list, numbers_list}
 use Rattle.cas_journal.proofs.Tables.{table_free, table_leaves}
 use Rattle.cas_room.specs.Keeping.{Keeps}
-use Rattle.cas_room.proofs.Tables.{draft_none, table_keeps, drawn_and_told}
+use Rattle.cas_room.proofs.Tables.{table_keeps, drawn_and_told}
 use Rattle.cas_room.proofs.room.Room.fresh.Goals as goal
 
 pub invariant_of-self : goal.invariant_of-self
@@ -12,8 +12,6 @@ invariant_of-self g c =
     let disk = g.F.Folder.disk in
     record {
       free = table_free _ MayBeAnything (disk c.args.self.now.folder) (disk c.draft.new.self) c.draft.ensures.during c.args.self.now.journal.last_segment c.args.self.now.free;
-      drawn = draft_none (disk c.args.self.now.folder) (disk c.draft.new.self) c.args.self.now.numbers.last c.draw-number.result c.draw-number.new.self.last
-          (omega (arith, c.draw-number.ensures.next.0)) c.draw-number.ensures.next.1 c.draft.ensures.during c.args.self.now.drawn;
       counted = c.args.self.now.counted;
       told = c.args.self.now.told;
       faulted = omega (arith, c.args.self.now.faulted, c.draft.ensures.count.kept);
@@ -24,12 +22,6 @@ pub invariant_of-self-2-clause-free : goal.invariant_of-self-2-clause-free
 invariant_of-self-2-clause-free g c =
     let disk = g.F.Folder.disk in
     table_free _ MayBeAnything (disk c.args.self.now.folder) (disk c.draft.new.self) c.draft.ensures.during c.args.self.now.journal.last_segment c.args.self.now.free
-
-pub invariant_of-self-2-clause-drawn : goal.invariant_of-self-2-clause-drawn
-invariant_of-self-2-clause-drawn g c =
-    let disk = g.F.Folder.disk in
-    draft_none (disk c.args.self.now.folder) (disk c.draft.new.self) c.args.self.now.numbers.last c.draw-number.result c.draw-number.new.self.last
-    (omega (arith, c.draw-number.ensures.next.0)) c.draw-number.ensures.next.1 c.draft.ensures.during c.args.self.now.drawn
 
 pub returns-in-Ok-clause-kept : goal.returns-in-Ok-clause-kept
 returns-in-Ok-clause-kept g c found t keeps =

@@ -1,18 +1,13 @@
 -- A removal, by what the folder's leaves.
 use Rattle.cas_disk.specs.Disk.{MayGo}
 use Rattle.cas_journal.proofs.Tables.{table_free, table_leaves}
-use Rattle.cas_room.proofs.Tables.{remove_none, table_keeps}
+use Rattle.cas_room.proofs.Tables.{table_keeps}
 use Rattle.cas_room.proofs.room.Room.remove.Goals as goal
 
 pub invariant_of-self-clause-free : goal.invariant_of-self-clause-free
 invariant_of-self-clause-free g c =
     let disk = g.F.Folder.disk in
     table_free _ MayGo (disk c.args.self.now.folder) (disk c.remove.new.self) c.remove.ensures.during c.args.self.now.journal.last_segment c.args.self.now.free
-
-pub invariant_of-self-clause-drawn : goal.invariant_of-self-clause-drawn
-invariant_of-self-clause-drawn g c =
-    let disk = g.F.Folder.disk in
-    remove_none (disk c.args.self.now.folder) (disk c.remove.new.self) c.args.self.now.numbers.last _ c.remove.ensures.during c.args.self.now.drawn
 
 pub returns-clause-kept : goal.returns-clause-kept
 returns-clause-kept g c found t keeps =
