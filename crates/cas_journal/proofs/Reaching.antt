@@ -1,0 +1,57 @@
+-- When a journal is full.
+use Rattle.std.proofs.Common.{◌≡◌, inl, inr, ℕ, ◌+◌, ◌<◌, ◌≤◌, Bool, true, false, ltb, leb, length, Option, None, Some, refl, arith}
+use Rattle.std.specs.Prelude.{if◌then◌else◌}
+use Rattle.std.proofs.lemmas.Bool.{leb-true, ltb-true}
+use Rattle.cas_codec.specs.Fields.{u8, u64}
+use Rattle.cas_changes.specs.declared.entry.Entry.{Entry}
+use Rattle.cas_changes.specs.declared.entry.Entry.TheVariants as entry
+use Rattle.cas_changes.specs.declared.said.TheConstants.{FILE_LIMIT, LISTED_LIMIT, SEGMENT_LIMIT}
+use Rattle.cas_changes.specs.Saying.{listed_after}
+use Rattle.cas_changes.specs.Spelling.{entry_bytes}
+use Rattle.cas_log.specs.Logs.{place_of}
+use Rattle.cas_log.specs.declared.log.Log.{Log}
+use Rattle.cas_manifest.specs.Manifests.{place_of as manifest_place, room_of}
+use Rattle.cas_manifest.specs.declared.fault.Limit.TheVariants.{Bytes, Files}
+use Rattle.cas_manifest.specs.declared.fault.ManifestFault.TheVariants.{TooMany as ManyOfManifest}
+use Rattle.cas_journal.specs.Ends.{entry_limit, next_limit, refused}
+use Rattle.cas_journal.specs.Reach.{HasNoPlace, IsFull, name_room, reach_of}
+use Rattle.cas_journal.specs.declared.fault.Counted.{Counted}
+use Rattle.cas_journal.specs.declared.fault.Counted.TheVariants.{Segments}
+use Rattle.cas_journal.specs.declared.fault.JournalFault.TheVariants.{TooMany}
+use Rattle.cas_journal.specs.declared.journal.Journal.{Journal}
+
+-- the name of a segment
+name_long : (n : ℕ) → room_of (entry.NewSegment n) ≡ name_room
+unfolding u8 u64
+name_long n = refl
+
+-- an entry that lists no file is refused for its bytes alone
+no_place_by : (a b : Bool) (listed long : ℕ) (what : Counted) (most : ℕ) → ltb LISTED_LIMIT listed ≡ a → ltb FILE_LIMIT long ≡ b → listed ≤ LISTED_LIMIT
+    → refused (if a then Some (ManyOfManifest Files LISTED_LIMIT) else if b then Some (ManyOfManifest Bytes FILE_LIMIT) else None) ≡ Some (TooMany what most)
+    → FILE_LIMIT < long
+no_place_by true b listed long what most many more few is = let above : LISTED_LIMIT < listed = ltb-true LISTED_LIMIT listed many in absurd (omega (arith, above, few))
+no_place_by false true listed long what most many more few is = ltb-true FILE_LIMIT long more
+no_place_by false false listed long what most many more few is = absurd cc
+
+no_place : (j : Journal) (e : Entry) (what : Counted) (most : ℕ) → listed_after j.manifest.listed e ≡ j.manifest.listed → entry_limit j e ≡ Some (TooMany what most)
+    → HasNoPlace e (reach_of j)
+no_place j e what most same is =
+    let limit : FILE_LIMIT < (manifest_place j.manifest).end + length (entry_bytes e) + 10 =
+    no_place_by (ltb LISTED_LIMIT (listed_after j.manifest.listed e)) (ltb FILE_LIMIT ((manifest_place j.manifest).end + length (entry_bytes e) + 10))
+    (listed_after j.manifest.listed e) ((manifest_place j.manifest).end + length (entry_bytes e) + 10) what most refl refl (omega (arith, same, j.manifest.few)) is in
+    omega (arith, limit)
+
+name_full : (j : Journal) (n : ℕ) (what : Counted) (most : ℕ) → entry_limit j (entry.NewSegment n) ≡ Some (TooMany what most) → IsFull (reach_of j)
+name_full j n what most is =
+    let long : HasNoPlace (entry.NewSegment n) (reach_of j) = no_place j (entry.NewSegment n) what most refl is in
+    inr (omega (arith, long, name_long n))
+
+numbers_full : (j : Journal) (b : Bool) (what : Counted) (most : ℕ) → leb SEGMENT_LIMIT j.last_segment ≡ b
+    → (if b then Some (TooMany Segments SEGMENT_LIMIT) else entry_limit j (entry.NewSegment (j.last_segment + 1))) ≡ Some (TooMany what most) → IsFull (reach_of j)
+numbers_full j true what most last is = inl (leb-true SEGMENT_LIMIT j.last_segment last)
+numbers_full j false what most last is = name_full j (j.last_segment + 1) what most is
+
+-- where naming the next segment would pass a limit
+pub next_full : (o : Option Log) (j : Journal) (what : Counted) (most : ℕ) → next_limit o j ≡ Some (TooMany what most) → IsFull (reach_of j)
+next_full (Some log) j what most is = name_full j (place_of log).number what most is
+next_full None j what most is = numbers_full j (leb SEGMENT_LIMIT j.last_segment) what most refl is
