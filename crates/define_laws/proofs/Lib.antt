@@ -4,3 +4,5 @@ mod Options
 mod Tables
 mod Texts
 mod Stated
+pub mod Told
+pub mod Telling

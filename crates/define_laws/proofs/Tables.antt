@@ -73,7 +73,7 @@ none_bad_option r e =
     is_false r.bad_option BadOption (first_none _ _ (rest_none (then_some r.no_column NoColumn) _ (rest_none (then_some r.bad_definition BadDefinition) _
     (rest_none (then_some r.table_exists TableExists) _ (rest_none (then_some r.no_table NoTable) _ e)))))
 
-unrefused : {X : Type 0} (o : Option Refusal) (x y : X) → outcome o x ≡ Ok y → (o ≡ None) × (x ≡ y)
+pub unrefused : {X : Type 0} (o : Option Refusal) (x y : X) → outcome o x ≡ Ok y → (o ≡ None) × (x ≡ y)
 unrefused None x y e = (refl, cc)
 unrefused (Some r) x y e = cc
 

@@ -3,4 +3,7 @@
 
 mod laws;
 
-pub use laws::{added_columns_fit, made_table_fits, stated_columns_fit, stated_tables_fit};
+pub use laws::{
+    added_columns_fit, defined_columns_may_be_told, defined_tables_may_be_told, made_table_fits,
+    named_segments_define_nothing, stated_columns_fit, stated_tables_fit, told_tables_are_tables,
+};
