@@ -1,16 +1,15 @@
 -- What is answered of a field that was refused, and how answers go together.
-use Rattle.std.proofs.Common.{◌≡◌, ◌≢◌, inl, inr, Bool, true, false, ℕ, List, [], ◌∷◌, Result, Ok, Err, refl, sym, ap, ◌∙◌}
+use Rattle.std.proofs.Common.{◌≡◌, inl, inr, Bool, ℕ, List, Result, Err, refl, ap}
 use Rattle.cas_codec.specs.declared.fault.ReadFault.{ReadFault}
 use Rattle.cas_codec.specs.declared.fault.ReadFault.TheVariants.{Short, Bad as BadField, Mem as NoMemory}
-use Rattle.cas_codec.specs.Reading.{Left, Read, ◌>>=◌, Gives}
+use Rattle.cas_codec.specs.Reading.{Left, Read, Gives}
 use Rattle.cas_files.specs.Ahead.{Ahead}
-use Rattle.cas_types.specs.declared.schema.TableSchema.{TableSchema}
 use Rattle.cas_atoms.specs.declared.atom.Mutation.{Mutation}
 use Rattle.cas_replay.specs.declared.fault.ReplayFault.{ReplayFault}
 use Rattle.cas_replay.specs.declared.fault.ReplayFault.TheVariants.{Failed, Bad, Mem}
 use Rattle.cas_replay.specs.Inner.Faults.{of_field}
 use Rattle.cas_replay.specs.Inner.Steps.{ReadsOn, Reaches, StepsOn, opened_at, left_of, values_of}
-use Rattle.cas_replay.specs.Reading.{in_segment, log_of, segment_of, above_in, is_above}
+use Rattle.cas_replay.specs.Reading.{above_in}
 use Rattle.cas_replay.specs.Replays.{Replays, ReplaysOne, IsRefusedAt}
 
 -- the field that a part refused is the one that the whole refuses

@@ -1,14 +1,14 @@
 -- What the steps of a segment's reading answer, by what they read of the bytes at hand.
-use Rattle.std.proofs.Common.{◌≡◌, ◌⊎◌, inl, inr, ⊎_elim, ℕ, ◌+◌, ◌-◌, ◌<◌, ◌≤◌, Bool, true, false, List, [], ◌∷◌, ◌++◌, length, take, drop}
+use Rattle.std.proofs.Common.{◌≡◌, inl, inr, ⊎_elim, ℕ, ◌+◌, ◌-◌, ◌≤◌, Bool, true, false, List, ◌++◌, length, drop}
 use Rattle.std.proofs.Common.{Option, None, Some, Ok, Err, refl, sym, ap, subst, ◌∙◌, arith, length-drop}
 use Rattle.cas_types.specs.declared.schema.TableSchema.{TableSchema}
 use Rattle.cas_codec.specs.declared.fault.ReadFault.{ReadFault}
-use Rattle.cas_codec.specs.Reading.{Left, Read, ◌>>=◌}
+use Rattle.cas_codec.specs.Reading.{Left, Read}
 use Rattle.cas_codec.proofs.Exactness.{done, ok_is, read_left}
 use Rattle.cas_atoms.specs.declared.atom.Mutation.{Mutation}
 use Rattle.cas_files.specs.Ahead.{Ahead, AreNext, AreEnough, passed}
 use Rattle.cas_replay.specs.Reading.{header_at}
-use Rattle.cas_replay.specs.Inner.Steps.{opened_at, gated_at, left_of, HasBlock, ReadsOn, Reaches, StepsOn}
+use Rattle.cas_replay.specs.Inner.Steps.{opened_at, gated_at, left_of, HasBlock, ReadsOn, StepsOn}
 use Rattle.cas_replay.proofs.Local.{followed}
 use Rattle.cas_replay.proofs.Steps.{header_takes, header_again, opened_of, gated_again, gated_left, goes_on, refused_too}
 

@@ -1,6 +1,7 @@
 pub mod Answering
 pub mod AtHand
 pub mod Local
+pub mod Logs
 pub mod Loops
 pub mod Order
 pub mod SegmentLaws

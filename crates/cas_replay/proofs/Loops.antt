@@ -1,12 +1,10 @@
 -- How a loop comes by the records of a block.
-use Rattle.std.proofs.Common.{◌≡◌, ◌≢◌, ℕ, suc, ◌+◌, ◌-◌, ◌<◌, ◌≤◌, ◌==◌, Bool, false, if◌then◌else◌, List, [], ◌∷◌, ◌++◌, Ok, Err, sym, ap, ◌∙◌, arith}
-use Rattle.std.proofs.lemmas.Bool.Decides.{nat_tests}
+use Rattle.std.proofs.Common.{◌≡◌, ℕ, suc, ◌+◌, ◌-◌, ◌<◌, ◌≤◌, List, [], ◌∷◌, ◌++◌, Ok, Err, sym, ap, ◌∙◌, arith}
 use Rattle.cas_types.specs.declared.schema.TableSchema.{TableSchema}
 use Rattle.cas_codec.specs.declared.fault.ReadFault.{ReadFault}
-use Rattle.cas_codec.specs.declared.fault.ReadFault.TheVariants.{Short}
-use Rattle.cas_codec.specs.Reading.{Left, Read, ◌>>=◌, u8_at}
+use Rattle.cas_codec.specs.Reading.{Left, Read, ◌>>=◌}
 use Rattle.cas_atoms.specs.declared.atom.Mutation.{Mutation}
-use Rattle.cas_replay.specs.Reading.{next_at, records_at, block_at, blocks_at}
+use Rattle.cas_replay.specs.Reading.{next_at, records_at}
 
 -- ---- records: i of n are read
 

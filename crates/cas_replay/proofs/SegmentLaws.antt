@@ -79,7 +79,7 @@ follow_parts before (m ∷ ms) others all =
     let both = follow_parts (before ++ m ∷ []) ms others all.1 in
     ((all.0, both.0), subst (λ (l : List Mutation). Follow l others) (append_assoc before (m ∷ []) ms) both.1)
 
-fit_both : (P : Mutation → Type 0) (ms others : List Mutation) → AllByRecursion P ms → AllByRecursion P others → AllByRecursion P (ms ++ others)
+pub fit_both : (P : Mutation → Type 0) (ms others : List Mutation) → AllByRecursion P ms → AllByRecursion P others → AllByRecursion P (ms ++ others)
 fit_both P [] others first second = second
 fit_both P (m ∷ ms) others first second = (first.0, fit_both P ms others first.1 second)
 
@@ -201,7 +201,7 @@ module _ (tables : List TableSchema) (shards : ℕ) (are : AreTables tables) (so
   abbrev with_long : List Mutation → ℕ → ℕ × Left → Read (List Mutation)
   with_long before place long = u32_at long.1 >>= λ count. with_count before place long.0 count
 
-  block_found : (size : ℕ) (before all : List Mutation) (old new : Left) → AreBytes old.bytes → block_at tables shards size before old ≡ Ok (all, new)
+  pub block_found : (size : ℕ) (before all : List Mutation) (old new : Left) → AreBytes old.bytes → block_at tables shards size before old ≡ Ok (all, new)
       → (ms : List Mutation) × (all ≡ before ++ ms) × AllByRecursion Fits ms × Follow before ms × Begins (block ms) old new × (old.at + length
       (block ms) + 1 ≤ size)
   unfolding block_at length_at lengths

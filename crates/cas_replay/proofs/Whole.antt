@@ -1,17 +1,16 @@
 -- A segment is its header and its blocks, and a log its segments, one after another.
-use Rattle.std.proofs.Common.{◌≡◌, inl, inr, ⊎_elim, ℕ, ◌+◌, ◌-◌, ◌<◌, ◌≤◌, Bool, true, List, [], ◌∷◌, ◌++◌, length, take, drop, Result, Option, Ok, Err, refl, sym, ap, subst, ◌∙◌, arith, length-drop}
+use Rattle.std.proofs.Common.{◌≡◌, ⊎_elim, ℕ, true, List, [], ◌∷◌, ◌++◌, length, drop, Result, Option, Ok, Err, refl, sym, ap, subst, ◌∙◌, arith, length-drop}
 use Rattle.std.specs.List.{AllByRecursion}
 use Rattle.cas_types.specs.declared.schema.TableSchema.{TableSchema}
 use Rattle.cas_codec.specs.declared.fault.ReadFault.{ReadFault}
 use Rattle.cas_codec.specs.Reading.{Left, Read, ◌>>=◌}
-use Rattle.cas_codec.proofs.Exactness.{done, ok_is, read_left}
 use Rattle.cas_disk.specs.declared.name.Name.{Name}
 use Rattle.cas_disk.specs.declared.name.Name.TheVariants.{Log}
 use Rattle.cas_disk.specs.Disk.{Image, Disk, During, Follows, Same, bytes_of}
 use Rattle.cas_disk.proofs.Moments.{left_after, reads_on}
 use Rattle.cas_atoms.specs.declared.atom.Mutation.{Mutation}
 use Rattle.cas_files.specs.Ahead.{AreNext}
-use Rattle.cas_replay.specs.Reading.{header_at, blocks_at, segment_at, segment_of, in_segment, log_of, segment_in}
+use Rattle.cas_replay.specs.Reading.{header_at, blocks_at, segment_at, segment_of, in_segment, log_of}
 use Rattle.cas_replay.specs.Replays.{Last}
 use Rattle.cas_replay.specs.Inner.Steps.{gated_at, left_of, values_of}
 use Rattle.cas_replay.proofs.Steps.{Comes, one_more, gated_left}

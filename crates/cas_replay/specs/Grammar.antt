@@ -20,6 +20,11 @@ AscendByOne (n ∷ next ∷ others) = (next ≡ n + 1) × AscendByOne (next ∷ 
 abbrev pub AreInOrder : List Mutation → Type 0
 AreInOrder mutations = (shard : ℕ) → AscendByOne (numbers_of shard mutations)
 
+-- mutations that a log may have: each is of one of the tables, and per shard their numbers ascend by one
+pub record AreOfALog (tables : List TableSchema) (shards : ℕ) (mutations : List Mutation) : Type 0 where
+  pub fit : AllByRecursion (FitsRecord tables shards) mutations
+  pub ordered : AreInOrder mutations
+
 -- the file is the segment of this number with these mutations, each of one of the tables
 pub record IsSegmentOf (tables : List TableSchema) (shards number : ℕ) (mutations : List Mutation) (file : List ℕ) : Type 0 where
   pub segment : IsSegment number mutations file

@@ -8,7 +8,7 @@ ghost use Rattle.cas_log.specs.Segment.{IsSize};
 ghost use Rattle.cas_log.specs.declared.log.TheConstants.{GREATEST_SEGMENT};
 ghost use Rattle.cas_replay.specs.Reading.{header_at, blocks_at, segment_of, segment_in};
 ghost use Rattle.cas_replay.specs.Replays.{ReplaysOne, Last};
-ghost use Rattle.cas_replay.specs.Inner.Steps.{gated_at, left_of, values_of, HasBlock, ReadsOn, Reaches, StepsOn};
+ghost use Rattle.cas_replay.specs.Inner.Steps.{gated_at, left_of, values_of, HasBlock, ReadsOn, Reaches, StepsOn, StayALog};
 
 use crate::fault::{ReplayFault, of_field};
 use crate::reading::{add_gated, read_header, read_opened};
@@ -113,6 +113,7 @@ fn take_at_hand(
     ensures exact { (f : List ℕ) → AreNext file.old.at f file.old.bytes → HasBlock size file.old.at f file.old.bytes
         → StepsOn of.now.number f file.new mutations.new.items result
         (gated_at of.now.tables.now of.now.shards size mutations.old.items (left_of f file.old.at)) }
+    ensures stay { OnOk result (StayALog of.now.tables.now of.now.shards mutations.old.items mutations.new.items) }
     ensures failed { IsErrOf result ReplayFault.Failed → ⊥ }
 {
     let mut reader = Reader::new(file.ahead(), file.at());
@@ -141,6 +142,7 @@ fn take_block<F: Folder>(
     ensures exact { (c : Image) → (F.disk folder.old).reads c → AreNext file.old.at (bytes_of (c file.old.name)) file.old.bytes
         → StepsOn of.now.number (bytes_of (c file.old.name)) file.new mutations.new.items result
         (gated_at of.now.tables.now of.now.shards size mutations.old.items (left_of (bytes_of (c file.old.name)) file.old.at)) }
+    ensures stay { OnOk result (StayALog of.now.tables.now of.now.shards mutations.old.items mutations.new.items) }
     ensures reads { Follows Same (F.disk folder.old).reads (F.disk folder.new).reads }
     ensures during { During Same (F.disk folder.old) (F.disk folder.new) }
     ensures count { Counted (F.faults_of folder.old) (F.faults_of folder.new) (IsErrOf result ReplayFault.Failed) }
@@ -165,6 +167,7 @@ fn take_blocks<F: Folder>(
     ensures exact { (c : Image) → (F.disk folder.old).reads c → AreNext file.old.at (bytes_of (c file.old.name)) file.old.bytes
         → ReplaysOne (λ _. mutations.new.items) of.now.number result (values_of (blocks_at of.now.tables.now of.now.shards
         (length (drop file.old.at (bytes_of (c file.old.name)))) size mutations.old.items (left_of (bytes_of (c file.old.name)) file.old.at))) }
+    ensures stay { OnOk result (StayALog of.now.tables.now of.now.shards mutations.old.items mutations.new.items) }
     ensures reads { Follows Same (F.disk folder.old).reads (F.disk folder.new).reads }
     ensures during { During Same (F.disk folder.old) (F.disk folder.new) }
     ensures count { Counted (F.faults_of folder.old) (F.faults_of folder.new) (IsErrOf result ReplayFault.Failed) }
@@ -187,6 +190,7 @@ fn read_segment<F: Folder>(
     ensures exact { (c : Image) → (F.disk folder.old).reads c
         → ReplaysOne (λ _. mutations.new.items) of.now.number result
         (segment_of of.now.tables.now of.now.shards of.now.number mutations.old.items (segment_in c of.now.number)) }
+    ensures stay { OnOk result (StayALog of.now.tables.now of.now.shards mutations.old.items mutations.new.items) }
     ensures reads { Follows Same (F.disk folder.old).reads (F.disk folder.new).reads }
     ensures during { During Same (F.disk folder.old) (F.disk folder.new) }
     ensures count { Counted (F.faults_of folder.old) (F.faults_of folder.new) (IsErrOf result ReplayFault.Failed) }
@@ -208,6 +212,7 @@ pub(crate) fn replay_segment<F: Folder>(
     ensures exact { (c : Image) → (F.disk folder.old).reads c
         → ReplaysOne (λ _. mutations.new.items) of.now.number result
         (segment_of of.now.tables.now of.now.shards of.now.number mutations.old.items (segment_in c of.now.number)) }
+    ensures stay { OnOk result (StayALog of.now.tables.now of.now.shards mutations.old.items mutations.new.items) }
     ensures lasts { OnOk result (Last (of.now.number ∷ []) (F.disk folder.new)) }
     ensures reads { Follows Same (F.disk folder.old).reads (F.disk folder.new).reads }
     ensures during { During Same (F.disk folder.old) (F.disk folder.new) }

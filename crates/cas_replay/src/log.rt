@@ -1,10 +1,13 @@
 //! Reads the segments of a log, one after another.
 
-ghost use Rattle.std.specs.Prelude.{◌≡◌, [], OnOk, IsErrOf, filter};
+ghost use Rattle.std.specs.Prelude.{◌≡◌, [], OnOk, IfOk, IsErrOf, filter};
+ghost use Rattle.cas_types.specs.Limits.{IsShardCount};
 ghost use Rattle.cas_disk.specs.Counts.{Counted};
 ghost use Rattle.cas_disk.specs.Disk.{Image, During, Follows, Same};
+ghost use Rattle.cas_mutations.specs.Allowed.{AreTables};
+ghost use Rattle.cas_replay.specs.Grammar.{AreOfALog};
 ghost use Rattle.cas_replay.specs.Reading.{log_of, segment_in, is_above, above_in};
-ghost use Rattle.cas_replay.specs.Replays.{Replays, Last};
+ghost use Rattle.cas_replay.specs.Replays.{Replays, IsReplayOf, Last};
 
 use crate::fault::ReplayFault;
 use crate::file::{Segment, replay_segment};
@@ -41,6 +44,7 @@ fn read_log<F: Folder>(
 ) -> Result<Vec<Mutation>, ReplayFault>
     ensures exact { (c : Image) → (F.disk folder.old).reads c
         → Replays (λ v. v.items) result (log_of tables.now shards (segment_in c) segments.now []) }
+    ensures are { IfOk result (λ v. AreTables tables.now → IsShardCount shards → AreOfALog tables.now shards v.items) }
     ensures lasts { OnOk result (Last segments.now (F.disk folder.new)) }
     ensures reads { Follows Same (F.disk folder.old).reads (F.disk folder.new).reads }
     ensures during { During Same (F.disk folder.old) (F.disk folder.new) }
@@ -75,6 +79,7 @@ pub fn replay<F: Folder>(
 ) -> Result<Vec<Mutation>, ReplayFault>
     ensures exact { (c : Image) → (F.disk folder.old).reads c
         → Replays (λ v. v.items) result (above_in shards frontiers.now (log_of tables.now shards (segment_in c) segments.now [])) }
+    ensures replayed { IfOk result (λ v. IsReplayOf tables.now shards segments.now frontiers.now (F.disk folder.old) v.items) }
     ensures lasts { OnOk result (Last segments.now (F.disk folder.new)) }
     ensures reads { Follows Same (F.disk folder.old).reads (F.disk folder.new).reads }
     ensures during { During Same (F.disk folder.old) (F.disk folder.new) }

@@ -1,10 +1,13 @@
 -- A segment's reading, block by block. Own.
 use Rattle.std.specs.Prelude.{◌≡◌, ◌⊎◌, ◌+◌, ◌≤◌, ◌==◌, length, Bool, true, false, ℕ, List, drop, Option, None, Some, Result, Ok, Err, if◌then◌else◌}
+use Rattle.cas_types.specs.Limits.{IsShardCount}
 use Rattle.cas_types.specs.declared.schema.TableSchema.{TableSchema}
 use Rattle.cas_codec.specs.Reading.{Left, Read, ◌>>=◌, u8_at}
 use Rattle.cas_files.specs.Ahead.{Ahead, AreNext}
 use Rattle.cas_codec.specs.declared.fault.ReadFault.{ReadFault}
 use Rattle.cas_atoms.specs.declared.atom.Mutation.{Mutation}
+use Rattle.cas_mutations.specs.Allowed.{AreTables}
+use Rattle.cas_replay.specs.Grammar.{AreOfALog}
 use Rattle.cas_replay.specs.declared.fault.ReplayFault.{ReplayFault}
 use Rattle.cas_replay.specs.declared.fault.ReplayFault.TheVariants.{Failed, Bad, Mem}
 use Rattle.cas_replay.specs.Reading.{length_at, block_at}
@@ -61,3 +64,7 @@ StepsOn segment file new found (Err Mem) read = Unit {0}
 abbrev pub values_of : {A : Type 0} → Read A → Result A ReadFault
 values_of (Ok x) = Ok x.0
 values_of (Err f) = Err f
+
+-- mutations that a log may have, by what is added to them, stay such
+abbrev pub StayALog : List TableSchema → ℕ → List Mutation → List Mutation → Type 0
+StayALog tables shards before after = AreTables tables → IsShardCount shards → AreOfALog tables shards before → AreOfALog tables shards after

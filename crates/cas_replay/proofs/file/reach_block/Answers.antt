@@ -1,9 +1,9 @@
-use Rattle.std.proofs.Common.{◌≡◌, ◌+◌, ℕ, sym, subst, Ok, Err, None}
+use Rattle.std.proofs.Common.{◌≡◌, ◌+◌, ℕ, subst, Ok}
 use Rattle.cas_codec.proofs.Exactness.{read_left}
 use Rattle.cas_disk.specs.Disk.{bytes_of}
 use Rattle.cas_files.specs.Ahead.{AreNext, AreEnough}
 use Rattle.cas_files.proofs.Files.{same_more, reads_more}
-use Rattle.cas_replay.specs.Inner.Steps.{opened_at, left_of, HasBlock}
+use Rattle.cas_replay.specs.Inner.Steps.{opened_at}
 use Rattle.cas_replay.proofs.AtHand.{is_reader, opened_fault, opened_shut, has_block}
 use Rattle.cas_replay.proofs.Answering.{reach_refused}
 use Rattle.cas_replay.proofs.Whole.{at_start}

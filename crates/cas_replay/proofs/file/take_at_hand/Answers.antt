@@ -1,8 +1,9 @@
-use Rattle.std.proofs.Common.{◌≡◌, ◌≤◌, ◌+◌, ◌-◌, ℕ, List, length, true, sym, ap, subst, ◌∙◌, Ok, Err, arith}
-use Rattle.cas_files.specs.Ahead.{AreNext}
-use Rattle.cas_replay.specs.Inner.Steps.{gated_at, left_of, HasBlock}
+use Rattle.std.proofs.Common.{◌-◌, length, sym, ap, subst, arith}
+use Rattle.cas_codec.specs.Exact.{AreBytes}
+use Rattle.cas_replay.specs.Inner.Steps.{gated_at, left_of}
 use Rattle.cas_replay.proofs.AtHand.{is_reader, gated_less, block_on, block_taken, block_fault}
 use Rattle.cas_replay.proofs.Answering.{steps_refused}
+use Rattle.cas_replay.proofs.Logs.{gated_stay}
 use Rattle.cas_replay.proofs.file.take_at_hand.Goals as goal
 
 pub overflow_sub-taken : goal.overflow_sub-taken
@@ -29,3 +30,8 @@ returns-in-Err-clause-exact c file next has =
     steps_refused (λ opened. (opened, c.add_gated.new.mutations.items)) c.args.of.now.number file c.args.file.now c.add_gated.new.mutations.items c.in-Err.fault c.add_gated.new.reader
     (all c.new-reader.result) (all (left_of file c.args.file.now.at)) c.of_field.result c.of_field.ensures c.in-Err.ensures
     (λ g e. block_fault c.args.of.now.tables.now c.args.of.now.shards c.args.size c.args.mutations.now.items c.args.file.now.at file c.args.file.now.bytes c.new-reader.result is next has g e)
+
+pub returns-in-Ok-clause-stay : goal.returns-in-Ok-clause-stay
+returns-in-Ok-clause-stay c =
+    gated_stay c.args.of.now.tables.now c.args.of.now.shards c.args.size c.args.mutations.now.items c.in-Ok.opened c.add_gated.new.mutations.items c.new-reader.result c.add_gated.new.reader
+    (subst AreBytes (sym c.new-reader.ensures.bytes) c.new-reader.ensures.are_bytes) c.in-Ok.ensures

@@ -1,4 +1,4 @@
-use Rattle.std.proofs.Common.{◌≡◌, ℕ, Bool, List, sym, subst, Ok, Err, true, false}
+use Rattle.std.proofs.Common.{ℕ, Bool, subst, Ok}
 use Rattle.cas_disk.specs.Disk.{bytes_of}
 use Rattle.cas_files.specs.Ahead.{AreNext}
 use Rattle.cas_replay.specs.Inner.Steps.{gated_at, left_of, HasBlock, Reaches, StepsOn}

@@ -1,10 +1,9 @@
-use Rattle.std.proofs.Common.{◌≡◌, ℕ, Bool, List, length, drop, ap, sym, subst, ◌∙◌, Ok, Err, true, false, arith}
+use Rattle.std.proofs.Common.{Bool, ap, subst, ◌∙◌, Ok, Err, arith}
 use Rattle.cas_disk.specs.Disk.{bytes_of}
 use Rattle.cas_files.specs.Ahead.{AreNext}
 use Rattle.cas_files.proofs.Files.{same_more, reads_more}
-use Rattle.cas_replay.specs.Reading.{blocks_at}
 use Rattle.cas_replay.specs.Inner.Steps.{gated_at, left_of, values_of, StepsOn}
-use Rattle.cas_replay.proofs.Steps.{begins, no_more, refused}
+use Rattle.cas_replay.proofs.Steps.{no_more, refused}
 use Rattle.cas_replay.proofs.Whole.{at_start, comes_more}
 use Rattle.cas_replay.proofs.Answering.{blocks_refused}
 use Rattle.cas_replay.proofs.file.take_blocks.Goals as goal
@@ -25,6 +24,7 @@ turns-preserved g c =
           let done = subst (λ (b : Bool). StepsOn c.args.of.now.number file c.take_block.new.file c.take_block.new.mutations.items (Ok b)
           (gated_at c.args.of.now.tables.now c.args.of.now.shards c.args.size c.turns.mutations.items (left_of file c.turns.file.at))) c.in-Ok-true.field-0-test step in
           (done.1, comes_more c.args.of.now.tables.now c.args.of.now.shards c.args.size c.turns.mutations.items c.take_block.new.mutations.items c.turns.file.at c.take_block.new.file.at file _ comes done.0);
+      stay = λ are some so. c.in-Ok-true.ensures.stay are some (c.turns.invariant.stay are some so);
       reads = reads_more (disk c.args.folder.now) (disk c.turns.folder) (disk c.take_block.new.folder) c.turns.invariant.reads c.take_block.ensures.reads;
       during = same_more (disk c.args.folder.now) (disk c.turns.folder) (disk c.take_block.new.folder) c.turns.invariant.during c.take_block.ensures.during;
       faults = omega (arith, c.turns.invariant.faults, c.take_block.ensures.count);

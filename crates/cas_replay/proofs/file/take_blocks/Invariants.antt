@@ -2,7 +2,7 @@ use Rattle.std.proofs.Common.{◌≡◌, ◌≤◌, ◌-◌, length, drop}
 use Rattle.cas_disk.specs.Disk.{Image, During, Follows, Same, bytes_of}
 use Rattle.cas_files.specs.Ahead.{AreNext}
 use Rattle.cas_replay.specs.Reading.{blocks_at}
-use Rattle.cas_replay.specs.Inner.Steps.{left_of}
+use Rattle.cas_replay.specs.Inner.Steps.{left_of, StayALog}
 use Rattle.cas_replay.proofs.Steps.{Comes}
 use Rattle.cas_replay.proofs.file.take_blocks.Given as goal
 
@@ -14,6 +14,7 @@ invariant-turns g l = record {
       → AreNext l.file.at (bytes_of (c l.fn.file.name)) l.file.bytes
       × Comes l.of.tables.now l.of.shards l.size l.mutations.items (left_of (bytes_of (c l.fn.file.name)) l.file.at)
       (blocks_at l.of.tables.now l.of.shards (length (drop l.fn.file.at (bytes_of (c l.fn.file.name)))) l.size l.fn.mutations.items (left_of (bytes_of (c l.fn.file.name)) l.fn.file.at));
+  stay : StayALog l.of.tables.now l.of.shards l.fn.mutations.items l.mutations.items;
   reads : Follows Same (g.F.Folder.disk l.fn.folder).reads (g.F.Folder.disk l.folder).reads;
   during : During Same (g.F.Folder.disk l.fn.folder) (g.F.Folder.disk l.folder);
   faults : g.F.Folder.faults_of l.fn.folder ≤ g.F.Folder.faults_of l.folder;

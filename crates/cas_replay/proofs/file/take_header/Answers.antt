@@ -1,8 +1,7 @@
 use Rattle.std.proofs.Common.{◌≡◌, ℕ, ◌≤◌, length, sym, subst, ◌∙◌, Ok, Err}
 use Rattle.cas_codec.specs.Exact.{AreBytes}
-use Rattle.cas_codec.proofs.Exactness.{read_left}
 use Rattle.cas_disk.specs.Disk.{bytes_of}
-use Rattle.cas_files.specs.Ahead.{Ahead, AreNext, AreEnough}
+use Rattle.cas_files.specs.Ahead.{AreNext, AreEnough}
 use Rattle.cas_replay.specs.Reading.{header_at}
 use Rattle.cas_replay.specs.Inner.Steps.{left_of, ReadsOn}
 use Rattle.cas_replay.proofs.AtHand.{header_within, header_taken, header_fault, is_reader}

@@ -1,6 +1,5 @@
-use Rattle.std.proofs.Common.{◌≡◌, ◌<◌, ◌+◌, ℕ, List, [], ◌∷◌, ◌++◌, length, get_or, take, drop, drop-cons, add-one, refl, sym, ap, subst, ◌∙◌, Ok, Err, arith}
+use Rattle.std.proofs.Common.{◌≡◌, ◌<◌, ◌+◌, ℕ, List, [], ◌∷◌, length, get_or, take, drop, drop-cons, add-one, refl, sym, subst, Ok, Err, arith}
 use Rattle.std.proofs.lemmas.List.{drop_all, take_more}
-use Rattle.cas_disk.specs.Disk.{bytes_of}
 use Rattle.cas_atoms.specs.declared.atom.Mutation.{Mutation}
 use Rattle.cas_disk.specs.declared.name.Name.TheVariants.{Log}
 use Rattle.cas_files.proofs.Files.{same_more, reads_more}
@@ -24,6 +23,7 @@ loop-segment-preserved g c =
           (λ f. segment_of c.args.tables.now c.args.shards n c.loop-segment.mutations.items f ≡ Ok c.replay_segment.new.mutations.items) c.in_default.ensures.exact image read in
           log_more c.args.tables.now c.args.shards (segment_in image) n (drop (i + 1) all) (drop i all) c.loop-segment.mutations.items _ (c.loop-segment.invariant.exact image read) is
           c.replay_segment.new.mutations.items one;
+      are = λ are some. c.in_default.ensures.stay are some (c.loop-segment.invariant.are are some);
       lasts = subst (λ (l : List ℕ). Last l (disk c.replay_segment.new.folder)) (sym (take_more all i 0 more))
           (last_more (take i all) n (disk c.loop-segment.folder) (disk c.replay_segment.new.folder) c.replay_segment.ensures.during c.replay_segment.ensures.reads c.loop-segment.invariant.lasts c.in_default.ensures.lasts);
       reads = reads_more (disk c.args.folder.now) (disk c.loop-segment.folder) (disk c.replay_segment.new.folder) c.loop-segment.invariant.reads c.replay_segment.ensures.reads;
