@@ -11,3 +11,4 @@ pub mod Naming
 pub mod Rooms
 pub mod Taking
 pub mod Tables
+pub mod Reaching

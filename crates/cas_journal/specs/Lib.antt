@@ -2,4 +2,5 @@ pub mod Fresh
 pub mod Stores
 pub mod Journals
 pub mod Ends
+pub mod Reach
 pub mod Inner

@@ -1,32 +1,41 @@
--- How far a journal has come: the numbers of its segments, and the bytes of its manifest. Own.
-use Rattle.std.specs.Prelude.{◌≡◌, ◌⊎◌, ℕ, ◌+◌, ◌<◌, ◌≤◌, length}
+-- How far a journal has come, and when it is full. Own.
+use Rattle.std.specs.Prelude.{◌⊎◌, ℕ, ◌+◌, ◌<◌, ◌≤◌, Result, Ok, Err}
 use Rattle.cas_changes.specs.declared.entry.Entry.{Entry}
-use Rattle.cas_changes.specs.declared.said.TheConstants.{SEGMENT_LIMIT, FILE_LIMIT}
-use Rattle.cas_changes.specs.Spelling.{entry_bytes}
-use Rattle.cas_manifest.specs.Manifests.{place_of}
+use Rattle.cas_changes.specs.declared.said.TheConstants.{FILE_LIMIT, SEGMENT_LIMIT}
+use Rattle.cas_manifest.specs.Manifests.{place_of as manifest_place, room_of}
+use Rattle.cas_journal.specs.declared.fault.JournalFault.{JournalFault}
 use Rattle.cas_journal.specs.declared.journal.Journal.{Journal}
 
--- the greatest number under which a segment was begun, or tried to, or named; and how many bytes the manifest has up to the closed gate
+-- how far a journal has come: the greatest number under which a segment was begun, or tried to, or named; and how many bytes its manifest has, up to
+-- the closed gate
 pub record Reach : Type 0 where
   pub segment : ℕ
   pub manifest : ℕ
 
+-- how far this one has come
 abbrev pub reach_of : Journal → Reach
-reach_of j = record { segment = j.last_segment; manifest = (place_of j.manifest).end }
+reach_of j = record { segment = j.last_segment; manifest = (manifest_place j.manifest).end }
 
--- one segment more at most was begun and named
+-- how many bytes the name of a segment takes in the manifest: nine, eight before them in its block, and the next gate
+abbrev pub name_room : ℕ
+name_room = 18
+
+-- at most one segment more was begun, and one more was named
 pub record GoesOn (before after : Reach) : Type 0 where
-  pub segment : (before.segment ≤ after.segment) × (after.segment ≤ before.segment + 1)
-  pub manifest : (before.manifest ≤ after.manifest) × (after.manifest ≤ before.manifest + 18)
+  pub segment : before.segment ≤ after.segment
+  pub segment_next : after.segment ≤ before.segment + 1
+  pub manifest : before.manifest ≤ after.manifest
+  pub manifest_next : after.manifest ≤ before.manifest + name_room
 
--- no segment can be named any more
-abbrev pub IsFull : Reach → Type 0
-IsFull r = (SEGMENT_LIMIT ≤ r.segment) ⊎ (FILE_LIMIT < r.manifest + 9 + 10)
-
--- the manifest has no place for the entry
+-- the manifest has no place for an entry: behind it no gate would stand within its limit
 abbrev pub HasNoPlace : Entry → Reach → Type 0
-HasNoPlace e r = FILE_LIMIT < r.manifest + length (entry_bytes e) + 10
+HasNoPlace e reach = FILE_LIMIT < reach.manifest + room_of e + 1
 
--- the manifest with one entry more
-abbrev pub reach_with : Entry → Reach → Reach
-reach_with e r = record r { manifest = r.manifest + length (entry_bytes e) + 9 }
+-- there is no number left for a segment more, or the manifest has no place for its name
+abbrev pub IsFull : Reach → Type 0
+IsFull reach = (SEGMENT_LIMIT ≤ reach.segment) ⊎ (FILE_LIMIT < reach.manifest + name_room + 1)
+
+-- a definition comes further by its entry, and not at all after a fault
+abbrev pub reach_after : {T : Type 0} → Result T JournalFault → Entry → Reach → Reach
+reach_after (Ok x) e reach = record { segment = reach.segment; manifest = reach.manifest + room_of e }
+reach_after (Err fault) e reach = reach

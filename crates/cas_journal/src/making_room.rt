@@ -9,6 +9,7 @@ ghost use Rattle.cas_log.specs.Logs.{half};
 ghost use Rattle.cas_journal.specs.Stores.{Told, Holds, MadeRoom, HoldsWithRoom, SameTables, appended, failed_at};
 ghost use Rattle.cas_journal.specs.Journals.{Lasts, AreFree, HasMemory, IsPrepared};
 ghost use Rattle.cas_journal.specs.Ends.{Ends, IsOfFolder, IsToldAtOnce, next_limit, told_after, Prepares, TellsLimit};
+ghost use Rattle.cas_journal.specs.Reach.{GoesOn, IsFull, name_room, reach_of};
 ghost use Rattle.cas_journal.specs.Inner.Parts.{Asks, fits_in, FitsOrSettled, MayBegin};
 
 use crate::fault::{Counted, JournalFault};
@@ -117,6 +118,7 @@ impl Journal {
         ensures why { IfErr result (λ f. MayBegin f) }
         ensures count { F.faults_of folder.old ≤ F.faults_of folder.new }
         ensures manifest { self.new.manifest ≡ self.old.manifest }
+        ensures last { self.new.last_segment ≡ self.old.last_segment + 1 }
         ensures log { self.new.log ≡ self.old.log }
         ensures size { self.new.size ≡ self.old.size }
     {
@@ -144,6 +146,7 @@ impl Journal {
             → next_limit self.new.spare self.new ≡ Some (JournalFault.TooMany what most) }
         ensures count { F.faults_of folder.old ≤ F.faults_of folder.new }
         ensures manifest { self.new.manifest ≡ self.old.manifest }
+        ensures last { (self.old.last_segment ≤ self.new.last_segment) × (self.new.last_segment ≤ self.old.last_segment + 1) }
         ensures log { self.new.log ≡ self.old.log }
         ensures size { self.new.size ≡ self.old.size }
     {
@@ -203,6 +206,9 @@ impl Journal {
             → next_limit self.new.spare self.new ≡ Some (JournalFault.TooMany what most) }
         ensures count { F.faults_of folder.old ≤ F.faults_of folder.new }
         ensures log { MatchResult result (λ _. self.new.log ≡ self.old.spare) (λ _. self.new.log ≡ self.old.log) }
+        ensures last { self.new.last_segment ≡ self.old.last_segment }
+        ensures end { ((reach_of self.old).manifest ≤ (reach_of self.new).manifest)
+            × ((reach_of self.new).manifest ≤ (reach_of self.old).manifest + name_room) }
         ensures size { self.new.size ≡ self.old.size }
     {
         let number = self.last_segment;
@@ -236,6 +242,7 @@ impl Journal {
         ensures limit { (what : _) (most : _) → result ≡ Err (JournalFault.TooMany what most)
             → (next_limit self.new.spare self.new ≡ Some (JournalFault.TooMany what most)) × (self.new.log ≡ self.old.log) }
         ensures count { F.faults_of folder.old ≤ F.faults_of folder.new }
+        ensures reach { GoesOn (reach_of self.old) (reach_of self.new) }
         ensures size { self.new.size ≡ self.old.size }
     {
         self.begin_next(alloc, folder)?;
@@ -261,6 +268,8 @@ impl Journal {
         ensures outcome { Prepares (record_length mutation.now) (half self.old.size) self.old.first self.new.first
             (F.faults_of folder.old) (F.faults_of folder.new) result }
         ensures limit { TellsLimit self.new mutation.now result }
+        ensures full { (what : _) (most : _) → result ≡ Err (JournalFault.TooMany what most) → IsFull (reach_of self.new) }
+        ensures reach { GoesOn (reach_of self.old) (reach_of self.new) }
         ensures untouched { IfErr result (λ f. IsToldAtOnce f → During Same (F.disk folder.old) (F.disk folder.new)) }
         ensures count { F.faults_of folder.old ≤ F.faults_of folder.new }
         ensures size { self.new.size ≡ self.old.size }

@@ -10,11 +10,12 @@ ghost use Rattle.cas_changes.specs.Spelling.{entry_bytes};
 ghost use Rattle.cas_changes.specs.Allowed.{FitsEntry, HasSpelling};
 ghost use Rattle.cas_log.specs.Segment.{IsSize};
 ghost use Rattle.cas_log.specs.Logs.{IsOfATable};
-ghost use Rattle.cas_manifest.specs.Manifests.{place_of, Stands, MayHave};
+ghost use Rattle.cas_manifest.specs.Manifests.{place_of, room_of, Stands, MayHave};
 ghost use Rattle.cas_journal.specs.Fresh.{IsBegun, IsFresh};
 ghost use Rattle.cas_journal.specs.Stores.{Told, Holds, SameTables, took, committed_all, appended, failed_at};
 ghost use Rattle.cas_journal.specs.Journals.{Lasts, AreFree, HasMemory, IsPrepared, MayTake};
 ghost use Rattle.cas_journal.specs.Ends.{Ends, IsOfFolder, IsToldAtOnce, WritesNothing, Limits, entry_limit, told_after, IsDefinition};
+ghost use Rattle.cas_journal.specs.Reach.{reach_of, reach_after, HasNoPlace};
 
 use crate::fault::JournalFault;
 use crate::journal::Journal;
@@ -69,6 +70,7 @@ impl Journal {
         requires prepared { IsPrepared self.old mutation.now }
         requires mutation { IsOfATable mutation.now }
         ensures lasts { (t : Told) → Lasts self.old (F.disk folder.now) t → MayTake t mutation.now → Lasts self.new (F.disk folder.now) (took mutation.now t) }
+        ensures reach { reach_of self.new ≡ reach_of self.old }
         ensures manifest { self.new.manifest ≡ self.old.manifest }
         ensures spare { self.new.spare ≡ self.old.spare }
         ensures last { self.new.last_segment ≡ self.old.last_segment }
@@ -92,6 +94,7 @@ impl Journal {
         ensures why { IfErr result (λ f. IsOfFolder f) }
         ensures untouched { IfErr result (λ f. IsToldAtOnce f → During Same (F.disk folder.old) (F.disk folder.new)) }
         ensures idle { (t : Told) → Lasts self.old (F.disk folder.old) t → t.committed ≡ length t.taken → During Same (F.disk folder.old) (F.disk folder.new) }
+        ensures reach { reach_of self.new ≡ reach_of self.old }
         ensures count { F.faults_of folder.old ≤ F.faults_of folder.new }
         ensures manifest { self.new.manifest ≡ self.old.manifest }
         ensures spare { self.new.spare ≡ self.old.spare }
@@ -126,6 +129,7 @@ impl Journal {
             → During (Changed Name.Manifest (λ _ file. MayHave entries entry.now file)) (F.disk folder.old) (F.disk folder.new) }
         ensures others { During (Changed Name.Manifest MayBeAnything) (F.disk folder.old) (F.disk folder.new) }
         ensures untouched { IfErr result (λ f. WritesNothing f → During Same (F.disk folder.old) (F.disk folder.new)) }
+        ensures end { OnOk result ((place_of self.new.manifest).end ≡ (place_of self.old.manifest).end + room_of entry.now) }
         ensures stays { IfErr result (λ _. place_of self.new.manifest ≡ place_of self.old.manifest) }
         ensures outcome { Ends self.old.first self.new.first (F.faults_of folder.old) (F.faults_of folder.new) result }
         ensures limits { Limits (entry_limit self.old entry.now) result }
@@ -159,6 +163,8 @@ impl Journal {
         ensures tables { During SameTables (F.disk folder.old) (F.disk folder.new) }
         ensures outcome { Ends self.old.first self.new.first (F.faults_of folder.old) (F.faults_of folder.new) result }
         ensures limits { Limits (entry_limit self.old entry.now) result }
+        ensures full { (what : _) (most : _) → result ≡ Err (JournalFault.TooMany what most) → HasNoPlace entry.now (reach_of self.old) }
+        ensures reach { reach_of self.new ≡ reach_after result entry.now (reach_of self.old) }
         ensures untouched { IfErr result (λ f. WritesNothing f → During Same (F.disk folder.old) (F.disk folder.new)) }
         ensures count { F.faults_of folder.old ≤ F.faults_of folder.new }
         ensures log { self.new.log ≡ self.old.log }

@@ -1,5 +1,5 @@
 -- A store that is loaded, or made.
-use Rattle.std.proofs.Common.{◌≡◌, inl, inr, ℕ, Bool, true, false, List, [], ◌∷◌, length, Option, None, Some, is_some, Result, Ok, Err, IfOk, IfErr, eqb, refl, sym, ◌∙◌, ap, subst, arith}
+use Rattle.std.proofs.Common.{◌≡◌, ◌≢◌, inl, inr, ℕ, Bool, true, false, List, [], ◌∷◌, length, Option, None, Some, is_some, Result, Ok, Err, IfOk, IfErr, eqb, refl, sym, ◌∙◌, ap, subst, arith}
 use Rattle.std.proofs.lemmas.Bool.{eqb-true}
 use Rattle.cas_types.specs.Limits.{IsShardCount}
 use Rattle.cas_io.specs.Causes.{Rose}
@@ -14,7 +14,7 @@ use Rattle.cas_changes.specs.Saying.{Saying, nothing, after, said_by}
 use Rattle.cas_changes.specs.Spelling.{entry_bytes}
 use Rattle.cas_manifest.specs.Manifests.{MayBegin, MayHave, Ends, is_made}
 use Rattle.cas_manifest.specs.Reading.{Far, manifest_of}
-use Rattle.cas_manifest.specs.Loading.{MayBeNewStore, Loads, IsNew, IsBare, IsEmpty, HasOthers, first_entry, first_entries}
+use Rattle.cas_manifest.specs.Loading.{MayBeNewStore, HasStore, new_store, Loads, IsNew, IsBare, IsEmpty, HasOthers, first_entry, first_entries}
 use Rattle.cas_manifest.specs.Inner.Loading.{LoadsMade, LoadsUnmade, LoadsFound, MayMake}
 use Rattle.cas_manifest.specs.Inner.Making.{IsFolderFault}
 use Rattle.cas_manifest.specs.declared.fault.ManifestFault.{ManifestFault}
@@ -147,6 +147,20 @@ loads_unmade view shards file others r unmade h = unmade_found view shards (Some
 pub loads_made : {T : Type 0} (view : T → Far) (shards : ℕ) (file : List ℕ) (others : Bool) (r : Result T ManifestFault) → is_made (Some file) ≡ true
     → LoadsMade view shards file r → LoadsFound view shards (Some file) others r
 loads_made = made_found
+
+-- a store has entries, whether it was there or is made
+new_made : (shards : ℕ) (far : Far) → far ≡ new_store shards → far.1 ≢ []
+new_made shards far is none = let both : first_entries shards ≡ [] = sym (ap (λ (x : Far). x.1) is) ∙ none in absurd cc
+
+pub made_unmade : {T : Type 0} (view : T → Far) (shards : ℕ) (others : Bool) (r : Result T ManifestFault) → LoadsUnmade view shards others r → IfOk r (λ m. (view m).1 ≢ [])
+made_unmade view shards others (Ok x) h = new_made shards (view x) h.1
+made_unmade view shards others (Err f) h = tt
+
+pub made_either : {T : Type 0} (view : T → Far) (shards : ℕ) (found : Option (List ℕ)) (others : Bool) (r : Result T ManifestFault) → LoadsFound view shards found others r
+    → IfOk r (λ m. (view m).1 ≢ [])
+made_either view shards found others (Ok x) (inl has) = has.2
+made_either view shards found others (Ok x) (inr (make, same)) = new_made shards (view x) same
+made_either view shards found others (Err f) h = tt
 
 -- a manifest without entries got its first
 pub begun_loads : {T : Type 0} (said : T → Saying) (entries : T → List Entry) (shards : ℕ) (file : List ℕ) (r : Result T ManifestFault) → IsEmpty file

@@ -57,6 +57,10 @@ passes place e =
     else if nat_lt FILE_LIMIT (place.end + length (entry_bytes e) + 10) then Some (TooMany Bytes FILE_LIMIT)
     else None
 
+-- how many bytes an entry takes in the file: its own, the eight before them in its block, and the next gate
+abbrev pub room_of : Entry → ℕ
+room_of e = length (entry_bytes e) + 9
+
 -- How an append ends, by the limit that the entry would pass: what fault was kept before and is kept now, the folder's count of faults before and
 -- now. One that was kept stops it; where the folder fails that is kept, by the count.
 abbrev pub Ends : {T : Type 0} → Option ManifestFault → Option First → Option First → ℕ → ℕ → Result T ManifestFault → Type 0

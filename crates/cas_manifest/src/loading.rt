@@ -1,6 +1,6 @@
 //! Loads the manifest of a folder, or makes a store there.
 
-ghost use Rattle.std.specs.Prelude.{◌≡◌, true, false, Some, IfOk, IfErr, IsErrOf};
+ghost use Rattle.std.specs.Prelude.{◌≡◌, ◌≢◌, true, false, [], Some, IfOk, IfErr, IsErrOf};
 ghost use Rattle.cas_types.specs.Limits.{IsShardCount};
 ghost use Rattle.cas_disk.specs.Counts.{Counted};
 ghost use Rattle.cas_disk.specs.Disk.{Image, During, Follows, Changed, Same, IsKept};
@@ -141,6 +141,7 @@ impl Manifest {
         ensures loads { (c : Image) → (F.disk folder.old).reads c → Loads (λ m. (m.1, m.2.items)) shards c result }
         ensures stands { IfOk result (λ m. Stands (place_of m.0) (F.disk folder.new) m.2.items) }
         ensures said { IfOk result (λ m. m.1 ≡ said_by m.2.items) }
+        ensures made { IfOk result (λ m. m.2.items ≢ []) }
         ensures during { During (Changed Name.Manifest (MayBeNewStore shards)) (F.disk folder.old) (F.disk folder.new) }
         ensures untouched { (c : Image) → (F.disk folder.old).reads c → (IsNew c → ⊥) → During Same (F.disk folder.old) (F.disk folder.new) }
         ensures reads { (c : Image) → (F.disk folder.old).reads c → (IsNew c → ⊥) → Follows Same (F.disk folder.old).reads (F.disk folder.new).reads }

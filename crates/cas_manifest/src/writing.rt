@@ -1,12 +1,12 @@
 //! Writes the entries of a manifest, one by one.
 
-ghost use Rattle.std.specs.Prelude.{◌≡◌, ◌<◌, ◌≤◌, ◌^◌, List, [], ◌∷◌, ◌++◌, length, OnOk, IfErr};
+ghost use Rattle.std.specs.Prelude.{◌≡◌, ◌+◌, ◌<◌, ◌≤◌, ◌^◌, List, [], ◌∷◌, ◌++◌, length, OnOk, IfErr};
 ghost use Rattle.cas_disk.specs.Disk.{During, Changed, MayBeAnything, Same};
 ghost use Rattle.cas_changes.specs.declared.entry.Entry.{Entry as EntryOf};
 ghost use Rattle.cas_changes.specs.Saying.{said_by};
 ghost use Rattle.cas_changes.specs.Spelling.{entry_bytes};
 ghost use Rattle.cas_changes.specs.Allowed.{FitsEntry, HasSpelling};
-ghost use Rattle.cas_manifest.specs.Manifests.{Place, place_of, Stands, MayHave, passes, Ends, WritesNothing};
+ghost use Rattle.cas_manifest.specs.Manifests.{Place, place_of, Stands, MayHave, passes, room_of, Ends, WritesNothing};
 
 use crate::blocks::block_of;
 use crate::fault::{Limit, ManifestFault};
@@ -35,6 +35,7 @@ impl Manifest {
             → During (Changed Name.Manifest (λ _ file. MayHave entries entry.now file)) (F.disk folder.old) (F.disk folder.new) }
         ensures others { During (Changed Name.Manifest MayBeAnything) (F.disk folder.old) (F.disk folder.new) }
         ensures untouched { IfErr result (λ f. WritesNothing f → During Same (F.disk folder.old) (F.disk folder.new)) }
+        ensures end { OnOk result ((place_of self.new).end ≡ (place_of self.old).end + room_of entry.now) }
         ensures stays { IfErr result (λ _. place_of self.new ≡ place_of self.old) }
         ensures outcome { Ends (passes (place_of self.old) entry.now) first.old first.new (F.faults_of folder.old) (F.faults_of folder.new) result }
         ensures count { F.faults_of folder.old ≤ F.faults_of folder.new }

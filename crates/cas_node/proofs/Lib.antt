@@ -1,2 +1,6 @@
+mod Places
+mod Moving
+mod Lasting
+mod Tables
+mod Serving
 pub mod SessionLemmas
-pub mod RunLemmas

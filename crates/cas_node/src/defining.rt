@@ -1,11 +1,8 @@
 //! CREATE TABLE and ALTER TABLE: the manifest tells of the definition, and then it counts.
 
-ghost use Rattle.std.specs.Prelude.{◌≡◌, ◌++◌, ◌<◌, ◌^◌, length, IfOk};
-ghost use Rattle.cas_types.specs.declared.schema.Column.{Column as ColumnOf};
-ghost use Rattle.cas_changes.specs.Allowed.{FitsEntry, HasSpelling};
-ghost use Rattle.cas_changes.specs.Spelling.{entry_bytes};
+ghost use Rattle.std.specs.Prelude.{◌≡◌, ◌++◌, IfOk};
 ghost use Rattle.cas_changes.specs.declared.entry.Entry.TheVariants.{Schema, AddColumns};
-ghost use Rattle.cas_bind.specs.Tables.{AreTables, tables_after};
+ghost use Rattle.define_laws.specs.Entries.{IsThere};
 ghost use Rattle.cas_bind.specs.declared.bound.Bound.TheVariants as bounds;
 ghost use Rattle.cas_node.specs.History.{Changes};
 ghost use Rattle.cas_node.specs.Inner.Definitions.{MayBeTold};
@@ -60,6 +57,7 @@ impl<F: Folder, J: Store> Node<F, J> {
     /// Adds columns to a table: they are there once their entry is in the manifest.
     pub fn alter(&mut self, alloc: Global, addition: Addition) -> Reply
         requires sound { IsSound (⟦<Node<F, J> as Stored>⟧.state self.old) }
+        requires there { IsThere self.old.tables.items addition.table }
         requires told { MayBeTold self.old.tables.items (bounds.Alter addition) (AddColumns addition.table addition.columns) }
         ensures changes { Moves (λ h after. Changes h (AddColumns addition.table addition.columns) (bounds.Alter addition) result after)
             (⟦<Node<F, J> as Stored>⟧.state self.old) (⟦<Node<F, J> as Stored>⟧.state self.new)

@@ -116,8 +116,9 @@ fn copied(alloc: Global, tables: &[TableSchema]) -> Result<Vec<TableSchema>, Mem
 
 // The store with its shards in memory, of an opening that has no table files.
 fn in_memory(alloc: Global, given: &Limits, opened: Opened) -> Result<Started, Mem>
-    requires { IsUnflushed opened.said }
-    ensures started { (old new : Disk) (entries : List EntryOf) (mutations : List MutationOf) → IsReadAs entries mutations opened
+    requires read { (entries : List EntryOf) × (mutations : List MutationOf) × IsReadAs entries mutations opened }
+    requires unflushed { IsUnflushed opened.said }
+    ensures started { (entries : List EntryOf) (mutations : List MutationOf) → IsReadAs entries mutations opened
         → IfOk result (λ s. IsInMemory given.now entries mutations s.limits s.tables.items s.shards.items) }
     ensures journal { IfOk result (λ s. s.journal ≡ opened.journal) }
 {

@@ -32,7 +32,7 @@ use Rattle.cas_journal.proofs.Holding.{log_file, store_with}
 use Rattle.cas_journal.proofs.Moving.{lasting}
 use Rattle.cas_opening.specs.Opening.{Stays, HasStayed, next_segment, while_named, told}
 use Rattle.cas_opening.specs.Inner.Keeping.{Keeps}
-use Rattle.cas_opening.specs.Inner.Naming.{HasBegun, IsNamed, IsBegunWith}
+use Rattle.cas_opening.specs.Inner.Naming.{HasBegun, IsNamed, IsBegunWith, IsToldOf}
 use Rattle.cas_opening.specs.Inner.Sweeping.{Spares, HasOnlyListed}
 use Rattle.cas_journal.proofs.Sayings.{is_made as made}
 use Rattle.cas_opening.proofs.Saids.{sound, above_listed}
@@ -280,6 +280,20 @@ begin_none entries ms m z s j keeps says most of none no_spare last =
       lasts = unnamed_lasts entries ms j m z of none keeps (omega (arith, last, is)) (subst (λ (o : Option Log). IsSpare o (said_by entries).last_segment z) (sym no_spare) tt);
       said = says ∙ ap said_by (sym (append-nil entries));
     }
+
+-- ---- what the entries alone tell
+
+pub told_none : (entries : List Entry) (s : Saying) (j : Journal) → s ≡ said_by entries → j.last_segment ≤ next_segment entries → IsToldOf entries j s
+told_none entries s j says last = record { numbers = []; begins = inl refl; said = says ∙ ap said_by (sym (append-nil entries)); last = last }
+
+pub told_named : (entries : List Entry) (n : ℕ) → n ≡ next_segment entries → n ≤ SEGMENT_LIMIT → (s t : Saying) (j : Journal) → s ≡ said_by entries → t ≡ after s (NewSegment n)
+    → j.last_segment ≡ n → IsToldOf entries j t
+told_named entries n next few s t j says took last = record {
+  numbers = n ∷ [];
+  begins = inr (ap (λ (k : ℕ). k ∷ []) next, omega (arith, next, few));
+  said = took ∙ ap (λ (u : Saying). after u (NewSegment n)) says ∙ sym (said_more entries (NewSegment n));
+  last = omega (arith, next, last);
+}
 
 pub none_above_at : (low high : ℕ) (disk : Disk) → high ≡ low → NoneAbove low disk → NoneAbove high disk
 none_above_at low high disk is none = subst (λ (k : ℕ). NoneAbove k disk) (sym is) none

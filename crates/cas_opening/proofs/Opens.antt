@@ -6,7 +6,8 @@ use Rattle.cas_disk.specs.Disk.{Image, Disk, During, Changed, Same}
 use Rattle.cas_disk.proofs.Moments.{reworded, one_call_more}
 use Rattle.cas_atoms.specs.declared.atom.Mutation.{Mutation}
 use Rattle.cas_changes.specs.declared.entry.Entry.{Entry}
-use Rattle.cas_changes.specs.Saying.{Saying, said_by}
+use Rattle.cas_changes.specs.Saying.{Saying, nothing, said_by}
+use Rattle.cas_manifest.specs.File.{MayFollow}
 use Rattle.cas_manifest.specs.Manifests.{Place}
 use Rattle.cas_manifest.specs.Loading.{IsNew, MayBeNewStore, first_entries}
 use Rattle.cas_journal.specs.Stores.{IsStore}
@@ -14,12 +15,14 @@ use Rattle.cas_journal.specs.declared.journal.Journal.{Journal}
 use Rattle.cas_opening.specs.declared.opened.Opened.{Opened}
 use Rattle.cas_opening.specs.declared.fault.OpenFault.{OpenFault}
 use Rattle.cas_opening.specs.declared.fault.OpenFault.TheVariants.{Bad, Failed, Mem}
-use Rattle.cas_opening.specs.Opening.{IsOfBytes, OpensAs, Answers, Ends, IsOpened, HasStayed, MayBeOpened, MayBeMadeNew, is_above}
+use Rattle.cas_opening.specs.Opening.{IsOfBytes, OpensAs, Answers, Ends, IsOpened, IsReadAs, HasStayed, MayBeOpened, MayBeMadeNew, is_above}
 use Rattle.cas_opening.specs.Inner.Faults.{IsOfFolder}
 use Rattle.cas_opening.specs.Inner.Keeping.{Keeps}
-use Rattle.cas_opening.specs.Inner.Naming.{IsBegunWith}
-use Rattle.cas_opening.specs.Inner.Reading.{IsRead}
+use Rattle.cas_opening.specs.Inner.Naming.{IsBegunWith, IsToldOf}
+use Rattle.cas_opening.specs.Inner.Reading.{IsWhole, IsRead}
 use Rattle.cas_opening.specs.Inner.Sweeping.{Spares}
+use Rattle.cas_journal.proofs.Sayings.{is_made as made}
+use Rattle.cas_opening.proofs.Saids.{sound, shard_count}
 use Rattle.cas_opening.proofs.Keeps.{keeps_store}
 use Rattle.cas_opening.proofs.Readings.{one_store, opens_not_bad}
 use Rattle.cas_opening.proofs.Names.{store_spared, holds_store}
@@ -91,12 +94,34 @@ pub opened_with : (entries : List Entry) (ms : List Mutation) (j : Journal) (s :
 opened_with entries ms j s given disk begun above = record { numbers = begun.numbers; begins = begun.begins; lasts = begun.lasts; said = begun.said; above = above }
 
 -- it is the store that is there
-pub it_is : (shards : ℕ) (place : Place) (entries others : List Entry) (given ms : List Mutation) (c : Image) → IsOfBytes c → (disk : Disk) → IsRead shards place entries given c disk
-    → OpensAs shards others ms c → (P : List Entry → List Mutation → Type 0)
-    → ((ns : List Mutation) → Keeps place entries ns disk → given ≡ filter (is_above (said_by entries)) ns → P entries ns) → P others ms
-it_is shards place entries others given ms c bytes disk is opens P says =
-    let same = one_store c bytes shards entries others is.mutations ms is.opens opens in
-    subst (λ (l : List Mutation). P others l) same.1 (subst (λ (es : List Entry). P es is.mutations) same.0 (says is.mutations is.keeps is.above))
+pub it_is : (shards : ℕ) (place : Place) (entries others : List Entry) (ns ms : List Mutation) (c : Image) → IsOfBytes c → (disk : Disk) → IsRead shards place entries ns c disk
+    → OpensAs shards others ms c → (P : List Entry → List Mutation → Type 0) → (Keeps place entries ns disk → P entries ns) → P others ms
+it_is shards place entries others ns ms c bytes disk is opens P says =
+    let same = one_store c bytes shards entries others ns ms is.opens opens in
+    subst (λ (l : List Mutation). P others l) same.1 (subst (λ (es : List Entry). P es ns) same.0 (says is.keeps))
+
+-- whatever the folder tells
+pub read_as : (entries : List Entry) (ms given : List Mutation) (o : Opened) → IsWhole entries ms given → MayFollow nothing entries → IsToldOf entries o.journal o.said
+    → o.mutations.items ≡ given → IsReadAs entries ms o
+read_as entries ms given o whole follow told is =
+    let s = sound entries follow in
+    record {
+      made = whole.made;
+      follow = follow;
+      shards = shard_count (said_by entries) s (made entries whole.made follow);
+      log = whole.log;
+      numbers = told.numbers;
+      begins = told.begins;
+      said = told.said;
+      above = is ∙ whole.above;
+      last = told.last;
+    }
+
+pub opened_read : (entries : List Entry) (ms given : List Mutation) (Tells : List Entry → List Mutation → Type 0) (r : Result Opened OpenFault) → IsWhole entries ms given
+    → MayFollow nothing entries → Tells entries ms → IfOk r (λ o. IsToldOf entries o.journal o.said) → IfOk r (λ o. o.mutations.items ≡ given)
+    → IfOk r (λ o. (es : List Entry) × (ns : List Mutation) × IsReadAs es ns o × Tells es ns)
+opened_read entries ms given Tells (Ok o) whole follow tells told is = (entries, ms, read_as entries ms given o whole follow told is, tells)
+opened_read entries ms given Tells (Err f) whole follow tells told is = tt
 
 -- how its opening ends
 pub opened_ends : (entries : List Entry) (ms : List Mutation) (disk : Disk) (r : Result Opened OpenFault) → IfErr r (λ f. IsOfFolder f) → IfOk r (λ o. IsOpened entries ms o disk) → Ends entries ms disk r

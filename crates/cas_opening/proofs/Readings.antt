@@ -1,6 +1,7 @@
 -- What is read of an image is the store that it is, and an image has one store.
-use Rattle.std.proofs.Common.{◌≡◌, ◌⊎◌, inl, inr, ⊎_elim, ℕ, ◌+◌, ◌≤◌, true, List, [], ◌∷◌, ◌++◌, length, filter, Option, None, Some, Result, Ok, Err, refl, sym, ◌∙◌, ap, subst}
+use Rattle.std.proofs.Common.{◌≡◌, ◌≢◌, ◌⊎◌, inl, inr, ⊎_elim, ℕ, ◌+◌, ◌≤◌, true, List, [], ◌∷◌, ◌++◌, length, filter, Option, None, Some, Result, Ok, Err, refl, sym, ◌∙◌, ap, subst}
 use Rattle.std.specs.List.{AllByRecursion}
+use Rattle.cas_types.specs.Limits.{IsShardCount}
 use Rattle.cas_disk.specs.declared.name.Name.{Name}
 use Rattle.cas_disk.specs.declared.name.Name.TheVariants.{Manifest as manifest_name, Log as log_name, Table as table_name, Import as import_name}
 use Rattle.cas_disk.specs.Disk.{Image, Disk, During, Follows, Same, bytes_of}
@@ -8,11 +9,11 @@ use Rattle.cas_disk.proofs.Moments.{reads_on}
 use Rattle.cas_codec.specs.declared.fault.ReadFault.{ReadFault}
 use Rattle.cas_codec.specs.declared.fault.ReadFault.TheVariants.{Short, Bad as BadField}
 use Rattle.cas_atoms.specs.declared.atom.Mutation.{Mutation}
-use Rattle.cas_mutations.specs.Allowed.{FitsRecord}
+use Rattle.cas_mutations.specs.Allowed.{AreTables, FitsRecord}
 use Rattle.cas_changes.specs.declared.entry.Entry.{Entry}
 use Rattle.cas_changes.specs.declared.said.TheConstants.{FILE_LIMIT}
 use Rattle.cas_changes.specs.Saying.{Saying, nothing, said_by}
-use Rattle.cas_manifest.specs.File.{front, IsManifest}
+use Rattle.cas_manifest.specs.File.{front, IsManifest, MayFollow}
 use Rattle.cas_manifest.specs.Manifests.{Place, Stands, is_made}
 use Rattle.cas_manifest.specs.Reading.{Far, manifest_of}
 use Rattle.cas_manifest.specs.Loading.{manifest_in, HasStore, IsNew, first_entries, new_store}
@@ -20,7 +21,7 @@ use Rattle.cas_manifest.proofs.ManifestLaws.{manifest_found}
 use Rattle.cas_manifest.proofs.ManifestAgain.{manifest_again}
 use Rattle.cas_replay.specs.Reading.{log_of, segment_in, above_in, is_above as is_above_in}
 use Rattle.cas_replay.specs.Replays.{Last}
-use Rattle.cas_replay.specs.Grammar.{AreSegments}
+use Rattle.cas_replay.specs.Grammar.{AreSegments, AreOfALog}
 use Rattle.cas_replay.proofs.SegmentLaws.{is_log, of_log}
 use Rattle.cas_journal.specs.Stores.{IsStore}
 use Rattle.cas_journal.proofs.Segments.{segments_agree}
@@ -29,7 +30,7 @@ use Rattle.cas_opening.specs.declared.fault.OpenFault.{OpenFault}
 use Rattle.cas_opening.specs.declared.fault.OpenFault.TheVariants.{Bad, Failed, Mem}
 use Rattle.cas_opening.specs.Opening.{IsOfBytes, OpensAs, IsBadLog, IsRefused, Answers, is_above}
 use Rattle.cas_opening.specs.Inner.Counting.{frontiers_below}
-use Rattle.cas_opening.specs.Inner.Reading.{log_in, above, ReplaysSaid, IsRead}
+use Rattle.cas_opening.specs.Inner.Reading.{log_in, ReplaysSaid, IsWhole, IsRead}
 use Rattle.cas_journal.proofs.Sayings.{is_made as made}
 use Rattle.cas_opening.proofs.Saids.{sound, are_tables, shard_count, short_numbers}
 use Rattle.cas_opening.proofs.Counts.{filter_same}
@@ -137,12 +138,7 @@ module _ (c : Image) (bytes : IsOfBytes c) where
             (subst (λ (t : Saying). log_in t c ≡ Ok mutations) says read);
       }
 
--- ---- mutations above their frontiers
-
-above_ok : (shards : ℕ) (frontiers : List ℕ) (r : Result (List Mutation) (ℕ × ReadFault)) (given : List Mutation) → above_in shards frontiers r ≡ Ok given
-    → (all : List Mutation) × (r ≡ Ok all) × (filter (is_above_in shards frontiers) all ≡ given)
-above_ok shards frontiers (Ok all) given e = (all, refl, cc)
-above_ok shards frontiers (Err f) given e = absurd cc
+-- ---- logs
 
 -- the logs of images with the same files
 pub same_log : (s : Saying) (c d : Image) → ((k : Name) → d k ≡ c k) → log_in s d ≡ log_in s c
@@ -159,6 +155,21 @@ new_log shards s entries c is =
 
 -- ---- a store that was loaded and replayed
 
+-- whatever the folder tells
+pub is_whole : (s : Saying) (entries : List Entry) (all given : List Mutation) → s ≡ said_by entries → MayFollow nothing entries → entries ≢ []
+    → (AreTables s.tables → IsShardCount s.shards → AreOfALog s.tables s.shards all) → given ≡ filter (is_above_in s.shards (frontiers_below s (length s.tables))) all
+    → IsWhole entries all given
+is_whole s entries all given says follow some are filtered =
+    let t = said_by entries in
+    let is = sound entries follow in
+    let log : AreOfALog t.tables t.shards all =
+    subst (λ (u : Saying). AreTables u.tables → IsShardCount u.shards → AreOfALog u.tables u.shards all) says are (are_tables t is) (shard_count t is (made entries some follow)) in
+    record {
+      made = some;
+      log = log;
+      above = subst (λ (u : Saying). given ≡ filter (is_above_in u.shards (frontiers_below u (length u.tables))) all) says filtered ∙ filter_same t all log.fit;
+    }
+
 module _ (shards : ℕ) (place : Place) (s : Saying) (entries : List Entry) (c : Image) (bytes : IsOfBytes c) (o l z : Disk) (was : o.reads c)
     (loads : HasStore (manifest_in c) (s, entries) ⊎ (IsNew c × ((s, entries) ≡ new_store shards))) (says : s ≡ said_by entries)
     (still : (IsNew c → ⊥) → During Same o l) (reads : (IsNew c → ⊥) → Follows Same o.reads l.reads) (tells : (d : Image) × l.reads d) where
@@ -166,23 +177,21 @@ module _ (shards : ℕ) (place : Place) (s : Saying) (entries : List Entry) (c :
   read_after : HasStore (manifest_in c) (s, entries) → (d : Image) × l.reads d × ((k : Name) → d k ≡ c k)
   read_after has = let old = λ (new : IsNew c). new_has_none c bytes (s, entries) new has in reads_on o l (still old) (reads old) c was
 
-  pub is_read : (given : List Mutation) → Stands place l entries → place.end + 1 ≤ FILE_LIMIT → ((d : Image) → l.reads d → above s d ≡ Ok given)
-      → Last s.segments z → Follows Same l.reads z.reads → During Same l z → IsRead shards place entries given c z
-  is_read given stands within exact last same call = by_loads loads
+  pub is_read : (all : List Mutation) → Stands place l entries → place.end + 1 ≤ FILE_LIMIT → ((d : Image) → l.reads d → log_in s d ≡ Ok all)
+      → Last s.segments z → Follows Same l.reads z.reads → During Same l z → IsRead shards place entries all c z
+  is_read all stands within read last same call = by_loads loads
     where
       stands_after : Stands place z entries
       stands_after = stands_on place entries l z Same (λ d e alike. alike manifest_name) call stands
 
-      by_loads : HasStore (manifest_in c) (s, entries) ⊎ (IsNew c × ((s, entries) ≡ new_store shards)) → IsRead shards place entries given c z
+      by_loads : HasStore (manifest_in c) (s, entries) ⊎ (IsNew c × ((s, entries) ≡ new_store shards)) → IsRead shards place entries all c z
       by_loads (inl has) =
           let (d, now, alike) = read_after has in
-          let (all, read, filtered) = above_ok s.shards (frontiers_below s (length s.tables)) (log_in s d) given (exact d now) in
-          let store = store_found c bytes s entries all has says (sym (same_log s c d alike) ∙ read) in
+          let store = store_found c bytes s entries all has says (sym (same_log s c d alike) ∙ read d now) in
           let t = said_by entries in
           let fit : AllByRecursion (FitsRecord t.tables t.shards) all = subst (λ (ms : List Mutation). AllByRecursion (FitsRecord t.tables t.shards) ms) store.log.all
           (all_fit t.tables t.shards (segment_in c) t.segments store.log.parts store.log.segments) in
           record {
-            mutations = all;
             opens = inl store;
             keeps = record {
               manifest = stands_after;
@@ -198,16 +207,13 @@ module _ (shards : ℕ) (place : Place) (s : Saying) (entries : List Entry) (c :
               fit = fit;
               ordered = store.log.ordered;
             };
-            above = sym filtered ∙ subst (λ (u : Saying). filter (is_above_in u.shards (frontiers_below u (length u.tables))) all ≡ filter (is_above t) all) (sym says) (filter_same t all fit);
           }
       by_loads (inr (new, is)) =
           let (d, now) = tells in
           let first : entries ≡ first_entries shards = ap (λ (far : Far). far.1) is in
           let none = new_log shards s entries d is in
-          let (all, read, filtered) = above_ok s.shards (frontiers_below s (length s.tables)) (log_in s d) given (exact d now) in
-          let empty : all ≡ [] = ok_same all [] (log_in s d) read none.1 in
-          record {
-            mutations = [];
+          let empty : all ≡ [] = ok_same all [] (log_in s d) (read d now) none.1 in
+          subst (λ (ms : List Mutation). IsRead shards place entries ms c z) (sym empty) (record {
             opens = inr (new, first, refl);
             keeps = record {
               manifest = stands_after;
@@ -219,8 +225,7 @@ module _ (shards : ℕ) (place : Place) (s : Saying) (entries : List Entry) (c :
               fit = tt;
               ordered = λ shard. tt;
             };
-            above = sym filtered ∙ ap (filter (is_above_in s.shards (frontiers_below s (length s.tables)))) empty;
-          }
+          })
 
   -- a log that is refused
   pub is_refused : (T U : Type 0) (view : U → List Mutation) (fault : OpenFault) → ((d : Image) → l.reads d → ReplaysSaid view s d (Err fault)) → Answers {T = T} shards c (Err fault)

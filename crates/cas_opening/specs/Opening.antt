@@ -1,6 +1,7 @@
 -- How the store of a folder is opened. Storage engine: startup, replay of the commit log; own.
-use Rattle.std.specs.Prelude.{◌≡◌, ◌≢◌, ◌⊎◌, ℕ, ◌+◌, ◌<◌, nat_lt, Bool, true, false}
+use Rattle.std.specs.Prelude.{◌≡◌, ◌≢◌, ◌⊎◌, ℕ, ◌+◌, ◌<◌, ◌≤◌, nat_lt, Bool, true, false}
 use Rattle.std.specs.Prelude.{List, [], ◌∷◌, ◌++◌, length, filter, Result, Ok, Err}
+use Rattle.cas_types.specs.Limits.{IsShardCount}
 use Rattle.cas_disk.specs.declared.name.Name.{Name}
 use Rattle.cas_disk.specs.declared.name.Name.TheVariants.{Manifest as manifest_name, Log as log_name, Table as table_name, Import as import_name}
 use Rattle.cas_disk.specs.Disk.{Image, Disk, Same, Changed, bytes_of}
@@ -10,13 +11,14 @@ use Rattle.cas_atoms.specs.declared.atom.Mutation.{Mutation}
 use Rattle.cas_changes.specs.declared.entry.Entry.{Entry}
 use Rattle.cas_changes.specs.declared.entry.Entry.TheVariants.{NewSegment}
 use Rattle.cas_changes.specs.declared.said.TheConstants.{FILE_LIMIT, SEGMENT_LIMIT}
-use Rattle.cas_changes.specs.Saying.{Saying, said_by, part_of, is_listed, has_file}
+use Rattle.cas_changes.specs.Saying.{Saying, nothing, said_by, part_of, is_listed, has_file}
 use Rattle.cas_changes.specs.Spelling.{entry_bytes}
-use Rattle.cas_manifest.specs.File.{front}
+use Rattle.cas_manifest.specs.File.{front, MayFollow}
 use Rattle.cas_manifest.specs.Manifests.{is_made}
 use Rattle.cas_manifest.specs.Reading.{Far}
 use Rattle.cas_manifest.specs.Loading.{manifest_in, HasOthers, IsNew, HasStore, IsBadAt, MayBeNewStore, first_entries}
 use Rattle.cas_replay.specs.Reading.{log_of, segment_in}
+use Rattle.cas_replay.specs.Grammar.{AreOfALog}
 use Rattle.cas_journal.specs.Stores.{IsStore, Told, Holds, named}
 use Rattle.cas_journal.specs.Journals.{Lasts}
 use Rattle.cas_opening.specs.declared.opened.Opened.{Opened}
@@ -85,6 +87,24 @@ IsFull entries = (SEGMENT_LIMIT < next_segment entries) ⊎ (FILE_LIMIT < length
 -- which segments are begun and named: the next one, or none where none can be
 abbrev pub Begins : List Entry → List ℕ → Type 0
 Begins entries numbers = (numbers ≡ next_segment entries ∷ []) ⊎ ((numbers ≡ []) × IsFull entries)
+
+-- as far as the entries alone tell: the next one, where there is a number left, or none
+abbrev pub MayBegin : List Entry → List ℕ → Type 0
+MayBegin entries numbers = (numbers ≡ []) ⊎ ((numbers ≡ next_segment entries ∷ []) × (next_segment entries ≤ SEGMENT_LIMIT))
+
+-- What was opened is read as a store of these entries and mutations, also where the folder tells nothing: the entries may follow one another, and the
+-- first makes the store; its log may have the mutations; what the entries say is told, with the segment that was begun and named, and of the mutations
+-- those above their frontiers are given, in order.
+pub record IsReadAs (entries : List Entry) (mutations : List Mutation) (o : Opened) : Type 0 where
+  pub made : entries ≢ []
+  pub follow : MayFollow nothing entries
+  pub shards : IsShardCount (said_by entries).shards
+  pub log : AreOfALog (said_by entries).tables (said_by entries).shards mutations
+  pub numbers : List ℕ
+  pub begins : MayBegin entries numbers
+  pub said : o.said ≡ said_by (entries ++ named numbers)
+  pub above : o.mutations.items ≡ filter (is_above (said_by entries)) mutations
+  pub last : o.journal.last_segment ≤ next_segment entries
 
 -- what a journal is told that opens a store of these entries and mutations, and names these segments
 abbrev pub told : List Entry → List Mutation → List ℕ → Told

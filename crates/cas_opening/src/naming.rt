@@ -16,7 +16,7 @@ ghost use Rattle.cas_journal.specs.Journals.{NoneAbove, AreFree};
 ghost use Rattle.cas_opening.specs.Opening.{HasStayed};
 ghost use Rattle.cas_opening.specs.Inner.Faults.{IsOfFolder};
 ghost use Rattle.cas_opening.specs.Inner.Keeping.{Keeps};
-ghost use Rattle.cas_opening.specs.Inner.Naming.{HasBegun, IsNamed, IsBegunWith};
+ghost use Rattle.cas_opening.specs.Inner.Naming.{HasBegun, IsNamed, IsBegunWith, IsToldOf};
 
 use crate::fault::OpenFault;
 use cas_changes::{Entry, SEGMENT_LIMIT, Said};
@@ -92,6 +92,7 @@ pub(crate) fn begin<F: Folder>(
     requires none { NoneAbove said.last_segment (F.disk folder.old) }
     ensures begun { (entries : List EntryOf) (mutations : List MutationOf) → Keeps (place_of manifest) entries mutations (F.disk folder.old) → said ≡ said_by entries
         → IfOk result (λ r. IsBegunWith entries mutations r.0 r.1 (F.disk folder.new)) }
+    ensures told { (entries : List EntryOf) → said ≡ said_by entries → IfOk result (λ r. IsToldOf entries r.0 r.1) }
     ensures free { IfOk result (λ r. AreFree r.0 (F.disk folder.new)) }
     ensures runs { IfOk result (λ r. (r.0.first ≡ None) × (r.0.size ≡ size)) }
     ensures during { (entries : List EntryOf) (mutations : List MutationOf) → Keeps (place_of manifest) entries mutations (F.disk folder.old) → said ≡ said_by entries

@@ -13,9 +13,10 @@ ghost use Rattle.cas_manifest.specs.Loading.{IsNew};
 ghost use Rattle.cas_manifest.specs.Manifests.{place_of};
 ghost use Rattle.cas_journal.specs.Stores.{IsStore};
 ghost use Rattle.cas_journal.specs.Journals.{AreFree};
-ghost use Rattle.cas_opening.specs.Opening.{IsOfBytes, OpensAs, Answers, Ends, IsOpened, HasStayed, MayBeOpened, MayBeMadeNew, is_above};
+ghost use Rattle.cas_opening.specs.Opening.{IsOfBytes, OpensAs, Answers, Ends, IsOpened, HasStayed, IsReadAs, MayBeOpened, MayBeMadeNew, is_above};
 ghost use Rattle.cas_opening.specs.Inner.Faults.{IsOfFolder};
 ghost use Rattle.cas_opening.specs.Inner.Keeping.{Keeps};
+ghost use Rattle.cas_opening.specs.Inner.Naming.{IsToldOf};
 
 use crate::fault::OpenFault;
 use crate::naming::begin;
@@ -39,6 +40,8 @@ fn open_stored<F: Folder>(
     ensures opened { (mutations : List MutationOf) → Keeps (place_of stored.manifest) stored.entries.items mutations (F.disk folder.old)
         → stored.mutations.items ≡ filter (is_above (said_by stored.entries.items)) mutations
         → IfOk result (λ o. IsOpened stored.entries.items mutations o (F.disk folder.new)) }
+    ensures told { IfOk result (λ o. IsToldOf stored.entries.items o.journal o.said) }
+    ensures given { IfOk result (λ o. o.mutations.items ≡ stored.mutations.items) }
     ensures free { IfOk result (λ o. AreFree o.journal (F.disk folder.new)) }
     ensures runs { IfOk result (λ o. (o.journal.first ≡ None) × (o.journal.size ≡ size)) }
     ensures during { (mutations : List MutationOf) → Keeps (place_of stored.manifest) stored.entries.items mutations (F.disk folder.old)
@@ -73,6 +76,9 @@ pub fn open<F: Folder>(
     requires size { IsSize size }
     ensures opens { (c : Image) → (F.disk folder.old).reads c → IsOfBytes c → (entries : List EntryOf) (mutations : List MutationOf)
         → OpensAs shards entries mutations c → Ends entries mutations (F.disk folder.new) result }
+    // What is opened is a store's, also where the folder tells nothing of what it reads.
+    ensures read { IfOk result (λ o. (entries : List EntryOf) × (mutations : List MutationOf) × IsReadAs entries mutations o
+        × ((c : Image) → (F.disk folder.old).reads c → IsOfBytes c → OpensAs shards entries mutations c)) }
     ensures answers { (c : Image) → (F.disk folder.old).reads c → IsOfBytes c → Answers shards c result }
     ensures free { IfOk result (λ o. AreFree o.journal (F.disk folder.new)) }
     ensures runs { IfOk result (λ o. (o.journal.first ≡ None) × (o.journal.size ≡ size)) }

@@ -9,9 +9,10 @@ ghost use Rattle.cas_changes.specs.Saying.{IsSaid, nothing, said_by};
 ghost use Rattle.cas_manifest.specs.File.{MayFollow};
 ghost use Rattle.cas_manifest.specs.Manifests.{place_of};
 ghost use Rattle.cas_manifest.specs.Loading.{IsNew, MayBeNewStore};
-ghost use Rattle.cas_replay.specs.Replays.{Last};
+ghost use Rattle.cas_replay.specs.Replays.{IsReplayOf, Last};
 ghost use Rattle.cas_opening.specs.Opening.{IsOfBytes, Answers};
-ghost use Rattle.cas_opening.specs.Inner.Reading.{ReplaysSaid, IsRead};
+ghost use Rattle.cas_opening.specs.Inner.Counting.{frontiers_below};
+ghost use Rattle.cas_opening.specs.Inner.Reading.{ReplaysSaid, IsWhole, IsRead};
 
 use crate::collecting::frontiers;
 use crate::fault::{OpenFault, of_loading, of_replay};
@@ -32,6 +33,8 @@ fn replay_said<F: Folder>(
 ) -> Result<Vec<Mutation>, OpenFault>
     requires { IsSaid said.now }
     ensures exact { (c : Image) → (F.disk folder.old).reads c → ReplaysSaid (λ v. v.items) said.now c result }
+    ensures replayed { IfOk result (λ v. IsReplayOf said.now.tables said.now.shards said.now.segments (frontiers_below said.now (length said.now.tables))
+        (F.disk folder.old) v.items) }
     ensures lasts { OnOk result (Last said.now.segments (F.disk folder.new)) }
     ensures reads { Follows Same (F.disk folder.old).reads (F.disk folder.new).reads }
     ensures during { During Same (F.disk folder.old) (F.disk folder.new) }
@@ -61,8 +64,8 @@ pub(crate) fn read_store<F: Folder>(
     shards: u8,
 ) -> Result<Stored, OpenFault>
     requires { IsShardCount shards }
-    ensures read { IfOk result (λ s. (c : Image) → (F.disk folder.old).reads c → IsOfBytes c
-        → IsRead shards (place_of s.manifest) s.entries.items s.mutations.items c (F.disk folder.new)) }
+    ensures read { IfOk result (λ s. (mutations : List MutationOf) × IsWhole s.entries.items mutations s.mutations.items
+        × ((c : Image) → (F.disk folder.old).reads c → IsOfBytes c → IsRead shards (place_of s.manifest) s.entries.items mutations c (F.disk folder.new))) }
     ensures said { IfOk result (λ s. s.said ≡ said_by s.entries.items) }
     ensures follow { IfOk result (λ s. MayFollow nothing s.entries.items) }
     ensures answers { (c : Image) → (F.disk folder.old).reads c → IsOfBytes c → Answers shards c result }

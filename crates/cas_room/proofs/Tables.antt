@@ -1,26 +1,21 @@
 -- The files of tables: what a call on one leaves of what the room keeps, and a number that is drawn.
-use Rattle.std.proofs.Common.{◌≡◌, ◌≢◌, inl, inr, ⊎_elim, ◌∙◌, ℕ, ◌+◌, ◌<◌, ◌≤◌, true, List, [], ◌∷◌, ◌++◌, length, Option, None, Result, Ok, Err, sym, ap, subst, arith, length-append}
+use Rattle.std.proofs.Common.{◌≡◌, ◌∙◌, ℕ, ◌+◌, ◌≤◌, true, List, [], ◌∷◌, ◌++◌, length, Option, Result, Ok, Err, sym, ap, subst, arith, length-append}
 use Rattle.std.specs.Prelude.{MatchResult, OnOk, OnErr}
-use Rattle.std.proofs.lemmas.Bool.{cases_Bool}
-use Rattle.cas_disk.specs.declared.name.Name.{Name}
 use Rattle.cas_disk.specs.declared.name.Name.TheVariants.{Table as table_name}
-use Rattle.cas_disk.specs.Names.{same_name}
-use Rattle.cas_disk.specs.Disk.{Image, Disk, During, Changed, MayGo, MayBeAnything}
-use Rattle.cas_disk.specs.Inner.PastLaws.{same_self, same_is}
+use Rattle.cas_disk.specs.Disk.{Disk, During, Changed}
 use Rattle.cas_atoms.specs.declared.atom.Mutation.{Mutation}
 use Rattle.cas_history.specs.declared.item.Item.{Item}
 use Rattle.cas_history.specs.declared.item.Item.TheVariants.{Drew}
 use Rattle.cas_history.specs.Last.{holds}
-use Rattle.cas_journal.specs.Stores.{Told, SameTables, committed_all}
+use Rattle.cas_journal.specs.Stores.{Told, committed_all}
 use Rattle.cas_journal.specs.Journals.{Lasts}
 use Rattle.cas_journal.specs.declared.fault.JournalFault.{JournalFault}
 use Rattle.cas_journal.specs.declared.journal.Journal.{Journal}
-use Rattle.cas_journal.proofs.Moving.{still_so}
 use Rattle.cas_journal.proofs.Tables.{table_lasts}
 use Rattle.cas_room.specs.declared.event.Event.{Event}
 use Rattle.cas_room.specs.Rooms.{accepted_in, after_commit}
 use Rattle.cas_room.specs.Keeping.{Keeps}
-use Rattle.cas_room.specs.Tables.{NoTableAbove, Draws}
+use Rattle.cas_room.specs.Tables.{Draws}
 
 -- ---- what the room keeps
 

@@ -1,18 +1,17 @@
 -- How a run begins (own).
-use Rattle.std.specs.Prelude.{◌≡◌, ◌⊎◌, ◌≤◌, ℕ, List, [], length, map, slice_get, Some, None}
-use Rattle.cas_disk.specs.declared.name.Name.{Name}
-use Rattle.cas_disk.specs.declared.name.Name.TheVariants.{Manifest as manifest_name}
+use Rattle.std.specs.Prelude.{◌≡◌, ◌≤◌, ◌+◌, ℕ, List, [], ◌∷◌, ◌++◌, length, slice_get, Some}
 use Rattle.cas_disk.specs.Disk.{Disk, Image}
 use Rattle.cas_types.specs.declared.schema.TableSchema.{TableSchema}
 use Rattle.cas_atoms.specs.declared.atom.Mutation.{Mutation}
 use Rattle.cas_bind.specs.Tables.{AreTables}
+use Rattle.cas_replay.specs.Grammar.{AreInOrder, AscendByOne, numbers_of}
 use Rattle.cas_bind.specs.declared.bound.Limits.{Limits}
 use Rattle.cas_changes.specs.Saying.{said_by}
 use Rattle.cas_changes.specs.declared.entry.Entry.{Entry as ManifestEntry}
 use Rattle.cas_journal.specs.Stores.{Told}
-use Rattle.cas_journal.specs.Journals.{Lasts, AreFree}
+use Rattle.cas_journal.specs.Journals.{Lasts}
 use Rattle.cas_journal.specs.declared.journal.Journal.{Journal}
-use Rattle.cas_opening.specs.Opening.{IsOfBytes, IsRefused, OpensAs, next_segment}
+use Rattle.cas_opening.specs.Opening.{IsOfBytes, next_segment}
 use Rattle.cas_opening.specs.declared.fault.OpenFault.{OpenFault}
 use Rattle.cas_opening.specs.declared.fault.OpenFault.TheVariants as open_fault
 use Rattle.cas_shard.specs.declared.shard.Shard.{Shard}
@@ -34,6 +33,8 @@ pub record IsInMemory (given : Limits) (entries : List ManifestEntry) (mutations
   pub good : AreTables tables
   pub count : length shards ≡ limits.shards
   pub restored : AreRestored tables mutations shards
+  pub ordered : AreInOrder mutations
+  pub next : (n : ℕ) (x : Shard) → slice_get shards n ≡ Some x → AscendByOne (numbers_of n mutations ++ (x.number + 1) ∷ [])
 
 -- what the journal was told of a store of these entries and mutations, which are all there
 pub record IsTold (entries : List ManifestEntry) (mutations : List Mutation) (t : Told) : Type 0 where

@@ -7,7 +7,7 @@ use Rattle.cas_atoms.specs.declared.atom.Mutation.{Mutation}
 use Rattle.cas_bind.specs.declared.bound.Limits.{Limits}
 use Rattle.cas_bind.specs.Tables.{AreTables}
 use Rattle.cas_changes.specs.Saying.{said_by}
-use Rattle.cas_replay.specs.Grammar.{AscendByOne, numbers_of}
+use Rattle.cas_replay.specs.Grammar.{AreInOrder, AscendByOne, numbers_of}
 use Rattle.cas_journal.specs.declared.journal.Journal.{Journal}
 use Rattle.cas_journal.specs.Stores.{Told}
 use Rattle.cas_journal.specs.Reach.{reach_of}
@@ -72,6 +72,7 @@ pub record LastsFor (h : History) (found : List Mutation) (s : State) (disk : Di
   pub tables : (said_by t.entries).tables ≡ s.tables
   pub shards : (said_by t.entries).shards ≡ s.limits.shards
   pub few : length t.failed ≤ 1
+  pub ordered : AreInOrder t.taken
   pub next : (n : ℕ) (x : Shard) → slice_get s.shards n ≡ Some x → AscendByOne (numbers_of n t.taken ++ (x.number + 1) ∷ [])
   pub counted : length (accepted_in s.list) ≤ s.accepted
   pub written : length (accepted_in s.list) ≤ s.calls

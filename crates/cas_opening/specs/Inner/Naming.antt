@@ -1,5 +1,5 @@
 -- A segment that is begun and named. Own.
-use Rattle.std.specs.Prelude.{◌≡◌, ◌<◌, ◌+◌, ℕ, Bool, true, false, List, [], ◌∷◌, ◌++◌, length}
+use Rattle.std.specs.Prelude.{◌≡◌, ◌<◌, ◌≤◌, ◌+◌, ℕ, Bool, true, false, List, [], ◌∷◌, ◌++◌, length}
 use Rattle.cas_disk.specs.Disk.{Disk, During, Same}
 use Rattle.cas_atoms.specs.declared.atom.Mutation.{Mutation}
 use Rattle.cas_changes.specs.declared.entry.Entry.{Entry}
@@ -13,7 +13,7 @@ use Rattle.cas_manifest.specs.Manifests.{Place, Stands}
 use Rattle.cas_journal.specs.Stores.{named}
 use Rattle.cas_journal.specs.Journals.{Lasts}
 use Rattle.cas_journal.specs.declared.journal.Journal.{Journal}
-use Rattle.cas_opening.specs.Opening.{Begins, told}
+use Rattle.cas_opening.specs.Opening.{next_segment, Begins, MayBegin, told}
 
 -- the segment lasts, without mutations, and nothing is pushed
 pub record HasBegun (log : Log) (disk : Disk) : Type 0 where
@@ -32,3 +32,10 @@ pub record IsBegunWith (entries : List Entry) (mutations : List Mutation) (j : J
   pub begins : Begins entries numbers
   pub lasts : Lasts j disk (told entries mutations numbers)
   pub said : s ≡ said_by (entries ++ named numbers)
+
+-- a journal behind a store of these entries, and what they say, with the name of the segment that was begun
+pub record IsToldOf (entries : List Entry) (j : Journal) (s : Saying) : Type 0 where
+  pub numbers : List ℕ
+  pub begins : MayBegin entries numbers
+  pub said : s ≡ said_by (entries ++ named numbers)
+  pub last : j.last_segment ≤ next_segment entries

@@ -1,5 +1,5 @@
 -- What is read of a store's log. Own.
-use Rattle.std.specs.Prelude.{◌≡◌, ℕ, List, [], length, filter, Result, Ok, Err}
+use Rattle.std.specs.Prelude.{◌≡◌, ◌≢◌, ℕ, List, [], length, filter, Result, Ok, Err}
 use Rattle.cas_codec.specs.declared.fault.ReadFault.{ReadFault}
 use Rattle.cas_disk.specs.declared.name.Name.TheVariants.{Log}
 use Rattle.cas_disk.specs.Disk.{Image, Disk}
@@ -8,6 +8,7 @@ use Rattle.cas_changes.specs.declared.entry.Entry.{Entry}
 use Rattle.cas_changes.specs.Saying.{Saying, said_by}
 use Rattle.cas_manifest.specs.Manifests.{Place}
 use Rattle.cas_replay.specs.Reading.{log_of, segment_in, above_in}
+use Rattle.cas_replay.specs.Grammar.{AreOfALog}
 use Rattle.cas_opening.specs.declared.fault.OpenFault.{OpenFault}
 use Rattle.cas_opening.specs.declared.fault.OpenFault.TheVariants.{Bad, Failed, Mem}
 use Rattle.cas_opening.specs.Opening.{IsBadLog, OpensAs, is_above}
@@ -29,9 +30,13 @@ ReplaysSaid view s c (Err (Bad name at)) = (number : ℕ) × (name ≡ Log numbe
 ReplaysSaid view s c (Err Failed) = Unit {0}
 ReplaysSaid view s c (Err Mem) = Unit {0}
 
--- What was read of a store: of these entries and of some mutations, of which those above their frontiers are given; and every image has it.
-pub record IsRead (shards : ℕ) (place : Place) (entries : List Entry) (given : List Mutation) (c : Image) (disk : Disk) : Type 0 where
-  pub mutations : List Mutation
+-- What was read of a store, also where the folder tells nothing: entries, and mutations that its log may have; those above their frontiers are given.
+pub record IsWhole (entries : List Entry) (mutations given : List Mutation) : Type 0 where
+  pub made : entries ≢ []
+  pub log : AreOfALog (said_by entries).tables (said_by entries).shards mutations
+  pub above : given ≡ filter (is_above (said_by entries)) mutations
+
+-- the store that was read is that of the image, and every image has it
+pub record IsRead (shards : ℕ) (place : Place) (entries : List Entry) (mutations : List Mutation) (c : Image) (disk : Disk) : Type 0 where
   pub opens : OpensAs shards entries mutations c
   pub keeps : Keeps place entries mutations disk
-  pub above : given ≡ filter (is_above (said_by entries)) mutations

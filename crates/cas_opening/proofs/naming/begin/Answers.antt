@@ -6,7 +6,7 @@ use Rattle.cas_changes.specs.Saying.{Saying, said_by}
 use Rattle.cas_manifest.specs.Manifests.{place_of}
 use Rattle.cas_opening.specs.Inner.Naming.{IsNamed}
 use Rattle.cas_opening.specs.Opening.{next_segment}
-use Rattle.cas_opening.proofs.Names.{begun_stayed, begin_stayed, begin_named, begin_unnamed, begin_none, none_above_log, none_above_manifest, none_above_at}
+use Rattle.cas_opening.proofs.Names.{begun_stayed, begin_stayed, begin_named, begin_unnamed, begin_none, told_none, told_named, none_above_log, none_above_manifest, none_above_at}
 use Rattle.cas_opening.proofs.naming.begin.Goals as goal
 
 -- the number of the next segment
@@ -101,3 +101,18 @@ returns-clause-during g c entries ms keeps says =
     begin_stayed entries ms (place_of c.args.manifest) (c.last_segment-last.result + 1) (is_next c.args.said entries c.last_segment-last.result c.last_segment-last.ensures says)
     (disk c.args.folder.now) (disk c.begin_segment.new.folder) (disk c.name_segment.new.folder) keeps c.in-Ok.ensures.fresh.allowed
     c.in-Ok.log c.in-Ok.ensures.fresh.number c.in-Ok.ensures.begun c.begin_segment.ensures.during (c.name_segment.ensures.during entries)
+
+pub returns-then-last-ge-SEGMENT_LIMIT-clause-told : goal.returns-then-last-ge-SEGMENT_LIMIT-clause-told
+returns-then-last-ge-SEGMENT_LIMIT-clause-told g c entries says =
+    let next = is_next c.args.said entries c.last_segment-last.result c.last_segment-last.ensures says in
+    told_none entries c.args.said c.new.result says (omega (arith, next, c.new.ensures.last))
+
+pub returns-then-not-is_named-clause-told : goal.returns-then-not-is_named-clause-told
+returns-then-not-is_named-clause-told g c entries says =
+    let next = is_next c.args.said entries c.last_segment-last.result c.last_segment-last.ensures says in
+    told_none entries c.args.said c.new-then-not-is_named.result says (omega (arith, next, c.new-then-not-is_named.ensures.last))
+
+pub returns-clause-told : goal.returns-clause-told
+returns-clause-told g c entries says =
+    told_named entries (c.last_segment-last.result + 1) (is_next c.args.said entries c.last_segment-last.result c.last_segment-last.ensures says) c.in-Ok.ensures.fresh.allowed
+    c.args.said c.take.new.self c.new-2.result says c.in_default.ensures c.new-2.ensures.last

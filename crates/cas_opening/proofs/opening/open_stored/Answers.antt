@@ -51,3 +51,6 @@ returns-in-Err-begin-clause-during g c ms keeps =
     let place = place_of c.args.stored.manifest in
     stayed_more es ms (disk c.args.folder.now) (disk c.sweep.new.folder) (disk c.begin.new.folder) (swept_stayed es ms place (disk c.args.folder.now) (disk c.sweep.new.folder) keeps swept)
     (c.begin.ensures.during es ms (spares_keeps place es ms (disk c.args.folder.now) (disk c.sweep.new.folder) swept keeps) c.requires.said)
+
+pub returns-in-Ok-clause-told : goal.returns-in-Ok-clause-told
+returns-in-Ok-clause-told g c = c.in-Ok.ensures.told c.args.stored.entries.items c.requires.said

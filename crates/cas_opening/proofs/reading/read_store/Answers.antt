@@ -9,28 +9,33 @@ use Rattle.cas_manifest.specs.Manifests.{place_of}
 use Rattle.cas_manifest.specs.Loading.{MayBeNewStore}
 use Rattle.cas_opening.specs.declared.stored.Stored.{Stored}
 use Rattle.cas_opening.proofs.Saids.{sound}
-use Rattle.cas_opening.proofs.Readings.{is_read, is_refused}
+use Rattle.cas_opening.proofs.Readings.{is_whole, is_read, is_refused}
 use Rattle.cas_opening.proofs.reading.read_store.Goals as goal
 
 pub replay_said-requires : goal.replay_said-requires
 replay_said-requires g c = subst (λ (s : Saying). IsSaid s) (sym c.in-Ok.ensures.said) (sound c.in-Ok.loaded.2.items c.in-Ok.ensures.stands.follow).said
 
 pub returns-in-Ok-replay_said-clause-read : goal.returns-in-Ok-replay_said-clause-read
-returns-in-Ok-replay_said-clause-read g c image read bytes =
+returns-in-Ok-replay_said-clause-read g c =
     let disk = g.F.Folder.disk in
-    is_read c.args.shards (place_of c.in-Ok.loaded.0) c.in-Ok.loaded.1 c.in-Ok.loaded.2.items image bytes (disk c.args.folder.now) (disk c.load.new.folder) (disk c.replay_said.new.folder) read
-    (c.in-Ok.ensures.loads image read) c.in-Ok.ensures.said (c.load.ensures.untouched image read) (c.load.ensures.reads image read) (c.load.ensures.during.tells image read)
-    c.in-Ok-replay_said.mutations.items c.in-Ok.ensures.stands c.in-Ok.loaded.0.within c.in-Ok-replay_said.ensures.exact c.in-Ok-replay_said.ensures.lasts c.replay_said.ensures.reads
-    c.replay_said.ensures.during
+    let r = c.in-Ok-replay_said.ensures.replayed in (
+      r.all,
+      is_whole c.in-Ok.loaded.1 c.in-Ok.loaded.2.items r.all c.in-Ok-replay_said.mutations.items c.in-Ok.ensures.said c.in-Ok.ensures.stands.follow c.in-Ok.ensures.made r.are r.above,
+      λ image read bytes.
+          is_read c.args.shards (place_of c.in-Ok.loaded.0) c.in-Ok.loaded.1 c.in-Ok.loaded.2.items image bytes (disk c.args.folder.now) (disk c.load.new.folder) (disk c.replay_said.new.folder) read
+          (c.in-Ok.ensures.loads image read) c.in-Ok.ensures.said (c.load.ensures.untouched image read) (c.load.ensures.reads image read) (c.load.ensures.during.tells image read)
+          r.all c.in-Ok.ensures.stands c.in-Ok.loaded.0.within r.read c.in-Ok-replay_said.ensures.lasts c.replay_said.ensures.reads
+          c.replay_said.ensures.during,
+    )
 
 pub returns-in-Ok-replay_said-clause-answers : goal.returns-in-Ok-replay_said-clause-answers
 returns-in-Ok-replay_said-clause-answers g c image read bytes =
     let disk = g.F.Folder.disk in
     let is = is_read c.args.shards (place_of c.in-Ok.loaded.0) c.in-Ok.loaded.1 c.in-Ok.loaded.2.items image bytes (disk c.args.folder.now) (disk c.load.new.folder) (disk c.replay_said.new.folder) read
     (c.in-Ok.ensures.loads image read) c.in-Ok.ensures.said (c.load.ensures.untouched image read) (c.load.ensures.reads image read) (c.load.ensures.during.tells image read)
-    c.in-Ok-replay_said.mutations.items c.in-Ok.ensures.stands c.in-Ok.loaded.0.within c.in-Ok-replay_said.ensures.exact c.in-Ok-replay_said.ensures.lasts c.replay_said.ensures.reads
+    c.in-Ok-replay_said.ensures.replayed.all c.in-Ok.ensures.stands c.in-Ok.loaded.0.within c.in-Ok-replay_said.ensures.replayed.read c.in-Ok-replay_said.ensures.lasts c.replay_said.ensures.reads
     c.replay_said.ensures.during in
-    (c.in-Ok.loaded.2.items, is.mutations, is.opens)
+    (c.in-Ok.loaded.2.items, c.in-Ok-replay_said.ensures.replayed.all, is.opens)
 
 pub returns-in-Ok-replay_said-clause-during : goal.returns-in-Ok-replay_said-clause-during
 returns-in-Ok-replay_said-clause-during g c =

@@ -21,6 +21,11 @@ returns-in-Ok-clause-during g c entries stands fits =
     append_during _ _ entries c.args.entry.now stands fits told.0 c.deref.result.now (c.deref.ensures.value ∙ c.in_ok-block.ensures.bytes) c.args.self.now.within
     (omega (arith, c.len.ensures, c.deref.ensures.len, c.if-end-gt-FILE_LIMIT.false)) _ c.in-Ok.ensures.during_over
 
+pub returns-in-Ok-clause-end : goal.returns-in-Ok-clause-end
+returns-in-Ok-clause-end g c =
+    let long = ap length c.in_ok-block.ensures.bytes ∙ block_long c.args.entry.now in
+    omega (arith, long, c.len.ensures, c.deref.ensures.len, c.in_ok-block.block.ok.0)
+
 pub returns-in-Ok-clause-outcome : goal.returns-in-Ok-clause-outcome
 returns-in-Ok-clause-outcome g c =
     let told = told_few (listed_after c.args.self.now.listed c.args.entry.now) c.in-Some-listed_after.listed (sym c.listed_after.ensures ∙ c.in-Some-listed_after.is) in

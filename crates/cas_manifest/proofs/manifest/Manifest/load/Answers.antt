@@ -3,7 +3,7 @@ use Rattle.cas_disk.specs.declared.name.Name.TheVariants.{Manifest as manifest_n
 use Rattle.cas_disk.specs.declared.name.Entry.{Entry as FileEntry}
 use Rattle.cas_disk.specs.Disk.{IsListing}
 use Rattle.cas_files.proofs.Files.{same_more, reads_more}
-use Rattle.cas_manifest.proofs.Loads.{same_news, news_more, loads, loads_missing, is_new, others_or_new, not_there, after_list, before_list}
+use Rattle.cas_manifest.proofs.Loads.{same_news, news_more, loads, loads_missing, made_unmade, made_either, is_new, others_or_new, not_there, after_list, before_list}
 use Rattle.cas_manifest.proofs.manifest.Manifest.load.Goals as goal
 
 pub returns-in_err-file-clause-during : goal.returns-in_err-file-clause-during
@@ -104,3 +104,10 @@ returns-clause-reads g c image read old =
     others_or_new image c.has_others-others.result (c.has_others-others.ensures.some image listing) (c.has_others-others.ensures.none image listing)
     (not_there (image manifest_name) (sym (c.has_manifest.ensures image again) ∙ c.if-has_manifest.false)) old
     (λ some. reads_more (disk c.args.folder.now) (disk c.list.new.self) (disk c.make_store.new.folder) c.list.ensures.reads (c.make_store.ensures.reads some))
+
+pub returns-then-has_manifest-clause-made : goal.returns-then-has_manifest-clause-made
+returns-then-has_manifest-clause-made g c =
+    made_either (λ m. (m.1, m.2.items)) c.args.shards (Some c.deref-then-has_manifest.result.now) c.has_others-others.result c.load_file.result c.load_file.ensures.loads
+
+pub returns-clause-made : goal.returns-clause-made
+returns-clause-made g c = made_unmade (λ m. (m.1, m.2.items)) c.args.shards c.has_others-others.result c.make_store.result c.make_store.ensures.loads
