@@ -3,6 +3,7 @@ use Rattle.std.proofs.Common.{◌<◌, ℕ, subst}
 use Rattle.cas_journal.specs.Stores.{committed_all}
 use Rattle.std.proofs.Common.{refl}
 use Rattle.cas_journal.proofs.Holding.{committed_few}
+use Rattle.cas_journal.proofs.Reaching.{next_full}
 use Rattle.cas_journal.proofs.Rooms.{plain_leaves, behind_leaves, fitting_lasts, all_settled, made_behind}
 use Rattle.cas_journal.proofs.journal.Journal.prepare.Goals as goal
 
@@ -45,3 +46,7 @@ returns-clause-during g c t lasts =
     (c.in_ok-settle.ensures.lasts t (c.reserve.ensures.lasts t lasts)) in
     behind_leaves t (disk c.args.folder.now) (disk c.settle.new.folder) (disk c.next_segment.new.folder) few
     (c.settle.ensures.during t (c.reserve.ensures.lasts t lasts)) (c.next_segment.ensures.during (committed_all t) settled refl)
+
+pub returns-clause-full : goal.returns-clause-full
+returns-clause-full g c what most told =
+    next_full c.next_segment.new.self.spare c.next_segment.new.self what most (c.next_segment.ensures.limit what most told).0
