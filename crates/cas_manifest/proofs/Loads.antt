@@ -14,7 +14,7 @@ use Rattle.cas_changes.specs.Saying.{Saying, nothing, after, said_by}
 use Rattle.cas_changes.specs.Spelling.{entry_bytes}
 use Rattle.cas_manifest.specs.Manifests.{MayBegin, MayHave, Ends, is_made}
 use Rattle.cas_manifest.specs.Reading.{Far, manifest_of}
-use Rattle.cas_manifest.specs.Loading.{MayBeNewStore, HasStore, new_store, Loads, IsNew, IsBare, IsEmpty, HasOthers, first_entry, first_entries}
+use Rattle.cas_manifest.specs.Loading.{MayBeNewStore, new_store, Loads, IsNew, IsBare, IsEmpty, HasOthers, first_entry, first_entries}
 use Rattle.cas_manifest.specs.Inner.Loading.{LoadsMade, LoadsUnmade, LoadsFound, MayMake}
 use Rattle.cas_manifest.specs.Inner.Making.{IsFolderFault}
 use Rattle.cas_manifest.specs.declared.fault.ManifestFault.{ManifestFault}

@@ -19,7 +19,7 @@ use Rattle.cas_manifest.specs.Reading.{Far, manifest_of}
 use Rattle.cas_manifest.specs.Loading.{manifest_in, HasStore, IsNew, first_entries, new_store}
 use Rattle.cas_manifest.proofs.ManifestLaws.{manifest_found}
 use Rattle.cas_manifest.proofs.ManifestAgain.{manifest_again}
-use Rattle.cas_replay.specs.Reading.{log_of, segment_in, above_in, is_above as is_above_in}
+use Rattle.cas_replay.specs.Reading.{log_of, segment_in, is_above as is_above_in}
 use Rattle.cas_replay.specs.Replays.{Last}
 use Rattle.cas_replay.specs.Grammar.{AreSegments, AreOfALog}
 use Rattle.cas_replay.proofs.SegmentLaws.{is_log, of_log}
@@ -28,7 +28,7 @@ use Rattle.cas_journal.proofs.Segments.{segments_agree}
 use Rattle.cas_journal.proofs.Lists.{all_mapped}
 use Rattle.cas_opening.specs.declared.fault.OpenFault.{OpenFault}
 use Rattle.cas_opening.specs.declared.fault.OpenFault.TheVariants.{Bad, Failed, Mem}
-use Rattle.cas_opening.specs.Opening.{IsOfBytes, OpensAs, IsBadLog, IsRefused, Answers, is_above}
+use Rattle.cas_opening.specs.Opening.{IsOfBytes, OpensAs, IsBadLog, IsRefused, Answers}
 use Rattle.cas_opening.specs.Inner.Counting.{frontiers_below}
 use Rattle.cas_opening.specs.Inner.Reading.{log_in, ReplaysSaid, IsWhole, IsRead}
 use Rattle.cas_journal.proofs.Sayings.{is_made as made}

@@ -1,7 +1,7 @@
 //! The room.
 
 ghost use mathlib.Core.List.{IsPrefix};
-ghost use Rattle.std.specs.Prelude.{◌≡◌, ◌≢◌, ◌⊎◌, ◌+◌, ◌<◌, ◌≤◌, ◌^◌, List, [], ◌∷◌, ◌++◌, length, IfOk, IfErr, OnOk, OnErr};
+ghost use Rattle.std.specs.Prelude.{◌≡◌, ◌≢◌, ◌⊎◌, ◌+◌, ◌-◌, ◌<◌, ◌≤◌, ◌^◌, min, List, [], ◌∷◌, ◌++◌, Err, length, IfOk, IfErr, OnOk, OnErr};
 ghost use Rattle.cas_disk.specs.Disk.{Image, During, Leaves, Same};
 ghost use Rattle.cas_atoms.specs.LogLength.{record_length};
 ghost use Rattle.cas_atoms.specs.declared.atom.Mutation.{Mutation as MutationOf};
@@ -10,6 +10,7 @@ ghost use Rattle.cas_changes.specs.Allowed.{FitsEntry, HasSpelling};
 ghost use Rattle.cas_changes.specs.Saying.{said_by};
 ghost use Rattle.cas_changes.specs.Spelling.{entry_bytes};
 ghost use Rattle.cas_journal.specs.Ends.{Ends, IsDefinition, IsOfFolder, IsToldAtOnce, Limits, Prepares, WritesNothing, entry_limit};
+ghost use Rattle.cas_journal.specs.Reach.{reach_of, reach_after, GoesOn, HasNoPlace, IsFull};
 ghost use Rattle.cas_journal.specs.Stores.{Told, Holds, HoldsWithRoom, MadeRoom, MayList, SameTables, failed_at};
 ghost use Rattle.cas_journal.specs.Journals.{Lasts, AreFree, MayTake};
 ghost use Rattle.cas_history.specs.Items.{listed, log_list, front_list, faults_list};
@@ -63,6 +64,7 @@ impl<F: Folder, J: Store> Room<F, J> {
         ensures log { result.log ≡ log }
         ensures faults { result.faults ≡ faults }
         ensures numbers { result.numbers ≡ numbers }
+        ensures accepted { result.accepted ≡ 0 }
     {
         Room {
             folder,
@@ -179,6 +181,14 @@ impl<F: Folder, J: Store> Room<F, J> {
         ensures known { OnErr result (Knows self.new.faults.number self.new.faults.committed self.new.faults.first (listed faults_list session.new.pass.saw)) }
         ensures first { self.new.faults.first ≡ first_number self.new.journal.first }
         ensures numbers { self.new.numbers ≡ self.old.numbers }
+        ensures size { self.new.journal.size ≡ self.old.journal.size }
+        ensures reach { GoesOn (reach_of self.old.journal) (reach_of self.new.journal) }
+        ensures full { (what : _) (most : _) → result ≡ Err (JournalFault.TooMany what most) → IsFull (reach_of self.new.journal) }
+        ensures accepted { OnOk result (self.new.accepted ≡ min (self.old.accepted + 1) (2 ^ 64 - 1)) }
+        ensures unaccepted { OnErr result (self.new.accepted ≡ self.old.accepted) }
+        ensures committed { self.new.faults.committed ≡ self.old.faults.committed }
+        ensures front { OnOk result (front.new.number ≡ mutation.now.number) }
+        ensures calls { OnOk result (session.new.calls ≡ session.old.calls + 1) }
         ensures outcome { Prepares (record_length mutation.now) (half self.old.journal.size) self.old.journal.first self.new.journal.first
             (F.faults_of self.old.folder) (F.faults_of self.new.folder) result }
         ensures untouched { IfErr result (λ f. IsToldAtOnce f → During Same (F.disk self.old.folder) (F.disk self.new.folder)) }
@@ -219,6 +229,11 @@ impl<F: Folder, J: Store> Room<F, J> {
         ensures all { OnOk result (self.new.faults.committed ≡ self.old.accepted) }
         ensures first { self.new.faults.first ≡ first_number self.new.journal.first }
         ensures numbers { self.new.numbers ≡ self.old.numbers }
+        ensures size { self.new.journal.size ≡ self.old.journal.size }
+        ensures reach { reach_of self.new.journal ≡ reach_of self.old.journal }
+        ensures accepted { self.new.accepted ≡ self.old.accepted }
+        ensures same { OnErr result (self.new.faults.committed ≡ self.old.faults.committed) }
+        ensures rises { self.old.faults.committed ≤ self.new.faults.committed }
         ensures outcome { Ends self.old.journal.first self.new.journal.first (F.faults_of self.old.folder) (F.faults_of self.new.folder) result }
         ensures why { IfErr result (λ f. IsOfFolder f) }
         ensures untouched { IfErr result (λ f. IsToldAtOnce f → During Same (F.disk self.old.folder) (F.disk self.new.folder)) }
@@ -261,6 +276,11 @@ impl<F: Folder, J: Store> Room<F, J> {
         ensures known { Knows self.new.faults.number self.new.faults.committed self.new.faults.first (listed faults_list session.new.pass.saw) }
         ensures first { self.new.faults.first ≡ first_number self.new.journal.first }
         ensures numbers { self.new.numbers ≡ self.old.numbers }
+        ensures size { self.new.journal.size ≡ self.old.journal.size }
+        ensures reach { reach_of self.new.journal ≡ reach_after result entry.now (reach_of self.old.journal) }
+        ensures full { (what : _) (most : _) → result ≡ Err (JournalFault.TooMany what most) → HasNoPlace entry.now (reach_of self.old.journal) }
+        ensures accepted { self.new.accepted ≡ self.old.accepted }
+        ensures committed { self.new.faults.committed ≡ self.old.faults.committed }
         ensures outcome { Ends self.old.journal.first self.new.journal.first (F.faults_of self.old.folder) (F.faults_of self.new.folder) result }
         ensures limits { Limits (entry_limit self.old.journal entry.now) result }
         ensures untouched { IfErr result (λ f. WritesNothing f → During Same (F.disk self.old.folder) (F.disk self.new.folder)) }

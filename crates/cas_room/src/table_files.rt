@@ -55,6 +55,8 @@ impl<F: Folder, J: Store> Room<F, J> {
         ensures reads { Follows Same (F.disk self.old.folder).reads (F.disk self.new.folder).reads }
         ensures journal { self.new.journal ≡ self.old.journal }
         ensures log { self.new.log ≡ self.old.log }
+        ensures accepted { self.new.accepted ≡ self.old.accepted }
+        ensures committed { self.new.faults.committed ≡ self.old.faults.committed }
         ensures first { self.new.faults.first ≡ self.old.faults.first }
         ensures count { F.faults_of self.old.folder ≤ F.faults_of self.new.folder }
     {
@@ -89,6 +91,7 @@ impl<F: Folder, J: Store> Room<F, J> {
             → Leaves (λ c. Holds t c) (F.disk self.old.folder) (F.disk self.new.folder) }
         ensures count { Counted (F.faults_of self.old.folder) (F.faults_of self.new.folder) (IsErr result) }
         ensures journal { self.new.journal ≡ self.old.journal }
+        ensures accepted { self.new.accepted ≡ self.old.accepted }
         ensures seats { (self.new.log ≡ self.old.log) × (self.new.faults ≡ self.old.faults) × (self.new.numbers ≡ self.old.numbers) }
     {
         self.folder.remove(Name::Table(removal.into_id()))
