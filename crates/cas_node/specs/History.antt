@@ -1,6 +1,6 @@
 -- What each line answers, and what it enters into the history of the store.
 -- CQL documentation, "Data definition" and "Data manipulation"; numbers, timestamps, moments, what a failed write stops, and the command are own.
-use Rattle.std.specs.Prelude.{◌≡◌, ◌⊎◌, ℕ, ◌+◌, ◌≤◌, ℤ, pos, ◌*ℤ◌}
+use Rattle.std.specs.Prelude.{◌≡◌, ◌⊎◌, ℕ, ◌+◌, ◌^◌, ◌<◌, ◌≤◌, ℤ, pos, ◌*ℤ◌}
 use Rattle.std.specs.Prelude.{Bool, true, false, if◌then◌else◌, Option, None, Some, Result, Ok, Err}
 use Rattle.std.specs.Prelude.{List, [], ◌∷◌, ◌++◌, length, slice_index_or, slice_set}
 use Rattle.std.specs.Int.{int_max, int_min}
@@ -10,6 +10,7 @@ use Rattle.cas_io.specs.Causes.{Rose}
 use Rattle.cas_atoms.specs.declared.atom.Mutation.{Mutation}
 use Rattle.cas_changes.specs.declared.entry.Entry.{Entry as ManifestEntry}
 use Rattle.cas_changes.specs.declared.entry.Entry.TheVariants.{Schema, AddColumns}
+use Rattle.cas_changes.specs.Spelling.{entry_bytes}
 use Rattle.cas_manifest.specs.Manifests.{room_of}
 use Rattle.cas_journal.specs.Reach.{Reach, GoesOn, IsFull, HasNoPlace}
 use Rattle.cas_bind.specs.declared.bound.Bound.{Bound}
@@ -93,6 +94,7 @@ Writes d e = (d.stopped ≡ false) × Stays d e
 pub record Stops (d e : DiskState) : Type 0 where
   pub before : d.stopped ≡ false
   pub stopped : e.stopped ≡ true
+  pub faults : d.faults ≤ e.faults
   pub rose : Rose d.faults e.faults
   pub reach : GoesOn d.reach e.reach
 
@@ -188,10 +190,10 @@ after_read h n reading = with_shard h n (after_entries reading [] (shard_at h n)
 -- ---- a definition
 
 -- A definition that the manifest tells of by this entry is answered so, and these are the tables then: after `ok` the entry lasts, and the tables are the new
--- ones; where the disk fails the entry may last or not. It is refused only where the manifest has no place for it.
+-- ones; where the disk fails the entry may last or not. It is refused only where the manifest has no place for it, which has less than 4 GiB.
 abbrev pub Defines : ManifestEntry → List TableSchema → List TableSchema → DiskState → Reply → List TableSchema → DiskState → Type 0
 Defines x old new d reply.Done tables e = (tables ≡ new) × (d.stopped ≡ false) × Told x d e
-Defines x old new d (reply.Refused why) tables e = (tables ≡ old) × (why ≡ TOO_MANY) × HasNoPlace x d.reach × Writes d e
+Defines x old new d (reply.Refused why) tables e = (tables ≡ old) × (why ≡ TOO_MANY) × (length (entry_bytes x) < 2 ^ 32) × HasNoPlace x d.reach × Writes d e
 Defines x old new d (reply.Failed failure.Memory) tables e = (tables ≡ old) × Stays d e
 Defines x old new d (reply.Failed failure.Stopped) tables e = (tables ≡ old) × IsStopped d e
 Defines x old new d (reply.Failed failure.Disk) tables e = (tables ≡ old) × Stops d e
