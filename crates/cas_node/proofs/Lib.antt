@@ -5,4 +5,5 @@ mod Tables
 mod Serving
 mod Founding
 mod NumbersRise
+mod OneOutcome
 pub mod SessionLemmas
