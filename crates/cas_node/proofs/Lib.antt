@@ -1,6 +1,7 @@
 mod Places
 mod Moving
 mod Lasting
+mod Entering
 mod Tables
 mod Serving
 mod Founding

@@ -8,23 +8,34 @@ use Rattle.cas_shard.specs.Shards.{IsTime}
 use Rattle.cas_node.specs.History.{WritesAt}
 use Rattle.cas_node.specs.Inner.State.{IsSound}
 use Rattle.cas_node.specs.Inner.Turns.{Moves, reply_for}
+use Rattle.std.proofs.Common.{Err, ap, sym, subst, ◌∙◌, refl}
+use Rattle.cas_node.proofs.Entering.{refused_at_once, starved_at_once, sound_at_once}
 use Rattle.cas_node.proofs.node.Node.write.Goals as goal
 
 -- src/writing.rt:56:49
 pub returns-in-Err-Refused-clause-writes : goal.returns-in-Err-Refused-clause-writes
-returns-in-Err-Refused-clause-writes g c = ?
+returns-in-Err-Refused-clause-writes g c =
+    refused_at_once _ c.args.write c.args.reading _ c.prepare.new.self c.prepare.result
+    (record { sound = c.requires.sound; within = c.requires.within.0; fits = c.requires.fits; seat = c.index_mut.ensures.value; answered = c.prepare.ensures.answered; stands = c.prepare.ensures.stands; number = c.prepare.ensures.number })
+    _ _ _ c.in-Err-Refused.refused-is (c.in-Err-Refused.is ∙ ap Err c.in-Err-Refused.field-0-is)
 
 -- src/writing.rt:56:49
 pub returns-in-Err-Refused-clause-sound : goal.returns-in-Err-Refused-clause-sound
-returns-in-Err-Refused-clause-sound g c = ?
+returns-in-Err-Refused-clause-sound g c =
+    sound_at_once _ c.args.write c.args.reading _ c.prepare.new.self c.prepare.result
+    (record { sound = c.requires.sound; within = c.requires.within.0; fits = c.requires.fits; seat = c.index_mut.ensures.value; answered = c.prepare.ensures.answered; stands = c.prepare.ensures.stands; number = c.prepare.ensures.number }) (g.F.Folder.disk c.args.self.now.room.folder)
 
 -- src/writing.rt:57:36
 pub returns-in-Err-Mem-clause-writes : goal.returns-in-Err-Mem-clause-writes
-returns-in-Err-Mem-clause-writes g c = ?
+returns-in-Err-Mem-clause-writes g c =
+    starved_at_once _ c.args.write c.args.reading _ c.prepare.new.self c.prepare.result
+    (record { sound = c.requires.sound; within = c.requires.within.0; fits = c.requires.fits; seat = c.index_mut.ensures.value; answered = c.prepare.ensures.answered; stands = c.prepare.ensures.stands; number = c.prepare.ensures.number }) _
 
 -- src/writing.rt:57:36
 pub returns-in-Err-Mem-clause-sound : goal.returns-in-Err-Mem-clause-sound
-returns-in-Err-Mem-clause-sound g c = ?
+returns-in-Err-Mem-clause-sound g c =
+    sound_at_once _ c.args.write c.args.reading _ c.prepare.new.self c.prepare.result
+    (record { sound = c.requires.sound; within = c.requires.within.0; fits = c.requires.fits; seat = c.index_mut.ensures.value; answered = c.prepare.ensures.answered; stands = c.prepare.ensures.stands; number = c.prepare.ensures.number }) (g.F.Folder.disk c.args.self.now.room.folder)
 
 -- src/writing.rt:60:28
 pub accept-requires-clause-of : goal.accept-requires-clause-of
