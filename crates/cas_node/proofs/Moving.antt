@@ -3,6 +3,7 @@ use Rattle.std.proofs.Common.{◌≡◌, ◌≢◌, ◌<◌, ◌+◌, ⊎_elim, 
 use Rattle.std.specs.Prelude.{slice_set, slice_get, slice_index_or, if◌then◌else◌}
 use Rattle.std.specs.List.{flat_map}
 use Rattle.std.proofs.lemmas.List.{flat_map_more}
+use Rattle.std.proofs.lemmas.Bool.{true≢false}
 use Rattle.std.proofs.lemmas.Option.{same_Some}
 use Rattle.cas_atoms.specs.declared.atom.Mutation.{Mutation}
 use Rattle.cas_history.specs.declared.item.Item.{Item}
@@ -11,14 +12,23 @@ use Rattle.cas_room.specs.declared.event.Event.{Event}
 use Rattle.cas_room.specs.declared.event.Event.TheVariants as event
 use Rattle.cas_entries.specs.declared.entry.Entry.{Entry}
 use Rattle.cas_entries.specs.declared.entry.Entry.TheVariants as entry
+use Rattle.cas_bind.specs.declared.bound.BoundRead.{BoundRead}
+use Rattle.cas_disk.specs.Disk.{Disk}
+use Rattle.cas_render.specs.declared.reply.Failure.TheVariants as failure
 use Rattle.cas_render.specs.declared.reply.Reply.{Reply}
-use Rattle.cas_shard.specs.Shards.{ShardHistory, found_shard, empty_shard, raised}
+use Rattle.cas_render.specs.declared.reply.Reply.TheVariants as reply
+use Rattle.cas_room.specs.Keeping.{Keeps}
+use Rattle.cas_types.specs.declared.schema.TableSchema.{TableSchema}
+use Rattle.cas_shard.specs.Shards.{ShardHistory, found_shard, empty_shard, look_at, raised}
+use Rattle.cas_shard.specs.declared.answers.Look.{Look}
 use Rattle.cas_shard.specs.Stands.{Stands}
 use Rattle.cas_shard.specs.declared.shard.Shard.{Shard}
-use Rattle.cas_node.specs.History.{History, after_entries, after_write, shard_at, with_shard}
+use Rattle.cas_node.specs.History.{History, Shows, after_entries, after_read, after_write, rows_reply, shard_at, tells_want, with_shard}
 use Rattle.cas_node.specs.Entered.{entries_in, entry_in}
-use Rattle.cas_node.specs.Inner.State.{State, StandsFor, disk_of}
-use Rattle.cas_node.proofs.Places.{same_place, length_set, get_here, get_other, get_within, index_here, index_other, is_same, is_other}
+use Rattle.cas_node.specs.Inner.State.{State, IsSound, StandsFor, LastsFor, disk_of}
+use Rattle.cas_node.specs.Inner.Turns.{Moves}
+use Rattle.cas_node.proofs.Lasting.{lasts_still}
+use Rattle.cas_node.proofs.Places.{same_place, length_set, get_here, get_other, get_within, index_here, index_other, is_same, is_other, map_set_same}
 
 -- ---- entries
 
@@ -123,3 +133,50 @@ module _ (h : History) (s t : State) (n : ℕ) (x y : Shard) (reading : ℤ) (ne
     shards = shards_stand;
     entered = are_entered;
   }
+
+-- ---- a SELECT
+
+pub shows_rows : (s : ShardHistory) (reading now : ℤ) (q : BoundRead) (l : Look) → now ≡ l.now → l ≡ look_at reading s q.query
+    → Shows s reading q (reply.Rows l.rows q.shard l.front now)
+shows_rows s reading now q l same is told = ap (λ (n : ℤ). reply.Rows l.rows q.shard l.front n) same ∙ ap (rows_reply q.shard) is
+
+pub shows_none : (s : ShardHistory) (reading : ℤ) (q : BoundRead) → Shows s reading q (reply.Failed failure.Memory)
+shows_none s reading q told = absurd (true≢false told)
+
+-- the store whose shard of that number is now this
+abbrev pub with_looked : State → ℕ → Shard → State
+with_looked s n y = record s { shards = slice_set s.shards n y }
+
+pub moves_look : (s : State) (d : Disk) (q : BoundRead) (x y : Shard) (reading : ℤ) (r : Reply) → slice_get s.shards q.shard ≡ Some x → y.number ≡ x.number
+    → ((ts : List TableSchema) (z : ShardHistory) → Stands ts z x → Stands ts (raised reading z) y)
+    → ((z : ShardHistory) → Stands s.tables z x → Shows z reading q r)
+    → Moves (λ h after. Shows (shard_at h q.shard) reading q r × (after ≡ after_read h q.shard reading)) s (with_looked s q.shard y) d d
+moves_look s d q x y reading r there number raises shows h stands =
+    let one : Stands h.tables (shard_at h q.shard) x = stands.shards q.shard x there in
+    let still : Stands h.tables (after_entries reading [] (shard_at h q.shard)) y =
+    subst (λ (z : ShardHistory). Stands h.tables z y) (raised_is reading (shard_at h q.shard)) (raises h.tables (shard_at h q.shard) one) in
+    (
+      after_read h q.shard reading,
+      (shows (shard_at h q.shard) (subst (λ (ts : List TableSchema). Stands ts (shard_at h q.shard) x) stands.tables one), refl),
+      record {
+        stands = stands_read h s (with_looked s q.shard y) q.shard x y reading [] stands there refl still (λ k. none_more q.shard k (entries_in k s.list)) refl refl refl refl refl refl;
+        lasts = λ found told lasts. (
+          told,
+          lasts_still h (after_read h q.shard reading) found s (with_looked s q.shard y) d d told q.shard x y refl there refl number
+          (λ l same c count keeps.
+          subst (λ (ls : List (Item Event)). Keeps s.journal d ls c found told) (sym same) (subst (λ (k : ℕ). Keeps s.journal d s.list k found told) (sym count) keeps))
+          refl refl refl refl refl refl (λ on. on) lasts,
+        );
+      },
+    )
+
+pub sound_look : (s : State) (n : ℕ) (x y : Shard) → slice_get s.shards n ≡ Some x → y.number ≡ x.number → IsSound s → IsSound (with_looked s n y)
+sound_look s n x y there number sound = record {
+  tables = sound.tables;
+  count = length_set s.shards n y ∙ sound.count;
+  some = sound.some;
+  clock = sound.clock;
+  size = sound.size;
+  places = sound.places;
+  numbers = sound.numbers ∙ sym (map_set_same (λ (z : Shard). z.number) s.shards n x y there number);
+}

@@ -89,7 +89,7 @@ does_keeps kind Gives h (Err x) r t a all = subst AllRise (sym a.1) all
 does_keeps kind Gives h (Ok (bound.Create x)) r t a all = subst AllRise (sym a.3) all
 does_keeps kind Gives h (Ok (bound.Alter x)) r t a all = subst AllRise (sym a.3) all
 does_keeps kind Gives h (Ok (bound.Write w)) r t a all =
-    let (reading, is, entries, e, takes, after) = a in
+    let (reading, is, (entries, e, takes, after)) = a in
     subst AllRise (sym after)
     (shard_keeps h w.shard (after_entries reading entries (shard_at h w.shard)) all
     (taken reading (shard_at h w.shard) h.session (h.calls + 1) (mutation_at reading (shard_at h w.shard) w) (next_is reading (shard_at h w.shard) w) (all w.shard)
@@ -131,25 +131,31 @@ past [] n d le = refl
 past (x ∷ xs) zero d le = absurd (omega (arith, le))
 past (x ∷ xs) (suc n) d le = past xs n d (omega (arith, le))
 
+-- each of the shards that a history begins with
+abbrev first_shards : List ManifestEntry → List Mutation → List ShardHistory
+first_shards entries mutations = map (λ (k : ℕ). found_shard (found_in k mutations)) (numbers 0 (said_by entries).shards)
+
+first_rise : (entries : List ManifestEntry) (mutations : List Mutation) → AreOfAStore entries mutations → (n : ℕ)
+    → NumbersRise (slice_index_or (first_shards entries mutations) n (found_shard empty_shard))
+first_rise entries mutations store n = ⊎_elim here beyond (below_or_past n (said_by entries).shards)
+  where
+    here : n < (said_by entries).shards → NumbersRise (slice_index_or (first_shards entries mutations) n (found_shard empty_shard))
+    here lt =
+        let same : 0 + n ≡ n = omega arith in
+        subst NumbersRise
+        (sym (numbered (λ (k : ℕ). found_shard (found_in k mutations)) (found_shard empty_shard) 0 (said_by entries).shards n lt
+        ∙ ap (λ (k : ℕ). found_shard (found_in k mutations)) same))
+        (log_reads (said_by entries).tables (said_by entries).shards n mutations store.log).rises
+
+    beyond : (said_by entries).shards ≤ n → NumbersRise (slice_index_or (first_shards entries mutations) n (found_shard empty_shard))
+    beyond le =
+        let many : length (first_shards entries mutations) ≡ (said_by entries).shards =
+        many_mapped (λ (k : ℕ). found_shard (found_in k mutations)) (numbers 0 (said_by entries).shards) ∙ many_numbers 0 (said_by entries).shards in
+        subst NumbersRise (sym (past (first_shards entries mutations) n (found_shard empty_shard) (omega (arith, many, le)))) none_read.rises
+
 pub found_rise : FoundRise
 unfolding start
-found_rise l entries mutations session disk store n = ⊎_elim here beyond (below_or_past n count)
-  where
-    abbrev count : ℕ
-    count = (said_by entries).shards
-
-    abbrev all : List ShardHistory
-    all = map (λ (k : ℕ). found_shard (found_in k mutations)) (numbers 0 count)
-
-    here : n < count → NumbersRise (slice_index_or all n (found_shard empty_shard))
-    here lt =
-        subst NumbersRise (sym (numbered (λ (k : ℕ). found_shard (found_in k mutations)) (found_shard empty_shard) 0 count n lt))
-        (log_reads (said_by entries).tables count n mutations store.log).rises
-
-    beyond : count ≤ n → NumbersRise (slice_index_or all n (found_shard empty_shard))
-    beyond le =
-        subst NumbersRise (sym (past all n (found_shard empty_shard) (omega (arith, many_mapped (λ (k : ℕ). found_shard (found_in k mutations)) (numbers 0 count), many_numbers 0 count, le))))
-        none_read.rises
+found_rise l entries mutations session disk store n = first_rise entries mutations store n
 
 pub all_are_read : AllAreRead
 all_are_read s h table key = all_stand s table key h

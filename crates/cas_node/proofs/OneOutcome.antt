@@ -51,11 +51,11 @@ rose_on a b c d le rose more = omega (arith, le, rose, more)
 -- what becomes of the disk in a step, of any kind
 taken_grows : (segment : ℕ) (m : Mutation) (x : Entry) (d : DiskState) (r : Reply) (entries : List Entry) (e : DiskState) → Takes segment m x d r entries e → Grows d e
 taken_grows segment m x d reply.Done entries e t = absurd t
-taken_grows segment m x d (reply.Wrote number) entries e t = record { faults = t.4.faults; segment = t.4.reach.segment; manifest = t.4.reach.manifest }
+taken_grows segment m x d (reply.Wrote number) entries e t = record { faults = t.3.1.faults; segment = t.3.1.reach.segment; manifest = t.3.1.reach.manifest }
 taken_grows segment m x d (reply.Rows rows shard front now) entries e t = absurd t
 taken_grows segment m x d (reply.Refused why) entries e t = record { faults = t.2.faults; segment = t.2.reach.segment; manifest = t.2.reach.manifest }
 taken_grows segment m x d (reply.Failed failure.Memory) entries e t = record { faults = t.1.faults; segment = t.1.reach.segment; manifest = t.1.reach.manifest }
-taken_grows segment m x d (reply.Failed failure.Stopped) entries e t = record { faults = t.3.faults; segment = t.3.reach.segment; manifest = t.3.reach.manifest }
+taken_grows segment m x d (reply.Failed failure.Stopped) entries e t = record { faults = t.2.1.faults; segment = t.2.1.reach.segment; manifest = t.2.1.reach.manifest }
 taken_grows segment m x d (reply.Failed failure.Disk) entries e t = record { faults = t.2.faults; segment = t.2.reach.segment; manifest = t.2.reach.manifest }
 taken_grows segment m x d (reply.Failed failure.Read) entries e t = absurd t
 taken_grows segment m x d (reply.Failed failure.Block) entries e t = absurd t
@@ -67,9 +67,9 @@ defined_grows : (x : ManifestEntry) (old new : List TableSchema) (d : DiskState)
 defined_grows x old new d reply.Done tables e t = with_entry d e x (ap (λ q. q.segment) t.2.reach, ap (λ q. q.manifest) t.2.reach) t.2.faults
 defined_grows x old new d (reply.Wrote number) tables e t = absurd t
 defined_grows x old new d (reply.Rows rows shard front now) tables e t = absurd t
-defined_grows x old new d (reply.Refused why) tables e t = record { faults = t.5.faults; segment = t.5.reach.segment; manifest = t.5.reach.manifest }
+defined_grows x old new d (reply.Refused why) tables e t = record { faults = t.4.1.faults; segment = t.4.1.reach.segment; manifest = t.4.1.reach.manifest }
 defined_grows x old new d (reply.Failed failure.Memory) tables e t = record { faults = t.1.faults; segment = t.1.reach.segment; manifest = t.1.reach.manifest }
-defined_grows x old new d (reply.Failed failure.Stopped) tables e t = record { faults = t.2.faults; segment = t.2.reach.segment; manifest = t.2.reach.manifest }
+defined_grows x old new d (reply.Failed failure.Stopped) tables e t = record { faults = t.1.1.faults; segment = t.1.1.reach.segment; manifest = t.1.1.reach.manifest }
 defined_grows x old new d (reply.Failed failure.Disk) tables e t = record { faults = t.1.faults; segment = t.1.reach.segment; manifest = t.1.reach.manifest }
 defined_grows x old new d (reply.Failed failure.Read) tables e t = absurd t
 defined_grows x old new d (reply.Failed failure.Block) tables e t = absurd t
@@ -81,13 +81,13 @@ deed_grows : (Gives : ℤ → Type 0) (h : History) (m : Result Bound Refusal) (
 deed_grows Gives h (Err x) r t a = at_disk h t h.disk (ap (λ (k : History). k.disk) a.1) (still h.disk)
 deed_grows Gives h (Ok (bound.Create x)) r t a = at_disk h t a.1 (ap (λ (k : History). k.disk) a.3) (defined_grows _ _ _ _ r a.0 a.1 a.2)
 deed_grows Gives h (Ok (bound.Alter x)) r t a = at_disk h t a.1 (ap (λ (k : History). k.disk) a.3) (defined_grows _ _ _ _ r a.0 a.1 a.2)
-deed_grows Gives h (Ok (bound.Write w)) r t a = at_disk h t a.3 (ap (λ (k : History). k.disk) a.5) (taken_grows _ _ _ _ r a.2 a.3 a.4)
+deed_grows Gives h (Ok (bound.Write w)) r t a = at_disk h t a.2.1 (ap (λ (k : History). k.disk) a.2.3) (taken_grows _ _ _ _ r a.2.0 a.2.1 a.2.2)
 deed_grows Gives h (Ok (bound.Read q)) r t a = at_disk h t h.disk (ap (λ (k : History). k.disk) a.3) (still h.disk)
 
 answered_grows : (Gives : ℤ → Type 0) (h : History) (l : Line) (r : Option Reply) (t : History) → Answered clock.Manual Gives h l r t → Grows h.disk t.disk
 answered_grows Gives h line.Blank r t a = at_disk h t h.disk (ap (λ (k : History). k.disk) a.1) (still h.disk)
 answered_grows Gives h line.Syntax r t a = at_disk h t h.disk (ap (λ (k : History). k.disk) a.1) (still h.disk)
-answered_grows Gives h (line.Clock n) r t a = at_disk h t h.disk (ap (λ (k : History). k.disk) a.3) (still h.disk)
+answered_grows Gives h (line.Clock n) r t a = at_disk h t h.disk (ap (λ (k : History). k.disk) a.2.1) (still h.disk)
 answered_grows Gives h (line.Statement s) r t a = deed_grows Gives h (meaning h.limits.shards h.tables s) a.0 t a.2
 
 line_grows : (Gives : ℤ → Type 0) (h : History) (text : List ℕ) (r : Option Reply) (t : History) → Answers clock.Manual Gives h text r t → Grows h.disk t.disk
@@ -145,7 +145,7 @@ settled : (segment : ℕ) (m : Mutation) (x : Entry) (d : DiskState) (r : Reply)
     → Settled (take_refusal segment m) m x r entries e
 settled segment m x d reply.Done entries e t v well = absurd t
 settled segment m x d (reply.Wrote number) entries e t v well =
-    by_refusal (take_refusal segment m) None m x _ entries e t.0 (ap (λ n. reply.Wrote n) t.1) t.2 (t.4.stopped ∙ t.3)
+    by_refusal (take_refusal segment m) None m x _ entries e t.0 (ap (λ n. reply.Wrote n) t.1) t.2 (t.3.1.stopped ∙ t.3.0)
 settled segment m x d (reply.Rows rows shard front now) entries e t v well = absurd t
 settled segment m x d (reply.Refused why) entries e t v well = by t.0
   where
@@ -154,7 +154,7 @@ settled segment m x d (reply.Refused why) entries e t v well = by t.0
     by (inl some) = by_refusal (take_refusal segment m) (Some why) m x _ entries e some refl t.1 (t.2.stopped ∙ well.0)
     by (inr full) = absurd (not_full e.reach well.2 full.3)
 settled segment m x d (reply.Failed failure.Memory) entries e t v well = absurd (true≢false v)
-settled segment m x d (reply.Failed failure.Stopped) entries e t v well = absurd (no_true d.stopped well.0 t.2)
+settled segment m x d (reply.Failed failure.Stopped) entries e t v well = absurd (no_true d.stopped well.0 t.2.0)
 settled segment m x d (reply.Failed failure.Disk) entries e t v well = absurd (well.1 t.2.rose)
 settled segment m x d (reply.Failed failure.Read) entries e t v well = absurd t
 settled segment m x d (reply.Failed failure.Block) entries e t v well = absurd t
@@ -169,9 +169,9 @@ agreed : (x : ManifestEntry) (old new : List TableSchema) (d : DiskState) (r : R
 agreed x old new d reply.Done tables e t v well = record { done = refl; are = t.0; goes = t.2.stopped ∙ t.1 }
 agreed x old new d (reply.Wrote number) tables e t v well = absurd t
 agreed x old new d (reply.Rows rows shard front now) tables e t v well = absurd t
-agreed x old new d (reply.Refused why) tables e t v well = absurd (omega (arith, t.2, t.3, t.5.reach.manifest, well.2.1))
+agreed x old new d (reply.Refused why) tables e t v well = absurd (omega (arith, t.2, t.3, t.4.1.reach.manifest, well.2.1))
 agreed x old new d (reply.Failed failure.Memory) tables e t v well = absurd (true≢false v)
-agreed x old new d (reply.Failed failure.Stopped) tables e t v well = absurd (no_true d.stopped well.0 t.1)
+agreed x old new d (reply.Failed failure.Stopped) tables e t v well = absurd (no_true d.stopped well.0 t.1.0)
 agreed x old new d (reply.Failed failure.Disk) tables e t v well = absurd (well.1 t.1.rose)
 agreed x old new d (reply.Failed failure.Read) tables e t v well = absurd t
 agreed x old new d (reply.Failed failure.Block) tables e t v well = absurd t
@@ -250,8 +250,8 @@ module _ (h : History) (d e : DiskState) where
   one_deed Gives (Ok (bound.Alter x)) r q t u a b v w well good = one_change (AddColumns x.table x.columns) (bound.Alter x) r q t u a b v w well good
   one_deed Gives (Ok (bound.Write x)) r q t u a b v w well good =
       let same : b.0 ≡ a.0 = b.1 ∙ sym a.1 in
-      let other = subst (λ (k : ℤ). WritesAt (on h e) k x q u) same (b.2, b.3, b.4, b.5) in
-      one_write x a.0 a.2 other.0 a.3 other.1 r q t u a.4 other.2 a.5 other.3 v w well good
+      let other = subst (λ (k : ℤ). WritesAt (on h e) k x q u) same b.2 in
+      one_write x a.0 a.2.0 other.0 a.2.1 other.1 r q t u a.2.2 other.2 a.2.3 other.3 v w well good
   one_deed Gives (Ok (bound.Read x)) r q t u a b v w well good =
       let same : b.0 ≡ a.0 = b.1 ∙ sym a.1 in
       one_read x a.0 r q t u a.2 (subst (λ (k : ℤ). Shows (shard_at h x.shard) k x q) same b.2) a.3 (subst (λ (k : ℤ). u ≡ after_read (on h e) x.shard k) same b.3) v w well good
@@ -270,7 +270,7 @@ module _ (h : History) (d e : DiskState) where
   one_answered Gives line.Blank r q t u a b v w well good = left r q _ h t u a.0 b.0 a.1 b.1 well good
   one_answered Gives line.Syntax r q t u a b v w well good = left r q _ h t u a.0 b.0 a.1 b.1 well good
   one_answered Gives (line.Clock n) r q t u a b v w well good =
-      shown a.0 b.0 r q t u a.1 b.1 (left a.0 b.0 reply.Done (record h { clock = n }) t u a.2 b.2 a.3 b.3 well good)
+      shown a.0 b.0 r q t u a.1 b.1 (left a.0 b.0 reply.Done (record h { clock = n }) t u a.2.0 b.2.0 a.2.1 b.2.1 well good)
   one_answered Gives (line.Statement s) r q t u a b v w well good =
       shown a.0 b.0 r q t u a.1 b.1
       (one_deed Gives (meaning h.limits.shards h.tables s) a.0 b.0 t u a.2 b.2 (ap is_starved (sym a.1) ∙ v) (ap is_starved (sym b.1) ∙ w) well good)

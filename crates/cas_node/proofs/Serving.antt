@@ -11,6 +11,7 @@ use Rattle.cas_changes.specs.declared.entry.Entry.{Entry as ManifestEntry}
 use Rattle.cas_history.specs.declared.item.Item.{Item}
 use Rattle.cas_journal.specs.Journals.{Lasts}
 use Rattle.cas_journal.specs.Stores.{Told, MayList}
+use Rattle.cas_replay.specs.Grammar.{AreInOrder, AscendByOne, numbers_of}
 use Rattle.cas_room.specs.Keeping.{StandsFor as ImageStands}
 use Rattle.cas_room.specs.Rooms.{accepted_in}
 use Rattle.cas_room.specs.declared.event.Event.{Event}
@@ -51,7 +52,9 @@ module _ (given : Limits) (entries : List ManifestEntry) (mutations : List Mutat
 
   at : (n : ℕ) → n < count → shard_at (start given entries mutations s.session (disk_of s)) n ≡ found_shard (found_in n mutations)
   unfolding start
-  at n lt = numbered (λ (k : ℕ). found_shard (found_in k mutations)) (found_shard empty_shard) 0 count n lt
+  at n lt =
+      let same : 0 + n ≡ n = omega arith in
+      numbered (λ (k : ℕ). found_shard (found_in k mutations)) (found_shard empty_shard) 0 count n lt ∙ ap (λ (k : ℕ). found_shard (found_in k mutations)) same
 
   pub first_stands : StandsFor (start given entries mutations s.session (disk_of s)) s
   unfolding start
@@ -84,8 +87,9 @@ module _ (given : Limits) (entries : List ManifestEntry) (mutations : List Mutat
     tables = told.tables ∙ sym memory.tables_are;
     shards = told.shards ∙ ap (λ (l : Limits). l.shards) (sym memory.same);
     few = subst (λ (es : List ManifestEntry). length es ≤ 1) (sym told.failed) (omega arith);
-    ordered = subst (λ ms. _) (sym told.taken) memory.ordered;
-    next = subst (λ ms. _) (sym told.taken) memory.next;
+    ordered = subst AreInOrder (sym told.taken) memory.ordered;
+    next =
+        subst (λ (ms : List Mutation). (n : ℕ) (x : Shard) → slice_get s.shards n ≡ Some x → AscendByOne (numbers_of n ms ++ (x.number + 1) ∷ [])) (sym told.taken) memory.next;
     counted = none s.accepted;
     written = none s.calls;
     acknowledged = (omega arith, omega arith);

@@ -56,12 +56,12 @@ start l entries mutations session disk = record {
 }
 
 -- A run with these limits begins so: nothing is stopped, and at most one segment was begun since the entries were written.
-pub record Begins (l : Limits) (entries : List ManifestEntry) (mutations : List Mutation) (count : ℕ) (h : History) : Type 0 where
+pub record Begins (l : Limits) (entries : List ManifestEntry) (mutations : List Mutation) (before : ℕ) (h : History) : Type 0 where
   pub session : ℕ
   pub disk : DiskState
   pub history : h ≡ start l entries mutations session disk
   pub going : disk.stopped ≡ false
-  pub faults : count ≤ disk.faults
+  pub faults : before ≤ disk.faults
   pub segment : disk.reach.segment ≤ next_segment entries
 
 -- Why a folder is refused: the bytes of a file aren't as they must be at this place, or its store has table files, which isn't supported yet; that is told as the

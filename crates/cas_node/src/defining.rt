@@ -28,6 +28,17 @@ fn widened(columns: &List<Column>, added: &List<Column>) -> Result<List<Column>,
     Ok(List::from_vec(all))
 }
 
+// The table that an entry defines.
+fn table_of(entry: Entry) -> TableSchema
+    requires { (table : _) × (entry ≡ Schema table) }
+    ensures { entry ≡ Schema result }
+{
+    match entry {
+        Entry::Schema(table) => table,
+        _ => unreachable!(),
+    }
+}
+
 impl<F: Folder, J: Store> Node<F, J> {
     /// Makes a table: it is there once its entry is in the manifest.
     pub fn create(&mut self, alloc: Global, table: TableSchema) -> Reply
@@ -47,10 +58,7 @@ impl<F: Folder, J: Store> Node<F, J> {
         if let Err(fault) = self.room.define(alloc, &mut self.session, &entry) {
             return reply_for(fault);
         }
-        let Entry::Schema(table) = entry else {
-            unreachable!()
-        };
-        self.tables.push_reserved(table);
+        self.tables.push_reserved(table_of(entry));
         Reply::Done
     }
 
