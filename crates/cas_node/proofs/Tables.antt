@@ -37,6 +37,7 @@ use Rattle.cas_changes.specs.Saying.{Saying, said_by, nothing, after}
 use Rattle.cas_changes.specs.declared.entry.Entry.{Entry as ManifestEntry}
 use Rattle.cas_define.specs.declared.addition.Addition.{Addition}
 use Rattle.cas_history.specs.declared.item.Item.{Item}
+use Rattle.cas_log.specs.Segment.{IsSize}
 use Rattle.cas_journal.specs.Stores.{Told}
 use Rattle.cas_journal.proofs.Fitting.{NoKeys, no_keys, same_order}
 use Rattle.cas_memtable.specs.declared.memtable.MemPart.{MemPart}
@@ -320,7 +321,7 @@ sound_still s t sound rest size tables = record {
   count = ap length rest.shards ∙ sound.count ∙ ap (λ (l : Limits). l.shards) (sym rest.limits);
   some = subst (λ (l : Limits). IsShardCount l.shards) (sym rest.limits) sound.some;
   clock = subst IsMoment (sym rest.clock) sound.clock;
-  size = size ∙ sound.size ∙ ap (λ (l : Limits). l.segment) (sym rest.limits);
+  size = (size ∙ sound.size.0 ∙ ap (λ (l : Limits). l.segment) (sym rest.limits), subst (λ (l : Limits). IsSize l.segment) (sym rest.limits) sound.size.1);
   places = rest.places ∙ sound.places ∙ ap (λ (l : Limits). numbers 0 l.shards) (sym rest.limits);
   numbers = rest.numbers ∙ sound.numbers ∙ ap (map (λ (z : Shard). z.number)) (sym rest.shards);
 }

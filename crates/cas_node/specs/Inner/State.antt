@@ -8,6 +8,7 @@ use Rattle.cas_bind.specs.declared.bound.Limits.{Limits}
 use Rattle.cas_bind.specs.Tables.{AreTables}
 use Rattle.cas_changes.specs.Saying.{said_by}
 use Rattle.cas_replay.specs.Grammar.{AreInOrder, AscendByOne, numbers_of}
+use Rattle.cas_log.specs.Segment.{IsSize}
 use Rattle.cas_journal.specs.declared.journal.Journal.{Journal}
 use Rattle.cas_journal.specs.Stores.{Told}
 use Rattle.cas_journal.specs.Reach.{reach_of}
@@ -49,7 +50,7 @@ pub record IsSound (s : State) : Type 0 where
   pub count : length s.shards ≡ s.limits.shards
   pub some : IsShardCount s.limits.shards
   pub clock : IsMoment s.clock
-  pub size : s.journal.size ≡ s.limits.segment
+  pub size : (s.journal.size ≡ s.limits.segment) × IsSize s.limits.segment
   pub places : s.places ≡ numbers 0 s.limits.shards
   pub numbers : s.numbers ≡ map (λ x. x.number) s.shards
 
