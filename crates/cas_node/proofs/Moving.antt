@@ -1,7 +1,6 @@
 -- A store's memory stands for the history after a step.
-use Rattle.std.proofs.Common.{◌≡◌, ◌≢◌, ◌<◌, ◌+◌, ⊎_elim, ◌==◌, ℕ, ℤ, Bool, true, false, List, [], ◌∷◌, ◌++◌, length, map, Option, Some, None, refl, sym, ap, ◌∙◌, subst, arith, append-nil}
-use Rattle.std.specs.Prelude.{slice_set, slice_get, slice_index_or, if◌then◌else◌}
-use Rattle.std.specs.List.{flat_map}
+use Rattle.std.proofs.Common.{◌≡◌, ◌≢◌, ◌<◌, ◌+◌, ⊎_elim, ◌==◌, ℕ, ℤ, Bool, true, false, List, [], ◌∷◌, ◌++◌, length, Some, refl, sym, ap, ◌∙◌, subst, append-nil}
+use Rattle.std.specs.Prelude.{slice_set, slice_get, if◌then◌else◌}
 use Rattle.std.proofs.lemmas.List.{flat_map_more}
 use Rattle.std.proofs.lemmas.Bool.{true≢false}
 use Rattle.std.proofs.lemmas.Option.{same_Some}
@@ -23,9 +22,9 @@ use Rattle.cas_shard.specs.Shards.{ShardHistory, found_shard, empty_shard, look_
 use Rattle.cas_shard.specs.declared.answers.Look.{Look}
 use Rattle.cas_shard.specs.Stands.{Stands}
 use Rattle.cas_shard.specs.declared.shard.Shard.{Shard}
-use Rattle.cas_node.specs.History.{History, Shows, after_entries, after_read, after_write, rows_reply, shard_at, tells_want, with_shard}
+use Rattle.cas_node.specs.History.{History, Shows, after_entries, after_read, after_write, rows_reply, shard_at, with_shard}
 use Rattle.cas_node.specs.Entered.{entries_in, entry_in}
-use Rattle.cas_node.specs.Inner.State.{State, IsSound, StandsFor, LastsFor, disk_of}
+use Rattle.cas_node.specs.Inner.State.{State, IsSound, StandsFor, disk_of}
 use Rattle.cas_node.specs.Inner.Turns.{Moves}
 use Rattle.cas_node.proofs.Lasting.{lasts_still}
 use Rattle.cas_node.proofs.Places.{same_place, length_set, get_here, get_other, get_within, index_here, index_other, is_same, is_other, map_set_same}
@@ -154,8 +153,7 @@ pub moves_look : (s : State) (d : Disk) (q : BoundRead) (x y : Shard) (reading :
 moves_look s d q x y reading r there number raises shows h stands =
     let one : Stands h.tables (shard_at h q.shard) x = stands.shards q.shard x there in
     let still : Stands h.tables (after_entries reading [] (shard_at h q.shard)) y =
-    subst (λ (z : ShardHistory). Stands h.tables z y) (raised_is reading (shard_at h q.shard)) (raises h.tables (shard_at h q.shard) one) in
-    (
+    subst (λ (z : ShardHistory). Stands h.tables z y) (raised_is reading (shard_at h q.shard)) (raises h.tables (shard_at h q.shard) one) in (
       after_read h q.shard reading,
       (shows (shard_at h q.shard) (subst (λ (ts : List TableSchema). Stands ts (shard_at h q.shard) x) stands.tables one), refl),
       record {
@@ -163,9 +161,9 @@ moves_look s d q x y reading r there number raises shows h stands =
         lasts = λ found told lasts. (
           told,
           lasts_still h (after_read h q.shard reading) found s (with_looked s q.shard y) d d told q.shard x y refl there refl number
-          (λ l same c count keeps.
-          subst (λ (ls : List (Item Event)). Keeps s.journal d ls c found told) (sym same) (subst (λ (k : ℕ). Keeps s.journal d s.list k found told) (sym count) keeps))
-          refl refl refl refl refl refl (λ on. on) lasts,
+              (λ l same c count keeps.
+              subst (λ (ls : List (Item Event)). Keeps s.journal d ls c found told) (sym same) (subst (λ (k : ℕ). Keeps s.journal d s.list k found told) (sym count) keeps))
+              refl refl refl refl refl refl (λ on. on) lasts,
         );
       },
     )

@@ -1,12 +1,10 @@
 -- Along a run the mutations of each shard are numbered upwards.
-use Rattle.std.proofs.Common.{◌≡◌, ◌≤◌, ◌<◌, ◌+◌, inl, inr, ⊎_elim, ℕ, zero, suc, ℤ, List, [], ◌∷◌, ◌++◌, length, map, refl, sym, ap, ◌∙◌, subst, arith, append-nil, Option, Some, None, Result, Ok, Err}
-use Rattle.std.specs.Prelude.{Bool, true, false, if◌then◌else◌, slice_set, slice_index_or, ◌⊎◌}
-use Rattle.cas_types.specs.declared.schema.TableSchema.{TableSchema}
+use Rattle.std.proofs.Common.{◌≡◌, ◌≤◌, ◌<◌, ◌+◌, inl, inr, ⊎_elim, ℕ, zero, suc, ℤ, List, [], ◌∷◌, ◌++◌, length, map, refl, sym, ap, ◌∙◌, subst, arith, append-nil, Option, Result, Ok, Err}
+use Rattle.std.specs.Prelude.{slice_set, slice_index_or, ◌⊎◌}
 use Rattle.cas_ledger.specs.Hands.{numbers}
 use Rattle.cas_atoms.specs.declared.atom.Mutation.{Mutation}
 use Rattle.cas_bind.specs.declared.bound.Bound.{Bound}
 use Rattle.cas_bind.specs.declared.bound.Bound.TheVariants as bound
-use Rattle.cas_bind.specs.declared.bound.Limits.{Limits}
 use Rattle.cas_bind.specs.Meaning.{meaning}
 use Rattle.cas_changes.specs.Saying.{said_by}
 use Rattle.cas_changes.specs.declared.entry.Entry.{Entry as ManifestEntry}
@@ -20,12 +18,12 @@ use Rattle.cas_lines.specs.declared.line.Line.TheVariants as line
 use Rattle.cas_render.specs.declared.reply.Failure.TheVariants as failure
 use Rattle.cas_render.specs.declared.reply.Reply.{Reply}
 use Rattle.cas_render.specs.declared.reply.Reply.TheVariants as reply
-use Rattle.cas_shard.specs.Shards.{ShardHistory, empty_shard, entered, found_shard, moment_at, mutation_at, number_of}
+use Rattle.cas_shard.specs.Shards.{ShardHistory, empty_shard, found_shard, moment_at, mutation_at, number_of}
 use Rattle.cas_shard.specs.Stands.{NumbersRise}
 use Rattle.cas_shard.proofs.Numbering.{all_stand, one_entered}
 use Rattle.cas_words.specs.declared.words.ClockKind.{ClockKind}
 use Rattle.cas_words.specs.declared.words.ClockKind.TheVariants as clock
-use Rattle.cas_node.specs.History.{History, DiskState, SetsClock, Does, Changes, Defines, Answered, Answers, Runs, Takes, shard_at, after_entries, with_shard}
+use Rattle.cas_node.specs.History.{History, DiskState, SetsClock, Does, Answered, Answers, Takes, shard_at, after_entries, with_shard}
 use Rattle.cas_node.specs.Found.{AreOfAStore, found_in, start}
 use Rattle.cas_node.specs.Laws.{AllRise, FoundRise, NumbersStay, AllAreRead}
 use Rattle.cas_node.proofs.Founding.{log_reads, none_read}

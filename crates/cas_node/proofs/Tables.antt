@@ -28,7 +28,6 @@ use Rattle.cas_render.specs.declared.reply.Failure.TheVariants as failure
 use Rattle.cas_render.specs.declared.reply.Reply.{Reply}
 use Rattle.cas_render.specs.declared.reply.Reply.TheVariants as reply
 use Rattle.define_laws.specs.Entries.{MayTell}
-use Rattle.cas_bounds.specs.ClusteringOrder.{clustering_order}
 use Rattle.cas_bounds.specs.declared.order.Ordered.{Ordered}
 use Rattle.cas_disk.specs.Disk.{Disk}
 use Rattle.cas_atoms.specs.declared.atom.Mutation.{Mutation}
@@ -256,17 +255,23 @@ module _ (x : ManifestEntry) (old new tables : List TableSchema) (kept : Option 
       → Defines x old new (stood first) (reply_for fault) tables stands_now
   defines_not None (TooLarge size most) ends full = absurd ends
   defines_not None (TooMany what most) ends full = (
-    are, refl, short, full what most refl, (refl, record { stopped = ap is_some ends; faults = le; reach = goes_nowhere r q same }),
+    are,
+    refl,
+    short,
+    full what most refl,
+    (refl, record { stopped = ap is_some ends; faults = le; reach = goes_nowhere r q same }),
   )
   defines_not None (Stopped first) ends full = absurd ends
   defines_not None Failed ends full = (
-    are, record { before = refl; stopped = ap is_some ends.1; faults = le; rose = ends.0; reach = goes_nowhere r q same },
+    are,
+    record { before = refl; stopped = ap is_some ends.1; faults = le; rose = ends.0; reach = goes_nowhere r q same },
   )
   defines_not None Mem ends full = (are, record { stopped = ap is_some ends; faults = le; reach = goes_nowhere r q same })
   defines_not (Some f) (TooLarge size most) ends full = absurd (cc ends.0)
   defines_not (Some f) (TooMany what most) ends full = absurd (cc ends.0)
   defines_not (Some f) (Stopped first) ends full = (
-    are, (refl, record { stopped = ap is_some ends.1; faults = le; reach = goes_nowhere r q same }),
+    are,
+    (refl, record { stopped = ap is_some ends.1; faults = le; reach = goes_nowhere r q same }),
   )
   defines_not (Some f) Failed ends full = absurd (cc ends.0)
   defines_not (Some f) Mem ends full = absurd (cc ends.0)
@@ -359,9 +364,9 @@ module _ (s t : State) (d e : Disk) (x : ManifestEntry) (b : Bound) (may : MayBe
       t.tables,
       disk_of t,
       subst (λ (k : DiskState). Defines x h.tables (tables_after h.tables b) k answer t.tables (disk_of t)) (sym stands.disk)
-      (subst (λ (k : Reply). Defines x h.tables (tables_after h.tables b) (disk_of s) k t.tables (disk_of t)) (sym is)
-      (defines_not x h.tables (tables_after h.tables b) t.tables t.journal.first s.faults t.faults (reach_of s.journal) (reach_of t.journal) (same ∙ sym stands.tables) short count reach
-      s.journal.first fault ends full)),
+          (subst (λ (k : Reply). Defines x h.tables (tables_after h.tables b) (disk_of s) k t.tables (disk_of t)) (sym is)
+          (defines_not x h.tables (tables_after h.tables b) t.tables t.journal.first s.faults t.faults (reach_of s.journal) (reach_of t.journal) (same ∙ sym stands.tables) short count reach
+          s.journal.first fault ends full)),
       refl,
     ),
     record {
@@ -369,13 +374,12 @@ module _ (s t : State) (d e : Disk) (x : ManifestEntry) (b : Bound) (may : MayBe
           stands_defined h s t stands rest.limits rest.clock rest.session rest.calls rest.list rest.shards
           (λ z y. subst (λ (ts : List TableSchema). Stands ts z y) (stands.tables ∙ sym same));
       lasts = λ found told lasts.
-          let still = said_still fault x told lasts.few in
-          (
+          let still = said_still fault x told lasts.few in (
             told_after fault x told,
             lasts_defined h (record h { tables = t.tables; disk = disk_of t }) found s t d e told (told_after fault x told) lasts refl
-            (kept found told lasts.keeps (tells h found told lasts).fits) still.taken still.few (ap (λ es. (said_by es).tables) still.entries ∙ lasts.tables ∙ sym same)
-            (ap (λ es. (said_by es).shards) still.entries) rest.limits rest.list rest.shards rest.accepted rest.committed rest.calls
-            (goes_before {T = Unit {0}} s.journal.first t.journal.first s.faults t.faults (Err fault) ends),
+                (kept found told lasts.keeps (tells h found told lasts).fits) still.taken still.few (ap (λ es. (said_by es).tables) still.entries ∙ lasts.tables ∙ sym same)
+                (ap (λ es. (said_by es).shards) still.entries) rest.limits rest.list rest.shards rest.accepted rest.committed rest.calls
+                (goes_before {T = Unit {0}} s.journal.first t.journal.first s.faults t.faults (Err fault) ends),
           );
     },
   )
@@ -392,8 +396,8 @@ module _ (s t : State) (d e : Disk) (x : ManifestEntry) (b : Bound) (may : MayBe
       t.tables,
       disk_of t,
       subst (λ (k : DiskState). Defines x h.tables (tables_after h.tables b) k reply.Done t.tables (disk_of t)) (sym stands.disk)
-      (defines_done x h.tables (tables_after h.tables b) t.tables s.journal.first t.journal.first s.faults t.faults (reach_of s.journal) (reach_of t.journal) tt
-      (new ∙ ap (λ (ts : List TableSchema). tables_after ts b) (sym stands.tables)) ends count reach),
+          (defines_done x h.tables (tables_after h.tables b) t.tables s.journal.first t.journal.first s.faults t.faults (reach_of s.journal) (reach_of t.journal) tt
+          (new ∙ ap (λ (ts : List TableSchema). tables_after ts b) (sym stands.tables)) ends count reach),
       refl,
     ),
     record {
@@ -402,13 +406,12 @@ module _ (s t : State) (d e : Disk) (x : ManifestEntry) (b : Bound) (may : MayBe
           (λ z y so. under z y (subst (λ (ts : List TableSchema). Stands ts z y) stands.tables so));
       lasts = λ found told lasts.
           let more = tells h found told lasts in
-          let said = said_more told.entries x in
-          (
+          let said = said_more told.entries x in (
             appended x told,
             lasts_defined h (record h { tables = t.tables; disk = disk_of t }) found s t d e told (appended x told) lasts refl
-            (kept found told lasts.keeps more.fits) refl lasts.few (ap (λ (sy : Saying). sy.tables) said ∙ more.tells ∙ sym new)
-            (ap (λ (sy : Saying). sy.shards) said ∙ same_shards (said_by told.entries) x is) rest.limits rest.list rest.shards rest.accepted rest.committed rest.calls
-            (goes_before s.journal.first t.journal.first s.faults t.faults (Ok tt) ends),
+                (kept found told lasts.keeps more.fits) refl lasts.few (ap (λ (sy : Saying). sy.tables) said ∙ more.tells ∙ sym new)
+                (ap (λ (sy : Saying). sy.shards) said ∙ same_shards (said_by told.entries) x is) rest.limits rest.list rest.shards rest.accepted rest.committed rest.calls
+                (goes_before s.journal.first t.journal.first s.faults t.faults (Ok tt) ends),
           );
     },
   )

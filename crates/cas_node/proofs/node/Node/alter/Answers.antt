@@ -1,9 +1,7 @@
-use Rattle.std.proofs.Common.{◌≡◌, ◌∙◌, ◌<◌, ◌++◌, List, map, length, Some, Err, refl, sym, ap, subst, arith}
-use Rattle.std.specs.Prelude.{slice_get, slice_set}
-use Rattle.std.proofs.lemmas.Option.{same_Some, slice_get_read}
-use Rattle.cas_types.specs.declared.schema.Column.{Column}
+use Rattle.std.proofs.Common.{◌∙◌, List, length, Err, refl, sym, ap, subst, arith}
+use Rattle.std.proofs.lemmas.Option.{slice_get_read}
 use Rattle.cas_types.specs.declared.schema.TableSchema.{TableSchema}
-use Rattle.cas_bind.specs.Tables.{AreTables, with_added}
+use Rattle.cas_bind.specs.Tables.{AreTables}
 use Rattle.cas_bind.specs.declared.bound.Bound.TheVariants as bounds
 use Rattle.cas_changes.specs.declared.entry.Entry.TheVariants.{AddColumns}
 use Rattle.cas_history.specs.Items.{listed, log_list}
