@@ -84,10 +84,10 @@ one_read pre o m rest one ascend so =
 abbrev step : ℕ → ShardOpening → Mutation → ShardOpening
 step n o m = if m.shard == n then restored m o else o
 
-one_more : (n : ℕ) (done : List Mutation) (m : Mutation) → found_in n (done ++ m ∷ []) ≡ step n (found_in n done) m
+pub one_more : (n : ℕ) (done : List Mutation) (m : Mutation) → found_in n (done ++ m ∷ []) ≡ step n (found_in n done) m
 one_more n done m = fold-append (step n) empty_shard done (m ∷ [])
 
-numbers_more : (n : ℕ) (done : List Mutation) (m : Mutation) (rest : List Mutation)
+pub numbers_more : (n : ℕ) (done : List Mutation) (m : Mutation) (rest : List Mutation)
     → numbers_of n (done ++ m ∷ rest) ≡ numbers_of n done ++ (if m.shard == n then m.number ∷ [] else []) ++ numbers_of n rest
 numbers_more n done m rest = flat_map-append (λ (x : Mutation). if x.shard == n then x.number ∷ [] else []) done (m ∷ rest)
 

@@ -4,6 +4,9 @@ mod Lasting
 mod Tables
 mod Serving
 mod Founding
+mod Unflushed
+mod Restoring
+mod Starting
 mod NumbersRise
 mod OneOutcome
 pub mod SessionLemmas

@@ -36,10 +36,9 @@ fn fronts<J: Store>(
     ensures out { maker.new.out ≡ maker.old.out }
 {
     let mut fronts = Vec::new(alloc);
-    while fronts.len() < shards.len() {
-        let shard = fronts.len() as u64;
-        let number = shards[fronts.len()].number();
-        fronts.push(Front::new(maker.fresh(16 + shard)?, shard, number))?;
+    for (place, shard) in shards.iter().enumerate() {
+        let fresh = maker.fresh(16 + place as u64)?;
+        fronts.push(Front::new(fresh, place as u64, shard.number()))?;
     }
     Ok(fronts)
 }
