@@ -88,12 +88,12 @@ pub one_more : (n : ℕ) (done : List Mutation) (m : Mutation) → found_in n (d
 one_more n done m = fold-append (step n) empty_shard done (m ∷ [])
 
 pub numbers_more : (n : ℕ) (done : List Mutation) (m : Mutation) (rest : List Mutation)
-    → numbers_of n (done ++ m ∷ rest) ≡ numbers_of n done ++ (if m.shard == n then m.number ∷ [] else []) ++ numbers_of n rest
-numbers_more n done m rest = flat_map-append (λ (x : Mutation). if x.shard == n then x.number ∷ [] else []) done (m ∷ rest)
+    → numbers_of n (done ++ m ∷ rest) ≡ numbers_of n done ++ ((if m.shard == n then m.number ∷ [] else []) ++ numbers_of n rest)
+numbers_more n done m rest = flat_map-append {A = ℕ} (λ (x : Mutation). if x.shard == n then x.number ∷ [] else []) done (m ∷ rest)
 
 module _ (n : ℕ) where
   reads_by : (b : Bool) (pre : List ℕ) (o : ShardOpening) (m : Mutation) (others : List ℕ) → 1 ≤ m.number
-      → AscendByOne (pre ++ (if b then m.number ∷ [] else []) ++ others) → Reads pre o
+      → AscendByOne (pre ++ ((if b then m.number ∷ [] else []) ++ others)) → Reads pre o
       → Reads (pre ++ (if b then m.number ∷ [] else [])) (if b then restored m o else o)
   reads_by true pre o m others one ascend so = one_read pre o m others one ascend so
   reads_by false pre o m others one ascend so = subst (λ (l : List ℕ). Reads l o) (sym (append-nil pre)) so

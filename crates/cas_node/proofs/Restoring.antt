@@ -55,12 +55,12 @@ module _ (tables : List TableSchema) (shards : ℕ) (done : List Mutation) (m : 
   pub belongs_here : Belongs tables shards m
   belongs_here = (fits_here.table, fits_here.there, fits_here.fits)
 
-  ascend_all : (n : ℕ) → AscendByOne (numbers_of n done ++ (if m.shard == n then m.number ∷ [] else []) ++ numbers_of n rest)
+  ascend_all : (n : ℕ) → AscendByOne (numbers_of n done ++ ((if m.shard == n then m.number ∷ [] else []) ++ numbers_of n rest))
   ascend_all n = subst AscendByOne (ap (numbers_of n) (sym are) ∙ numbers_more n done m rest) (log.ordered n)
 
   ascend_here : AscendByOne (numbers_of m.shard done ++ m.number ∷ numbers_of m.shard rest)
   ascend_here =
-      subst (λ (b : Bool). AscendByOne (numbers_of m.shard done ++ (if b then m.number ∷ [] else []) ++ numbers_of m.shard rest)) (is_same m.shard) (ascend_all m.shard)
+      subst (λ (b : Bool). AscendByOne (numbers_of m.shard done ++ ((if b then m.number ∷ [] else []) ++ numbers_of m.shard rest))) (is_same m.shard) (ascend_all m.shard)
 
   reads_done : (n : ℕ) → Reads (numbers_of n done) (found_in n done)
   reads_done n =
@@ -75,7 +75,7 @@ found_here done m = one_more m.shard done m ∙ ap (λ (b : Bool). if b then res
 
 found_other : (n : ℕ) (done : List Mutation) (m : Mutation) → n ≢ m.shard → found_in n (done ++ m ∷ []) ≡ found_in n done
 found_other n done m other =
-    one_more n done m ∙ ap (λ (b : Bool). if b then restored m (found_in n done) else found_in n done) (is_other m.shard n (λ e. other (sym e)))
+    one_more n done m ∙ ap (λ (b : Bool). if b then restored m (found_in n done) else found_in n done) (is_other m.shard n other)
 
 pub more_restored : (tables : List TableSchema) (done : List Mutation) (m : Mutation) (shards : List Shard) (old new : Shard) → AreRestored tables done shards
     → slice_get shards m.shard ≡ Some old → Stands tables (found_shard (restored m (found_in m.shard done))) new

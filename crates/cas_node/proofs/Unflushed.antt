@@ -1,12 +1,11 @@
 -- A store without table files: what its manifest says of it stays so where segments are named, and all mutations of its log are above the frontiers.
-use Rattle.std.proofs.Common.{◌≡◌, ◌<◌, ◌≤◌, ℕ, Bool, true, false, cond, ltb, List, [], ◌∷◌, ◌++◌, length, map, filter, Option, None, Some, refl, sym, ap, ◌∙◌, subst, arith, append-nil, append_assoc}
+use Rattle.std.proofs.Common.{◌≡◌, ◌<◌, ◌≤◌, ◌+◌, ◌*◌, ℕ, Bool, true, false, cond, ltb, List, [], ◌∷◌, ◌++◌, length, map, filter, Option, None, Some, refl, sym, ap, ◌∙◌, subst, arith, append-nil, append_assoc}
 use Rattle.std.proofs.lemmas.Bool.{lt-ltb}
 use Rattle.std.specs.Prelude.{slice_get, unwrap_or}
 use Rattle.std.specs.List.{AllByRecursion}
 use Rattle.cas_types.specs.declared.schema.TableSchema.{TableSchema}
 use Rattle.cas_atoms.specs.declared.atom.Mutation.{Mutation}
 use Rattle.cas_mutations.specs.Allowed.{FitsRecord}
-use Rattle.cas_info.specs.declared.info.TableInfo.{TableInfo}
 use Rattle.cas_changes.specs.declared.entry.Entry.{Entry}
 use Rattle.cas_changes.specs.declared.entry.Entry.TheVariants as entry
 use Rattle.cas_changes.specs.declared.said.Part.{Part}
@@ -71,12 +70,3 @@ module _ (s : Saying) (none : IsUnflushed s) where
 
 pub all_given : (s : Saying) (ms : List Mutation) → IsUnflushed s → AllByRecursion (FitsRecord s.tables s.shards) ms → filter (is_above s) ms ≡ ms
 all_given s ms none fit = all_above s none ms fit
-
--- ---- parts and times
-
-nothing_listed : (l : List TableInfo) → length l ≡ 0 → l ≡ []
-nothing_listed [] none = refl
-nothing_listed (i ∷ l) none = absurd (omega (arith, none))
-
-pub part_is : (p : Part) → p.frontier ≡ 0 → length p.listed ≡ 0 → p ≡ no_part
-part_is p low none = let empty : p.listed ≡ [] = nothing_listed p.listed none in cc

@@ -36,9 +36,10 @@ fn fronts<J: Store>(
     ensures out { maker.new.out ≡ maker.old.out }
 {
     let mut fronts = Vec::new(alloc);
-    for (place, shard) in shards.iter().enumerate() {
-        let fresh = maker.fresh(16 + place as u64)?;
-        fronts.push(Front::new(fresh, place as u64, shard.number()))?;
+    for place in 0..shards.len() as u64 {
+        let fresh = maker.fresh(16 + place)?;
+        let number = shards[place as usize].number();
+        fronts.push(Front::new(fresh, place, number))?;
     }
     Ok(fronts)
 }

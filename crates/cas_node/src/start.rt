@@ -1,6 +1,6 @@
 //! Opens the store of a folder: its tables, its shards with what the log has of them, and its journal.
 
-ghost use Rattle.std.specs.Prelude.{◌≡◌, ◌<◌, ◌↔◌, ℕ, List, [], length, IfOk, IsErrOf, None, IsTrue};
+ghost use Rattle.std.specs.Prelude.{◌≡◌, ◌<◌, ◌↔◌, ℕ, List, [], ◌∷◌, ◌++◌, length, IfOk, IsErrOf, None, OnOk, IsTrue};
 ghost use Rattle.std.specs.List.{AllByRecursion};
 ghost use Rattle.cas_types.specs.Limits.{IsShardCount};
 ghost use Rattle.cas_types.specs.declared.schema.TableSchema.{TableSchema as Schema};
@@ -117,12 +117,19 @@ fn restored(
     Ok(shards)
 }
 
+fn add_copy(copies: &mut Vec<TableSchema>, table: &TableSchema) -> Result<(), Mem>
+    ensures { OnOk result (copies.new.items ≡ copies.old.items ++ table.now ∷ []) }
+{
+    copies.push(table.clone()?)?;
+    Ok(())
+}
+
 fn copied(alloc: Global, tables: &[TableSchema]) -> Result<Vec<TableSchema>, Mem>
     ensures { IfOk result (λ v. v.items ≡ tables.now) }
 {
     let mut copies = Vec::new(alloc);
     for table in tables {
-        copies.push(table.clone()?)?;
+        add_copy(&mut copies, table)?;
     }
     Ok(copies)
 }
