@@ -7,6 +7,7 @@ mod Founding
 mod Unflushed
 mod Restoring
 mod Starting
+mod Seating
 mod NumbersRise
 mod OneOutcome
 pub mod SessionLemmas

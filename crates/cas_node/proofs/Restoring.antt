@@ -1,5 +1,5 @@
 -- The shards of a store with the mutations of its log, one after another.
-use Rattle.std.proofs.Common.{◌≡◌, ◌≢◌, ◌⊎◌, inl, inr, ◌<◌, ◌≤◌, ◌+◌, ◌==◌, ℕ, zero, suc, Bool, true, false, List, [], ◌∷◌, ◌++◌, length, Option, Some, None, refl, sym, ap, ◌∙◌, subst, arith, append-nil, append_assoc}
+use Rattle.std.proofs.Common.{◌≡◌, ◌≢◌, ◌⊎◌, inl, inr, ◌<◌, ◌≤◌, ◌+◌, ◌==◌, ℕ, zero, suc, Bool, true, false, List, [], ◌∷◌, ◌++◌, length, map, Option, Some, None, refl, sym, ap, ◌∙◌, subst, arith, append-nil, append_assoc}
 use Rattle.std.specs.Prelude.{slice_get, slice_set, if◌then◌else◌}
 use Rattle.std.specs.List.{AllByRecursion}
 use Rattle.cas_types.specs.declared.schema.TableSchema.{TableSchema}
@@ -30,6 +30,10 @@ one_new tables shards x are stands n y is =
     elim (get_pushed shards x y n is) [ inl before ↦ are n y before | inr same ↦ subst (λ (z : Shard). Stands tables (found_shard empty_shard) z) same stands ]
 
 -- ---- a mutation more
+
+pub map_itself : {X : Type 0} (xs : List X) → map (λ x. x) xs ≡ xs
+map_itself [] = refl
+map_itself (x ∷ xs) = ap (λ l. x ∷ l) (map_itself xs)
 
 front_ascends : (pre rest : List ℕ) → AscendByOne (pre ++ rest) → AscendByOne pre
 front_ascends [] rest ascend = tt

@@ -1,11 +1,14 @@
-use Rattle.std.proofs.Common.{◌≡◌, ◌<◌, [], ◌∷◌, ◌++◌, length, Some, sym, ap, ◌∙◌, subst, arith, append-nil, append_assoc}
+use Rattle.std.proofs.Common.{◌≡◌, ◌<◌, [], ◌∷◌, ◌++◌, length, Some, sym, ap, ◌∙◌, subst, arith, append_assoc}
+use Rattle.std.proofs.lemmas.Grind.{common_steps}
+use Rattle.std.proofs.lemmas.Iterator.Adapters.{YieldsList-from_vec}
+use Rattle.std.proofs.lemmas.Iterator.Consumers.{YieldsList-end}
 use Rattle.std.proofs.lemmas.Option.{slice_get-get_or}
 use Rattle.std.specs.Prelude.{slice_get}
-use Rattle.std.specs.Vec.Iter.{into_iter_items}
+use Rattle.std.specs.Vec.Iter.{into_iter_items, into_iter_len}
 use Rattle.cas_node.specs.Found.{found_in}
 use Rattle.cas_node.specs.Inner.Starts.{AreRestored}
 use Rattle.cas_node.proofs.Places.{length_set}
-use Rattle.cas_node.proofs.Restoring.{above_here, belongs_here, fits_here, more_restored}
+use Rattle.cas_node.proofs.Restoring.{above_here, belongs_here, fits_here, map_itself, more_restored}
 use Rattle.cas_node.proofs.start.restored.Goals as goal
 
 pub loop-mutation-preserved : goal.loop-mutation-preserved
@@ -33,6 +36,9 @@ loop-mutation-preserved c =
 pub returns-clause-restored : goal.returns-clause-restored
 returns-clause-restored c =
     let gives = c.into_iter-mutation-iterator.ensures.into_iter_gives in
-    let by = c.loop-mutation.yielded_by in
-    let all : c.loop-mutation.yielded ≡ c.args.mutations.items = ? in
+    let long : into_iter_len c.into_iter-mutation-iterator.result ≡ length c.args.mutations.items = gives.1 ∙ grind (arith, common_steps) in
+    let ends =
+    YieldsList-end (YieldsList-from_vec c.args.mutations.items gives.0 long) c.loop-mutation.yielded c.loop-mutation.mutation-iterator
+    c.loop-mutation.yielded_by c.next.result c.next.new.self c.in-None.is c.next.ensures.steps in
+    let all : c.loop-mutation.yielded ≡ c.args.mutations.items = sym (map_itself c.loop-mutation.yielded) ∙ ends.0 in
     subst (λ ms. AreRestored c.args.tables.now ms c.loop-mutation.shards.items) all c.loop-mutation.invariant.restored

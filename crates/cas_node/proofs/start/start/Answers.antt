@@ -14,8 +14,16 @@ is_unflushed-requires g c = let read = c.in-Ok.ensures.read in read_said read.0 
 pub returns-then-not-is_unflushed-clause-refused : goal.returns-then-not-is_unflushed-clause-refused
 returns-then-not-is_unflushed-clause-refused g c = λ name at is d reads bytes.
     let read = c.in-Ok.ensures.read in
-    inr (cc, cc, (read.0, read.1, read.3 d reads bytes,
-    flushed_read read.0 read.1 c.in-Ok.opened read.2 (λ none. let no = c.if-not-is_unflushed.ensures.1 none in absurd cc)))
+    inr (
+      cc,
+      cc,
+      (
+        read.0,
+        read.1,
+        read.3 d reads bytes,
+        flushed_read read.0 read.1 c.in-Ok.opened read.2 (λ none. let no = c.if-not-is_unflushed.ensures.1 none in absurd cc),
+      ),
+    )
 
 pub returns-in-Ok-in_memory-clause-started : goal.returns-in-Ok-in_memory-clause-started
 returns-in-Ok-in_memory-clause-started g c =
