@@ -1,19 +1,17 @@
 -- What the log has of each shard: its mutations rise, and the shard's number is that of the last.
-use Rattle.std.proofs.Common.{◌≡◌, ◌≢◌, ◌<◌, ◌≤◌, ◌+◌, ◌==◌, max, ℕ, zero, suc, Bool, true, false, List, [], ◌∷◌, ◌++◌, length, Option, Some, None, refl, sym, ap, ◌∙◌, subst, arith, append-nil, append_assoc}
-use Rattle.std.proofs.lemmas.Bool.Decides.{nat_tests}
+use Rattle.std.proofs.Common.{◌≡◌, ◌<◌, ◌≤◌, ◌+◌, ◌==◌, max, ℕ, Bool, true, false, List, [], ◌∷◌, ◌++◌, refl, sym, ap, ◌∙◌, subst, arith, append-nil, append_assoc}
 use Rattle.std.proofs.lemmas.List.Sums.{fold-append}
 use Rattle.std.proofs.lemmas.Grind.{flat_map-append}
 use Rattle.std.specs.Prelude.{if◌then◌else◌}
-use Rattle.std.specs.List.{AllByRecursion, fold, flat_map}
+use Rattle.std.specs.List.{AllByRecursion, fold}
 use Rattle.cas_types.specs.declared.schema.TableSchema.{TableSchema}
 use Rattle.cas_atoms.specs.declared.atom.Mutation.{Mutation}
 use Rattle.cas_mutations.specs.Allowed.{FitsRecord}
-use Rattle.cas_replay.specs.Grammar.{AreInOrder, AreOfALog, AscendByOne, numbers_of}
-use Rattle.cas_entries.specs.declared.entry.Entry.{Entry}
+use Rattle.cas_replay.specs.Grammar.{AreOfALog, AscendByOne, numbers_of}
 use Rattle.cas_entries.specs.declared.entry.Entry.TheVariants.{Wrote}
 use Rattle.cas_entries.specs.declared.entry.ShardOpening.{ShardOpening}
-use Rattle.cas_entries.specs.Entries.{AreNumbered, last_number, number_after}
-use Rattle.cas_shard.specs.Shards.{ShardHistory, empty_shard, found_shard, restored}
+use Rattle.cas_entries.specs.Entries.{last_number, number_after}
+use Rattle.cas_shard.specs.Shards.{empty_shard, found_shard, restored}
 use Rattle.cas_shard.specs.Stands.{NumbersRise}
 use Rattle.cas_shard.proofs.Numbering.{one_restored}
 use Rattle.cas_node.specs.Found.{found_in}

@@ -1,16 +1,14 @@
 -- A store that was opened, in memory.
-use Rattle.std.proofs.Common.{◌≡◌, ◌≤◌, ℕ, List, length, refl, sym, ap, ◌∙◌, subst, arith}
-use Rattle.std.specs.Prelude.{◌⊎◌}
+use Rattle.std.proofs.Common.{◌≡◌, ℕ, List, length, refl, sym, ap, ◌∙◌, subst, arith}
 use Rattle.cas_types.specs.declared.schema.TableSchema.{TableSchema}
 use Rattle.cas_disk.specs.Disk.{Disk, Image}
-use Rattle.cas_disk.specs.declared.name.Name.TheVariants.{Manifest as manifest_name}
 use Rattle.cas_atoms.specs.declared.atom.Mutation.{Mutation}
 use Rattle.cas_bind.specs.Tables.{AreTables}
 use Rattle.cas_bind.specs.declared.bound.Limits.{Limits}
 use Rattle.cas_changes.specs.declared.entry.Entry.{Entry}
 use Rattle.cas_changes.specs.Saying.{Saying, IsSaid, said_by}
 use Rattle.cas_replay.specs.Grammar.{AreOfALog}
-use Rattle.cas_journal.specs.Stores.{Told, named}
+use Rattle.cas_journal.specs.Stores.{Told}
 use Rattle.cas_journal.specs.Journals.{Lasts}
 use Rattle.cas_opening.specs.Opening.{IsOfBytes, IsOpened, IsReadAs, OpensAs, told}
 use Rattle.cas_opening.specs.declared.opened.Opened.{Opened}
@@ -18,8 +16,8 @@ use Rattle.cas_opening.proofs.Saids.{sound}
 use Rattle.cas_shard.specs.declared.shard.Shard.{Shard}
 use Rattle.define_laws.proofs.Telling.{named_segments_define_nothing}
 use Rattle.define_laws.proofs.Told.{told_tables_are_tables}
-use Rattle.cas_node.specs.Found.{AreOfAStore, IsFound, IsUnfit, IsUnflushed}
-use Rattle.cas_node.specs.Inner.Starts.{AreRestored, IsInMemory, IsStarted, IsTold}
+use Rattle.cas_node.specs.Found.{IsFound, IsUnflushed}
+use Rattle.cas_node.specs.Inner.Starts.{AreRestored, IsInMemory, IsTold}
 use Rattle.cas_node.proofs.Unflushed.{all_given, renamed, unnamed}
 use Rattle.cas_node.proofs.Restoring.{next_numbers}
 

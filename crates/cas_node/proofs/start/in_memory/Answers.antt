@@ -1,5 +1,4 @@
-use Rattle.std.proofs.Common.{◌≡◌, ℕ, sym, ap, ◌∙◌, subst}
-use Rattle.cas_bind.specs.declared.bound.Limits.{Limits}
+use Rattle.std.proofs.Common.{ℕ, sym, ap, ◌∙◌, subst}
 use Rattle.cas_replay.specs.Grammar.{AreOfALog}
 use Rattle.cas_node.specs.Inner.Starts.{AreRestored}
 use Rattle.cas_node.proofs.Starting.{in_memory_read, log_read}

@@ -1,5 +1,4 @@
 use Rattle.std.proofs.Common.{◌≡◌, ◌≤◌, inr, None, refl, sym, subst}
-use Rattle.cas_disk.specs.Disk.{Disk}
 use Rattle.cas_journal.specs.Journals.{AreFree, Lasts}
 use Rattle.cas_journal.specs.Stores.{Told}
 use Rattle.cas_journal.specs.declared.journal.Journal.{Journal}
