@@ -1,19 +1,17 @@
 -- What the log has of each shard: its mutations rise, and the shard's number is that of the last.
-use Rattle.std.proofs.Common.{◌≡◌, ◌≢◌, ◌<◌, ◌≤◌, ◌+◌, ◌==◌, max, ℕ, zero, suc, Bool, true, false, List, [], ◌∷◌, ◌++◌, length, Option, Some, None, refl, sym, ap, ◌∙◌, subst, arith, append-nil, append_assoc}
-use Rattle.std.proofs.lemmas.Bool.Decides.{nat_tests}
+use Rattle.std.proofs.Common.{◌≡◌, ◌<◌, ◌≤◌, ◌+◌, ◌==◌, max, ℕ, Bool, true, false, List, [], ◌∷◌, ◌++◌, refl, sym, ap, ◌∙◌, subst, arith, append-nil, append_assoc}
 use Rattle.std.proofs.lemmas.List.Sums.{fold-append}
 use Rattle.std.proofs.lemmas.Grind.{flat_map-append}
 use Rattle.std.specs.Prelude.{if◌then◌else◌}
-use Rattle.std.specs.List.{AllByRecursion, fold, flat_map}
+use Rattle.std.specs.List.{AllByRecursion, fold}
 use Rattle.cas_types.specs.declared.schema.TableSchema.{TableSchema}
 use Rattle.cas_atoms.specs.declared.atom.Mutation.{Mutation}
 use Rattle.cas_mutations.specs.Allowed.{FitsRecord}
-use Rattle.cas_replay.specs.Grammar.{AreInOrder, AreOfALog, AscendByOne, numbers_of}
-use Rattle.cas_entries.specs.declared.entry.Entry.{Entry}
+use Rattle.cas_replay.specs.Grammar.{AreOfALog, AscendByOne, numbers_of}
 use Rattle.cas_entries.specs.declared.entry.Entry.TheVariants.{Wrote}
 use Rattle.cas_entries.specs.declared.entry.ShardOpening.{ShardOpening}
-use Rattle.cas_entries.specs.Entries.{AreNumbered, last_number, number_after}
-use Rattle.cas_shard.specs.Shards.{ShardHistory, empty_shard, found_shard, restored}
+use Rattle.cas_entries.specs.Entries.{last_number, number_after}
+use Rattle.cas_shard.specs.Shards.{empty_shard, found_shard, restored}
 use Rattle.cas_shard.specs.Stands.{NumbersRise}
 use Rattle.cas_shard.proofs.Numbering.{one_restored}
 use Rattle.cas_node.specs.Found.{found_in}
@@ -84,10 +82,10 @@ one_read pre o m rest one ascend so =
 abbrev step : ℕ → ShardOpening → Mutation → ShardOpening
 step n o m = if m.shard == n then restored m o else o
 
-one_more : (n : ℕ) (done : List Mutation) (m : Mutation) → found_in n (done ++ m ∷ []) ≡ step n (found_in n done) m
+pub one_more : (n : ℕ) (done : List Mutation) (m : Mutation) → found_in n (done ++ m ∷ []) ≡ step n (found_in n done) m
 one_more n done m = fold-append (step n) empty_shard done (m ∷ [])
 
-numbers_more : (n : ℕ) (done : List Mutation) (m : Mutation) (rest : List Mutation)
+pub numbers_more : (n : ℕ) (done : List Mutation) (m : Mutation) (rest : List Mutation)
     → numbers_of n (done ++ m ∷ rest) ≡ numbers_of n done ++ ((if m.shard == n then m.number ∷ [] else []) ++ numbers_of n rest)
 numbers_more n done m rest = flat_map-append {A = ℕ} (λ (x : Mutation). if x.shard == n then x.number ∷ [] else []) done (m ∷ rest)
 

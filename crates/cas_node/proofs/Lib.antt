@@ -5,6 +5,10 @@ mod Entering
 mod Tables
 mod Serving
 mod Founding
+mod Unflushed
+mod Restoring
+mod Starting
+mod Seating
 mod NumbersRise
 mod OneOutcome
 pub mod SessionLemmas

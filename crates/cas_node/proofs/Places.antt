@@ -1,7 +1,7 @@
 -- Lists of which one place is set.
-use Rattle.std.proofs.Common.{◌≡◌, ◌≢◌, ◌<◌, ◌⊎◌, inl, inr, ◌==◌, ℕ, zero, suc, Bool, true, false, List, [], ◌∷◌, ◌++◌, length, map, Option, Some, None, refl, sym, ap, ◌∙◌, subst, arith}
+use Rattle.std.proofs.Common.{◌≡◌, ◌≢◌, ◌<◌, ◌⊎◌, inl, inr, ◌==◌, ℕ, zero, suc, true, false, List, [], ◌∷◌, length, map, Some, refl, ap, arith}
 use Rattle.std.proofs.lemmas.Bool.Decides.{nat_tests}
-use Rattle.std.specs.Prelude.{slice_set, slice_get, slice_index_or, if◌then◌else◌}
+use Rattle.std.specs.Prelude.{slice_set, slice_get, slice_index_or}
 
 pub same_place : (k n : ℕ) → (k ≡ n) ⊎ (k ≢ n)
 same_place zero zero = inl refl

@@ -1,6 +1,6 @@
 -- What a run begins with: the store that its folder has, or a new one.
 -- Storage engine: startup, replay of the commit log; own.
-use Rattle.std.specs.Prelude.{◌≡◌, ◌≢◌, ◌⊎◌, ℕ, ◌≤◌, ◌==◌, pos, false, if◌then◌else◌, List, [], map}
+use Rattle.std.specs.Prelude.{◌≡◌, ◌≢◌, ◌⊎◌, ℕ, ◌<◌, ◌≤◌, ◌==◌, pos, false, if◌then◌else◌, List, [], length, map}
 use Rattle.std.specs.List.{AllByRecursion, fold}
 use Rattle.cas_types.specs.Limits.{IsShardCount}
 use Rattle.cas_ledger.specs.Hands.{numbers}
@@ -24,7 +24,7 @@ found_in n mutations = fold (λ o m. if m.shard == n then restored m o else o) e
 
 -- no mutation stands in a table file, of any table in any shard
 pub record IsUnflushed (s : Saying) : Type 0 where
-  pub parts : (table shard : ℕ) → part_of s table shard ≡ no_part
+  pub parts : (table shard : ℕ) → table < length s.tables → shard < s.shards → part_of s table shard ≡ no_part
   pub times : AllByRecursion (λ t. t ≡ no_times) s.times
 
 -- Entries of a manifest and mutations of a log are those of a store: the entries may follow one another, of which the first makes the store; the mutations are of

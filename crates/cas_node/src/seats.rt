@@ -36,10 +36,10 @@ fn fronts<J: Store>(
     ensures out { maker.new.out ≡ maker.old.out }
 {
     let mut fronts = Vec::new(alloc);
-    while fronts.len() < shards.len() {
-        let shard = fronts.len() as u64;
-        let number = shards[fronts.len()].number();
-        fronts.push(Front::new(maker.fresh(16 + shard)?, shard, number))?;
+    for place in 0..shards.len() as u64 {
+        let fresh = maker.fresh(16 + place)?;
+        let number = shards[place as usize].number();
+        fronts.push(Front::new(fresh, place, number))?;
     }
     Ok(fronts)
 }

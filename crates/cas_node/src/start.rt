@@ -1,13 +1,13 @@
 //! Opens the store of a folder: its tables, its shards with what the log has of them, and its journal.
 
-ghost use Rattle.std.specs.Prelude.{◌≡◌, ◌≤◌, ◌<◌, ◌++◌, ℕ, List, [], ⊥, true, length, map, replicate, slice_get, IfOk, IfErr, IsErrOf, None, OnOk, IsTrue};
+ghost use Rattle.std.specs.Prelude.{◌≡◌, ◌<◌, ◌↔◌, ℕ, List, [], ◌∷◌, ◌++◌, length, IfOk, IsErrOf, None, OnOk, IsTrue};
 ghost use Rattle.std.specs.List.{AllByRecursion};
 ghost use Rattle.cas_types.specs.Limits.{IsShardCount};
 ghost use Rattle.cas_types.specs.declared.schema.TableSchema.{TableSchema as Schema};
 ghost use Rattle.cas_disk.specs.Counts.{Counted};
 ghost use Rattle.cas_disk.specs.Disk.{Disk, Image, During, Same};
 ghost use Rattle.cas_atoms.specs.declared.atom.Mutation.{Mutation as MutationOf};
-ghost use Rattle.cas_changes.specs.Saying.{IsSaid, part_of, no_part, no_times, said_by};
+ghost use Rattle.cas_changes.specs.Saying.{IsSaid, part_of, no_part, no_times};
 ghost use Rattle.cas_changes.specs.declared.entry.Entry.{Entry as EntryOf};
 ghost use Rattle.cas_log.specs.Segment.{IsSize};
 ghost use Rattle.cas_manifest.specs.Loading.{IsNew};
@@ -40,12 +40,19 @@ pub(crate) struct Started {
     pub journal: Journal,
 }
 
-// Whether no mutation of a table stands in a file of it, in any shard.
+// Whether no mutation of a table stands in a file of it, in this shard.
+fn is_unflushed_part(said: &Said, table: u16, shard: u8) -> bool
+    ensures { IsTrue result ↔ (part_of said.now table shard ≡ no_part) }
+{
+    said.frontier(table, shard) == 0 && said.listed(table, shard).is_empty()
+}
+
+// The same in any shard.
 fn is_unflushed_table(said: &Said, table: u16) -> bool
-    ensures { result ≡ true → (shard : ℕ) → shard < said.now.shards → part_of said.now table shard ≡ no_part }
+    ensures { IsTrue result ↔ ((shard : ℕ) → shard < said.now.shards → part_of said.now table shard ≡ no_part) }
 {
     for shard in 0..said.shards() {
-        if said.frontier(table, shard) != 0 || !said.listed(table, shard).is_empty() {
+        if !is_unflushed_part(said, table, shard) {
             return false;
         }
     }
@@ -54,9 +61,10 @@ fn is_unflushed_table(said: &Said, table: u16) -> bool
 
 // Whether no moment and no drawn timestamp of a shard was told, as each change of table files tells one.
 fn is_untimed(said: &Said) -> bool
-    ensures { result ≡ true → AllByRecursion (λ t. t ≡ no_times) said.now.times }
+    ensures { IsTrue result ↔ AllByRecursion (λ t. t ≡ no_times) said.now.times }
 {
-    for times in said.times() {
+    let shards = said.times();
+    for times in shards {
         if times.moment != 0 || times.drawn != NONE_DRAWN {
             return false;
         }
@@ -67,7 +75,7 @@ fn is_untimed(said: &Said) -> bool
 // Whether no mutation stands in a table file.
 fn is_unflushed(said: &Said) -> bool
     requires { IsSaid said.now }
-    ensures { result ≡ true → IsUnflushed said.now }
+    ensures { IsTrue result ↔ IsUnflushed said.now }
 {
     for table in 0..said.tables().len() as u16 {
         if !is_unflushed_table(said, table) {
@@ -83,14 +91,19 @@ fn new_shards(alloc: Global, count: u8) -> Result<Vec<Shard>, Mem>
     ensures new { IfOk result (λ v. (tables : List Schema) → AreRestored tables [] v.items) }
 {
     let mut shards = Vec::new(alloc);
-    while shards.len() < count as usize {
+    for _shard in 0..count {
         shards.push(Shard::new(alloc))?;
     }
     Ok(shards)
 }
 
 // The shards of a store with what the log has of each.
-fn restored(alloc: Global, tables: &[TableSchema], count: u8, mutations: Vec<Mutation>) -> Result<Vec<Shard>, Mem>
+fn restored(
+    alloc: Global,
+    tables: &[TableSchema],
+    count: u8,
+    mutations: Vec<Mutation>,
+) -> Result<Vec<Shard>, Mem>
     requires { AreOfALog tables.now count mutations.items }
     ensures count { IfOk result (λ v. length v.items ≡ count) }
     ensures restored { IfOk result (λ v. AreRestored tables.now mutations.items v.items) }
@@ -104,12 +117,19 @@ fn restored(alloc: Global, tables: &[TableSchema], count: u8, mutations: Vec<Mut
     Ok(shards)
 }
 
+fn add_copy(copies: &mut Vec<TableSchema>, table: &TableSchema) -> Result<(), Mem>
+    ensures { OnOk result (copies.new.items ≡ copies.old.items ++ table.now ∷ []) }
+{
+    copies.push(table.clone()?)?;
+    Ok(())
+}
+
 fn copied(alloc: Global, tables: &[TableSchema]) -> Result<Vec<TableSchema>, Mem>
     ensures { IfOk result (λ v. v.items ≡ tables.now) }
 {
     let mut copies = Vec::new(alloc);
     for table in tables {
-        copies.push(table.clone()?)?;
+        add_copy(&mut copies, table)?;
     }
     Ok(copies)
 }
