@@ -1,0 +1,5 @@
+use Rattle.cas_node.proofs.Answering.{sets_clock}
+use Rattle.cas_node.proofs.node.Node.set_clock.Goals as goal
+
+pub returns-in-Manual-clause-sets : goal.returns-in-Manual-clause-sets
+returns-in-Manual-clause-sets g c = sets_clock _ c.args.seconds _
