@@ -47,19 +47,13 @@ moves_as s t d e P Q moves so h stands =
 -- ---- a statement that was bound
 
 module _ (kind : ClockKind) (Gives : ℤ → Type 0) where
-  pub does_write : (s t : State) (d e : Disk) (reading : ℤ) (w : BoundWrite) (r : Reply) → IsReading kind Gives s.clock reading
-      → Moves (λ h after. WritesAt h reading w r after) s t d e → Moves (λ h after. Does kind Gives h (Ok (bound.Write w)) r after) s t d e
-  does_write s t d e reading w r given moves =
-      moves_as s t d e (λ h after. WritesAt h reading w r after) (λ h after. Does kind Gives h (Ok (bound.Write w)) r after) moves
-      (λ h after stands so. (reading, subst (λ c. IsReading kind Gives c reading) (sym stands.clock) given, so))
-
-  pub does_read : (s t : State) (d e : Disk) (reading : ℤ) (q : BoundRead) (r : Reply) → IsReading kind Gives s.clock reading
-      → Moves (λ h after. Shows (shard_at h q.shard) reading q r × (after ≡ after_read h q.shard reading)) s t d e
+  pub does_read : (s t : State) (d e : Disk) (seconds reading at : ℤ) (q : BoundRead) (r : Reply)
+      → Moves (λ h after. Shows (shard_at h q.shard) at q r × (after ≡ after_read h q.shard at)) s t d e
+      → IsReading kind Gives seconds reading → seconds ≡ s.clock → at ≡ reading
       → Moves (λ h after. Does kind Gives h (Ok (bound.Read q)) r after) s t d e
-  does_read s t d e reading q r given moves =
-      moves_as s t d e (λ h after. Shows (shard_at h q.shard) reading q r × (after ≡ after_read h q.shard reading))
-      (λ h after. Does kind Gives h (Ok (bound.Read q)) r after) moves
-      (λ h after stands so. (reading, subst (λ c. IsReading kind Gives c reading) (sym stands.clock) given, so.0, so.1))
+  does_read s t d e seconds reading at q r moves given same is h stands =
+      let (after, so, goes) = moves h stands in
+      (after, (at, subst (λ n. IsReading kind Gives h.clock n) (sym is) (subst (λ c. IsReading kind Gives c reading) (same ∙ sym stands.clock) given), so.0, so.1), goes)
 
   -- ---- a statement
 
@@ -98,11 +92,11 @@ module _ (kind : ClockKind) (Gives : ℤ → Type 0) where
   answers_syntax s d text l says is =
       stays s d (λ h after. Answers kind Gives h text (Some (reply.Refused SYNTAX)) after) (λ h. inr (line.Syntax, subst (λ l. Says text l) is says, (refl, refl)))
 
-  pub answers_clock : (s t : State) (d e : Disk) (text : List ℕ) (l : Line) (n : ℤ) (r : Reply) → Says text l → l ≡ line.Clock n
-      → Moves (λ h after. SetsClock kind h n r after) s t d e → Moves (λ h after. Answers kind Gives h text (Some r) after) s t d e
-  answers_clock s t d e text l n r says is moves =
-      moves_as s t d e (λ h after. SetsClock kind h n r after) (λ h after. Answers kind Gives h text (Some r) after) moves
-      (λ h after stands so. inr (line.Clock n, subst (λ l. Says text l) is says, (r, refl, so)))
+  pub answers_clock : (s t : State) (d e : Disk) (text : List ℕ) (l : Line) (n m : ℤ) (r : Reply)
+      → Moves (λ h after. SetsClock kind h m r after) s t d e → m ≡ n → Says text l → l ≡ line.Clock n → Moves (λ h after. Answers kind Gives h text (Some r) after) s t d e
+  answers_clock s t d e text l n m r moves same says is h stands =
+      let (after, so, goes) = moves h stands in
+      (after, inr (line.Clock n, subst (λ l. Says text l) is says, (r, refl, subst (λ k. SetsClock kind h k r after) same so)), goes)
 
   pub answers_statement : (s t : State) (d e : Disk) (text : List ℕ) (l : Line) (x : Statement) (r : Reply) → Says text l → l ≡ line.Statement x
       → Moves (λ h after. OrWant r (λ h after. Does kind Gives h (meaning s.limits.shards s.tables x) r after) h after) s t d e
@@ -122,8 +116,8 @@ module _ (kind : ClockKind) (Gives : ℤ → Type 0) where
 
 -- ---- the clock
 
-pub says_moment : (text : List ℕ) (l : Line) (n : ℤ) → Says text l → l ≡ line.Clock n → IsMoment n
-says_moment text l n says is = clock_is_moment text n (subst (λ l. Says text l) is says)
+pub says_moment : (text : List ℕ) (l : Line) (n m : ℤ) → m ≡ n → Says text l → l ≡ line.Clock n → IsMoment m
+says_moment text l n m same says is = subst IsMoment (sym same) (clock_is_moment text n (subst (λ l. Says text l) is says))
 
 pub says_spelled : (text : List ℕ) (l : Line) (x : Statement) → Says text l → l ≡ line.Statement x → IsSpelled x
 says_spelled text l x says is =
@@ -176,15 +170,21 @@ clock_sound s n sound moment = record {
 
 -- ---- what a statement defines may be told to the manifest
 
-pub bound_told : (shards : ℕ) (tables : List TableSchema) (x : Statement) (b : Bound) → IsSpelled x → AreTables tables → meaning shards tables x ≡ Ok b
+bound_is_told : (shards : ℕ) (tables : List TableSchema) (x : Statement) (b : Bound) → IsSpelled x → AreTables tables → meaning shards tables x ≡ Ok b
     → AreTables (tables_after tables b) → IsTold tables b
-bound_told shards tables x (bound.Create t) (source, tokens, means) are is kept = record {
+bound_is_told shards tables x (bound.Create t) (source, tokens, means) are is kept = record {
   tells = λ said same some. defined_tables_may_be_told source tokens x means shards tables t is said same some;
   kept = kept;
 }
-bound_told shards tables x (bound.Alter a) (source, tokens, means) are is kept =
+bound_is_told shards tables x (bound.Alter a) (source, tokens, means) are is kept =
     let told = λ (said : Saying) (same : said.tables ≡ tables) (some : 1 ≤ said.shards).
         defined_columns_may_be_told source tokens x means shards tables a are is said same some in
     ((told (record nothing { shards = 1; tables = tables }) refl (omega arith)).0, record { tells = λ said same some. (told said same some).1; kept = kept })
-bound_told shards tables x (bound.Write w) spelled are is kept = tt
-bound_told shards tables x (bound.Read r) spelled are is kept = tt
+bound_is_told shards tables x (bound.Write w) spelled are is kept = tt
+bound_is_told shards tables x (bound.Read r) spelled are is kept = tt
+
+-- where they are also called otherwise
+pub bound_told : (shards : ℕ) (tables same : List TableSchema) (x : Statement) (b : Bound) → same ≡ tables → IsSpelled x → AreTables tables → meaning shards same x ≡ Ok b
+    → AreTables (tables_after same b) → IsTold tables b
+bound_told shards tables same x b e spelled are is kept =
+    bound_is_told shards tables x b spelled are (subst (λ ts. meaning shards ts x ≡ Ok b) e is) (subst (λ ts. AreTables (tables_after ts b)) e kept)
