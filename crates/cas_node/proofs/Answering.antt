@@ -151,8 +151,10 @@ with_clock h s n d stands = record {
   });
 }
 
-pub sets_clock : (s : State) (n : ℤ) (d : Disk) → Moves (λ h after. SetsClock clock.Manual h n reply.Done after) s (record s { clock = n }) d d
-sets_clock s n d h stands = (record h { clock = n }, (refl, refl), with_clock h s n d stands)
+pub sets_clock : (kind : ClockKind) (s : State) (n m : ℤ) (d : Disk) → kind ≡ clock.Manual → m ≡ n
+    → Moves (λ h after. SetsClock kind h n reply.Done after) s (record s { clock = m }) d d
+sets_clock kind s n m d is same h stands =
+    (record h { clock = m }, subst (λ k. SetsClock k h n reply.Done (record h { clock = m })) (sym is) (refl, ap (λ k. record h { clock = k }) same), with_clock h s m d stands)
 
 pub clock_not_here : (s : State) (n : ℤ) (d : Disk) → Moves (λ h after. SetsClock clock.System h n (reply.Refused NOT_HERE) after) s s d d
 clock_not_here s n d = stays s d (λ h after. SetsClock clock.System h n (reply.Refused NOT_HERE) after) (λ h. (refl, refl))
