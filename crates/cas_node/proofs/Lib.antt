@@ -1,5 +1,6 @@
 mod Places
 mod Moving
+mod Answering
 mod Lasting
 mod Entering
 mod Tables
