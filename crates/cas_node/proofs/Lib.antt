@@ -3,6 +3,7 @@ mod Moving
 mod Lasting
 mod Tables
 mod Serving
+mod RunLemmas
 mod Founding
 mod NumbersRise
 mod OneOutcome
