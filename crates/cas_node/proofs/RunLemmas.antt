@@ -1,15 +1,13 @@
 -- What a run did with its folder and its script, and how it ends.
 use Rattle.std.proofs.Common.{◌≡◌, ◌<◌, ◌≤◌, ◌+◌, ℕ, ℤ, pos, Bool, true, false, Option, None, Some, is_some, List, [], ◌∷◌, ◌++◌, length, refl, sym, ap, ◌∙◌, subst, append-nil, inl, inr, ⊎_elim, arith}
-use Rattle.std.specs.Prelude.{⊤, ◌⊎◌, if◌then◌else◌, IfSome, IsSome, IsTrue, nat_le, nat_lt}
+use Rattle.std.specs.Prelude.{◌⊎◌, if◌then◌else◌, IfSome, IsSome}
 use Rattle.std.specs.List.{fold}
 use Rattle.std.specs.Str.Lines.{lines}
 use Rattle.std.specs.Io.KnownBytes.{Consumes, IsAtEnd, Keeps as KeepsBytes}
-use Rattle.std.proofs.lemmas.Bool.{leb-true, le-leb}
+use Rattle.std.proofs.lemmas.Bool.{leb-true}
 use Rattle.std.proofs.lemmas.Option.{same_Some}
 use Rattle.cas_io.specs.Causes.{Rose}
 use Rattle.cas_io.specs.Streams.{ReadToEnd}
-use Rattle.cas_io.specs.declared.script.ScriptFault.{ScriptFault}
-use Rattle.cas_io.specs.declared.script.ScriptFault.TheVariants as script_fault
 use Rattle.cas_types.specs.declared.schema.TableSchema.{TableSchema}
 use Rattle.cas_disk.specs.declared.name.Name.{Name}
 use Rattle.cas_disk.specs.declared.name.Name.TheVariants.{Manifest as manifest_name}
@@ -41,11 +39,11 @@ use Rattle.cas_node.specs.declared.cause.Cause.TheVariants as cause
 use Rattle.cas_node.specs.declared.program.TheConstants.{SCRIPT_LIMIT}
 use Rattle.cas_node.specs.History.{History, Runs}
 use Rattle.cas_node.specs.Found.{Begins, IsUnfit, IsUnflushed, start}
-use Rattle.cas_node.specs.Ran.{AllWell, Ended, GoodOrMem, IfBad, IfTooLong, IsGranted, IsNotRun, Outside, Ran, RanAll, RanFrom, Stop, WriteRose, at_the_end, at_the_sink, for_memory, has_risen, reply_cause, weight, with_faults, worse, worst}
-use Rattle.cas_node.specs.Inner.Serving.{EndsServed, Served, Serves}
+use Rattle.cas_node.specs.Ran.{AllWell, Ended, GoodOrMem, IfBad, IsGranted, IsNotRun, Outside, Ran, RanAll, RanFrom, Stop, WriteRose, at_the_end, at_the_sink, for_memory, has_risen, reply_cause, with_faults, worse, worst}
+use Rattle.cas_node.specs.Inner.Serving.{Served, Serves}
 use Rattle.cas_node.specs.Inner.Starts.{IsInMemory, IsStarted, cause_of_opening}
 use Rattle.cas_node.specs.Inner.State.{State, disk_of}
-use Rattle.cas_node.specs.Inner.Turns.{IsEnd, Moves, cause_of_fault}
+use Rattle.cas_node.specs.Inner.Turns.{IsEnd, Moves}
 use Rattle.cas_node.proofs.Serving.{first_lasts, first_stands, is_left}
 
 -- ---- what was served
@@ -88,11 +86,22 @@ module _ (kind : ClockKind) (Gives : ℤ → Type 0) (script : List ℕ) (old ne
       subst (λ (l : List (Item Event)). Served kind Gives script old new given entries mutations s.journal d e faults_before s.faults t.faults l why) (sym is)
       (of_store given entries mutations memory segment)
 
+-- with others that are the same
+pub with_others : {A B C D E F : Type 0} (P : A → B → C → D → E → F → Type 0) (a k : A) (b l : B) (c m : C) (d n : D) (e o : E) (f p : F)
+    → a ≡ k → b ≡ l → c ≡ m → d ≡ n → e ≡ o → f ≡ p → P a b c d e f → P k l m n o p
+with_others P a k b l c m d n e o f p xs bs cs ds es fs is =
+    subst (λ z. P k l m n o z) fs (subst (λ z. P k l m n z f) es (subst (λ z. P k l m z e f) ds (subst (λ z. P k l z d e f) cs (subst (λ z. P k z c d e f) bs (subst (λ z. P z b c d e f) xs is)))))
+
 -- ---- the script ran
+
+keeps : (old new : Option (List ℕ)) → new ≡ old → KeepsBytes old new
+keeps None new same = tt
+keeps (Some xs) None same = absurd cc
+keeps (Some xs) (Some ys) same = same_Some ys xs same
 
 module _ (words : List (List ℕ)) (Gives : ℤ → Type 0) (before after : Outside) (c : Command) (script : List ℕ) (limits : Limits) (tables : List TableSchema) (shards : List Shard)
     (journal : Journal) (mid : Disk) (faults : ℕ) (why : Cause) (said : command_of words ≡ Some c) (read : ReadToEnd before.left after.left script)
-    (started : IsStarted c.limits limits tables shards journal before.folder mid) (kept : before.folder_faults ≤ faults) where
+    (started : IsStarted c.limits limits tables shards journal before.folder mid) (kept : before.folder_faults ≤ faults) (n : ℕ) (counted : n ≡ before.folder_faults) where
   earlier : (h : History) → Begins c.limits started.entries started.mutations faults h → Begins c.limits started.entries started.mutations before.folder_faults h
   earlier h begins = record {
     session = begins.session;
@@ -104,7 +113,7 @@ module _ (words : List (List ℕ)) (Gives : ℤ → Type 0) (before after : Outs
   }
 
   of_served : (list : List (Item Event))
-      → Served c.clock Gives script before.taken after.taken c.limits started.entries started.mutations journal mid after.folder before.folder_faults faults after.folder_faults list why
+      → Served c.clock Gives script before.taken after.taken c.limits started.entries started.mutations journal mid after.folder n faults after.folder_faults list why
       → Ran c Gives script before after list why
   of_served list served = record {
     entries = started.entries;
@@ -118,110 +127,23 @@ module _ (words : List (List ℕ)) (Gives : ℤ → Type 0) (before after : Outs
     entered = served.entered;
     crash = λ image reads bytes i left. let (t, told, lasts) = started.lasts image reads bytes in served.crash t told lasts i left;
     faults = served.faults;
-    ended = served.ended;
+    ended = served.ended ∙ ap (λ (k : ℕ). with_faults k after.folder_faults served.told) counted;
   }
 
   pub ran_all : (pass : Option (List (Item Event))) → length script ≤ SCRIPT_LIMIT
-      → Serves c.clock Gives script before.taken after.taken limits tables shards journal mid faults before.folder_faults after.folder after.folder_faults pass why
-      → (pass ≡ None → KeepsBytes before.taken after.taken) → RanAll words Gives before after pass why
-  ran_all None short serves unwritten = (unwritten refl, subst IsNotRun (sym serves) tt)
+      → Serves c.clock Gives script before.taken after.taken limits tables shards journal mid faults n after.folder after.folder_faults pass why
+      → (pass ≡ None → after.taken ≡ before.taken) → RanAll words Gives before after pass why
+  ran_all None short serves unwritten = (keeps before.taken after.taken (unwritten refl), subst IsNotRun (sym serves) tt)
   ran_all (Some list) short serves unwritten =
       (c, said, (script, read, short, of_served list (serves c.limits started.entries started.mutations started.memory started.segment)))
 
--- ---- how a run ends that answered lines
-
--- it wasn't ended before a line was run
-abbrev pub IsAnswered : Cause → Type 0
-IsAnswered cause.Good = ⊤
-IsAnswered cause.Refused = ⊤
-IsAnswered cause.Write = ⊤
-IsAnswered cause.Disk = ⊤
-IsAnswered cause.Mem = ⊤
-IsAnswered _ = ⊥
-
-of_end : (told : Cause) → IsEnd told → IsAnswered told
-of_end cause.Good e = tt
-of_end cause.Refused e = tt
-of_end cause.Write e = tt
-of_end cause.Mem e = tt
-of_end cause.Disk e = absurd e
-of_end cause.Words e = absurd e
-of_end cause.Read e = absurd e
-of_end (cause.Bad name at) e = absurd e
-of_end (cause.TooLong taken) e = absurd e
+-- ---- what ends a run
 
 of_both : (P : Cause → Type 0) (b : Bool) (x y : Cause) → P x → P y → P (if b then y else x)
 of_both P true x y p q = q
 of_both P false x y p q = p
 
-pub is_answered : (before now : ℕ) (why : Cause) → EndsServed before now why → IsAnswered why
-is_answered before now why (inl mem) = subst IsAnswered (sym mem) tt
-is_answered before now why (inr (told, end, is)) =
-    let so = of_end told end in
-    subst IsAnswered (sym is)
-    (of_both IsAnswered (has_risen before now) told (worse told cause.Disk) so (of_both IsAnswered (nat_lt (weight told) (weight cause.Disk)) told cause.Disk so tt))
-
-pub no_words : (why : Cause) → IsAnswered why → why ≡ cause.Words → ⊥
-no_words why i e = subst IsAnswered e i
-
-pub no_read : (why : Cause) → IsAnswered why → why ≡ cause.Read → ⊥
-no_read why i e = subst IsAnswered e i
-
-pub not_long : (why : Cause) (P : ℕ → Type 0) → IsAnswered why → IfTooLong why P
-not_long cause.Good P i = tt
-not_long cause.Refused P i = tt
-not_long cause.Write P i = tt
-not_long cause.Mem P i = tt
-not_long cause.Disk P i = tt
-not_long cause.Words P i = absurd i
-not_long cause.Read P i = absurd i
-not_long (cause.Bad name at) P i = absurd i
-not_long (cause.TooLong taken) P i = absurd i
-
-pub not_bad : (why : Cause) (P : Name → ℕ → Type 0) → IsAnswered why → IfBad why P
-not_bad cause.Good P i = tt
-not_bad cause.Refused P i = tt
-not_bad cause.Write P i = tt
-not_bad cause.Mem P i = tt
-not_bad cause.Disk P i = tt
-not_bad cause.Words P i = absurd i
-not_bad cause.Read P i = absurd i
-not_bad (cause.Bad name at) P i = absurd i
-not_bad (cause.TooLong taken) P i = absurd i
-
--- ---- faults of the folder
-
-risen : (before now : ℕ) (b : Bool) → has_risen before now ≡ b → (told : Cause) → IsEnd told → (if b then worse told cause.Disk else told) ≡ cause.Disk → Rose before now
-risen before now true test told end is = leb-true _ now test
-risen before now false test told end is = absurd (subst IsEnd is end)
-
-mem_is_other : cause.Mem ≡ cause.Disk → ⊥
-mem_is_other e = cc
-
-pub disk_rose : (before now : ℕ) (why : Cause) → EndsServed before now why → why ≡ cause.Disk → Rose before now
-disk_rose before now why (inl mem) e = absurd (mem_is_other (sym mem ∙ e))
-disk_rose before now why (inr (told, end, is)) e = risen before now (has_risen before now) refl told end (sym is ∙ e)
-
-abbrev TellsDisk : Cause → Type 0
-TellsDisk why = IsTrue (nat_le (weight cause.Disk) (weight why))
-
-heavy : (told : Cause) → IsEnd told → (b : Bool) → b ≡ true → TellsDisk (if b then worse told cause.Disk else told)
-heavy told end false no = absurd cc
-heavy cause.Good end true yes = refl
-heavy cause.Refused end true yes = refl
-heavy cause.Write end true yes = refl
-heavy cause.Mem end true yes = refl
-heavy cause.Disk end true yes = refl
-heavy cause.Words end true yes = refl
-heavy cause.Read end true yes = refl
-heavy (cause.Bad name at) end true yes = refl
-heavy (cause.TooLong taken) end true yes = refl
-
-pub disk_told : (before now : ℕ) (why : Cause) → EndsServed before now why → Rose before now → IsTrue (nat_le (weight cause.Disk) (weight why))
-disk_told before now why (inl mem) rose = subst TellsDisk (sym mem) refl
-disk_told before now why (inr (told, end, is)) rose = subst TellsDisk (sym is) (heavy told end (has_risen before now) (le-leb _ now rose))
-
--- without one a run ends as its lines did
+-- without a fault of the folder it ends as its lines did
 calm_by : (before now : ℕ) (b : Bool) → has_risen before now ≡ b → (told : Cause) → (Rose before now → ⊥) → (if b then worse told cause.Disk else told) ≡ told
 calm_by before now true test told none = absurd (none (leb-true _ now test))
 calm_by before now false test told none = refl
@@ -231,15 +153,19 @@ calm before now told none = calm_by before now (has_risen before now) refl told 
 
 -- ---- an opening that ends a run
 
-pub bad_opening : (fault : OpenFault) (P : Name → ℕ → Type 0) → ((name : Name) (at : ℕ) → fault ≡ open_fault.Bad name at → P name at) → IfBad (cause_of_opening fault) P
-bad_opening (open_fault.Bad name at) P bad = bad name at refl
-bad_opening open_fault.Failed P bad = tt
-bad_opening open_fault.Mem P bad = tt
+if_bad : (fault : OpenFault) (P : Name → ℕ → Type 0) → ((name : Name) (at : ℕ) → fault ≡ open_fault.Bad name at → P name at) → IfBad (cause_of_opening fault) P
+if_bad (open_fault.Bad name at) P bad = bad name at refl
+if_bad open_fault.Failed P bad = tt
+if_bad open_fault.Mem P bad = tt
 
-pub bad_script : (fault : ScriptFault) (P : Name → ℕ → Type 0) → IfBad (cause_of_fault fault) P
-bad_script script_fault.Read P = tt
-bad_script (script_fault.TooLong taken) P = tt
-bad_script script_fault.Mem P = tt
+-- the folder is refused for bytes that aren't as they must be
+pub bad_opening : (words : List (List ℕ)) (folder : Disk) (c : Command) (fault : OpenFault) (why : Cause) → command_of words ≡ Some c → why ≡ cause_of_opening fault
+    → ((name : Name) (at : ℕ) → fault ≡ open_fault.Bad name at → (d : Image) → folder.reads d → IsOfBytes d → IsUnfit c.limits.shards name at d)
+    → IfBad why (λ name at. (k : Command) → command_of words ≡ Some k → (d : Image) → folder.reads d → IsOfBytes d → IsUnfit k.limits.shards name at d)
+bad_opening words folder c fault why said is refused =
+    subst (λ (w : Cause). IfBad w (λ name at. (k : Command) → command_of words ≡ Some k → (d : Image) → folder.reads d → IsOfBytes d → IsUnfit k.limits.shards name at d)) (sym is)
+    (if_bad fault _
+    (λ name at e k too d reads bytes. subst (λ (j : Command). IsUnfit j.limits.shards name at d) (same_Some c k (sym said ∙ too)) (refused name at e d reads bytes)))
 
 -- ---- where all is well
 
@@ -316,17 +242,18 @@ module _ (words : List (List ℕ)) (Gives : ℤ → Type 0) (before after : Outs
   pub ends_well : (script : List ℕ) (limits : Limits) (tables : List TableSchema) (shards : List Shard) (journal : Journal) (mid : Disk) (faults : ℕ)
       (pass : Option (List (Item Event))) (why : Cause) → ReadToEnd before.left after.left script
       → IsStarted c.limits limits tables shards journal before.folder mid → before.folder_faults ≤ faults
-      → Serves c.clock Gives script before.taken after.taken limits tables shards journal mid faults before.folder_faults after.folder after.folder_faults pass why
+      → (n : ℕ) → n ≡ before.folder_faults
+      → Serves c.clock Gives script before.taken after.taken limits tables shards journal mid faults n after.folder after.folder_faults pass why
       → (why ≡ cause.Write → WriteRose before after) → GoodOrMem why
-  ends_well script limits tables shards journal mid faults None why read started kept serves write = inr serves
-  ends_well script limits tables shards journal mid faults (Some list) why read started kept serves write =
+  ends_well script limits tables shards journal mid faults None why read started kept n counted serves write = inr serves
+  ends_well script limits tables shards journal mid faults (Some list) why read started kept n counted serves write =
       ran_well script list why read
-      (of_served words Gives before after c script limits tables shards journal mid faults why said read started kept list
+      (of_served words Gives before after c script limits tables shards journal mid faults why said read started kept n counted list
       (serves c.limits started.entries started.mutations started.memory started.segment)) write
 
   unfit : (name : Name) (at : ℕ) → IsUnfit c.limits.shards name at well.image → ⊥
   unfit name at (inl refused) = opens_not_bad well.image well.of_bytes c.limits.shards well.entries well.mutations opens name at refused
-  unfit name at (inr (is_manifest, first, es, ns, other, flushed)) =
+  unfit name at (inr (is_manifest, first, (es, ns, other, flushed))) =
       let one = one_store well.image well.of_bytes c.limits.shards es well.entries ns well.mutations other opens in
       flushed (subst (λ (l : List ManifestEntry). IsUnflushed (said_by l)) (sym one.0) well.unflushed)
 
