@@ -5,6 +5,7 @@ mod Lasting
 mod Entering
 mod Tables
 mod Serving
+mod RunLemmas
 mod Founding
 mod Unflushed
 mod Restoring

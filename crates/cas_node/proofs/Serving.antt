@@ -40,6 +40,9 @@ numbered f d m zero k lt = absurd (omega (arith, lt))
 numbered f d m (suc n) zero lt = ap f (omega arith)
 numbered f d m (suc n) (suc k) lt = numbered f d (suc m) n k (omega (arith, lt)) ∙ ap f (omega arith)
 
+from_none : (n : ℕ) → 0 + n ≡ n
+from_none n = omega arith
+
 -- ---- the beginning
 
 module _ (given : Limits) (entries : List ManifestEntry) (mutations : List Mutation) (s : State) (memory : IsInMemory given entries mutations s.limits s.tables s.shards)
@@ -53,8 +56,7 @@ module _ (given : Limits) (entries : List ManifestEntry) (mutations : List Mutat
   at : (n : ℕ) → n < count → shard_at (start given entries mutations s.session (disk_of s)) n ≡ found_shard (found_in n mutations)
   unfolding start
   at n lt =
-      let same : 0 + n ≡ n = omega arith in
-      numbered (λ (k : ℕ). found_shard (found_in k mutations)) (found_shard empty_shard) 0 count n lt ∙ ap (λ (k : ℕ). found_shard (found_in k mutations)) same
+      numbered (λ (k : ℕ). found_shard (found_in k mutations)) (found_shard empty_shard) 0 count n lt ∙ ap (λ (k : ℕ). found_shard (found_in k mutations)) (from_none n)
 
   pub first_stands : StandsFor (start given entries mutations s.session (disk_of s)) s
   unfolding start
@@ -89,7 +91,8 @@ module _ (given : Limits) (entries : List ManifestEntry) (mutations : List Mutat
     few = subst (λ (es : List ManifestEntry). length es ≤ 1) (sym told.failed) (omega arith);
     ordered = subst AreInOrder (sym told.taken) memory.ordered;
     next =
-        subst (λ (ms : List Mutation). (n : ℕ) (x : Shard) → slice_get s.shards n ≡ Some x → AscendByOne (numbers_of n ms ++ (x.number + 1) ∷ [])) (sym told.taken) memory.next;
+        subst (λ (ms : List Mutation). (n : ℕ) (x : Shard) → slice_get s.shards n ≡ Some x → AscendByOne (numbers_of n ms ++ (x.number + 1) ∷ [])) (sym told.taken)
+        memory.next;
     counted = none s.accepted;
     written = none s.calls;
     acknowledged = (omega arith, omega arith);

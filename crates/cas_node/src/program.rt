@@ -1,6 +1,6 @@
 //! The program: its words, its script, its output and how it ends.
 
-ghost use Rattle.std.specs.Prelude.{◌≡◌, ◌≤◌, ◌<◌, ◌⊎◌, ◌+◌, List, ℕ, map, length, [], IsTrue, IfOk, IfSome, IsSome, string_bytes, Some, None, nat_le};
+ghost use Rattle.std.specs.Prelude.{◌≡◌, ◌≤◌, ◌<◌, ◌⊎◌, ◌+◌, List, ℕ, pos, map, length, [], IsTrue, IfOk, IfSome, IsSome, string_bytes, Some, None, nat_le};
 ghost use Rattle.cas_types.specs.Limits.{IsShardCount};
 ghost use Rattle.cas_io.specs.Causes.{Rose};
 ghost use Rattle.cas_io.specs.Streams.{TookCount};
@@ -17,7 +17,7 @@ ghost use Rattle.cas_room.specs.Keeping.{Keeps, StandsFor};
 ghost use Rattle.cas_room.specs.Rooms.{accepted_in};
 ghost use Rattle.cas_node.specs.Found.{IsUnfit};
 ghost use Rattle.cas_node.specs.Ran.{RanAll, IsNotRun, IfBad, IfTooLong, AllWell, GoodOrMem, count_taken, has_risen, is_too_long, outside, status_of, weight, with_faults};
-ghost use Rattle.cas_node.specs.Inner.Serving.{Serves};
+ghost use Rattle.cas_node.specs.Inner.Serving.{EndsServed, Serves};
 ghost use Rattle.cas_node.specs.Inner.Starts.{cause_of_opening};
 ghost use Rattle.cas_node.specs.Inner.Turns.{cause_of_fault};
 
@@ -132,7 +132,7 @@ fn assembled<F: Folder, J: Store>(started: Started, seats: Seats<J>, folder: F) 
     ensures tables { result.tables ≡ started.tables }
     ensures shards { result.shards ≡ started.shards }
     ensures fronts { result.fronts ≡ seats.fronts }
-    ensures clock { result.clock ≡ 0 }
+    ensures clock { result.clock ≡ pos 0 }
     ensures session { result.session ≡ seats.session }
     ensures room { (result.room.folder ≡ folder) × (result.room.journal ≡ started.journal) × (result.room.log ≡ seats.log)
         × (result.room.faults ≡ seats.faults) × (result.room.accepted ≡ 0) }
@@ -202,8 +202,10 @@ fn serve<K: Sink, F: Folder, J: Store, C: Clock>(
     ensures status { result.status ≡ status_of result.cause }
     ensures tally { ⟦<F::Tally as Count>⟧.number result.tally ≡ 0 }
     ensures unwritten { result.pass ≡ None → sink.new ≡ sink.old }
+    ensures kept { result.pass ≡ None → result.folder ≡ folder }
     ensures write { result.cause ≡ Cause.Write
         → Rose (K.faults sink.old) (K.faults sink.new) ⊎ Rose (K.stalls sink.old) (K.stalls sink.new) }
+    ensures ends { EndsServed faults (F.faults_of result.folder) result.cause }
 {
     let seats = match make_seats::<J>(alloc, table, &started.shards) {
         Ok(seats) => seats,

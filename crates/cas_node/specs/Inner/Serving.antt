@@ -1,5 +1,5 @@
 -- A run over a store that was opened (own).
-use Rattle.std.specs.Prelude.{◌≡◌, ◌≤◌, ℕ, ℤ, List, [], length, Option, None, Some}
+use Rattle.std.specs.Prelude.{◌≡◌, ◌⊎◌, ◌≤◌, ℕ, ℤ, List, [], length, Option, None, Some}
 use Rattle.cas_disk.specs.Disk.{Disk, Image}
 use Rattle.cas_types.specs.declared.schema.TableSchema.{TableSchema}
 use Rattle.cas_atoms.specs.declared.atom.Mutation.{Mutation}
@@ -9,6 +9,7 @@ use Rattle.cas_history.specs.declared.item.Item.{Item}
 use Rattle.cas_journal.specs.Journals.{Lasts}
 use Rattle.cas_journal.specs.Stores.{Told}
 use Rattle.cas_journal.specs.declared.journal.Journal.{Journal}
+use Rattle.cas_opening.specs.Opening.{next_segment}
 use Rattle.cas_room.specs.declared.event.Event.{Event}
 use Rattle.cas_shard.specs.declared.shard.Shard.{Shard}
 use Rattle.cas_words.specs.declared.words.ClockKind.{ClockKind}
@@ -19,7 +20,7 @@ use Rattle.cas_node.specs.Found.{start, Begins}
 use Rattle.cas_node.specs.Entered.{AreEntered, IsLeft}
 use Rattle.cas_node.specs.Ran.{RanFrom, with_faults}
 use Rattle.cas_node.specs.Inner.Starts.{IsInMemory, IsTold}
-use Rattle.cas_node.specs.Inner.State.{disk_of}
+use Rattle.cas_node.specs.Inner.Turns.{IsEnd}
 
 -- the lines of the script ran in a store of these entries and mutations, and what they accepted is the list; where all that was found lasts, all that was acknowledged does
 pub record Served (kind : ClockKind) (Gives : ℤ → Type 0) (script : List ℕ) (old new : Option (List ℕ)) (limits : Limits)
@@ -41,4 +42,9 @@ abbrev pub Serves : ClockKind → (ℤ → Type 0) → List ℕ → Option (List
 Serves kind Gives script old new limits tables shards journal before faults faults_before after faults_now None why = why ≡ cause.Mem
 Serves kind Gives script old new limits tables shards journal before faults faults_before after faults_now (Some list) why =
     (given : Limits) (entries : List ManifestEntry) (mutations : List Mutation) → IsInMemory given entries mutations limits tables shards
+    → journal.last_segment ≤ next_segment entries
     → Served kind Gives script old new given entries mutations journal before after faults_before faults faults_now list why
+
+-- why such a run ends: as its lines did, with the faults of its folder; or memory ran out before a line was run
+abbrev pub EndsServed : ℕ → ℕ → Cause → Type 0
+EndsServed before now why = (why ≡ cause.Mem) ⊎ ((told : Cause) × IsEnd told × (why ≡ with_faults before now told))
