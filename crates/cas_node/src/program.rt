@@ -10,6 +10,7 @@ ghost use Rattle.cas_words.specs.declared.words.Command.{Command};
 ghost use Rattle.cas_atoms.specs.declared.atom.Mutation.{Mutation as MutationOf};
 ghost use Rattle.cas_changes.specs.declared.entry.Entry.{Entry as EntryOf};
 ghost use Rattle.cas_bind.specs.Tables.{AreTables};
+ghost use Rattle.cas_log.specs.Segment.{IsSize};
 ghost use Rattle.cas_journal.specs.Journals.{AreFree};
 ghost use Rattle.cas_journal.specs.Stores.{IsStore, MayList, Told};
 ghost use Rattle.cas_opening.specs.Opening.{IsOfBytes, MayBeOpened};
@@ -195,6 +196,7 @@ fn serve<K: Sink, F: Folder, J: Store, C: Clock>(
     requires table { table.seat.table_id ≡ J.table }
     requires free { AreFree started.journal (F.disk folder) }
     requires runs { (started.journal.first ≡ None) × (started.journal.size ≡ started.limits.segment) }
+    requires size { IsSize started.limits.segment }
     requires good { AreTables started.tables.items × (length started.shards.items ≡ started.limits.shards) × IsShardCount started.limits.shards }
     ensures served { Serves ask.now.kind (C.may_give ask.now.clock.now) script.now (K.took sink.old) (K.took sink.new)
         started.limits started.tables.items started.shards.items started.journal (F.disk folder) (F.faults_of folder) faults
