@@ -47,13 +47,15 @@ moves_as s t d e P Q moves so h stands =
 -- ---- a statement that was bound
 
 module _ (kind : ClockKind) (Gives : ℤ → Type 0) where
-  pub does_read : (s t : State) (d e : Disk) (seconds reading at : ℤ) (q : BoundRead) (r : Reply)
+  pub does_read : (s t : State) (d e : Disk) (seconds reading at : ℤ) (b : Bound) (q : BoundRead) (r : Reply)
       → Moves (λ h after. Shows (shard_at h q.shard) at q r × (after ≡ after_read h q.shard at)) s t d e
-      → IsReading kind Gives seconds reading → seconds ≡ s.clock → at ≡ reading
-      → Moves (λ h after. Does kind Gives h (Ok (bound.Read q)) r after) s t d e
-  does_read s t d e seconds reading at q r moves given same is h stands =
+      → IsReading kind Gives seconds reading → seconds ≡ s.clock → at ≡ reading → b ≡ bound.Read q
+      → Moves (λ h after. Does kind Gives h (Ok b) r after) s t d e
+  does_read s t d e seconds reading at b q r moves given same is of h stands =
       let (after, so, goes) = moves h stands in
-      (after, (at, subst (λ n. IsReading kind Gives h.clock n) (sym is) (subst (λ c. IsReading kind Gives c reading) (same ∙ sym stands.clock) given), so.0, so.1), goes)
+      let given_at : IsReading kind Gives h.clock at =
+      subst (λ n. IsReading kind Gives h.clock n) (sym is) (subst (λ c. IsReading kind Gives c reading) (same ∙ sym stands.clock) given) in
+      (after, subst (λ x. Does kind Gives h (Ok x) r after) (sym of) (at, given_at, so.0, so.1), goes)
 
   -- ---- a statement
 
