@@ -1,42 +1,30 @@
 -- What a line does with a store, from what its parts do.
-use Rattle.std.proofs.Common.{◌≡◌, ◌≤◌, arith, inl, inr, ℕ, ℤ, List, Option, None, Some, Result, Ok, Err, refl, sym, ap, ◌∙◌, subst}
+use Rattle.std.proofs.Common.{◌≡◌, ◌≤◌, arith, inl, inr, ℕ, ℤ, List, Some, Ok, refl, sym, ap, ◌∙◌, subst}
 use Rattle.cas_types.specs.Limits.{IsMoment}
 use Rattle.cas_types.specs.declared.schema.TableSchema.{TableSchema}
 use Rattle.cas_disk.specs.Disk.{Disk}
-use Rattle.cas_atoms.specs.declared.atom.Mutation.{Mutation}
 use Rattle.cas_bind.specs.Meaning.{meaning}
 use Rattle.cas_bind.specs.Tables.{AreTables, tables_after}
 use Rattle.cas_bind.specs.declared.bound.Bound.{Bound}
 use Rattle.cas_bind.specs.declared.bound.Bound.TheVariants as bound
 use Rattle.cas_bind.specs.declared.bound.BoundRead.{BoundRead}
 use Rattle.cas_changes.specs.Saying.{Saying, nothing}
-use Rattle.cas_effects.specs.declared.effect.BoundWrite.{BoundWrite}
-use Rattle.cas_effects.specs.declared.refusal.Refusal.{Refusal}
-use Rattle.cas_effects.specs.declared.refusal.TheConstants.{NOT_HERE, SYNTAX}
-use Rattle.cas_effects.specs.Refusals.{refusal_number}
-use Rattle.cas_journal.specs.Stores.{Told}
-use Rattle.cas_lines.specs.Lines.{Says, clock_of}
+use Rattle.cas_lines.specs.Lines.{Says}
 use Rattle.cas_lines.specs.declared.line.Line.{Line}
 use Rattle.cas_lines.specs.declared.line.Line.TheVariants as line
 use Rattle.cas_lines.proofs.LineReading.{clock_is_moment}
-use Rattle.cas_render.specs.declared.reply.Failure.TheVariants as failure
 use Rattle.cas_render.specs.declared.reply.Reply.{Reply}
 use Rattle.cas_render.specs.declared.reply.Reply.TheVariants as reply
 use Rattle.cas_words.specs.declared.words.ClockKind.{ClockKind}
 use Rattle.cas_words.specs.declared.words.ClockKind.TheVariants as clock
 use Rattle.cql_parse.specs.declared.syntax.Statement.{Statement}
-use Rattle.define_laws.specs.Entries.{IsThere}
 use Rattle.define_laws.proofs.Telling.{defined_tables_may_be_told, defined_columns_may_be_told}
-use Rattle.cas_node.specs.History.{History, Answers, Answered, Does, IsReading, SetsClock, Shows, WritesAt, after_read, shard_at}
-use Rattle.cas_node.specs.Inner.Definitions.{IsSpelled, IsTold, MayBeTold}
-use Rattle.cas_node.specs.Inner.State.{State, StandsFor, LastsFor, IsSound}
+use Rattle.cas_node.specs.History.{History, Answers, Does, IsReading, SetsClock, Shows, after_read, shard_at}
+use Rattle.cas_node.specs.Inner.Definitions.{IsSpelled, IsTold}
+use Rattle.cas_node.specs.Inner.State.{State, StandsFor}
 use Rattle.cas_node.specs.Inner.Turns.{GoesOnTo, Moves, OrWant}
 
 -- ---- moves
-
--- nothing moved
-pub stays : (s : State) (d : Disk) (Follows : History → History → Type 0) → ((h : History) → Follows h h) → Moves Follows s s d d
-stays s d Follows so h stands = (h, so h, record { stands = stands; lasts = λ found told lasts. (told, lasts) })
 
 -- what follows one way follows another
 pub moves_as : (s t : State) (d e : Disk) (P Q : History → History → Type 0) → Moves P s t d e → ((h after : History) → StandsFor h s → P h after → Q h after) → Moves Q s t d e
@@ -47,50 +35,17 @@ moves_as s t d e P Q moves so h stands =
 -- ---- a statement that was bound
 
 module _ (kind : ClockKind) (Gives : ℤ → Type 0) where
-  pub does_read : (s t : State) (d e : Disk) (seconds reading at : ℤ) (q : BoundRead) (r : Reply)
+  pub does_read : (s t : State) (d e : Disk) (seconds reading at : ℤ) (b : Bound) (q : BoundRead) (r : Reply)
       → Moves (λ h after. Shows (shard_at h q.shard) at q r × (after ≡ after_read h q.shard at)) s t d e
-      → IsReading kind Gives seconds reading → seconds ≡ s.clock → at ≡ reading
-      → Moves (λ h after. Does kind Gives h (Ok (bound.Read q)) r after) s t d e
-  does_read s t d e seconds reading at q r moves given same is h stands =
-      let (after, so, goes) = moves h stands in
-      (after, (at, subst (λ n. IsReading kind Gives h.clock n) (sym is) (subst (λ c. IsReading kind Gives c reading) (same ∙ sym stands.clock) given), so.0, so.1), goes)
-
-  -- ---- a statement
-
-  pub does_bound : (s t : State) (d e : Disk) (shards : ℕ) (tables : List TableSchema) (x : Statement) (b : Bound) (r : Reply) → meaning shards tables x ≡ Ok b
+      → IsReading kind Gives seconds reading → seconds ≡ s.clock → at ≡ reading → b ≡ bound.Read q
       → Moves (λ h after. Does kind Gives h (Ok b) r after) s t d e
-      → Moves (λ h after. OrWant r (λ h after. Does kind Gives h (meaning shards tables x) r after) h after) s t d e
-  does_bound s t d e shards tables x b r is moves =
-      moves_as s t d e (λ h after. Does kind Gives h (Ok b) r after)
-      (λ h after. OrWant r (λ h after. Does kind Gives h (meaning shards tables x) r after) h after) moves
-      (λ h after stands so. inr (subst (λ m. Does kind Gives h m r after) (sym is) so))
-
-  pub does_refused : (s : State) (d : Disk) (shards : ℕ) (tables : List TableSchema) (x : Statement) (why : Refusal) (r : Reply) → meaning shards tables x ≡ Err why
-      → r ≡ reply.Refused (refusal_number why)
-      → Moves (λ h after. OrWant r (λ h after. Does kind Gives h (meaning shards tables x) r after) h after) s s d d
-  does_refused s d shards tables x why r is told =
-      stays s d (λ h after. OrWant r (λ h after. Does kind Gives h (meaning shards tables x) r after) h after)
-      (λ h. inr (subst (λ m. Does kind Gives h m r h) (sym is) (told, refl)))
-
-  pub does_want : (s : State) (d : Disk) (shards : ℕ) (tables : List TableSchema) (x : Statement)
-      → Moves (λ h after. OrWant (reply.Failed failure.Memory) (λ h after. Does kind Gives h (meaning shards tables x) (reply.Failed failure.Memory) after) h after) s s d d
-  does_want s d shards tables x =
-      stays s d (λ h after. OrWant (reply.Failed failure.Memory) (λ h after. Does kind Gives h (meaning shards tables x) (reply.Failed failure.Memory) after) h after)
-      (λ h. inl (refl, refl))
+  does_read s t d e seconds reading at b q r moves given same is of h stands =
+      let (after, so, goes) = moves h stands in
+      let given_at : IsReading kind Gives h.clock at =
+      subst (λ n. IsReading kind Gives h.clock n) (sym is) (subst (λ c. IsReading kind Gives c reading) (same ∙ sym stands.clock) given) in
+      (after, subst (λ x. Does kind Gives h (Ok x) r after) (sym of) (at, given_at, so.0, so.1), goes)
 
   -- ---- a line
-
-  pub answers_want : (s : State) (d : Disk) (text : List ℕ) → Moves (λ h after. Answers kind Gives h text (Some (reply.Failed failure.Memory)) after) s s d d
-  answers_want s d text = stays s d (λ h after. Answers kind Gives h text (Some (reply.Failed failure.Memory)) after) (λ h. inl (refl, refl))
-
-  pub answers_blank : (s : State) (d : Disk) (text : List ℕ) (l : Line) → Says text l → l ≡ line.Blank → Moves (λ h after. Answers kind Gives h text None after) s s d d
-  answers_blank s d text l says is =
-      stays s d (λ h after. Answers kind Gives h text None after) (λ h. inr (line.Blank, subst (λ l. Says text l) is says, (refl, refl)))
-
-  pub answers_syntax : (s : State) (d : Disk) (text : List ℕ) (l : Line) → Says text l → l ≡ line.Syntax
-      → Moves (λ h after. Answers kind Gives h text (Some (reply.Refused SYNTAX)) after) s s d d
-  answers_syntax s d text l says is =
-      stays s d (λ h after. Answers kind Gives h text (Some (reply.Refused SYNTAX)) after) (λ h. inr (line.Syntax, subst (λ l. Says text l) is says, (refl, refl)))
 
   pub answers_clock : (s t : State) (d e : Disk) (text : List ℕ) (l : Line) (n m : ℤ) (r : Reply)
       → Moves (λ h after. SetsClock kind h m r after) s t d e → m ≡ n → Says text l → l ≡ line.Clock n → Moves (λ h after. Answers kind Gives h text (Some r) after) s t d e
@@ -155,20 +110,6 @@ pub sets_clock : (kind : ClockKind) (s : State) (n m : ℤ) (d : Disk) → kind 
     → Moves (λ h after. SetsClock kind h n reply.Done after) s (record s { clock = m }) d d
 sets_clock kind s n m d is same h stands =
     (record h { clock = m }, subst (λ k. SetsClock k h n reply.Done (record h { clock = m })) (sym is) (refl, ap (λ k. record h { clock = k }) same), with_clock h s m d stands)
-
-pub clock_not_here : (s : State) (n : ℤ) (d : Disk) → Moves (λ h after. SetsClock clock.System h n (reply.Refused NOT_HERE) after) s s d d
-clock_not_here s n d = stays s d (λ h after. SetsClock clock.System h n (reply.Refused NOT_HERE) after) (λ h. (refl, refl))
-
-pub clock_sound : (s : State) (n : ℤ) → IsSound s → IsMoment n → IsSound (record s { clock = n })
-clock_sound s n sound moment = record {
-  tables = sound.tables;
-  count = sound.count;
-  some = sound.some;
-  clock = moment;
-  size = sound.size;
-  places = sound.places;
-  numbers = sound.numbers;
-}
 
 -- ---- what a statement defines may be told to the manifest
 

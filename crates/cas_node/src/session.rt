@@ -188,9 +188,7 @@ pub(crate) fn session<K: Sink, F: Folder, J: Store, C: Clock>(
     let mut rest = script;
     let mut cause = Cause::Good;
     let mut text = Vec::new(alloc);
-    let bytes = script.len();
     while !rest.is_empty() {
-        prove!(rest.len() <= bytes);
         let (line, after) = next_line(rest);
         let turn = take_turn(alloc, ask, node, &mut text, sink, line);
         cause = worse(cause, turn.cause);

@@ -1,6 +1,6 @@
 use Rattle.std.proofs.Common.{arith}
 use Rattle.std.proofs.lemmas.Int.{ints}
-use Rattle.cas_node.proofs.Answering.{answers_clock, answers_statement, answers_syntax, answers_blank, says_moment, says_spelled}
+use Rattle.cas_node.proofs.Answering.{answers_clock, answers_statement, says_moment, says_spelled}
 use Rattle.cas_node.proofs.node.Node.answer_known.Goals as goal
 
 pub set_clock-requires-clause-moment : goal.set_clock-requires-clause-moment
