@@ -1,5 +1,5 @@
 -- A run over a store that was opened (own).
-use Rattle.std.specs.Prelude.{◌≡◌, ◌⊎◌, ◌≤◌, ℕ, ℤ, List, [], length, Option, None, Some}
+use Rattle.std.specs.Prelude.{◌≡◌, ◌⊎◌, ◌≤◌, ℕ, ℤ, List, Option, None, Some}
 use Rattle.cas_disk.specs.Disk.{Disk, Image}
 use Rattle.cas_types.specs.declared.schema.TableSchema.{TableSchema}
 use Rattle.cas_atoms.specs.declared.atom.Mutation.{Mutation}
@@ -16,7 +16,7 @@ use Rattle.cas_words.specs.declared.words.ClockKind.{ClockKind}
 use Rattle.cas_node.specs.declared.cause.Cause.{Cause}
 use Rattle.cas_node.specs.declared.cause.Cause.TheVariants as cause
 use Rattle.cas_node.specs.History.{History}
-use Rattle.cas_node.specs.Found.{start, Begins}
+use Rattle.cas_node.specs.Found.{Begins}
 use Rattle.cas_node.specs.Entered.{AreEntered, IsLeft}
 use Rattle.cas_node.specs.Ran.{RanFrom, with_faults}
 use Rattle.cas_node.specs.Inner.Starts.{IsInMemory, IsTold}
