@@ -1,16 +1,15 @@
 -- What a run did with its folder and its script, and how it ends.
-use Rattle.std.proofs.Common.{◌≡◌, ◌<◌, ◌≤◌, ◌+◌, ℕ, ℤ, pos, Bool, true, false, Option, None, Some, is_some, List, [], ◌∷◌, ◌++◌, length, refl, sym, ap, ◌∙◌, subst, append-nil, inl, inr, ⊎_elim, arith}
-use Rattle.std.specs.Prelude.{◌⊎◌, if◌then◌else◌, IfSome, IsSome}
+use Rattle.std.proofs.Common.{◌≡◌, ◌≤◌, ◌+◌, ℕ, ℤ, pos, Bool, true, false, Option, None, Some, is_some, List, [], ◌∷◌, ◌++◌, length, refl, sym, ap, ◌∙◌, subst, append-nil, inl, inr, arith}
+use Rattle.std.specs.Prelude.{if◌then◌else◌, IfSome, IsSome}
 use Rattle.std.specs.List.{fold}
 use Rattle.std.specs.Str.Lines.{lines}
-use Rattle.std.specs.Io.KnownBytes.{Consumes, IsAtEnd, Keeps as KeepsBytes}
+use Rattle.std.specs.Io.KnownBytes.{Keeps as KeepsBytes}
 use Rattle.std.proofs.lemmas.Bool.{leb-true}
 use Rattle.std.proofs.lemmas.Option.{same_Some}
 use Rattle.cas_io.specs.Causes.{Rose}
 use Rattle.cas_io.specs.Streams.{ReadToEnd}
 use Rattle.cas_types.specs.declared.schema.TableSchema.{TableSchema}
 use Rattle.cas_disk.specs.declared.name.Name.{Name}
-use Rattle.cas_disk.specs.declared.name.Name.TheVariants.{Manifest as manifest_name}
 use Rattle.cas_disk.specs.Disk.{Disk, Image}
 use Rattle.cas_gates.specs.declared.first.First.{First}
 use Rattle.cas_atoms.specs.declared.atom.Mutation.{Mutation}
@@ -20,7 +19,7 @@ use Rattle.cas_changes.specs.declared.entry.Entry.{Entry as ManifestEntry}
 use Rattle.cas_history.specs.declared.item.Item.{Item}
 use Rattle.cas_journal.specs.Stores.{Told, MayList}
 use Rattle.cas_journal.specs.declared.journal.Journal.{Journal}
-use Rattle.cas_opening.specs.Opening.{IsOfBytes, IsRefused, OpensAs, next_segment}
+use Rattle.cas_opening.specs.Opening.{IsOfBytes, OpensAs, next_segment}
 use Rattle.cas_opening.specs.declared.fault.OpenFault.{OpenFault}
 use Rattle.cas_opening.specs.declared.fault.OpenFault.TheVariants as open_fault
 use Rattle.cas_opening.proofs.Readings.{one_store, opens_not_bad}
@@ -52,7 +51,7 @@ module _ (kind : ClockKind) (Gives : ℤ → Type 0) (script : List ℕ) (old ne
     (moves : Moves (λ h after. RanFrom h kind Gives script old new after told) s t d e) (clock : s.clock ≡ pos 0) (list : s.list ≡ []) (calls : s.calls ≡ 0)
     (committed : s.committed ≡ 0) (going : s.journal.first ≡ None) (ended : why ≡ with_faults faults_before t.faults told)
     (images : (found : List Mutation) (u : Told) → Keeps t.journal e t.list t.committed found u → (i : Image) → e.may_leave i
-        → ImageStands (MayList u) found (accepted_in t.list) t.committed i) where
+    → ImageStands (MayList u) found (accepted_in t.list) t.committed i) where
   of_store : (given : Limits) (entries : List ManifestEntry) (mutations : List Mutation) → IsInMemory given entries mutations s.limits s.tables s.shards
       → s.journal.last_segment ≤ next_segment entries
       → Served kind Gives script old new given entries mutations s.journal d e faults_before s.faults t.faults t.list why

@@ -1,6 +1,6 @@
 //! The program: its words, its script, its output and how it ends.
 
-ghost use Rattle.std.specs.Prelude.{◌≡◌, ◌≤◌, ◌<◌, ◌⊎◌, ◌+◌, List, ℕ, pos, map, length, [], IsTrue, IfOk, IfSome, IsSome, string_bytes, Some, None, nat_le};
+ghost use Rattle.std.specs.Prelude.{◌≡◌, ◌<◌, ◌⊎◌, ◌+◌, List, pos, map, length, IsTrue, IfSome, IsSome, string_bytes, Some, None, nat_le};
 ghost use Rattle.cas_types.specs.Limits.{IsShardCount};
 ghost use Rattle.cas_io.specs.Causes.{Rose};
 ghost use Rattle.cas_io.specs.Streams.{TookCount};
@@ -17,7 +17,7 @@ ghost use Rattle.cas_opening.specs.Opening.{IsOfBytes, MayBeOpened};
 ghost use Rattle.cas_room.specs.Keeping.{Keeps, StandsFor};
 ghost use Rattle.cas_room.specs.Rooms.{accepted_in};
 ghost use Rattle.cas_node.specs.Found.{IsUnfit};
-ghost use Rattle.cas_node.specs.Ran.{RanAll, IsNotRun, IfBad, IfTooLong, AllWell, GoodOrMem, count_taken, has_risen, is_too_long, outside, status_of, weight, with_faults};
+ghost use Rattle.cas_node.specs.Ran.{RanAll, IfBad, IfTooLong, AllWell, GoodOrMem, count_taken, has_risen, is_too_long, outside, status_of, weight, with_faults};
 ghost use Rattle.cas_node.specs.Inner.Serving.{EndsServed, Serves};
 ghost use Rattle.cas_node.specs.Inner.Starts.{cause_of_opening};
 ghost use Rattle.cas_node.specs.Inner.Turns.{cause_of_fault};

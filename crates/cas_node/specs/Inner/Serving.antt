@@ -1,5 +1,5 @@
 -- A run over a store that was opened (own).
-use Rattle.std.specs.Prelude.{◌≡◌, ◌⊎◌, ◌≤◌, ℕ, ℤ, List, [], length, Option, None, Some}
+use Rattle.std.specs.Prelude.{◌≡◌, ◌⊎◌, ◌≤◌, ℕ, ℤ, List, Option, None, Some}
 use Rattle.cas_disk.specs.Disk.{Disk, Image}
 use Rattle.cas_types.specs.declared.schema.TableSchema.{TableSchema}
 use Rattle.cas_atoms.specs.declared.atom.Mutation.{Mutation}
@@ -16,13 +16,13 @@ use Rattle.cas_words.specs.declared.words.ClockKind.{ClockKind}
 use Rattle.cas_node.specs.declared.cause.Cause.{Cause}
 use Rattle.cas_node.specs.declared.cause.Cause.TheVariants as cause
 use Rattle.cas_node.specs.History.{History}
-use Rattle.cas_node.specs.Found.{start, Begins}
+use Rattle.cas_node.specs.Found.{Begins}
 use Rattle.cas_node.specs.Entered.{AreEntered, IsLeft}
 use Rattle.cas_node.specs.Ran.{RanFrom, with_faults}
 use Rattle.cas_node.specs.Inner.Starts.{IsInMemory, IsTold}
 use Rattle.cas_node.specs.Inner.Turns.{IsEnd}
 
--- the lines of the script ran in a store of these entries and mutations, and what they accepted is the list; where all that was found lasts, all that was acknowledged does
+-- The lines of the script ran in a store of these entries and mutations, and accepted this list; where all that was found lasts, so does what was acknowledged.
 pub record Served (kind : ClockKind) (Gives : ℤ → Type 0) (script : List ℕ) (old new : Option (List ℕ)) (limits : Limits)
     (entries : List ManifestEntry) (mutations : List Mutation) (journal : Journal) (before after : Disk) (faults_before faults_first faults_now : ℕ)
     (list : List (Item Event)) (why : Cause) : Type 0 where

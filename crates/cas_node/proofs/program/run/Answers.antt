@@ -24,7 +24,7 @@ returns-in-Err-start-clause-complete g c = λ well.
     (opens_well _ _ _ _ c.in-Ok-Some.command (sym c.in-Ok-Some.ensures.exact ∙ c.in-Ok-Some.field-0-is) well c.in-Err-start.fault
     (λ name at e. c.in-Err-start.ensures.refused name at (ap (λ f. Err f) e))
     (λ e. subst (λ x. Rose (g.F.Folder.faults_of c.args.folder) (g.F.Folder.faults_of x)) (sym c.not_run-in-Err-start.ensures.folder)
-        (c.in-Err-start.ensures.count.rose (ap (λ f. Err f) e))))
+    (c.in-Err-start.ensures.count.rose (ap (λ f. Err f) e))))
 
 pub returns-in-Err-new-clause-stays : goal.returns-in-Err-new-clause-stays
 returns-in-Err-new-clause-stays g c = λ none d reads bytes entries mutations store.
