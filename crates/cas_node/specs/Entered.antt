@@ -41,8 +41,8 @@ pub record HasTables (h : History) (entries : List ManifestEntry) : Type 0 where
   pub few : length more ≤ 1
   pub none : h.disk.stopped ≡ false → more ≡ []
 
--- What a crash leaves of a run that began with these mutations and accepted those of the list: a store with all that began, and behind it a front of what was accepted,
--- each whole, every one acknowledged by an `ok` among them; and where no write failed all of them.
+-- What a crash leaves of a run that began with these mutations and accepted those of the list: a store with all that began, and behind it a front
+-- of what was accepted, each whole, every one acknowledged by an `ok` among them; and where no write failed all of them.
 pub record IsLeft (found : List Mutation) (list : List (Item Event)) (h : History) (c : Image) : Type 0 where
   pub entries : List ManifestEntry
   pub tables : HasTables h entries

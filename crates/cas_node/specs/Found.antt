@@ -27,8 +27,8 @@ pub record IsUnflushed (s : Saying) : Type 0 where
   pub parts : (table shard : ℕ) → table < length s.tables → shard < s.shards → part_of s table shard ≡ no_part
   pub times : AllByRecursion (λ t. t ≡ no_times) s.times
 
--- Entries of a manifest and mutations of a log are those of a store: the entries may follow one another, of which the first makes the store; the mutations are of
--- its tables, their numbers in order. So far it has no table files.
+-- Entries of a manifest and mutations of a log are those of a store: the entries may follow one another, of which the first makes the store; the
+-- mutations are of its tables, their numbers in order. So far it has no table files.
 pub record AreOfAStore (entries : List ManifestEntry) (mutations : List Mutation) : Type 0 where
   pub made : entries ≢ []
   pub follow : MayFollow nothing entries
@@ -36,13 +36,14 @@ pub record AreOfAStore (entries : List ManifestEntry) (mutations : List Mutation
   pub log : AreOfALog (said_by entries).tables (said_by entries).shards mutations
   pub unflushed : IsUnflushed (said_by entries)
 
--- The folder has a store of these entries and mutations, as it is found; or it has none, and one of so many shards is made. Of a folder that tells nothing nothing
--- more is said than that they are of some store.
+-- The folder has a store of these entries and mutations, as it is found; or it has none, and one of so many shards is made. Of a folder that tells
+-- nothing nothing more is said than that they are of some store.
 pub record IsFound (shards : ℕ) (folder : Disk) (entries : List ManifestEntry) (mutations : List Mutation) : Type 0 where
   pub of_a_store : AreOfAStore entries mutations
   pub told : (c : Image) → folder.reads c → IsOfBytes c → OpensAs shards entries mutations c
 
--- The history before the first line: the tables that the manifest tells of, as many shards as it says, and of each shard what the log has of it; the clock at 0.
+-- The history before the first line: the tables that the manifest tells of, as many shards as it says, and of each shard what the log has of it;
+-- the clock at 0.
 unfoldable pub start : Limits → List ManifestEntry → List Mutation → ℕ → DiskState → History
 start l entries mutations session disk = record {
   limits = record l { shards = (said_by entries).shards };
@@ -64,8 +65,8 @@ pub record Begins (l : Limits) (entries : List ManifestEntry) (mutations : List 
   pub faults : before ≤ disk.faults
   pub segment : disk.reach.segment ≤ next_segment entries
 
--- Why a folder is refused: the bytes of a file aren't as they must be at this place, or its store has table files, which isn't supported yet; that is told as the
--- manifest's first byte.
+-- Why a folder is refused: the bytes of a file aren't as they must be at this place, or its store has table files, which isn't supported yet; that
+-- is told as the manifest's first byte.
 abbrev pub IsUnfit : ℕ → Name → ℕ → Image → Type 0
 IsUnfit shards name at c =
     IsRefused name at c

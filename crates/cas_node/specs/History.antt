@@ -47,8 +47,8 @@ pub record DiskState : Type 0 where
   pub faults : ℕ
   pub reach : Reach
 
--- The limits of the store, its tables, its shards, and the seconds that the last `\clock` set; the number of the session that runs the lines, how many
--- mutations were accepted of it, and how many of these were acknowledged by an `ok`; and how the disk stands.
+-- The limits of the store, its tables, its shards, and the seconds that the last `\clock` set; the number of the session that runs the lines, how
+-- many mutations were accepted of it, and how many of these were acknowledged by an `ok`; and how the disk stands.
 pub record History : Type 0 where
   pub limits : Limits
   pub tables : List TableSchema
@@ -118,8 +118,8 @@ IsStopped d e = (d.stopped ≡ true) × Stays d e
 abbrev pub IsRefusedFor : ℕ → Mutation → DiskState → DiskState → ℕ → Type 0
 IsRefusedFor segment m d e why = (take_refusal segment m ≡ Some why) ⊎ ((take_refusal segment m ≡ None) × (d.stopped ≡ false) × (why ≡ TOO_MANY) × IsFull e.reach)
 
--- A write of this mutation, whose entry is this, is answered so, and takes these entries. With `ok` and its number: the entry, which lasts. Refused, stopped, or
--- where memory runs out: none. Where the disk fails: the entry, which may last or not, or none.
+-- A write of this mutation, whose entry is this, is answered so, and takes these entries. With `ok` and its number: the entry, which lasts.
+-- Refused, stopped, or where memory runs out: none. Where the disk fails: the entry, which may last or not, or none.
 abbrev pub Takes : ℕ → Mutation → Entry → DiskState → Reply → List Entry → DiskState → Type 0
 Takes segment m x d (reply.Wrote number) entries e = (take_refusal segment m ≡ None) × (number ≡ m.number) × (entries ≡ x ∷ []) × Writes d e
 Takes segment m x d (reply.Refused why) entries e = IsRefusedFor segment m d e why × (entries ≡ []) × Stays d e
@@ -178,8 +178,8 @@ is_starved (Some r) = tells_want r
 abbrev pub rows_reply : ℕ → Look → Reply
 rows_reply shard l = reply.Rows l.rows shard l.front l.now
 
--- What a SELECT shows, or memory runs out: at the moment, the live view of its partition's mutations up to the front, which is the number of the shard's
--- last one. A fault of the disk is no reason not to show it.
+-- What a SELECT shows, or memory runs out: at the moment, the live view of its partition's mutations up to the front, which is the number of the
+-- shard's last one. A fault of the disk is no reason not to show it.
 abbrev pub Shows : ShardHistory → ℤ → BoundRead → Reply → Type 0
 Shows s reading q r = tells_want r ≡ false → r ≡ rows_reply q.shard (look_at reading s q.query)
 
@@ -189,8 +189,9 @@ after_read h n reading = with_shard h n (after_entries reading [] (shard_at h n)
 
 -- ---- a definition
 
--- A definition that the manifest tells of by this entry is answered so, and these are the tables then: after `ok` the entry lasts, and the tables are the new
--- ones; where the disk fails the entry may last or not. It is refused only where the manifest has no place for it, which has less than 4 GiB.
+-- A definition that the manifest tells of by this entry is answered so, and these are the tables then: after `ok` the entry lasts, and the tables
+-- are the new ones; where the disk fails the entry may last or not. It is refused only where the manifest has no place for it, which has less than
+-- 4 GiB.
 abbrev pub Defines : ManifestEntry → List TableSchema → List TableSchema → DiskState → Reply → List TableSchema → DiskState → Type 0
 Defines x old new d reply.Done tables e = (tables ≡ new) × (d.stopped ≡ false) × Told x d e
 Defines x old new d (reply.Refused why) tables e = (tables ≡ old) × (why ≡ TOO_MANY) × (length (entry_bytes x) < 2 ^ 32) × HasNoPlace x d.reach × Writes d e

@@ -44,8 +44,8 @@ status_of (cause.Bad name at) = 6
 status_of cause.Mem = 7
 status_of (cause.TooLong taken) = 8
 
--- What is told first of several: other words, want of memory, a script that can't be read or is too long, a file that isn't one of a store, a folder that failed, a
--- failed write, a refusal.
+-- What is told first of several: other words, want of memory, a script that can't be read or is too long, a file that isn't one of a store, a
+-- folder that failed, a failed write, a refusal.
 abbrev pub weight : Cause → ℕ
 weight cause.Good = 0
 weight cause.Refused = 1
@@ -168,8 +168,8 @@ has_risen before now = nat_le (min (before + 1) (2 ^ 64 - 1)) now
 abbrev pub with_faults : ℕ → ℕ → Cause → Cause
 with_faults before now why = if has_risen before now then worse why cause.Disk else why
 
--- A run of the command over a script: its folder had a store of these entries and mutations, or got one; from there the script's lines were run; what they entered is
--- the list that is handed back; and whatever a crash leaves of the folder handed back has all that was acknowledged.
+-- A run of the command over a script: its folder had a store of these entries and mutations, or got one; from there the script's lines were run;
+-- what they entered is the list that is handed back; and whatever a crash leaves of the folder handed back has all that was acknowledged.
 pub record Ran (c : Command) (Gives : ℤ → Type 0) (script : List ℕ) (before after : Outside) (list : List (Item Event)) (why : Cause) : Type 0 where
   pub entries : List ManifestEntry
   pub mutations : List Mutation
@@ -229,8 +229,8 @@ count_taken None new = None
 count_taken (Some xs) None = None
 count_taken (Some xs) (Some ys) = Some (length xs - length ys)
 
--- All is well: the words are the command's, the source tells a script within the limit of which no line is refused, whichever store the folder has; the folder isn't
--- refused, and no count rises.
+-- All is well: the words are the command's, the source tells a script within the limit of which no line is refused, whichever store the folder has;
+-- the folder isn't refused, and no count rises.
 pub record AllWell (words : List (List ℕ)) (Gives : ℤ → Type 0) (before after : Outside) : Type 0 where
   pub command : Command
   pub words_are : command_of words ≡ Some command

@@ -12,8 +12,8 @@ use Rattle.cql_lex.specs.declared.token.Token.{Token}
 use Rattle.cql_parse.specs.declared.syntax.Statement.{Statement}
 use Rattle.cql_parse.specs.Means.{Means}
 
--- A definition, with the entry that tells of it: it may be told to a manifest that tells of these tables, which then tells of those after the definition; and those
--- are tables again.
+-- A definition, with the entry that tells of it: it may be told to a manifest that tells of these tables, which then tells of those after the
+-- definition; and those are tables again.
 pub record MayBeTold (tables : List TableSchema) (b : Bound) (e : Entry) : Type 0 where
   pub tells : (said : Saying) → said.tables ≡ tables → 1 ≤ said.shards → MayTell said e (tables_after tables b)
   pub kept : AreTables (tables_after tables b)

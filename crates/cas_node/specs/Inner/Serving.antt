@@ -22,7 +22,8 @@ use Rattle.cas_node.specs.Ran.{RanFrom, with_faults}
 use Rattle.cas_node.specs.Inner.Starts.{IsInMemory, IsTold}
 use Rattle.cas_node.specs.Inner.Turns.{IsEnd}
 
--- The lines of the script ran in a store of these entries and mutations, and accepted this list; where all that was found lasts, so does what was acknowledged.
+-- The lines of the script ran in a store of these entries and mutations, and accepted this list; where all that was found lasts, so does what was
+-- acknowledged.
 pub record Served (kind : ClockKind) (Gives : ℤ → Type 0) (script : List ℕ) (old new : Option (List ℕ)) (limits : Limits)
     (entries : List ManifestEntry) (mutations : List Mutation) (journal : Journal) (before after : Disk) (faults_before faults_first faults_now : ℕ)
     (list : List (Item Event)) (why : Cause) : Type 0 where

@@ -22,9 +22,9 @@ use Rattle.cas_shard.specs.Stands.{Stands}
 use Rattle.cas_node.specs.History.{History, DiskState, shard_at}
 use Rattle.cas_node.specs.Entered.{AreEntered}
 
--- What a store is made of: its limits, its tables, its shards; the shards of their seats and the last number of each; the clock; the list of all that was accepted;
--- the session that runs the lines, and how often it wrote; how many mutations the room accepted, and how many of them it said are committed; its journal, and how
--- often its folder failed.
+-- What a store is made of: its limits, its tables, its shards; the shards of their seats and the last number of each; the clock; the list of all
+-- that was accepted; the session that runs the lines, and how often it wrote; how many mutations the room accepted, and how many of them it said
+-- are committed; its journal, and how often its folder failed.
 pub record State : Type 0 where
   pub limits : Limits
   pub tables : List TableSchema
@@ -66,8 +66,9 @@ pub record StandsFor (h : History) (s : State) : Type 0 where
   pub shards : (n : ℕ) (x : Shard) → slice_get s.shards n ≡ Some x → Stands h.tables (shard_at h n) x
   pub entered : AreEntered s.list h
 
--- A store's disk keeps what its history says. What the journal was told are the mutations that were found and then all that was accepted, by which each shard's next
--- number goes on; the manifest tells of the tables. Each mutation that was acknowledged was said to be committed, and where no write failed all were.
+-- A store's disk keeps what its history says. What the journal was told are the mutations that were found and then all that was accepted, by which
+-- each shard's next number goes on; the manifest tells of the tables. Each mutation that was acknowledged was said to be committed, and where no
+-- write failed all were.
 pub record LastsFor (h : History) (found : List Mutation) (s : State) (disk : Disk) (t : Told) : Type 0 where
   pub keeps : Keeps s.journal disk s.list s.committed found t
   pub tables : (said_by t.entries).tables ≡ s.tables
