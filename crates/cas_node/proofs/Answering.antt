@@ -92,18 +92,21 @@ with_clock h s n d stands = record {
     shards = stands.shards;
     entered = stands.entered;
   };
-  lasts = λ found told lasts. (told, record {
-    keeps = lasts.keeps;
-    tables = lasts.tables;
-    shards = lasts.shards;
-    few = lasts.few;
-    ordered = lasts.ordered;
-    next = lasts.next;
-    counted = lasts.counted;
-    written = lasts.written;
-    acknowledged = lasts.acknowledged;
-    whole = lasts.whole;
-  });
+  lasts = λ found told lasts. (
+    told,
+    record {
+      keeps = lasts.keeps;
+      tables = lasts.tables;
+      shards = lasts.shards;
+      few = lasts.few;
+      ordered = lasts.ordered;
+      next = lasts.next;
+      counted = lasts.counted;
+      written = lasts.written;
+      acknowledged = lasts.acknowledged;
+      whole = lasts.whole;
+    },
+  );
 }
 
 pub sets_clock : (kind : ClockKind) (s : State) (n m : ℤ) (d : Disk) → kind ≡ clock.Manual → m ≡ n
@@ -121,7 +124,7 @@ bound_is_told shards tables x (bound.Create t) (source, tokens, means) are is ke
 }
 bound_is_told shards tables x (bound.Alter a) (source, tokens, means) are is kept =
     let told = λ (said : Saying) (same : said.tables ≡ tables) (some : 1 ≤ said.shards).
-        defined_columns_may_be_told source tokens x means shards tables a are is said same some in
+    defined_columns_may_be_told source tokens x means shards tables a are is said same some in
     ((told (record nothing { shards = 1; tables = tables }) refl (omega arith)).0, record { tells = λ said same some. (told said same some).1; kept = kept })
 bound_is_told shards tables x (bound.Write w) spelled are is kept = tt
 bound_is_told shards tables x (bound.Read r) spelled are is kept = tt

@@ -16,16 +16,13 @@ use Rattle.cas_bind.specs.declared.bound.Bound.TheVariants as bound
 use Rattle.cas_bind.specs.declared.bound.Limits.{Limits}
 use Rattle.cas_log.specs.Segment.{IsSize}
 use Rattle.cas_effects.specs.declared.effect.BoundWrite.{BoundWrite}
-use Rattle.cas_effects.specs.declared.refusal.TheConstants.{TOO_MANY}
-use Rattle.cas_effects.specs.FitsBound.{FitsBound}
 use Rattle.cas_entries.specs.declared.entry.Entry.{Entry}
 use Rattle.cas_entries.specs.declared.entry.Entry.TheVariants as entry
-use Rattle.cas_history.specs.declared.item.Item.{Item}
 use Rattle.cas_history.specs.declared.item.Item.TheVariants.{Wrote}
 use Rattle.cas_journal.specs.Ends.{Prepares as JournalPrepares, Ends, EndsBy, IsOfFolder}
 use Rattle.cas_journal.specs.Journals.{MayTake}
 use Rattle.cas_journal.specs.Reach.{Reach, GoesOn, IsFull, reach_of}
-use Rattle.cas_journal.specs.Stores.{Told, MadeRoom, took, committed_all}
+use Rattle.cas_journal.specs.Stores.{Told, MadeRoom}
 use Rattle.cas_journal.specs.declared.fault.Counted.{Counted}
 use Rattle.cas_journal.specs.declared.fault.JournalFault.{JournalFault}
 use Rattle.cas_journal.specs.declared.fault.JournalFault.TheVariants.{TooLarge, TooMany, Stopped, Failed, Mem}
@@ -33,7 +30,6 @@ use Rattle.cas_ledger.specs.Hands.{numbers}
 use Rattle.cas_render.specs.declared.reply.Failure.TheVariants as failure
 use Rattle.cas_render.specs.declared.reply.Reply.{Reply}
 use Rattle.cas_render.specs.declared.reply.Reply.TheVariants as reply
-use Rattle.cas_room.specs.declared.event.Event.{Event}
 use Rattle.cas_room.specs.declared.event.Event.TheVariants as event
 use Rattle.cas_room.specs.Keeping.{Keeps}
 use Rattle.cas_shard.specs.Shards.{ShardHistory, Prepares, mutation_at, take_refusal, taken_unless, prepare_answer, raised, wants}
@@ -42,11 +38,11 @@ use Rattle.cas_shard.specs.Stands.{Stands, Suits, Belongs, IsPrepared, IsReady}
 use Rattle.cas_shard.specs.declared.answers.TakeFault.{TakeFault}
 use Rattle.cas_shard.specs.declared.answers.TakeFault.TheVariants as fault
 use Rattle.cas_shard.specs.declared.shard.Shard.{Shard}
-use Rattle.cas_node.specs.History.{History, DiskState, Takes, WritesAt, Stays, IsRefusedFor, Stops, Writes, acknowledges, after_entries, after_write, entry_of, shard_at}
+use Rattle.cas_node.specs.History.{History, DiskState, Takes, WritesAt, Stays, acknowledges, after_entries, after_write, entry_of, shard_at}
 use Rattle.cas_node.specs.Entered.{entries_in}
 use Rattle.cas_node.specs.Inner.State.{State, StandsFor, LastsFor, IsSound, disk_of}
 use Rattle.cas_node.specs.Inner.Turns.{Moves, reply_for}
-use Rattle.cas_node.proofs.Places.{get_here, get_within, get_map, index_here, length_set, map_set, map_set_same}
+use Rattle.cas_node.proofs.Places.{get_within, get_map, index_here, length_set, map_set, map_set_same}
 use Rattle.cas_node.proofs.Moving.{none_more, one_more, with_entries, raised_is, stands_write}
 use Rattle.cas_node.proofs.Lasting.{lasts_still, may_be_taken, lasts_with_room, lasts_taken}
 
@@ -165,22 +161,30 @@ module _ (s : State) (w : BoundWrite) (reading : ℤ) (x y : Shard) (result : Re
       → ((h : History) → StandsFor h s → Takes h.limits.segment (mutation_in h reading w) (entry_of h (mutation_in h reading w)) h.disk r [] (disk_of s))
       → Moves (λ h after. WritesAt h reading w r after) s (prepared_only s w.shard y) d d
   at_once r quiet takes h stands =
-      let after : History = after_write h w.shard reading r [] (disk_of s) in
-      (after, ([], disk_of s, takes h stands, refl), record {
-        stands = stands_write h s (prepared_only s w.shard y) w.shard x y reading [] stands (there s w reading x y result asked) refl (stands_raised s w reading x y result asked h stands)
-          (λ k. none_more w.shard k (entries_in k s.list)) r refl refl refl refl (omega arith);
-        lasts = λ found told lasts. (told,
-          lasts_still h after found s (prepared_only s w.shard y) d d told w.shard x y (omega (arith, quiet)) (there s w reading x y result asked) refl asked.number
-            (λ l el c ec keeps. subst (λ j. Keeps s.journal d l j found told) (sym ec) (subst (λ j. Keeps s.journal d j s.committed found told) (sym el) keeps))
-            refl refl refl refl refl refl (λ on. on) lasts);
-      })
+      let after : History = after_write h w.shard reading r [] (disk_of s) in (
+        after,
+        ([], disk_of s, takes h stands, refl),
+        record {
+          stands = stands_write h s (prepared_only s w.shard y) w.shard x y reading [] stands (there s w reading x y result asked) refl (stands_raised s w reading x y result asked h stands)
+              (λ k. none_more w.shard k (entries_in k s.list)) r refl refl refl refl (omega arith);
+          lasts = λ found told lasts. (
+            told,
+            lasts_still h after found s (prepared_only s w.shard y) d d told w.shard x y (omega (arith, quiet)) (there s w reading x y result asked) refl asked.number
+                (λ l el c ec keeps. subst (λ j. Keeps s.journal d l j found told) (sym ec) (subst (λ j. Keeps s.journal d j s.committed found told) (sym el) keeps))
+                refl refl refl refl refl refl (λ on. on) lasts,
+          );
+        },
+      )
 
   pub refused_at_once : (why told : ℕ) → why ≡ told → result ≡ Err (fault.Refused told)
       → Moves (λ h after. WritesAt h reading w (reply.Refused why) after) s (prepared_only s w.shard y) d d
   refused_at_once why told same is =
       at_once (reply.Refused why) refl
-      (λ h stands. (inl (refused_for s w reading x y result asked h stands why (is ∙ ap (λ k. Err (fault.Refused k)) (sym same))), refl,
-        subst (λ e. Stays e (disk_of s)) (sym stands.disk) (stays_same (disk_of s))))
+      (λ h stands. (
+        inl (refused_for s w reading x y result asked h stands why (is ∙ ap (λ k. Err (fault.Refused k)) (sym same))),
+        refl,
+        subst (λ e. Stays e (disk_of s)) (sym stands.disk) (stays_same (disk_of s)),
+      ))
 
   pub starved_at_once : Moves (λ h after. WritesAt h reading w (reply.Failed failure.Memory) after) s (prepared_only s w.shard y) d d
   starved_at_once =
@@ -336,21 +340,28 @@ module _ (s : State) (w : BoundWrite) (reading : ℤ) (x y : Shard) (result : Re
           let both = prepared_for s w reading x y result asked h stands m is in
           let takes : Takes h.limits.segment (mutation_in h reading w) (entry_of h (mutation_in h reading w)) (disk_of s) (reply_for f) [] (disk_of t) =
           fault_takes f s.journal.first t.journal.first s.faults t.faults (reach_of s.journal) (reach_of t.journal) h.limits.segment (record_length m) (s.journal.size / 2)
-          (mutation_in h reading w) (entry_of h (mutation_in h reading w)) left.ends short_for both.0 left.reach left.count left.full in
-          (after,
-            ([], disk_of t,
+          (mutation_in h reading w) (entry_of h (mutation_in h reading w)) left.ends short_for both.0 left.reach left.count left.full in (
+            after,
+            (
+              [],
+              disk_of t,
               subst (λ (o : DiskState). Takes h.limits.segment (mutation_in h reading w) (entry_of h (mutation_in h reading w)) o (reply_for f) [] (disk_of t))
-              (sym stands.disk) takes, refl),
+                  (sym stands.disk) takes,
+              refl,
+            ),
             record {
               stands = stands_write h s t w.shard x y reading [] stands at left.shards (stands_raised s w reading x y result asked h stands)
-                (λ k. ap (entries_in k) left.list ∙ none_more w.shard k (entries_in k s.list)) (reply_for f) left.limits left.tables left.clock left.session
-                (omega (arith, left.calls));
+                  (λ k. ap (entries_in k) left.list ∙ none_more w.shard k (entries_in k s.list)) (reply_for f) left.limits left.tables left.clock left.session
+                  (omega (arith, left.calls));
               lasts = λ found was lasts.
-                let got = left.keeps found was lasts.keeps (may_take h found d was lasts) in
-                (got.0, lasts_with_room h after found s t d e was got.0 w.shard x y (omega (arith, quiet f)) at left.shards asked.number got.1 got.2 left.list left.committed
-                  left.tables left.limits left.accepted left.calls
-                  (going_since f s.journal.first t.journal.first s.faults t.faults (record_length m) (s.journal.size / 2) left.ends short_for) lasts);
-            })
+                  let got = left.keeps found was lasts.keeps (may_take h found d was lasts) in (
+                    got.0,
+                    lasts_with_room h after found s t d e was got.0 w.shard x y (omega (arith, quiet f)) at left.shards asked.number got.1 got.2 left.list left.committed
+                        left.tables left.limits left.accepted left.calls
+                        (going_since f s.journal.first t.journal.first s.faults t.faults (record_length m) (s.journal.size / 2) left.ends short_for) lasts,
+                  );
+            },
+          )
 
 -- ---- a write that the room took
 
@@ -457,32 +468,39 @@ module _ (s : State) (w : BoundWrite) (reading : ℤ) (x y : Shard) (result : Re
   moves_taken r one takes either going h stands =
       let both = prepared_for s w reading x y result asked h stands m is in
       let after : History = after_write h w.shard reading r new (disk_of t) in
-      let belongs : Belongs h.tables s.limits.shards m =
-      (asked.fits.0,
+      let belongs : Belongs h.tables s.limits.shards m = (
+        asked.fits.0,
         subst (λ (k : ℕ). slice_get h.tables k ≡ Some asked.fits.0) (sym ready.table)
-        (subst (λ (ts : List TableSchema). slice_get ts w.table ≡ Some asked.fits.0) (sym stands.tables) asked.fits.1),
-        fits s w reading x y result asked m is prepared ready) in
+            (subst (λ (ts : List TableSchema). slice_get ts w.table ≡ Some asked.fits.0) (sym stands.tables) asked.fits.1),
+        fits s w reading x y result asked m is prepared ready,
+      ) in
       let stands_new : Stands h.tables (after_entries reading new (shard_at h w.shard)) z =
       left.stands h.tables s.limits.shards (raised reading (shard_at h w.shard)) s.session (s.calls + 1)
       (subst (λ (q : Shard). Stands h.tables (raised reading (shard_at h w.shard)) q) same_shard (raises s w reading x y result asked h stands)) belongs in
       let its_entry : new ≡ entry_of h (mutation_in h reading w) ∷ [] =
       ap (λ (q : Mutation). entry.Wrote s.session (s.calls + 1) q ∷ []) both.1
       ∙ ap (λ (j : ℕ). entry.Wrote j (s.calls + 1) (mutation_in h reading w) ∷ []) (sym stands.session)
-      ∙ ap (λ (j : ℕ). entry.Wrote h.session (j + 1) (mutation_in h reading w) ∷ []) (sym stands.calls) in
-      (after,
-        (new, disk_of t,
+      ∙ ap (λ (j : ℕ). entry.Wrote h.session (j + 1) (mutation_in h reading w) ∷ []) (sym stands.calls) in (
+        after,
+        (
+          new,
+          disk_of t,
           subst (λ (o : DiskState). Takes h.limits.segment (mutation_in h reading w) (entry_of h (mutation_in h reading w)) o r new (disk_of t)) (sym stands.disk)
-          (takes h stands both.0 both.1 its_entry), refl),
+              (takes h stands both.0 both.1 its_entry),
+          refl,
+        ),
         record {
           stands = stands_write h s t w.shard x z reading new stands at_x shards_now stands_new lists r left.limits left.tables left.clock left.session left.calls;
           lasts = λ found was lasts.
-            let got = left.keeps found was lasts.keeps (may_take s w reading x y result asked m is prepared ready h found d was lasts) in
-            (got.1,
-              lasts_taken h after found s t d e was got.0 got.1 m x z (subst (λ (k : ℕ). slice_get s.shards k ≡ Some x) (sym ready.shard) at_x)
-              (subst (λ (k : ℕ). t.shards ≡ slice_set s.shards k z) (sym ready.shard) shards_now) (next s w reading x y result asked m is prepared ready) left.number
-              got.2 got.3 got.4 got.5 lasts s.session (s.calls + 1) left.list left.tables left.limits left.accepted left.calls left.few got.6
-              (omega (arith, one)) (acked h after either refl) going);
-        })
+              let got = left.keeps found was lasts.keeps (may_take s w reading x y result asked m is prepared ready h found d was lasts) in (
+                got.1,
+                lasts_taken h after found s t d e was got.0 got.1 m x z (subst (λ (k : ℕ). slice_get s.shards k ≡ Some x) (sym ready.shard) at_x)
+                    (subst (λ (k : ℕ). t.shards ≡ slice_set s.shards k z) (sym ready.shard) shards_now) (next s w reading x y result asked m is prepared ready) left.number
+                    got.2 got.3 got.4 got.5 lasts s.session (s.calls + 1) left.list left.tables left.limits left.accepted left.calls left.few got.6
+                    (omega (arith, one)) (acked h after either refl) going,
+              );
+        },
+      )
     where
       acked : (h after : History) → ((acknowledges r ≡ 0) × (s.committed ≤ t.committed)) ⊎ (t.committed ≡ t.accepted) → after.acknowledged ≡ h.acknowledged + acknowledges r
           → ((after.acknowledged ≤ h.acknowledged) × (s.committed ≤ t.committed)) ⊎ (t.committed ≡ t.accepted)
@@ -494,24 +512,36 @@ module _ (s : State) (w : BoundWrite) (reading : ℤ) (x y : Shard) (result : Re
   taken_and_committed number told x over all =
       let none : t.journal.first ≡ None = over_none left.first t.journal.first left.faults t.faults x over begun.1 in
       moves_taken (reply.Wrote number) (omega arith)
-      (λ h stands unrefused same its_entry. (unrefused, told ∙ ap (λ (q : Mutation). q.number) same, its_entry, (ap is_some begun.0, record {
-        stopped = ap is_some none ∙ sym (ap is_some begun.0);
-        faults = rises;
-        reach = goes;
-      }))) (inr all) (λ on. all)
+      (λ h stands unrefused same its_entry. (
+        unrefused,
+        told ∙ ap (λ (q : Mutation). q.number) same,
+        its_entry,
+        (
+          ap is_some begun.0,
+          record {
+            stopped = ap is_some none ∙ sym (ap is_some begun.0);
+            faults = rises;
+            reach = goes;
+          },
+        ),
+      )) (inr all) (λ on. all)
 
   pub taken_and_failed : (T : Type 0) (f : JournalFault) → Ends {T = T} left.first t.journal.first left.faults t.faults (Err f) → IsOfFolder f → s.committed ≤ t.committed
       → Moves (λ h after. WritesAt h reading w (reply.Failed failure.Disk) after) s t d e
   taken_and_failed T f over of more =
       let off : Rose left.faults t.faults × (is_some t.journal.first ≡ true) = failed_since T left.first t.journal.first left.faults t.faults f over begun.1 of in
       moves_taken (reply.Failed failure.Disk) (omega arith)
-      (λ h stands unrefused same its_entry. (unrefused, inr its_entry, record {
-        before = ap is_some begun.0;
-        stopped = off.1;
-        faults = rises;
-        rose = rose_since s.faults left.faults t.faults left.rises.0 off.0;
-        reach = goes;
-      })) (inl (refl, more)) (λ on. absurd (on_and_off t.journal.first off.1 on))
+      (λ h stands unrefused same its_entry. (
+        unrefused,
+        inr its_entry,
+        record {
+          before = ap is_some begun.0;
+          stopped = off.1;
+          faults = rises;
+          rose = rose_since s.faults left.faults t.faults left.rises.0 off.0;
+          reach = goes;
+        },
+      )) (inl (refl, more)) (λ on. absurd (on_and_off t.journal.first off.1 on))
 
 -- a store with one shard in another state, and its seat
 pub sound_with : {X : Type 0} (s t : State) (place count : X → ℕ) (fs : List X) (n : ℕ) (f g : X) (z : Shard) → IsSound s → s.places ≡ map place fs

@@ -1,12 +1,10 @@
 -- A store's disk keeps what the history says after a step.
-use Rattle.std.proofs.Common.{◌≡◌, ◌≢◌, ◌<◌, ◌≤◌, ◌+◌, ◌-◌, ◌^◌, min, inl, inr, ⊎_elim, ℕ, Bool, true, false, List, [], ◌∷◌, ◌++◌, length, map, Option, Some, None, Result, Ok, Err, is_some, refl, sym, ap, ◌∙◌, subst, arith, append-nil, length-append}
+use Rattle.std.proofs.Common.{◌≡◌, ◌≢◌, ◌<◌, ◌≤◌, ◌+◌, ◌-◌, ◌^◌, min, inl, inr, ⊎_elim, ℕ, false, List, [], ◌∷◌, ◌++◌, length, Some, is_some, refl, sym, ap, ◌∙◌, subst, arith, length-append}
 use Rattle.std.specs.Prelude.{slice_set, slice_get, ◌⊎◌}
-use Rattle.std.specs.List.{flat_map}
 use Rattle.std.proofs.lemmas.List.{flat_map_more}
 use Rattle.std.proofs.lemmas.Option.{same_Some}
 use Rattle.cas_types.specs.declared.schema.TableSchema.{TableSchema}
 use Rattle.cas_disk.specs.Disk.{Disk}
-use Rattle.cas_gates.specs.declared.first.First.{First}
 use Rattle.cas_atoms.specs.Fits.{FitsMutation}
 use Rattle.cas_atoms.specs.LogLength.{record_length}
 use Rattle.cas_atoms.specs.declared.atom.Mutation.{Mutation}
@@ -17,9 +15,8 @@ use Rattle.cas_changes.specs.declared.entry.Entry.{Entry as ManifestEntry}
 use Rattle.cas_replay.specs.Grammar.{AreInOrder, AscendByOne, numbers_of}
 use Rattle.cas_history.specs.declared.item.Item.{Item}
 use Rattle.cas_history.specs.declared.item.Item.TheVariants.{Wrote}
-use Rattle.cas_journal.specs.Stores.{Told, MadeRoom, FailedToName, took, committed_all}
+use Rattle.cas_journal.specs.Stores.{Told, MadeRoom, FailedToName}
 use Rattle.cas_journal.specs.Journals.{MayTake}
-use Rattle.cas_journal.specs.declared.journal.Journal.{Journal}
 use Rattle.cas_journal.proofs.Taking.{may_take, next_in_order, next_after}
 use Rattle.cas_room.specs.declared.event.Event.{Event}
 use Rattle.cas_room.specs.declared.event.Event.TheVariants as event

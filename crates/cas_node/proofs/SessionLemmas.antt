@@ -2,7 +2,6 @@
 use Rattle.std.proofs.Common.{◌≡◌, ℕ, ℤ, length, Bool, true, false, Option, None, Some, List, [], ◌∷◌, ◌++◌, codes, refl, sym, ap, ◌∙◌, subst, append_assoc, append-nil, arith}
 use Rattle.std.proofs.lemmas.Bool.Decides.{nat_tests}
 use Rattle.std.specs.Prelude.{◌==◌, if◌then◌else◌}
-use Rattle.std.specs.List.{fold}
 use Rattle.std.specs.Str.Lines.{lines}
 use Rattle.std.specs.Io.KnownBytes.{Appends, Keeps}
 use Rattle.std.proofs.KnownBytes.{Appends-trans, Appends-nil}
@@ -19,11 +18,11 @@ use Rattle.cas_node.specs.declared.cause.Cause.TheVariants as cause
 use Rattle.cas_node.specs.declared.session.PrintFault.{PrintFault}
 use Rattle.cas_node.specs.declared.session.PrintFault.TheVariants as print
 use Rattle.cas_disk.specs.Disk.{Disk}
-use Rattle.cas_node.specs.History.{History, Answers, Runs, tells_want}
+use Rattle.cas_node.specs.History.{History, Answers, Runs}
 use Rattle.cas_node.specs.Text.{output, line_text}
-use Rattle.cas_node.specs.Ran.{RanFrom, AtTheEnd, AtTheSink, ForMemory, reply_cause, worse, worst}
+use Rattle.cas_node.specs.Ran.{RanFrom, reply_cause, worse, worst}
 use Rattle.cas_node.specs.Ran.{at_the_end, at_the_sink, for_memory}
-use Rattle.cas_node.specs.Inner.State.{State, StandsFor, LastsFor}
+use Rattle.cas_node.specs.Inner.State.{State}
 use Rattle.cas_node.specs.Inner.Turns.{GoesOnTo, IsEnd, IsToldSo, Moves, Turned, Printed, PrintedReply, StopsFor}
 
 -- ---- text

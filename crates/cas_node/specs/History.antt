@@ -1,7 +1,7 @@
 -- What each line answers, and what it enters into the history of the store.
 -- CQL documentation, "Data definition" and "Data manipulation"; numbers, timestamps, moments, what a failed write stops, and the command are own.
 use Rattle.std.specs.Prelude.{◌≡◌, ◌⊎◌, ℕ, ◌+◌, ◌^◌, ◌<◌, ◌≤◌, ℤ, pos, ◌*ℤ◌}
-use Rattle.std.specs.Prelude.{Bool, true, false, if◌then◌else◌, Option, None, Some, Result, Ok, Err}
+use Rattle.std.specs.Prelude.{Bool, true, false, Option, None, Some, Result, Ok, Err}
 use Rattle.std.specs.Prelude.{List, [], ◌∷◌, ◌++◌, length, slice_index_or, slice_set}
 use Rattle.std.specs.Int.{int_max, int_min}
 use Rattle.cas_types.specs.declared.limits.TheConstants.{LAST_MICROSECOND}
@@ -19,7 +19,6 @@ use Rattle.cas_bind.specs.declared.bound.BoundRead.{BoundRead}
 use Rattle.cas_bind.specs.declared.bound.Limits.{Limits}
 use Rattle.cas_bind.specs.Meaning.{meaning}
 use Rattle.cas_bind.specs.Tables.{tables_after}
-use Rattle.cas_define.specs.declared.addition.Addition.{Addition}
 use Rattle.cas_effects.specs.declared.effect.BoundWrite.{BoundWrite}
 use Rattle.cas_effects.specs.declared.refusal.Refusal.{Refusal}
 use Rattle.cas_effects.specs.declared.refusal.TheConstants.{NOT_HERE, SYNTAX, TOO_MANY}

@@ -4,7 +4,7 @@ use Rattle.std.specs.Prelude.{List, [], ◌∷◌, ◌++◌, length}
 use Rattle.std.specs.List.{fold}
 use Rattle.std.specs.Str.Lines.{lines}
 use Rattle.std.specs.Io.KnownBytes.{Appends, Keeps}
-use Rattle.cas_io.specs.Streams.{AppendsFront, ReadToEnd}
+use Rattle.cas_io.specs.Streams.{ReadToEnd}
 use Rattle.cas_io.specs.Causes.{Rose}
 use Rattle.cas_disk.specs.declared.name.Name.{Name}
 use Rattle.cas_disk.specs.Disk.{Disk, Image}

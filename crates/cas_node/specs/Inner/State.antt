@@ -1,5 +1,5 @@
 -- What a store is made of, as contracts see it (own).
-use Rattle.std.specs.Prelude.{◌≡◌, ◌<◌, ◌≤◌, ◌+◌, ◌^◌, ℕ, ℤ, List, [], ◌∷◌, ◌++◌, length, map, false, is_some, slice_get, Some}
+use Rattle.std.specs.Prelude.{◌≡◌, ◌≤◌, ◌+◌, ℕ, ℤ, List, [], ◌∷◌, ◌++◌, length, map, false, is_some, slice_get, Some}
 use Rattle.cas_types.specs.Limits.{IsMoment, IsShardCount}
 use Rattle.cas_types.specs.declared.schema.TableSchema.{TableSchema}
 use Rattle.cas_disk.specs.Disk.{Disk}

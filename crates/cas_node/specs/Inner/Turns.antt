@@ -1,5 +1,5 @@
 -- One line's turn, and what came of its reply (own).
-use Rattle.std.specs.Prelude.{◌≡◌, ◌⊎◌, ◌≤◌, ◌+◌, ℕ, ℤ, false, Option, None, Some, List}
+use Rattle.std.specs.Prelude.{◌≡◌, ◌⊎◌, ℕ, ℤ, false, Option, None, Some, List}
 use Rattle.std.specs.Io.KnownBytes.{Appends, Keeps}
 use Rattle.cas_io.specs.Streams.{AppendsFront}
 use Rattle.cas_io.specs.declared.script.ScriptFault.{ScriptFault}
@@ -20,7 +20,6 @@ use Rattle.cas_node.specs.declared.cause.Cause.TheVariants as cause
 use Rattle.cas_node.specs.declared.session.PrintFault.{PrintFault}
 use Rattle.cas_node.specs.declared.session.PrintFault.TheVariants as print
 use Rattle.cas_node.specs.History.{History, Answers, tells_want}
-use Rattle.cas_node.specs.Text.{line_text}
 use Rattle.cas_node.specs.Ran.{reply_cause, worse}
 use Rattle.cas_node.specs.Inner.State.{State, StandsFor, LastsFor}
 

@@ -1,13 +1,5 @@
-use Rattle.std.proofs.Common.{rules, ◌≡◌, ◌+◌, ◌<◌, ◌≤◌, ◌^◌, Some, None, OnOk, OnErr, IfOk, IfErr}
-use Rattle.std.proofs.Common.{Ok as OkOf}
-use Rattle.std.proofs.Common.{ℕ, ◌-◌, ◌*◌, length, ◌/◌, ◌%◌, Bool, true, false, nat_eq, nat_lt, List, [], ◌∷◌, ◌++◌, slice_index_or, slice_set, bit_and, bit_or, Fits, w8, w32, w64, Bor, MutBor, ℤ, pos, ◌+ℤ◌, ◌-ℤ◌, ◌*ℤ◌, ◌≤ℤ◌, ◌<ℤ◌, FitsSigned, to_z, of_z}
-use Rattle.cas_bind.specs.Fitting.{BoundFits}
-use Rattle.cas_bind.specs.Tables.{IsWithin}
-use Rattle.cas_bind.specs.declared.bound.Bound.TheVariants as bounds
-use Rattle.cas_shard.specs.Shards.{IsTime}
-use Rattle.cas_node.specs.History.{WritesAt}
-use Rattle.cas_node.specs.Inner.State.{IsSound}
-use Rattle.cas_node.specs.Inner.Turns.{Moves, reply_for}
+use Rattle.std.proofs.Common.{◌≡◌, ◌+◌, Some}
+use Rattle.std.proofs.Common.{w64, ℤ, to_z, of_z}
 use Rattle.std.proofs.Common.{Err, ap, sym, subst, ◌∙◌, refl, arith}
 use Rattle.std.proofs.lemmas.Int.{ints}
 use Rattle.cas_shard.specs.Shards.{prepare_answer, raised}
@@ -64,9 +56,10 @@ accept-requires-clause-number g c =
     let f = c.index_mut-front.result.now in
     let at_f : slice_get fs c.args.write.shard ≡ Some f = seated (λ q. q.shard) fs c.args.self.now.limits.shards c.args.write.shard f c.requires.sound.places c.requires.within.0 c.index_mut-front.ensures.value in
     let at_x : slice_get c.args.self.now.shards.items c.args.write.shard ≡ Some c.index_mut.result.now = slice_get_read c.args.self.now.shards.items c.args.self.now.limits.shards c.args.write.shard c.index_mut.result.now (sym c.requires.sound.count) c.requires.within.0 c.index_mut.ensures.value in
-    let same = number_is (λ q. q.number) (λ (q : Shard). q.number) fs c.args.self.now.shards.items c.args.write.shard f c.index_mut.result.now c.requires.sound.numbers at_f at_x in
-    (c.in-Ok.ensures.ready.shard ∙ sym (place_is (λ q. q.shard) fs c.args.self.now.limits.shards c.args.write.shard f c.requires.sound.places c.requires.within.0 at_f),
-    c.in-Ok.ensures.prepared.next ∙ ap (λ k. k + 1) (c.prepare.ensures.number ∙ sym same))
+    let same = number_is (λ q. q.number) (λ (q : Shard). q.number) fs c.args.self.now.shards.items c.args.write.shard f c.index_mut.result.now c.requires.sound.numbers at_f at_x in (
+      c.in-Ok.ensures.ready.shard ∙ sym (place_is (λ q. q.shard) fs c.args.self.now.limits.shards c.args.write.shard f c.requires.sound.places c.requires.within.0 at_f),
+      c.in-Ok.ensures.prepared.next ∙ ap (λ k. k + 1) (c.prepare.ensures.number ∙ sym same),
+    )
 
 -- src/writing.rt:60:28
 pub accept-requires-clause-few : goal.accept-requires-clause-few
@@ -87,10 +80,18 @@ returns-in-Err-clause-writes g c =
     c.in-Ok.mutation c.in-Ok.is c.in-Ok.ensures.prepared c.in-Ok.ensures.ready
     _ _ _ c.in-Err.fault c.reply_for.result c.reply_for.ensures
     (record {
-      shards = refl; limits = refl; tables = refl; clock = refl; session = c.accept.ensures.seats.0; calls = c.in-Err.ensures.unentered.2; list = c.in-Err.ensures.unentered.0;
-      accepted = c.in-Err.ensures.unaccepted; committed = c.accept.ensures.committed;
+      shards = refl;
+      limits = refl;
+      tables = refl;
+      clock = refl;
+      session = c.accept.ensures.seats.0;
+      calls = c.in-Err.ensures.unentered.2;
+      list = c.in-Err.ensures.unentered.0;
+      accepted = c.in-Err.ensures.unaccepted;
+      committed = c.accept.ensures.committed;
       keeps = c.in-Err.ensures.kept;
-      ends = c.in-Err.ensures.outcome; reach = c.accept.ensures.reach;
+      ends = c.in-Err.ensures.outcome;
+      reach = c.accept.ensures.reach;
       full = λ what most is. c.accept.ensures.full what most (c.in-Err.is ∙ ap Err is);
       count = c.accept.ensures.count;
     })
@@ -115,13 +116,23 @@ returns-in-Ok-commit-clause-writes g c =
     c.in-Ok.mutation c.in-Ok.is c.in-Ok.ensures.prepared c.in-Ok.ensures.ready
     _ _ _ c.index_mut-2.result.now c.enter.new.self
     (record {
-      shards = refl; seat = c.index_mut-2.ensures.value; limits = refl; tables = refl; clock = refl; session = c.commit.ensures.session.0 ∙ c.accept.ensures.seats.0;
-      calls = c.commit.ensures.session.1 ∙ c.in-Ok-accept.ensures.calls; few = c.requires.few;
+      shards = refl;
+      seat = c.index_mut-2.ensures.value;
+      limits = refl;
+      tables = refl;
+      clock = refl;
+      session = c.commit.ensures.session.0 ∙ c.accept.ensures.seats.0;
+      calls = c.commit.ensures.session.1 ∙ c.in-Ok-accept.ensures.calls;
+      few = c.requires.few;
       list = ap (λ l. listed log_list l.pass.saw) c.commit.ensures.log ∙ c.in-Ok-accept.ensures.entered.0;
       accepted = c.commit.ensures.accepted ∙ c.in-Ok-accept.ensures.accepted;
-      stands = c.enter.ensures.stands; number = c.enter.ensures.number;
+      stands = c.enter.ensures.stands;
+      number = c.enter.ensures.number;
       keeps = λ found told keeps may. let got = c.in-Ok-accept.ensures.kept found told keeps may in (got.0, committed_all (took c.in-Ok.mutation got.0), got.1, refl, refl, refl, c.in-Ok-commit.ensures.kept found _ got.2);
-      first = _; faults = _; ended = c.in-Ok-accept.ensures.outcome.1; reach = (_, c.accept.ensures.reach, c.commit.ensures.reach);
+      first = _;
+      faults = _;
+      ended = c.in-Ok-accept.ensures.outcome.1;
+      reach = (_, c.accept.ensures.reach, c.commit.ensures.reach);
       rises = (c.accept.ensures.count, c.commit.ensures.count);
     })
     _ c.in-Ok-accept.ensures.number
@@ -146,13 +157,23 @@ returns-in-Err-commit-clause-writes g c =
     c.in-Ok.mutation c.in-Ok.is c.in-Ok.ensures.prepared c.in-Ok.ensures.ready
     _ _ _ c.index_mut-2.result.now c.enter.new.self
     (record {
-      shards = refl; seat = c.index_mut-2.ensures.value; limits = refl; tables = refl; clock = refl; session = c.commit.ensures.session.0 ∙ c.accept.ensures.seats.0;
-      calls = c.commit.ensures.session.1 ∙ c.in-Ok-accept.ensures.calls; few = c.requires.few;
+      shards = refl;
+      seat = c.index_mut-2.ensures.value;
+      limits = refl;
+      tables = refl;
+      clock = refl;
+      session = c.commit.ensures.session.0 ∙ c.accept.ensures.seats.0;
+      calls = c.commit.ensures.session.1 ∙ c.in-Ok-accept.ensures.calls;
+      few = c.requires.few;
       list = ap (λ l. listed log_list l.pass.saw) c.commit.ensures.log ∙ c.in-Ok-accept.ensures.entered.0;
       accepted = c.commit.ensures.accepted ∙ c.in-Ok-accept.ensures.accepted;
-      stands = c.enter.ensures.stands; number = c.enter.ensures.number;
+      stands = c.enter.ensures.stands;
+      number = c.enter.ensures.number;
       keeps = λ found told keeps may. let got = c.in-Ok-accept.ensures.kept found told keeps may in (got.0, took c.in-Ok.mutation got.0, got.1, refl, refl, refl, c.in-Err-commit.ensures.kept found _ got.2);
-      first = _; faults = _; ended = c.in-Ok-accept.ensures.outcome.1; reach = (_, c.accept.ensures.reach, c.commit.ensures.reach);
+      first = _;
+      faults = _;
+      ended = c.in-Ok-accept.ensures.outcome.1;
+      reach = (_, c.accept.ensures.reach, c.commit.ensures.reach);
       rises = (c.accept.ensures.count, c.commit.ensures.count);
     })
     (Unit {0}) c.in-Err-commit.field-0 c.in-Err-commit.ensures.outcome c.in-Err-commit.ensures.why (omega (arith, c.accept.ensures.committed, c.commit.ensures.rises))
