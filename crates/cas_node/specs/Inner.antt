@@ -1,5 +1,3 @@
-pub mod State
-pub mod Definitions
-pub mod Starts
-pub mod Serving
+pub mod Sound
+pub mod Stored
 pub mod Turns

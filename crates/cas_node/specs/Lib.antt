@@ -1,6 +1,4 @@
 pub mod History
-pub mod Found
-pub mod Entered
 pub mod Text
 pub mod Ran
 pub mod Laws

@@ -1,19 +1,16 @@
-//! The store as a program: from a script's bytes to the output's bytes, over a folder that lasts.
+//! The store as a program: from a script's bytes to the output's bytes.
 #![tactic(auto)]
 
 mod cause;
-mod defining;
 mod laws;
-mod node;
+mod opening;
 mod program;
-mod reading;
-mod seats;
 mod session;
-mod start;
+mod shard;
 mod store;
-mod writing;
 
 pub use cas_words::path_of;
 pub use cause::Cause;
 pub use laws::{numbers_rise, one_outcome};
+pub use opening::Opening;
 pub use program::{Outcome, Pass, SCRIPT_LIMIT, run};
