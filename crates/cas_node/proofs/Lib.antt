@@ -1,7 +1,16 @@
+mod Places
+mod Moving
+mod Answering
+mod Lasting
+mod Entering
+mod Tables
+mod Serving
+mod RunLemmas
+mod Founding
+mod Unflushed
+mod Restoring
+mod Starting
+mod Seating
+mod NumbersRise
+mod OneOutcome
 pub mod SessionLemmas
-pub mod Shards
-pub mod Stores
-pub mod OneOutcome
-pub mod Openings
-pub mod RunLemmas
-pub mod NumbersRise

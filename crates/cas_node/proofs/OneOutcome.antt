@@ -1,93 +1,317 @@
 -- Under the manual clock a script has one outcome.
-use Rattle.std.proofs.Common.{◌≡◌, ℕ, ◌+◌, ℤ, false, List, [], ◌∷◌, Option, Some, Result, Ok, Err, refl, sym, ap, ◌∙◌, subst, inl, inr}
-use Rattle.std.specs.Prelude.{if◌then◌else◌}
+use Rattle.std.proofs.Common.{◌≡◌, ◌≤◌, ◌+◌, ℕ, ℤ, Bool, true, false, List, [], ◌∷◌, Option, Some, None, Result, Ok, Err, refl, sym, ap, ◌∙◌, subst, inl, inr, arith}
+use Rattle.std.specs.Prelude.{◌⊎◌}
 use Rattle.std.specs.List.{list_any}
 use Rattle.std.proofs.lemmas.Bool.{true≢false, or_parts}
+use Rattle.cas_io.specs.Causes.{Rose}
+use Rattle.cas_types.specs.declared.schema.TableSchema.{TableSchema}
+use Rattle.cas_atoms.specs.declared.atom.Mutation.{Mutation}
 use Rattle.cas_bind.specs.declared.bound.Bound.{Bound}
 use Rattle.cas_bind.specs.declared.bound.Bound.TheVariants as bound
-use Rattle.cas_effects.specs.declared.refusal.Refusal.{Refusal}
 use Rattle.cas_bind.specs.Meaning.{meaning}
-use Rattle.cas_render.specs.declared.reply.Reply.{Reply}
-use Rattle.cas_lines.specs.declared.line.Line.{Line}
-use Rattle.cas_lines.specs.declared.line.Line.TheVariants as line
+use Rattle.cas_bind.specs.Tables.{tables_after}
+use Rattle.cas_changes.specs.declared.entry.Entry.{Entry as ManifestEntry}
+use Rattle.cas_changes.specs.declared.entry.Entry.TheVariants.{Schema, AddColumns}
+use Rattle.cas_effects.specs.declared.refusal.Refusal.{Refusal}
+use Rattle.cas_effects.specs.declared.refusal.TheConstants.{TOO_MANY}
+use Rattle.cas_journal.specs.Reach.{Reach, IsFull}
+use Rattle.cas_manifest.specs.Manifests.{room_of}
 use Rattle.cas_bind.specs.declared.bound.BoundRead.{BoundRead}
 use Rattle.cas_effects.specs.declared.effect.BoundWrite.{BoundWrite}
-use Rattle.cas_entries.specs.declared.entry.Entry.{Entry}
-use Rattle.cas_words.specs.declared.words.ClockKind.TheVariants as clock
+use Rattle.cas_render.specs.declared.reply.Failure.TheVariants as failure
+use Rattle.cas_render.specs.declared.reply.Reply.{Reply}
+use Rattle.cas_render.specs.declared.reply.Reply.TheVariants as reply
+use Rattle.cas_lines.specs.declared.line.Line.{Line}
+use Rattle.cas_lines.specs.declared.line.Line.TheVariants as line
 use Rattle.cas_lines.specs.Lines.{Says}
-use Rattle.cas_node.specs.History.{History, ShardHistory, Takes, Shows, Does, Answered, Answers, Runs, shard_at, after_line, lone, tells_want, is_starved, write_entries, write_reply, read_reply}
-use Rattle.cas_node.specs.Laws.{OneOutcome}
 use Rattle.cas_lines.proofs.OneLine.{one_line}
+use Rattle.cas_entries.specs.declared.entry.Entry.{Entry}
+use Rattle.cas_shard.specs.Shards.{take_refusal, mutation_at}
+use Rattle.cas_words.specs.declared.words.ClockKind.TheVariants as clock
+use Rattle.cas_node.specs.History.{History, DiskState, Takes, Shows, Defines, Changes, Does, Answered, Answers, Runs, WritesAt, after_read, after_write, entry_of, shard_at, tells_want, is_starved}
+use Rattle.cas_node.specs.Laws.{OneOutcome, SameStore, IsRoomy, StaysWell}
 
--- both are this
-both : {A B : Type 0} {r q e : A} {t u d : B} → (r ≡ e) × (t ≡ d) → (q ≡ e) × (u ≡ d) → (r ≡ q) × (t ≡ u)
-both x y = (x.0 ∙ sym y.0, x.1 ∙ sym y.1)
+-- ---- the disk along a run
 
--- what a write that was answered entered
-told : (segment : ℕ) (s : ShardHistory) (reading : ℤ) (session call : ℕ) (w : BoundWrite) (entries : List Entry) (r : Reply) → Takes segment s reading session call w entries r → tells_want r ≡ false
-    → (r ≡ write_reply segment reading s w) × (entries ≡ write_entries segment reading s session call w)
-told segment s reading session call w entries r t v = (t.reply v, t.entered ∙ ap (λ b. if b then [] else write_entries segment reading s session call w) v)
+-- nothing falls
+record Grows (d e : DiskState) : Type 0 where
+  faults : d.faults ≤ e.faults
+  segment : d.reach.segment ≤ e.reach.segment
+  manifest : d.reach.manifest ≤ e.reach.manifest
 
-one_write : (h : History) (place : ℕ) (w : BoundWrite) (a b : ℤ) (xs ys : List Entry) (r q : Reply) (t u : History) → a ≡ b
-    → Takes h.limits.segment (shard_at h w.shard) a lone place w xs r → Takes h.limits.segment (shard_at h w.shard) b lone place w ys q
-    → t ≡ after_line h w.shard a xs → u ≡ after_line h w.shard b ys → tells_want r ≡ false → tells_want q ≡ false → (r ≡ q) × (t ≡ u)
-one_write h place w a b xs ys r q t u e x y f g v z =
-    let segment = h.limits.segment in
-    let s = shard_at h w.shard in
-    let m = told segment s a lone place w xs r x v in
-    let n = told segment s b lone place w ys q y z in (
-      m.0 ∙ ap (λ k. write_reply segment k s w) e ∙ sym n.0,
-      f ∙ ap (after_line h w.shard a) m.1 ∙ ap (λ k. after_line h w.shard k (write_entries segment k s lone place w)) e ∙ sym (g ∙ ap (after_line h w.shard b) n.1),
-    )
+still : (d : DiskState) → Grows d d
+still d = record { faults = omega arith; segment = omega arith; manifest = omega arith }
 
-one_read : (h : History) (x : BoundRead) (a b : ℤ) (r q : Reply) (t u : History) → a ≡ b → Shows (shard_at h x.shard) a x r → Shows (shard_at h x.shard) b x q
-    → t ≡ after_line h x.shard a [] → u ≡ after_line h x.shard b [] → tells_want r ≡ false → tells_want q ≡ false → (r ≡ q) × (t ≡ u)
-one_read h x a b r q t u e m n f g v z =
-    (m v ∙ ap (λ k. read_reply k (shard_at h x.shard) x) e ∙ sym (n z), f ∙ ap (λ k. after_line h x.shard k []) e ∙ sym g)
+then_on : (d e f : DiskState) → Grows d e → Grows e f → Grows d f
+then_on d e f a b = record { faults = omega (arith, a.faults, b.faults); segment = omega (arith, a.segment, b.segment); manifest = omega (arith, a.manifest, b.manifest) }
 
-one_deed : (Gives : ℤ → Type 0) (h : History) (place : ℕ) (m : Result Bound Refusal) (r q : Reply) (t u : History)
-    → Does clock.Manual Gives h place m r t → Does clock.Manual Gives h place m q u → tells_want r ≡ false → tells_want q ≡ false → (r ≡ q) × (t ≡ u)
-one_deed Gives h place (Err x) r q t u a b v w = both a b
-one_deed Gives h place (Ok (bound.Create x)) r q t u a b v w = both a b
-one_deed Gives h place (Ok (bound.Alter x)) r q t u a b v w = both a b
-one_deed Gives h place (Ok (bound.Write x)) r q t u a b v w = one_write h place x a.0 b.0 a.2.0 b.2.0 r q t u (a.1 ∙ sym b.1) a.2.1 b.2.1 a.2.2 b.2.2 v w
-one_deed Gives h place (Ok (bound.Read x)) r q t u a b v w = one_read h x a.0 b.0 r q t u (a.1 ∙ sym b.1) a.2 b.2 a.3 b.3 v w
+rose_on : (a b c d : ℕ) → a ≤ b → Rose b c → c ≤ d → Rose a d
+rose_on a b c d le rose more = omega (arith, le, rose, more)
 
--- answers that are shown are the same where their replies are
-shown : (a b : Reply) (r q : Option Reply) (t u : History) → r ≡ Some a → q ≡ Some b → (a ≡ b) × (t ≡ u) → (r ≡ q) × (t ≡ u)
-shown a b r q t u x y e = (x ∙ ap (λ (k : Reply). Some k) e.0 ∙ sym y, e.1)
+-- what becomes of the disk in a step, of any kind
+taken_grows : (segment : ℕ) (m : Mutation) (x : Entry) (d : DiskState) (r : Reply) (entries : List Entry) (e : DiskState) → Takes segment m x d r entries e → Grows d e
+taken_grows segment m x d reply.Done entries e t = absurd t
+taken_grows segment m x d (reply.Wrote number) entries e t = record { faults = t.3.1.faults; segment = t.3.1.reach.segment; manifest = t.3.1.reach.manifest }
+taken_grows segment m x d (reply.Rows rows shard front now) entries e t = absurd t
+taken_grows segment m x d (reply.Refused why) entries e t = record { faults = t.2.faults; segment = t.2.reach.segment; manifest = t.2.reach.manifest }
+taken_grows segment m x d (reply.Failed failure.Memory) entries e t = record { faults = t.1.faults; segment = t.1.reach.segment; manifest = t.1.reach.manifest }
+taken_grows segment m x d (reply.Failed failure.Stopped) entries e t = record { faults = t.2.1.faults; segment = t.2.1.reach.segment; manifest = t.2.1.reach.manifest }
+taken_grows segment m x d (reply.Failed failure.Disk) entries e t = record { faults = t.2.faults; segment = t.2.reach.segment; manifest = t.2.reach.manifest }
+taken_grows segment m x d (reply.Failed failure.Read) entries e t = absurd t
+taken_grows segment m x d (reply.Failed failure.Block) entries e t = absurd t
 
-one_answered : (Gives : ℤ → Type 0) (h : History) (place : ℕ) (l : Line) (r q : Option Reply) (t u : History)
-    → Answered clock.Manual Gives h place l r t → Answered clock.Manual Gives h place l q u → is_starved r ≡ false → is_starved q ≡ false → (r ≡ q) × (t ≡ u)
-one_answered Gives h place line.Blank r q t u a b v w = both a b
-one_answered Gives h place line.Syntax r q t u a b v w = both a b
-one_answered Gives h place (line.Clock n) r q t u a b v w = shown a.0 b.0 r q t u a.1 b.1 (both a.2 b.2)
-one_answered Gives h place (line.Statement s) r q t u a b v w =
-    shown a.0 b.0 r q t u a.1 b.1 (one_deed Gives h place (meaning h.limits.shards h.tables s) a.0 b.0 t u a.2 b.2 (ap is_starved (sym a.1) ∙ v) (ap is_starved (sym b.1) ∙ w))
+with_entry : (d e : DiskState) (x : ManifestEntry) → (e.reach.segment ≡ d.reach.segment) × (e.reach.manifest ≡ d.reach.manifest + room_of x) → d.faults ≤ e.faults → Grows d e
+with_entry d e x same le = record { faults = le; segment = omega (arith, same.0); manifest = omega (arith, same.1) }
+
+defined_grows : (x : ManifestEntry) (old new : List TableSchema) (d : DiskState) (r : Reply) (tables : List TableSchema) (e : DiskState) → Defines x old new d r tables e → Grows d e
+defined_grows x old new d reply.Done tables e t = with_entry d e x (ap (λ q. q.segment) t.2.reach, ap (λ q. q.manifest) t.2.reach) t.2.faults
+defined_grows x old new d (reply.Wrote number) tables e t = absurd t
+defined_grows x old new d (reply.Rows rows shard front now) tables e t = absurd t
+defined_grows x old new d (reply.Refused why) tables e t = record { faults = t.4.1.faults; segment = t.4.1.reach.segment; manifest = t.4.1.reach.manifest }
+defined_grows x old new d (reply.Failed failure.Memory) tables e t = record { faults = t.1.faults; segment = t.1.reach.segment; manifest = t.1.reach.manifest }
+defined_grows x old new d (reply.Failed failure.Stopped) tables e t = record { faults = t.1.1.faults; segment = t.1.1.reach.segment; manifest = t.1.1.reach.manifest }
+defined_grows x old new d (reply.Failed failure.Disk) tables e t = record { faults = t.1.faults; segment = t.1.reach.segment; manifest = t.1.reach.manifest }
+defined_grows x old new d (reply.Failed failure.Read) tables e t = absurd t
+defined_grows x old new d (reply.Failed failure.Block) tables e t = absurd t
+
+at_disk : (h t : History) (e : DiskState) → t.disk ≡ e → Grows h.disk e → Grows h.disk t.disk
+at_disk h t e is grows = subst (Grows h.disk) (sym is) grows
+
+deed_grows : (Gives : ℤ → Type 0) (h : History) (m : Result Bound Refusal) (r : Reply) (t : History) → Does clock.Manual Gives h m r t → Grows h.disk t.disk
+deed_grows Gives h (Err x) r t a = at_disk h t h.disk (ap (λ (k : History). k.disk) a.1) (still h.disk)
+deed_grows Gives h (Ok (bound.Create x)) r t a = at_disk h t a.1 (ap (λ (k : History). k.disk) a.3) (defined_grows _ _ _ _ r a.0 a.1 a.2)
+deed_grows Gives h (Ok (bound.Alter x)) r t a = at_disk h t a.1 (ap (λ (k : History). k.disk) a.3) (defined_grows _ _ _ _ r a.0 a.1 a.2)
+deed_grows Gives h (Ok (bound.Write w)) r t a = at_disk h t a.2.1 (ap (λ (k : History). k.disk) a.2.3) (taken_grows _ _ _ _ r a.2.0 a.2.1 a.2.2)
+deed_grows Gives h (Ok (bound.Read q)) r t a = at_disk h t h.disk (ap (λ (k : History). k.disk) a.3) (still h.disk)
+
+answered_grows : (Gives : ℤ → Type 0) (h : History) (l : Line) (r : Option Reply) (t : History) → Answered clock.Manual Gives h l r t → Grows h.disk t.disk
+answered_grows Gives h line.Blank r t a = at_disk h t h.disk (ap (λ (k : History). k.disk) a.1) (still h.disk)
+answered_grows Gives h line.Syntax r t a = at_disk h t h.disk (ap (λ (k : History). k.disk) a.1) (still h.disk)
+answered_grows Gives h (line.Clock n) r t a = at_disk h t h.disk (ap (λ (k : History). k.disk) a.2.1) (still h.disk)
+answered_grows Gives h (line.Statement s) r t a = deed_grows Gives h (meaning h.limits.shards h.tables s) a.0 t a.2
+
+line_grows : (Gives : ℤ → Type 0) (h : History) (text : List ℕ) (r : Option Reply) (t : History) → Answers clock.Manual Gives h text r t → Grows h.disk t.disk
+line_grows Gives h text r t (inl x) = at_disk h t h.disk (ap (λ (k : History). k.disk) x.1) (still h.disk)
+line_grows Gives h text r t (inr x) = answered_grows Gives h x.0 r t x.2
+
+run_grows : (Gives : ℤ → Type 0) (h : History) (ls : List (List ℕ)) (rs : List (Option Reply)) (t : History) → Runs clock.Manual Gives h ls rs t → Grows h.disk t.disk
+run_grows Gives h [] [] t x = at_disk h t h.disk (ap (λ (k : History). k.disk) x) (still h.disk)
+run_grows Gives h [] (r ∷ rs) t x = absurd x
+run_grows Gives h (l ∷ ls) [] t x = absurd x
+run_grows Gives h (l ∷ ls) (r ∷ rs) t x = then_on h.disk x.0.disk t.disk (line_grows Gives h l r x.0 x.1) (run_grows Gives x.0 ls rs t x.2)
+
+-- ---- one step, where the disk is well
+
+-- from a disk that isn't stopped to one that has room, without a fault
+abbrev Well : DiskState → DiskState → Type 0
+Well d e = StaysWell d e
+
+roomy_before : (e f : DiskState) → Grows e f → IsRoomy f.reach → IsRoomy e.reach
+roomy_before e f grows room = (omega (arith, grows.segment, room.0), omega (arith, grows.manifest, room.1))
+
+first_well : (d e f : DiskState) → Grows d e → Grows e f → Well d f → Well d e
+first_well d e f a b well = (well.0, λ rose. well.1 (rose_on d.faults d.faults e.faults f.faults (omega arith) rose b.faults), roomy_before e f b well.2)
+
+not_full : (r : Reach) → IsRoomy r → IsFull r → ⊥
+not_full r room (inl segment) = absurd (omega (arith, room.0, segment))
+not_full r room (inr manifest) = absurd (omega (arith, room.1, manifest))
+
+no_true : (b : Bool) → b ≡ false → b ≡ true → ⊥
+no_true b f t = true≢false (sym t ∙ f)
+
+-- what a write answers then, and takes
+abbrev answer_of : Option ℕ → Mutation → Reply
+answer_of None m = reply.Wrote m.number
+answer_of (Some why) m = reply.Refused why
+
+abbrev entries_of : Option ℕ → Entry → List Entry
+entries_of None x = x ∷ []
+entries_of (Some why) x = []
+
+record Settled (refusal : Option ℕ) (m : Mutation) (x : Entry) (r : Reply) (entries : List Entry) (e : DiskState) : Type 0 where
+  reply_is : r ≡ answer_of refusal m
+  entries_are : entries ≡ entries_of refusal x
+  goes : e.stopped ≡ false
+
+by_refusal : (o p : Option ℕ) (m : Mutation) (x : Entry) (r : Reply) (entries : List Entry) (e : DiskState) → o ≡ p → r ≡ answer_of p m → entries ≡ entries_of p x → e.stopped ≡ false
+    → Settled o m x r entries e
+by_refusal o p m x r entries e same is are goes = record {
+  reply_is = is ∙ ap (λ q. answer_of q m) (sym same);
+  entries_are = are ∙ ap (λ q. entries_of q x) (sym same);
+  goes = goes;
+}
+
+settled : (segment : ℕ) (m : Mutation) (x : Entry) (d : DiskState) (r : Reply) (entries : List Entry) (e : DiskState) → Takes segment m x d r entries e → tells_want r ≡ false → Well d e
+    → Settled (take_refusal segment m) m x r entries e
+settled segment m x d reply.Done entries e t v well = absurd t
+settled segment m x d (reply.Wrote number) entries e t v well =
+    by_refusal (take_refusal segment m) None m x _ entries e t.0 (ap (λ n. reply.Wrote n) t.1) t.2 (t.3.1.stopped ∙ t.3.0)
+settled segment m x d (reply.Rows rows shard front now) entries e t v well = absurd t
+settled segment m x d (reply.Refused why) entries e t v well = by t.0
+  where
+    by : (take_refusal segment m ≡ Some why) ⊎ ((take_refusal segment m ≡ None) × (d.stopped ≡ false) × (why ≡ TOO_MANY) × IsFull e.reach)
+        → Settled (take_refusal segment m) m x (reply.Refused why) entries e
+    by (inl some) = by_refusal (take_refusal segment m) (Some why) m x _ entries e some refl t.1 (t.2.stopped ∙ well.0)
+    by (inr full) = absurd (not_full e.reach well.2 full.3)
+settled segment m x d (reply.Failed failure.Memory) entries e t v well = absurd (true≢false v)
+settled segment m x d (reply.Failed failure.Stopped) entries e t v well = absurd (no_true d.stopped well.0 t.2.0)
+settled segment m x d (reply.Failed failure.Disk) entries e t v well = absurd (well.1 t.2.rose)
+settled segment m x d (reply.Failed failure.Read) entries e t v well = absurd t
+settled segment m x d (reply.Failed failure.Block) entries e t v well = absurd t
+
+record Agreed (new tables : List TableSchema) (r : Reply) (e : DiskState) : Type 0 where
+  done : r ≡ reply.Done
+  are : tables ≡ new
+  goes : e.stopped ≡ false
+
+agreed : (x : ManifestEntry) (old new : List TableSchema) (d : DiskState) (r : Reply) (tables : List TableSchema) (e : DiskState) → Defines x old new d r tables e → tells_want r ≡ false
+    → Well d e → Agreed new tables r e
+agreed x old new d reply.Done tables e t v well = record { done = refl; are = t.0; goes = t.2.stopped ∙ t.1 }
+agreed x old new d (reply.Wrote number) tables e t v well = absurd t
+agreed x old new d (reply.Rows rows shard front now) tables e t v well = absurd t
+agreed x old new d (reply.Refused why) tables e t v well = absurd (omega (arith, t.2, t.3, t.4.1.reach.manifest, well.2.1))
+agreed x old new d (reply.Failed failure.Memory) tables e t v well = absurd (true≢false v)
+agreed x old new d (reply.Failed failure.Stopped) tables e t v well = absurd (no_true d.stopped well.0 t.1.0)
+agreed x old new d (reply.Failed failure.Disk) tables e t v well = absurd (well.1 t.1.rose)
+agreed x old new d (reply.Failed failure.Read) tables e t v well = absurd t
+agreed x old new d (reply.Failed failure.Block) tables e t v well = absurd t
+
+-- ---- two runs
+
+-- a history, with its disk in another state
+abbrev on : History → DiskState → History
+on h d = record h { disk = d }
+
+-- both steps are answered in one way and leave one store, which goes on
+record Same {A : Type 0} (r q : A) (t u : History) : Type 0 where
+  replies : r ≡ q
+  stores : SameStore t u
+  one_goes : t.disk.stopped ≡ false
+  other_goes : u.disk.stopped ≡ false
+
+module _ (h : History) (d e : DiskState) where
+  one_write : (w : BoundWrite) (a : ℤ) (xs ys : List Entry) (p s : DiskState) (r q : Reply) (t u : History)
+      → Takes h.limits.segment (mutation_at a (shard_at h w.shard) w) (entry_of h (mutation_at a (shard_at h w.shard) w)) d r xs p
+      → Takes h.limits.segment (mutation_at a (shard_at h w.shard) w) (entry_of h (mutation_at a (shard_at h w.shard) w)) e q ys s
+      → t ≡ after_write h w.shard a r xs p → u ≡ after_write h w.shard a q ys s → tells_want r ≡ false → tells_want q ≡ false → Well d t.disk → Well e u.disk → Same r q t u
+  one_write w a xs ys p s r q t u x y f g v z well good =
+      let m = mutation_at a (shard_at h w.shard) w in
+      let one = settled h.limits.segment m (entry_of h m) d r xs p x v (subst (Well d) (ap (λ (k : History). k.disk) f) well) in
+      let two = settled h.limits.segment m (entry_of h m) e q ys s y z (subst (Well e) (ap (λ (k : History). k.disk) g) good) in
+      let replies : r ≡ q = one.reply_is ∙ sym two.reply_is in
+      let entries : xs ≡ ys = one.entries_are ∙ sym two.entries_are in
+      record {
+        replies = replies;
+        stores =
+            ap (λ (k : History). on k u.disk) f ∙ ap (λ (j : DiskState). after_write h w.shard a r xs j) (ap (λ (k : History). k.disk) g)
+            ∙ ap (λ (k : Reply). after_write h w.shard a k xs s) replies ∙ ap (λ (zs : List Entry). after_write h w.shard a q zs s) entries ∙ sym g;
+        one_goes = ap (λ (k : History). k.disk.stopped) f ∙ one.goes;
+        other_goes = ap (λ (k : History). k.disk.stopped) g ∙ two.goes;
+      }
+
+  one_read : (x : BoundRead) (a : ℤ) (r q : Reply) (t u : History) → Shows (shard_at h x.shard) a x r → Shows (shard_at h x.shard) a x q
+      → t ≡ after_read (on h d) x.shard a → u ≡ after_read (on h e) x.shard a → tells_want r ≡ false → tells_want q ≡ false → Well d t.disk → Well e u.disk → Same r q t u
+  one_read x a r q t u m n f g v z well good = record {
+    replies = m v ∙ sym (n z);
+    stores = ap (λ (k : History). on k u.disk) f ∙ ap (λ (j : DiskState). after_read (on h j) x.shard a) (ap (λ (k : History). k.disk) g) ∙ sym g;
+    one_goes = ap (λ (k : History). k.disk.stopped) f ∙ well.0;
+    other_goes = ap (λ (k : History). k.disk.stopped) g ∙ good.0;
+  }
+
+  one_change : (x : ManifestEntry) (b : Bound) (r q : Reply) (t u : History) → Changes (on h d) x b r t → Changes (on h e) x b q u → tells_want r ≡ false → tells_want q ≡ false
+      → Well d t.disk → Well e u.disk → Same r q t u
+  one_change x b r q t u a c v z well good =
+      let (tables, p, defines, f) = a in
+      let (others, s, defined, g) = c in
+      let one = agreed x h.tables (tables_after h.tables b) d r tables p defines v (subst (Well d) (ap (λ (k : History). k.disk) f) well) in
+      let two = agreed x h.tables (tables_after h.tables b) e q others s defined z (subst (Well e) (ap (λ (k : History). k.disk) g) good) in
+      record {
+        replies = one.done ∙ sym two.done;
+        stores =
+            ap (λ (k : History). on k u.disk) f ∙ ap (λ (j : DiskState). record h { tables = tables; disk = j }) (ap (λ (k : History). k.disk) g)
+            ∙ ap (λ (ts : List TableSchema). record h { tables = ts; disk = s }) (one.are ∙ sym two.are) ∙ sym g;
+        one_goes = ap (λ (k : History). k.disk.stopped) f ∙ one.goes;
+        other_goes = ap (λ (k : History). k.disk.stopped) g ∙ two.goes;
+      }
+
+  -- a step that leaves the disk
+  left : {A : Type 0} (r q v : A) (k t u : History) → r ≡ v → q ≡ v → t ≡ on k d → u ≡ on k e → Well d t.disk → Well e u.disk → Same r q t u
+  left r q v k t u x y f g well good = record {
+    replies = x ∙ sym y;
+    stores = ap (λ (j : History). on j u.disk) f ∙ ap (λ (j : DiskState). on k j) (ap (λ (j : History). j.disk) g) ∙ sym g;
+    one_goes = ap (λ (j : History). j.disk.stopped) f ∙ well.0;
+    other_goes = ap (λ (j : History). j.disk.stopped) g ∙ good.0;
+  }
+
+  one_deed : (Gives : ℤ → Type 0) (m : Result Bound Refusal) (r q : Reply) (t u : History) → Does clock.Manual Gives (on h d) m r t → Does clock.Manual Gives (on h e) m q u
+      → tells_want r ≡ false → tells_want q ≡ false → Well d t.disk → Well e u.disk → Same r q t u
+  one_deed Gives (Err x) r q t u a b v w well good = left r q _ h t u a.0 b.0 a.1 b.1 well good
+  one_deed Gives (Ok (bound.Create x)) r q t u a b v w well good = one_change (Schema x) (bound.Create x) r q t u a b v w well good
+  one_deed Gives (Ok (bound.Alter x)) r q t u a b v w well good = one_change (AddColumns x.table x.columns) (bound.Alter x) r q t u a b v w well good
+  one_deed Gives (Ok (bound.Write x)) r q t u a b v w well good =
+      let same : b.0 ≡ a.0 = b.1 ∙ sym a.1 in
+      let other = subst (λ (k : ℤ). WritesAt (on h e) k x q u) same b.2 in
+      one_write x a.0 a.2.0 other.0 a.2.1 other.1 r q t u a.2.2 other.2 a.2.3 other.3 v w well good
+  one_deed Gives (Ok (bound.Read x)) r q t u a b v w well good =
+      let same : b.0 ≡ a.0 = b.1 ∙ sym a.1 in
+      one_read x a.0 r q t u a.2 (subst (λ (k : ℤ). Shows (shard_at h x.shard) k x q) same b.2) a.3 (subst (λ (k : ℤ). u ≡ after_read (on h e) x.shard k) same b.3) v w well good
+
+  -- answers that are shown are the same where their replies are
+  shown : (a b : Reply) (r q : Option Reply) (t u : History) → r ≡ Some a → q ≡ Some b → Same a b t u → Same r q t u
+  shown a b r q t u x y same = record {
+    replies = x ∙ ap (λ (k : Reply). Some k) same.replies ∙ sym y;
+    stores = same.stores;
+    one_goes = same.one_goes;
+    other_goes = same.other_goes;
+  }
+
+  one_answered : (Gives : ℤ → Type 0) (l : Line) (r q : Option Reply) (t u : History) → Answered clock.Manual Gives (on h d) l r t → Answered clock.Manual Gives (on h e) l q u
+      → is_starved r ≡ false → is_starved q ≡ false → Well d t.disk → Well e u.disk → Same r q t u
+  one_answered Gives line.Blank r q t u a b v w well good = left r q _ h t u a.0 b.0 a.1 b.1 well good
+  one_answered Gives line.Syntax r q t u a b v w well good = left r q _ h t u a.0 b.0 a.1 b.1 well good
+  one_answered Gives (line.Clock n) r q t u a b v w well good =
+      shown a.0 b.0 r q t u a.1 b.1 (left a.0 b.0 reply.Done (record h { clock = n }) t u a.2.0 b.2.0 a.2.1 b.2.1 well good)
+  one_answered Gives (line.Statement s) r q t u a b v w well good =
+      shown a.0 b.0 r q t u a.1 b.1
+      (one_deed Gives (meaning h.limits.shards h.tables s) a.0 b.0 t u a.2 b.2 (ap is_starved (sym a.1) ∙ v) (ap is_starved (sym b.1) ∙ w) well good)
 
 -- a line's answer is of what it says
-of_line : (Gives : ℤ → Type 0) (h : History) (place : ℕ) (text : List ℕ) (r : Option Reply) (t : History) → Answers clock.Manual Gives h place text r t → is_starved r ≡ false
-    → (l : Line) × Says text l × Answered clock.Manual Gives h place l r t
-of_line Gives h place text r t (inl x) v = absurd (true≢false (ap is_starved (sym x.0) ∙ v))
-of_line Gives h place text r t (inr x) v = x
+of_line : (Gives : ℤ → Type 0) (h : History) (text : List ℕ) (r : Option Reply) (t : History) → Answers clock.Manual Gives h text r t → is_starved r ≡ false
+    → (l : Line) × Says text l × Answered clock.Manual Gives h l r t
+of_line Gives h text r t (inl x) v = absurd (true≢false (ap is_starved (sym x.0) ∙ v))
+of_line Gives h text r t (inr x) v = x
 
-one_answer : (Gives : ℤ → Type 0) (h : History) (place : ℕ) (text : List ℕ) (r q : Option Reply) (t u : History)
-    → Answers clock.Manual Gives h place text r t → Answers clock.Manual Gives h place text q u → is_starved r ≡ false → is_starved q ≡ false → (r ≡ q) × (t ≡ u)
-one_answer Gives h place text r q t u x y v w =
-    let a = of_line Gives h place text r t x v in
-    let b = of_line Gives h place text q u y w in
+one_answer : (Gives : ℤ → Type 0) (h : History) (d e : DiskState) (text : List ℕ) (r q : Option Reply) (t u : History)
+    → Answers clock.Manual Gives (on h d) text r t → Answers clock.Manual Gives (on h e) text q u → is_starved r ≡ false → is_starved q ≡ false
+    → Well d t.disk → Well e u.disk → Same r q t u
+one_answer Gives h d e text r q t u x y v w well good =
+    let a = of_line Gives (on h d) text r t x v in
+    let b = of_line Gives (on h e) text q u y w in
     let same = one_line text b.0 a.0 b.1 a.1 in
-    one_answered Gives h place a.0 r q t u a.2 (subst (λ l. Answered clock.Manual Gives h place l q u) same b.2) v w
+    one_answered h d e Gives a.0 r q t u a.2 (subst (λ l. Answered clock.Manual Gives (on h e) l q u) same b.2) v w well good
 
-pub one_outcome : (Gives : ℤ → Type 0) → OneOutcome Gives
-one_outcome Gives place h [] [] [] t u x y v w = (refl, x ∙ sym y)
-one_outcome Gives place h [] [] (s ∷ ss) t u x y v w = absurd y
-one_outcome Gives place h [] (r ∷ rs) ss t u x y v w = absurd x
-one_outcome Gives place h (l ∷ ls) [] ss t u x y v w = absurd x
-one_outcome Gives place h (l ∷ ls) (r ∷ rs) [] t u x y v w = absurd y
-one_outcome Gives place h (l ∷ ls) (r ∷ rs) (s ∷ ss) t u x y v w =
+runs_agree : (Gives : ℤ → Type 0) (h : History) (d e : DiskState) (ls : List (List ℕ)) (rs ss : List (Option Reply)) (t u : History)
+    → Runs clock.Manual Gives (on h d) ls rs t → Runs clock.Manual Gives (on h e) ls ss u → list_any is_starved rs ≡ false → list_any is_starved ss ≡ false
+    → Well d t.disk → Well e u.disk → (rs ≡ ss) × SameStore t u
+runs_agree Gives h d e [] [] [] t u x y v w well good =
+    (refl, ap (λ (j : History). on j u.disk) x ∙ ap (λ (j : DiskState). on h j) (ap (λ (j : History). j.disk) y) ∙ sym y)
+runs_agree Gives h d e [] [] (s ∷ ss) t u x y v w well good = absurd y
+runs_agree Gives h d e [] (r ∷ rs) ss t u x y v w well good = absurd x
+runs_agree Gives h d e (l ∷ ls) [] ss t u x y v w well good = absurd x
+runs_agree Gives h d e (l ∷ ls) (r ∷ rs) [] t u x y v w well good = absurd y
+runs_agree Gives h d e (l ∷ ls) (r ∷ rs) (s ∷ ss) t u x y v w well good =
     let left = or_parts (is_starved r) (list_any is_starved rs) v in
     let right = or_parts (is_starved s) (list_any is_starved ss) w in
-    let one = one_answer Gives h place l r s x.0 y.0 x.1 y.1 left.0 right.0 in
-    let rest = one_outcome Gives (place + 1) x.0 ls rs ss t u x.2 (subst (λ k. Runs clock.Manual Gives (place + 1) k ls ss u) (sym one.1) y.2) left.1 right.1 in
-    (λ i. one.0 i ∷ rest.0 i, rest.1)
+    let one_more = line_grows Gives (on h d) l r x.0 x.1 in
+    let other_more = line_grows Gives (on h e) l s y.0 y.1 in
+    let one_rest = run_grows Gives x.0 ls rs t x.2 in
+    let other_rest = run_grows Gives y.0 ls ss u y.2 in
+    let one = one_answer Gives h d e l r s x.0 y.0 x.1 y.1 left.0 right.0 (first_well d x.0.disk t.disk one_more one_rest well) (first_well e y.0.disk u.disk other_more other_rest good) in
+    let rest =
+    runs_agree Gives x.0 x.0.disk y.0.disk ls rs ss t u x.2 (subst (λ k. Runs clock.Manual Gives k ls ss u) (sym one.stores) y.2) left.1 right.1
+    (one.one_goes, (λ rose. well.1 (rose_on d.faults x.0.disk.faults t.disk.faults t.disk.faults one_more.faults rose (omega arith))), well.2)
+    (one.other_goes, (λ rose. good.1 (rose_on e.faults y.0.disk.faults u.disk.faults u.disk.faults other_more.faults rose (omega arith))), good.2) in
+    (λ i. one.replies i ∷ rest.0 i, rest.1)
+
+pub one_outcome : (Gives : ℤ → Type 0) → OneOutcome Gives
+one_outcome Gives h ls rs ss t u x y v w well good = runs_agree Gives h h.disk h.disk ls rs ss t u x y v w well good

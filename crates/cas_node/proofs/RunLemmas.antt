@@ -1,70 +1,189 @@
--- How a run ends.
-use Rattle.std.proofs.Common.{◌≡◌, ℕ, ℤ, Bool, true, false, Option, None, Some, List, [], ◌∷◌, ◌++◌, refl, sym, ap, ◌∙◌, subst, append-nil, inl, inr}
-use Rattle.std.specs.Prelude.{⊤, ◌⊎◌, if◌then◌else◌}
+-- What a run did with its folder and its script, and how it ends.
+use Rattle.std.proofs.Common.{◌≡◌, ◌≤◌, ℕ, ℤ, pos, Bool, true, false, Option, None, Some, is_some, List, [], ◌∷◌, ◌++◌, length, refl, sym, ap, ◌∙◌, subst, append-nil, inl, inr, arith}
+use Rattle.std.specs.Prelude.{if◌then◌else◌, IfSome, IsSome}
 use Rattle.std.specs.List.{fold}
 use Rattle.std.specs.Str.Lines.{lines}
-use Rattle.std.specs.Io.KnownBytes.{Consumes, IsAtEnd}
+use Rattle.std.specs.Io.KnownBytes.{Keeps as KeepsBytes}
+use Rattle.std.proofs.lemmas.Bool.{leb-true}
 use Rattle.std.proofs.lemmas.Option.{same_Some}
+use Rattle.cas_io.specs.Causes.{Rose}
 use Rattle.cas_io.specs.Streams.{ReadToEnd}
+use Rattle.cas_types.specs.declared.schema.TableSchema.{TableSchema}
+use Rattle.cas_disk.specs.declared.name.Name.{Name}
+use Rattle.cas_disk.specs.Disk.{Disk, Image}
+use Rattle.cas_gates.specs.declared.first.First.{First}
+use Rattle.cas_atoms.specs.declared.atom.Mutation.{Mutation}
+use Rattle.cas_bind.specs.declared.bound.Limits.{Limits}
+use Rattle.cas_changes.specs.Saying.{said_by}
+use Rattle.cas_changes.specs.declared.entry.Entry.{Entry as ManifestEntry}
+use Rattle.cas_history.specs.declared.item.Item.{Item}
+use Rattle.cas_journal.specs.Stores.{Told, MayList}
+use Rattle.cas_journal.specs.declared.journal.Journal.{Journal}
+use Rattle.cas_opening.specs.Opening.{IsOfBytes, OpensAs, next_segment}
+use Rattle.cas_opening.specs.declared.fault.OpenFault.{OpenFault}
+use Rattle.cas_opening.specs.declared.fault.OpenFault.TheVariants as open_fault
+use Rattle.cas_opening.proofs.Readings.{one_store, opens_not_bad}
+use Rattle.cas_room.specs.Keeping.{Keeps, StandsFor as ImageStands}
+use Rattle.cas_room.specs.Rooms.{accepted_in}
+use Rattle.cas_room.specs.declared.event.Event.{Event}
+use Rattle.cas_shard.specs.declared.shard.Shard.{Shard}
 use Rattle.cas_render.specs.declared.reply.Reply.{Reply}
 use Rattle.cas_render.specs.declared.reply.Reply.TheVariants as reply
+use Rattle.cas_render.specs.declared.reply.Failure.TheVariants as failure
 use Rattle.cas_words.specs.Words.{command_of}
 use Rattle.cas_words.specs.declared.words.ClockKind.{ClockKind}
 use Rattle.cas_words.specs.declared.words.Command.{Command}
 use Rattle.cas_node.specs.declared.cause.Cause.{Cause}
 use Rattle.cas_node.specs.declared.cause.Cause.TheVariants as cause
-use Rattle.cas_node.specs.declared.opening.Opening.{Opening}
-use Rattle.cas_node.specs.History.{History, Runs, start}
-use Rattle.cas_node.specs.Ran.{AllWell, Ended, GoodOrMem, IfTooLong, IsGranted, Outside, RanFrom, Stop, WriteRose, at_the_end, at_the_sink, for_memory, opening_of, reply_cause, worse, worst}
+use Rattle.cas_node.specs.declared.program.TheConstants.{SCRIPT_LIMIT}
+use Rattle.cas_node.specs.History.{History, Runs}
+use Rattle.cas_node.specs.Found.{Begins, IsUnfit, IsUnflushed, start}
+use Rattle.cas_node.specs.Ran.{AllWell, Ended, GoodOrMem, IfBad, IsGranted, IsNotRun, Outside, Ran, RanAll, RanFrom, Stop, WriteRose, at_the_end, at_the_sink, for_memory, has_risen, reply_cause, with_faults, worse, worst}
+use Rattle.cas_node.specs.Inner.Serving.{Served, Serves}
+use Rattle.cas_node.specs.Inner.Starts.{IsInMemory, IsStarted, cause_of_opening}
+use Rattle.cas_node.specs.Inner.State.{State, disk_of}
+use Rattle.cas_node.specs.Inner.Turns.{IsEnd, Moves}
+use Rattle.cas_node.proofs.Serving.{first_lasts, first_stands, is_left}
 
--- a run that answered lines ends so
-abbrev pub IsEnd : Cause → Type 0
-IsEnd cause.Good = ⊤
-IsEnd cause.Refused = ⊤
-IsEnd cause.Write = ⊤
-IsEnd cause.Mem = ⊤
-IsEnd _ = ⊥
+-- ---- what was served
 
+module _ (kind : ClockKind) (Gives : ℤ → Type 0) (script : List ℕ) (old new : Option (List ℕ)) (s t : State) (d e : Disk) (faults_before : ℕ) (told why : Cause)
+    (moves : Moves (λ h after. RanFrom h kind Gives script old new after told) s t d e) (clock : s.clock ≡ pos 0) (list : s.list ≡ []) (calls : s.calls ≡ 0)
+    (committed : s.committed ≡ 0) (going : s.journal.first ≡ None) (ended : why ≡ with_faults faults_before t.faults told)
+    (images : (found : List Mutation) (u : Told) → Keeps t.journal e t.list t.committed found u → (i : Image) → e.may_leave i
+    → ImageStands (MayList u) found (accepted_in t.list) t.committed i) where
+  of_store : (given : Limits) (entries : List ManifestEntry) (mutations : List Mutation) → IsInMemory given entries mutations s.limits s.tables s.shards
+      → s.journal.last_segment ≤ next_segment entries
+      → Served kind Gives script old new given entries mutations s.journal d e faults_before s.faults t.faults t.list why
+  of_store given entries mutations memory segment =
+      let (after, ran, goes) = moves (start given entries mutations s.session (disk_of s)) (first_stands given entries mutations s memory clock list calls) in
+      record {
+        first = start given entries mutations s.session (disk_of s);
+        begins = record {
+          session = s.session;
+          disk = disk_of s;
+          history = refl;
+          going = ap (λ (f : Option First). is_some f) going;
+          faults = omega arith;
+          segment = segment;
+        };
+        final = after;
+        told = told;
+        ran = ran;
+        entered = goes.stands.entered;
+        crash = λ u is lasts i left.
+            let (now, still) = goes.lasts mutations u (first_lasts given entries mutations s memory clock list calls d u is lasts committed) in
+            is_left after mutations t e now goes.stands still i (images mutations now still.keeps i left);
+        faults = ap (λ disk. disk.faults) goes.stands.disk;
+        ended = ended;
+      }
+
+  pub serves : (pass : Option (List (Item Event))) → IsSome pass → IfSome pass (λ p. p ≡ t.list)
+      → Serves kind Gives script old new s.limits s.tables s.shards s.journal d s.faults faults_before e t.faults pass why
+  serves None some is = absurd cc
+  serves (Some items) some is = λ given entries mutations memory segment.
+      subst (λ (l : List (Item Event)). Served kind Gives script old new given entries mutations s.journal d e faults_before s.faults t.faults l why) (sym is)
+      (of_store given entries mutations memory segment)
+
+-- with others that are the same
+pub with_others : {A B C D E F : Type 0} (P : A → B → C → D → E → F → Type 0) (a k : A) (b l : B) (c m : C) (d n : D) (e o : E) (f p : F)
+    → a ≡ k → b ≡ l → c ≡ m → d ≡ n → e ≡ o → f ≡ p → P a b c d e f → P k l m n o p
+with_others P a k b l c m d n e o f p xs bs cs ds es fs is =
+    subst (λ z. P k l m n o z) fs (subst (λ z. P k l m n z f) es (subst (λ z. P k l m z e f) ds (subst (λ z. P k l z d e f) cs (subst (λ z. P k z c d e f) bs (subst (λ z. P z b c d e f) xs is)))))
+
+-- ---- the script ran
+
+keeps : (old new : Option (List ℕ)) → new ≡ old → KeepsBytes old new
+keeps None new same = tt
+keeps (Some xs) None same = absurd cc
+keeps (Some xs) (Some ys) same = same_Some ys xs same
+
+module _ (words : List (List ℕ)) (Gives : ℤ → Type 0) (before after : Outside) (c : Command) (script : List ℕ) (limits : Limits) (tables : List TableSchema) (shards : List Shard)
+    (journal : Journal) (mid : Disk) (faults : ℕ) (why : Cause) (said : command_of words ≡ Some c) (read : ReadToEnd before.left after.left script)
+    (started : IsStarted c.limits limits tables shards journal before.folder mid) (kept : before.folder_faults ≤ faults) (n : ℕ) (counted : n ≡ before.folder_faults) where
+  earlier : (h : History) → Begins c.limits started.entries started.mutations faults h → Begins c.limits started.entries started.mutations before.folder_faults h
+  earlier h begins = record {
+    session = begins.session;
+    disk = begins.disk;
+    history = begins.history;
+    going = begins.going;
+    faults = omega (arith, kept, begins.faults);
+    segment = begins.segment;
+  }
+
+  of_served : (list : List (Item Event))
+      → Served c.clock Gives script before.taken after.taken c.limits started.entries started.mutations journal mid after.folder n faults after.folder_faults list why
+      → Ran c Gives script before after list why
+  of_served list served = record {
+    entries = started.entries;
+    mutations = started.mutations;
+    found = started.found;
+    first = served.first;
+    begins = earlier served.first served.begins;
+    final = served.final;
+    told = served.told;
+    ran = served.ran;
+    entered = served.entered;
+    crash = λ image reads bytes i left. let (t, told, lasts) = started.lasts image reads bytes in served.crash t told lasts i left;
+    faults = served.faults;
+    ended = served.ended ∙ ap (λ (k : ℕ). with_faults k after.folder_faults served.told) counted;
+  }
+
+  pub ran_all : (pass : Option (List (Item Event))) → length script ≤ SCRIPT_LIMIT
+      → Serves c.clock Gives script before.taken after.taken limits tables shards journal mid faults n after.folder after.folder_faults pass why
+      → (pass ≡ None → after.taken ≡ before.taken) → RanAll words Gives before after pass why
+  ran_all None short serves unwritten = (keeps before.taken after.taken (unwritten refl), subst IsNotRun (sym serves) tt)
+  ran_all (Some list) short serves unwritten =
+      (c, said, (script, read, short, of_served list (serves c.limits started.entries started.mutations started.memory started.segment)))
+
+-- ---- what ends a run
+
+of_both : (P : Cause → Type 0) (b : Bool) (x y : Cause) → P x → P y → P (if b then y else x)
+of_both P true x y p q = q
+of_both P false x y p q = p
+
+-- without a fault of the folder it ends as its lines did
+calm_by : (before now : ℕ) (b : Bool) → has_risen before now ≡ b → (told : Cause) → (Rose before now → ⊥) → (if b then worse told cause.Disk else told) ≡ told
+calm_by before now true test told none = absurd (none (leb-true _ now test))
+calm_by before now false test told none = refl
+
+calm : (before now : ℕ) (told : Cause) → (Rose before now → ⊥) → with_faults before now told ≡ told
+calm before now told none = calm_by before now (has_risen before now) refl told none
+
+-- ---- an opening that ends a run
+
+if_bad : (fault : OpenFault) (P : Name → ℕ → Type 0) → ((name : Name) (at : ℕ) → fault ≡ open_fault.Bad name at → P name at) → IfBad (cause_of_opening fault) P
+if_bad (open_fault.Bad name at) P bad = bad name at refl
+if_bad open_fault.Failed P bad = tt
+if_bad open_fault.Mem P bad = tt
+
+-- the folder is refused for bytes that aren't as they must be
+pub bad_opening : (words : List (List ℕ)) (folder : Disk) (c : Command) (fault : OpenFault) (why : Cause) → command_of words ≡ Some c → why ≡ cause_of_opening fault
+    → ((name : Name) (at : ℕ) → fault ≡ open_fault.Bad name at → (d : Image) → folder.reads d → IsOfBytes d → IsUnfit c.limits.shards name at d)
+    → IfBad why (λ name at. (k : Command) → command_of words ≡ Some k → (d : Image) → folder.reads d → IsOfBytes d → IsUnfit k.limits.shards name at d)
+bad_opening words folder c fault why said is refused =
+    subst (λ (w : Cause). IfBad w (λ name at. (k : Command) → command_of words ≡ Some k → (d : Image) → folder.reads d → IsOfBytes d → IsUnfit k.limits.shards name at d)) (sym is)
+    (if_bad fault _
+    (λ name at e k too d reads bytes. subst (λ (j : Command). IsUnfit j.limits.shards name at d) (same_Some c k (sym said ∙ too)) (refused name at e d reads bytes)))
+
+-- ---- where all is well
+
+-- what the replies say
 of_reply : (r : Option Reply) → IsEnd (reply_cause r)
 of_reply None = tt
 of_reply (Some reply.Done) = tt
 of_reply (Some (reply.Wrote n)) = tt
 of_reply (Some (reply.Rows rows shard front now)) = tt
 of_reply (Some (reply.Refused n)) = tt
-of_reply (Some (reply.Failed f)) = tt
-
-of_both : (t : Bool) (a b : Cause) → IsEnd a → IsEnd b → IsEnd (if t then b else a)
-of_both true a b x y = y
-of_both false a b x y = x
+of_reply (Some (reply.Failed failure.Memory)) = tt
+of_reply (Some (reply.Failed failure.Stopped)) = tt
+of_reply (Some (reply.Failed failure.Disk)) = tt
+of_reply (Some (reply.Failed failure.Read)) = tt
+of_reply (Some (reply.Failed failure.Block)) = tt
 
 of_replies : (c : Cause) (rs : List (Option Reply)) → IsEnd c → IsEnd (fold (λ c r. worse c (reply_cause r)) c rs)
 of_replies c [] h = h
-of_replies c (r ∷ rs) h = of_replies (worse c (reply_cause r)) rs (of_both _ c (reply_cause r) h (of_reply r))
-
-of_stop : (s : Stop) (rest : List (List ℕ)) (old new : Option (List ℕ)) (replies : List (Option Reply)) (why : Cause) → Ended s rest old new replies why → IsEnd why
-of_stop at_the_end rest old new replies why e = subst IsEnd (sym e.told) (of_replies cause.Good replies tt)
-of_stop at_the_sink rest old new replies why e = subst IsEnd (sym e.told) (of_both _ (worst replies) cause.Write (of_replies cause.Good replies tt) tt)
-of_stop for_memory rest old new replies why e = subst IsEnd (sym e.told) tt
-
-pub is_end : (h : History) (kind : ClockKind) (Gives : ℤ → Type 0) (script : List ℕ) (old new : Option (List ℕ)) (final : History) (why : Cause) → RanFrom h kind Gives script old new final why → IsEnd why
-is_end h kind Gives script old new final why r = of_stop r.stop r.rest old new r.replies why r.ended
-
-pub no_words : (why : Cause) → IsEnd why → why ≡ cause.Words → ⊥
-no_words why i e = subst IsEnd e i
-
-pub no_read : (why : Cause) → IsEnd why → why ≡ cause.Read → ⊥
-no_read why i e = subst IsEnd e i
-
-pub not_long : (why : Cause) (P : ℕ → Type 0) → IsEnd why → IfTooLong why P
-not_long cause.Good P i = tt
-not_long cause.Refused P i = tt
-not_long cause.Write P i = tt
-not_long cause.Mem P i = tt
-not_long cause.Words P i = absurd i
-not_long cause.Read P i = absurd i
-not_long (cause.TooLong taken) P i = absurd i
-
--- ---- where all is well
+of_replies c (r ∷ rs) h = of_replies (worse c (reply_cause r)) rs (of_both IsEnd _ c (reply_cause r) h (of_reply r))
 
 -- a failed write is told, or memory ran out
 cut : (c : Cause) → IsEnd c → (worse c cause.Write ≡ cause.Write → ⊥) → GoodOrMem (worse c cause.Write)
@@ -72,19 +191,21 @@ cut cause.Good i h = absurd (h refl)
 cut cause.Refused i h = absurd (h refl)
 cut cause.Write i h = absurd (h refl)
 cut cause.Mem i h = inr refl
+cut cause.Disk i h = absurd i
 cut cause.Words i h = absurd i
 cut cause.Read i h = absurd i
+cut (cause.Bad name at) i h = absurd i
 cut (cause.TooLong taken) i h = absurd i
 
-stops_well : (o : Opening) (kind : ClockKind) (Gives : ℤ → Type 0) (script : List ℕ) (old new : Option (List ℕ)) (final : History) (why : Cause)
-    → IsGranted o kind Gives script → (why ≡ cause.Write → ⊥) → (s : Stop) (run rest : List (List ℕ)) (replies : List (Option Reply)) → run ++ rest ≡ lines script
-    → Runs kind Gives 1 (start o) run replies final → Ended s rest old new replies why → GoodOrMem why
-stops_well o kind Gives script old new final why granted fine at_the_end run rest replies parts steps e =
+stops_well : (first : History) (kind : ClockKind) (Gives : ℤ → Type 0) (script : List ℕ) (old new : Option (List ℕ)) (final : History) (why : Cause)
+    → IsGranted first kind Gives script → (why ≡ cause.Write → ⊥) → (s : Stop) (run rest : List (List ℕ)) (replies : List (Option Reply)) → run ++ rest ≡ lines script
+    → Runs kind Gives first run replies final → Ended s rest old new replies why → GoodOrMem why
+stops_well first kind Gives script old new final why granted fine at_the_end run rest replies parts steps e =
     let all : run ≡ lines script = sym (append-nil run) ∙ ap (λ r. run ++ r) (sym e.all) ∙ parts in
-    subst GoodOrMem (sym e.told) (granted replies final (subst (λ ls. Runs kind Gives 1 (start o) ls replies final) all steps))
-stops_well o kind Gives script old new final why granted fine at_the_sink run rest replies parts steps e =
+    subst GoodOrMem (sym e.told) (granted replies final (subst (λ ls. Runs kind Gives first ls replies final) all steps))
+stops_well first kind Gives script old new final why granted fine at_the_sink run rest replies parts steps e =
     subst GoodOrMem (sym e.told) (cut (worst replies) (of_replies cause.Good replies tt) (λ x. fine (e.told ∙ x)))
-stops_well o kind Gives script old new final why granted fine for_memory run rest replies parts steps e = inr e.told
+stops_well first kind Gives script old new final why granted fine for_memory run rest replies parts steps e = inr e.told
 
 -- what was read is all that was left
 all_read : (left new : Option (List ℕ)) (s bytes : List ℕ) → left ≡ Some s → ReadToEnd left new bytes → bytes ≡ s
@@ -92,12 +213,52 @@ all_read None new s bytes e r = cc
 all_read (Some xs) None s bytes e r = absurd r.taken
 all_read (Some xs) (Some ys) s bytes e r = sym (append-nil bytes) ∙ ap (λ z. bytes ++ z) (sym r.at_end) ∙ sym r.taken ∙ same_Some xs s e
 
-pub ends_well : (words : List (List ℕ)) (Gives : ℤ → Type 0) (before after : Outside) (c : Command) (taken script : List ℕ) (first final : History) (why : Cause)
-    → command_of words ≡ Some c → ReadToEnd before.left after.left taken → script ≡ taken → first ≡ start (opening_of c) → RanFrom first c.clock Gives script before.taken after.taken final why
-    → (why ≡ cause.Write → WriteRose before after) → AllWell words Gives before after → GoodOrMem why
-ends_well words Gives before after c taken script first final why said read whole begun from write well =
-    let ran = subst (λ h. RanFrom h c.clock Gives script before.taken after.taken final why) begun from in
-    let same : well.command ≡ c = same_Some _ _ (sym well.words_are ∙ said) in
-    let text : script ≡ well.script = whole ∙ all_read before.left after.left well.script taken well.told read in
-    let granted = subst (λ k. IsGranted (opening_of k) k.clock Gives script) same (subst (λ t. IsGranted (opening_of well.command) well.command.clock Gives t) (sym text) well.granted) in
-    stops_well (opening_of c) c.clock Gives script before.taken after.taken final why granted (λ e. well.no_write_fault (write e)) ran.stop ran.run ran.rest ran.replies ran.cut ran.steps ran.ended
+module _ (words : List (List ℕ)) (Gives : ℤ → Type 0) (before after : Outside) (c : Command) (said : command_of words ≡ Some c) (well : AllWell words Gives before after) where
+  same : well.command ≡ c
+  same = same_Some _ _ (sym well.words_are ∙ said)
+
+  opens : OpensAs c.limits.shards well.entries well.mutations well.image
+  opens = subst (λ (k : Command). OpensAs k.limits.shards well.entries well.mutations well.image) same well.opens
+
+  ran_well : (script : List ℕ) (list : List (Item Event)) (why : Cause) → ReadToEnd before.left after.left script → Ran c Gives script before after list why
+      → (why ≡ cause.Write → WriteRose before after) → GoodOrMem why
+  ran_well script list why read ran write =
+      let text : script ≡ well.script = all_read before.left after.left well.script script well.told read in
+      let one = one_store well.image well.of_bytes c.limits.shards ran.entries well.entries ran.mutations well.mutations (ran.found.told well.image well.reads well.of_bytes) opens in
+      let begun : Begins well.command.limits well.entries well.mutations before.folder_faults ran.first =
+      subst (λ (k : Command). Begins k.limits well.entries well.mutations before.folder_faults ran.first) (sym same)
+      (subst (λ (es : List ManifestEntry). Begins c.limits es well.mutations before.folder_faults ran.first) one.0
+      (subst (λ (ms : List Mutation). Begins c.limits ran.entries ms before.folder_faults ran.first) one.1 ran.begins)) in
+      let granted : IsGranted ran.first c.clock Gives script =
+      subst (λ (k : Command). IsGranted ran.first k.clock Gives script) same
+      (subst (λ (l : List ℕ). IsGranted ran.first well.command.clock Gives l) (sym text) (well.granted ran.first begun)) in
+      let is : why ≡ ran.told = ran.ended ∙ calm before.folder_faults after.folder_faults ran.told well.no_folder_fault in
+      let r = ran.ran in
+      subst GoodOrMem (sym is)
+      (stops_well ran.first c.clock Gives script before.taken after.taken ran.final ran.told granted (λ e. well.no_write_fault (write (is ∙ e))) r.stop r.run r.rest r.replies r.cut
+      r.steps r.ended)
+
+  pub ends_well : (script : List ℕ) (limits : Limits) (tables : List TableSchema) (shards : List Shard) (journal : Journal) (mid : Disk) (faults : ℕ)
+      (pass : Option (List (Item Event))) (why : Cause) → ReadToEnd before.left after.left script
+      → IsStarted c.limits limits tables shards journal before.folder mid → before.folder_faults ≤ faults
+      → (n : ℕ) → n ≡ before.folder_faults
+      → Serves c.clock Gives script before.taken after.taken limits tables shards journal mid faults n after.folder after.folder_faults pass why
+      → (why ≡ cause.Write → WriteRose before after) → GoodOrMem why
+  ends_well script limits tables shards journal mid faults None why read started kept n counted serves write = inr serves
+  ends_well script limits tables shards journal mid faults (Some list) why read started kept n counted serves write =
+      ran_well script list why read
+      (of_served words Gives before after c script limits tables shards journal mid faults why said read started kept n counted list
+      (serves c.limits started.entries started.mutations started.memory started.segment)) write
+
+  unfit : (name : Name) (at : ℕ) → IsUnfit c.limits.shards name at well.image → ⊥
+  unfit name at (inl refused) = opens_not_bad well.image well.of_bytes c.limits.shards well.entries well.mutations opens name at refused
+  unfit name at (inr (is_manifest, first, (es, ns, other, flushed))) =
+      let one = one_store well.image well.of_bytes c.limits.shards es well.entries ns well.mutations other opens in
+      flushed (subst (λ (l : List ManifestEntry). IsUnflushed (said_by l)) (sym one.0) well.unflushed)
+
+  pub opens_well : (fault : OpenFault)
+      → ((name : Name) (at : ℕ) → fault ≡ open_fault.Bad name at → (i : Image) → before.folder.reads i → IsOfBytes i → IsUnfit c.limits.shards name at i)
+      → (fault ≡ open_fault.Failed → Rose before.folder_faults after.folder_faults) → GoodOrMem (cause_of_opening fault)
+  opens_well (open_fault.Bad name at) refused rose = absurd (unfit name at (refused name at refl well.image well.reads well.of_bytes))
+  opens_well open_fault.Failed refused rose = absurd (well.no_folder_fault (rose refl))
+  opens_well open_fault.Mem refused rose = inr refl

@@ -1,8 +1,7 @@
 -- A session up to some line.
-use Rattle.std.proofs.Common.{◌≡◌, ℕ, ◌+◌, ℤ, length, Bool, true, false, Option, None, Some, List, [], ◌∷◌, ◌++◌, codes, refl, sym, ap, ◌∙◌, subst, append_assoc, append-nil, length-append, arith}
+use Rattle.std.proofs.Common.{◌≡◌, ℕ, ℤ, length, Bool, true, false, Option, None, Some, List, [], ◌∷◌, ◌++◌, codes, refl, sym, ap, ◌∙◌, subst, append_assoc, append-nil, arith}
 use Rattle.std.proofs.lemmas.Bool.Decides.{nat_tests}
 use Rattle.std.specs.Prelude.{◌==◌, if◌then◌else◌}
-use Rattle.std.specs.List.{fold}
 use Rattle.std.specs.Str.Lines.{lines}
 use Rattle.std.specs.Io.KnownBytes.{Appends, Keeps}
 use Rattle.std.proofs.KnownBytes.{Appends-trans, Appends-nil}
@@ -18,11 +17,13 @@ use Rattle.cas_node.specs.declared.cause.Cause.{Cause}
 use Rattle.cas_node.specs.declared.cause.Cause.TheVariants as cause
 use Rattle.cas_node.specs.declared.session.PrintFault.{PrintFault}
 use Rattle.cas_node.specs.declared.session.PrintFault.TheVariants as print
-use Rattle.cas_node.specs.History.{History, Answers, Runs, tells_want}
+use Rattle.cas_disk.specs.Disk.{Disk}
+use Rattle.cas_node.specs.History.{History, Answers, Runs}
 use Rattle.cas_node.specs.Text.{output, line_text}
-use Rattle.cas_node.specs.Ran.{RanFrom, AtTheEnd, AtTheSink, ForMemory, reply_cause, worse, worst}
+use Rattle.cas_node.specs.Ran.{RanFrom, reply_cause, worse, worst}
 use Rattle.cas_node.specs.Ran.{at_the_end, at_the_sink, for_memory}
-use Rattle.cas_node.specs.Inner.Turns.{Turned, Printed, PrintedReply, StopsFor}
+use Rattle.cas_node.specs.Inner.State.{State}
+use Rattle.cas_node.specs.Inner.Turns.{GoesOnTo, IsEnd, IsToldSo, Moves, Turned, Printed, PrintedReply, StopsFor}
 
 -- ---- text
 
@@ -40,25 +41,54 @@ pub empty_of : (xs : List ℕ) → (length xs == 0) ≡ true → xs ≡ []
 empty_of [] e = refl
 empty_of (x ∷ xs) e = grind (arith, nat_tests, e)
 
--- no reply says that a write failed
-said : (r : Option Reply) → reply_cause r ≡ cause.Write → ⊥
-said None e = cc
-said (Some reply.Done) e = cc
-said (Some (reply.Wrote n)) e = cc
-said (Some (reply.Rows rows shard front now)) e = cc
-said (Some (reply.Refused n)) e = cc
-said (Some (reply.Failed f)) e = cc
+-- what a reply says, and what all say
+pub reply_told : (r : Option Reply) → IsToldSo (reply_cause r)
+reply_told None = tt
+reply_told (Some reply.Done) = tt
+reply_told (Some (reply.Wrote n)) = tt
+reply_told (Some (reply.Rows rows shard front now)) = tt
+reply_told (Some (reply.Refused n)) = tt
+reply_told (Some (reply.Failed failure.Memory)) = tt
+reply_told (Some (reply.Failed failure.Stopped)) = tt
+reply_told (Some (reply.Failed failure.Disk)) = tt
+reply_told (Some (reply.Failed failure.Read)) = tt
+reply_told (Some (reply.Failed failure.Block)) = tt
 
-either_of : (t : Bool) (a b : Cause) → (a ≡ cause.Write → ⊥) → (b ≡ cause.Write → ⊥) → (if t then b else a) ≡ cause.Write → ⊥
-either_of true a b x y e = y e
-either_of false a b x y e = x e
+either : (t : Bool) (a b : Cause) → IsToldSo a → IsToldSo b → IsToldSo (if t then b else a)
+either true a b x y = y
+either false a b x y = x
 
-never : (c : Cause) (rs : List (Option Reply)) → (c ≡ cause.Write → ⊥) → fold (λ c r. worse c (reply_cause r)) c rs ≡ cause.Write → ⊥
-never c [] h e = h e
-never c (r ∷ rs) h e = never (worse c (reply_cause r)) rs (either_of _ c (reply_cause r) h (said r)) e
+pub worse_told : (a b : Cause) → IsToldSo a → IsToldSo b → IsToldSo (worse a b)
+worse_told a b x y = either _ a b x y
 
-pub worst_is_no_write : (rs : List (Option Reply)) → worst rs ≡ cause.Write → ⊥
-worst_is_no_write rs e = never cause.Good rs (λ x. cc) e
+pub told_ends : (a : Cause) → IsToldSo a → IsEnd a
+told_ends cause.Good x = tt
+told_ends cause.Refused x = tt
+told_ends cause.Mem x = tt
+told_ends cause.Write x = absurd x
+told_ends cause.Words x = absurd x
+told_ends cause.Read x = absurd x
+told_ends cause.Disk x = absurd x
+told_ends (cause.Bad name at) x = absurd x
+told_ends (cause.TooLong taken) x = absurd x
+
+pub told_no_write : (a : Cause) → IsToldSo a → a ≡ cause.Write → ⊥
+told_no_write a x e = subst IsToldSo e x
+
+cut_ends : (a : Cause) → IsToldSo a → IsEnd (worse a cause.Write)
+cut_ends cause.Good x = tt
+cut_ends cause.Refused x = tt
+cut_ends cause.Mem x = tt
+cut_ends cause.Write x = absurd x
+cut_ends cause.Words x = absurd x
+cut_ends cause.Read x = absurd x
+cut_ends cause.Disk x = absurd x
+cut_ends (cause.Bad name at) x = absurd x
+cut_ends (cause.TooLong taken) x = absurd x
+
+pub stop_ends : (fault : PrintFault) (a why : Cause) → IsToldSo a → StopsFor fault a why → IsEnd why
+stop_ends print.Write a why x e = subst IsEnd (sym e) (cut_ends a x)
+stop_ends print.Mem a why x e = subst IsEnd (sym e) tt
 
 -- nothing more was written
 kept : (old mid new : Option (List ℕ)) (bytes : List ℕ) → Appends old mid bytes → Keeps mid new → Appends old new bytes
@@ -68,62 +98,53 @@ kept (Some xs) (Some ys) None bytes a k = absurd k
 kept (Some xs) (Some ys) (Some zs) bytes a k = k ∙ a
 
 -- the lines up to a place were run one after another, and their replies are written
-pub record SoFar (kind : ClockKind) (Gives : ℤ → Type 0) (first : History) (script rest : List ℕ) (old new : Option (List ℕ)) (place : ℕ) (now : History) (why : Cause) : Type 0 where
+pub record SoFar (kind : ClockKind) (Gives : ℤ → Type 0) (first : History) (script rest : List ℕ) (old new : Option (List ℕ)) (now : History) (why : Cause) : Type 0 where
   pub run : List (List ℕ)
   pub replies : List (Option Reply)
   pub cut : run ++ lines rest ≡ lines script
-  pub at : place ≡ length run + 1
-  pub steps : Runs kind Gives 1 first run replies now
+  pub steps : Runs kind Gives first run replies now
   pub written : Appends old new (output replies)
   pub told : why ≡ worst replies
 
 module _ (kind : ClockKind) (Gives : ℤ → Type 0) where
-  Runs-push : (n : ℕ) (s : History) (ls : List (List ℕ)) (rs : List (Option Reply)) (t : History) (place : ℕ) (l : List ℕ) (r : Option Reply) (u : History)
-      → Runs kind Gives n s ls rs t → place ≡ length ls + n → Answers kind Gives t place l r u → Runs kind Gives n s (ls ++ l ∷ []) (rs ++ r ∷ []) u
-  Runs-push n s [] [] t place l r u h e st =
-      let same : place ≡ n = omega (arith, e) in
-      (u, subst (λ x. Answers kind Gives x n l r u) h (subst (λ k. Answers kind Gives t k l r u) same st), refl)
-  Runs-push n s [] (q ∷ rs) t place l r u h e st = absurd h
-  Runs-push n s (m ∷ ls) [] t place l r u h e st = absurd h
-  Runs-push n s (m ∷ ls) (q ∷ rs) t place l r u h e st = (h.0, h.1, Runs-push (n + 1) h.0 ls rs t place l r u h.2 (omega (arith, e)) st)
-
-  pub so_far_none : (script : List ℕ) (old : Option (List ℕ)) (s : History) → SoFar kind Gives s script script old old 1 s cause.Good
-  so_far_none script old s = record { run = []; replies = []; cut = refl; at = refl; steps = refl; written = Appends-nil old; told = refl }
+  Runs-push : (s : History) (ls : List (List ℕ)) (rs : List (Option Reply)) (t : History) (l : List ℕ) (r : Option Reply) (u : History)
+      → Runs kind Gives s ls rs t → Answers kind Gives t l r u → Runs kind Gives s (ls ++ l ∷ []) (rs ++ r ∷ []) u
+  Runs-push s [] [] t l r u h st = (u, subst (λ x. Answers kind Gives x l r u) h st, refl)
+  Runs-push s [] (q ∷ rs) t l r u h st = absurd h
+  Runs-push s (m ∷ ls) [] t l r u h st = absurd h
+  Runs-push s (m ∷ ls) (q ∷ rs) t l r u h st = (h.0, h.1, Runs-push h.0 ls rs t l r u h.2 st)
 
   -- the lines with one more, whatever came of its reply
-  pub record Next (first : History) (script after : List ℕ) (old mid : Option (List ℕ)) (place : ℕ) (final : History) (why : Cause) (r : Option Reply) : Type 0 where
+  pub record Next (first : History) (script after : List ℕ) (old mid : Option (List ℕ)) (final : History) (why : Cause) (r : Option Reply) : Type 0 where
     pub run : List (List ℕ)
     pub earlier : List (Option Reply)
     pub cut : run ++ lines after ≡ lines script
-    pub at : place ≡ length run
-    pub steps : Runs kind Gives 1 first run (earlier ++ r ∷ []) final
+    pub steps : Runs kind Gives first run (earlier ++ r ∷ []) final
     pub written : Appends old mid (output earlier)
     pub told : why ≡ worst (earlier ++ r ∷ [])
 
-  next : (first : History) (script rest after line : List ℕ) (old mid : Option (List ℕ)) (place : ℕ) (s t : History) (before why : Cause) (r : Option Reply)
-      → SoFar kind Gives first script rest old mid place s before → lines rest ≡ line ∷ lines after → Answers kind Gives s place line r t
-      → why ≡ worse before (reply_cause r) → Next first script after old mid place t why r
-  next first script rest after line old mid place s t before why r so cut step told = record {
+  next : (first : History) (script rest after line : List ℕ) (old mid : Option (List ℕ)) (s t : History) (before why : Cause) (r : Option Reply)
+      → SoFar kind Gives first script rest old mid s before → lines rest ≡ line ∷ lines after → Answers kind Gives s line r t
+      → why ≡ worse before (reply_cause r) → Next first script after old mid t why r
+  next first script rest after line old mid s t before why r so cut step told = record {
     run = so.run ++ line ∷ [];
     earlier = so.replies;
     cut = append_assoc so.run (line ∷ []) (lines after) ∙ ap (λ ls. so.run ++ ls) (sym cut) ∙ so.cut;
-    at = omega (arith, so.at, length-append so.run (line ∷ []));
-    steps = Runs-push 1 first so.run so.replies s place line r t so.steps so.at step;
+    steps = Runs-push first so.run so.replies s line r t so.steps step;
     written = so.written;
     told = told ∙ ap (λ c. worse c (reply_cause r)) so.told ∙ sym (worst-push so.replies r);
   }
 
   -- all of the reply was written
-  pub so_far_more : (first : History) (script rest after line : List ℕ) (old mid new : Option (List ℕ)) (place place' : ℕ) (s t : History) (before x why : Cause) (fault : Option PrintFault)
-      → SoFar kind Gives first script rest old mid place s before → lines rest ≡ line ∷ lines after → Turned kind Gives place s line t mid new x fault
-      → fault ≡ None → why ≡ worse before x → place' ≡ place + 1 → SoFar kind Gives first script after old new place' t why
-  so_far_more first script rest after line old mid new place place' s t before x why fault so cut turn none told e =
-      let n = next first script rest after line old mid place s t before why turn.reply so cut turn.answers (told ∙ ap (λ c. worse before c) turn.told) in
+  so_far_more : (first : History) (script rest after line : List ℕ) (old mid new : Option (List ℕ)) (s t : History) (before x why : Cause) (fault : Option PrintFault)
+      → SoFar kind Gives first script rest old mid s before → lines rest ≡ line ∷ lines after → Turned kind Gives s line t mid new x fault
+      → fault ≡ None → why ≡ worse before x → SoFar kind Gives first script after old new t why
+  so_far_more first script rest after line old mid new s t before x why fault so cut turn none told =
+      let n = next first script rest after line old mid s t before why turn.reply so cut turn.answers (told ∙ ap (λ c. worse before c) turn.told) in
       record {
         run = n.run;
         replies = n.earlier ++ turn.reply ∷ [];
         cut = n.cut;
-        at = e ∙ ap (λ k. k + 1) n.at;
         steps = n.steps;
         written = subst (Appends old new) (output-push n.earlier turn.reply) (whole turn.reply fault mid new _ n.written none turn.printed);
         told = n.told;
@@ -135,13 +156,13 @@ module _ (kind : ClockKind) (Gives : ℤ → Type 0) where
       whole (Some r) fault mid new bytes a none p = Appends-trans old mid new _ _ a (subst (λ f. PrintedReply f r mid new) none p)
 
   -- the run ends where a reply wasn't written
-  stopped : (first : History) (script after : List ℕ) (old mid new : Option (List ℕ)) (place : ℕ) (t : History) (sofar why : Cause) (fault : PrintFault) (r : Option Reply) (whole : Option PrintFault)
-      → Next first script after old mid place t sofar r → whole ≡ Some fault → Printed whole r mid new → StopsFor fault sofar why → RanFrom first kind Gives script old new t why
-  stopped first script after old mid new place t sofar why fault None whole n e p h = absurd (none-is-some (sym p.0 ∙ e))
+  stopped : (first : History) (script after : List ℕ) (old mid new : Option (List ℕ)) (t : History) (sofar why : Cause) (fault : PrintFault) (r : Option Reply) (whole : Option PrintFault)
+      → Next first script after old mid t sofar r → whole ≡ Some fault → Printed whole r mid new → StopsFor fault sofar why → RanFrom first kind Gives script old new t why
+  stopped first script after old mid new t sofar why fault None whole n e p h = absurd (none-is-some (sym p.0 ∙ e))
     where
       none-is-some : None ≡ Some fault → ⊥
       none-is-some x = cc
-  stopped first script after old mid new place t sofar why print.Write (Some r) whole n e p h =
+  stopped first script after old mid new t sofar why print.Write (Some r) whole n e p h =
       let front : AppendsFront mid new (reply_text r) = subst (λ f. PrintedReply f r mid new) e p in
       record {
         run = n.run;
@@ -161,7 +182,7 @@ module _ (kind : ClockKind) (Gives : ℤ → Type 0) where
           told = h ∙ ap (λ c. worse c cause.Write) n.told;
         };
       }
-  stopped first script after old mid new place t sofar why print.Mem (Some r) whole n e p h =
+  stopped first script after old mid new t sofar why print.Mem (Some r) whole n e p h =
       let none : PrintedReply (Some print.Mem) r mid new = subst (λ f. PrintedReply f r mid new) e p in
       record {
         run = n.run;
@@ -173,17 +194,17 @@ module _ (kind : ClockKind) (Gives : ℤ → Type 0) where
         ended = record { earlier = n.earlier; last = r; are = refl; other = none.0; written = kept old mid new _ n.written none.1; told = h };
       }
 
-  pub ran_cut : (first : History) (script rest after line : List ℕ) (old mid new : Option (List ℕ)) (place : ℕ) (s t : History) (before x sofar why : Cause) (whole : Option PrintFault) (fault : PrintFault)
-      → SoFar kind Gives first script rest old mid place s before → lines rest ≡ line ∷ lines after → Turned kind Gives place s line t mid new x whole
+  ran_cut : (first : History) (script rest after line : List ℕ) (old mid new : Option (List ℕ)) (s t : History) (before x sofar why : Cause) (whole : Option PrintFault) (fault : PrintFault)
+      → SoFar kind Gives first script rest old mid s before → lines rest ≡ line ∷ lines after → Turned kind Gives s line t mid new x whole
       → whole ≡ Some fault → sofar ≡ worse before x → StopsFor fault sofar why → RanFrom first kind Gives script old new t why
-  ran_cut first script rest after line old mid new place s t before x sofar why whole fault so cut turn e told h =
-      stopped first script after old mid new place t sofar why fault turn.reply whole
-      (next first script rest after line old mid place s t before sofar turn.reply so cut turn.answers (told ∙ ap (λ c. worse before c) turn.told))
+  ran_cut first script rest after line old mid new s t before x sofar why whole fault so cut turn e told h =
+      stopped first script after old mid new t sofar why fault turn.reply whole
+      (next first script rest after line old mid s t before sofar turn.reply so cut turn.answers (told ∙ ap (λ c. worse before c) turn.told))
       e turn.printed h
 
-  pub ran_whole : (first : History) (script rest : List ℕ) (old new : Option (List ℕ)) (place : ℕ) (s : History) (why : Cause)
-      → SoFar kind Gives first script rest old new place s why → rest ≡ [] → RanFrom first kind Gives script old new s why
-  ran_whole first script rest old new place s why so e = record {
+  ran_whole : (first : History) (script rest : List ℕ) (old new : Option (List ℕ)) (s : History) (why : Cause)
+      → SoFar kind Gives first script rest old new s why → rest ≡ [] → RanFrom first kind Gives script old new s why
+  ran_whole first script rest old new s why so e = record {
     run = so.run;
     rest = [];
     replies = so.replies;
@@ -192,3 +213,48 @@ module _ (kind : ClockKind) (Gives : ℤ → Type 0) where
     stop = at_the_end;
     ended = record { all = refl; written = so.written; told = so.told };
   }
+
+  -- ---- of a store
+
+  -- from whichever history the store stood for, the lines so far were run
+  abbrev pub AllSoFar : State → State → Disk → Disk → List ℕ → List ℕ → Option (List ℕ) → Option (List ℕ) → Cause → Type 0
+  AllSoFar s t old new script rest out now why = Moves (λ h after. SoFar kind Gives h script rest out now after why) s t old new
+
+  pub all_so_far_none : (s : State) (d : Disk) (script : List ℕ) (out : Option (List ℕ)) → AllSoFar s s d d script script out out cause.Good
+  all_so_far_none s d script out h stands = (
+    h,
+    record { run = []; replies = []; cut = refl; steps = refl; written = Appends-nil out; told = refl },
+    record { stands = stands; lasts = λ found told lasts. (told, lasts) },
+  )
+
+  on_from : (h k l : History) (s t u : State) (d e f : Disk) → GoesOnTo h k s t d e → GoesOnTo k l t u e f → GoesOnTo h l s u d f
+  on_from h k l s t u d e f one two = record {
+    stands = two.stands;
+    lasts = λ found told lasts.
+        let (now, so) = one.lasts found told lasts in
+        two.lasts found now so;
+  }
+
+  pub all_so_far_more : (s t u : State) (d e f : Disk) (script rest after line : List ℕ) (out mid now : Option (List ℕ)) (before x why : Cause) (fault : Option PrintFault)
+      → AllSoFar s t d e script rest out mid before → lines rest ≡ line ∷ lines after
+      → Moves (λ h after. Turned kind Gives h line after mid now x fault) t u e f
+      → fault ≡ None → why ≡ worse before x → AllSoFar s u d f script after out now why
+  all_so_far_more s t u d e f script rest after line out mid now before x why fault so cut turn none told h stands =
+      let (k, far, one) = so h stands in
+      let (l, turned, two) = turn k one.stands in
+      (l, so_far_more h script rest after line out mid now k l before x why fault far cut turned none told, on_from h k l s t u d e f one two)
+
+  pub all_ran_cut : (s t u : State) (d e f : Disk) (script rest after line : List ℕ) (out mid now : Option (List ℕ)) (before x sofar why : Cause) (whole : Option PrintFault)
+      (fault : PrintFault) → AllSoFar s t d e script rest out mid before → lines rest ≡ line ∷ lines after
+      → Moves (λ h after. Turned kind Gives h line after mid now x whole) t u e f
+      → whole ≡ Some fault → sofar ≡ worse before x → StopsFor fault sofar why → Moves (λ h after. RanFrom h kind Gives script out now after why) s u d f
+  all_ran_cut s t u d e f script rest after line out mid now before x sofar why whole fault so cut turn some told ends h stands =
+      let (k, far, one) = so h stands in
+      let (l, turned, two) = turn k one.stands in
+      (l, ran_cut h script rest after line out mid now k l before x sofar why whole fault far cut turned some told ends, on_from h k l s t u d e f one two)
+
+  pub all_ran_whole : (s t : State) (d e : Disk) (script rest : List ℕ) (out now : Option (List ℕ)) (why : Cause)
+      → AllSoFar s t d e script rest out now why → rest ≡ [] → Moves (λ h after. RanFrom h kind Gives script out now after why) s t d e
+  all_ran_whole s t d e script rest out now why so none h stands =
+      let (k, far, one) = so h stands in
+      (k, ran_whole h script rest out now k why far none, one)

@@ -1,25 +1,28 @@
--- What each line answers, and what it enters into the history of the run.
--- CQL documentation, "Data definition" and "Data manipulation"; numbers, timestamps, moments and the command are own.
-use Rattle.std.specs.Prelude.{◌≡◌, ◌⊎◌, ℕ, ◌+◌, ◌/◌, nat_lt, ℤ, pos, neg_ℤ, ◌+ℤ◌, ◌*ℤ◌, int_lt, int_div}
-use Rattle.std.specs.Prelude.{Bool, true, false, ◌&&◌, ◌||◌, if◌then◌else◌, Option, None, Some, Result, Ok, Err}
-use Rattle.std.specs.Prelude.{List, [], ◌∷◌, ◌++◌, map, replicate, slice_index_or, slice_set}
+-- What each line answers, and what it enters into the history of the store.
+-- CQL documentation, "Data definition" and "Data manipulation"; numbers, timestamps, moments, what a failed write stops, and the command are own.
+use Rattle.std.specs.Prelude.{◌≡◌, ◌⊎◌, ℕ, ◌+◌, ◌^◌, ◌<◌, ◌≤◌, ℤ, pos, ◌*ℤ◌}
+use Rattle.std.specs.Prelude.{Bool, true, false, Option, None, Some, Result, Ok, Err}
+use Rattle.std.specs.Prelude.{List, [], ◌∷◌, ◌++◌, length, slice_index_or, slice_set}
 use Rattle.std.specs.Int.{int_max, int_min}
-use Rattle.cas_types.specs.declared.limits.TheConstants.{LAST_DRAWN, LAST_MICROSECOND, MUTATION_LIMIT}
+use Rattle.cas_types.specs.declared.limits.TheConstants.{LAST_MICROSECOND}
 use Rattle.cas_types.specs.declared.schema.TableSchema.{TableSchema}
+use Rattle.cas_io.specs.Causes.{Rose}
 use Rattle.cas_atoms.specs.declared.atom.Mutation.{Mutation}
-use Rattle.cas_atoms.specs.Answers.{answer}
-use Rattle.cas_atoms.specs.LogLength.{record_length}
+use Rattle.cas_changes.specs.declared.entry.Entry.{Entry as ManifestEntry}
+use Rattle.cas_changes.specs.declared.entry.Entry.TheVariants.{Schema, AddColumns}
+use Rattle.cas_changes.specs.Spelling.{entry_bytes}
+use Rattle.cas_manifest.specs.Manifests.{room_of}
+use Rattle.cas_journal.specs.Reach.{Reach, GoesOn, IsFull, HasNoPlace}
 use Rattle.cas_bind.specs.declared.bound.Bound.{Bound}
 use Rattle.cas_bind.specs.declared.bound.Bound.TheVariants as bound
 use Rattle.cas_bind.specs.declared.bound.BoundRead.{BoundRead}
 use Rattle.cas_bind.specs.declared.bound.Limits.{Limits}
+use Rattle.cas_bind.specs.Meaning.{meaning}
+use Rattle.cas_bind.specs.Tables.{tables_after}
 use Rattle.cas_effects.specs.declared.effect.BoundWrite.{BoundWrite}
 use Rattle.cas_effects.specs.declared.refusal.Refusal.{Refusal}
-use Rattle.cas_effects.specs.declared.refusal.TheConstants.{NOT_HERE, SYNTAX, TOO_LARGE, TOO_MANY}
-use Rattle.cas_effects.specs.AtomsOf.{mutation_of}
-use Rattle.cas_bind.specs.Meaning.{meaning}
+use Rattle.cas_effects.specs.declared.refusal.TheConstants.{NOT_HERE, SYNTAX, TOO_MANY}
 use Rattle.cas_effects.specs.Refusals.{refusal_number}
-use Rattle.cas_bind.specs.Tables.{tables_after}
 use Rattle.cas_render.specs.declared.reply.Failure.{Failure}
 use Rattle.cas_render.specs.declared.reply.Failure.TheVariants as failure
 use Rattle.cas_render.specs.declared.reply.Reply.{Reply}
@@ -31,44 +34,29 @@ use Rattle.cas_words.specs.declared.words.ClockKind.{ClockKind}
 use Rattle.cas_words.specs.declared.words.ClockKind.TheVariants as clock
 use Rattle.cas_entries.specs.declared.entry.Entry.{Entry}
 use Rattle.cas_entries.specs.declared.entry.Entry.TheVariants as entry
-use Rattle.cas_entries.specs.declared.entry.ShardOpening.{ShardOpening}
-use Rattle.cas_entries.specs.Entries.{first, last_drawn, last_number}
-use Rattle.cas_node.specs.declared.opening.Opening.{Opening}
+use Rattle.cas_shard.specs.declared.answers.Look.{Look}
+use Rattle.cas_shard.specs.Shards.{ShardHistory, found_shard, empty_shard, moment_at, mutation_at, take_refusal, look_at}
 
--- ---- what a run begins with, and what it has come to
+-- ---- what the lines so far came to
 
--- one shard: as the run found it, what has been entered since, and its last moment
-pub record ShardHistory : Type 0 where
-  pub found : ShardOpening
-  pub entries : List Entry
-  pub moment : ℤ
+-- How a store's disk stands: whether a failed write stopped all further ones, how often the folder failed, and how far the numbers of segments and
+-- the bytes of the manifest have come.
+pub record DiskState : Type 0 where
+  pub stopped : Bool
+  pub faults : ℕ
+  pub reach : Reach
 
--- what the lines so far came to: the limits of the store, its tables, its shards, and the seconds that the last `\clock` set
+-- The limits of the store, its tables, its shards, and the seconds that the last `\clock` set; the number of the session that runs the lines, how
+-- many mutations were accepted of it, and how many of these were acknowledged by an `ok`; and how the disk stands.
 pub record History : Type 0 where
   pub limits : Limits
   pub tables : List TableSchema
   pub shards : List ShardHistory
   pub clock : ℤ
-
--- a shard without a mutation
-abbrev pub empty_shard : ShardOpening
-empty_shard = record { entries = []; number = 0; drawn = neg_ℤ (pos 2); moment = pos 0 }
-
--- an empty folder: no table, and as many shards as the limits say, without a mutation
-unfoldable pub empty_opening : Limits → Opening
-empty_opening l = record { limits = l; tables = []; shards = replicate l.shards empty_shard }
-
--- a shard into which nothing has been entered since it was found
-abbrev pub found_shard : ShardOpening → ShardHistory
-found_shard o = record { found = o; entries = []; moment = o.moment }
-
--- the history before the first line: what the run begins with, and the clock at 0
-unfoldable pub start : Opening → History
-start o = record { limits = o.limits; tables = o.tables; shards = map found_shard o.shards; clock = pos 0 }
-
--- what a run has entered, shard by shard
-abbrev pub entered_in : History → List (List Entry)
-entered_in h = map (λ s. s.entries) h.shards
+  pub session : ℕ
+  pub calls : ℕ
+  pub acknowledged : ℕ
+  pub disk : DiskState
 
 -- the shard of this number; they are numbered from 0
 abbrev pub shard_at : History → ℕ → ShardHistory
@@ -78,7 +66,7 @@ shard_at h n = slice_index_or h.shards n (found_shard empty_shard)
 abbrev pub with_shard : History → ℕ → ShardHistory → History
 with_shard h n s = record h { shards = slice_set h.shards n s }
 
--- ---- readings, moments, timestamps, numbers
+-- ---- readings
 
 -- a reading in microseconds is put between the start of 1970 and the end of the year 9999: -5 counts as 0
 abbrev pub clamped : ℤ → ℤ
@@ -89,75 +77,86 @@ abbrev pub IsReading : ClockKind → (ℤ → Type 0) → ℤ → ℤ → Type 0
 IsReading clock.Manual Gives seconds reading = reading ≡ seconds *ℤ pos 1000000
 IsReading clock.System Gives seconds reading = (raw : ℤ) × Gives raw × (reading ≡ clamped raw)
 
--- a moment is the greater of the reading's whole seconds and the shard's last moment
-abbrev pub moment_at : ℤ → ShardHistory → ℤ
-moment_at reading s = int_max (int_div reading (pos 1000000)) s.moment
+-- ---- the disk
 
--- all entries of a shard, those from before the run first
-abbrev pub all_entries : ShardHistory → List Entry
-all_entries s = s.found.entries ++ s.entries
+-- nothing is stopped by it: the folder's count of faults doesn't fall, and at most one segment is begun and named
+pub record Stays (d e : DiskState) : Type 0 where
+  pub stopped : e.stopped ≡ d.stopped
+  pub faults : d.faults ≤ e.faults
+  pub reach : GoesOn d.reach e.reach
 
--- the number of a shard's last mutation; before the first it is 0
-abbrev pub number_of : ShardHistory → ℕ
-number_of s = last_number s.found.number s.entries
+-- something was written, which no earlier fault had stopped
+abbrev pub Writes : DiskState → DiskState → Type 0
+Writes d e = (d.stopped ≡ false) × Stays d e
 
--- the last timestamp that a shard drew; before the first it is -2
-abbrev pub drawn_of : ShardHistory → ℤ
-drawn_of s = last_drawn s.found.drawn s.entries
+-- the folder failed, where none had before, and nothing is written any more
+pub record Stops (d e : DiskState) : Type 0 where
+  pub before : d.stopped ≡ false
+  pub stopped : e.stopped ≡ true
+  pub faults : d.faults ≤ e.faults
+  pub rose : Rose d.faults e.faults
+  pub reach : GoesOn d.reach e.reach
 
--- the timestamp of a write without USING TIMESTAMP: the reading, or the shard's last drawn timestamp plus 2 where that is greater
-abbrev pub drawn_at : ℤ → ShardHistory → ℤ
-drawn_at reading s = int_max reading (drawn_of s +ℤ pos 2)
+-- how far the files have come with one entry more in the manifest
+abbrev pub reach_with : ManifestEntry → Reach → Reach
+reach_with x r = record { segment = r.segment; manifest = r.manifest + room_of x }
 
--- the number of a shard's next mutation
-abbrev pub next_number : ShardHistory → ℕ
-next_number s = number_of s + 1
+-- an entry was appended to the manifest
+pub record Told (x : ManifestEntry) (d e : DiskState) : Type 0 where
+  pub stopped : e.stopped ≡ d.stopped
+  pub faults : d.faults ≤ e.faults
+  pub reach : e.reach ≡ reach_with x d.reach
 
--- ---- a mutation
+-- nothing was written, since an earlier fault had stopped it
+abbrev pub IsStopped : DiskState → DiskState → Type 0
+IsStopped d e = (d.stopped ≡ true) × Stays d e
 
--- the mutation that a write makes
-unfoldable pub mutation_at : ℤ → ShardHistory → BoundWrite → Mutation
-mutation_at reading s w = mutation_of w (drawn_at reading s) (moment_at reading s) (next_number s)
+-- ---- a write
 
--- why a shard refuses a mutation: its record is longer than half a segment; or the shard has all the mutations that it may have, or
--- has drawn its last timestamp
-unfoldable pub take_refusal : ℕ → Mutation → Option ℕ
-take_refusal segment m =
-    if nat_lt (segment / 2) (record_length m) then Some TOO_LARGE
-    else if nat_lt MUTATION_LIMIT m.number || (m.drawn && int_lt LAST_DRAWN m.at) then Some TOO_MANY
-    else None
+-- why a write is refused once it is bound: its record is longer than half a segment, or the shard is full; or no segment can be named any more
+abbrev pub IsRefusedFor : ℕ → Mutation → DiskState → DiskState → ℕ → Type 0
+IsRefusedFor segment m d e why = (take_refusal segment m ≡ Some why) ⊎ ((take_refusal segment m ≡ None) × (d.stopped ≡ false) × (why ≡ TOO_MANY) × IsFull e.reach)
 
--- a mutation's entry, unless it was refused
-abbrev pub entry_unless : Option ℕ → ℕ → ℕ → Mutation → List Entry
-entry_unless None session call m = entry.Wrote session call m ∷ []
-entry_unless (Some refused) session call m = []
+-- A write of this mutation, whose entry is this, is answered so, and takes these entries. With `ok` and its number: the entry, which lasts.
+-- Refused, stopped, or where memory runs out: none. Where the disk fails: the entry, which may last or not, or none.
+abbrev pub Takes : ℕ → Mutation → Entry → DiskState → Reply → List Entry → DiskState → Type 0
+Takes segment m x d (reply.Wrote number) entries e = (take_refusal segment m ≡ None) × (number ≡ m.number) × (entries ≡ x ∷ []) × Writes d e
+Takes segment m x d (reply.Refused why) entries e = IsRefusedFor segment m d e why × (entries ≡ []) × Stays d e
+Takes segment m x d (reply.Failed failure.Memory) entries e = (entries ≡ []) × Stays d e
+Takes segment m x d (reply.Failed failure.Stopped) entries e = (take_refusal segment m ≡ None) × (entries ≡ []) × IsStopped d e
+Takes segment m x d (reply.Failed failure.Disk) entries e = (take_refusal segment m ≡ None) × ((entries ≡ []) ⊎ (entries ≡ x ∷ [])) × Stops d e
+Takes segment m x d _ entries e = ⊥
 
--- what a write enters: its mutation, unless that is refused
-unfoldable pub write_entries : ℕ → ℤ → ShardHistory → ℕ → ℕ → BoundWrite → List Entry
-write_entries segment reading s session call w = entry_unless (take_refusal segment (mutation_at reading s w)) session call (mutation_at reading s w)
-
--- `ok` with the mutation's number, unless it was refused
-abbrev pub wrote_unless : Option ℕ → ℕ → Reply
-wrote_unless None number = reply.Wrote number
-wrote_unless (Some refused) number = reply.Refused refused
-
--- what a write is answered
-unfoldable pub write_reply : ℕ → ℤ → ShardHistory → BoundWrite → Reply
-write_reply segment reading s w = wrote_unless (take_refusal segment (mutation_at reading s w)) (next_number s)
-
--- What a SELECT shows: at the moment, the live view of its partition's mutations up to the front, which is the number of the shard's
--- last one.
-unfoldable pub read_reply : ℤ → ShardHistory → BoundRead → Reply
-read_reply reading s r =
-    let front = number_of s in
-    let atoms = first front r.query.table r.query.key (all_entries s) in
-    reply.Rows (answer r.query atoms (moment_at reading s)) r.shard front (moment_at reading s)
+-- one mutation more is acknowledged by an `ok` with its number
+abbrev pub acknowledges : Reply → ℕ
+acknowledges (reply.Wrote number) = 1
+acknowledges _ = 0
 
 -- the shard with what was entered at a reading, which raises its moment also where nothing was
 abbrev pub after_entries : ℤ → List Entry → ShardHistory → ShardHistory
 after_entries reading entries s = record s { entries = s.entries ++ entries; moment = moment_at reading s }
 
--- ---- what a line takes and shows of a shard, as it finds that
+-- the history after a write that was answered so entered this at a reading into a shard
+abbrev pub after_write : History → ℕ → ℤ → Reply → List Entry → DiskState → History
+after_write h n reading r entries e =
+    record (with_shard h n (after_entries reading entries (shard_at h n))) {
+      calls = h.calls + length entries;
+      acknowledged = h.acknowledged + acknowledges r;
+      disk = e;
+    }
+
+-- the entry of a mutation: the next write of the session
+abbrev pub entry_of : History → Mutation → Entry
+entry_of h m = entry.Wrote h.session (h.calls + 1) m
+
+-- a write, at this reading of the clock
+abbrev pub WritesAt : History → ℤ → BoundWrite → Reply → History → Type 0
+WritesAt h reading w r after =
+    (entries : List Entry) × (e : DiskState)
+    × Takes h.limits.segment (mutation_at reading (shard_at h w.shard) w) (entry_of h (mutation_at reading (shard_at h w.shard) w)) h.disk r entries e
+    × (after ≡ after_write h w.shard reading r entries e)
+
+-- ---- a SELECT
 
 -- memory ran out
 abbrev pub is_memory : Failure → Bool
@@ -174,43 +173,48 @@ abbrev pub is_starved : Option Reply → Bool
 is_starved None = false
 is_starved (Some r) = tells_want r
 
--- A write takes these entries: its mutation, and it is answered that one's number; or none, where it is refused or memory runs out.
--- It is the call of this number of this session.
-pub record Takes (segment : ℕ) (s : ShardHistory) (reading : ℤ) (session call : ℕ) (w : BoundWrite) (entries : List Entry) (r : Reply)
-    : Type 0 where
-  pub reply : tells_want r ≡ false → r ≡ write_reply segment reading s w
-  pub entered : entries ≡ (if tells_want r then [] else write_entries segment reading s session call w)
+-- the reply that a look is printed as
+abbrev pub rows_reply : ℕ → Look → Reply
+rows_reply shard l = reply.Rows l.rows shard l.front l.now
 
--- a SELECT shows this, or memory runs out
+-- What a SELECT shows, or memory runs out: at the moment, the live view of its partition's mutations up to the front, which is the number of the
+-- shard's last one. A fault of the disk is no reason not to show it.
 abbrev pub Shows : ShardHistory → ℤ → BoundRead → Reply → Type 0
-Shows s reading q r = tells_want r ≡ false → r ≡ read_reply reading s q
+Shows s reading q r = tells_want r ≡ false → r ≡ rows_reply q.shard (look_at reading s q.query)
+
+-- the history after a SELECT, which raises the moment of its shard
+abbrev pub after_read : History → ℕ → ℤ → History
+after_read h n reading = with_shard h n (after_entries reading [] (shard_at h n))
+
+-- ---- a definition
+
+-- A definition that the manifest tells of by this entry is answered so, and these are the tables then: after `ok` the entry lasts, and the tables
+-- are the new ones; where the disk fails the entry may last or not. It is refused only where the manifest has no place for it, which has less than
+-- 4 GiB.
+abbrev pub Defines : ManifestEntry → List TableSchema → List TableSchema → DiskState → Reply → List TableSchema → DiskState → Type 0
+Defines x old new d reply.Done tables e = (tables ≡ new) × (d.stopped ≡ false) × Told x d e
+Defines x old new d (reply.Refused why) tables e = (tables ≡ old) × (why ≡ TOO_MANY) × (length (entry_bytes x) < 2 ^ 32) × HasNoPlace x d.reach × Writes d e
+Defines x old new d (reply.Failed failure.Memory) tables e = (tables ≡ old) × Stays d e
+Defines x old new d (reply.Failed failure.Stopped) tables e = (tables ≡ old) × IsStopped d e
+Defines x old new d (reply.Failed failure.Disk) tables e = (tables ≡ old) × Stops d e
+Defines x old new d _ tables e = ⊥
+
+-- CREATE TABLE and ALTER TABLE
+abbrev pub Changes : History → ManifestEntry → Bound → Reply → History → Type 0
+Changes h x b r after =
+    (tables : List TableSchema) × (e : DiskState) × Defines x h.tables (tables_after h.tables b) h.disk r tables e
+    × (after ≡ record h { tables = tables; disk = e })
 
 -- ---- a line
 
--- the session of the lines that run alone
-abbrev pub lone : ℕ
-lone = 0
-
--- the history after a line entered this at a reading into a shard
-abbrev pub after_line : History → ℕ → ℤ → List Entry → History
-after_line h n reading entries = with_shard h n (after_entries reading entries (shard_at h n))
-
--- CREATE TABLE and ALTER TABLE answer `ok` and change the tables
-abbrev pub Defines : History → Bound → Reply → History → Type 0
-Defines h b r after = (r ≡ reply.Done) × (after ≡ record h { tables = tables_after h.tables b })
-
--- A statement that is to do this, or is refused for this, is answered so; one that is refused changes nothing. It is the line at this
--- place of the script.
-abbrev pub Does : ClockKind → (ℤ → Type 0) → History → ℕ → Result Bound Refusal → Reply → History → Type 0
-Does kind Gives h place (Err x) r after = (r ≡ reply.Refused (refusal_number x)) × (after ≡ h)
-Does kind Gives h place (Ok (bound.Create t)) r after = Defines h (bound.Create t) r after
-Does kind Gives h place (Ok (bound.Alter a)) r after = Defines h (bound.Alter a) r after
-Does kind Gives h place (Ok (bound.Write w)) r after =
-    (reading : ℤ) × IsReading kind Gives h.clock reading
-    × ((entries : List Entry) × Takes h.limits.segment (shard_at h w.shard) reading lone place w entries r × (after ≡ after_line h w.shard reading entries))
-Does kind Gives h place (Ok (bound.Read q)) r after =
-    (reading : ℤ) × IsReading kind Gives h.clock reading
-    × Shows (shard_at h q.shard) reading q r × (after ≡ after_line h q.shard reading [])
+-- A statement that is to do this, or is refused for this, is answered so; one that is refused changes nothing.
+abbrev pub Does : ClockKind → (ℤ → Type 0) → History → Result Bound Refusal → Reply → History → Type 0
+Does kind Gives h (Err x) r after = (r ≡ reply.Refused (refusal_number x)) × (after ≡ h)
+Does kind Gives h (Ok (bound.Create t)) r after = Changes h (Schema t) (bound.Create t) r after
+Does kind Gives h (Ok (bound.Alter a)) r after = Changes h (AddColumns a.table a.columns) (bound.Alter a) r after
+Does kind Gives h (Ok (bound.Write w)) r after = (reading : ℤ) × IsReading kind Gives h.clock reading × WritesAt h reading w r after
+Does kind Gives h (Ok (bound.Read q)) r after =
+    (reading : ℤ) × IsReading kind Gives h.clock reading × Shows (shard_at h q.shard) reading q r × (after ≡ after_read h q.shard reading)
 
 -- `\clock` sets the manual clock, and is refused where the clock is the system's
 abbrev pub SetsClock : ClockKind → History → ℤ → Reply → History → Type 0
@@ -218,21 +222,19 @@ SetsClock clock.Manual h n r after = (r ≡ reply.Done) × (after ≡ record h {
 SetsClock clock.System h n r after = (r ≡ reply.Refused NOT_HERE) × (after ≡ h)
 
 -- a line that says this is answered so; one that says nothing isn't answered
-abbrev pub Answered : ClockKind → (ℤ → Type 0) → History → ℕ → Line → Option Reply → History → Type 0
-Answered kind Gives h place line.Blank r after = (r ≡ None) × (after ≡ h)
-Answered kind Gives h place line.Syntax r after = (r ≡ Some (reply.Refused SYNTAX)) × (after ≡ h)
-Answered kind Gives h place (line.Clock n) r after = (answer : Reply) × (r ≡ Some answer) × SetsClock kind h n answer after
-Answered kind Gives h place (line.Statement s) r after =
-    (answer : Reply) × (r ≡ Some answer) × Does kind Gives h place (meaning h.limits.shards h.tables s) answer after
+abbrev pub Answered : ClockKind → (ℤ → Type 0) → History → Line → Option Reply → History → Type 0
+Answered kind Gives h line.Blank r after = (r ≡ None) × (after ≡ h)
+Answered kind Gives h line.Syntax r after = (r ≡ Some (reply.Refused SYNTAX)) × (after ≡ h)
+Answered kind Gives h (line.Clock n) r after = (answer : Reply) × (r ≡ Some answer) × SetsClock kind h n answer after
+Answered kind Gives h (line.Statement s) r after = (answer : Reply) × (r ≡ Some answer) × Does kind Gives h (meaning h.limits.shards h.tables s) answer after
 
--- the line at a place of the script is answered; or memory ran out before it changed anything
-abbrev pub Answers : ClockKind → (ℤ → Type 0) → History → ℕ → List ℕ → Option Reply → History → Type 0
-Answers kind Gives h place text r after =
-    ((r ≡ Some (reply.Failed failure.Memory)) × (after ≡ h)) ⊎ ((l : Line) × Says text l × Answered kind Gives h place l r after)
+-- the line is answered; or memory ran out before it changed anything
+abbrev pub Answers : ClockKind → (ℤ → Type 0) → History → List ℕ → Option Reply → History → Type 0
+Answers kind Gives h text r after =
+    ((r ≡ Some (reply.Failed failure.Memory)) × (after ≡ h)) ⊎ ((l : Line) × Says text l × Answered kind Gives h l r after)
 
--- the lines, of which the first stands at this place, run alone one after another: these replies, and this history after the last
-abbrev pub Runs : ClockKind → (ℤ → Type 0) → ℕ → History → List (List ℕ) → List (Option Reply) → History → Type 0
-Runs kind Gives place h [] [] after = after ≡ h
-Runs kind Gives place h (l ∷ ls) (r ∷ rs) after =
-    (between : History) × Answers kind Gives h place l r between × Runs kind Gives (place + 1) between ls rs after
-Runs kind Gives place h _ _ after = ⊥
+-- the lines run alone one after another: these replies, and this history after the last
+abbrev pub Runs : ClockKind → (ℤ → Type 0) → History → List (List ℕ) → List (Option Reply) → History → Type 0
+Runs kind Gives h [] [] after = after ≡ h
+Runs kind Gives h (l ∷ ls) (r ∷ rs) after = (between : History) × Answers kind Gives h l r between × Runs kind Gives between ls rs after
+Runs kind Gives h _ _ after = ⊥

@@ -1,3 +1,5 @@
-pub mod Sound
-pub mod Stored
+pub mod State
+pub mod Definitions
+pub mod Starts
+pub mod Serving
 pub mod Turns

@@ -1,42 +1,54 @@
 -- What holds of every run of a script (own).
-use Rattle.std.specs.Prelude.{◌≡◌, ℕ, ℤ, false, List, Option}
-use Rattle.std.specs.List.{list_any, flat_map}
+use Rattle.std.specs.Prelude.{◌≡◌, ◌<◌, ◌≤◌, ◌+◌, ◌^◌, ℕ, ℤ, false, List, Option}
+use Rattle.std.specs.List.{list_any}
+use Rattle.cas_io.specs.Causes.{Rose}
+use Rattle.cas_atoms.specs.declared.atom.Mutation.{Mutation}
 use Rattle.cas_bind.specs.declared.bound.Limits.{Limits}
-use Rattle.cas_entries.specs.Entries.{AreNumbered, first, last_number}
-use Rattle.cas_entries.specs.Laws.{atoms_of_partition}
+use Rattle.cas_changes.specs.declared.entry.Entry.{Entry as ManifestEntry}
+use Rattle.cas_changes.specs.declared.said.TheConstants.{SEGMENT_LIMIT, FILE_LIMIT}
+use Rattle.cas_journal.specs.Reach.{Reach}
 use Rattle.cas_render.specs.declared.reply.Reply.{Reply}
+use Rattle.cas_shard.specs.Shards.{ShardHistory}
+use Rattle.cas_shard.specs.Stands.{NumbersRise, AreShown}
 use Rattle.cas_words.specs.declared.words.ClockKind.{ClockKind}
 use Rattle.cas_words.specs.declared.words.ClockKind.TheVariants as clock
-use Rattle.cas_node.specs.History.{History, ShardHistory, Runs, is_starved, shard_at, all_entries, number_of, start, empty_opening}
+use Rattle.cas_node.specs.History.{History, DiskState, Runs, is_starved, shard_at}
+use Rattle.cas_node.specs.Found.{AreOfAStore, start}
 
--- under the manual clock the lines are answered in one way and leave one history, as long as memory doesn't run out
+-- a segment's number is left, and place for the longest entry in the manifest
+abbrev pub IsRoomy : Reach → Type 0
+IsRoomy r = (r.segment < SEGMENT_LIMIT) × (r.manifest + 2 ^ 32 + 10 ≤ FILE_LIMIT)
+
+-- along a run the disk is well: no write was stopped, the folder doesn't fail, and there is room in its files
+abbrev pub StaysWell : DiskState → DiskState → Type 0
+StaysWell d e = (d.stopped ≡ false) × (Rose d.faults e.faults → ⊥) × IsRoomy e.reach
+
+-- how the disk stands aside, one store is the other
+abbrev pub SameStore : History → History → Type 0
+SameStore t u = record t { disk = u.disk } ≡ u
+
+-- under the manual clock the lines are answered in one way and leave one store, as long as memory doesn't run out and the disk is well
 abbrev pub OneOutcome : (ℤ → Type 0) → Type 0
 OneOutcome Gives =
-    (place : ℕ) (h : History) (lines : List (List ℕ)) (rs ss : List (Option Reply)) (t u : History)
-    → Runs clock.Manual Gives place h lines rs t → Runs clock.Manual Gives place h lines ss u
-    → list_any is_starved rs ≡ false → list_any is_starved ss ≡ false → (rs ≡ ss) × (t ≡ u)
+    (h : History) (lines : List (List ℕ)) (rs ss : List (Option Reply)) (t u : History)
+    → Runs clock.Manual Gives h lines rs t → Runs clock.Manual Gives h lines ss u
+    → list_any is_starved rs ≡ false → list_any is_starved ss ≡ false → StaysWell h.disk t.disk → StaysWell h.disk u.disk → (rs ≡ ss) × SameStore t u
 
--- a shard's mutations are numbered by one, from 1, those from before the run among them
-pub record NumbersRise (s : ShardHistory) : Type 0 where
-  pub found : s.found.number ≡ last_number 0 s.found.entries
-  pub rise : AreNumbered 0 (all_entries s)
-
--- so are those of each shard
+-- each shard's mutations are numbered upwards, those since the run began by one
 abbrev pub AllRise : History → Type 0
 AllRise h = (n : ℕ) → NumbersRise (shard_at h n)
 
--- they are before the first line of a run on an empty folder
-abbrev pub NothingRises : Type 0
-NothingRises = (l : Limits) → AllRise (start (empty_opening l))
+-- they are before the first line, whatever store the run began with
+abbrev pub FoundRise : Type 0
+FoundRise =
+    (l : Limits) (entries : List ManifestEntry) (mutations : List Mutation) (session : ℕ) (disk : DiskState) → AreOfAStore entries mutations
+    → AllRise (start l entries mutations session disk)
 
 -- along a run they stay so, under either clock and whatever is answered
 abbrev pub NumbersStay : (ℤ → Type 0) → Type 0
 NumbersStay Gives =
-    (kind : ClockKind) (place : ℕ) (h after : History) (lines : List (List ℕ)) (rs : List (Option Reply)) → AllRise h → Runs kind Gives place h lines rs after
-    → AllRise after
+    (kind : ClockKind) (h after : History) (lines : List (List ℕ)) (rs : List (Option Reply)) → AllRise h → Runs kind Gives h lines rs after → AllRise after
 
--- so the front cuts nothing off: a SELECT reads all mutations of its partition that its shard accepted before it
+-- so the front cuts nothing off: a SELECT reads all mutations of its partition that its shard has accepted, before the run or in it
 abbrev pub AllAreRead : Type 0
-AllAreRead =
-    (s : ShardHistory) (table : ℕ) (key : List ℕ) → NumbersRise s
-    → first (number_of s) table key (all_entries s) ≡ flat_map (atoms_of_partition table key) (all_entries s)
+AllAreRead = (s : ShardHistory) → NumbersRise s → AreShown s

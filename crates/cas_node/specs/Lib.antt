@@ -1,4 +1,6 @@
 pub mod History
+pub mod Found
+pub mod Entered
 pub mod Text
 pub mod Ran
 pub mod Laws

@@ -1,25 +1,33 @@
 -- What a run did with its words, its script and its output (own).
-use Rattle.std.specs.Prelude.{◌≡◌, ◌≤◌, ◌⊎◌, ⊤, ℕ, ◌-◌, nat_lt, ℤ, Bool, true, false, Option, None, Some, if◌then◌else◌}
+use Rattle.std.specs.Prelude.{◌≡◌, ◌≤◌, ◌⊎◌, ⊤, ℕ, ◌+◌, ◌-◌, ◌^◌, min, nat_lt, nat_le, ℤ, Bool, true, false, Option, None, Some, if◌then◌else◌}
 use Rattle.std.specs.Prelude.{List, [], ◌∷◌, ◌++◌, length}
 use Rattle.std.specs.List.{fold}
 use Rattle.std.specs.Str.Lines.{lines}
 use Rattle.std.specs.Io.KnownBytes.{Appends, Keeps}
-use Rattle.cas_io.specs.Streams.{AppendsFront, ReadToEnd}
+use Rattle.cas_io.specs.Streams.{ReadToEnd}
 use Rattle.cas_io.specs.Causes.{Rose}
-use Rattle.cas_disk.specs.Disk.{Disk}
+use Rattle.cas_disk.specs.declared.name.Name.{Name}
+use Rattle.cas_disk.specs.Disk.{Disk, Image}
+use Rattle.cas_atoms.specs.declared.atom.Mutation.{Mutation}
+use Rattle.cas_changes.specs.declared.entry.Entry.{Entry as ManifestEntry}
+use Rattle.cas_changes.specs.Saying.{said_by}
+use Rattle.cas_opening.specs.Opening.{IsOfBytes, OpensAs}
+use Rattle.cas_history.specs.declared.item.Item.{Item}
+use Rattle.cas_room.specs.declared.event.Event.{Event}
 use Rattle.cas_render.specs.declared.reply.Failure.{Failure}
+use Rattle.cas_render.specs.declared.reply.Failure.TheVariants as failure
 use Rattle.cas_render.specs.declared.reply.Reply.{Reply}
 use Rattle.cas_render.specs.declared.reply.Reply.TheVariants as reply
 use Rattle.cas_render.specs.Text.{reply_text}
 use Rattle.cas_words.specs.Words.{command_of}
 use Rattle.cas_words.specs.declared.words.ClockKind.{ClockKind}
 use Rattle.cas_words.specs.declared.words.Command.{Command}
-use Rattle.cas_entries.specs.declared.entry.Entry.{Entry}
 use Rattle.cas_node.specs.declared.cause.Cause.{Cause}
 use Rattle.cas_node.specs.declared.cause.Cause.TheVariants as cause
-use Rattle.cas_node.specs.declared.opening.Opening.{Opening}
 use Rattle.cas_node.specs.declared.program.TheConstants.{SCRIPT_LIMIT}
-use Rattle.cas_node.specs.History.{History, Runs, empty_opening, entered_in, start, tells_want}
+use Rattle.cas_node.specs.History.{History, Runs, tells_want}
+use Rattle.cas_node.specs.Found.{IsFound, Begins, IsUnflushed}
+use Rattle.cas_node.specs.Entered.{AreEntered, IsLeft}
 use Rattle.cas_node.specs.Text.{output}
 
 -- ---- how a run ends
@@ -31,26 +39,32 @@ status_of cause.Words = 1
 status_of cause.Refused = 2
 status_of cause.Read = 3
 status_of cause.Write = 4
+status_of cause.Disk = 5
+status_of (cause.Bad name at) = 6
 status_of cause.Mem = 7
 status_of (cause.TooLong taken) = 8
 
--- what is told first of several: other words, want of memory, a script that can't be read or is too long, a failed write, a refusal
+-- What is told first of several: other words, want of memory, a script that can't be read or is too long, a file that isn't one of a store, a
+-- folder that failed, a failed write, a refusal.
 abbrev pub weight : Cause → ℕ
 weight cause.Good = 0
 weight cause.Refused = 1
 weight cause.Write = 2
-weight (cause.TooLong taken) = 3
-weight cause.Read = 4
-weight cause.Mem = 5
-weight cause.Words = 6
+weight cause.Disk = 3
+weight (cause.Bad name at) = 4
+weight (cause.TooLong taken) = 5
+weight cause.Read = 6
+weight cause.Mem = 7
+weight cause.Words = 8
 
 -- of two causes the one that is told; of equals the first
 abbrev pub worse : Cause → Cause → Cause
 worse a b = if nat_lt (weight a) (weight b) then b else a
 
--- why a statement came to nothing; that memory ran out is the only reason so far
+-- Why a statement came to nothing: memory ran out. That the disk failed is told by the folder's count of faults, which rose then.
 abbrev pub failure_cause : Failure → Cause
-failure_cause f = cause.Mem
+failure_cause failure.Memory = cause.Mem
+failure_cause _ = cause.Good
 
 -- what a reply says of the run's end: a refusal, a failure, or nothing
 abbrev pub reply_cause : Option Reply → Cause
@@ -109,14 +123,9 @@ pub record RanFrom (h : History) (kind : ClockKind) (Gives : ℤ → Type 0) (sc
   pub rest : List (List ℕ)
   pub replies : List (Option Reply)
   pub cut : run ++ rest ≡ lines script
-  pub steps : Runs kind Gives 1 h run replies final
+  pub steps : Runs kind Gives h run replies final
   pub stop : Stop
   pub ended : Ended stop rest old new replies why
-
--- the script ran from what the run begins with, and what its lines entered is what is handed back
-abbrev pub Ran : Opening → ClockKind → (ℤ → Type 0) → List ℕ → Option (List ℕ) → Option (List ℕ) → List (List Entry) → Cause → Type 0
-Ran o kind Gives script old new entered why =
-    (final : History) × RanFrom (start o) kind Gives script old new final why × (entered ≡ entered_in final)
 
 -- ---- a run and its outside
 
@@ -151,9 +160,29 @@ ReadRose before after = Rose before.read_faults after.read_faults
 abbrev pub WriteRose : Outside → Outside → Type 0
 WriteRose before after = Rose before.write_faults after.write_faults ⊎ Rose before.stalls after.stalls
 
--- what a run with these words begins with: so far an empty folder
-abbrev pub opening_of : Command → Opening
-opening_of c = empty_opening c.limits
+-- the count of a folder's faults rose between these two, or stood at its end already
+abbrev pub has_risen : ℕ → ℕ → Bool
+has_risen before now = nat_le (min (before + 1) (2 ^ 64 - 1)) now
+
+-- why a run ended, with the faults of its folder
+abbrev pub with_faults : ℕ → ℕ → Cause → Cause
+with_faults before now why = if has_risen before now then worse why cause.Disk else why
+
+-- A run of the command over a script: its folder had a store of these entries and mutations, or got one; from there the script's lines were run;
+-- what they entered is the list that is handed back; and whatever a crash leaves of the folder handed back has all that was acknowledged.
+pub record Ran (c : Command) (Gives : ℤ → Type 0) (script : List ℕ) (before after : Outside) (list : List (Item Event)) (why : Cause) : Type 0 where
+  pub entries : List ManifestEntry
+  pub mutations : List Mutation
+  pub found : IsFound c.limits.shards before.folder entries mutations
+  pub first : History
+  pub begins : Begins c.limits entries mutations before.folder_faults first
+  pub final : History
+  pub told : Cause
+  pub ran : RanFrom first c.clock Gives script before.taken after.taken final told
+  pub entered : AreEntered list final
+  pub crash : (d : Image) → before.folder.reads d → IsOfBytes d → (i : Image) → after.folder.may_leave i → IsLeft mutations list final i
+  pub faults : final.disk.faults ≡ after.folder_faults
+  pub ended : why ≡ with_faults before.folder_faults after.folder_faults told
 
 -- a run may end so without having run a line
 abbrev pub IsNotRun : Cause → Type 0
@@ -163,12 +192,11 @@ IsNotRun cause.Write = ⊥
 IsNotRun _ = ⊤
 
 -- the words are the command's, and the script is all that the source had, and ran; or no line was run, and nothing was written
-abbrev pub RanAll : List (List ℕ) → (ℤ → Type 0) → Outside → Outside → Option (List (List Entry)) → Cause → Type 0
+abbrev pub RanAll : List (List ℕ) → (ℤ → Type 0) → Outside → Outside → Option (List (Item Event)) → Cause → Type 0
 RanAll words Gives before after None why = Keeps before.taken after.taken × IsNotRun why
-RanAll words Gives before after (Some entered) why =
+RanAll words Gives before after (Some list) why =
     (c : Command) × (command_of words ≡ Some c)
-    × ((script : List ℕ) × ReadToEnd before.left after.left script × (length script ≤ SCRIPT_LIMIT)
-    × Ran (opening_of c) c.clock Gives script before.taken after.taken entered why)
+    × ((script : List ℕ) × ReadToEnd before.left after.left script × (length script ≤ SCRIPT_LIMIT) × Ran c Gives script before after list why)
 
 -- ---- words of the other clauses
 
@@ -177,14 +205,18 @@ abbrev pub GoodOrMem : Cause → Type 0
 GoodOrMem why = (why ≡ cause.Good) ⊎ (why ≡ cause.Mem)
 
 -- no line of the script is refused, whatever the clock reads, unless memory runs out
-abbrev pub IsGranted : Opening → ClockKind → (ℤ → Type 0) → List ℕ → Type 0
-IsGranted o kind Gives script =
-    (replies : List (Option Reply)) (final : History) → Runs kind Gives 1 (start o) (lines script) replies final → GoodOrMem (worst replies)
+abbrev pub IsGranted : History → ClockKind → (ℤ → Type 0) → List ℕ → Type 0
+IsGranted first kind Gives script = (replies : List (Option Reply)) (final : History) → Runs kind Gives first (lines script) replies final → GoodOrMem (worst replies)
 
 -- this holds of the bytes that were taken, if the script is too long
 abbrev pub IfTooLong : Cause → (ℕ → Type 0) → Type 0
 IfTooLong (cause.TooLong taken) P = P taken
 IfTooLong _ P = ⊤
+
+-- this holds of the file and the place where it isn't as it must be, if that ended the run
+abbrev pub IfBad : Cause → (Name → ℕ → Type 0) → Type 0
+IfBad (cause.Bad name at) P = P name at
+IfBad _ P = Unit {0}
 
 -- the script is too long
 abbrev pub is_too_long : Cause → Bool
@@ -197,13 +229,22 @@ count_taken None new = None
 count_taken (Some xs) None = None
 count_taken (Some xs) (Some ys) = Some (length xs - length ys)
 
--- all is well: the words are the command's, the source tells a script within the limit of which no line is refused, and no count rises
+-- All is well: the words are the command's, the source tells a script within the limit of which no line is refused, whichever store the folder has;
+-- the folder isn't refused, and no count rises.
 pub record AllWell (words : List (List ℕ)) (Gives : ℤ → Type 0) (before after : Outside) : Type 0 where
   pub command : Command
   pub words_are : command_of words ≡ Some command
   pub script : List ℕ
   pub told : before.left ≡ Some script
   pub short : length script ≤ SCRIPT_LIMIT
-  pub granted : IsGranted (opening_of command) command.clock Gives script
+  pub image : Image
+  pub reads : before.folder.reads image
+  pub of_bytes : IsOfBytes image
+  pub entries : List ManifestEntry
+  pub mutations : List Mutation
+  pub opens : OpensAs command.limits.shards entries mutations image
+  pub unflushed : IsUnflushed (said_by entries)
+  pub granted : (first : History) → Begins command.limits entries mutations before.folder_faults first → IsGranted first command.clock Gives script
   pub no_read_fault : ReadRose before after → ⊥
   pub no_write_fault : WriteRose before after → ⊥
+  pub no_folder_fault : Rose before.folder_faults after.folder_faults → ⊥

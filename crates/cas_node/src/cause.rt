@@ -3,6 +3,8 @@
 ghost use Rattle.std.specs.Prelude.{◌≡◌};
 ghost use Rattle.cas_node.specs.Ran.{status_of};
 
+use cas_disk::Name;
+
 /// Why a run ended as it did.
 #[derive(Clone, Copy, Debug, PartialEq, Eq)]
 pub enum Cause {
@@ -16,6 +18,10 @@ pub enum Cause {
     Read,
     /// The output couldn't be written. No further line was run.
     Write,
+    /// The folder failed.
+    Disk,
+    /// The bytes of this file aren't allowed at this place. No line was run.
+    Bad { name: Name, at: u64 },
     /// Memory ran out.
     Mem,
     /// The script has more than 64 MiB: so many bytes of it were taken. No line was run.
@@ -33,6 +39,8 @@ impl Cause {
             Cause::Refused => 2,
             Cause::Read => 3,
             Cause::Write => 4,
+            Cause::Disk => 5,
+            Cause::Bad { .. } => 6,
             Cause::Mem => 7,
             Cause::TooLong { .. } => 8,
         }

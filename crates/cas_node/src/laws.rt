@@ -1,19 +1,19 @@
 //! What holds of every run of a script.
 
-ghost use Rattle.cas_node.specs.Laws.{AllAreRead, NothingRises, NumbersStay, OneOutcome};
+ghost use Rattle.cas_node.specs.Laws.{AllAreRead, FoundRise, NumbersStay, OneOutcome};
 
 use cas_io::Clock;
 
-/// Under the manual clock a script prints one output, as long as memory doesn't run out: its
-/// lines have one list of answers, and leave one history.
+/// Under the manual clock a script prints one output, as long as memory doesn't run out and the disk is
+/// well: its lines have one list of answers, and leave one store.
 pub fn one_outcome<C: Clock>()
     ensures { (clock : C) → OneOutcome (C.may_give clock) }
 {}
 
-/// Along a run the mutations of each shard are numbered by one, so that a SELECT reads all of its
-/// partition that its shard accepted before it.
+/// Along a run the mutations of each shard are numbered upwards, those of the run by one, so that a SELECT
+/// reads all of its partition that its shard has accepted, before the run or in it.
 pub fn numbers_rise<C: Clock>()
-    ensures begin { NothingRises }
+    ensures begin { FoundRise }
     ensures stay { (clock : C) → NumbersStay (C.may_give clock) }
     ensures read { AllAreRead }
 {}

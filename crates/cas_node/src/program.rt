@@ -1,61 +1,62 @@
 //! The program: its words, its script, its output and how it ends.
 
-ghost use Rattle.std.specs.Prelude.{◌≡◌, ◌≤◌, ◌<◌, ◌⊎◌, ◌+◌, List, ℕ, map, length, slice_index_or, [], IsTrue, IfOk, IfSome, string_bytes, None};
+ghost use Rattle.std.specs.Prelude.{◌≡◌, ◌<◌, ◌⊎◌, ◌+◌, List, pos, map, length, IsTrue, IfSome, IsSome, string_bytes, Some, None, nat_le};
+ghost use Rattle.cas_types.specs.Limits.{IsShardCount};
 ghost use Rattle.cas_io.specs.Causes.{Rose};
 ghost use Rattle.cas_io.specs.Streams.{TookCount};
+ghost use Rattle.cas_disk.specs.Disk.{Image, During};
 ghost use Rattle.cas_words.specs.Words.{command_of};
-ghost use Rattle.cas_entries.specs.declared.entry.Entry.{Entry};
-ghost use Rattle.cas_types.specs.Limits.{IsShardCount};
-ghost use Rattle.cas_node.specs.History.{empty_opening, start};
-ghost use Rattle.cas_node.specs.Inner.Sound.{IsSound};
-ghost use Rattle.cas_node.specs.Inner.Stored.{stored};
-ghost use Rattle.cas_node.specs.Ran.{RanAll, IsNotRun, IfTooLong, AllWell, GoodOrMem, count_taken, is_too_long, outside, status_of};
+ghost use Rattle.cas_words.specs.declared.words.Command.{Command};
+ghost use Rattle.cas_atoms.specs.declared.atom.Mutation.{Mutation as MutationOf};
+ghost use Rattle.cas_changes.specs.declared.entry.Entry.{Entry as EntryOf};
+ghost use Rattle.cas_bind.specs.Tables.{AreTables};
+ghost use Rattle.cas_log.specs.Segment.{IsSize};
+ghost use Rattle.cas_journal.specs.Journals.{AreFree};
+ghost use Rattle.cas_journal.specs.Stores.{IsStore, MayList, Told};
+ghost use Rattle.cas_opening.specs.Opening.{IsOfBytes, MayBeOpened};
+ghost use Rattle.cas_room.specs.Keeping.{Keeps, StandsFor};
+ghost use Rattle.cas_room.specs.Rooms.{accepted_in};
+ghost use Rattle.cas_node.specs.Found.{IsUnfit};
+ghost use Rattle.cas_node.specs.Ran.{RanAll, IfBad, IfTooLong, AllWell, GoodOrMem, count_taken, has_risen, is_too_long, outside, status_of, weight, with_faults};
+ghost use Rattle.cas_node.specs.Inner.Serving.{EndsServed, Serves};
+ghost use Rattle.cas_node.specs.Inner.Starts.{cause_of_opening};
 ghost use Rattle.cas_node.specs.Inner.Turns.{cause_of_fault};
 
 use crate::cause::Cause;
-use crate::opening::Opening;
-use crate::session::session;
-use crate::shard::Shard;
-use crate::store::Store;
-use cas_bind::Limits;
+use crate::node::{Node, Stored};
+use crate::seats::{Seats, make_seats};
+use crate::session::{session, worse};
+use crate::start::{Started, start};
+use crate::store::Ask;
 use cas_disk::{Count, Folder};
-use cas_entries::Entry as HistoryEntry;
+use cas_history::Item;
 use cas_io::{Clock, Gate, ScriptFault, Sink, Source, read_script};
+use cas_ledger::{Kept, Opened as Table, Store};
+use cas_opening::OpenFault;
+use cas_room::{Event, Room};
 use cas_types::Mem;
 use cas_words::{Command, read_words};
 use std::alloc::{AllocError, Global};
-use std::marker::Model;
+use std::marker::{Brand, Model};
 
 /// The most bytes that a script may have: 64 MiB.
 pub const SCRIPT_LIMIT: u64 = 67_108_864;
 
-/// The one history of a run: of each shard what the run entered into it.
+/// The one history of a run: what it accepted, in the order in which it did. It is kept by the proofs alone.
 #[derive(Drop)]
 pub struct Pass {
-    shards: Vec<Shard>,
+    kept: Kept<Item<Event>>,
 }
 
 impl Model for Pass {
-    ghost Value = { List (List Entry) };
+    ghost use Rattle.std.specs.Prelude.{List};
+    ghost use Rattle.cas_history.specs.declared.item.Item.{Item};
+    ghost use Rattle.cas_history.specs.Items.{listed, log_list};
+    ghost use Rattle.cas_room.specs.declared.event.Event.{Event};
 
-    ghost view = { λ p. map (λ s. s.entries) p.shards.items };
-}
+    ghost Value = { List (Item Event) };
 
-impl Pass {
-    /// How many shards there are.
-    pub fn len(&self) -> usize
-        ensures { result ≡ length self.now }
-    {
-        self.shards.len()
-    }
-
-    /// What the run entered into the shard of this number; they are numbered from 0.
-    pub fn entries(&self, shard: usize) -> &[HistoryEntry]
-        requires { shard < length self.now }
-        ensures { result.now ≡ slice_index_or self.now shard [] }
-    {
-        self.shards[shard].entries()
-    }
+    ghost view = { λ p. listed log_list p.kept.saw };
 }
 
 /// What a run came to: the exit status and its cause, the folder handed back, the history (none
@@ -95,18 +96,132 @@ fn not_run<F: Folder>(cause: Cause, folder: F) -> Outcome<F>
     }
 }
 
-// The store that a run begins with; so far its folder is an empty one.
-fn open(alloc: Global, limits: Limits) -> Result<Store, Mem>
-    requires { IsShardCount limits.shards }
-    ensures start { IfOk result (λ s. stored s ≡ start (empty_opening limits)) }
-    ensures sound { IfOk result (λ s. IsSound (stored s)) }
+// Whether a count of faults rose between these two, or stood at its end already.
+fn has_risen(before: u64, now: u64) -> bool
+    ensures { result ≡ has_risen before now }
 {
-    Store::open(alloc, Opening::empty(alloc, limits)?)
+    before.saturating_add(1) <= now
+}
+
+// Why a run ended, with the faults of its folder.
+fn with_faults(before: u64, now: u64, why: Cause) -> Cause
+    ensures { result ≡ with_faults before now why }
+{
+    if has_risen(before, now) {
+        return worse(why, Cause::Disk);
+    }
+    why
+}
+
+// Why an opening ends the run.
+fn cause_of_opening(fault: OpenFault) -> Cause
+    ensures { result ≡ cause_of_opening fault }
+{
+    match fault {
+        OpenFault::Bad { name, at } => Cause::Bad { name, at },
+        OpenFault::Failed => Cause::Disk,
+        OpenFault::Mem => Cause::Mem,
+    }
+}
+
+// A store in memory, with its seats and its room.
+fn assembled<F: Folder, J: Store>(started: Started, seats: Seats<J>, folder: F) -> Node<F, J>
+    requires free { AreFree started.journal (F.disk folder) }
+    requires going { started.journal.first ≡ None }
+    requires new { (seats.faults.number ≡ 0) × (seats.faults.committed ≡ 0) × (seats.faults.first ≡ 0) }
+    ensures limits { result.limits ≡ started.limits }
+    ensures tables { result.tables ≡ started.tables }
+    ensures shards { result.shards ≡ started.shards }
+    ensures fronts { result.fronts ≡ seats.fronts }
+    ensures clock { result.clock ≡ pos 0 }
+    ensures session { result.session ≡ seats.session }
+    ensures room { (result.room.folder ≡ folder) × (result.room.journal ≡ started.journal) × (result.room.log ≡ seats.log)
+        × (result.room.faults ≡ seats.faults) × (result.room.accepted ≡ 0) }
+{
+    Node {
+        limits: started.limits,
+        tables: started.tables,
+        shards: started.shards,
+        fronts: seats.fronts,
+        clock: 0,
+        room: Room::new(
+            folder,
+            started.journal,
+            seats.log,
+            seats.faults,
+            seats.numbers,
+        ),
+        session: seats.session,
+    }
+}
+
+// Ends a run: the folder is handed back, and the history.
+fn closed<F: Folder, J: Store>(node: Node<F, J>, told: Cause, faults: u64) -> Outcome<F>
+    ensures status { result.status ≡ status_of result.cause }
+    ensures cause { result.cause ≡ with_faults faults (F.faults_of result.folder) told }
+    ensures folder { result.folder ≡ node.room.folder }
+    ensures pass { IfSome result.pass (λ p. p ≡ (⟦<Node<F, J> as Stored>⟧.state node).list) }
+    ensures some { IsSome result.pass }
+    ensures images { (found : List MutationOf) (t : Told)
+        → Keeps node.room.journal (F.disk node.room.folder) (⟦<Node<F, J> as Stored>⟧.state node).list node.room.faults.committed found t
+        → (c : Image) → (F.disk node.room.folder).may_leave c
+        → StandsFor (MayList t) found (accepted_in (⟦<Node<F, J> as Stored>⟧.state node).list) node.room.faults.committed c }
+    ensures tally { ⟦<F::Tally as Count>⟧.number result.tally ≡ 0 }
+{
+    node.room.images_stand();
+    let (folder, _first, log) = node.room.close();
+    let cause = with_faults(faults, folder.faults(), told);
+    Outcome {
+        status: cause.status(),
+        cause,
+        folder,
+        pass: Some(Pass {
+            kept: log.pass.kept(),
+        }),
+        tally: F::Tally::fresh(),
+    }
+}
+
+// Runs a script in a store that was opened, in a new history.
+fn serve<K: Sink, F: Folder, J: Store, C: Clock>(
+    alloc: Global,
+    ask: &Ask<'_, C>,
+    started: Started,
+    folder: F,
+    table: Table<Item<Event>>,
+    script: &[u8],
+    sink: &mut K,
+    faults: u64,
+) -> Outcome<F>
+    requires table { table.seat.table_id ≡ J.table }
+    requires free { AreFree started.journal (F.disk folder) }
+    requires runs { (started.journal.first ≡ None) × (started.journal.size ≡ started.limits.segment) }
+    requires size { IsSize started.limits.segment }
+    requires good { AreTables started.tables.items × (length started.shards.items ≡ started.limits.shards) × IsShardCount started.limits.shards }
+    ensures served { Serves ask.now.kind (C.may_give ask.now.clock.now) script.now (K.took sink.old) (K.took sink.new)
+        started.limits started.tables.items started.shards.items started.journal (F.disk folder) (F.faults_of folder) faults
+        (F.disk result.folder) (F.faults_of result.folder) result.pass result.cause }
+    ensures status { result.status ≡ status_of result.cause }
+    ensures tally { ⟦<F::Tally as Count>⟧.number result.tally ≡ 0 }
+    ensures unwritten { result.pass ≡ None → sink.new ≡ sink.old }
+    ensures kept { result.pass ≡ None → result.folder ≡ folder }
+    ensures write { result.cause ≡ Cause.Write
+        → Rose (K.faults sink.old) (K.faults sink.new) ⊎ Rose (K.stalls sink.old) (K.stalls sink.new) }
+    ensures ends { EndsServed faults (F.faults_of result.folder) result.cause }
+{
+    let seats = match make_seats::<J>(alloc, table, &started.shards) {
+        Ok(seats) => seats,
+        Err(Mem) => return not_run(Cause::Mem, folder),
+    };
+    let mut node = assembled(started, seats, folder);
+    let told = session(alloc, ask, &mut node, script, sink);
+    closed(node, told, faults)
 }
 
 /// Runs the program `cassnode`: `words` are those after its name, the script comes from the source,
-/// and what its lines answer goes to the sink. So far the folder is handed back as it came, and each
-/// line runs alone, so that the gate isn't called. With `--clock manual` the clock isn't read.
+/// and what its lines answer goes to the sink. The folder's store is opened, or one made where it has
+/// none, and what is answered `ok` lasts there. Each line runs alone, so that the gate isn't called.
+/// With `--clock manual` the clock isn't read.
 pub fn run<S: Source, K: Sink, F: Folder, C: Clock, G: Gate>(
     alloc: Global,
     words: &[String],
@@ -117,8 +232,9 @@ pub fn run<S: Source, K: Sink, F: Folder, C: Clock, G: Gate>(
     _gate: &G,
 ) -> Outcome<F>
     // The script ran: its lines' replies are the definition's, each slice the live view at its moment
-    // of all mutations up to its front, what was written is the replies' text up to where the run
-    // ended, and the pass has what the lines entered. Or no line was run.
+    // of all mutations up to its front, those that the folder had and those of the run; what was written
+    // is the replies' text up to where the run ended; whatever a crash leaves of the folder has all that
+    // was answered `ok`. Or no line was run.
     ensures headline { RanAll (map string_bytes words.now) (C.may_give clock.now)
         (outside (S.left source.old) (S.faults source.old) (K.took sink.old) (K.faults sink.old) (K.stalls sink.old)
         (F.disk folder) (F.faults_of folder))
@@ -128,11 +244,19 @@ pub fn run<S: Source, K: Sink, F: Folder, C: Clock, G: Gate>(
     ensures status { result.status ≡ status_of result.cause }
     ensures words { result.cause ≡ Cause.Words → command_of (map string_bytes words.now) ≡ None }
     ensures no_words { command_of (map string_bytes words.now) ≡ None → (result.cause ≡ Cause.Words) ⊎ (result.cause ≡ Cause.Mem) }
-    ensures untaken { command_of (map string_bytes words.now) ≡ None → source.new ≡ source.old }
+    ensures untaken { command_of (map string_bytes words.now) ≡ None → (source.new ≡ source.old) × (result.folder ≡ folder) }
     ensures unwritten { result.pass ≡ None → sink.new ≡ sink.old }
     ensures read { result.cause ≡ Cause.Read → Rose (S.faults source.old) (S.faults source.new) }
     ensures write { result.cause ≡ Cause.Write
         → Rose (K.faults sink.old) (K.faults sink.new) ⊎ Rose (K.stalls sink.old) (K.stalls sink.new) }
+    ensures disk { result.cause ≡ Cause.Disk → Rose (F.faults_of folder) (F.faults_of result.folder) }
+    ensures not_disk { Rose (F.faults_of folder) (F.faults_of result.folder) → IsTrue (nat_le (weight Cause.Disk) (weight result.cause)) }
+    // A store is never refused whose bytes are as they must be.
+    ensures bad { IfBad result.cause (λ name at. (c : Command) → command_of (map string_bytes words.now) ≡ Some c
+        → (d : Image) → (F.disk folder).reads d → IsOfBytes d → IsUnfit c.limits.shards name at d) }
+    // Where no line was run, a crash leaves what was there before, or the store that was there.
+    ensures stays { result.pass ≡ None → (d : Image) → (F.disk folder).reads d → IsOfBytes d → (entries : List EntryOf) (mutations : List MutationOf)
+        → IsStore entries mutations d → During (MayBeOpened entries mutations) (F.disk folder) (F.disk result.folder) }
     ensures too_long { IfTooLong result.cause
         (λ taken. (taken ≡ SCRIPT_LIMIT + 1) × TookCount (S.left source.old) (S.left source.new) taken) }
     ensures not_too_long { IfSome (count_taken (S.left source.old) (S.left source.new))
@@ -143,7 +267,6 @@ pub fn run<S: Source, K: Sink, F: Folder, C: Clock, G: Gate>(
         (outside (S.left source.new) (S.faults source.new) (K.took sink.new) (K.faults sink.new) (K.stalls sink.new)
         (F.disk result.folder) (F.faults_of result.folder))
         → GoodOrMem result.cause }
-    ensures folder { result.folder ≡ folder }
     ensures tally { ⟦<F::Tally as Count>⟧.number result.tally ≡ 0 }
 {
     let Command {
@@ -159,17 +282,16 @@ pub fn run<S: Source, K: Sink, F: Folder, C: Clock, G: Gate>(
         Ok(script) => script,
         Err(fault) => return not_run(unread(fault), folder),
     };
-    let store = match open(alloc, limits) {
-        Ok(store) => store,
-        Err(Mem) => return not_run(Cause::Mem, folder),
+    let mut folder = folder;
+    let faults = folder.faults();
+    let started = match start(alloc, &mut folder, &limits) {
+        Ok(started) => started,
+        Err(fault) => return not_run(cause_of_opening(fault), folder),
     };
-    let (store, cause) = session(alloc, kind, clock, store, &script, sink);
-    let Store { shards, .. } = store;
-    Outcome {
-        status: cause.status(),
-        cause,
-        folder,
-        pass: Some(Pass { shards }),
-        tally: F::Tally::fresh(),
-    }
+    let table = match Table::new(alloc) {
+        Ok(table) => table,
+        Err(AllocError) => return not_run(Cause::Mem, folder),
+    };
+    let ask = Ask { kind, clock };
+    serve::<K, F, Brand, C>(alloc, &ask, started, folder, table, &script, sink, faults)
 }

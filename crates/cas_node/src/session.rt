@@ -1,20 +1,21 @@
 //! Runs the lines of a script one after another, and writes what they answer.
 
-ghost use Rattle.std.specs.Prelude.{◌≡◌, ◌≤◌, ◌⊎◌, Some};
+ghost use Rattle.std.specs.Prelude.{◌≡◌, ◌≤◌, ◌<◌, ◌+◌, ◌^◌, ◌⊎◌, Some};
 ghost use Rattle.cas_io.specs.Causes.{Rose};
 ghost use Rattle.cas_render.specs.Text.{reply_text};
-ghost use Rattle.cas_node.specs.Inner.Turns.{Printed, PrintedReply, StopsFor, Turned};
+ghost use Rattle.cas_node.specs.Inner.Turns.{IsEnd, IsToldSo, Moves, Printed, PrintedReply, StopsFor, Turned};
 ghost use Rattle.cas_node.specs.Ran.{RanFrom, reply_cause, weight, worse};
-ghost use Rattle.cas_node.specs.Inner.Stored.{stored};
-ghost use Rattle.cas_node.specs.Inner.Sound.{IsSound};
+ghost use Rattle.cas_node.specs.Inner.State.{IsSound};
 
 use crate::cause::Cause;
-use crate::store::{Ask, Store};
+use crate::node::{Node, Stored};
+use crate::store::Ask;
+use cas_disk::Folder;
 use cas_io::{Clock, Sink, write_all};
+use cas_ledger::Store;
 use cas_lines::next_line;
 use cas_render::{Failure, Reply, render};
 use cas_types::Mem;
-use cas_words::ClockKind;
 use std::alloc::Global;
 
 /// Why a reply wasn't written.
@@ -25,11 +26,12 @@ pub(crate) enum PrintFault {
 }
 
 fn reply_cause(reply: &Option<Reply>) -> Cause
-    ensures { result ≡ reply_cause reply.now }
+    ensures cause { result ≡ reply_cause reply.now }
+    ensures told { IsToldSo result }
 {
     match reply {
         Some(Reply::Refused(_)) => Cause::Refused,
-        Some(Reply::Failed(_)) => Cause::Mem,
+        Some(Reply::Failed(Failure::Memory)) => Cause::Mem,
         _ => Cause::Good,
     }
 }
@@ -97,14 +99,17 @@ fn weight(cause: Cause) -> u8
         Cause::Good => 0,
         Cause::Refused => 1,
         Cause::Write => 2,
-        Cause::TooLong { .. } => 3,
-        Cause::Read => 4,
-        Cause::Mem => 5,
-        Cause::Words => 6,
+        Cause::Disk => 3,
+        Cause::Bad { .. } => 4,
+        Cause::TooLong { .. } => 5,
+        Cause::Read => 6,
+        Cause::Mem => 7,
+        Cause::Words => 8,
     }
 }
 
-fn worse(a: Cause, b: Cause) -> Cause
+/// Of two causes the one that is told.
+pub(crate) fn worse(a: Cause, b: Cause) -> Cause
     ensures { result ≡ worse a b }
 {
     if weight(a) < weight(b) { b } else { a }
@@ -117,24 +122,30 @@ struct Turn {
     fault: Option<PrintFault>,
 }
 
-fn take_turn<K: Sink, C: Clock>(
+fn take_turn<K: Sink, F: Folder, J: Store, C: Clock>(
     alloc: Global,
     ask: &Ask<'_, C>,
-    store: &mut Store,
+    node: &mut Node<F, J>,
     text: &mut Vec<u8>,
     sink: &mut K,
     line: &[u8],
 ) -> Turn
-    requires sound { IsSound (stored store.old) }
-    ensures turned { Turned ask.now.kind (C.may_give ask.now.clock.now) ask.now.place (stored store.old) line.now (stored store.new)
-        (K.took sink.old) (K.took sink.new) result.cause result.fault }
-    ensures sound { IsSound (stored store.new) }
+    requires sound { IsSound (⟦<Node<F, J> as Stored>⟧.state node.old) }
+    requires few { (⟦<Node<F, J> as Stored>⟧.state node.old).calls + 1 < 2 ^ 64 }
+    ensures turned { Moves (λ h after. Turned ask.now.kind (C.may_give ask.now.clock.now) h line.now after
+        (K.took sink.old) (K.took sink.new) result.cause result.fault)
+        (⟦<Node<F, J> as Stored>⟧.state node.old) (⟦<Node<F, J> as Stored>⟧.state node.new)
+        (⟦<Node<F, J> as Stored>⟧.disk node.old) (⟦<Node<F, J> as Stored>⟧.disk node.new) }
+    ensures sound { IsSound (⟦<Node<F, J> as Stored>⟧.state node.new) }
+    ensures few { (⟦<Node<F, J> as Stored>⟧.state node.new).calls ≤ (⟦<Node<F, J> as Stored>⟧.state node.old).calls + 1 }
+    ensures limits { node.new.limits ≡ node.old.limits }
     ensures faults { K.faults sink.old ≤ K.faults sink.new }
     ensures stalls { K.stalls sink.old ≤ K.stalls sink.new }
     ensures write { result.fault ≡ Some PrintFault.Write
         → Rose (K.faults sink.old) (K.faults sink.new) ⊎ Rose (K.stalls sink.old) (K.stalls sink.new) }
+    ensures told { IsToldSo result.cause }
 {
-    let reply = store.answer_line(alloc, ask, line);
+    let reply = node.answer_line(alloc, ask, line);
     let fault = print(alloc, &reply, text, sink);
     Turn {
         cause: reply_cause(&reply),
@@ -155,36 +166,36 @@ fn cut_short(fault: PrintFault, cause: Cause) -> Cause
 
 /// Runs the lines of a script one after another in a store just opened, and writes what they
 /// answer.
-pub(crate) fn session<K: Sink, C: Clock>(
+pub(crate) fn session<K: Sink, F: Folder, J: Store, C: Clock>(
     alloc: Global,
-    kind: ClockKind,
-    clock: &C,
-    mut store: Store,
+    ask: &Ask<'_, C>,
+    node: &mut Node<F, J>,
     script: &[u8],
     sink: &mut K,
-) -> (Store, Cause)
-    requires sound { IsSound (stored store) }
-    ensures ran { RanFrom (stored store) kind (C.may_give clock.now) script.now (K.took sink.old) (K.took sink.new)
-        (stored result.0) result.1 }
+) -> Cause
+    requires sound { IsSound (⟦<Node<F, J> as Stored>⟧.state node.old) }
+    requires begun { (⟦<Node<F, J> as Stored>⟧.state node.old).calls ≡ 0 }
+    ensures ran { Moves (λ h after. RanFrom h ask.now.kind (C.may_give ask.now.clock.now) script.now
+        (K.took sink.old) (K.took sink.new) after result)
+        (⟦<Node<F, J> as Stored>⟧.state node.old) (⟦<Node<F, J> as Stored>⟧.state node.new)
+        (⟦<Node<F, J> as Stored>⟧.disk node.old) (⟦<Node<F, J> as Stored>⟧.disk node.new) }
     ensures faults { K.faults sink.old ≤ K.faults sink.new }
     ensures stalls { K.stalls sink.old ≤ K.stalls sink.new }
-    ensures write { result.1 ≡ Cause.Write
+    ensures write { result ≡ Cause.Write
         → Rose (K.faults sink.old) (K.faults sink.new) ⊎ Rose (K.stalls sink.old) (K.stalls sink.new) }
+    ensures ends { IsEnd result }
 {
     let mut rest = script;
-    let mut place = 1;
     let mut cause = Cause::Good;
     let mut text = Vec::new(alloc);
     while !rest.is_empty() {
         let (line, after) = next_line(rest);
-        let ask = Ask { kind, clock, place };
-        let turn = take_turn(alloc, &ask, &mut store, &mut text, sink, line);
+        let turn = take_turn(alloc, ask, node, &mut text, sink, line);
         cause = worse(cause, turn.cause);
         if let Some(fault) = turn.fault {
-            return (store, cut_short(fault, cause));
+            return cut_short(fault, cause);
         }
         rest = after;
-        place += 1;
     }
-    (store, cause)
+    cause
 }

@@ -261,6 +261,7 @@ impl Shard {
         requires columns { IsNarrow query.columns }
         ensures shows { (tables : ListOf Schema) (s : ShardHistory) → Stands tables s self.old → Asks tables query → Shows s reading query result }
         ensures stands { (tables : ListOf Schema) (s : ShardHistory) → Stands tables s self.old → Stands tables (raised reading s) self.new }
+        ensures number { self.new.number ≡ self.old.number }
     {
         self.raise(reading);
         let rows = rows_of(alloc, &self.parts, query, self.moment)?;

@@ -1,9 +1,11 @@
 //! The program `cassnode`: runs a script from standard input over the folder that its words name.
 #![tactic(auto)]
 
-use cas_disk::{FaultPlan, MemFolder};
+use cas_disk::Name;
+use cas_hostdisk::HostFolder;
 use cas_io::{FreeGate, StdSink, StdSource, SystemClock};
-use cas_node::{Cause, Outcome, run};
+use cas_node::{Cause, Outcome, path_of, run};
+use std::alloc::AllocError;
 use std::io::ErrorKind;
 use std::process::ExitCode;
 use std::{env, io, mem};
@@ -16,24 +18,63 @@ fn words(rt: &HostRuntime) -> io::Result<Vec<String>> {
     Ok(words)
 }
 
-fn refuse(rt: &HostRuntime) -> ExitCode {
-    let _ = rt.eprintln("usage: cassnode [options] FOLDER");
-    ExitCode::from(Cause::Words.status())
+// The folder that the words name; nothing is asked of it where they name none.
+fn folder_path(rt: &HostRuntime, words: &[String]) -> Result<String, AllocError> {
+    match path_of(rt.alloc(), words) {
+        Ok(Some(path)) => Ok(path),
+        Ok(None) => Ok(String::new(rt.alloc())),
+        Err(_) => Err(AllocError),
+    }
+}
+
+fn file_name(rt: &HostRuntime, name: Name) -> Result<String, AllocError> {
+    match name {
+        Name::Manifest => format!(in rt.alloc(); "manifest"),
+        Name::Log(number) => format!(in rt.alloc(); "log-{number:016x}"),
+        Name::Table(number) => format!(in rt.alloc(); "table-{number:016x}"),
+        Name::Import(number) => format!(in rt.alloc(); "import-{number:016x}"),
+    }
+}
+
+// Tells which file of the folder isn't as it must be, and where.
+fn tell_bad(rt: &HostRuntime, name: Name, at: u64) {
+    if let Ok(file) = file_name(rt, name) {
+        if let Ok(text) = format!(in rt.alloc(); "bad store: {file} at {at}") {
+            let _ = rt.eprintln(text.as_str());
+        }
+    }
+}
+
+// Tells on standard error what the status alone doesn't.
+fn tell(rt: &HostRuntime, cause: Cause) {
+    match cause {
+        Cause::Words => {
+            let _ = rt.eprintln("usage: cassnode [options] FOLDER");
+        }
+        Cause::Bad { name, at } => tell_bad(rt, name, at),
+        _ => {}
+    }
 }
 
 // The words couldn't be collected: memory ran out, or one isn't UTF-8.
 fn stop(rt: &HostRuntime, error: &io::Error) -> ExitCode {
-    if error.kind() == ErrorKind::OutOfMemory {
-        ExitCode::from(Cause::Mem.status())
+    let cause = if error.kind() == ErrorKind::OutOfMemory {
+        Cause::Mem
     } else {
-        refuse(rt)
-    }
+        Cause::Words
+    };
+    tell(rt, cause);
+    ExitCode::from(cause.status())
 }
 
 fn main(rt: HostRuntime) -> ExitCode {
     let words = match words(&rt) {
         Ok(words) => words,
         Err(error) => return stop(&rt, &error),
+    };
+    let path = match folder_path(&rt, &words) {
+        Ok(path) => path,
+        Err(AllocError) => return ExitCode::from(Cause::Mem.status()),
     };
     let mut source = StdSource::new(rt.reader());
     let mut sink = StdSink::new(io::writer(&rt));
@@ -49,14 +90,11 @@ fn main(rt: HostRuntime) -> ExitCode {
         &words,
         &mut source,
         &mut sink,
-        MemFolder::new(rt.alloc(), FaultPlan::none(rt.alloc())),
+        HostFolder::new(&rt, rt.alloc(), path),
         &clock,
         &FreeGate,
     );
-    // The process ends here, and with it all its memory: the history isn't given back piece by piece.
     mem::forget(pass);
-    if cause == Cause::Words {
-        return refuse(&rt);
-    }
+    tell(&rt, cause);
     ExitCode::from(status)
 }

@@ -4,22 +4,45 @@ use Rattle.std.specs.Io.KnownBytes.{Appends, Keeps}
 use Rattle.cas_io.specs.Streams.{AppendsFront}
 use Rattle.cas_io.specs.declared.script.ScriptFault.{ScriptFault}
 use Rattle.cas_io.specs.declared.script.ScriptFault.TheVariants as fault
+use Rattle.cas_disk.specs.Disk.{Disk}
+use Rattle.cas_atoms.specs.declared.atom.Mutation.{Mutation}
+use Rattle.cas_effects.specs.declared.refusal.TheConstants.{TOO_LARGE, TOO_MANY}
+use Rattle.cas_journal.specs.Stores.{Told}
+use Rattle.cas_journal.specs.declared.fault.JournalFault.{JournalFault}
+use Rattle.cas_journal.specs.declared.fault.JournalFault.TheVariants.{TooLarge, TooMany, Stopped, Failed, Mem}
+use Rattle.cas_render.specs.declared.reply.Failure.TheVariants as failure
 use Rattle.cas_render.specs.declared.reply.Reply.{Reply}
+use Rattle.cas_render.specs.declared.reply.Reply.TheVariants as reply
 use Rattle.cas_render.specs.Text.{reply_text}
 use Rattle.cas_words.specs.declared.words.ClockKind.{ClockKind}
 use Rattle.cas_node.specs.declared.cause.Cause.{Cause}
 use Rattle.cas_node.specs.declared.cause.Cause.TheVariants as cause
 use Rattle.cas_node.specs.declared.session.PrintFault.{PrintFault}
 use Rattle.cas_node.specs.declared.session.PrintFault.TheVariants as print
-use Rattle.cas_effects.specs.declared.effect.BoundWrite.{BoundWrite}
-use Rattle.cas_entries.specs.declared.entry.Entry.{Entry}
-use Rattle.cas_node.specs.History.{History, ShardHistory, Answers, Takes, after_entries, tells_want}
-use Rattle.cas_node.specs.Text.{line_text}
+use Rattle.cas_node.specs.History.{History, Answers, tells_want}
 use Rattle.cas_node.specs.Ran.{reply_cause, worse}
+use Rattle.cas_node.specs.Inner.State.{State, StandsFor, LastsFor}
 
--- a write was answered so by its shard, which it found as `s` and left as `t`
-abbrev pub Took : ℕ → ShardHistory → ℤ → ℕ → ℕ → BoundWrite → ShardHistory → Reply → Type 0
-Took segment s reading session call w t r = (entries : List Entry) × Takes segment s reading session call w entries r × (t ≡ after_entries reading entries s)
+-- from one history to another the store went on: its memory stands for the other, and its disk keeps what that says
+pub record GoesOnTo (h after : History) (s t : State) (old new : Disk) : Type 0 where
+  pub stands : StandsFor after t
+  pub lasts : (found : List Mutation) (told : Told) → LastsFor h found s old told → (now : Told) × LastsFor after found t new now
+
+-- whichever history it stood for, it went on to one that follows it so
+abbrev pub Moves : (History → History → Type 0) → State → State → Disk → Disk → Type 0
+Moves Follows s t old new = (h : History) → StandsFor h s → (after : History) × Follows h after × GoesOnTo h after s t old new
+
+-- memory ran out before anything changed, or this follows
+abbrev pub OrWant : Reply → (History → History → Type 0) → History → History → Type 0
+OrWant r Follows h after = ((r ≡ reply.Failed failure.Memory) × (after ≡ h)) ⊎ Follows h after
+
+-- what a write or a definition is answered that the room didn't take
+abbrev pub reply_for : JournalFault → Reply
+reply_for (TooLarge length limit) = reply.Refused TOO_LARGE
+reply_for (TooMany what limit) = reply.Refused TOO_MANY
+reply_for (Stopped first) = reply.Failed failure.Stopped
+reply_for Failed = reply.Failed failure.Disk
+reply_for Mem = reply.Failed failure.Memory
 
 -- what came of writing a reply: all of it was written; a front of it; or nothing, as memory ran out, and it isn't `failed memory`
 abbrev pub PrintedReply : Option PrintFault → Reply → Option (List ℕ) → Option (List ℕ) → Type 0
@@ -33,12 +56,27 @@ Printed fault None old new = (fault ≡ None) × Keeps old new
 Printed fault (Some r) old new = PrintedReply fault r old new
 
 -- one line was answered, and this came of its reply
-pub record Turned (kind : ClockKind) (Gives : ℤ → Type 0) (place : ℕ) (before : History) (line : List ℕ) (after : History)
+pub record Turned (kind : ClockKind) (Gives : ℤ → Type 0) (before : History) (line : List ℕ) (after : History)
     (old new : Option (List ℕ)) (why : Cause) (fault : Option PrintFault) : Type 0 where
   pub reply : Option Reply
-  pub answers : Answers kind Gives before place line reply after
+  pub answers : Answers kind Gives before line reply after
   pub told : why ≡ reply_cause reply
   pub printed : Printed fault reply old new
+
+-- replies say this of a run's end
+abbrev pub IsToldSo : Cause → Type 0
+IsToldSo cause.Good = Unit {0}
+IsToldSo cause.Refused = Unit {0}
+IsToldSo cause.Mem = Unit {0}
+IsToldSo _ = ⊥
+
+-- a run that answered lines ends so
+abbrev pub IsEnd : Cause → Type 0
+IsEnd cause.Good = Unit {0}
+IsEnd cause.Refused = Unit {0}
+IsEnd cause.Write = Unit {0}
+IsEnd cause.Mem = Unit {0}
+IsEnd _ = ⊥
 
 -- why a run ends that came to this cause, where a reply wasn't written
 abbrev pub StopsFor : PrintFault → Cause → Cause → Type 0

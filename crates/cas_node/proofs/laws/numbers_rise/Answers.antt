@@ -1,8 +1,8 @@
-use Rattle.cas_node.proofs.NumbersRise.{nothing_rises, numbers_stay, all_are_read}
+use Rattle.cas_node.proofs.NumbersRise.{found_rise, numbers_stay, all_are_read}
 use Rattle.cas_node.proofs.laws.numbers_rise.Goals as goal
 
 pub returns-clause-begin : goal.returns-clause-begin
-returns-clause-begin g c = nothing_rises
+returns-clause-begin g c = found_rise
 
 pub returns-clause-stay : goal.returns-clause-stay
 returns-clause-stay g c clock = numbers_stay (g.C.Clock.may_give clock)

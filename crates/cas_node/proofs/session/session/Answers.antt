@@ -1,29 +1,33 @@
-use Rattle.std.proofs.Common.{arith, ap, sym, ◌∙◌, refl}
-use Rattle.cas_node.proofs.SessionLemmas.{so_far_none, so_far_more, ran_cut, ran_whole, empty_of, worst_is_no_write}
+use Rattle.std.proofs.Common.{rules, arith, subst, sym}
+use Rattle.cas_node.specs.Inner.Turns.{IsToldSo}
+use Rattle.cas_node.proofs.SessionLemmas.{all_so_far_none, all_so_far_more, all_ran_cut, worse_told}
 use Rattle.cas_node.proofs.session.session.Goals as goal
 
 pub loop-rest-init : goal.loop-rest-init
-loop-rest-init g c = record { so_far = so_far_none _ _ _ _ _; sound = c.requires.sound; place = omega arith; faults = omega arith; stalls = omega arith }
+loop-rest-init g c = record {
+  so_far = all_so_far_none c.args.ask.now.kind (g.C.Clock.may_give c.args.ask.now.clock.now) _ _ _ _;
+  sound = c.requires.sound;
+  told = tt;
+  few = omega (arith, c.requires.begun);
+  small = search rules;
+  faults = omega arith;
+  stalls = omega arith;
+}
 
 pub returns-in-Some-clause-ran : goal.returns-in-Some-clause-ran
 returns-in-Some-clause-ran g c =
-    ran_cut _ _ _ _ _ c.next_line.result.1.now _ _ _ _ _ _ _ _ _ _ _ _ _ c.loop-rest.invariant.so_far c.next_line.ensures.lines c.take_turn-turn.ensures.turned
-    c.in-Some.is c.worse-cause.ensures c.cut_short.ensures.cause
+    all_ran_cut c.args.ask.now.kind (g.C.Clock.may_give c.args.ask.now.clock.now) _ _ _ _ _ _ _ _ c.next_line.result.1.now _ _ _ _ _ _ _ _ _ _
+    c.loop-rest.invariant.so_far c.next_line.ensures.lines c.take_turn-turn.ensures.turned c.in-Some.is c.worse-cause.ensures c.cut_short.ensures.cause
 
 pub loop-rest-preserved : goal.loop-rest-preserved
 loop-rest-preserved g c = record {
   so_far =
-      so_far_more _ _ _ _ _ _ _ _ _ _ _ _ _ _ _ _ _ _ c.loop-rest.invariant.so_far c.next_line.ensures.lines c.take_turn-turn.ensures.turned
-      c.in_default.is c.worse-cause.ensures refl;
+      all_so_far_more c.args.ask.now.kind (g.C.Clock.may_give c.args.ask.now.clock.now) _ _ _ _ _ _ _ _ _ _ _ _ _ _ _ _ _
+      c.loop-rest.invariant.so_far c.next_line.ensures.lines c.take_turn-turn.ensures.turned c.in_default.is c.worse-cause.ensures;
   sound = c.take_turn-turn.ensures.sound;
-  place = omega (arith, c.loop-rest.invariant.place, c.next_line.ensures.shorter);
+  told = subst IsToldSo (sym c.worse-cause.ensures) (worse_told _ _ c.loop-rest.invariant.told c.take_turn-turn.ensures.told);
+  few = omega (arith, c.loop-rest.invariant.few, c.next_line.ensures.shorter, c.take_turn-turn.ensures.few);
+  small = c.loop-rest.invariant.small;
   faults = omega (arith, c.loop-rest.invariant.faults, c.take_turn-turn.ensures.faults);
   stalls = omega (arith, c.loop-rest.invariant.stalls, c.take_turn-turn.ensures.stalls);
 }
-
-pub returns-clause-write : goal.returns-clause-write
-returns-clause-write g c = λ e. absurd (worst_is_no_write c.loop-rest.invariant.so_far.replies (sym c.loop-rest.invariant.so_far.told ∙ e))
-
-pub returns-clause-ran : goal.returns-clause-ran
-returns-clause-ran g c =
-    ran_whole _ _ _ _ _ _ _ _ _ _ c.loop-rest.invariant.so_far (empty_of c.loop-rest.rest.now (sym c.is_empty.ensures ∙ c.loop-rest-test.false))

@@ -1,0 +1,136 @@
+-- What a line does with a store, from what its parts do.
+use Rattle.std.proofs.Common.{◌≡◌, ◌≤◌, arith, inl, inr, ℕ, ℤ, List, Some, Ok, refl, sym, ap, ◌∙◌, subst}
+use Rattle.cas_types.specs.Limits.{IsMoment}
+use Rattle.cas_types.specs.declared.schema.TableSchema.{TableSchema}
+use Rattle.cas_disk.specs.Disk.{Disk}
+use Rattle.cas_bind.specs.Meaning.{meaning}
+use Rattle.cas_bind.specs.Tables.{AreTables, tables_after}
+use Rattle.cas_bind.specs.declared.bound.Bound.{Bound}
+use Rattle.cas_bind.specs.declared.bound.Bound.TheVariants as bound
+use Rattle.cas_bind.specs.declared.bound.BoundRead.{BoundRead}
+use Rattle.cas_changes.specs.Saying.{Saying, nothing}
+use Rattle.cas_lines.specs.Lines.{Says}
+use Rattle.cas_lines.specs.declared.line.Line.{Line}
+use Rattle.cas_lines.specs.declared.line.Line.TheVariants as line
+use Rattle.cas_lines.proofs.LineReading.{clock_is_moment}
+use Rattle.cas_render.specs.declared.reply.Reply.{Reply}
+use Rattle.cas_render.specs.declared.reply.Reply.TheVariants as reply
+use Rattle.cas_words.specs.declared.words.ClockKind.{ClockKind}
+use Rattle.cas_words.specs.declared.words.ClockKind.TheVariants as clock
+use Rattle.cql_parse.specs.declared.syntax.Statement.{Statement}
+use Rattle.define_laws.proofs.Telling.{defined_tables_may_be_told, defined_columns_may_be_told}
+use Rattle.cas_node.specs.History.{History, Answers, Does, IsReading, SetsClock, Shows, after_read, shard_at}
+use Rattle.cas_node.specs.Inner.Definitions.{IsSpelled, IsTold}
+use Rattle.cas_node.specs.Inner.State.{State, StandsFor}
+use Rattle.cas_node.specs.Inner.Turns.{GoesOnTo, Moves, OrWant}
+
+-- ---- moves
+
+-- what follows one way follows another
+pub moves_as : (s t : State) (d e : Disk) (P Q : History → History → Type 0) → Moves P s t d e → ((h after : History) → StandsFor h s → P h after → Q h after) → Moves Q s t d e
+moves_as s t d e P Q moves so h stands =
+    let (after, follows, goes) = moves h stands in
+    (after, so h after stands follows, goes)
+
+-- ---- a statement that was bound
+
+module _ (kind : ClockKind) (Gives : ℤ → Type 0) where
+  pub does_read : (s t : State) (d e : Disk) (seconds reading at : ℤ) (b : Bound) (q : BoundRead) (r : Reply)
+      → Moves (λ h after. Shows (shard_at h q.shard) at q r × (after ≡ after_read h q.shard at)) s t d e
+      → IsReading kind Gives seconds reading → seconds ≡ s.clock → at ≡ reading → b ≡ bound.Read q
+      → Moves (λ h after. Does kind Gives h (Ok b) r after) s t d e
+  does_read s t d e seconds reading at b q r moves given same is of h stands =
+      let (after, so, goes) = moves h stands in
+      let given_at : IsReading kind Gives h.clock at =
+      subst (λ n. IsReading kind Gives h.clock n) (sym is) (subst (λ c. IsReading kind Gives c reading) (same ∙ sym stands.clock) given) in
+      (after, subst (λ x. Does kind Gives h (Ok x) r after) (sym of) (at, given_at, so.0, so.1), goes)
+
+  -- ---- a line
+
+  pub answers_clock : (s t : State) (d e : Disk) (text : List ℕ) (l : Line) (n m : ℤ) (r : Reply)
+      → Moves (λ h after. SetsClock kind h m r after) s t d e → m ≡ n → Says text l → l ≡ line.Clock n → Moves (λ h after. Answers kind Gives h text (Some r) after) s t d e
+  answers_clock s t d e text l n m r moves same says is h stands =
+      let (after, so, goes) = moves h stands in
+      (after, inr (line.Clock n, subst (λ l. Says text l) is says, (r, refl, subst (λ k. SetsClock kind h k r after) same so)), goes)
+
+  pub answers_statement : (s t : State) (d e : Disk) (text : List ℕ) (l : Line) (x : Statement) (r : Reply) → Says text l → l ≡ line.Statement x
+      → Moves (λ h after. OrWant r (λ h after. Does kind Gives h (meaning s.limits.shards s.tables x) r after) h after) s t d e
+      → Moves (λ h after. Answers kind Gives h text (Some r) after) s t d e
+  answers_statement s t d e text l x r says is moves =
+      moves_as s t d e (λ h after. OrWant r (λ h after. Does kind Gives h (meaning s.limits.shards s.tables x) r after) h after)
+      (λ h after. Answers kind Gives h text (Some r) after) moves answers
+    where
+      answers : (h after : History) → StandsFor h s → OrWant r (λ h after. Does kind Gives h (meaning s.limits.shards s.tables x) r after) h after
+          → Answers kind Gives h text (Some r) after
+      answers h after stands (inl want) = inl (ap (λ q. Some q) want.0, want.1)
+      answers h after stands (inr does) =
+          let of : Does kind Gives h (meaning h.limits.shards h.tables x) r after =
+          subst (λ l. Does kind Gives h (meaning l.shards h.tables x) r after) (sym stands.limits)
+          (subst (λ ts. Does kind Gives h (meaning s.limits.shards ts x) r after) (sym stands.tables) does) in
+          inr (line.Statement x, subst (λ l. Says text l) is says, (r, refl, of))
+
+-- ---- the clock
+
+pub says_moment : (text : List ℕ) (l : Line) (n m : ℤ) → m ≡ n → Says text l → l ≡ line.Clock n → IsMoment m
+says_moment text l n m same says is = subst IsMoment (sym same) (clock_is_moment text n (subst (λ l. Says text l) is says))
+
+pub says_spelled : (text : List ℕ) (l : Line) (x : Statement) → Says text l → l ≡ line.Statement x → IsSpelled x
+says_spelled text l x says is =
+    let so : Says text (line.Statement x) = subst (λ l. Says text l) is says in
+    (text, so.1.0, so.1.2)
+
+with_clock : (h : History) (s : State) (n : ℤ) (d : Disk) → StandsFor h s → GoesOnTo h (record h { clock = n }) s (record s { clock = n }) d d
+with_clock h s n d stands = record {
+  stands = record {
+    limits = stands.limits;
+    tables = stands.tables;
+    clock = refl;
+    session = stands.session;
+    calls = stands.calls;
+    disk = stands.disk;
+    count = stands.count;
+    shards = stands.shards;
+    entered = stands.entered;
+  };
+  lasts = λ found told lasts. (
+    told,
+    record {
+      keeps = lasts.keeps;
+      tables = lasts.tables;
+      shards = lasts.shards;
+      few = lasts.few;
+      ordered = lasts.ordered;
+      next = lasts.next;
+      counted = lasts.counted;
+      written = lasts.written;
+      acknowledged = lasts.acknowledged;
+      whole = lasts.whole;
+    },
+  );
+}
+
+pub sets_clock : (kind : ClockKind) (s : State) (n m : ℤ) (d : Disk) → kind ≡ clock.Manual → m ≡ n
+    → Moves (λ h after. SetsClock kind h n reply.Done after) s (record s { clock = m }) d d
+sets_clock kind s n m d is same h stands =
+    (record h { clock = m }, subst (λ k. SetsClock k h n reply.Done (record h { clock = m })) (sym is) (refl, ap (λ k. record h { clock = k }) same), with_clock h s m d stands)
+
+-- ---- what a statement defines may be told to the manifest
+
+bound_is_told : (shards : ℕ) (tables : List TableSchema) (x : Statement) (b : Bound) → IsSpelled x → AreTables tables → meaning shards tables x ≡ Ok b
+    → AreTables (tables_after tables b) → IsTold tables b
+bound_is_told shards tables x (bound.Create t) (source, tokens, means) are is kept = record {
+  tells = λ said same some. defined_tables_may_be_told source tokens x means shards tables t is said same some;
+  kept = kept;
+}
+bound_is_told shards tables x (bound.Alter a) (source, tokens, means) are is kept =
+    let told = λ (said : Saying) (same : said.tables ≡ tables) (some : 1 ≤ said.shards).
+    defined_columns_may_be_told source tokens x means shards tables a are is said same some in
+    ((told (record nothing { shards = 1; tables = tables }) refl (omega arith)).0, record { tells = λ said same some. (told said same some).1; kept = kept })
+bound_is_told shards tables x (bound.Write w) spelled are is kept = tt
+bound_is_told shards tables x (bound.Read r) spelled are is kept = tt
+
+-- where they are also called otherwise
+pub bound_told : (shards : ℕ) (tables same : List TableSchema) (x : Statement) (b : Bound) → same ≡ tables → IsSpelled x → AreTables tables → meaning shards same x ≡ Ok b
+    → AreTables (tables_after same b) → IsTold tables b
+bound_told shards tables same x b e spelled are is kept =
+    bound_is_told shards tables x b spelled are (subst (λ ts. meaning shards ts x ≡ Ok b) e is) (subst (λ ts. AreTables (tables_after ts b)) e kept)

@@ -1,0 +1,74 @@
+//! The seats of a run in its one history: of its room, its shards, and the session that runs the lines.
+
+ghost use Rattle.std.specs.Prelude.{◌≡◌, ◌≤◌, ◌<◌, [], length, map, IfOk};
+ghost use Rattle.cas_history.specs.Items.{listed, log_list};
+ghost use Rattle.cas_ledger.specs.Hands.{numbers};
+
+use cas_history::{Faults, Front, Item, Log, Numbers, Session};
+use cas_ledger::{Opened as Table, Store};
+use cas_lifecycle::Maker;
+use cas_room::Event;
+use cas_shard::Shard;
+use cas_types::Mem;
+use std::alloc::Global;
+
+/// The seats of a run, before anything was accepted.
+#[derive(Drop)]
+pub(crate) struct Seats<J: Store> {
+    pub log: Log<Event, J>,
+    pub faults: Faults<Event, J>,
+    pub numbers: Numbers<Event, J>,
+    pub fronts: Vec<Front<Event, J>>,
+    pub session: Session<Event, J>,
+}
+
+// A seat for each shard, with its last number.
+fn fronts<J: Store>(
+    alloc: Global,
+    maker: &mut Maker<Event, J>,
+    shards: &[Shard],
+) -> Result<Vec<Front<Event, J>>, Mem>
+    requires next { maker.old.next ≤ 16 }
+    requires few { length shards.now ≤ 16 }
+    ensures places { IfOk result (λ v. map (λ f. f.shard) v.items ≡ numbers 0 (length shards.now)) }
+    ensures numbers { IfOk result (λ v. map (λ f. f.number) v.items ≡ map (λ x. x.number) shards.now) }
+    ensures next { maker.new.next ≤ 32 }
+    ensures out { maker.new.out ≡ maker.old.out }
+{
+    let mut fronts = Vec::new(alloc);
+    for place in 0..shards.len() as u64 {
+        let fresh = maker.fresh(16 + place)?;
+        let number = shards[place as usize].number();
+        fronts.push(Front::new(fresh, place, number))?;
+    }
+    Ok(fronts)
+}
+
+/// The seats of a run over these shards.
+pub(crate) fn make_seats<J: Store>(
+    alloc: Global,
+    table: Table<Item<Event>>,
+    shards: &[Shard],
+) -> Result<Seats<J>, Mem>
+    requires table { table.seat.table_id ≡ J.table }
+    requires few { length shards.now ≤ 16 }
+    ensures log { IfOk result (λ s. listed log_list s.log.pass.saw ≡ []) }
+    ensures faults { IfOk result (λ s. (s.faults.number ≡ 0) × (s.faults.committed ≡ 0) × (s.faults.first ≡ 0)) }
+    ensures places { IfOk result (λ s. map (λ f. f.shard) s.fronts.items ≡ numbers 0 (length shards.now)) }
+    ensures numbers { IfOk result (λ s. map (λ f. f.number) s.fronts.items ≡ map (λ x. x.number) shards.now) }
+    ensures session { IfOk result (λ s. s.session.calls ≡ 0) }
+{
+    let mut maker = Maker::first(table);
+    let log = Log::new(maker.fresh(0)?);
+    let faults = Faults::new(maker.fresh(1)?);
+    let numbers = Numbers::new(maker.fresh(2)?, 0);
+    let fronts = fronts(alloc, &mut maker, shards)?;
+    let session = maker.session()?;
+    Ok(Seats {
+        log,
+        faults,
+        numbers,
+        fronts,
+        session,
+    })
+}
