@@ -1,5 +1,5 @@
 -- What a line does with a store, from what its parts do.
-use Rattle.std.proofs.Common.{◌≡◌, ◌≤◌, arith, inl, inr, ℕ, ℤ, List, Some, Ok, refl, sym, ap, ◌∙◌, subst}
+use Rattle.std.proofs.Common.{◌≡◌, ◌≤◌, arith, inl, inr, ℕ, ℤ, List, Some, Result, Ok, refl, sym, ap, ◌∙◌, subst}
 use Rattle.cas_types.specs.Limits.{IsMoment}
 use Rattle.cas_types.specs.declared.schema.TableSchema.{TableSchema}
 use Rattle.cas_disk.specs.Disk.{Disk}
@@ -8,6 +8,10 @@ use Rattle.cas_bind.specs.Tables.{AreTables, tables_after}
 use Rattle.cas_bind.specs.declared.bound.Bound.{Bound}
 use Rattle.cas_bind.specs.declared.bound.Bound.TheVariants as bound
 use Rattle.cas_bind.specs.declared.bound.BoundRead.{BoundRead}
+use Rattle.cas_changes.specs.declared.entry.Entry.TheVariants.{Schema, AddColumns}
+use Rattle.cas_define.specs.declared.addition.Addition.{Addition}
+use Rattle.cas_effects.specs.declared.effect.BoundWrite.{BoundWrite}
+use Rattle.cas_effects.specs.declared.refusal.Refusal.{Refusal}
 use Rattle.cas_changes.specs.Saying.{Saying, nothing}
 use Rattle.cas_lines.specs.Lines.{Says}
 use Rattle.cas_lines.specs.declared.line.Line.{Line}
@@ -19,10 +23,11 @@ use Rattle.cas_words.specs.declared.words.ClockKind.{ClockKind}
 use Rattle.cas_words.specs.declared.words.ClockKind.TheVariants as clock
 use Rattle.cql_parse.specs.declared.syntax.Statement.{Statement}
 use Rattle.define_laws.proofs.Telling.{defined_tables_may_be_told, defined_columns_may_be_told}
-use Rattle.cas_node.specs.History.{History, Answers, Does, IsReading, SetsClock, Shows, after_read, shard_at}
+use Rattle.cas_node.specs.History.{History, Answers, Changes, Does, IsReading, SetsClock, Shows, WritesAt, after_read, shard_at}
+use Rattle.cas_node.specs.Inner.Turns.{StandsAt}
 use Rattle.cas_node.specs.Inner.Definitions.{IsSpelled, IsTold}
-use Rattle.cas_node.specs.Inner.State.{State, StandsFor}
-use Rattle.cas_node.specs.Inner.Turns.{GoesOnTo, Moves, OrWant}
+use Rattle.cas_node.specs.Nodes.{State, StandsFor}
+use Rattle.cas_node.specs.Nodes.{GoesOnTo, Moves, OrWant}
 
 -- ---- moves
 
@@ -32,18 +37,60 @@ moves_as s t d e P Q moves so h stands =
     let (after, follows, goes) = moves h stands in
     (after, so h after stands follows, goes)
 
+-- ---- the clock
+
+-- a statement isn't kept from being performed at the seconds that the manual clock was set to
+pub stands_at : (kind : ClockKind) (seconds at : ℤ) → at ≡ seconds → StandsAt kind seconds at
+stands_at clock.Manual seconds at same = same
+stands_at clock.System seconds at same = tt
+
+-- the same seconds, called otherwise
+pub stands_as : (kind : ClockKind) (a b at : ℤ) → b ≡ a → StandsAt kind a at → StandsAt kind b at
+stands_as kind a b at same stands = subst (λ k. StandsAt kind k at) (sym same) stands
+
+reading_at : (kind : ClockKind) (Gives : ℤ → Type 0) (seconds at reading : ℤ) → StandsAt kind seconds at → IsReading kind Gives seconds reading
+    → IsReading kind Gives at reading
+reading_at clock.Manual Gives seconds at reading same given = subst (λ n. IsReading clock.Manual Gives n reading) (sym same) given
+reading_at clock.System Gives seconds at reading same given = given
+
 -- ---- a statement that was bound
 
 module _ (kind : ClockKind) (Gives : ℤ → Type 0) where
-  pub does_read : (s t : State) (d e : Disk) (seconds reading at : ℤ) (b : Bound) (q : BoundRead) (r : Reply)
-      → Moves (λ h after. Shows (shard_at h q.shard) at q r × (after ≡ after_read h q.shard at)) s t d e
-      → IsReading kind Gives seconds reading → seconds ≡ s.clock → at ≡ reading → b ≡ bound.Read q
-      → Moves (λ h after. Does kind Gives h (Ok b) r after) s t d e
-  does_read s t d e seconds reading at b q r moves given same is of h stands =
+  at_clock : (s : State) (seconds at reading n : ℤ) (h : History) → StandsFor h s → StandsAt kind seconds s.clock → at ≡ seconds → IsReading kind Gives at reading
+      → n ≡ reading → IsReading kind Gives h.clock n
+  at_clock s seconds at reading n h stands there same given is =
+      subst (λ k. IsReading kind Gives h.clock k) (sym is)
+      (subst (λ c. IsReading kind Gives c reading) (sym stands.clock)
+      (reading_at kind Gives seconds s.clock reading there (subst (λ c. IsReading kind Gives c reading) same given)))
+
+  pub does_read : (s t : State) (d e : Disk) (seconds at reading n : ℤ) (b : Bound) (q : BoundRead) (r : Reply)
+      → Moves (λ h after. Shows (shard_at h q.shard) n q r × (after ≡ after_read h q.shard n)) s t d e → b ≡ bound.Read q
+      → StandsAt kind seconds s.clock → at ≡ seconds → IsReading kind Gives at reading → n ≡ reading → Moves (λ h after. Does kind Gives h (Ok b) r after) s t d e
+  does_read s t d e seconds at reading n b q r moves of there same given is h stands =
       let (after, so, goes) = moves h stands in
-      let given_at : IsReading kind Gives h.clock at =
-      subst (λ n. IsReading kind Gives h.clock n) (sym is) (subst (λ c. IsReading kind Gives c reading) (same ∙ sym stands.clock) given) in
-      (after, subst (λ x. Does kind Gives h (Ok x) r after) (sym of) (at, given_at, so.0, so.1), goes)
+      (after, subst (λ x. Does kind Gives h (Ok x) r after) (sym of) (n, at_clock s seconds at reading n h stands there same given is, so.0, so.1), goes)
+
+  pub does_write : (s t : State) (d e : Disk) (seconds at reading n : ℤ) (b : Bound) (w : BoundWrite) (r : Reply) → Moves (λ h after. WritesAt h n w r after) s t d e
+      → b ≡ bound.Write w → StandsAt kind seconds s.clock → at ≡ seconds → IsReading kind Gives at reading → n ≡ reading
+      → Moves (λ h after. Does kind Gives h (Ok b) r after) s t d e
+  does_write s t d e seconds at reading n b w r moves of there same given is h stands =
+      let (after, so, goes) = moves h stands in
+      (after, subst (λ x. Does kind Gives h (Ok x) r after) (sym of) (n, at_clock s seconds at reading n h stands there same given is, so), goes)
+
+  -- a statement that was bound to this is performed, and memory didn't run out before
+  pub does_bound : (s t : State) (d e : Disk) (m : Result Bound Refusal) (b : Bound) (r : Reply) → Moves (λ h after. Does kind Gives h (Ok b) r after) s t d e → m ≡ Ok b
+      → Moves (λ h after. OrWant r (λ h after. Does kind Gives h m r after) h after) s t d e
+  does_bound s t d e m b r moves is h stands =
+      let (after, so, goes) = moves h stands in
+      (after, inr (subst (λ k. Does kind Gives h k r after) (sym is) so), goes)
+
+  pub does_create : (s t : State) (d e : Disk) (b : Bound) (x : TableSchema) (r : Reply) → b ≡ bound.Create x
+      → Moves (λ h after. Changes h (Schema x) (bound.Create x) r after) s t d e → Moves (λ h after. Does kind Gives h (Ok b) r after) s t d e
+  does_create s t d e b x r of moves = subst (λ y. Moves (λ h after. Does kind Gives h (Ok y) r after) s t d e) (sym of) moves
+
+  pub does_alter : (s t : State) (d e : Disk) (b : Bound) (a : Addition) (r : Reply) → b ≡ bound.Alter a
+      → Moves (λ h after. Changes h (AddColumns a.table a.columns) (bound.Alter a) r after) s t d e → Moves (λ h after. Does kind Gives h (Ok b) r after) s t d e
+  does_alter s t d e b a r of moves = subst (λ y. Moves (λ h after. Does kind Gives h (Ok y) r after) s t d e) (sym of) moves
 
   -- ---- a line
 
@@ -53,12 +100,12 @@ module _ (kind : ClockKind) (Gives : ℤ → Type 0) where
       let (after, so, goes) = moves h stands in
       (after, inr (line.Clock n, subst (λ l. Says text l) is says, (r, refl, subst (λ k. SetsClock kind h k r after) same so)), goes)
 
-  pub answers_statement : (s t : State) (d e : Disk) (text : List ℕ) (l : Line) (x : Statement) (r : Reply) → Says text l → l ≡ line.Statement x
-      → Moves (λ h after. OrWant r (λ h after. Does kind Gives h (meaning s.limits.shards s.tables x) r after) h after) s t d e
+  pub answers_statement : (s t : State) (d e : Disk) (text : List ℕ) (l : Line) (x : Statement) (r q : Reply) → r ≡ q → Says text l → l ≡ line.Statement x
+      → Moves (λ h after. OrWant q (λ h after. Does kind Gives h (meaning s.limits.shards s.tables x) q after) h after) s t d e
       → Moves (λ h after. Answers kind Gives h text (Some r) after) s t d e
-  answers_statement s t d e text l x r says is moves =
+  answers_statement s t d e text l x r q told says is moves =
       moves_as s t d e (λ h after. OrWant r (λ h after. Does kind Gives h (meaning s.limits.shards s.tables x) r after) h after)
-      (λ h after. Answers kind Gives h text (Some r) after) moves answers
+      (λ h after. Answers kind Gives h text (Some r) after) (subst (λ p. Moves (λ h after. OrWant p (λ h after. Does kind Gives h (meaning s.limits.shards s.tables x) p after) h after) s t d e) (sym told) moves) answers
     where
       answers : (h after : History) → StandsFor h s → OrWant r (λ h after. Does kind Gives h (meaning s.limits.shards s.tables x) r after) h after
           → Answers kind Gives h text (Some r) after
@@ -102,7 +149,6 @@ with_clock h s n d stands = record {
       ordered = lasts.ordered;
       next = lasts.next;
       counted = lasts.counted;
-      written = lasts.written;
       acknowledged = lasts.acknowledged;
       whole = lasts.whole;
     },

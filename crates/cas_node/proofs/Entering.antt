@@ -2,7 +2,7 @@
 use Rattle.std.proofs.Common.{◌≡◌, ◌<◌, ◌≤◌, ◌+◌, ◌^◌, ◌/◌, ◌-◌, min, inl, inr, ℕ, ℤ, zero, suc, Bool, true, false, List, [], ◌∷◌, ◌++◌, length, map, Option, Some, None, Result, Ok, Err, is_some, refl, sym, ap, ◌∙◌, subst, arith}
 use Rattle.std.specs.Prelude.{slice_get, slice_set, slice_index_or, ◌⊎◌}
 use Rattle.std.proofs.lemmas.Option.{same_Some}
-use Rattle.cas_types.specs.Limits.{IsMoment, IsShardCount}
+use Rattle.cas_types.specs.Limits.{IsShardCount}
 use Rattle.cas_types.specs.declared.schema.TableSchema.{TableSchema}
 use Rattle.cas_io.specs.Causes.{Rose}
 use Rattle.cas_disk.specs.Disk.{Disk}
@@ -40,8 +40,10 @@ use Rattle.cas_shard.specs.declared.answers.TakeFault.TheVariants as fault
 use Rattle.cas_shard.specs.declared.shard.Shard.{Shard}
 use Rattle.cas_node.specs.History.{History, DiskState, Takes, WritesAt, Stays, acknowledges, after_entries, after_write, entry_of, shard_at}
 use Rattle.cas_node.specs.Entered.{entries_in}
-use Rattle.cas_node.specs.Inner.State.{State, StandsFor, LastsFor, IsSound, disk_of}
-use Rattle.cas_node.specs.Inner.Turns.{Moves, reply_for}
+use Rattle.cas_node.specs.Nodes.{State, StandsFor, LastsFor, disk_of}
+use Rattle.cas_node.specs.Inner.Sound.{IsSoundState}
+use Rattle.cas_node.specs.Nodes.{Moves}
+use Rattle.cas_node.specs.Inner.Turns.{reply_for}
 use Rattle.cas_node.proofs.Places.{get_within, get_map, index_here, length_set, map_set, map_set_same}
 use Rattle.cas_node.proofs.Moving.{none_more, one_more, with_entries, raised_is, stands_write}
 use Rattle.cas_node.proofs.Lasting.{lasts_still, may_be_taken, lasts_with_room, lasts_taken}
@@ -99,7 +101,7 @@ prepared_is (Some x) m p e = (cc, cc)
 
 -- What is known when a shard was asked to prepare a write: it stood in its place, and what it gave.
 pub record Asked (s : State) (w : BoundWrite) (reading : ℤ) (x y : Shard) (result : Result Mutation TakeFault) : Type 0 where
-  pub sound : IsSound s
+  pub sound : IsSoundState s
   pub within : w.shard < s.limits.shards
   pub fits : BoundFits s.limits.shards s.tables (bound.Write w)
   pub seat : x ≡ slice_index_or s.shards w.shard x
@@ -171,7 +173,7 @@ module _ (s : State) (w : BoundWrite) (reading : ℤ) (x y : Shard) (result : Re
             told,
             lasts_still h after found s (prepared_only s w.shard y) d d told w.shard x y (omega (arith, quiet)) (there s w reading x y result asked) refl asked.number
                 (λ l el c ec keeps. subst (λ j. Keeps s.journal d l j found told) (sym ec) (subst (λ j. Keeps s.journal d j s.committed found told) (sym el) keeps))
-                refl refl refl refl refl refl (λ on. on) lasts,
+                refl refl refl refl refl (λ on. on) lasts,
           );
         },
       )
@@ -189,17 +191,6 @@ module _ (s : State) (w : BoundWrite) (reading : ℤ) (x y : Shard) (result : Re
   pub starved_at_once : Moves (λ h after. WritesAt h reading w (reply.Failed failure.Memory) after) s (prepared_only s w.shard y) d d
   starved_at_once =
       at_once (reply.Failed failure.Memory) refl (λ h stands. (refl, subst (λ e. Stays e (disk_of s)) (sym stands.disk) (stays_same (disk_of s))))
-
-  pub sound_at_once : IsSound (prepared_only s w.shard y)
-  sound_at_once = record {
-    tables = asked.sound.tables;
-    count = length_set s.shards w.shard y ∙ asked.sound.count;
-    some = asked.sound.some;
-    clock = asked.sound.clock;
-    size = asked.sound.size;
-    places = asked.sound.places;
-    numbers = asked.sound.numbers ∙ sym (map_set_same (λ (z : Shard). z.number) s.shards w.shard x y (there s w reading x y result asked) asked.number);
-  }
 
 -- ---- a write that the room didn't take
 
@@ -322,7 +313,7 @@ module _ (s : State) (w : BoundWrite) (reading : ℤ) (x y : Shard) (result : Re
   half_of : (long size : ℕ) → long ≤ size / 2 → size ≤ 2 ^ 25 → long < 2 ^ 32
   half_of long size short most = omega (arith, short, most)
 
-  may_take : (h : History) (found : List Mutation) (d : Disk) (told : Told) → LastsFor h found s d told → MayTake told m
+  pub may_take : (h : History) (found : List Mutation) (d : Disk) (told : Told) → LastsFor h found s d told → MayTake told m
   may_take h found d told lasts =
       may_be_taken h found s d told m table x lasts (subst (λ (k : ℕ). slice_get s.tables k ≡ Some table) (sym ready.table) asked.fits.1) fits
       (half_of (record_length m) s.limits.segment ready.short asked.sound.size.1.1)
@@ -357,7 +348,7 @@ module _ (s : State) (w : BoundWrite) (reading : ℤ) (x y : Shard) (result : Re
                   let got = left.keeps found was lasts.keeps (may_take h found d was lasts) in (
                     got.0,
                     lasts_with_room h after found s t d e was got.0 w.shard x y (omega (arith, quiet f)) at left.shards asked.number got.1 got.2 left.list left.committed
-                        left.tables left.limits left.accepted left.calls
+                        left.tables left.limits left.accepted
                         (going_since f s.journal.first t.journal.first s.faults t.faults (record_length m) (s.journal.size / 2) left.ends short_for) lasts,
                   );
             },
@@ -416,7 +407,7 @@ pub record Took (s t : State) (d e : Disk) (w : BoundWrite) (y yy z : Shard) (m 
   pub clock : t.clock ≡ s.clock
   pub session : t.session ≡ s.session
   pub calls : t.calls ≡ s.calls + 1
-  pub few : s.calls + 1 < 2 ^ 64
+  pub few : s.accepted + 1 < 2 ^ 64
   pub list : t.list ≡ s.list ++ Wrote m.shard s.session (s.calls + 1) m.number (event.Accepted m) ∷ []
   pub accepted : t.accepted ≡ min (s.accepted + 1) (2 ^ 64 - 1)
   pub stands : (tables : List TableSchema) (shards : ℕ) (q : ShardHistory) (session call : ℕ) → Stands tables q yy → Belongs tables shards m
@@ -496,7 +487,7 @@ module _ (s : State) (w : BoundWrite) (reading : ℤ) (x y : Shard) (result : Re
                 got.1,
                 lasts_taken h after found s t d e was got.0 got.1 m x z (subst (λ (k : ℕ). slice_get s.shards k ≡ Some x) (sym ready.shard) at_x)
                     (subst (λ (k : ℕ). t.shards ≡ slice_set s.shards k z) (sym ready.shard) shards_now) (next s w reading x y result asked m is prepared ready) left.number
-                    got.2 got.3 got.4 got.5 lasts s.session (s.calls + 1) left.list left.tables left.limits left.accepted left.calls left.few got.6
+                    got.2 got.3 got.4 got.5 lasts s.session (s.calls + 1) left.list left.tables left.limits left.accepted left.few got.6
                     (omega (arith, one)) (acked h after either refl) going,
               );
         },
@@ -542,22 +533,3 @@ module _ (s : State) (w : BoundWrite) (reading : ℤ) (x y : Shard) (result : Re
           reach = goes;
         },
       )) (inl (refl, more)) (λ on. absurd (on_and_off t.journal.first off.1 on))
-
--- a store with one shard in another state, and its seat
-pub sound_with : {X : Type 0} (s t : State) (place count : X → ℕ) (fs : List X) (n : ℕ) (f g : X) (z : Shard) → IsSound s → s.places ≡ map place fs
-    → s.numbers ≡ map count fs → slice_get fs n ≡ Some f → place g ≡ place f → count g ≡ z.number → t.shards ≡ slice_set s.shards n z
-    → t.places ≡ map place (slice_set fs n g) → t.numbers ≡ map count (slice_set fs n g) → t.limits ≡ s.limits → t.tables ≡ s.tables → t.clock ≡ s.clock
-    → t.journal.size ≡ s.journal.size → IsSound t
-sound_with s t place count fs n f g z sound places_are numbers_are at_f same_place its_number shards places_now numbers_now limits tables clock size = record {
-  tables = subst AreTables (sym tables) sound.tables;
-  count = ap length shards ∙ length_set s.shards n z ∙ sound.count ∙ ap (λ (l : Limits). l.shards) (sym limits);
-  some = subst (λ (l : Limits). IsShardCount l.shards) (sym limits) sound.some;
-  clock = subst IsMoment (sym clock) sound.clock;
-  size = (size ∙ sound.size.0 ∙ ap (λ (l : Limits). l.segment) (sym limits), subst (λ (l : Limits). IsSize l.segment) (sym limits) sound.size.1);
-  places =
-      places_now ∙ map_set_same place fs n f g at_f same_place ∙ sym places_are ∙ sound.places ∙ ap (λ (l : Limits). numbers 0 l.shards) (sym limits);
-  numbers =
-      numbers_now ∙ map_set count fs n g ∙ ap (λ ns. slice_set ns n (count g)) (sym numbers_are ∙ sound.numbers)
-      ∙ ap (λ (k : ℕ). slice_set (map (λ (q : Shard). q.number) s.shards) n k) its_number ∙ sym (map_set (λ (q : Shard). q.number) s.shards n z)
-      ∙ ap (map (λ (q : Shard). q.number)) (sym shards);
-}

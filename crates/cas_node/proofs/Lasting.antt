@@ -25,7 +25,7 @@ use Rattle.cas_room.specs.Rooms.{accepted_in, mutation_of}
 use Rattle.cas_shard.specs.declared.shard.Shard.{Shard}
 use Rattle.define_laws.proofs.Telling.{named_segments_define_nothing}
 use Rattle.cas_node.specs.History.{History}
-use Rattle.cas_node.specs.Inner.State.{State, LastsFor}
+use Rattle.cas_node.specs.Nodes.{State, LastsFor}
 use Rattle.cas_node.proofs.Places.{same_place, get_here, get_other}
 
 -- ---- lists
@@ -60,10 +60,10 @@ same_next s t n x y told there shards same next k z got = ⊎_elim here elsewher
 pub lasts_still : (h k : History) (found : List Mutation) (s t : State) (d e : Disk) (told : Told) (n : ℕ) (x y : Shard) → k.acknowledged ≡ h.acknowledged
     → slice_get s.shards n ≡ Some x → t.shards ≡ slice_set s.shards n y → y.number ≡ x.number
     → ((l : List (Item Event)) → l ≡ s.list → (c : ℕ) → c ≡ s.committed → Keeps s.journal d s.list s.committed found told → Keeps t.journal e l c found told)
-    → t.list ≡ s.list → t.committed ≡ s.committed → t.tables ≡ s.tables → t.limits ≡ s.limits → t.accepted ≡ s.accepted → t.calls ≡ s.calls
+    → t.list ≡ s.list → t.committed ≡ s.committed → t.tables ≡ s.tables → t.limits ≡ s.limits → t.accepted ≡ s.accepted
     → (is_some t.journal.first ≡ false → is_some s.journal.first ≡ false)
     → LastsFor h found s d told → LastsFor k found t e told
-lasts_still h k found s t d e told n x y acks there shards same keeps list committed tables limits accepted calls going lasts = record {
+lasts_still h k found s t d e told n x y acks there shards same keeps list committed tables limits accepted going lasts = record {
   keeps = keeps t.list list t.committed committed lasts.keeps;
   tables = lasts.tables ∙ sym tables;
   shards = lasts.shards ∙ ap (λ l. l.shards) (sym limits);
@@ -71,7 +71,6 @@ lasts_still h k found s t d e told n x y acks there shards same keeps list commi
   ordered = lasts.ordered;
   next = same_next s t n x y told.taken there shards same lasts.next;
   counted = omega (arith, lasts.counted, accepted, ap (λ l. length (accepted_in l)) list);
-  written = omega (arith, lasts.written, calls, ap (λ l. length (accepted_in l)) list);
   acknowledged = (omega (arith, lasts.acknowledged.0, acks, committed), omega (arith, lasts.acknowledged.1, acks, ap (λ l. length (accepted_in l)) list));
   whole = λ on. let all = lasts.whole (going on) in omega (arith, all, committed, ap (λ l. length (accepted_in l)) list);
 }
@@ -94,16 +93,16 @@ may_be_taken h found s d t m table x lasts there fits short seat number =
 
 -- ---- room that was made
 
-few_failed : (before now : List ManifestEntry) → FailedToName before now → length before ≤ 1 → length now ≤ 1
+pub few_failed : (before now : List ManifestEntry) → FailedToName before now → length before ≤ 1 → length now ≤ 1
 few_failed before now (inl same) few = subst (λ (es : List ManifestEntry). length es ≤ 1) (sym same) few
 few_failed before now (inr named) few = subst (λ (es : List ManifestEntry). length es ≤ 1) (sym named.1) (omega arith)
 
 pub lasts_with_room : (h k : History) (found : List Mutation) (s t : State) (d e : Disk) (told u : Told) (n : ℕ) (x y : Shard) → k.acknowledged ≡ h.acknowledged
     → slice_get s.shards n ≡ Some x → t.shards ≡ slice_set s.shards n y → y.number ≡ x.number → MadeRoom told u → Keeps t.journal e t.list t.committed found u
-    → t.list ≡ s.list → t.committed ≡ s.committed → t.tables ≡ s.tables → t.limits ≡ s.limits → t.accepted ≡ s.accepted → t.calls ≡ s.calls
+    → t.list ≡ s.list → t.committed ≡ s.committed → t.tables ≡ s.tables → t.limits ≡ s.limits → t.accepted ≡ s.accepted
     → (is_some t.journal.first ≡ false → is_some s.journal.first ≡ false)
     → LastsFor h found s d told → LastsFor k found t e u
-lasts_with_room h k found s t d e told u n x y acks there shards same made keeps list committed tables limits accepted calls going lasts =
+lasts_with_room h k found s t d e told u n x y acks there shards same made keeps list committed tables limits accepted going lasts =
     let defined = named_segments_define_nothing told.entries made.numbers in
     record {
       keeps = keeps;
@@ -115,7 +114,6 @@ lasts_with_room h k found s t d e told u n x y acks there shards same made keeps
           subst (λ ms. (j : ℕ) (z : Shard) → slice_get t.shards j ≡ Some z → AscendByOne (numbers_of j ms ++ (z.number + 1) ∷ [])) (sym made.taken)
           (same_next s t n x y told.taken there shards same lasts.next);
       counted = omega (arith, lasts.counted, accepted, ap (λ l. length (accepted_in l)) list);
-      written = omega (arith, lasts.written, calls, ap (λ l. length (accepted_in l)) list);
       acknowledged = (omega (arith, lasts.acknowledged.0, acks, committed), omega (arith, lasts.acknowledged.1, acks, ap (λ l. length (accepted_in l)) list));
       whole = λ on. let all = lasts.whole (going on) in omega (arith, all, committed, ap (λ l. length (accepted_in l)) list);
     }
@@ -155,13 +153,13 @@ module _ (h k : History) (found : List Mutation) (s t : State) (d e : Disk) (tol
           (lasts.next j z (sym (get_other s.shards m.shard j y other) ∙ got_set))
 
   pub lasts_taken : (session call : ℕ) → t.list ≡ s.list ++ Wrote m.shard session call m.number (event.Accepted m) ∷ [] → t.tables ≡ s.tables → t.limits ≡ s.limits
-      → t.accepted ≡ min (s.accepted + 1) (2 ^ 64 - 1) → t.calls ≡ s.calls + 1 → s.calls + 1 < 2 ^ 64 → Keeps t.journal e t.list t.committed found v
+      → t.accepted ≡ min (s.accepted + 1) (2 ^ 64 - 1) → s.accepted + 1 < 2 ^ 64 → Keeps t.journal e t.list t.committed found v
       → k.acknowledged ≤ h.acknowledged + 1 → (k.acknowledged ≤ h.acknowledged) × (s.committed ≤ t.committed) ⊎ (t.committed ≡ t.accepted)
       → (is_some t.journal.first ≡ false → t.committed ≡ t.accepted) → LastsFor k found t e v
-  lasts_taken session call list tables limits accepted calls room keeps acks either going =
+  lasts_taken session call list tables limits accepted room keeps acks either going =
       let defined = named_segments_define_nothing told.entries made.numbers in
       let longer : length (accepted_in t.list) ≡ length (accepted_in s.list) + 1 = ap (λ l. length (accepted_in l)) list ∙ one_accepted s.list m session call in
-      let counted : length (accepted_in s.list) + 1 ≤ t.accepted = counts (length (accepted_in s.list)) s.accepted t.accepted lasts.counted (omega (arith, lasts.written, room)) accepted in
+      let counted : length (accepted_in s.list) + 1 ≤ t.accepted = counts (length (accepted_in s.list)) s.accepted t.accepted lasts.counted (omega (arith, lasts.counted, room)) accepted in
       record {
         keeps = keeps;
         tables = ap (λ es. (said_by es).tables) (entries ∙ made.entries) ∙ defined.0 ∙ lasts.tables ∙ sym tables;
@@ -171,7 +169,6 @@ module _ (h k : History) (found : List Mutation) (s t : State) (d e : Disk) (tol
         next =
             subst (λ ms. (j : ℕ) (z : Shard) → slice_get t.shards j ≡ Some z → AscendByOne (numbers_of j ms ++ (z.number + 1) ∷ [])) (sym all) next_now;
         counted = omega (arith, longer, counted);
-        written = omega (arith, longer, lasts.written, calls);
         acknowledged = (acks_by either longer counted, omega (arith, longer, acks, lasts.acknowledged.1));
         whole = λ on. let same = going on in omega (arith, same, longer, counted);
       }

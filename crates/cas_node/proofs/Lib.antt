@@ -1,7 +1,12 @@
 mod Places
+mod Sounding
+mod Telling
+mod Idling
 mod Moving
 mod Answering
+mod Performing
 mod Lasting
+mod Crashing
 mod Entering
 mod Tables
 mod Serving

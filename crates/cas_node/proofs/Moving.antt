@@ -24,8 +24,9 @@ use Rattle.cas_shard.specs.Stands.{Stands}
 use Rattle.cas_shard.specs.declared.shard.Shard.{Shard}
 use Rattle.cas_node.specs.History.{History, Shows, after_entries, after_read, after_write, rows_reply, shard_at, with_shard}
 use Rattle.cas_node.specs.Entered.{entries_in, entry_in}
-use Rattle.cas_node.specs.Inner.State.{State, IsSound, StandsFor, disk_of}
-use Rattle.cas_node.specs.Inner.Turns.{Moves}
+use Rattle.cas_node.specs.Nodes.{State, StandsFor, disk_of}
+use Rattle.cas_node.specs.Inner.Sound.{IsSoundState}
+use Rattle.cas_node.specs.Nodes.{Moves}
 use Rattle.cas_node.proofs.Lasting.{lasts_still}
 use Rattle.cas_node.proofs.Places.{same_place, length_set, get_here, get_other, get_within, index_here, index_other, is_same, is_other, map_set_same}
 
@@ -163,18 +164,7 @@ moves_look s d q x y reading r there number raises shows h stands =
           lasts_still h (after_read h q.shard reading) found s (with_looked s q.shard y) d d told q.shard x y refl there refl number
               (λ l same c count keeps.
               subst (λ (ls : List (Item Event)). Keeps s.journal d ls c found told) (sym same) (subst (λ (k : ℕ). Keeps s.journal d s.list k found told) (sym count) keeps))
-              refl refl refl refl refl refl (λ on. on) lasts,
+              refl refl refl refl refl (λ on. on) lasts,
         );
       },
     )
-
-pub sound_look : (s : State) (n : ℕ) (x y : Shard) → slice_get s.shards n ≡ Some x → y.number ≡ x.number → IsSound s → IsSound (with_looked s n y)
-sound_look s n x y there number sound = record {
-  tables = sound.tables;
-  count = length_set s.shards n y ∙ sound.count;
-  some = sound.some;
-  clock = sound.clock;
-  size = sound.size;
-  places = sound.places;
-  numbers = sound.numbers ∙ sym (map_set_same (λ (z : Shard). z.number) s.shards n x y there number);
-}

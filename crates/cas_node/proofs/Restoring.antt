@@ -12,7 +12,7 @@ use Rattle.cas_shard.specs.Shards.{empty_shard, found_shard, restored}
 use Rattle.cas_shard.specs.Stands.{Belongs, Stands}
 use Rattle.cas_shard.specs.declared.shard.Shard.{Shard}
 use Rattle.cas_node.specs.Found.{found_in}
-use Rattle.cas_node.specs.Inner.Starts.{AreRestored}
+use Rattle.cas_node.specs.Starts.{AreRestored}
 use Rattle.cas_node.proofs.Founding.{Reads, found_reads, goes_on, is_above, log_reads, numbers_more, numbers_some, one_more}
 use Rattle.cas_node.proofs.Places.{get_here, get_other, is_other, is_same, same_place}
 

@@ -17,14 +17,13 @@ use Rattle.cas_bind.specs.declared.bound.Limits.{Limits}
 use Rattle.cas_changes.specs.Saying.{said_by}
 use Rattle.cas_changes.specs.declared.entry.Entry.{Entry as ManifestEntry}
 use Rattle.cas_history.specs.declared.item.Item.{Item}
-use Rattle.cas_journal.specs.Stores.{Told, MayList}
+use Rattle.cas_journal.specs.Journals.{Lasts}
+use Rattle.cas_journal.specs.Stores.{Told}
 use Rattle.cas_journal.specs.declared.journal.Journal.{Journal}
 use Rattle.cas_opening.specs.Opening.{IsOfBytes, OpensAs, next_segment}
 use Rattle.cas_opening.specs.declared.fault.OpenFault.{OpenFault}
 use Rattle.cas_opening.specs.declared.fault.OpenFault.TheVariants as open_fault
 use Rattle.cas_opening.proofs.Readings.{one_store, opens_not_bad}
-use Rattle.cas_room.specs.Keeping.{Keeps, StandsFor as ImageStands}
-use Rattle.cas_room.specs.Rooms.{accepted_in}
 use Rattle.cas_room.specs.declared.event.Event.{Event}
 use Rattle.cas_shard.specs.declared.shard.Shard.{Shard}
 use Rattle.cas_render.specs.declared.reply.Reply.{Reply}
@@ -40,56 +39,96 @@ use Rattle.cas_node.specs.History.{History, Runs}
 use Rattle.cas_node.specs.Found.{Begins, IsUnfit, IsUnflushed, start}
 use Rattle.cas_node.specs.Ran.{AllWell, Ended, GoodOrMem, IfBad, IsGranted, IsNotRun, Outside, Ran, RanAll, RanFrom, Stop, WriteRose, at_the_end, at_the_sink, for_memory, has_risen, reply_cause, with_faults, worse, worst}
 use Rattle.cas_node.specs.Inner.Serving.{Served, Serves}
-use Rattle.cas_node.specs.Inner.Starts.{IsInMemory, IsStarted, cause_of_opening}
-use Rattle.cas_node.specs.Inner.State.{State, disk_of}
-use Rattle.cas_node.specs.Inner.Turns.{IsEnd, Moves}
-use Rattle.cas_node.proofs.Serving.{first_lasts, first_stands, is_left}
+use Rattle.cas_node.specs.Entered.{IsLeft}
+use Rattle.cas_node.specs.Starts.{BeginsAs, IsInMemory, IsOpenedAs, IsStarted}
+use Rattle.cas_node.specs.Inner.Turns.{cause_of_opening}
+use Rattle.cas_node.specs.Nodes.{State, StandsFor, LastsFor, disk_of}
+use Rattle.cas_node.specs.Nodes.{Moves}
+use Rattle.cas_node.specs.Inner.Turns.{IsEnd}
 
 -- ---- what was served
 
 module _ (kind : ClockKind) (Gives : ℤ → Type 0) (script : List ℕ) (old new : Option (List ℕ)) (s t : State) (d e : Disk) (faults_before : ℕ) (told why : Cause)
-    (moves : Moves (λ h after. RanFrom h kind Gives script old new after told) s t d e) (clock : s.clock ≡ pos 0) (list : s.list ≡ []) (calls : s.calls ≡ 0)
-    (committed : s.committed ≡ 0) (going : s.journal.first ≡ None) (ended : why ≡ with_faults faults_before t.faults told)
-    (images : (found : List Mutation) (u : Told) → Keeps t.journal e t.list t.committed found u → (i : Image) → e.may_leave i
-    → ImageStands (MayList u) found (accepted_in t.list) t.committed i) where
-  of_store : (given : Limits) (entries : List ManifestEntry) (mutations : List Mutation) → IsInMemory given entries mutations s.limits s.tables s.shards
-      → s.journal.last_segment ≤ next_segment entries
-      → Served kind Gives script old new given entries mutations s.journal d e faults_before s.faults t.faults t.list why
+    (moves : Moves (λ h after. RanFrom h kind Gives script old new after told) s t d e) (l : Limits) (tables : List TableSchema) (shards : List Shard) (journal : Journal)
+    (faults : ℕ) (opened : IsOpenedAs l tables shards journal faults s)
+    (begins : (given : Limits) (entries : List ManifestEntry) (mutations : List Mutation) → IsInMemory given entries mutations l tables shards
+    → BeginsAs given entries mutations d s)
+    (going : journal.first ≡ None) (ended : why ≡ with_faults faults_before t.faults told)
+    (left : (h : History) (found : List Mutation) (u : Told) → StandsFor h t → LastsFor h found t e u → (i : Image) → e.may_leave i → IsLeft found t.list h i) where
+  of_store : (given : Limits) (entries : List ManifestEntry) (mutations : List Mutation) → IsInMemory given entries mutations l tables shards
+      → journal.last_segment ≤ next_segment entries
+      → Served kind Gives script old new given entries mutations journal d e faults_before faults t.faults t.list why
   of_store given entries mutations memory segment =
-      let (after, ran, goes) = moves (start given entries mutations s.session (disk_of s)) (first_stands given entries mutations s memory clock list calls) in
+      let first = begins given entries mutations memory in
+      let (after, ran, goes) = moves (start given entries mutations s.session (disk_of s)) first.stands in
       record {
         first = start given entries mutations s.session (disk_of s);
         begins = record {
           session = s.session;
           disk = disk_of s;
           history = refl;
-          going = ap (λ (f : Option First). is_some f) going;
-          faults = omega arith;
-          segment = segment;
+          going = ap (λ (j : Journal). is_some j.first) opened.journal_is ∙ ap (λ (f : Option First). is_some f) going;
+          faults = omega (arith, opened.faults_are);
+          segment = subst (λ (j : Journal). j.last_segment ≤ next_segment entries) (sym opened.journal_is) segment;
         };
         final = after;
         told = told;
         ran = ran;
         entered = goes.stands.entered;
-        crash = λ u is lasts i left.
-            let (now, still) = goes.lasts mutations u (first_lasts given entries mutations s memory clock list calls d u is lasts committed) in
-            is_left after mutations t e now goes.stands still i (images mutations now still.keeps i left);
+        crash = λ u is lasts i leaves.
+            let (now, still) = goes.lasts mutations u (first.lasts u is (subst (λ (j : Journal). Lasts j d u) (sym opened.journal_is) lasts)) in
+            left after mutations now goes.stands still i leaves;
         faults = ap (λ disk. disk.faults) goes.stands.disk;
         ended = ended;
       }
 
-  pub serves : (pass : Option (List (Item Event))) → IsSome pass → IfSome pass (λ p. p ≡ t.list)
-      → Serves kind Gives script old new s.limits s.tables s.shards s.journal d s.faults faults_before e t.faults pass why
+  serves : (pass : Option (List (Item Event))) → IsSome pass → IfSome pass (λ p. p ≡ t.list)
+      → Serves kind Gives script old new l tables shards journal d faults faults_before e t.faults pass why
   serves None some is = absurd cc
   serves (Some items) some is = λ given entries mutations memory segment.
-      subst (λ (l : List (Item Event)). Served kind Gives script old new given entries mutations s.journal d e faults_before s.faults t.faults l why) (sym is)
+      subst (λ (xs : List (Item Event)). Served kind Gives script old new given entries mutations journal d e faults_before faults t.faults xs why) (sym is)
       (of_store given entries mutations memory segment)
 
--- with others that are the same
-pub with_others : {A B C D E F : Type 0} (P : A → B → C → D → E → F → Type 0) (a k : A) (b l : B) (c m : C) (d n : D) (e o : E) (f p : F)
-    → a ≡ k → b ≡ l → c ≡ m → d ≡ n → e ≡ o → f ≡ p → P a b c d e f → P k l m n o p
-with_others P a k b l c m d n e o f p xs bs cs ds es fs is =
-    subst (λ z. P k l m n o z) fs (subst (λ z. P k l m n z f) es (subst (λ z. P k l m z e f) ds (subst (λ z. P k l z d e f) cs (subst (λ z. P k z c d e f) bs (subst (λ z. P z b c d e f) xs is)))))
+  -- also where the disks and the count of faults are called otherwise
+  pub serves_as : (before after : Disk) (now : ℕ) (pass : Option (List (Item Event))) → d ≡ before → e ≡ after → t.faults ≡ now → IsSome pass → IfSome pass (λ p. p ≡ t.list)
+      → Serves kind Gives script old new l tables shards journal before faults faults_before after now pass why
+  serves_as before after now pass at_first at_last count some is =
+      subst (λ x. Serves kind Gives script old new l tables shards journal x faults faults_before after now pass why) at_first
+      (subst (λ x. Serves kind Gives script old new l tables shards journal d faults faults_before x now pass why) at_last
+      (subst (λ n. Serves kind Gives script old new l tables shards journal d faults faults_before e n pass why) count (serves pass some is)))
+
+-- a store that was opened is the same in the eyes of a session that wrote nothing
+pub opened_as : (l : Limits) (tables : List TableSchema) (shards : List Shard) (journal : Journal) (faults : ℕ) (f g : ℕ → ℕ → ℤ → State) (session calls : ℕ) (clock : ℤ)
+    → f ≡ g → calls ≡ 0 → ((session : ℕ) (clock : ℤ) → IsOpenedAs l tables shards journal faults (g session 0 clock)) → IsOpenedAs l tables shards journal faults (f session calls clock)
+opened_as l tables shards journal faults f g session calls clock same none opened =
+    subst (λ (k : ℕ → ℕ → ℤ → State). IsOpenedAs l tables shards journal faults (k session calls clock)) (sym same)
+    (subst (λ (n : ℕ). IsOpenedAs l tables shards journal faults (g session n clock)) (sym none) (opened session clock))
+
+pub begins_as : (given : Limits) (entries : List ManifestEntry) (mutations : List Mutation) (f g : ℕ → ℕ → ℤ → State) (session calls : ℕ) (d e : Disk)
+    → f ≡ g → calls ≡ 0 → d ≡ e → BeginsAs given entries mutations e (g session 0 (pos 0)) → BeginsAs given entries mutations d (f session calls (pos 0))
+begins_as given entries mutations f g session calls d e same none disk begins =
+    subst (λ (k : ℕ → ℕ → ℤ → State). BeginsAs given entries mutations d (k session calls (pos 0))) (sym same)
+    (subst (λ (n : ℕ). BeginsAs given entries mutations d (g session n (pos 0))) (sym none)
+    (subst (λ (x : Disk). BeginsAs given entries mutations x (g session 0 (pos 0))) (sym disk) begins))
+
+-- the same of a store that was closed, once its session had ended
+pub left_by : (f g : ℕ → ℕ → ℤ → State) (session calls : ℕ) (clock : ℤ) (d e k : Disk) → f ≡ g → d ≡ e → k ≡ e
+    → ((session calls : ℕ) (clock : ℤ) (h : History) (found : List Mutation) (told : Told) → StandsFor h (f session calls clock)
+    → LastsFor h found (f session calls clock) d told → (c : Image) → k.may_leave c → IsLeft found (f session calls clock).list h c)
+    → (h : History) (found : List Mutation) (u : Told) → StandsFor h (g session calls clock) → LastsFor h found (g session calls clock) e u
+    → (i : Image) → e.may_leave i → IsLeft found (g session calls clock).list h i
+left_by f g session calls clock d e k same at_close of_folder left h found u stands lasts i leaves =
+    subst (λ (x : ℕ → ℕ → ℤ → State). IsLeft found (x session calls clock).list h i) same
+    (left session calls clock h found u (subst (λ (x : ℕ → ℕ → ℤ → State). StandsFor h (x session calls clock)) (sym same) stands)
+    (subst (λ (y : Disk). LastsFor h found (f session calls clock) y u) (sym at_close)
+    (subst (λ (x : ℕ → ℕ → ℤ → State). LastsFor h found (x session calls clock) e u) (sym same) lasts))
+    i (subst (λ (y : Disk). y.may_leave i) (sym of_folder) leaves))
+
+pub pass_by : (f g : ℕ → ℕ → ℤ → State) (session calls : ℕ) (clock : ℤ) (p q : Option (List (Item Event))) → f ≡ g → q ≡ p
+    → IfSome p (λ l. l ≡ (f session calls clock).list) → IfSome q (λ l. l ≡ (g session calls clock).list)
+pass_by f g session calls clock p q same is of =
+    subst (λ (x : Option (List (Item Event))). IfSome x (λ l. l ≡ (g session calls clock).list)) (sym is)
+    (subst (λ (x : ℕ → ℕ → ℤ → State). IfSome p (λ l. l ≡ (x session calls clock).list)) same of)
 
 -- ---- the script ran
 

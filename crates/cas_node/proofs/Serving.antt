@@ -21,8 +21,8 @@ use Rattle.cas_shard.specs.declared.shard.Shard.{Shard}
 use Rattle.cas_node.specs.History.{History, shard_at}
 use Rattle.cas_node.specs.Found.{found_in, start}
 use Rattle.cas_node.specs.Entered.{HasTables, IsLeft, entries_in}
-use Rattle.cas_node.specs.Inner.Starts.{IsInMemory, IsTold}
-use Rattle.cas_node.specs.Inner.State.{State, StandsFor, LastsFor, disk_of}
+use Rattle.cas_node.specs.Starts.{BeginsAs, IsInMemory, IsTold}
+use Rattle.cas_node.specs.Nodes.{State, StandsFor, LastsFor, disk_of}
 use Rattle.cas_node.proofs.Places.{get_within}
 
 -- ---- numbers
@@ -58,7 +58,7 @@ module _ (given : Limits) (entries : List ManifestEntry) (mutations : List Mutat
   at n lt =
       numbered (λ (k : ℕ). found_shard (found_in k mutations)) (found_shard empty_shard) 0 count n lt ∙ ap (λ (k : ℕ). found_shard (found_in k mutations)) (from_none n)
 
-  pub first_stands : StandsFor (start given entries mutations s.session (disk_of s)) s
+  first_stands : StandsFor (start given entries mutations s.session (disk_of s)) s
   unfolding start
   first_stands = record {
     limits = sym memory.same;
@@ -77,7 +77,7 @@ module _ (given : Limits) (entries : List ManifestEntry) (mutations : List Mutat
         ∙ ap (entries_in n) (sym list);
   }
 
-  pub first_lasts : (d : Disk) (t : Told) → IsTold entries mutations t → Lasts s.journal d t → s.committed ≡ 0
+  first_lasts : (d : Disk) (t : Told) → IsTold entries mutations t → Lasts s.journal d t → s.committed ≡ 0
       → LastsFor (start given entries mutations s.session (disk_of s)) mutations s d t
   unfolding start
   first_lasts d t told lasts committed = record {
@@ -94,13 +94,20 @@ module _ (given : Limits) (entries : List ManifestEntry) (mutations : List Mutat
         subst (λ (ms : List Mutation). (n : ℕ) (x : Shard) → slice_get s.shards n ≡ Some x → AscendByOne (numbers_of n ms ++ (x.number + 1) ∷ [])) (sym told.taken)
         memory.next;
     counted = none s.accepted;
-    written = none s.calls;
     acknowledged = (omega arith, omega arith);
     whole = λ on. none s.committed;
   }
     where
       none : (n : ℕ) → length (accepted_in s.list) ≤ n
       none n = subst (λ (l : List (Item Event)). length (accepted_in l) ≤ n) (sym list) (omega arith)
+
+-- the store stands for the history that begins with what was found
+pub begins : (given : Limits) (entries : List ManifestEntry) (mutations : List Mutation) (s : State) (d : Disk) → IsInMemory given entries mutations s.limits s.tables s.shards
+    → s.clock ≡ pos 0 → s.list ≡ [] → s.calls ≡ 0 → s.committed ≡ 0 → BeginsAs given entries mutations d s
+begins given entries mutations s d memory clock list calls committed = record {
+  stands = first_stands given entries mutations s memory clock list calls;
+  lasts = λ t told lasts. first_lasts given entries mutations s memory clock list calls d t told lasts committed;
+}
 
 -- ---- what a crash leaves
 

@@ -15,15 +15,16 @@ use Rattle.cas_render.specs.Text.{reply_text}
 use Rattle.cas_words.specs.declared.words.ClockKind.{ClockKind}
 use Rattle.cas_node.specs.declared.cause.Cause.{Cause}
 use Rattle.cas_node.specs.declared.cause.Cause.TheVariants as cause
-use Rattle.cas_node.specs.declared.session.PrintFault.{PrintFault}
-use Rattle.cas_node.specs.declared.session.PrintFault.TheVariants as print
+use Rattle.cas_node.specs.declared.script.PrintFault.{PrintFault}
+use Rattle.cas_node.specs.declared.script.PrintFault.TheVariants as print
 use Rattle.cas_disk.specs.Disk.{Disk}
 use Rattle.cas_node.specs.History.{History, Answers, Runs}
 use Rattle.cas_node.specs.Text.{output, line_text}
 use Rattle.cas_node.specs.Ran.{RanFrom, reply_cause, worse, worst}
 use Rattle.cas_node.specs.Ran.{at_the_end, at_the_sink, for_memory}
-use Rattle.cas_node.specs.Inner.State.{State}
-use Rattle.cas_node.specs.Inner.Turns.{GoesOnTo, IsEnd, IsToldSo, Moves, Turned, Printed, PrintedReply, StopsFor}
+use Rattle.cas_node.specs.Nodes.{State}
+use Rattle.cas_node.specs.Nodes.{GoesOnTo, Moves}
+use Rattle.cas_node.specs.Inner.Turns.{IsEnd, IsToldSo, Turned, Printed, PrintedReply, StopsFor}
 
 -- ---- text
 

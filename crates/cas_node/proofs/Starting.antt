@@ -17,7 +17,7 @@ use Rattle.cas_shard.specs.declared.shard.Shard.{Shard}
 use Rattle.define_laws.proofs.Telling.{named_segments_define_nothing}
 use Rattle.define_laws.proofs.Told.{told_tables_are_tables}
 use Rattle.cas_node.specs.Found.{IsFound, IsUnflushed}
-use Rattle.cas_node.specs.Inner.Starts.{AreRestored, IsInMemory, IsTold}
+use Rattle.cas_node.specs.Starts.{AreRestored, IsInMemory, IsTold}
 use Rattle.cas_node.proofs.Unflushed.{all_given, renamed, unnamed}
 use Rattle.cas_node.proofs.Restoring.{next_numbers}
 

@@ -3,7 +3,7 @@ use Rattle.std.proofs.Common.{◌≡◌, ◌<◌, ◌≤◌, ◌+◌, ◌^◌, �
 use Rattle.std.specs.Prelude.{slice_get, slice_set, if◌then◌else◌, ◌⊎◌}
 use Rattle.std.proofs.lemmas.Bool.Decides.{nat_tests}
 use Rattle.std.proofs.lemmas.Option.{same_Some, slice_get_past}
-use Rattle.cas_types.specs.Limits.{IsMoment, IsShardCount}
+use Rattle.cas_types.specs.Limits.{IsShardCount}
 use Rattle.cas_types.specs.declared.schema.Column.{Column}
 use Rattle.cas_types.specs.declared.schema.TableSchema.{TableSchema}
 use Rattle.cas_gates.specs.declared.first.First.{First}
@@ -50,8 +50,10 @@ use Rattle.cas_shard.specs.Stands.{Stands, held, held_in, order_at, order_of}
 use Rattle.cas_shard.specs.declared.shard.Shard.{Shard}
 use Rattle.cas_node.specs.History.{Changes, Defines, History, DiskState, shard_at}
 use Rattle.cas_node.specs.Inner.Definitions.{MayBeTold}
-use Rattle.cas_node.specs.Inner.State.{State, IsSound, StandsFor, LastsFor, disk_of}
-use Rattle.cas_node.specs.Inner.Turns.{Moves, reply_for}
+use Rattle.cas_node.specs.Nodes.{State, StandsFor, LastsFor, disk_of}
+use Rattle.cas_node.specs.Inner.Sound.{IsSoundState}
+use Rattle.cas_node.specs.Nodes.{Moves}
+use Rattle.cas_node.specs.Inner.Turns.{reply_for}
 
 -- ---- a shard under more tables
 
@@ -210,9 +212,9 @@ stands_defined h s t stands limits clock session calls list shards under = recor
 pub lasts_defined : (h k : History) (found : List Mutation) (s t : State) (d e : Disk) (told now : Told) → LastsFor h found s d told → k.acknowledged ≡ h.acknowledged
     → Keeps t.journal e t.list t.committed found now → now.taken ≡ told.taken → length now.failed ≤ 1 → (said_by now.entries).tables ≡ t.tables
     → (said_by now.entries).shards ≡ (said_by told.entries).shards
-    → t.limits ≡ s.limits → t.list ≡ s.list → t.shards ≡ s.shards → t.accepted ≡ s.accepted → t.committed ≡ s.committed → t.calls ≡ s.calls
+    → t.limits ≡ s.limits → t.list ≡ s.list → t.shards ≡ s.shards → t.accepted ≡ s.accepted → t.committed ≡ s.committed
     → (is_some t.journal.first ≡ false → is_some s.journal.first ≡ false) → LastsFor k found t e now
-lasts_defined h k found s t d e told now lasts acks keeps taken few tables said limits list shards accepted committed calls going = record {
+lasts_defined h k found s t d e told now lasts acks keeps taken few tables said limits list shards accepted committed going = record {
   keeps = keeps;
   tables = tables;
   shards = said ∙ lasts.shards ∙ ap (λ l. l.shards) (sym limits);
@@ -221,7 +223,6 @@ lasts_defined h k found s t d e told now lasts acks keeps taken few tables said 
   next = λ n x got.
       subst (λ (ms : List Mutation). AscendByOne (numbers_of n ms ++ (x.number + 1) ∷ [])) (sym taken) (lasts.next n x (subst (λ (xs : List Shard). slice_get xs n ≡ Some x) shards got));
   counted = omega (arith, lasts.counted, accepted, ap (λ (l : List (Item Event)). length (accepted_in l)) list);
-  written = omega (arith, lasts.written, calls, ap (λ (l : List (Item Event)). length (accepted_in l)) list);
   acknowledged = (omega (arith, lasts.acknowledged.0, acks, committed), omega (arith, lasts.acknowledged.1, acks, ap (λ (l : List (Item Event)). length (accepted_in l)) list));
   whole = λ on. let all = lasts.whole (going on) in omega (arith, all, committed, ap (λ (l : List (Item Event)). length (accepted_in l)) list);
 }
@@ -320,17 +321,6 @@ pub record IsRest (s t : State) : Type 0 where
   pub accepted : t.accepted ≡ s.accepted
   pub committed : t.committed ≡ s.committed
 
-pub sound_still : (s t : State) → IsSound s → IsRest s t → t.journal.size ≡ s.journal.size → AreTables t.tables → IsSound t
-sound_still s t sound rest size tables = record {
-  tables = tables;
-  count = ap length rest.shards ∙ sound.count ∙ ap (λ (l : Limits). l.shards) (sym rest.limits);
-  some = subst (λ (l : Limits). IsShardCount l.shards) (sym rest.limits) sound.some;
-  clock = subst IsMoment (sym rest.clock) sound.clock;
-  size = (size ∙ sound.size.0 ∙ ap (λ (l : Limits). l.segment) (sym rest.limits), subst (λ (l : Limits). IsSize l.segment) (sym rest.limits) sound.size.1);
-  places = rest.places ∙ sound.places ∙ ap (λ (l : Limits). numbers 0 l.shards) (sym rest.limits);
-  numbers = rest.numbers ∙ sound.numbers ∙ ap (map (λ (z : Shard). z.number)) (sym rest.shards);
-}
-
 -- where memory runs out before the room is asked nothing changes
 pub moves_nowhere : (s : State) (d : Disk) (x : ManifestEntry) (b : Bound) → Moves (λ h after. Changes h x b (reply.Failed failure.Memory) after) s s d d
 moves_nowhere s d x b h stands = (
@@ -344,9 +334,6 @@ pub moves_reserved : (s : State) (d : Disk) (x : ManifestEntry) (b : Bound) (ts 
     → Moves (λ h after. Changes h x b (reply.Failed failure.Memory) after) s (record s { tables = ts }) d d
 moves_reserved s d x b ts same =
     subst (λ (us : List TableSchema). Moves (λ h after. Changes h x b (reply.Failed failure.Memory) after) s (record s { tables = us }) d d) (sym same) (moves_nowhere s d x b)
-
-pub sound_reserved : (s : State) (ts : List TableSchema) → ts ≡ s.tables → IsSound s → IsSound (record s { tables = ts })
-sound_reserved s ts same sound = subst (λ (us : List TableSchema). IsSound (record s { tables = us })) (sym same) sound
 
 module _ (s t : State) (d e : Disk) (x : ManifestEntry) (b : Bound) (may : MayBeTold s.tables b x) (some : IsShardCount s.limits.shards) (rest : IsRest s t)
     (count : s.faults ≤ t.faults) where
@@ -378,7 +365,7 @@ module _ (s t : State) (d e : Disk) (x : ManifestEntry) (b : Bound) (may : MayBe
             told_after fault x told,
             lasts_defined h (record h { tables = t.tables; disk = disk_of t }) found s t d e told (told_after fault x told) lasts refl
                 (kept found told lasts.keeps (tells h found told lasts).fits) still.taken still.few (ap (λ es. (said_by es).tables) still.entries ∙ lasts.tables ∙ sym same)
-                (ap (λ es. (said_by es).shards) still.entries) rest.limits rest.list rest.shards rest.accepted rest.committed rest.calls
+                (ap (λ es. (said_by es).shards) still.entries) rest.limits rest.list rest.shards rest.accepted rest.committed
                 (goes_before {T = Unit {0}} s.journal.first t.journal.first s.faults t.faults (Err fault) ends),
           );
     },
@@ -410,7 +397,7 @@ module _ (s t : State) (d e : Disk) (x : ManifestEntry) (b : Bound) (may : MayBe
             appended x told,
             lasts_defined h (record h { tables = t.tables; disk = disk_of t }) found s t d e told (appended x told) lasts refl
                 (kept found told lasts.keeps more.fits) refl lasts.few (ap (λ (sy : Saying). sy.tables) said ∙ more.tells ∙ sym new)
-                (ap (λ (sy : Saying). sy.shards) said ∙ same_shards (said_by told.entries) x is) rest.limits rest.list rest.shards rest.accepted rest.committed rest.calls
+                (ap (λ (sy : Saying). sy.shards) said ∙ same_shards (said_by told.entries) x is) rest.limits rest.list rest.shards rest.accepted rest.committed
                 (goes_before s.journal.first t.journal.first s.faults t.faults (Ok tt) ends),
           );
     },

@@ -51,3 +51,18 @@ pub record IsLeft (found : List Mutation) (list : List (Item Event)) (h : Histor
   pub most : count ≤ length (accepted_in list)
   pub all : h.disk.stopped ≡ false → count ≡ length (accepted_in list)
   pub store : IsStore entries (found ++ take count (accepted_in list)) c
+
+-- What a crash leaves while a call is under way, of a store that stood for this history before it, and by whose end this list was accepted: a store with
+-- all that the store was opened with, and behind it a front of that list, each mutation whole, every one acknowledged before the call among them; its
+-- tables are those before the call, and at most one definition more, which is under way or for which the disk failed.
+pub record IsLeftAmid (found : List Mutation) (list : List (Item Event)) (h : History) (c : Image) : Type 0 where
+  pub entries : List ManifestEntry
+  pub told : List ManifestEntry
+  pub more : List ManifestEntry
+  pub are : entries ≡ told ++ more
+  pub tables : (said_by told).tables ≡ h.tables
+  pub few : length more ≤ 1
+  pub count : ℕ
+  pub least : h.acknowledged ≤ count
+  pub most : count ≤ length (accepted_in list)
+  pub store : IsStore entries (found ++ take count (accepted_in list)) c

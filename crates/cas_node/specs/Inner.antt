@@ -1,5 +1,4 @@
-pub mod State
+pub mod Sound
 pub mod Definitions
-pub mod Starts
 pub mod Serving
 pub mod Turns

@@ -1,21 +1,21 @@
 //! CREATE TABLE and ALTER TABLE: the manifest tells of the definition, and then it counts.
 
-ghost use Rattle.std.specs.Prelude.{◌≡◌, ◌++◌, IfOk};
+ghost use Rattle.std.specs.Prelude.{◌≡◌, ◌++◌, ℤ, pos, IfOk};
 ghost use Rattle.cas_changes.specs.declared.entry.Entry.TheVariants.{Schema, AddColumns};
 ghost use Rattle.define_laws.specs.Entries.{IsThere};
 ghost use Rattle.cas_bind.specs.declared.bound.Bound.TheVariants as bounds;
 ghost use Rattle.cas_node.specs.History.{Changes};
 ghost use Rattle.cas_node.specs.Inner.Definitions.{MayBeTold};
-ghost use Rattle.cas_node.specs.Inner.State.{IsSound};
-ghost use Rattle.cas_node.specs.Inner.Turns.{Moves};
+ghost use Rattle.cas_node.specs.Calls.{IsTrueOf, reply_of};
+ghost use Rattle.cas_node.specs.Nodes.{Moves, CountsOn, KeepsAll};
 
-use crate::node::{Node, Stored};
-use crate::writing::reply_for;
+use crate::answer::{Answer, Fault};
+use crate::node::{Node, Session, Stored};
+use crate::writing::fault_for;
 use cas_changes::Entry;
 use cas_define::Addition;
 use cas_disk::Folder;
 use cas_ledger::Store;
-use cas_render::{Failure, Reply};
 use cas_types::{Column, List, Mem, TableSchema};
 use std::alloc::{AllocError, Global};
 
@@ -41,50 +41,72 @@ fn table_of(entry: Entry) -> TableSchema
 
 impl<F: Folder, J: Store> Node<F, J> {
     /// Makes a table: it is there once its entry is in the manifest.
-    pub fn create(&mut self, alloc: Global, table: TableSchema) -> Reply
-        requires sound { IsSound (⟦<Node<F, J> as Stored>⟧.state self.old) }
+    pub(crate) fn create(
+        &mut self,
+        alloc: Global,
+        session: &mut Session<J>,
+        table: TableSchema,
+    ) -> Result<Answer, Fault>
         requires told { MayBeTold self.old.tables.items (bounds.Create table) (Schema table) }
-        ensures changes { Moves (λ h after. Changes h (Schema table) (bounds.Create table) result after)
-            (⟦<Node<F, J> as Stored>⟧.state self.old) (⟦<Node<F, J> as Stored>⟧.state self.new)
+        ensures changes { (clock : ℤ) → Moves (λ h after. Changes h (Schema table) (bounds.Create table) (reply_of result) after)
+            (⟦<Node<F, J> as Stored>⟧.state self.old session.old.seat.list session.old.seat.calls clock)
+            (⟦<Node<F, J> as Stored>⟧.state self.new session.new.seat.list session.new.seat.calls clock)
             (⟦<Node<F, J> as Stored>⟧.disk self.old) (⟦<Node<F, J> as Stored>⟧.disk self.new) }
-        ensures sound { IsSound (⟦<Node<F, J> as Stored>⟧.state self.new) }
-        ensures few { (⟦<Node<F, J> as Stored>⟧.state self.new).calls ≡ (⟦<Node<F, J> as Stored>⟧.state self.old).calls }
+        ensures crash { (clock : ℤ) → KeepsAll (⟦<Node<F, J> as Stored>⟧.state self.old session.old.seat.list session.old.seat.calls clock)
+            (⟦<Node<F, J> as Stored>⟧.state self.new session.new.seat.list session.new.seat.calls clock)
+            (⟦<Node<F, J> as Stored>⟧.disk self.old) (⟦<Node<F, J> as Stored>⟧.disk self.new) }
+        ensures told { IsTrueOf result (⟦<Node<F, J> as Stored>⟧.state self.old session.old.seat.list session.old.seat.calls (pos 0))
+            (⟦<Node<F, J> as Stored>⟧.state self.new session.new.seat.list session.new.seat.calls (pos 0)) }
+        ensures counts { CountsOn (⟦<Node<F, J> as Stored>⟧.state self.old session.old.seat.list session.old.seat.calls (pos 0))
+            (⟦<Node<F, J> as Stored>⟧.state self.new session.new.seat.list session.new.seat.calls (pos 0)) }
         ensures limits { self.new.limits ≡ self.old.limits }
+        ensures sessions { ⟦<Node<F, J> as Stored>⟧.sessions self.new ≡ ⟦<Node<F, J> as Stored>⟧.sessions self.old }
     {
         if let Err(AllocError) = self.tables.reserve(1) {
-            return Reply::Failed(Failure::Memory);
+            return Err(Fault::Mem);
         }
         let entry = Entry::Schema(table);
-        if let Err(fault) = self.room.define(alloc, &mut self.session, &entry) {
-            return reply_for(fault);
+        if let Err(fault) = self.room.define(alloc, &mut session.seat, &entry) {
+            return Err(fault_for(fault));
         }
         self.tables.push_reserved(table_of(entry));
-        Reply::Done
+        Ok(Answer::Done)
     }
 
     /// Adds columns to a table: they are there once their entry is in the manifest.
-    pub fn alter(&mut self, alloc: Global, addition: Addition) -> Reply
-        requires sound { IsSound (⟦<Node<F, J> as Stored>⟧.state self.old) }
+    pub(crate) fn alter(
+        &mut self,
+        alloc: Global,
+        session: &mut Session<J>,
+        addition: Addition,
+    ) -> Result<Answer, Fault>
         requires there { IsThere self.old.tables.items addition.table }
         requires told { MayBeTold self.old.tables.items (bounds.Alter addition) (AddColumns addition.table addition.columns) }
-        ensures changes { Moves (λ h after. Changes h (AddColumns addition.table addition.columns) (bounds.Alter addition) result after)
-            (⟦<Node<F, J> as Stored>⟧.state self.old) (⟦<Node<F, J> as Stored>⟧.state self.new)
+        ensures changes { (clock : ℤ) → Moves (λ h after. Changes h (AddColumns addition.table addition.columns) (bounds.Alter addition) (reply_of result) after)
+            (⟦<Node<F, J> as Stored>⟧.state self.old session.old.seat.list session.old.seat.calls clock)
+            (⟦<Node<F, J> as Stored>⟧.state self.new session.new.seat.list session.new.seat.calls clock)
             (⟦<Node<F, J> as Stored>⟧.disk self.old) (⟦<Node<F, J> as Stored>⟧.disk self.new) }
-        ensures sound { IsSound (⟦<Node<F, J> as Stored>⟧.state self.new) }
-        ensures few { (⟦<Node<F, J> as Stored>⟧.state self.new).calls ≡ (⟦<Node<F, J> as Stored>⟧.state self.old).calls }
+        ensures crash { (clock : ℤ) → KeepsAll (⟦<Node<F, J> as Stored>⟧.state self.old session.old.seat.list session.old.seat.calls clock)
+            (⟦<Node<F, J> as Stored>⟧.state self.new session.new.seat.list session.new.seat.calls clock)
+            (⟦<Node<F, J> as Stored>⟧.disk self.old) (⟦<Node<F, J> as Stored>⟧.disk self.new) }
+        ensures told { IsTrueOf result (⟦<Node<F, J> as Stored>⟧.state self.old session.old.seat.list session.old.seat.calls (pos 0))
+            (⟦<Node<F, J> as Stored>⟧.state self.new session.new.seat.list session.new.seat.calls (pos 0)) }
+        ensures counts { CountsOn (⟦<Node<F, J> as Stored>⟧.state self.old session.old.seat.list session.old.seat.calls (pos 0))
+            (⟦<Node<F, J> as Stored>⟧.state self.new session.new.seat.list session.new.seat.calls (pos 0)) }
         ensures limits { self.new.limits ≡ self.old.limits }
+        ensures sessions { ⟦<Node<F, J> as Stored>⟧.sessions self.new ≡ ⟦<Node<F, J> as Stored>⟧.sessions self.old }
     {
         let Addition { table, columns } = addition;
         let place = table as usize;
         let widened = match widened(&self.tables[place].columns, &columns) {
             Ok(columns) => columns,
-            Err(Mem) => return Reply::Failed(Failure::Memory),
+            Err(Mem) => return Err(Fault::Mem),
         };
         let entry = Entry::AddColumns { table, columns };
-        if let Err(fault) = self.room.define(alloc, &mut self.session, &entry) {
-            return reply_for(fault);
+        if let Err(fault) = self.room.define(alloc, &mut session.seat, &entry) {
+            return Err(fault_for(fault));
         }
         self.tables[place].columns = widened;
-        Reply::Done
+        Ok(Answer::Done)
     }
 }

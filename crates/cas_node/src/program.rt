@@ -1,7 +1,6 @@
 //! The program: its words, its script, its output and how it ends.
 
-ghost use Rattle.std.specs.Prelude.{◌≡◌, ◌<◌, ◌⊎◌, ◌+◌, List, pos, map, length, IsTrue, IfSome, IsSome, string_bytes, Some, None, nat_le};
-ghost use Rattle.cas_types.specs.Limits.{IsShardCount};
+ghost use Rattle.std.specs.Prelude.{◌≡◌, ◌<◌, ◌⊎◌, ◌+◌, List, map, IsTrue, IfSome, string_bytes, Some, None, nat_le};
 ghost use Rattle.cas_io.specs.Causes.{Rose};
 ghost use Rattle.cas_io.specs.Streams.{TookCount};
 ghost use Rattle.cas_disk.specs.Disk.{Image, During};
@@ -9,55 +8,30 @@ ghost use Rattle.cas_words.specs.Words.{command_of};
 ghost use Rattle.cas_words.specs.declared.words.Command.{Command};
 ghost use Rattle.cas_atoms.specs.declared.atom.Mutation.{Mutation as MutationOf};
 ghost use Rattle.cas_changes.specs.declared.entry.Entry.{Entry as EntryOf};
-ghost use Rattle.cas_bind.specs.Tables.{AreTables};
-ghost use Rattle.cas_log.specs.Segment.{IsSize};
-ghost use Rattle.cas_journal.specs.Journals.{AreFree};
-ghost use Rattle.cas_journal.specs.Stores.{IsStore, MayList, Told};
+ghost use Rattle.cas_journal.specs.Stores.{IsStore};
 ghost use Rattle.cas_opening.specs.Opening.{IsOfBytes, MayBeOpened};
-ghost use Rattle.cas_room.specs.Keeping.{Keeps, StandsFor};
-ghost use Rattle.cas_room.specs.Rooms.{accepted_in};
 ghost use Rattle.cas_node.specs.Found.{IsUnfit};
-ghost use Rattle.cas_node.specs.Ran.{RanAll, IfBad, IfTooLong, AllWell, GoodOrMem, count_taken, has_risen, is_too_long, outside, status_of, weight, with_faults};
+ghost use Rattle.cas_node.specs.Ran.{RanAll, IfBad, IfTooLong, AllWell, GoodOrMem, count_taken, has_risen, is_too_long, outside, status_of};
+ghost use Rattle.cas_node.specs.Ran.{weight, with_faults};
 ghost use Rattle.cas_node.specs.Inner.Serving.{EndsServed, Serves};
-ghost use Rattle.cas_node.specs.Inner.Starts.{cause_of_opening};
-ghost use Rattle.cas_node.specs.Inner.Turns.{cause_of_fault};
+ghost use Rattle.cas_node.specs.Inner.Turns.{cause_of_fault, cause_of_opening};
 
 use crate::cause::Cause;
-use crate::node::{Node, Stored};
-use crate::seats::{Seats, make_seats};
-use crate::session::{session, worse};
-use crate::start::{Started, start};
-use crate::store::Ask;
+use crate::node::{Closed, Pass};
+use crate::opened::{Opened, start};
+use crate::runner::Runner;
+use crate::script::{run_lines, worse};
+use crate::statements::Ask;
 use cas_disk::{Count, Folder};
-use cas_history::Item;
 use cas_io::{Clock, Gate, ScriptFault, Sink, Source, read_script};
-use cas_ledger::{Kept, Opened as Table, Store};
+use cas_ledger::Store;
 use cas_opening::OpenFault;
-use cas_room::{Event, Room};
-use cas_types::Mem;
 use cas_words::{Command, read_words};
 use std::alloc::{AllocError, Global};
-use std::marker::{Brand, Model};
+use std::marker::Brand;
 
 /// The most bytes that a script may have: 64 MiB.
 pub const SCRIPT_LIMIT: u64 = 67_108_864;
-
-/// The one history of a run: what it accepted, in the order in which it did. It is kept by the proofs alone.
-#[derive(Drop)]
-pub struct Pass {
-    kept: Kept<Item<Event>>,
-}
-
-impl Model for Pass {
-    ghost use Rattle.std.specs.Prelude.{List};
-    ghost use Rattle.cas_history.specs.declared.item.Item.{Item};
-    ghost use Rattle.cas_history.specs.Items.{listed, log_list};
-    ghost use Rattle.cas_room.specs.declared.event.Event.{Event};
-
-    ghost Value = { List (Item Event) };
-
-    ghost view = { λ p. listed log_list p.kept.saw };
-}
 
 /// What a run came to: the exit status and its cause, the folder handed back, the history (none
 /// where no line was run), and the count of the faults of what was read in the folder.
@@ -124,61 +98,27 @@ fn cause_of_opening(fault: OpenFault) -> Cause
     }
 }
 
-// A store in memory, with its seats and its room.
-fn assembled<F: Folder, J: Store>(started: Started, seats: Seats<J>, folder: F) -> Node<F, J>
-    requires free { AreFree started.journal (F.disk folder) }
-    requires going { started.journal.first ≡ None }
-    requires new { (seats.faults.number ≡ 0) × (seats.faults.committed ≡ 0) × (seats.faults.first ≡ 0) }
-    ensures limits { result.limits ≡ started.limits }
-    ensures tables { result.tables ≡ started.tables }
-    ensures shards { result.shards ≡ started.shards }
-    ensures fronts { result.fronts ≡ seats.fronts }
-    ensures clock { result.clock ≡ pos 0 }
-    ensures session { result.session ≡ seats.session }
-    ensures room { (result.room.folder ≡ folder) × (result.room.journal ≡ started.journal) × (result.room.log ≡ seats.log)
-        × (result.room.faults ≡ seats.faults) × (result.room.accepted ≡ 0) }
-{
-    Node {
-        limits: started.limits,
-        tables: started.tables,
-        shards: started.shards,
-        fronts: seats.fronts,
-        clock: 0,
-        room: Room::new(
-            folder,
-            started.journal,
-            seats.log,
-            seats.faults,
-            seats.numbers,
-        ),
-        session: seats.session,
-    }
-}
-
 // Ends a run: the folder is handed back, and the history.
-fn closed<F: Folder, J: Store>(node: Node<F, J>, told: Cause, faults: u64) -> Outcome<F>
+fn finished<F: Folder>(closed: Closed<F>, told: Cause, faults: u64) -> Outcome<F>
     ensures status { result.status ≡ status_of result.cause }
     ensures cause { result.cause ≡ with_faults faults (F.faults_of result.folder) told }
-    ensures folder { result.folder ≡ node.room.folder }
-    ensures pass { IfSome result.pass (λ p. p ≡ (⟦<Node<F, J> as Stored>⟧.state node).list) }
-    ensures some { IsSome result.pass }
-    ensures images { (found : List MutationOf) (t : Told)
-        → Keeps node.room.journal (F.disk node.room.folder) (⟦<Node<F, J> as Stored>⟧.state node).list node.room.faults.committed found t
-        → (c : Image) → (F.disk node.room.folder).may_leave c
-        → StandsFor (MayList t) found (accepted_in (⟦<Node<F, J> as Stored>⟧.state node).list) node.room.faults.committed c }
-    ensures tally { ⟦<F::Tally as Count>⟧.number result.tally ≡ 0 }
+    ensures folder { result.folder ≡ closed.folder }
+    ensures pass { result.pass ≡ closed.pass }
+    ensures tally { result.tally ≡ closed.tally }
 {
-    node.room.images_stand();
-    let (folder, _first, log) = node.room.close();
+    let Closed {
+        folder,
+        pass,
+        tally,
+        first: _first,
+    } = closed;
     let cause = with_faults(faults, folder.faults(), told);
     Outcome {
         status: cause.status(),
         cause,
         folder,
-        pass: Some(Pass {
-            kept: log.pass.kept(),
-        }),
-        tally: F::Tally::fresh(),
+        pass,
+        tally,
     }
 }
 
@@ -186,36 +126,44 @@ fn closed<F: Folder, J: Store>(node: Node<F, J>, told: Cause, faults: u64) -> Ou
 fn serve<K: Sink, F: Folder, J: Store, C: Clock>(
     alloc: Global,
     ask: &Ask<'_, C>,
-    started: Started,
-    folder: F,
-    table: Table<Item<Event>>,
+    opened: Opened<F>,
     script: &[u8],
     sink: &mut K,
     faults: u64,
 ) -> Outcome<F>
-    requires table { table.seat.table_id ≡ J.table }
-    requires free { AreFree started.journal (F.disk folder) }
-    requires runs { (started.journal.first ≡ None) × (started.journal.size ≡ started.limits.segment) }
-    requires size { IsSize started.limits.segment }
-    requires good { AreTables started.tables.items × (length started.shards.items ≡ started.limits.shards) × IsShardCount started.limits.shards }
+    requires table { opened.table.seat.table_id ≡ J.table }
     ensures served { Serves ask.now.kind (C.may_give ask.now.clock.now) script.now (K.took sink.old) (K.took sink.new)
-        started.limits started.tables.items started.shards.items started.journal (F.disk folder) (F.faults_of folder) faults
-        (F.disk result.folder) (F.faults_of result.folder) result.pass result.cause }
+        opened.started.limits opened.started.tables.items opened.started.shards.items opened.started.journal (F.disk opened.folder)
+        (F.faults_of opened.folder) faults (F.disk result.folder) (F.faults_of result.folder) result.pass result.cause }
     ensures status { result.status ≡ status_of result.cause }
     ensures tally { ⟦<F::Tally as Count>⟧.number result.tally ≡ 0 }
     ensures unwritten { result.pass ≡ None → sink.new ≡ sink.old }
-    ensures kept { result.pass ≡ None → result.folder ≡ folder }
+    ensures kept { result.pass ≡ None → result.folder ≡ opened.folder }
     ensures write { result.cause ≡ Cause.Write
         → Rose (K.faults sink.old) (K.faults sink.new) ⊎ Rose (K.stalls sink.old) (K.stalls sink.new) }
     ensures ends { EndsServed faults (F.faults_of result.folder) result.cause }
 {
-    let seats = match make_seats::<J>(alloc, table, &started.shards) {
-        Ok(seats) => seats,
-        Err(Mem) => return not_run(Cause::Mem, folder),
+    let mut node = match opened.named::<J>(alloc) {
+        Ok(node) => node,
+        Err(closed) => return not_run(Cause::Mem, closed.into_folder()),
     };
-    let mut node = assembled(started, seats, folder);
-    let told = session(alloc, ask, &mut node, script, sink);
-    closed(node, told, faults)
+    let session = match node.session() {
+        Ok(session) => session,
+        Err(_) => return not_run(Cause::Mem, node.close().into_folder()),
+    };
+    let mut runner = Runner {
+        node,
+        session,
+        seconds: 0,
+    };
+    let told = run_lines(alloc, ask, &mut runner, script, sink);
+    let Runner {
+        mut node,
+        session,
+        seconds: _seconds,
+    } = runner;
+    node.end(session);
+    finished(node.close(), told, faults)
 }
 
 /// Runs the program `cassnode`: `words` are those after its name, the script comes from the source,
@@ -282,16 +230,11 @@ pub fn run<S: Source, K: Sink, F: Folder, C: Clock, G: Gate>(
         Ok(script) => script,
         Err(fault) => return not_run(unread(fault), folder),
     };
-    let mut folder = folder;
     let faults = folder.faults();
-    let started = match start(alloc, &mut folder, &limits) {
-        Ok(started) => started,
-        Err(fault) => return not_run(cause_of_opening(fault), folder),
-    };
-    let table = match Table::new(alloc) {
-        Ok(table) => table,
-        Err(AllocError) => return not_run(Cause::Mem, folder),
+    let opened = match start(alloc, folder, &limits) {
+        Ok(opened) => opened,
+        Err((fault, closed)) => return not_run(cause_of_opening(fault), closed.into_folder()),
     };
     let ask = Ask { kind, clock };
-    serve::<K, F, Brand, C>(alloc, &ask, started, folder, table, &script, sink, faults)
+    serve::<K, F, Brand, C>(alloc, &ask, opened, &script, sink, faults)
 }

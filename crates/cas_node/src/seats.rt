@@ -1,10 +1,10 @@
-//! The seats of a run in its one history: of its room, its shards, and the session that runs the lines.
+//! The seats of a store in its one history: of its room and its shards, and the right to make more.
 
 ghost use Rattle.std.specs.Prelude.{◌≡◌, ◌≤◌, ◌<◌, [], length, map, IfOk};
 ghost use Rattle.cas_history.specs.Items.{listed, log_list};
 ghost use Rattle.cas_ledger.specs.Hands.{numbers};
 
-use cas_history::{Faults, Front, Item, Log, Numbers, Session};
+use cas_history::{Faults, Front, Item, Log, Numbers};
 use cas_ledger::{Opened as Table, Store};
 use cas_lifecycle::Maker;
 use cas_room::Event;
@@ -12,14 +12,14 @@ use cas_shard::Shard;
 use cas_types::Mem;
 use std::alloc::Global;
 
-/// The seats of a run, before anything was accepted.
+/// The seats of a store, before anything was accepted.
 #[derive(Drop)]
 pub(crate) struct Seats<J: Store> {
     pub log: Log<Event, J>,
     pub faults: Faults<Event, J>,
     pub numbers: Numbers<Event, J>,
     pub fronts: Vec<Front<Event, J>>,
-    pub session: Session<Event, J>,
+    pub maker: Maker<Event, J>,
 }
 
 // A seat for each shard, with its last number.
@@ -44,7 +44,7 @@ fn fronts<J: Store>(
     Ok(fronts)
 }
 
-/// The seats of a run over these shards.
+/// The seats of a store with these shards.
 pub(crate) fn make_seats<J: Store>(
     alloc: Global,
     table: Table<Item<Event>>,
@@ -56,19 +56,18 @@ pub(crate) fn make_seats<J: Store>(
     ensures faults { IfOk result (λ s. (s.faults.number ≡ 0) × (s.faults.committed ≡ 0) × (s.faults.first ≡ 0)) }
     ensures places { IfOk result (λ s. map (λ f. f.shard) s.fronts.items ≡ numbers 0 (length shards.now)) }
     ensures numbers { IfOk result (λ s. map (λ f. f.number) s.fronts.items ≡ map (λ x. x.number) shards.now) }
-    ensures session { IfOk result (λ s. s.session.calls ≡ 0) }
+    ensures out { IfOk result (λ s. s.maker.out ≡ 0) }
 {
     let mut maker = Maker::first(table);
     let log = Log::new(maker.fresh(0)?);
     let faults = Faults::new(maker.fresh(1)?);
     let numbers = Numbers::new(maker.fresh(2)?, 0);
     let fronts = fronts(alloc, &mut maker, shards)?;
-    let session = maker.session()?;
     Ok(Seats {
         log,
         faults,
         numbers,
         fronts,
-        session,
+        maker,
     })
 }

@@ -1,8 +1,10 @@
 //! Tests of whole runs, of what no script can show: faults of the source and the sink, the longest
-//! script, many statements; and of the words that the command takes. They stand apart since a crate with
+//! script, many statements; of an open store; and of the words that the command takes. They stand apart since a crate with
 //! tests is proved twice.
 #![tactic(auto)]
 
+#[cfg(test)]
+mod nodes;
 #[cfg(test)]
 mod runs;
 #[cfg(test)]

@@ -19,7 +19,7 @@ use Rattle.cas_node.specs.History.{History}
 use Rattle.cas_node.specs.Found.{Begins}
 use Rattle.cas_node.specs.Entered.{AreEntered, IsLeft}
 use Rattle.cas_node.specs.Ran.{RanFrom, with_faults}
-use Rattle.cas_node.specs.Inner.Starts.{IsInMemory, IsTold}
+use Rattle.cas_node.specs.Starts.{IsInMemory, IsTold}
 use Rattle.cas_node.specs.Inner.Turns.{IsEnd}
 
 -- The lines of the script ran in a store of these entries and mutations, and accepted this list; where all that was found lasts, so does what was

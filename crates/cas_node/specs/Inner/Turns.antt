@@ -1,48 +1,45 @@
 -- One line's turn, and what came of its reply (own).
-use Rattle.std.specs.Prelude.{◌≡◌, ◌⊎◌, ℕ, ℤ, false, Option, None, Some, List}
+use Rattle.std.specs.Prelude.{◌≡◌, ℕ, ℤ, false, Option, None, Some, Err, List}
 use Rattle.std.specs.Io.KnownBytes.{Appends, Keeps}
 use Rattle.cas_io.specs.Streams.{AppendsFront}
 use Rattle.cas_io.specs.declared.script.ScriptFault.{ScriptFault}
 use Rattle.cas_io.specs.declared.script.ScriptFault.TheVariants as fault
-use Rattle.cas_disk.specs.Disk.{Disk}
-use Rattle.cas_atoms.specs.declared.atom.Mutation.{Mutation}
 use Rattle.cas_effects.specs.declared.refusal.TheConstants.{TOO_LARGE, TOO_MANY}
-use Rattle.cas_journal.specs.Stores.{Told}
 use Rattle.cas_journal.specs.declared.fault.JournalFault.{JournalFault}
 use Rattle.cas_journal.specs.declared.fault.JournalFault.TheVariants.{TooLarge, TooMany, Stopped, Failed, Mem}
-use Rattle.cas_render.specs.declared.reply.Failure.TheVariants as failure
+use Rattle.cas_opening.specs.declared.fault.OpenFault.{OpenFault}
+use Rattle.cas_opening.specs.declared.fault.OpenFault.TheVariants as open_fault
 use Rattle.cas_render.specs.declared.reply.Reply.{Reply}
 use Rattle.cas_render.specs.declared.reply.Reply.TheVariants as reply
 use Rattle.cas_render.specs.Text.{reply_text}
 use Rattle.cas_words.specs.declared.words.ClockKind.{ClockKind}
+use Rattle.cas_words.specs.declared.words.ClockKind.TheVariants as clock
+use Rattle.cas_node.specs.declared.answer.Fault.{Fault}
+use Rattle.cas_node.specs.declared.answer.Fault.TheVariants as fault_of
 use Rattle.cas_node.specs.declared.cause.Cause.{Cause}
 use Rattle.cas_node.specs.declared.cause.Cause.TheVariants as cause
-use Rattle.cas_node.specs.declared.session.PrintFault.{PrintFault}
-use Rattle.cas_node.specs.declared.session.PrintFault.TheVariants as print
+use Rattle.cas_node.specs.declared.script.PrintFault.{PrintFault}
+use Rattle.cas_node.specs.declared.script.PrintFault.TheVariants as print
 use Rattle.cas_node.specs.History.{History, Answers, tells_want}
+use Rattle.cas_node.specs.Calls.{reply_of}
 use Rattle.cas_node.specs.Ran.{reply_cause, worse}
-use Rattle.cas_node.specs.Inner.State.{State, StandsFor, LastsFor}
-
--- from one history to another the store went on: its memory stands for the other, and its disk keeps what that says
-pub record GoesOnTo (h after : History) (s t : State) (old new : Disk) : Type 0 where
-  pub stands : StandsFor after t
-  pub lasts : (found : List Mutation) (told : Told) → LastsFor h found s old told → (now : Told) × LastsFor after found t new now
-
--- whichever history it stood for, it went on to one that follows it so
-abbrev pub Moves : (History → History → Type 0) → State → State → Disk → Disk → Type 0
-Moves Follows s t old new = (h : History) → StandsFor h s → (after : History) × Follows h after × GoesOnTo h after s t old new
-
--- memory ran out before anything changed, or this follows
-abbrev pub OrWant : Reply → (History → History → Type 0) → History → History → Type 0
-OrWant r Follows h after = ((r ≡ reply.Failed failure.Memory) × (after ≡ h)) ⊎ Follows h after
 
 -- what a write or a definition is answered that the room didn't take
+abbrev pub fault_for : JournalFault → Fault
+fault_for (TooLarge length limit) = fault_of.Refused TOO_LARGE
+fault_for (TooMany what limit) = fault_of.Refused TOO_MANY
+fault_for (Stopped first) = fault_of.Stopped first
+fault_for Failed = fault_of.Disk None
+fault_for Mem = fault_of.Mem
+
+-- and what is printed then
 abbrev pub reply_for : JournalFault → Reply
-reply_for (TooLarge length limit) = reply.Refused TOO_LARGE
-reply_for (TooMany what limit) = reply.Refused TOO_MANY
-reply_for (Stopped first) = reply.Failed failure.Stopped
-reply_for Failed = reply.Failed failure.Disk
-reply_for Mem = reply.Failed failure.Memory
+reply_for f = reply_of (Err (fault_for f))
+
+-- where the manual clock stands, by which statements are performed; the system's stands anywhere
+abbrev pub StandsAt : ClockKind → ℤ → ℤ → Type 0
+StandsAt clock.Manual seconds at = at ≡ seconds
+StandsAt clock.System seconds at = Unit {0}
 
 -- what came of writing a reply: all of it was written; a front of it; or nothing, as memory ran out, and it isn't `failed memory`
 abbrev pub PrintedReply : Option PrintFault → Reply → Option (List ℕ) → Option (List ℕ) → Type 0
@@ -88,3 +85,9 @@ abbrev pub cause_of_fault : ScriptFault → Cause
 cause_of_fault fault.Read = cause.Read
 cause_of_fault (fault.TooLong taken) = cause.TooLong taken
 cause_of_fault fault.Mem = cause.Mem
+
+-- why an opening ends the run
+abbrev pub cause_of_opening : OpenFault → Cause
+cause_of_opening (open_fault.Bad name at) = cause.Bad name at
+cause_of_opening open_fault.Failed = cause.Disk
+cause_of_opening open_fault.Mem = cause.Mem

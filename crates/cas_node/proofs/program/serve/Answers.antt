@@ -1,20 +1,39 @@
-use Rattle.std.proofs.Common.{◌∙◌, sym, ap}
-use Rattle.cas_history.specs.Items.{listed, log_list}
-use Rattle.cas_node.specs.Inner.Serving.{Serves}
+use Rattle.std.proofs.Common.{◌∙◌, pos, sym, ap, subst}
+use Rattle.std.specs.Prelude.{IsSome}
 use Rattle.cas_node.specs.Ran.{with_faults}
-use Rattle.cas_node.proofs.RunLemmas.{serves, with_others}
+use Rattle.cas_node.proofs.RunLemmas.{begins_as, left_by, opened_as, pass_by, serves_as}
 use Rattle.cas_node.proofs.program.serve.Goals as goal
 
 pub returns-clause-served : goal.returns-clause-served
 returns-clause-served g c =
-    let n = c.assembled-node.ensures in
-    let seats = c.in-Ok.ensures in
-    let z = c.closed.ensures in
-    with_others
-    (λ l ts xs j x u. Serves c.args.ask.now.kind (g.C.Clock.may_give c.args.ask.now.clock.now) c.args.script.now (g.K.Sink.took c.args.sink.now)
-    (g.K.Sink.took c.session-told.new.sink) l ts xs j (g.F.Folder.disk x) (g.F.Folder.faults_of x) c.args.faults (g.F.Folder.disk u) (g.F.Folder.faults_of u)
-    c.closed.result.pass c.closed.result.cause)
-    _ _ _ _ _ _ _ _ _ _ _ _ n.limits (ap (λ v. v.items) n.tables) (ap (λ v. v.items) n.shards) n.room.1 n.room.0 (sym z.folder)
-    (serves _ _ _ _ _ _ _ _ _ _ _ _ c.session-told.ensures.ran n.clock (ap (λ l. listed log_list l.pass.saw) n.room.2 ∙ seats.log)
-    (ap (λ x. x.calls) n.session ∙ seats.session) (ap (λ x. x.committed) n.room.3 ∙ seats.faults.1) (ap (λ j. j.first) n.room.1 ∙ c.requires.runs.0)
-    (z.cause ∙ ap (λ x. with_faults c.args.faults (g.F.Folder.faults_of x) c.session-told.result) z.folder) z.images _ z.some z.pass)
+    let o = c.args.opened in
+    let seat = c.in-Ok-session.session.seat in
+    let last = c.run_lines-told.new.runner in
+    let ended = ap (λ r. r.folder) c.end.ensures.room in
+    let closed = c.finished.ensures.folder ∙ c.close-2.ensures.folder ∙ ended in
+    serves_as c.args.ask.now.kind (g.C.Clock.may_give c.args.ask.now.clock.now) c.args.script.now _ _ _ _ _ _ c.args.faults c.run_lines-told.result c.finished.result.cause
+    c.run_lines-told.ensures.ran o.started.limits o.started.tables.items o.started.shards.items o.started.journal (g.F.Folder.faults_of o.folder)
+    (opened_as _ _ _ _ _ _ _ seat.list seat.calls (pos 0) c.session.ensures.same c.in-Ok-session.ensures.begun.0 c.in-Ok.ensures.made)
+    (λ given entries mutations memory.
+    begins_as given entries mutations _ _ seat.list seat.calls _ _ c.session.ensures.same c.in-Ok-session.ensures.begun.0
+    (ap (λ r. g.F.Folder.disk r.folder) c.session.ensures.room ∙ ap (λ x. g.F.Folder.disk x) c.in-Ok.ensures.folder)
+    (c.in-Ok.ensures.begins given entries mutations memory seat.list))
+    o.runs.0
+    (c.finished.ensures.cause ∙ ap (λ x. with_faults c.args.faults (g.F.Folder.faults_of x) c.run_lines-told.result) closed)
+    (left_by _ _ last.session.seat.list last.session.seat.calls last.seconds _ _ _ c.end.ensures.same (ap (λ x. g.F.Folder.disk x) ended)
+    (ap (λ x. g.F.Folder.disk x) (c.close-2.ensures.folder ∙ ended)) c.close-2.ensures.left)
+    _ _ _ c.finished.result.pass
+    (ap (λ r. g.F.Folder.disk r.folder) c.session.ensures.room ∙ ap (λ x. g.F.Folder.disk x) c.in-Ok.ensures.folder)
+    (sym (ap (λ x. g.F.Folder.disk x) closed))
+    (sym (ap (λ x. g.F.Folder.faults_of x) closed))
+    (subst (λ p. IsSome p) (sym c.finished.ensures.pass) c.close-2.ensures.some)
+    (pass_by _ _ last.session.seat.list last.session.seat.calls last.seconds _ _ c.end.ensures.same c.finished.ensures.pass
+    (c.close-2.ensures.pass last.session.seat.list last.session.seat.calls last.seconds))
+
+pub run_lines-told-requires : goal.run_lines-told-requires
+run_lines-told-requires g c =
+    let o = c.args.opened in
+    let seat = c.in-Ok-session.session.seat in
+    let opened = opened_as o.started.limits o.started.tables.items o.started.shards.items o.started.journal (g.F.Folder.faults_of o.folder) _ _ seat.list seat.calls (pos 0)
+    c.session.ensures.same c.in-Ok-session.ensures.begun.0 c.in-Ok.ensures.made in
+    record { begun = (c.in-Ok-session.ensures.begun.0, opened.accepted) }

@@ -3,44 +3,39 @@ use Rattle.std.proofs.lemmas.Int.{ints}
 use Rattle.std.proofs.lemmas.Option.{slice_get_read}
 use Rattle.cas_shard.specs.Shards.{look_at, raised}
 use Rattle.cas_shard.specs.Stands.{Stands}
-use Rattle.cas_node.proofs.Moving.{moves_look, shows_none, shows_rows, sound_look}
+use Rattle.cas_node.proofs.Moving.{moves_look, shows_none, shows_rows}
+use Rattle.cas_node.proofs.Sounding.{sound_looked}
 use Rattle.cas_node.proofs.node.Node.read.Goals as goal
 
 pub returns-in-Ok-clause-shows : goal.returns-in-Ok-clause-shows
-returns-in-Ok-clause-shows g c =
+returns-in-Ok-clause-shows g c = λ session calls clock.
     let n = c.args.self.now in
     let x = c.index_mut.result.now in
     let at : to_z w64 (of_z w64 c.args.reading) ≡ c.args.reading = omega (arith, ints) in
     let now : to_z w64 (of_z w64 c.in-Ok.look.now) ≡ c.in-Ok.look.now = search rules in
     moves_look _ _ c.args.read x c.look.new.self c.args.reading _
-    (slice_get_read n.shards.items n.limits.shards c.args.read.shard x (sym c.requires.sound.count) c.requires.within.0 c.index_mut.ensures.value) c.look.ensures.number
+    (slice_get_read n.shards.items n.limits.shards c.args.read.shard x (sym c.args.self.now.sound.count) c.requires.within.0 c.index_mut.ensures.value) c.look.ensures.number
     (λ ts z stands. subst (λ (k : ℤ). Stands ts (raised k z) c.look.new.self) at (c.look.ensures.stands ts z stands))
     (λ z stands.
     shows_rows z c.args.reading (to_z w64 (of_z w64 c.in-Ok.look.now)) c.args.read c.in-Ok.look now
     (c.in-Ok.ensures.shows n.tables.items z stands c.requires.fits ∙ ap (λ (k : ℤ). look_at k z c.args.read.query) at))
 
-pub returns-in-Ok-clause-sound : goal.returns-in-Ok-clause-sound
-returns-in-Ok-clause-sound g c =
-    let n = c.args.self.now in
-    let x = c.index_mut.result.now in
-    sound_look _ c.args.read.shard x c.look.new.self
-    (slice_get_read n.shards.items n.limits.shards c.args.read.shard x (sym c.requires.sound.count) c.requires.within.0 c.index_mut.ensures.value) c.look.ensures.number
-    c.requires.sound
-
 pub returns-in-Err-clause-shows : goal.returns-in-Err-clause-shows
-returns-in-Err-clause-shows g c =
+returns-in-Err-clause-shows g c = λ session calls clock.
     let n = c.args.self.now in
     let x = c.index_mut.result.now in
     let at : to_z w64 (of_z w64 c.args.reading) ≡ c.args.reading = omega (arith, ints) in
     moves_look _ _ c.args.read x c.look.new.self c.args.reading _
-    (slice_get_read n.shards.items n.limits.shards c.args.read.shard x (sym c.requires.sound.count) c.requires.within.0 c.index_mut.ensures.value) c.look.ensures.number
+    (slice_get_read n.shards.items n.limits.shards c.args.read.shard x (sym c.args.self.now.sound.count) c.requires.within.0 c.index_mut.ensures.value) c.look.ensures.number
     (λ ts z stands. subst (λ (k : ℤ). Stands ts (raised k z) c.look.new.self) at (c.look.ensures.stands ts z stands))
     (λ z stands. shows_none z c.args.reading c.args.read)
 
-pub returns-in-Err-clause-sound : goal.returns-in-Err-clause-sound
-returns-in-Err-clause-sound g c =
+pub invariant_of-self : goal.invariant_of-self
+invariant_of-self g c =
     let n = c.args.self.now in
     let x = c.index_mut.result.now in
-    sound_look _ c.args.read.shard x c.look.new.self
-    (slice_get_read n.shards.items n.limits.shards c.args.read.shard x (sym c.requires.sound.count) c.requires.within.0 c.index_mut.ensures.value) c.look.ensures.number
-    c.requires.sound
+    record {
+      sound =
+          sound_looked _ _ _ _ _ _ c.args.read.shard x c.look.new.self c.args.self.now.sound
+          (slice_get_read n.shards.items n.limits.shards c.args.read.shard x (sym c.args.self.now.sound.count) c.requires.within.0 c.index_mut.ensures.value) c.look.ensures.number;
+    }

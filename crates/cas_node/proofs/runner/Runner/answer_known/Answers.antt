@@ -1,0 +1,23 @@
+use Rattle.std.proofs.Common.{arith}
+use Rattle.std.proofs.lemmas.Int.{ints}
+use Rattle.cas_node.proofs.Answering.{answers_clock, answers_statement, says_moment, says_spelled, stands_at}
+use Rattle.cas_node.proofs.runner.Runner.answer_known.Goals as goal
+
+pub set_clock-requires : goal.set_clock-requires
+set_clock-requires g c = record {
+  moment = says_moment c.args.text.now c.args.line c.in-Clock.seconds _ (omega (arith, ints)) c.requires.says c.in-Clock.is;
+}
+
+pub answer-answer-requires-clause-spelled : goal.answer-answer-requires-clause-spelled
+answer-answer-requires-clause-spelled g c = says_spelled c.args.text.now c.args.line c.in-Statement.statement c.requires.says c.in-Statement.is
+
+pub returns-in-Clock-clause-answers : goal.returns-in-Clock-clause-answers
+returns-in-Clock-clause-answers g c =
+    answers_clock c.args.ask.now.kind (g.C.Clock.may_give c.args.ask.now.clock.now) _ _ _ _ c.args.text.now c.args.line c.in-Clock.seconds _ _ c.set_clock.ensures.sets (omega (arith, ints))
+    c.requires.says c.in-Clock.is
+
+pub returns-in-Statement-clause-answers : goal.returns-in-Statement-clause-answers
+returns-in-Statement-clause-answers g c =
+    answers_statement c.args.ask.now.kind (g.C.Clock.may_give c.args.ask.now.clock.now) _ _ _ _ c.args.text.now c.args.line c.in-Statement.statement _ _ c.reply_of.ensures
+    c.requires.says c.in-Statement.is
+    (c.answer-answer.ensures.does c.args.self.now.seconds (stands_at c.args.ask.now.kind _ c.args.self.now.seconds (omega (arith, ints))))

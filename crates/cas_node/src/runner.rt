@@ -1,0 +1,108 @@
+//! What each line of a script does with an open store.
+
+ghost use Rattle.std.specs.Prelude.{◌≡◌};
+ghost use Rattle.cas_types.specs.Limits.{IsMoment};
+ghost use Rattle.cas_disk.specs.Disk.{Disk};
+ghost use Rattle.cas_lines.specs.Lines.{Says};
+ghost use Rattle.cas_node.specs.History.{Answers, SetsClock};
+ghost use Rattle.cas_node.specs.Nodes.{CountsOn, IsFew, Moves, State};
+
+use crate::answer::reply_of;
+use crate::node::{Node, Session, Stored};
+use crate::statements::Ask;
+use cas_disk::Folder;
+use cas_effects::{NOT_HERE, SYNTAX};
+use cas_io::Clock;
+use cas_ledger::Store;
+use cas_lines::{Line, read_line};
+use cas_render::{Failure, Reply};
+use cas_types::Mem;
+use cas_words::ClockKind;
+use std::alloc::Global;
+
+/// What contracts see of a runner.
+pub(crate) trait Running {
+    // The store that it runs lines in, as its session has it.
+    ghost state: { Self → State };
+
+    // What is known of the store's folder.
+    ghost disk: { Self → Disk };
+}
+
+/// What runs the lines of a script: the store, its session there, and the seconds that the last `\clock` set.
+pub(crate) struct Runner<F: Folder, J: Store> {
+    pub node: Node<F, J>,
+    pub session: Session<J>,
+    pub seconds: i64,
+    ghost moment: { IsMoment seconds },
+}
+
+impl<F: Folder, J: Store> Running for Runner<F, J> {
+    ghost state = { λ r. ⟦<Node<F, J> as Stored>⟧.state r.node r.session.seat.list r.session.seat.calls r.seconds };
+
+    ghost disk = { λ r. ⟦<Node<F, J> as Stored>⟧.disk r.node };
+}
+
+impl<F: Folder, J: Store> Runner<F, J> {
+    fn set_clock(&mut self, kind: ClockKind, seconds: i64) -> Reply
+        requires moment { IsMoment seconds }
+        ensures sets { Moves (λ h after. SetsClock kind h seconds result after)
+            (⟦<Runner<F, J> as Running>⟧.state self.old) (⟦<Runner<F, J> as Running>⟧.state self.new)
+            (⟦<Runner<F, J> as Running>⟧.disk self.old) (⟦<Runner<F, J> as Running>⟧.disk self.new) }
+        ensures counts { CountsOn (⟦<Runner<F, J> as Running>⟧.state self.old) (⟦<Runner<F, J> as Running>⟧.state self.new) }
+    {
+        match kind {
+            ClockKind::Manual => {
+                self.seconds = seconds;
+                Reply::Done
+            }
+            ClockKind::System => Reply::Refused(NOT_HERE),
+        }
+    }
+
+    fn answer_known<C: Clock>(
+        &mut self,
+        alloc: Global,
+        ask: &Ask<'_, C>,
+        text: &[u8],
+        line: Line,
+    ) -> Option<Reply>
+        requires few { IsFew (⟦<Runner<F, J> as Running>⟧.state self.old) }
+        requires says { Says text.now line }
+        ensures answers { Moves (λ h after. Answers ask.now.kind (C.may_give ask.now.clock.now) h text.now result after)
+            (⟦<Runner<F, J> as Running>⟧.state self.old) (⟦<Runner<F, J> as Running>⟧.state self.new)
+            (⟦<Runner<F, J> as Running>⟧.disk self.old) (⟦<Runner<F, J> as Running>⟧.disk self.new) }
+        ensures counts { CountsOn (⟦<Runner<F, J> as Running>⟧.state self.old) (⟦<Runner<F, J> as Running>⟧.state self.new) }
+    {
+        match line {
+            Line::Blank => None,
+            Line::Syntax => Some(Reply::Refused(SYNTAX)),
+            Line::Clock(seconds) => Some(self.set_clock(ask.kind, seconds)),
+            Line::Statement(statement) => {
+                let answer = self
+                    .node
+                    .answer(alloc, &mut self.session, ask, self.seconds, &statement);
+                Some(reply_of(answer))
+            }
+        }
+    }
+
+    /// Answers one line; one that says nothing isn't answered.
+    pub fn answer_line<C: Clock>(
+        &mut self,
+        alloc: Global,
+        ask: &Ask<'_, C>,
+        line: &[u8],
+    ) -> Option<Reply>
+        requires few { IsFew (⟦<Runner<F, J> as Running>⟧.state self.old) }
+        ensures answers { Moves (λ h after. Answers ask.now.kind (C.may_give ask.now.clock.now) h line.now result after)
+            (⟦<Runner<F, J> as Running>⟧.state self.old) (⟦<Runner<F, J> as Running>⟧.state self.new)
+            (⟦<Runner<F, J> as Running>⟧.disk self.old) (⟦<Runner<F, J> as Running>⟧.disk self.new) }
+        ensures counts { CountsOn (⟦<Runner<F, J> as Running>⟧.state self.old) (⟦<Runner<F, J> as Running>⟧.state self.new) }
+    {
+        match read_line(alloc, line) {
+            Ok(said) => self.answer_known(alloc, ask, line, said),
+            Err(Mem) => Some(Reply::Failed(Failure::Memory)),
+        }
+    }
+}
