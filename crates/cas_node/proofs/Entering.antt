@@ -2,7 +2,6 @@
 use Rattle.std.proofs.Common.{◌≡◌, ◌<◌, ◌≤◌, ◌+◌, ◌^◌, ◌/◌, ◌-◌, min, inl, inr, ℕ, ℤ, zero, suc, Bool, true, false, List, [], ◌∷◌, ◌++◌, length, map, Option, Some, None, Result, Ok, Err, is_some, refl, sym, ap, ◌∙◌, subst, arith}
 use Rattle.std.specs.Prelude.{slice_get, slice_set, slice_index_or, ◌⊎◌}
 use Rattle.std.proofs.lemmas.Option.{same_Some}
-use Rattle.cas_types.specs.Limits.{IsShardCount}
 use Rattle.cas_types.specs.declared.schema.TableSchema.{TableSchema}
 use Rattle.cas_io.specs.Causes.{Rose}
 use Rattle.cas_disk.specs.Disk.{Disk}
@@ -11,10 +10,7 @@ use Rattle.cas_atoms.specs.Fits.{FitsMutation}
 use Rattle.cas_atoms.specs.LogLength.{record_length}
 use Rattle.cas_atoms.specs.declared.atom.Mutation.{Mutation}
 use Rattle.cas_bind.specs.Fitting.{BoundFits}
-use Rattle.cas_bind.specs.Tables.{AreTables}
 use Rattle.cas_bind.specs.declared.bound.Bound.TheVariants as bound
-use Rattle.cas_bind.specs.declared.bound.Limits.{Limits}
-use Rattle.cas_log.specs.Segment.{IsSize}
 use Rattle.cas_effects.specs.declared.effect.BoundWrite.{BoundWrite}
 use Rattle.cas_entries.specs.declared.entry.Entry.{Entry}
 use Rattle.cas_entries.specs.declared.entry.Entry.TheVariants as entry
@@ -44,7 +40,7 @@ use Rattle.cas_node.specs.Nodes.{State, StandsFor, LastsFor, disk_of}
 use Rattle.cas_node.specs.Inner.Sound.{IsSoundState}
 use Rattle.cas_node.specs.Nodes.{Moves}
 use Rattle.cas_node.specs.Inner.Turns.{reply_for}
-use Rattle.cas_node.proofs.Places.{get_within, get_map, index_here, length_set, map_set, map_set_same}
+use Rattle.cas_node.proofs.Places.{get_within, get_map, index_here}
 use Rattle.cas_node.proofs.Moving.{none_more, one_more, with_entries, raised_is, stands_write}
 use Rattle.cas_node.proofs.Lasting.{lasts_still, may_be_taken, lasts_with_room, lasts_taken}
 

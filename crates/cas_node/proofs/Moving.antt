@@ -25,10 +25,9 @@ use Rattle.cas_shard.specs.declared.shard.Shard.{Shard}
 use Rattle.cas_node.specs.History.{History, Shows, after_entries, after_read, after_write, rows_reply, shard_at, with_shard}
 use Rattle.cas_node.specs.Entered.{entries_in, entry_in}
 use Rattle.cas_node.specs.Nodes.{State, StandsFor, disk_of}
-use Rattle.cas_node.specs.Inner.Sound.{IsSoundState}
 use Rattle.cas_node.specs.Nodes.{Moves}
 use Rattle.cas_node.proofs.Lasting.{lasts_still}
-use Rattle.cas_node.proofs.Places.{same_place, length_set, get_here, get_other, get_within, index_here, index_other, is_same, is_other, map_set_same}
+use Rattle.cas_node.proofs.Places.{same_place, length_set, get_here, get_other, get_within, index_here, index_other, is_same, is_other}
 
 -- ---- entries
 

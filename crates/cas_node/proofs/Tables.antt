@@ -7,8 +7,6 @@ use Rattle.cas_types.specs.Limits.{IsShardCount}
 use Rattle.cas_types.specs.declared.schema.Column.{Column}
 use Rattle.cas_types.specs.declared.schema.TableSchema.{TableSchema}
 use Rattle.cas_gates.specs.declared.first.First.{First}
-use Rattle.cas_bind.specs.declared.bound.Limits.{Limits}
-use Rattle.cas_ledger.specs.Hands.{numbers}
 use Rattle.cas_replay.specs.Grammar.{AreInOrder, AscendByOne, numbers_of}
 use Rattle.cas_node.specs.Entered.{entries_in}
 use Rattle.cas_bind.specs.declared.bound.Bound.{Bound}
@@ -31,12 +29,11 @@ use Rattle.define_laws.specs.Entries.{MayTell}
 use Rattle.cas_bounds.specs.declared.order.Ordered.{Ordered}
 use Rattle.cas_disk.specs.Disk.{Disk}
 use Rattle.cas_atoms.specs.declared.atom.Mutation.{Mutation}
-use Rattle.cas_bind.specs.Tables.{AreInPlace, AreTables, tables_after, with_added}
+use Rattle.cas_bind.specs.Tables.{AreInPlace, tables_after, with_added}
 use Rattle.cas_changes.specs.Saying.{Saying, said_by, nothing, after}
 use Rattle.cas_changes.specs.declared.entry.Entry.{Entry as ManifestEntry}
 use Rattle.cas_define.specs.declared.addition.Addition.{Addition}
 use Rattle.cas_history.specs.declared.item.Item.{Item}
-use Rattle.cas_log.specs.Segment.{IsSize}
 use Rattle.cas_journal.specs.Stores.{Told}
 use Rattle.cas_journal.proofs.Fitting.{NoKeys, no_keys, same_order}
 use Rattle.cas_memtable.specs.declared.memtable.MemPart.{MemPart}
@@ -51,7 +48,6 @@ use Rattle.cas_shard.specs.declared.shard.Shard.{Shard}
 use Rattle.cas_node.specs.History.{Changes, Defines, History, DiskState, shard_at}
 use Rattle.cas_node.specs.Inner.Definitions.{MayBeTold}
 use Rattle.cas_node.specs.Nodes.{State, StandsFor, LastsFor, disk_of}
-use Rattle.cas_node.specs.Inner.Sound.{IsSoundState}
 use Rattle.cas_node.specs.Nodes.{Moves}
 use Rattle.cas_node.specs.Inner.Turns.{reply_for}
 

@@ -1,10 +1,8 @@
 -- What the calls of an open store answer (own).
-use Rattle.std.specs.Prelude.{◌≡◌, ℕ, ℤ, List, Bool, true, false, not, Result, Ok, Err, Option, Some, None, [], ◌∷◌, ◌++◌, ◌⊎◌, if◌then◌else◌}
+use Rattle.std.specs.Prelude.{◌≡◌, ℕ, ℤ, List, Bool, true, false, not, Result, Ok, Err, Some, None, [], ◌∷◌, ◌++◌, if◌then◌else◌}
 use Rattle.cas_atoms.specs.declared.atom.Mutation.{Mutation}
 use Rattle.cas_bind.specs.Meaning.{meaning}
 use Rattle.cas_effects.specs.declared.refusal.TheConstants.{NOT_HERE, SYNTAX}
-use Rattle.cas_gates.specs.declared.first.First.{First}
-use Rattle.cas_history.specs.declared.item.Item.{Item}
 use Rattle.cas_history.specs.declared.item.Item.TheVariants.{Wrote as WroteOf}
 use Rattle.cas_lines.specs.Lines.{Says}
 use Rattle.cas_lines.specs.declared.line.Line.{Line}
@@ -12,7 +10,6 @@ use Rattle.cas_lines.specs.declared.line.Line.TheVariants as line
 use Rattle.cas_render.specs.declared.reply.Failure.TheVariants as failure
 use Rattle.cas_render.specs.declared.reply.Reply.{Reply}
 use Rattle.cas_render.specs.declared.reply.Reply.TheVariants as reply
-use Rattle.cas_room.specs.declared.event.Event.{Event}
 use Rattle.cas_room.specs.declared.event.Event.TheVariants as event
 use Rattle.cas_words.specs.declared.words.ClockKind.TheVariants as clock
 use Rattle.cql_parse.specs.declared.syntax.Statement.{Statement}

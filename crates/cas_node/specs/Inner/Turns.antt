@@ -10,7 +10,6 @@ use Rattle.cas_journal.specs.declared.fault.JournalFault.TheVariants.{TooLarge, 
 use Rattle.cas_opening.specs.declared.fault.OpenFault.{OpenFault}
 use Rattle.cas_opening.specs.declared.fault.OpenFault.TheVariants as open_fault
 use Rattle.cas_render.specs.declared.reply.Reply.{Reply}
-use Rattle.cas_render.specs.declared.reply.Reply.TheVariants as reply
 use Rattle.cas_render.specs.Text.{reply_text}
 use Rattle.cas_words.specs.declared.words.ClockKind.{ClockKind}
 use Rattle.cas_words.specs.declared.words.ClockKind.TheVariants as clock
