@@ -10,6 +10,7 @@ mod Crashing
 mod Entering
 mod Tables
 mod Serving
+mod Stopping
 mod RunLemmas
 mod Founding
 mod Unflushed

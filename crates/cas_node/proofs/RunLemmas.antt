@@ -35,7 +35,7 @@ use Rattle.cas_words.specs.declared.words.Command.{Command}
 use Rattle.cas_node.specs.declared.cause.Cause.{Cause}
 use Rattle.cas_node.specs.declared.cause.Cause.TheVariants as cause
 use Rattle.cas_node.specs.declared.program.TheConstants.{SCRIPT_LIMIT}
-use Rattle.cas_node.specs.History.{History, Runs}
+use Rattle.cas_node.specs.History.{History, DiskState, Runs}
 use Rattle.cas_node.specs.Found.{Begins, IsUnfit, IsUnflushed, start}
 use Rattle.cas_node.specs.Ran.{AllWell, Ended, GoodOrMem, IfBad, IsGranted, IsNotRun, Outside, Ran, RanAll, RanFrom, Stop, WriteRose, at_the_end, at_the_sink, for_memory, has_risen, reply_cause, with_faults, worse, worst}
 use Rattle.cas_node.specs.Inner.Serving.{Served, Serves}
@@ -44,6 +44,7 @@ use Rattle.cas_node.specs.Starts.{BeginsAs, IsInMemory, IsOpenedAs, IsStarted}
 use Rattle.cas_node.specs.Inner.Turns.{cause_of_opening}
 use Rattle.cas_node.specs.Nodes.{State, StandsFor, LastsFor, disk_of}
 use Rattle.cas_node.specs.Nodes.{Moves}
+use Rattle.cas_node.proofs.Stopping.{stop_is_counted}
 use Rattle.cas_node.specs.Inner.Turns.{IsEnd}
 
 -- ---- what was served
@@ -130,6 +131,11 @@ pass_by f g session calls clock p q same is of =
     subst (λ (x : Option (List (Item Event))). IfSome x (λ l. l ≡ (g session calls clock).list)) (sym is)
     (subst (λ (x : ℕ → ℕ → ℤ → State). IfSome p (λ l. l ≡ (x session calls clock).list)) same of)
 
+-- how the disk stands at the beginning
+first_disk : (l : Limits) (entries : List ManifestEntry) (mutations : List Mutation) (session : ℕ) (disk : DiskState) → (start l entries mutations session disk).disk ≡ disk
+unfolding start
+first_disk l entries mutations session disk = refl
+
 -- ---- the script ran
 
 keeps : (old new : Option (List ℕ)) → new ≡ old → KeepsBytes old new
@@ -150,6 +156,9 @@ module _ (words : List (List ℕ)) (Gives : ℤ → Type 0) (before after : Outs
     segment = begins.segment;
   }
 
+  at_first : (h : History) (begins : Begins c.limits started.entries started.mutations faults h) → h.disk ≡ begins.disk
+  at_first h begins = ap (λ (k : History). k.disk) begins.history ∙ first_disk c.limits started.entries started.mutations begins.session begins.disk
+
   of_served : (list : List (Item Event))
       → Served c.clock Gives script before.taken after.taken c.limits started.entries started.mutations journal mid after.folder n faults after.folder_faults list why
       → Ran c Gives script before after list why
@@ -165,6 +174,10 @@ module _ (words : List (List ℕ)) (Gives : ℤ → Type 0) (before after : Outs
     entered = served.entered;
     crash = λ image reads bytes i left. let (t, told, lasts) = started.lasts image reads bytes in served.crash t told lasts i left;
     faults = served.faults;
+    counted = λ off.
+        stop_is_counted c.clock Gives served.first served.ran.run served.ran.replies served.final before.folder_faults after.folder_faults served.ran.steps
+        (ap (λ (d : DiskState). d.stopped) (at_first served.first served.begins) ∙ served.begins.going)
+        (omega (arith, kept, served.begins.faults, ap (λ (d : DiskState). d.faults) (at_first served.first served.begins))) served.faults off;
     ended = served.ended ∙ ap (λ (k : ℕ). with_faults k after.folder_faults served.told) counted;
   }
 

@@ -169,7 +169,8 @@ abbrev pub with_faults : ℕ → ℕ → Cause → Cause
 with_faults before now why = if has_risen before now then worse why cause.Disk else why
 
 -- A run of the command over a script: its folder had a store of these entries and mutations, or got one; from there the script's lines were run;
--- what they entered is the list that is handed back; and whatever a crash leaves of the folder handed back has all that was acknowledged.
+-- what they entered is the list that is handed back; and whatever a crash leaves of the folder handed back has all that was acknowledged. A write was
+-- stopped only where the folder's count of faults rose, so that otherwise all that was accepted is left.
 pub record Ran (c : Command) (Gives : ℤ → Type 0) (script : List ℕ) (before after : Outside) (list : List (Item Event)) (why : Cause) : Type 0 where
   pub entries : List ManifestEntry
   pub mutations : List Mutation
@@ -182,6 +183,7 @@ pub record Ran (c : Command) (Gives : ℤ → Type 0) (script : List ℕ) (befor
   pub entered : AreEntered list final
   pub crash : (d : Image) → before.folder.reads d → IsOfBytes d → (i : Image) → after.folder.may_leave i → IsLeft mutations list final i
   pub faults : final.disk.faults ≡ after.folder_faults
+  pub counted : final.disk.stopped ≡ true → Rose before.folder_faults after.folder_faults
   pub ended : why ≡ with_faults before.folder_faults after.folder_faults told
 
 -- a run may end so without having run a line

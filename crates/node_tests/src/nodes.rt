@@ -84,7 +84,8 @@ fn used<J: Store>(alloc: Global, opened: Opened<MemFolder>) -> (Option<Answered>
     (Some(answered), node.close().into_folder())
 }
 
-fn opened_and_used(alloc: Global, folder: MemFolder) -> (Option<Answered>, MemFolder) {
+// The store of the folder, or the folder alone.
+fn opened(alloc: Global, folder: MemFolder) -> Result<Opened<MemFolder>, MemFolder> {
     let limits = Limits {
         shards: 1,
         segment: 4_096,
@@ -92,8 +93,15 @@ fn opened_and_used(alloc: Global, folder: MemFolder) -> (Option<Answered>, MemFo
         compactors: 0,
     };
     match start(alloc, folder, &limits) {
+        Ok(opened) => Ok(opened),
+        Err((_, closed)) => Err(closed.into_folder()),
+    }
+}
+
+fn opened_and_used(alloc: Global, folder: MemFolder) -> (Option<Answered>, MemFolder) {
+    match opened(alloc, folder) {
         Ok(opened) => used::<Brand>(alloc, opened),
-        Err((_, closed)) => (None, closed.into_folder()),
+        Err(folder) => (None, folder),
     }
 }
 
