@@ -2,12 +2,18 @@
 //! or their status, isn't what stands beside them.
 #![tactic(auto)]
 
+mod accepted;
+mod alike;
+mod chance;
 mod clock;
 mod compare;
 mod gate;
+mod generated;
+mod reference;
 mod row;
 mod trial;
 
+use crate::alike::{is_alike, is_of_rules};
 use crate::compare::report;
 use crate::row::{RowFault, trials};
 use crate::trial::run_each;
@@ -30,7 +36,7 @@ fn folder(rt: &HostRuntime) -> io::Result<String> {
 }
 
 fn is_of_rows(name: &str) -> bool {
-    name.ends_with(".row") || name.ends_with(".wrong")
+    name.ends_with(".row") || name.ends_with(".wrong") || is_of_rules(name)
 }
 
 // The paths of the folder's files of rows, in order.
@@ -78,8 +84,11 @@ fn is_noticed(rt: &HostRuntime, path: &str) -> io::Result<bool> {
     Ok(is_noticed)
 }
 
+// Rules don't say what is to be printed.
 fn is_right(rt: &HostRuntime, path: &str) -> io::Result<bool> {
-    if path.ends_with(".wrong") {
+    if is_of_rules(path) {
+        Ok(true)
+    } else if path.ends_with(".wrong") {
         is_noticed(rt, path)
     } else {
         agrees(rt, path)
@@ -92,7 +101,7 @@ fn count_files(rt: &HostRuntime) -> io::Result<Tally> {
         differ: 0,
     };
     for path in &paths(rt)? {
-        if is_right(rt, path)? {
+        if is_right(rt, path)? && is_alike(rt, path)? {
             tally.agree = tally.agree.saturating_add(1);
         } else {
             tally.differ = tally.differ.saturating_add(1);
