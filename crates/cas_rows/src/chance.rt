@@ -1,5 +1,7 @@
 //! Numbers by chance, the same ones in every run.
 
+ghost use Rattle.std.specs.Prelude.{◌≤◌};
+
 use rand_core::Rng;
 use rand_pcg::Pcg32;
 
@@ -17,10 +19,12 @@ impl Chance {
     }
 
     /// A number below the bound, where that isn't 0.
-    pub fn below(&mut self, bound: usize) -> usize {
-        match (self.generator.next_u32() as usize).checked_rem(bound) {
-            Some(number) => number,
-            None => 0,
+    pub fn below(&mut self, bound: usize) -> usize
+        ensures { result ≤ bound }
+    {
+        if bound == 0 {
+            return 0;
         }
+        self.generator.next_u32() as usize % bound
     }
 }

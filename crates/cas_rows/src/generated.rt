@@ -1,6 +1,8 @@
 //! Scripts that are made by chance. A file of rules says what they are made of: each line is one of the
 //! texts that its first word may stand for, and `$word` in a text stands for one of the word's.
 
+ghost use Rattle.std.specs.Prelude.{◌<◌, ◌^◌};
+
 use crate::chance::Chance;
 use std::alloc::{AllocError, Global};
 
@@ -87,11 +89,13 @@ fn rules_of(alloc: Global, text: &[u8]) -> Result<Vec<Rule<'_>>, AllocError> {
 }
 
 // The texts that the name may stand for.
-fn texts_of<'a>(rules: &'a [Rule<'_>], name: &[u8]) -> &'a [&'a [u8]] {
-    match rules.iter().find(|rule| rule.name == name) {
-        Some(rule) => &rule.texts,
-        None => &[],
+fn texts_of<'a>(rules: &'a [Rule<'a>], name: &[u8]) -> &'a [&'a [u8]] {
+    for rule in rules {
+        if rule.name == name {
+            return rule.texts.as_slice();
+        }
     }
+    &[]
 }
 
 fn push_line(script: &mut Vec<u8>, before: &[u8], text: &[u8]) -> Result<(), AllocError> {
@@ -117,7 +121,9 @@ impl Maker<'_> {
     }
 
     // Around the second of the statement of that number.
-    fn second(&mut self, number: u32) -> u64 {
+    fn second(&mut self, number: u32) -> u64
+        ensures { result < 2 ^ 32 }
+    {
         u64::from(number / STATEMENTS_OF_A_SECOND) + self.chance.below(3) as u64
     }
 
