@@ -5,10 +5,12 @@ ghost use Rattle.cas_types.specs.Limits.{IsShardCount};
 ghost use Rattle.cas_bind.specs.Tables.{AreTables};
 
 use crate::clock::ListedClock;
+use crate::gate::CountedGate;
 use crate::generated::generated;
 use crate::reference::Reference;
 use crate::row::{RowFault, Trial, trials};
-use crate::trial::run_each;
+use crate::running::run_script;
+use cas_disk::{FaultPlan, MemFolder};
 use cas_lines::next_line;
 use cas_render::render;
 use cas_types::Mem;
@@ -134,6 +136,21 @@ fn first_command(alloc: Global, trials: &[Trial]) -> Result<Option<Command>, Mem
     Ok(None)
 }
 
+// What the runs print one after another on one folder, whose calls don't fail.
+fn outputs(alloc: Global, trials: &[Trial]) -> Result<Vec<Vec<u8>>, AllocError> {
+    let mut all = Vec::new(alloc);
+    let mut folder = MemFolder::new(alloc, FaultPlan::none(alloc));
+    for trial in trials {
+        let clock = ListedClock::new(&trial.readings);
+        let script = trial.script.as_slice().to_vec(alloc)?;
+        let gate = CountedGate::new();
+        let (ended, after) = run_script(alloc, &trial.words, script, folder, &clock, &gate)?;
+        all.push(ended.output)?;
+        folder = after;
+    }
+    Ok(all)
+}
+
 // Compares runs on one folder, up to the first that differs or fails.
 fn compare_trials(alloc: Global, trials: &[Trial]) -> Result<Compared, Mem> {
     let Some(command) = first_command(alloc, trials)? else {
@@ -141,8 +158,8 @@ fn compare_trials(alloc: Global, trials: &[Trial]) -> Result<Compared, Mem> {
     };
     let mut reference = Reference::new(alloc, &command);
     let mut lines: u64 = 0;
-    for (i, (trial, found)) in trials.iter().zip(&run_each(alloc, trials)?).enumerate() {
-        match compare_trial(alloc, &mut reference, trial, &found.output)? {
+    for (i, (trial, output)) in trials.iter().zip(&outputs(alloc, trials)?).enumerate() {
+        match compare_trial(alloc, &mut reference, trial, output)? {
             Compared::Alike(count) => lines = lines.saturating_add(count),
             Compared::Failed => break,
             Compared::Differs(what) => {
