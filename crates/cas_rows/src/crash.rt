@@ -128,7 +128,7 @@ impl Pair<'_> {
             } else {
                 STOPPED
             })?;
-            is_undefined = is_undefined || is_lost && line == b"ok\n".as_slice();
+            is_undefined = is_undefined || (is_lost && line == b"ok\n".as_slice());
         }
         Ok(wanted)
     }
@@ -181,7 +181,7 @@ impl Pair<'_> {
                 continue;
             }
             if let Some(found) = self.difference_of_read(alloc, image, fronts, answered)? {
-                return Ok(Some(format!(in alloc; "what isn't synced {name}: {found}")?));
+                return Ok(Some(format!(in alloc; "what isn't synced is {name}: {found}")?));
             }
         }
         Ok(None)
@@ -207,7 +207,7 @@ pub(crate) fn difference_of_crashes(
     let Some(next) = next else {
         return Ok(Some(String::from_str(alloc, "no run follows")?));
     };
-    // The copies of an image are made at once, those of a folder by all that was done to it.
+    // A folder of which each copy costs the copying of its files, and not all that was done to it.
     let folder = past.folder(alloc)?.image(Choice::New)?;
     let pair = Pair {
         folder: &folder,

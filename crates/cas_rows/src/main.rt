@@ -70,7 +70,7 @@ fn differences_of(alloc: Global, path: &str, trials: &[Trial]) -> Result<Vec<Str
     }
     let mut all = Vec::new(alloc);
     for (name, choice) in CHOICES {
-        let path = format!(in alloc; "{path}, what isn't synced {name}")?;
+        let path = format!(in alloc; "{path}, what isn't synced is {name}")?;
         let found = run_each(alloc, trials, choice)?;
         all.append(&mut report(alloc, &path, trials, &found)?)?;
     }

@@ -20,6 +20,8 @@ pub(crate) struct Found {
     pub gate_calls: usize,
     /// What differs where the run is crashed at every call, or cut, if something does.
     pub beside: Option<String>,
+    /// How many calls its folder has had by then.
+    pub calls: u64,
 }
 
 // The calls of the folder that fail, counted from its first: those of the runs before, and of this one.
@@ -65,12 +67,13 @@ fn run_behind(
     let gate = CountedGate::new();
     let script = trial.script.as_slice().to_vec(alloc)?;
     let folder = past.folder(alloc)?;
-    let (ended, _folder) = run_script(alloc, &trial.words, script, folder, &clock, &gate)?;
+    let (ended, folder) = run_script(alloc, &trial.words, script, folder, &clock, &gate)?;
     Ok(Found {
         ended,
         reads: clock.given(),
         gate_calls: gate.calls(),
         beside: beside(alloc, past, trial, next)?,
+        calls: folder.calls(),
     })
 }
 
@@ -89,12 +92,16 @@ pub(crate) fn run_each(
             fails: &fails,
             choice,
         };
-        let planned = planned(alloc, before, trial)?;
+        let mut planned = planned(alloc, before, trial)?;
         let past = Past {
             fails: &planned,
             ..before
         };
-        all.push(run_behind(alloc, past, trial, trials.get(i.saturating_add(1)))?)?;
+        let found = run_behind(alloc, past, trial, trials.get(i.saturating_add(1)))?;
+        if !trial.fails.is_empty() {
+            planned.retain(|call| *call <= found.calls);
+        }
+        all.push(found)?;
         fails = planned;
     }
     Ok(all)
