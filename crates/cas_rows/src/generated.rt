@@ -5,11 +5,9 @@ ghost use Rattle.std.specs.Prelude.{◌<◌, ◌^◌};
 
 use crate::chance::Chance;
 use std::alloc::{AllocError, Global};
+use std::str::from_utf8;
 
-/// How many statements are made, beside definitions and what sets the clock.
-const STATEMENTS: u32 = 10_000;
-
-/// How many of them a run has.
+/// How many statements a run has, beside definitions and what sets the clock.
 const STATEMENTS_OF_A_RUN: u32 = 2_500;
 
 /// How many of them are made until the clock is set to the next second.
@@ -98,6 +96,13 @@ fn texts_of<'a>(rules: &'a [Rule<'a>], name: &[u8]) -> &'a [&'a [u8]] {
     &[]
 }
 
+fn number_in(text: &[u8]) -> u32 {
+    match from_utf8(text) {
+        Ok(digits) => digits.parse().unwrap_or(0),
+        Err(_) => 0,
+    }
+}
+
 fn push_line(script: &mut Vec<u8>, before: &[u8], text: &[u8]) -> Result<(), AllocError> {
     script.extend_from_slice(before)?;
     script.extend_from_slice(text)?;
@@ -111,6 +116,14 @@ fn push_number(alloc: Global, text: &mut Vec<u8>, number: u64) -> Result<(), All
 }
 
 impl Maker<'_> {
+    // How many statements the rules ask for.
+    fn count(&self) -> u32 {
+        match texts_of(&self.rules, b"statements") {
+            [text, ..] => number_in(text),
+            [] => 0,
+        }
+    }
+
     // One of the texts that the name may stand for; nothing where there is none.
     fn choice(&mut self, name: &[u8]) -> &[u8] {
         let texts = texts_of(&self.rules, name);
@@ -209,7 +222,7 @@ pub(crate) fn generated(alloc: Global, rules: &[u8]) -> Result<Vec<u8>, AllocErr
         chance: Chance::new(),
     };
     let mut script = Vec::new(alloc);
-    for number in 0..STATEMENTS {
+    for number in 0..maker.count() {
         maker.next(alloc, number, &mut script)?;
     }
     Ok(script)
