@@ -1,12 +1,10 @@
 //! Tells where what a run came to differs from what stands in its file.
 
+use crate::lines::is_feed;
 use crate::row::Trial;
+use crate::running::Ended;
 use crate::trial::Found;
 use std::alloc::{AllocError, Global};
-
-fn is_feed(byte: &u8) -> bool {
-    *byte == b'\n'
-}
 
 // A line for people to read; `nothing` where there is none.
 fn shown(alloc: Global, line: Option<&[u8]>) -> Result<String, AllocError> {
@@ -59,6 +57,22 @@ fn difference_of_calls(
     Ok(None)
 }
 
+/// What differs in what a run prints, or in its status, if something does.
+pub(crate) fn difference(
+    alloc: Global,
+    wanted: &Ended,
+    found: &Ended,
+) -> Result<Option<String>, AllocError> {
+    if let Some(difference) = first_difference(alloc, &wanted.output, &found.output)? {
+        return Ok(Some(difference));
+    }
+    let (wanted, found) = (wanted.status, found.status);
+    if wanted != found {
+        return Ok(Some(format!(in alloc; "the status is {found}, and should be {wanted}")?));
+    }
+    Ok(None)
+}
+
 /// What differs between the runs of a file and what the file says, a line each.
 pub(crate) fn report(
     alloc: Global,
@@ -69,17 +83,14 @@ pub(crate) fn report(
     let mut lines = Vec::new(alloc);
     for (i, (trial, found)) in trials.iter().zip(found).enumerate() {
         let run = i.saturating_add(1);
-        if let Some(difference) = first_difference(alloc, &trial.output, &found.output)? {
+        if let Some(difference) = difference(alloc, &trial.ended, &found.ended)? {
             lines.push(format!(in alloc; "{path}, run {run}: {difference}")?)?;
         }
         if let Some(difference) = difference_of_calls(alloc, trial, found)? {
             lines.push(format!(in alloc; "{path}, run {run}: {difference}")?)?;
         }
-        if trial.status != found.status {
-            let (wanted, found) = (trial.status, found.status);
-            lines.push(format!(in alloc;
-                "{path}, run {run}: the status is {found}, and should be {wanted}"
-            )?)?;
+        if let Some(difference) = &found.beside {
+            lines.push(format!(in alloc; "{path}, run {run}: {difference}")?)?;
         }
     }
     Ok(lines)

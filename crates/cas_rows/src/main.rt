@@ -4,13 +4,22 @@
 
 mod clock;
 mod compare;
+mod crash;
+mod cut;
 mod gate;
+mod lines;
+mod past;
 mod row;
+mod running;
+mod seen;
 mod trial;
 
 use crate::compare::report;
-use crate::row::{RowFault, trials};
+use crate::past::CHOICES;
+use crate::row::{Crash, RowFault, Trial, trials};
 use crate::trial::run_each;
+use cas_disk::Choice;
+use std::alloc::{AllocError, Global};
 use std::process::ExitCode;
 use std::{env, fs, io};
 
@@ -46,12 +55,28 @@ fn paths(rt: &HostRuntime) -> io::Result<Vec<String>> {
     Ok(paths)
 }
 
+// What differs between a file and what its runs come to, a line each: once, or, where the machine crashes after
+// a run, for each choice of what that leaves.
+fn differences_of(alloc: Global, path: &str, trials: &[Trial]) -> Result<Vec<String>, AllocError> {
+    if !trials.iter().any(|trial| trial.crash == Crash::AtTheEnd) {
+        let found = run_each(alloc, trials, Choice::New)?;
+        return report(alloc, path, trials, &found);
+    }
+    let mut all = Vec::new(alloc);
+    for (name, choice) in CHOICES {
+        let path = format!(in alloc; "{path}, what isn't synced is {name}")?;
+        let found = run_each(alloc, trials, choice)?;
+        all.append(&mut report(alloc, &path, trials, &found)?)?;
+    }
+    Ok(all)
+}
+
 // What differs between a file and what its runs come to, a line each.
 fn differences(rt: &HostRuntime, path: &str) -> io::Result<Vec<String>> {
     let alloc = rt.alloc();
     let text = fs::read(rt, path)?;
     match trials(alloc, &text) {
-        Ok(trials) => Ok(report(alloc, path, &trials, &run_each(alloc, &trials)?)?),
+        Ok(trials) => Ok(differences_of(alloc, path, &trials)?),
         Err(RowFault::Line(line)) => {
             let told = format!(in alloc; "{path}: line {line} isn't one of the format")?;
             Ok(vec![in alloc; told]?)

@@ -1,66 +1,108 @@
 //! Runs the trials of a file one after another on one folder.
 
 use crate::clock::ListedClock;
+use crate::crash::difference_of_crashes;
+use crate::cut::difference_of_cuts;
 use crate::gate::CountedGate;
-use crate::row::Trial;
-use cas_disk::{FaultPlan, MemFolder};
-use cas_io::{MemSink, MemSource};
-use cas_node::{Outcome, run};
+use crate::past::{Past, run_lines};
+use crate::row::{Crash, Trial};
+use crate::running::{Ended, run_script};
+use cas_disk::Choice;
 use std::alloc::{AllocError, Global};
 
 /// What a run came to.
 #[derive(Drop)]
 pub(crate) struct Found {
-    pub output: Vec<u8>,
-    pub status: u8,
+    pub ended: Ended,
     /// How often the clock was read.
     pub reads: usize,
     /// How often the gate was called.
     pub gate_calls: usize,
+    /// What differs where the run is crashed at every call, or cut, if something does.
+    pub beside: Option<String>,
+    /// How many calls its folder has had by then.
+    pub calls: u64,
 }
 
-fn run_trial(
+// The calls of the folder that fail, counted from its first: those of the runs before, and of this one.
+fn planned(alloc: Global, past: Past, trial: &Trial) -> Result<Vec<u64>, AllocError> {
+    let mut planned = past.fails.to_vec(alloc)?;
+    if trial.fails.is_empty() {
+        return Ok(planned);
+    }
+    let mut folder = past.folder(alloc)?;
+    if trial.fails_after > 0 {
+        let (_ended, after) = run_lines(alloc, trial, trial.fails_after, folder)?;
+        folder = after;
+    }
+    for number in &trial.fails {
+        planned.push(folder.calls().saturating_add(*number))?;
+    }
+    Ok(planned)
+}
+
+fn beside(
     alloc: Global,
+    past: Past,
     trial: &Trial,
-    folder: MemFolder,
-) -> Result<(Found, MemFolder), AllocError> {
-    let mut source = MemSource::new(trial.script.as_slice().to_vec(alloc)?);
-    let mut sink = MemSink::new(alloc);
+    next: Option<&Trial>,
+) -> Result<Option<String>, AllocError> {
+    if trial.is_cut {
+        return difference_of_cuts(alloc, past, trial);
+    }
+    match trial.crash {
+        Crash::AtEveryCall => difference_of_crashes(alloc, past, trial, next),
+        Crash::Never | Crash::AtTheEnd => Ok(None),
+    }
+}
+
+// What the trial comes to behind these runs.
+fn run_behind(
+    alloc: Global,
+    past: Past,
+    trial: &Trial,
+    next: Option<&Trial>,
+) -> Result<Found, AllocError> {
     let clock = ListedClock::new(&trial.readings);
     let gate = CountedGate::new();
-    let Outcome {
-        status,
-        folder,
-        cause: _cause,
-        pass: _pass,
-        tally: _tally,
-    } = run(
-        alloc,
-        &trial.words,
-        &mut source,
-        &mut sink,
-        folder,
-        &clock,
-        &gate,
-    );
-    let output = sink.taken().to_vec(alloc)?;
-    let found = Found {
-        output,
-        status,
+    let script = trial.script.as_slice().to_vec(alloc)?;
+    let folder = past.folder(alloc)?;
+    let (ended, folder) = run_script(alloc, &trial.words, script, folder, &clock, &gate)?;
+    Ok(Found {
+        ended,
         reads: clock.given(),
         gate_calls: gate.calls(),
-    };
-    Ok((found, folder))
+        beside: beside(alloc, past, trial, next)?,
+        calls: folder.calls(),
+    })
 }
 
-/// Runs the trials one after another, each on the folder that the one before it left.
-pub(crate) fn run_each(alloc: Global, trials: &[Trial]) -> Result<Vec<Found>, AllocError> {
+/// Runs the trials one after another, each on the folder that those before it leave, where each crash leaves
+/// what is chosen.
+pub(crate) fn run_each(
+    alloc: Global,
+    trials: &[Trial],
+    choice: Choice,
+) -> Result<Vec<Found>, AllocError> {
     let mut all = Vec::new(alloc);
-    let mut folder = MemFolder::new(alloc, FaultPlan::none(alloc));
-    for trial in trials {
-        let (found, after) = run_trial(alloc, trial, folder)?;
+    let mut fails = Vec::new(alloc);
+    for (i, trial) in trials.iter().enumerate() {
+        let before = Past {
+            trials: trials.get(..i).unwrap_or(trials),
+            fails: &fails,
+            choice,
+        };
+        let mut planned = planned(alloc, before, trial)?;
+        let past = Past {
+            fails: &planned,
+            ..before
+        };
+        let found = run_behind(alloc, past, trial, trials.get(i.saturating_add(1)))?;
+        if !trial.fails.is_empty() {
+            planned.retain(|call| *call <= found.calls);
+        }
         all.push(found)?;
-        folder = after;
+        fails = planned;
     }
     Ok(all)
 }
