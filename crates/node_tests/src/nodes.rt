@@ -18,14 +18,15 @@ const INSERT: &str = "INSERT INTO t (k, v) VALUES (1, 'a')";
 
 const SELECT: &str = "SELECT v FROM t WHERE k = 1";
 
-/// What the calls answered: why the definition wasn't executed, the number of the mutation, and how many rows
-/// were shown up to which.
+/// What the calls answered: why the definition wasn't executed, the number of the mutation, how many rows
+/// were shown up to which, and how many sessions could be begun beside the one.
 #[derive(Clone, Copy, Debug, PartialEq, Eq)]
 struct Answered {
     refused: Option<Fault>,
     wrote: u64,
     rows: usize,
     front: u64,
+    sessions: u64,
 }
 
 fn fault_of(answer: Result<Answer, Fault>) -> Option<Fault> {
@@ -64,6 +65,22 @@ fn ask<J: Store>(alloc: Global, node: &mut Node<MemFolder, J>, session: &mut Ses
         wrote,
         rows,
         front,
+        sessions: 0,
+    }
+}
+
+// How many sessions can be out at a time, besides those that are, up to so many.
+fn more_sessions<J: Store>(node: &mut Node<MemFolder, J>, most: u64) -> u64 {
+    if most == 0 {
+        return 0;
+    }
+    match node.session() {
+        Ok(session) => {
+            let more = more_sessions(node, most - 1);
+            node.end(session);
+            more.saturating_add(1)
+        }
+        Err(_) => 0,
     }
 }
 
@@ -79,7 +96,8 @@ fn used<J: Store>(alloc: Global, opened: Opened<MemFolder>) -> (Option<Answered>
         Ok(session) => session,
         Err(_) => return (None, node.close().into_folder()),
     };
-    let answered = ask(alloc, &mut node, &mut session);
+    let mut answered = ask(alloc, &mut node, &mut session);
+    answered.sessions = more_sessions(&mut node, 40);
     node.end(session);
     (Some(answered), node.close().into_folder())
 }
@@ -105,7 +123,7 @@ fn opened_and_used(alloc: Global, folder: MemFolder) -> (Option<Answered>, MemFo
     }
 }
 
-// The second time the table is there, and the mutation is the second.
+// The second time the table is there, and the mutation is the second. Of 33 sessions 32 are left.
 #[test]
 fn a_store_is_used_without_a_script(rt: HostRuntime) -> Result<(), Fail> {
     let alloc = rt.alloc();
@@ -119,7 +137,8 @@ fn a_store_is_used_without_a_script(rt: HostRuntime) -> Result<(), Fail> {
             refused,
             wrote: 1,
             rows: 1,
-            front: 1
+            front: 1,
+            sessions: 32
         })
     );
     assert_eq!(rt;
@@ -128,7 +147,8 @@ fn a_store_is_used_without_a_script(rt: HostRuntime) -> Result<(), Fail> {
             refused,
             wrote: 2,
             rows: 1,
-            front: 2
+            front: 2,
+            sessions: 32
         })
     );
     Ok(())
