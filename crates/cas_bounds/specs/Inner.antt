@@ -1,3 +1,4 @@
 pub mod PointLaws
 pub mod KeyLaws
 pub mod KeptOrder
+pub mod KeptValues

@@ -5,14 +5,15 @@ ghost use Rattle.cas_bounds.specs.Cuts.{is_past, is_inside, prefixes_cmp, cut_cm
 
 use crate::order::{Ordered, compare_first, compare_values, later};
 use crate::row_order::RowOrder;
-use cas_types::{Bytes, List};
+use crate::values::Values;
+use cas_types::Bytes;
 use std::alloc::AllocError;
 use std::cmp::Ordering;
 
 /// Where a row stands in its partition: the values of its clustering columns.
 #[derive(Clone, Drop)]
 pub struct Clustering {
-    pub values: List<Bytes>,
+    pub values: Values,
     pub order: RowOrder,
 }
 
@@ -29,7 +30,7 @@ impl Clustering {
 /// with the empty prefix it is one of the partition's two ends.
 #[derive(Clone, Drop)]
 pub struct Cut {
-    pub prefix: List<Bytes>,
+    pub prefix: Values,
     pub after: bool,
     pub order: RowOrder,
 }

@@ -7,9 +7,11 @@ mod laws;
 mod map_key;
 mod order;
 mod row_order;
+mod values;
 
 pub use cuts::{Clustering, Cut, Slice, between, cmp_cut, inside};
 pub use laws::{cut_orders, cuts_divide_rows, keys_are_points, own_places, point_laws, row_orders};
 pub use map_key::{End, MapKey, compare_points};
 pub use order::{Ordered, clustering_order, compare_values};
 pub use row_order::RowOrder;
+pub use values::Values;

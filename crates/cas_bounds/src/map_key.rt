@@ -10,7 +10,8 @@ ghost use Rattle.cas_bounds.specs.Inner.KeyLaws.{key_total};
 use crate::cuts::{Clustering, Cut};
 use crate::order::{Ordered, compare_first, later};
 use crate::row_order::RowOrder;
-use cas_types::{Bytes, List, TypeTag};
+use crate::values::Values;
+use cas_types::{Bytes, TypeTag};
 use std::cmp::Ordering;
 
 /// What a point's values stand for: all that a row has, or those that all rows past a cut, or all
@@ -48,7 +49,7 @@ impl End {
 /// order. A map of rows has keys of rows, and is asked for what lies between the keys of two cuts.
 #[derive(Drop)]
 pub struct MapKey {
-    pub values: List<Bytes>,
+    pub values: Values,
     pub end: End,
     pub order: RowOrder,
 }
