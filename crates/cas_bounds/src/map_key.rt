@@ -24,6 +24,7 @@ pub enum End {
 }
 
 impl End {
+    #[inline]
     fn rank(self) -> u8
         ensures { result ≡ rank self }
     {
@@ -80,6 +81,7 @@ impl MapKey {
     }
 }
 
+#[inline]
 fn tag_rank(tag: TypeTag) -> u8
     ensures { result ≡ tag_rank tag }
 {
@@ -100,12 +102,24 @@ fn tag_rank(tag: TypeTag) -> u8
     }
 }
 
+#[inline]
 fn compare_ordered(a: &Ordered, b: &Ordered) -> Ordering
     ensures { result ≡ ordered_cmp a.now b.now }
 {
     tag_rank(a.tag)
         .cmp(&tag_rank(b.tag))
         .then(a.descending.cmp(&b.descending))
+}
+
+// How two tables order their rows, mostly by one column.
+#[inline]
+fn compare_tables(a: &[Ordered], b: &[Ordered]) -> Ordering
+    ensures { result ≡ orders_cmp a.now b.now }
+{
+    match (a, b) {
+        ([x], [y]) => compare_ordered(x, y),
+        _ => compare_orders(a, b),
+    }
 }
 
 fn compare_orders(a: &[Ordered], b: &[Ordered]) -> Ordering
@@ -123,7 +137,20 @@ fn compare_orders(a: &[Ordered], b: &[Ordered]) -> Ordering
 }
 
 /// The order of two points of a table, each by its end and its values.
+#[inline]
 pub fn compare_points(order: &[Ordered], m: End, a: &[Bytes], n: End, b: &[Bytes]) -> Ordering
+    ensures { result ≡ ends_cmp order.now m a.now n b.now }
+{
+    match (order, a, b) {
+        ([o], [x], [y]) => o
+            .compare(x.as_slice(), y.as_slice())
+            .then(m.rank().cmp(&n.rank())),
+        _ => compare_many(order, m, a, n, b),
+    }
+}
+
+// The same column by column.
+fn compare_many(order: &[Ordered], m: End, a: &[Bytes], n: End, b: &[Bytes]) -> Ordering
     ensures { result ≡ ends_cmp order.now m a.now n b.now }
 {
     match (a, b) {
@@ -132,7 +159,7 @@ pub fn compare_points(order: &[Ordered], m: End, a: &[Bytes], n: End, b: &[Bytes
         ([_x, _xs @ ..], []) => n.beside().reverse(),
         ([x, xs @ ..], [y, ys @ ..]) => {
             match compare_first(order, x.as_slice(), y.as_slice()) {
-                Ordering::Equal => compare_points(later(order), m, xs, n, ys),
+                Ordering::Equal => compare_many(later(order), m, xs, n, ys),
                 decided => decided,
             }
         }
@@ -172,9 +199,10 @@ impl Ord for MapKey {
 
     ghost matches_eq = { λ a b. refl };
 
+    #[inline]
     fn cmp(&self, other: &MapKey) -> Ordering {
         let order = self.order.as_slice();
-        match compare_orders(order, other.order.as_slice()) {
+        match compare_tables(order, other.order.as_slice()) {
             Ordering::Equal => compare_points(
                 order,
                 self.end,

@@ -20,6 +20,7 @@ pub struct Ordered {
 
 impl Ordered {
     /// The order of two values of the column.
+    #[inline]
     pub fn compare(&self, a: &[u8], b: &[u8]) -> Ordering
         ensures { result ≡ column_cmp self.now a.now b.now }
     {
@@ -72,6 +73,7 @@ pub fn clustering_order(alloc: Global, columns: &[Column]) -> Result<RowOrder, A
 }
 
 /// The order of two values of the first column.
+#[inline]
 pub(crate) fn compare_first(order: &[Ordered], a: &[u8], b: &[u8]) -> Ordering
     ensures { result ≡ first_cmp order.now a.now b.now }
 {
@@ -82,6 +84,7 @@ pub(crate) fn compare_first(order: &[Ordered], a: &[u8], b: &[u8]) -> Ordering
 }
 
 /// The columns after the first one.
+#[inline]
 pub(crate) fn later(order: &[Ordered]) -> &[Ordered]
     ensures { result.now ≡ drop 1 order.now }
 {

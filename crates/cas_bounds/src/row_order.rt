@@ -67,6 +67,7 @@ impl Few {
         }
     }
 
+    #[inline]
     fn as_slice(&self) -> &[Ordered]
         ensures { result.now ≡ self.now }
     {
@@ -114,6 +115,7 @@ impl RowOrder {
         }
     }
 
+    #[inline]
     pub fn as_slice(&self) -> &[Ordered]
         ensures { result.now ≡ self.now }
     {
