@@ -148,7 +148,7 @@ module _ (key : RowKey) (over : Option Deletion) (x : Coordinate) where
         ∙ sym (standing-greater cell_laws.orders cell_laws.by_time e (cells_in key x c) (greatest cell_cmp (cells_in key x) cs))
 
 module _ (at : Option Clustering) (over : Option Deletion) where
-  columns_said : (cs : List RowColumn) → flat_map (of_column at) (bare_columns at over cs) ≡ flat_map (of_column at) (map (bare_column over) cs)
+  pub columns_said : (cs : List RowColumn) → flat_map (of_column at) (bare_columns at over cs) ≡ flat_map (of_column at) (map (bare_column over) cs)
   columns_said [] = refl
   columns_said (c ∷ cs) = said (of_column at) (bare_column over c) (bare_columns at over cs) ∙ ap (λ l. of_column at (bare_column over c) ++ l) (columns_said cs)
 

@@ -19,24 +19,32 @@ by_case P Greater a b c f g h = h refl
 
 -- ---- a fact of each
 
-module _ {S X : Type 0} (w : Weave S X) (P : X → Type 0) (l : (s : S) (x : X) → P x → P (w.left s x)) (r : (s : S) (y : X) → P y → P (w.right s y))
-    (b : (s : S) (x y : X) → w.order x y ≡ Equal → P x → P y → P (w.both s x y)) where
-  rights_all : (s : S) (ys : List X) → AllByRecursion P ys → AllByRecursion P (rights w s ys)
-  rights_all s [] q = tt
-  rights_all s (y ∷ ys) q = (r s y q.0, rights_all (w.past_right s y) ys q.1)
+-- where it rests on what is known of the elements passed
+module _ {S X : Type 0} (w : Weave S X) (I : S → Type 0) (P : X → Type 0) (l : (s : S) (x : X) → I s → P x → P (w.left s x)) (r : (s : S) (y : X) → I s → P y → P (w.right s y))
+    (b : (s : S) (x y : X) → w.order x y ≡ Equal → P x → P y → P (w.both s x y))
+    (past_l : (s : S) (x : X) → I s → P x → I (w.past_left s x)) (past_r : (s : S) (y : X) → I s → P y → I (w.past_right s y)) where
+  rights_known : (s : S) → I s → (ys : List X) → AllByRecursion P ys → AllByRecursion P (rights w s ys)
+  rights_known s i [] q = tt
+  rights_known s i (y ∷ ys) q = (r s y i q.0, rights_known (w.past_right s y) (past_r s y i q.0) ys q.1)
 
-  pub among_all : (x : X) (others : S → List X → List X) → P x → ((t : S) (zs : List X) → AllByRecursion P zs → AllByRecursion P (others t zs))
-      → (s : S) (ys : List X) → AllByRecursion P ys → AllByRecursion P (among w x others s ys)
-  among_all x others p h s [] q = (l s x p, h (w.past_left s x) [] tt)
-  among_all x others p h s (y ∷ ys) q =
+  among_known : (x : X) (others : S → List X → List X) → P x → ((t : S) → I t → (zs : List X) → AllByRecursion P zs → AllByRecursion P (others t zs))
+      → (s : S) → I s → (ys : List X) → AllByRecursion P ys → AllByRecursion P (among w x others s ys)
+  among_known x others p h s i [] q = (l s x i p, h (w.past_left s x) (past_l s x i p) [] tt)
+  among_known x others p h s i (y ∷ ys) q =
       by_case (λ zs. AllByRecursion P zs) (w.order x y) (w.left s x ∷ others (w.past_left s x) (y ∷ ys)) (w.both s x y ∷ others (w.past_right (w.past_left s x) y) ys) (w.right s y ∷ among w x others (w.past_right s y) ys)
-      (λ e. (l s x p, h (w.past_left s x) (y ∷ ys) q))
-      (λ e. (b s x y e p q.0, h (w.past_right (w.past_left s x) y) ys q.1))
-      (λ e. (r s y q.0, among_all x others p h (w.past_right s y) ys q.1))
+      (λ e. (l s x i p, h (w.past_left s x) (past_l s x i p) (y ∷ ys) q))
+      (λ e. (b s x y e p q.0, h (w.past_right (w.past_left s x) y) (past_r (w.past_left s x) y (past_l s x i p) q.0) ys q.1))
+      (λ e. (r s y i q.0, among_known x others p h (w.past_right s y) (past_r s y i q.0) ys q.1))
 
-  pub woven_all : (s : S) (xs ys : List X) → AllByRecursion P xs → AllByRecursion P ys → AllByRecursion P (woven w s xs ys)
-  woven_all s [] ys p q = rights_all s ys q
-  woven_all s (x ∷ xs) ys p q = among_all x (λ t zs. woven w t xs zs) p.0 (λ t zs a. woven_all t xs zs p.1 a) s ys q
+  pub woven_known : (s : S) → I s → (xs ys : List X) → AllByRecursion P xs → AllByRecursion P ys → AllByRecursion P (woven w s xs ys)
+  woven_known s i [] ys p q = rights_known s i ys q
+  woven_known s i (x ∷ xs) ys p q = among_known x (λ t zs. woven w t xs zs) p.0 (λ t j zs a. woven_known t j xs zs p.1 a) s i ys q
+
+pub woven_all : {S X : Type 0} (w : Weave S X) (P : X → Type 0) (l : (s : S) (x : X) → P x → P (w.left s x)) (r : (s : S) (y : X) → P y → P (w.right s y))
+    (b : (s : S) (x y : X) → w.order x y ≡ Equal → P x → P y → P (w.both s x y))
+    → (s : S) (xs ys : List X) → AllByRecursion P xs → AllByRecursion P ys → AllByRecursion P (woven w s xs ys)
+woven_all w P l r b s xs ys p q =
+    woven_known w (λ t. Unit {0}) P (λ t x i h. l t x h) (λ t y i h. r t y h) b (λ t x i h. tt) (λ t y i h. tt) s tt xs ys p q
 
 -- ---- the order of keys
 

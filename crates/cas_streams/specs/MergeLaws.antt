@@ -21,6 +21,7 @@ use Rattle.cas_streams.specs.Flat.{atom_of, own, changes, at_end, reaching}
 use Rattle.cas_streams.specs.Streams.{IsOrdered, WellFormed}
 use Rattle.cas_streams.specs.Joined.{Stream}
 use Rattle.cas_streams.specs.Merged.{merged, flat_of, flats, IsMerged}
+use Rattle.cas_streams.specs.Targets.{Target, deletion_of}
 use Rattle.cas_streams.specs.Laws.{is_row, row_says}
 use Rattle.cas_streams.specs.declared.fragment.Fragment.{Fragment}
 
@@ -63,6 +64,12 @@ pub record MergeInventsNothing : Type 0 where
       (v : Cell) → Has (flat_of (merged ss)) (StaticWrite column p v) → Gives (cell_at_path (path static_row column.number p)) (flats ss) v
   pub covers : (columns : List Column) (ss : List Stream) → AllByRecursion (λ s. WellFormed columns s.fragments) ss → (x : Coordinate) (d : Deletion)
       → cover (flat_of (merged ss)) x ≡ Some d → Gives (deletion_at x) (flats ss) d
+
+-- each deletion of a merge, also one that a greater one stands above, is one that a stream has: of the same target, of the same timestamp and second
+abbrev pub MergeInventsNoDeletion : Type 0
+MergeInventsNoDeletion =
+    (order : List Ordered) (ss : List Stream) → AllByRecursion (λ s. IsOrdered order s.fragments) ss → (t : Target) (d : Deletion)
+    → Gives (deletion_of t) (flat_of (merged ss)) d → Gives (deletion_of t) (flats ss) d
 
 -- ---- what determines a stream
 
