@@ -86,8 +86,12 @@ impl<'a> Reader<'a> {
         ensures answer { Answers (λ n. n) result self.new (u8_at self.old) }
         ensures unchanged { OnErr result (self.new ≡ self.old) }
     {
-        let bytes = self.take(1)?;
-        Ok(bytes[0])
+        let Some((front, rest)) = self.left.split_first() else {
+            return Err(ReadFault::Short { at: self.at });
+        };
+        self.left = rest;
+        self.at += 1;
+        Ok(*front)
     }
 
     #[tactic(auto, unfolding(crate::specs::Reading::u16_at, crate::specs::Reading::unsigned_at, crate::specs::Reading::bytes_at))]
@@ -95,8 +99,12 @@ impl<'a> Reader<'a> {
         ensures answer { Answers (λ n. n) result self.new (u16_at self.old) }
         ensures unchanged { OnErr result (self.new ≡ self.old) }
     {
-        let bytes = self.take(2)?;
-        Ok(u16::from_be_bytes([bytes[0], bytes[1]]))
+        let Some((front, rest)) = self.left.split_first_chunk::<2>() else {
+            return Err(ReadFault::Short { at: self.at });
+        };
+        self.left = rest;
+        self.at += 2;
+        Ok(u16::from_be_bytes(*front))
     }
 
     #[tactic(auto, unfolding(crate::specs::Reading::u32_at, crate::specs::Reading::unsigned_at, crate::specs::Reading::bytes_at))]
@@ -105,8 +113,12 @@ impl<'a> Reader<'a> {
         ensures at { OnOk result (self.new.at ≡ self.old.at + 4) }
         ensures unchanged { OnErr result (self.new ≡ self.old) }
     {
-        let bytes = self.take(4)?;
-        Ok(u32::from_be_bytes([bytes[0], bytes[1], bytes[2], bytes[3]]))
+        let Some((front, rest)) = self.left.split_first_chunk::<4>() else {
+            return Err(ReadFault::Short { at: self.at });
+        };
+        self.left = rest;
+        self.at += 4;
+        Ok(u32::from_be_bytes(*front))
     }
 
     #[tactic(auto, unfolding(crate::specs::Reading::u64_at, crate::specs::Reading::unsigned_at, crate::specs::Reading::bytes_at))]
@@ -114,10 +126,12 @@ impl<'a> Reader<'a> {
         ensures answer { Answers (λ n. n) result self.new (u64_at self.old) }
         ensures unchanged { OnErr result (self.new ≡ self.old) }
     {
-        let bytes = self.take(8)?;
-        Ok(u64::from_be_bytes([
-            bytes[0], bytes[1], bytes[2], bytes[3], bytes[4], bytes[5], bytes[6], bytes[7],
-        ]))
+        let Some((front, rest)) = self.left.split_first_chunk::<8>() else {
+            return Err(ReadFault::Short { at: self.at });
+        };
+        self.left = rest;
+        self.at += 8;
+        Ok(u64::from_be_bytes(*front))
     }
 
     #[tactic(auto, unfolding(crate::specs::Reading::i64_at))]

@@ -1,13 +1,13 @@
 //! A file that is read from its start on, of which only the next bytes are kept.
 
-ghost use Rattle.std.specs.Prelude.{◌≡◌, ◌+◌, ◌-◌, ◌≤◌, ◌^◌, [], length, drop, max, vec_len, OnOk, IsErrOf};
+ghost use Rattle.std.specs.Prelude.{◌≡◌, ◌+◌, ◌-◌, ◌≤◌, ◌^◌, [], length, drop, max, vec_len, OnOk, IfOk, IsErrOf};
 ghost use Rattle.cas_disk.specs.Counts.{Counted};
 ghost use Rattle.cas_disk.specs.Disk.{Image, During, Follows, Same, bytes_of};
 ghost use Rattle.cas_files.specs.Ahead.{AreNext, AreEnough, passed};
 
 use crate::reading::read_on;
 use cas_disk::{Folder, FolderFault, Name};
-use std::alloc::Global;
+use std::alloc::{AllocError, Global};
 use std::marker::Model;
 
 /// A file that is read from its start on, in pieces of 64 KiB. Contracts see its name, the place of
@@ -32,15 +32,13 @@ impl Model for FileReader {
     ghost invariant = { λ r. r.passed ≤ vec_len r.bytes };
 }
 
-// Takes the first bytes away.
-fn drop_front(bytes: &mut Vec<u8>, count: usize)
-    requires { count ≤ vec_len bytes.old }
-    ensures items { bytes.new.items ≡ drop count bytes.old.items }
-    ensures long { vec_len bytes.new ≡ vec_len bytes.old - count }
+// The bytes from a place on, without those before it.
+fn behind(bytes: &Vec<u8>, passed: usize) -> Result<Vec<u8>, AllocError>
+    requires { passed ≤ vec_len bytes.now }
+    ensures items { IfOk result (λ v. v.items ≡ drop passed bytes.now.items) }
+    ensures long { IfOk result (λ v. vec_len v ≡ vec_len bytes.now - passed) }
 {
-    let long = bytes.len();
-    bytes.as_mut_slice().copy_within(count..long, 0);
-    bytes.truncate(long - count);
+    bytes[passed..].to_vec(*bytes.allocator())
 }
 
 impl FileReader {
@@ -85,7 +83,10 @@ impl FileReader {
         if self.bytes.len() - self.passed >= count {
             return Ok(());
         }
-        drop_front(&mut self.bytes, self.passed);
+        let Ok(rest) = behind(&self.bytes, self.passed) else {
+            return Err(FolderFault::Mem);
+        };
+        self.bytes = rest;
         self.passed = 0;
         read_on(folder, self.name, self.at, &mut self.bytes, count)
     }

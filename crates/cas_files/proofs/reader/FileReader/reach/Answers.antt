@@ -12,4 +12,4 @@ returns-clause-next g c =
     c.self.view_is
     (subst (λ (l : List ℕ). OnOk c.read_on.result ((image : Image) → reads image → AreNext c.self.inside.at (bytes_of (image c.self.inside.name)) l
     → AreNext c.self.inside.at (bytes_of (image c.self.inside.name)) c.read_on.new.bytes.items × AreEnough c.args.count c.self.inside.at (bytes_of (image c.self.inside.name)) c.read_on.new.bytes.items))
-    c.drop_front.ensures.items c.read_on.ensures.next)
+    c.in-Ok.ensures.items c.read_on.ensures.next)
