@@ -1,5 +1,5 @@
 -- A slice of a partition says in the slice what the partition says.
-use Rattle.std.proofs.Common.{◌≡◌, ℕ, true, false, cond, not, ◌&&◌, Option, None, Some, List, [], ◌∷◌, ◌++◌, map, filter, Result, Ok, Err, IfOk, refl, sym, ap, ◌∙◌, subst, append_assoc}
+use Rattle.std.proofs.Common.{◌≡◌, ℕ, true, false, cond, not, ◌&&◌, Option, None, Some, List, [], ◌∷◌, ◌++◌, map, filter, Result, Ok, Err, IfOk, OnOk, refl, sym, ap, ◌∙◌, subst, append_assoc}
 use Rattle.std.proofs.lemmas.Bool.{true≢false}
 use Rattle.std.proofs.lemmas.List.{append-nil}
 use Rattle.std.specs.Option.{option_cmp}
@@ -379,6 +379,11 @@ slices_show s p rows sorted are = shows s p rows _ _ sorted are refl refl
 pub if_ok_too : {A E : Type 0} (r : Result A E) (P Q : A → Type 0) → ((x : A) → P x → Q x) → IfOk r P → IfOk r Q
 if_ok_too (Ok x) P Q h p = h x p
 if_ok_too (Err e) P Q h p = tt
+
+-- what holds in any case holds where a call answers Ok
+pub on_ok_as_ever : {A E : Type 0} (r : Result A E) (P : Type 0) → P → OnOk r P
+on_ok_as_ever (Ok x) P p = p
+on_ok_as_ever (Err e) P p = tt
 
 pub two_told : {I : Type 0} (tells : I → Option (List Fragment)) (tops : I → Option Deletion) (a b : I) (parts : List I) (x y : List Fragment) (t u : Option Deletion) → parts ≡ a ∷ b ∷ []
     → tells a ≡ Some x → tells b ≡ Some y → tops a ≡ t → tops b ≡ u → streams_told tells tops parts ≡ Some (record { top = t; fragments = x } ∷ record { top = u; fragments = y } ∷ [])

@@ -5,7 +5,7 @@ use Rattle.cas_partition.specs.Slices.{AreRowsOf}
 use Rattle.cas_partition.specs.Ranged.{piece_of, spot_at, below_rows, spots_below, spots_between, statics_of, rows_between}
 use Rattle.cas_partition.specs.Inner.Entries.{lent_piece}
 use Rattle.cas_partition.proofs.Slots.{as_key}
-use Rattle.cas_partition.proofs.Shown.{if_ok_too, all_pieces}
+use Rattle.cas_partition.proofs.Shown.{if_ok_too, on_ok_as_ever, all_pieces}
 use Rattle.cas_partition.proofs.slice.rows_in.Goals as goal
 
 pub returns-clause-rows : goal.returns-clause-rows
@@ -22,3 +22,6 @@ returns-clause-rows c =
     (c.in_ok-add_below.ensures.added ∙ (λ i. map lent_piece (c.new-entries.ensures.items i) ++ map piece_of (spots_below (first i) es)))
     (c.in_ok-add_between.ensures ∙ (λ i. map lent_piece c.add_below.new.entries.items ++ map piece_of (spots_between (low i) (high i) es))) in
     if_ok_too c.rows_of.result _ _ (λ v are. subst (λ ps. AreRowsOf ps v.items) (ap (map lent_piece) c.deref.ensures.value ∙ gathered) are) c.rows_of.ensures
+
+pub returns-clause-sorted : goal.returns-clause-sorted
+returns-clause-sorted c = on_ok_as_ever c.rows_of.result _ c.add_below.ensures.sorted
