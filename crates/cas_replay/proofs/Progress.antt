@@ -3,7 +3,7 @@ use Rattle.std.proofs.Common.{◌≡◌, ℕ, cond, true, List, [], ◌∷◌, �
 use Rattle.cas_types.specs.Limits.{IsShardCount}
 use Rattle.cas_types.specs.declared.schema.TableSchema.{TableSchema}
 use Rattle.cas_codec.specs.declared.fault.ReadFault.TheVariants.{Bad}
-use Rattle.cas_codec.specs.Reading.{Left, Read, ◌>>=◌, checked}
+use Rattle.cas_codec.specs.Reading.{Left, checked}
 use Rattle.cas_codec.proofs.Exactness.{bind_ok, test_ok}
 use Rattle.cas_atoms.specs.declared.atom.Mutation.{Mutation}
 use Rattle.cas_mutations.specs.Allowed.{AreTables, FitsRecord}

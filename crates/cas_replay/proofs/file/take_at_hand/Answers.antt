@@ -1,5 +1,4 @@
-use Rattle.std.proofs.Common.{◌≡◌, ◌-◌, ℕ, true, List, length, Option, Ok, ap, subst, arith}
-use Rattle.cas_atoms.specs.declared.atom.Mutation.{Mutation}
+use Rattle.std.proofs.Common.{◌≡◌, ◌-◌, ℕ, true, length, Option, Ok, ap, subst, arith}
 use Rattle.cas_codec.specs.Reading.{Left}
 use Rattle.cas_replay.specs.Inner.Steps.{part_at, filled_at, gated_at, left_of}
 use Rattle.cas_replay.proofs.AtHand.{is_reader, part_less, part_on, block_taken, block_fault, filled_whole, filled_fault, part_fault, shut_whole, front_whole}

@@ -1,4 +1,4 @@
-use Rattle.std.proofs.Common.{◌≡◌, List, [], ◌++◌, Vec, Global, sym, ap, subst, ◌∙◌}
+use Rattle.std.proofs.Common.{List, ◌++◌, Vec, Global, sym, ap, subst, ◌∙◌}
 use Rattle.cas_atoms.specs.declared.atom.Mutation.{Mutation}
 use Rattle.cas_replay.specs.Replays.{IsReplayOf}
 use Rattle.cas_replay.proofs.Answering.{all_handed, fault_handed}

@@ -1,5 +1,4 @@
-use Rattle.std.proofs.Common.{◌≡◌, true, List, sym, ◌∙◌}
-use Rattle.cas_atoms.specs.declared.atom.Mutation.{Mutation}
+use Rattle.std.proofs.Common.{true, sym, ◌∙◌}
 use Rattle.cas_replay.specs.Reading.{records_at}
 use Rattle.cas_replay.specs.Inner.Steps.{filled_at}
 use Rattle.cas_replay.proofs.Answering.{told_fault}

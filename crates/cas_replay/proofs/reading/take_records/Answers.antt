@@ -1,4 +1,4 @@
-use Rattle.std.proofs.Common.{◌≡◌, ◌-◌, List, [], ◌∷◌, ◌++◌, subst}
+use Rattle.std.proofs.Common.{◌-◌, List, [], ◌∷◌, ◌++◌, subst}
 use Rattle.cas_atoms.specs.declared.atom.Mutation.{Mutation}
 use Rattle.cas_codec.specs.Reading.{Left, Read}
 use Rattle.cas_replay.specs.Reading.{records_at, next_at}
