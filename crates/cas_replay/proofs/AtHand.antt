@@ -3,14 +3,16 @@ use Rattle.std.proofs.Common.{◌≡◌, inl, inr, ⊎_elim, ℕ, ◌+◌, ◌-�
 use Rattle.std.proofs.Common.{Option, None, Some, Ok, Err, refl, sym, ap, subst, ◌∙◌, arith, length-drop}
 use Rattle.cas_types.specs.declared.schema.TableSchema.{TableSchema}
 use Rattle.cas_codec.specs.declared.fault.ReadFault.{ReadFault}
-use Rattle.cas_codec.specs.Reading.{Left, Read}
+use Rattle.cas_codec.specs.Reading.{Left, Read, ◌>>=◌}
 use Rattle.cas_codec.proofs.Exactness.{done, ok_is, read_left}
 use Rattle.cas_atoms.specs.declared.atom.Mutation.{Mutation}
 use Rattle.cas_files.specs.Ahead.{Ahead, AreNext, AreEnough, passed}
 use Rattle.cas_replay.specs.Reading.{header_at}
-use Rattle.cas_replay.specs.Inner.Steps.{opened_at, gated_at, left_of, HasBlock, ReadsOn, StepsOn}
+use Rattle.cas_replay.specs.Replays.{IsFront}
+use Rattle.cas_replay.specs.Inner.Steps.{opened_at, part_at, filled_at, gated_at, left_of, HasBlock, ReadsOn, StepsOn}
 use Rattle.cas_replay.proofs.Local.{followed}
-use Rattle.cas_replay.proofs.Steps.{header_takes, header_again, opened_of, gated_again, gated_left, goes_on, refused_too}
+use Rattle.cas_replay.proofs.Steps.{header_takes, header_again, opened_of, part_left, by_part, of_part, gated_again, gated_left, goes_on, refused_too}
+use Rattle.cas_replay.proofs.Fronts.{part_front, followed_front}
 
 -- a reader of what is at hand
 pub is_reader : (reader : Left) (ahead : Ahead) (bytes : List ℕ) (at : ℕ) → reader.bytes ≡ bytes → bytes ≡ ahead.bytes → reader.at ≡ at → at ≡ ahead.at → reader ≡ read_left ahead.bytes ahead.at
@@ -69,14 +71,26 @@ module _ (size at : ℕ) (file mid : List ℕ) (left : Left) (is : left ≡ read
       inr (long, f.0, f.1, there))
       (λ all. inl all) whole
 
+-- ---- a block's body at hand
+
+module _ (size : ℕ) (left after : Left) (body : Left × ℕ) (e : part_at size left ≡ Ok (Some body, after)) where
+  pub part_less : length after.bytes ≤ length left.bytes
+  part_less =
+      let (k, least, within, ends, is) = part_left size left after body e in
+      omega (arith, ap (λ (l : Left). length l.bytes) is, length-drop k left.bytes)
+
+  pub part_on : (old new : Ahead) → left ≡ read_left old.bytes old.at → (taken : ℕ) → taken ≡ length left.bytes - length after.bytes → new ≡ passed taken old
+      → (old.at + 9 ≤ new.at) × (new.at + 1 ≤ size)
+  part_on old new is taken counts moved =
+      let (k, least, within, ends, so) = part_left size left after body e in
+      let same : taken ≡ k = omega (arith, counts, within, ap (λ (l : Left). length l.bytes) so, length-drop k left.bytes) in
+      let place : new.at ≡ old.at + taken = ap (λ (a : Ahead). a.at) moved in
+      let begins : left.at ≡ old.at = ap (λ (l : Left). l.at) is in
+      (omega (arith, place, same, least), omega (arith, place, same, ends, begins))
+
 -- ---- a block at hand
 
 module _ (tables : List TableSchema) (shards size : ℕ) (before : List Mutation) where
-  pub gated_less : (left after : Left) (x : Bool × List Mutation) → gated_at tables shards size before left ≡ Ok (x, after) → length after.bytes ≤ length left.bytes
-  gated_less left after x e =
-      let (k, within, is, opened, shut) = gated_left tables shards size before left after x.0 x.1 e in
-      omega (arith, ap (λ (l : Left). length l.bytes) is, length-drop k left.bytes)
-
   module _ (old new : Ahead) (left after : Left) (is : left ≡ read_left old.bytes old.at) (opens : Bool) (all : List Mutation)
       (e : gated_at tables shards size before left ≡ Ok ((opens, all), after)) (taken : ℕ) (counts : taken ≡ length left.bytes - length after.bytes) (moved : new ≡ passed taken old) where
     here : gated_at tables shards size before (read_left old.bytes old.at) ≡ Ok ((opens, all), after)
@@ -85,14 +99,6 @@ module _ (tables : List TableSchema) (shards size : ℕ) (before : List Mutation
     taken_is : (k : ℕ) → k ≤ length old.bytes → after ≡ read_left (drop k old.bytes) (old.at + k) → taken ≡ k
     taken_is k within so =
         omega (arith, counts, ap (λ (l : Left). length l.bytes) is, ap (λ (l : Left). length l.bytes) so, length-drop k old.bytes)
-
-    pub block_on : opens ≡ true → (old.at + 9 ≤ new.at) × (new.at + 1 ≤ size)
-    block_on opened =
-        let (k, within, so, when, shut) = gated_left tables shards size before (read_left old.bytes old.at) after opens all here in
-        let same = taken_is k within so in
-        let place : new.at ≡ old.at + taken = ap (λ (a : Ahead). a.at) moved in
-        let bounds = when opened in
-        (omega (arith, place, same, bounds.0), omega (arith, place, same, bounds.1))
 
     pub block_taken : (segment : ℕ) (file : List ℕ) → AreNext old.at file old.bytes → HasBlock size old.at file old.bytes
         → StepsOn segment file new all (Ok opens) (gated_at tables shards size before (left_of file old.at))
@@ -106,6 +112,46 @@ module _ (tables : List TableSchema) (shards size : ℕ) (before : List Mutation
             → StepsOn segment file new all (Ok opens) (gated_at tables shards size before (left_of file old.at))
         steps true so there = rw so (subst (λ (b : Bool). gated_at tables shards size before (left_of file old.at) ≡ Ok ((b, all), left_of file new.at)) so there.0, there.1)
         steps false so there = rw so (left_of file new.at, subst (λ (b : Bool). gated_at tables shards size before (left_of file old.at) ≡ Ok ((b, all), left_of file new.at)) so there.0)
+
+  -- ---- by what is read of it
+
+  pub by_filled : (left after : Left) (body : Left × ℕ) → part_at size left ≡ Ok (Some body, after)
+      → gated_at tables shards size before left ≡ (filled_at tables shards body.1 before body.0 >>= λ (found : List Mutation × Left). Ok ((true, found.0), after))
+  by_filled left after body e = by_part tables shards size before left ∙ ap (λ (r : Read (Option (Left × ℕ))). r >>= of_part tables shards size before) e
+
+  pub filled_whole : (left after inner : Left) (body : Left × ℕ) (all : List Mutation) → part_at size left ≡ Ok (Some body, after)
+      → filled_at tables shards body.1 before body.0 ≡ Ok (all, inner) → gated_at tables shards size before left ≡ Ok ((true, all), after)
+  filled_whole left after inner body all e so =
+      by_filled left after body e ∙ ap (λ (r : Read (List Mutation)). r >>= λ (found : List Mutation × Left). Ok ((true, found.0), after)) so
+
+  pub filled_fault : (left after : Left) (body : Left × ℕ) (g : ReadFault) → part_at size left ≡ Ok (Some body, after)
+      → filled_at tables shards body.1 before body.0 ≡ Err g → gated_at tables shards size before left ≡ Err g
+  filled_fault left after body g e so =
+      by_filled left after body e ∙ ap (λ (r : Read (List Mutation)). r >>= λ (found : List Mutation × Left). Ok ((true, found.0), after)) so
+
+  pub part_fault : (left : Left) (g : ReadFault) → part_at size left ≡ Err g → gated_at tables shards size before left ≡ Err g
+  part_fault left g e = by_part tables shards size before left ∙ ap (λ (r : Read (Option (Left × ℕ))). r >>= of_part tables shards size before) e
+
+  -- a gate that isn't open at hand isn't in the file
+  pub shut_whole : (at : ℕ) (file bytes : List ℕ) (left after : Left) → left ≡ read_left bytes at → AreNext at file bytes → HasBlock size at file bytes
+      → part_at size left ≡ Ok (None, after) → (l : Left) × (gated_at tables shards size before (left_of file at) ≡ Ok ((false, before), l))
+  shut_whole at file bytes left after is next has e =
+      let rest = drop (length bytes) (drop at file) in
+      let here : gated_at tables shards size before (read_left bytes at) ≡ Ok ((false, before), after) =
+      ap (gated_at tables shards size before) (sym is) ∙ by_part tables shards size before left ∙ ap (λ (r : Read (Option (Left × ℕ))). r >>= of_part tables shards size before) e in
+      (read_left (after.bytes ++ rest) after.at, gated_again tables shards size before at file bytes next has ∙ ap (λ (y : Read (Bool × List Mutation)). followed rest y) here)
+
+  -- a front of what is at hand is one of the file's
+  pub front_whole : (at : ℕ) (file bytes : List ℕ) (left after : Left) (body : Left × ℕ) (found : List Mutation) → left ≡ read_left bytes at → AreNext at file bytes
+      → HasBlock size at file bytes → part_at size left ≡ Ok (Some body, after)
+      → IsFront (λ (x : List Mutation × Left). x.0) found (filled_at tables shards body.1 before body.0)
+      → IsFront (λ (x : (Bool × List Mutation) × Left). x.0.1) found (gated_at tables shards size before (left_of file at))
+  front_whole at file bytes left after body found is next has e front =
+      let rest = drop (length bytes) (drop at file) in
+      let here = subst (λ (r : Read (Bool × List Mutation)). IsFront (λ (x : (Bool × List Mutation) × Left). x.0.1) found r) (sym (by_filled left after body e) ∙ ap (gated_at tables shards size before) is)
+      (part_front tables shards found after (filled_at tables shards body.1 before body.0) front) in
+      subst (λ (r : Read (Bool × List Mutation)). IsFront (λ (x : (Bool × List Mutation) × Left). x.0.1) found r) (sym (gated_again tables shards size before at file bytes next has))
+      (followed_front tables shards found rest (gated_at tables shards size before (read_left bytes at)) here)
 
   pub block_fault : (at : ℕ) (file bytes : List ℕ) (left : Left) → left ≡ read_left bytes at → AreNext at file bytes → HasBlock size at file bytes
       → (g : ReadFault) → gated_at tables shards size before left ≡ Err g → gated_at tables shards size before (left_of file at) ≡ Err g

@@ -1,9 +1,10 @@
 pub mod Answering
 pub mod AtHand
+pub mod Fronts
 pub mod Local
-pub mod Logs
 pub mod Loops
 pub mod Order
+pub mod Progress
 pub mod SegmentLaws
 pub mod Steps
 pub mod Whole

@@ -13,7 +13,7 @@ use Rattle.cas_codec.proofs.Exactness.{bind_ok, test_ok, ok_is, done, read_left}
 use Rattle.cas_atoms.specs.declared.atom.Mutation.{Mutation}
 use Rattle.cas_files.specs.Ahead.{AreNext, AreEnough}
 use Rattle.cas_replay.specs.Reading.{length_at, records_at, block_at, blocks_at, header_at}
-use Rattle.cas_replay.specs.Inner.Steps.{opened_at, gated_at, left_of, HasBlock}
+use Rattle.cas_replay.specs.Inner.Steps.{opened_at, body_at, part_at, filled_at, gated_at, left_of, HasBlock}
 use Rattle.cas_replay.proofs.Local.{followed, followed_nothing, bind_followed, cond_followed, Takes, bytes_take, checked_take, both_take, u8_takes, u32_takes, u64_takes}
 
 -- ---- the header
@@ -98,6 +98,97 @@ is_open size long left after e =
           absurd cc
     ]
 
+abbrev bytes_of : ℕ → ℕ → ℕ × Left → Read (Left × ℕ)
+bytes_of place long count = bytes_at place long count.1 >>= λ (b : List ℕ × Left). Ok ((record { bytes = b.0; at = count.1.at }, count.0), b.1)
+
+abbrev count_of : ℕ → ℕ × Left → Read (Left × ℕ)
+count_of place long = u32_at long.1 >>= bytes_of place long.0
+
+checked_is : (size : ℕ) (old : Left) (p : ℕ × Left) → length_at size old ≡ Ok p → (u32_at old >>= λ (l : ℕ × Left). cond (leb (old.at + l.0 + 9) size) (Ok l) (Err (Bad old.at))) ≡ Ok p
+unfolding length_at checked
+checked_is size old p e = e
+
+-- so many bytes a block's body takes, with its lengths
+body_left : (size : ℕ) (old new : Left) (body : Left × ℕ) → body_at size old ≡ Ok (body, new)
+    → (k : ℕ) × (8 ≤ k) × (k ≤ length old.bytes) × (old.at + k + 1 ≤ size) × (new ≡ read_left (drop k old.bytes) (old.at + k))
+unfolding body_at length_at
+body_left size old new body e =
+    let p = bind_ok {B = (Left × ℕ) × Left} (length_at size old) (count_of old.at) (body, new) e in
+    let f = (length_takes size old.at).left old p.0.1 p.0.0 p.1 in
+    let q = bind_ok {B = (Left × ℕ) × Left} (u32_at p.0.1) (bytes_of old.at p.0.0) (body, new) p.2 in
+    let g = u32_takes.left p.0.1 q.0.1 q.0.0 q.1 in
+    let r = bind_ok {B = (Left × ℕ) × Left} (bytes_at old.at p.0.0 q.0.1) (λ (b : List ℕ × Left). Ok ((record { bytes = b.0; at = q.0.1.at }, q.0.0), b.1)) (body, new) q.2 in
+    let h = (bytes_take (λ _. old.at) p.0.0).left q.0.1 r.0.1 r.0.0 r.1 in
+    let same : r.0.1 ≡ new = ap (λ (y : (Left × ℕ) × Left). y.1) (ok_is {A = (Left × ℕ) × Left} ((record { bytes = r.0.0; at = q.0.1.at }, q.0.0), r.0.1) (body, new) r.2) in
+    let long = p.0.0 in
+    let c = bind_ok (u32_at old) (λ (l : ℕ × Left). cond (leb (old.at + l.0 + 9) size) (Ok l) (Err (Bad old.at))) (p.0.0, p.0.1) (checked_is size old p.0 p.1) in
+    let d = test_ok (leb (old.at + c.0.0 + 9) size) (Bad old.at) c.0 (p.0.0, p.0.1) c.2 in
+    let is_long : c.0.0 ≡ long = ap (λ (y : ℕ × Left). y.0) d.1 in
+    let within : old.at + c.0.0 + 9 ≤ size = leb-true (old.at + c.0.0 + 9) size d.0 in
+    let n1 : length p.0.1.bytes ≡ length old.bytes - 4 = ap (λ (y : Left). length y.bytes) f.1 ∙ length-drop 4 old.bytes in
+    let n2 : length q.0.1.bytes ≡ length p.0.1.bytes - 4 = ap (λ (y : Left). length y.bytes) g.1 ∙ length-drop 4 p.0.1.bytes in
+    let b2 : q.0.1.bytes ≡ drop 8 old.bytes = ap (λ (y : Left). y.bytes) g.1 ∙ ap (λ (y : Left). drop 4 y.bytes) f.1 ∙ drop-drop 4 4 old.bytes in
+    let b3 : drop long q.0.1.bytes ≡ drop (8 + long) old.bytes = ap (λ (l : List ℕ). drop long l) b2 ∙ drop-drop long 8 old.bytes in
+    let a3 : q.0.1.at + long ≡ old.at + (8 + long) = omega (arith, ap (λ (y : Left). y.at) g.1, ap (λ (y : Left). y.at) f.1) in (
+      8 + long,
+      omega arith,
+      omega (arith, f.0, g.0, h.0, n1, n2),
+      omega (arith, within, is_long),
+      sym same ∙ h.1 ∙ (λ i. read_left (b3 i) (a3 i)),
+    )
+
+-- ---- a block behind its gate, by its body
+
+abbrev Part : Type 0
+Part = Option (Left × ℕ) × Left
+
+abbrev as_part : (Left × ℕ) × Left → Read (Option (Left × ℕ))
+as_part body = Ok (Some body.0, body.1)
+
+abbrev part_behind : ℕ → ℕ × Left → Read (Option (Left × ℕ))
+part_behind size gate = cond (eqb gate.0 1) (body_at size gate.1 >>= as_part) (Ok (None, gate.1))
+
+none_or_some : (a : Left × ℕ) (l m : Left) → done {A = Part} (None, l) ≡ done {A = Part} (Some a, m) → ⊥
+none_or_some a l m e = let e1 : false ≡ true = ap (λ (r : Read (Option (Left × ℕ))). is_there r) e in absurd cc
+  where
+    has : Option (Left × ℕ) → Bool
+    has None = false
+    has (Some x) = true
+
+    is_there : Read (Option (Left × ℕ)) → Bool
+    is_there (Ok x) = has x.0
+    is_there (Err f) = false
+
+-- so many bytes an open gate and its block take
+pub part_left : (size : ℕ) (old new : Left) (body : Left × ℕ) → part_at size old ≡ Ok (Some body, new)
+    → (k : ℕ) × (9 ≤ k) × (k ≤ length old.bytes) × (old.at + k + 1 ≤ size) × (new ≡ read_left (drop k old.bytes) (old.at + k))
+unfolding part_at
+part_left size old new body e =
+    let p = bind_ok {B = Part} (u8_at old) (part_behind size) (Some body, new) e in
+    let f = u8_takes.left old p.0.1 p.0.0 p.1 in
+    let n1 : length p.0.1.bytes ≡ length old.bytes - 1 = ap (λ (y : Left). length y.bytes) f.1 ∙ length-drop 1 old.bytes in
+    let a1 : p.0.1.at ≡ old.at + 1 = ap (λ (y : Left). y.at) f.1 in
+    let all : Read (Option (Left × ℕ)) = body_at size p.0.1 >>= as_part in
+    let shut : Read (Option (Left × ℕ)) = Ok (None, p.0.1) in
+    elim (cases_Bool (eqb p.0.0 1)) [
+      | inl one ↦
+          let e1 : all ≡ Ok (Some body, new) = sym (ap (λ (b : Bool). cond b all shut) one) ∙ p.2 in
+          let q = bind_ok {B = Part} (body_at size p.0.1) as_part (Some body, new) e1 in
+          let same : q.0.1 ≡ new = ap (λ (y : Part). y.1) (ok_is {A = Part} (Some q.0.0, q.0.1) (Some body, new) q.2) in
+          let (k, least, most, within, is) = body_left size p.0.1 q.0.1 q.0.0 q.1 in
+          let b2 : drop k p.0.1.bytes ≡ drop (1 + k) old.bytes = ap (λ (y : Left). drop k y.bytes) f.1 ∙ drop-drop k 1 old.bytes in
+          let a2 : p.0.1.at + k ≡ old.at + (1 + k) = omega (arith, a1) in (
+            1 + k,
+            omega (arith, least),
+            omega (arith, f.0, most, n1),
+            omega (arith, within, a1),
+            sym same ∙ is ∙ (λ i. read_left (b2 i) (a2 i)),
+          )
+      | inr other ↦
+          let e1 : shut ≡ Ok (Some body, new) = sym (ap (λ (b : Bool). cond b all shut) other) ∙ p.2 in
+          absurd (none_or_some body p.0.1 new e1)
+    ]
+
 module _ (tables : List TableSchema) (shards size : ℕ) (before : List Mutation) where
   abbrev with_found : Left → Read (List Mutation) → Read (List Mutation)
   with_found after read = read >>= λ found. cond (eqb (length found.1.bytes) 0) (Ok (found.0, after)) (Err (Bad found.1.at))
@@ -134,45 +225,94 @@ module _ (tables : List TableSchema) (shards size : ℕ) (before : List Mutation
       ∙ bind_followed (bytes_at at long2 l3) rest (with_body (count, l3)) (λ body l4 e4.
       found_again rest l4 (records_at tables shards count before (record { bytes = body; at = l3.at })))))
 
-  checked_is : (old : Left) (p : ℕ × Left) → length_at size old ≡ Ok p → (u32_at old >>= λ (l : ℕ × Left). cond (leb (old.at + l.0 + 9) size) (Ok l) (Err (Bad old.at))) ≡ Ok p
-  unfolding length_at checked
-  checked_is old p e = e
+  -- ---- a block by its body
+
+  abbrev with_part : (Left × ℕ) × Left → Read (List Mutation)
+  with_part b = filled_at tables shards b.0.1 before b.0.0 >>= λ (found : List Mutation × Left). done (found.0, b.1)
+
+  filled_same : (after : Left) (r : Read (List Mutation)) → with_found after r
+      ≡ ((r >>= λ (found : List Mutation × Left). cond (eqb (length found.1.bytes) 0) (Ok found) (Err (Bad found.1.at))) >>= λ (found : List Mutation × Left). done (found.0, after))
+  filled_same after (Ok x) = each (eqb (length x.1.bytes) 0)
+    where
+      each : (b : Bool) → cond b (done {A = List Mutation × Left} (x.0, after)) (Err (Bad x.1.at)) ≡ (cond b (done x) (Err (Bad x.1.at)) >>= λ (found : List Mutation × Left). done (found.0, after))
+      each true = refl
+      each false = refl
+  filled_same after (Err f) = refl
+
+  bytes_same : (count : ℕ × Left) (r : Read (List ℕ)) → (r >>= with_body count)
+      ≡ ((r >>= λ (b : List ℕ × Left). Ok ((record { bytes = b.0; at = count.1.at }, count.0), b.1)) >>= with_part)
+  unfolding filled_at
+  bytes_same count (Ok b) = filled_same b.1 (records_at tables shards count.0 before (record { bytes = b.0; at = count.1.at }))
+  bytes_same count (Err f) = refl
+
+  count_same : (place long : ℕ) (r : Read ℕ) → (r >>= with_count place long) ≡ ((r >>= bytes_of place long) >>= with_part)
+  count_same place long (Ok count) = bytes_same count (bytes_at place long count.1)
+  count_same place long (Err f) = refl
+
+  long_same : (place : ℕ) (r : Read ℕ) → (r >>= with_long place) ≡ ((r >>= count_of place) >>= with_part)
+  long_same place (Ok long) = count_same place long.0 (u32_at long.1)
+  long_same place (Err f) = refl
+
+  pub by_body : (left : Left) → block_at tables shards size before left ≡ (body_at size left >>= with_part)
+  unfolding block_at body_at
+  by_body left = long_same left.at (length_at size left)
 
   -- so many bytes a block takes
   block_left : (old new : Left) (all : List Mutation) → block_at tables shards size before old ≡ Ok (all, new)
       → (k : ℕ) × (8 ≤ k) × (k ≤ length old.bytes) × (old.at + k + 1 ≤ size) × (new ≡ read_left (drop k old.bytes) (old.at + k))
-  unfolding block_at length_at
+  unfolding filled_at
   block_left old new all e =
-      let p = bind_ok (length_at size old) (with_long old.at) (all, new) e in
-      let f = (length_takes size old.at).left old p.0.1 p.0.0 p.1 in
-      let q = bind_ok (u32_at p.0.1) (with_count old.at p.0.0) (all, new) p.2 in
-      let g = u32_takes.left p.0.1 q.0.1 q.0.0 q.1 in
-      let r = bind_ok (bytes_at old.at p.0.0 q.0.1) (with_body q.0) (all, new) q.2 in
-      let h = (bytes_take (λ _. old.at) p.0.0).left q.0.1 r.0.1 r.0.0 r.1 in
-      let s = bind_ok (records_at tables shards q.0.0 before (record { bytes = r.0.0; at = q.0.1.at })) (λ (found : List Mutation × Left). cond (eqb (length found.1.bytes) 0) (Ok (found.0, r.0.1)) (Err (Bad found.1.at))) (all, new) r.2 in
-      let t = test_ok (eqb (length s.0.1.bytes) 0) (Bad s.0.1.at) (s.0.0, r.0.1) (all, new) s.2 in
-      let long = p.0.0 in
-      let c = bind_ok (u32_at old) (λ (l : ℕ × Left). cond (leb (old.at + l.0 + 9) size) (Ok l) (Err (Bad old.at))) (p.0.0, p.0.1) (checked_is old p.0 p.1) in
-      let d = test_ok (leb (old.at + c.0.0 + 9) size) (Bad old.at) c.0 (p.0.0, p.0.1) c.2 in
-      let same : c.0.0 ≡ long = ap (λ (y : ℕ × Left). y.0) d.1 in
-      let within : old.at + c.0.0 + 9 ≤ size = leb-true (old.at + c.0.0 + 9) size d.0 in
-      let n1 : length p.0.1.bytes ≡ length old.bytes - 4 = ap (λ (y : Left). length y.bytes) f.1 ∙ length-drop 4 old.bytes in
-      let n2 : length q.0.1.bytes ≡ length p.0.1.bytes - 4 = ap (λ (y : Left). length y.bytes) g.1 ∙ length-drop 4 p.0.1.bytes in
-      let b2 : q.0.1.bytes ≡ drop 8 old.bytes = ap (λ (y : Left). y.bytes) g.1 ∙ ap (λ (y : Left). drop 4 y.bytes) f.1 ∙ drop-drop 4 4 old.bytes in
-      let b3 : drop long q.0.1.bytes ≡ drop (8 + long) old.bytes = ap (λ (l : List ℕ). drop long l) b2 ∙ drop-drop long 8 old.bytes in
-      let a3 : q.0.1.at + long ≡ old.at + (8 + long) = omega (arith, ap (λ (y : Left). y.at) g.1, ap (λ (y : Left). y.at) f.1) in (
-        8 + long,
-        omega arith,
-        omega (arith, f.0, g.0, h.0, n1, n2),
-        omega (arith, within, same),
-        sym (ap (λ (y : List Mutation × Left). y.1) t.1) ∙ h.1 ∙ (λ i. read_left (b3 i) (a3 i)),
-      )
+      let p = bind_ok {B = List Mutation × Left} (body_at size old) with_part (all, new) (sym (by_body old) ∙ e) in
+      let q = bind_ok {B = List Mutation × Left} (filled_at tables shards p.0.0.1 before p.0.0.0) (λ (found : List Mutation × Left). done (found.0, p.0.1)) (all, new) p.2 in
+      let same : p.0.1 ≡ new = ap (λ (y : List Mutation × Left). y.1) (ok_is (q.0.0, p.0.1) (all, new) q.2) in
+      let (k, least, most, within, is) = body_left size old p.0.1 p.0.0 p.1 in
+      (k, least, most, within, sym same ∙ is)
 
   -- ---- a block behind its gate
 
   abbrev with_gate : ℕ × Left → Read (Bool × List Mutation)
   with_gate gate =
       cond (eqb gate.0 1) (block_at tables shards size before gate.1 >>= λ block. Ok ((true, block.0), block.1)) (Ok ((false, before), gate.1))
+
+  abbrev Step : Type 0
+  Step = (Bool × List Mutation) × Left
+
+  abbrev as_open : List Mutation × Left → Read (Bool × List Mutation)
+  as_open block = Ok ((true, block.0), block.1)
+
+  abbrev opened : Left → List Mutation × Left → Read (Bool × List Mutation)
+  opened after found = Ok ((true, found.0), after)
+
+  -- what stands behind the gate gives the block's mutations, where there is a body
+  abbrev pub of_part : Option (Left × ℕ) × Left → Read (Bool × List Mutation)
+  of_part (None, after) = Ok ((false, before), after)
+  of_part (Some body, after) = filled_at tables shards body.1 before body.0 >>= λ (found : List Mutation × Left). Ok ((true, found.0), after)
+
+  open_same : (r : Read (Left × ℕ)) → ((r >>= with_part) >>= as_open) ≡ ((r >>= as_part) >>= of_part)
+  open_same (Ok b) = each (filled_at tables shards b.0.1 before b.0.0)
+    where
+      each : (r : Read (List Mutation)) → ((r >>= λ (found : List Mutation × Left). done (found.0, b.1)) >>= as_open) ≡ (r >>= opened b.1)
+      each (Ok x) = refl
+      each (Err f) = refl
+  open_same (Err f) = refl
+
+  abbrev closed : Left → Read (Bool × List Mutation)
+  closed after = Ok ((false, before), after)
+
+  abbrev no_part : Left → Read (Option (Left × ℕ))
+  no_part after = Ok (None, after)
+
+  gate_same : (r : Read ℕ) → (r >>= with_gate) ≡ ((r >>= part_behind size) >>= of_part)
+  gate_same (Ok gate) = ap (λ (y : Read (List Mutation)). cond (eqb gate.0 1) (y >>= as_open) (closed gate.1)) (by_body gate.1) ∙ each (eqb gate.0 1)
+    where
+      each : (b : Bool) → cond b ((body_at size gate.1 >>= with_part) >>= as_open) (closed gate.1) ≡ (cond b (body_at size gate.1 >>= as_part) (no_part gate.1) >>= of_part)
+      each true = open_same (body_at size gate.1)
+      each false = refl
+  gate_same (Err f) = refl
+
+  pub by_part : (left : Left) → gated_at tables shards size before left ≡ (part_at size left >>= of_part)
+  unfolding gated_at part_at
+  by_part left = gate_same (u8_at left)
 
   -- of the bytes at hand a block gives what it gives of the file, where the whole block is at hand
   gated_enough : (front rest : List ℕ) (at long : ℕ) (after : Left) → opened_at size (read_left front at) ≡ Ok (Some long, after) → 9 + long ≤ length front
@@ -204,12 +344,6 @@ module _ (tables : List TableSchema) (shards size : ℕ) (before : List Mutation
       (λ (block : (long : ℕ) × (after : Left) × (opened_at size (read_left bytes at) ≡ Ok (Some long, after)) × (9 + long ≤ length bytes)).
       ap (λ (l : List ℕ). gated_at tables shards size before (read_left l at)) whole
       ∙ gated_enough bytes rest at block.0 block.1 block.2 block.3) has
-
-  abbrev Step : Type 0
-  Step = (Bool × List Mutation) × Left
-
-  abbrev as_open : List Mutation × Left → Read (Bool × List Mutation)
-  as_open block = Ok ((true, block.0), block.1)
 
   -- so many bytes it takes
   pub gated_left : (old new : Left) (opens : Bool) (all : List Mutation) → gated_at tables shards size before old ≡ Ok ((opens, all), new)
@@ -357,7 +491,7 @@ module _ (tables : List TableSchema) (shards size : ℕ) where
   abbrev on_gate : ℕ → (Bool × List Mutation) × Left → Read (List Mutation)
   on_gate n x = cond x.0.0 (blocks_at tables shards n size x.0.1 x.1) (Ok (x.0.1, x.1))
 
-  by_gate : (n : ℕ) (before : List Mutation) (left : Left) → blocks_at tables shards (suc n) size before left ≡ (gated_at tables shards size before left >>= on_gate n)
+  pub by_gate : (n : ℕ) (before : List Mutation) (left : Left) → blocks_at tables shards (suc n) size before left ≡ (gated_at tables shards size before left >>= on_gate n)
   unfolding blocks_at gated_at
   by_gate n before left = each (u8_at left)
     where
@@ -408,7 +542,7 @@ module _ (tables : List TableSchema) (shards size : ℕ) where
   err_same : (a b : ReadFault) → as_err a ≡ as_err b → a ≡ b
   err_same a b e = cc
 
-  none_refused : (before : List Mutation) (left : Left) → blocks_at tables shards 0 size before left ≡ Err (Short left.at)
+  pub none_refused : (before : List Mutation) (left : Left) → blocks_at tables shards 0 size before left ≡ Err (Short left.at)
   unfolding blocks_at
   none_refused before left = refl
 

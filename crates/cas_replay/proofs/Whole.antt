@@ -62,7 +62,7 @@ module _ (tables : List TableSchema) (shards number : ℕ) (before : List Mutati
 
 module _ (tables : List TableSchema) (shards : ℕ) (file : ℕ → List ℕ) (number : ℕ) (others all : List ℕ) (before : List Mutation) (whole : Result (List Mutation) (ℕ × ReadFault))
     (e : log_of tables shards file all before ≡ whole) (is : all ≡ number ∷ others) where
-  by_segment : in_segment number (log_of tables shards file others) (segment_of tables shards number before (file number)) ≡ whole
+  pub by_segment : in_segment number (log_of tables shards file others) (segment_of tables shards number before (file number)) ≡ whole
   unfolding log_of
   by_segment = sym (ap (λ (ns : List ℕ). log_of tables shards file ns before) is) ∙ e
 

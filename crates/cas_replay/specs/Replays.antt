@@ -1,5 +1,5 @@
 -- How a replay ends. Own.
-use Rattle.std.specs.Prelude.{◌≡◌, ◌⊎◌, ℕ, List, [], filter, Result, Ok, Err}
+use Rattle.std.specs.Prelude.{◌≡◌, ◌⊎◌, ◌++◌, ℕ, List, [], filter, Result, Ok, Err}
 use Rattle.std.specs.List.{AllByRecursion}
 use Rattle.cas_types.specs.Limits.{IsShardCount}
 use Rattle.cas_types.specs.declared.schema.TableSchema.{TableSchema}
@@ -18,12 +18,22 @@ use Rattle.cas_replay.specs.declared.fault.ReplayFault.TheVariants.{Failed, Bad,
 abbrev pub IsRefusedAt : {Y : Type 0} → ℕ → Result Y ReadFault → Type 0
 IsRefusedAt at read = (read ≡ Err (Short at)) ⊎ (read ≡ Err (BadField at))
 
--- What is answered of one segment, its value seen by view, is what the reading gives, unless the folder failed or memory ran out.
-abbrev pub ReplaysOne : {X Y : Type 0} → (X → Y) → ℕ → Result X ReplayFault → Result Y ReadFault → Type 0
-ReplaysOne view segment (Ok x) read = read ≡ Ok (view x)
-ReplaysOne view segment (Err (Bad of at)) read = (of ≡ segment) × IsRefusedAt at read
-ReplaysOne view segment (Err Failed) read = Unit {0}
-ReplaysOne view segment (Err Mem) read = Unit {0}
+-- all that a reading gives, where it gives some, begins with these mutations
+abbrev pub IsFront : {A E : Type 0} → (A → List Mutation) → List Mutation → Result A E → Type 0
+IsFront all found (Ok x) = (rest : List Mutation) × (all x ≡ found ++ rest)
+IsFront all found (Err f) = Unit {0}
+
+-- these mutations were taken, which are a front of those that the reading gives
+abbrev pub TookFront : List Mutation → List Mutation → Result (List Mutation) (ℕ × ReadFault) → Type 0
+TookFront old new read = (given : List Mutation) × (new ≡ old ++ given) × IsFront (λ ms. ms) given read
+
+-- What a replay answers whose taker had some mutations before it, and has some after it: the taker took those that the reading of the segments gives;
+-- or the reading is refused there; or the folder failed or memory ran out, and the taker took a front of them.
+abbrev pub HandsOn : {X : Type 0} → List Mutation → List Mutation → Result X ReplayFault → Result (List Mutation) (ℕ × ReadFault) → Type 0
+HandsOn old new (Ok x) read = (given : List Mutation) × (new ≡ old ++ given) × (read ≡ Ok given)
+HandsOn old new (Err (Bad segment at)) read = (read ≡ Err (segment, Short at)) ⊎ (read ≡ Err (segment, BadField at))
+HandsOn old new (Err Failed) read = TookFront old new read
+HandsOn old new (Err Mem) read = TookFront old new read
 
 -- What a replay answers, its value seen by view, is what the reading of the segments gives, unless the folder failed or memory ran out.
 abbrev pub Replays : {X Y : Type 0} → (X → Y) → Result X ReplayFault → Result Y (ℕ × ReadFault) → Type 0
@@ -31,6 +41,13 @@ Replays view (Ok x) read = read ≡ Ok (view x)
 Replays view (Err (Bad segment at)) read = (read ≡ Err (segment, Short at)) ⊎ (read ≡ Err (segment, BadField at))
 Replays view (Err Failed) read = Unit {0}
 Replays view (Err Mem) read = Unit {0}
+
+-- What is taken of a log, whatever is answered, and also where the folder tells nothing of what it reads: of mutations that a log of these tables may
+-- have, where the tables and shards are within limits, those above their frontiers.
+pub record IsOfALog (tables : List TableSchema) (shards : ℕ) (frontiers : List ℕ) (given : List Mutation) : Type 0 where
+  pub all : List Mutation
+  pub are : AreTables tables → IsShardCount shards → AreOfALog tables shards all
+  pub above : given ≡ filter (is_above shards frontiers) all
 
 -- What was replayed of these segments, also where the folder tells nothing of what it reads: mutations that a log of these tables may have, where the
 -- tables and shards are within limits; those above their frontiers are given; and where the folder tells what it reads, all are what is read of it.

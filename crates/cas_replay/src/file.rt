@@ -3,37 +3,30 @@
 ghost use Rattle.std.specs.Prelude.{◌≡◌, ◌+◌, ◌≤◌, ℕ, true, List, ◌∷◌, [], length, drop, IfOk, OnOk, IsErrOf};
 ghost use Rattle.cas_disk.specs.Counts.{Counted};
 ghost use Rattle.cas_disk.specs.Disk.{Image, During, Follows, Same, bytes_of};
+ghost use Rattle.cas_atoms.specs.declared.atom.Mutation.{Mutation as MutationOf};
 ghost use Rattle.cas_files.specs.Ahead.{AreNext};
 ghost use Rattle.cas_log.specs.Segment.{IsSize};
 ghost use Rattle.cas_log.specs.declared.log.TheConstants.{GREATEST_SEGMENT};
 ghost use Rattle.cas_replay.specs.Reading.{header_at, blocks_at, segment_of, segment_in};
-ghost use Rattle.cas_replay.specs.Replays.{ReplaysOne, Last};
-ghost use Rattle.cas_replay.specs.Inner.Steps.{gated_at, left_of, values_of, HasBlock, ReadsOn, Reaches, StepsOn, StayALog};
+ghost use Rattle.cas_replay.specs.Replays.{Last};
+ghost use Rattle.cas_replay.specs.Inner.Steps.{gated_at, left_of, values_of, HasBlock, ReadsOn, Reaches, StepsOn};
+ghost use Rattle.cas_replay.specs.Inner.Progress.{Stands, Went, GoesThrough};
 
 use crate::fault::{ReplayFault, of_field};
-use crate::reading::{add_gated, read_header, read_opened};
-use cas_atoms::Mutation;
+use crate::lasts::Lasts;
+use crate::reading::{read_header, read_opened, read_part, take_body};
+use crate::segment::Segment;
+use crate::taker::TakesMutations;
 use cas_codec::Reader;
 use cas_disk::{Folder, FolderFault, Name};
 use cas_files::FileReader;
 use cas_io::Failed;
-use cas_types::TableSchema;
-use std::alloc::Global;
 
 /// So many bytes has a segment before its first gate.
 const HEADER: usize = 24;
 
 /// So many has a gate with the lengths of its block.
 const HEAD: usize = 9;
-
-/// A segment that is read: its number, and the tables and shards of its store.
-#[derive(Drop)]
-pub(crate) struct Segment<'a> {
-    pub(crate) alloc: Global,
-    pub(crate) number: u64,
-    pub(crate) tables: &'a [TableSchema],
-    pub(crate) shards: u8,
-}
 
 // The size that the header tells; the reader goes on behind it.
 fn take_header<F: Folder>(
@@ -100,80 +93,92 @@ fn reach_block<F: Folder>(
     }
 }
 
-// Adds the mutations of the block at hand, and passes over it; false where its gate isn't open.
-fn take_at_hand(
+// Hands on the mutations of the block at hand, and passes over it; false where its gate isn't open.
+fn take_at_hand<T: TakesMutations>(
     file: &mut FileReader,
     of: &Segment<'_>,
     size: u64,
-    mutations: &mut Vec<Mutation>,
+    lasts: &mut Lasts,
+    taker: &mut T,
 ) -> Result<bool, ReplayFault>
     requires place { file.old.at ≤ GREATEST_SEGMENT }
     ensures name { file.new.name ≡ file.old.name }
     ensures on { IfOk result (λ opened. opened ≡ true → (file.old.at + 9 ≤ file.new.at) × (file.new.at + 1 ≤ size)) }
-    ensures exact { (f : List ℕ) → AreNext file.old.at f file.old.bytes → HasBlock size file.old.at f file.old.bytes
-        → StepsOn of.now.number f file.new mutations.new.items result
-        (gated_at of.now.tables.now of.now.shards size mutations.old.items (left_of f file.old.at)) }
-    ensures stay { OnOk result (StayALog of.now.tables.now of.now.shards mutations.old.items mutations.new.items) }
+    ensures went { (first before : List MutationOf) → Stands of.now.shards of.now.frontiers.now first (T.taken taker.old) lasts.old.numbers before
+        → Went of.now.tables.now of.now.shards of.now.frontiers.now first (T.taken taker.new) lasts.new.numbers before
+        (λ after. (f : List ℕ) → AreNext file.old.at f file.old.bytes → HasBlock size file.old.at f file.old.bytes
+        → StepsOn of.now.number f file.new after result (gated_at of.now.tables.now of.now.shards size before (left_of f file.old.at))) }
     ensures failed { IsErrOf result ReplayFault.Failed → ⊥ }
 {
     let mut reader = Reader::new(file.ahead(), file.at());
     let before = reader.left().len();
-    match add_gated(of.alloc, &mut reader, of.tables, of.shards, size, mutations) {
-        Ok(opened) => {
+    match read_part(&mut reader, size) {
+        Ok(Some(part)) => {
+            let (mut body, count) = part;
             let taken = before - reader.left().len();
-            file.pass(taken);
-            Ok(opened)
+            match take_body(of, &mut body, count, lasts, taker) {
+                Ok(()) => {
+                    file.pass(taken);
+                    Ok(true)
+                }
+                Err(fault) => Err(of_field(of.number, fault)),
+            }
         }
+        Ok(None) => Ok(false),
         Err(fault) => Err(of_field(of.number, fault)),
     }
 }
 
-// Adds the mutations of the next block; false where its gate isn't open.
-fn take_block<F: Folder>(
+// Hands on the mutations of the next block; false where its gate isn't open.
+fn take_block<F: Folder, T: TakesMutations>(
     folder: &mut F,
     file: &mut FileReader,
     of: &Segment<'_>,
     size: u64,
-    mutations: &mut Vec<Mutation>,
+    lasts: &mut Lasts,
+    taker: &mut T,
 ) -> Result<bool, ReplayFault>
     requires place { file.old.at ≤ GREATEST_SEGMENT }
     ensures name { file.new.name ≡ file.old.name }
     ensures on { IfOk result (λ opened. opened ≡ true → (file.old.at + 9 ≤ file.new.at) × (file.new.at + 1 ≤ size)) }
-    ensures exact { (c : Image) → (F.disk folder.old).reads c → AreNext file.old.at (bytes_of (c file.old.name)) file.old.bytes
-        → StepsOn of.now.number (bytes_of (c file.old.name)) file.new mutations.new.items result
-        (gated_at of.now.tables.now of.now.shards size mutations.old.items (left_of (bytes_of (c file.old.name)) file.old.at)) }
-    ensures stay { OnOk result (StayALog of.now.tables.now of.now.shards mutations.old.items mutations.new.items) }
+    ensures went { (first before : List MutationOf) → Stands of.now.shards of.now.frontiers.now first (T.taken taker.old) lasts.old.numbers before
+        → Went of.now.tables.now of.now.shards of.now.frontiers.now first (T.taken taker.new) lasts.new.numbers before
+        (λ after. (c : Image) → (F.disk folder.old).reads c → AreNext file.old.at (bytes_of (c file.old.name)) file.old.bytes
+        → StepsOn of.now.number (bytes_of (c file.old.name)) file.new after result
+        (gated_at of.now.tables.now of.now.shards size before (left_of (bytes_of (c file.old.name)) file.old.at))) }
     ensures reads { Follows Same (F.disk folder.old).reads (F.disk folder.new).reads }
     ensures during { During Same (F.disk folder.old) (F.disk folder.new) }
     ensures count { Counted (F.faults_of folder.old) (F.faults_of folder.new) (IsErrOf result ReplayFault.Failed) }
 {
     match reach_block(folder, file, of.number, size) {
-        Ok(true) => take_at_hand(file, of, size, mutations),
+        Ok(true) => take_at_hand(file, of, size, lasts, taker),
         Ok(false) => Ok(false),
         Err(fault) => Err(fault),
     }
 }
 
-// Adds the mutations of the blocks up to the first gate that isn't open.
-fn take_blocks<F: Folder>(
+// Hands on the mutations of the blocks up to the first gate that isn't open.
+fn take_blocks<F: Folder, T: TakesMutations>(
     folder: &mut F,
     file: &mut FileReader,
     of: &Segment<'_>,
     size: u64,
-    mutations: &mut Vec<Mutation>,
+    lasts: &mut Lasts,
+    taker: &mut T,
 ) -> Result<(), ReplayFault>
     requires place { file.old.at ≤ size }
     requires size { size ≤ GREATEST_SEGMENT }
-    ensures exact { (c : Image) → (F.disk folder.old).reads c → AreNext file.old.at (bytes_of (c file.old.name)) file.old.bytes
-        → ReplaysOne (λ _. mutations.new.items) of.now.number result (values_of (blocks_at of.now.tables.now of.now.shards
-        (length (drop file.old.at (bytes_of (c file.old.name)))) size mutations.old.items (left_of (bytes_of (c file.old.name)) file.old.at))) }
-    ensures stay { OnOk result (StayALog of.now.tables.now of.now.shards mutations.old.items mutations.new.items) }
+    ensures went { (first before : List MutationOf) → Stands of.now.shards of.now.frontiers.now first (T.taken taker.old) lasts.old.numbers before
+        → Went of.now.tables.now of.now.shards of.now.frontiers.now first (T.taken taker.new) lasts.new.numbers before
+        (λ after. (c : Image) → (F.disk folder.old).reads c → AreNext file.old.at (bytes_of (c file.old.name)) file.old.bytes
+        → GoesThrough after of.now.number result (values_of (blocks_at of.now.tables.now of.now.shards
+        (length (drop file.old.at (bytes_of (c file.old.name)))) size before (left_of (bytes_of (c file.old.name)) file.old.at)))) }
     ensures reads { Follows Same (F.disk folder.old).reads (F.disk folder.new).reads }
     ensures during { During Same (F.disk folder.old) (F.disk folder.new) }
     ensures count { Counted (F.faults_of folder.old) (F.faults_of folder.new) (IsErrOf result ReplayFault.Failed) }
 {
     'turns: loop {
-        match take_block(folder, file, of, size, mutations) {
+        match take_block(folder, file, of, size, lasts, taker) {
             Ok(true) => {}
             Ok(false) => return Ok(()),
             Err(fault) => return Err(fault),
@@ -181,44 +186,46 @@ fn take_blocks<F: Folder>(
     }
 }
 
-// Adds the mutations of a segment.
-fn read_segment<F: Folder>(
+// Hands on the mutations of a segment.
+fn read_segment<F: Folder, T: TakesMutations>(
     folder: &mut F,
     of: &Segment<'_>,
-    mutations: &mut Vec<Mutation>,
+    lasts: &mut Lasts,
+    taker: &mut T,
 ) -> Result<(), ReplayFault>
-    ensures exact { (c : Image) → (F.disk folder.old).reads c
-        → ReplaysOne (λ _. mutations.new.items) of.now.number result
-        (segment_of of.now.tables.now of.now.shards of.now.number mutations.old.items (segment_in c of.now.number)) }
-    ensures stay { OnOk result (StayALog of.now.tables.now of.now.shards mutations.old.items mutations.new.items) }
+    ensures went { (first before : List MutationOf) → Stands of.now.shards of.now.frontiers.now first (T.taken taker.old) lasts.old.numbers before
+        → Went of.now.tables.now of.now.shards of.now.frontiers.now first (T.taken taker.new) lasts.new.numbers before
+        (λ after. (c : Image) → (F.disk folder.old).reads c → GoesThrough after of.now.number result
+        (segment_of of.now.tables.now of.now.shards of.now.number before (segment_in c of.now.number))) }
     ensures reads { Follows Same (F.disk folder.old).reads (F.disk folder.new).reads }
     ensures during { During Same (F.disk folder.old) (F.disk folder.new) }
     ensures count { Counted (F.faults_of folder.old) (F.faults_of folder.new) (IsErrOf result ReplayFault.Failed) }
 {
     let mut file = FileReader::new(of.alloc, Name::Log(of.number));
     match take_header(folder, &mut file, of.number) {
-        Ok(size) => take_blocks(folder, &mut file, of, size, mutations),
+        Ok(size) => take_blocks(folder, &mut file, of, size, lasts, taker),
         Err(fault) => Err(fault),
     }
 }
 
-/// Adds the mutations of a segment, and makes it last. A segment that isn't there reads as one without
+/// Hands on the mutations of a segment, and makes it last. A segment that isn't there reads as one without
 /// bytes.
-pub(crate) fn replay_segment<F: Folder>(
+pub(crate) fn replay_segment<F: Folder, T: TakesMutations>(
     folder: &mut F,
     of: &Segment<'_>,
-    mutations: &mut Vec<Mutation>,
+    lasts: &mut Lasts,
+    taker: &mut T,
 ) -> Result<(), ReplayFault>
-    ensures exact { (c : Image) → (F.disk folder.old).reads c
-        → ReplaysOne (λ _. mutations.new.items) of.now.number result
-        (segment_of of.now.tables.now of.now.shards of.now.number mutations.old.items (segment_in c of.now.number)) }
-    ensures stay { OnOk result (StayALog of.now.tables.now of.now.shards mutations.old.items mutations.new.items) }
+    ensures went { (first before : List MutationOf) → Stands of.now.shards of.now.frontiers.now first (T.taken taker.old) lasts.old.numbers before
+        → Went of.now.tables.now of.now.shards of.now.frontiers.now first (T.taken taker.new) lasts.new.numbers before
+        (λ after. (c : Image) → (F.disk folder.old).reads c → GoesThrough after of.now.number result
+        (segment_of of.now.tables.now of.now.shards of.now.number before (segment_in c of.now.number))) }
     ensures lasts { OnOk result (Last (of.now.number ∷ []) (F.disk folder.new)) }
     ensures reads { Follows Same (F.disk folder.old).reads (F.disk folder.new).reads }
     ensures during { During Same (F.disk folder.old) (F.disk folder.new) }
     ensures count { Counted (F.faults_of folder.old) (F.faults_of folder.new) (IsErrOf result ReplayFault.Failed) }
 {
-    if let Err(fault) = read_segment(folder, of, mutations) {
+    if let Err(fault) = read_segment(folder, of, lasts, taker) {
         return Err(fault);
     }
     match folder.sync(Name::Log(of.number)) {

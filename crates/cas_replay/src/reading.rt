@@ -1,68 +1,92 @@
 //! The fields of a segment, from left to right, of the bytes at hand.
 
-ghost use Rattle.std.specs.Prelude.{◌≡◌, option_map};
+ghost use Rattle.std.specs.Prelude.{◌≡◌, ◌++◌, ◌∷◌, [], List, OnOk, OnErr, IfOk};
+ghost use Rattle.cas_types.specs.Limits.{IsShardCount};
 ghost use Rattle.cas_codec.specs.Reading.{Gives};
-ghost use Rattle.cas_replay.specs.Reading.{last_of, follows, next_at, records_at, length_at, block_at, header_at};
-ghost use Rattle.cas_replay.specs.Inner.Steps.{opened_at, gated_at};
+ghost use Rattle.cas_atoms.specs.declared.atom.Mutation.{Mutation as MutationOf};
+ghost use Rattle.cas_mutations.specs.Allowed.{AreTables, FitsRecord};
+ghost use Rattle.cas_replay.specs.Reading.{is_above, next_at, records_at, length_at, header_at};
+ghost use Rattle.cas_replay.specs.Inner.Steps.{opened_at, body_at, part_at, filled_at};
+ghost use Rattle.cas_replay.specs.Inner.Progress.{AreLast, Stands, Went, Tells};
 
+use crate::lasts::Lasts;
+use crate::segment::Segment;
+use crate::taker::TakesMutations;
 use cas_atoms::Mutation;
 use cas_codec::{ReadFault, Reader};
 use cas_log::{GREATEST_SEGMENT, LEAST_SEGMENT};
 use cas_mutations::read_record;
-use cas_types::TableSchema;
-use std::alloc::Global;
+use cas_types::Mem;
 
-// The last of these mutations that is of the shard.
-fn last_of(before: &[Mutation], shard: u8) -> Option<&Mutation>
-    ensures { option_map (λ m. m.now) result ≡ last_of shard before.now }
+// Whether a mutation is above the frontier of its table and shard.
+fn is_above(shards: u8, frontiers: &[u64], mutation: &Mutation) -> bool
+    ensures { result ≡ is_above shards frontiers.now mutation.now }
 {
-    before.iter().rev().find(|m| m.shard == shard)
-}
-
-// Whether a mutation may stand behind these.
-#[tactic(auto, unfolding(crate::specs::Reading::follows))]
-fn follows(before: &[Mutation], mutation: &Mutation) -> bool
-    ensures { result ≡ follows before.now mutation.now }
-{
-    match last_of(before, mutation.shard) {
-        Some(last) => last.number < mutation.number && mutation.number - last.number == 1,
-        None => true,
+    let place = mutation.table as usize * shards as usize + mutation.shard as usize;
+    match frontiers.get(place) {
+        Some(frontier) => *frontier < mutation.number,
+        None => 0 < mutation.number,
     }
 }
 
-// A record whose mutation may stand behind these.
+// A record whose mutation may stand behind those that were read.
 #[tactic(auto, unfolding(crate::specs::Reading::next_at, cas_codec::specs::Reading::checked))]
 fn read_next(
-    alloc: Global,
+    of: &Segment<'_>,
     reader: &mut Reader<'_>,
-    tables: &[TableSchema],
-    shards: u8,
-    before: &[Mutation],
+    lasts: &Lasts,
 ) -> Result<Mutation, ReadFault>
-    ensures { Gives (λ m. m) result reader.new (next_at tables.now shards before.now reader.old) }
+    ensures exact { (before : List MutationOf) → AreLast lasts.now.numbers before
+        → Gives (λ m. m) result reader.new (next_at of.now.tables.now of.now.shards before reader.old) }
+    ensures fits { IfOk result (λ m. AreTables of.now.tables.now → IsShardCount of.now.shards → FitsRecord of.now.tables.now of.now.shards m) }
 {
     let at = reader.at();
-    let mutation = read_record(alloc, reader, tables, shards)?;
-    if follows(before, &mutation) {
+    let _left = reader.left();
+    let mutation = read_record(of.alloc, reader, of.tables, of.shards)?;
+    if lasts.allow(&mutation) {
         return Ok(mutation);
     }
     Err(ReadFault::Bad { at })
 }
 
-// Adds the mutations of so many records.
-fn add_records(
-    alloc: Global,
+// Hands a mutation on that was read, where it is above its frontier.
+fn hand_on<T: TakesMutations>(
+    of: &Segment<'_>,
+    mutation: Mutation,
+    lasts: &mut Lasts,
+    taker: &mut T,
+) -> Result<(), Mem>
+    ensures handed { (first before : List MutationOf) → Stands of.now.shards of.now.frontiers.now first (T.taken taker.old) lasts.old.numbers before
+        → OnOk result (Stands of.now.shards of.now.frontiers.now first (T.taken taker.new) lasts.new.numbers (before ++ mutation ∷ [])) }
+    ensures kept { (first before : List MutationOf) → Stands of.now.shards of.now.frontiers.now first (T.taken taker.old) lasts.old.numbers before
+        → OnErr result (Stands of.now.shards of.now.frontiers.now first (T.taken taker.new) lasts.new.numbers before) }
+{
+    let (shard, number) = (mutation.shard, mutation.number);
+    if is_above(of.shards, of.frontiers, &mutation) {
+        taker.take(mutation)?;
+    }
+    lasts.put(shard, number);
+    Ok(())
+}
+
+// Reads so many records, and hands their mutations on.
+fn take_records<T: TakesMutations>(
+    of: &Segment<'_>,
     reader: &mut Reader<'_>,
-    tables: &[TableSchema],
-    shards: u8,
     count: u32,
-    mutations: &mut Vec<Mutation>,
+    lasts: &mut Lasts,
+    taker: &mut T,
 ) -> Result<(), ReadFault>
-    ensures { Gives (λ _. mutations.new.items) result reader.new (records_at tables.now shards count mutations.old.items reader.old) }
+    ensures { (first before : List MutationOf) → Stands of.now.shards of.now.frontiers.now first (T.taken taker.old) lasts.old.numbers before
+        → Went of.now.tables.now of.now.shards of.now.frontiers.now first (T.taken taker.new) lasts.new.numbers before
+        (λ after. Tells (λ _. after) (λ ms. ms) after result reader.new (records_at of.now.tables.now of.now.shards count before reader.old)) }
 {
     for _done in 0..count {
-        match read_next(alloc, reader, tables, shards, mutations) {
-            Ok(mutation) => mutations.push(mutation)?,
+        match read_next(of, reader, lasts) {
+            Ok(mutation) => match hand_on(of, mutation, lasts, taker) {
+                Ok(()) => {}
+                Err(Mem) => return Err(ReadFault::Mem),
+            },
             Err(fault) => return Err(fault),
         }
     }
@@ -82,17 +106,10 @@ fn read_length(reader: &mut Reader<'_>, size: u64) -> Result<u32, ReadFault>
     Err(ReadFault::Bad { at })
 }
 
-// Adds the mutations of a block, behind its open gate.
-#[tactic(auto, unfolding(crate::specs::Reading::block_at, cas_codec::specs::Reading::bytes_at))]
-fn add_block(
-    alloc: Global,
-    reader: &mut Reader<'_>,
-    tables: &[TableSchema],
-    shards: u8,
-    size: u64,
-    mutations: &mut Vec<Mutation>,
-) -> Result<(), ReadFault>
-    ensures { Gives (λ _. mutations.new.items) result reader.new (block_at tables.now shards size mutations.old.items reader.old) }
+// The body of a block, behind its lengths, and how many records it has.
+#[tactic(auto, unfolding(crate::specs::Inner::Steps::body_at, cas_codec::specs::Reading::bytes_at))]
+fn read_body<'a>(reader: &mut Reader<'a>, size: u64) -> Result<(Reader<'a>, u32), ReadFault>
+    ensures { Gives (λ p. (p.0, p.1)) result reader.new (body_at size reader.old) }
 {
     let at = reader.at();
     let long = read_length(reader, size)?;
@@ -100,12 +117,8 @@ fn add_block(
     if reader.left().len() < long as usize {
         return Err(ReadFault::Short { at });
     }
-    let mut body = reader.part(long as usize)?;
-    add_records(alloc, &mut body, tables, shards, count, mutations)?;
-    if !body.is_empty() {
-        return Err(ReadFault::Bad { at: body.at() });
-    }
-    Ok(())
+    let body = reader.part(long as usize)?;
+    Ok((body, count))
 }
 
 /// The length of the body behind the next gate, where that is open.
@@ -119,24 +132,42 @@ pub(crate) fn read_opened(reader: &mut Reader<'_>, size: u64) -> Result<Option<u
     Ok(Some(read_length(reader, size)?))
 }
 
-/// Adds the mutations of the block behind the next gate, and says whether that is open.
-#[tactic(auto, unfolding(crate::specs::Inner::Steps::gated_at))]
-pub(crate) fn add_gated(
-    alloc: Global,
-    reader: &mut Reader<'_>,
-    tables: &[TableSchema],
-    shards: u8,
+/// The body behind the next gate, and how many records it has, where the gate is open.
+#[tactic(auto, unfolding(crate::specs::Inner::Steps::part_at))]
+pub(crate) fn read_part<'a>(
+    reader: &mut Reader<'a>,
     size: u64,
-    mutations: &mut Vec<Mutation>,
-) -> Result<bool, ReadFault>
-    ensures { Gives (λ opened. (opened, mutations.new.items)) result reader.new (gated_at tables.now shards size mutations.old.items reader.old) }
+) -> Result<Option<(Reader<'a>, u32)>, ReadFault>
+    ensures { Gives (λ part. part) result reader.new (part_at size reader.old) }
 {
     let gate = reader.u8()?;
     if gate != 1 {
-        return Ok(false);
+        return Ok(None);
     }
-    add_block(alloc, reader, tables, shards, size, mutations)?;
-    Ok(true)
+    Ok(Some(read_body(reader, size)?))
+}
+
+/// Hands on the mutations of a block's records, which fill its body.
+pub(crate) fn take_body<T: TakesMutations>(
+    of: &Segment<'_>,
+    body: &mut Reader<'_>,
+    count: u32,
+    lasts: &mut Lasts,
+    taker: &mut T,
+) -> Result<(), ReadFault>
+    ensures { (first before : List MutationOf) → Stands of.now.shards of.now.frontiers.now first (T.taken taker.old) lasts.old.numbers before
+        → Went of.now.tables.now of.now.shards of.now.frontiers.now first (T.taken taker.new) lasts.new.numbers before
+        (λ after. Tells (λ _. after) (λ ms. ms) after result body.new (filled_at of.now.tables.now of.now.shards count before body.old)) }
+{
+    match take_records(of, body, count, lasts, taker) {
+        Ok(()) => {
+            if body.is_empty() {
+                return Ok(());
+            }
+            Err(ReadFault::Bad { at: body.at() })
+        }
+        Err(fault) => Err(fault),
+    }
 }
 
 /// The word, the number and the size, of which the size is told.

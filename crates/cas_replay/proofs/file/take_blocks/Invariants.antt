@@ -1,8 +1,10 @@
-use Rattle.std.proofs.Common.{◌≡◌, ◌≤◌, ◌-◌, length, drop}
+use Rattle.std.proofs.Common.{◌≡◌, ◌≤◌, ◌-◌, List, length, drop}
 use Rattle.cas_disk.specs.Disk.{Image, During, Follows, Same, bytes_of}
 use Rattle.cas_files.specs.Ahead.{AreNext}
+use Rattle.cas_atoms.specs.declared.atom.Mutation.{Mutation}
 use Rattle.cas_replay.specs.Reading.{blocks_at}
-use Rattle.cas_replay.specs.Inner.Steps.{left_of, StayALog}
+use Rattle.cas_replay.specs.Inner.Steps.{left_of}
+use Rattle.cas_replay.specs.Inner.Progress.{Stands, Went}
 use Rattle.cas_replay.proofs.Steps.{Comes}
 use Rattle.cas_replay.proofs.file.take_blocks.Given as goal
 
@@ -10,11 +12,12 @@ abbrev pub invariant-turns : goal.invariant-turns
 invariant-turns g l = record {
   name : l.file.name ≡ l.fn.file.name;
   place : l.file.at ≤ l.size;
-  exact : (c : Image) → (g.F.Folder.disk l.fn.folder).reads c → AreNext l.fn.file.at (bytes_of (c l.fn.file.name)) l.fn.file.bytes
+  went : (first before : List Mutation) → Stands l.of.shards l.of.frontiers.now first (g.T.TakesMutations.taken l.fn.taker) l.fn.lasts.numbers before
+      → Went l.of.tables.now l.of.shards l.of.frontiers.now first (g.T.TakesMutations.taken l.taker) l.lasts.numbers before
+      (λ after. (c : Image) → (g.F.Folder.disk l.fn.folder).reads c → AreNext l.fn.file.at (bytes_of (c l.fn.file.name)) l.fn.file.bytes
       → AreNext l.file.at (bytes_of (c l.fn.file.name)) l.file.bytes
-      × Comes l.of.tables.now l.of.shards l.size l.mutations.items (left_of (bytes_of (c l.fn.file.name)) l.file.at)
-      (blocks_at l.of.tables.now l.of.shards (length (drop l.fn.file.at (bytes_of (c l.fn.file.name)))) l.size l.fn.mutations.items (left_of (bytes_of (c l.fn.file.name)) l.fn.file.at));
-  stay : StayALog l.of.tables.now l.of.shards l.fn.mutations.items l.mutations.items;
+      × Comes l.of.tables.now l.of.shards l.size after (left_of (bytes_of (c l.fn.file.name)) l.file.at)
+      (blocks_at l.of.tables.now l.of.shards (length (drop l.fn.file.at (bytes_of (c l.fn.file.name)))) l.size before (left_of (bytes_of (c l.fn.file.name)) l.fn.file.at)));
   reads : Follows Same (g.F.Folder.disk l.fn.folder).reads (g.F.Folder.disk l.folder).reads;
   during : During Same (g.F.Folder.disk l.fn.folder) (g.F.Folder.disk l.folder);
   faults : g.F.Folder.faults_of l.fn.folder ≤ g.F.Folder.faults_of l.folder;

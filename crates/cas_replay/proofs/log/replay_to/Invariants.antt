@@ -1,17 +1,15 @@
 use Rattle.std.proofs.Common.{◌≡◌, ◌≤◌, [], take, drop}
 use Rattle.cas_disk.specs.Disk.{Image, During, Follows, Same}
 use Rattle.cas_replay.specs.Reading.{log_of, segment_in}
-use Rattle.cas_types.specs.Limits.{IsShardCount}
-use Rattle.cas_mutations.specs.Allowed.{AreTables}
-use Rattle.cas_replay.specs.Grammar.{AreOfALog}
 use Rattle.cas_replay.specs.Replays.{Last}
-use Rattle.cas_replay.proofs.log.read_log.Given as goal
+use Rattle.cas_replay.specs.Inner.Progress.{Went}
+use Rattle.cas_replay.proofs.log.replay_to.Given as goal
 
 abbrev pub invariant-loop-segment : goal.invariant-loop-segment
 invariant-loop-segment g l = record {
-  exact : (c : Image) → (g.F.Folder.disk l.fn.folder).reads c
-      → log_of l.tables l.shards (segment_in c) (drop l.segment-index l.segments) l.mutations.items ≡ log_of l.tables l.shards (segment_in c) l.segments [];
-  are : AreTables l.tables → IsShardCount l.shards → AreOfALog l.tables l.shards l.mutations.items;
+  went : Went l.tables l.shards l.frontiers (g.T.TakesMutations.taken l.fn.taker) (g.T.TakesMutations.taken l.taker) l.lasts.numbers []
+      (λ after. (c : Image) → (g.F.Folder.disk l.fn.folder).reads c
+      → log_of l.tables l.shards (segment_in c) (drop l.segment-index l.segments) after ≡ log_of l.tables l.shards (segment_in c) l.segments []);
   lasts : Last (take l.segment-index l.segments) (g.F.Folder.disk l.folder);
   reads : Follows Same (g.F.Folder.disk l.fn.folder).reads (g.F.Folder.disk l.folder).reads;
   during : During Same (g.F.Folder.disk l.fn.folder) (g.F.Folder.disk l.folder);

@@ -1,0 +1,47 @@
+-- What is kept of what was read, and what is handed on of it.
+use Rattle.std.proofs.Common.{◌≡◌, ℕ, cond, true, List, [], ◌∷◌, ◌++◌, filter, Option, Ok, Err, refl, sym, ap, ◌∙◌}
+use Rattle.cas_types.specs.Limits.{IsShardCount}
+use Rattle.cas_types.specs.declared.schema.TableSchema.{TableSchema}
+use Rattle.cas_codec.specs.declared.fault.ReadFault.TheVariants.{Bad}
+use Rattle.cas_codec.specs.Reading.{Left, checked}
+use Rattle.cas_codec.proofs.Exactness.{bind_ok, test_ok}
+use Rattle.cas_atoms.specs.declared.atom.Mutation.{Mutation}
+use Rattle.cas_mutations.specs.Allowed.{AreTables, FitsRecord}
+use Rattle.cas_mutations.specs.Reading.{record_at}
+use Rattle.cas_replay.specs.Reading.{follows, next_at, is_above}
+use Rattle.cas_replay.specs.Replays.{IsOfALog}
+use Rattle.cas_replay.specs.Grammar.{AreOfALog}
+use Rattle.cas_replay.specs.Inner.Steps.{StayALog}
+use Rattle.cas_replay.specs.Inner.Progress.{Went}
+use Rattle.cas_replay.proofs.Order.{in_order}
+use Rattle.cas_replay.proofs.SegmentLaws.{fit_both}
+
+-- ---- mutations that a log may have
+
+-- a log has no mutations before the first
+pub none_yet : (tables : List TableSchema) (shards : ℕ) → AreOfALog tables shards []
+none_yet tables shards = record { fit = tt; ordered = λ shard. tt }
+
+module _ (tables : List TableSchema) (shards : ℕ) where
+  next_follows : (before : List Mutation) (left after : Left) (m : Mutation) → next_at tables shards before left ≡ Ok (m, after) → follows before m ≡ true
+  unfolding next_at checked
+  next_follows before left after m e =
+      let p = bind_ok (record_at tables shards left) (λ (found : Mutation × Left). cond (follows before found.0) (Ok found) (Err (Bad left.at))) (m, after) e in
+      let q = test_ok (follows before p.0.0) (Bad left.at) p.0 (m, after) p.2 in
+      ap (λ (y : Mutation × Left). follows before y.0) (sym q.1) ∙ q.0
+
+  pub stay_more : (before : List Mutation) (left after : Left) (m : Mutation) → (AreTables tables → IsShardCount shards → FitsRecord tables shards m)
+      → next_at tables shards before left ≡ Ok (m, after) → StayALog tables shards before (before ++ m ∷ [])
+  stay_more before left after m fits e are some of_log = record {
+    fit = fit_both (FitsRecord tables shards) before (m ∷ []) of_log.fit (fits are some, tt);
+    ordered = in_order before (m ∷ []) of_log.ordered (next_follows before left after m e, tt);
+  }
+
+  -- what was taken since nothing was read
+  pub of_a_log : (frontiers : List ℕ) (first taken : List Mutation) (numbers : List (Option ℕ)) (says : List Mutation → Type 0) → Went tables shards frontiers first taken numbers [] says
+      → (given : List Mutation) × (taken ≡ first ++ given) × IsOfALog tables shards frontiers given
+  of_a_log frontiers first taken numbers says went = (
+    filter (is_above shards frontiers) went.after,
+    went.stands.handed,
+    record { all = went.after; are = λ are some. went.stay are some (none_yet tables shards); above = refl },
+  )
