@@ -1,0 +1,4 @@
+pub mod Versions
+pub mod Spelling
+pub mod Allowed
+pub mod Reading
