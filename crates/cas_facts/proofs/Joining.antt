@@ -1,5 +1,5 @@
 -- The facts of one atom, of two lists of atoms joined, and that there are no others.
-use Rattle.std.proofs.Common.{◌≡◌, ℤ, Bool, true, false, cond, Option, None, Some, List, [], ◌∷◌, ◌++◌, map, ◌⊎◌, inl, inr, refl, sym, ap, ◌∙◌, subst, arith}
+use Rattle.std.proofs.Common.{◌≡◌, ℤ, Bool, true, false, cond, Option, None, Some, List, [], ◌∷◌, ◌++◌, map, ◌⊎◌, inl, inr, refl, sym, ap, subst, arith}
 use Rattle.std.specs.Prelude.{◌≤ℤ◌, int_lt}
 use Rattle.std.specs.Int.{int_min, int_max}
 use Rattle.std.proofs.lemmas.Int.{ints, clamps}
@@ -33,6 +33,7 @@ least_joined xs ys m n p q = record { one = picked (int_lt n m); below = λ k h.
     picked : (b : Bool) → Has (xs ++ ys) (cond b n m)
     picked true = has_right xs ys n q.one
     picked false = has_left xs ys m p.one
+
     bound : (k : ℤ) → Has xs k ⊎ Has ys k → int_min m n ≤ℤ k
     bound k (inl h) = let l : m ≤ℤ k = p.below k h in omega (arith, ints, clamps)
     bound k (inr h) = let l : n ≤ℤ k = q.below k h in omega (arith, ints, clamps)
@@ -43,6 +44,7 @@ greatest_joined xs ys m n p q = record { one = picked (int_lt n m); above = λ k
     picked : (b : Bool) → Has (xs ++ ys) (cond b m n)
     picked true = has_left xs ys m p.one
     picked false = has_right xs ys n q.one
+
     bound : (k : ℤ) → Has xs k ⊎ Has ys k → k ≤ℤ int_max m n
     bound k (inl h) = let l : k ≤ℤ m = p.above k h in omega (arith, ints, clamps)
     bound k (inr h) = let l : k ≤ℤ n = q.above k h in omega (arith, ints, clamps)
@@ -59,6 +61,7 @@ last_joined xs ys (Some d) (Some e) p q = (picked (int_lt e d), λ end h. bound 
     picked : (b : Bool) → Has (xs ++ ys) (Some (cond b d e))
     picked true = has_left xs ys (Some d) p.0
     picked false = has_right xs ys (Some e) q.0
+
     bound : (end : Option ℤ) → Has xs end ⊎ Has ys end → EndsBy (int_max d e) end
     bound end (inl h) = ends_later d (int_max d e) end (omega (arith, ints, clamps)) (p.1 end h)
     bound end (inr h) = ends_later e (int_max d e) end (omega (arith, ints, clamps)) (q.1 end h)

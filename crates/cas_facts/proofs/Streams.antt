@@ -15,7 +15,7 @@ use Rattle.cas_streams.specs.declared.fragment.Fragment.TheVariants as fragment
 use Rattle.cas_streams.proofs.Single.{has_either}
 use Rattle.cas_purge.specs.Droppable.{atom_end}
 use Rattle.cas_facts.specs.declared.facts.Facts.{Facts}
-use Rattle.cas_facts.specs.Facts.{IsLeast, IsGreatest, EndsBy, IsLastEnd, AreFacts, AreFactsSoFar}
+use Rattle.cas_facts.specs.Facts.{IsLastEnd, AreFactsSoFar}
 use Rattle.cas_facts.specs.Told.{top_told, told, all_told}
 use Rattle.cas_facts.specs.Laws.{StreamsTellTheirFacts}
 use Rattle.cas_facts.proofs.Joining.{has_left, has_right}
@@ -164,7 +164,7 @@ streams_tell_their_facts A f top fs e =
     let told_list : List Atom = A ++ all_told top fs in
     let flat_list : List Atom = A ++ flat top fs in
     let times : (k : ℤ) → Has (map atom_at told_list) k ↔ Has (map atom_at flat_list) k =
-        λ k. (shows_flat atom_at (λ lo hi at d. refl) A top fs e k, shows_told atom_at (λ lo hi at d. refl) A top fs e k) in
+    λ k. (shows_flat atom_at (λ lo hi at d. refl) A top fs e k, shows_told atom_at (λ lo hi at d. refl) A top fs e k) in
     let ends : (k : Option ℤ) → Has (map atom_end told_list) k ↔ Has (map atom_end flat_list) k =
-        λ k. (shows_flat atom_end (λ lo hi at d. refl) A top fs e k, shows_told atom_end (λ lo hi at d. refl) A top fs e k) in
+    λ k. (shows_flat atom_end (λ lo hi at d. refl) A top fs e k, shows_told atom_end (λ lo hi at d. refl) A top fs e k) in
     (same_facts told_list flat_list times ends f, same_facts flat_list told_list (λ k. ((times k).1, (times k).0)) (λ k. ((ends k).1, (ends k).0)) f)

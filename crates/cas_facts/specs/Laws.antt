@@ -5,7 +5,7 @@ use Rattle.cas_atoms.specs.declared.atom.Atom.{Atom}
 use Rattle.cas_streams.specs.Flat.{changes, at_end, flat}
 use Rattle.cas_streams.specs.declared.fragment.Fragment.{Fragment}
 use Rattle.cas_facts.specs.declared.facts.Facts.{Facts}
-use Rattle.cas_facts.specs.Facts.{AreFacts, AreFactsSoFar}
+use Rattle.cas_facts.specs.Facts.{AreFactsSoFar}
 use Rattle.cas_facts.specs.Told.{all_told}
 
 -- a list of atoms has one set of facts, where it isn't empty

@@ -5,7 +5,6 @@ use Rattle.cas_cell.specs.Lives.{live_at}
 use Rattle.cas_cell.specs.Cells.{cell_at}
 use Rattle.cas_cell.specs.declared.deletion.Deletion.{Deletion}
 use Rattle.cas_cell.specs.declared.liveness.Liveness.{Liveness}
-use Rattle.cas_cell.specs.declared.cell.Cell.{Cell}
 use Rattle.cas_atoms.specs.declared.row.Row.{Row}
 use Rattle.cas_atoms.specs.declared.row.RowColumn.{RowColumn}
 use Rattle.cas_atoms.specs.declared.row.PathCell.{PathCell}
