@@ -1,0 +1,9 @@
+//! What a table file holds of a partition, as bytes: how columns, rows, markers and fragments are
+//! spelled, a reader of each, which is told the table's columns, and a writer.
+#![tactic(auto)]
+
+mod columns;
+mod fragments;
+
+pub use columns::read_columns;
+pub use fragments::{read_fragment, read_row};
