@@ -4,6 +4,8 @@
 
 mod columns;
 mod fragments;
+mod laws;
 
 pub use columns::read_columns;
 pub use fragments::{read_fragment, read_row};
+pub use laws::columns_are_exact;
