@@ -1,2 +1,3 @@
 pub mod ChainLaws
 pub mod ColumnLaws
+pub mod FragmentLaws

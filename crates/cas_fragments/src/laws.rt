@@ -4,15 +4,25 @@ ghost use Rattle.std.specs.Prelude.{List};
 ghost use Rattle.cas_types.specs.Limits.{IsNarrow};
 ghost use Rattle.cas_types.specs.Schemas.{is_regular, is_static};
 ghost use Rattle.cas_types.specs.declared.schema.Column.{Column};
-ghost use Rattle.cas_codec.specs.Exact.{IsExact};
+ghost use Rattle.cas_bounds.specs.ClusteringOrder.{clustering_order};
+ghost use Rattle.cas_codec.specs.Exact.{IsExact, IsPrefixFree};
 ghost use Rattle.cas_records.specs.declared.columns.Wanted.TheVariants.{Regular, Static};
-ghost use Rattle.cas_fragments.specs.Spelling.{columns_bytes};
-ghost use Rattle.cas_fragments.specs.Reading.{columns_at};
-ghost use Rattle.cas_fragments.specs.Allowed.{FitColumns};
+ghost use Rattle.cas_fragments.specs.Spelling.{columns_bytes, row_bytes, fragment_bytes};
+ghost use Rattle.cas_fragments.specs.Reading.{columns_at, row_at, fragment_at};
+ghost use Rattle.cas_fragments.specs.Allowed.{FitColumns, FitsRow, FitsFragment};
 
 /// The columns of a row, and those of the static row, are read where their spelling stands and
 /// nowhere else, whatever follows it.
 pub fn columns_are_exact()
     ensures in_rows { (columns : List Column) → IsNarrow columns → IsExact (FitColumns is_regular columns) columns_bytes (columns_at Regular 0 columns) }
     ensures in_static_row { (columns : List Column) → IsNarrow columns → IsExact (FitColumns is_static columns) columns_bytes (columns_at Static 0 columns) }
+{}
+
+/// Rows and fragments of a table are read where their spelling stands and nowhere else, whatever
+/// follows it; so no spelling begins another one.
+pub fn fragments_are_exact()
+    ensures row { (columns : List Column) → IsNarrow columns → IsExact (FitsRow columns) row_bytes (row_at (clustering_order columns) columns) }
+    ensures fragment { (columns : List Column) → IsNarrow columns
+        → IsExact (FitsFragment columns) fragment_bytes (fragment_at (clustering_order columns) columns) }
+    ensures alone { (columns : List Column) → IsNarrow columns → IsPrefixFree (FitsFragment columns) fragment_bytes }
 {}

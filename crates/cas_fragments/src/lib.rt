@@ -8,4 +8,4 @@ mod laws;
 
 pub use columns::read_columns;
 pub use fragments::{read_fragment, read_row};
-pub use laws::columns_are_exact;
+pub use laws::{columns_are_exact, fragments_are_exact};
