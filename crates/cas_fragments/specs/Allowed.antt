@@ -8,6 +8,7 @@ use Rattle.std.specs.Ordering.{nat_cmp}
 use Rattle.cas_types.specs.Schemas.{is_static, is_regular}
 use Rattle.cas_types.specs.declared.schema.Column.{Column}
 use Rattle.cas_types.specs.declared.schema.Kind.{Kind}
+use Rattle.cas_cell.specs.Cells.{cell_value}
 use Rattle.cas_bounds.specs.ClusteringOrder.{clustering_order}
 use Rattle.cas_atoms.specs.Fits.{FitsDeletion, FitsLive, FitsClustering, FitsCut, FitsPath}
 use Rattle.cas_atoms.specs.declared.row.PathCell.{PathCell}
@@ -49,3 +50,27 @@ abbrev pub FitsFragment : List Column → Fragment → Type 0
 FitsFragment columns (fragment.Static cs) = ⊥
 FitsFragment columns (fragment.Row r) = FitsRow columns r
 FitsFragment columns (fragment.Marker cut d) = FitsCut (clustering_order columns) cut × IfSome d FitsDeletion
+
+-- ---- what has room in its fields
+
+-- fewer than 256 values, each of fewer than 65,536 bytes
+abbrev pub AreShort : List (List ℕ) → Type 0
+AreShort values = (length values < 2 ^ 8) × AllByRecursion (λ v. length v < 2 ^ 16) values
+
+-- a path of fewer than 65,536 bytes, and a value of fewer than 2^32
+abbrev pub CellHasRoom : PathCell → Type 0
+CellHasRoom c = (length c.path < 2 ^ 16) × (length (cell_value c.cell) < 2 ^ 32)
+
+-- fewer than 2^32 cells
+abbrev pub ColumnHasRoom : RowColumn → Type 0
+ColumnHasRoom c = (length c.cells < 2 ^ 32) × AllByRecursion CellHasRoom c.cells
+
+-- fewer than 65,536 columns
+abbrev pub HaveRoom : List RowColumn → Type 0
+HaveRoom cs = (length cs < 2 ^ 16) × AllByRecursion ColumnHasRoom cs
+
+-- a fragment whose numbers and lengths have room in their fields
+abbrev pub HasSpelling : Fragment → Type 0
+HasSpelling (fragment.Static cs) = Unit {0}
+HasSpelling (fragment.Row r) = AreShort r.clustering.values × HaveRoom r.columns
+HasSpelling (fragment.Marker cut d) = AreShort cut.prefix

@@ -1,4 +1,6 @@
 pub mod Spelling
+pub mod Blocks
 pub mod Reading
 pub mod Allowed
+pub mod Lengths
 pub mod Inner

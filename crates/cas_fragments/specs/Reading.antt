@@ -1,6 +1,6 @@
 -- Reading what a table file holds of a partition. That these readings take the spellings and nothing else is a law.
 -- Own. The place of a refusal is that of the refused field's first byte.
-use Rattle.std.specs.Prelude.{ℕ, zero, suc, Bool, true, false, ◌&&◌, ◌||◌, ◌==◌, not, nat_lt, nat_le, List, [], ◌∷◌, Option, None, Some, is_some, if◌then◌else◌, Ok}
+use Rattle.std.specs.Prelude.{ℕ, zero, suc, ◌-◌, Bool, true, false, ◌&&◌, ◌||◌, ◌==◌, not, nat_lt, nat_le, List, [], ◌∷◌, length, Option, None, Some, is_some, if◌then◌else◌, Ok, Err}
 use Rattle.std.specs.Int.{is_in_range}
 use Rattle.std.specs.Ordering.{is_lt, nat_cmp}
 use Rattle.std.specs.declared.cmp.Ordering.{Ordering}
@@ -9,6 +9,7 @@ use Rattle.cas_types.specs.declared.schema.Column.{Column}
 use Rattle.cas_cell.specs.declared.deletion.Deletion.{Deletion}
 use Rattle.cas_cell.specs.declared.liveness.Liveness.{Liveness}
 use Rattle.cas_bounds.specs.declared.order.Ordered.{Ordered}
+use Rattle.cas_codec.specs.declared.fault.ReadFault.TheVariants.{Short, Bad}
 use Rattle.cas_codec.specs.Reading.{Left, Read, ◌>>=◌, checked, u8_at, u16_at, u32_at, flag_at, maybe_at}
 use Rattle.cas_records.specs.declared.columns.Wanted.{Wanted}
 use Rattle.cas_records.specs.declared.columns.Wanted.TheVariants.{Regular}
@@ -21,6 +22,8 @@ use Rattle.cas_atoms.specs.declared.row.RowColumn.{RowColumn}
 use Rattle.cas_atoms.specs.declared.row.Row.{Row}
 use Rattle.cas_streams.specs.declared.fragment.Fragment.{Fragment}
 use Rattle.cas_streams.specs.declared.fragment.Fragment.TheVariants as fragment
+use Rattle.cas_fragments.specs.Blocks.{Reached, past, may_follow}
+use Rattle.cas_fragments.specs.declared.blocks.TheConstants.{BLOCK_LEAST}
 
 -- ---- what ascends
 
@@ -127,3 +130,22 @@ unfoldable pub fragment_at : List Ordered → List Column → Left → Read Frag
 fragment_at order columns left = do
   tag ← checked (is_in_range 1 2) u8_at left
   tagged_at order columns tag.0 tag.1
+
+-- ---- blocks
+
+-- a fragment that may stand there; one that may not isn't allowed where it begins
+unfoldable pub next_fragment_at : List Ordered → List Column → Reached → Left → Read Fragment
+next_fragment_at order columns r left = checked (may_follow order r) (fragment_at order columns) left
+
+-- Fragments up to the end of a block of so many bytes, at most so many of them; one that begins where the block is full isn't allowed there.
+unfoldable pub fragments_at : List Ordered → List Column → ℕ → ℕ → Reached → Left → Read (List Fragment)
+fragments_at order columns long zero r left = Err (Short left.at)
+fragments_at order columns long (suc n) r left =
+    if nat_le BLOCK_LEAST (long - length left.bytes) then Err (Bad left.at) else do
+      first ← next_fragment_at order columns r left
+      if length first.1.bytes == 0 then Ok (first.0 ∷ [], first.1) else
+          (fragments_at order columns long n (past r first.0) first.1 >>= λ others. Ok (first.0 ∷ others.0, others.1))
+
+-- the fragments that fill all that is left, which is a block's; there are no more of them than bytes
+unfoldable pub body_at : List Ordered → List Column → Reached → Left → Read (List Fragment)
+body_at order columns r left = fragments_at order columns (length left.bytes) (length left.bytes) r left

@@ -2,7 +2,7 @@
 -- Own format.
 use Rattle.std.specs.Prelude.{ℕ, List, [], ◌++◌, length, Option}
 use Rattle.std.specs.List.{flat_map}
-use Rattle.cas_codec.specs.Fields.{u8, u16, u32, bytes16, maybe}
+use Rattle.cas_codec.specs.Fields.{u8, u16, u32, bytes16, bytes32, maybe}
 use Rattle.cas_cell.specs.declared.deletion.Deletion.{Deletion}
 use Rattle.cas_bounds.specs.declared.cuts.Cut.{Cut}
 use Rattle.cas_records.specs.Spelling.{deletion_bytes, live_bytes, cell_bytes, clustering_bytes, cut_bytes}
@@ -41,3 +41,11 @@ abbrev pub fragment_bytes : Fragment → List ℕ
 fragment_bytes (fragment.Static columns) = []
 fragment_bytes (fragment.Row r) = u8 1 ++ row_bytes r
 fragment_bytes (fragment.Marker cut d) = u8 2 ++ marker_bytes cut d
+
+-- what stands in a block: fragments, one after another
+abbrev pub body_bytes : List Fragment → List ℕ
+body_bytes fs = flat_map fragment_bytes fs
+
+-- a block: its length in four bytes, and its fragments
+abbrev pub block_bytes : List Fragment → List ℕ
+block_bytes fs = bytes32 (body_bytes fs)

@@ -2,10 +2,15 @@
 //! spelled, a reader of each, which is told the table's columns, and a writer.
 #![tactic(auto)]
 
+mod blocks;
 mod columns;
 mod fragments;
 mod laws;
+mod lengths;
+mod writing;
 
+pub use blocks::{BLOCK_LEAST, Block, read_block};
 pub use columns::read_columns;
 pub use fragments::{read_fragment, read_row};
 pub use laws::{columns_are_exact, fragments_are_exact};
+pub use writing::{put_columns, put_fragment};
