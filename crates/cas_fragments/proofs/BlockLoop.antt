@@ -1,7 +1,7 @@
 -- How a loop comes by the fragments of a block.
 use Rattle.std.proofs.Common.{◌≡◌, ℕ, zero, suc, ◌+◌, ◌-◌, ◌<◌, ◌≤◌, ◌++◌, Bool, true, false, cond, eqb, leb, Option, None, Some, List, [], ◌∷◌, length, Ok, Err, refl, sym, ap, subst, ◌∙◌, append_assoc, arith}
 use Rattle.std.specs.List.{last_or}
-use Rattle.std.proofs.lemmas.Bool.{leb-true, le-leb}
+use Rattle.std.proofs.lemmas.Bool.{ne_eqb}
 use Rattle.std.proofs.lemmas.List.{append-nil}
 use Rattle.cas_types.specs.declared.schema.Column.{Column}
 use Rattle.cas_cell.specs.declared.deletion.Deletion.{Deletion}
@@ -14,8 +14,7 @@ use Rattle.cas_streams.specs.Places.{Place, place_of}
 use Rattle.cas_streams.specs.Joined.{opened}
 use Rattle.cas_streams.specs.declared.fragment.Fragment.{Fragment}
 use Rattle.cas_fragments.specs.Blocks.{Reached, last_place, past, past_all}
-use Rattle.cas_fragments.specs.Reading.{next_fragment_at, fragments_at}
-use Rattle.cas_fragments.specs.declared.blocks.TheConstants.{BLOCK_LEAST}
+use Rattle.cas_fragments.specs.Reading.{early_fragment_at, fragments_at}
 
 -- ---- how far these fragments came
 
@@ -44,18 +43,14 @@ regrouped : {A : Type 0} (front : List A) (x : A) (read : Read (List A))
 regrouped front x (Ok r) = ap (λ xs. Ok (xs, r.1)) (sym (append_assoc front (x ∷ []) r.0))
 regrouped front x (Err f) = refl
 
-empty_length : (xs : List ℕ) → length xs ≡ 0 → eqb (length xs) 0 ≡ true
+pub empty_length : (xs : List ℕ) → length xs ≡ 0 → eqb (length xs) 0 ≡ true
 empty_length xs e = ap (λ (n : ℕ). eqb n 0) e
 
-some_length : (xs : List ℕ) → 0 < length xs → eqb (length xs) 0 ≡ false
-some_length [] more = absurd (omega arith)
-some_length (x ∷ xs) more = eqb_suc (length xs)
-  where
-    eqb_suc : (n : ℕ) → eqb (length (x ∷ xs)) 0 ≡ false
-    eqb_suc n = ltb_ne (length (x ∷ xs)) (omega arith)
-    ltb_ne : (n : ℕ) → 0 < n → eqb n 0 ≡ false
-    ltb_ne zero lt = absurd (omega arith)
-    ltb_ne (suc n) lt = refl
+not_zero : (n : ℕ) → 0 < n → eqb n 0 ≡ false
+not_zero n lt = ne_eqb n 0 (λ e. omega arith)
+
+pub some_length : (xs : List ℕ) → 0 < length xs → eqb (length xs) 0 ≡ false
+some_length xs more = not_zero (length xs) more
 
 module _ (order : List Ordered) (columns : List Column) (long : ℕ) (start : Reached) where
   -- what was read, and what is to be read
@@ -68,55 +63,38 @@ module _ (order : List Ordered) (columns : List Column) (long : ℕ) (start : Re
       let next : n - i ≡ suc (n - (i + 1)) = omega arith in
       ap (λ m. with_front front (fragments_at order columns long m (past_all start front) left)) (sym next) ∙ done
 
-  not_full : (left : Left) → long - length left.bytes < BLOCK_LEAST → leb BLOCK_LEAST (long - length left.bytes) ≡ false
-  not_full left below = not_le BLOCK_LEAST (long - length left.bytes) below
-    where
-      not_le : (a b : ℕ) → b < a → leb a b ≡ false
-      not_le a b lt = elim (leb a b) as (λ t. leb a b ≡ t → t ≡ false) [
-        | true ↦ λ e. absurd (let le : a ≤ b = leb-true a b e in omega arith)
-        | false ↦ λ e. refl
-      ] refl
-
-  -- the block is full, and goes on
-  pub too_far : (n i : ℕ) (front : List Fragment) (left : Left) (whole : Read (List Fragment)) → i < n → BLOCK_LEAST ≤ long - length left.bytes
-      → HasRead n whole i front left → whole ≡ Err (Bad left.at)
-  unfolding fragments_at
-  too_far n i front left whole more full done =
-      let yes : leb BLOCK_LEAST (long - length left.bytes) ≡ true = le-leb BLOCK_LEAST (long - length left.bytes) full in
-      sym (step n i front left whole more done) ∙ rw yes refl
-
   -- the next one isn't there
   pub next_fault : (n i : ℕ) (front : List Fragment) (r : Reached) (left : Left) (f : ReadFault) (whole : Read (List Fragment)) → i < n
-      → long - length left.bytes < BLOCK_LEAST → r ≡ past_all start front → next_fragment_at order columns r left ≡ Err f
+      → r ≡ past_all start front → early_fragment_at order columns long r left ≡ Err f
       → HasRead n whole i front left → whole ≡ Err f
   unfolding fragments_at
-  next_fault n i front r left f whole more below same e done =
-      let here : next_fragment_at order columns (past_all start front) left ≡ Err f =
-      ap (λ (q : Reached). next_fragment_at order columns q left) (sym same) ∙ e in
-      sym (step n i front left whole more done) ∙ rw (not_full left below, here) refl
+  next_fault n i front r left f whole more same e done =
+      let here : early_fragment_at order columns long (past_all start front) left ≡ Err f =
+      ap (λ (q : Reached). early_fragment_at order columns long q left) (sym same) ∙ e in
+      sym (step n i front left whole more done) ∙ rw here refl
 
   -- it reads one more, and isn't through
   pub next_more : (n i : ℕ) (front : List Fragment) (r : Reached) (x : Fragment) (left new : Left) (whole : Read (List Fragment)) → i < n
-      → long - length left.bytes < BLOCK_LEAST → r ≡ past_all start front → next_fragment_at order columns r left ≡ Ok (x, new) → 0 < length new.bytes
+      → r ≡ past_all start front → early_fragment_at order columns long r left ≡ Ok (x, new) → 0 < length new.bytes
       → HasRead n whole i front left → HasRead n whole (i + 1) (front ++ x ∷ []) new
   unfolding fragments_at
-  next_more n i front r x left new whole more below same e rest done =
-      let here : next_fragment_at order columns (past_all start front) left ≡ Ok (x, new) =
-      ap (λ (q : Reached). next_fragment_at order columns q left) (sym same) ∙ e in
+  next_more n i front r x left new whole more same e rest done =
+      let here : early_fragment_at order columns long (past_all start front) left ≡ Ok (x, new) =
+      ap (λ (q : Reached). early_fragment_at order columns long q left) (sym same) ∙ e in
       ap (λ (q : Reached). with_front (front ++ x ∷ []) (fragments_at order columns long (n - (i + 1)) q new)) (past_pushed start front x)
       ∙ sym (regrouped front x (fragments_at order columns long (n - (i + 1)) (past (past_all start front) x) new))
-      ∙ sym (rw (not_full left below, here, some_length new.bytes rest) refl)
+      ∙ sym (rw (here, some_length new.bytes rest) refl)
       ∙ step n i front left whole more done
 
   -- it reads the last one
   pub next_last : (n i : ℕ) (front : List Fragment) (r : Reached) (x : Fragment) (left new : Left) (whole : Read (List Fragment)) → i < n
-      → long - length left.bytes < BLOCK_LEAST → r ≡ past_all start front → next_fragment_at order columns r left ≡ Ok (x, new) → length new.bytes ≡ 0
+      → r ≡ past_all start front → early_fragment_at order columns long r left ≡ Ok (x, new) → length new.bytes ≡ 0
       → HasRead n whole i front left → whole ≡ Ok (front ++ x ∷ [], new)
   unfolding fragments_at
-  next_last n i front r x left new whole more below same e none done =
-      let here : next_fragment_at order columns (past_all start front) left ≡ Ok (x, new) =
-      ap (λ (q : Reached). next_fragment_at order columns q left) (sym same) ∙ e in
-      sym (step n i front left whole more done) ∙ rw (not_full left below, here, empty_length new.bytes none) refl
+  next_last n i front r x left new whole more same e none done =
+      let here : early_fragment_at order columns long (past_all start front) left ≡ Ok (x, new) =
+      ap (λ (q : Reached). early_fragment_at order columns long q left) (sym same) ∙ e in
+      sym (step n i front left whole more done) ∙ rw (here, empty_length new.bytes none) refl
 
   -- there are no more of them than bytes
   pub none_more : (n i : ℕ) (front : List Fragment) (left : Left) (whole : Read (List Fragment)) → n ≤ i → HasRead n whole i front left → whole ≡ Err (Short left.at)

@@ -84,7 +84,7 @@ module _ {A K : Type 0} (key : A → K) (cmp : K → K → Ordering) (Fits : A �
 
 -- ---- ascending keys
 
-is_less : (o : Ordering) → is_lt o ≡ true → o ≡ Less
+pub is_less : (o : Ordering) → is_lt o ≡ true → o ≡ Less
 is_less Less e = refl
 is_less Equal e = absurd cc
 is_less Greater e = absurd cc

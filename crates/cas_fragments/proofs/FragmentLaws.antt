@@ -40,12 +40,12 @@ use Rattle.cas_fragments.proofs.ColumnLaws.{AreAtLeast, at_least_exact}
 
 -- ---- rows
 
-there_before : {X : Type 0} (xs ys : List X) → IsThere xs → IsThere (xs ++ ys)
+pub there_before : {X : Type 0} (xs ys : List X) → IsThere xs → IsThere (xs ++ ys)
 there_before [] ys there = absurd there
 there_before (x ∷ xs) ys there = tt
 
 -- something is said of the column
-column_there : (at : Option Clustering) (c : RowColumn) → (c.deletion ≡ None → IsThere c.cells) → IsThere (of_column at c)
+pub column_there : (at : Option Clustering) (c : RowColumn) → (c.deletion ≡ None → IsThere c.cells) → IsThere (of_column at c)
 column_there at c said =
     elim (c.deletion) as (λ d. (d ≡ None → IsThere c.cells) → IsThere (of_column at (record { column = c.column; deletion = d; cells = c.cells }))) [
       | None ↦ λ so. elim (c.cells) as (λ cells. IsThere cells → IsThere (of_column at (record { column = c.column; deletion = None; cells = cells }))) [

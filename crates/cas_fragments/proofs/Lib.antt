@@ -3,3 +3,6 @@ pub mod ColumnLaws
 pub mod FragmentLaws
 pub mod LengthLaws
 pub mod BlockLoop
+pub mod BlockLaws
+pub mod PartitionLaws
+pub mod CutLaws

@@ -3,4 +3,5 @@ pub mod Blocks
 pub mod Reading
 pub mod Allowed
 pub mod Lengths
+pub mod Laws
 pub mod Inner

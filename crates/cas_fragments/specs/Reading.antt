@@ -137,14 +137,18 @@ fragment_at order columns left = do
 unfoldable pub next_fragment_at : List Ordered → List Column → Reached → Left → Read Fragment
 next_fragment_at order columns r left = checked (may_follow order r) (fragment_at order columns) left
 
--- Fragments up to the end of a block of so many bytes, at most so many of them; one that begins where the block is full isn't allowed there.
+-- a fragment of a block of so many bytes; one that begins where the block is full isn't allowed there
+unfoldable pub early_fragment_at : List Ordered → List Column → ℕ → Reached → Left → Read Fragment
+early_fragment_at order columns long r left =
+    if nat_le BLOCK_LEAST (long - length left.bytes) then Err (Bad left.at) else next_fragment_at order columns r left
+
+-- fragments up to the end of a block of so many bytes, at most so many of them
 unfoldable pub fragments_at : List Ordered → List Column → ℕ → ℕ → Reached → Left → Read (List Fragment)
 fragments_at order columns long zero r left = Err (Short left.at)
-fragments_at order columns long (suc n) r left =
-    if nat_le BLOCK_LEAST (long - length left.bytes) then Err (Bad left.at) else do
-      first ← next_fragment_at order columns r left
-      if length first.1.bytes == 0 then Ok (first.0 ∷ [], first.1) else
-          (fragments_at order columns long n (past r first.0) first.1 >>= λ others. Ok (first.0 ∷ others.0, others.1))
+fragments_at order columns long (suc n) r left = do
+  first ← early_fragment_at order columns long r left
+  if length first.1.bytes == 0 then Ok (first.0 ∷ [], first.1) else
+      (fragments_at order columns long n (past r first.0) first.1 >>= λ others. Ok (first.0 ∷ others.0, others.1))
 
 -- the fragments that fill all that is left, which is a block's; there are no more of them than bytes
 unfoldable pub body_at : List Ordered → List Column → Reached → Left → Read (List Fragment)

@@ -9,7 +9,7 @@ ghost use Rattle.cas_streams.specs.Joined.{opened};
 ghost use Rattle.cas_streams.specs.Places.{place_of, place_cmp};
 ghost use Rattle.cas_streams.specs.Settled.{same_force};
 ghost use Rattle.cas_fragments.specs.Blocks.{last_place, past_all, is_change, may_follow};
-ghost use Rattle.cas_fragments.specs.Reading.{next_fragment_at, body_at};
+ghost use Rattle.cas_fragments.specs.Reading.{next_fragment_at, early_fragment_at, body_at};
 ghost use Rattle.cas_fragments.specs.Inner.Lasts.{point_of};
 
 use crate::fragments::read_fragment;
@@ -47,7 +47,7 @@ fn point(fragment: &Fragment) -> Option<(End, &[Bytes])>
 
 // Whether a fragment stands behind the last one.
 fn stands_behind(order: &RowOrder, last: Option<&Fragment>, fragment: &Fragment) -> bool
-    ensures { result ≡ is_lt (place_cmp order.now (last_place (option_copied last)) (place_of fragment.now)) }
+    ensures { result ≡ is_lt (place_cmp order.now (last_place (option_copied last.entry)) (place_of fragment.now)) }
 {
     let before = match last {
         Some(last) => point(last),
@@ -103,7 +103,7 @@ fn read_next(
     force: Option<Deletion>,
 ) -> Result<Fragment, ReadFault>
     ensures { Gives (λ f. f) result reader.new (next_fragment_at order.now columns.now
-        (record { last = last_place (option_copied last); force = force }) reader.old) }
+        (record { last = last_place (option_copied last.entry); force = force }) reader.old) }
 {
     let at = reader.at();
     let fragment = read_fragment(alloc, reader, order, columns)?;
@@ -113,9 +113,29 @@ fn read_next(
     Err(ReadFault::Bad { at })
 }
 
+// The same in a block of so many bytes, which isn't full yet.
+#[tactic(auto, unfolding(crate::specs::Reading::early_fragment_at))]
+fn read_early(
+    alloc: Global,
+    reader: &mut Reader<'_>,
+    order: &RowOrder,
+    columns: &[Column],
+    long: usize,
+    last: Option<&Fragment>,
+    force: Option<Deletion>,
+) -> Result<Fragment, ReadFault>
+    ensures { Gives (λ f. f) result reader.new (early_fragment_at order.now columns.now long
+        (record { last = last_place (option_copied last.entry); force = force }) reader.old) }
+{
+    if long.saturating_sub(reader.left().len()) >= BLOCK_LEAST {
+        return Err(ReadFault::Bad { at: reader.at() });
+    }
+    read_next(alloc, reader, order, columns, last, force)
+}
+
 // The last of these fragments; where there is none, the one before them.
 fn last_of<'a>(before: Option<&'a Fragment>, fragments: &'a [Fragment]) -> Option<&'a Fragment>
-    ensures { option_copied result ≡ last_or (option_copied before) fragments.now }
+    ensures { option_copied result ≡ last_or (option_copied before.entry) fragments.now }
 {
     match fragments.last() {
         Some(last) => Some(last),
@@ -137,18 +157,15 @@ pub fn read_block(
     force: Option<Deletion>,
 ) -> Result<Block, ReadFault>
     ensures exact { Gives (λ b. b.fragments.items) result reader.new (body_at order.now columns.now
-        (record { last = last_place (option_copied last); force = force }) reader.old) }
-    ensures force { IfOk result (λ b. b.force ≡ (past_all (record { last = last_place (option_copied last); force = force }) b.fragments.items).force) }
+        (record { last = last_place (option_copied last.entry); force = force }) reader.old) }
+    ensures force { IfOk result (λ b. b.force ≡ (past_all (record { last = last_place (option_copied last.entry); force = force }) b.fragments.items).force) }
 {
     let long = reader.left().len();
     let mut fragments = Vec::new(alloc);
     let mut now = force;
     for _done in 0..long {
-        if long.saturating_sub(reader.left().len()) >= BLOCK_LEAST {
-            return Err(ReadFault::Bad { at: reader.at() });
-        }
         let behind = last_of(last, &fragments);
-        match read_next(alloc, reader, order, columns, behind, now) {
+        match read_early(alloc, reader, order, columns, long, behind, now) {
             Ok(fragment) => {
                 now = opened(now, &fragment);
                 fragments.push(fragment)?;

@@ -10,6 +10,7 @@ ghost use Rattle.cas_records.specs.declared.columns.Wanted.TheVariants.{Regular,
 ghost use Rattle.cas_fragments.specs.Spelling.{columns_bytes, row_bytes, fragment_bytes};
 ghost use Rattle.cas_fragments.specs.Reading.{columns_at, row_at, fragment_at};
 ghost use Rattle.cas_fragments.specs.Allowed.{FitColumns, FitsRow, FitsFragment};
+ghost use Rattle.cas_fragments.specs.Laws.{BlocksAreExact, WholesAreStreams, BlocksArePartitions};
 
 /// The columns of a row, and those of the static row, are read where their spelling stands and
 /// nowhere else, whatever follows it.
@@ -25,4 +26,21 @@ pub fn fragments_are_exact()
     ensures fragment { (columns : List Column) → IsNarrow columns
         → IsExact (FitsFragment columns) fragment_bytes (fragment_at (clustering_order columns) columns) }
     ensures alone { (columns : List Column) → IsNarrow columns → IsPrefixFree (FitsFragment columns) fragment_bytes }
+{}
+
+/// What is read of a block is a block of the table's fragments that may stand there, and fills it;
+/// and each such block is read.
+pub fn blocks_are_exact()
+    ensures { BlocksAreExact }
+{}
+
+/// The fragments of a partition behind its static columns are a well-formed stream; and those of a
+/// well-formed stream, of which each fits, are a partition's.
+pub fn wholes_are_streams()
+    ensures { WholesAreStreams }
+{}
+
+/// A partition's fragments are cut into blocks in one way.
+pub fn blocks_are_partitions()
+    ensures { BlocksArePartitions }
 {}

@@ -12,5 +12,8 @@ mod writing;
 pub use blocks::{BLOCK_LEAST, Block, read_block};
 pub use columns::read_columns;
 pub use fragments::{read_fragment, read_row};
-pub use laws::{columns_are_exact, fragments_are_exact};
+pub use laws::{
+    blocks_are_exact, blocks_are_partitions, columns_are_exact, fragments_are_exact,
+    wholes_are_streams,
+};
 pub use writing::{put_columns, put_fragment};
