@@ -1,7 +1,8 @@
 -- How a loop comes by the fragments of a block.
-use Rattle.std.proofs.Common.{◌≡◌, ℕ, zero, suc, ◌+◌, ◌-◌, ◌<◌, ◌≤◌, ◌++◌, Bool, true, false, cond, eqb, leb, Option, None, Some, List, [], ◌∷◌, length, Ok, Err, refl, sym, ap, subst, ◌∙◌, append_assoc, arith}
+use Rattle.std.proofs.Common.{◌≡◌, ℕ, zero, suc, ◌+◌, ◌-◌, ◌<◌, ◌≤◌, ◌≢◌, ◌++◌, Bool, true, false, cond, eqb, leb, Option, None, Some, List, [], ◌∷◌, length, Ok, Err, refl, sym, ap, subst, ◌∙◌, append_assoc, arith}
+use Rattle.std.specs.Prelude.{slice_get}
 use Rattle.std.specs.List.{last_or}
-use Rattle.std.proofs.lemmas.Bool.{ne_eqb}
+use Rattle.std.proofs.lemmas.Bool.{ne_eqb, eqb-true, eqb-false, true≢false}
 use Rattle.std.proofs.lemmas.List.{append-nil}
 use Rattle.cas_types.specs.declared.schema.Column.{Column}
 use Rattle.cas_cell.specs.declared.deletion.Deletion.{Deletion}
@@ -14,7 +15,7 @@ use Rattle.cas_streams.specs.Places.{Place, place_of}
 use Rattle.cas_streams.specs.Joined.{opened}
 use Rattle.cas_streams.specs.declared.fragment.Fragment.{Fragment}
 use Rattle.cas_fragments.specs.Blocks.{Reached, last_place, past, past_all}
-use Rattle.cas_fragments.specs.Reading.{early_fragment_at, fragments_at}
+use Rattle.cas_fragments.specs.Reading.{early_fragment_at, fragments_at, body_at}
 
 -- ---- how far these fragments came
 
@@ -102,3 +103,74 @@ module _ (order : List Ordered) (columns : List Column) (long : ℕ) (start : Re
   none_more n i front left whole through done =
       let none : n - i ≡ 0 = omega arith in
       sym done ∙ ap (λ m. with_front front (fragments_at order columns long m (past_all start front) left)) none
+
+-- ---- what a block's reader answers
+
+more_left : (n : ℕ) (b : Bool) → b ≡ eqb n 0 → b ≡ false → 0 < n
+more_left n b e f = elim (eqb n 0) as (λ t. eqb n 0 ≡ t → 0 < n) [
+  | true ↦ λ yes. absurd (true≢false (sym yes ∙ sym e ∙ f))
+  | false ↦ λ no. let ne : n ≢ 0 = eqb-false n 0 no in omega arith
+] refl
+
+none_left : (n : ℕ) (b : Bool) → b ≡ eqb n 0 → b ≡ true → n ≡ 0
+none_left n b e f = eqb-true n 0 (sym e ∙ f)
+
+-- what is in force after one more
+pub force_pushed : (start : Reached) (front items : List Fragment) (x : Fragment) (now new : Option Deletion) → now ≡ (past_all start front).force
+    → new ≡ opened now x → items ≡ front ++ x ∷ [] → new ≡ (past_all start items).force
+force_pushed start front items x now new e f pushed =
+    f ∙ ap (λ (d : Option Deletion). opened d x) e ∙ ap (λ (q : Reached). q.force) (sym (past_pushed start front x))
+    ∙ ap (λ (xs : List Fragment). (past_all start xs).force) (sym pushed)
+
+module _ (order : List Ordered) (columns : List Column) (start : Reached) (long : ℕ) (old : Left) where
+  abbrev pub HasBegun : ℕ → List Fragment → Left → Type 0
+  HasBegun i front left = HasRead order columns long start long (fragments_at order columns long long start old) i front left
+
+  pub body_more : (i : ℕ) (front items : List Fragment) (r : Reached) (x : Fragment) (left new : Left) (b : Bool) → i < long → r ≡ past_all start front
+      → early_fragment_at order columns long r left ≡ Ok (x, new) → b ≡ eqb (length new.bytes) 0 → b ≡ false → items ≡ front ++ x ∷ []
+      → HasBegun i front left → HasBegun (i + 1) items new
+  body_more i front items r x left new b more same e tested isnt pushed done =
+      subst (λ (xs : List Fragment). HasBegun (i + 1) xs new) (sym pushed)
+      (next_more order columns long start long i front r x left new _ more same e (more_left (length new.bytes) b tested isnt) done)
+
+  pub body_last : (i : ℕ) (front items : List Fragment) (r : Reached) (x : Fragment) (left new : Left) (b : Bool) → long ≡ length old.bytes → i < long
+      → r ≡ past_all start front → early_fragment_at order columns long r left ≡ Ok (x, new) → b ≡ eqb (length new.bytes) 0 → b ≡ true
+      → items ≡ front ++ x ∷ [] → HasBegun i front left → body_at order columns start old ≡ Ok (items, new)
+  unfolding body_at
+  body_last i front items r x left new b is more same e tested so pushed done =
+      subst (λ (n : ℕ). fragments_at order columns n n start old ≡ Ok (items, new)) is
+      (subst (λ (xs : List Fragment). fragments_at order columns long long start old ≡ Ok (xs, new)) (sym pushed)
+      (next_last order columns long start long i front r x left new _ more same e (none_left (length new.bytes) b tested so) done))
+
+  pub body_fault : (i : ℕ) (front : List Fragment) (r : Reached) (left : Left) (f : ReadFault) → long ≡ length old.bytes → i < long
+      → r ≡ past_all start front → early_fragment_at order columns long r left ≡ Err f → HasBegun i front left → body_at order columns start old ≡ Err f
+  unfolding body_at
+  body_fault i front r left f is more same e done =
+      subst (λ (n : ℕ). fragments_at order columns n n start old ≡ Err f) is (next_fault order columns long start long i front r left f _ more same e done)
+
+  pub body_short : (i place : ℕ) (front : List Fragment) (left : Left) → long ≡ length old.bytes → long ≤ i → place ≡ left.at
+      → HasBegun i front left → body_at order columns start old ≡ Err (Short place)
+  unfolding body_at
+  body_short i place front left is through at done =
+      subst (λ (n : ℕ). fragments_at order columns n n start old ≡ Err (Short place)) is
+      (subst (λ (n : ℕ). fragments_at order columns long long start old ≡ Err (Short n)) (sym at)
+      (none_more order columns long start long i front left _ through done))
+
+-- ---- the last item of a list
+
+last_get : {A : Type 0} (o : Option A) (x : A) (xs : List A) → slice_get (x ∷ xs) (length (x ∷ xs) - 1) ≡ last_or o (x ∷ xs)
+last_get o x [] = let e : length (x ∷ []) - 1 ≡ 0 = omega arith in ap (λ (i : ℕ). slice_get (x ∷ []) i) e
+last_get o x (y ∷ ys) = let e : length (x ∷ y ∷ ys) - 1 ≡ suc (length (y ∷ ys) - 1) = omega arith in
+    ap (λ (i : ℕ). slice_get (x ∷ y ∷ ys) i) e ∙ last_get (Some x) y ys
+
+never_none : {A : Type 0} (x : A) (xs : List A) → None ≡ last_or (Some x) xs → ⊥
+never_none x [] e = cc
+never_none x (y ∷ ys) e = never_none y ys e
+
+pub last_some : {A : Type 0} (o : Option A) (xs : List A) (x : A) → Some x ≡ slice_get xs (length xs - 1) → Some x ≡ last_or o xs
+last_some o [] x e = absurd cc
+last_some o (y ∷ ys) x e = e ∙ last_get o y ys
+
+pub last_none : {A : Type 0} (o : Option A) (xs : List A) → None ≡ slice_get xs (length xs - 1) → o ≡ last_or o xs
+last_none o [] e = refl
+last_none o (y ∷ ys) e = absurd (never_none y ys (e ∙ last_get o y ys))

@@ -8,8 +8,8 @@ use Rattle.cas_fragments.proofs.blocks.read_block.Given as goal
 abbrev pub invariant-loop-done : goal.invariant-loop-done
 invariant-loop-done l = record {
   read : with_front l.fragments.items (fragments_at l.order l.columns l.long (l.long - l._done)
-      (past_all (record { last = last_place (option_copied l.last); force = l.force }) l.fragments.items) l.reader)
-      ≡ fragments_at l.order l.columns l.long l.long (record { last = last_place (option_copied l.last); force = l.force }) l.fn.reader;
-  now : l.now ≡ (past_all (record { last = last_place (option_copied l.last); force = l.force }) l.fragments.items).force;
+      (past_all (record { last = last_place (option_copied l.fn.last); force = l.fn.force }) l.fragments.items) l.reader)
+      ≡ fragments_at l.order l.columns l.long l.long (record { last = last_place (option_copied l.fn.last); force = l.fn.force }) l.fn.reader;
+  now : l.now ≡ (past_all (record { last = last_place (option_copied l.fn.last); force = l.fn.force }) l.fragments.items).force;
   long : l.long ≡ length l.fn.reader.bytes;
 }
