@@ -5,7 +5,7 @@ use Rattle.std.specs.Int.{is_in_range}
 use Rattle.std.specs.List.{AllByRecursion, flat_map}
 use Rattle.std.proofs.lemmas.Bool.{leb-true, le-leb, and_parts}
 use Rattle.cas_types.specs.Limits.{IsNarrow}
-use Rattle.cas_types.specs.Schemas.{is_regular}
+use Rattle.cas_types.specs.Schemas.{is_regular, is_static}
 use Rattle.cas_types.specs.declared.schema.Column.{Column}
 use Rattle.cas_cell.specs.declared.deletion.Deletion.{Deletion}
 use Rattle.cas_cell.specs.declared.liveness.Liveness.{Liveness}
@@ -14,29 +14,30 @@ use Rattle.cas_bounds.specs.declared.order.Ordered.{Ordered}
 use Rattle.cas_bounds.specs.declared.cuts.Clustering.{Clustering}
 use Rattle.cas_bounds.specs.declared.cuts.Cut.{Cut}
 use Rattle.cas_codec.specs.Reading.{Left, checked, u8_at, maybe_at}
-use Rattle.cas_codec.specs.Fields.{u8, maybe}
+use Rattle.cas_codec.specs.Fields.{u8, bytes16, maybe}
 use Rattle.cas_codec.specs.Exact.{AreBytes, Begins, IsExact}
 use Rattle.cas_codec.proofs.Exactness.{read_left, exact_then, exact_checked, exact_map, exact_as}
 use Rattle.cas_codec.proofs.FieldLaws.{u8_field, maybe_exact}
-use Rattle.cas_codec.proofs.Sequences.{exact_two, exact_four}
-use Rattle.cas_atoms.specs.Fits.{FitsDeletion, FitsLive, FitsClustering, FitsCut}
+use Rattle.cas_codec.proofs.Sequences.{exact_two, exact_three, exact_four}
+use Rattle.cas_atoms.specs.Fits.{FitsKey, FitsDeletion, FitsLive, FitsClustering, FitsCut}
 use Rattle.cas_atoms.specs.declared.atom.Atom.{Atom}
 use Rattle.cas_atoms.specs.declared.row.PathCell.{PathCell}
 use Rattle.cas_atoms.specs.declared.row.RowColumn.{RowColumn}
 use Rattle.cas_atoms.specs.declared.row.Row.{Row}
-use Rattle.cas_records.specs.declared.columns.Wanted.TheVariants.{Regular}
+use Rattle.cas_records.specs.declared.columns.Wanted.TheVariants.{Regular, Static}
 use Rattle.cas_records.specs.Spelling.{deletion_bytes, live_bytes, clustering_bytes, cut_bytes}
-use Rattle.cas_records.specs.Reading.{deletion_at, live_at, clustering_at, cut_at}
-use Rattle.cas_records.proofs.CellLaws.{deletion_exact, live_exact}
+use Rattle.cas_records.specs.Reading.{key_at, deletion_at, live_at, clustering_at, cut_at}
+use Rattle.cas_records.proofs.CellLaws.{key_exact, deletion_exact, live_exact}
 use Rattle.cas_records.proofs.BoundLaws.{clustering_exact, cut_exact}
 use Rattle.cas_streams.specs.Flat.{own, of_column}
 use Rattle.cas_streams.specs.Streams.{IsThere}
 use Rattle.cas_streams.specs.declared.fragment.Fragment.{Fragment}
 use Rattle.cas_streams.specs.declared.fragment.Fragment.TheVariants as fragment
 use Rattle.cas_fragments.specs.Spelling.{columns_bytes, row_bytes, marker_bytes, fragment_bytes}
-use Rattle.cas_fragments.specs.Reading.{columns_at, least_columns, row_at, row_fragment_at, marker_at, tagged_at, fragment_at}
-use Rattle.cas_fragments.specs.Allowed.{FitsColumn, FitColumns, FitsRow, FitsFragment}
-use Rattle.cas_fragments.proofs.ColumnLaws.{AreAtLeast, at_least_exact}
+use Rattle.cas_fragments.specs.Blocks.{head_bytes}
+use Rattle.cas_fragments.specs.Reading.{columns_at, least_columns, row_at, row_fragment_at, marker_at, tagged_at, fragment_at, head_at}
+use Rattle.cas_fragments.specs.Allowed.{FitsColumn, FitColumns, FitsRow, FitsFragment, FitsHead}
+use Rattle.cas_fragments.proofs.ColumnLaws.{AreAtLeast, at_least_exact, columns_exact}
 
 -- ---- rows
 
@@ -189,3 +190,17 @@ fragment_exact columns narrow =
     (λ before n tag. tagged_exact columns narrow n tag.1)
     (λ f fit. (fragment_tag f, tag_fits columns f fit, refl))
     (λ n f fit is. fragment_spelled columns f fit ∙ ap (λ (m : ℕ). u8 m ++ fragment_tail f) is)
+
+-- ---- the head of a partition
+
+pub head_exact : (columns : List Column) → IsNarrow columns → IsExact (FitsHead columns) (λ h. head_bytes h.0 h.1 h.2) (head_at columns)
+unfolding head_at
+head_exact columns narrow =
+    exact_three FitsKey bytes16 key_at (λ key top. IfSome top FitsDeletion) (maybe deletion_bytes) (λ key. maybe_at deletion_at)
+    (λ key top cs. FitColumns is_static columns cs) columns_bytes (λ key top. columns_at Static 0 columns)
+    (FitsHead columns) (λ h. head_bytes h.0 h.1 h.2) (λ key top cs. (key, top, cs))
+    key_exact
+    (λ key fit. maybe_exact FitsDeletion deletion_bytes deletion_at deletion_exact)
+    (λ key top fit-k fit-t. columns_exact is_static Static (λ column. refl) columns narrow)
+    (λ key top cs fit-k fit-t fit-c. ((fit-k, fit-t, fit-c), refl))
+    (λ h fit. (h.0, h.1, h.2, fit.0, fit.1, fit.2, refl))

@@ -9,8 +9,9 @@ use Rattle.cas_types.specs.Schemas.{is_static, is_regular}
 use Rattle.cas_types.specs.declared.schema.Column.{Column}
 use Rattle.cas_types.specs.declared.schema.Kind.{Kind}
 use Rattle.cas_cell.specs.Cells.{cell_value}
+use Rattle.cas_cell.specs.declared.deletion.Deletion.{Deletion}
 use Rattle.cas_bounds.specs.ClusteringOrder.{clustering_order}
-use Rattle.cas_atoms.specs.Fits.{FitsDeletion, FitsLive, FitsClustering, FitsCut, FitsPath}
+use Rattle.cas_atoms.specs.Fits.{FitsKey, FitsDeletion, FitsLive, FitsClustering, FitsCut, FitsPath}
 use Rattle.cas_atoms.specs.declared.row.PathCell.{PathCell}
 use Rattle.cas_atoms.specs.declared.row.RowColumn.{RowColumn}
 use Rattle.cas_atoms.specs.declared.row.Row.{Row}
@@ -50,6 +51,10 @@ abbrev pub FitsFragment : List Column → Fragment → Type 0
 FitsFragment columns (fragment.Static cs) = ⊥
 FitsFragment columns (fragment.Row r) = FitsRow columns r
 FitsFragment columns (fragment.Marker cut d) = FitsCut (clustering_order columns) cut × IfSome d FitsDeletion
+
+-- the head of a partition of the table: a key, perhaps the DELETE of all of it, and static columns, or none
+abbrev pub FitsHead : List Column → List ℕ × Option Deletion × List RowColumn → Type 0
+FitsHead columns h = FitsKey h.0 × IfSome h.1 FitsDeletion × FitColumns is_static columns h.2
 
 -- ---- what has room in its fields
 

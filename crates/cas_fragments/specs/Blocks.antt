@@ -1,6 +1,7 @@
 -- How a partition's fragments are cut into blocks, and which fragments may stand behind others.
 -- Own format.
 use Rattle.std.specs.Prelude.{◌≡◌, ℕ, ◌+◌, ◌<◌, nat_le, Bool, true, ◌&&◌, not, List, [], ◌∷◌, ◌++◌, length, Option, None, Some, if◌then◌else◌}
+use Rattle.std.specs.List.{flat_map}
 use Rattle.std.specs.Ordering.{is_lt}
 use Rattle.cas_cell.specs.declared.deletion.Deletion.{Deletion}
 use Rattle.cas_bounds.specs.declared.order.Ordered.{Ordered}
@@ -9,7 +10,10 @@ use Rattle.cas_streams.specs.Joined.{opened}
 use Rattle.cas_streams.specs.Settled.{same_force}
 use Rattle.cas_streams.specs.declared.fragment.Fragment.{Fragment}
 use Rattle.cas_streams.specs.declared.fragment.Fragment.TheVariants as fragment
-use Rattle.cas_fragments.specs.Spelling.{body_bytes, fragment_bytes}
+use Rattle.cas_atoms.specs.declared.row.RowColumn.{RowColumn}
+use Rattle.cas_records.specs.Spelling.{deletion_bytes}
+use Rattle.cas_codec.specs.Fields.{u32, bytes16, maybe}
+use Rattle.cas_fragments.specs.Spelling.{columns_bytes, fragment_bytes, body_bytes, block_bytes}
 use Rattle.cas_fragments.specs.declared.blocks.TheConstants.{BLOCK_LEAST}
 
 -- ---- what may stand behind what
@@ -77,3 +81,27 @@ blocks_from begun (f ∷ fs) =
 -- the blocks of a partition's rows and markers
 abbrev pub blocks_of : List Fragment → List (List Fragment)
 blocks_of fs = blocks_from [] fs
+
+-- ---- partitions
+
+-- the static columns of a partition's fragments, which come first, or not at all
+abbrev pub statics_in : List Fragment → List RowColumn
+statics_in [] = []
+statics_in (fragment.Static cs ∷ fs) = cs
+statics_in (fragment.Row r ∷ fs) = []
+statics_in (fragment.Marker cut d ∷ fs) = []
+
+-- its rows and markers
+abbrev pub moving_in : List Fragment → List Fragment
+moving_in [] = []
+moving_in (fragment.Static cs ∷ fs) = fs
+moving_in (fragment.Row r ∷ fs) = fragment.Row r ∷ fs
+moving_in (fragment.Marker cut d ∷ fs) = fragment.Marker cut d ∷ fs
+
+-- the head of a partition: its key, perhaps the DELETE of all of it, and its static columns
+abbrev pub head_bytes : List ℕ → Option Deletion → List RowColumn → List ℕ
+head_bytes key top cs = bytes16 key ++ (maybe deletion_bytes top ++ columns_bytes cs)
+
+-- a partition: its head, the blocks of its rows and markers, and a length of 0
+abbrev pub partition_bytes : List ℕ → Option Deletion → List Fragment → List ℕ
+partition_bytes key top fs = head_bytes key top (statics_in fs) ++ (flat_map block_bytes (blocks_of (moving_in fs)) ++ u32 0)

@@ -40,3 +40,7 @@ abbrev pub fragment_length : Fragment → ℕ
 fragment_length (fragment.Static cs) = 0
 fragment_length (fragment.Row r) = 1 + row_length r
 fragment_length (fragment.Marker cut d) = 1 + (cut_length cut + maybe_deletion_length d)
+
+-- the head of a partition: the key with its length in two bytes, the deletion of all of it, and the static columns
+abbrev pub head_length : List ℕ → Option Deletion → List RowColumn → ℕ
+head_length key top cs = short_length key + (maybe_deletion_length top + columns_length cs)

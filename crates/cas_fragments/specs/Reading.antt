@@ -12,8 +12,8 @@ use Rattle.cas_bounds.specs.declared.order.Ordered.{Ordered}
 use Rattle.cas_codec.specs.declared.fault.ReadFault.TheVariants.{Short, Bad}
 use Rattle.cas_codec.specs.Reading.{Left, Read, ◌>>=◌, checked, u8_at, u16_at, u32_at, flag_at, maybe_at}
 use Rattle.cas_records.specs.declared.columns.Wanted.{Wanted}
-use Rattle.cas_records.specs.declared.columns.Wanted.TheVariants.{Regular}
-use Rattle.cas_records.specs.Reading.{deletion_at, live_at, may_hold, cell_at, clustering_at, cut_at}
+use Rattle.cas_records.specs.declared.columns.Wanted.TheVariants.{Regular, Static}
+use Rattle.cas_records.specs.Reading.{key_at, deletion_at, live_at, may_hold, cell_at, clustering_at, cut_at}
 use Rattle.cas_records.specs.Columns.{column_at, path_at}
 use Rattle.cas_atoms.specs.RowsAndPaths.{path_cmp}
 use Rattle.cas_atoms.specs.declared.atom.ColumnRef.{ColumnRef}
@@ -153,3 +153,13 @@ fragments_at order columns long (suc n) r left = do
 -- the fragments that fill all that is left, which is a block's; there are no more of them than bytes
 unfoldable pub body_at : List Ordered → List Column → Reached → Left → Read (List Fragment)
 body_at order columns r left = fragments_at order columns (length left.bytes) (length left.bytes) r left
+
+-- ---- partitions
+
+-- the head of a partition
+unfoldable pub head_at : List Column → Left → Read (List ℕ × Option Deletion × List RowColumn)
+head_at columns left = do
+  key ← key_at left
+  top ← maybe_at deletion_at key.1
+  statics ← columns_at Static 0 columns top.1
+  Ok ((key.0, top.0, statics.0), statics.1)

@@ -3,7 +3,7 @@
 ghost use Rattle.std.specs.Prelude.{◌≡◌, ◌+◌, ◌-◌, ◌^◌, min};
 ghost use Rattle.std.specs.List.{sum_by};
 ghost use Rattle.cas_fragments.specs.Lengths.{path_cell_length, maybe_deletion_length, maybe_live_length, column_length};
-ghost use Rattle.cas_fragments.specs.Lengths.{columns_length, row_length, fragment_length};
+ghost use Rattle.cas_fragments.specs.Lengths.{columns_length, row_length, fragment_length, head_length};
 
 use cas_atoms::{PathCell, Row, RowColumn};
 use cas_cell::{Cell, Deletion, Liveness};
@@ -91,4 +91,13 @@ pub(crate) fn fragment_len(fragment: &Fragment) -> usize
             values_len(cut.prefix.as_slice()).saturating_add(2 + maybe_deletion_len(*deletion))
         }
     }
+}
+
+/// The length of a partition's head.
+pub(crate) fn head_len(key: &[u8], top: Option<Deletion>, columns: &[RowColumn]) -> usize
+    ensures { result ≡ min (head_length key.now top columns.now) (2 ^ 64 - 1) }
+{
+    key.len()
+        .saturating_add(2 + maybe_deletion_len(top))
+        .saturating_add(columns_len(columns))
 }

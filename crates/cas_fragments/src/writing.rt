@@ -21,8 +21,8 @@ use cas_records::{put_cell, put_clustering, put_cut, put_deletion, put_live};
 use cas_streams::Fragment;
 use cas_types::Mem;
 
-// Adds a deletion that may be there.
-fn put_maybe_deletion(out: &mut Vec<u8>, deletion: Option<Deletion>) -> Result<(), Mem>
+/// Adds a deletion that may be there.
+pub(crate) fn put_maybe_deletion(out: &mut Vec<u8>, deletion: Option<Deletion>) -> Result<(), Mem>
     ensures written { OnOk result (out.new.items ≡ out.old.items ++ maybe deletion_bytes deletion) }
     ensures length { OnOk result (vec_len out.new ≡ vec_len out.old + maybe_deletion_length deletion) }
     ensures full { OnErr result (vec_capacity out.old < vec_len out.old + maybe_deletion_length deletion) }
@@ -114,8 +114,8 @@ fn put_each_column(out: &mut Vec<u8>, columns: &[RowColumn]) -> Result<(), Mem>
     Ok(())
 }
 
-// Adds columns; where memory ran out, a part of them may stand there, as below.
-fn put_column_parts(out: &mut Vec<u8>, columns: &[RowColumn]) -> Result<(), Mem>
+/// Adds columns; where memory ran out, a part of them may stand there, as below.
+pub(crate) fn put_column_parts(out: &mut Vec<u8>, columns: &[RowColumn]) -> Result<(), Mem>
     requires { HaveRoom columns.now }
     ensures written { OnOk result (out.new.items ≡ out.old.items ++ columns_bytes columns.now) }
     ensures length { OnOk result (vec_len out.new ≡ vec_len out.old + columns_length columns.now) }
