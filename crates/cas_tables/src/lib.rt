@@ -5,4 +5,4 @@ mod header;
 mod laws;
 
 pub use header::{HEADER_LENGTH, Header, LAST_SHARD, Version, put_header, read_header};
-pub use laws::headers_are_exact;
+pub use laws::{headers_are_exact, length_is_told, places_are_right, tables_are_one};
