@@ -15,7 +15,9 @@ pub(crate) struct Horizon {
     pub(crate) limit: i64,
 }
 
-fn cell_end(c: &Cell) -> Option<i64>
+/// The second from which on the cell shows no value, if there is one: a tombstone's own, the expiry
+/// of a value with a TTL.
+pub fn cell_end(c: &Cell) -> Option<i64>
     ensures { result ≡ cell_end c.now }
 {
     match c {
@@ -25,7 +27,8 @@ fn cell_end(c: &Cell) -> Option<i64>
     }
 }
 
-fn live_end(l: &Liveness) -> Option<i64>
+/// The second from which on a row doesn't live by this `INSERT` any more, if there is one.
+pub fn live_end(l: &Liveness) -> Option<i64>
     ensures { result ≡ live_end l.now }
 {
     match l {

@@ -1,0 +1,4 @@
+pub mod Facts
+pub mod Told
+pub mod Laws
+pub mod Inner

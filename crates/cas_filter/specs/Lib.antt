@@ -1,0 +1,6 @@
+pub mod Hashing
+pub mod Filters
+pub mod Spelling
+pub mod Allowed
+pub mod Reading
+pub mod Laws

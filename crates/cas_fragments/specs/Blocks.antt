@@ -1,0 +1,107 @@
+-- How a partition's fragments are cut into blocks, and which fragments may stand behind others.
+-- Own format.
+use Rattle.std.specs.Prelude.{◌≡◌, ℕ, ◌+◌, ◌<◌, nat_le, Bool, true, ◌&&◌, not, List, [], ◌∷◌, ◌++◌, length, Option, None, Some, if◌then◌else◌}
+use Rattle.std.specs.List.{flat_map}
+use Rattle.std.specs.Ordering.{is_lt}
+use Rattle.cas_cell.specs.declared.deletion.Deletion.{Deletion}
+use Rattle.cas_bounds.specs.declared.order.Ordered.{Ordered}
+use Rattle.cas_streams.specs.Places.{Place, place_of, place_cmp}
+use Rattle.cas_streams.specs.Joined.{opened}
+use Rattle.cas_streams.specs.Settled.{same_force}
+use Rattle.cas_streams.specs.declared.fragment.Fragment.{Fragment}
+use Rattle.cas_streams.specs.declared.fragment.Fragment.TheVariants as fragment
+use Rattle.cas_atoms.specs.declared.row.RowColumn.{RowColumn}
+use Rattle.cas_records.specs.Spelling.{deletion_bytes}
+use Rattle.cas_codec.specs.Fields.{u32, bytes16, maybe}
+use Rattle.cas_fragments.specs.Spelling.{columns_bytes, fragment_bytes, body_bytes, block_bytes}
+use Rattle.cas_fragments.specs.declared.blocks.TheConstants.{BLOCK_LEAST}
+
+-- ---- what may stand behind what
+
+-- how far fragments came: the place of the last one, and the range deletion in force behind it
+pub record Reached : Type 0 where
+  pub last : Place
+  pub force : Option Deletion
+
+-- before the first fragment of a partition
+abbrev pub nowhere : Reached
+nowhere = record { last = None; force = None }
+
+-- where a fragment stands; before the first one nowhere
+abbrev pub last_place : Option Fragment → Place
+last_place None = None
+last_place (Some f) = place_of f
+
+-- one fragment further
+abbrev pub past : Reached → Fragment → Reached
+past r f = record { last = place_of f; force = opened r.force f }
+
+-- these fragments further
+abbrev pub past_all : Reached → List Fragment → Reached
+past_all r [] = r
+past_all r (f ∷ fs) = past_all (past r f) fs
+
+-- a marker changes what is in force
+abbrev pub is_change : Option Deletion → Fragment → Bool
+is_change now (fragment.Static columns) = true
+is_change now (fragment.Row r) = true
+is_change now (fragment.Marker cut d) = not (same_force now d)
+
+-- a fragment that may stand there: behind the last one, and, if it is a marker, with another deletion than is in force
+unfoldable pub may_follow : List Ordered → Reached → Fragment → Bool
+may_follow order r f = is_lt (place_cmp order r.last (place_of f)) && is_change r.force f
+
+-- fragments of which each may stand behind those before it
+abbrev pub Follow : List Ordered → Reached → List Fragment → Type 0
+Follow order r [] = Unit {0}
+Follow order r (f ∷ fs) = (may_follow order r f ≡ true) × Follow order (past r f) fs
+
+-- ---- blocks
+
+-- fragments that are as long as a block must be to end, unless the partition does
+abbrev pub is_full : List Fragment → Bool
+is_full fs = nat_le BLOCK_LEAST (length (body_bytes fs))
+
+-- each of these begins before its block is full, if so many bytes stand in the block before them
+abbrev pub BeginEarly : ℕ → List Fragment → Type 0
+BeginEarly used [] = Unit {0}
+BeginEarly used (f ∷ fs) = (used < BLOCK_LEAST) × BeginEarly (used + length (fragment_bytes f)) fs
+
+-- what is left in the end of a block that was begun, if anything is
+abbrev pub last_block : List Fragment → List (List Fragment)
+last_block [] = []
+last_block (f ∷ fs) = (f ∷ fs) ∷ []
+
+-- the blocks of fragments, of which the first ones were begun with already: a block ends with the first fragment that makes it full
+abbrev pub blocks_from : List Fragment → List Fragment → List (List Fragment)
+blocks_from begun [] = last_block begun
+blocks_from begun (f ∷ fs) =
+    if is_full (begun ++ f ∷ []) then (begun ++ f ∷ []) ∷ blocks_from [] fs else blocks_from (begun ++ f ∷ []) fs
+
+-- the blocks of a partition's rows and markers
+abbrev pub blocks_of : List Fragment → List (List Fragment)
+blocks_of fs = blocks_from [] fs
+
+-- ---- partitions
+
+-- the static columns of a partition's fragments, which come first, or not at all
+abbrev pub statics_in : List Fragment → List RowColumn
+statics_in [] = []
+statics_in (fragment.Static cs ∷ fs) = cs
+statics_in (fragment.Row r ∷ fs) = []
+statics_in (fragment.Marker cut d ∷ fs) = []
+
+-- its rows and markers
+abbrev pub moving_in : List Fragment → List Fragment
+moving_in [] = []
+moving_in (fragment.Static cs ∷ fs) = fs
+moving_in (fragment.Row r ∷ fs) = fragment.Row r ∷ fs
+moving_in (fragment.Marker cut d ∷ fs) = fragment.Marker cut d ∷ fs
+
+-- the head of a partition: its key, perhaps the DELETE of all of it, and its static columns
+abbrev pub head_bytes : List ℕ → Option Deletion → List RowColumn → List ℕ
+head_bytes key top cs = bytes16 key ++ (maybe deletion_bytes top ++ columns_bytes cs)
+
+-- a partition: its head, the blocks of its rows and markers, and a length of 0
+abbrev pub partition_bytes : List ℕ → Option Deletion → List Fragment → List ℕ
+partition_bytes key top fs = head_bytes key top (statics_in fs) ++ (flat_map block_bytes (blocks_of (moving_in fs)) ++ u32 0)

@@ -1,0 +1,63 @@
+//! The heads of partitions, as bytes.
+
+ghost use Rattle.std.specs.Prelude.{◌≡◌, ◌+◌, ◌<◌, ◌≤◌, ◌^◌, ◌++◌, length, OnOk, OnErr, vec_len};
+ghost use Rattle.std.specs.Vec.{vec_capacity};
+ghost use Rattle.cas_codec.specs.Reading.{Gives};
+ghost use Rattle.cas_fragments.specs.Blocks.{head_bytes};
+ghost use Rattle.cas_fragments.specs.Reading.{head_at};
+ghost use Rattle.cas_fragments.specs.Lengths.{head_length};
+ghost use Rattle.cas_fragments.specs.Allowed.{HaveRoom};
+
+use crate::columns::{read_columns, read_maybe_deletion};
+use crate::lengths::head_len;
+use crate::writing::{put_column_parts, put_maybe_deletion};
+use cas_atoms::RowColumn;
+use cas_cell::Deletion;
+use cas_codec::{ReadFault, Reader, put_bytes16};
+use cas_records::{Wanted, read_key};
+use cas_types::{Bytes, Column, List, Mem};
+use std::alloc::Global;
+
+/// The head of a partition: its key, the deletion of all of it, and its static columns.
+#[derive(Drop)]
+pub struct Head {
+    pub key: Bytes,
+    pub top: Option<Deletion>,
+    pub columns: List<RowColumn>,
+}
+
+/// Reads the head of a partition of a table with these columns.
+#[tactic(auto, unfolding(crate::specs::Reading::head_at))]
+pub fn read_head(
+    alloc: Global,
+    reader: &mut Reader<'_>,
+    columns: &[Column],
+) -> Result<Head, ReadFault>
+    ensures { Gives (λ h. (h.key, h.top, h.columns)) result reader.new (head_at columns.now reader.old) }
+{
+    let key = read_key(alloc, reader)?;
+    let top = read_maybe_deletion(reader)?;
+    let columns = read_columns(alloc, reader, columns, Wanted::Static)?;
+    Ok(Head { key, top, columns })
+}
+
+/// Adds the head of a partition.
+pub fn put_head(
+    out: &mut Vec<u8>,
+    key: &[u8],
+    top: Option<Deletion>,
+    columns: &[RowColumn],
+) -> Result<(), Mem>
+    requires key { length key.now < 2 ^ 16 }
+    requires columns { HaveRoom columns.now }
+    ensures written { OnOk result (out.new.items ≡ out.old.items ++ head_bytes key.now top columns.now) }
+    ensures length { OnOk result (vec_len out.new ≡ vec_len out.old + head_length key.now top columns.now) }
+    ensures unchanged { OnErr result (out.new.items ≡ out.old.items) }
+    ensures full { OnErr result (vec_capacity out.old < vec_len out.old + head_length key.now top columns.now) }
+    ensures capacity { vec_capacity out.old ≤ vec_capacity out.new }
+{
+    out.reserve(head_len(key, top, columns))?;
+    put_bytes16(out, key)?;
+    put_maybe_deletion(out, top)?;
+    put_column_parts(out, columns)
+}

@@ -1,0 +1,5 @@
+pub mod Following
+pub mod IndexLaws
+pub mod Lengths
+pub mod Searching
+pub mod SearchLaws

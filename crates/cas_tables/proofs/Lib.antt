@@ -1,0 +1,3 @@
+pub mod HeaderLaws
+pub mod Lengths
+pub mod Standing

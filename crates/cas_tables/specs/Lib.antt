@@ -1,0 +1,9 @@
+pub mod Versions
+pub mod Spelling
+pub mod Allowed
+pub mod Reading
+pub mod Contents
+pub mod Places
+pub mod Files
+pub mod Fitting
+pub mod Laws

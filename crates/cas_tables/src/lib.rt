@@ -1,0 +1,8 @@
+//! A table file as a whole: its head, its partitions, and what stands behind them.
+#![tactic(auto)]
+
+mod header;
+mod laws;
+
+pub use header::{HEADER_LENGTH, Header, LAST_SHARD, Version, put_header, read_header};
+pub use laws::{headers_are_exact, length_is_told, places_are_right, tables_are_one};
