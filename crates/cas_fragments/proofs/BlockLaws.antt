@@ -1,12 +1,11 @@
 -- Blocks are read exactly.
-use Rattle.std.proofs.Common.{◌≡◌, ℕ, zero, suc, ◌+◌, ◌-◌, ◌<◌, ◌≤◌, ◌^◌, ◌++◌, Bool, true, false, cond, eqb, leb, Option, None, Some, List, [], ◌∷◌, length, Result, Ok, Err, refl, sym, ap, subst, ◌∙◌, append_assoc, arith}
-use Rattle.std.specs.List.{AllByRecursion, flat_map}
+use Rattle.std.proofs.Common.{◌≡◌, ℕ, zero, suc, ◌+◌, ◌-◌, ◌<◌, ◌≤◌, ◌++◌, Bool, true, false, cond, eqb, leb, List, [], ◌∷◌, length, Result, Ok, Err, refl, sym, ap, subst, ◌∙◌, arith}
+use Rattle.std.specs.List.{AllByRecursion}
 use Rattle.std.proofs.lemmas.Bool.{eqb-true, leb-true, leb-false}
 use Rattle.std.proofs.lemmas.List.{append-nil, length-append}
 use Rattle.cas_types.specs.Limits.{IsNarrow}
 use Rattle.cas_types.specs.declared.schema.Column.{Column}
 use Rattle.cas_bounds.specs.ClusteringOrder.{clustering_order}
-use Rattle.cas_bounds.specs.declared.order.Ordered.{Ordered}
 use Rattle.cas_codec.specs.declared.fault.ReadFault.{ReadFault}
 use Rattle.cas_codec.specs.declared.fault.ReadFault.TheVariants.{Bad}
 use Rattle.cas_codec.specs.Reading.{Left, Read, ◌>>=◌}
@@ -21,7 +20,7 @@ use Rattle.cas_fragments.specs.Spelling.{row_bytes, marker_bytes, fragment_bytes
 use Rattle.cas_fragments.specs.Blocks.{Reached, past, may_follow, Follow, BeginEarly}
 use Rattle.cas_fragments.specs.Reading.{fragment_at, next_fragment_at, early_fragment_at, fragments_at, body_at}
 use Rattle.cas_fragments.specs.Allowed.{FitsFragment}
-use Rattle.cas_fragments.specs.Laws.{IsBlock, BlocksAreExact}
+use Rattle.cas_fragments.specs.Laws.{BlocksAreExact}
 use Rattle.cas_fragments.specs.declared.blocks.TheConstants.{BLOCK_LEAST}
 use Rattle.cas_fragments.proofs.FragmentLaws.{fragment_exact}
 use Rattle.cas_fragments.proofs.BlockLoop.{some_length}

@@ -1,7 +1,7 @@
 -- A partition's fragments are cut into blocks in one way.
-use Rattle.std.proofs.Common.{◌≡◌, ℕ, ◌+◌, ◌<◌, ◌≤◌, ◌++◌, Bool, true, false, cond, leb, List, [], ◌∷◌, length, refl, sym, ap, subst, ◌∙◌, append_assoc, arith}
-use Rattle.std.specs.List.{AllByRecursion, flat_map}
-use Rattle.std.proofs.lemmas.Bool.{leb-true, leb-false, le-leb}
+use Rattle.std.proofs.Common.{◌≡◌, ℕ, ◌+◌, ◌<◌, ◌≤◌, ◌++◌, Bool, true, false, cond, List, [], ◌∷◌, length, refl, sym, ap, subst, ◌∙◌, append_assoc, arith}
+use Rattle.std.specs.List.{AllByRecursion}
+use Rattle.std.proofs.lemmas.Bool.{leb-true, leb-false}
 use Rattle.std.proofs.lemmas.List.{append-nil, length-append}
 use Rattle.cas_types.specs.declared.schema.Column.{Column}
 use Rattle.cas_bounds.specs.ClusteringOrder.{clustering_order}
@@ -9,7 +9,7 @@ use Rattle.cas_bounds.specs.declared.order.Ordered.{Ordered}
 use Rattle.cas_streams.specs.Streams.{IsThere}
 use Rattle.cas_streams.specs.declared.fragment.Fragment.{Fragment}
 use Rattle.cas_fragments.specs.Spelling.{fragment_bytes, body_bytes}
-use Rattle.cas_fragments.specs.Blocks.{Reached, past, past_all, may_follow, Follow, is_full, BeginEarly, last_block, blocks_from, blocks_of}
+use Rattle.cas_fragments.specs.Blocks.{Reached, past, past_all, Follow, is_full, BeginEarly, last_block, blocks_from, blocks_of}
 use Rattle.cas_fragments.specs.Allowed.{FitsFragment}
 use Rattle.cas_fragments.specs.Laws.{IsBlock, AreBlocks, joined, BlocksArePartitions}
 use Rattle.cas_fragments.specs.declared.blocks.TheConstants.{BLOCK_LEAST}
