@@ -2,6 +2,6 @@
 #![tactic(auto)]
 
 mod chance;
-mod generated;
+mod scripts;
 
-pub use generated::generated;
+pub use scripts::generated;

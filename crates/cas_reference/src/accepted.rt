@@ -1,9 +1,13 @@
 //! All mutations that were accepted, and what a SELECT shows of them.
 
-ghost use Rattle.std.specs.Prelude.{◌≡◌, ◌++◌, IfOk, OnOk};
+ghost use Rattle.std.specs.Prelude.{◌≡◌, ◌+◌, ◌<◌, ◌≤◌, ◌≤ℤ◌, ◌+ℤ◌, ◌++◌, ◌∷◌, [], pos, length, slice_index_or, slice_set, unwrap_or, vec_len, int_div};
+ghost use Rattle.std.specs.Prelude.{false, IfNone, IfOk, IfSome, OnOk};
+ghost use Rattle.std.specs.Int.{int_max};
 ghost use Rattle.std.specs.List.{All};
 ghost use Rattle.cas_types.specs.Limits.{IsMoment};
-ghost use Rattle.cas_reference.specs.Kept.{IsKept, atoms_if, atoms_in, is_of, is_past, refusal_of};
+ghost use Rattle.cas_types.specs.declared.limits.TheConstants.{LEAST_TIMESTAMP, MUTATION_LIMIT};
+ghost use Rattle.cas_effects.specs.AtomsOf.{mutation_of};
+ghost use Rattle.cas_reference.specs.Kept.{IsKept, IsTail, IsTime, atoms_if, atoms_in, is_of, is_past, refusal_of};
 
 use crate::tail::{Tail, tail_of};
 use cas_atoms::{Atom, Mutation, answer, length};
@@ -34,7 +38,8 @@ fn is_past(mutation: &Mutation) -> bool
 // Why the mutation isn't accepted.
 #[tactic(auto, unfolding(crate::specs::Kept::refusal_of))]
 fn refusal_of(segment: u64, mutation: &Mutation) -> Option<u8>
-    ensures { result ≡ refusal_of segment mutation.now }
+    ensures value { result ≡ refusal_of segment mutation.now }
+    ensures past { IfNone result (is_past mutation.now ≡ false) }
 {
     if length(mutation) > segment / 2 {
         Some(TOO_LARGE)
@@ -43,6 +48,70 @@ fn refusal_of(segment: u64, mutation: &Mutation) -> Option<u8>
     } else {
         None
     }
+}
+
+// Puts the mutation behind all others.
+#[tactic(auto, using(crate::proofs::Lists::kept_more))]
+fn push(mutations: &mut Vec<Mutation>, mutation: Mutation) -> Result<(), Mem>
+    requires kept { All IsKept mutations.old.items }
+    requires one { IsKept mutation }
+    ensures within { All IsKept mutations.new.items }
+    ensures behind { OnOk result (mutations.new.items ≡ mutations.old.items ++ mutation ∷ []) }
+{
+    mutations.push(mutation)?;
+    Ok(())
+}
+
+// The later of a moment and the reading's whole seconds.
+fn later(moment: i64, reading: i64) -> i64
+    requires moment { IsMoment moment }
+    requires time { IsTime reading }
+    ensures value { result ≡ int_max moment (int_div reading (pos 1000000)) }
+    ensures within { IsMoment result }
+{
+    moment.max(reading / 1_000_000)
+}
+
+// Raises a shard's moment to the reading's, where that is later.
+#[tactic(auto, using(crate::proofs::Lists::moments_set))]
+fn raise(met: &mut Vec<i64>, shard: u8, reading: i64)
+    requires moments { All IsMoment met.old.items }
+    requires there { shard < vec_len met.old }
+    requires time { IsTime reading }
+    ensures within { All IsMoment met.new.items }
+    ensures value { met.new.items ≡ slice_set met.old.items shard (int_max (slice_index_or met.old.items shard (pos 0)) (int_div reading (pos 1000000))) }
+    ensures shards { vec_len met.new ≡ vec_len met.old }
+{
+    let moment = later(met[shard as usize], reading);
+    met[shard as usize] = moment;
+}
+
+// The timestamp of a write without USING TIMESTAMP.
+fn drawn_at(tail: Tail, reading: i64) -> i64
+    requires tail { IsTail tail }
+    requires time { IsTime reading }
+    ensures value { result ≡ int_max reading (tail.drawn +ℤ pos 2) }
+    ensures begun { pos 0 ≤ℤ result }
+{
+    reading.max(tail.drawn + 2)
+}
+
+#[tactic(auto, unfolding(cas_effects::specs::AtomsOf::mutation_of))]
+fn mutation_of(
+    alloc: Global,
+    write: BoundWrite,
+    drawn: i64,
+    moment: i64,
+    number: u64,
+) -> Result<Mutation, Mem>
+    requires stated { IfSome write.timestamp (λ at. LEAST_TIMESTAMP ≤ℤ at) }
+    requires drawn { pos 0 ≤ℤ drawn }
+    requires moment { IsMoment moment }
+    requires number { number ≤ MUTATION_LIMIT + 1 }
+    ensures value { IfOk result (λ m. m ≡ mutation_of write drawn moment number) }
+    ensures moment { IfOk result (λ m. m.moment ≡ moment) }
+{
+    atoms_of(alloc, write, drawn, moment, number)
 }
 
 fn append_atoms(into: &mut Vec<Atom>, atoms: &[Atom]) -> Result<(), Mem>
@@ -97,7 +166,7 @@ impl Accepted {
     ghost use Rattle.std.specs.Prelude.{◌≡◌, ◌<◌, ◌≤ℤ◌, length, vec_len, IfOk, IfSome, OnOk};
     ghost use Rattle.cas_types.specs.Limits.{IsMoment, IsNarrow};
     ghost use Rattle.cas_types.specs.declared.limits.TheConstants.{LEAST_TIMESTAMP};
-    ghost use Rattle.cas_reference.specs.Kept.{Adds, IsTail, IsTime, Reads, Writes, met_at, moment_of, mutation_at, nothing_kept, reopened, tail_of};
+    ghost use Rattle.cas_reference.specs.Kept.{Adds, IsTail, IsTime, Reads, Writes, met_at, moment_of, mutation_at, nothing_kept, reopened, shown, tail_of};
     ghost use Rattle.cas_reference.specs.Held.{kept};
 
     /// Nothing yet, of so many shards.
@@ -134,15 +203,14 @@ impl Accepted {
         self.tail(shard).moment.max(self.met[shard as usize])
     }
 
-    // Raises the shard's moment to the reading's, where that is later.
+    // Its shard meets a reading.
     fn meet(&mut self, shard: u8, reading: i64)
         requires there { shard < vec_len self.old.met }
         requires time { IsTime reading }
         ensures kept { kept self.new ≡ met_at reading shard (kept self.old) }
         ensures shards { vec_len self.new.met ≡ vec_len self.old.met }
     {
-        let met = self.met[shard as usize];
-        self.met[shard as usize] = met.max(reading / 1_000_000);
+        raise(&mut self.met, shard, reading);
     }
 
     // The mutation that a write makes, whose shard has met the reading.
@@ -155,9 +223,9 @@ impl Accepted {
         ensures moment { IfOk result (λ m. IsMoment m.moment) }
     {
         let tail = self.tail(write.shard);
-        let drawn = reading.max(tail.drawn + 2);
         let moment = self.moment(write.shard);
-        atoms_of(alloc, write, drawn, moment, tail.number + 1)
+        let drawn = drawn_at(tail, reading);
+        mutation_of(alloc, write, drawn, moment, tail.number + 1)
     }
 
     // Accepts the mutation, unless it is refused.
@@ -170,7 +238,7 @@ impl Accepted {
             return Ok(Reply::Refused(why));
         }
         let number = mutation.number;
-        self.mutations.push(mutation)?;
+        push(&mut self.mutations, mutation)?;
         Ok(Reply::Wrote { number })
     }
 
@@ -193,23 +261,32 @@ impl Accepted {
         self.add(segment, mutation)
     }
 
-    /// Shows the live view of all atoms of the partition.
-    pub fn read(&mut self, alloc: Global, reading: i64, read: BoundRead) -> Result<Reply, Mem>
-        requires there { read.shard < vec_len self.old.met }
-        requires time { IsTime reading }
-        requires columns { IsNarrow read.query.columns }
-        ensures reads { IfOk result (λ r. Reads reading read (kept self.old) r (kept self.new)) }
-        ensures shards { vec_len self.new.met ≡ vec_len self.old.met }
+    // What a SELECT shows, whose shard has met the reading.
+    fn shown(&self, alloc: Global, read: &BoundRead) -> Result<Reply, Mem>
+        requires there { read.now.shard < vec_len self.now.met }
+        requires columns { IsNarrow read.now.query.columns }
+        ensures { IfOk result (λ r. r ≡ shown read.now (kept self.now)) }
     {
-        let BoundRead { shard, query } = read;
-        self.meet(shard, reading);
-        let now = self.moment(shard);
+        let query = &read.query;
+        let now = self.moment(read.shard);
         let atoms = atoms_in(alloc, query.table, &query.key, &self.mutations)?;
         Ok(Reply::Rows {
-            rows: List::from_vec(answer(alloc, &atoms, &query, now)?),
-            shard,
-            front: self.tail(shard).number,
+            rows: List::from_vec(answer(alloc, &atoms, query, now)?),
+            shard: read.shard,
+            front: self.tail(read.shard).number,
             now,
         })
+    }
+
+    /// Shows the live view of all atoms of the partition.
+    pub fn read(&mut self, alloc: Global, reading: i64, read: &BoundRead) -> Result<Reply, Mem>
+        requires there { read.now.shard < vec_len self.old.met }
+        requires time { IsTime reading }
+        requires columns { IsNarrow read.now.query.columns }
+        ensures reads { IfOk result (λ r. Reads reading read.now (kept self.old) r (kept self.new)) }
+        ensures shards { vec_len self.new.met ≡ vec_len self.old.met }
+    {
+        self.meet(read.shard, reading);
+        self.shown(alloc, read)
     }
 }

@@ -103,7 +103,7 @@ impl Reference {
             }
             Bound::Read(read) => {
                 let reading = reading(self.kind, clock, self.seconds);
-                self.accepted.read(alloc, reading, read)
+                self.accepted.read(alloc, reading, &read)
             }
         }
     }
