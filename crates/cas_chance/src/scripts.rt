@@ -1,7 +1,8 @@
 //! Scripts that are made by chance. A file of rules says what they are made of: each line is one of the
 //! texts that its first word may stand for, and `$word` in a text stands for one of the word's.
 
-ghost use Rattle.std.specs.Prelude.{◌<◌, ◌^◌};
+ghost use Rattle.std.specs.Prelude.{◌<◌, ◌^◌, IfOk, OnOk};
+ghost use Rattle.cas_chance.specs.Lines.{AreLines, EndsLine};
 
 use crate::chance::Chance;
 use std::alloc::{AllocError, Global};
@@ -103,7 +104,9 @@ fn number_in(text: &[u8]) -> u32 {
     }
 }
 
-fn push_line(script: &mut Vec<u8>, before: &[u8], text: &[u8]) -> Result<(), AllocError> {
+fn push_line(script: &mut Vec<u8>, before: &[u8], text: &[u8]) -> Result<(), AllocError>
+    ensures { OnOk result (EndsLine script.new.items) }
+{
     script.extend_from_slice(before)?;
     script.extend_from_slice(text)?;
     script.push(b'\n')?;
@@ -191,7 +194,9 @@ impl Maker<'_> {
     }
 
     // The words of a run; before the first statement also the definitions.
-    fn begin(&mut self, number: u32, script: &mut Vec<u8>) -> Result<(), AllocError> {
+    fn begin(&mut self, number: u32, script: &mut Vec<u8>) -> Result<(), AllocError>
+        ensures { OnOk result (EndsLine script.new.items) }
+    {
         push_line(script, b"words: ", self.choice(b"words"))?;
         if number == 0 {
             for text in texts_of(&self.rules, b"define") {
@@ -202,7 +207,9 @@ impl Maker<'_> {
     }
 
     // What comes before the statement of that number, and the statement.
-    fn next(&mut self, alloc: Global, number: u32, script: &mut Vec<u8>) -> Result<(), AllocError> {
+    fn next(&mut self, alloc: Global, number: u32, script: &mut Vec<u8>) -> Result<(), AllocError>
+        ensures { OnOk result (EndsLine script.new.items) }
+    {
         if number % STATEMENTS_OF_A_RUN == 0 {
             self.begin(number, script)?;
         }
@@ -216,7 +223,10 @@ impl Maker<'_> {
 }
 
 /// Runs of statements that are made by these rules, as a file of rows, which doesn't say what is to be printed.
-pub(crate) fn generated(alloc: Global, rules: &[u8]) -> Result<Vec<u8>, AllocError> {
+/// The same rules make the same runs.
+pub fn generated(alloc: Global, rules: &[u8]) -> Result<Vec<u8>, AllocError>
+    ensures { IfOk result (λ script. AreLines script.items) }
+{
     let mut maker = Maker {
         rules: rules_of(alloc, rules)?,
         chance: Chance::new(),
