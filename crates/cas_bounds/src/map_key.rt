@@ -81,7 +81,7 @@ impl MapKey {
     }
 }
 
-#[inline]
+#[inline(always)]
 fn tag_rank(tag: TypeTag) -> u8
     ensures { result ≡ tag_rank tag }
 {
@@ -112,7 +112,7 @@ fn compare_ordered(a: &Ordered, b: &Ordered) -> Ordering
 }
 
 // How two tables order their rows, mostly by one column.
-#[inline]
+#[inline(always)]
 fn compare_tables(a: &[Ordered], b: &[Ordered]) -> Ordering
     ensures { result ≡ orders_cmp a.now b.now }
 {
@@ -122,6 +122,7 @@ fn compare_tables(a: &[Ordered], b: &[Ordered]) -> Ordering
     }
 }
 
+#[inline(never)]
 fn compare_orders(a: &[Ordered], b: &[Ordered]) -> Ordering
     ensures { result ≡ orders_cmp a.now b.now }
 {
@@ -137,7 +138,7 @@ fn compare_orders(a: &[Ordered], b: &[Ordered]) -> Ordering
 }
 
 /// The order of two points of a table, each by its end and its values.
-#[inline]
+#[inline(always)]
 pub fn compare_points(order: &[Ordered], m: End, a: &[Bytes], n: End, b: &[Bytes]) -> Ordering
     ensures { result ≡ ends_cmp order.now m a.now n b.now }
 {
@@ -150,6 +151,7 @@ pub fn compare_points(order: &[Ordered], m: End, a: &[Bytes], n: End, b: &[Bytes
 }
 
 // The same column by column.
+#[inline(never)]
 fn compare_many(order: &[Ordered], m: End, a: &[Bytes], n: End, b: &[Bytes]) -> Ordering
     ensures { result ≡ ends_cmp order.now m a.now n b.now }
 {
