@@ -106,9 +106,10 @@ fn tag_rank(tag: TypeTag) -> u8
 fn compare_ordered(a: &Ordered, b: &Ordered) -> Ordering
     ensures { result ≡ ordered_cmp a.now b.now }
 {
-    tag_rank(a.tag)
-        .cmp(&tag_rank(b.tag))
-        .then(a.descending.cmp(&b.descending))
+    match tag_rank(a.tag).cmp(&tag_rank(b.tag)) {
+        Ordering::Equal => a.descending.cmp(&b.descending),
+        decided => decided,
+    }
 }
 
 // How two tables order their rows, mostly by one column.
@@ -143,9 +144,10 @@ pub fn compare_points(order: &[Ordered], m: End, a: &[Bytes], n: End, b: &[Bytes
     ensures { result ≡ ends_cmp order.now m a.now n b.now }
 {
     match (order, a, b) {
-        ([o], [x], [y]) => o
-            .compare(x.as_slice(), y.as_slice())
-            .then(m.rank().cmp(&n.rank())),
+        ([o], [x], [y]) => match o.compare(x.as_slice(), y.as_slice()) {
+            Ordering::Equal => m.rank().cmp(&n.rank()),
+            decided => decided,
+        },
         _ => compare_many(order, m, a, n, b),
     }
 }
