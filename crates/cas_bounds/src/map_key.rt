@@ -81,7 +81,7 @@ impl MapKey {
     }
 }
 
-#[inline]
+#[inline(always)]
 fn tag_rank(tag: TypeTag) -> u8
     ensures { result ≡ tag_rank tag }
 {
@@ -106,13 +106,14 @@ fn tag_rank(tag: TypeTag) -> u8
 fn compare_ordered(a: &Ordered, b: &Ordered) -> Ordering
     ensures { result ≡ ordered_cmp a.now b.now }
 {
-    tag_rank(a.tag)
-        .cmp(&tag_rank(b.tag))
-        .then(a.descending.cmp(&b.descending))
+    match tag_rank(a.tag).cmp(&tag_rank(b.tag)) {
+        Ordering::Equal => a.descending.cmp(&b.descending),
+        decided => decided,
+    }
 }
 
 // How two tables order their rows, mostly by one column.
-#[inline]
+#[inline(always)]
 fn compare_tables(a: &[Ordered], b: &[Ordered]) -> Ordering
     ensures { result ≡ orders_cmp a.now b.now }
 {
@@ -122,6 +123,7 @@ fn compare_tables(a: &[Ordered], b: &[Ordered]) -> Ordering
     }
 }
 
+#[inline(never)]
 fn compare_orders(a: &[Ordered], b: &[Ordered]) -> Ordering
     ensures { result ≡ orders_cmp a.now b.now }
 {
@@ -137,19 +139,21 @@ fn compare_orders(a: &[Ordered], b: &[Ordered]) -> Ordering
 }
 
 /// The order of two points of a table, each by its end and its values.
-#[inline]
+#[inline(always)]
 pub fn compare_points(order: &[Ordered], m: End, a: &[Bytes], n: End, b: &[Bytes]) -> Ordering
     ensures { result ≡ ends_cmp order.now m a.now n b.now }
 {
     match (order, a, b) {
-        ([o], [x], [y]) => o
-            .compare(x.as_slice(), y.as_slice())
-            .then(m.rank().cmp(&n.rank())),
+        ([o], [x], [y]) => match o.compare(x.as_slice(), y.as_slice()) {
+            Ordering::Equal => m.rank().cmp(&n.rank()),
+            decided => decided,
+        },
         _ => compare_many(order, m, a, n, b),
     }
 }
 
 // The same column by column.
+#[inline(never)]
 fn compare_many(order: &[Ordered], m: End, a: &[Bytes], n: End, b: &[Bytes]) -> Ordering
     ensures { result ≡ ends_cmp order.now m a.now n b.now }
 {

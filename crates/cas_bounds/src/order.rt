@@ -20,7 +20,7 @@ pub struct Ordered {
 
 impl Ordered {
     /// The order of two values of the column.
-    #[inline]
+    #[inline(always)]
     pub fn compare(&self, a: &[u8], b: &[u8]) -> Ordering
         ensures { result ≡ column_cmp self.now a.now b.now }
     {

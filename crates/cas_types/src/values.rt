@@ -116,32 +116,35 @@ pub fn smallint_value(bytes: &[u8]) -> Option<i16>
 }
 
 /// The number that an `int`'s four bytes are, most significant first.
+#[inline]
 pub fn int_value(bytes: &[u8]) -> Option<i32>
     ensures { result ≡ signed_number w32 bytes.now }
 {
-    match bytes {
-        [a, b, c, d] => Some(i32::from_be_bytes([*a, *b, *c, *d])),
-        _ => None,
+    match <&[u8; 4]>::try_from(bytes) {
+        Ok(number) => Some(i32::from_be_bytes(*number)),
+        Err(_) => None,
     }
 }
 
 /// The number that the eight bytes of a `bigint`, a `time` or a `timestamp` are, most significant
 /// first.
+#[inline]
 pub fn bigint_value(bytes: &[u8]) -> Option<i64>
     ensures { result ≡ signed_number w64 bytes.now }
 {
-    match bytes {
-        [a, b, c, d, e, f, g, h] => { Some(i64::from_be_bytes([*a, *b, *c, *d, *e, *f, *g, *h])) }
-        _ => None,
+    match <&[u8; 8]>::try_from(bytes) {
+        Ok(number) => Some(i64::from_be_bytes(*number)),
+        Err(_) => None,
     }
 }
 
 /// The number of the day that a `date`'s four bytes are, most significant first; 2^31 is 1970-01-01.
+#[inline]
 pub fn date_value(bytes: &[u8]) -> Option<u32>
     ensures { result ≡ day_number bytes.now }
 {
-    match bytes {
-        [a, b, c, d] => Some(u32::from_be_bytes([*a, *b, *c, *d])),
-        _ => None,
+    match <&[u8; 4]>::try_from(bytes) {
+        Ok(number) => Some(u32::from_be_bytes(*number)),
+        Err(_) => None,
     }
 }
