@@ -8,12 +8,10 @@ use Rattle.std.specs.Ordering.{is_lt}
 use Rattle.std.specs.declared.cmp.Ordering.{Ordering}
 use Rattle.std.specs.declared.cmp.Ordering.TheVariants.{Less}
 use Rattle.cas_types.specs.Orders.{Orders}
-use Rattle.cas_types.specs.declared.schema.Column.{Column}
 use Rattle.cas_cell.specs.Deletions.{deletion_cmp, covered}
 use Rattle.cas_cell.specs.Laws.{ByTime}
 use Rattle.cas_cell.specs.declared.deletion.Deletion.{Deletion}
 use Rattle.cas_cell.proofs.OrderLaws.{live_laws, cell_laws}
-use Rattle.cas_bounds.specs.ClusteringOrder.{clustering_order}
 use Rattle.cas_bounds.specs.Cuts.{is_past}
 use Rattle.cas_bounds.specs.Points.{point_cmp, row_point, cut_point}
 use Rattle.cas_bounds.specs.declared.cuts.Cut.{Cut}
@@ -31,7 +29,7 @@ use Rattle.cas_laws.proofs.JoinProofs.{winner_is}
 use Rattle.cas_laws.proofs.ShownProofs.{equal_rows}
 use Rattle.cas_streams.specs.Places.{place_of, place_cmp, row_in}
 use Rattle.cas_streams.specs.Flat.{atom_of, own, changes, after, at_end, in_force}
-use Rattle.cas_streams.specs.Streams.{IsOf, IsOrdered, WellFormed}
+use Rattle.cas_streams.specs.Streams.{IsOf, IsOrdered}
 use Rattle.cas_streams.specs.Joined.{Stream}
 use Rattle.cas_streams.specs.Merged.{merged, flat_of, flats}
 use Rattle.cas_streams.specs.Laws.{is_row, row_says}
@@ -39,12 +37,12 @@ use Rattle.cas_streams.specs.MergeLaws.{place_of_row, force_from, says_from, Mer
 use Rattle.cas_streams.specs.declared.fragment.Fragment.{Fragment}
 use Rattle.cas_streams.specs.declared.fragment.Fragment.TheVariants as fragment
 use Rattle.cas_streams.proofs.Cutting.{filter_append, filter_none, after_append, after_alike, changes_append}
-use Rattle.cas_streams.proofs.Weaves.{all_so}
+use Rattle.cas_streams.proofs.Weaves.{all_so, all_of}
 use Rattle.cas_streams.proofs.Forces.{places_total, stopped}
 use Rattle.cas_streams.proofs.Rows.{rows_say_all}
 use Rattle.cas_streams.proofs.Settling.{stopped_by_row}
 use Rattle.cas_streams.proofs.Merges.{merge_is_join, merge_ordered}
-use Rattle.cas_streams.proofs.Written.{merge_is_merged}
+use Rattle.cas_streams.proofs.NoMore.{merge_says_no_more}
 
 -- ---- a row, and fragments that stand before or behind it
 
@@ -82,16 +80,12 @@ all_past order c (fragment.Marker k d ∷ fs) of before = (
   all_past order c fs of.1 before.1,
 )
 
-two_of : (P : Fragment → Type 0) (fs gs : List Fragment) → AllByRecursion P (fs ++ gs) → AllByRecursion P fs × AllByRecursion P gs
-two_of P [] gs a = (tt, a)
-two_of P (f ∷ fs) gs a = let (b, c) = two_of P fs gs a.1 in ((a.0, b), c)
-
 module _ (order : List Ordered) (ss : List Stream) (all : AllByRecursion (λ s. IsOrdered order s.fragments) ss) (given rest : List Fragment) (e : (merged ss).fragments ≡ given ++ rest) (r : RowKey) where
   abbrev top : Option Deletion
   top = (merged ss).top
 
   of_both : AllByRecursion (IsOf order) given × AllByRecursion (IsOf order) rest
-  of_both = two_of (IsOf order) given rest (subst (λ fs. AllByRecursion (IsOf order) fs) e (merge_ordered order ss all).of)
+  of_both = all_of (IsOf order) given rest (subst (λ fs. AllByRecursion (IsOf order) fs) e (merge_ordered order ss all).of)
 
   -- the merge, and so all streams, say of the row what all its fragments say
   by_all : SameWhere (same_row r) (row_says top (given ++ rest) r) (flats ss)
@@ -173,20 +167,9 @@ module _ {Y : Type 0} {cmp : Y → Y → Ordering} {at : Y → ℤ} (o : Orders 
 
 pub merge_invents_nothing : MergeInventsNothing
 merge_invents_nothing = record {
-  lives = λ columns ss all c l h.
-      winner_given live_laws.orders live_laws.by_time (live_at_row c.values) (row c.values) (flats ss) l
-      (sym ((joins columns ss all).lives c.values) ∙ (merge_is_merged columns ss all).lives c l h);
-  cells = λ columns ss all c column p v h.
-      let x : Coordinate = path (clustered c.values) column.number p in
-      winner_given cell_laws.orders cell_laws.by_time (cell_at_path x) x (flats ss) v (sym ((joins columns ss all).cells x) ∙ (merge_is_merged columns ss all).cells c column p v h);
-  statics = λ columns ss all column p v h.
-      let x : Coordinate = path static_row column.number p in
-      winner_given cell_laws.orders cell_laws.by_time (cell_at_path x) x (flats ss) v (sym ((joins columns ss all).cells x) ∙ (merge_is_merged columns ss all).statics column p v h);
-  covers = λ columns ss all x d h. Gives-greatest deletion_cmp (deletion_at x) (flats ss) d (sym ((joins columns ss all).covers x) ∙ h);
+  says = λ order ss all. merge_says_no_more order ss all;
+  covers = λ order ss all x d h. Gives-greatest deletion_cmp (deletion_at x) (flats ss) d (sym ((merge_is_join order ss all).covers x) ∙ h);
 }
-  where
-    joins : (columns : List Column) (ss : List Stream) → AllByRecursion (λ s. WellFormed columns s.fragments) ss → Same (flat_of (merged ss)) (flats ss)
-    joins columns ss all = merge_is_join (clustering_order columns) ss (all_so (λ s. WellFormed columns s.fragments) (λ s. IsOrdered (clustering_order columns) s.fragments) (λ s w. w.ordered) ss all)
 
 pub same_writes_alike : SameWritesAlike
 same_writes_alike = record {

@@ -17,4 +17,4 @@ pub mod Winning
 pub mod Written
 pub mod Cutting
 pub mod Halves
-pub mod Deleted
+pub mod NoMore

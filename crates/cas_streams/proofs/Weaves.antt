@@ -1,5 +1,5 @@
 -- What two lists woven into one keep: a fact of each element, the order of their keys, and the greatest of what they give.
-use Rattle.std.proofs.Common.{◌≡◌, Option, None, List, [], ◌∷◌, map, refl, sym, ap, ◌∙◌, subst}
+use Rattle.std.proofs.Common.{◌≡◌, Bool, true, false, cond, Option, None, List, [], ◌∷◌, ◌++◌, map, filter, refl, sym, ap, ◌∙◌, subst}
 use Rattle.std.specs.List.{AllByRecursion}
 use Rattle.std.specs.List.Sorted.{IsStrictlySortedBy}
 use Rattle.std.specs.FinMap.Entries.{by_order}
@@ -75,6 +75,22 @@ module _ {X K : Type 0} (R : K → K → Ordering) (key : X → K) where
 pub all_so : {X : Type 0} (P Q : X → Type 0) → ((x : X) → P x → Q x) → (xs : List X) → AllByRecursion P xs → AllByRecursion Q xs
 all_so P Q h [] a = tt
 all_so P Q h (x ∷ xs) a = (h x a.0, all_so P Q h xs a.1)
+
+pub all_and : {X : Type 0} (P : X → Type 0) (xs ys : List X) → AllByRecursion P xs → AllByRecursion P ys → AllByRecursion P (xs ++ ys)
+all_and P [] ys a b = b
+all_and P (x ∷ xs) ys a b = (a.0, all_and P xs ys a.1 b)
+
+pub all_of : {X : Type 0} (P : X → Type 0) (xs ys : List X) → AllByRecursion P (xs ++ ys) → AllByRecursion P xs × AllByRecursion P ys
+all_of P [] ys a = (tt, a)
+all_of P (x ∷ xs) ys a = let (b, c) = all_of P xs ys a.1 in ((a.0, b), c)
+
+pub all_filter : {X : Type 0} (P : X → Type 0) (t : X → Bool) (xs : List X) → AllByRecursion P xs → AllByRecursion P (filter t xs)
+all_filter P t [] a = tt
+all_filter P t (x ∷ xs) a =
+    elim (t x) as (λ b. AllByRecursion P (cond b (x ∷ filter t xs) (filter t xs))) [
+      | true ↦ (a.0, all_filter P t xs a.1)
+      | false ↦ all_filter P t xs a.1
+    ]
 
 module _ {S X K : Type 0} (w : Weave S X) (R : K → K → Ordering) (o : IsTotalOrder R) (key : X → K) (Fine : X → Type 0)
     (as_keys : (x y : X) → Fine x → Fine y → w.order x y ≡ R (key x) (key y))

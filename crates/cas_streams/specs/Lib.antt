@@ -7,6 +7,6 @@ pub mod Settled
 pub mod Merged
 pub mod Sources
 pub mod Slices
-pub mod Targets
+pub mod NoMore
 pub mod Laws
 pub mod MergeLaws

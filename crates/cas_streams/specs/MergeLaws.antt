@@ -18,10 +18,10 @@ use Rattle.cas_laws.specs.Given.{Gives, Has}
 use Rattle.cas_laws.specs.Inside.{SameWhere}
 use Rattle.cas_streams.specs.Places.{Place, place_of, place_cmp, row_in}
 use Rattle.cas_streams.specs.Flat.{atom_of, own, changes, at_end, reaching}
-use Rattle.cas_streams.specs.Streams.{IsOrdered, WellFormed}
+use Rattle.cas_streams.specs.Streams.{IsOrdered}
 use Rattle.cas_streams.specs.Joined.{Stream}
 use Rattle.cas_streams.specs.Merged.{merged, flat_of, flats, IsMerged}
-use Rattle.cas_streams.specs.Targets.{Target, deletion_of}
+use Rattle.cas_streams.specs.NoMore.{SaysNoMore}
 use Rattle.cas_streams.specs.Laws.{is_row, row_says}
 use Rattle.cas_streams.specs.declared.fragment.Fragment.{Fragment}
 
@@ -54,22 +54,11 @@ pub record MergeByPlaces : Type 0 where
 
 -- ---- nothing is invented
 
--- each write of a merge is one that a stream has there
+-- a merge says no more than its streams, and what covers in it, one of them has
 pub record MergeInventsNothing : Type 0 where
-  pub lives : (columns : List Column) (ss : List Stream) → AllByRecursion (λ s. WellFormed columns s.fragments) ss → (c : Clustering) (l : Liveness)
-      → Has (flat_of (merged ss)) (Live c l) → Gives (live_at_row c.values) (flats ss) l
-  pub cells : (columns : List Column) (ss : List Stream) → AllByRecursion (λ s. WellFormed columns s.fragments) ss → (c : Clustering) (column : ColumnRef)
-      (p : List ℕ) (v : Cell) → Has (flat_of (merged ss)) (Write c column p v) → Gives (cell_at_path (path (clustered c.values) column.number p)) (flats ss) v
-  pub statics : (columns : List Column) (ss : List Stream) → AllByRecursion (λ s. WellFormed columns s.fragments) ss → (column : ColumnRef) (p : List ℕ)
-      (v : Cell) → Has (flat_of (merged ss)) (StaticWrite column p v) → Gives (cell_at_path (path static_row column.number p)) (flats ss) v
-  pub covers : (columns : List Column) (ss : List Stream) → AllByRecursion (λ s. WellFormed columns s.fragments) ss → (x : Coordinate) (d : Deletion)
+  pub says : (order : List Ordered) (ss : List Stream) → AllByRecursion (λ s. IsOrdered order s.fragments) ss → SaysNoMore (flat_of (merged ss)) (flats ss)
+  pub covers : (order : List Ordered) (ss : List Stream) → AllByRecursion (λ s. IsOrdered order s.fragments) ss → (x : Coordinate) (d : Deletion)
       → cover (flat_of (merged ss)) x ≡ Some d → Gives (deletion_at x) (flats ss) d
-
--- each deletion of a merge, also one that a greater one stands above, is one that a stream has: of the same target, of the same timestamp and second
-abbrev pub MergeInventsNoDeletion : Type 0
-MergeInventsNoDeletion =
-    (order : List Ordered) (ss : List Stream) → AllByRecursion (λ s. IsOrdered order s.fragments) ss → (t : Target) (d : Deletion)
-    → Gives (deletion_of t) (flat_of (merged ss)) d → Gives (deletion_of t) (flats ss) d
 
 -- ---- what determines a stream
 

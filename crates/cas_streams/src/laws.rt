@@ -2,7 +2,7 @@
 
 ghost use Rattle.cas_streams.specs.Laws.{RowsSayAll, SameByRows, CutKeepsTheSlice, CutIsWellFormed};
 ghost use Rattle.cas_streams.specs.Laws.{MergeIsJoin, MergeIsWellFormed, MergeIsMerged};
-ghost use Rattle.cas_streams.specs.MergeLaws.{MergeByPlaces, MergeInventsNothing, MergeInventsNoDeletion, SameWritesAlike};
+ghost use Rattle.cas_streams.specs.MergeLaws.{MergeByPlaces, MergeInventsNothing, SameWritesAlike};
 
 /// At each row an ordered stream says what its top, the deletion in force there and the row's own
 /// fragments say, and nothing more.
@@ -46,14 +46,9 @@ pub fn merge_by_places()
     ensures { MergeByPlaces }
 {}
 
-/// It writes nothing that no stream writes there.
+/// It writes and deletes nothing that no stream writes or deletes there.
 pub fn merge_invents_nothing()
     ensures { MergeInventsNothing }
-{}
-
-/// It deletes nothing with a timestamp and second with which no stream deletes the same.
-pub fn merge_invents_no_deletion()
-    ensures { MergeInventsNoDeletion }
 {}
 
 /// What is the same as a merged stream has its writes.
