@@ -1,6 +1,6 @@
 -- How a partition's fragments are cut into blocks, and which fragments may stand behind others.
 -- Own format.
-use Rattle.std.specs.Prelude.{◌≡◌, ℕ, ◌+◌, ◌<◌, nat_le, Bool, true, ◌&&◌, not, List, [], ◌∷◌, ◌++◌, length, Option, None, Some, if◌then◌else◌}
+use Rattle.std.specs.Prelude.{◌≡◌, ℕ, ◌+◌, ◌<◌, nat_lt, nat_le, Bool, true, ◌&&◌, ◌||◌, not, List, [], ◌∷◌, ◌++◌, length, Option, None, Some, is_some, if◌then◌else◌}
 use Rattle.std.specs.List.{flat_map}
 use Rattle.std.specs.Ordering.{is_lt}
 use Rattle.cas_cell.specs.declared.deletion.Deletion.{Deletion}
@@ -102,6 +102,14 @@ moving_in (fragment.Marker cut d ∷ fs) = fragment.Marker cut d ∷ fs
 abbrev pub head_bytes : List ℕ → Option Deletion → List RowColumn → List ℕ
 head_bytes key top cs = bytes16 key ++ (maybe deletion_bytes top ++ columns_bytes cs)
 
--- a partition: its head, the blocks of its rows and markers, and a length of 0
+-- the blocks, and a length of 0
+abbrev pub blocks_bytes : List (List Fragment) → List ℕ
+blocks_bytes bs = flat_map block_bytes bs ++ u32 0
+
+-- the head says something of the partition: a DELETE of all of it, or a static column
+abbrev pub says_head : List ℕ × Option Deletion × List RowColumn → Bool
+says_head h = is_some h.1 || nat_lt 0 (length h.2)
+
+-- a partition: its head, and the blocks of its rows and markers
 abbrev pub partition_bytes : List ℕ → Option Deletion → List Fragment → List ℕ
-partition_bytes key top fs = head_bytes key top (statics_in fs) ++ (flat_map block_bytes (blocks_of (moving_in fs)) ++ u32 0)
+partition_bytes key top fs = head_bytes key top (statics_in fs) ++ blocks_bytes (blocks_of (moving_in fs))
