@@ -1,5 +1,5 @@
 -- Partitions are read exactly.
-use Rattle.std.proofs.Common.{◌≡◌, ℕ, zero, suc, ◌+◌, ◌<◌, ◌≤◌, ◌^◌, ◌++◌, Bool, true, false, cond, eqb, Option, None, Some, List, [], ◌∷◌, length, Result, Ok, Err, refl, sym, ap, subst, ◌∙◌, append_assoc, arith}
+use Rattle.std.proofs.Common.{◌≡◌, ℕ, zero, suc, ◌+◌, ◌<◌, ◌^◌, ◌++◌, Bool, true, false, cond, eqb, Option, None, Some, List, [], ◌∷◌, length, Result, Ok, Err, refl, sym, ap, subst, ◌∙◌, append_assoc, arith}
 use Rattle.std.specs.Prelude.{is_none}
 use Rattle.std.specs.List.{AllByRecursion, flat_map}
 use Rattle.std.proofs.lemmas.Bool.{eqb-true, ne_eqb}
@@ -20,8 +20,8 @@ use Rattle.cas_atoms.specs.declared.row.RowColumn.{RowColumn}
 use Rattle.cas_streams.specs.Streams.{IsThere, WellFormed}
 use Rattle.cas_streams.specs.declared.fragment.Fragment.{Fragment}
 use Rattle.cas_streams.specs.declared.fragment.Fragment.TheVariants as fragment
-use Rattle.cas_fragments.specs.Spelling.{fragment_bytes, body_bytes, block_bytes}
-use Rattle.cas_fragments.specs.Blocks.{Reached, nowhere, past, past_all, Follow, is_full, blocks_of, statics_in, moving_in, head_bytes, blocks_bytes, says_head, partition_bytes}
+use Rattle.cas_fragments.specs.Spelling.{body_bytes, block_bytes}
+use Rattle.cas_fragments.specs.Blocks.{Reached, nowhere, past, past_all, is_full, blocks_of, statics_in, behind_statics, head_bytes, blocks_bytes, says_head, partition_bytes}
 use Rattle.cas_fragments.specs.Reading.{body_at, either_way, next_block_at, blocks_at, head_at, partition_at}
 use Rattle.cas_fragments.specs.Allowed.{FitsFragment, FitsHead}
 use Rattle.cas_fragments.specs.Laws.{IsBlock, static_of, IsWhole, AreBlocks, joined, Stand, IsPartition, part_bytes, PartitionsAreExact}
@@ -278,15 +278,15 @@ partition_whole columns p fit =
       closed = stand_closed columns p.1 (says_head p.0) true nowhere (λ e. refl) fit.1;
     }
 
-moving_is : (columns : List Column) (fs : List Fragment) → AllByRecursion (FitsFragment columns) fs → (statics_in fs ≡ []) × (moving_in fs ≡ fs)
-moving_is columns [] fit = (refl, refl)
-moving_is columns (fragment.Static cs ∷ fs) fit = absurd (fit.0)
-moving_is columns (fragment.Row r ∷ fs) fit = (refl, refl)
-moving_is columns (fragment.Marker cut d ∷ fs) fit = (refl, refl)
+behind_is : (columns : List Column) (fs : List Fragment) → AllByRecursion (FitsFragment columns) fs → (statics_in fs ≡ []) × (behind_statics fs ≡ fs)
+behind_is columns [] fit = (refl, refl)
+behind_is columns (fragment.Static cs ∷ fs) fit = absurd (fit.0)
+behind_is columns (fragment.Row r ∷ fs) fit = (refl, refl)
+behind_is columns (fragment.Marker cut d ∷ fs) fit = (refl, refl)
 
 parts_are : (columns : List Column) (cs : List RowColumn) (fs : List Fragment) → AllByRecursion (FitsFragment columns) fs
-    → (statics_in (static_of cs ++ fs) ≡ cs) × (moving_in (static_of cs ++ fs) ≡ fs)
-parts_are columns [] fs fit = moving_is columns fs fit
+    → (statics_in (static_of cs ++ fs) ≡ cs) × (behind_statics (static_of cs ++ fs) ≡ fs)
+parts_are columns [] fs fit = behind_is columns fs fit
 parts_are columns (c ∷ cs) fs fit = (refl, refl)
 
 partition_spelled : (columns : List Column) (p : (List ℕ × Option Deletion × List RowColumn) × List (List Fragment)) → IsPartition columns p
@@ -294,7 +294,7 @@ partition_spelled : (columns : List Column) (p : (List ℕ × Option Deletion ×
 partition_spelled columns p fit =
     let are = stand_are columns p.1 (says_head p.0) true nowhere fit.1 in
     let parts = parts_are columns p.0.2 (joined p.1) (fits_all columns nowhere p.1 are) in
-    ap (λ (cs : List RowColumn). head_bytes p.0.0 p.0.1 cs ++ blocks_bytes (blocks_of (moving_in (static_of p.0.2 ++ joined p.1)))) parts.0
+    ap (λ (cs : List RowColumn). head_bytes p.0.0 p.0.1 cs ++ blocks_bytes (blocks_of (behind_statics (static_of p.0.2 ++ joined p.1)))) parts.0
     ∙ ap (λ (fs : List Fragment). head_bytes p.0.0 p.0.1 p.0.2 ++ blocks_bytes (blocks_of fs)) parts.1
     ∙ ap (λ (bs : List (List Fragment)). head_bytes p.0.0 p.0.1 p.0.2 ++ blocks_bytes bs) (one_way columns nowhere p.1 are)
 
@@ -311,9 +311,11 @@ are_stand columns [] ends goes_on r are short ending going closed = ending refl
 are_stand columns (b ∷ []) ends goes_on r are short ending going closed =
     let at_end : (past_all r b).force ≡ None = ap (λ (xs : List Fragment). (past_all r xs).force) (sym (append-nil b)) ∙ closed in
     ((going tt, are, short.0), none_so (past_all r b).force at_end)
-are_stand columns (b ∷ c ∷ bs) ends goes_on r are short ending going closed =
-    ((going tt, are.0, short.0), are_stand columns (c ∷ bs) (is_none (past_all r b).force) (is_full b) (past_all r b) are.2 short.1 (λ e. absurd cc) (λ there. are.1)
-    (ap (λ (q : Reached). q.force) (sym (past_both r b (joined (c ∷ bs)))) ∙ closed))
+are_stand columns (b ∷ c ∷ bs) ends goes_on r are short ending going closed = (
+  (going tt, are.0, short.0),
+  are_stand columns (c ∷ bs) (is_none (past_all r b).force) (is_full b) (past_all r b) are.2 short.1 (λ e. absurd cc) (λ there. are.1)
+      (ap (λ (q : Reached). q.force) (sym (past_both r b (joined (c ∷ bs)))) ∙ closed),
+)
 
 no_blocks : (fs : List Fragment) → blocks_of fs ≡ [] → IsThere fs → ⊥
 no_blocks [] e there = there
@@ -337,8 +339,8 @@ stream_partition columns h fs head fit formed said short =
     let w = stream_whole columns h.2 fs fit formed in (
       head,
       are_stand columns (blocks_of fs) (says_head h) true nowhere (blocks_are_partitions.cut columns nowhere fs fit w.follow) short
-      (ends_there columns h fs said) (λ there. refl)
-      (ap (λ (xs : List Fragment). (past_all nowhere xs).force) (blocks_are_partitions.whole fs) ∙ w.closed),
+          (ends_there columns h fs said) (λ there. refl)
+          (ap (λ (xs : List Fragment). (past_all nowhere xs).force) (blocks_are_partitions.whole fs) ∙ w.closed),
     )
 
 pub partitions_are_exact : PartitionsAreExact

@@ -18,7 +18,7 @@ use Rattle.cas_fragments.specs.Blocks.{Reached, nowhere, past_all, Follow, is_fu
 use Rattle.cas_fragments.specs.Reading.{body_at, partition_at}
 use Rattle.cas_fragments.specs.Allowed.{FitColumns, FitsFragment, FitsHead}
 
--- fragments of the table that may be a block behind what was reached: there are some, each may stand where it does, and only the last one fills the block
+-- fragments of the table that may be a block behind what was reached: there are some, each may stand where it does, and begins before the block is full
 pub record IsBlock (columns : List Column) (r : Reached) (fs : List Fragment) : Type 0 where
   pub some : IsThere fs
   pub fit : AllByRecursion (FitsFragment columns) fs
@@ -76,8 +76,8 @@ pub record BlocksArePartitions : Type 0 where
 
 -- ---- partitions in a file
 
--- blocks that may stand there up to the end of a partition, if it may end there, and go on there: each but the last is full, and no range deletion is in force
--- at the end
+-- blocks up to the end of a partition, told whether it may end there and whether it may go on: each but the last is full, and at the end no range deletion
+-- is in force
 abbrev pub Stand : List Column → Bool → Bool → Reached → List (List Fragment) → Type 0
 Stand columns ends goes_on r [] = ends ≡ true
 Stand columns ends goes_on r (b ∷ bs) =
