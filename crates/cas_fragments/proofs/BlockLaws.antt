@@ -27,12 +27,12 @@ use Rattle.cas_fragments.proofs.BlockLoop.{some_length}
 
 -- ---- a fragment takes a byte at least
 
-some_bytes : (columns : List Column) (f : Fragment) → FitsFragment columns f → 0 < length (fragment_bytes f)
+pub some_bytes : (columns : List Column) (f : Fragment) → FitsFragment columns f → 0 < length (fragment_bytes f)
 some_bytes columns (fragment.Static cs) fit = absurd fit
 some_bytes columns (fragment.Row r) fit = omega (arith, length-append (u8 1) (row_bytes r), u8_long 1)
 some_bytes columns (fragment.Marker cut d) fit = omega (arith, length-append (u8 2) (marker_bytes cut d), u8_long 2)
 
-body_longer : (f : Fragment) (fs : List Fragment) → length (body_bytes (f ∷ fs)) ≡ length (fragment_bytes f) + length (body_bytes fs)
+pub body_longer : (f : Fragment) (fs : List Fragment) → length (body_bytes (f ∷ fs)) ≡ length (fragment_bytes f) + length (body_bytes fs)
 body_longer f fs = length-append (fragment_bytes f) (body_bytes fs)
 
 pub few_fragments : (columns : List Column) (fs : List Fragment) → AllByRecursion (FitsFragment columns) fs → length fs ≤ length (body_bytes fs)

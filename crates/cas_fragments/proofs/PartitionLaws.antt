@@ -118,7 +118,7 @@ each_so : {X : Type 0} (P Q : X → Type 0) → ((x : X) → P x → Q x) → (x
 each_so P Q so [] all = tt
 each_so P Q so (x ∷ xs) all = (so x all.0, each_so P Q so xs all.1)
 
-whole_stream : (columns : List Column) (cs : List RowColumn) (fs : List Fragment) → FitColumns is_static columns cs → IsWhole columns fs
+pub whole_stream : (columns : List Column) (cs : List RowColumn) (fs : List Fragment) → FitColumns is_static columns cs → IsWhole columns fs
     → WellFormed columns (static_of cs ++ fs)
 unfolding IsStrictlySortedBy
 whole_stream columns [] fs statics w = record {
@@ -150,7 +150,7 @@ all_behind columns (fragment.Static cs ∷ fs) fit = absurd (fit.0)
 all_behind columns (fragment.Row r ∷ fs) fit = (refl, all_behind columns fs fit.1)
 all_behind columns (fragment.Marker cut d ∷ fs) fit = (refl, all_behind columns fs fit.1)
 
-stream_whole : (columns : List Column) (cs : List RowColumn) (fs : List Fragment) → AllByRecursion (FitsFragment columns) fs
+pub stream_whole : (columns : List Column) (cs : List RowColumn) (fs : List Fragment) → AllByRecursion (FitsFragment columns) fs
     → WellFormed columns (static_of cs ++ fs) → IsWhole columns fs
 unfolding IsStrictlySortedBy
 stream_whole columns [] fs fit w = record {
