@@ -1,5 +1,5 @@
 -- The head of a table file is read exactly.
-use Rattle.std.proofs.Common.{◌≡◌, ℕ, zero, suc, ◌<◌, ◌≤◌, ◌^◌, ◌++◌, leb, true, List, Ok, Err, refl, ap, arith}
+use Rattle.std.proofs.Common.{◌≡◌, ℕ, zero, suc, ◌<◌, ◌≤◌, ◌^◌, ◌++◌, leb, true, Ok, Err, refl, ap, arith}
 use Rattle.std.specs.Int.{is_in_range}
 use Rattle.std.proofs.lemmas.Bool.{leb-true, le-leb, and_parts, and_from}
 use Rattle.cas_codec.specs.Reading.{Read, ◌>>=◌, checked, u8_at, u16_at, u64_at}
@@ -12,7 +12,6 @@ use Rattle.cas_info.specs.declared.info.TheConstants.{FILE_NUMBER_LIMIT}
 use Rattle.cas_tables.specs.declared.header.TheConstants.{START_WORD, FIRST_VERSION, LAST_VERSION, LAST_SHARD}
 use Rattle.cas_tables.specs.declared.header.Version.{Version}
 use Rattle.cas_tables.specs.declared.header.Version.TheVariants.{First, Second}
-use Rattle.cas_tables.specs.declared.header.Header.{Header}
 use Rattle.cas_tables.specs.Versions.{version_number, version_of}
 use Rattle.cas_tables.specs.Spelling.{start_bytes, header_bytes}
 use Rattle.cas_tables.specs.Allowed.{FitsHeader}
@@ -79,6 +78,7 @@ start_exact =
     all_of : (r : Read Version) → r ≡ (r >>= λ v. Ok (v.0, v.1))
     all_of (Ok v) = refl
     all_of (Err e) = refl
+
     as_read : (r : Read ℕ) → (r >>= λ word. version_at word.1) ≡ (r >>= λ word. version_at word.1 >>= λ v. Ok (v.0, v.1))
     as_read (Ok word) = all_of (version_at word.1)
     as_read (Err e) = refl
@@ -111,5 +111,6 @@ header_exact =
   where
     shard_of : (s : ℕ) → s ≤ LAST_SHARD → IsBetween (2 ^ 8) 0 LAST_SHARD s
     shard_of s most = (omega arith, between 0 LAST_SHARD s (omega arith) most)
+
     number_of : (n : ℕ) → 1 ≤ n → n ≤ FILE_NUMBER_LIMIT → IsBetween (2 ^ 64) 1 FILE_NUMBER_LIMIT n
     number_of n low high = (omega arith, between 1 FILE_NUMBER_LIMIT n low high)

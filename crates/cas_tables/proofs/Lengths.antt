@@ -9,13 +9,13 @@ use Rattle.cas_codec.proofs.FieldLengths.{u64_long}
 use Rattle.cas_info.specs.Spelling.{sizes_bytes, range_bytes, times_bytes, rest_bytes, info_bytes}
 use Rattle.cas_streams.specs.Streams.{IsThere}
 use Rattle.cas_streams.specs.Merged.{flat_of, flats}
-use Rattle.cas_facts.specs.Facts.{AreFacts, AreFactsSoFar}
+use Rattle.cas_facts.specs.Facts.{AreFactsSoFar}
 use Rattle.cas_facts.specs.declared.facts.Facts.{Facts}
 use Rattle.cas_facts.proofs.Joining.{facts_are_one}
 use Rattle.cas_filter.specs.Spelling.{filter_bytes}
 use Rattle.cas_index.specs.Spelling.{index_bytes, footer_bytes}
 use Rattle.cas_tables.specs.Contents.{Partition, Contents, keys, atoms_of}
-use Rattle.cas_tables.specs.Files.{front_bytes, index_of, key_filter, footer_of, with_info, first_key, last_key, told_of, info_of, table_bytes, IsTable}
+use Rattle.cas_tables.specs.Files.{front_bytes, index_of, key_filter, footer_of, with_info, first_key, last_key, told_of, table_bytes, IsTable}
 use Rattle.cas_tables.specs.Fitting.{FitsPartition, FitsContents}
 use Rattle.cas_tables.specs.Laws.{TablesAreOne, LengthIsTold}
 

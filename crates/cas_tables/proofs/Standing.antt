@@ -1,5 +1,5 @@
 -- The parts of a table file stand where its index and its footer tell.
-use Rattle.std.proofs.Common.{◌≡◌, ℕ, ◌+◌, Bool, true, false, cond, List, [], ◌∷◌, ◌++◌, length, Option, None, Some, refl, sym, ap, ◌∙◌, subst, append_assoc}
+use Rattle.std.proofs.Common.{◌≡◌, ℕ, ◌+◌, Bool, true, false, cond, List, [], ◌∷◌, ◌++◌, length, Option, None, refl, sym, ap, ◌∙◌, append_assoc}
 use Rattle.std.specs.List.{AllByRecursion, flat_map}
 use Rattle.std.proofs.lemmas.List.{length-append}
 use Rattle.cas_cell.specs.declared.deletion.Deletion.{Deletion}
@@ -8,16 +8,15 @@ use Rattle.cas_streams.specs.Flat.{changes, at_end}
 use Rattle.cas_streams.specs.Streams.{IsThere}
 use Rattle.cas_streams.specs.declared.fragment.Fragment.{Fragment}
 use Rattle.cas_info.specs.Spelling.{info_bytes}
-use Rattle.cas_facts.specs.declared.facts.Facts.{Facts}
 use Rattle.cas_filter.specs.Spelling.{filter_bytes}
 use Rattle.cas_fragments.specs.Spelling.{block_bytes}
 use Rattle.cas_fragments.specs.Blocks.{is_full, last_block, blocks_from, moving_in}
 use Rattle.cas_index.specs.Spelling.{index_bytes, footer_bytes}
 use Rattle.cas_tables.specs.Spelling.{header_bytes}
-use Rattle.cas_tables.specs.Contents.{Partition, Contents}
+use Rattle.cas_tables.specs.Contents.{Partition}
 use Rattle.cas_tables.specs.Places.{head_of, blocks, text_of, block_entries, entries}
 use Rattle.cas_tables.specs.Files.{front_bytes, index_of, key_filter, footer_of, info_of, table_bytes}
-use Rattle.cas_tables.specs.Laws.{StandsAt, BlocksStand, PartitionsStand, PartsStand, PlacesAreRight}
+use Rattle.cas_tables.specs.Laws.{BlocksStand, PartitionsStand, PlacesAreRight}
 
 -- ---- no block is empty
 
@@ -55,8 +54,7 @@ blocks_stand file before rest place now ([] ∷ bs) there e long = absurd there.
 blocks_stand file before rest place now ((f ∷ fs) ∷ bs) there e long =
     let block : List ℕ = block_bytes (f ∷ fs) in
     let others : List ℕ = flat_map block_bytes bs in
-    let here : file ≡ before ++ (block ++ (others ++ rest)) = e ∙ ap (λ t. before ++ t) (append_assoc block others rest) in
-    (
+    let here : file ≡ before ++ (block ++ (others ++ rest)) = e ∙ ap (λ t. before ++ t) (append_assoc block others rest) in (
       record { before = before; after = others ++ rest; there = here; behind = long },
       blocks_stand file (before ++ block) rest (place + length block) (at_end now (changes (f ∷ fs))) bs there.1
           (later file before block (others ++ rest) here) (further before block place long),
@@ -71,11 +69,10 @@ partitions_stand file before rest place (p ∷ ps) e long =
     let others : List ℕ = flat_map text_of ps in
     let here : file ≡ before ++ (whole ++ (others ++ rest)) = e ∙ ap (λ t. before ++ t) (append_assoc whole others rest) in
     let headed : file ≡ before ++ (head_of p ++ ((body ++ u32 0) ++ (others ++ rest))) =
-        here ∙ ap (λ t. before ++ t) (append_assoc (head_of p) (body ++ u32 0) (others ++ rest)) in
+    here ∙ ap (λ t. before ++ t) (append_assoc (head_of p) (body ++ u32 0) (others ++ rest)) in
     let in_body : file ≡ (before ++ head_of p) ++ (body ++ (u32 0 ++ (others ++ rest))) =
-        later file before (head_of p) ((body ++ u32 0) ++ (others ++ rest)) headed
-        ∙ ap (λ t. (before ++ head_of p) ++ t) (append_assoc body (u32 0) (others ++ rest)) in
-    (
+    later file before (head_of p) ((body ++ u32 0) ++ (others ++ rest)) headed
+    ∙ ap (λ t. (before ++ head_of p) ++ t) (append_assoc body (u32 0) (others ++ rest)) in (
       refl,
       record { before = before; after = others ++ rest; there = here; behind = long },
       blocks_stand file (before ++ head_of p) (u32 0 ++ (others ++ rest)) (place + length (head_of p)) None (blocks p)
