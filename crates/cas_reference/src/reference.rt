@@ -6,9 +6,9 @@ ghost use Rattle.cas_types.specs.Limits.{IsMoment, IsShardCount};
 use crate::accepted::Accepted;
 use crate::altered::altered;
 use crate::reading::reading;
-use cas_bind::{Bound, Limits, bind};
+use cas_bind::{Bound, BoundRead, Limits, bind};
 use cas_define::Addition;
-use cas_effects::{BindFault, NOT_HERE, SYNTAX};
+use cas_effects::{BindFault, BoundWrite, NOT_HERE, SYNTAX};
 use cas_io::Clock;
 use cas_lines::{Line, read_line};
 use cas_render::Reply;
@@ -37,6 +37,7 @@ impl Reference {
     ghost use Rattle.cas_bind.specs.Meaning.{meaning};
     ghost use Rattle.cas_bind.specs.Tables.{AreTables, IsWithin, tables_after};
     ghost use Rattle.cas_bind.specs.declared.bound.Bound.TheVariants as bounds;
+    ghost use Rattle.cas_lines.specs.Lines.{Says};
     ghost use Rattle.cas_render.specs.declared.reply.Reply.TheVariants as replies;
     ghost use Rattle.cas_reference.specs.Replies.{Answers, Does, SetsClock, begun, new_store, with_tables};
     ghost use Rattle.cas_reference.specs.Held.{held};
@@ -87,6 +88,27 @@ impl Reference {
         Ok(Reply::Done)
     }
 
+    #[tactic(auto, using(crate::proofs::Doing::does_write), unfolding(cas_bind::specs::Tables::tables_after))]
+    fn write<C: Clock>(&mut self, alloc: Global, clock: &C, write: BoundWrite) -> Result<Reply, Mem>
+        requires { IsWithin self.old.limits.shards (bounds.Write write) }
+        ensures does { IfOk result (λ r. Does (C.may_give clock.now) (held self.old) (OkOf (bounds.Write write)) r (held self.new)) }
+        ensures tables { self.new.tables.items ≡ self.old.tables.items }
+    {
+        let reading = reading(self.kind, clock, self.seconds);
+        self.accepted
+            .write(alloc, self.limits.segment, reading, write)
+    }
+
+    #[tactic(auto, using(crate::proofs::Doing::does_read), unfolding(cas_bind::specs::Tables::tables_after))]
+    fn read<C: Clock>(&mut self, alloc: Global, clock: &C, read: &BoundRead) -> Result<Reply, Mem>
+        requires { IsWithin self.old.limits.shards (bounds.Read read.now) }
+        ensures does { IfOk result (λ r. Does (C.may_give clock.now) (held self.old) (OkOf (bounds.Read read.now)) r (held self.new)) }
+        ensures tables { self.new.tables.items ≡ self.old.tables.items }
+    {
+        let reading = reading(self.kind, clock, self.seconds);
+        self.accepted.read(alloc, reading, read)
+    }
+
     #[tactic(auto, unfolding(cas_bind::specs::Tables::tables_after))]
     fn perform<C: Clock>(&mut self, alloc: Global, clock: &C, bound: Bound) -> Result<Reply, Mem>
         requires within { IsWithin self.old.limits.shards bound }
@@ -96,15 +118,8 @@ impl Reference {
         match bound {
             Bound::Create(table) => self.create(table),
             Bound::Alter(addition) => self.alter(alloc, addition),
-            Bound::Write(write) => {
-                let reading = reading(self.kind, clock, self.seconds);
-                self.accepted
-                    .write(alloc, self.limits.segment, reading, write)
-            }
-            Bound::Read(read) => {
-                let reading = reading(self.kind, clock, self.seconds);
-                self.accepted.read(alloc, reading, &read)
-            }
+            Bound::Write(write) => self.write(alloc, clock, write),
+            Bound::Read(read) => self.read(alloc, clock, &read),
         }
     }
 
@@ -127,7 +142,7 @@ impl Reference {
     }
 
     fn set_clock(&mut self, seconds: i64) -> Reply
-        requires { IsMoment seconds }
+        requires moment { IsMoment seconds }
         ensures { SetsClock self.old.kind (held self.old) seconds result (held self.new) }
     {
         match self.kind {
@@ -136,6 +151,30 @@ impl Reference {
                 Reply::Done
             }
             ClockKind::System => Reply::Refused(NOT_HERE),
+        }
+    }
+
+    // Answers a line that says this.
+    #[tactic(auto, using(crate::proofs::Doing::says_moment, crate::proofs::Doing::answers_clock, crate::proofs::Doing::answers_statement))]
+    fn answer_known<C: Clock>(
+        &mut self,
+        alloc: Global,
+        clock: &C,
+        text: &[u8],
+        line: Line,
+    ) -> Result<Option<Reply>, Mem>
+        requires tables { AreTables (held self.old).tables }
+        requires says { Says text.now line }
+        ensures answers { IfOk result (λ r. Answers (C.may_give clock.now) (held self.old) text.now r (held self.new)) }
+        ensures tables { OnOk result (AreTables (held self.new).tables) }
+    {
+        match line {
+            Line::Blank => Ok(None),
+            Line::Syntax => Ok(Some(Reply::Refused(SYNTAX))),
+            Line::Clock(seconds) => Ok(Some(self.set_clock(seconds))),
+            Line::Statement(statement) => {
+                Ok(Some(self.answer_statement(alloc, clock, &statement)?))
+            }
         }
     }
 
@@ -150,13 +189,7 @@ impl Reference {
         ensures answers { IfOk result (λ r. Answers (C.may_give clock.now) (held self.old) line.now r (held self.new)) }
         ensures tables { OnOk result (AreTables (held self.new).tables) }
     {
-        match read_line(alloc, line)? {
-            Line::Blank => Ok(None),
-            Line::Syntax => Ok(Some(Reply::Refused(SYNTAX))),
-            Line::Clock(seconds) => Ok(Some(self.set_clock(seconds))),
-            Line::Statement(statement) => {
-                Ok(Some(self.answer_statement(alloc, clock, &statement)?))
-            }
-        }
+        let known = read_line(alloc, line)?;
+        self.answer_known(alloc, clock, line, known)
     }
 }
