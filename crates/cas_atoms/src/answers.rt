@@ -11,8 +11,8 @@ use crate::place::Partition;
 use crate::query::{LiveRow, Query};
 use crate::rows_and_paths::{copy_values, rows_of};
 use crate::shown_rows::{is_shown, is_static_shown};
-use cas_bounds::{Slice, between, clustering_order};
-use cas_types::{Bytes, List, Mem};
+use cas_bounds::{Slice, Values, between, clustering_order};
+use cas_types::{List, Mem};
 use std::alloc::{AllocError, Global};
 
 // Whether the row is in the slice, and shown.
@@ -20,7 +20,7 @@ fn is_answered(
     alloc: Global,
     query: &Query,
     partition: Partition<'_>,
-    values: &List<Bytes>,
+    values: &Values,
 ) -> Result<bool, AllocError>
     requires { AreNumbered query.now.columns }
     ensures { IfOk result (λ b. b ≡ is_answered query.now partition.entry.atoms.now partition.entry.now values.now) }
@@ -37,7 +37,7 @@ fn answered(
     alloc: Global,
     query: &Query,
     partition: Partition<'_>,
-) -> Result<Vec<List<Bytes>>, AllocError>
+) -> Result<Vec<Values>, AllocError>
     requires { AreNumbered query.now.columns }
     ensures { IfOk result (λ v. v.items ≡ answered query.now partition.entry.atoms.now partition.entry.now) }
 {
@@ -52,7 +52,7 @@ fn answered(
     Ok(kept)
 }
 
-fn turned(reversed: bool, rows: Vec<List<Bytes>>) -> Vec<List<Bytes>>
+fn turned(reversed: bool, rows: Vec<Values>) -> Vec<Values>
     ensures { result.items ≡ turned reversed rows.items }
 {
     let mut rows = rows;
@@ -72,7 +72,7 @@ fn is_whole(slice: &Slice) -> bool
 }
 
 // The rows by their keys, of which the static row's is `None`.
-fn keys(alloc: Global, rows: &[List<Bytes>]) -> Result<Vec<Option<List<Bytes>>>, AllocError>
+fn keys(alloc: Global, rows: &[Values]) -> Result<Vec<Option<Values>>, AllocError>
     ensures { IfOk result (λ v. map row_key v.items ≡ map clustered rows.now) }
 {
     let mut keys = Vec::new(alloc);
@@ -87,7 +87,7 @@ fn static_alone(
     alloc: Global,
     query: &Query,
     partition: Partition<'_>,
-) -> Result<Vec<Option<List<Bytes>>>, AllocError>
+) -> Result<Vec<Option<Values>>, AllocError>
     requires { AreNumbered query.now.columns }
     ensures { IfOk result (λ v. map row_key v.items ≡ with_static query.now partition.entry.atoms.now partition.entry.now []) }
 {
@@ -105,8 +105,8 @@ fn with_static(
     alloc: Global,
     query: &Query,
     partition: Partition<'_>,
-    rows: &[List<Bytes>],
-) -> Result<Vec<Option<List<Bytes>>>, AllocError>
+    rows: &[Values],
+) -> Result<Vec<Option<Values>>, AllocError>
     requires { AreNumbered query.now.columns }
     ensures { IfOk result (λ v. map row_key v.items ≡ with_static query.now partition.entry.atoms.now partition.entry.now rows.now) }
 {
@@ -116,7 +116,7 @@ fn with_static(
     }
 }
 
-fn limited(limit: Option<u32>, rows: Vec<Option<List<Bytes>>>) -> Vec<Option<List<Bytes>>>
+fn limited(limit: Option<u32>, rows: Vec<Option<Values>>) -> Vec<Option<Values>>
     ensures { map row_key result.items ≡ limited limit (map row_key rows.items) }
 {
     let mut rows = rows;
@@ -132,7 +132,7 @@ pub fn row_shown(
     alloc: Global,
     query: &Query,
     partition: Partition<'_>,
-    row: Option<&List<Bytes>>,
+    row: Option<&Values>,
 ) -> Result<LiveRow, AllocError>
     requires { pos 0 ≤ℤ partition.now }
     ensures { IfOk result (λ r. r ≡ row_shown query.now partition.entry.atoms.now partition.entry.now (row_key (option_copied row.entry))) }

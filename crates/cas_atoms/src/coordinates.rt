@@ -10,9 +10,9 @@ ghost use Rattle.cas_atoms.specs.Inner.Places.{row_at};
 
 use crate::atom::Atom;
 use crate::place::Place;
-use cas_bounds::{Cut, between};
+use cas_bounds::{Cut, Values, between};
 use cas_cell::{Cell, Deletion, Liveness};
-use cas_types::{Bytes, List, compare_bytes};
+use cas_types::{Bytes, compare_bytes};
 use std::cmp::Ordering;
 
 /// Whether both are the values of one row.
@@ -30,7 +30,7 @@ pub(crate) fn same_bytes(a: &[u8], b: &[u8]) -> bool
 }
 
 /// Whether both are one row.
-pub(crate) fn same_row(a: Option<&List<Bytes>>, b: Option<&List<Bytes>>) -> bool
+pub(crate) fn same_row(a: Option<&Values>, b: Option<&Values>) -> bool
     ensures { result ≡ same_row (row_key (option_copied a.entry)) (row_key (option_copied b.entry)) }
 {
     match (a, b) {
@@ -49,7 +49,7 @@ pub(crate) fn same_column(a: Place<'_>, b: Place<'_>) -> bool
 }
 
 /// Whether the row lies between the cuts. The static row lies between none.
-pub(crate) fn lies_between(lo: &Cut, hi: &Cut, row: Option<&List<Bytes>>) -> bool
+pub(crate) fn lies_between(lo: &Cut, hi: &Cut, row: Option<&Values>) -> bool
     ensures { result ≡ lies_between lo.now hi.now (row_key (option_copied row.entry)) }
 {
     match row {
@@ -66,7 +66,7 @@ fn deletion_where(holds: bool, deletion: &Deletion) -> Option<Deletion>
 }
 
 /// The deletion, where the atom is one that has the row's own place in its scope.
-pub(crate) fn deletion_at_row(values: &List<Bytes>, atom: &Atom) -> Option<Deletion>
+pub(crate) fn deletion_at_row(values: &Values, atom: &Atom) -> Option<Deletion>
     ensures { result ≡ deletion_at (row values.now) atom.now }
 {
     match atom {
@@ -112,7 +112,7 @@ pub(crate) fn deletion_at_path(place: Place<'_>, bytes: &[u8], atom: &Atom) -> O
 }
 
 /// What the atom, if it is an `INSERT`'s, leaves of the row itself.
-pub(crate) fn live_at_row(values: &List<Bytes>, atom: &Atom) -> Option<Liveness>
+pub(crate) fn live_at_row(values: &Values, atom: &Atom) -> Option<Liveness>
     ensures { result ≡ live_at_row values.now atom.now }
 {
     match atom {

@@ -16,8 +16,9 @@ use crate::column_values::{one_or_null, plain_cell, shown_value};
 use crate::partition_keys::key_values;
 use crate::place::{Partition, Place};
 use crate::query::{Datum, Pick, Query};
+use cas_bounds::Values;
 use cas_cell::Cell;
-use cas_types::{Bytes, Column, Kind, List, TypeTag};
+use cas_types::{Bytes, Column, Kind, TypeTag};
 use std::alloc::{AllocError, Global};
 
 fn partition_count(columns: &[Column]) -> usize
@@ -202,7 +203,7 @@ pub fn picked(
     alloc: Global,
     query: &Query,
     partition: Partition<'_>,
-    row: Option<&List<Bytes>>,
+    row: Option<&Values>,
     pick: Pick,
 ) -> Result<Datum, AllocError>
     requires { pos 0 ≤ℤ partition.now }

@@ -1,7 +1,7 @@
 //! What the live view is read from: a partition at a moment, and a column of one of its rows.
 
 use crate::atom::Atom;
-use cas_types::{Bytes, List};
+use cas_bounds::Values;
 
 /// The atoms of a partition, and the moment in seconds at which they are read.
 #[derive(Clone, Copy)]
@@ -14,6 +14,6 @@ pub struct Partition<'a> {
 /// of one of its columns.
 #[derive(Clone, Copy)]
 pub(crate) struct Place<'a> {
-    pub(crate) row: Option<&'a List<Bytes>>,
+    pub(crate) row: Option<&'a Values>,
     pub(crate) number: u16,
 }

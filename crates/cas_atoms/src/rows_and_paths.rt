@@ -15,14 +15,14 @@ use crate::atom::Atom;
 use crate::coordinates::same_column;
 use crate::place::{Partition, Place};
 use crate::winners::cell_winner;
-use cas_bounds::{Ordered, compare_values};
+use cas_bounds::{Ordered, Values, compare_values};
 use cas_cell::{Cell, alive};
-use cas_types::{Bytes, Column, List, TypeTag, compare, compare_bytes};
+use cas_types::{Bytes, Column, TypeTag, compare, compare_bytes};
 use std::alloc::{AllocError, Global};
 use std::cmp::Ordering;
 
 // Where the row is to be put, if it isn't there.
-fn place_of_row(order: &[Ordered], rows: &[List<Bytes>], key: &List<Bytes>) -> Option<usize>
+fn place_of_row(order: &[Ordered], rows: &[Values], key: &Values) -> Option<usize>
     ensures { MatchOption result (put (values_cmp order.now) key.now rows.now ≡ rows.now)
         (λ i. (i ≤ length rows.now) × (put (values_cmp order.now) key.now rows.now ≡ insert rows.now i key.now)) }
 {
@@ -37,17 +37,13 @@ fn place_of_row(order: &[Ordered], rows: &[List<Bytes>], key: &List<Bytes>) -> O
 }
 
 /// A copy of the values.
-pub(crate) fn copy_values(values: &List<Bytes>) -> Result<List<Bytes>, AllocError>
+pub(crate) fn copy_values(values: &Values) -> Result<Values, AllocError>
     ensures { IfOk result (λ v. v ≡ values.now) }
 {
     values.clone()
 }
 
-fn put_row(
-    order: &[Ordered],
-    rows: &mut Vec<List<Bytes>>,
-    key: &List<Bytes>,
-) -> Result<(), AllocError>
+fn put_row(order: &[Ordered], rows: &mut Vec<Values>, key: &Values) -> Result<(), AllocError>
     ensures { OnOk result (rows.new.items ≡ put (values_cmp order.now) key.now rows.old.items) }
 {
     if let Some(i) = place_of_row(order, rows, key) {
@@ -58,7 +54,7 @@ fn put_row(
 }
 
 // The row that the atom writes in.
-fn written_row(atom: &Atom) -> Option<&List<Bytes>>
+fn written_row(atom: &Atom) -> Option<&Values>
     ensures { option_copied result ≡ written_row atom.now }
 {
     match atom {
@@ -68,11 +64,7 @@ fn written_row(atom: &Atom) -> Option<&List<Bytes>>
     }
 }
 
-fn put_written_row(
-    order: &[Ordered],
-    rows: &mut Vec<List<Bytes>>,
-    atom: &Atom,
-) -> Result<(), AllocError>
+fn put_written_row(order: &[Ordered], rows: &mut Vec<Values>, atom: &Atom) -> Result<(), AllocError>
     ensures { OnOk result (rows.new.items ≡ put_some (values_cmp order.now) rows.old.items (written_row atom.now)) }
 {
     match written_row(atom) {
@@ -86,7 +78,7 @@ pub(crate) fn rows_of(
     alloc: Global,
     order: &[Ordered],
     atoms: &[Atom],
-) -> Result<Vec<List<Bytes>>, AllocError>
+) -> Result<Vec<Values>, AllocError>
     ensures { IfOk result (λ v. v.items ≡ rows_of order.now atoms.now) }
 {
     let mut rows = Vec::new(alloc);

@@ -11,12 +11,13 @@ use crate::atom::Atom;
 use crate::place::{Partition, Place};
 use crate::rows_and_paths::alive_paths;
 use crate::winners::live_winner;
+use cas_bounds::Values;
 use cas_cell::{Liveness, live_alive};
-use cas_types::{Bytes, Column, Kind, List};
+use cas_types::{Column, Kind};
 use std::alloc::{AllocError, Global};
 
 // Whether the row has columns of that kind.
-fn has_kind(row: Option<&List<Bytes>>, kind: Kind) -> bool
+fn has_kind(row: Option<&Values>, kind: Kind) -> bool
     ensures { result ≡ has_kind (row_key (option_copied row.entry)) kind }
 {
     match row {
@@ -102,7 +103,7 @@ pub fn is_shown(
     alloc: Global,
     partition: Partition<'_>,
     columns: &[Column],
-    values: &List<Bytes>,
+    values: &Values,
 ) -> Result<bool, AllocError>
     requires { AreNumbered columns.now }
     ensures { IfOk result (λ b. b ≡ is_shown partition.entry.atoms.now partition.entry.now columns.now values.now) }

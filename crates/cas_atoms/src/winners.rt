@@ -13,8 +13,8 @@ ghost use Rattle.cas_atoms.specs.Winners.{cover, standing, live_winner, cell_win
 use crate::atom::Atom;
 use crate::coordinates::{cell_at_path, deletion_at_path, deletion_at_row, live_at_row};
 use crate::place::Place;
+use cas_bounds::Values;
 use cas_cell::{Cell, Deletion, Liveness, covers, del_wins, live_wins, wins};
-use cas_types::{Bytes, List};
 
 /// The greater of two deletions, where there are two.
 pub fn greater_deletion(a: Option<Deletion>, b: Option<Deletion>) -> Option<Deletion>
@@ -68,7 +68,7 @@ fn standing_cell(over: Option<Deletion>, cell: Option<&Cell>) -> Option<&Cell>
 }
 
 // The greatest deletion that has the row's own place in its scope.
-fn row_cover(atoms: &[Atom], values: &List<Bytes>) -> Option<Deletion>
+fn row_cover(atoms: &[Atom], values: &Values) -> Option<Deletion>
     ensures { result ≡ cover atoms.now (row values.now) }
 {
     let mut best = None;
@@ -90,7 +90,7 @@ fn path_cover(atoms: &[Atom], place: Place<'_>, bytes: &[u8]) -> Option<Deletion
 }
 
 /// What tells that a row lives: the greatest liveness at it that isn't covered.
-pub(crate) fn live_winner(atoms: &[Atom], values: &List<Bytes>) -> Option<Liveness>
+pub(crate) fn live_winner(atoms: &[Atom], values: &Values) -> Option<Liveness>
     ensures { result ≡ live_winner atoms.now values.now }
 {
     let over = row_cover(atoms, values);

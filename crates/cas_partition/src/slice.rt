@@ -16,7 +16,7 @@ ghost use Rattle.cas_streams.specs.declared.fragment.Fragment.TheVariants as fra
 use crate::partition::Partition;
 use crate::spot::{Content, Spot};
 use cas_atoms::{ColumnRef, PathCell, Row, RowColumn};
-use cas_bounds::{Clustering, End, MapKey, RowOrder, Slice, compare_points};
+use cas_bounds::{Clustering, End, MapKey, RowOrder, Slice, Values, compare_points};
 use cas_cell::Cell;
 use cas_merge::{Merger, compare_fragments, joined_fragment};
 use cas_streams::{Fragment, FragmentSource, Part};
@@ -124,7 +124,7 @@ fn further(alloc: Global, spot: &Spot, content: &Content) -> Result<Fragment, Al
     ensures { IfOk result (λ g. (f : Fragment) → joined_fragment f g ≡ joined_fragment f (said spot.now content.now)) }
 {
     let nowhere = Clustering {
-        values: List::from_vec(Vec::new(alloc)),
+        values: Values::from_vec(Vec::new(alloc)),
         order: RowOrder::from_vec(Vec::new(alloc)),
     };
     Ok(Fragment::Row(piece_at(alloc, nowhere, spot, content)?))
@@ -402,7 +402,7 @@ fn rows_in(
     ensures sorted { OnOk result (IsStrictlySortedBy spot_cmp (keys_of spots.now.entries)) }
 {
     let first = at(MapKey {
-        values: List::from_vec(Vec::new(alloc)),
+        values: Values::from_vec(Vec::new(alloc)),
         end: End::Before,
         order: RowOrder::from_vec(Vec::new(alloc)),
     });

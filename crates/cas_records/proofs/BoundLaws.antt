@@ -62,6 +62,21 @@ pub values_fault : (front : List (List ℕ)) (o : Ordered) (os : List Ordered) (
 unfolding after_values values_at
 values_fault front o os left f e = rw e refl
 
+-- of a sole column, which the reader looked up, the value is read
+pub sole_value : (order : List Ordered) (d : Ordered) (v : List ℕ) (left after : Left) → 1 ≤ length order → length order < 2
+    → value_at (get_or order 0 d).tag left ≡ Ok (v, after) → values_at order left ≡ Ok (v ∷ [], after)
+unfolding values_at
+sole_value [] d v left after some few e = absurd (omega arith)
+sole_value (o ∷ []) d v left after some few e = rw e refl
+sole_value (o ∷ p ∷ os) d v left after some few e = absurd (omega arith)
+
+pub sole_fault : (order : List Ordered) (d : Ordered) (left : Left) (f : ReadFault) → 1 ≤ length order → length order < 2
+    → value_at (get_or order 0 d).tag left ≡ Err f → values_at order left ≡ Err f
+unfolding values_at
+sole_fault [] d left f some few e = absurd (omega arith)
+sole_fault (o ∷ []) d left f some few e = rw e refl
+sole_fault (o ∷ p ∷ os) d left f some few e = absurd (omega arith)
+
 pub values_from_none : (read : Read (List (List ℕ))) → after_values [] read ≡ read
 unfolding after_values
 values_from_none (Ok r) = refl
@@ -247,38 +262,23 @@ cut_long c =
 
 -- ---- what a reader of a place and of a cut comes by
 
-pub clustering_read : (order : List Ordered) (left mid after : Left) (count : ℕ) (values : List (List ℕ))
-    → checked (is_in_range (length order) (length order)) u8_at left ≡ Ok (count, mid) → after_values [] (values_at order mid) ≡ Ok (values, after)
-    → clustering_at order left ≡ Ok (made_clustering order values, after)
-unfolding clustering_at made_clustering
-clustering_read order left mid after count values e f = rw (e, sym (values_from_none (values_at order mid)) ∙ f) refl
-
-pub cut_read : (order : List Ordered) (left flagged mid after : Left) (side : Bool) (count : ℕ) (prefix : List (List ℕ))
-    → flag_at left ≡ Ok (side, flagged) → checked (is_in_range 0 (length order)) u8_at flagged ≡ Ok (count, mid)
-    → after_values [] (values_at (take count order) mid) ≡ Ok (prefix, after)
-    → cut_at order left ≡ Ok (made_cut order side prefix, after)
-unfolding cut_at made_cut
-cut_read order left flagged mid after side count prefix d e f = rw (d, e, sym (values_from_none (values_at (take count order) mid)) ∙ f) refl
-
-pub clustering_answer : (order slice copy : List Ordered) (n m count : ℕ) (left mid after : Left) (front values items : List (List ℕ))
-    → n ≡ length order → m ≡ length order → slice ≡ order → front ≡ [] → values ≡ items → copy ≡ order
-    → checked (is_in_range n m) u8_at left ≡ Ok (count, mid) → after_values front (values_at slice mid) ≡ Ok (items, after)
+pub clustering_answer : (order slice copy : List Ordered) (n m count : ℕ) (left mid after : Left) (values : List (List ℕ))
+    → n ≡ length order → m ≡ length order → slice ≡ order → copy ≡ order
+    → checked (is_in_range n m) u8_at left ≡ Ok (count, mid) → values_at slice mid ≡ Ok (values, after)
     → clustering_at order left ≡ Ok (record { values = values; order = copy }, after)
-unfolding made_clustering
-clustering_answer order slice copy n m count left mid after front values items n-is m-is slice-is front-is values-is copy-is e f =
+unfolding clustering_at made_clustering
+clustering_answer order slice copy n m count left mid after values n-is m-is slice-is copy-is e f =
     let least = subst (λ (k : ℕ). checked (is_in_range k m) u8_at left ≡ done (count, mid)) n-is e in
     let counted = subst (λ (k : ℕ). checked (is_in_range (length order) k) u8_at left ≡ done (count, mid)) m-is least in
-    let sliced = subst (λ (s : List Ordered). after_values front (values_at s mid) ≡ done (items, after)) slice-is f in
-    let fronted = subst (λ (w : List (List ℕ)). after_values w (values_at order mid) ≡ done (items, after)) front-is sliced in
-    rw (values-is, copy-is) (clustering_read order left mid after count items counted fronted)
+    let sliced = subst (λ (s : List Ordered). values_at s mid ≡ done (values, after)) slice-is f in
+    rw (copy-is, counted, sliced) refl
 
-pub cut_answer : (order slice copy : List Ordered) (n count : ℕ) (left flagged mid after : Left) (side : Bool) (front values items : List (List ℕ))
-    → n ≡ length order → slice ≡ order → front ≡ [] → values ≡ items → copy ≡ order → flag_at left ≡ Ok (side, flagged)
-    → checked (is_in_range 0 n) u8_at flagged ≡ Ok (count, mid) → after_values front (values_at (take count slice) mid) ≡ Ok (items, after)
+pub cut_answer : (order slice copy : List Ordered) (n count : ℕ) (left flagged mid after : Left) (side : Bool) (values : List (List ℕ))
+    → n ≡ length order → slice ≡ order → copy ≡ order → flag_at left ≡ Ok (side, flagged)
+    → checked (is_in_range 0 n) u8_at flagged ≡ Ok (count, mid) → values_at (take count slice) mid ≡ Ok (values, after)
     → cut_at order left ≡ Ok (record { prefix = values; after = side; order = copy }, after)
-unfolding made_cut
-cut_answer order slice copy n count left flagged mid after side front values items n-is slice-is front-is values-is copy-is d e f =
+unfolding cut_at made_cut
+cut_answer order slice copy n count left flagged mid after side values n-is slice-is copy-is d e f =
     let counted = subst (λ (m : ℕ). checked (is_in_range 0 m) u8_at flagged ≡ done (count, mid)) n-is e in
-    let sliced = subst (λ (s : List Ordered). after_values front (values_at (take count s) mid) ≡ done (items, after)) slice-is f in
-    let fronted = subst (λ (w : List (List ℕ)). after_values w (values_at (take count order) mid) ≡ done (items, after)) front-is sliced in
-    rw (values-is, copy-is) (cut_read order left flagged mid after side count items d counted fronted)
+    let sliced = subst (λ (s : List Ordered). values_at (take count s) mid ≡ done (values, after)) slice-is f in
+    rw (copy-is, d, counted, sliced) refl

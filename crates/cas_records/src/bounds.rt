@@ -11,9 +11,9 @@ ghost use Rattle.cas_records.specs.Spelling.{values_bytes, clustering_bytes, cut
 ghost use Rattle.cas_records.specs.Reading.{value_at, values_at, clustering_at, cut_at};
 ghost use Rattle.cas_records.specs.Inner.Values.{after_values};
 
-use cas_bounds::{Clustering, Cut, Ordered, RowOrder};
+use cas_bounds::{Clustering, Cut, Ordered, RowOrder, Values};
 use cas_codec::{ReadFault, Reader, put_bytes16, put_flag, put_u8};
-use cas_types::{Bytes, List, Mem, TypeTag, check};
+use cas_types::{Bytes, Mem, TypeTag, check};
 use std::alloc::Global;
 
 // A value of the type.
@@ -49,6 +49,21 @@ fn read_values(
     }
 }
 
+// A value of each of the columns. A sole one takes no memory of its own.
+#[tactic(auto, using(crate::proofs::BoundLaws::sole_value, crate::proofs::BoundLaws::sole_fault, crate::proofs::BoundLaws::values_from_none))]
+fn read_each(alloc: Global, reader: &mut Reader<'_>, order: &[Ordered]) -> Result<Values, ReadFault>
+    ensures { Gives (λ values. values) result reader.new (values_at order.now reader.old) }
+{
+    match order {
+        [sole] => Ok(Values::one(read_value(alloc, reader, sole.tag)?)),
+        _ => {
+            let mut values = Vec::with_capacity(alloc, order.len())?;
+            read_values(alloc, reader, order, &mut values)?;
+            Ok(Values::from_vec(values))
+        }
+    }
+}
+
 // How many values there are, from least to greatest.
 #[tactic(auto, unfolding(cas_codec::specs::Reading::checked))]
 fn read_count(reader: &mut Reader<'_>, least: usize, greatest: usize) -> Result<u8, ReadFault>
@@ -64,7 +79,7 @@ fn read_count(reader: &mut Reader<'_>, least: usize, greatest: usize) -> Result<
 }
 
 /// Reads the place of a row of a table of this order.
-#[tactic(auto, using(crate::proofs::BoundLaws::values_from_none), unfolding(crate::specs::Reading::clustering_at))]
+#[tactic(auto, unfolding(crate::specs::Reading::clustering_at))]
 pub fn read_clustering(
     alloc: Global,
     reader: &mut Reader<'_>,
@@ -73,31 +88,24 @@ pub fn read_clustering(
     ensures { Gives (λ c. c) result reader.new (clustering_at order.now reader.old) }
 {
     read_count(reader, order.len(), order.len())?;
-    let mut values = Vec::with_capacity(alloc, order.len())?;
-    read_values(alloc, reader, order.as_slice(), &mut values)?;
+    let values = read_each(alloc, reader, order.as_slice())?;
     Ok(Clustering {
-        values: List::from_vec(values),
+        values,
         order: order.clone()?,
     })
 }
 
 /// Reads a cut between the rows of a table of this order.
-#[tactic(auto, using(crate::proofs::BoundLaws::values_from_none), unfolding(crate::specs::Reading::cut_at))]
+#[tactic(auto, unfolding(crate::specs::Reading::cut_at))]
 pub fn read_cut(alloc: Global, reader: &mut Reader<'_>, order: &RowOrder) -> Result<Cut, ReadFault>
     ensures exact { Gives (λ c. c) result reader.new (cut_at order.now reader.old) }
     ensures order { IfOk result (λ c. c.order ≡ order.now) }
 {
     let after = reader.flag()?;
     let count = read_count(reader, 0, order.len())?;
-    let mut prefix = Vec::with_capacity(alloc, count as usize)?;
-    read_values(
-        alloc,
-        reader,
-        &order.as_slice()[..count as usize],
-        &mut prefix,
-    )?;
+    let prefix = read_each(alloc, reader, &order.as_slice()[..count as usize])?;
     Ok(Cut {
-        prefix: List::from_vec(prefix),
+        prefix,
         after,
         order: order.clone()?,
     })

@@ -1,10 +1,10 @@
 //! The order of rows and cuts, and what lies between two cuts, by hand.
 
 use cas_bounds::{
-    Clustering, Cut, MapKey, Ordered, RowOrder, Slice, cmp_cut, compare_values, cut_orders,
+    Clustering, Cut, MapKey, Ordered, RowOrder, Slice, Values, cmp_cut, compare_values, cut_orders,
     cuts_divide_rows, inside, own_places, row_orders,
 };
-use cas_types::{Bytes, List, TypeTag};
+use cas_types::{Bytes, TypeTag};
 use std::alloc::Global;
 use std::cmp::Ordering;
 
@@ -42,14 +42,14 @@ fn order(alloc: Global) -> Option<RowOrder> {
     Some(RowOrder::from_vec(order))
 }
 
-fn values(alloc: Global, line: &str) -> Option<List<Bytes>> {
+fn values(alloc: Global, line: &str) -> Option<Values> {
     let mut values = Vec::new(alloc);
     for word in line.split(' ').skip(1) {
         let number: i32 = word.parse().ok()?;
         let value = Bytes::copy_of(alloc, &number.to_be_bytes()).ok()?;
         values.push(value).ok()?;
     }
-    Some(List::from_vec(values))
+    Some(Values::from_vec(values))
 }
 
 fn cut(alloc: Global, line: &str) -> Option<Cut> {
@@ -96,7 +96,7 @@ fn order_of_rows(alloc: Global, a: &str, b: &str) -> Option<Ordering> {
 // One of the partition's ends.
 fn end(alloc: Global, after: bool) -> Cut {
     Cut {
-        prefix: List::from_vec(Vec::new(alloc)),
+        prefix: Values::from_vec(Vec::new(alloc)),
         after,
         order: RowOrder::from_vec(Vec::new(alloc)),
     }

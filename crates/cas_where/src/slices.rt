@@ -8,10 +8,10 @@ ghost use Rattle.cas_types.specs.Schemas.{is_descending};
 ghost use Rattle.cas_where.specs.Slices.{is_at, bound_value, cut, cut_by, cut_at, slice_with, slice_of};
 
 use crate::operators::{is_lower, is_strict, is_upper};
-use cas_bounds::{Cut, RowOrder, Slice, clustering_order};
+use cas_bounds::{Cut, RowOrder, Slice, Values, clustering_order};
 use cas_keys::{KeyTerms, first_missing, prefix_values};
 use cas_terms::{push_some, same_name, term_value};
-use cas_types::{Bytes, Column, List};
+use cas_types::Column;
 use cql_parse::{Operator, Relation};
 use std::alloc::{AllocError, Global};
 
@@ -37,7 +37,7 @@ fn first_bound<'a>(is_end: bool, relations: &'a [Relation], column: &Column) -> 
     })
 }
 
-fn cut(order: &RowOrder, prefix: &List<Bytes>, after: bool) -> Result<Cut, AllocError>
+fn cut(order: &RowOrder, prefix: &Values, after: bool) -> Result<Cut, AllocError>
     ensures { IfOk result (λ c. c ≡ cut order.now prefix.now after) }
 {
     Ok(Cut {
@@ -49,21 +49,21 @@ fn cut(order: &RowOrder, prefix: &List<Bytes>, after: bool) -> Result<Cut, Alloc
 
 fn longer_prefix(
     alloc: Global,
-    prefix: &List<Bytes>,
+    prefix: &Values,
     column: &Column,
     relation: &Relation,
-) -> Result<List<Bytes>, AllocError>
+) -> Result<Values, AllocError>
     ensures { IfOk result (λ p. p ≡ prefix.now ++ bound_value column.now relation.now) }
 {
-    let mut longer = prefix.clone()?.into_vec();
+    let mut longer = prefix.as_slice().to_vec(alloc)?;
     push_some(&mut longer, term_value(alloc, column.tag, &relation.value)?)?;
-    Ok(List::from_vec(longer))
+    Ok(Values::from_vec(longer))
 }
 
 fn cut_by(
     alloc: Global,
     order: &RowOrder,
-    prefix: &List<Bytes>,
+    prefix: &Values,
     column: &Column,
     is_end: bool,
     bound: Option<&Relation>,
@@ -91,7 +91,7 @@ fn cut_at(
     is_end: bool,
     order: &RowOrder,
     relations: &[Relation],
-    prefix: &List<Bytes>,
+    prefix: &Values,
     column: &Column,
 ) -> Result<Cut, AllocError>
     ensures { IfOk result (λ c. c ≡ cut_at is_end order.now relations.now prefix.now column.now) }
@@ -104,7 +104,7 @@ fn slice_with(
     alloc: Global,
     order: &RowOrder,
     relations: &[Relation],
-    prefix: &List<Bytes>,
+    prefix: &Values,
     column: Option<&Column>,
 ) -> Result<Slice, AllocError>
     ensures { IfOk result (λ s. s ≡ slice_with order.now relations.now prefix.now (option_copied column.entry)) }
@@ -132,7 +132,7 @@ pub fn slice_of(
 {
     let terms = KeyTerms::Where(relations);
     let order = clustering_order(alloc, columns)?;
-    let prefix = List::from_vec(prefix_values(alloc, terms, columns)?);
+    let prefix = Values::from_vec(prefix_values(alloc, terms, columns)?);
     slice_with(
         alloc,
         &order,

@@ -10,7 +10,7 @@ ghost use Rattle.cas_mentions.specs.Inner.Borrowed.{change_in};
 ghost use Rattle.cas_mentions.specs.Mentions.{assigns, deletes, inserted, changes_of};
 ghost use Rattle.cas_reasons.specs.Statements.{key_terms_of};
 
-use cas_bounds::{Clustering, clustering_order};
+use cas_bounds::{Clustering, Values, clustering_order};
 use cas_effects::Effect;
 use cas_reasons::{RowChange, inserts_static, key_terms_of};
 use cas_terms::{
@@ -34,7 +34,7 @@ pub(crate) fn clustered_row(
     ensures { IfOk result (λ r. r ≡ clustered_row (terms_of terms.entry) columns.now) }
 {
     Ok(Clustering {
-        values: List::from_vec(prefix_values(alloc, terms, columns)?),
+        values: Values::from_vec(prefix_values(alloc, terms, columns)?),
         order: clustering_order(alloc, columns)?,
     })
 }

@@ -1,7 +1,7 @@
 //! Statements on the table `k tinyint, c tinyint, v tinyint, s tinyint static, PRIMARY KEY (k, c)`.
 
 use cas_atoms::{Atom, ColumnRef, Mutation};
-use cas_bounds::{Clustering, Cut, Ordered, RowOrder, Slice};
+use cas_bounds::{Clustering, Cut, Ordered, RowOrder, Slice, Values};
 use cas_cell::{Cell, Deletion, Liveness};
 use cas_types::{Bytes, List, TypeTag};
 use std::alloc::{AllocError, Global};
@@ -30,8 +30,8 @@ fn order(alloc: Global) -> Result<RowOrder, AllocError> {
     ]?))
 }
 
-fn values(alloc: Global, c: u8) -> Result<List<Bytes>, AllocError> {
-    Ok(List::from_vec(vec![in alloc; Bytes::copy_of(alloc, &[c])?]?))
+fn values(alloc: Global, c: u8) -> Result<Values, AllocError> {
+    Ok(Values::one(Bytes::copy_of(alloc, &[c])?))
 }
 
 fn place(alloc: Global, c: u8) -> Result<Clustering, AllocError> {
@@ -51,7 +51,7 @@ fn cut(alloc: Global, c: u8, after: bool) -> Result<Cut, AllocError> {
 
 fn end(alloc: Global, after: bool) -> Result<Cut, AllocError> {
     Ok(Cut {
-        prefix: List::from_vec(Vec::new(alloc)),
+        prefix: Values::from_vec(Vec::new(alloc)),
         after,
         order: order(alloc)?,
     })

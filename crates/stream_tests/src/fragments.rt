@@ -1,7 +1,7 @@
 //! Fragments of a table `k tinyint, c tinyint`, by hand.
 
 use cas_atoms::Row;
-use cas_bounds::{Clustering, Cut, Ordered, RowOrder};
+use cas_bounds::{Clustering, Cut, Ordered, RowOrder, Values};
 use cas_cell::{Deletion, Liveness};
 use cas_streams::Fragment;
 use cas_types::{Bytes, List, TypeTag};
@@ -17,8 +17,8 @@ pub(crate) fn order(alloc: Global) -> Result<RowOrder, AllocError> {
     ]?))
 }
 
-pub(crate) fn values(alloc: Global, value: u8) -> Result<List<Bytes>, AllocError> {
-    Ok(List::from_vec(vec![in alloc; Bytes::copy_of(alloc, &[value])?]?))
+pub(crate) fn values(alloc: Global, value: u8) -> Result<Values, AllocError> {
+    Ok(Values::one(Bytes::copy_of(alloc, &[value])?))
 }
 
 // The row of that value, which an INSERT of that timestamp left alive.
@@ -49,7 +49,7 @@ pub(crate) fn marker(
     Ok(Fragment::Marker(cut, at.map(|at| Deletion { at, second: 0 })))
 }
 
-pub(crate) fn first_byte(values: &List<Bytes>) -> u8 {
+pub(crate) fn first_byte(values: &Values) -> u8 {
     match values.as_slice() {
         [value, ..] => value.as_slice().first().copied().unwrap_or(0),
         [] => 0,

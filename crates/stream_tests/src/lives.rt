@@ -2,7 +2,7 @@
 
 use crate::fragments::{marker, order, row, values};
 use cas_atoms::{ColumnRef, Datum, LiveRow, PathCell, Pick, Query, RowColumn};
-use cas_bounds::{Cut, Slice};
+use cas_bounds::{Cut, Slice, Values};
 use cas_cell::Cell;
 use cas_live::LiveRows;
 use cas_streams::{Fragment, FragmentSource, Part};
@@ -32,7 +32,7 @@ fn columns(alloc: Global) -> Result<List<Column>, AllocError> {
 // Where the slice begins: before the row of that value, or of the partition.
 fn lower(alloc: Global, least: Option<u8>) -> Result<Cut, AllocError> {
     let prefix = match least {
-        None => List::from_vec(Vec::new(alloc)),
+        None => Values::from_vec(Vec::new(alloc)),
         Some(c) => values(alloc, c)?,
     };
     Ok(Cut {
@@ -44,7 +44,7 @@ fn lower(alloc: Global, least: Option<u8>) -> Result<Cut, AllocError> {
 
 fn upper(alloc: Global) -> Result<Cut, AllocError> {
     Ok(Cut {
-        prefix: List::from_vec(Vec::new(alloc)),
+        prefix: Values::from_vec(Vec::new(alloc)),
         after: true,
         order: order(alloc)?,
     })

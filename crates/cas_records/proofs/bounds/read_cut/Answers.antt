@@ -6,6 +6,5 @@ returns-clause-order c = c.in_ok-clone.ensures.cases
 
 pub returns-clause-exact : goal.returns-clause-exact
 returns-clause-exact c =
-    cut_answer c.args.order.now _ _ _ _ _ _ _ _ _ _ _ _ c.len.ensures c.as_slice.ensures c.in_ok-prefix.ensures.items c.from_vec.ensures
-    c.in_ok-clone.ensures.cases
-    c.in_ok-after.ensures.exact c.in_ok-count.ensures.exact c.in_ok-read_values.ensures
+    cut_answer c.args.order.now _ _ _ _ _ _ _ _ _ _ c.len.ensures c.as_slice.ensures c.in_ok-clone.ensures.cases
+    c.in_ok-after.ensures.exact c.in_ok-count.ensures.exact c.in_ok-prefix.ensures
