@@ -41,7 +41,7 @@ use Rattle.cas_streams.proofs.Weaves.{all_so, all_of}
 use Rattle.cas_streams.proofs.Forces.{places_total, stopped}
 use Rattle.cas_streams.proofs.Rows.{rows_say_all}
 use Rattle.cas_streams.proofs.Settling.{stopped_by_row}
-use Rattle.cas_streams.proofs.Merges.{merge_is_join, merge_ordered}
+use Rattle.cas_streams.proofs.Merges.{merge_is_join, merge_forces, merge_ordered}
 use Rattle.cas_streams.proofs.NoMore.{merge_says_no_more}
 
 -- ---- a row, and fragments that stand before or behind it
@@ -168,6 +168,7 @@ module _ {Y : Type 0} {cmp : Y → Y → Ordering} {at : Y → ℤ} (o : Orders 
 pub merge_invents_nothing : MergeInventsNothing
 merge_invents_nothing = record {
   says = λ order ss all. merge_says_no_more order ss all;
+  forces = λ order ss all r d h. merge_forces order ss all r d h;
   covers = λ order ss all x d h. Gives-greatest deletion_cmp (deletion_at x) (flats ss) d (sym ((merge_is_join order ss all).covers x) ∙ h);
 }
 

@@ -121,7 +121,7 @@ module _ {order : List Ordered} (a b : Stream) (p : IsOrdered order a.fragments)
         ∙ (λ i. greater deletion_cmp (p.closed i) (q.closed i));
   }
 
-  force_joins : (r : RowKey) → in_force (joined a b).fragments r ≡ greater deletion_cmp (in_force a.fragments r) (in_force b.fragments r)
+  pub force_joins : (r : RowKey) → in_force (joined a b).fragments r ≡ greater deletion_cmp (in_force a.fragments r) (in_force b.fragments r)
   force_joins static_row = refl
   force_joins (clustered c) = woven_after order (λ cut. is_past cut c) (past_falls order c) (at_points order (λ cut. is_past cut c)) None None a.fragments b.fragments (in_order p) (in_order q)
 

@@ -1,23 +1,28 @@
 -- The merge says what all streams say.
-use Rattle.std.proofs.Common.{◌≡◌, List, [], ◌∷◌, ◌++◌, fold, refl, sym, ◌∙◌, append_assoc, subst}
+use Rattle.std.proofs.Common.{◌≡◌, Option, None, Some, List, [], ◌∷◌, ◌++◌, fold, inl, inr, refl, sym, ◌∙◌, append_assoc, subst}
 use Rattle.std.specs.List.{AllByRecursion}
 use Rattle.std.specs.List.Sorted.{IsStrictlySortedBy}
+use Rattle.cas_cell.specs.Deletions.{deletion_cmp}
+use Rattle.cas_cell.specs.declared.deletion.Deletion.{Deletion}
 use Rattle.cas_cell.specs.Lives.{live_cmp}
 use Rattle.cas_cell.specs.Cells.{cell_cmp}
 use Rattle.cas_cell.proofs.OrderLaws.{deletion_laws, live_laws, cell_laws}
 use Rattle.cas_bounds.specs.declared.order.Ordered.{Ordered}
 use Rattle.cas_atoms.specs.Greatest.{greatest}
-use Rattle.cas_atoms.specs.Coordinates.{live_at_row, cell_at_path}
+use Rattle.cas_atoms.specs.Coordinates.{RowKey, clustered, static_row, live_at_row, cell_at_path}
 use Rattle.cas_atoms.specs.Winners.{cover, Same}
 use Rattle.cas_atoms.specs.declared.atom.Atom.{Atom}
 use Rattle.cas_atoms.proofs.GreatestLemmas.{greater_comm, greatest-append}
+use Rattle.cas_laws.specs.Given.{Gives}
+use Rattle.cas_laws.proofs.GreatestProofs.{no_none, either_greater}
 use Rattle.cas_laws.proofs.JoinProofs.{cover_joins}
+use Rattle.cas_streams.specs.Flat.{in_force}
 use Rattle.cas_streams.specs.Streams.{IsOrdered}
 use Rattle.cas_streams.specs.Joined.{Stream}
 use Rattle.cas_streams.specs.Merged.{Draw, nobody, one, pair, entered, draw, joined_all, merged, flat_of, flats}
 use Rattle.cas_streams.specs.Laws.{MergeIsJoin}
-use Rattle.cas_streams.proofs.Joining.{Alike, alike_then, alike_both, alike_same, joined_ordered, joined_alike}
-use Rattle.cas_streams.proofs.Settling.{settled_ordered, settled_same}
+use Rattle.cas_streams.proofs.Joining.{Alike, alike_then, alike_both, alike_same, joined_ordered, force_joins, joined_alike}
+use Rattle.cas_streams.proofs.Settling.{settled_ordered, settled_force, settled_same}
 
 alike_itself : (A : List Atom) → Alike A A
 alike_itself A = record { covers = λ x. refl; lives = λ c. refl; cells = λ x. refl }
@@ -103,3 +108,37 @@ merge_is_join order ss all =
 
 pub merge_ordered : (order : List Ordered) (ss : List Stream) → AllByRecursion (λ s. IsOrdered order s.fragments) ss → IsOrdered order (merged ss).fragments
 merge_ordered order ss all = settled_ordered (joined_all (draw ss)) (all_ordered order (draw ss) (all_drawn (λ s. IsOrdered order s.fragments) ss all))
+
+-- ---- what is in force in a merge is so in one of its streams
+
+module _ (order : List Ordered) (r : RowKey) (F : Deletion → Type 0) where
+  abbrev In : Stream → Type 0
+  In s = (d : Deletion) → in_force s.fragments r ≡ Some d → F d
+
+  drawn_in : (d : Draw) → Drawn order d → Each In d → In (joined_all d)
+  drawn_in nobody o a d e = no_none d (sym (no_force r) ∙ e)
+    where
+      no_force : (r : RowKey) → in_force [] r ≡ None
+      no_force static_row = refl
+      no_force (clustered c) = refl
+  drawn_in (one s) o a d e = a d e
+  drawn_in (pair l k) o a d e =
+      let left : Option Deletion = in_force (joined_all l).fragments r in
+      let right : Option Deletion = in_force (joined_all k).fragments r in
+      elim (either_greater deletion_cmp left right d (sym (force_joins (joined_all l) (joined_all k) (all_ordered order l o.0) (all_ordered order k o.1) r) ∙ e)) [
+        | inl first ↦ drawn_in l o.0 a.0 d first
+        | inr last ↦ drawn_in k o.1 a.1 d last
+      ]
+
+each_in : (r : RowKey) (F : Deletion → Type 0) (ss : List Stream) → ((d : Deletion) → Gives (λ s. in_force s.fragments r) ss d → F d)
+    → AllByRecursion (λ s. (d : Deletion) → in_force s.fragments r ≡ Some d → F d) ss
+each_in r F [] h = tt
+each_in r F (s ∷ ss) h = (λ d e. h d (inl e), each_in r F ss (λ d g. h d (inr g)))
+
+pub merge_forces : (order : List Ordered) (ss : List Stream) → AllByRecursion (λ s. IsOrdered order s.fragments) ss → (r : RowKey) (d : Deletion)
+    → in_force (merged ss).fragments r ≡ Some d → Gives (λ s. in_force s.fragments r) ss d
+merge_forces order ss all r d e =
+    let F : Deletion → Type 0 = Gives (λ s. in_force s.fragments r) ss in
+    let drawn : Each (λ s. IsOrdered order s.fragments) (draw ss) = all_drawn (λ s. IsOrdered order s.fragments) ss all in
+    drawn_in order r F (draw ss) drawn (all_drawn (In order r F) ss (each_in r F ss (λ d g. g))) d
+    (sym (settled_force (joined_all (draw ss)) (all_ordered order (draw ss) drawn) r) ∙ e)

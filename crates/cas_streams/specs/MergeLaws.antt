@@ -17,7 +17,7 @@ use Rattle.cas_atoms.specs.declared.atom.Atom.TheVariants.{PartitionDeletion, Li
 use Rattle.cas_laws.specs.Given.{Gives, Has}
 use Rattle.cas_laws.specs.Inside.{SameWhere}
 use Rattle.cas_streams.specs.Places.{Place, place_of, place_cmp, row_in}
-use Rattle.cas_streams.specs.Flat.{atom_of, own, changes, at_end, reaching}
+use Rattle.cas_streams.specs.Flat.{atom_of, own, changes, at_end, reaching, in_force}
 use Rattle.cas_streams.specs.Streams.{IsOrdered}
 use Rattle.cas_streams.specs.Joined.{Stream}
 use Rattle.cas_streams.specs.Merged.{merged, flat_of, flats, IsMerged}
@@ -54,9 +54,11 @@ pub record MergeByPlaces : Type 0 where
 
 -- ---- nothing is invented
 
--- a merge says no more than its streams, and what covers in it, one of them has
+-- a merge says no more than its streams; which range deletion is in force at a row in it, is so in one of them, and what covers in it, one of them has
 pub record MergeInventsNothing : Type 0 where
   pub says : (order : List Ordered) (ss : List Stream) → AllByRecursion (λ s. IsOrdered order s.fragments) ss → SaysNoMore (flat_of (merged ss)) (flats ss)
+  pub forces : (order : List Ordered) (ss : List Stream) → AllByRecursion (λ s. IsOrdered order s.fragments) ss → (r : RowKey) (d : Deletion)
+      → in_force (merged ss).fragments r ≡ Some d → Gives (λ s. in_force s.fragments r) ss d
   pub covers : (order : List Ordered) (ss : List Stream) → AllByRecursion (λ s. IsOrdered order s.fragments) ss → (x : Coordinate) (d : Deletion)
       → cover (flat_of (merged ss)) x ≡ Some d → Gives (deletion_at x) (flats ss) d
 
