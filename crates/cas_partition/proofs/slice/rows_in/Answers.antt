@@ -1,4 +1,4 @@
-use Rattle.std.proofs.Common.{◌≡◌, ◌++◌, map, ap, ◌∙◌, subst}
+use Rattle.std.proofs.Common.{◌≡◌, ◌++◌, map, Result, Ok, Err, OnOk, ap, ◌∙◌, subst}
 use Rattle.cas_bounds.specs.declared.map_key.End.TheVariants.{Before}
 use Rattle.cas_partition.specs.Ranges.{key_of}
 use Rattle.cas_partition.specs.Slices.{AreRowsOf}
@@ -22,3 +22,10 @@ returns-clause-rows c =
     (c.in_ok-add_below.ensures.added ∙ (λ i. map lent_piece (c.new-entries.ensures.items i) ++ map piece_of (spots_below (first i) es)))
     (c.in_ok-add_between.ensures ∙ (λ i. map lent_piece c.add_below.new.entries.items ++ map piece_of (spots_between (low i) (high i) es))) in
     if_ok_too c.rows_of.result _ _ (λ v are. subst (λ ps. AreRowsOf ps v.items) (ap (map lent_piece) c.deref.ensures.value ∙ gathered) are) c.rows_of.ensures
+
+whatever : {A E : Type 0} (r : Result A E) (P : Type 0) → P → OnOk r P
+whatever (Ok x) P p = p
+whatever (Err e) P p = tt
+
+pub returns-clause-sorted : goal.returns-clause-sorted
+returns-clause-sorted c = whatever c.rows_of.result _ c.in_ok-add_below.ensures.sorted
