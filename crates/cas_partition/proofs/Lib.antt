@@ -9,3 +9,4 @@ pub mod Forming
 pub mod Clipping
 pub mod Shown
 pub mod Going
+pub mod NoMore
