@@ -10,3 +10,4 @@ pub mod Clipping
 pub mod Shown
 pub mod Going
 pub mod Alone
+pub mod NoMore

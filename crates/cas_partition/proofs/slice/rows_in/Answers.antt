@@ -1,4 +1,4 @@
-use Rattle.std.proofs.Common.{◌≡◌, ◌++◌, map, Result, Ok, Err, OnOk, ap, ◌∙◌, subst}
+use Rattle.std.proofs.Common.{◌≡◌, ◌++◌, map, ap, ◌∙◌, subst}
 use Rattle.cas_bounds.specs.declared.map_key.End.TheVariants.{Before}
 use Rattle.cas_partition.specs.Ranges.{key_of}
 use Rattle.cas_partition.specs.Slices.{AreRowsOf}
