@@ -13,6 +13,8 @@ use Rattle.cas_bounds.specs.declared.order.Ordered.{Ordered}
 use Rattle.cas_atoms.specs.Winners.{Same}
 use Rattle.cas_atoms.specs.declared.atom.Atom.{Atom}
 use Rattle.cas_atoms.specs.declared.atom.Mutation.{Mutation}
+use Rattle.cas_streams.specs.NoMore.{SaysNoMore}
+use Rattle.cas_streams.proofs.NoMore.{no_more_itself}
 use Rattle.cas_partition.specs.Partitions.{partition_atoms, IsOf, HavePlaces, JoinsAll}
 use Rattle.cas_partition.specs.Partitions.{MakesPlaces as MakesIn, IsOfTable as IsPartitionOf}
 use Rattle.cas_partition.specs.declared.partition.Partition.{Partition}
@@ -120,11 +122,15 @@ at_key key q h before after puts =
 same_is : (A B : List Atom) → A ≡ B → Same A B
 same_is A B e = subst (Same A) e (record { covers = λ x. refl; lives = λ c. refl; cells = λ x. refl })
 
+no_more_is : (A B : List Atom) → A ≡ B → SaysNoMore A B
+no_more_is A B e = subst (SaysNoMore A) e (no_more_itself A)
+
 module _ {E : Type 0} (w : Mutation) (m n : MemPart) (mid : Look) (result : Result (Unit {0}) E) (kept : (q : List ℕ) → StaysOrBlank (held_at m q) (mid q)) (bytes : n.bytes ≡ m.bytes) where
   -- nothing but blank partitions came
   pub only_blank : ((q : List ℕ) → held_at n q ≡ mid q) → MakesPlaces w m n
   only_blank same = record {
     same = λ order of atoms q. same_is (atoms_of n q) (atoms_of m q) (ap atoms_held (same q) ∙ stays_atoms (held_at m q) (mid q) (kept q));
+    no_more = λ order of atoms q. no_more_is (atoms_of n q) (atoms_of m q) (ap atoms_held (same q) ∙ stays_atoms (held_at m q) (mid q) (kept q));
     of = λ order of atoms q g is. stays_fact (IsOf order) (λ h b. b.of order) (held_at m q) (mid q) (kept q) (of q) g (sym (same q) ∙ is);
     fits = λ columns t fit q g is. stays_fact (IsPartitionOf columns) (λ h b. b.table columns) (held_at m q) (mid q) (kept q) (t q) g (sym (same q) ∙ is);
     least = λ q. ap least_held (same q) ∙ stays_least (held_at m q) (mid q) (kept q);
@@ -158,6 +164,14 @@ module _ {E : Type 0} (w : Mutation) (m n : MemPart) (mid : Look) (result : Resu
                 subst (λ B. Same (atoms_of n q) B) (sym before) (subst (λ A. Same A (partition_atoms h.partition)) (sym (ap atoms_held hit.1)) (r.makes.same order (of_mid order of w.key h is) atoms))
             | inr miss ↦ same_is (atoms_of n q) (atoms_of m q) (ap atoms_held miss.1 ∙ stays_atoms (held_at m q) (mid q) (kept q))
           ];
+          no_more = λ order of atoms q. elim (at_key w.key q r.held mid (held_at n) r.puts) [
+            | inl hit ↦
+                let k : w.key ≡ q = equal_keys w.key q hit.0 in
+                let before : atoms_of m q ≡ partition_atoms h.partition = sym (stays_atoms (held_at m q) (mid q) (kept q)) ∙ ap (λ z. atoms_held (mid z)) (sym k) ∙ ap atoms_held is in
+                subst (λ B. SaysNoMore (atoms_of n q) B) (sym before)
+                (subst (λ A. SaysNoMore A (partition_atoms h.partition)) (sym (ap atoms_held hit.1)) (r.makes.no_more order (of_mid order of w.key h is) atoms))
+            | inr miss ↦ no_more_is (atoms_of n q) (atoms_of m q) (ap atoms_held miss.1 ∙ stays_atoms (held_at m q) (mid q) (kept q))
+          ];
           of = λ order of atoms q g e. elim (at_key w.key q r.held mid (held_at n) r.puts) [
             | inl hit ↦ subst (λ k. IsOf order k.partition) (ap (λ o. unwrap_or o g) (sym hit.1 ∙ e)) (r.makes.of order (of_mid order of w.key h is) atoms)
             | inr miss ↦ of_mid order of q g (sym miss.1 ∙ e)
@@ -188,6 +202,9 @@ joins_all w m n places applied bytes =
       joined = λ order of atoms.
           subst (λ B. Same (atoms_of n w.key) (B ++ w.atoms)) (sym (ap atoms_held is))
           (subst (λ A. Same A (partition_atoms h.partition ++ w.atoms)) (sym (ap atoms_held now)) (r.joins.joined order (of w.key h is) atoms));
+      no_more = λ order of atoms.
+          subst (λ B. SaysNoMore (atoms_of n w.key) (B ++ w.atoms)) (sym (ap atoms_held is))
+          (subst (λ A. SaysNoMore A (partition_atoms h.partition ++ w.atoms)) (sym (ap atoms_held now)) (r.joins.no_more order (of w.key h is) atoms));
       of = λ order of atoms q g e. elim (at_key w.key q r.held (held_at m) (held_at n) r.puts) [
         | inl hit ↦ subst (λ k. IsOf order k.partition) (ap (λ o. unwrap_or o g) (sym hit.1 ∙ e)) (r.joins.of order (of w.key h is) atoms)
         | inr miss ↦ of q g (sym miss.1 ∙ e)

@@ -13,6 +13,7 @@ use Rattle.cas_atoms.specs.Coordinates.{atom_at}
 use Rattle.cas_atoms.specs.LogLength.{record_length}
 use Rattle.cas_atoms.specs.declared.atom.Atom.{Atom}
 use Rattle.cas_atoms.specs.declared.atom.Mutation.{Mutation}
+use Rattle.cas_streams.specs.NoMore.{SaysNoMore}
 use Rattle.cas_streams.specs.declared.fragment.Fragment.{Fragment}
 use Rattle.cas_partition.specs.Slices.{Shows}
 use Rattle.cas_partition.specs.Partitions.{partition_atoms, IsOf, AreAtomsOf, AllFit, HavePlaces}
@@ -97,14 +98,17 @@ HasPlaces m w = PlacesIn (held_at m w.key) w.atoms
 -- place was made: no partition says more or less, whatever was made
 pub record MakesPlaces (w : Mutation) (m n : MemPart) : Type 0 where
   pub same : (order : List Ordered) → IsOfTable order m → AreAtomsOf order w.atoms → (key : List ℕ) → Same (atoms_of n key) (atoms_of m key)
+  pub no_more : (order : List Ordered) → IsOfTable order m → AreAtomsOf order w.atoms → (key : List ℕ) → SaysNoMore (atoms_of n key) (atoms_of m key)
   pub of : (order : List Ordered) → IsOfTable order m → AreAtomsOf order w.atoms → IsOfTable order n
   pub fits : (columns : List Column) → IsOfColumns columns m → AllFit columns w.atoms → IsOfColumns columns n
   pub least : (key : List ℕ) → least_of n key ≡ least_of m key
   pub bytes : n.bytes ≡ m.bytes
 
--- the mutation was joined: its partition says the same as before together with its atoms; the others say what they said
+-- the mutation was joined: its partition says the same as before together with its atoms, and each thing in it was said before or is one of them; the
+-- others say what they said
 pub record Joins (w : Mutation) (m n : MemPart) : Type 0 where
   pub joined : (order : List Ordered) → IsOfTable order m → AreAtomsOf order w.atoms → Same (atoms_of n w.key) (atoms_of m w.key ++ w.atoms)
+  pub no_more : (order : List Ordered) → IsOfTable order m → AreAtomsOf order w.atoms → SaysNoMore (atoms_of n w.key) (atoms_of m w.key ++ w.atoms)
   pub of : (order : List Ordered) → IsOfTable order m → AreAtomsOf order w.atoms → IsOfTable order n
   pub fits : (columns : List Column) → IsOfColumns columns m → AllFit columns w.atoms → IsOfColumns columns n
   pub least : least_of n w.key ≡ least_with (least_of m w.key) w.atoms
@@ -112,7 +116,7 @@ pub record Joins (w : Mutation) (m n : MemPart) : Type 0 where
   pub bytes : n.bytes ≡ bytes_with m.bytes w
 
 -- a source is given of a partition to which atoms were joined, and none of others: of those that tell what is to come, it shows what the partition
--- says in the slice
+-- says in the slice, and nowhere more than the partition says
 abbrev pub GivesPart : {M : Type 0} → Slice → Option Held → (M → Option (List Fragment)) → (M → Option Deletion) → Option M → Type 0
 GivesPart s held tells tops None = least_held held ≡ None
 GivesPart s None tells tops (Some m) = ⊥

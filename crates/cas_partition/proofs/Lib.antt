@@ -9,3 +9,5 @@ pub mod Forming
 pub mod Clipping
 pub mod Shown
 pub mod Going
+pub mod Alone
+pub mod NoMore

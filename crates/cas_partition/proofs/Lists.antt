@@ -6,6 +6,8 @@ use Rattle.cas_bounds.specs.declared.order.Ordered.{Ordered}
 use Rattle.cas_atoms.specs.Winners.{Same}
 use Rattle.cas_atoms.specs.declared.atom.Atom.{Atom}
 use Rattle.cas_laws.proofs.JoinProofs.{join_laws}
+use Rattle.cas_streams.specs.NoMore.{SaysNoMore}
+use Rattle.cas_streams.proofs.NoMore.{no_more_itself, no_more_then, no_more_kept}
 use Rattle.cas_partition.specs.Partitions.{partition_atoms, IsOf, HasPlace, MakesPlace, Joins, AreAtomsOf, IsOfTable, AllFit, HavePlaces, MakesPlaces, JoinsAll}
 use Rattle.cas_partition.specs.declared.partition.Partition.{Partition}
 
@@ -20,6 +22,7 @@ same_then a b = record { covers = λ x. a.covers x ∙ b.covers x; lives = λ c.
 -- place was made for some first atoms of the list, and is still to be made for the rest
 pub record Making (all rest : List Atom) (p q : Partition) : Type 0 where
   pub same : (order : List Ordered) → IsOf order p → AreAtomsOf order all → Same (partition_atoms q) (partition_atoms p)
+  pub no_more : (order : List Ordered) → IsOf order p → AreAtomsOf order all → SaysNoMore (partition_atoms q) (partition_atoms p)
   pub of : (order : List Ordered) → IsOf order p → AreAtomsOf order all → IsOf order q × AreAtomsOf order rest
   pub fits : (columns : List Column) → IsOfTable columns p → AllFit columns all → IsOfTable columns q × AllFit columns rest
   pub others : (b : Atom) → HasPlace p b → HasPlace q b
@@ -28,6 +31,7 @@ pub record Making (all rest : List Atom) (p q : Partition) : Type 0 where
 pub making : (all : List Atom) (p : Partition) → Making all all p p
 making all p = record {
   same = λ order of atoms. same_itself (partition_atoms p);
+  no_more = λ order of atoms. no_more_itself (partition_atoms p);
   of = λ order of atoms. (of, atoms);
   fits = λ columns t all_fit. (t, all_fit);
   others = λ b h. h;
@@ -37,6 +41,8 @@ making all p = record {
 pub one_made : (all : List Atom) (a : Atom) (rest : List Atom) (p q r : Partition) → Making all (a ∷ rest) p q → MakesPlace a q r → HasPlace r a → Making all rest p r
 one_made all a rest p q r m one there = record {
   same = λ order of atoms. let (now, left) = m.of order of atoms in same_then (one.same order now left.0) (m.same order of atoms);
+  no_more = λ order of atoms.
+      no_more_then (partition_atoms r) (partition_atoms q) (partition_atoms p) (one.no_more order (m.of order of atoms).0) (m.no_more order of atoms);
   of = λ order of atoms. let (now, left) = m.of order of atoms in (one.of order now left.0, left.1);
   fits = λ columns t all_fit. let (now, left) = m.fits columns t all_fit in (one.fits columns now left.0, left.1);
   others = λ b h. one.others b (m.others b h);
@@ -44,7 +50,7 @@ one_made all a rest p q r m one there = record {
 }
 
 pub all_made : (all : List Atom) (p q : Partition) → Making all [] p q → MakesPlaces all p q
-all_made all p q m = record { same = m.same; of = λ order of atoms. (m.of order of atoms).0; fits = λ columns t all_fit. (m.fits columns t all_fit).0; others = m.others }
+all_made all p q m = record { same = m.same; no_more = m.no_more; of = λ order of atoms. (m.of order of atoms).0; fits = λ columns t all_fit. (m.fits columns t all_fit).0; others = m.others }
 
 pub all_there : (all : List Atom) (p q : Partition) → Making all [] p q → HavePlaces q all
 all_there all p q m = m.made q (λ b h. h) tt
@@ -52,6 +58,8 @@ all_there all p q m = m.made q (λ b h. h) tt
 pub some_made : (all : List Atom) (a : Atom) (rest : List Atom) (p q r : Partition) → Making all (a ∷ rest) p q → MakesPlace a q r → MakesPlaces all p r
 some_made all a rest p q r m one = record {
   same = λ order of atoms. let (now, left) = m.of order of atoms in same_then (one.same order now left.0) (m.same order of atoms);
+  no_more = λ order of atoms.
+      no_more_then (partition_atoms r) (partition_atoms q) (partition_atoms p) (one.no_more order (m.of order of atoms).0) (m.no_more order of atoms);
   of = λ order of atoms. let (now, left) = m.of order of atoms in one.of order now left.0;
   fits = λ columns t all_fit. let (now, left) = m.fits columns t all_fit in one.fits columns now left.0;
   others = λ b h. one.others b (m.others b h);
@@ -62,6 +70,7 @@ some_made all a rest p q r m one = record {
 -- some first atoms of the list were joined, and the rest have their places
 pub record Joining (all rest : List Atom) (p q : Partition) : Type 0 where
   pub joined : (order : List Ordered) → IsOf order p → AreAtomsOf order all → Same (partition_atoms q ++ rest) (partition_atoms p ++ all)
+  pub no_more : (order : List Ordered) → IsOf order p → AreAtomsOf order all → SaysNoMore (partition_atoms q ++ rest) (partition_atoms p ++ all)
   pub of : (order : List Ordered) → IsOf order p → AreAtomsOf order all → IsOf order q × AreAtomsOf order rest
   pub fits : (columns : List Column) → IsOfTable columns p → AllFit columns all → IsOfTable columns q × AllFit columns rest
   pub others : (b : Atom) → HasPlace p b → HasPlace q b
@@ -70,6 +79,7 @@ pub record Joining (all rest : List Atom) (p q : Partition) : Type 0 where
 pub joining : (all rest : List Atom) (p : Partition) → rest ≡ all → HavePlaces p all → Joining all rest p p
 joining all rest p e there = subst (λ l. Joining all l p p) (sym e) (record {
   joined = λ order of atoms. same_itself (partition_atoms p ++ all);
+  no_more = λ order of atoms. no_more_itself (partition_atoms p ++ all);
   of = λ order of atoms. (of, atoms);
   fits = λ columns t all_fit. (t, all_fit);
   others = λ b h. h;
@@ -84,6 +94,10 @@ pub one_joined : (all rest : List Atom) (a : Atom) (others : List Atom) (p q r :
 one_joined all rest a others p q r e h one =
     let m : Joining all (a ∷ others) p q = subst (λ l. Joining all l p q) e h in
     record {
+      no_more = λ order of atoms.
+          no_more_then (partition_atoms r ++ others) ((partition_atoms q ++ a ∷ []) ++ others) (partition_atoms p ++ all)
+          (no_more_kept (partition_atoms r) (partition_atoms q ++ a ∷ []) others (one.no_more order (m.of order of atoms).0))
+          (subst (λ l. SaysNoMore l (partition_atoms p ++ all)) (sym (append_assoc (partition_atoms q) (a ∷ []) others)) (m.no_more order of atoms));
       joined = λ order of atoms.
           let (now, left) = m.of order of atoms in
           same_then (join_laws.kept (partition_atoms r) (partition_atoms q ++ a ∷ []) others (one.joined order now left.0))
@@ -101,6 +115,7 @@ pub all_joined : (all rest : List Atom) (p q : Partition) → rest ≡ [] → Jo
 all_joined all rest p q e h =
     let m : Joining all [] p q = subst (λ l. Joining all l p q) e h in
     record {
+      no_more = λ order of atoms. subst (λ l. SaysNoMore l (partition_atoms p ++ all)) (append-nil (partition_atoms q)) (m.no_more order of atoms);
       joined = λ order of atoms. subst (λ l. Same l (partition_atoms p ++ all)) (append-nil (partition_atoms q)) (m.joined order of atoms);
       of = λ order of atoms. (m.of order of atoms).0;
       fits = λ columns t all_fit. (m.fits columns t all_fit).0;

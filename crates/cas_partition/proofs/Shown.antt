@@ -57,7 +57,8 @@ use Rattle.cas_partition.specs.declared.spot.Spot.{Spot}
 use Rattle.cas_partition.specs.declared.spot.Content.{Content}
 use Rattle.cas_partition.specs.declared.partition.Partition.{Partition}
 use Rattle.cas_partition.proofs.Spots.{alike_itself, alike_is, in_front, Rows}
-use Rattle.cas_partition.proofs.Taking.{marked, rising}
+use Rattle.cas_partition.proofs.Taking.{marked, rising, closes}
+use Rattle.cas_partition.proofs.NoMore.{slice_no_more}
 use Rattle.cas_partition.proofs.Slicing.{halves_alike, halves_ordered, Weak, OfRow, pieces_of, kept_rows, kept_weak, cross, no_key, past_key}
 use Rattle.cas_streams.proofs.Formed.{Tabled}
 use Rattle.cas_streams.specs.Slices.{cut_to}
@@ -305,6 +306,7 @@ pub shows : (s : Slice) (p : Partition) (rows : List Fragment) (top : Option Del
     → AreRowsOf (slice_pieces s p) rows → top ≡ (merged (slice_streams s p rows)).top → fs ≡ (merged (slice_streams s p rows)).fragments → Shows s p top fs
 shows s p rows top fs sorted are t f = subst (λ d. Shows s p d fs) (sym t) (subst (λ l. Shows s p (merged ss).top l) (sym f) (record {
   ordered = λ order of low high. merge_ordered order ss (each_ordered order of low high);
+  no_more = λ order of. slice_no_more s p rows are (closes order p.ranges of.marks);
   same = λ order of low high. chained (merge_is_join order ss (each_ordered order of low high)) (in_slice order of low high);
   formed = λ columns t low high. merge_forms columns ss (each_ordered (clustering_order columns) t.of low high)
       (subst (AllByRecursion (Tabled columns)) are.2 (rows_in_table columns s.lo s.hi p.spots.entries are.0 are.1 t.entries), (markers_have columns (clipped s p.ranges), tt));

@@ -125,7 +125,7 @@ row_join : {X : Type 0} (cmp : X → X → Ordering) (column : Option ℕ) (a b 
 row_join cmp None a b = refl
 row_join cmp (Some n) a b = refl
 
-pieces_join : (row : Option MapKey) (column : Option ℕ) (path : Option (List ℕ)) (a b : Content)
+pub pieces_join : (row : Option MapKey) (column : Option ℕ) (path : Option (List ℕ)) (a b : Content)
     → piece row column path (joined_content a b) ≡ joined_fragment (piece row column path a) (piece row column path b)
 pieces_join None column path a b = ap fragment.Static (columns_join column path a b)
 pieces_join (Some k) column path a b =
@@ -136,7 +136,7 @@ pieces_join (Some k) column path a b =
       columns = columns_join column path a b i;
     })
 
-twin_pieces : (row : Option MapKey) (column : Option ℕ) (path : Option (List ℕ)) (a b : Content) → Twins (piece row column path a) (piece row column path b)
+pub twin_pieces : (row : Option MapKey) (column : Option ℕ) (path : Option (List ℕ)) (a b : Content) → Twins (piece row column path a) (piece row column path b)
 twin_pieces None column path a b = tt
 twin_pieces (Some k) column path a b = refl
 
@@ -152,7 +152,7 @@ said_joins s a b =
       cells = λ x. ap (λ h. greatest cell_cmp (cell_at_path x) (own h)) e ∙ twins_write x f g t ∙ sym (greatest-append cell_laws.orders (cell_at_path x) (own f) (own g));
     }
 
-nothing : (row : Option MapKey) (column : Option ℕ) (path : Option (List ℕ)) (tag : Option TypeTag) → own (piece row column path (blank tag)) ≡ []
+pub nothing : (row : Option MapKey) (column : Option ℕ) (path : Option (List ℕ)) (tag : Option TypeTag) → own (piece row column path (blank tag)) ≡ []
 nothing None None path tag = refl
 nothing None (Some n) None tag = refl
 nothing None (Some n) (Some p) tag = refl

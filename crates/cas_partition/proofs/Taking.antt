@@ -28,7 +28,9 @@ use Rattle.cas_laws.proofs.JoinProofs.{cover_joins}
 use Rattle.cas_streams.specs.Places.{place_cmp, place_of}
 use Rattle.cas_streams.specs.Flat.{Change, atom_of, own, changes, ranges, at_end}
 use Rattle.cas_streams.specs.Streams.{IsOf as IsFragmentOf, IsOrdered}
+use Rattle.cas_streams.specs.NoMore.{SaysNoMore}
 use Rattle.cas_streams.proofs.InOrder.{Rise, changes_rise}
+use Rattle.cas_streams.proofs.NoMore.{no_more_itself}
 use Rattle.cas_streams.proofs.Ranges.{ranges_give}
 use Rattle.cas_streams.proofs.Joining.{Alike, alike_both, alike_same}
 use Rattle.cas_partition.specs.Ranges.{lies, raised, has_cut, with_cut}
@@ -44,6 +46,7 @@ use Rattle.cas_partition.specs.declared.spot.Addition.TheVariants as gives
 use Rattle.cas_partition.specs.declared.partition.Partition.{Partition}
 use Rattle.cas_partition.proofs.Raising.{raised_rise, raised_closed, raised_covers, with_cut_rise, with_cut_closed, with_cut_covers, raised_has, with_cut_has, with_cut_itself}
 use Rattle.cas_partition.proofs.Spots.{alike_itself, alike_is, in_front, at_back, set_said, with_spot_says, with_spot_there, with_spot_kept, set_kept, Rows, set_rows, with_spot_rows}
+use Rattle.cas_partition.proofs.NoMore.{one_cut_no_more, both_cuts_no_more, one_spot_no_more, whole_no_more, range_no_more, spot_no_more}
 use Rattle.cas_partition.proofs.Tabling.{fits_of, wanted_in, given_in, set_in, with_spot_in}
 
 pub on_ok_too : {A E : Type 0} (r : Result A E) (P Q : Type 0) → (P → Q) → OnOk r P → OnOk r Q
@@ -141,6 +144,7 @@ empty_of_table columns p none nobody = record { of = empty_of (clustering_order 
 pub nothing_made : (a : Atom) (p : Partition) → MakesPlace a p p
 nothing_made a p = record {
   same = λ order of atom. alike_same (alike_itself (partition_atoms p));
+  no_more = λ order of. no_more_itself (partition_atoms p);
   of = λ order of atom. of;
   fits = λ columns t f. t;
   others = λ b e. e;
@@ -153,8 +157,10 @@ with_ranges p ns = record { top = p.top; ranges = ns; spots = p.spots }
 with_changes : (a : Atom) (p : Partition) (ns : List Change)
     → ((order : List Ordered) → IsAtomOf order a → Rise order p.ranges → at_end None p.ranges ≡ None
     → Rise order ns × (at_end None ns ≡ None) × ((x : Coordinate) → cover (ranges ns) x ≡ cover (ranges p.ranges) x))
+    → ((order : List Ordered) → IsOf order p → SaysNoMore (partition_atoms (with_ranges p ns)) (partition_atoms p))
     → ((c : Cut) → has_cut c p.ranges ≡ true → has_cut c ns ≡ true) → MakesPlace a p (with_ranges p ns)
-with_changes a p ns h kept = record {
+with_changes a p ns h no_more kept = record {
+  no_more = no_more;
   same = λ order of atom.
       let (rise, closed, covers) = h order atom (rising order p.ranges of.marks) (closes order p.ranges of.marks) in
       alike_same (alike_both (alike_itself (atom_of PartitionDeletion p.top)) (alike_both (same_ranges p.ranges ns covers) (alike_itself (said_at p.spots.entries))));
@@ -196,6 +202,7 @@ one_cut a p ns lo hi w e =
     (λ order atom rise closed.
     let (l, h) = cuts_of order a lo hi w atom in
     (with_cut_rise order lo l p.ranges rise, with_cut_closed order lo l p.ranges rise closed, λ x. with_cut_covers order lo l p.ranges rise closed x (row_of x) refl))
+    (λ order of. one_cut_no_more p lo (closes order p.ranges of.marks))
     (λ c. with_cut_has c lo p.ranges))
 
 pub both_cuts : (a : Atom) (p : Partition) (ns : List Change) (lo hi : Cut) → wanted a ≡ wants.Cuts lo hi → ns ≡ with_cut hi (with_cut lo p.ranges) → MakesPlace a p (with_ranges p ns)
@@ -210,6 +217,7 @@ both_cuts a p ns lo hi w e =
       with_cut_closed order hi h (with_cut lo p.ranges) first ends,
       λ x. with_cut_covers order hi h (with_cut lo p.ranges) first ends x (row_of x) refl ∙ with_cut_covers order lo l p.ranges rise closed x (row_of x) refl,
     ))
+    (λ order of. both_cuts_no_more p lo hi (closes order p.ranges of.marks))
     (λ c has. with_cut_has c hi (with_cut lo p.ranges) (with_cut_has c lo p.ranges has)))
 
 pub cuts_there : (a : Atom) (p : Partition) (ns : List Change) (lo hi : Cut) → wanted a ≡ wants.Cuts lo hi → ns ≡ with_cut hi (with_cut lo p.ranges) → HasPlace (with_ranges p ns) a
@@ -222,7 +230,7 @@ cuts_there a p ns lo hi w e =
 pub same_changes : (a : Atom) (p : Partition) (ns : List Change) → ns ≡ p.ranges → MakesPlace a p (with_ranges p ns)
 same_changes a p ns e =
     subst (λ l. MakesPlace a p (with_ranges p l)) (sym e)
-    (with_changes a p p.ranges (λ order atom rise closed. (rise, closed, λ x. refl)) (λ c has. has))
+    (with_changes a p p.ranges (λ order atom rise closed. (rise, closed, λ x. refl)) (λ order of. no_more_itself (partition_atoms p)) (λ c has. has))
 
 -- one more spot
 abbrev with_spots : Partition → BTreeMap Spot Content → Partition
@@ -249,6 +257,8 @@ spot_row order a s tag w of = subst (InRow order) w (own_row a of)
 pub one_spot : (a : Atom) (p : Partition) (m : BTreeMap Spot Content) (s : Spot) (tag : Option TypeTag) → wanted a ≡ wants.At s tag → m.entries ≡ with_spot s tag p.spots.entries
     → MakesPlace a p (with_spots p m)
 one_spot a p m s tag w e = record {
+  no_more = λ order of.
+      subst (λ l. SaysNoMore (atoms_with p.top p.ranges l) (partition_atoms p)) (sym e) (one_spot_no_more p s tag (closes order p.ranges of.marks));
   same = λ order of atom.
       alike_same (alike_is (partition_atoms (with_spots p m)) (partition_atoms p)
       (ap (λ l. atom_of PartitionDeletion p.top ++ (ranges p.ranges ++ l)) (ap said_at e ∙ with_spot_says s tag p.spots.entries)));
@@ -272,6 +282,7 @@ spot_there a p m s tag w e = ap (is_there p.ranges m.entries) w ∙ ap (has_spot
 
 pub same_spots : (a : Atom) (p : Partition) (m : BTreeMap Spot Content) → m.entries ≡ p.spots.entries → MakesPlace a p (with_spots p m)
 same_spots a p m e = record {
+  no_more = λ order of. subst (λ l. SaysNoMore (atoms_with p.top p.ranges l) (partition_atoms p)) (sym e) (no_more_itself (partition_atoms p));
   same = λ order of atom. alike_same (alike_is (partition_atoms (with_spots p m)) (partition_atoms p) (ap (λ l. atom_of PartitionDeletion p.top ++ (ranges p.ranges ++ said_at l)) e));
   of = λ order of atom. record { marks = of.marks; rows = subst (Rows order) (sym e) of.rows };
   fits = λ columns t f. record {
@@ -290,6 +301,9 @@ raised_top (Some e) d = record { covers = λ x. refl; lives = λ c. refl; cells 
 pub whole_joins : (a : Atom) (p : Partition) (top : Option Deletion) (d : Deletion) → given a ≡ gives.Whole d → top ≡ greater deletion_cmp p.top (Some d)
     → Joins a p (record { top = top; ranges = p.ranges; spots = p.spots })
 whole_joins a p top d g e = record {
+  no_more = λ order of.
+      subst (λ l. SaysNoMore (atoms_with top p.ranges p.spots.entries) (partition_atoms p ++ l)) (whole_is a d g)
+      (subst (λ t. SaysNoMore (atoms_with t p.ranges p.spots.entries) (partition_atoms p ++ PartitionDeletion d ∷ [])) (sym e) (whole_no_more p d (closes order p.ranges of.marks)));
   joined = λ order of atom.
       subst (λ l. Same (atoms_with top p.ranges p.spots.entries) (partition_atoms p ++ l)) (whole_is a d g)
       (subst (λ t. Same (atoms_with t p.ranges p.spots.entries) (partition_atoms p ++ PartitionDeletion d ∷ [])) (sym e)
@@ -339,6 +353,9 @@ module _ (a : Atom) (lo hi : Cut) (d : Deletion) (g : given a ≡ gives.Range lo
   range_joins p ns e there =
       let (low, high) = both_true (has_cut lo p.ranges) (has_cut hi p.ranges) (ap (λ b. is_there p.ranges p.spots.entries (wanted b)) range_is ∙ there) in
       record {
+        no_more = λ order of.
+            subst (λ b. SaysNoMore (atoms_with p.top ns p.spots.entries) (partition_atoms p ++ b ∷ [])) range_is
+            (subst (λ l. SaysNoMore (atoms_with p.top l p.spots.entries) (partition_atoms p ++ RangeDeletion lo hi d ∷ [])) (sym e) (range_no_more p lo hi d (closes order p.ranges of.marks)));
         joined = λ order of atom.
             let (lo_of, hi_of, below) = subst (IsAtomOf order) (sym range_is) atom in
             let rise : Rise order p.ranges = rising order p.ranges of.marks in
@@ -418,6 +435,9 @@ module _ (a : Atom) (s : Spot) (c : Content) (g : given a ≡ gives.At s c) wher
       let (old, is) = found p.spots.entries (spot_seen p.ranges p.spots.entries there) in
       let e : m.entries ≡ set_value (is_at (spot_cmp s)) p.spots.entries (joined_content old c) = writes old is in
       record {
+        no_more = λ order of.
+            subst (λ l. SaysNoMore (atoms_with p.top p.ranges m.entries) (partition_atoms p ++ l)) spot_is
+            (subst (λ l. SaysNoMore (atoms_with p.top p.ranges l) (partition_atoms p ++ own (said s c))) (sym e) (spot_no_more p s old c is (closes order p.ranges of.marks)));
         joined = λ order of atom.
             subst (λ l. Same (atoms_with p.top p.ranges m.entries) (partition_atoms p ++ l)) spot_is
             (alike_same (at_back (atom_of PartitionDeletion p.top) (ranges p.ranges ++ said_at m.entries) (ranges p.ranges ++ said_at p.spots.entries) (own (said s c))

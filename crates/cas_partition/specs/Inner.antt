@@ -1,3 +1,4 @@
 pub mod Slots
 pub mod Firsts
 pub mod Entries
+pub mod Sources

@@ -21,6 +21,7 @@ use Rattle.cas_atoms.specs.declared.atom.Atom.{Atom}
 use Rattle.cas_atoms.specs.declared.atom.Atom.TheVariants.{PartitionDeletion, RangeDeletion, RowDeletion, CollectionDeletion}
 use Rattle.cas_atoms.specs.declared.atom.Atom.TheVariants.{Live, Write, StaticWrite, StaticCollectionDeletion}
 use Rattle.cas_streams.specs.Flat.{Change, atom_of, own, ranges}
+use Rattle.cas_streams.specs.NoMore.{SaysNoMore}
 use Rattle.cas_streams.specs.Streams.{IsOrdered}
 use Rattle.cas_streams.specs.declared.fragment.Fragment.{Fragment}
 use Rattle.cas_streams.specs.declared.fragment.Fragment.TheVariants as fragment
@@ -128,16 +129,18 @@ with_spot s tag es = if has_spot s es then es else insert_entry spot_cmp es s (b
 
 -- ---- what calls do
 
--- place was made for an atom, which says nothing yet: for each table and order of its rows; and each other atom keeps its place
+-- place was made for an atom, which says nothing yet: for each table and order of its rows; nothing is invented, and each other atom keeps its place
 pub record MakesPlace (a : Atom) (p q : Partition) : Type 0 where
   pub same : (order : List Ordered) → IsOf order p → IsAtomOf order a → Same (partition_atoms q) (partition_atoms p)
+  pub no_more : (order : List Ordered) → IsOf order p → SaysNoMore (partition_atoms q) (partition_atoms p)
   pub of : (order : List Ordered) → IsOf order p → IsAtomOf order a → IsOf order q
   pub fits : (columns : List Column) → IsOfTable columns p → Fits columns a → IsOfTable columns q
   pub others : (b : Atom) → HasPlace p b → HasPlace q b
 
--- the atom was joined, and each atom keeps its place
+-- the atom was joined, nothing else was invented, and each atom keeps its place
 pub record Joins (a : Atom) (p q : Partition) : Type 0 where
   pub joined : (order : List Ordered) → IsOf order p → IsAtomOf order a → Same (partition_atoms q) (partition_atoms p ++ a ∷ [])
+  pub no_more : (order : List Ordered) → IsOf order p → SaysNoMore (partition_atoms q) (partition_atoms p ++ a ∷ [])
   pub of : (order : List Ordered) → IsOf order p → IsAtomOf order a → IsOf order q
   pub fits : (columns : List Column) → IsOfTable columns p → Fits columns a → IsOfTable columns q
   pub others : (b : Atom) → HasPlace p b → HasPlace q b
@@ -159,6 +162,7 @@ HavePlaces p atoms = AllByRecursion (HasPlace p) atoms
 -- the same for all atoms of a list: place was made for them, or for some first of them
 pub record MakesPlaces (atoms : List Atom) (p q : Partition) : Type 0 where
   pub same : (order : List Ordered) → IsOf order p → AreAtomsOf order atoms → Same (partition_atoms q) (partition_atoms p)
+  pub no_more : (order : List Ordered) → IsOf order p → AreAtomsOf order atoms → SaysNoMore (partition_atoms q) (partition_atoms p)
   pub of : (order : List Ordered) → IsOf order p → AreAtomsOf order atoms → IsOf order q
   pub fits : (columns : List Column) → IsOfTable columns p → AllFit columns atoms → IsOfTable columns q
   pub others : (b : Atom) → HasPlace p b → HasPlace q b
@@ -166,6 +170,7 @@ pub record MakesPlaces (atoms : List Atom) (p q : Partition) : Type 0 where
 -- and all of them were joined
 pub record JoinsAll (atoms : List Atom) (p q : Partition) : Type 0 where
   pub joined : (order : List Ordered) → IsOf order p → AreAtomsOf order atoms → Same (partition_atoms q) (partition_atoms p ++ atoms)
+  pub no_more : (order : List Ordered) → IsOf order p → AreAtomsOf order atoms → SaysNoMore (partition_atoms q) (partition_atoms p ++ atoms)
   pub of : (order : List Ordered) → IsOf order p → AreAtomsOf order atoms → IsOf order q
   pub fits : (columns : List Column) → IsOfTable columns p → AllFit columns atoms → IsOfTable columns q
   pub others : (b : Atom) → HasPlace p b → HasPlace q b

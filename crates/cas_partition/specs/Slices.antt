@@ -11,6 +11,7 @@ use Rattle.cas_bounds.specs.declared.order.Ordered.{Ordered}
 use Rattle.cas_bounds.specs.declared.cuts.Slice.{Slice}
 use Rattle.cas_laws.specs.Inside.{SameIn}
 use Rattle.cas_streams.specs.Flat.{flat}
+use Rattle.cas_streams.specs.NoMore.{SaysNoMore}
 use Rattle.cas_streams.specs.Streams.{IsOrdered, WellFormed}
 use Rattle.cas_streams.specs.Joined.{joined_fragment, fragment_cmp, Stream}
 use Rattle.cas_streams.specs.Merged.{merged}
@@ -32,11 +33,12 @@ grouped (Some f) gs = grouped_from f gs
 grouped None [] = []
 grouped None (g ∷ gs) = grouped_from g gs
 
--- a stream that tells these fragments under that deletion says in the slice what the partition says: its fragments are in order, and well formed where
--- the partition is of a table with these columns
+-- a stream that tells these fragments under that deletion says in the slice what the partition says, and nowhere more: its fragments are in order, and
+-- well formed where the partition is of a table with these columns
 pub record Shows (s : Slice) (p : Partition) (top : Option Deletion) (fs : List Fragment) : Type 0 where
   pub ordered : (order : List Ordered) → IsOf order p → s.lo.order ≡ order → s.hi.order ≡ order → IsOrdered order fs
   pub same : (order : List Ordered) → IsOf order p → s.lo.order ≡ order → s.hi.order ≡ order → SameIn s (flat top fs) (partition_atoms p)
+  pub no_more : (order : List Ordered) → IsOf order p → SaysNoMore (flat top fs) (partition_atoms p)
   pub formed : (columns : List Column) → IsOfTable columns p → s.lo.order ≡ clustering_order columns → s.hi.order ≡ clustering_order columns
       → WellFormed columns fs
 
@@ -77,7 +79,7 @@ slice_pieces s p = map piece_of (statics_of p.spots.entries ++ rows_between s.lo
 abbrev pub slice_streams : Slice → Partition → List Fragment → List Stream
 slice_streams s p rows = record { top = p.top; fragments = rows } ∷ record { top = None; fragments = map marker (clipped s p.ranges) } ∷ []
 
--- the merge of both is in order and well formed, and says in the slice what the partition says
+-- the merge of both is in order and well formed, and says in the slice what the partition says, and nowhere more
 abbrev pub SlicesShow : Type 0
 SlicesShow = (s : Slice) (p : Partition) (rows : List Fragment) → IsStrictlySortedBy spot_cmp (keys_of p.spots.entries) → AreRowsOf (slice_pieces s p) rows
     → Shows s p (merged (slice_streams s p rows)).top (merged (slice_streams s p rows)).fragments

@@ -11,13 +11,14 @@ ghost use Rattle.cas_partition.specs.Slices.{grouped, grouped_from, meet, AreRow
 ghost use Rattle.cas_partition.specs.Ranged.{piece_of, spot_at, spots_below, spots_between, statics_of, rows_between};
 ghost use Rattle.cas_partition.specs.Inner.Firsts.{with_first};
 ghost use Rattle.cas_partition.specs.Inner.Entries.{lent_piece, GoesOn, are_below};
+ghost use Rattle.cas_partition.specs.Inner.Sources.{TellMerge};
 ghost use Rattle.cas_streams.specs.declared.fragment.Fragment.TheVariants as fragment;
 
 use crate::partition::Partition;
 use crate::spot::{Content, Spot};
 use cas_atoms::{ColumnRef, PathCell, Row, RowColumn};
 use cas_bounds::{Clustering, End, MapKey, RowOrder, Slice, Values, compare_points};
-use cas_cell::Cell;
+use cas_cell::{Cell, Deletion};
 use cas_merge::{Merger, compare_fragments, joined_fragment};
 use cas_streams::{Fragment, FragmentSource, Part};
 use cas_types::{Bytes, List};
@@ -414,6 +415,24 @@ fn rows_in(
     rows_of(alloc, &entries)
 }
 
+// The rows under the deletion of the whole, and the markers where there are some.
+fn sources(
+    alloc: Global,
+    top: Option<Deletion>,
+    rows: Vec<Fragment>,
+    marks: Vec<Fragment>,
+) -> Result<Vec<Part>, AllocError>
+    ensures { IfOk result (λ v. TellMerge ⟦<Part as FragmentSource>⟧.to_come ⟦<Part as FragmentSource>⟧.over_all top rows.items marks.items v.items) }
+{
+    let mut sources = Vec::new(alloc);
+    sources.push(Part::new(top, rows))?;
+    if marks.is_empty() {
+        return Ok(sources);
+    }
+    sources.push(Part::new(None, marks))?;
+    Ok(sources)
+}
+
 impl Partition {
     /// The partition as a stream, in the slice and of the static row. What is covered is left out.
     pub fn slice(&self, alloc: Global, slice: &Slice) -> Result<Merger<Part>, AllocError>
@@ -422,9 +441,6 @@ impl Partition {
     {
         let rows = rows_in(alloc, &self.spots, slice)?;
         let marks = self.ranges.markers(alloc, slice)?;
-        let mut parts = Vec::new(alloc);
-        parts.push(Part::new(self.top, rows))?;
-        parts.push(Part::new(None, marks))?;
-        Ok(Merger::new(parts))
+        Ok(Merger::new(sources(alloc, self.top, rows, marks)?))
     }
 }
