@@ -130,12 +130,7 @@ fn is_of(table: u16, key: &Bytes, mutation: &Mutation) -> bool
         && compare_bytes(mutation.key.as_slice(), key.as_slice()) == Ordering::Equal
 }
 
-fn append_if(
-    into: &mut Vec<Atom>,
-    table: u16,
-    key: &Bytes,
-    mutation: &Mutation,
-) -> Result<(), Mem>
+fn append_if(into: &mut Vec<Atom>, table: u16, key: &Bytes, mutation: &Mutation) -> Result<(), Mem>
     ensures { OnOk result (into.new.items ≡ into.old.items ++ atoms_if table key.now mutation.now) }
 {
     if is_of(table, key, mutation) {
@@ -171,7 +166,8 @@ impl Accepted {
 
     /// Nothing yet, of so many shards.
     pub fn new(alloc: Global, shards: u8) -> Result<Self, Mem>
-        ensures { IfOk result (λ a. kept a ≡ nothing_kept shards) }
+        ensures kept { IfOk result (λ a. kept a ≡ nothing_kept shards) }
+        ensures shards { IfOk result (λ a. vec_len a.met ≡ shards) }
     {
         Ok(Accepted {
             mutations: Vec::new(alloc),
