@@ -166,7 +166,8 @@ impl Accepted {
 
     /// Nothing yet, of so many shards.
     pub fn new(alloc: Global, shards: u8) -> Result<Self, Mem>
-        ensures { IfOk result (λ a. kept a ≡ nothing_kept shards) }
+        ensures kept { IfOk result (λ a. kept a ≡ nothing_kept shards) }
+        ensures shards { IfOk result (λ a. vec_len a.met ≡ shards) }
     {
         Ok(Accepted {
             mutations: Vec::new(alloc),
