@@ -48,8 +48,8 @@ block_exact order place last =
     (exact_checked (FitsCut order) cut_bytes (cut_at order) (is_next_cut last) (cut_exact order))
     (λ c fit. place_exact (block_place place last))
     (λ c n fit-c fit-n. maybe_exact FitsDeletion deletion_bytes deletion_at deletion_exact)
-    (λ c n d fit-c fit-n fit-d. (record { cut = fit-c.0; above = fit-c.1; behind = fit-n; in_force = fit-d }, refl))
-    (λ b fit. (b.cut, b.place, b.in_force, (fit.cut, fit.above), fit.behind, fit.in_force, refl))
+    (λ c n d fit-c fit-n fit-d. (record { cut = fit-c.0; upward = fit-c.1; behind = fit-n; in_force = fit-d }, refl))
+    (λ b fit. (b.cut, b.place, b.in_force, (fit.cut, fit.upward), fit.behind, fit.in_force, refl))
 
 abbrev AreBlocks : List Ordered → ℕ → List BlockEntry → Type 0
 AreBlocks order place bs = (length bs < 2 ^ 32) × Chain (IsNextBlock order place) None bs

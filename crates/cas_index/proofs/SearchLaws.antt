@@ -29,8 +29,8 @@ use Rattle.cas_index.specs.declared.entries.PartitionEntry.{PartitionEntry}
 use Rattle.cas_index.specs.Entries.{Index}
 use Rattle.cas_index.specs.Allowed.{Chain, IsNextBlock, IsNextPartition, AreEntries}
 use Rattle.cas_index.specs.Searches.{IsFirst, HasKey, is_after, IsNextAfter, begins_before, next_is_above, can_meet, IsBlockFor}
-use Rattle.cas_index.specs.Inner.Rooms.{HasRoom, HasRooms, KeysAscend, BlocksAscend}
-use Rattle.cas_index.proofs.Searching.{chain_ascends, chain_each, chain_more, lt_less, not_gt, none_within, some_at, get_or_any, parted_upto, parted_below, meets, none_meets, no_items, all_late, first_meets}
+use Rattle.cas_index.specs.Inner.Rooms.{HasRoom, HasRooms, KeysAscend, BlocksInOrder}
+use Rattle.cas_index.proofs.Searching.{chain_ascends, chain_rises, chain_each, chain_more, lt_less, turned, not_gt, none_within, some_at, get_or_any, ascend_rises, parted_upto, parted_below, meets, none_meets, no_items, all_late, first_meets}
 
 -- ---- what each partition and each block of an index is
 
@@ -61,30 +61,35 @@ keys_ascend order ps entries =
 in_order : (order : List Ordered) (a b : Cut) → a.order ≡ order → cut_cmp a b ≡ point_cmp order (cut_point a) (cut_point b)
 in_order order a b one = point_laws.cuts a b ∙ ap (λ o. point_cmp o (cut_point a) (cut_point b)) one
 
-blocks_ascend : (order : List Ordered) (place : ℕ) (bs : List BlockEntry) → Chain (IsNextBlock order place) None bs → BlocksAscend order bs
-blocks_ascend order place bs chain = record {
+blocks_in_order : (order : List Ordered) (place : ℕ) (bs : List BlockEntry) → Chain (IsNextBlock order place) None bs → BlocksInOrder order bs
+blocks_in_order order place bs chain = record {
   one = All-from_recursion (λ b. b.cut.order ≡ order) bs (chain_each (IsNextBlock order place) (λ b. b.cut.order ≡ order) (λ o b next. next.cut.0) None bs chain);
-  ascend = chain_ascends (IsNextBlock order place) (λ b c. point_cmp order (cut_point b.cut) (cut_point c.cut)) (λ b. b.cut.order ≡ order)
-      (λ a b c. (point_laws.orders order).total.trans (cut_point a.cut) (cut_point b.cut) (cut_point c.cut)) (λ b next. next.cut.0)
-      (λ b c one next. (sym (in_order order b.cut c.cut one) ∙ lt_less _ next.above, next.cut.0)) bs chain;
+  cuts = chain_rises (IsNextBlock order place) (λ b c. point_cmp order (cut_point b.cut) (cut_point c.cut)) (λ b. b.cut.order ≡ order) (λ b next. next.cut.0)
+      (λ b c one next. (
+        ap is_lt ((point_laws.orders order).total.antisymm (cut_point c.cut) (cut_point b.cut))
+            ∙ turned (point_cmp order (cut_point b.cut) (cut_point c.cut))
+            ∙ ap is_gt (sym (in_order order b.cut c.cut one))
+            ∙ not_gt _ next.upward,
+        next.cut.0,
+      )) bs chain;
 }
 
 -- the blocks of a partition of an index
 pub record AreBlocksOf (order : List Ordered) (p : PartitionEntry) : Type 0 where
-  pub ascend : BlocksAscend order p.blocks
+  pub ordered : BlocksInOrder order p.blocks
   pub few : length p.blocks < 2 ^ 32
 
 pub blocks_of : (order : List Ordered) (ps : List PartitionEntry) → AreEntries order ps → All (AreBlocksOf order) ps
 blocks_of order ps entries =
     All-from_recursion (AreBlocksOf order) ps (chain_each (IsNextPartition order) (AreBlocksOf order)
-    (λ o p next. record { ascend = blocks_ascend order p.place p.blocks next.blocks; few = next.few }) None ps entries.each)
+    (λ o p next. record { ordered = blocks_in_order order p.place p.blocks next.blocks; few = next.few }) None ps entries.each)
 
-pub ascend_for : (order lo : List Ordered) (ps : List PartitionEntry) (i : ℕ) (p : PartitionEntry) (bs : List BlockEntry) → AreEntries order ps → i < length ps
-    → p ≡ get_or ps i p → bs ≡ p.blocks → lo ≡ order → BlocksAscend lo bs × (length bs < 2 ^ 32)
-ascend_for order lo ps i p bs entries within is blocks one =
+pub ordered_for : (order lo : List Ordered) (ps : List PartitionEntry) (i : ℕ) (p : PartitionEntry) (bs : List BlockEntry) → AreEntries order ps → i < length ps
+    → p ≡ get_or ps i p → bs ≡ p.blocks → lo ≡ order → BlocksInOrder lo bs × (length bs < 2 ^ 32)
+ordered_for order lo ps i p bs entries within is blocks one =
     let are : AreBlocksOf order p = subst (λ (q : PartitionEntry). AreBlocksOf order q) (sym is) (blocks_of order ps entries i p within) in
     let same : p.blocks ≡ bs = sym blocks in (
-      subst (λ (o : List Ordered). BlocksAscend o bs) (sym one) (subst (λ (b : List BlockEntry). BlocksAscend order b) same are.ascend),
+      subst (λ (o : List Ordered). BlocksInOrder o bs) (sym one) (subst (λ (b : List BlockEntry). BlocksInOrder order b) same are.ordered),
       subst (λ (b : List BlockEntry). length b < 2 ^ 32) same are.few,
     )
 
@@ -119,10 +124,14 @@ abbrev pub IsUptoPoint : List PartitionEntry → List ℕ → ℕ → Type 0
 IsUptoPoint ps key n = IsPartitionPoint (λ p. not (is_gt (bytes_cmp p.key key)) ≡ true) (λ p. not (is_gt (bytes_cmp p.key key)) ≡ false) ps n
 
 pub parted_keys : (ps : List PartitionEntry) (key : List ℕ) → KeysAscend ps → IsPartitionedBy (λ p. is_lt (bytes_cmp p.key key)) ps
-parted_keys ps key ascend = parted_below PartitionEntry (List ℕ) (λ p. p.key) bytes_cmp nat_list_cmp_total ps key ascend
+parted_keys ps key ascend =
+    parted_below PartitionEntry (List ℕ) (λ p. p.key) bytes_cmp nat_list_cmp_total ps key
+    (ascend_rises PartitionEntry (List ℕ) (λ p. p.key) bytes_cmp nat_list_cmp_total ps ascend)
 
 pub parted_keys_upto : (ps : List PartitionEntry) (key : List ℕ) → KeysAscend ps → IsPartitionedBy (λ p. not (is_gt (bytes_cmp p.key key))) ps
-parted_keys_upto ps key ascend = parted_upto PartitionEntry (List ℕ) (λ p. p.key) bytes_cmp nat_list_cmp_total ps key ascend
+parted_keys_upto ps key ascend =
+    parted_upto PartitionEntry (List ℕ) (λ p. p.key) bytes_cmp nat_list_cmp_total ps key
+    (ascend_rises PartitionEntry (List ℕ) (λ p. p.key) bytes_cmp nat_list_cmp_total ps ascend)
 
 self_lt : (key : List ℕ) → is_lt (bytes_cmp key key) ≡ true → ⊥
 self_lt key e = true≢false (sym e ∙ ap is_lt (tied_itself nat_list_cmp_total key))
@@ -206,14 +215,14 @@ no_first_key ps none i low = absurd (omega arith)
 abbrev block_point : BlockEntry → Point
 block_point b = cut_point b.cut
 
-at_order : (order : List Ordered) (bs : List BlockEntry) (cut : Cut) (i : ℕ) (d : BlockEntry) → BlocksAscend order bs → i < length bs
+at_order : (order : List Ordered) (bs : List BlockEntry) (cut : Cut) (i : ℕ) (d : BlockEntry) → BlocksInOrder order bs → i < length bs
     → cut_cmp (get_or bs i d).cut cut ≡ point_cmp order (block_point (get_or bs i d)) (cut_point cut)
 at_order order bs cut i d are within = in_order order (get_or bs i d).cut cut (are.one i d within)
 
-pub parted_blocks : (bs : List BlockEntry) (cut : Cut) → BlocksAscend cut.order bs → IsPartitionedBy (λ b. not (is_gt (cut_cmp b.cut cut))) bs
+pub parted_blocks : (bs : List BlockEntry) (cut : Cut) → BlocksInOrder cut.order bs → IsPartitionedBy (λ b. not (is_gt (cut_cmp b.cut cut))) bs
 parted_blocks bs cut are i j d low within e =
     ap (λ (o : Ordering). not (is_gt o)) (at_order cut.order bs cut i d are (omega arith))
-    ∙ parted_upto BlockEntry Point block_point (point_cmp cut.order) (point_laws.orders cut.order).total bs (cut_point cut) are.ascend i j d low within
+    ∙ parted_upto BlockEntry Point block_point (point_cmp cut.order) (point_laws.orders cut.order).total bs (cut_point cut) are.cuts i j d low within
     (ap (λ (o : Ordering). not (is_gt o)) (sym (at_order cut.order bs cut j d are within)) ∙ e)
 
 abbrev pub IsBegun : List BlockEntry → Cut → ℕ → Type 0
@@ -223,7 +232,7 @@ abbrev IsPointOf : List Ordered → Cut → List BlockEntry → ℕ → Type 0
 IsPointOf order cut bs n =
     IsPartitionPoint (λ b. not (is_gt (point_cmp order (block_point b) (cut_point cut))) ≡ true) (λ b. not (is_gt (point_cmp order (block_point b) (cut_point cut))) ≡ false) bs n
 
-point_of : (bs : List BlockEntry) (cut : Cut) (n : ℕ) → BlocksAscend cut.order bs → n ≤ length bs → IsBegun bs cut n → IsPointOf cut.order cut bs n
+point_of : (bs : List BlockEntry) (cut : Cut) (n : ℕ) → BlocksInOrder cut.order bs → n ≤ length bs → IsBegun bs cut n → IsPointOf cut.order cut bs n
 point_of bs cut n are most begun = (
   λ k d low high. ap (λ (o : Ordering). not (is_gt o)) (sym (at_order cut.order bs cut k d are (omega arith))) ∙ begun.0 k d low high,
   λ k d low high. ap (λ (o : Ordering). not (is_gt o)) (sym (at_order cut.order bs cut k d are high)) ∙ begun.1 k d low high,
@@ -242,7 +251,7 @@ abbrev above_of : Slice → Option BlockEntry → Bool
 above_of s None = true
 above_of s (Some b) = is_lt (point_cmp s.lo.order (cut_point s.lo) (block_point b))
 
-same_meets : (s : Slice) (bs : List BlockEntry) → BlocksAscend s.lo.order bs → (i : ℕ) → can_meet s bs i ≡ meets_points s bs i
+same_meets : (s : Slice) (bs : List BlockEntry) → BlocksInOrder s.lo.order bs → (i : ℕ) → can_meet s bs i ≡ meets_points s bs i
 same_meets s bs are i = by_items (slice_get bs i) refl (slice_get bs (i + 1))
   where
     order_of : (b : BlockEntry) → slice_get bs i ≡ Some b → b.cut.order ≡ s.lo.order
@@ -264,33 +273,33 @@ same_meets s bs are i = by_items (slice_get bs i) refl (slice_get bs (i + 1))
         ap (λ (o : Ordering). is_lt (cut_cmp s.lo s.hi) && (is_lt o && next_is_above s.lo n)) (in_order s.lo.order b.cut s.hi (order_of b e))
         ∙ by_next (is_lt (point_cmp s.lo.order (block_point b) (cut_point s.hi))) n
 
-first_of : (s : Slice) (bs : List BlockEntry) (answer : Option ℕ) → BlocksAscend s.lo.order bs → IsFirst (meets_points s bs) (length bs) answer
+first_of : (s : Slice) (bs : List BlockEntry) (answer : Option ℕ) → BlocksInOrder s.lo.order bs → IsFirst (meets_points s bs) (length bs) answer
     → IsFirst (can_meet s bs) (length bs) answer
 first_of s bs answer are first = subst (λ (test : ℕ → Bool). IsFirst test (length bs) answer) (sym (fun_ext (same_meets s bs are))) first
 
-pub empty_slice : (s : Slice) (bs : List BlockEntry) → BlocksAscend s.lo.order bs → is_lt (cut_cmp s.lo s.hi) ≡ false → IsFirst (can_meet s bs) (length bs) None
+pub empty_slice : (s : Slice) (bs : List BlockEntry) → BlocksInOrder s.lo.order bs → is_lt (cut_cmp s.lo s.hi) ≡ false → IsFirst (can_meet s bs) (length bs) None
 empty_slice s bs are empty =
     first_of s bs None are (none_meets BlockEntry Point block_point (point_cmp s.lo.order) (point_laws.orders s.lo.order).total (cut_point s.lo) (cut_point s.hi) bs
     (ap is_lt (sym (point_laws.cuts s.lo s.hi)) ∙ empty))
 
-pub no_blocks : (s : Slice) (bs : List BlockEntry) (n : ℕ) → BlocksAscend s.lo.order bs → n ≤ length bs → slice_get bs (n - 1) ≡ None
+pub no_blocks : (s : Slice) (bs : List BlockEntry) (n : ℕ) → BlocksInOrder s.lo.order bs → n ≤ length bs → slice_get bs (n - 1) ≡ None
     → IsFirst (can_meet s bs) (length bs) None
 no_blocks s bs n are most e =
     first_of s bs None are (no_items BlockEntry Point block_point (point_cmp s.lo.order) (point_laws.orders s.lo.order).total (cut_point s.lo) (cut_point s.hi) bs n most e)
 
-begun_most : (bs : List BlockEntry) (s : Slice) (b : BlockEntry) (i : ℕ) → BlocksAscend s.lo.order bs → slice_get bs i ≡ Some b
+begun_most : (bs : List BlockEntry) (s : Slice) (b : BlockEntry) (i : ℕ) → BlocksInOrder s.lo.order bs → slice_get bs i ≡ Some b
     → cut_cmp b.cut s.hi ≡ point_cmp s.lo.order (block_point b) (cut_point s.hi)
 begun_most bs s b i are e =
     let here = slice_get_within bs i b e in
     in_order s.lo.order b.cut s.hi (ap (λ (x : BlockEntry). x.cut.order) (sym (some_at bs i b here e)) ∙ are.one i b here)
 
-pub blocks_late : (s : Slice) (bs : List BlockEntry) (n : ℕ) (b : BlockEntry) → BlocksAscend s.lo.order bs → IsBegun bs s.lo n → n ≤ length bs → slice_get bs (n - 1) ≡ Some b
+pub blocks_late : (s : Slice) (bs : List BlockEntry) (n : ℕ) (b : BlockEntry) → BlocksInOrder s.lo.order bs → IsBegun bs s.lo n → n ≤ length bs → slice_get bs (n - 1) ≡ Some b
     → is_lt (cut_cmp b.cut s.hi) ≡ false → IsFirst (can_meet s bs) (length bs) None
 blocks_late s bs n b are begun most e late =
     first_of s bs None are (all_late BlockEntry Point block_point (point_cmp s.lo.order) (point_laws.orders s.lo.order).total (cut_point s.lo) (cut_point s.hi) bs n b
-    are.ascend (point_of bs s.lo n are most begun) most e (ap is_lt (sym (begun_most bs s b (n - 1) are e)) ∙ late))
+    are.cuts (point_of bs s.lo n are most begun) most e (ap is_lt (sym (begun_most bs s b (n - 1) are e)) ∙ late))
 
-pub block_first : (s : Slice) (bs : List BlockEntry) (n : ℕ) (b : BlockEntry) → BlocksAscend s.lo.order bs → IsBegun bs s.lo n → n ≤ length bs
+pub block_first : (s : Slice) (bs : List BlockEntry) (n : ℕ) (b : BlockEntry) → BlocksInOrder s.lo.order bs → IsBegun bs s.lo n → n ≤ length bs
     → is_lt (cut_cmp s.lo s.hi) ≡ true → slice_get bs (n - 1) ≡ Some b → is_lt (cut_cmp b.cut s.hi) ≡ true → IsFirst (can_meet s bs) (length bs) (Some (n - 1))
 block_first s bs n b are begun most some e before =
     first_of s bs (Some (n - 1)) are (first_meets BlockEntry Point block_point (point_cmp s.lo.order) (point_laws.orders s.lo.order).total (cut_point s.lo) (cut_point s.hi) bs n b
@@ -301,17 +310,17 @@ block_first s bs n b are begun most some e before =
 abbrev pub Answers : Slice → List BlockEntry → Option ℕ → Type 0
 Answers s bs answer = IsFirst (can_meet s bs) (length bs) answer
 
-pub none_at : (s : Slice) (bs : List BlockEntry) (n m : ℕ) (answer : Option ℕ) → answer ≡ None → BlocksAscend s.lo.order bs → n ≤ length bs → m ≡ n - 1 → length bs ≤ m
+pub none_at : (s : Slice) (bs : List BlockEntry) (n m : ℕ) (answer : Option ℕ) → answer ≡ None → BlocksInOrder s.lo.order bs → n ≤ length bs → m ≡ n - 1 → length bs ≤ m
     → Answers s bs answer
 none_at s bs n m answer none are most is past =
     subst (λ (a : Option ℕ). Answers s bs a) (sym none)
     (no_blocks s bs n are most (ap (λ (k : ℕ). slice_get bs k) (sym is) ∙ slice_get_past bs m past))
 
-pub late_at : (s : Slice) (bs : List BlockEntry) (n m : ℕ) (b : BlockEntry) → BlocksAscend s.lo.order bs → IsBegun bs s.lo n → n ≤ length bs → m ≡ n - 1
+pub late_at : (s : Slice) (bs : List BlockEntry) (n m : ℕ) (b : BlockEntry) → BlocksInOrder s.lo.order bs → IsBegun bs s.lo n → n ≤ length bs → m ≡ n - 1
     → slice_get bs m ≡ Some b → is_lt (cut_cmp b.cut s.hi) ≡ false → Answers s bs None
 late_at s bs n m b are begun most is e late = blocks_late s bs n b are begun most (ap (λ (k : ℕ). slice_get bs k) (sym is) ∙ e) late
 
-pub first_at : (s : Slice) (bs : List BlockEntry) (n m : ℕ) (b : BlockEntry) → BlocksAscend s.lo.order bs → IsBegun bs s.lo n → n ≤ length bs → m ≡ n - 1
+pub first_at : (s : Slice) (bs : List BlockEntry) (n m : ℕ) (b : BlockEntry) → BlocksInOrder s.lo.order bs → IsBegun bs s.lo n → n ≤ length bs → m ≡ n - 1
     → is_lt (cut_cmp s.lo s.hi) ≡ true → slice_get bs m ≡ Some b → is_lt (cut_cmp b.cut s.hi) ≡ true → Answers s bs (Some m)
 first_at s bs n m b are begun most is some e before =
     subst (λ (k : ℕ). Answers s bs (Some k)) (sym is)

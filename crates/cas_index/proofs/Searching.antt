@@ -1,14 +1,14 @@
--- What a search by halves finds in a list that ascends.
-use Rattle.std.proofs.Common.{◌≡◌, ℕ, ◌+◌, ◌-◌, ◌<◌, ◌≤◌, ◌⊎◌, Bool, true, false, not, ◌&&◌, List, [], ◌∷◌, ◌++◌, length, get_or, Option, None, Some, inl, inr, refl, sym, ap, ◌∙◌, arith}
+-- What a search by halves finds in a list that doesn't descend.
+use Rattle.std.proofs.Common.{◌≡◌, ℕ, zero, suc, ◌+◌, ◌-◌, ◌<◌, ◌≤◌, Bool, true, false, not, ◌&&◌, List, [], ◌∷◌, ◌++◌, length, get_or, Option, None, Some, inl, inr, refl, sym, ap, ◌∙◌, arith}
 use Rattle.std.specs.Prelude.{slice_get}
 use Rattle.std.specs.List.{AllByRecursion, last_or}
-use Rattle.std.specs.List.Sorted.{IsStrictlySortedBy, IsPartitionedBy, IsPartitionPoint}
+use Rattle.std.specs.List.Sorted.{IsStrictlySortedBy, IsSorted, IsPartitionedBy, IsPartitionPoint}
 use Rattle.std.specs.declared.cmp.Ordering.{Ordering}
 use Rattle.std.specs.declared.cmp.Ordering.TheVariants.{Less, Equal, Greater}
 use Rattle.std.specs.Ordering.{is_lt, is_gt, ordering_reverse}
 use Rattle.std.specs.Cmp.{IsTotalOrder}
 use Rattle.std.proofs.lemmas.Bool.{true≢false, cases_lt, and_left, and_right, and_from}
-use Rattle.std.proofs.lemmas.Cmp.{alike_right}
+use Rattle.std.proofs.lemmas.Cmp.{upto, tied_itself}
 use Rattle.std.proofs.lemmas.Map.Keys.{Less-from_sorted}
 use Rattle.std.proofs.lemmas.Option.{slice_get-get_or, slice_get_within}
 use Rattle.cas_index.specs.Allowed.{Chain}
@@ -32,7 +32,7 @@ after_one F c Q trans step x (y ∷ ys) q chain =
     let rest = after_one F c Q trans step y ys s.1 chain.1 in
     ((s.0, all_above c trans x y ys s.0 rest.0), rest)
 
--- what each of a chain is, and that they ascend
+-- they ascend, where each stands above the one before it
 pub chain_ascends : {A : Type 0} (F : Option A → A → Type 0) (c : A → A → Ordering) (Q : A → Type 0)
     → ((x y z : A) → c x y ≡ Less → c y z ≡ Less → c x z ≡ Less)
     → ((x : A) → F None x → Q x) → ((x y : A) → Q x → F (Some x) y → (c x y ≡ Less) × Q y)
@@ -41,6 +41,27 @@ unfolding IsStrictlySortedBy
 chain_ascends F c Q trans first step [] chain = tt
 chain_ascends F c Q trans first step (x ∷ xs) chain = after_one F c Q trans step x xs (first x chain.0) chain.1
 
+one_more : (k : ℕ) → k + 1 ≡ suc k
+one_more k = omega arith
+
+-- they don't descend, where none stands below the one before it
+rises_from : {A : Type 0} (F : Option A → A → Type 0) (c : A → A → Ordering) (Q : A → Type 0)
+    → ((x y : A) → Q x → F (Some x) y → (is_lt (c y x) ≡ false) × Q y)
+    → (x : A) (ys : List A) → Q x → Chain F (Some x) ys → (k : ℕ) (d : A) → suc k < length (x ∷ ys)
+    → is_lt (c (get_or (x ∷ ys) (suc k) d) (get_or (x ∷ ys) k d)) ≡ false
+rises_from F c Q step x [] q chain k d within = absurd (omega arith)
+rises_from F c Q step x (y ∷ ys) q chain zero d within = (step x y q chain.0).0
+rises_from F c Q step x (y ∷ ys) q chain (suc k) d within = rises_from F c Q step y ys (step x y q chain.0).1 chain.1 k d (omega arith)
+
+pub chain_rises : {A : Type 0} (F : Option A → A → Type 0) (c : A → A → Ordering) (Q : A → Type 0)
+    → ((x : A) → F None x → Q x) → ((x y : A) → Q x → F (Some x) y → (is_lt (c y x) ≡ false) × Q y)
+    → (xs : List A) → Chain F None xs → IsSorted c xs
+chain_rises F c Q first step [] chain k d low within = absurd (omega arith)
+chain_rises F c Q first step (x ∷ xs) chain k d low within =
+    ap (λ (m : ℕ). is_lt (c (get_or (x ∷ xs) m d) (get_or (x ∷ xs) k d))) (one_more k)
+    ∙ rises_from F c Q step x xs (first x chain.0) chain.1 k d (omega (arith, within))
+
+-- what each of a chain is
 pub chain_each : {A : Type 0} (F : Option A → A → Type 0) (Q : A → Type 0) → ((o : Option A) (x : A) → F o x → Q x) → (o : Option A) (xs : List A) → Chain F o xs
     → AllByRecursion Q xs
 chain_each F Q each o [] chain = tt
@@ -50,7 +71,7 @@ pub chain_more : {A : Type 0} (F : Option A → A → Type 0) (o : Option A) (xs
 chain_more F o [] x chain follows = (follows, tt)
 chain_more F o (y ∷ ys) x chain follows = (chain.0, chain_more F (Some y) ys x chain.1 follows)
 
--- ---- where a key stands among those that ascend
+-- ---- where a key stands among those that don't descend
 
 some_none : {X : Type 0} (x : X) (o : Option X) → o ≡ Some x → o ≡ None → ⊥
 some_none x o e f = absurd cc
@@ -66,7 +87,7 @@ lt_less Greater e = absurd cc
 pub less_lt : (o : Ordering) → o ≡ Less → is_lt o ≡ true
 less_lt o e = rw e refl
 
-turned : (o : Ordering) → is_lt (ordering_reverse o) ≡ is_gt o
+pub turned : (o : Ordering) → is_lt (ordering_reverse o) ≡ is_gt o
 turned Less = refl
 turned Equal = refl
 turned Greater = refl
@@ -87,9 +108,6 @@ gt_is Greater e = refl
 pub less_not_gt : (o : Ordering) → o ≡ Less → is_gt o ≡ false
 less_not_gt o e = rw e refl
 
-one_of_two : (i j : ℕ) → i ≤ j → (i ≡ j) ⊎ (i < j)
-one_of_two i j low = elim (cases_lt i j) [ inl less ↦ inr less | inr more ↦ inl (omega arith) ]
-
 pub none_within : {X : Type 0} (xs : List X) (i : ℕ) → i < length xs → slice_get xs i ≡ None → ⊥
 none_within [] i within e = absurd (omega arith)
 none_within (x ∷ xs) i within e = some_none _ _ (slice_get-get_or (x ∷ xs) i x within) e
@@ -100,41 +118,53 @@ some_at xs i x within e = some_same _ _ _ (slice_get-get_or xs i x within) e
 pub get_or_any : {X : Type 0} (xs : List X) (i : ℕ) (x d : X) → i < length xs → slice_get xs i ≡ Some x → get_or xs i d ≡ x
 get_or_any xs i x d within e = some_same _ _ _ (slice_get-get_or xs i d within) e
 
--- in a list that ascends by their keys, against a key t
+-- in a list whose keys don't descend, against a key t
 module _ (X K : Type 0) (f : X → K) (R : K → K → Ordering) (total : IsTotalOrder R) where
-  -- x stands below y, and y not above t
-  upto_less : (x y t : K) → R x y ≡ Less → is_gt (R y t) ≡ false → R x t ≡ Less
-  upto_less x y t below low = by_order (R y t) refl low
-    where
-      by_order : (o : Ordering) → R y t ≡ o → is_gt o ≡ false → R x t ≡ Less
-      by_order Less e g = total.trans x y t below e
-      by_order Equal e g = sym (alike_right total y t x e) ∙ below
-      by_order Greater e g = absurd cc
-
   turned_gt : (x y : K) → is_lt (R y x) ≡ is_gt (R x y)
   turned_gt x y = ap is_lt (total.antisymm y x) ∙ turned (R x y)
 
-  abbrev Ascends : List X → Type 0
-  Ascends xs = IsStrictlySortedBy (λ x y. R (f x) (f y)) xs
+  -- x isn't above y, and y stands below t
+  upto_less : (x y t : K) → is_gt (R x y) ≡ false → R y t ≡ Less → R x t ≡ Less
+  upto_less x y t low below = by_order (R x y) refl low
+    where
+      by_order : (o : Ordering) → R x y ≡ o → is_gt o ≡ false → R x t ≡ Less
+      by_order Less e g = total.trans x y t e below
+      by_order Equal e g = total.congr x y t e ∙ below
+      by_order Greater e g = absurd cc
 
-  below : (xs : List X) (i j : ℕ) (d : X) → Ascends xs → i < j → j < length xs → R (f (get_or xs i d)) (f (get_or xs j d)) ≡ Less
-  below xs i j d ascend low within = Less-from_sorted (λ x y. R (f x) (f y)) xs i j d ascend low within
+  abbrev Rises : List X → Type 0
+  Rises xs = IsSorted (λ x y. R (f x) (f y)) xs
+
+  -- those that ascend don't descend
+  pub ascend_rises : (xs : List X) → IsStrictlySortedBy (λ x y. R (f x) (f y)) xs → Rises xs
+  ascend_rises xs ascend k d low within =
+      turned_gt (f (get_or xs k d)) (f (get_or xs (k + 1) d))
+      ∙ less_not_gt _ (Less-from_sorted (λ x y. R (f x) (f y)) xs k (k + 1) d ascend (omega arith) within)
+
+  below : (xs : List X) (i j : ℕ) (d : X) → Rises xs → i ≤ j → j < length xs → is_gt (R (f (get_or xs i d)) (f (get_or xs j d))) ≡ false
+  below xs i zero d rise low within =
+      let same : i ≡ 0 = omega arith in
+      ap (λ (k : ℕ). is_gt (R (f (get_or xs k d)) (f (get_or xs 0 d)))) same ∙ ap is_gt (tied_itself total (f (get_or xs 0 d)))
+  below xs i (suc j) d rise low within =
+      elim (cases_lt j i) [
+        | inl last ↦
+            let same : i ≡ suc j = omega arith in
+            ap (λ (k : ℕ). is_gt (R (f (get_or xs k d)) (f (get_or xs (suc j) d)))) same ∙ ap is_gt (tied_itself total (f (get_or xs (suc j) d)))
+        | inr more ↦
+            upto total (f (get_or xs i d)) (f (get_or xs j d)) (f (get_or xs (suc j) d)) (below xs i j d rise more (omega arith))
+            (sym (turned_gt (f (get_or xs j d)) (f (get_or xs (suc j) d))) ∙ ap (λ (m : ℕ). is_lt (R (f (get_or xs m d)) (f (get_or xs j d)))) (sym (one_more j))
+            ∙ rise j d (omega arith) (omega arith))
+      ]
 
   -- those that don't stand above t come first
-  pub parted_upto : (xs : List X) (t : K) → Ascends xs → IsPartitionedBy (λ x. not (is_gt (R (f x) t))) xs
-  parted_upto xs t ascend i j d low within e =
-      elim (one_of_two i j low) [
-        | inl same ↦ ap (λ (k : ℕ). not (is_gt (R (f (get_or xs k d)) t))) same ∙ e
-        | inr less ↦ gt_not _ (less_not_gt _ (upto_less _ _ t (below xs i j d ascend less within) (not_gt _ e)))
-      ]
+  pub parted_upto : (xs : List X) (t : K) → Rises xs → IsPartitionedBy (λ x. not (is_gt (R (f x) t))) xs
+  parted_upto xs t rise i j d low within e =
+      gt_not _ (upto total (f (get_or xs i d)) (f (get_or xs j d)) t (below xs i j d rise low within) (not_gt _ e))
 
   -- and so do those that stand below it
-  pub parted_below : (xs : List X) (t : K) → Ascends xs → IsPartitionedBy (λ x. is_lt (R (f x) t)) xs
-  parted_below xs t ascend i j d low within e =
-      elim (one_of_two i j low) [
-        | inl same ↦ ap (λ (k : ℕ). is_lt (R (f (get_or xs k d)) t)) same ∙ e
-        | inr less ↦ less_lt _ (total.trans _ _ t (below xs i j d ascend less within) (lt_less _ e))
-      ]
+  pub parted_below : (xs : List X) (t : K) → Rises xs → IsPartitionedBy (λ x. is_lt (R (f x) t)) xs
+  parted_below xs t rise i j d low within e =
+      less_lt _ (upto_less (f (get_or xs i d)) (f (get_or xs j d)) t (below xs i j d rise low within) (lt_less _ e))
 
   -- ---- the first that meets what lies between two keys
 
@@ -183,35 +213,28 @@ module _ (X K : Type 0) (f : X → K) (R : K → K → Ordering) (total : IsTota
   pub no_items : (l h : K) (xs : List X) (n : ℕ) → n ≤ length xs → slice_get xs (n - 1) ≡ None → IsFirst (meets l h xs) (length xs) None
   no_items l h xs n most e i within = absurd (none_within xs (n - 1) (omega arith) e)
 
-  pub all_late : (l h : K) (xs : List X) (n : ℕ) (x : X) → Ascends xs → IsPoint l xs n → n ≤ length xs → slice_get xs (n - 1) ≡ Some x → is_lt (R (f x) h) ≡ false
+  pub all_late : (l h : K) (xs : List X) (n : ℕ) (x : X) → Rises xs → IsPoint l xs n → n ≤ length xs → slice_get xs (n - 1) ≡ Some x → is_lt (R (f x) h) ≡ false
       → IsFirst (meets l h xs) (length xs) None
-  all_late l h xs n x ascend point most e late i within =
+  all_late l h xs n x rise point most e late i within =
       elim (cases_lt i (n - 1)) [
         | inl low ↦ meets_late l h xs n i point most (omega arith)
-        | inr high ↦ and_right (is_lt (R l h)) _ (and_left (ends_before h (slice_get xs i)) _ (ends_late high))
+        | inr high ↦ and_right (is_lt (R l h)) _ (and_left (ends_before h (slice_get xs i)) _ (by_item (slice_get xs i) refl high))
       ]
     where
       first_is : x ≡ get_or xs (n - 1) x
       first_is = sym (some_at xs (n - 1) x (slice_get_within xs (n - 1) x e) e)
 
-      by_order : (d : X) (o : Ordering) → n - 1 < i → R (f d) h ≡ o → d ≡ get_or xs i x → is_lt o ≡ false
-      by_order d Less less r is =
-          let up : R (f x) (f d) ≡ Less =
-          ap (λ (y : X). R (f y) (f d)) first_is ∙ ap (λ (y : X). R (f (get_or xs (n - 1) x)) (f y)) is ∙ below xs (n - 1) i x ascend less within in
-          absurd (true≢false (sym (less_lt _ (total.trans (f x) (f d) h up r)) ∙ late))
-      by_order d Equal less r is = refl
-      by_order d Greater less r is = refl
+      by_order : (d : X) (o : Ordering) → n - 1 ≤ i → R (f d) h ≡ o → d ≡ get_or xs i x → is_lt o ≡ false
+      by_order d Less high r is =
+          let up : is_gt (R (f x) (f d)) ≡ false =
+          ap (λ (y : X). is_gt (R (f y) (f d))) first_is ∙ ap (λ (y : X). is_gt (R (f (get_or xs (n - 1) x)) (f y))) is ∙ below xs (n - 1) i x rise high within in
+          absurd (true≢false (sym (less_lt _ (upto_less (f x) (f d) h up r)) ∙ late))
+      by_order d Equal high r is = refl
+      by_order d Greater high r is = refl
 
       by_item : (o : Option X) → slice_get xs i ≡ o → n - 1 ≤ i → ends_before h o ≡ false
       by_item None g high = refl
-      by_item (Some d) g high =
-          elim (one_of_two (n - 1) i high) [
-            | inl same ↦ ap (λ (y : X). is_lt (R (f y) h)) (some_same (slice_get xs i) d x g (ap (slice_get xs) (sym same) ∙ e)) ∙ late
-            | inr less ↦ by_order d (R (f d) h) less refl (sym (get_or_any xs i d x within g))
-          ]
-
-      ends_late : n - 1 ≤ i → ends_before h (slice_get xs i) ≡ false
-      ends_late high = by_item (slice_get xs i) refl high
+      by_item (Some d) g high = by_order d (R (f d) h) high refl (sym (get_or_any xs i d x within g))
 
   pub first_meets : (l h : K) (xs : List X) (n : ℕ) (x : X) → IsPoint l xs n → n ≤ length xs → is_lt (R l h) ≡ true → slice_get xs (n - 1) ≡ Some x
       → is_lt (R (f x) h) ≡ true → IsFirst (meets l h xs) (length xs) (Some (n - 1))

@@ -18,10 +18,10 @@ Chain Follows last (x ∷ xs) = Follows last x × Chain Follows (Some x) xs
 abbrev pub IsBehind : ℕ → ℕ → Type 0
 IsBehind last place = (last < place) × (place < 2 ^ 64)
 
--- a block that may follow another one in a partition at that place: cuts and places ascend
+-- a block that may follow another one in a partition at that place: cuts don't descend, and places ascend
 pub record IsNextBlock (order : List Ordered) (place : ℕ) (last : Option BlockEntry) (b : BlockEntry) : Type 0 where
   pub cut : FitsCut order b.cut
-  pub above : is_next_cut last b.cut ≡ true
+  pub upward : is_next_cut last b.cut ≡ true
   pub behind : IsBehind (block_place place last) b.place
   pub in_force : IfSome b.in_force FitsDeletion
 

@@ -1,8 +1,8 @@
 -- The index of a table file, as a list.
 -- Own.
-use Rattle.std.specs.Prelude.{ℕ, Bool, true, Option, None, Some, List}
+use Rattle.std.specs.Prelude.{ℕ, Bool, true, not, Option, None, Some, List}
 use Rattle.std.specs.List.{last_or}
-use Rattle.std.specs.Ordering.{is_lt}
+use Rattle.std.specs.Ordering.{is_lt, is_gt}
 use Rattle.cas_types.specs.Values.{bytes_cmp}
 use Rattle.cas_bounds.specs.Cuts.{cut_cmp}
 use Rattle.cas_bounds.specs.declared.order.Ordered.{Ordered}
@@ -15,10 +15,10 @@ pub record Index : Type 0 where
   pub order : List Ordered
   pub partitions : List PartitionEntry
 
--- the cut stands above that of the block before it, if there is one
+-- the cut doesn't stand below that of the block before it, if there is one
 abbrev pub is_next_cut : Option BlockEntry → Cut → Bool
 is_next_cut None cut = true
-is_next_cut (Some b) cut = is_lt (cut_cmp b.cut cut)
+is_next_cut (Some b) cut = not (is_gt (cut_cmp b.cut cut))
 
 -- the key stands above that of the partition before it, by unsigned bytes
 abbrev pub is_next_key : Option PartitionEntry → List ℕ → Bool

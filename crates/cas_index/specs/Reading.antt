@@ -24,7 +24,7 @@ following_at reading (suc n) last left = do
 unfoldable pub place_at : ℕ → Left → Read ℕ
 place_at last left = checked (nat_lt last) u64_at left
 
--- a block of a partition at that place: a cut above that of the block before, a place behind its place, and perhaps a deletion
+-- a block of a partition at that place: a cut not below that of the block before, a place behind its place, and perhaps a deletion
 unfoldable pub block_at : List Ordered → ℕ → Option BlockEntry → Left → Read BlockEntry
 block_at order place last left = do
   cut ← checked (is_next_cut last) (cut_at order) left

@@ -56,7 +56,7 @@ fn read_next_cut(
     let at = reader.at();
     let cut = read_cut(alloc, reader, order)?;
     if let Some(last) = last(before) {
-        if !cmp_cut(&last.cut, &cut).is_lt() {
+        if cmp_cut(&last.cut, &cut).is_gt() {
             return Err(ReadFault::Bad { at });
         }
     }

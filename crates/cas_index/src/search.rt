@@ -9,7 +9,7 @@ ghost use Rattle.cas_bounds.specs.Points.{side};
 ghost use Rattle.cas_bounds.specs.Cuts.{cut_cmp};
 ghost use Rattle.cas_index.specs.declared.entries.PartitionEntry.{PartitionEntry};
 ghost use Rattle.cas_index.specs.Searches.{IsFirst, HasKey, IsNextAfter, IsSliceOf, can_meet, IsBlockFor};
-ghost use Rattle.cas_index.specs.Inner.Rooms.{KeysAscend, BlocksAscend};
+ghost use Rattle.cas_index.specs.Inner.Rooms.{KeysAscend, BlocksInOrder};
 
 use crate::entries::{BlockAt, BlockEntry, PartitionEntry};
 use crate::index::PartitionIndex;
@@ -123,7 +123,7 @@ fn begins_upto(block: &BlockEntry, cut: &Cut) -> bool
 
 // How many blocks don't begin above the cut.
 fn count_begun(blocks: &[BlockEntry], cut: &Cut) -> usize
-    requires { BlocksAscend cut.now.order blocks.now }
+    requires { BlocksInOrder cut.now.order blocks.now }
     ensures bound { result ≤ length blocks.now }
     ensures point { IsPartitionPoint (λ b. not (is_gt (cut_cmp b.cut cut.now)) ≡ true) (λ b. not (is_gt (cut_cmp b.cut cut.now)) ≡ false) blocks.now result }
 {
@@ -132,7 +132,7 @@ fn count_begun(blocks: &[BlockEntry], cut: &Cut) -> usize
 
 // The number of the first block that can hold something of the slice.
 fn number_for(blocks: &[BlockEntry], slice: &Slice) -> Option<usize>
-    requires ascend { BlocksAscend slice.now.lo.order blocks.now }
+    requires ordered { BlocksInOrder slice.now.lo.order blocks.now }
     requires one { slice.now.hi.order ≡ slice.now.lo.order }
     ensures { IsFirst (can_meet slice.now blocks.now) (length blocks.now) result }
 {
@@ -150,7 +150,7 @@ fn number_for(blocks: &[BlockEntry], slice: &Slice) -> Option<usize>
 
 // That block.
 fn block_in(blocks: &[BlockEntry], slice: &Slice) -> Option<BlockAt>
-    requires ascend { BlocksAscend slice.now.lo.order blocks.now }
+    requires ordered { BlocksInOrder slice.now.lo.order blocks.now }
     requires one { slice.now.hi.order ≡ slice.now.lo.order }
     requires few { length blocks.now < 2 ^ 32 }
     ensures { IsBlockFor slice.now blocks.now result }

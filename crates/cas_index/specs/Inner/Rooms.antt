@@ -1,7 +1,7 @@
 -- Which blocks and partitions have room in their fields, and what a search asks of their order.
 use Rattle.std.specs.Prelude.{◌≡◌, ◌<◌, ◌^◌, List, length}
 use Rattle.std.specs.List.{All, AllByRecursion}
-use Rattle.std.specs.List.Sorted.{IsStrictlySortedBy}
+use Rattle.std.specs.List.Sorted.{IsStrictlySortedBy, IsSorted}
 use Rattle.cas_types.specs.Values.{bytes_cmp}
 use Rattle.cas_bounds.specs.Points.{point_cmp, cut_point}
 use Rattle.cas_bounds.specs.declared.order.Ordered.{Ordered}
@@ -23,7 +23,7 @@ pub record HasRooms (p : PartitionEntry) : Type 0 where
 abbrev pub KeysAscend : List PartitionEntry → Type 0
 KeysAscend partitions = IsStrictlySortedBy (λ p q. bytes_cmp p.key q.key) partitions
 
--- blocks of a table that orders its rows so, whose cuts ascend
-pub record BlocksAscend (order : List Ordered) (blocks : List BlockEntry) : Type 0 where
+-- blocks of a table that orders its rows so, whose cuts don't descend
+pub record BlocksInOrder (order : List Ordered) (blocks : List BlockEntry) : Type 0 where
   pub one : All (λ b. b.cut.order ≡ order) blocks
-  pub ascend : IsStrictlySortedBy (λ b c. point_cmp order (cut_point b.cut) (cut_point c.cut)) blocks
+  pub cuts : IsSorted (λ b c. point_cmp order (cut_point b.cut) (cut_point c.cut)) blocks
