@@ -1,12 +1,11 @@
 -- Blocks are read exactly.
-use Rattle.std.proofs.Common.{◌≡◌, ℕ, zero, suc, ◌+◌, ◌-◌, ◌<◌, ◌≤◌, ◌^◌, ◌++◌, Bool, true, false, cond, eqb, leb, Option, None, Some, List, [], ◌∷◌, length, Result, Ok, Err, refl, sym, ap, subst, ◌∙◌, append_assoc, arith}
-use Rattle.std.specs.List.{AllByRecursion, flat_map}
+use Rattle.std.proofs.Common.{◌≡◌, ℕ, zero, suc, ◌+◌, ◌-◌, ◌<◌, ◌≤◌, ◌++◌, Bool, true, false, cond, eqb, leb, List, [], ◌∷◌, length, Result, Ok, Err, refl, sym, ap, subst, ◌∙◌, arith}
+use Rattle.std.specs.List.{AllByRecursion}
 use Rattle.std.proofs.lemmas.Bool.{eqb-true, leb-true, leb-false}
 use Rattle.std.proofs.lemmas.List.{append-nil, length-append}
 use Rattle.cas_types.specs.Limits.{IsNarrow}
 use Rattle.cas_types.specs.declared.schema.Column.{Column}
 use Rattle.cas_bounds.specs.ClusteringOrder.{clustering_order}
-use Rattle.cas_bounds.specs.declared.order.Ordered.{Ordered}
 use Rattle.cas_codec.specs.declared.fault.ReadFault.{ReadFault}
 use Rattle.cas_codec.specs.declared.fault.ReadFault.TheVariants.{Bad}
 use Rattle.cas_codec.specs.Reading.{Left, Read, ◌>>=◌}
@@ -21,19 +20,19 @@ use Rattle.cas_fragments.specs.Spelling.{row_bytes, marker_bytes, fragment_bytes
 use Rattle.cas_fragments.specs.Blocks.{Reached, past, may_follow, Follow, BeginEarly}
 use Rattle.cas_fragments.specs.Reading.{fragment_at, next_fragment_at, early_fragment_at, fragments_at, body_at}
 use Rattle.cas_fragments.specs.Allowed.{FitsFragment}
-use Rattle.cas_fragments.specs.Laws.{IsBlock, BlocksAreExact}
+use Rattle.cas_fragments.specs.Laws.{BlocksAreExact}
 use Rattle.cas_fragments.specs.declared.blocks.TheConstants.{BLOCK_LEAST}
 use Rattle.cas_fragments.proofs.FragmentLaws.{fragment_exact}
 use Rattle.cas_fragments.proofs.BlockLoop.{some_length}
 
 -- ---- a fragment takes a byte at least
 
-some_bytes : (columns : List Column) (f : Fragment) → FitsFragment columns f → 0 < length (fragment_bytes f)
+pub some_bytes : (columns : List Column) (f : Fragment) → FitsFragment columns f → 0 < length (fragment_bytes f)
 some_bytes columns (fragment.Static cs) fit = absurd fit
 some_bytes columns (fragment.Row r) fit = omega (arith, length-append (u8 1) (row_bytes r), u8_long 1)
 some_bytes columns (fragment.Marker cut d) fit = omega (arith, length-append (u8 2) (marker_bytes cut d), u8_long 2)
 
-body_longer : (f : Fragment) (fs : List Fragment) → length (body_bytes (f ∷ fs)) ≡ length (fragment_bytes f) + length (body_bytes fs)
+pub body_longer : (f : Fragment) (fs : List Fragment) → length (body_bytes (f ∷ fs)) ≡ length (fragment_bytes f) + length (body_bytes fs)
 body_longer f fs = length-append (fragment_bytes f) (body_bytes fs)
 
 pub few_fragments : (columns : List Column) (fs : List Fragment) → AllByRecursion (FitsFragment columns) fs → length fs ≤ length (body_bytes fs)

@@ -1,17 +1,15 @@
 -- How a loop comes by the fragments of a block.
-use Rattle.std.proofs.Common.{◌≡◌, ℕ, zero, suc, ◌+◌, ◌-◌, ◌<◌, ◌≤◌, ◌≢◌, ◌++◌, Bool, true, false, cond, eqb, leb, Option, None, Some, List, [], ◌∷◌, length, Ok, Err, refl, sym, ap, subst, ◌∙◌, append_assoc, arith}
+use Rattle.std.proofs.Common.{◌≡◌, ℕ, suc, ◌+◌, ◌-◌, ◌<◌, ◌≤◌, ◌≢◌, ◌++◌, Bool, true, false, eqb, Option, None, Some, List, [], ◌∷◌, length, Ok, Err, refl, sym, ap, subst, ◌∙◌, append_assoc, arith}
 use Rattle.std.specs.Prelude.{slice_get}
 use Rattle.std.specs.List.{last_or}
 use Rattle.std.proofs.lemmas.Bool.{ne_eqb, eqb-true, eqb-false, true≢false}
-use Rattle.std.proofs.lemmas.List.{append-nil}
 use Rattle.cas_types.specs.declared.schema.Column.{Column}
 use Rattle.cas_cell.specs.declared.deletion.Deletion.{Deletion}
 use Rattle.cas_bounds.specs.declared.order.Ordered.{Ordered}
 use Rattle.cas_codec.specs.declared.fault.ReadFault.{ReadFault}
-use Rattle.cas_codec.specs.declared.fault.ReadFault.TheVariants.{Short, Bad}
+use Rattle.cas_codec.specs.declared.fault.ReadFault.TheVariants.{Short}
 use Rattle.cas_codec.specs.Reading.{Left, Read, ◌>>=◌}
 use Rattle.cas_codec.proofs.Times.{with_front}
-use Rattle.cas_streams.specs.Places.{Place, place_of}
 use Rattle.cas_streams.specs.Joined.{opened}
 use Rattle.cas_streams.specs.declared.fragment.Fragment.{Fragment}
 use Rattle.cas_fragments.specs.Blocks.{Reached, last_place, past, past_all}

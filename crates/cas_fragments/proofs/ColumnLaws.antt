@@ -1,17 +1,16 @@
 -- Columns of rows are read exactly.
-use Rattle.std.proofs.Common.{◌≡◌, ℕ, ◌<◌, ◌≤◌, ◌+◌, ◌^◌, Bool, true, false, cond, not, eqb, leb, ltb, Option, None, Some, List, [], ◌∷◌, ◌++◌, map, length, Ok, refl, sym, ap, subst, ◌∙◌, arith}
-use Rattle.std.specs.Prelude.{◌&&◌, ◌||◌, is_some, IfSome}
+use Rattle.std.proofs.Common.{◌≡◌, ℕ, ◌<◌, ◌≤◌, ◌^◌, Bool, true, false, cond, not, eqb, leb, ltb, Option, None, Some, List, [], ◌∷◌, ◌++◌, map, length, refl, sym, ap, subst, ◌∙◌, arith}
+use Rattle.std.specs.Prelude.{◌||◌, is_some, IfSome}
 use Rattle.std.specs.List.{AllByRecursion, flat_map}
 use Rattle.std.specs.List.Sorted.{IsStrictlySortedBy}
 use Rattle.std.specs.declared.cmp.Ordering.{Ordering}
-use Rattle.std.specs.declared.cmp.Ordering.TheVariants.{Less, Equal, Greater}
-use Rattle.std.specs.Ordering.{is_lt, nat_cmp}
-use Rattle.std.specs.Cmp.{IsTotalOrder}
-use Rattle.std.proofs.lemmas.Bool.{eqb-true, leb-true, le-leb, ltb-true, lt-ltb, and_parts, and_from}
+use Rattle.std.specs.declared.cmp.Ordering.TheVariants.{Less, Equal}
+use Rattle.std.specs.Ordering.{nat_cmp}
+use Rattle.std.proofs.lemmas.Bool.{eqb-true, le-leb, lt-ltb, and_from}
 use Rattle.std.proofs.lemmas.Cmp.{nat_cmp_total, tied_itself}
 use Rattle.std.proofs.lemmas.Option.{slice_get_within}
 use Rattle.cas_types.specs.Limits.{IsNarrow}
-use Rattle.cas_types.specs.Schemas.{is_regular, is_static, is_plain, path_type}
+use Rattle.cas_types.specs.Schemas.{is_plain, path_type}
 use Rattle.cas_types.specs.declared.schema.Column.{Column}
 use Rattle.cas_types.specs.declared.schema.Shape.{Shape}
 use Rattle.cas_types.specs.declared.schema.Shape.TheVariants as shape
@@ -19,8 +18,7 @@ use Rattle.cas_types.specs.declared.tag.TypeTag.{TypeTag}
 use Rattle.cas_types.specs.declared.limits.TheConstants.{COLUMN_LIMIT}
 use Rattle.cas_types.specs.declared.schema.Kind.{Kind}
 use Rattle.cas_cell.specs.declared.deletion.Deletion.{Deletion}
-use Rattle.cas_cell.specs.declared.cell.Cell.{Cell}
-use Rattle.cas_codec.specs.Reading.{Left, Read, ◌>>=◌, checked, u16_at, u32_at, flag_at, maybe_at}
+use Rattle.cas_codec.specs.Reading.{checked, u16_at, u32_at, flag_at, maybe_at}
 use Rattle.cas_codec.specs.Fields.{u16, u32, flag, bytes16, maybe}
 use Rattle.cas_codec.specs.Exact.{IsExact}
 use Rattle.cas_codec.proofs.Exactness.{exact_then, exact_checked, exact_map, exact_as}
@@ -33,14 +31,13 @@ use Rattle.cas_atoms.specs.declared.row.PathCell.{PathCell}
 use Rattle.cas_atoms.specs.declared.row.RowColumn.{RowColumn}
 use Rattle.cas_laws.proofs.ShownProofs.{path_orders}
 use Rattle.cas_records.specs.declared.columns.Wanted.{Wanted}
-use Rattle.cas_records.specs.declared.columns.Wanted.TheVariants.{Regular, Static}
 use Rattle.cas_records.specs.Spelling.{deletion_bytes, cell_bytes}
 use Rattle.cas_records.specs.Reading.{deletion_at, may_hold, cell_at}
 use Rattle.cas_records.specs.Columns.{is_wanted, column_at, path_at}
 use Rattle.cas_records.specs.Allowed.{FitsCellOf, IsNamed}
 use Rattle.cas_records.proofs.CellLaws.{deletion_exact, cell_exact}
 use Rattle.cas_records.proofs.ColumnLaws.{column_exact, path_exact}
-use Rattle.cas_streams.specs.Streams.{IsThere, IsColumn}
+use Rattle.cas_streams.specs.Streams.{IsThere}
 use Rattle.cas_fragments.specs.Spelling.{path_cell_bytes, cells_bytes, column_bytes, columns_bytes}
 use Rattle.cas_fragments.specs.Reading.{is_above, chain_at, next_path_at, path_cell_at, is_count, cells_at, none_at, emptied_at, next_column_at, row_column_at, columns_at}
 use Rattle.cas_fragments.specs.Allowed.{FitsPathCell, FitsColumn, FitColumns}
@@ -193,20 +190,23 @@ read_fits is_of wanted is columns before c fit =
     let (p, d, cells, fit-p, fit-d, fit-c, made) = fit in
     let total = (path_orders (path_type p.1.shape p.1.tag)).total in
     let all = chain_fits (λ x. x.path) (path_order p.1) (FitsPathCell p.1) total None cells fit-c.1 in
-    subst (FitsNext is_of columns before) made (record {
-      of = record {
-        column = p.1;
-        named = fit-p.0.0;
-        kind = sym (is p.1) ∙ fit-p.0.2;
-        ascend = chain_sorted (λ x. x.path) (path_order p.1) (FitsPathCell p.1) total None cells fit-c.1;
-        paths = each_path p.1 cells all;
-        collection = fit-d.1;
-        said = λ none. counted p.1 d cells fit-c.0.1 none;
-      };
-      deletion = fit-d.0;
-      cells = all;
-      few = fit-c.0.0;
-    }, fit-p.1)
+    subst (FitsNext is_of columns before) made (
+      record {
+        of = record {
+          column = p.1;
+          named = fit-p.0.0;
+          kind = sym (is p.1) ∙ fit-p.0.2;
+          ascend = chain_sorted (λ x. x.path) (path_order p.1) (FitsPathCell p.1) total None cells fit-c.1;
+          paths = each_path p.1 cells all;
+          collection = fit-d.1;
+          said = λ none. counted p.1 d cells fit-c.0.1 none;
+        };
+        deletion = fit-d.0;
+        cells = all;
+        few = fit-c.0.0;
+      },
+      fit-p.1,
+    )
 
 few_columns : (columns : List Column) (ref : ColumnRef) (column : Column) → IsNarrow columns → Names columns ref column → ref.number < 2 ^ 16
 few_columns columns ref column narrow named =
@@ -309,11 +309,14 @@ pub at_least_exact : (is_of : Kind → Bool) (wanted : Wanted) → ((column : Co
 at_least_exact is_of wanted is least columns narrow =
     exact_as (HaveNumber is_of least columns) (AreAtLeast is_of least columns) columns_bytes columns_bytes _ (columns_at wanted least columns)
     (numbered_exact is_of wanted is least columns narrow)
-    (λ cs fit. (record {
-      ascend = chain_sorted (λ c. c.column.number) nat_cmp (FitsColumn is_of columns) nat_cmp_total None cs fit.1;
-      each = chain_fits (λ c. c.column.number) nat_cmp (FitsColumn is_of columns) nat_cmp_total None cs fit.1;
-      few = fit.0.0;
-    }, fit.0.1))
+    (λ cs fit. (
+      record {
+        ascend = chain_sorted (λ c. c.column.number) nat_cmp (FitsColumn is_of columns) nat_cmp_total None cs fit.1;
+        each = chain_fits (λ c. c.column.number) nat_cmp (FitsColumn is_of columns) nat_cmp_total None cs fit.1;
+        few = fit.0.0;
+      },
+      fit.0.1,
+    ))
     (λ cs fit. ((fit.0.few, fit.1), sorted_chain (λ c. c.column.number) nat_cmp (FitsColumn is_of columns) nat_cmp_total cs fit.0.each fit.0.ascend))
     (λ cs. refl) (λ left. refl)
 

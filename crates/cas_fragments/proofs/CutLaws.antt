@@ -1,7 +1,7 @@
 -- A partition's fragments are cut into blocks in one way.
-use Rattle.std.proofs.Common.{◌≡◌, ℕ, ◌+◌, ◌<◌, ◌≤◌, ◌++◌, Bool, true, false, cond, leb, List, [], ◌∷◌, length, refl, sym, ap, subst, ◌∙◌, append_assoc, arith}
-use Rattle.std.specs.List.{AllByRecursion, flat_map}
-use Rattle.std.proofs.lemmas.Bool.{leb-true, leb-false, le-leb}
+use Rattle.std.proofs.Common.{◌≡◌, ℕ, ◌+◌, ◌<◌, ◌≤◌, ◌++◌, Bool, true, false, cond, List, [], ◌∷◌, length, refl, sym, ap, subst, ◌∙◌, append_assoc, arith}
+use Rattle.std.specs.List.{AllByRecursion}
+use Rattle.std.proofs.lemmas.Bool.{leb-true, leb-false}
 use Rattle.std.proofs.lemmas.List.{append-nil, length-append}
 use Rattle.cas_types.specs.declared.schema.Column.{Column}
 use Rattle.cas_bounds.specs.ClusteringOrder.{clustering_order}
@@ -9,7 +9,7 @@ use Rattle.cas_bounds.specs.declared.order.Ordered.{Ordered}
 use Rattle.cas_streams.specs.Streams.{IsThere}
 use Rattle.cas_streams.specs.declared.fragment.Fragment.{Fragment}
 use Rattle.cas_fragments.specs.Spelling.{fragment_bytes, body_bytes}
-use Rattle.cas_fragments.specs.Blocks.{Reached, past, past_all, may_follow, Follow, is_full, BeginEarly, last_block, blocks_from, blocks_of}
+use Rattle.cas_fragments.specs.Blocks.{Reached, past, past_all, Follow, is_full, BeginEarly, last_block, blocks_from, blocks_of}
 use Rattle.cas_fragments.specs.Allowed.{FitsFragment}
 use Rattle.cas_fragments.specs.Laws.{IsBlock, AreBlocks, joined, BlocksArePartitions}
 use Rattle.cas_fragments.specs.declared.blocks.TheConstants.{BLOCK_LEAST}
@@ -126,12 +126,12 @@ cut_from columns (f ∷ fs) r begun fit follow early below =
 
 -- ---- blocks are cut in one way
 
-fits_all : (columns : List Column) (r : Reached) (bs : List (List Fragment)) → AreBlocks columns r bs → AllByRecursion (FitsFragment columns) (joined bs)
+pub fits_all : (columns : List Column) (r : Reached) (bs : List (List Fragment)) → AreBlocks columns r bs → AllByRecursion (FitsFragment columns) (joined bs)
 fits_all columns r [] are = tt
 fits_all columns r (b ∷ []) are = all_both (FitsFragment columns) b [] are.fit tt
 fits_all columns r (b ∷ c ∷ bs) are = all_both (FitsFragment columns) b (joined (c ∷ bs)) are.0.fit (fits_all columns (past_all r b) (c ∷ bs) are.2)
 
-follows_all : (columns : List Column) (r : Reached) (bs : List (List Fragment)) → AreBlocks columns r bs → Follow (clustering_order columns) r (joined bs)
+pub follows_all : (columns : List Column) (r : Reached) (bs : List (List Fragment)) → AreBlocks columns r bs → Follow (clustering_order columns) r (joined bs)
 follows_all columns r [] are = tt
 follows_all columns r (b ∷ []) are = follow_both (clustering_order columns) r b [] are.follow tt
 follows_all columns r (b ∷ c ∷ bs) are =
@@ -171,7 +171,7 @@ last_cut (f ∷ g ∷ b) begun some early =
     ∙ last_cut (g ∷ b) (begun ++ f ∷ []) tt (subst (λ (n : ℕ). BeginEarly n (g ∷ b)) same early.1)
     ∙ ap (λ (xs : List Fragment). xs ∷ []) (pushed begun f (g ∷ b))
 
-one_way : (columns : List Column) (r : Reached) (bs : List (List Fragment)) → AreBlocks columns r bs → blocks_of (joined bs) ≡ bs
+pub one_way : (columns : List Column) (r : Reached) (bs : List (List Fragment)) → AreBlocks columns r bs → blocks_of (joined bs) ≡ bs
 one_way columns r [] are = refl
 one_way columns r (b ∷ []) are = ap blocks_of (append-nil b) ∙ last_cut b [] are.some are.early
 one_way columns r (b ∷ c ∷ bs) are =

@@ -1,5 +1,5 @@
 -- Rows, markers and fragments are read exactly.
-use Rattle.std.proofs.Common.{◌≡◌, ℕ, zero, suc, ◌<◌, ◌≤◌, ◌+◌, ◌^◌, leb, Bool, true, false, Option, None, Some, List, [], ◌∷◌, ◌++◌, map, length, Ok, refl, sym, ap, subst, ◌∙◌, arith}
+use Rattle.std.proofs.Common.{◌≡◌, ℕ, zero, suc, ◌<◌, ◌≤◌, ◌+◌, ◌^◌, leb, true, Option, None, Some, List, [], ◌∷◌, ◌++◌, length, Ok, refl, ap, subst, ◌∙◌, arith}
 use Rattle.std.specs.Prelude.{IfSome}
 use Rattle.std.specs.Int.{is_in_range}
 use Rattle.std.specs.List.{AllByRecursion, flat_map}
@@ -16,12 +16,10 @@ use Rattle.cas_bounds.specs.declared.cuts.Cut.{Cut}
 use Rattle.cas_codec.specs.Reading.{Left, checked, u8_at, maybe_at}
 use Rattle.cas_codec.specs.Fields.{u8, bytes16, maybe}
 use Rattle.cas_codec.specs.Exact.{AreBytes, Begins, IsExact}
-use Rattle.cas_codec.proofs.Exactness.{read_left, exact_then, exact_checked, exact_map, exact_as}
+use Rattle.cas_codec.proofs.Exactness.{read_left, exact_then, exact_checked, exact_map}
 use Rattle.cas_codec.proofs.FieldLaws.{u8_field, maybe_exact}
 use Rattle.cas_codec.proofs.Sequences.{exact_two, exact_three, exact_four}
 use Rattle.cas_atoms.specs.Fits.{FitsKey, FitsDeletion, FitsLive, FitsClustering, FitsCut}
-use Rattle.cas_atoms.specs.declared.atom.Atom.{Atom}
-use Rattle.cas_atoms.specs.declared.row.PathCell.{PathCell}
 use Rattle.cas_atoms.specs.declared.row.RowColumn.{RowColumn}
 use Rattle.cas_atoms.specs.declared.row.Row.{Row}
 use Rattle.cas_records.specs.declared.columns.Wanted.TheVariants.{Regular, Static}

@@ -1,5 +1,5 @@
 -- Fragments are as long as they are counted, and those that fit have a spelling.
-use Rattle.std.proofs.Common.{◌≡◌, ℕ, ◌+◌, ◌<◌, ◌≤◌, ◌^◌, ◌++◌, Bool, false, Option, None, Some, List, [], ◌∷◌, length, take, refl, ◌∙◌, arith}
+use Rattle.std.proofs.Common.{◌≡◌, ℕ, ◌+◌, ◌<◌, ◌^◌, ◌++◌, Bool, false, Option, None, Some, List, [], ◌∷◌, length, take, refl, ◌∙◌, arith}
 use Rattle.std.specs.List.{AllByRecursion, flat_map, sum_by}
 use Rattle.std.proofs.lemmas.List.{length-append}
 use Rattle.std.proofs.lemmas.List.Sums.{sum_by-cons}
@@ -13,7 +13,7 @@ use Rattle.cas_cell.specs.declared.deletion.Deletion.{Deletion}
 use Rattle.cas_cell.specs.declared.liveness.Liveness.{Liveness}
 use Rattle.cas_bounds.specs.ClusteringOrder.{clustering_order}
 use Rattle.cas_bounds.specs.declared.order.Ordered.{Ordered}
-use Rattle.cas_codec.specs.Fields.{u8, u16, u32, flag, bytes16, maybe}
+use Rattle.cas_codec.specs.Fields.{u8, u16, u32, bytes16, maybe}
 use Rattle.cas_codec.proofs.FieldLengths.{u8_long, u16_long, u32_long, flag_long, bytes16_long}
 use Rattle.cas_atoms.specs.Fits.{FitsValues}
 use Rattle.cas_atoms.specs.declared.row.PathCell.{PathCell}
@@ -27,7 +27,7 @@ use Rattle.cas_streams.specs.declared.fragment.Fragment.{Fragment}
 use Rattle.cas_streams.specs.declared.fragment.Fragment.TheVariants as fragment
 use Rattle.cas_fragments.specs.Spelling.{path_cell_bytes, cells_bytes, column_bytes, columns_bytes, row_bytes, marker_bytes, fragment_bytes}
 use Rattle.cas_fragments.specs.Lengths.{path_cell_length, maybe_deletion_length, maybe_live_length, column_length, columns_length, row_length, fragment_length}
-use Rattle.cas_fragments.specs.Allowed.{FitsPathCell, FitsColumn, FitColumns, FitsFragment, AreShort, CellHasRoom, ColumnHasRoom, HaveRoom, HasSpelling}
+use Rattle.cas_fragments.specs.Allowed.{FitsPathCell, FitsColumn, FitColumns, FitsFragment, CellHasRoom, ColumnHasRoom, HaveRoom, HasSpelling}
 
 pub cells_longer : (c : PathCell) (others : List PathCell) → sum_by path_cell_length (c ∷ others) ≡ path_cell_length c + sum_by path_cell_length others
 cells_longer c others = sum_by-cons path_cell_length c others

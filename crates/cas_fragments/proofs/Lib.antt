@@ -6,3 +6,4 @@ pub mod BlockLoop
 pub mod BlockLaws
 pub mod PartitionLaws
 pub mod CutLaws
+pub mod WholeLaws

@@ -1,34 +1,28 @@
 -- A partition's fragments are a well-formed stream, and are cut into blocks in one way.
-use Rattle.std.proofs.Common.{◌≡◌, ℕ, ◌+◌, ◌<◌, ◌≤◌, ◌++◌, Bool, true, false, cond, not, leb, Option, None, Some, List, [], ◌∷◌, map, length, refl, sym, ap, subst, ◌∙◌, append_assoc, arith}
+use Rattle.std.proofs.Common.{◌≡◌, ◌++◌, Bool, true, false, not, Option, None, List, [], ◌∷◌, map, refl, sym, ap, ◌∙◌}
 use Rattle.std.specs.List.{AllByRecursion, flat_map}
 use Rattle.std.specs.List.Sorted.{IsStrictlySortedBy}
 use Rattle.std.specs.Ordering.{is_lt}
-use Rattle.std.specs.declared.cmp.Ordering.{Ordering}
-use Rattle.std.specs.declared.cmp.Ordering.TheVariants.{Less, Equal, Greater}
-use Rattle.std.proofs.lemmas.Bool.{and_parts, and_from, leb-true, leb-false, le-leb, not-true, true≢false}
-use Rattle.std.proofs.lemmas.List.{append-nil, length-append}
+use Rattle.std.specs.declared.cmp.Ordering.TheVariants.{Less}
+use Rattle.std.proofs.lemmas.Bool.{and_parts, and_from, not-true, true≢false}
 use Rattle.cas_types.specs.Schemas.{is_static, is_regular}
 use Rattle.cas_types.specs.declared.schema.Column.{Column}
 use Rattle.cas_types.specs.declared.schema.Kind.{Kind}
 use Rattle.cas_cell.specs.declared.deletion.Deletion.{Deletion}
 use Rattle.cas_bounds.specs.ClusteringOrder.{clustering_order}
 use Rattle.cas_bounds.specs.declared.order.Ordered.{Ordered}
-use Rattle.cas_bounds.specs.declared.cuts.Clustering.{Clustering}
 use Rattle.cas_atoms.specs.declared.row.RowColumn.{RowColumn}
 use Rattle.cas_streams.specs.Places.{Place, place_of, place_cmp}
-use Rattle.cas_streams.specs.Flat.{changes, at_end, own, of_column}
-use Rattle.cas_streams.specs.Joined.{opened}
+use Rattle.cas_streams.specs.Flat.{changes, at_end, of_column}
 use Rattle.cas_streams.specs.Settled.{same_force}
-use Rattle.cas_streams.specs.Streams.{IsOf, IsThere, IsColumn, AreColumns, IsFragment, Differ, IsOrdered, WellFormed}
+use Rattle.cas_streams.specs.Streams.{IsOf, IsColumn, AreColumns, IsFragment, Differ, WellFormed}
 use Rattle.cas_streams.specs.declared.fragment.Fragment.{Fragment}
 use Rattle.cas_streams.specs.declared.fragment.Fragment.TheVariants as fragment
 use Rattle.cas_streams.proofs.Forces.{places_total}
 use Rattle.cas_streams.proofs.Settling.{same_force_is, same_force_itself}
-use Rattle.cas_fragments.specs.Spelling.{fragment_bytes, body_bytes}
-use Rattle.cas_fragments.specs.Blocks.{Reached, nowhere, past, past_all, is_change, may_follow, Follow, is_full, BeginEarly, last_block, blocks_from, blocks_of}
-use Rattle.cas_fragments.specs.Allowed.{FitsColumn, FitColumns, FitsRow, FitsFragment}
-use Rattle.cas_fragments.specs.Laws.{IsBlock, static_of, IsWhole, WholesAreStreams, AreBlocks, joined, BlocksArePartitions}
-use Rattle.cas_fragments.specs.declared.blocks.TheConstants.{BLOCK_LEAST}
+use Rattle.cas_fragments.specs.Blocks.{Reached, nowhere, past, past_all, is_change, may_follow, Follow}
+use Rattle.cas_fragments.specs.Allowed.{FitsColumn, FitColumns, FitsFragment}
+use Rattle.cas_fragments.specs.Laws.{static_of, IsWhole, WholesAreStreams}
 use Rattle.cas_fragments.proofs.ChainLaws.{is_less}
 use Rattle.cas_fragments.proofs.FragmentLaws.{column_there, there_before}
 
@@ -96,9 +90,9 @@ sorted_follow order r (fragment.Static cs ∷ fs) above sorted differ =
 sorted_follow order r (fragment.Row row ∷ fs) above sorted differ =
     (may order r (fragment.Row row) above.0 refl, sorted_follow order (past r (fragment.Row row)) fs sorted.0 sorted.1 differ)
 sorted_follow order r (fragment.Marker cut d ∷ fs) above sorted differ = (
-      may order r (fragment.Marker cut d) above.0 (different r.force d differ.0),
-      sorted_follow order (past r (fragment.Marker cut d)) fs sorted.0 sorted.1 differ.1,
-    )
+  may order r (fragment.Marker cut d) above.0 (different r.force d differ.0),
+  sorted_follow order (past r (fragment.Marker cut d)) fs sorted.0 sorted.1 differ.1,
+)
 
 -- ---- streams
 
@@ -124,7 +118,7 @@ each_so : {X : Type 0} (P Q : X → Type 0) → ((x : X) → P x → Q x) → (x
 each_so P Q so [] all = tt
 each_so P Q so (x ∷ xs) all = (so x all.0, each_so P Q so xs all.1)
 
-whole_stream : (columns : List Column) (cs : List RowColumn) (fs : List Fragment) → FitColumns is_static columns cs → IsWhole columns fs
+pub whole_stream : (columns : List Column) (cs : List RowColumn) (fs : List Fragment) → FitColumns is_static columns cs → IsWhole columns fs
     → WellFormed columns (static_of cs ++ fs)
 unfolding IsStrictlySortedBy
 whole_stream columns [] fs statics w = record {
@@ -156,7 +150,7 @@ all_behind columns (fragment.Static cs ∷ fs) fit = absurd (fit.0)
 all_behind columns (fragment.Row r ∷ fs) fit = (refl, all_behind columns fs fit.1)
 all_behind columns (fragment.Marker cut d ∷ fs) fit = (refl, all_behind columns fs fit.1)
 
-stream_whole : (columns : List Column) (cs : List RowColumn) (fs : List Fragment) → AllByRecursion (FitsFragment columns) fs
+pub stream_whole : (columns : List Column) (cs : List RowColumn) (fs : List Fragment) → AllByRecursion (FitsFragment columns) fs
     → WellFormed columns (static_of cs ++ fs) → IsWhole columns fs
 unfolding IsStrictlySortedBy
 stream_whole columns [] fs fit w = record {

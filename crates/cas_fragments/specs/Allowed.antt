@@ -1,7 +1,7 @@
 -- Which columns, rows and fragments a table file holds: those that a stream of the table may have, of values that a table may hold, whose numbers and
 -- lengths their fields can tell.
 -- CQL documentation, "Data types: collections" and "Data definition: static columns"; own.
-use Rattle.std.specs.Prelude.{◌≡◌, ◌^◌, ◌<◌, ℕ, Bool, List, length, map, Option, IfSome}
+use Rattle.std.specs.Prelude.{◌^◌, ◌<◌, ℕ, Bool, List, length, map, Option, IfSome}
 use Rattle.std.specs.List.{AllByRecursion}
 use Rattle.std.specs.List.Sorted.{IsStrictlySortedBy}
 use Rattle.std.specs.Ordering.{nat_cmp}

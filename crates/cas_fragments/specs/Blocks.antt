@@ -1,6 +1,7 @@
 -- How a partition's fragments are cut into blocks, and which fragments may stand behind others.
 -- Own format.
-use Rattle.std.specs.Prelude.{◌≡◌, ℕ, ◌+◌, ◌<◌, nat_le, Bool, true, ◌&&◌, not, List, [], ◌∷◌, ◌++◌, length, Option, None, Some, if◌then◌else◌}
+use Rattle.std.specs.Prelude.{◌≡◌, ℕ, ◌+◌, ◌<◌, nat_lt, nat_le, Bool, true, ◌&&◌, ◌||◌, not, List, [], ◌∷◌, ◌++◌, length}
+use Rattle.std.specs.Prelude.{Option, None, Some, is_some, if◌then◌else◌}
 use Rattle.std.specs.List.{flat_map}
 use Rattle.std.specs.Ordering.{is_lt}
 use Rattle.cas_cell.specs.declared.deletion.Deletion.{Deletion}
@@ -58,7 +59,7 @@ Follow order r (f ∷ fs) = (may_follow order r f ≡ true) × Follow order (pas
 
 -- ---- blocks
 
--- fragments that are as long as a block must be to end, unless the partition does
+-- fragments that are so long that their block ends
 abbrev pub is_full : List Fragment → Bool
 is_full fs = nat_le BLOCK_LEAST (length (body_bytes fs))
 
@@ -67,7 +68,7 @@ abbrev pub BeginEarly : ℕ → List Fragment → Type 0
 BeginEarly used [] = Unit {0}
 BeginEarly used (f ∷ fs) = (used < BLOCK_LEAST) × BeginEarly (used + length (fragment_bytes f)) fs
 
--- what is left in the end of a block that was begun, if anything is
+-- a block that was begun and that the partition ends, if anything stands in it
 abbrev pub last_block : List Fragment → List (List Fragment)
 last_block [] = []
 last_block (f ∷ fs) = (f ∷ fs) ∷ []
@@ -92,16 +93,24 @@ statics_in (fragment.Row r ∷ fs) = []
 statics_in (fragment.Marker cut d ∷ fs) = []
 
 -- its rows and markers
-abbrev pub moving_in : List Fragment → List Fragment
-moving_in [] = []
-moving_in (fragment.Static cs ∷ fs) = fs
-moving_in (fragment.Row r ∷ fs) = fragment.Row r ∷ fs
-moving_in (fragment.Marker cut d ∷ fs) = fragment.Marker cut d ∷ fs
+abbrev pub behind_statics : List Fragment → List Fragment
+behind_statics [] = []
+behind_statics (fragment.Static cs ∷ fs) = fs
+behind_statics (fragment.Row r ∷ fs) = fragment.Row r ∷ fs
+behind_statics (fragment.Marker cut d ∷ fs) = fragment.Marker cut d ∷ fs
 
 -- the head of a partition: its key, perhaps the DELETE of all of it, and its static columns
 abbrev pub head_bytes : List ℕ → Option Deletion → List RowColumn → List ℕ
 head_bytes key top cs = bytes16 key ++ (maybe deletion_bytes top ++ columns_bytes cs)
 
--- a partition: its head, the blocks of its rows and markers, and a length of 0
+-- the blocks, and a length of 0
+abbrev pub blocks_bytes : List (List Fragment) → List ℕ
+blocks_bytes bs = flat_map block_bytes bs ++ u32 0
+
+-- the head says something of the partition: a DELETE of all of it, or a static column
+abbrev pub says_head : List ℕ × Option Deletion × List RowColumn → Bool
+says_head h = is_some h.1 || nat_lt 0 (length h.2)
+
+-- a partition: its head, and the blocks of its rows and markers
 abbrev pub partition_bytes : List ℕ → Option Deletion → List Fragment → List ℕ
-partition_bytes key top fs = head_bytes key top (statics_in fs) ++ (flat_map block_bytes (blocks_of (moving_in fs)) ++ u32 0)
+partition_bytes key top fs = head_bytes key top (statics_in fs) ++ blocks_bytes (blocks_of (behind_statics fs))

@@ -1,23 +1,24 @@
 -- What holds of blocks and of a partition's fragments.
 -- Own format.
-use Rattle.std.specs.Prelude.{◌≡◌, ℕ, ◌+◌, true, List, [], ◌∷◌, ◌++◌, length, None, Ok}
+use Rattle.std.specs.Prelude.{◌≡◌, ℕ, ◌+◌, ◌^◌, ◌<◌, Bool, true, false, List, [], ◌∷◌, ◌++◌, length, Option, None, is_none, Ok}
 use Rattle.std.specs.List.{AllByRecursion, flat_map}
 use Rattle.cas_types.specs.Limits.{IsNarrow}
 use Rattle.cas_types.specs.Schemas.{is_static}
 use Rattle.cas_types.specs.declared.schema.Column.{Column}
+use Rattle.cas_cell.specs.declared.deletion.Deletion.{Deletion}
 use Rattle.cas_bounds.specs.ClusteringOrder.{clustering_order}
 use Rattle.cas_codec.specs.Reading.{Left}
-use Rattle.cas_codec.specs.Exact.{AreBytes}
+use Rattle.cas_codec.specs.Exact.{AreBytes, IsExact}
 use Rattle.cas_atoms.specs.declared.row.RowColumn.{RowColumn}
 use Rattle.cas_streams.specs.Streams.{IsThere, WellFormed}
 use Rattle.cas_streams.specs.declared.fragment.Fragment.{Fragment}
 use Rattle.cas_streams.specs.declared.fragment.Fragment.TheVariants as fragment
 use Rattle.cas_fragments.specs.Spelling.{body_bytes}
-use Rattle.cas_fragments.specs.Blocks.{Reached, nowhere, past_all, Follow, is_full, BeginEarly, blocks_of}
-use Rattle.cas_fragments.specs.Reading.{body_at}
-use Rattle.cas_fragments.specs.Allowed.{FitColumns, FitsFragment}
+use Rattle.cas_fragments.specs.Blocks.{Reached, nowhere, past_all, Follow, is_full, BeginEarly, blocks_of, head_bytes, blocks_bytes, says_head, partition_bytes}
+use Rattle.cas_fragments.specs.Reading.{body_at, partition_at}
+use Rattle.cas_fragments.specs.Allowed.{FitColumns, FitsFragment, FitsHead}
 
--- fragments of the table that may be a block behind what was reached: there are some, each may stand where it does, and only the last one fills the block
+-- fragments of the table that may be a block behind what was reached: there are some, each may stand where it does, and begins before the block is full
 pub record IsBlock (columns : List Column) (r : Reached) (fs : List Fragment) : Type 0 where
   pub some : IsThere fs
   pub fit : AllByRecursion (FitsFragment columns) fs
@@ -72,3 +73,32 @@ pub record BlocksArePartitions : Type 0 where
   pub fit : (columns : List Column) (r : Reached) (bs : List (List Fragment)) → AreBlocks columns r bs → AllByRecursion (FitsFragment columns) (joined bs)
   pub follow : (columns : List Column) (r : Reached) (bs : List (List Fragment)) → AreBlocks columns r bs → Follow (clustering_order columns) r (joined bs)
   pub one_way : (columns : List Column) (r : Reached) (bs : List (List Fragment)) → AreBlocks columns r bs → blocks_of (joined bs) ≡ bs
+
+-- ---- partitions in a file
+
+-- blocks up to the end of a partition, told whether it may end there and whether it may go on: each but the last is full, and at the end no range deletion
+-- is in force
+abbrev pub Stand : List Column → Bool → Bool → Reached → List (List Fragment) → Type 0
+Stand columns ends goes_on r [] = ends ≡ true
+Stand columns ends goes_on r (b ∷ bs) =
+    ((goes_on ≡ true) × IsBlock columns r b × (length (body_bytes b) < 2 ^ 32)) × Stand columns (is_none (past_all r b).force) (is_full b) (past_all r b) bs
+
+-- a head and blocks that are a partition of the table
+abbrev pub IsPartition : List Column → (List ℕ × Option Deletion × List RowColumn) × List (List Fragment) → Type 0
+IsPartition columns p = FitsHead columns p.0 × Stand columns (says_head p.0) true nowhere p.1
+
+-- their bytes
+abbrev pub part_bytes : (List ℕ × Option Deletion × List RowColumn) × List (List Fragment) → List ℕ
+part_bytes p = head_bytes p.0.0 p.0.1 p.0.2 ++ blocks_bytes p.1
+
+-- partitions are read where they stand and nowhere else; their static columns and fragments are a well-formed stream, and they are spelled as its partition
+-- is; and each well-formed stream is a partition, if its fragments fit, no block is too long, and something is said
+pub record PartitionsAreExact : Type 0 where
+  pub exact : (columns : List Column) → IsNarrow columns → IsExact (IsPartition columns) part_bytes (partition_at (clustering_order columns) columns)
+  pub stream : (columns : List Column) (p : (List ℕ × Option Deletion × List RowColumn) × List (List Fragment)) → IsPartition columns p
+      → WellFormed columns (static_of p.0.2 ++ joined p.1)
+  pub spelled : (columns : List Column) (p : (List ℕ × Option Deletion × List RowColumn) × List (List Fragment)) → IsPartition columns p
+      → partition_bytes p.0.0 p.0.1 (static_of p.0.2 ++ joined p.1) ≡ part_bytes p
+  pub whole : (columns : List Column) (h : List ℕ × Option Deletion × List RowColumn) (fs : List Fragment) → FitsHead columns h
+      → AllByRecursion (FitsFragment columns) fs → WellFormed columns (static_of h.2 ++ fs) → (says_head h ≡ false → IsThere fs)
+      → AllByRecursion (λ b. length (body_bytes b) < 2 ^ 32) (blocks_of fs) → IsPartition columns (h, blocks_of fs)

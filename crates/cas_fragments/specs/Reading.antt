@@ -1,6 +1,7 @@
 -- Reading what a table file holds of a partition. That these readings take the spellings and nothing else is a law.
 -- Own. The place of a refusal is that of the refused field's first byte.
-use Rattle.std.specs.Prelude.{ℕ, zero, suc, ◌-◌, Bool, true, false, ◌&&◌, ◌||◌, ◌==◌, not, nat_lt, nat_le, List, [], ◌∷◌, length, Option, None, Some, is_some, if◌then◌else◌, Ok, Err}
+use Rattle.std.specs.Prelude.{ℕ, zero, suc, ◌+◌, ◌-◌, ◌==◌, nat_lt, nat_le, Bool, true, ◌&&◌, ◌||◌, not, List, [], ◌∷◌, length}
+use Rattle.std.specs.Prelude.{Option, None, Some, is_some, is_none, if◌then◌else◌, Ok, Err}
 use Rattle.std.specs.Int.{is_in_range}
 use Rattle.std.specs.Ordering.{is_lt, nat_cmp}
 use Rattle.std.specs.declared.cmp.Ordering.{Ordering}
@@ -10,7 +11,7 @@ use Rattle.cas_cell.specs.declared.deletion.Deletion.{Deletion}
 use Rattle.cas_cell.specs.declared.liveness.Liveness.{Liveness}
 use Rattle.cas_bounds.specs.declared.order.Ordered.{Ordered}
 use Rattle.cas_codec.specs.declared.fault.ReadFault.TheVariants.{Short, Bad}
-use Rattle.cas_codec.specs.Reading.{Left, Read, ◌>>=◌, checked, u8_at, u16_at, u32_at, flag_at, maybe_at}
+use Rattle.cas_codec.specs.Reading.{Left, Read, ◌>>=◌, checked, u8_at, u16_at, u32_at, bytes32_at, flag_at, maybe_at}
 use Rattle.cas_records.specs.declared.columns.Wanted.{Wanted}
 use Rattle.cas_records.specs.declared.columns.Wanted.TheVariants.{Regular, Static}
 use Rattle.cas_records.specs.Reading.{key_at, deletion_at, live_at, may_hold, cell_at, clustering_at, cut_at}
@@ -22,7 +23,7 @@ use Rattle.cas_atoms.specs.declared.row.RowColumn.{RowColumn}
 use Rattle.cas_atoms.specs.declared.row.Row.{Row}
 use Rattle.cas_streams.specs.declared.fragment.Fragment.{Fragment}
 use Rattle.cas_streams.specs.declared.fragment.Fragment.TheVariants as fragment
-use Rattle.cas_fragments.specs.Blocks.{Reached, past, may_follow}
+use Rattle.cas_fragments.specs.Blocks.{Reached, nowhere, past, past_all, may_follow, is_full, says_head}
 use Rattle.cas_fragments.specs.declared.blocks.TheConstants.{BLOCK_LEAST}
 
 -- ---- what ascends
@@ -163,3 +164,32 @@ head_at columns left = do
   top ← maybe_at deletion_at key.1
   statics ← columns_at Static 0 columns top.1
   Ok ((key.0, top.0, statics.0), statics.1)
+
+-- what follows is read by what was found, if anything was, and else is this
+abbrev pub either_way : {A B : Type 0} → Option A → (A → B) → B → B
+either_way None f y = y
+either_way (Some x) f y = f x
+
+-- the next block of a partition, or none at a length of 0; where the partition may not end, or not go on, that length isn't allowed
+unfoldable pub next_block_at : List Ordered → List Column → Bool → Bool → Reached → Left → Read (Option (List Fragment))
+next_block_at order columns ends goes_on r left = do
+  body ← bytes32_at left
+  if length body.0 == 0 then (if ends then Ok (None, body.1) else Err (Bad left.at)) else
+      if goes_on then (body_at order columns r (record { bytes = body.0; at = left.at + 4 }) >>= λ block. Ok (Some block.0, body.1))
+      else Err (Bad left.at)
+
+-- The blocks of a partition up to its end, fewer than so many. It may end where no range deletion is in force, and go on behind a full block.
+unfoldable pub blocks_at : List Ordered → List Column → ℕ → Bool → Bool → Reached → Left → Read (List (List Fragment))
+blocks_at order columns zero ends goes_on r left = Err (Short left.at)
+blocks_at order columns (suc n) ends goes_on r left = do
+  next ← next_block_at order columns ends goes_on r left
+  either_way next.0
+      (λ b. blocks_at order columns n (is_none (past_all r b).force) (is_full b) (past_all r b) next.1 >>= λ others. Ok (b ∷ others.0, others.1))
+      (Ok ([], next.1))
+
+-- a partition: its head and its blocks, of which there are fewer than bytes; one of which its head says nothing has a block
+unfoldable pub partition_at : List Ordered → List Column → Left → Read ((List ℕ × Option Deletion × List RowColumn) × List (List Fragment))
+partition_at order columns left = do
+  head ← head_at columns left
+  blocks ← blocks_at order columns (length head.1.bytes) (says_head head.0) true nowhere head.1
+  Ok ((head.0, blocks.0), blocks.1)

@@ -13,7 +13,7 @@ ghost use Rattle.cas_fragments.specs.Reading.{columns_at, row_at, fragment_at, h
 ghost use Rattle.cas_fragments.specs.Allowed.{FitColumns, FitsRow, FitsFragment, FitsHead, HasSpelling};
 ghost use Rattle.cas_fragments.specs.Blocks.{head_bytes};
 ghost use Rattle.cas_fragments.specs.Lengths.{fragment_length};
-ghost use Rattle.cas_fragments.specs.Laws.{BlocksAreExact, WholesAreStreams, BlocksArePartitions};
+ghost use Rattle.cas_fragments.specs.Laws.{BlocksAreExact, WholesAreStreams, BlocksArePartitions, PartitionsAreExact};
 
 /// The columns of a row, and those of the static row, are read where their spelling stands and
 /// nowhere else, whatever follows it.
@@ -50,4 +50,10 @@ pub fn wholes_are_streams()
 /// A partition's fragments are cut into blocks in one way.
 pub fn blocks_are_partitions()
     ensures { BlocksArePartitions }
+{}
+
+/// Partitions are read where they stand and nowhere else; what stands in one is a well-formed
+/// stream, and each well-formed stream of which all fits has one.
+pub fn partitions_are_exact()
+    ensures { PartitionsAreExact }
 {}

@@ -16,6 +16,6 @@ pub use fragments::{read_fragment, read_row};
 pub use heads::{Head, put_head, read_head};
 pub use laws::{
     blocks_are_exact, blocks_are_partitions, columns_are_exact, fragments_are_exact,
-    wholes_are_streams,
+    partitions_are_exact, wholes_are_streams,
 };
 pub use writing::{put_columns, put_fragment};

@@ -1,4 +1,4 @@
-use Rattle.std.proofs.Common.{◌+◌, ◌-◌, ap, ◌∙◌, Vec, Global, List, ℕ}
+use Rattle.std.proofs.Common.{◌+◌, ◌-◌, ap, ◌∙◌, Vec, Global, List}
 use Rattle.cas_atoms.specs.declared.row.RowColumn.{RowColumn}
 use Rattle.cas_codec.proofs.Times.{with_front, gives_fault}
 use Rattle.cas_fragments.specs.Reading.{chain_at, row_column_at}
