@@ -1,11 +1,11 @@
 -- The index and the footer of a table file are read exactly.
-use Rattle.std.proofs.Common.{◌≡◌, ℕ, ◌<◌, ◌≤◌, ◌^◌, ◌++◌, leb, ltb, true, List, length, Option, None, Some, refl, sym, ap, ◌∙◌, append_assoc, arith}
+use Rattle.std.proofs.Common.{◌≡◌, ℕ, ◌<◌, ◌≤◌, ◌^◌, ◌++◌, leb, ltb, true, List, length, Option, None, refl, sym, ap, ◌∙◌, append_assoc, arith}
 use Rattle.std.specs.Prelude.{IfSome}
 use Rattle.std.specs.Int.{is_in_range}
 use Rattle.std.specs.List.{flat_map}
 use Rattle.std.proofs.lemmas.Bool.{leb-true, le-leb, ltb-true, lt-ltb, and_parts, and_from}
 use Rattle.cas_codec.specs.Fields.{u32, u64, bytes16, maybe}
-use Rattle.cas_codec.specs.Reading.{Left, checked, u32_at, u64_at, maybe_at}
+use Rattle.cas_codec.specs.Reading.{checked, u32_at, u64_at, maybe_at}
 use Rattle.cas_codec.specs.Exact.{IsExact}
 use Rattle.cas_codec.proofs.Exactness.{exact_then, exact_checked, exact_as}
 use Rattle.cas_codec.proofs.FieldLaws.{u32_field, u64_field, maybe_exact}
@@ -19,12 +19,11 @@ use Rattle.cas_records.proofs.CellLaws.{key_exact, deletion_exact}
 use Rattle.cas_records.proofs.BoundLaws.{cut_exact}
 use Rattle.cas_info.specs.declared.info.TheConstants.{PARTITION_LIMIT}
 use Rattle.cas_index.specs.declared.footer.TheConstants.{END_WORD}
-use Rattle.cas_index.specs.declared.footer.Footer.{Footer}
 use Rattle.cas_index.specs.declared.entries.BlockEntry.{BlockEntry}
 use Rattle.cas_index.specs.declared.entries.PartitionEntry.{PartitionEntry}
 use Rattle.cas_index.specs.Entries.{is_next_cut, is_next_key, block_place, last_place}
 use Rattle.cas_index.specs.Spelling.{block_bytes, partition_bytes, index_bytes, footer_bytes}
-use Rattle.cas_index.specs.Allowed.{Chain, IsBehind, IsNextBlock, IsNextPartition, AreEntries, FitsIndex, FitsFooter}
+use Rattle.cas_index.specs.Allowed.{Chain, IsBehind, IsNextBlock, IsNextPartition, FitsIndex, FitsFooter}
 use Rattle.cas_index.specs.Reading.{following_at, place_at, block_at, blocks_at, partition_at, index_at, footer_at}
 use Rattle.cas_index.proofs.Following.{AreFollowing, exact_following}
 

@@ -1,5 +1,5 @@
 -- What is found in an index, and with which block a read of a slice begins.
-use Rattle.std.proofs.Common.{◌≡◌, ℕ, ◌+◌, ◌-◌, ◌<◌, ◌≤◌, ◌^◌, ◌⊎◌, Bool, true, false, not, ◌&&◌, List, [], ◌∷◌, ◌++◌, length, take, get_or, Option, None, Some, inl, inr, refl, sym, ap, subst, ◌∙◌, arith}
+use Rattle.std.proofs.Common.{◌≡◌, ℕ, ◌+◌, ◌-◌, ◌<◌, ◌≤◌, ◌^◌, Bool, true, false, not, ◌&&◌, List, [], ◌∷◌, ◌++◌, length, take, get_or, Option, None, Some, inl, inr, refl, sym, ap, subst, ◌∙◌, arith}
 use Rattle.std.proofs.Math.Path.{fun_ext}
 use Rattle.std.specs.Prelude.{slice_get}
 use Rattle.std.specs.List.{All, AllByRecursion, last_or}
@@ -21,7 +21,7 @@ use Rattle.cas_bounds.specs.declared.order.Ordered.{Ordered}
 use Rattle.cas_bounds.specs.declared.cuts.Cut.{Cut}
 use Rattle.cas_bounds.specs.declared.cuts.Slice.{Slice}
 use Rattle.cas_bounds.proofs.CutLaws.{point_laws}
-use Rattle.cas_atoms.specs.Fits.{FitsValues, FitsCut}
+use Rattle.cas_atoms.specs.Fits.{FitsValues}
 use Rattle.cas_info.specs.declared.info.TheConstants.{PARTITION_LIMIT}
 use Rattle.cas_index.specs.declared.entries.BlockAt.{BlockAt}
 use Rattle.cas_index.specs.declared.entries.BlockEntry.{BlockEntry}
@@ -30,7 +30,7 @@ use Rattle.cas_index.specs.Entries.{Index}
 use Rattle.cas_index.specs.Allowed.{Chain, IsNextBlock, IsNextPartition, AreEntries}
 use Rattle.cas_index.specs.Searches.{IsFirst, HasKey, is_after, IsNextAfter, begins_before, next_is_above, can_meet, IsBlockFor}
 use Rattle.cas_index.specs.Inner.Rooms.{HasRoom, HasRooms, KeysAscend, BlocksAscend}
-use Rattle.cas_index.proofs.Searching.{chain_ascends, chain_each, chain_more, lt_less, not_gt, gt_not, none_within, some_at, get_or_any, some_same, parted_upto, parted_below, meets, none_meets, no_items, all_late, first_meets}
+use Rattle.cas_index.proofs.Searching.{chain_ascends, chain_each, chain_more, lt_less, not_gt, none_within, some_at, get_or_any, parted_upto, parted_below, meets, none_meets, no_items, all_late, first_meets}
 
 -- ---- what each partition and each block of an index is
 
@@ -65,8 +65,8 @@ blocks_ascend : (order : List Ordered) (place : ℕ) (bs : List BlockEntry) → 
 blocks_ascend order place bs chain = record {
   one = All-from_recursion (λ b. b.cut.order ≡ order) bs (chain_each (IsNextBlock order place) (λ b. b.cut.order ≡ order) (λ o b next. next.cut.0) None bs chain);
   ascend = chain_ascends (IsNextBlock order place) (λ b c. point_cmp order (cut_point b.cut) (cut_point c.cut)) (λ b. b.cut.order ≡ order)
-  (λ a b c. (point_laws.orders order).total.trans (cut_point a.cut) (cut_point b.cut) (cut_point c.cut)) (λ b next. next.cut.0)
-  (λ b c one next. (sym (in_order order b.cut c.cut one) ∙ lt_less _ next.above, next.cut.0)) bs chain;
+      (λ a b c. (point_laws.orders order).total.trans (cut_point a.cut) (cut_point b.cut) (cut_point c.cut)) (λ b next. next.cut.0)
+      (λ b c one next. (sym (in_order order b.cut c.cut one) ∙ lt_less _ next.above, next.cut.0)) bs chain;
 }
 
 -- the blocks of a partition of an index
@@ -83,8 +83,7 @@ pub ascend_for : (order lo : List Ordered) (ps : List PartitionEntry) (i : ℕ) 
     → p ≡ get_or ps i p → bs ≡ p.blocks → lo ≡ order → BlocksAscend lo bs × (length bs < 2 ^ 32)
 ascend_for order lo ps i p bs entries within is blocks one =
     let are : AreBlocksOf order p = subst (λ (q : PartitionEntry). AreBlocksOf order q) (sym is) (blocks_of order ps entries i p within) in
-    let same : p.blocks ≡ bs = sym blocks in
-    (
+    let same : p.blocks ≡ bs = sym blocks in (
       subst (λ (o : List Ordered). BlocksAscend o bs) (sym one) (subst (λ (b : List BlockEntry). BlocksAscend order b) same are.ascend),
       subst (λ (b : List BlockEntry). length b < 2 ^ 32) same are.few,
     )
@@ -145,18 +144,18 @@ pub no_key : (ps : List PartitionEntry) (key : List ℕ) (n : ℕ) (q : Partitio
 no_key ps key n q ascend point e other = λ p there same.
     let here : n < length ps = slice_get_within ps n q e in
     elim (cases_order there.0 n) [
-      inl at ↦ true≢false (sym (ap is_eq (tied_itself nat_list_cmp_total key))
-      ∙ ap (λ (x : List ℕ). is_eq (bytes_cmp x key)) (sym same)
-      ∙ ap (λ (x : PartitionEntry). is_eq (bytes_cmp x.key key)) (sym there.2 ∙ ap (λ (k : ℕ). get_or ps k p) at ∙ get_or_any ps n q p here e) ∙ other)
+      | inl at ↦ true≢false (sym (ap is_eq (tied_itself nat_list_cmp_total key))
+          ∙ ap (λ (x : List ℕ). is_eq (bytes_cmp x key)) (sym same)
+          ∙ ap (λ (x : PartitionEntry). is_eq (bytes_cmp x.key key)) (sym there.2 ∙ ap (λ (k : ℕ). get_or ps k p) at ∙ get_or_any ps n q p here e) ∙ other)
       | inr apart ↦ elim apart [
-        inl low ↦ before_point ps key n there.0 p point low there.2 same
+        | inl low ↦ before_point ps key n there.0 p point low there.2 same
         | inr high ↦
-        let less : bytes_cmp q.key key ≡ Less =
-        ap (λ (x : PartitionEntry). bytes_cmp x.key key) (sym (get_or_any ps n q p here e))
-        ∙ ap (λ (x : List ℕ). bytes_cmp (get_or ps n p).key x) (sym same)
-        ∙ ap (λ (x : PartitionEntry). bytes_cmp (get_or ps n p).key x.key) (sym there.2)
-        ∙ Less-from_sorted (λ a b. bytes_cmp a.key b.key) ps n there.0 p ascend high there.1 in
-        true≢false (sym (ap is_lt less) ∙ ap (λ (x : PartitionEntry). is_lt (bytes_cmp x.key key)) (sym (get_or_any ps n q q here e)) ∙ point.1 n q (omega arith) here)
+            let less : bytes_cmp q.key key ≡ Less =
+            ap (λ (x : PartitionEntry). bytes_cmp x.key key) (sym (get_or_any ps n q p here e))
+            ∙ ap (λ (x : List ℕ). bytes_cmp (get_or ps n p).key x) (sym same)
+            ∙ ap (λ (x : PartitionEntry). bytes_cmp (get_or ps n p).key x.key) (sym there.2)
+            ∙ Less-from_sorted (λ a b. bytes_cmp a.key b.key) ps n there.0 p ascend high there.1 in
+            true≢false (sym (ap is_lt less) ∙ ap (λ (x : PartitionEntry). is_lt (bytes_cmp x.key key)) (sym (get_or_any ps n q q here e)) ∙ point.1 n q (omega arith) here)
       ]
     ]
 
@@ -248,6 +247,7 @@ same_meets s bs are i = by_items (slice_get bs i) refl (slice_get bs (i + 1))
   where
     order_of : (b : BlockEntry) → slice_get bs i ≡ Some b → b.cut.order ≡ s.lo.order
     order_of b e = let here = slice_get_within bs i b e in ap (λ (x : BlockEntry). x.cut.order) (sym (some_at bs i b here e)) ∙ are.one i b here
+
     by_next : (x : Bool) (o : Option BlockEntry)
         → (is_lt (cut_cmp s.lo s.hi) && (x && next_is_above s.lo o)) ≡ (is_lt (point_cmp s.lo.order (cut_point s.lo) (cut_point s.hi))
         && (x && above_of s o))
@@ -255,6 +255,7 @@ same_meets s bs are i = by_items (slice_get bs i) refl (slice_get bs (i + 1))
     by_next x (Some b) =
         ap (λ (o : Ordering). is_lt o && (x && is_lt (cut_cmp s.lo b.cut))) (point_laws.cuts s.lo s.hi)
         ∙ ap (λ (o : Ordering). is_lt (point_cmp s.lo.order (cut_point s.lo) (cut_point s.hi)) && (x && is_lt o)) (point_laws.cuts s.lo b.cut)
+
     by_items : (o : Option BlockEntry) → slice_get bs i ≡ o → (n : Option BlockEntry)
         → (is_lt (cut_cmp s.lo s.hi) && (begins_before s.hi o && next_is_above s.lo n)) ≡ (is_lt (point_cmp s.lo.order (cut_point s.lo) (cut_point s.hi))
         && (before_of s o && above_of s n))

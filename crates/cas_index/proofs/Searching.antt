@@ -1,5 +1,5 @@
 -- What a search by halves finds in a list that ascends.
-use Rattle.std.proofs.Common.{◌≡◌, ℕ, zero, suc, ◌+◌, ◌-◌, ◌<◌, ◌≤◌, ◌⊎◌, Bool, true, false, not, ◌&&◌, List, [], ◌∷◌, ◌++◌, length, get_or, Option, None, Some, inl, inr, refl, sym, ap, ◌∙◌, arith}
+use Rattle.std.proofs.Common.{◌≡◌, ℕ, ◌+◌, ◌-◌, ◌<◌, ◌≤◌, ◌⊎◌, Bool, true, false, not, ◌&&◌, List, [], ◌∷◌, ◌++◌, length, get_or, Option, None, Some, inl, inr, refl, sym, ap, ◌∙◌, arith}
 use Rattle.std.specs.Prelude.{slice_get}
 use Rattle.std.specs.List.{AllByRecursion, last_or}
 use Rattle.std.specs.List.Sorted.{IsStrictlySortedBy, IsPartitionedBy, IsPartitionPoint}
@@ -124,7 +124,7 @@ module _ (X K : Type 0) (f : X → K) (R : K → K → Ordering) (total : IsTota
   pub parted_upto : (xs : List X) (t : K) → Ascends xs → IsPartitionedBy (λ x. not (is_gt (R (f x) t))) xs
   parted_upto xs t ascend i j d low within e =
       elim (one_of_two i j low) [
-        inl same ↦ ap (λ (k : ℕ). not (is_gt (R (f (get_or xs k d)) t))) same ∙ e
+        | inl same ↦ ap (λ (k : ℕ). not (is_gt (R (f (get_or xs k d)) t))) same ∙ e
         | inr less ↦ gt_not _ (less_not_gt _ (upto_less _ _ t (below xs i j d ascend less within) (not_gt _ e)))
       ]
 
@@ -132,7 +132,7 @@ module _ (X K : Type 0) (f : X → K) (R : K → K → Ordering) (total : IsTota
   pub parted_below : (xs : List X) (t : K) → Ascends xs → IsPartitionedBy (λ x. is_lt (R (f x) t)) xs
   parted_below xs t ascend i j d low within e =
       elim (one_of_two i j low) [
-        inl same ↦ ap (λ (k : ℕ). is_lt (R (f (get_or xs k d)) t)) same ∙ e
+        | inl same ↦ ap (λ (k : ℕ). is_lt (R (f (get_or xs k d)) t)) same ∙ e
         | inr less ↦ less_lt _ (total.trans _ _ t (below xs i j d ascend less within) (lt_less _ e))
       ]
 
@@ -187,12 +187,13 @@ module _ (X K : Type 0) (f : X → K) (R : K → K → Ordering) (total : IsTota
       → IsFirst (meets l h xs) (length xs) None
   all_late l h xs n x ascend point most e late i within =
       elim (cases_lt i (n - 1)) [
-        inl low ↦ meets_late l h xs n i point most (omega arith)
+        | inl low ↦ meets_late l h xs n i point most (omega arith)
         | inr high ↦ and_right (is_lt (R l h)) _ (and_left (ends_before h (slice_get xs i)) _ (ends_late high))
       ]
     where
       first_is : x ≡ get_or xs (n - 1) x
       first_is = sym (some_at xs (n - 1) x (slice_get_within xs (n - 1) x e) e)
+
       by_order : (d : X) (o : Ordering) → n - 1 < i → R (f d) h ≡ o → d ≡ get_or xs i x → is_lt o ≡ false
       by_order d Less less r is =
           let up : R (f x) (f d) ≡ Less =
@@ -200,13 +201,15 @@ module _ (X K : Type 0) (f : X → K) (R : K → K → Ordering) (total : IsTota
           absurd (true≢false (sym (less_lt _ (total.trans (f x) (f d) h up r)) ∙ late))
       by_order d Equal less r is = refl
       by_order d Greater less r is = refl
+
       by_item : (o : Option X) → slice_get xs i ≡ o → n - 1 ≤ i → ends_before h o ≡ false
       by_item None g high = refl
       by_item (Some d) g high =
           elim (one_of_two (n - 1) i high) [
-            inl same ↦ ap (λ (y : X). is_lt (R (f y) h)) (some_same (slice_get xs i) d x g (ap (slice_get xs) (sym same) ∙ e)) ∙ late
+            | inl same ↦ ap (λ (y : X). is_lt (R (f y) h)) (some_same (slice_get xs i) d x g (ap (slice_get xs) (sym same) ∙ e)) ∙ late
             | inr less ↦ by_order d (R (f d) h) less refl (sym (get_or_any xs i d x within g))
           ]
+
       ends_late : n - 1 ≤ i → ends_before h (slice_get xs i) ≡ false
       ends_late high = by_item (slice_get xs i) refl high
 

@@ -1,4 +1,4 @@
-use Rattle.std.proofs.Common.{List, ◌≡◌, subst, sym}
+use Rattle.std.proofs.Common.{List, subst, sym}
 use Rattle.cas_bounds.specs.declared.order.Ordered.{Ordered}
 use Rattle.cas_index.specs.Allowed.{AreEntries}
 use Rattle.cas_index.proofs.IndexLaws.{index_exact}

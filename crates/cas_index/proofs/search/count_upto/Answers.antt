@@ -1,5 +1,5 @@
 use Rattle.std.proofs.Common.{not, rules}
-use Rattle.std.specs.Ordering.{is_lt, is_gt}
+use Rattle.std.specs.Ordering.{is_gt}
 use Rattle.std.proofs.lemmas.List.Sorted.{IsPartitionPoint-from_clause}
 use Rattle.cas_types.specs.Values.{bytes_cmp}
 use Rattle.cas_index.proofs.SearchLaws.{parted_keys_upto}
