@@ -10,7 +10,7 @@ use Rattle.cas_streams.specs.declared.fragment.Fragment.{Fragment}
 use Rattle.cas_info.specs.Spelling.{info_bytes}
 use Rattle.cas_filter.specs.Spelling.{filter_bytes}
 use Rattle.cas_fragments.specs.Spelling.{block_bytes}
-use Rattle.cas_fragments.specs.Blocks.{is_full, last_block, blocks_from, moving_in}
+use Rattle.cas_fragments.specs.Blocks.{is_full, last_block, blocks_from, behind_statics}
 use Rattle.cas_index.specs.Spelling.{index_bytes, footer_bytes}
 use Rattle.cas_tables.specs.Spelling.{header_bytes}
 use Rattle.cas_tables.specs.Contents.{Partition}
@@ -76,7 +76,7 @@ partitions_stand file before rest place (p ∷ ps) e long =
       refl,
       record { before = before; after = others ++ rest; there = here; behind = long },
       blocks_stand file (before ++ head_of p) (u32 0 ++ (others ++ rest)) (place + length (head_of p)) None (blocks p)
-          (blocks_there [] (moving_in p.stream.fragments)) in_body (further before (head_of p) place long),
+          (blocks_there [] (behind_statics p.stream.fragments)) in_body (further before (head_of p) place long),
       partitions_stand file (before ++ whole) rest (place + length whole) ps (later file before whole (others ++ rest) here) (further before whole place long),
     )
 

@@ -14,7 +14,7 @@ use Rattle.cas_facts.specs.Facts.{AreFacts}
 use Rattle.cas_facts.specs.declared.facts.Facts.{Facts}
 use Rattle.cas_fragments.specs.Allowed.{FitColumns, FitsFragment}
 use Rattle.cas_fragments.specs.Spelling.{body_bytes}
-use Rattle.cas_fragments.specs.Blocks.{statics_in, moving_in}
+use Rattle.cas_fragments.specs.Blocks.{statics_in, behind_statics}
 use Rattle.cas_tables.specs.declared.header.Version.TheVariants.{Second}
 use Rattle.cas_tables.specs.Allowed.{FitsHeader}
 use Rattle.cas_tables.specs.Contents.{Partition, Contents, keys, atoms_of}
@@ -28,7 +28,7 @@ pub record FitsPartition (columns : List Column) (p : Partition) : Type 0 where
   pub top : IfSome p.stream.top FitsDeletion
   pub well_formed : WellFormed columns p.stream.fragments
   pub statics : FitColumns is_static columns (statics_in p.stream.fragments)
-  pub rest : AllByRecursion (FitsFragment columns) (moving_in p.stream.fragments)
+  pub rest : AllByRecursion (FitsFragment columns) (behind_statics p.stream.fragments)
   pub room : AllByRecursion (λ b. length (body_bytes b) < 2 ^ 32) (blocks p)
   pub said : IsThere (flat_of p.stream)
 

@@ -7,7 +7,7 @@ use Rattle.cas_streams.specs.Flat.{changes, at_end}
 use Rattle.cas_streams.specs.declared.fragment.Fragment.{Fragment}
 use Rattle.cas_streams.specs.declared.fragment.Fragment.TheVariants as fragment
 use Rattle.cas_fragments.specs.Spelling.{block_bytes}
-use Rattle.cas_fragments.specs.Blocks.{blocks_of, statics_in, moving_in, head_bytes, partition_bytes}
+use Rattle.cas_fragments.specs.Blocks.{blocks_of, statics_in, behind_statics, head_bytes, partition_bytes}
 use Rattle.cas_index.specs.declared.entries.BlockEntry.{BlockEntry}
 use Rattle.cas_index.specs.declared.entries.PartitionEntry.{PartitionEntry}
 use Rattle.cas_tables.specs.Contents.{Partition}
@@ -20,7 +20,7 @@ head_of p = head_bytes p.key p.stream.top (statics_in p.stream.fragments)
 
 -- the blocks, in which its rows and markers stand
 abbrev pub blocks : Partition → List (List Fragment)
-blocks p = blocks_of (moving_in p.stream.fragments)
+blocks p = blocks_of (behind_statics p.stream.fragments)
 
 -- all of it
 abbrev pub text_of : Partition → List ℕ
