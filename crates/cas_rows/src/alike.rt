@@ -3,16 +3,15 @@
 ghost use Rattle.std.specs.Prelude.{IfOk, IfSome, OnOk};
 ghost use Rattle.cas_types.specs.Limits.{IsShardCount};
 ghost use Rattle.cas_bind.specs.Tables.{AreTables};
-ghost use Rattle.cas_reference.specs.Held.{held};
 
 use crate::clock::ListedClock;
 use crate::gate::CountedGate;
+use crate::generated::generated;
+use crate::reference::Reference;
 use crate::row::{RowFault, Trial, trials};
 use crate::running::run_script;
-use cas_chance::generated;
 use cas_disk::{FaultPlan, MemFolder};
 use cas_lines::next_line;
-use cas_reference::Reference;
 use cas_render::render;
 use cas_types::Mem;
 use cas_words::{Command, read_words};
@@ -65,8 +64,8 @@ fn put_reply(
     line: &[u8],
     text: &mut Vec<u8>,
 ) -> Result<(), Mem>
-    requires { AreTables (held reference.old).tables }
-    ensures { OnOk result (AreTables (held reference.new).tables) }
+    requires { AreTables reference.old.tables.items }
+    ensures { OnOk result (AreTables reference.new.tables.items) }
 {
     text.clear();
     match reference.answer_line(alloc, clock, line)? {
@@ -82,8 +81,8 @@ fn compare_run(
     trial: &Trial,
     output: &[u8],
 ) -> Result<Compared, Mem>
-    requires { AreTables (held reference.old).tables }
-    ensures { OnOk result (AreTables (held reference.new).tables) }
+    requires { AreTables reference.old.tables.items }
+    ensures { OnOk result (AreTables reference.new.tables.items) }
 {
     let clock = ListedClock::new(&trial.readings);
     let mut reply = Vec::new(alloc);
@@ -113,12 +112,12 @@ fn compare_trial(
     trial: &Trial,
     output: &[u8],
 ) -> Result<Compared, Mem>
-    requires { AreTables (held reference.old).tables }
-    ensures { OnOk result (AreTables (held reference.new).tables) }
+    requires { AreTables reference.old.tables.items }
+    ensures { OnOk result (AreTables reference.new.tables.items) }
 {
     match read_words(alloc, &trial.words)? {
         Some(command) => {
-            reference.begin(alloc, &command)?;
+            reference.begin(&command)?;
             compare_run(alloc, reference, trial, output)
         }
         None => Ok(Compared::Alike(0)),
@@ -157,7 +156,7 @@ fn compare_trials(alloc: Global, trials: &[Trial]) -> Result<Compared, Mem> {
     let Some(command) = first_command(alloc, trials)? else {
         return Ok(Compared::Alike(0));
     };
-    let mut reference = Reference::new(alloc, &command)?;
+    let mut reference = Reference::new(alloc, &command);
     let mut lines: u64 = 0;
     for (i, (trial, output)) in trials.iter().zip(&outputs(alloc, trials)?).enumerate() {
         match compare_trial(alloc, &mut reference, trial, output)? {

@@ -2,14 +2,18 @@
 //! or their status, isn't what stands beside them.
 #![tactic(auto)]
 
+mod accepted;
 mod alike;
+mod chance;
 mod clock;
 mod compare;
 mod crash;
 mod cut;
 mod gate;
+mod generated;
 mod lines;
 mod past;
+mod reference;
 mod row;
 mod running;
 mod seen;
