@@ -1,5 +1,5 @@
 //! A folder of files, its drafts and its sealed files.
-ghost use Rattle.std.specs.Prelude.{◌≡◌, ◌≢◌, ◌≤◌, ℕ, List, [], length, None, Some, IfOk, OnOk, IsErr, IsErrOf};
+ghost use Rattle.std.specs.Prelude.{◌≡◌, ◌≢◌, ◌≤◌, ℕ, List, [], length, Option, None, Some, IfOk, OnOk, IsErr, IsErrOf};
 ghost use Rattle.cas_disk.specs.Counts.{Counted};
 ghost use Rattle.cas_disk.specs.Disk.{Disk, Image, During, Follows, Same, Changed, IsListing, Gives, Appends, bytes_of};
 ghost use Rattle.cas_disk.specs.Disk.{MayTear, MayBeMade, MayGo, MayBeAnything, Is, IsGone, Holds, IsSynced};
@@ -43,12 +43,12 @@ pub trait Sealed: Drop {
     type Tally: Count;
 
     /// Its bytes, where it tells them.
-    ghost holds: { Self → List ℕ → Type 0 };
+    ghost contents: { Self → Option (List ℕ) };
 
     /// Puts the bytes at `at` at the front of `into`, and says how many.
     fn read_at(&self, at: u64, into: &mut [u8], tally: &mut Self::Tally) -> Result<usize, Failed>
         ensures bound { IfOk result (λ count. count ≤ length into.new) }
-        ensures given { IfOk result (λ count. (b : List ℕ) → holds self.now b → Gives b at count into.new) }
+        ensures given { IfOk result (λ count. (b : List ℕ) → contents self.now ≡ Some b → Gives b at count into.new) }
         ensures count { Counted (Self.Tally.number tally.old) (Self.Tally.number tally.new) (IsErr result) };
 }
 
@@ -123,7 +123,7 @@ pub trait Folder {
     /// Puts a draft into the folder, for good.
     fn admit(&mut self, draft: Self::Draft) -> Result<Self::Sealed, FolderFault>
         requires synced { Self.Draft.is_synced draft }
-        ensures holds { IfOk result (λ file. (b : List ℕ) → Self.Sealed.holds file b → Self.Draft.written draft b) }
+        ensures holds { IfOk result (λ file. (b : List ℕ) → Self.Sealed.contents file ≡ Some b → Self.Draft.written draft b) }
         ensures stands { OnOk result ((c : Image) → (disk self.new).may_leave c
             → (b : List ℕ) × Self.Draft.written draft b × (c (Name.Table (Self.Draft.number draft)) ≡ Some b)) }
         ensures reads { OnOk result (Follows (Changed (Name.Table (Self.Draft.number draft)) MayBeAnything) (disk self.old).reads (disk self.new).reads) }
@@ -133,7 +133,7 @@ pub trait Folder {
     /// A table's file that is there.
     fn sealed(&mut self, number: u64) -> Result<Self::Sealed, FolderFault>
         ensures holds { IfOk result (λ file. (c : Image) → (disk self.old).reads c
-            → (b : List ℕ) → Self.Sealed.holds file b → c (Name.Table number) ≡ Some b) }
+            → (b : List ℕ) → Self.Sealed.contents file ≡ Some b → c (Name.Table number) ≡ Some b) }
         ensures reads { Follows Same (disk self.old).reads (disk self.new).reads }
         ensures during { During Same (disk self.old) (disk self.new) }
         ensures count { Counted (faults_of self.old) (faults_of self.new) (IsErrOf result FolderFault.Failed) };
@@ -142,7 +142,7 @@ pub trait Folder {
     fn import(&mut self, number: u64) -> Result<Self::Sealed, FolderFault>
         requires { (c : Image) → (disk self.old).reads c → c (Name.Import number) ≢ None }
         ensures holds { IfOk result (λ file. (c : Image) → (disk self.old).reads c
-            → (b : List ℕ) → Self.Sealed.holds file b → c (Name.Import number) ≡ Some b) }
+            → (b : List ℕ) → Self.Sealed.contents file ≡ Some b → c (Name.Import number) ≡ Some b) }
         ensures reads { Follows Same (disk self.old).reads (disk self.new).reads }
         ensures during { During Same (disk self.old) (disk self.new) }
         ensures count { Counted (faults_of self.old) (faults_of self.new) (IsErrOf result FolderFault.Failed) };

@@ -1,5 +1,5 @@
 //! The calls of a folder in memory.
-ghost use Rattle.std.specs.Prelude.{◌≡◌, ◌≢◌, ◌≤◌, ◌+◌, length, true, None, OnOk, OnErr, IfOk, IsErr, is_err};
+ghost use Rattle.std.specs.Prelude.{◌≡◌, ◌≢◌, ◌≤◌, ◌+◌, length, true, None, Some, OnOk, OnErr, IfOk, IsErr, is_err};
 ghost use Rattle.cas_disk.specs.Counts.{Counted, sum_in_range};
 ghost use Rattle.std.specs.Bool.{OnTrue, OnFalse};
 ghost use Rattle.cas_disk.specs.Disk.{Image, During, Follows, Same, Gives};
@@ -269,7 +269,7 @@ impl Draft for MemDraft {
 impl Sealed for MemSealed {
     type Tally = FaultCount;
 
-    ghost holds = { λ s b. b ≡ s.bytes.items };
+    ghost contents = { λ s. Some s.bytes.items };
 
     fn read_at(&self, at: u64, into: &mut [u8], tally: &mut FaultCount) -> Result<usize, Failed> {
         let read = self.reads.fetch_add(1, Ordering::SeqCst);

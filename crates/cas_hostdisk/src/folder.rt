@@ -1,5 +1,5 @@
 //! A folder of the system, its drafts and its sealed files.
-ghost use Rattle.std.specs.Prelude.{◌≡◌, ◌≤◌, length, IfOk, IsErr, IsErrOf};
+ghost use Rattle.std.specs.Prelude.{◌≡◌, ◌≤◌, length, None, IfOk, IsErr, IsErrOf};
 ghost use Rattle.cas_disk.specs.Counts.{Counted};
 ghost use Rattle.cas_disk.specs.Silent.{silent};
 
@@ -236,7 +236,7 @@ impl Draft for HostDraft {
 impl Sealed for HostSealed {
     type Tally = FaultCount;
 
-    ghost holds = { λ _ _. ⊥ };
+    ghost contents = { λ _. None };
 
     fn read_at(&self, at: u64, into: &mut [u8], tally: &mut FaultCount) -> Result<usize, Failed> {
         let done = try_read(&self.file, at, into);
