@@ -36,15 +36,13 @@ use Rattle.cas_define.specs.declared.addition.Addition.{Addition}
 use Rattle.cas_history.specs.declared.item.Item.{Item}
 use Rattle.cas_journal.specs.Stores.{Told}
 use Rattle.cas_journal.proofs.Fitting.{NoKeys, no_keys, same_order}
-use Rattle.cas_memtable.specs.declared.memtable.MemPart.{MemPart}
-use Rattle.cas_memtable.specs.declared.memtable.Held.{Held}
-use Rattle.cas_partition.specs.Partitions.{IsOf}
 use Rattle.cas_room.specs.declared.event.Event.{Event}
 use Rattle.cas_room.specs.Keeping.{Keeps}
 use Rattle.cas_room.specs.Rooms.{accepted_in}
 use Rattle.cas_shard.specs.Shards.{ShardHistory}
-use Rattle.cas_shard.specs.Stands.{Stands, held, held_in, order_at, order_of}
+use Rattle.cas_shard.specs.Stands.{Stands, order_at, order_of}
 use Rattle.cas_shard.specs.declared.shard.Shard.{Shard}
+use Rattle.cas_shard.proofs.Standing.{stands_under}
 use Rattle.cas_node.specs.History.{Changes, Defines, History, DiskState, shard_at}
 use Rattle.cas_node.specs.Inner.Definitions.{MayBeTold}
 use Rattle.cas_node.specs.Nodes.{State, StandsFor, LastsFor, disk_of}
@@ -52,42 +50,6 @@ use Rattle.cas_node.specs.Nodes.{Moves}
 use Rattle.cas_node.specs.Inner.Turns.{reply_for}
 
 -- ---- a shard under more tables
-
-below_or_past : (n m : ℕ) → (n < m) ⊎ (m ≤ n)
-below_or_past n zero = inr (omega arith)
-below_or_past zero (suc m) = inl (omega arith)
-below_or_past (suc n) (suc m) = next (below_or_past n m)
-  where
-    next : (n < m) ⊎ (m ≤ n) → (suc n < suc m) ⊎ (suc m ≤ suc n)
-    next (inl lt) = inl (omega (arith, lt))
-    next (inr le) = inr (omega (arith, le))
-
-none_held : (parts : List MemPart) (n : ℕ) (key : List ℕ) (h : Held) → length parts ≤ n → held parts n key ≡ Some h → ⊥
-none_held parts n key h few got = not_some (sym (ap (λ (p : Option MemPart). held_in p key) (slice_get_past parts n few)) ∙ got)
-  where
-    not_some : None ≡ Some h → ⊥
-    not_some e = cc
-
--- each table orders its rows as before
-pub stands_under : (old new : List TableSchema) (s : ShardHistory) (x : Shard) → length old ≤ length new
-    → ((n : ℕ) → n < length old → order_at new n ≡ order_at old n) → Stands old s x → Stands new s x
-stands_under old new s x more same stands = record {
-  numbers = stands.numbers;
-  number = stands.number;
-  drawn = stands.drawn;
-  moment = stands.moment;
-  kept = λ n. record { of = of n; same = (stands.kept n).same; least = (stands.kept n).least };
-  few = omega (arith, more, stands.few);
-}
-  where
-    of : (n : ℕ) (key : List ℕ) (h : Held) → held x.parts.items n key ≡ Some h → IsOf (order_at new n) h.partition
-    of n key h got = ⊎_elim here past (below_or_past n (length old))
-      where
-        here : n < length old → IsOf (order_at new n) h.partition
-        here lt = subst (λ (o : List Ordered). IsOf o h.partition) (sym (same n lt)) ((stands.kept n).of key h got)
-
-        past : length old ≤ n → IsOf (order_at new n) h.partition
-        past le = absurd (none_held x.parts.items n key h (omega (arith, le, stands.few)) got)
 
 first_of : (ts us : List TableSchema) (n : ℕ) → n < length ts → order_at (ts ++ us) n ≡ order_at ts n
 first_of [] us n lt = absurd (omega (arith, lt))

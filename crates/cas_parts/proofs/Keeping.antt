@@ -1,5 +1,5 @@
 -- Which mutations stand in a memtable after a call on it, and in all memtables of a table.
-use Rattle.std.proofs.Common.{◌≡◌, ◌≢◌, ◌⊎◌, inl, inr, ◌≤◌, ℕ, zero, suc, ℤ, Bool, true, false, Option, None, List, [], ◌∷◌, ◌++◌, length, refl, sym, ap, ◌∙◌, subst, arith, append-nil}
+use Rattle.std.proofs.Common.{◌≡◌, ◌≢◌, ◌⊎◌, inl, inr, ◌≤◌, ℕ, zero, suc, ℤ, Bool, true, false, Option, None, List, [], ◌∷◌, ◌++◌, length, refl, sym, ap, ◌∙◌, subst, arith, append-nil, append_assoc}
 use Rattle.std.specs.Prelude.{◌==◌, map, drop, if◌then◌else◌}
 use Rattle.std.specs.List.{AllByRecursion}
 use Rattle.std.specs.Ordering.{is_eq}
@@ -23,7 +23,7 @@ use Rattle.cas_streams.proofs.NoMore.{no_more_itself, no_more_kept, no_more_then
 use Rattle.cas_partition.specs.Partitions.{AreAtomsOf}
 use Rattle.cas_memtable.specs.Memtables.{held_at, atoms_held, atoms_of, least_held, least_of, least_with, bytes_with, IsOfColumns, MakesPlaces, Joins}
 use Rattle.cas_memtable.specs.declared.memtable.MemPart.{MemPart}
-use Rattle.cas_parts.specs.Kept.{atoms_at, atoms_under, bytes_of, StandIn, StandInEach, with_one, begun}
+use Rattle.cas_parts.specs.Kept.{atoms_at, atoms_under, bytes_of, StandIn, StandInEach, with_one, begun, all_of}
 
 -- ---- lists of atoms
 
@@ -271,3 +271,20 @@ all_gone_of P f gone count new old m n done within few e same each =
     subst (λ k. AllByRecursion P (map f new ++ k ∷ [])) (sym same)
     (forget_of P count (map f new) (map f old) m (subst (λ k. count ≤ k) (sym (mapped_count f old)) few)
     (ap (map f) (e ∙ ap (λ k. drop k old) ended) ∙ rest_mapped f count old) each)
+
+-- ---- all mutations
+
+all_last : (wss : List (List Mutation)) (ws : List Mutation) → all_of (wss ++ ws ∷ []) ≡ all_of wss ++ ws
+all_last wss ws = flat_map-append (λ vs. vs) wss (ws ∷ []) ∙ ap (λ l. all_of wss ++ l) (append-nil ws)
+
+-- with one mutation more
+pub all_joined : (order : List Ordered) (ms : List MemPart) (m : MemPart) (w : Mutation) (wss : List (List Mutation)) → StandInEach order (ms ++ m ∷ []) wss
+    → all_of (with_one w wss) ≡ all_of wss ++ w ∷ []
+all_joined order ms m w wss each =
+    let e : Ended order ms m wss = ended order ms m wss each in
+    ap (λ l. all_of (with_one w l)) e.is ∙ ap all_of (with_last w e.before e.last) ∙ all_last e.before (e.last ++ w ∷ []) ∙ sym (append_assoc (all_of e.before) e.last (w ∷ []))
+    ∙ ap (λ l. l ++ w ∷ []) (sym (all_last e.before e.last) ∙ ap all_of (sym e.is))
+
+-- with a memtable more
+pub all_begun : (wss : List (List Mutation)) → all_of (begun wss) ≡ all_of wss
+all_begun wss = all_last wss [] ∙ append-nil (all_of wss)

@@ -1,3 +1,3 @@
-mod Keeping
+pub mod Keeping
 mod Scanning
-mod Showing
+pub mod Showing

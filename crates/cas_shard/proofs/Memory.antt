@@ -1,105 +1,141 @@
--- What calls on one memtable do to all of a shard's.
-use Rattle.std.proofs.Common.{◌≡◌, ◌≢◌, ◌<◌, ◌≤◌, ℕ, zero, suc, Option, None, Some, Result, Ok, Err, OnOk, List, [], ◌∷◌, ◌++◌, length, refl, sym, ap, ◌∙◌, subst, arith}
-use Rattle.std.specs.Prelude.{slice_get, slice_set}
+-- What calls on the memory of one table do to that of all of a shard's.
+use Rattle.std.proofs.Common.{◌≡◌, ◌≢◌, ◌⊎◌, inl, inr, ◌<◌, ◌≤◌, ℕ, zero, suc, Option, None, Some, Result, Ok, Err, OnOk, List, [], ◌∷◌, ◌++◌, length, refl, sym, ap, ◌∙◌, subst, arith, length-append, Bool, true, false}
+use Rattle.std.specs.Prelude.{if◌then◌else◌, map, slice_get, slice_set}
+use Rattle.std.specs.Arc.{arc_value}
 use Rattle.cas_bounds.specs.declared.order.Ordered.{Ordered}
-use Rattle.cas_atoms.specs.Winners.{Same}
-use Rattle.cas_atoms.specs.declared.atom.Atom.{Atom}
 use Rattle.cas_atoms.specs.declared.atom.Mutation.{Mutation}
-use Rattle.cas_memtable.specs.Memtables.{held_at, atoms_held, least_held, least_with, PlacesIn, HasPlaces, MakesPlaces, Joins}
-use Rattle.cas_memtable.specs.declared.memtable.Held.{Held}
-use Rattle.cas_memtable.specs.declared.memtable.MemPart.{MemPart}
-use Rattle.cas_shard.specs.Stands.{held, held_in, AreOf, HasRoom}
-use Rattle.cas_shard.specs.Inner.Parts.{JoinsRoom, MakesRoom, StayFew}
+use Rattle.cas_partition.specs.Partitions.{AreAtomsOf}
+use Rattle.cas_memtable.specs.Memtables.{HasPlaces}
+use Rattle.cas_parts.specs.Kept.{Keeps, all_of, begun, with_one}
+use Rattle.cas_parts.specs.declared.parts.Parts.{Parts}
+use Rattle.cas_parts.proofs.Keeping.{all_begun, all_joined}
+use Rattle.cas_shard.specs.Stands.{HasRoom, Holds, PlacesAt}
+use Rattle.cas_shard.specs.Inner.Parts.{AllStay, JoinsRoom, MakesRoom, StayFew}
 
--- ---- lists of memtables
+-- ---- lists
 
-pub held_more : (ps : List MemPart) (m : MemPart) → ((key : List ℕ) → held_at m key ≡ None) → (t : ℕ) (key : List ℕ) → held (ps ++ m ∷ []) t key ≡ held ps t key
-held_more [] m none zero key = none key
-held_more [] m none (suc t) key = refl
-held_more (p ∷ ps) m none zero key = refl
-held_more (p ∷ ps) m none (suc t) key = held_more ps m none t key
+at_set : (ps : List Parts) (n : ℕ) (p : Parts) → n < length ps → slice_get (slice_set ps n p) n ≡ Some p
+at_set [] n p h = absurd (omega (arith, h))
+at_set (q ∷ ps) zero p h = refl
+at_set (q ∷ ps) (suc n) p h = at_set ps n p (omega (arith, h))
 
-held_set : (ps : List MemPart) (n : ℕ) (m : MemPart) → n < length ps → (key : List ℕ) → held (slice_set ps n m) n key ≡ held_at m key
-held_set [] n m h key = absurd (omega (arith, h))
-held_set (p ∷ ps) zero m h key = refl
-held_set (p ∷ ps) (suc n) m h key = held_set ps n m (omega (arith, h)) key
+at_apart : (ps : List Parts) (n : ℕ) (p : Parts) (t : ℕ) → t ≢ n → slice_get (slice_set ps n p) t ≡ slice_get ps t
+at_apart [] n p t h = refl
+at_apart (q ∷ ps) zero p zero h = absurd (h refl)
+at_apart (q ∷ ps) zero p (suc t) h = refl
+at_apart (q ∷ ps) (suc n) p zero h = refl
+at_apart (q ∷ ps) (suc n) p (suc t) h = at_apart ps n p t (λ e. h (ap suc e))
 
-held_apart : (ps : List MemPart) (n : ℕ) (m : MemPart) (t : ℕ) → t ≢ n → (key : List ℕ) → held (slice_set ps n m) t key ≡ held ps t key
-held_apart [] n m t h key = refl
-held_apart (p ∷ ps) zero m zero h key = absurd (h refl)
-held_apart (p ∷ ps) zero m (suc t) h key = refl
-held_apart (p ∷ ps) (suc n) m zero h key = refl
-held_apart (p ∷ ps) (suc n) m (suc t) h key = held_apart ps n m t (λ e. h (ap suc e)) key
+count_set : (ps : List Parts) (n : ℕ) (p : Parts) → length (slice_set ps n p) ≡ length ps
+count_set [] n p = refl
+count_set (q ∷ ps) zero p = refl
+count_set (q ∷ ps) (suc n) p = ap suc (count_set ps n p)
 
-count_set : (ps : List MemPart) (n : ℕ) (m : MemPart) → length (slice_set ps n m) ≡ length ps
-count_set [] n m = refl
-count_set (p ∷ ps) zero m = refl
-count_set (p ∷ ps) (suc n) m = ap suc (count_set ps n m)
+pub same_number : (t n : ℕ) → (t ≡ n) ⊎ (t ≢ n)
+same_number zero zero = inl refl
+same_number zero (suc n) = inr (λ e. absurd (omega (arith, e)))
+same_number (suc t) zero = inr (λ e. absurd (omega (arith, e)))
+same_number (suc t) (suc n) = by (same_number t n)
+  where
+    by : (t ≡ n) ⊎ (t ≢ n) → (suc t ≡ suc n) ⊎ (suc t ≢ suc n)
+    by (inl e) = inl (ap suc e)
+    by (inr h) = inr (λ e. h (omega (arith, e)))
 
-held_of : (ps : List MemPart) (n : ℕ) (m : MemPart) → slice_get ps n ≡ Some m → (key : List ℕ) → held ps n key ≡ held_at m key
-held_of ps n m e key = ap (λ o. held_in o key) e
+-- ---- what is held
 
--- ---- one of them
+pub holds_at : (order : List Ordered) (ws : List Mutation) (a b : Option Parts) → b ≡ a → Holds order a ws → Holds order b ws
+holds_at order ws a b e h = subst (λ o. Holds order o ws) (sym e) h
 
-are_of : (order : List Ordered) (f g : List ℕ → Option Held) → ((key : List ℕ) → g key ≡ f key) → AreOf order f → AreOf order g
-are_of order f g same of key h is = of key h (sym (same key) ∙ is)
+-- a table without memory holds nothing
+pub none_held : (order : List Ordered) (ws : List Mutation) → Holds order None ws → ws ≡ []
+none_held order ws h = sym h.all ∙ ap all_of h.keeps
 
-same_held : (a b c d : Option Held) → a ≡ c → b ≡ d → Same (atoms_held c) (atoms_held d) → Same (atoms_held a) (atoms_held b)
-same_held a b c d e f s = subst (λ x. Same (atoms_held x) (atoms_held b)) (sym e) (subst (λ x. Same (atoms_held c) (atoms_held x)) (sym f) s)
+-- memory that was just begun holds nothing
+new_holds : (order : List Ordered) (p : Parts) (ws : List Mutation) → Keeps order p ([] ∷ []) → Holds order None ws → Holds order (Some p) ws
+new_holds order p ws keeps h = record { memtables = [] ∷ []; keeps = keeps; all = sym (none_held order ws h) }
 
--- place was made in none yet
-pub same_same : (A : List Atom) → Same A A
-same_same A = record { covers = λ x. refl; lives = λ r. refl; cells = λ x. refl }
+pub pushed : (ps : List Parts) (p : Parts) → ((order : List Ordered) → Keeps order p ([] ∷ [])) → AllStay ps (ps ++ p ∷ [])
+pushed [] p new zero order ws h = new_holds order p ws (new order) h
+pushed [] p new (suc t) order ws h = h
+pushed (q ∷ ps) p new zero order ws h = h
+pushed (q ∷ ps) p new (suc t) order ws h = pushed ps p new t order ws h
 
-pub reached : (w : Mutation) (ps qs : List MemPart) → ((t : ℕ) (key : List ℕ) → held qs t key ≡ held ps t key) → StayFew w.table ps qs → MakesRoom w ps qs
-reached w ps qs same few = record {
-  same = λ order of are key. subst (λ h. Same (atoms_held h) (atoms_held (held ps w.table key))) (sym (same w.table key)) (same_same (atoms_held (held ps w.table key)));
-  of = λ order of are. are_of order (held ps w.table) (held qs w.table) (same w.table) of;
-  least = λ key. ap least_held (same w.table key);
-  others = λ t apart key. same t key;
-  few = few;
+-- the memory of one table changed, and holds the same
+module _ (ps : List Parts) (n : ℕ) (p q : Parts) (there : n < length ps) (is : slice_get ps n ≡ Some p) where
+  set_stays : (t : ℕ) (order : List Ordered) (ws : List Mutation) → ((wss : List (List Mutation)) → t ≡ n → Keeps order p wss → (vss : List (List Mutation)) × Keeps order q vss × (all_of vss ≡ all_of wss))
+      → Holds order (slice_get ps t) ws → Holds order (slice_get (slice_set ps n q) t) ws
+  set_stays t order ws goes h = by (same_number t n)
+    where
+      own : t ≡ n → Holds order (Some p) ws → Holds order (Some q) ws
+      own e k = let to = goes k.memtables e k.keeps in record { memtables = to.0; keeps = to.1; all = to.2 ∙ k.all }
+
+      by : (t ≡ n) ⊎ (t ≢ n) → Holds order (slice_get (slice_set ps n q) t) ws
+      by (inl e) =
+          holds_at order ws (Some q) (slice_get (slice_set ps n q) t) (ap (slice_get (slice_set ps n q)) e ∙ at_set ps n q there)
+          (own e (holds_at order ws (slice_get ps t) (Some p) (sym (ap (slice_get ps) e ∙ is)) h))
+      by (inr apart) = holds_at order ws (slice_get ps t) (slice_get (slice_set ps n q) t) (at_apart ps n q t apart) h
+
+-- ---- calls
+
+pub reached : (w : Mutation) (ps qs : List Parts) → AllStay ps qs → StayFew w.table ps qs → MakesRoom w ps qs
+reached w ps qs stay few = record { kept = λ t order ws are h. stay t order ws h; few = few }
+
+pub made : (w : Mutation) (ps mid qs : List Parts) (p q : Parts) → AllStay ps mid → StayFew w.table ps mid → w.table < length mid → slice_get mid w.table ≡ Some p
+    → qs ≡ slice_set mid w.table q → ((order : List Ordered) (wss : List (List Mutation)) → Keeps order p wss → AreAtomsOf order w.atoms → Keeps order q wss) → MakesRoom w ps qs
+made w ps mid qs p q stay few there is set keeps = record {
+  kept = λ t order ws are h.
+      subst (λ l. Holds order (slice_get l t) ws) (sym set)
+      (set_stays mid w.table p q there is t order ws (λ wss e k. (wss, keeps order wss k (are e), refl)) (stay t order ws h));
+  few = λ k a b. subst (λ c. c ≤ k) (sym (ap length set ∙ count_set mid w.table q)) (few k a b);
 }
 
--- place was made in the table's own
-pub made : (w : Mutation) (ps mid qs : List MemPart) (m n : MemPart) → ((t : ℕ) (key : List ℕ) → held mid t key ≡ held ps t key) → StayFew w.table ps mid
-    → w.table < length mid → slice_get mid w.table ≡ Some m → qs ≡ slice_set mid w.table n → MakesPlaces w m n → MakesRoom w ps qs
-made w ps mid qs m n same few there is set makes =
-    let before : (key : List ℕ) → held ps w.table key ≡ held_at m key = λ key. sym (same w.table key) ∙ held_of mid w.table m is key in
-    let after : (key : List ℕ) → held qs w.table key ≡ held_at n key = λ key. ap (λ l. held l w.table key) set ∙ held_set mid w.table n there key in
-    record {
-      same = λ order of are key.
-          same_held (held qs w.table key) (held ps w.table key) (held_at n key) (held_at m key) (after key) (before key)
-          (makes.same order (are_of order (held ps w.table) (held_at m) (λ k. sym (before k)) of) are key);
-      of = λ order of are. are_of order (held_at n) (held qs w.table) after (makes.of order (are_of order (held ps w.table) (held_at m) (λ k. sym (before k)) of) are);
-      least = λ key. ap least_held (after key) ∙ makes.least key ∙ ap least_held (sym (before key));
-      others = λ t apart key. ap (λ l. held l t key) set ∙ held_apart mid w.table n t apart key ∙ same t key;
-      few = λ k a b. subst (λ c. c ≤ k) (sym (ap length set ∙ count_set mid w.table n)) (few k a b);
-    }
-
-pub has_room : (w : Mutation) (mid qs : List MemPart) (n : MemPart) → w.table < length mid → qs ≡ slice_set mid w.table n → HasPlaces n w → HasRoom w qs
-has_room w mid qs n there set places = (
-  subst (λ c. w.table < c) (sym (ap length set ∙ count_set mid w.table n)) there,
-  subst (λ h. PlacesIn h w.atoms) (sym (ap (λ l. held l w.table w.key) set ∙ held_set mid w.table n there w.key)) places,
+pub has_room : (w : Mutation) (mid qs : List Parts) (q : Parts) → w.table < length mid → qs ≡ slice_set mid w.table q → HasPlaces q.active w → HasRoom w qs
+has_room w mid qs q there set places = (
+  subst (λ c. w.table < c) (sym (ap length set ∙ count_set mid w.table q)) there,
+  subst (λ o. PlacesAt o w) (sym (ap (λ l. slice_get l w.table) set ∙ at_set mid w.table q there)) places,
 )
 
-pub room_in : (w : Mutation) (ps : List MemPart) (m : MemPart) → slice_get ps w.table ≡ Some m → HasRoom w ps → HasPlaces m w
-room_in w ps m is room = subst (λ h. PlacesIn h w.atoms) (held_of ps w.table m is w.key) room.1
+pub room_in : (w : Mutation) (ps : List Parts) (p : Parts) → slice_get ps w.table ≡ Some p → HasRoom w ps → HasPlaces p.active w
+room_in w ps p is room = subst (λ o. PlacesAt o w) is room.1
 
-pub joined : (w : Mutation) (ps qs : List MemPart) (m n : MemPart) → w.table < length ps → slice_get ps w.table ≡ Some m → qs ≡ slice_set ps w.table n → Joins w m n → JoinsRoom w ps qs
-joined w ps qs m n there is set joins =
-    let before : (key : List ℕ) → held ps w.table key ≡ held_at m key = held_of ps w.table m is in
-    let after : (key : List ℕ) → held qs w.table key ≡ held_at n key = λ key. ap (λ l. held l w.table key) set ∙ held_set ps w.table n there key in
-    record {
-      joined = λ order of are.
-          subst (λ h. Same (atoms_held h) (atoms_held (held ps w.table w.key) ++ w.atoms)) (sym (after w.key))
-          (subst (λ h. Same (atoms_held (held_at n w.key)) (atoms_held h ++ w.atoms)) (sym (before w.key))
-          (joins.joined order (are_of order (held ps w.table) (held_at m) (λ k. sym (before k)) of) are));
-      of = λ order of are. are_of order (held_at n) (held qs w.table) after (joins.of order (are_of order (held ps w.table) (held_at m) (λ k. sym (before k)) of) are);
-      least = ap least_held (after w.key) ∙ joins.least ∙ ap (λ h. least_with (least_held h) w.atoms) (sym (before w.key));
-      keys = λ key apart. after key ∙ joins.others key apart ∙ sym (before key);
-      others = λ t apart key. ap (λ l. held l t key) set ∙ held_apart ps w.table n t apart key;
-      count = ap length set ∙ count_set ps w.table n;
+pub joined : (w : Mutation) (ps qs : List Parts) (p q : Parts) → w.table < length ps → slice_get ps w.table ≡ Some p → qs ≡ slice_set ps w.table q
+    → ((order : List Ordered) (wss : List (List Mutation)) → Keeps order p wss → AreAtomsOf order w.atoms → Keeps order q (with_one w wss)) → JoinsRoom w ps qs
+joined w ps qs p q there is set keeps = record {
+  joined = λ order ws are h.
+      holds_at order (ws ++ w ∷ []) (Some q) (slice_get qs w.table) (ap (λ l. slice_get l w.table) set ∙ at_set ps w.table q there)
+      (one_more order ws are (holds_at order ws (slice_get ps w.table) (Some p) (sym is) h));
+  others = λ t apart. ap (λ l. slice_get l t) set ∙ at_apart ps w.table q t apart;
+  count = ap length set ∙ count_set ps w.table q;
+}
+  where
+    one_more : (order : List Ordered) (ws : List Mutation) → AreAtomsOf order w.atoms → Holds order (Some p) ws → Holds order (Some q) (ws ++ w ∷ [])
+    one_more order ws are h = record {
+      memtables = with_one w h.memtables;
+      keeps = keeps order h.memtables h.keeps are;
+      all = all_joined order (map arc_value p.frozen.items) p.active w h.memtables h.keeps ∙ ap (λ l. l ++ w ∷ []) h.all;
     }
+
+-- a memtable is frozen, or not
+pub frozen : (ps qs : List Parts) (n : ℕ) (p q : Parts) (b : List (List Mutation) → List (List Mutation)) → n < length ps → slice_get ps n ≡ Some p → qs ≡ slice_set ps n q
+    → ((wss : List (List Mutation)) → all_of (b wss) ≡ all_of wss) → ((order : List Ordered) (wss : List (List Mutation)) → Keeps order p wss → Keeps order q (b wss)) → AllStay ps qs
+frozen ps qs n p q b there is set same keeps t order ws h =
+    subst (λ l. Holds order (slice_get l t) ws) (sym set) (set_stays ps n p q there is t order ws (λ wss e k. (b wss, keeps order wss k, same wss)) h)
+
+if_begun : (b : Bool) (wss : List (List Mutation)) → all_of (if b then begun wss else wss) ≡ all_of wss
+if_begun true wss = all_begun wss
+if_begun false wss = refl
+
+pub frozen_unless : (ps qs : List Parts) (n : ℕ) (p q : Parts) (b : Bool) → n < length ps → slice_get ps n ≡ Some p → qs ≡ slice_set ps n q
+    → ((order : List Ordered) (wss : List (List Mutation)) → Keeps order p wss → Keeps order q (if b then begun wss else wss)) → AllStay ps qs
+frozen_unless ps qs n p q b there is set keeps = frozen ps qs n p q (λ wss. if b then begun wss else wss) there is set (if_begun b) keeps
+
+-- one table more has memory
+pub pushed_further : (start ps qs : List Parts) (p : Parts) (table : ℕ) → AllStay start ps → StayFew table start ps → ((order : List Ordered) → Keeps order p ([] ∷ [])) → qs ≡ ps ++ p ∷ []
+    → length ps ≤ table → AllStay start qs × StayFew table start qs
+pushed_further start ps qs p table stay few new is low = (
+  λ t order ws h. subst (λ l. Holds order (slice_get l t) ws) (sym is) (pushed ps p new t order ws (stay t order ws h)),
+  λ n a b. subst (λ l. length l ≤ n) (sym is) (omega (arith, length-append ps (p ∷ []), low, b)),
+)
 
 -- ---- from what calls ensure
 

@@ -1,12 +1,11 @@
--- A shard's state stands for its history: what its memtables hold says the same as all that was entered; and when a mutation can be entered.
+-- A shard's state stands for its history: its memory holds all that was entered; and when a mutation can be entered.
 -- Cassandra documentation, "Storage engine: memtables"; own.
-use Rattle.std.specs.Prelude.{◌≡◌, ℕ, ◌+◌, ◌/◌, ◌<◌, ◌≤◌, ◌≤ℤ◌, true, Option, None, Some, List, [], ◌∷◌, length, slice_get}
+use Rattle.std.specs.Prelude.{◌≡◌, ℕ, ◌==◌, if◌then◌else◌, ◌+◌, ◌/◌, ◌<◌, ◌≤◌, ◌≤ℤ◌, true, Option, None, Some, List, [], ◌∷◌, length, slice_get}
 use Rattle.std.specs.List.{flat_map}
 use Rattle.cas_types.specs.declared.limits.TheConstants.{LAST_DRAWN, MUTATION_LIMIT}
 use Rattle.cas_types.specs.declared.schema.TableSchema.{TableSchema}
 use Rattle.cas_bounds.specs.ClusteringOrder.{clustering_order}
 use Rattle.cas_bounds.specs.declared.order.Ordered.{Ordered}
-use Rattle.cas_atoms.specs.Winners.{Same}
 use Rattle.cas_atoms.specs.Fits.{FitsMutation, FitsQuery}
 use Rattle.cas_atoms.specs.LogLength.{record_length}
 use Rattle.cas_atoms.specs.declared.atom.Atom.{Atom}
@@ -14,10 +13,9 @@ use Rattle.cas_atoms.specs.declared.atom.Mutation.{Mutation}
 use Rattle.cas_atoms.specs.declared.query.Query.{Query}
 use Rattle.cas_effects.specs.FitsBound.{FitsBound}
 use Rattle.cas_effects.specs.declared.effect.BoundWrite.{BoundWrite}
-use Rattle.cas_partition.specs.Partitions.{IsOf}
-use Rattle.cas_memtable.specs.Memtables.{held_at, atoms_held, least_held, least_with, PlacesIn}
-use Rattle.cas_memtable.specs.declared.memtable.Held.{Held}
-use Rattle.cas_memtable.specs.declared.memtable.MemPart.{MemPart}
+use Rattle.cas_memtable.specs.Memtables.{HasPlaces}
+use Rattle.cas_parts.specs.Kept.{Keeps, all_of}
+use Rattle.cas_parts.specs.declared.parts.Parts.{Parts}
 use Rattle.cas_entries.specs.declared.entry.Entry.{Entry}
 use Rattle.cas_entries.specs.declared.entry.Entry.TheVariants.{Wrote}
 use Rattle.cas_entries.specs.Entries.{AreNumbered, first, last_number}
@@ -70,26 +68,26 @@ Belongs tables shards m = (t : TableSchema) × (slice_get tables m.table ≡ Som
 abbrev pub Asks : List TableSchema → Query → Type 0
 Asks tables q = (t : TableSchema) × (slice_get tables q.table ≡ Some t) × FitsQuery t q
 
--- ---- memtables
+-- ---- memory
 
--- the partition of a key in a memtable, if there is one
-abbrev pub held_in : Option MemPart → List ℕ → Option Held
-held_in None key = None
-held_in (Some m) key = held_at m key
+-- an entry's mutation, if it is of that table
+abbrev pub of_table : ℕ → Entry → List Mutation
+of_table table (Wrote session call m) = if m.table == table then m ∷ [] else []
 
--- the partition of a table and key; the memtables stand at their tables' numbers
-abbrev pub held : List MemPart → ℕ → List ℕ → Option Held
-held parts table key = held_in (slice_get parts table) key
+-- the mutations of a table, one after another
+abbrev pub mutations_of : ℕ → List Entry → List Mutation
+mutations_of table entries = flat_map (of_table table) entries
 
--- the partitions are of a table that orders its rows so
-abbrev pub AreOf : List Ordered → (List ℕ → Option Held) → Type 0
-AreOf order at = (key : List ℕ) (h : Held) → at key ≡ Some h → IsOf order h.partition
+-- what a table has in memory keeps these mutations, memtable by memtable; a table without memory keeps none
+abbrev pub KeepsIn : List Ordered → Option Parts → List (List Mutation) → Type 0
+KeepsIn order None wss = wss ≡ []
+KeepsIn order (Some p) wss = Keeps order p wss
 
--- each partition of a table says the same as all that was written to it, and tells the least timestamp of it
-pub record Keeps (order : List Ordered) (at : List ℕ → Option Held) (written : List ℕ → List Atom) : Type 0 where
-  pub of : AreOf order at
-  pub same : (key : List ℕ) → Same (atoms_held (at key)) (written key)
-  pub least : (key : List ℕ) → least_held (at key) ≡ least_with None (written key)
+-- the memory of a table that orders its rows so holds just these mutations
+pub record Holds (order : List Ordered) (memory : Option Parts) (ws : List Mutation) : Type 0 where
+  pub memtables : List (List Mutation)
+  pub keeps : KeepsIn order memory memtables
+  pub all : all_of memtables ≡ ws
 
 -- a shard's state stands for its history
 pub record Stands (tables : List TableSchema) (s : ShardHistory) (x : Shard) : Type 0 where
@@ -97,14 +95,19 @@ pub record Stands (tables : List TableSchema) (s : ShardHistory) (x : Shard) : T
   pub number : x.number ≡ number_of s
   pub drawn : x.drawn ≡ drawn_of s
   pub moment : x.moment ≡ s.moment
-  pub kept : (table : ℕ) → Keeps (order_at tables table) (held x.parts.items table) (written_to table (all_entries s))
+  pub kept : (table : ℕ) → Holds (order_at tables table) (slice_get x.parts.items table) (mutations_of table (all_entries s))
   pub few : length x.parts.items ≤ length tables
 
 -- ---- what can be entered
 
--- the mutation's atoms have their places in the memtable of its table
-abbrev pub HasRoom : Mutation → List MemPart → Type 0
-HasRoom m parts = (m.table < length parts) × PlacesIn (held parts m.table m.key) m.atoms
+-- the mutation's atoms have their places in the memtable that is written to
+abbrev pub PlacesAt : Option Parts → Mutation → Type 0
+PlacesAt None m = ⊥
+PlacesAt (Some p) m = HasPlaces p.active m
+
+-- in that of its table
+abbrev pub HasRoom : Mutation → List Parts → Type 0
+HasRoom m parts = (m.table < length parts) × PlacesAt (slice_get parts m.table) m
 
 -- A shard is prepared for the mutation, which then enters without memory: it has its places, it is the next one, and neither its number nor what was
 -- drawn for it is past its limit.

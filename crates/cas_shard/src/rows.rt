@@ -1,38 +1,27 @@
-//! What a SELECT reads of the memtables, and the rows that it shows.
+//! What a SELECT reads of a shard's memory, and the rows that it shows.
 
-ghost use Rattle.std.specs.Prelude.{◌≡◌, ◌≤ℤ◌, ◌++◌, ◌∷◌, [], pos, List as ListOf, Some, IfOk, OnOk};
-ghost use Rattle.std.specs.Option.{option_to_list};
+ghost use Rattle.std.specs.Prelude.{◌≡◌, ◌≤ℤ◌, ◌++◌, ◌∷◌, [], pos, List as ListOf, Some, IfOk, OnOk, slice_get};
 ghost use Rattle.cas_types.specs.Limits.{IsNarrow};
 ghost use Rattle.cas_atoms.specs.declared.query.LiveRow.{LiveRow as Shown};
 ghost use Rattle.cas_live.specs.Inner.Coming.{rows_to_come};
-ghost use Rattle.cas_shard.specs.Stands.{held};
 ghost use Rattle.cas_shard.specs.Inner.Looks.{Answers, Sources};
 
 use cas_atoms::{LiveRow, Query};
 use cas_live::LiveRows;
-use cas_memtable::MemPart;
 use cas_merge::Merger;
+use cas_parts::Parts;
 use cas_streams::{FragmentSource, Part};
 use std::alloc::{AllocError, Global};
 
-fn listed(alloc: Global, source: Option<Merger<Part>>) -> Result<Vec<Merger<Part>>, AllocError>
-    ensures { IfOk result (λ v. v.items ≡ option_to_list source) }
-{
-    let mut sources = Vec::new(alloc);
-    if let Some(source) = source {
-        sources.push(source)?;
-    }
-    Ok(sources)
-}
-
-// The sources of the query's partition: so far its memtable's, where something was written to it.
-fn sources(alloc: Global, parts: &[MemPart], query: &Query) -> Result<Vec<Merger<Part>>, AllocError>
-    ensures { IfOk result (λ v. Sources query.now.slice (held parts.now query.now.table query.now.key)
+// The sources of the query's partition: one of each memtable of its table in which something was
+// written to it.
+fn sources(alloc: Global, parts: &[Parts], query: &Query) -> Result<Vec<Merger<Part>>, AllocError>
+    ensures { IfOk result (λ v. Sources query.now.slice query.now.key (slice_get parts.now query.now.table)
         ⟦<Merger<Part> as FragmentSource>⟧.to_come ⟦<Merger<Part> as FragmentSource>⟧.over_all v.items) }
 {
     match parts.get(query.table as usize) {
         None => Ok(Vec::new(alloc)),
-        Some(part) => listed(alloc, part.part(&query.key, &query.slice)?),
+        Some(part) => part.sources(alloc, &query.key, &query.slice),
     }
 }
 
@@ -56,16 +45,16 @@ fn all_rows<I: FragmentSource>(alloc: Global, rows: LiveRows<I>) -> Result<Vec<L
     Ok(shown)
 }
 
-/// The rows that a query shows of the memtables at a moment.
+/// The rows that a query shows of the memory at a moment.
 pub(crate) fn rows_of(
     alloc: Global,
-    parts: &[MemPart],
+    parts: &[Parts],
     query: Query,
     now: i64,
 ) -> Result<Vec<LiveRow>, AllocError>
     requires begun { pos 0 ≤ℤ now }
     requires columns { IsNarrow query.columns }
-    ensures { IfOk result (λ v. Answers query now (held parts.now query.table query.key) v.items) }
+    ensures { IfOk result (λ v. Answers query now (slice_get parts.now query.table) v.items) }
 {
     let merger = Merger::new(sources(alloc, parts, &query)?);
     all_rows(alloc, LiveRows::new(alloc, merger, query, now))

@@ -1,4 +1,4 @@
-//! One shard: its memtables, and what a write and a SELECT do in it.
+//! One shard: what it has in memory, and what a write and a SELECT do in it.
 
 ghost use Rattle.std.specs.Prelude.{◌≡◌, ◌≤◌, ◌≤ℤ◌, if◌then◌else◌};
 ghost use Rattle.cas_types.specs.Limits.{IsMoment};
@@ -6,19 +6,19 @@ ghost use Rattle.cas_types.specs.declared.limits.TheConstants.{LAST_DRAWN, MUTAT
 ghost use Rattle.cas_shard.specs.Shards.{drawn_with, take_refusal};
 
 use crate::answers::{Look, TakeFault};
-use crate::parts::{join, reserve};
+use crate::parts::{freeze, join, reserve};
 use crate::rows::rows_of;
 use cas_atoms::{Mutation, Query, length};
 use cas_effects::{BoundWrite, TOO_LARGE, TOO_MANY, atoms_of};
-use cas_memtable::MemPart;
+use cas_parts::Parts;
 use cas_types::{LAST_DRAWN, LEAST_TIMESTAMP, List, MUTATION_LIMIT, Mem};
 use std::alloc::{AllocError, Global};
 
-/// One shard: its memtables, at their tables' numbers, the number of its last mutation, the last
+/// One shard: the memory of each table, at the tables' numbers, the number of its last mutation, the last
 /// timestamp that it drew, and its last moment in seconds.
 #[derive(Drop)]
 pub struct Shard {
-    pub(crate) parts: Vec<MemPart>,
+    pub(crate) parts: Vec<Parts>,
     pub(crate) number: u64,
     pub(crate) drawn: i64,
     pub(crate) moment: i64,
@@ -252,6 +252,15 @@ impl Shard {
         let number = mutation.number;
         self.enter(mutation);
         Ok(number)
+    }
+
+    /// Freezes the memtable of a table that is written to, and begins another one, so that it can be
+    /// written to a file. One without an atom stays. Where memory runs out all is as before.
+    pub fn freeze(&mut self, alloc: Global, table: u16) -> Result<(), Mem>
+        ensures stands { (tables : ListOf Schema) (s : ShardHistory) → Stands tables s self.old → Stands tables s self.new }
+        ensures number { self.new.number ≡ self.old.number }
+    {
+        freeze(&mut self.parts, alloc, table)
     }
 
     /// Shows the rows of a SELECT. The moment rises also where memory runs out. It reads what the

@@ -1,10 +1,10 @@
-use Rattle.std.proofs.Common.{◌≡◌, ℕ, ◌<◌, ◌≤◌, ◌+◌, ◌-◌, List, length}
-use Rattle.cas_shard.specs.Stands.{held}
+use Rattle.std.proofs.Common.{ℕ, ◌<◌, ◌≤◌, ◌+◌, ◌-◌, length}
+use Rattle.cas_shard.specs.Inner.Parts.{AllStay}
 use Rattle.cas_shard.proofs.parts.reach.Given as goal
 
 abbrev pub invariant-loop-alloc : goal.invariant-loop-alloc
 invariant-loop-alloc l =
-    ((t : ℕ) (key : List ℕ) → held l.parts.items t key ≡ held l.fn.parts.items t key)
+    AllStay l.fn.parts.items l.parts.items
     × ((n : ℕ) → length l.fn.parts.items ≤ n → l.table < n → length l.parts.items ≤ n)
 
 abbrev pub decreases-loop-alloc : goal.decreases-loop-alloc
