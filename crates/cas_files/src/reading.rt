@@ -13,6 +13,8 @@ const PIECE: usize = 1 << 16;
 
 /// Reads behind bytes that are at hand, of which the first stands at a place of the file, until so
 /// many are, or the file has no more.
+// A frame with a piece is only entered where there is something to read.
+#[inline(never)]
 pub(crate) fn read_on<F: Folder>(
     folder: &mut F,
     n: Name,

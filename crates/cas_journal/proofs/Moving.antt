@@ -226,7 +226,6 @@ commit_kept None kept before now log_fault.Failed none ends not_memory unkept = 
 commit_kept None kept before now log_fault.Mem none ends not_memory unkept = not_memory refl
 commit_kept None kept before now (log_fault.TooLarge long most) none ends not_memory unkept = ends
 commit_kept None kept before now (log_fault.Stopped x) none ends not_memory unkept = ends
-commit_kept None kept before now (log_fault.Bad at) none ends not_memory unkept = ends
 commit_kept (Some x) kept before now f none ends not_memory unkept = cc
 
 -- ---- a push

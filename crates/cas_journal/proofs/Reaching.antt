@@ -7,7 +7,6 @@ use Rattle.cas_changes.specs.declared.entry.Entry.{Entry}
 use Rattle.cas_changes.specs.declared.entry.Entry.TheVariants as entry
 use Rattle.cas_changes.specs.declared.said.TheConstants.{FILE_LIMIT, LISTED_LIMIT, SEGMENT_LIMIT}
 use Rattle.cas_changes.specs.Saying.{listed_after}
-use Rattle.cas_changes.specs.Spelling.{entry_bytes}
 use Rattle.cas_log.specs.Logs.{place_of}
 use Rattle.cas_log.specs.declared.log.Log.{Log}
 use Rattle.cas_manifest.specs.Manifests.{place_of as manifest_place, room_of}
@@ -36,9 +35,9 @@ no_place_by false false listed long what most many more few is = absurd cc
 no_place : (j : Journal) (e : Entry) (what : Counted) (most : ℕ) → listed_after j.manifest.listed e ≡ j.manifest.listed → entry_limit j e ≡ Some (TooMany what most)
     → HasNoPlace e (reach_of j)
 no_place j e what most same is =
-    let limit : FILE_LIMIT < (manifest_place j.manifest).end + length (entry_bytes e) + 10 =
-    no_place_by (ltb LISTED_LIMIT (listed_after j.manifest.listed e)) (ltb FILE_LIMIT ((manifest_place j.manifest).end + length (entry_bytes e) + 10))
-    (listed_after j.manifest.listed e) ((manifest_place j.manifest).end + length (entry_bytes e) + 10) what most refl refl (omega (arith, same, j.manifest.few)) is in
+    let limit : FILE_LIMIT < (manifest_place j.manifest).end + room_of e + 1 =
+    no_place_by (ltb LISTED_LIMIT (listed_after j.manifest.listed e)) (ltb FILE_LIMIT ((manifest_place j.manifest).end + room_of e + 1))
+    (listed_after j.manifest.listed e) ((manifest_place j.manifest).end + room_of e + 1) what most refl refl (omega (arith, same, j.manifest.few)) is in
     omega (arith, limit)
 
 name_full : (j : Journal) (n : ℕ) (what : Counted) (most : ℕ) → entry_limit j (entry.NewSegment n) ≡ Some (TooMany what most) → IsFull (reach_of j)

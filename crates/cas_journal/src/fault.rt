@@ -41,7 +41,7 @@ impl From<LogFault> for JournalFault {
             LogFault::Stopped(first) => JournalFault::Stopped(first),
             LogFault::Mem => JournalFault::Mem,
             // A place that isn't allowed is told only by calls that read.
-            LogFault::Failed | LogFault::Bad { .. } => JournalFault::Failed,
+            LogFault::Failed => JournalFault::Failed,
         }
     }
 }

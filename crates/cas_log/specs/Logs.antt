@@ -11,7 +11,7 @@ use Rattle.cas_atoms.specs.Fits.{FitsMutation}
 use Rattle.cas_atoms.specs.LogLength.{record_length}
 use Rattle.cas_log.specs.Segment.{body, written, front, joined, IsSegment}
 use Rattle.cas_log.specs.declared.fault.LogFault.{LogFault}
-use Rattle.cas_log.specs.declared.fault.LogFault.TheVariants.{TooLarge, Failed, Stopped, Bad, Mem}
+use Rattle.cas_log.specs.declared.fault.LogFault.TheVariants.{TooLarge, Failed, Stopped, Mem}
 use Rattle.cas_log.specs.declared.log.Log.{Log}
 
 -- which segment a log writes, how long it may be, and where its closed gate stands
@@ -70,7 +70,6 @@ Ends None kept before now (Err Failed) = Rose before now × (kept ≡ Some (reco
 Ends None kept before now (Err Mem) = kept ≡ None
 Ends None kept before now (Err (TooLarge length limit)) = ⊥
 Ends None kept before now (Err (Stopped first)) = ⊥
-Ends None kept before now (Err (Bad at)) = ⊥
 
 -- why no room was made for a record: it is longer than half a segment, of which its length is told where it is below 2^64; or memory ran out
 abbrev pub WhyNotReserved : LogFault → ℕ → ℕ → Type 0
@@ -78,4 +77,3 @@ WhyNotReserved (TooLarge length limit) long most = (most + 1 ≤ long) × (lengt
 WhyNotReserved Mem long most = Unit {0}
 WhyNotReserved Failed long most = ⊥
 WhyNotReserved (Stopped first) long most = ⊥
-WhyNotReserved (Bad at) long most = ⊥

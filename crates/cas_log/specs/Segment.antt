@@ -1,13 +1,14 @@
 -- The bytes of a segment of the commit log. Own format.
-use Rattle.std.specs.Prelude.{◌≡◌, ◌≢◌, ℕ, ◌+◌, ◌≤◌, ◌^◌, List, [], ◌∷◌, ◌++◌, length, codes}
+use Rattle.std.specs.Prelude.{◌≡◌, ◌≢◌, ℕ, ◌+◌, ◌≤◌, List, [], ◌∷◌, ◌++◌, length, codes}
 use Rattle.std.specs.List.{flat_map}
 use Rattle.cas_codec.specs.Fields.{u32, u64}
 use Rattle.cas_atoms.specs.declared.atom.Mutation.{Mutation}
 use Rattle.cas_mutations.specs.Spelling.{record_bytes}
+use Rattle.cas_log.specs.declared.limits.TheConstants.{LEAST_SEGMENT, GREATEST_SEGMENT}
 
 -- how long a segment may be: from 4,096 to 33,554,432 bytes
 abbrev pub IsSize : ℕ → Type 0
-IsSize size = (4096 ≤ size) × (size ≤ 2 ^ 25)
+IsSize size = (LEAST_SEGMENT ≤ size) × (size ≤ GREATEST_SEGMENT)
 
 -- a word, the segment's number and its size, eight bytes each
 unfoldable pub header : ℕ → ℕ → List ℕ

@@ -15,8 +15,6 @@ pub enum LogFault {
     Failed,
     /// A fault was met before, and nothing was done.
     Stopped(First),
-    /// The segment's bytes at this place aren't allowed there.
-    Bad { at: u64 },
     Mem,
 }
 

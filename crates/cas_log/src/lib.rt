@@ -4,8 +4,10 @@
 
 mod blocks;
 mod fault;
+mod limits;
 mod log;
 mod writing;
 
 pub use fault::LogFault;
-pub use log::{GREATEST_SEGMENT, LEAST_SEGMENT, Log};
+pub use limits::{GREATEST_SEGMENT, LEAST_SEGMENT};
+pub use log::Log;

@@ -3,11 +3,6 @@
 ghost use Rattle.std.specs.Prelude.{◌+◌, ◌*◌, ◌≤◌, ◌<◌, vec_len};
 ghost use Rattle.cas_log.specs.Segment.{IsSize};
 
-/// The least and the greatest size of a segment, in bytes.
-pub const LEAST_SEGMENT: u64 = 4096;
-
-pub const GREATEST_SEGMENT: u64 = 1 << 25;
-
 /// The segment that mutations are written to.
 #[derive(Drop)]
 pub struct Log {

@@ -19,7 +19,7 @@ use Rattle.cas_changes.specs.Saying.{Saying, nothing, after, said_by, listed_aft
 use Rattle.cas_changes.specs.Allowed.{FitsEntry, FitsNext}
 use Rattle.cas_changes.specs.Spelling.{entry_bytes}
 use Rattle.cas_manifest.specs.File.{lengths, block, front, MayFollow}
-use Rattle.cas_manifest.specs.Manifests.{Place, Stands, MayHave, passes, Ends}
+use Rattle.cas_manifest.specs.Manifests.{Place, Stands, MayHave, passes, room_of, Ends}
 use Rattle.cas_manifest.specs.declared.fault.Limit.{Limit}
 use Rattle.cas_manifest.specs.declared.fault.Limit.TheVariants.{Bytes}
 use Rattle.cas_manifest.specs.declared.fault.ManifestFault.{ManifestFault}
@@ -149,11 +149,11 @@ unfolding lengths u32
 block_long e = omega (arith, length-append (block e) (0 ∷ []), length-append (lengths (length (entry_bytes e)) 1) (entry_bytes e))
 
 pub none_passed : (place : Place) (e : Entry) → listed_after place.listed e ≤ LISTED_LIMIT → place.end + length (entry_bytes e) + 10 ≤ FILE_LIMIT → passes place e ≡ None
-none_passed place e few low = rw (le-not-ltb LISTED_LIMIT (listed_after place.listed e) few, le-not-ltb FILE_LIMIT (place.end + length (entry_bytes e) + 10) low) refl
+none_passed place e few low = rw (le-not-ltb LISTED_LIMIT (listed_after place.listed e) few, le-not-ltb FILE_LIMIT (place.end + room_of e + 1) (omega (arith, low))) refl
 
 pub bytes_passed : (place : Place) (e : Entry) → listed_after place.listed e ≤ LISTED_LIMIT → FILE_LIMIT < place.end + length (entry_bytes e) + 10
     → passes place e ≡ Some (TooMany Bytes FILE_LIMIT)
-bytes_passed place e few long = rw (le-not-ltb LISTED_LIMIT (listed_after place.listed e) few, lt-ltb FILE_LIMIT (place.end + length (entry_bytes e) + 10) long) refl
+bytes_passed place e few long = rw (le-not-ltb LISTED_LIMIT (listed_after place.listed e) few, lt-ltb FILE_LIMIT (place.end + room_of e + 1) (omega (arith, long))) refl
 
 -- ---- how an append ends
 

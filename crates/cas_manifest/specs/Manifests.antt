@@ -49,17 +49,17 @@ is_made (Some (gate ∷ next ∷ rest)) = gate == 1
 abbrev pub MayBegin : Option (List ℕ) → Option (List ℕ) → Type 0
 MayBegin old new = (new ≡ old) ⊎ ((is_made new ≡ false) ⊎ ((file : List ℕ) × (new ≡ Some file) × IsManifest [] file))
 
--- The limit that an entry would pass: more than 4,096 table files listed after it, or more than 2^40 bytes of the file with its block, which is
--- eight bytes longer than the entry, and the next gate.
-abbrev pub passes : Place → Entry → Option ManifestFault
-passes place e =
-    if nat_lt LISTED_LIMIT (listed_after place.listed e) then Some (TooMany Files LISTED_LIMIT)
-    else if nat_lt FILE_LIMIT (place.end + length (entry_bytes e) + 10) then Some (TooMany Bytes FILE_LIMIT)
-    else None
-
 -- how many bytes an entry takes in the file: its own, the eight before them in its block, and the next gate
 abbrev pub room_of : Entry → ℕ
 room_of e = length (entry_bytes e) + 9
+
+-- The limit that an entry would pass: more than 4,096 table files listed after it, or more than 2^40 bytes of the file, which has a gate at its end,
+-- with what the entry takes.
+abbrev pub passes : Place → Entry → Option ManifestFault
+passes place e =
+    if nat_lt LISTED_LIMIT (listed_after place.listed e) then Some (TooMany Files LISTED_LIMIT)
+    else if nat_lt FILE_LIMIT (place.end + room_of e + 1) then Some (TooMany Bytes FILE_LIMIT)
+    else None
 
 -- How an append ends, by the limit that the entry would pass: what fault was kept before and is kept now, the folder's count of faults before and
 -- now. One that was kept stops it; where the folder fails that is kept, by the count.

@@ -1,25 +1,24 @@
 -- A store that is read, swept and begun, and what its opening leaves.
-use Rattle.std.proofs.Common.{◌≡◌, inl, inr, ℕ, List, [], filter, Result, Ok, Err, IfOk, IfErr, Vec, ◌∙◌, subst}
-use Rattle.std.specs.declared.alloc.Global.{Global}
+use Rattle.std.proofs.Common.{◌≡◌, inl, inr, ℕ, List, [], filter, Result, Ok, Err, IfOk, IfErr, ◌∙◌, sym, subst}
+use Rattle.std.proofs.lemmas.List.{append-nil}
 use Rattle.cas_disk.specs.declared.name.Name.TheVariants.{Manifest as manifest_name}
 use Rattle.cas_disk.specs.Disk.{Image, Disk, During, Changed, Same}
 use Rattle.cas_disk.proofs.Moments.{reworded, one_call_more}
 use Rattle.cas_atoms.specs.declared.atom.Mutation.{Mutation}
 use Rattle.cas_changes.specs.declared.entry.Entry.{Entry}
-use Rattle.cas_changes.specs.Saying.{Saying, nothing, said_by}
+use Rattle.cas_changes.specs.Saying.{nothing, said_by}
 use Rattle.cas_manifest.specs.File.{MayFollow}
 use Rattle.cas_manifest.specs.Manifests.{Place}
 use Rattle.cas_manifest.specs.Loading.{IsNew, MayBeNewStore, first_entries}
 use Rattle.cas_journal.specs.Stores.{IsStore}
-use Rattle.cas_journal.specs.declared.journal.Journal.{Journal}
-use Rattle.cas_opening.specs.declared.opened.Opened.{Opened}
+use Rattle.cas_opening.specs.declared.opened.OpenStore.{OpenStore}
 use Rattle.cas_opening.specs.declared.fault.OpenFault.{OpenFault}
 use Rattle.cas_opening.specs.declared.fault.OpenFault.TheVariants.{Bad, Failed, Mem}
-use Rattle.cas_opening.specs.Opening.{IsOfBytes, OpensAs, Answers, Ends, IsOpened, IsReadAs, HasStayed, MayBeOpened, MayBeMadeNew, is_above}
+use Rattle.cas_opening.specs.Opening.{IsOfBytes, OpensAs, Answers, Ends, EndsWith, IsReadWith, HasStayed, MayBeOpened, MayBeMadeNew, is_above}
 use Rattle.cas_opening.specs.Inner.Faults.{IsOfFolder}
 use Rattle.cas_opening.specs.Inner.Keeping.{Keeps}
 use Rattle.cas_opening.specs.Inner.Naming.{IsBegunWith, IsToldOf}
-use Rattle.cas_opening.specs.Inner.Reading.{IsWhole, IsRead}
+use Rattle.cas_opening.specs.Inner.Reading.{IsWhole, IsRead, FaultGave}
 use Rattle.cas_opening.specs.Inner.Sweeping.{Spares}
 use Rattle.cas_journal.proofs.Sayings.{is_made as made}
 use Rattle.cas_opening.proofs.Saids.{sound, shard_count}
@@ -63,11 +62,11 @@ module _ (shards : ℕ) where
 
 -- ---- what is answered
 
--- a fault of the folder ends any opening
-pub folder_ends : (entries : List Entry) (ms : List Mutation) (disk : Disk) (f : OpenFault) → IsOfFolder f → Ends entries ms disk (Err f)
-folder_ends entries ms disk Failed is = tt
-folder_ends entries ms disk Mem is = tt
-folder_ends entries ms disk (Bad name at) is = absurd is
+-- what isn't refused where mutations are handed on isn't where they are answered
+pub kept_ends : (entries : List Entry) (ms given : List Mutation) (disk : Disk) (f : OpenFault) → EndsWith entries ms given disk (Err f) → Ends entries ms disk (Err f)
+kept_ends entries ms given disk Failed is = tt
+kept_ends entries ms given disk Mem is = tt
+kept_ends entries ms given disk (Bad name at) is = is
 
 pub folder_answers : (T : Type 0) (shards : ℕ) (c : Image) (f : OpenFault) → IsOfFolder f → Answers {T = T} shards c (Err f)
 folder_answers T shards c Failed is = tt
@@ -75,11 +74,11 @@ folder_answers T shards c Mem is = tt
 folder_answers T shards c (Bad name at) is = absurd is
 
 -- what is refused is no store
-pub refused_ends : (T : Type 0) (shards : ℕ) (c : Image) → IsOfBytes c → (entries : List Entry) (ms : List Mutation) (disk : Disk) (f : OpenFault) → OpensAs shards entries ms c
-    → Answers {T = T} shards c (Err f) → Ends entries ms disk (Err f)
-refused_ends T shards c bytes entries ms disk Failed opens answers = tt
-refused_ends T shards c bytes entries ms disk Mem opens answers = tt
-refused_ends T shards c bytes entries ms disk (Bad name at) opens answers = opens_not_bad c bytes shards entries ms opens name at answers
+pub refused_ends : (T : Type 0) (shards : ℕ) (c : Image) → IsOfBytes c → (entries : List Entry) (ms given : List Mutation) (disk : Disk) (f : OpenFault) → OpensAs shards entries ms c
+    → Answers {T = T} shards c (Err f) → FaultGave entries ms given f → EndsWith entries ms given disk (Err f)
+refused_ends T shards c bytes entries ms given disk Failed opens answers gave = gave
+refused_ends T shards c bytes entries ms given disk Mem opens answers gave = gave
+refused_ends T shards c bytes entries ms given disk (Bad name at) opens answers gave = opens_not_bad c bytes shards entries ms opens name at answers
 
 pub answers_still : (T U : Type 0) (shards : ℕ) (c : Image) (f : OpenFault) → Answers {T = T} shards c (Err f) → Answers {T = U} shards c (Err f)
 answers_still T U shards c Failed answers = tt
@@ -87,11 +86,6 @@ answers_still T U shards c Mem answers = tt
 answers_still T U shards c (Bad name at) answers = answers
 
 -- ---- a store that was read
-
--- with the journal that was begun
-pub opened_with : (entries : List Entry) (ms : List Mutation) (j : Journal) (s : Saying) (given : Vec Mutation Global) (disk : Disk) → IsBegunWith entries ms j s disk
-    → given.items ≡ filter (is_above (said_by entries)) ms → IsOpened entries ms (record { journal = j; said = s; mutations = given }) disk
-opened_with entries ms j s given disk begun above = record { numbers = begun.numbers; begins = begun.begins; lasts = begun.lasts; said = begun.said; above = above }
 
 -- it is the store that is there
 pub it_is : (shards : ℕ) (place : Place) (entries others : List Entry) (ns ms : List Mutation) (c : Image) → IsOfBytes c → (disk : Disk) → IsRead shards place entries ns c disk
@@ -101,9 +95,9 @@ it_is shards place entries others ns ms c bytes disk is opens P says =
     subst (λ (l : List Mutation). P others l) same.1 (subst (λ (es : List Entry). P es ns) same.0 (says is.keeps))
 
 -- whatever the folder tells
-pub read_as : (entries : List Entry) (ms given : List Mutation) (o : Opened) → IsWhole entries ms given → MayFollow nothing entries → IsToldOf entries o.journal o.said
-    → o.mutations.items ≡ given → IsReadAs entries ms o
-read_as entries ms given o whole follow told is =
+read_as : (entries : List Entry) (ms given : List Mutation) (o : OpenStore) → IsWhole entries ms given → MayFollow nothing entries → IsToldOf entries o.journal o.said
+    → IsReadWith entries ms given o.journal o.said
+read_as entries ms given o whole follow told =
     let s = sound entries follow in
     record {
       made = whole.made;
@@ -113,20 +107,23 @@ read_as entries ms given o whole follow told is =
       numbers = told.numbers;
       begins = told.begins;
       said = told.said;
-      above = is ∙ whole.above;
+      above = whole.above;
       last = told.last;
     }
 
-pub opened_read : (entries : List Entry) (ms given : List Mutation) (Tells : List Entry → List Mutation → Type 0) (r : Result Opened OpenFault) → IsWhole entries ms given
-    → MayFollow nothing entries → Tells entries ms → IfOk r (λ o. IsToldOf entries o.journal o.said) → IfOk r (λ o. o.mutations.items ≡ given)
-    → IfOk r (λ o. (es : List Entry) × (ns : List Mutation) × IsReadAs es ns o × Tells es ns)
-opened_read entries ms given Tells (Ok o) whole follow tells told is = (entries, ms, read_as entries ms given o whole follow told is, tells)
-opened_read entries ms given Tells (Err f) whole follow tells told is = tt
+pub opened_read : (entries : List Entry) (ms given : List Mutation) (took : List Mutation → Type 0) (Tells : List Entry → List Mutation → Type 0) (r : Result OpenStore OpenFault)
+    → took given → IsWhole entries ms given → MayFollow nothing entries → Tells entries ms → IfOk r (λ o. IsToldOf entries o.journal o.said)
+    → IfOk r (λ o. (es : List Entry) × (ns : List Mutation) × (gs : List Mutation) × took gs × IsReadWith es ns gs o.journal o.said × Tells es ns)
+opened_read entries ms given took Tells (Ok o) has whole follow tells told = (entries, ms, given, has, read_as entries ms given o whole follow told, tells)
+opened_read entries ms given took Tells (Err f) has whole follow tells told = tt
 
 -- how its opening ends
-pub opened_ends : (entries : List Entry) (ms : List Mutation) (disk : Disk) (r : Result Opened OpenFault) → IfErr r (λ f. IsOfFolder f) → IfOk r (λ o. IsOpened entries ms o disk) → Ends entries ms disk r
-opened_ends entries ms disk (Ok o) why is = is
-opened_ends entries ms disk (Err f) why is = folder_ends entries ms disk f why
+pub opened_ends : (entries : List Entry) (ms given : List Mutation) (disk : Disk) (r : Result OpenStore OpenFault) → IfErr r (λ f. IsOfFolder f)
+    → IfOk r (λ o. IsBegunWith entries ms o.journal o.said disk) → given ≡ filter (is_above (said_by entries)) ms → EndsWith entries ms given disk r
+opened_ends entries ms given disk (Ok o) why begun above = record { numbers = begun.numbers; begins = begun.begins; lasts = begun.lasts; said = begun.said; above = above }
+opened_ends entries ms given disk (Err Failed) why begun above = ([], sym above ∙ sym (append-nil given))
+opened_ends entries ms given disk (Err Mem) why begun above = ([], sym above ∙ sym (append-nil given))
+opened_ends entries ms given disk (Err (Bad name at)) why begun above = absurd why
 
 -- where there is no store and none may be made, none was read
 pub no_store : (shards : ℕ) (entries : List Entry) (ms : List Mutation) (c : Image) → OpensAs shards entries ms c → (IsNew c → ⊥)

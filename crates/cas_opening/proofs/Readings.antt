@@ -19,8 +19,8 @@ use Rattle.cas_manifest.specs.Reading.{Far, manifest_of}
 use Rattle.cas_manifest.specs.Loading.{manifest_in, HasStore, IsNew, first_entries, new_store}
 use Rattle.cas_manifest.proofs.ManifestLaws.{manifest_found}
 use Rattle.cas_manifest.proofs.ManifestAgain.{manifest_again}
-use Rattle.cas_replay.specs.Reading.{log_of, segment_in, is_above as is_above_in}
-use Rattle.cas_replay.specs.Replays.{Last}
+use Rattle.cas_replay.specs.Reading.{log_of, segment_in, above_in, is_above as is_above_in}
+use Rattle.cas_replay.specs.Replays.{HandsOn, Last, IsFront}
 use Rattle.cas_replay.specs.Grammar.{AreSegments, AreOfALog}
 use Rattle.cas_replay.proofs.SegmentLaws.{is_log, of_log}
 use Rattle.cas_journal.specs.Stores.{IsStore}
@@ -28,9 +28,12 @@ use Rattle.cas_journal.proofs.Segments.{segments_agree}
 use Rattle.cas_journal.proofs.Lists.{all_mapped}
 use Rattle.cas_opening.specs.declared.fault.OpenFault.{OpenFault}
 use Rattle.cas_opening.specs.declared.fault.OpenFault.TheVariants.{Bad, Failed, Mem}
-use Rattle.cas_opening.specs.Opening.{IsOfBytes, OpensAs, IsBadLog, IsRefused, Answers}
+use Rattle.cas_opening.specs.Opening.{IsOfBytes, OpensAs, IsBadLog, IsRefused, Answers, is_above}
 use Rattle.cas_opening.specs.Inner.Counting.{frontiers_below}
-use Rattle.cas_opening.specs.Inner.Reading.{log_in, ReplaysSaid, IsWhole, IsRead}
+use Rattle.cas_replay.specs.declared.fault.ReplayFault.{ReplayFault}
+use Rattle.cas_replay.specs.declared.fault.ReplayFault.TheVariants as replay_fault
+use Rattle.cas_opening.specs.Inner.Faults.{of_replay}
+use Rattle.cas_opening.specs.Inner.Reading.{log_in, above, ReplaysSaid, IsWhole, IsRead, FaultGave}
 use Rattle.cas_journal.proofs.Sayings.{is_made as made}
 use Rattle.cas_opening.proofs.Saids.{sound, are_tables, shard_count, short_numbers}
 use Rattle.cas_opening.proofs.Counts.{filter_same}
@@ -60,7 +63,7 @@ module _ (c : Image) (bytes : IsOfBytes c) where
   log_read entries mutations store =
       let s = said_by entries in
       let is = sound entries store.manifest.follow in
-      of_log s.tables s.shards (are_tables s is) (shard_count s is (made entries store.made store.manifest.follow)) (segment_in c) (λ n. bytes (log_name n)) s.segments (short_numbers s is)
+      of_log s.tables s.shards (are_tables s is) (shard_count s is (made entries store.made store.manifest.follow)) (segment_in c) s.segments (short_numbers s is)
       mutations store.log
 
   -- what is read is a manifest
@@ -146,6 +149,9 @@ same_log s c d same =
     let files : segment_in d ≡ segment_in c = λ i n. bytes_of (same (log_name n) i) in
     ap (λ (f : ℕ → List ℕ). log_of s.tables s.shards f s.segments []) files
 
+abbrev found_above : List Mutation → Result (List Mutation) (ℕ × ReadFault)
+found_above found = Ok found
+
 -- a new store has no segments
 new_log : (shards : ℕ) (s : Saying) (entries : List Entry) (c : Image) → (s, entries) ≡ new_store shards → (s.segments ≡ []) × (log_in s c ≡ Ok [])
 unfolding said_by log_of
@@ -228,8 +234,8 @@ module _ (shards : ℕ) (place : Place) (s : Saying) (entries : List Entry) (c :
           })
 
   -- a log that is refused
-  pub is_refused : (T U : Type 0) (view : U → List Mutation) (fault : OpenFault) → ((d : Image) → l.reads d → ReplaysSaid view s d (Err fault)) → Answers {T = T} shards c (Err fault)
-  is_refused T U view (Bad name at) refuses = by_loads loads
+  pub is_refused : (T U : Type 0) (took : List Mutation → Type 0) (fault : OpenFault) → ((d : Image) → l.reads d → ReplaysSaid {T = U} took s d (Err fault)) → Answers {T = T} shards c (Err fault)
+  is_refused T U took (Bad name at) refuses = by_loads loads
     where
       by_loads : HasStore (manifest_in c) (s, entries) ⊎ (IsNew c × ((s, entries) ≡ new_store shards)) → IsRefused name at c
       by_loads (inl has) =
@@ -242,5 +248,65 @@ module _ (shards : ℕ) (place : Place) (s : Saying) (entries : List Entry) (c :
           let (n, called, bad) = refuses d now in
           let none = (new_log shards s entries d is).1 in
           ⊎_elim (λ short. not_both [] (n, Short at) (log_in s d) none short) (λ field. not_both [] (n, BadField at) (log_in s d) none field) bad
-  is_refused T U view Failed refuses = tt
-  is_refused T U view Mem refuses = tt
+  is_refused T U took Failed refuses = tt
+  is_refused T U took Mem refuses = tt
+
+  -- what is read now of the store that the image has, above the frontiers
+  read_above : (others : List Entry) (ms : List Mutation) → OpensAs shards others ms c → (d : Image) × l.reads d × (above s d ≡ Ok (filter (is_above (said_by others)) ms))
+  read_above others ms opens = by_loads loads opens
+    where
+      by_loads : HasStore (manifest_in c) (s, entries) ⊎ (IsNew c × ((s, entries) ≡ new_store shards)) → OpensAs shards others ms c
+          → (d : Image) × l.reads d × (above s d ≡ Ok (filter (is_above (said_by others)) ms))
+      by_loads (inl has) (inl store) =
+          let (d, now, alike) = read_after has in
+          let t = said_by others in
+          let same : entries ≡ others = ap (λ (far : Far). far.1) (far_same c bytes (s, entries) (t, others) has (has_store c bytes others ms store)) in
+          let is : s ≡ t = says ∙ ap said_by same in
+          let read : log_in s d ≡ Ok ms = same_log s c d alike ∙ ap (λ (u : Saying). log_in u c) is ∙ log_read c bytes others ms store in
+          let fit : AllByRecursion (FitsRecord t.tables t.shards) ms = subst (λ (l : List Mutation). AllByRecursion (FitsRecord t.tables t.shards) l) store.log.all
+          (all_fit t.tables t.shards (segment_in c) t.segments store.log.parts store.log.segments) in (
+            d,
+            now,
+            ap (above_in s.shards (frontiers_below s (length s.tables))) read
+                ∙ ap (λ (u : Saying). found_above (filter (is_above_in u.shards (frontiers_below u (length u.tables))) ms)) is ∙ ap found_above (filter_same t ms fit),
+          )
+      by_loads (inl has) (inr other) = absurd (new_has_none c bytes (s, entries) other.0 has)
+      by_loads (inr (new, is)) (inl store) = absurd (not_new c bytes others ms store new)
+      by_loads (inr (new, is)) (inr other) =
+          let (d, now) = tells in
+          let none : ms ≡ [] = other.2 in (
+            d,
+            now,
+            ap (above_in s.shards (frontiers_below s (length s.tables))) (new_log shards s entries d is).1 ∙ ap (λ (l : List Mutation). found_above (filter (is_above (said_by others)) l)) (sym none),
+          )
+
+  -- what was handed on until the folder failed or memory ran out
+  pub gave_front : (T : Type 0) (took : List Mutation → Type 0) → (given : List Mutation) × took given → (fault : OpenFault) → ((d : Image) → l.reads d → ReplaysSaid {T = T} took s d (Err fault))
+      → (others : List Entry) (ms : List Mutation) → OpensAs shards others ms c → (given : List Mutation) × took given × FaultGave others ms given fault
+  gave_front T took some (Bad name at) says others ms opens = (some.0, some.1, tt)
+  gave_front T took some Failed said others ms opens =
+      let (d, now, is) = read_above others ms opens in
+      let (given, has, front) = said d now in
+      (given, has, subst (λ (r : Result (List Mutation) (ℕ × ReadFault)). IsFront (λ ms. ms) given r) is front)
+  gave_front T took some Mem said others ms opens =
+      let (d, now, is) = read_above others ms opens in
+      let (given, has, front) = said d now in
+      (given, has, subst (λ (r : Result (List Mutation) (ℕ × ReadFault)). IsFront (λ ms. ms) given r) is front)
+
+above_fault : (shards : ℕ) (frontiers : List ℕ) (r : Result (List Mutation) (ℕ × ReadFault)) (e : ℕ × ReadFault) → above_in shards frontiers r ≡ Err e → r ≡ Err e
+above_fault shards frontiers (Ok found) e is = absurd cc
+above_fault shards frontiers (Err f) e is = is
+
+-- a replay that ends with a fault
+pub said_fault : (T U : Type 0) (took : List Mutation → Type 0) (s : Saying) (c : Image) (f : ReplayFault) → HandsOn {X = T} took (Err f) (above s c)
+    → ReplaysSaid {T = U} took s c (Err (of_replay f))
+said_fault T U took s c (replay_fault.Bad segment at) (inl short) = (segment, refl, inl (above_fault s.shards (frontiers_below s (length s.tables)) (log_in s c) (segment, Short at) short))
+said_fault T U took s c (replay_fault.Bad segment at) (inr field) = (segment, refl, inr (above_fault s.shards (frontiers_below s (length s.tables)) (log_in s c) (segment, BadField at) field))
+said_fault T U took s c replay_fault.Failed took_front = took_front
+said_fault T U took s c replay_fault.Mem took_front = took_front
+
+-- before the log is read nothing was handed on
+pub gave_none : (entries : List Entry) (ms : List Mutation) (fault : OpenFault) → FaultGave entries ms [] fault
+gave_none entries ms (Bad name at) = tt
+gave_none entries ms Failed = (filter (is_above (said_by entries)) ms, refl)
+gave_none entries ms Mem = (filter (is_above (said_by entries)) ms, refl)

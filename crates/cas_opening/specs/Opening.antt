@@ -21,6 +21,8 @@ use Rattle.cas_replay.specs.Reading.{log_of, segment_in}
 use Rattle.cas_replay.specs.Grammar.{AreOfALog}
 use Rattle.cas_journal.specs.Stores.{IsStore, Told, Holds, named}
 use Rattle.cas_journal.specs.Journals.{Lasts}
+use Rattle.cas_journal.specs.declared.journal.Journal.{Journal}
+use Rattle.cas_opening.specs.declared.opened.OpenStore.{OpenStore}
 use Rattle.cas_opening.specs.declared.opened.Opened.{Opened}
 use Rattle.cas_opening.specs.declared.fault.OpenFault.{OpenFault}
 use Rattle.cas_opening.specs.declared.fault.OpenFault.TheVariants.{Bad, Failed, Mem}
@@ -95,28 +97,48 @@ MayBegin entries numbers = (numbers ≡ []) ⊎ ((numbers ≡ next_segment entri
 -- What was opened is read as a store of these entries and mutations, also where the folder tells nothing: the entries may follow one another, and the
 -- first makes the store; its log may have the mutations; what the entries say is told, with the segment that was begun and named, and of the mutations
 -- those above their frontiers are given, in order.
-pub record IsReadAs (entries : List Entry) (mutations : List Mutation) (o : Opened) : Type 0 where
+pub record IsReadWith (entries : List Entry) (mutations given : List Mutation) (j : Journal) (s : Saying) : Type 0 where
   pub made : entries ≢ []
   pub follow : MayFollow nothing entries
   pub shards : IsShardCount (said_by entries).shards
   pub log : AreOfALog (said_by entries).tables (said_by entries).shards mutations
   pub numbers : List ℕ
   pub begins : MayBegin entries numbers
-  pub said : o.said ≡ said_by (entries ++ named numbers)
-  pub above : o.mutations.items ≡ filter (is_above (said_by entries)) mutations
-  pub last : o.journal.last_segment ≤ next_segment entries
+  pub said : s ≡ said_by (entries ++ named numbers)
+  pub above : given ≡ filter (is_above (said_by entries)) mutations
+  pub last : j.last_segment ≤ next_segment entries
+
+-- the same of a store that is opened with its mutations
+abbrev pub IsReadAs : List Entry → List Mutation → Opened → Type 0
+IsReadAs entries mutations o = IsReadWith entries mutations o.mutations.items o.journal o.said
 
 -- what a journal is told that opens a store of these entries and mutations, and names these segments
 abbrev pub told : List Entry → List Mutation → List ℕ → Told
 told entries mutations numbers = record { entries = entries ++ named numbers; failed = []; taken = mutations; committed = length mutations }
 
 -- The store that was opened: its journal goes on behind the mutations that were there; of these those above their frontiers are given, in order.
-pub record IsOpened (entries : List Entry) (mutations : List Mutation) (o : Opened) (disk : Disk) : Type 0 where
+pub record IsOpenedWith (entries : List Entry) (mutations given : List Mutation) (j : Journal) (s : Saying) (disk : Disk) : Type 0 where
   pub numbers : List ℕ
   pub begins : Begins entries numbers
-  pub lasts : Lasts o.journal disk (told entries mutations numbers)
-  pub said : o.said ≡ said_by (entries ++ named numbers)
-  pub above : o.mutations.items ≡ filter (is_above (said_by entries)) mutations
+  pub lasts : Lasts j disk (told entries mutations numbers)
+  pub said : s ≡ said_by (entries ++ named numbers)
+  pub above : given ≡ filter (is_above (said_by entries)) mutations
+
+-- the same of a store that is opened with its mutations
+abbrev pub IsOpened : List Entry → List Mutation → Opened → Disk → Type 0
+IsOpened entries mutations o disk = IsOpenedWith entries mutations o.mutations.items o.journal o.said disk
+
+-- the given ones are a front of the mutations that are above their frontiers
+abbrev pub AreFirst : List Entry → List Mutation → List Mutation → Type 0
+AreFirst entries mutations given = (rest : List Mutation) × (filter (is_above (said_by entries)) mutations ≡ given ++ rest)
+
+-- How the opening of a store of these entries and mutations ends that hands some on: it isn't refused; where the folder failed or memory ran out, a front
+-- of those above their frontiers was given.
+abbrev pub EndsWith : List Entry → List Mutation → List Mutation → Disk → Result OpenStore OpenFault → Type 0
+EndsWith entries mutations given disk (Ok o) = IsOpenedWith entries mutations given o.journal o.said disk
+EndsWith entries mutations given disk (Err (Bad name at)) = ⊥
+EndsWith entries mutations given disk (Err Failed) = AreFirst entries mutations given
+EndsWith entries mutations given disk (Err Mem) = AreFirst entries mutations given
 
 -- how the opening of a store of these entries and mutations ends: it isn't refused
 abbrev pub Ends : List Entry → List Mutation → Disk → Result Opened OpenFault → Type 0

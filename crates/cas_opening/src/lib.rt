@@ -12,5 +12,5 @@ mod stored;
 mod sweeping;
 
 pub use fault::OpenFault;
-pub use opened::Opened;
-pub use opening::open;
+pub use opened::{OpenStore, Opened};
+pub use opening::{open, open_to};

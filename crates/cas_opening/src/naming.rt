@@ -48,9 +48,7 @@ fn begin_segment<F: Folder>(
         Ok(log) => Ok(log),
         Err(LogFault::Mem) => Err(OpenFault::Mem),
         Err(LogFault::Failed) => Err(OpenFault::Failed),
-        Err(LogFault::TooLarge { .. } | LogFault::Stopped(_) | LogFault::Bad { .. }) => {
-            unreachable!()
-        }
+        Err(LogFault::TooLarge { .. } | LogFault::Stopped(_)) => unreachable!(),
     }
 }
 

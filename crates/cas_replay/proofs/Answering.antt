@@ -87,25 +87,24 @@ header_refused X found segment file ahead Failed read whole r so front = front
 header_refused X found segment file ahead Mem read whole r so front = front
 
 -- a log of which a segment is refused
-pub log_refused : (X Y : Type 0) (shards : ℕ) (frontiers : List ℕ) (old new found : List Mutation) (segment : ℕ) (f : ReplayFault) (read : Result (List Mutation) ReadFault)
+pub log_refused : (X Y : Type 0) (shards : ℕ) (frontiers : List ℕ) (took : List Mutation → Type 0) (found : List Mutation) (segment : ℕ) (f : ReplayFault) (read : Result (List Mutation) ReadFault)
     (whole : Result (List Mutation) (ℕ × ReadFault)) → GoesThrough {X = X} found segment (Err f) read → ((g : ReadFault) → read ≡ Err g → whole ≡ Err (segment, g))
-    → (IsFront (λ ms. ms) found read → IsFront (λ ms. ms) found whole) → new ≡ old ++ filter (is_above shards frontiers) found
-    → HandsOn {X = Y} old new (Err f) (above_in shards frontiers whole)
-log_refused X Y shards frontiers old new found segment (Bad of place) read whole (is, inl e) so front handed = rw is (inl (ap (above_in shards frontiers) (so (Short place) e)))
-log_refused X Y shards frontiers old new found segment (Bad of place) read whole (is, inr e) so front handed = rw is (inr (ap (above_in shards frontiers) (so (BadField place) e)))
-log_refused X Y shards frontiers old new found segment Failed read whole r so front handed = above_front shards frontiers old new found whole handed (front r)
-log_refused X Y shards frontiers old new found segment Mem read whole r so front handed = above_front shards frontiers old new found whole handed (front r)
+    → (IsFront (λ ms. ms) found read → IsFront (λ ms. ms) found whole) → took (filter (is_above shards frontiers) found)
+    → HandsOn {X = Y} took (Err f) (above_in shards frontiers whole)
+log_refused X Y shards frontiers took found segment (Bad of place) read whole (is, inl e) so front handed = rw is (inl (ap (above_in shards frontiers) (so (Short place) e)))
+log_refused X Y shards frontiers took found segment (Bad of place) read whole (is, inr e) so front handed = rw is (inr (ap (above_in shards frontiers) (so (BadField place) e)))
+log_refused X Y shards frontiers took found segment Failed read whole r so front handed = above_front shards frontiers took found whole handed (front r)
+log_refused X Y shards frontiers took found segment Mem read whole r so front handed = above_front shards frontiers took found whole handed (front r)
 
 -- what was handed on to one that had nothing is what is answered
-pub all_handed : (old new : List Mutation) (read : Result (List Mutation) (ℕ × ReadFault)) → old ≡ [] → (given : List Mutation) × (new ≡ old ++ given) × (read ≡ Ok given)
-    → read ≡ Ok new
-all_handed old new read none (given, is, e) = e ∙ ap kept (sym (is ∙ ap (λ (l : List Mutation). l ++ given) none))
+pub all_handed : (new : List Mutation) (read : Result (List Mutation) (ℕ × ReadFault)) → (given : List Mutation) × (new ≡ given) × (read ≡ Ok given) → read ≡ Ok new
+all_handed new read (given, is, e) = e ∙ ap kept (sym is)
   where
     kept : List Mutation → Result (List Mutation) (ℕ × ReadFault)
     kept l = Ok l
 
-pub fault_handed : (X : Type 0) {Y : Type 0} (view : Y → List Mutation) (old new : List Mutation) (f : ReplayFault) (read : Result (List Mutation) (ℕ × ReadFault))
-    → HandsOn {X = X} old new (Err f) read → Replays view (Err f) read
-fault_handed X view old new (Bad of place) read r = r
-fault_handed X view old new Failed read r = tt
-fault_handed X view old new Mem read r = tt
+pub fault_handed : (X : Type 0) {Y : Type 0} (view : Y → List Mutation) (took : List Mutation → Type 0) (f : ReplayFault) (read : Result (List Mutation) (ℕ × ReadFault))
+    → HandsOn {X = X} took (Err f) read → Replays view (Err f) read
+fault_handed X view took (Bad of place) read r = r
+fault_handed X view took Failed read r = tt
+fault_handed X view took Mem read r = tt

@@ -207,9 +207,9 @@ module _ (tables : List TableSchema) (shards : ℕ) where
   behind_segment file number numbers found r front = behind_one number found (log_of tables shards file numbers) (λ ms. log_front file numbers ms) r front
 
 -- of what was read before a fault, what is above its frontier is a front of all that is
-pub above_front : (shards : ℕ) (frontiers : List ℕ) (old new found : List Mutation) (read : Result (List Mutation) (ℕ × ReadFault)) → new ≡ old ++ filter (is_above shards frontiers) found
-    → IsFront (λ ms. ms) found read → TookFront old new (above_in shards frontiers read)
-above_front shards frontiers old new found (Ok all) handed (rest, is) =
+pub above_front : (shards : ℕ) (frontiers : List ℕ) (took : List Mutation → Type 0) (found : List Mutation) (read : Result (List Mutation) (ℕ × ReadFault))
+    → took (filter (is_above shards frontiers) found) → IsFront (λ ms. ms) found read → TookFront took (above_in shards frontiers read)
+above_front shards frontiers took found (Ok all) handed (rest, is) =
     let above = is_above shards frontiers in
     (filter above found, handed, (filter above rest, ap (filter above) is ∙ filter-append above found rest))
-above_front shards frontiers old new found (Err f) handed front = (filter (is_above shards frontiers) found, handed, tt)
+above_front shards frontiers took found (Err f) handed front = (filter (is_above shards frontiers) found, handed, tt)

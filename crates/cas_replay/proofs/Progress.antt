@@ -38,9 +38,9 @@ module _ (tables : List TableSchema) (shards : ℕ) where
   }
 
   -- what was taken since nothing was read
-  pub of_a_log : (frontiers : List ℕ) (first taken : List Mutation) (numbers : List (Option ℕ)) (says : List Mutation → Type 0) → Went tables shards frontiers first taken numbers [] says
-      → (given : List Mutation) × (taken ≡ first ++ given) × IsOfALog tables shards frontiers given
-  of_a_log frontiers first taken numbers says went = (
+  pub of_a_log : (frontiers : List ℕ) (took : List Mutation → Type 0) (numbers : List (Option ℕ)) (says : List Mutation → Type 0) → Went tables shards frontiers took numbers [] says
+      → (given : List Mutation) × took given × IsOfALog tables shards frontiers given
+  of_a_log frontiers took numbers says went = (
     filter (is_above shards frontiers) went.after,
     went.stands.handed,
     record { all = went.after; are = λ are some. went.stay are some (none_yet tables shards); above = refl },

@@ -1,20 +1,19 @@
 -- A segment is read where it stands and nowhere else.
-use Rattle.std.proofs.Common.{◌≡◌, ◌≢◌, inl, inr, ℕ, zero, suc, ◌+◌, ◌<◌, ◌≤◌, ◌^◌, leb, eqb, cond, Bool, true}
+use Rattle.std.proofs.Common.{◌≡◌, ◌≢◌, inl, inr, ℕ, zero, suc, ◌+◌, ◌<◌, ◌≤◌, ◌^◌, leb, eqb, ltb, cond, Bool, true}
 use Rattle.std.proofs.Common.{false, List, [], ◌∷◌, ◌++◌, length, Result, Ok, Err, refl, sym, ap, subst, ◌∙◌, append_assoc, arith, codes, bytes_eq}
-use Rattle.std.specs.Int.{is_in_range}
+use Rattle.std.specs.Int.{w8, from_be_bytes, is_in_range}
 use Rattle.std.specs.List.{AllByRecursion}
 use Rattle.std.proofs.Math.Nat.{add-zero}
 use Rattle.std.proofs.lemmas.Bool.{cases_eq, eqb-true, eq-eqb, leb-true, le-leb, and_parts, and_from}
 use Rattle.std.proofs.lemmas.Bool.Decides.{nat_tests}
 use Rattle.std.proofs.lemmas.List.{length-append, append-nil}
-use Rattle.std.proofs.lemmas.List.Elements.{recursion_from_All}
 use Rattle.std.proofs.lemmas.Slice.Eq.{bytes_eq-Decides}
 use Rattle.cas_types.specs.Limits.{IsShardCount}
 use Rattle.cas_types.specs.declared.schema.TableSchema.{TableSchema}
 use Rattle.cas_codec.specs.declared.fault.ReadFault.{ReadFault}
-use Rattle.cas_codec.specs.declared.fault.ReadFault.TheVariants.{Bad}
+use Rattle.cas_codec.specs.declared.fault.ReadFault.TheVariants.{Short, Bad}
 use Rattle.cas_codec.specs.Fields.{u8, u32, u64, bytes32}
-use Rattle.cas_codec.specs.Reading.{Left, Read, ◌>>=◌, checked, bytes_at, u8_at, u32_at, u64_at}
+use Rattle.cas_codec.specs.Reading.{Left, Read, ◌>>=◌, checked, bytes_at, unsigned_at, u8_at, u32_at, u64_at}
 use Rattle.cas_codec.specs.Exact.{AreBytes, Begins, IsExact}
 use Rattle.cas_codec.proofs.Exactness.{bind_ok, test_ok, ok_is, done, read_left, AreBytes-rest, AreBytes-front, Begins-then, exact_checked}
 use Rattle.cas_codec.proofs.FieldLaws.{u8_field, u32_field, u64_field, exact_bytes}
@@ -132,6 +131,14 @@ header_found number size old new bytes e =
       subst (λ (xs : List ℕ). Begins xs old new) (λ i. is_word i ++ (u64 (is_number i) ++ u64 size))
           (Begins-then p.0.0 (u64 q.0.0 ++ u64 size) old p.0.1 new f.1 (Begins-then (u64 q.0.0) (u64 size) p.0.1 q.0.1 new g.1 h.1)),
     )
+
+-- a gate is read, whatever it is
+gate_again : (gate : ℕ) (rest : List ℕ) (at : ℕ) → u8_at (read_left (gate ∷ rest) at) ≡ Ok (gate, read_left rest (at + 1))
+unfolding u8_at unsigned_at bytes_at
+gate_again gate rest at =
+    let there : ltb (length (gate ∷ rest)) 1 ≡ false = grind (arith, nat_tests) in
+    let front : List ℕ × Left = (gate ∷ [], read_left rest (at + 1)) in
+    ap (λ (b : Bool). cond b (Err (Short at)) (Ok front) >>= λ (f : List ℕ × Left). Ok (from_be_bytes w8 f.0, f.1)) there
 
 header_again : (number size : ℕ) (rest : List ℕ) (at : ℕ) → number < 2 ^ 64 → IsSize size
     → header_at number (read_left (header number size ++ rest) at) ≡ Ok (size, read_left rest (at + length (header number size)))
@@ -337,7 +344,7 @@ module _ (tables : List TableSchema) (shards : ℕ) (are : AreTables tables) (so
       ]
 
   blocks_again : (n size : ℕ) (before : List Mutation) (blocks : List (List Mutation)) (gate : ℕ) (rest : List ℕ) (at : ℕ) → gate ≢ 1
-      → gate < 2 ^ 8 → length blocks < n
+      → length blocks < n
       → AllByRecursion Fits (joined blocks) → Follow before (joined blocks) → at + length (opened blocks) + 1 ≤ size → size ≤ 2 ^ 25
       → blocks_at tables shards n size before (read_left (opened blocks ++ gate ∷ rest) at) ≡ Ok (
         before ++ joined blocks,
@@ -345,14 +352,14 @@ module _ (tables : List TableSchema) (shards : ℕ) (are : AreTables tables) (so
             (at + length (opened blocks) + 1),
       )
   unfolding blocks_at u8
-  blocks_again zero size before blocks gate rest at shut byte enough fit follow within most = absurd (omega arith)
-  blocks_again (suc n) size before [] gate rest at shut byte enough fit follow within most =
+  blocks_again zero size before blocks gate rest at shut enough fit follow within most = absurd (omega arith)
+  blocks_again (suc n) size before [] gate rest at shut enough fit follow within most =
       let no : eqb gate 1 ≡ false = grind (arith, nat_tests) in
       let after = read_left rest (at + 1) in
-      ap (λ (r : Read ℕ). r >>= behind_gate n size before) (u8_field.exact.again gate rest at byte)
+      ap (λ (r : Read ℕ). r >>= behind_gate n size before) (gate_again gate rest at)
       ∙ ap (λ (b : Bool). cond b (block_at tables shards size before after >>= λ b. blocks_at tables shards n size b.0 b.1) (Ok (before, after))) no
       ∙ (λ i. Ok (sym (append-nil before) i, read_left rest (sym (add-zero at) i + 1)))
-  blocks_again (suc n) size before (ms ∷ blocks) gate rest at shut byte enough fit follow within most =
+  blocks_again (suc n) size before (ms ∷ blocks) gate rest at shut enough fit follow within most =
       let x = gate ∷ rest in
       let tail = opened blocks ++ x in
       let behind : length (opened (ms ∷ blocks)) ≡ 1 + length (block ms) + length (opened blocks) = omega (
@@ -367,7 +374,7 @@ module _ (tables : List TableSchema) (shards : ℕ) (are : AreTables tables) (so
       ∙ ap (λ (r : Read ℕ). r >>= behind_gate n size before) (u8_field.exact.again 1 (block ms ++ tail) at (omega arith))
       ∙ ap (λ (r : Read (List Mutation)). r >>= λ b. blocks_at tables shards n size b.0 b.1)
       (block_again size before ms tail (at + 1) fits.0 follows_both.0 (omega (arith, within, behind)) most)
-      ∙ blocks_again n size (before ++ ms) blocks gate rest (at + 1 + length (block ms)) shut byte (omega (arith, enough)) fits.1 follows_both.1
+      ∙ blocks_again n size (before ++ ms) blocks gate rest (at + 1 + length (block ms)) shut (omega (arith, enough)) fits.1 follows_both.1
       (omega (arith, within, behind)) most
       ∙ (λ i. Ok (append_assoc before ms (joined blocks) i, read_left rest (place i)))
 
@@ -411,23 +418,22 @@ module _ (tables : List TableSchema) (shards : ℕ) (are : AreTables tables) (so
         follow = b.follow;
       }
 
-  pub segment_again : (number : ℕ) (before ms : List Mutation) (file : List ℕ) → number < 2 ^ 64 → AreBytes file → IsSegmentOf tables shards number ms file
+  pub segment_again : (number : ℕ) (before ms : List Mutation) (file : List ℕ) → number < 2 ^ 64 → IsSegmentOf tables shards number ms file
       → Follow before ms → segment_of tables shards number before file ≡ Ok (before ++ ms)
   unfolding segment_of segment_at
-  segment_again number before ms file lt bytes is follow =
+  segment_again number before ms file lt is follow =
       let s = is.segment in
       let x = s.gate ∷ s.rest in
       let head = header number s.size in
       let tail = opened s.blocks ++ x in
       let whole : file ≡ head ++ tail = s.spelled ∙ append_assoc head (opened s.blocks) x in
-      let byte : s.gate < 2 ^ 8 = (recursion_from_All (λ b. b < 256) x (AreBytes-rest file (front number s.size s.blocks) x bytes s.spelled).each).0 in
       let long : length tail ≡ length (opened s.blocks) + 1 + length s.rest = omega (arith, length-append (opened s.blocks) x) in
       ap (λ (l : List ℕ). (header_at number (read_left l 0) >>= λ size. blocks_at tables shards
       (length size.1.bytes) size.0 before size.1) >>= λ found. Ok found.0) whole
       ∙ ap (λ (r : Read ℕ). (r >>= λ size. blocks_at tables shards (length size.1.bytes) size.0 before size.1) >>= λ found. Ok found.0)
       (header_again number s.size tail 0 lt s.sized)
       ∙ ap (λ (r : Read (List Mutation)). r >>= λ found. Ok found.0)
-      (blocks_again (length tail) s.size before s.blocks s.gate s.rest (0 + length head) s.closed byte (omega (arith, long, many_blocks s.blocks))
+      (blocks_again (length tail) s.size before s.blocks s.gate s.rest (0 + length head) s.closed (omega (arith, long, many_blocks s.blocks))
       (subst (λ (l : List Mutation). AllByRecursion Fits l) (sym s.all) is.fit) (subst (λ (l : List Mutation). Follow before l) (sym s.all) follow)
       (omega (arith, s.within, length-append head (opened s.blocks))) s.sized.1)
       ∙ ap (λ (l : List Mutation). Ok (before ++ l)) s.all
@@ -454,16 +460,16 @@ module _ (tables : List TableSchema) (shards : ℕ) (are : AreTables tables) (so
         follow_both before ms (joined parts) f.follow (subst (λ (l : List Mutation). Follow l (joined parts)) f.is follow),
       )
 
-  log_again : (file : ℕ → List ℕ) → ((n : ℕ) → AreBytes (file n)) → (numbers : List ℕ) → AllByRecursion (λ n. n < 2 ^ 64) numbers → (before : List Mutation) (parts : List (List Mutation))
+  log_again : (file : ℕ → List ℕ) → (numbers : List ℕ) → AllByRecursion (λ n. n < 2 ^ 64) numbers → (before : List Mutation) (parts : List (List Mutation))
       → AreSegments tables shards file numbers parts → Follow before (joined parts) → log_of tables shards file numbers before ≡ Ok (before ++ joined parts)
   unfolding log_of
-  log_again file bytes [] few before [] are_segments follow = ap (λ (l : List Mutation). Ok l) (sym (append-nil before))
-  log_again file bytes [] few before (ms ∷ parts) are_segments follow = absurd are_segments
-  log_again file bytes (n ∷ numbers) few before [] are_segments follow = absurd are_segments
-  log_again file bytes (n ∷ numbers) few before (ms ∷ parts) are_segments follow =
+  log_again file [] few before [] are_segments follow = ap (λ (l : List Mutation). Ok l) (sym (append-nil before))
+  log_again file [] few before (ms ∷ parts) are_segments follow = absurd are_segments
+  log_again file (n ∷ numbers) few before [] are_segments follow = absurd are_segments
+  log_again file (n ∷ numbers) few before (ms ∷ parts) are_segments follow =
       let both = follow_parts before ms (joined parts) follow in
-      ap (λ (r : Result (List Mutation) ReadFault). in_segment n (log_of tables shards file numbers) r) (segment_again n before ms (file n) few.0 (bytes n) are_segments.0 both.0)
-      ∙ log_again file bytes numbers few.1 (before ++ ms) parts are_segments.1 both.1
+      ap (λ (r : Result (List Mutation) ReadFault). in_segment n (log_of tables shards file numbers) r) (segment_again n before ms (file n) few.0 are_segments.0 both.0)
+      ∙ log_again file numbers few.1 (before ++ ms) parts are_segments.1 both.1
       ∙ ap (λ (l : List Mutation). Ok l) (append_assoc before ms (joined parts))
 
   pub is_log : (file : ℕ → List ℕ) → ((n : ℕ) → AreBytes (file n)) → (numbers : List ℕ) (all : List Mutation) → log_of tables shards file numbers [] ≡ Ok all
@@ -472,7 +478,7 @@ module _ (tables : List TableSchema) (shards : ℕ) (are : AreTables tables) (so
       let (parts, are_segments, is, follow) = log_found file bytes numbers [] all e in
       record { parts = parts; segments = are_segments; all = sym is; ordered = subst AreInOrder (sym is) (in_order [] (joined parts) (λ shard. tt) follow) }
 
-  pub of_log : (file : ℕ → List ℕ) → ((n : ℕ) → AreBytes (file n)) → (numbers : List ℕ) → AllByRecursion (λ n. n < 2 ^ 64) numbers → (all : List Mutation)
+  pub of_log : (file : ℕ → List ℕ) → (numbers : List ℕ) → AllByRecursion (λ n. n < 2 ^ 64) numbers → (all : List Mutation)
       → IsLog tables shards file numbers all → log_of tables shards file numbers [] ≡ Ok all
-  of_log file bytes numbers few all is =
-      log_again file bytes numbers few [] is.parts is.segments (each_follows [] (joined is.parts) (subst AreInOrder (sym is.all) is.ordered)) ∙ ap (λ (l : List Mutation). Ok l) is.all
+  of_log file numbers few all is =
+      log_again file numbers few [] is.parts is.segments (each_follows [] (joined is.parts) (subst AreInOrder (sym is.all) is.ordered)) ∙ ap (λ (l : List Mutation). Ok l) is.all

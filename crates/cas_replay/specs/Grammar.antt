@@ -1,10 +1,18 @@
 -- Which files are read: segments whose mutations are of the store's tables, and over which their numbers ascend. Own format.
-use Rattle.std.specs.Prelude.{◌≡◌, ◌+◌, ◌==◌, ℕ, List, [], ◌∷◌, if◌then◌else◌}
+use Rattle.std.specs.Prelude.{◌≡◌, ◌+◌, ◌==◌, ◌≤◌, ◌≤ℤ◌, ℕ, true, List, [], ◌∷◌, if◌then◌else◌}
 use Rattle.std.specs.List.{AllByRecursion, flat_map}
+use Rattle.cas_types.specs.Limits.{IsMoment}
+use Rattle.cas_types.specs.declared.limits.TheConstants.{LAST_DRAWN, MUTATION_LIMIT}
 use Rattle.cas_types.specs.declared.schema.TableSchema.{TableSchema}
 use Rattle.cas_atoms.specs.declared.atom.Mutation.{Mutation}
 use Rattle.cas_mutations.specs.Allowed.{FitsRecord}
 use Rattle.cas_log.specs.Segment.{IsSegment, joined}
+
+-- a mutation whose number, drawn timestamp and moment are such as each record has
+pub record IsWithinLimits (m : Mutation) : Type 0 where
+  pub number : (1 ≤ m.number) × (m.number ≤ MUTATION_LIMIT)
+  pub drawn : m.drawn ≡ true → m.at ≤ℤ LAST_DRAWN
+  pub moment : IsMoment m.moment
 
 -- the numbers of a shard's mutations
 abbrev pub numbers_of : ℕ → List Mutation → List ℕ

@@ -12,7 +12,7 @@ use Rattle.cas_codec.specs.declared.fault.ReadFault.TheVariants.{Short, Bad}
 use Rattle.cas_codec.specs.Reading.{Left, Read, ◌>>=◌, checked, bytes_at, u8_at, u32_at, u64_at}
 use Rattle.cas_atoms.specs.declared.atom.Mutation.{Mutation}
 use Rattle.cas_mutations.specs.Reading.{record_at}
-use Rattle.cas_log.specs.declared.log.TheConstants.{LEAST_SEGMENT, GREATEST_SEGMENT}
+use Rattle.cas_log.specs.declared.limits.TheConstants.{LEAST_SEGMENT, GREATEST_SEGMENT}
 
 -- the last of these mutations that is of the shard
 abbrev pub last_of : ℕ → List Mutation → Option Mutation

@@ -23,17 +23,17 @@ abbrev pub IsFront : {A E : Type 0} → (A → List Mutation) → List Mutation 
 IsFront all found (Ok x) = (rest : List Mutation) × (all x ≡ found ++ rest)
 IsFront all found (Err f) = Unit {0}
 
--- these mutations were taken, which are a front of those that the reading gives
-abbrev pub TookFront : List Mutation → List Mutation → Result (List Mutation) (ℕ × ReadFault) → Type 0
-TookFront old new read = (given : List Mutation) × (new ≡ old ++ given) × IsFront (λ ms. ms) given read
+-- mutations were taken that are a front of those that the reading gives
+abbrev pub TookFront : (List Mutation → Type 0) → Result (List Mutation) (ℕ × ReadFault) → Type 0
+TookFront took read = (given : List Mutation) × took given × IsFront (λ ms. ms) given read
 
--- What a replay answers whose taker had some mutations before it, and has some after it: the taker took those that the reading of the segments gives;
--- or the reading is refused there; or the folder failed or memory ran out, and the taker took a front of them.
-abbrev pub HandsOn : {X : Type 0} → List Mutation → List Mutation → Result X ReplayFault → Result (List Mutation) (ℕ × ReadFault) → Type 0
-HandsOn old new (Ok x) read = (given : List Mutation) × (new ≡ old ++ given) × (read ≡ Ok given)
-HandsOn old new (Err (Bad segment at)) read = (read ≡ Err (segment, Short at)) ⊎ (read ≡ Err (segment, BadField at))
-HandsOn old new (Err Failed) read = TookFront old new read
-HandsOn old new (Err Mem) read = TookFront old new read
+-- What a replay answers, of which mutations were taken: those that the reading of the segments gives; or the reading is refused there; or the folder
+-- failed or memory ran out, and a front of them was taken.
+abbrev pub HandsOn : {X : Type 0} → (List Mutation → Type 0) → Result X ReplayFault → Result (List Mutation) (ℕ × ReadFault) → Type 0
+HandsOn took (Ok x) read = (given : List Mutation) × took given × (read ≡ Ok given)
+HandsOn took (Err (Bad segment at)) read = (read ≡ Err (segment, Short at)) ⊎ (read ≡ Err (segment, BadField at))
+HandsOn took (Err Failed) read = TookFront took read
+HandsOn took (Err Mem) read = TookFront took read
 
 -- What a replay answers, its value seen by view, is what the reading of the segments gives, unless the folder failed or memory ran out.
 abbrev pub Replays : {X Y : Type 0} → (X → Y) → Result X ReplayFault → Result Y (ℕ × ReadFault) → Type 0

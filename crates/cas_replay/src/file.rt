@@ -1,12 +1,12 @@
 //! Reads a segment from its folder, block by block.
 
-ghost use Rattle.std.specs.Prelude.{◌≡◌, ◌+◌, ◌≤◌, ℕ, true, List, ◌∷◌, [], length, drop, IfOk, OnOk, IsErrOf};
+ghost use Rattle.std.specs.Prelude.{◌≡◌, ◌+◌, ◌++◌, ◌≤◌, ℕ, true, List, ◌∷◌, [], length, drop, IfOk, OnOk, IsErrOf};
 ghost use Rattle.cas_disk.specs.Counts.{Counted};
 ghost use Rattle.cas_disk.specs.Disk.{Image, During, Follows, Same, bytes_of};
 ghost use Rattle.cas_atoms.specs.declared.atom.Mutation.{Mutation as MutationOf};
 ghost use Rattle.cas_files.specs.Ahead.{AreNext};
 ghost use Rattle.cas_log.specs.Segment.{IsSize};
-ghost use Rattle.cas_log.specs.declared.log.TheConstants.{GREATEST_SEGMENT};
+ghost use Rattle.cas_log.specs.declared.limits.TheConstants.{GREATEST_SEGMENT};
 ghost use Rattle.cas_replay.specs.Reading.{header_at, blocks_at, segment_of, segment_in};
 ghost use Rattle.cas_replay.specs.Replays.{Last};
 ghost use Rattle.cas_replay.specs.Inner.Steps.{gated_at, left_of, values_of, HasBlock, ReadsOn, Reaches, StepsOn};
@@ -104,8 +104,8 @@ fn take_at_hand<T: TakesMutations>(
     requires place { file.old.at ≤ GREATEST_SEGMENT }
     ensures name { file.new.name ≡ file.old.name }
     ensures on { IfOk result (λ opened. opened ≡ true → (file.old.at + 9 ≤ file.new.at) × (file.new.at + 1 ≤ size)) }
-    ensures went { (first before : List MutationOf) → Stands of.now.shards of.now.frontiers.now first (T.taken taker.old) lasts.old.numbers before
-        → Went of.now.tables.now of.now.shards of.now.frontiers.now first (T.taken taker.new) lasts.new.numbers before
+    ensures went { (first before : List MutationOf) → Stands of.now.shards of.now.frontiers.now (λ ms. T.has_taken (first ++ ms) taker.old) lasts.old.numbers before
+        → Went of.now.tables.now of.now.shards of.now.frontiers.now (λ ms. T.has_taken (first ++ ms) taker.new) lasts.new.numbers before
         (λ after. (f : List ℕ) → AreNext file.old.at f file.old.bytes → HasBlock size file.old.at f file.old.bytes
         → StepsOn of.now.number f file.new after result (gated_at of.now.tables.now of.now.shards size before (left_of f file.old.at))) }
     ensures failed { IsErrOf result ReplayFault.Failed → ⊥ }
@@ -141,8 +141,8 @@ fn take_block<F: Folder, T: TakesMutations>(
     requires place { file.old.at ≤ GREATEST_SEGMENT }
     ensures name { file.new.name ≡ file.old.name }
     ensures on { IfOk result (λ opened. opened ≡ true → (file.old.at + 9 ≤ file.new.at) × (file.new.at + 1 ≤ size)) }
-    ensures went { (first before : List MutationOf) → Stands of.now.shards of.now.frontiers.now first (T.taken taker.old) lasts.old.numbers before
-        → Went of.now.tables.now of.now.shards of.now.frontiers.now first (T.taken taker.new) lasts.new.numbers before
+    ensures went { (first before : List MutationOf) → Stands of.now.shards of.now.frontiers.now (λ ms. T.has_taken (first ++ ms) taker.old) lasts.old.numbers before
+        → Went of.now.tables.now of.now.shards of.now.frontiers.now (λ ms. T.has_taken (first ++ ms) taker.new) lasts.new.numbers before
         (λ after. (c : Image) → (F.disk folder.old).reads c → AreNext file.old.at (bytes_of (c file.old.name)) file.old.bytes
         → StepsOn of.now.number (bytes_of (c file.old.name)) file.new after result
         (gated_at of.now.tables.now of.now.shards size before (left_of (bytes_of (c file.old.name)) file.old.at))) }
@@ -168,8 +168,8 @@ fn take_blocks<F: Folder, T: TakesMutations>(
 ) -> Result<(), ReplayFault>
     requires place { file.old.at ≤ size }
     requires size { size ≤ GREATEST_SEGMENT }
-    ensures went { (first before : List MutationOf) → Stands of.now.shards of.now.frontiers.now first (T.taken taker.old) lasts.old.numbers before
-        → Went of.now.tables.now of.now.shards of.now.frontiers.now first (T.taken taker.new) lasts.new.numbers before
+    ensures went { (first before : List MutationOf) → Stands of.now.shards of.now.frontiers.now (λ ms. T.has_taken (first ++ ms) taker.old) lasts.old.numbers before
+        → Went of.now.tables.now of.now.shards of.now.frontiers.now (λ ms. T.has_taken (first ++ ms) taker.new) lasts.new.numbers before
         (λ after. (c : Image) → (F.disk folder.old).reads c → AreNext file.old.at (bytes_of (c file.old.name)) file.old.bytes
         → GoesThrough after of.now.number result (values_of (blocks_at of.now.tables.now of.now.shards
         (length (drop file.old.at (bytes_of (c file.old.name)))) size before (left_of (bytes_of (c file.old.name)) file.old.at)))) }
@@ -193,8 +193,8 @@ fn read_segment<F: Folder, T: TakesMutations>(
     lasts: &mut Lasts,
     taker: &mut T,
 ) -> Result<(), ReplayFault>
-    ensures went { (first before : List MutationOf) → Stands of.now.shards of.now.frontiers.now first (T.taken taker.old) lasts.old.numbers before
-        → Went of.now.tables.now of.now.shards of.now.frontiers.now first (T.taken taker.new) lasts.new.numbers before
+    ensures went { (first before : List MutationOf) → Stands of.now.shards of.now.frontiers.now (λ ms. T.has_taken (first ++ ms) taker.old) lasts.old.numbers before
+        → Went of.now.tables.now of.now.shards of.now.frontiers.now (λ ms. T.has_taken (first ++ ms) taker.new) lasts.new.numbers before
         (λ after. (c : Image) → (F.disk folder.old).reads c → GoesThrough after of.now.number result
         (segment_of of.now.tables.now of.now.shards of.now.number before (segment_in c of.now.number))) }
     ensures reads { Follows Same (F.disk folder.old).reads (F.disk folder.new).reads }
@@ -216,8 +216,8 @@ pub(crate) fn replay_segment<F: Folder, T: TakesMutations>(
     lasts: &mut Lasts,
     taker: &mut T,
 ) -> Result<(), ReplayFault>
-    ensures went { (first before : List MutationOf) → Stands of.now.shards of.now.frontiers.now first (T.taken taker.old) lasts.old.numbers before
-        → Went of.now.tables.now of.now.shards of.now.frontiers.now first (T.taken taker.new) lasts.new.numbers before
+    ensures went { (first before : List MutationOf) → Stands of.now.shards of.now.frontiers.now (λ ms. T.has_taken (first ++ ms) taker.old) lasts.old.numbers before
+        → Went of.now.tables.now of.now.shards of.now.frontiers.now (λ ms. T.has_taken (first ++ ms) taker.new) lasts.new.numbers before
         (λ after. (c : Image) → (F.disk folder.old).reads c → GoesThrough after of.now.number result
         (segment_of of.now.tables.now of.now.shards of.now.number before (segment_in c of.now.number))) }
     ensures lasts { OnOk result (Last (of.now.number ∷ []) (F.disk folder.new)) }

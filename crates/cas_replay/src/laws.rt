@@ -14,7 +14,7 @@ ghost use Rattle.cas_replay.specs.Grammar.{IsLog};
 /// what is read is such a log.
 pub fn logs_are_exact()
     ensures again { (tables : List TableSchema) (shards : ℕ) (file : ℕ → List ℕ) (numbers : List ℕ) (mutations : List Mutation) → AreTables tables
-        → IsShardCount shards → ((n : ℕ) → AreBytes (file n)) → AllByRecursion (λ n. n < 2 ^ 64) numbers → IsLog tables shards file numbers mutations
+        → IsShardCount shards → AllByRecursion (λ n. n < 2 ^ 64) numbers → IsLog tables shards file numbers mutations
         → log_of tables shards file numbers [] ≡ Ok mutations }
     ensures found { (tables : List TableSchema) (shards : ℕ) (file : ℕ → List ℕ) (numbers : List ℕ) (mutations : List Mutation) → AreTables tables
         → IsShardCount shards → ((n : ℕ) → AreBytes (file n)) → log_of tables shards file numbers [] ≡ Ok mutations

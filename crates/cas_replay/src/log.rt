@@ -30,11 +30,13 @@ pub fn replay_to<F: Folder, T: TakesMutations>(
     frontiers: &[u64],
     taker: &mut T,
 ) -> Result<(), ReplayFault>
-    ensures exact { (c : Image) → (F.disk folder.old).reads c → HandsOn (T.taken taker.old) (T.taken taker.new) result
+    ensures exact { (first : List MutationOf) → T.has_taken first taker.old → (c : Image) → (F.disk folder.old).reads c
+        → HandsOn (λ given. T.has_taken (first ++ given) taker.new) result
         (above_in shards frontiers.now (log_of tables.now shards (segment_in c) segments.now [])) }
-    ensures replayed { OnOk result ((given : List MutationOf) × (T.taken taker.new ≡ T.taken taker.old ++ given)
-        × IsReplayOf tables.now shards segments.now frontiers.now (F.disk folder.old) given) }
-    ensures taken { (given : List MutationOf) × (T.taken taker.new ≡ T.taken taker.old ++ given) × IsOfALog tables.now shards frontiers.now given }
+    ensures replayed { (first : List MutationOf) → T.has_taken first taker.old → OnOk result ((given : List MutationOf)
+        × T.has_taken (first ++ given) taker.new × IsReplayOf tables.now shards segments.now frontiers.now (F.disk folder.old) given) }
+    ensures taken { (first : List MutationOf) → T.has_taken first taker.old → (given : List MutationOf) × T.has_taken (first ++ given) taker.new
+        × IsOfALog tables.now shards frontiers.now given }
     ensures lasts { OnOk result (Last segments.now (F.disk folder.new)) }
     ensures reads { Follows Same (F.disk folder.old).reads (F.disk folder.new).reads }
     ensures during { During Same (F.disk folder.old) (F.disk folder.new) }

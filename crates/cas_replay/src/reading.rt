@@ -6,6 +6,7 @@ ghost use Rattle.cas_codec.specs.Reading.{Gives};
 ghost use Rattle.cas_atoms.specs.declared.atom.Mutation.{Mutation as MutationOf};
 ghost use Rattle.cas_mutations.specs.Allowed.{AreTables, FitsRecord};
 ghost use Rattle.cas_replay.specs.Reading.{is_above, next_at, records_at, length_at, header_at};
+ghost use Rattle.cas_replay.specs.Grammar.{IsWithinLimits};
 ghost use Rattle.cas_replay.specs.Inner.Steps.{opened_at, body_at, part_at, filled_at};
 ghost use Rattle.cas_replay.specs.Inner.Progress.{AreLast, Stands, Went, Tells};
 
@@ -38,6 +39,7 @@ fn read_next(
 ) -> Result<Mutation, ReadFault>
     ensures exact { (before : List MutationOf) → AreLast lasts.now.numbers before
         → Gives (λ m. m) result reader.new (next_at of.now.tables.now of.now.shards before reader.old) }
+    ensures limits { IfOk result IsWithinLimits }
     ensures fits { IfOk result (λ m. AreTables of.now.tables.now → IsShardCount of.now.shards → FitsRecord of.now.tables.now of.now.shards m) }
 {
     let at = reader.at();
@@ -56,10 +58,11 @@ fn hand_on<T: TakesMutations>(
     lasts: &mut Lasts,
     taker: &mut T,
 ) -> Result<(), Mem>
-    ensures handed { (first before : List MutationOf) → Stands of.now.shards of.now.frontiers.now first (T.taken taker.old) lasts.old.numbers before
-        → OnOk result (Stands of.now.shards of.now.frontiers.now first (T.taken taker.new) lasts.new.numbers (before ++ mutation ∷ [])) }
-    ensures kept { (first before : List MutationOf) → Stands of.now.shards of.now.frontiers.now first (T.taken taker.old) lasts.old.numbers before
-        → OnErr result (Stands of.now.shards of.now.frontiers.now first (T.taken taker.new) lasts.new.numbers before) }
+    requires { IsWithinLimits mutation }
+    ensures handed { (first before : List MutationOf) → Stands of.now.shards of.now.frontiers.now (λ ms. T.has_taken (first ++ ms) taker.old) lasts.old.numbers before
+        → OnOk result (Stands of.now.shards of.now.frontiers.now (λ ms. T.has_taken (first ++ ms) taker.new) lasts.new.numbers (before ++ mutation ∷ [])) }
+    ensures kept { (first before : List MutationOf) → Stands of.now.shards of.now.frontiers.now (λ ms. T.has_taken (first ++ ms) taker.old) lasts.old.numbers before
+        → OnErr result (Stands of.now.shards of.now.frontiers.now (λ ms. T.has_taken (first ++ ms) taker.new) lasts.new.numbers before) }
 {
     let (shard, number) = (mutation.shard, mutation.number);
     if is_above(of.shards, of.frontiers, &mutation) {
@@ -77,8 +80,8 @@ fn take_records<T: TakesMutations>(
     lasts: &mut Lasts,
     taker: &mut T,
 ) -> Result<(), ReadFault>
-    ensures { (first before : List MutationOf) → Stands of.now.shards of.now.frontiers.now first (T.taken taker.old) lasts.old.numbers before
-        → Went of.now.tables.now of.now.shards of.now.frontiers.now first (T.taken taker.new) lasts.new.numbers before
+    ensures { (first before : List MutationOf) → Stands of.now.shards of.now.frontiers.now (λ ms. T.has_taken (first ++ ms) taker.old) lasts.old.numbers before
+        → Went of.now.tables.now of.now.shards of.now.frontiers.now (λ ms. T.has_taken (first ++ ms) taker.new) lasts.new.numbers before
         (λ after. Tells (λ _. after) (λ ms. ms) after result reader.new (records_at of.now.tables.now of.now.shards count before reader.old)) }
 {
     for _done in 0..count {
@@ -155,8 +158,8 @@ pub(crate) fn take_body<T: TakesMutations>(
     lasts: &mut Lasts,
     taker: &mut T,
 ) -> Result<(), ReadFault>
-    ensures { (first before : List MutationOf) → Stands of.now.shards of.now.frontiers.now first (T.taken taker.old) lasts.old.numbers before
-        → Went of.now.tables.now of.now.shards of.now.frontiers.now first (T.taken taker.new) lasts.new.numbers before
+    ensures { (first before : List MutationOf) → Stands of.now.shards of.now.frontiers.now (λ ms. T.has_taken (first ++ ms) taker.old) lasts.old.numbers before
+        → Went of.now.tables.now of.now.shards of.now.frontiers.now (λ ms. T.has_taken (first ++ ms) taker.new) lasts.new.numbers before
         (λ after. Tells (λ _. after) (λ ms. ms) after result body.new (filled_at of.now.tables.now of.now.shards count before body.old)) }
 {
     match take_records(of, body, count, lasts, taker) {

@@ -2,23 +2,25 @@
 
 ghost use Rattle.std.specs.Prelude.{◌≡◌, ◌++◌, ◌∷◌, [], List, OnOk, OnErr};
 ghost use Rattle.cas_atoms.specs.declared.atom.Mutation.{Mutation as MutationOf};
+ghost use Rattle.cas_replay.specs.Grammar.{IsWithinLimits};
 
 use cas_atoms::Mutation;
 use cas_types::Mem;
 
 /// Takes the mutations of a log, one after another, as they are read.
 pub trait TakesMutations {
-    /// The mutations that it has taken, in order.
-    ghost taken: { Self → List MutationOf };
+    /// It has taken these mutations, in order.
+    ghost has_taken: { List MutationOf → Self → Type 0 };
 
     /// Takes a mutation behind those that it has. Where memory runs out it takes nothing.
     fn take(&mut self, mutation: Mutation) -> Result<(), Mem>
-        ensures taken { OnOk result (taken self.new ≡ taken self.old ++ mutation ∷ []) }
-        ensures kept { OnErr result (taken self.new ≡ taken self.old) };
+        requires { IsWithinLimits mutation }
+        ensures taken { (before : List MutationOf) → has_taken before self.old → OnOk result (has_taken (before ++ mutation ∷ []) self.new) }
+        ensures kept { (before : List MutationOf) → has_taken before self.old → OnErr result (has_taken before self.new) };
 }
 
 impl TakesMutations for Vec<Mutation> {
-    ghost taken = { λ v. v.items };
+    ghost has_taken = { λ taken v. v.items ≡ taken };
 
     fn take(&mut self, mutation: Mutation) -> Result<(), Mem> {
         match self.push(mutation) {

@@ -107,6 +107,96 @@ fn altered_bytes_of_a_segment(rt: HostRuntime) {
     }
 }
 
+// Another byte at each place from one to another: how many mutations are read of the whole segment, or where it is refused.
+const EACH: [(usize, usize, u8, Result<usize, u64>); 55] = [
+    (0, 7, 0, Err(0)), // another word
+    (8, 14, 1, Err(8)), // another number
+    (15, 15, 2, Err(8)),
+    (16, 19, 1, Err(16)), // above 33,554,432
+    (20, 20, 3, Err(16)),
+    (21, 21, 1, Ok(1)), // another size
+    (22, 22, 0, Err(16)), // below 4,096
+    (23, 23, 1, Ok(1)),
+    (24, 24, 2, Ok(0)), // the gate is closed
+    (25, 27, 1, Err(25)), // more than there is
+    (28, 28, 86, Err(118)), // a byte is left over
+    (29, 31, 1, Err(118)), // records too many
+    (32, 32, 0, Err(33)), // and one too few
+    (33, 35, 1, Err(33)), // the record runs past the body
+    (36, 36, 82, Err(33)),
+    (36, 36, 80, Err(113)), // the value runs past the record
+    (37, 38, 1, Err(37)), // no such table
+    (39, 39, 1, Err(39)), // no such shard
+    (40, 40, 0x10, Err(40)), // above 2^60
+    (41, 46, 1, Ok(1)), // another number, as the first one may have
+    (47, 47, 0, Err(40)), // mutations are numbered from 1
+    (48, 48, 2, Err(48)), // neither yes nor no
+    (49, 49, 0x41, Err(49)), // above 2^62
+    (50, 56, 1, Ok(1)), // another timestamp
+    (57, 59, 1, Err(57)), // past the year 9999
+    (60, 64, 1, Ok(1)), // another moment
+    (65, 65, 1, Err(65)), // the key runs past the record
+    (66, 66, 0, Err(65)), // a key has a byte
+    (67, 70, 7, Ok(1)), // another key
+    (71, 73, 1, Err(118)), // atoms too many
+    (74, 74, 3, Err(118)),
+    (74, 74, 1, Err(92)), // and one too few
+    (75, 75, 9, Err(75)), // no such kind
+    (76, 76, 2, Err(76)), // a row has one value
+    (77, 77, 1, Err(77)), // that runs past the record
+    (78, 78, 5, Err(77)), // an int has four bytes
+    (79, 82, 7, Ok(1)), // another row
+    (83, 83, 2, Err(83)), // neither yes nor no
+    (84, 91, 1, Ok(1)), // another timestamp
+    (92, 92, 0, Err(92)), // no such kind
+    (93, 93, 0, Err(93)), // a row has one value
+    (94, 94, 1, Err(94)), // that runs past the record
+    (95, 95, 3, Err(94)), // an int has four bytes
+    (96, 99, 7, Ok(1)), // another row
+    (100, 100, 1, Err(100)), // no such column
+    (101, 101, 1, Err(100)), // a column of the key
+    (102, 103, 1, Err(102)), // a text has no path
+    (104, 104, 3, Err(104)), // neither plain, expiring nor deleted
+    (105, 112, 1, Ok(1)), // another timestamp
+    (113, 115, 1, Err(113)), // the value runs past the record
+    (116, 116, 0, Err(117)), // a byte is left over
+    (117, 117, 0x62, Ok(1)), // 'b'
+    (117, 117, 0xff, Err(113)), // no text
+    (118, 118, 1, Err(119)), // open, and no block behind it
+    (118, 118, 2, Ok(1)), // any other byte counts as closed
+];
+
+// Whether this is answered of each place from one to another.
+fn are_answered(
+    alloc: Global,
+    first: usize,
+    last: usize,
+    byte: u8,
+    answer: Result<usize, u64>,
+) -> bool {
+    let wanted = match answer {
+        Ok(count) => Ok(count),
+        Err(at) => Err((1, at)),
+    };
+    for place in first..=last {
+        if count_altered(alloc, 119, place, byte) != wanted {
+            return false;
+        }
+    }
+    true
+}
+
+#[test]
+fn each_byte_of_a_segment(rt: HostRuntime) {
+    for i in 0..55 {
+        let (first, last, byte, answer) = EACH[i];
+        assert!(rt;
+            are_answered(rt.alloc(), first, last, byte, answer),
+            "{first}"
+        );
+    }
+}
+
 // Whether so many segments of one mutation each are put into the folder.
 fn put_segments(folder: &mut MemFolder, count: u8) -> bool {
     for number in 1..=count {

@@ -22,7 +22,6 @@ abbrev pub of_log : LogFault → JournalFault
 of_log (log_fault.TooLarge length most) = TooLarge length most
 of_log log_fault.Failed = Failed
 of_log (log_fault.Stopped first) = Stopped first
-of_log (log_fault.Bad at) = Failed
 of_log log_fault.Mem = Mem
 
 -- what a fault of the manifest is to the journal

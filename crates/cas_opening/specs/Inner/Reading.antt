@@ -9,9 +9,10 @@ use Rattle.cas_changes.specs.Saying.{Saying, said_by}
 use Rattle.cas_manifest.specs.Manifests.{Place}
 use Rattle.cas_replay.specs.Reading.{log_of, segment_in, above_in}
 use Rattle.cas_replay.specs.Grammar.{AreOfALog}
+use Rattle.cas_replay.specs.Replays.{TookFront}
 use Rattle.cas_opening.specs.declared.fault.OpenFault.{OpenFault}
 use Rattle.cas_opening.specs.declared.fault.OpenFault.TheVariants.{Bad, Failed, Mem}
-use Rattle.cas_opening.specs.Opening.{IsBadLog, OpensAs, is_above}
+use Rattle.cas_opening.specs.Opening.{IsBadLog, OpensAs, AreFirst, is_above}
 use Rattle.cas_opening.specs.Inner.Counting.{frontiers_below}
 use Rattle.cas_opening.specs.Inner.Keeping.{Keeps}
 
@@ -23,12 +24,18 @@ log_in s c = log_of s.tables s.shards (segment_in c) s.segments []
 abbrev pub above : Saying → Image → Result (List Mutation) (ℕ × ReadFault)
 above s c = above_in s.shards (frontiers_below s (length s.tables)) (log_in s c)
 
--- what a replay of the listed segments answers, its value seen by view
-abbrev pub ReplaysSaid : {T : Type 0} → (T → List Mutation) → Saying → Image → Result T OpenFault → Type 0
-ReplaysSaid view s c (Ok x) = above s c ≡ Ok (view x)
-ReplaysSaid view s c (Err (Bad name at)) = (number : ℕ) × (name ≡ Log number) × IsBadLog s number at c
-ReplaysSaid view s c (Err Failed) = Unit {0}
-ReplaysSaid view s c (Err Mem) = Unit {0}
+-- what a replay of the listed segments answers, of which mutations were taken
+abbrev pub ReplaysSaid : {T : Type 0} → (List Mutation → Type 0) → Saying → Image → Result T OpenFault → Type 0
+ReplaysSaid took s c (Ok x) = (given : List Mutation) × took given × (above s c ≡ Ok given)
+ReplaysSaid took s c (Err (Bad name at)) = (number : ℕ) × (name ≡ Log number) × IsBadLog s number at c
+ReplaysSaid took s c (Err Failed) = TookFront took (above s c)
+ReplaysSaid took s c (Err Mem) = TookFront took (above s c)
+
+-- where the folder failed or memory ran out, a front was given of the mutations above their frontiers
+abbrev pub FaultGave : List Entry → List Mutation → List Mutation → OpenFault → Type 0
+FaultGave entries mutations given (Bad name at) = Unit {0}
+FaultGave entries mutations given Failed = AreFirst entries mutations given
+FaultGave entries mutations given Mem = AreFirst entries mutations given
 
 -- What was read of a store, also where the folder tells nothing: entries, and mutations that its log may have; those above their frontiers are given.
 pub record IsWhole (entries : List Entry) (mutations given : List Mutation) : Type 0 where

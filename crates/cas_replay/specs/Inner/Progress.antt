@@ -20,17 +20,16 @@ number_of (Some m) = Some m.number
 abbrev pub AreLast : List (Option ℕ) → List Mutation → Type 0
 AreLast numbers read = (shard : ℕ) → shard < 256 → slice_index_or numbers shard None ≡ number_of (last_of shard read)
 
--- So far a log was read: the last numbers are those of these mutations, and behind those that it had first a taker has those of them that are above
--- their frontiers.
-pub record Stands (shards : ℕ) (frontiers : List ℕ) (first taken : List Mutation) (numbers : List (Option ℕ)) (read : List Mutation) : Type 0 where
+-- So far a log was read: the last numbers are those of these mutations, and those of them that are above their frontiers were taken.
+pub record Stands (shards : ℕ) (frontiers : List ℕ) (took : List Mutation → Type 0) (numbers : List (Option ℕ)) (read : List Mutation) : Type 0 where
   pub last : AreLast numbers read
-  pub handed : taken ≡ first ++ filter (is_above shards frontiers) read
+  pub handed : took (filter (is_above shards frontiers) read)
 
 -- Behind these mutations others were read, which a log may have there, and with all of them something is so.
-pub record Went (tables : List TableSchema) (shards : ℕ) (frontiers : List ℕ) (first taken : List Mutation) (numbers : List (Option ℕ)) (before : List Mutation)
+pub record Went (tables : List TableSchema) (shards : ℕ) (frontiers : List ℕ) (took : List Mutation → Type 0) (numbers : List (Option ℕ)) (before : List Mutation)
     (says : List Mutation → Type 0) : Type 0 where
   pub after : List Mutation
-  pub stands : Stands shards frontiers first taken numbers after
+  pub stands : Stands shards frontiers took numbers after
   pub stay : StayALog tables shards before after
   pub so : says after
 

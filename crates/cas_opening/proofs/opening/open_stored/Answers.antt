@@ -6,7 +6,7 @@ use Rattle.cas_opening.specs.Inner.Sweeping.{Spares}
 use Rattle.cas_opening.proofs.Saids.{sound}
 use Rattle.cas_opening.proofs.Keeps.{spares_keeps}
 use Rattle.cas_opening.proofs.Names.{none_above_listed, stayed_more}
-use Rattle.cas_opening.proofs.Opens.{swept_stayed, opened_with}
+use Rattle.cas_opening.proofs.Opens.{swept_stayed}
 use Rattle.cas_opening.proofs.opening.open_stored.Goals as goal
 
 pub sweep-requires : goal.sweep-requires
@@ -24,13 +24,12 @@ begin-requires-clause-none g c =
     none_above_listed c.args.stored.entries.items c.args.stored.said (g.F.Folder.disk c.sweep.new.folder) c.requires.follow c.requires.said c.in_default.ensures.gone
 
 pub returns-in-Ok-clause-opened : goal.returns-in-Ok-clause-opened
-returns-in-Ok-clause-opened g c ms keeps given =
+returns-in-Ok-clause-opened g c ms keeps =
     let disk = g.F.Folder.disk in
     let es = c.args.stored.entries.items in
     let swept : During (Spares (said_by es)) (disk c.args.folder.now) (disk c.sweep.new.folder) =
     subst (λ (s : Saying). During (Spares s) (disk c.args.folder.now) (disk c.sweep.new.folder)) c.requires.said c.sweep.ensures.during in
-    let begun = c.in-Ok.ensures.begun es ms (spares_keeps (place_of c.args.stored.manifest) es ms (disk c.args.folder.now) (disk c.sweep.new.folder) swept keeps) c.requires.said in
-    opened_with es ms c.in-Ok.journal c.in-Ok.said c.args.stored.mutations (disk c.begin.new.folder) begun given
+    c.in-Ok.ensures.begun es ms (spares_keeps (place_of c.args.stored.manifest) es ms (disk c.args.folder.now) (disk c.sweep.new.folder) swept keeps) c.requires.said
 
 pub returns-in-Ok-clause-during : goal.returns-in-Ok-clause-during
 returns-in-Ok-clause-during g c ms keeps =
@@ -42,8 +41,8 @@ returns-in-Ok-clause-during g c ms keeps =
     stayed_more es ms (disk c.args.folder.now) (disk c.sweep.new.folder) (disk c.begin.new.folder) (swept_stayed es ms place (disk c.args.folder.now) (disk c.sweep.new.folder) keeps swept)
     (c.begin.ensures.during es ms (spares_keeps place es ms (disk c.args.folder.now) (disk c.sweep.new.folder) swept keeps) c.requires.said)
 
-pub returns-in-Err-begin-clause-during : goal.returns-in-Err-begin-clause-during
-returns-in-Err-begin-clause-during g c ms keeps =
+pub returns-clause-during : goal.returns-clause-during
+returns-clause-during g c ms keeps =
     let disk = g.F.Folder.disk in
     let es = c.args.stored.entries.items in
     let swept : During (Spares (said_by es)) (disk c.args.folder.now) (disk c.sweep.new.folder) =

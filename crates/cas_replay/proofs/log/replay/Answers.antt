@@ -1,18 +1,18 @@
-use Rattle.std.proofs.Common.{List, ◌++◌, Vec, Global, sym, ap, subst, ◌∙◌}
+use Rattle.std.proofs.Common.{◌≡◌, List, [], Vec, Global, sym, subst}
 use Rattle.cas_atoms.specs.declared.atom.Mutation.{Mutation}
 use Rattle.cas_replay.specs.Replays.{IsReplayOf}
 use Rattle.cas_replay.proofs.Answering.{all_handed, fault_handed}
 use Rattle.cas_replay.proofs.log.replay.Goals as goal
 
 pub returns-in-Ok-clause-exact : goal.returns-in-Ok-clause-exact
-returns-in-Ok-clause-exact g c image read = all_handed _ _ _ c.new-mutations.ensures.items (c.in-Ok.ensures.exact image read)
+returns-in-Ok-clause-exact g c image read = all_handed _ _ (c.in-Ok.ensures.exact [] c.new-mutations.ensures.items image read)
 
 pub returns-in-Ok-clause-replayed : goal.returns-in-Ok-clause-replayed
 returns-in-Ok-clause-replayed g c =
-    let (given, is, replayed) = c.in-Ok.ensures.replayed in
-    let none = c.new-mutations.ensures.items in
-    subst (λ (l : List Mutation). IsReplayOf c.args.tables.now c.args.shards c.args.segments.now c.args.frontiers.now (g.F.Folder.disk c.args.folder.now) l)
-    (sym (is ∙ ap (λ (l : List Mutation). l ++ given) none)) replayed
+    let (given, is, replayed) = c.in-Ok.ensures.replayed [] c.new-mutations.ensures.items in
+    subst (λ (l : List Mutation). IsReplayOf c.args.tables.now c.args.shards c.args.segments.now c.args.frontiers.now (g.F.Folder.disk c.args.folder.now) l) (sym is) replayed
 
 pub returns-in-Err-clause-exact : goal.returns-in-Err-clause-exact
-returns-in-Err-clause-exact g c image read = fault_handed (Unit {0}) (λ (v : Vec Mutation Global). v.items) _ _ c.in-Err.fault _ (c.in-Err.ensures.exact image read)
+returns-in-Err-clause-exact g c image read =
+    fault_handed (Unit {0}) (λ (v : Vec Mutation Global). v.items) (λ (l : List Mutation). c.replay_to.new.taker.items ≡ l) c.in-Err.fault _
+    (c.in-Err.ensures.exact [] c.new-mutations.ensures.items image read)

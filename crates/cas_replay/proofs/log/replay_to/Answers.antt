@@ -1,4 +1,4 @@
-use Rattle.std.proofs.Common.{◌≡◌, ◌<◌, ◌+◌, ℕ, List, [], ◌∷◌, filter, length, get_or, take, drop, drop-cons, add-one, refl, sym, ap, subst, Result, Ok, Err, arith}
+use Rattle.std.proofs.Common.{◌≡◌, ◌<◌, ◌+◌, ℕ, List, [], ◌∷◌, ◌++◌, filter, length, get_or, take, drop, drop-cons, add-one, refl, sym, ap, subst, Result, Ok, Err, arith}
 use Rattle.std.proofs.lemmas.List.{append-nil, drop_all, take_more}
 use Rattle.cas_codec.specs.declared.fault.ReadFault.{ReadFault}
 use Rattle.cas_atoms.specs.declared.atom.Mutation.{Mutation}
@@ -16,9 +16,9 @@ use Rattle.cas_replay.proofs.log.replay_to.Goals as goal
 
 pub loop-segment-init : goal.loop-segment-init
 loop-segment-init g c = record {
-  went = record {
+  went = λ first has. record {
     after = [];
-    stands = record { last = c.none-lasts.ensures; handed = sym (append-nil (g.T.TakesMutations.taken c.args.taker.now)) };
+    stands = record { last = c.none-lasts.ensures; handed = subst (λ (l : List Mutation). g.T.TakesMutations.has_taken l c.args.taker.now) (sym (append-nil first)) has };
     stay = λ are some so. so;
     so = λ image read. refl;
   };
@@ -36,18 +36,19 @@ loop-segment-preserved g c =
     let more : i < length all = c.loop-segment-test.true in
     let n = get_or all i 0 in
     let is : drop i all ≡ n ∷ drop (i + 1) all = rw add-one (drop-cons all i 0 more) in
-    let went = c.loop-segment.invariant.went in
-    let turn = c.in_default.ensures.went (g.T.TakesMutations.taken c.args.taker.now) went.after went.stands in
     record {
-      went = record {
-        after = turn.after;
-        stands = turn.stands;
-        stay = λ are some so. turn.stay are some (went.stay are some so);
-        so = λ image read.
-            let one = at_start (disk c.args.folder.now) (disk c.loop-segment.folder) c.loop-segment.invariant.during c.loop-segment.invariant.reads (Log n) (Log n) refl
-            (λ f. segment_of c.args.tables.now c.args.shards n went.after f ≡ Ok turn.after) turn.so image read in
-            log_more c.args.tables.now c.args.shards (segment_in image) n (drop (i + 1) all) (drop i all) went.after _ (went.so image read) is turn.after one;
-      };
+      went = λ first has.
+          let went = c.loop-segment.invariant.went first has in
+          let turn = c.in_default.ensures.went first went.after went.stands in
+          record {
+            after = turn.after;
+            stands = turn.stands;
+            stay = λ are some so. turn.stay are some (went.stay are some so);
+            so = λ image read.
+                let one = at_start (disk c.args.folder.now) (disk c.loop-segment.folder) c.loop-segment.invariant.during c.loop-segment.invariant.reads (Log n) (Log n) refl
+                (λ f. segment_of c.args.tables.now c.args.shards n went.after f ≡ Ok turn.after) turn.so image read in
+                log_more c.args.tables.now c.args.shards (segment_in image) n (drop (i + 1) all) (drop i all) went.after _ (went.so image read) is turn.after one;
+          };
       lasts = subst (λ (l : List ℕ). Last l (disk c.replay_segment.new.folder)) (sym (take_more all i 0 more))
           (last_more (take i all) n (disk c.loop-segment.folder) (disk c.replay_segment.new.folder) c.replay_segment.ensures.during c.replay_segment.ensures.reads c.loop-segment.invariant.lasts c.in_default.ensures.lasts);
       reads = reads_more (disk c.args.folder.now) (disk c.loop-segment.folder) (disk c.replay_segment.new.folder) c.loop-segment.invariant.reads c.replay_segment.ensures.reads;
@@ -56,19 +57,19 @@ loop-segment-preserved g c =
     }
 
 pub returns-in-Err-clause-exact : goal.returns-in-Err-clause-exact
-returns-in-Err-clause-exact g c image read =
+returns-in-Err-clause-exact g c first has image read =
     let disk = g.F.Folder.disk in
     let all = c.args.segments.now in
     let i = c.loop-segment.segment-index in
     let more : i < length all = c.loop-segment-test.true in
     let n = get_or all i 0 in
     let is : drop i all ≡ n ∷ drop (i + 1) all = rw add-one (drop-cons all i 0 more) in
-    let went = c.loop-segment.invariant.went in
-    let turn = c.in-Err.ensures.went (g.T.TakesMutations.taken c.args.taker.now) went.after went.stands in
+    let went = c.loop-segment.invariant.went first has in
+    let turn = c.in-Err.ensures.went first went.after went.stands in
     let part = segment_of c.args.tables.now c.args.shards n went.after (segment_in image n) in
     let one = at_start (disk c.args.folder.now) (disk c.loop-segment.folder) c.loop-segment.invariant.during c.loop-segment.invariant.reads (Log n) (Log n) refl
     (λ f. GoesThrough {X = Unit {0}} turn.after n (Err c.in-Err.fault) (segment_of c.args.tables.now c.args.shards n went.after f)) turn.so image read in
-    log_refused (Unit {0}) (Unit {0}) c.args.shards c.args.frontiers.now (g.T.TakesMutations.taken c.args.taker.now) (g.T.TakesMutations.taken c.replay_segment.new.taker) turn.after n
+    log_refused (Unit {0}) (Unit {0}) c.args.shards c.args.frontiers.now (λ ms. g.T.TakesMutations.has_taken (first ++ ms) c.replay_segment.new.taker) turn.after n
     c.in-Err.fault part (log_of c.args.tables.now c.args.shards (segment_in image) all []) one
     (λ f e. log_fault c.args.tables.now c.args.shards (segment_in image) n (drop (i + 1) all) (drop i all) went.after _ (went.so image read) is f e)
     (λ front. subst (λ (r : Result (List Mutation) (ℕ × ReadFault)). IsFront (λ ms. ms) turn.after r)
@@ -77,10 +78,10 @@ returns-in-Err-clause-exact g c image read =
     turn.stands.handed
 
 pub returns-in-Err-clause-taken : goal.returns-in-Err-clause-taken
-returns-in-Err-clause-taken g c =
-    let went = c.loop-segment.invariant.went in
-    let turn = c.in-Err.ensures.went (g.T.TakesMutations.taken c.args.taker.now) went.after went.stands in
-    of_a_log c.args.tables.now c.args.shards c.args.frontiers.now _ _ _ (λ _. Unit {0}) (record {
+returns-in-Err-clause-taken g c first has =
+    let went = c.loop-segment.invariant.went first has in
+    let turn = c.in-Err.ensures.went first went.after went.stands in
+    of_a_log c.args.tables.now c.args.shards c.args.frontiers.now _ _ (λ _. Unit {0}) (record {
       after = turn.after;
       stands = turn.stands;
       stay = λ are some so. turn.stay are some (went.stay are some so);
@@ -94,8 +95,8 @@ pub returns-in-Err-clause-during : goal.returns-in-Err-clause-during
 returns-in-Err-clause-during g c = let disk = g.F.Folder.disk in same_more (disk c.args.folder.now) (disk c.loop-segment.folder) (disk c.replay_segment.new.folder) c.loop-segment.invariant.during c.replay_segment.ensures.during
 
 pub returns-clause-exact : goal.returns-clause-exact
-returns-clause-exact g c image read =
-    let went = c.loop-segment.invariant.went in (
+returns-clause-exact g c first has image read =
+    let went = c.loop-segment.invariant.went first has in (
       filter (is_above c.args.shards c.args.frontiers.now) went.after,
       went.stands.handed,
       ap (above_in c.args.shards c.args.frontiers.now)
@@ -104,8 +105,8 @@ returns-clause-exact g c image read =
     )
 
 pub returns-clause-replayed : goal.returns-clause-replayed
-returns-clause-replayed g c =
-    let went = c.loop-segment.invariant.went in (
+returns-clause-replayed g c first has =
+    let went = c.loop-segment.invariant.went first has in (
       filter (is_above c.args.shards c.args.frontiers.now) went.after,
       went.stands.handed,
       record {
@@ -119,4 +120,4 @@ returns-clause-replayed g c =
     )
 
 pub returns-clause-taken : goal.returns-clause-taken
-returns-clause-taken g c = of_a_log c.args.tables.now c.args.shards c.args.frontiers.now _ _ _ _ c.loop-segment.invariant.went
+returns-clause-taken g c first has = of_a_log c.args.tables.now c.args.shards c.args.frontiers.now _ _ _ (c.loop-segment.invariant.went first has)
