@@ -16,6 +16,7 @@ ghost use Rattle.cas_streams.specs.declared.fragment.Fragment.TheVariants as fra
 
 use crate::partition::Partition;
 use crate::spot::{Content, Spot};
+use crate::spot_key::SpotKey;
 use cas_atoms::{ColumnRef, PathCell, Row, RowColumn};
 use cas_bounds::{Clustering, End, MapKey, RowOrder, Slice, Values, compare_points};
 use cas_cell::{Cell, Deletion};
@@ -243,33 +244,33 @@ fn add_entry(
 // The entries of a range, lent.
 fn add_range<'a>(
     entries: &mut Vec<(&'a Spot, &'a Content)>,
-    spots: Range<'a, Spot, Content>,
+    spots: Range<'a, SpotKey, Content>,
 ) -> Result<(), AllocError>
     ensures { OnOk result (map lent_piece entries.new.items ≡ map lent_piece entries.old.items ++ map piece_of spots.entry) }
 {
     let mut rest = spots;
-    while let Some((spot, content)) = rest.next() {
-        entries.push((spot, content))?;
+    while let Some((key, content)) = rest.next() {
+        entries.push((key.spot(), content))?;
     }
     Ok(())
 }
 
 // The key below all rows, and that of a cut.
-fn at(row: MapKey) -> Spot
+fn at(row: MapKey) -> SpotKey
     ensures { result ≡ spot_at row }
 {
-    Spot {
+    SpotKey::of(Spot {
         row: Some(row),
         column: None,
         path: None,
-    }
+    })
 }
 
 // What is said at the spots below one.
 fn add_below<'a>(
     entries: &mut Vec<(&'a Spot, &'a Content)>,
-    spots: &'a BTreeMap<Spot, Content>,
-    first: &Spot,
+    spots: &'a BTreeMap<SpotKey, Content>,
+    first: &SpotKey,
 ) -> Result<(), AllocError>
     ensures added { OnOk result (map lent_piece entries.new.items ≡ map lent_piece entries.old.items
         ++ map piece_of (spots_below first.now spots.now.entries)) }
@@ -281,9 +282,9 @@ fn add_below<'a>(
 // What is said at the spots between two.
 fn add_between<'a>(
     entries: &mut Vec<(&'a Spot, &'a Content)>,
-    spots: &'a BTreeMap<Spot, Content>,
-    low: &Spot,
-    high: &Spot,
+    spots: &'a BTreeMap<SpotKey, Content>,
+    low: &SpotKey,
+    high: &SpotKey,
 ) -> Result<(), AllocError>
     ensures { OnOk result (map lent_piece entries.new.items ≡ map lent_piece entries.old.items
         ++ map piece_of (spots_between low.now high.now spots.now.entries)) }
@@ -395,7 +396,7 @@ fn rows_of(alloc: Global, entries: &[(&Spot, &Content)]) -> Result<Vec<Fragment>
 // What is said of the static row and of the rows of the slice.
 fn rows_in(
     alloc: Global,
-    spots: &BTreeMap<Spot, Content>,
+    spots: &BTreeMap<SpotKey, Content>,
     slice: &Slice,
 ) -> Result<Vec<Fragment>, AllocError>
     ensures rows { IfOk result (λ v. AreRowsOf (map piece_of (statics_of spots.now.entries
