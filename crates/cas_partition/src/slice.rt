@@ -10,7 +10,7 @@ ghost use Rattle.cas_partition.specs.Spots.{spot_cmp, column_at, columns_at, cel
 ghost use Rattle.cas_partition.specs.Slices.{grouped, grouped_from, meet, AreRowsOf, Shows};
 ghost use Rattle.cas_partition.specs.Ranged.{piece_of, spot_at, spots_below, spots_between, statics_of, rows_between};
 ghost use Rattle.cas_partition.specs.Inner.Firsts.{with_first};
-ghost use Rattle.cas_partition.specs.Inner.Entries.{lent_piece, GoesOn, are_below};
+ghost use Rattle.cas_partition.specs.Inner.Entries.{lent_piece, GoesOn, EndsIn, Takes, TakesLast, grouped_on, ends_as, are_below};
 ghost use Rattle.cas_partition.specs.Inner.Sources.{TellMerge};
 ghost use Rattle.cas_streams.specs.declared.fragment.Fragment.TheVariants as fragment;
 
@@ -26,6 +26,7 @@ use cas_types::{Bytes, List};
 use std::alloc::{AllocError, Global};
 use std::collections::BTreeMap;
 use std::collections::btree_map::Range;
+use std::mem;
 use std::vec::IntoIter;
 
 // The cell, where there is one and a path.
@@ -132,12 +133,12 @@ fn further(alloc: Global, spot: &Spot, content: &Content) -> Result<Fragment, Al
     Ok(Fragment::Row(piece_at(alloc, nowhere, spot, content)?))
 }
 
-// Whether the last piece is of the row of the spot.
-fn is_of(last: &Option<Fragment>, spot: &Spot) -> bool
-    ensures { result ≡ true → GoesOn last.now spot.now }
+// Whether the piece is of the row of the spot.
+fn is_of(piece: &Fragment, spot: &Spot) -> bool
+    ensures { result ≡ true → GoesOn piece.now spot.now × IsSome spot.now.row }
 {
-    match (last, &spot.row) {
-        (Some(Fragment::Row(row)), Some(key)) => compare_points(
+    match (piece, &spot.row) {
+        (Fragment::Row(row), Some(key)) => compare_points(
             row.clustering.order.as_slice(),
             End::Row,
             row.clustering.values.as_slice(),
@@ -146,6 +147,16 @@ fn is_of(last: &Option<Fragment>, spot: &Spot) -> bool
         )
         .is_eq(),
         _ => false,
+    }
+}
+
+// Whether the last of the rows is.
+fn is_last(rows: &[Fragment], spot: &Spot) -> bool
+    ensures { result ≡ true → EndsIn rows.now spot.now × IsSome spot.now.row }
+{
+    match rows.last() {
+        Some(last) => is_of(last, spot),
+        None => false,
     }
 }
 
@@ -221,23 +232,119 @@ fn add_to(
     }
 }
 
-// An entry's piece, put together with the last one where both are of one row; what comes last then.
-fn add_entry(
+// Whether the last of the rows and the piece are of one.
+fn is_same(rows: &[Fragment], piece: &Fragment) -> bool
+    ensures { result ≡ ends_as rows.now piece.now }
+{
+    match rows.last() {
+        Some(last) => compare_fragments(last, piece).is_eq(),
+        None => false,
+    }
+}
+
+// A row takes what is said at a further spot of it, where that stands behind all that it has.
+fn push_column(
     alloc: Global,
-    done: &mut Vec<Fragment>,
-    last: Option<Fragment>,
+    row: &mut Row,
     spot: &Spot,
     content: &Content,
-) -> Result<Fragment, AllocError>
-    ensures { IfOk result (λ f. (gs : ListOf Fragment) → done.new.items ++ grouped_from f gs ≡ done.old.items ++ grouped last (said spot.now content.now ∷ gs)) }
+) -> Result<bool, AllocError>
+    requires { IsSome spot.now.row }
+    ensures { IfOk result (λ taken. Takes taken (fragment.Row row.old) (said spot.now content.now) (fragment.Row row.new)) }
 {
-    if !is_of(&last, spot) {
-        let piece = piece(alloc, spot, content)?;
-        return add_piece(alloc, done, last, piece);
+    let Some(number) = spot.column else {
+        return Ok(false);
+    };
+    if !are_below(row.columns.as_slice(), number) {
+        return Ok(false);
     }
-    match last {
-        None => piece(alloc, spot, content),
-        Some(f) => add_to(alloc, f, spot, content),
+    let column = column_at(alloc, number, &spot.path, content)?;
+    let none = List::from_vec(Vec::new(alloc));
+    let mut columns = mem::replace(&mut row.columns, none).into_vec();
+    columns.push(column)?;
+    row.columns = List::from_vec(columns);
+    Ok(true)
+}
+
+// So does a piece that is a row.
+fn push_to(
+    alloc: Global,
+    piece: &mut Fragment,
+    spot: &Spot,
+    content: &Content,
+) -> Result<bool, AllocError>
+    requires { IsSome spot.now.row }
+    ensures { IfOk result (λ taken. Takes taken piece.old (said spot.now content.now) piece.new) }
+{
+    match piece {
+        Fragment::Row(row) => push_column(alloc, row, spot, content),
+        _ => Ok(false),
+    }
+}
+
+// So does the last of the rows.
+fn push_to_last(
+    alloc: Global,
+    rows: &mut Vec<Fragment>,
+    spot: &Spot,
+    content: &Content,
+) -> Result<bool, AllocError>
+    requires { IsSome spot.now.row }
+    ensures { IfOk result (λ taken. TakesLast taken rows.old.items (said spot.now content.now) rows.new.items) }
+{
+    match rows.last_mut() {
+        Some(last) => push_to(alloc, last, spot, content),
+        None => Ok(false),
+    }
+}
+
+// The last of the rows with what is said at a further spot of it.
+fn add_to_last(
+    alloc: Global,
+    rows: &mut Vec<Fragment>,
+    spot: &Spot,
+    content: &Content,
+) -> Result<(), AllocError>
+    requires { EndsIn rows.old.items spot.now × IsSome spot.now.row }
+    ensures { OnOk result ((gs : ListOf Fragment) → grouped_on rows.new.items gs ≡ grouped_on rows.old.items (said spot.now content.now ∷ gs)) }
+{
+    if push_to_last(alloc, rows, spot, content)? {
+        return Ok(());
+    }
+    if let Some(last) = rows.pop() {
+        rows.push(add_to(alloc, last, spot, content)?)?;
+    }
+    Ok(())
+}
+
+// A piece, put together with the last of the rows where both are of one.
+fn add_other(alloc: Global, rows: &mut Vec<Fragment>, piece: Fragment) -> Result<(), AllocError>
+    ensures { OnOk result ((gs : ListOf Fragment) → grouped_on rows.new.items gs ≡ grouped_on rows.old.items (piece ∷ gs)) }
+{
+    if !is_same(rows, &piece) {
+        rows.push(piece)?;
+        return Ok(());
+    }
+    if let Some(last) = rows.pop() {
+        rows.push(joined_fragment(alloc, last, piece)?)?;
+    }
+    Ok(())
+}
+
+// An entry's piece, put together with the last of the rows where both are of one.
+fn add_entry(
+    alloc: Global,
+    rows: &mut Vec<Fragment>,
+    spot: &Spot,
+    content: &Content,
+) -> Result<(), AllocError>
+    ensures { OnOk result ((gs : ListOf Fragment) → grouped_on rows.new.items gs ≡ grouped_on rows.old.items (said spot.now content.now ∷ gs)) }
+{
+    if is_last(rows, spot) {
+        add_to_last(alloc, rows, spot, content)
+    } else {
+        let piece = piece(alloc, spot, content)?;
+        add_other(alloc, rows, piece)
     }
 }
 
@@ -296,17 +403,6 @@ fn add_between<'a>(
     }
 }
 
-// The rows that are done and the last one.
-fn closed(done: Vec<Fragment>, last: Option<Fragment>) -> Result<Vec<Fragment>, AllocError>
-    ensures { IfOk result (λ v. v.items ≡ done.items ++ grouped last []) }
-{
-    let mut rows = done;
-    if let Some(f) = last {
-        rows.push(f)?;
-    }
-    Ok(rows)
-}
-
 // The next fragment, and the others stay.
 fn first_of(rest: &mut IntoIter<Fragment>) -> Option<Fragment>
     ensures { with_first result (into_iter_items rest.new) ≡ into_iter_items rest.old }
@@ -319,13 +415,12 @@ fn few_rows(alloc: Global, entries: &[(&Spot, &Content)]) -> Result<Vec<Fragment
     ensures { IfOk result (λ v. v.items ≡ grouped None (map lent_piece entries.now)) }
 {
     let mut rows = Vec::new(alloc);
-    let mut last = None;
     let mut rest = entries;
     while let [(spot, content), others @ ..] = rest {
-        last = Some(add_entry(alloc, &mut rows, last, spot, content)?);
+        add_entry(alloc, &mut rows, spot, content)?;
         rest = others;
     }
-    closed(rows, last)
+    Ok(rows)
 }
 
 fn add_all(rows: &mut Vec<Fragment>, others: IntoIter<Fragment>) -> Result<(), AllocError>
@@ -379,12 +474,27 @@ fn meet(
     }
 }
 
-// The pieces of entries put together: few one after another, many in halves, so that each is moved a few times.
+// Whether no entry is an element of a collection.
+fn are_plain(entries: &[(&Spot, &Content)]) -> bool {
+    let mut rest = entries;
+    while let [(spot, _), others @ ..] = rest {
+        if let Some(path) = &spot.path {
+            if !path.as_slice().is_empty() {
+                return false;
+            }
+        }
+        rest = others;
+    }
+    true
+}
+
+// The pieces of entries put together: few one after another, and as many as there are where no row is wide. Else in
+// halves, so that each is moved a few times.
 fn rows_of(alloc: Global, entries: &[(&Spot, &Content)]) -> Result<Vec<Fragment>, AllocError>
     ensures { IfOk result (λ v. AreRowsOf (map lent_piece entries.now) v.items) }
 {
     let half = entries.len() / 2;
-    if half < 8 {
+    if half < 8 || are_plain(entries) {
         return few_rows(alloc, entries);
     }
     let (front, back) = entries.split_at(half);
