@@ -11,3 +11,4 @@ pub mod Shown
 pub mod Going
 pub mod Alone
 pub mod NoMore
+pub mod Fronts

@@ -2,3 +2,4 @@ pub mod Slots
 pub mod Firsts
 pub mod Entries
 pub mod Sources
+pub mod Fronts

@@ -2,13 +2,17 @@
 //! the cuts at which what is in force changes.
 #![tactic(auto)]
 
+mod front;
 mod laws;
 mod partition;
 mod ranges;
 mod slice;
 mod spot;
+mod spot_key;
 
+pub use front::Front;
 pub use laws::slices_show;
 pub use partition::Partition;
 pub use ranges::Ranges;
 pub use spot::{Addition, Content, Room, Spot};
+pub use spot_key::SpotKey;

@@ -15,6 +15,7 @@ ghost use Rattle.cas_partition.specs.declared.spot.Content.{Content};
 
 use crate::ranges::Ranges;
 use crate::spot::{Addition, Content, Room, Spot, given, wanted};
+use crate::spot_key::SpotKey;
 use cas_atoms::{Atom, greater_deletion};
 use cas_bounds::Cut;
 use cas_cell::Deletion;
@@ -30,19 +31,19 @@ use std::vec::IntoIter;
 pub struct Partition {
     pub(crate) top: Option<Deletion>,
     pub(crate) ranges: Ranges,
-    pub(crate) spots: BTreeMap<Spot, Content>,
+    pub(crate) spots: BTreeMap<SpotKey, Content>,
 }
 
 // Makes place for what will be said at the spot.
 fn reserve_at(
-    spots: &mut BTreeMap<Spot, Content>,
+    spots: &mut BTreeMap<SpotKey, Content>,
     spot: Spot,
     tag: Option<TypeTag>,
 ) -> Result<(), AllocError>
     ensures ok { OnOk result (spots.new.entries ≡ with_spot spot tag spots.old.entries) }
     ensures err { OnErr result (spots.new.entries ≡ spots.old.entries) }
 {
-    match spots.entry(spot)? {
+    match spots.entry(SpotKey::of(spot))? {
         Entry::Occupied(_) => {}
         Entry::Vacant(place) => {
             place.insert(Content::blank(tag));
@@ -52,11 +53,11 @@ fn reserve_at(
 }
 
 // Joins what is said at the spot, if it is there.
-fn join_at(spots: &mut BTreeMap<Spot, Content>, spot: &Spot, content: Content)
-    ensures { (c : Content) → lookup (is_at (spot_cmp spot.now)) spots.old.entries ≡ Some c
-        → spots.new.entries ≡ set_value (is_at (spot_cmp spot.now)) spots.old.entries (joined_content c content) }
+fn join_at(spots: &mut BTreeMap<SpotKey, Content>, spot: Spot, content: Content)
+    ensures { (c : Content) → lookup (is_at (spot_cmp spot)) spots.old.entries ≡ Some c
+        → spots.new.entries ≡ set_value (is_at (spot_cmp spot)) spots.old.entries (joined_content c content) }
 {
-    if let Some(there) = spots.get_mut(spot) {
+    if let Some(there) = spots.get_mut(&SpotKey::of(spot)) {
         there.join(content);
     }
 }
@@ -112,7 +113,7 @@ impl Partition {
         match given(atom) {
             Addition::Whole(d) => self.top = greater_deletion(self.top, Some(d)),
             Addition::Range(lo, hi, d) => self.ranges.raise(lo, hi, d),
-            Addition::At(spot, content) => join_at(&mut self.spots, &spot, content),
+            Addition::At(spot, content) => join_at(&mut self.spots, spot, content),
         }
     }
 

@@ -10,12 +10,13 @@ ghost use Rattle.cas_partition.specs.Spots.{spot_cmp, column_at, columns_at, cel
 ghost use Rattle.cas_partition.specs.Slices.{grouped, grouped_from, meet, AreRowsOf, Shows};
 ghost use Rattle.cas_partition.specs.Ranged.{piece_of, spot_at, spots_below, spots_between, statics_of, rows_between};
 ghost use Rattle.cas_partition.specs.Inner.Firsts.{with_first};
-ghost use Rattle.cas_partition.specs.Inner.Entries.{lent_piece, GoesOn, are_below};
+ghost use Rattle.cas_partition.specs.Inner.Entries.{lent_piece, GoesOn, EndsIn, Takes, TakesLast, grouped_on, ends_as, are_below};
 ghost use Rattle.cas_partition.specs.Inner.Sources.{TellMerge};
 ghost use Rattle.cas_streams.specs.declared.fragment.Fragment.TheVariants as fragment;
 
 use crate::partition::Partition;
 use crate::spot::{Content, Spot};
+use crate::spot_key::SpotKey;
 use cas_atoms::{ColumnRef, PathCell, Row, RowColumn};
 use cas_bounds::{Clustering, End, MapKey, RowOrder, Slice, Values, compare_points};
 use cas_cell::{Cell, Deletion};
@@ -25,6 +26,7 @@ use cas_types::{Bytes, List};
 use std::alloc::{AllocError, Global};
 use std::collections::BTreeMap;
 use std::collections::btree_map::Range;
+use std::mem;
 use std::vec::IntoIter;
 
 // The cell, where there is one and a path.
@@ -131,12 +133,12 @@ fn further(alloc: Global, spot: &Spot, content: &Content) -> Result<Fragment, Al
     Ok(Fragment::Row(piece_at(alloc, nowhere, spot, content)?))
 }
 
-// Whether the last piece is of the row of the spot.
-fn is_of(last: &Option<Fragment>, spot: &Spot) -> bool
-    ensures { result ≡ true → GoesOn last.now spot.now }
+// Whether the piece is of the row of the spot.
+fn is_of(piece: &Fragment, spot: &Spot) -> bool
+    ensures { result ≡ true → GoesOn piece.now spot.now × IsSome spot.now.row }
 {
-    match (last, &spot.row) {
-        (Some(Fragment::Row(row)), Some(key)) => compare_points(
+    match (piece, &spot.row) {
+        (Fragment::Row(row), Some(key)) => compare_points(
             row.clustering.order.as_slice(),
             End::Row,
             row.clustering.values.as_slice(),
@@ -145,6 +147,16 @@ fn is_of(last: &Option<Fragment>, spot: &Spot) -> bool
         )
         .is_eq(),
         _ => false,
+    }
+}
+
+// Whether the last of the rows is.
+fn is_last(rows: &[Fragment], spot: &Spot) -> bool
+    ensures { result ≡ true → EndsIn rows.now spot.now × IsSome spot.now.row }
+{
+    match rows.last() {
+        Some(last) => is_of(last, spot),
+        None => false,
     }
 }
 
@@ -220,56 +232,152 @@ fn add_to(
     }
 }
 
-// An entry's piece, put together with the last one where both are of one row; what comes last then.
-fn add_entry(
+// Whether the last of the rows and the piece are of one.
+fn is_same(rows: &[Fragment], piece: &Fragment) -> bool
+    ensures { result ≡ ends_as rows.now piece.now }
+{
+    match rows.last() {
+        Some(last) => compare_fragments(last, piece).is_eq(),
+        None => false,
+    }
+}
+
+// A row takes what is said at a further spot of it, where that stands behind all that it has.
+fn push_column(
     alloc: Global,
-    done: &mut Vec<Fragment>,
-    last: Option<Fragment>,
+    row: &mut Row,
     spot: &Spot,
     content: &Content,
-) -> Result<Fragment, AllocError>
-    ensures { IfOk result (λ f. (gs : ListOf Fragment) → done.new.items ++ grouped_from f gs ≡ done.old.items ++ grouped last (said spot.now content.now ∷ gs)) }
+) -> Result<bool, AllocError>
+    requires { IsSome spot.now.row }
+    ensures { IfOk result (λ taken. Takes taken (fragment.Row row.old) (said spot.now content.now) (fragment.Row row.new)) }
 {
-    if !is_of(&last, spot) {
-        let piece = piece(alloc, spot, content)?;
-        return add_piece(alloc, done, last, piece);
+    let Some(number) = spot.column else {
+        return Ok(false);
+    };
+    if !are_below(row.columns.as_slice(), number) {
+        return Ok(false);
     }
-    match last {
-        None => piece(alloc, spot, content),
-        Some(f) => add_to(alloc, f, spot, content),
+    let column = column_at(alloc, number, &spot.path, content)?;
+    let none = List::from_vec(Vec::new(alloc));
+    let mut columns = mem::replace(&mut row.columns, none).into_vec();
+    columns.push(column)?;
+    row.columns = List::from_vec(columns);
+    Ok(true)
+}
+
+// So does a piece that is a row.
+fn push_to(
+    alloc: Global,
+    piece: &mut Fragment,
+    spot: &Spot,
+    content: &Content,
+) -> Result<bool, AllocError>
+    requires { IsSome spot.now.row }
+    ensures { IfOk result (λ taken. Takes taken piece.old (said spot.now content.now) piece.new) }
+{
+    match piece {
+        Fragment::Row(row) => push_column(alloc, row, spot, content),
+        _ => Ok(false),
+    }
+}
+
+// So does the last of the rows.
+fn push_to_last(
+    alloc: Global,
+    rows: &mut Vec<Fragment>,
+    spot: &Spot,
+    content: &Content,
+) -> Result<bool, AllocError>
+    requires { IsSome spot.now.row }
+    ensures { IfOk result (λ taken. TakesLast taken rows.old.items (said spot.now content.now) rows.new.items) }
+{
+    match rows.last_mut() {
+        Some(last) => push_to(alloc, last, spot, content),
+        None => Ok(false),
+    }
+}
+
+// The last of the rows with what is said at a further spot of it.
+fn add_to_last(
+    alloc: Global,
+    rows: &mut Vec<Fragment>,
+    spot: &Spot,
+    content: &Content,
+) -> Result<(), AllocError>
+    requires { EndsIn rows.old.items spot.now × IsSome spot.now.row }
+    ensures { OnOk result ((gs : ListOf Fragment) → grouped_on rows.new.items gs ≡ grouped_on rows.old.items (said spot.now content.now ∷ gs)) }
+{
+    if push_to_last(alloc, rows, spot, content)? {
+        return Ok(());
+    }
+    if let Some(last) = rows.pop() {
+        rows.push(add_to(alloc, last, spot, content)?)?;
+    }
+    Ok(())
+}
+
+// A piece, put together with the last of the rows where both are of one.
+fn add_other(alloc: Global, rows: &mut Vec<Fragment>, piece: Fragment) -> Result<(), AllocError>
+    ensures { OnOk result ((gs : ListOf Fragment) → grouped_on rows.new.items gs ≡ grouped_on rows.old.items (piece ∷ gs)) }
+{
+    if !is_same(rows, &piece) {
+        rows.push(piece)?;
+        return Ok(());
+    }
+    if let Some(last) = rows.pop() {
+        rows.push(joined_fragment(alloc, last, piece)?)?;
+    }
+    Ok(())
+}
+
+// An entry's piece, put together with the last of the rows where both are of one.
+fn add_entry(
+    alloc: Global,
+    rows: &mut Vec<Fragment>,
+    spot: &Spot,
+    content: &Content,
+) -> Result<(), AllocError>
+    ensures { OnOk result ((gs : ListOf Fragment) → grouped_on rows.new.items gs ≡ grouped_on rows.old.items (said spot.now content.now ∷ gs)) }
+{
+    if is_last(rows, spot) {
+        add_to_last(alloc, rows, spot, content)
+    } else {
+        let piece = piece(alloc, spot, content)?;
+        add_other(alloc, rows, piece)
     }
 }
 
 // The entries of a range, lent.
 fn add_range<'a>(
     entries: &mut Vec<(&'a Spot, &'a Content)>,
-    spots: Range<'a, Spot, Content>,
+    spots: Range<'a, SpotKey, Content>,
 ) -> Result<(), AllocError>
     ensures { OnOk result (map lent_piece entries.new.items ≡ map lent_piece entries.old.items ++ map piece_of spots.entry) }
 {
     let mut rest = spots;
-    while let Some((spot, content)) = rest.next() {
-        entries.push((spot, content))?;
+    while let Some((key, content)) = rest.next() {
+        entries.push((key.spot(), content))?;
     }
     Ok(())
 }
 
 // The key below all rows, and that of a cut.
-fn at(row: MapKey) -> Spot
+fn at(row: MapKey) -> SpotKey
     ensures { result ≡ spot_at row }
 {
-    Spot {
+    SpotKey::of(Spot {
         row: Some(row),
         column: None,
         path: None,
-    }
+    })
 }
 
 // What is said at the spots below one.
 fn add_below<'a>(
     entries: &mut Vec<(&'a Spot, &'a Content)>,
-    spots: &'a BTreeMap<Spot, Content>,
-    first: &Spot,
+    spots: &'a BTreeMap<SpotKey, Content>,
+    first: &SpotKey,
 ) -> Result<(), AllocError>
     ensures added { OnOk result (map lent_piece entries.new.items ≡ map lent_piece entries.old.items
         ++ map piece_of (spots_below first.now spots.now.entries)) }
@@ -281,9 +389,9 @@ fn add_below<'a>(
 // What is said at the spots between two.
 fn add_between<'a>(
     entries: &mut Vec<(&'a Spot, &'a Content)>,
-    spots: &'a BTreeMap<Spot, Content>,
-    low: &Spot,
-    high: &Spot,
+    spots: &'a BTreeMap<SpotKey, Content>,
+    low: &SpotKey,
+    high: &SpotKey,
 ) -> Result<(), AllocError>
     ensures { OnOk result (map lent_piece entries.new.items ≡ map lent_piece entries.old.items
         ++ map piece_of (spots_between low.now high.now spots.now.entries)) }
@@ -293,17 +401,6 @@ fn add_between<'a>(
     } else {
         Ok(())
     }
-}
-
-// The rows that are done and the last one.
-fn closed(done: Vec<Fragment>, last: Option<Fragment>) -> Result<Vec<Fragment>, AllocError>
-    ensures { IfOk result (λ v. v.items ≡ done.items ++ grouped last []) }
-{
-    let mut rows = done;
-    if let Some(f) = last {
-        rows.push(f)?;
-    }
-    Ok(rows)
 }
 
 // The next fragment, and the others stay.
@@ -318,13 +415,12 @@ fn few_rows(alloc: Global, entries: &[(&Spot, &Content)]) -> Result<Vec<Fragment
     ensures { IfOk result (λ v. v.items ≡ grouped None (map lent_piece entries.now)) }
 {
     let mut rows = Vec::new(alloc);
-    let mut last = None;
     let mut rest = entries;
     while let [(spot, content), others @ ..] = rest {
-        last = Some(add_entry(alloc, &mut rows, last, spot, content)?);
+        add_entry(alloc, &mut rows, spot, content)?;
         rest = others;
     }
-    closed(rows, last)
+    Ok(rows)
 }
 
 fn add_all(rows: &mut Vec<Fragment>, others: IntoIter<Fragment>) -> Result<(), AllocError>
@@ -378,12 +474,27 @@ fn meet(
     }
 }
 
-// The pieces of entries put together: few one after another, many in halves, so that each is moved a few times.
+// Whether no entry is an element of a collection.
+fn are_plain(entries: &[(&Spot, &Content)]) -> bool {
+    let mut rest = entries;
+    while let [(spot, _), others @ ..] = rest {
+        if let Some(path) = &spot.path {
+            if !path.as_slice().is_empty() {
+                return false;
+            }
+        }
+        rest = others;
+    }
+    true
+}
+
+// The pieces of entries put together: few one after another, and as many as there are where no row is wide. Else in
+// halves, so that each is moved a few times.
 fn rows_of(alloc: Global, entries: &[(&Spot, &Content)]) -> Result<Vec<Fragment>, AllocError>
     ensures { IfOk result (λ v. AreRowsOf (map lent_piece entries.now) v.items) }
 {
     let half = entries.len() / 2;
-    if half < 8 {
+    if half < 8 || are_plain(entries) {
         return few_rows(alloc, entries);
     }
     let (front, back) = entries.split_at(half);
@@ -395,7 +506,7 @@ fn rows_of(alloc: Global, entries: &[(&Spot, &Content)]) -> Result<Vec<Fragment>
 // What is said of the static row and of the rows of the slice.
 fn rows_in(
     alloc: Global,
-    spots: &BTreeMap<Spot, Content>,
+    spots: &BTreeMap<SpotKey, Content>,
     slice: &Slice,
 ) -> Result<Vec<Fragment>, AllocError>
     ensures rows { IfOk result (λ v. AreRowsOf (map piece_of (statics_of spots.now.entries
