@@ -1,4 +1,4 @@
--- What an entry that is appended to the manifest leaves of a journal: a definition, or the name of a segment.
+-- What an entry that is appended to the manifest leaves of a journal: one that is told, or the name of a segment.
 use Rattle.std.proofs.Common.{◌≡◌, ◌≢◌, ◌⊎◌, inl, inr, ⊎_elim, ℕ, ◌≤◌, List, [], ◌∷◌, ◌++◌, take, Option, None, Some, refl, sym, ap, subst, ◌∙◌, arith}
 use Rattle.std.specs.List.{AllByRecursion}
 use Rattle.std.proofs.lemmas.List.{append-nil}
@@ -21,7 +21,7 @@ use Rattle.cas_replay.specs.Reading.{segment_in}
 use Rattle.cas_replay.specs.Grammar.{AreSegments}
 use Rattle.cas_journal.specs.Stores.{IsStore, Told, Holds, appended, failed_at}
 use Rattle.cas_journal.specs.Journals.{Goes, Writes, IsSpare}
-use Rattle.cas_journal.specs.Ends.{IsDefinition}
+use Rattle.cas_journal.specs.Ends.{IsTold}
 use Rattle.cas_journal.specs.declared.journal.Journal.{Journal}
 use Rattle.cas_journal.proofs.Lists.{all_mapped}
 use Rattle.cas_journal.proofs.Fitting.{IsAppended, goes_on_fitting}
@@ -96,39 +96,39 @@ module _ (j : Journal) (old : Disk) (t : Told) (e : Entry) (goes : Goes j old t)
       ⊎_elim (λ (without : Holds t c). holds_failed t e c goes.none_failed without) (λ (with_it : Holds (failed_at e t) c). with_it)
       (still_so (λ _ x. either x) old new leaves either (λ d x was made. made) (λ x was. inl (holds_now j old t goes x was)) c left)
 
--- ---- a definition
+-- ---- an entry that is told
 
-same_segments : (s : Saying) (e : Entry) → IsDefinition e → (after s e).segments ≡ s.segments
+same_segments : (s : Saying) (e : Entry) → IsTold e → (after s e).segments ≡ s.segments
 same_segments s (entry.Schema t) is = refl
 same_segments s (entry.AddColumns table columns) is = refl
 same_segments s (entry.Store shards) is = absurd is
 same_segments s (entry.NewSegment n) is = absurd is
 same_segments s (entry.DropSegment n) is = absurd is
-same_segments s (entry.Change change) is = absurd is
+same_segments s (entry.Change change) is = refl
 
-same_last : (s : Saying) (e : Entry) → IsDefinition e → (after s e).last_segment ≡ s.last_segment
+same_last : (s : Saying) (e : Entry) → IsTold e → (after s e).last_segment ≡ s.last_segment
 same_last s (entry.Schema t) is = refl
 same_last s (entry.AddColumns table columns) is = refl
 same_last s (entry.Store shards) is = absurd is
 same_last s (entry.NewSegment n) is = absurd is
 same_last s (entry.DropSegment n) is = absurd is
-same_last s (entry.Change change) is = absurd is
+same_last s (entry.Change change) is = refl
 
-pub definition_appended : (e : Entry) → IsDefinition e → IsAppended e
-definition_appended (entry.Schema t) is = tt
-definition_appended (entry.AddColumns table columns) is = tt
-definition_appended (entry.Store shards) is = is
-definition_appended (entry.NewSegment n) is = absurd is
-definition_appended (entry.DropSegment n) is = is
-definition_appended (entry.Change change) is = is
+pub told_appended : (e : Entry) → IsTold e → IsAppended e
+told_appended (entry.Schema t) is = tt
+told_appended (entry.AddColumns table columns) is = tt
+told_appended (entry.Store shards) is = is
+told_appended (entry.NewSegment n) is = absurd is
+told_appended (entry.DropSegment n) is = is
+told_appended (entry.Change change) is = tt
 
-pub definition_has : (e : Entry) → IsDefinition e → (d : Image) → HasItsSegment e d
-definition_has (entry.Schema t) is d = tt
-definition_has (entry.AddColumns table columns) is d = tt
-definition_has (entry.Store shards) is d = tt
-definition_has (entry.NewSegment n) is d = absurd is
-definition_has (entry.DropSegment n) is d = tt
-definition_has (entry.Change change) is d = tt
+pub told_has : (e : Entry) → IsTold e → (d : Image) → HasItsSegment e d
+told_has (entry.Schema t) is d = tt
+told_has (entry.AddColumns table columns) is d = tt
+told_has (entry.Store shards) is d = tt
+told_has (entry.NewSegment n) is d = absurd is
+told_has (entry.DropSegment n) is d = tt
+told_has (entry.Change change) is d = tt
 
 module _ (j k : Journal) (old new : Disk) (t : Told) (e : Entry) (goes : Goes j old t) (fits : FitsEntry (said_by t.entries) e)
     (call : During (Changed manifest_name MayBeAnything) old new) (stands : ManifestStands (manifest_place k.manifest) new (t.entries ++ e ∷ [])) where
@@ -155,9 +155,9 @@ module _ (j k : Journal) (old new : Disk) (t : Told) (e : Entry) (goes : Goes j 
   all_stay : (ns : List ℕ) (d c : Image) → step d c → AllByRecursion (λ n. segment_in c n ≡ segment_in d n) ns
   all_stay ns d c made = others_agree c d manifest_name ns made.others (none_is_manifest ns)
 
-  pub definition_goes : IsDefinition e → k.log ≡ j.log → k.spare ≡ j.spare → k.last_segment ≡ j.last_segment → Goes k new (appended e t)
-  definition_goes is log spare last =
-      let fit : (m : Mutation) → FitsRecord said.tables said.shards m → FitsRecord next.tables next.shards m = goes_on_fitting said e (definition_appended e is) fits in
+  pub told_goes : IsTold e → k.log ≡ j.log → k.spare ≡ j.spare → k.last_segment ≡ j.last_segment → Goes k new (appended e t)
+  told_goes is log spare last =
+      let fit : (m : Mutation) → FitsRecord said.tables said.shards m → FitsRecord next.tables next.shards m = goes_on_fitting said e (told_appended e is) fits in
       record {
         manifest = stands;
         none_failed = goes.none_failed;

@@ -136,11 +136,12 @@ table_fits tables t shards m fits = record { table = fits.table; there = still_t
 
 -- ---- entries that the journal appends
 
--- a definition, or the name of a segment
+-- a definition, a change of table files, or the name of a segment
 abbrev pub IsAppended : Entry → Type 0
 IsAppended (entry.Schema t) = Unit {0}
 IsAppended (entry.AddColumns table columns) = Unit {0}
 IsAppended (entry.NewSegment n) = Unit {0}
+IsAppended (entry.Change c) = Unit {0}
 IsAppended _ = ⊥
 
 keys_of : (t : TableSchema) (limit : ℕ) (columns : List Column) → FitColumns limit false t.columns columns → NoKeys columns
@@ -153,4 +154,4 @@ goes_on_fitting s (entry.AddColumns table columns) is may m fits =
 goes_on_fitting s (entry.NewSegment n) is may m fits = fits
 goes_on_fitting s (entry.Store shards) is may m fits = absurd is
 goes_on_fitting s (entry.DropSegment n) is may m fits = absurd is
-goes_on_fitting s (entry.Change c) is may m fits = absurd is
+goes_on_fitting s (entry.Change c) is may m fits = fits

@@ -108,7 +108,7 @@ log_after s (entry.AddColumns table columns) ms c is fits has log =
 log_after s (entry.NewSegment n) ms c is fits has log = log_with_empty s.tables s.shards (segment_in c) s.segments ms n log has
 log_after s (entry.Store shards) ms c is fits has log = absurd is
 log_after s (entry.DropSegment n) ms c is fits has log = absurd is
-log_after s (entry.Change change) ms c is fits has log = absurd is
+log_after s (entry.Change change) ms c is fits has log = log
 
 -- an image whose manifest has one entry more
 pub store_with : (entries : List Entry) (e : Entry) (ms : List Mutation) (d c : Image) → IsStore entries ms d → IsAppended e → FitsEntry (said_by entries) e → HasItsSegment e d

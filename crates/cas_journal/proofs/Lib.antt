@@ -5,7 +5,7 @@ pub mod Segments
 pub mod Holding
 pub mod Moving
 pub mod Entries
-pub mod Defining
+pub mod Telling
 pub mod Beginning
 pub mod Naming
 pub mod Rooms

@@ -113,3 +113,10 @@ abbrev pub IsDefinition : Entry → Type 0
 IsDefinition (entry.Schema t) = Unit {0}
 IsDefinition (entry.AddColumns table columns) = Unit {0}
 IsDefinition _ = ⊥
+
+-- an entry that a journal is told: a definition, or a change of table files
+abbrev pub IsTold : Entry → Type 0
+IsTold (entry.Schema t) = Unit {0}
+IsTold (entry.AddColumns table columns) = Unit {0}
+IsTold (entry.Change c) = Unit {0}
+IsTold _ = ⊥

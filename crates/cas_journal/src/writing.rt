@@ -14,8 +14,8 @@ ghost use Rattle.cas_manifest.specs.Manifests.{place_of, room_of, Stands, MayHav
 ghost use Rattle.cas_journal.specs.Fresh.{IsBegun, IsFresh};
 ghost use Rattle.cas_journal.specs.Stores.{Told, Holds, SameTables, took, committed_all, appended, failed_at};
 ghost use Rattle.cas_journal.specs.Journals.{Lasts, AreFree, HasMemory, IsPrepared, MayTake};
-ghost use Rattle.cas_journal.specs.Ends.{Ends, IsOfFolder, IsToldAtOnce, WritesNothing, Limits, entry_limit, told_after, IsDefinition};
-ghost use Rattle.cas_journal.specs.Reach.{reach_of, reach_after, HasNoPlace};
+ghost use Rattle.cas_journal.specs.Ends.{Ends, IsOfFolder, IsToldAtOnce, WritesNothing, Limits, entry_limit, told_after, IsTold};
+ghost use Rattle.cas_journal.specs.Reach.{reach_of, reach_after, IsOver};
 
 use crate::fault::JournalFault;
 use crate::journal::Journal;
@@ -143,14 +143,15 @@ impl Journal {
         Ok(())
     }
 
-    /// Defines a table, or columns of one that there is.
-    pub fn define<F: Folder>(
+    /// Tells an entry: a table is defined, or columns of one that there is, or files of tables come and go.
+    /// What was taken and isn't committed stays so: who changes files of tables commits first what they hold.
+    pub fn tell<F: Folder>(
         &mut self,
         alloc: Global,
         folder: &mut F,
         entry: &Entry,
     ) -> Result<(), JournalFault>
-        requires definition { IsDefinition entry.now }
+        requires told { IsTold entry.now }
         requires spelled { HasSpelling entry.now }
         requires short { length (entry_bytes entry.now) < 2 ^ 32 }
         requires free { AreFree self.old (F.disk folder.old) }
@@ -163,7 +164,7 @@ impl Journal {
         ensures tables { During SameTables (F.disk folder.old) (F.disk folder.new) }
         ensures outcome { Ends self.old.first self.new.first (F.faults_of folder.old) (F.faults_of folder.new) result }
         ensures limits { Limits (entry_limit self.old entry.now) result }
-        ensures full { (what : _) (most : _) → result ≡ Err (JournalFault.TooMany what most) → HasNoPlace entry.now (reach_of self.old) }
+        ensures full { (what : _) (most : _) → result ≡ Err (JournalFault.TooMany what most) → IsOver what entry.now self.old }
         ensures reach { reach_of self.new ≡ reach_after result entry.now (reach_of self.old) }
         ensures untouched { IfErr result (λ f. WritesNothing f → During Same (F.disk folder.old) (F.disk folder.new)) }
         ensures count { F.faults_of folder.old ≤ F.faults_of folder.new }

@@ -252,6 +252,7 @@ impl<F: Folder, J: Store> Room<F, J> {
     }
 
     /// Defines a table, or columns of one: after Ok the entry is in every image.
+    #[tactic(auto, using(cas_journal::proofs::Reaching::definition_over, cas_journal::proofs::Reaching::definition_told))]
     pub fn define(
         &mut self,
         alloc: Global,
@@ -286,7 +287,7 @@ impl<F: Folder, J: Store> Room<F, J> {
         ensures untouched { IfErr result (λ f. WritesNothing f → During Same (F.disk self.old.folder) (F.disk self.new.folder)) }
         ensures count { F.faults_of self.old.folder ≤ F.faults_of self.new.folder }
     {
-        let result = self.journal.define(alloc, &mut self.folder, entry);
+        let result = self.journal.tell(alloc, &mut self.folder, entry);
         note(
             &self.folder,
             &self.journal,

@@ -5,7 +5,7 @@ use Rattle.cas_disk.specs.declared.name.Name.TheVariants.{Manifest as manifest_n
 use Rattle.cas_changes.specs.declared.entry.Entry.TheVariants.{NewSegment}
 use Rattle.cas_journal.specs.Stores.{appended}
 use Rattle.cas_journal.proofs.Moving.{still_free, manifest_changed, lasting}
-use Rattle.cas_journal.proofs.Defining.{leaves_going, fault_lasts}
+use Rattle.cas_journal.proofs.Telling.{leaves_going, fault_lasts}
 use Rattle.cas_journal.proofs.Naming.{some_log, name_fits, name_has, name_goes}
 use Rattle.cas_journal.proofs.journal.Journal.name_next.Goals as goal
 

@@ -12,12 +12,12 @@ use Rattle.cas_log.specs.declared.log.Log.{Log}
 use Rattle.cas_manifest.specs.Manifests.{Place, place_of as manifest_place, Stands as ManifestStands, MayHave as MayHaveManifest}
 use Rattle.cas_journal.specs.Stores.{Told, Holds, appended, failed_at}
 use Rattle.cas_journal.specs.Journals.{Goes, Lasts, Writes, IsSpare}
-use Rattle.cas_journal.specs.Ends.{Ends, WritesNothing, told_after, IsDefinition}
+use Rattle.cas_journal.specs.Ends.{Ends, WritesNothing, told_after, IsTold}
 use Rattle.cas_journal.specs.declared.fault.JournalFault.{JournalFault}
 use Rattle.cas_journal.specs.declared.fault.JournalFault.TheVariants.{TooLarge, TooMany, Stopped, Failed, Mem}
 use Rattle.cas_journal.specs.declared.journal.Journal.{Journal}
 use Rattle.cas_journal.proofs.Moving.{still_so, manifest_still, earlier_still, spare_still, holds_same, lasting, lasting_stopped}
-use Rattle.cas_journal.proofs.Entries.{append_leaves, append_fails, writes_still, definition_goes, definition_appended, definition_has}
+use Rattle.cas_journal.proofs.Entries.{append_leaves, append_fails, writes_still, told_goes, told_appended, told_has}
 use Rattle.cas_journal.proofs.Holding.{same_files, HasItsSegment}
 use Rattle.cas_journal.proofs.Fitting.{IsAppended}
 
@@ -109,26 +109,26 @@ module _ (j k : Journal) (old new : Disk) (t : Told) (e : Entry) (lasts : Lasts 
   fault_lasts (Stopped x) ends untouched stays log spare last =
       same_lasts j k old new t (untouched tt) stays log spare (omega (arith, last)) (none_before j.first k.first before now (Err (Stopped x)) ends) lasts
 
--- ---- a definition
+-- ---- an entry that is told
 
-module _ (j k : Journal) (old new : Disk) (t : Told) (e : Entry) (lasts : Lasts j old t) (is : IsDefinition e) (fits : FitsEntry (said_by t.entries) e)
+module _ (j k : Journal) (old new : Disk) (t : Told) (e : Entry) (lasts : Lasts j old t) (is : IsTold e) (fits : FitsEntry (said_by t.entries) e)
     (before now : ℕ) (during : (entries : List Entry) → ManifestStands (manifest_place j.manifest) old entries → FitsEntry (said_by entries) e
     → During (Changed manifest_name (λ _ f. MayHaveManifest entries e f)) old new) where
   abbrev ready : Goes j old t → FitsEntry (said_by t.entries) e × ((d : Image) → old.may_leave d → HasItsSegment e d)
-  ready goes = (fits, λ d was. definition_has e is d)
+  ready goes = (fits, λ d was. told_has e is d)
 
-  pub define_leaves : (r : Result (Unit {0}) JournalFault) → Ends j.first k.first before now r
+  pub tell_leaves : (r : Result (Unit {0}) JournalFault) → Ends j.first k.first before now r
       → IfErr r (λ f. WritesNothing f → During Same old new) → During (λ _ c. Holds t c ⊎ Holds (failed_at e t) c) old new
-  define_leaves r ends untouched = leaves_either j k old new t e lasts (definition_appended e is) ready before now during j.first refl r ends untouched
+  tell_leaves r ends untouched = leaves_either j k old new t e lasts (told_appended e is) ready before now during j.first refl r ends untouched
 
-  pub define_lasts : (r : Result (Unit {0}) JournalFault) → Ends j.first k.first before now r
+  pub tell_lasts : (r : Result (Unit {0}) JournalFault) → Ends j.first k.first before now r
       → IfErr r (λ f. WritesNothing f → During Same old new) → IfErr r (λ _. manifest_place k.manifest ≡ manifest_place j.manifest)
       → ((entries : List Entry) → ManifestStands (manifest_place j.manifest) old entries → FitsEntry (said_by entries) e
       → OnOk r (ManifestStands (manifest_place k.manifest) new (entries ++ e ∷ [])))
       → During (Changed manifest_name MayBeAnything) old new → k.log ≡ j.log → k.spare ≡ j.spare → k.last_segment ≡ j.last_segment
       → MatchResult r (λ _. Lasts k new (appended e t)) (λ f. Lasts k new (told_after f e t))
-  define_lasts (Ok x) ends untouched stays done others log spare last =
+  tell_lasts (Ok x) ends untouched stays done others log spare last =
       let goes = lasts.goes (none_where_ok j.first k.first before now x ends) in
-      lasting k new (appended e t) (definition_goes j k old new t e goes fits others (done t.entries goes.manifest fits) is log spare last)
-  define_lasts (Err f) ends untouched stays done others log spare last =
-      fault_lasts j k old new t e lasts (definition_appended e is) ready before now during f ends untouched stays log spare last
+      lasting k new (appended e t) (told_goes j k old new t e goes fits others (done t.entries goes.manifest fits) is log spare last)
+  tell_lasts (Err f) ends untouched stays done others log spare last =
+      fault_lasts j k old new t e lasts (told_appended e is) ready before now during f ends untouched stays log spare last
