@@ -1,0 +1,12 @@
+//! A table file that is read: its index, its filter and what is told of it are in memory, its partitions stay in the file.
+#![tactic(auto)]
+
+mod fault;
+mod fields;
+mod loading;
+mod parts;
+mod table;
+mod told;
+
+pub use fault::TableFault;
+pub use table::Table;
