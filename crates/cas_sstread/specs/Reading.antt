@@ -93,7 +93,8 @@ own_key_at listed partition left = do
 unfoldable pub own_range_at : TableInfo → List PartitionEntry → Left → Read (Unit {0})
 own_range_at info partitions left = do
   first ← own_key_at info.first (slice_get partitions 0) left
-  own_key_at info.last (last_or None partitions) first.1
+  last ← own_key_at info.last (last_or None partitions) first.1
+  Ok (tt, last.1)
 
 -- the second is the listed one, or there is none
 unfoldable pub is_second : Option ℤ → Option ℤ → Bool
@@ -123,7 +124,8 @@ own_info_at info partitions left = do
   sizes ← own_sizes_at info left
   range ← own_range_at info partitions sizes.1
   times ← own_times_at info range.1
-  own_rest_at info (length partitions) times.1
+  rest ← own_rest_at info (length partitions) times.1
+  Ok (tt, rest.1)
 
 -- ---- the file
 

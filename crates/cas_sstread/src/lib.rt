@@ -5,6 +5,7 @@ mod fault;
 mod fields;
 mod loading;
 mod parts;
+mod searching;
 mod table;
 mod told;
 

@@ -26,7 +26,7 @@ pub struct Table<F: Sealed> {
     columns: List<Column>,
     order: RowOrder,
     info: TableInfo,
-    parts: Parts,
+    pub(crate) parts: Parts,
 }
 
 impl<F: Sealed> Model for Table<F> {

@@ -65,7 +65,8 @@ fn read_range(
     ensures { Gives (λ u. u) result reader.new (own_range_at info.now partitions.now reader.old) }
 {
     read_key_of(reader, info.first.as_slice(), first(partitions))?;
-    read_key_of(reader, info.last.as_slice(), last(partitions))
+    read_key_of(reader, info.last.as_slice(), last(partitions))?;
+    Ok(())
 }
 
 // Whether the second is the listed one.
@@ -139,7 +140,8 @@ fn read_all(
     read_sizes(reader, info)?;
     read_range(reader, info, partitions)?;
     read_times(reader, info)?;
-    read_rest(reader, info, partitions.len())
+    read_rest(reader, info, partitions.len())?;
+    Ok(())
 }
 
 /// Whether what a file tells of itself at that place is what is listed, with the keys of the index.
