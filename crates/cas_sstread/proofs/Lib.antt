@@ -1,2 +1,5 @@
 pub mod Filling
 pub mod Within
+pub mod ToldLaws
+pub mod LoadLaws
+pub mod ContentsLoad

@@ -1,10 +1,10 @@
 -- What a loaded index tells stands before the place where the partitions end, and a filter of its own keys denies no key that is there.
-use Rattle.std.proofs.Common.{◌≡◌, ℕ, suc, zero, ◌+◌, ◌*◌, ◌/◌, ◌%◌, ◌<◌, ◌≤◌, ◌^◌, Bool, true, false, ◌&&◌, eqb, ltb, map, max, List, [], ◌∷◌, length, get_or, Option, None, Some, refl, sym, ap, subst, ◌∙◌, arith}
+use Rattle.std.proofs.Common.{◌≡◌, ℕ, suc, zero, ◌<◌, ◌≤◌, true, false, eqb, ltb, map, List, [], ◌∷◌, length, get_or, Option, None, Some, refl, sym, ap, subst, ◌∙◌, arith}
 use Rattle.std.specs.Prelude.{slice_get, IfSome}
 use Rattle.std.specs.List.{AllByRecursion, Contains, last_or}
 use Rattle.std.proofs.lemmas.Bool.{true≢false, and_parts, ltb-true}
 use Rattle.cas_bounds.specs.declared.order.Ordered.{Ordered}
-use Rattle.cas_filter.specs.Filters.{bits_for, may_hold, filter_of}
+use Rattle.cas_filter.specs.Filters.{bits_for, may_hold}
 use Rattle.cas_filter.specs.Laws.{IsWhole}
 use Rattle.cas_filter.proofs.FilterLaws.{holds_its_keys}
 use Rattle.cas_index.specs.Entries.{block_place, last_place}

@@ -3,6 +3,7 @@
 
 mod fault;
 mod fields;
+mod laws;
 mod loading;
 mod parts;
 mod searching;
@@ -10,4 +11,5 @@ mod table;
 mod told;
 
 pub use fault::TableFault;
+pub use laws::{loading_is_exact, tables_load};
 pub use table::Table;

@@ -44,7 +44,7 @@ use Rattle.cas_index.specs.declared.entries.PartitionEntry.{PartitionEntry}
 use Rattle.cas_tables.specs.Spelling.{header_bytes}
 use Rattle.cas_tables.specs.Contents.{Partition, Contents, keys}
 use Rattle.cas_tables.specs.Places.{head_of, blocks, text_of, first_cut, block_entries, entries}
-use Rattle.cas_tables.specs.Files.{front_bytes, index_of, table_bytes}
+use Rattle.cas_tables.specs.Files.{front_bytes, index_of, index_place, table_bytes}
 use Rattle.cas_tables.specs.Fitting.{FitsPartition, FitsContents}
 use Rattle.cas_tables.proofs.Lengths.{header_long, parts_long, tables_are_one}
 use Rattle.cas_tables.proofs.Standing.{blocks_there}
@@ -305,9 +305,29 @@ partitions_chain columns place last (p ∷ ps) all sorted passed short =
           all.1 sorted.1 (end, sorted.0) (omega arith),
     )
 
-entries_long : (place : ℕ) (ps : List Partition) → length (entries place ps) ≡ length ps
+pub entries_long : (place : ℕ) (ps : List Partition) → length (entries place ps) ≡ length ps
 entries_long place [] = refl
 entries_long place (p ∷ ps) = ap (λ (n : ℕ). suc n) (entries_long (place + length (text_of p)) ps)
+
+-- the last place stands before the end of the partitions
+last_before : (place : ℕ) (last : Option PartitionEntry) (ps : List Partition) → last_place last < place
+    → last_place (last_or last (entries place ps)) < place + length (flat_map text_of ps)
+last_before place last [] below = omega arith
+last_before place last (p ∷ ps) below =
+    let head : ℕ = length (head_of p) in
+    let some : place < place + head = omega (arith, head_some p) in
+    let own : last_place (Some (record { key = p.key; place = place; blocks = block_entries (place + head) None (blocks p) })) < place + length (text_of p) =
+    omega (arith, last_behind place (place + head) None None (blocks p) some, text_long p) in
+    omega (arith, length-append (text_of p) (flat_map text_of ps), last_before (place + length (text_of p))
+    (Some (record { key = p.key; place = place; blocks = block_entries (place + head) None (blocks p) })) ps own)
+
+pub last_within : (c : Contents) → last_place (last_or None (index_of c)) < index_place c
+last_within c =
+    omega (
+      arith,
+      last_before (length (header_bytes c.header)) None c.partitions (omega (arith, header_long c.header)),
+      length-append (header_bytes c.header) (flat_map text_of c.partitions),
+    )
 
 -- the front of a file is no longer than it
 front_short : (columns : List Column) (c : Contents) → FitsContents columns c → length (front_bytes c) ≤ FILE_LIMIT

@@ -1,5 +1,5 @@
 -- How a part of a file is filled, and what the parts together are.
-use Rattle.std.specs.Prelude.{◌≡◌, ℕ, ◌+◌, ◌≤◌, List, length, take, drop}
+use Rattle.std.specs.Prelude.{◌≡◌, ℕ, ◌≤◌, List, length, take, drop}
 use Rattle.cas_sstread.specs.declared.loading.Parts.{Parts}
 use Rattle.cas_sstread.specs.Reading.{Loaded}
 

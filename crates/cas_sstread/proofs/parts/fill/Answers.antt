@@ -1,4 +1,4 @@
-use Rattle.std.proofs.Common.{◌+◌, ◌-◌, length, arith}
+use Rattle.std.proofs.Common.{◌-◌, length, arith}
 use Rattle.cas_sstread.proofs.Filling.{filled_more}
 use Rattle.cas_sstread.proofs.parts.fill.Goals as goal
 
