@@ -1,9 +1,10 @@
 //! What is found in a table file that is loaded; nothing of the file is read.
 
-ghost use Rattle.std.specs.Prelude.{◌≡◌, ◌+◌, ◌<◌, ℕ, Some, length, slice_get, Option, is_some, IfSome};
+ghost use Rattle.std.specs.Prelude.{◌≡◌, ◌+◌, ◌<◌, ℕ, Some, None, false, length, slice_get, Option, is_some, IfSome};
 ghost use Rattle.std.specs.List.{AllByRecursion};
 ghost use Rattle.std.specs.Option.{option_copied};
 ghost use Rattle.cas_bounds.specs.ClusteringOrder.{clustering_order};
+ghost use Rattle.cas_filter.specs.Filters.{may_hold};
 ghost use Rattle.cas_index.specs.declared.entries.PartitionEntry.{PartitionEntry};
 ghost use Rattle.cas_index.specs.Searches.{HasKey, IsSliceOf, IsBlockFor};
 ghost use Rattle.cas_sstread.specs.Searches.{HasOwnFilter, IsFound, IsNextKey, place_or, IsWithin};
@@ -23,16 +24,42 @@ impl<F: Sealed> Table<F> {
         self.parts.index.as_slice()
     }
 
+    // Whether the filter doesn't say no.
+    fn may_hold(&self, key: &[u8]) -> bool
+        ensures { result ≡ may_hold self.now.kept.filter key.now }
+    {
+        self.parts.filter.may_hold(key)
+    }
+
+    // What the index says.
+    fn find_in_index(&self, key: &[u8]) -> Option<u32>
+        ensures { HasKey self.now.kept.partitions key.now result }
+    {
+        match self.parts.index.find(key) {
+            Some(number) => Some(number),
+            None => None,
+        }
+    }
+
+    // That nothing has a key which the filter denies, if it is that of the keys.
+    fn denied(&self, key: &[u8]) -> Option<u32>
+        requires { may_hold self.now.kept.filter key.now ≡ false }
+        ensures none { result ≡ None }
+        ensures exact { HasOwnFilter self.now.kept → HasKey self.now.kept.partitions key.now result }
+    {
+        None
+    }
+
     /// The number of the partition that has the key; none where no partition has it. The filter is
     /// asked first.
     pub fn find(&self, key: &[u8]) -> Option<u32>
         ensures found { IsFound self.now.kept key.now result }
         ensures exact { HasOwnFilter self.now.kept → HasKey self.now.kept.partitions key.now result }
     {
-        if self.parts.filter.may_hold(key) {
-            self.parts.index.find(key)
+        if self.may_hold(key) {
+            self.find_in_index(key)
         } else {
-            None
+            self.denied(key)
         }
     }
 
