@@ -3,3 +3,4 @@ pub mod Within
 pub mod ToldLaws
 pub mod LoadLaws
 pub mod ContentsLoad
+pub mod PartitionsFound

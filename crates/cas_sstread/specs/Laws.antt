@@ -1,7 +1,7 @@
 -- What holds of table files that are loaded.
 -- Own format.
 use Rattle.std.specs.Prelude.{◌≡◌, ℕ, ◌+◌, ◌*◌, ◌<◌, List, ◌++◌, map, length, slice_get, None, Some, Ok}
-use Rattle.std.specs.List.{last_or}
+use Rattle.std.specs.List.{Contains, last_or}
 use Rattle.cas_types.specs.declared.schema.Column.{Column}
 use Rattle.cas_bounds.specs.ClusteringOrder.{clustering_order}
 use Rattle.cas_bounds.specs.declared.order.Ordered.{Ordered}
@@ -9,11 +9,13 @@ use Rattle.cas_codec.specs.Exact.{AreBytes}
 use Rattle.cas_info.specs.Allowed.{FitsInfo}
 use Rattle.cas_info.specs.Spelling.{info_bytes}
 use Rattle.cas_info.specs.declared.info.TableInfo.{TableInfo}
+use Rattle.cas_facts.specs.declared.facts.Facts.{Facts}
 use Rattle.cas_filter.specs.Allowed.{FitsFilter}
 use Rattle.cas_filter.specs.Filters.{bits_for}
 use Rattle.cas_filter.specs.Spelling.{filter_bytes}
 use Rattle.cas_index.specs.Allowed.{FitsIndex}
 use Rattle.cas_index.specs.Entries.{last_place}
+use Rattle.cas_index.specs.Searches.{HasKey}
 use Rattle.cas_index.specs.Spelling.{index_bytes, footer_bytes}
 use Rattle.cas_index.specs.declared.footer.Footer.{Footer}
 use Rattle.cas_index.specs.declared.entries.PartitionEntry.{PartitionEntry}
@@ -22,12 +24,14 @@ use Rattle.cas_tables.specs.declared.header.Header.{Header}
 use Rattle.cas_tables.specs.declared.header.Version.{Version}
 use Rattle.cas_tables.specs.declared.header.Version.TheVariants.{Second}
 use Rattle.cas_tables.specs.Allowed.{FitsHeader}
-use Rattle.cas_tables.specs.Contents.{Contents, keys}
-use Rattle.cas_tables.specs.Files.{index_of, key_filter, index_place, info_of, IsTable}
+use Rattle.cas_tables.specs.Contents.{Partition, Contents, keys}
+use Rattle.cas_tables.specs.Files.{index_of, key_filter, index_place, info_of, table_bytes, IsTable}
 use Rattle.cas_tables.specs.Fitting.{FitsContents}
+use Rattle.cas_tables.specs.Laws.{StandsAt, BlocksStand}
+use Rattle.cas_tables.specs.Places.{blocks, text_of}
 use Rattle.cas_tables.specs.Spelling.{header_bytes}
 use Rattle.cas_sstread.specs.Reading.{Loaded, own_place, loaded_at}
-use Rattle.cas_sstread.specs.Searches.{HasOwnFilter}
+use Rattle.cas_sstread.specs.Searches.{HasOwnFilter, place_or}
 
 -- ---- what loads
 
@@ -84,3 +88,19 @@ pub record TablesLoad : Type 0 where
       → loaded_at (clustering_order columns) c.header.table c.header.shard (info_of c t.facts) bytes ≡ Ok (kept_for c)
   pub filter : (c : Contents) → HasOwnFilter (kept_for c)
   pub keys : (c : Contents) → map (λ p. p.key) (kept_for c).partitions ≡ keys c
+
+-- the partition that the number names: it has the key, and stands in the file where the index tells, up to the place where the next one stands, or all end
+pub record StandsThere (c : Contents) (f : Facts) (key : List ℕ) (n : ℕ) : Type 0 where
+  pub partition : Partition
+  pub entry : PartitionEntry
+  pub one : slice_get c.partitions n ≡ Some partition
+  pub told : slice_get (index_of c) n ≡ Some entry
+  pub key_is : partition.key ≡ key
+  pub text : StandsAt (table_bytes c f) entry.place (text_of partition)
+  pub blocks_stand : BlocksStand (table_bytes c f) (blocks partition) entry.blocks
+  pub behind : place_or (index_place c) (slice_get (index_of c) (n + 1)) ≡ entry.place + length (text_of partition)
+
+-- what is found of a key in the index of contents is what the contents have
+pub record PartitionsAreFound : Type 0 where
+  pub found : (c : Contents) (f : Facts) (key : List ℕ) (n : ℕ) → HasKey (index_of c) key (Some n) → StandsThere c f key n
+  pub none : (c : Contents) (key : List ℕ) → HasKey (index_of c) key None → (p : Partition) → Contains c.partitions p → p.key ≡ key → ⊥

@@ -11,5 +11,5 @@ mod table;
 mod told;
 
 pub use fault::TableFault;
-pub use laws::{loading_is_exact, tables_load};
+pub use laws::{loading_is_exact, partitions_are_found, tables_load};
 pub use table::Table;
