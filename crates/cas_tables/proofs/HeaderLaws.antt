@@ -12,10 +12,11 @@ use Rattle.cas_info.specs.declared.info.TheConstants.{FILE_NUMBER_LIMIT}
 use Rattle.cas_tables.specs.declared.header.TheConstants.{START_WORD, FIRST_VERSION, LAST_VERSION, LAST_SHARD}
 use Rattle.cas_tables.specs.declared.header.Version.{Version}
 use Rattle.cas_tables.specs.declared.header.Version.TheVariants.{First, Second}
+use Rattle.cas_tables.specs.declared.header.Header.{Header}
 use Rattle.cas_tables.specs.Versions.{version_number, version_of}
 use Rattle.cas_tables.specs.Spelling.{start_bytes, header_bytes}
 use Rattle.cas_tables.specs.Allowed.{FitsHeader}
-use Rattle.cas_tables.specs.Reading.{version_at, start_at, header_at}
+use Rattle.cas_tables.specs.Reading.{version_at, start_at, header_at, header_of_at}
 
 -- a number of that width, from least to greatest
 abbrev IsBetween : ℕ → ℕ → ℕ → ℕ → Type 0
@@ -114,3 +115,37 @@ header_exact =
 
     number_of : (n : ℕ) → 1 ≤ n → n ≤ FILE_NUMBER_LIMIT → IsBetween (2 ^ 64) 1 FILE_NUMBER_LIMIT n
     number_of n low high = (omega arith, between 1 FILE_NUMBER_LIMIT n low high)
+
+-- ---- the header of one file
+
+is_only : (limit m n : ℕ) → IsBetween limit m m n → m ≡ n
+is_only limit m n fit = let p = parts m m n fit.1 in omega arith
+
+only : (limit m : ℕ) → m < limit → IsBetween limit m m m
+only limit m below = (below, between m m m (omega arith) (omega arith))
+
+pub header_of_exact : (h : Header) → FitsHeader h → IsExact IsVersion (λ v. header_bytes (record h { version = v })) (header_of_at h.table h.shard h.number)
+unfolding header_of_at
+header_of_exact h fit =
+    exact_four IsVersion start_bytes start_at (λ v t. IsBetween (2 ^ 16) h.table h.table t) u16 (λ v. checked (is_in_range h.table h.table) u16_at)
+    (λ v t s. IsBetween (2 ^ 8) h.shard h.shard s) u8 (λ v t. checked (is_in_range h.shard h.shard) u8_at)
+    (λ v t s n. IsBetween (2 ^ 64) h.number h.number n) u64 (λ v t s. checked (is_in_range h.number h.number) u64_at)
+    IsVersion (λ v. header_bytes (record h { version = v })) (λ v t s n. v)
+    start_exact (λ v fit-v. exact_checked (λ n. n < 2 ^ 16) u16 u16_at (is_in_range h.table h.table) u16_field.exact)
+    (λ v t fit-v fit-t. exact_checked (λ n. n < 2 ^ 8) u8 u8_at (is_in_range h.shard h.shard) u8_field.exact)
+    (λ v t s fit-v fit-t fit-s. exact_checked (λ n. n < 2 ^ 64) u64 u64_at (is_in_range h.number h.number) u64_field.exact)
+    (λ v t s n fit-v fit-t fit-s fit-n. (
+      tt,
+      λ i. start_bytes v ++ (u16 (is_only (2 ^ 16) h.table t fit-t i) ++ (u8 (is_only (2 ^ 8) h.shard s fit-s i) ++ u64 (is_only (2 ^ 64) h.number n fit-n i))),
+    ))
+    (λ v fit-v. (
+      v,
+      h.table,
+      h.shard,
+      h.number,
+      tt,
+      only (2 ^ 16) h.table fit.table,
+      only (2 ^ 8) h.shard (let most = fit.shard in omega arith),
+      only (2 ^ 64) h.number (let most = fit.number.1 in omega arith),
+      refl,
+    ))

@@ -4,8 +4,8 @@ use Rattle.std.specs.List.{AllByRecursion}
 use Rattle.std.proofs.lemmas.List.{length-append}
 use Rattle.cas_types.specs.declared.schema.Column.{Column}
 use Rattle.cas_atoms.specs.declared.atom.Atom.{Atom}
-use Rattle.cas_codec.specs.Fields.{u64}
-use Rattle.cas_codec.proofs.FieldLengths.{u64_long}
+use Rattle.cas_codec.specs.Fields.{u8, u16, u64}
+use Rattle.cas_codec.proofs.FieldLengths.{u8_long, u16_long, u64_long}
 use Rattle.cas_info.specs.Spelling.{sizes_bytes, range_bytes, times_bytes, rest_bytes, info_bytes}
 use Rattle.cas_streams.specs.Streams.{IsThere}
 use Rattle.cas_streams.specs.Merged.{flat_of, flats}
@@ -13,9 +13,15 @@ use Rattle.cas_facts.specs.Facts.{AreFactsSoFar}
 use Rattle.cas_facts.specs.declared.facts.Facts.{Facts}
 use Rattle.cas_facts.proofs.Joining.{facts_are_one}
 use Rattle.cas_filter.specs.Spelling.{filter_bytes}
+use Rattle.cas_index.specs.declared.footer.TheConstants.{FOOTER_LENGTH}
+use Rattle.cas_index.specs.declared.footer.Footer.{Footer}
 use Rattle.cas_index.specs.Spelling.{index_bytes, footer_bytes}
+use Rattle.cas_tables.specs.declared.header.TheConstants.{START_WORD, HEADER_LENGTH}
+use Rattle.cas_tables.specs.declared.header.Header.{Header}
+use Rattle.cas_tables.specs.Versions.{version_number}
+use Rattle.cas_tables.specs.Spelling.{start_bytes, header_bytes}
 use Rattle.cas_tables.specs.Contents.{Partition, Contents, keys, atoms_of}
-use Rattle.cas_tables.specs.Files.{front_bytes, index_of, key_filter, footer_of, with_info, first_key, last_key, told_of, table_bytes, IsTable}
+use Rattle.cas_tables.specs.Files.{front_bytes, index_of, key_filter, footer_of, index_place, with_info, first_key, last_key, told_of, info_of, table_bytes, IsTable}
 use Rattle.cas_tables.specs.Fitting.{FitsPartition, FitsContents}
 use Rattle.cas_tables.specs.Laws.{TablesAreOne, LengthIsTold}
 
@@ -32,6 +38,54 @@ info_long : (c : Contents) (f : Facts) (m n : ℕ) → length (info_bytes (told_
 info_long c f m n =
     let rest : List ℕ = range_bytes (first_key (keys c)) (last_key (keys c)) ++ (times_bytes f.least f.greatest f.dead ++ rest_bytes c.level (length c.partitions)) in
     before (sizes_bytes c.header.number m) (sizes_bytes c.header.number n) rest (behind (u64 c.header.number) (u64 m) (u64 n) (u64_long m ∙ sym (u64_long n)))
+
+four_long : (a b c d : ℕ) → length (u64 a ++ (u64 b ++ (u64 c ++ u64 d))) ≡ 32
+four_long a b c d =
+    omega (
+      arith,
+      length-append (u64 a) (u64 b ++ (u64 c ++ u64 d)),
+      length-append (u64 b) (u64 c ++ u64 d),
+      length-append (u64 c) (u64 d),
+      u64_long a,
+      u64_long b,
+      u64_long c,
+      u64_long d,
+    )
+
+pub footer_long : (f : Footer) → length (footer_bytes f) ≡ FOOTER_LENGTH
+footer_long f = four_long f.index f.filter f.info _
+
+pub header_long : (h : Header) → length (header_bytes h) ≡ HEADER_LENGTH
+header_long h =
+    omega (
+      arith,
+      length-append (start_bytes h.version) (u16 h.table ++ (u8 h.shard ++ u64 h.number)),
+      length-append (u64 START_WORD) (u16 (version_number h.version)),
+      length-append (u16 h.table) (u8 h.shard ++ u64 h.number),
+      length-append (u8 h.shard) (u64 h.number),
+      u64_long START_WORD,
+      u16_long (version_number h.version),
+      u16_long h.table,
+      u8_long h.shard,
+      u64_long h.number,
+    )
+
+-- a file is as long as its parts
+pub parts_long : (c : Contents) (f : Facts) → length (table_bytes c f)
+    ≡ index_place c + (length (index_bytes (index_of c)) + (length (filter_bytes (key_filter c)) + (length (info_bytes (info_of c f)) + FOOTER_LENGTH)))
+parts_long c f =
+    let index : List ℕ = index_bytes (index_of c) in
+    let filter : List ℕ = filter_bytes (key_filter c) in
+    let info : List ℕ = info_bytes (info_of c f) in
+    let footer : List ℕ = footer_bytes (footer_of c) in
+    omega (
+      arith,
+      length-append (front_bytes c) (index ++ (filter ++ (info ++ footer))),
+      length-append index (filter ++ (info ++ footer)),
+      length-append filter (info ++ footer),
+      length-append info footer,
+      footer_long (footer_of c),
+    )
 
 pub length_is_told : LengthIsTold
 length_is_told c f =

@@ -1,3 +1,5 @@
 pub mod HeaderLaws
 pub mod Lengths
 pub mod Standing
+pub mod IndexFits
+pub mod InfoFits

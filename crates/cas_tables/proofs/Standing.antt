@@ -33,7 +33,7 @@ ended_or_not : (b : Bool) (block : List Fragment) (others more : List (List Frag
 ended_or_not true block others more there all rest = (there, all)
 ended_or_not false block others more there all rest = rest
 
-blocks_there : (begun fs : List Fragment) → AllByRecursion IsThere (blocks_from begun fs)
+pub blocks_there : (begun fs : List Fragment) → AllByRecursion IsThere (blocks_from begun fs)
 blocks_there begun [] = last_there begun
 blocks_there begun (f ∷ fs) =
     ended_or_not (is_full (begun ++ f ∷ [])) (begun ++ f ∷ []) (blocks_from [] fs) (blocks_from (begun ++ f ∷ []) fs)

@@ -2,14 +2,19 @@
 use Rattle.std.specs.Prelude.{◌≡◌, ℕ, List, [], ◌∷◌, ◌++◌, length}
 use Rattle.cas_types.specs.declared.schema.Column.{Column}
 use Rattle.cas_streams.specs.declared.fragment.Fragment.{Fragment}
+use Rattle.cas_bounds.specs.ClusteringOrder.{clustering_order}
+use Rattle.cas_info.specs.Allowed.{FitsInfo}
 use Rattle.cas_info.specs.Spelling.{info_bytes}
+use Rattle.cas_facts.specs.Facts.{AreFacts}
 use Rattle.cas_facts.specs.declared.facts.Facts.{Facts}
+use Rattle.cas_filter.specs.Allowed.{FitsFilter}
 use Rattle.cas_filter.specs.Spelling.{filter_bytes}
 use Rattle.cas_fragments.specs.Spelling.{block_bytes}
+use Rattle.cas_index.specs.Allowed.{FitsIndex, FitsFooter}
 use Rattle.cas_index.specs.Spelling.{index_bytes, footer_bytes}
 use Rattle.cas_index.specs.declared.entries.BlockEntry.{BlockEntry}
 use Rattle.cas_index.specs.declared.entries.PartitionEntry.{PartitionEntry}
-use Rattle.cas_tables.specs.Contents.{Partition, Contents}
+use Rattle.cas_tables.specs.Contents.{Partition, Contents, atoms_of}
 use Rattle.cas_tables.specs.Places.{text_of, blocks}
 use Rattle.cas_tables.specs.Files.{index_of, key_filter, footer_of, info_of, table_bytes, IsTable}
 use Rattle.cas_tables.specs.Fitting.{FitsContents}
@@ -22,6 +27,13 @@ pub record TablesAreOne : Type 0 where
 -- what is told of the file's length is its length
 abbrev pub LengthIsTold : Type 0
 LengthIsTold = (c : Contents) (f : Facts) → length (table_bytes c f) ≡ (info_of c f).bytes
+
+-- what a file tells of contents that a table may have may stand there: its index, its filter, what is told of it, and its footer
+pub record PartsFit : Type 0 where
+  pub index : (columns : List Column) (c : Contents) → FitsContents columns c → FitsIndex (clustering_order columns) (index_of c)
+  pub filter : (columns : List Column) (c : Contents) → FitsContents columns c → FitsFilter (key_filter c)
+  pub info : (columns : List Column) (c : Contents) (f : Facts) → FitsContents columns c → AreFacts (atoms_of c) f → FitsInfo (info_of c f)
+  pub footer : (columns : List Column) (c : Contents) → FitsContents columns c → FitsFooter (footer_of c)
 
 -- ---- places
 

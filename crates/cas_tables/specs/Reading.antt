@@ -1,6 +1,6 @@
 -- Reading the head of a table file. That this reading takes the spellings and nothing else is a law.
 -- Own. The place of a refusal is that of the refused field's first byte.
-use Rattle.std.specs.Prelude.{Ok}
+use Rattle.std.specs.Prelude.{ℕ, Ok}
 use Rattle.std.specs.Int.{is_in_range}
 use Rattle.cas_codec.specs.Reading.{Left, Read, ◌>>=◌, checked, u8_at, u16_at, u64_at}
 use Rattle.cas_info.specs.declared.info.TheConstants.{FILE_NUMBER_LIMIT}
@@ -29,3 +29,12 @@ header_at left = do
   shard ← checked (is_in_range 0 LAST_SHARD) u8_at table.1
   number ← checked (is_in_range 1 FILE_NUMBER_LIMIT) u64_at shard.1
   Ok (record { version = version.0; table = table.0; shard = shard.0; number = number.0 }, number.1)
+
+-- the head of the file of this number, of this table and this shard: another value isn't allowed where one of them stands
+unfoldable pub header_of_at : ℕ → ℕ → ℕ → Left → Read Version
+header_of_at table shard number left = do
+  version ← start_at left
+  of ← checked (is_in_range table table) u16_at version.1
+  part ← checked (is_in_range shard shard) u8_at of.1
+  file ← checked (is_in_range number number) u64_at part.1
+  Ok (version.0, file.1)

@@ -6,7 +6,7 @@ ghost use Rattle.cas_codec.specs.Reading.{Gives};
 ghost use Rattle.cas_tables.specs.declared.header.TheConstants.{HEADER_LENGTH};
 ghost use Rattle.cas_tables.specs.Versions.{version_of, version_number};
 ghost use Rattle.cas_tables.specs.Spelling.{header_bytes};
-ghost use Rattle.cas_tables.specs.Reading.{version_at, start_at, header_at};
+ghost use Rattle.cas_tables.specs.Reading.{version_at, start_at, header_at, header_of_at};
 
 use cas_codec::{ReadFault, Reader, put_u8, put_u16, put_u64};
 use cas_info::FILE_NUMBER_LIMIT;
@@ -95,6 +95,24 @@ pub fn read_header(reader: &mut Reader<'_>) -> Result<Header, ReadFault>
         shard,
         number,
     })
+}
+
+/// Reads the head of the file of this number, of this table and this shard: another value isn't
+/// allowed where one of them stands.
+#[tactic(auto, unfolding(crate::specs::Reading::header_of_at))]
+pub fn read_header_of(
+    reader: &mut Reader<'_>,
+    table: u16,
+    shard: u8,
+    number: u64,
+) -> Result<Version, ReadFault>
+    ensures { Gives (λ v. v) result reader.new (header_of_at table shard number reader.old) }
+{
+    let version = read_start(reader)?;
+    reader.u16_within(table, table)?;
+    reader.u8_within(shard, shard)?;
+    reader.u64_within(number, number)?;
+    Ok(version)
 }
 
 /// Adds the head of a table file.
