@@ -1,0 +1,6 @@
+//! What a table file has of one partition, block by block, as a stream cut to a slice.
+#![tactic(auto)]
+
+mod laws;
+
+pub use laws::cuts_are_one;
