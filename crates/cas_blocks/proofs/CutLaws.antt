@@ -1,5 +1,5 @@
 -- A stream cut fragment by fragment is the stream cut to the slice.
-use Rattle.std.proofs.Common.{◌≡◌, ℕ, Bool, true, false, not, ◌&&◌, cond, Option, None, Some, List, [], ◌∷◌, ◌++◌, filter, map, refl, sym, ap, ◌∙◌}
+use Rattle.std.proofs.Common.{◌≡◌, ℕ, Bool, true, false, not, ◌&&◌, cond, Option, None, Some, List, [], ◌∷◌, ◌++◌, filter, refl, sym, ap, ◌∙◌}
 use Rattle.std.proofs.lemmas.Bool.{true≢false}
 use Rattle.std.specs.List.{AllByRecursion}
 use Rattle.std.specs.Ordering.{is_lt, ordering_reverse}
@@ -14,11 +14,11 @@ use Rattle.cas_bounds.specs.declared.order.Ordered.{Ordered}
 use Rattle.cas_bounds.specs.declared.cuts.Cut.{Cut}
 use Rattle.cas_bounds.specs.declared.cuts.Slice.{Slice}
 use Rattle.cas_bounds.proofs.CutLaws.{point_laws}
-use Rattle.cas_streams.specs.Places.{Place, place_of, place_cmp}
+use Rattle.cas_streams.specs.Places.{place_of, place_cmp}
 use Rattle.cas_streams.specs.Flat.{changes, after}
 use Rattle.cas_streams.specs.Joined.{opened}
-use Rattle.cas_streams.specs.Streams.{IsOf, IsOrdered}
-use Rattle.cas_streams.specs.Slices.{IsSliceOf, stands_before, is_static, lies_in, opened_at, closed_at, between_cuts, cut_to}
+use Rattle.cas_streams.specs.Streams.{IsOf}
+use Rattle.cas_streams.specs.Slices.{IsSliceOf, stands_before, is_static, lies_in, opened_at, closed_at, between_cuts}
 use Rattle.cas_streams.specs.declared.fragment.Fragment.{Fragment}
 use Rattle.cas_streams.specs.declared.fragment.Fragment.TheVariants as fragment
 use Rattle.cas_streams.proofs.Forces.{places_total, Stopped, stopped}
@@ -52,7 +52,7 @@ unfolding is_row_end
 side_no_row true = refl
 side_no_row false = refl
 
-row_no_cut : (k : Cut) (c : List (List ℕ)) → cut_point k ≡ row_point c → ⊥
+pub row_no_cut : (k : Cut) (c : List (List ℕ)) → cut_point k ≡ row_point c → ⊥
 unfolding is_row_end
 row_no_cut k c e = true≢false (sym (ap (λ p. is_row_end p.end) e) ∙ side_no_row k.after)
 
@@ -180,7 +180,7 @@ module _ (order : List Ordered) where
 
     module _ (some : stands_before s.lo s.hi ≡ true) where
       -- a cut that isn't behind the low one stands before the high one
-      low_is_short : (k : Cut) → k.order ≡ order → stands_before s.lo k ≡ false → stands_before k s.hi ≡ true
+      pub low_is_short : (k : Cut) → k.order ≡ order → stands_before s.lo k ≡ false → stands_before k s.hi ≡ true
       low_is_short k of e = never_false (stands_before k s.hi) (λ high. true≢false (
           sym (ap is_lt (go (point_cmp order (cut_point k) (cut_point s.hi)) refl (sym (stands k s.hi of) ∙ high))) ∙ sym (stands s.lo k slice.lo) ∙ e))
         where

@@ -2,5 +2,6 @@
 #![tactic(auto)]
 
 mod laws;
+mod reading;
 
-pub use laws::cuts_are_one;
+pub use laws::{cuts_are_one, tables_are_read};

@@ -1,0 +1,33 @@
+-- What is read of a partition in a file, from one of its blocks on. Files are read up to where their partitions end.
+-- Own format.
+use Rattle.std.specs.Prelude.{ℕ, ◌-◌, Bool, true, false, List, length, take, drop, Option, None, Some, Ok, Err}
+use Rattle.cas_types.specs.declared.schema.Column.{Column}
+use Rattle.cas_cell.specs.declared.deletion.Deletion.{Deletion}
+use Rattle.cas_bounds.specs.declared.order.Ordered.{Ordered}
+use Rattle.cas_codec.specs.Reading.{Left, Read}
+use Rattle.cas_streams.specs.declared.fragment.Fragment.{Fragment}
+use Rattle.cas_fragments.specs.Blocks.{Reached}
+use Rattle.cas_fragments.specs.Reading.{blocks_at}
+use Rattle.cas_fragments.specs.Laws.{joined}
+
+-- the file's bytes from a place on, up to where its partitions end
+abbrev pub left_at : List ℕ → ℕ → ℕ → Left
+left_at file end place = record { bytes = take (end - place) (drop place file); at = place }
+
+-- the fragments of the blocks that were read
+abbrev pub fragments_in : Read (List (List Fragment)) → Option (List Fragment)
+fragments_in (Ok p) = Some (joined p.0)
+fragments_in (Err f) = None
+
+-- the fragments of a partition's blocks up to its end, told whether it may end there, whether it may go on, and how far its fragments came; none where
+-- what stands there isn't that
+unfoldable pub fragments_on : List Ordered → List Column → Bool → Bool → Reached → Left → Option (List Fragment)
+fragments_on order columns ends goes_on r left = fragments_in (blocks_at order columns (length left.bytes) ends goes_on r left)
+
+-- before a block of which the range deletion in force is known, and not what stands before it
+abbrev pub at_block : Option Deletion → Reached
+at_block in_force = record { last = None; force = in_force }
+
+-- the fragments from a block on, which stands at that place of the file, the deletion being in force there
+abbrev pub from_block : List Ordered → List Column → List ℕ → ℕ → ℕ → Option Deletion → Option (List Fragment)
+from_block order columns file end place in_force = fragments_on order columns false true (at_block in_force) (left_at file end place)
