@@ -4,3 +4,8 @@ pub mod Finding
 pub mod Parts
 pub mod Middle
 pub mod Ranges
+pub mod Bodies
+pub mod NextBlock
+pub mod Onwards
+pub mod PiecesLeft
+pub mod WindowLaws

@@ -2,6 +2,7 @@
 use Rattle.std.proofs.Common.{◌≡◌, ℕ, zero, suc, ◌+◌, ◌-◌, ◌<◌, Bool, true, false, cond, Option, None, Some, List, [], ◌∷◌, ◌++◌, length, take, drop, filter, refl, sym, ap, subst, ◌∙◌, append_assoc, length-append, arith}
 use Rattle.std.specs.Prelude.{slice_get}
 use Rattle.std.specs.List.{AllByRecursion, flat_map}
+use Rattle.std.specs.Option.{option_map}
 use Rattle.std.specs.Ordering.{is_lt}
 use Rattle.std.proofs.lemmas.Bool.{and_parts}
 use Rattle.std.proofs.lemmas.List.{append-nil, take_at, drop_at}
@@ -41,11 +42,22 @@ use Rattle.cas_tables.specs.Fitting.{FitsPartition, FitsContents}
 use Rattle.cas_tables.specs.Places.{head_of, blocks, text_of, block_entries, entries}
 use Rattle.cas_tables.specs.Spelling.{header_bytes}
 use Rattle.cas_blocks.specs.Cutting.{cut_from}
-use Rattle.cas_blocks.specs.Reading.{left_at, fragments_in, fragments_on, at_block}
-use Rattle.cas_blocks.specs.Laws.{IsEntry, HeadStands, BlockServes, Serves, TablesAreRead}
+use Rattle.cas_blocks.specs.Reading.{left_at, fragments_in, fragments_on, at_block, from_block, slice_of}
+use Rattle.cas_blocks.specs.Laws.{IsEntry, HeadStands, TablesAreRead}
 use Rattle.cas_blocks.proofs.CutLaws.{cuts_are_one}
 use Rattle.cas_blocks.proofs.Finding.{IsRow, Found, find, cut_skips, begins_late}
 use Rattle.cas_blocks.proofs.Parts.{statics_are, cut_behind_statics, rest_ascends, are_rows, head_of_fits, is_partition, stand_there, end_is, stand_from, blocks_few}
+
+-- what is read from that block on, with the deletion in force there, and cut to the slice, is all that the partition has between the slice's cuts
+record BlockServes (columns : List Column) (file : List ℕ) (end : ℕ) (p : Partition) (s : Slice) (at : BlockAt) : Type 0 where
+  pub fragments : List Fragment
+  pub read : from_block (clustering_order columns) columns file end at.place at.in_force ≡ Some fragments
+  pub same : cut_to s p.stream.fragments ≡ static_of (statics_in p.stream.fragments) ++ cut_from (clustering_order columns) s at.in_force fragments
+
+-- the block that serves a slice; where none can meet it, the partition has the static row alone there
+abbrev Serves : List Column → List ℕ → ℕ → Partition → Slice → Option BlockAt → Type 0
+Serves columns file end p s None = cut_to s p.stream.fragments ≡ static_of (statics_in p.stream.fragments)
+Serves columns file end p s (Some at) = BlockServes columns file end p s at
 
 -- ---- where a partition stands
 
@@ -254,10 +266,18 @@ module _ (columns : List Column) (narrow : IsNarrow columns) (c : Contents) (f :
         found_serves at (find (clustering_order columns) s slice some (blocks p) (e.place + length (head_of p)) None at.number at refl
         (there columns narrow p fit-p) (rows columns narrow p fit-p) (up columns narrow p fit-p) first.0 first.1).0 some
 
+-- what serves a slice is what is read of it
+is_slice : (columns : List Column) (file : List ℕ) (end : ℕ) (p : Partition) (s : Slice) (answer : Option BlockAt) → Serves columns file end p s answer
+    → slice_of (clustering_order columns) columns (Some file) end (statics_in p.stream.fragments) s answer ≡ Some (cut_to s p.stream.fragments)
+is_slice columns file end p s None serves = ap (λ (fs : List Fragment). Some fs) (sym serves)
+is_slice columns file end p s (Some at) serves =
+    ap (option_map (λ fs. static_of (statics_in p.stream.fragments) ++ cut_from (clustering_order columns) s at.in_force fs)) serves.read
+    ∙ ap (λ (fs : List Fragment). Some fs) (sym serves.same)
+
 pub tables_are_read : TablesAreRead
 tables_are_read = record {
   head = head_stands;
   slice = λ columns narrow c f fits i p e is s slice answer first.
-      serves columns narrow c f fits i p e is s slice answer
-      (subst (λ (bs : List BlockEntry). IsBlockFor s bs answer) (stands columns narrow c f fits i p e is).blocks_are first);
+      is_slice columns (table_bytes c f) (index_place c) p s answer (serves columns narrow c f fits i p e is s slice answer
+      (subst (λ (bs : List BlockEntry). IsBlockFor s bs answer) (stands columns narrow c f fits i p e is).blocks_are first));
 }

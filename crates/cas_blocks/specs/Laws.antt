@@ -12,7 +12,6 @@ use Rattle.cas_streams.specs.declared.fragment.Fragment.{Fragment}
 use Rattle.cas_facts.specs.declared.facts.Facts.{Facts}
 use Rattle.cas_fragments.specs.Blocks.{statics_in}
 use Rattle.cas_fragments.specs.Reading.{head_at}
-use Rattle.cas_fragments.specs.Laws.{static_of}
 use Rattle.cas_index.specs.Searches.{IsBlockFor}
 use Rattle.cas_index.specs.declared.entries.BlockAt.{BlockAt}
 use Rattle.cas_index.specs.declared.entries.PartitionEntry.{PartitionEntry}
@@ -20,7 +19,7 @@ use Rattle.cas_tables.specs.Contents.{Partition, Contents}
 use Rattle.cas_tables.specs.Files.{index_of, index_place, table_bytes}
 use Rattle.cas_tables.specs.Fitting.{FitsContents}
 use Rattle.cas_blocks.specs.Cutting.{cut_from}
-use Rattle.cas_blocks.specs.Reading.{left_at, from_block}
+use Rattle.cas_blocks.specs.Reading.{left_at, slice_of}
 
 -- cut from the beginning of an ordered stream on, its fragments are the stream cut to the slice, but for the static row
 abbrev pub CutsAreOne : Type 0
@@ -40,22 +39,13 @@ pub record HeadStands (columns : List Column) (file : List ℕ) (end : ℕ) (p :
   pub left : Left
   pub read : head_at columns (left_at file end e.place) ≡ Ok ((p.key, p.stream.top, statics_in p.stream.fragments), left)
 
--- what is read from that block on, with the deletion in force there, and cut to the slice, is all that the partition has between the slice's cuts
-pub record BlockServes (columns : List Column) (file : List ℕ) (end : ℕ) (p : Partition) (s : Slice) (at : BlockAt) : Type 0 where
-  pub fragments : List Fragment
-  pub read : from_block (clustering_order columns) columns file end at.place at.in_force ≡ Some fragments
-  pub same : cut_to s p.stream.fragments ≡ static_of (statics_in p.stream.fragments) ++ cut_from (clustering_order columns) s at.in_force fragments
-
--- the block that serves a slice; where none can meet it, the partition has the static row alone there
-abbrev pub Serves : List Column → List ℕ → ℕ → Partition → Slice → Option BlockAt → Type 0
-Serves columns file end p s None = cut_to s p.stream.fragments ≡ static_of (statics_in p.stream.fragments)
-Serves columns file end p s (Some at) = BlockServes columns file end p s at
-
--- in the file of contents that a table may have, each partition's head is read where its entry tells, and each slice of it from the block on that the
--- index finds
+-- in the file of contents that a table may have, each partition's head is read where its entry tells, and each slice of it, which is the partition's
+-- stream cut to the slice, from the block on that the index finds
 pub record TablesAreRead : Type 0 where
   pub head : (columns : List Column) → IsNarrow columns → (c : Contents) (f : Facts) → FitsContents columns c
       → (i : ℕ) (p : Partition) (e : PartitionEntry) → IsEntry c i p e → HeadStands columns (table_bytes c f) (index_place c) p e
   pub slice : (columns : List Column) → IsNarrow columns → (c : Contents) (f : Facts) → FitsContents columns c
       → (i : ℕ) (p : Partition) (e : PartitionEntry) → IsEntry c i p e → (s : Slice) → IsSliceOf (clustering_order columns) s
-      → (answer : Option BlockAt) → IsBlockFor s e.blocks answer → Serves columns (table_bytes c f) (index_place c) p s answer
+      → (answer : Option BlockAt) → IsBlockFor s e.blocks answer
+      → slice_of (clustering_order columns) columns (Some (table_bytes c f)) (index_place c) (statics_in p.stream.fragments) s answer
+      ≡ Some (cut_to s p.stream.fragments)
