@@ -1,0 +1,11 @@
+pub mod CutLaws
+pub mod Between
+pub mod Finding
+pub mod Parts
+pub mod Middle
+pub mod Ranges
+pub mod Bodies
+pub mod NextBlock
+pub mod Onwards
+pub mod PiecesLeft
+pub mod WindowLaws

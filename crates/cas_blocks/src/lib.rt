@@ -1,0 +1,18 @@
+//! What a table file has of one partition, block by block, as a stream cut to a slice.
+#![tactic(auto)]
+
+mod cutting;
+mod fault;
+mod file;
+mod laws;
+mod pieces;
+mod reading;
+mod seeking;
+mod source;
+mod steps;
+mod window;
+
+pub use fault::TableFault;
+pub use file::TableFile;
+pub use laws::{cuts_are_one, tables_are_read};
+pub use source::Blocks;

@@ -1,0 +1,177 @@
+//! A slice of a partition in a table's file, as a stream.
+
+ghost use Rattle.std.specs.Prelude.{◌≡◌, ◌+◌, List as ListOf, Some, None, true, false, length, IsErrOf};
+ghost use Rattle.std.specs.Vec.Iter.{into_iter_items};
+ghost use Rattle.cas_disk.specs.Counts.{Counted};
+ghost use Rattle.cas_streams.specs.Sources.{TakesFirst, Shrinks, KeepsFault};
+ghost use Rattle.cas_streams.specs.declared.fragment.Fragment.{Fragment};
+ghost use Rattle.cas_fragments.specs.Laws.{static_of};
+ghost use Rattle.cas_blocks.specs.Reading.{slice_of};
+ghost use Rattle.cas_blocks.specs.Inner.Pieces.{pieces_left, pieces_room, IsBadBlock, IfBad};
+ghost use Rattle.cas_blocks.specs.Inner.Windows.{window, window_room, static_part, behind_static};
+
+use crate::fault::TableFault;
+use crate::file::TableFile;
+use crate::pieces::Pieces;
+use crate::steps::Onward;
+use crate::window::{Phase, Window};
+use cas_atoms::RowColumn;
+use cas_bounds::Slice;
+use cas_cell::Deletion;
+use cas_disk::Sealed;
+use cas_index::BlockAt;
+use cas_streams::{Fragment, FragmentSource};
+use cas_types::List;
+
+/// What a table's file has of one partition, block by block, as a stream cut to a slice.
+#[derive(Drop)]
+pub struct Blocks<'a, F: Sealed> {
+    top: Option<Deletion>,
+    // Where something is still to be given of the static row.
+    statics: Option<List<RowColumn>>,
+    window: Window,
+    pieces: Pieces<'a, F>,
+    fault: Option<TableFault>,
+}
+
+// Static columns, where there are some.
+fn some_columns(columns: List<RowColumn>) -> Option<List<RowColumn>>
+    ensures { static_part result ≡ static_of columns }
+{
+    match columns.as_slice() {
+        [] => None,
+        [_first, _others @ ..] => Some(columns),
+    }
+}
+
+// Before the block, of which only the range deletion in force there is known.
+fn onward_from(block: BlockAt) -> Onward
+    ensures { result ≡ record { place = block.place; ends = false; goes_on = true; last = None; force = block.in_force } }
+{
+    Onward {
+        place: block.place,
+        ends: false,
+        goes_on: true,
+        last: None,
+        force: block.in_force,
+    }
+}
+
+impl<'a, F: Sealed> Blocks<'a, F> {
+    /// The slice of a partition whose head tells this deletion of the whole and these static
+    /// columns, from the block on that the index finds for the slice, or without rows where it finds
+    /// none.
+    pub fn new(
+        file: TableFile<'a, F>,
+        top: Option<Deletion>,
+        statics: List<RowColumn>,
+        slice: Slice,
+        block: Option<BlockAt>,
+        tally: F::Tally,
+    ) -> Self
+        ensures fragments { ⟦<Blocks<'a, F> as FragmentSource>⟧.to_come result ≡ slice_of file.entry.order.now file.entry.columns.now
+            (F.contents file.entry.sealed.now) file.entry.end statics slice block }
+        ensures top { ⟦<Blocks<'a, F> as FragmentSource>⟧.over_all result ≡ top }
+        ensures sound { ⟦<Blocks<'a, F> as FragmentSource>⟧.broken_by result ≡ None }
+        ensures tally { result.pieces.tally ≡ tally }
+    {
+        let rest = Vec::new(file.alloc).into_iter();
+        let statics = some_columns(statics);
+        let (phase, force, onward) = match block {
+            Some(block) => (Phase::Before, block.in_force, Some(onward_from(block))),
+            None => (Phase::Over, None, None),
+        };
+        Blocks {
+            top,
+            statics,
+            window: Window {
+                slice,
+                phase,
+                force,
+                ahead: None,
+            },
+            pieces: Pieces {
+                file,
+                onward,
+                rest,
+                tally,
+            },
+            fault: None,
+        }
+    }
+
+    // The next fragment, of a source that isn't broken.
+    fn advance(&mut self) -> Result<Option<Fragment>, TableFault>
+        ensures top { self.new.top ≡ self.old.top }
+        ensures fault { self.new.fault ≡ self.old.fault }
+        ensures first { (fs : ListOf Fragment) → ⟦<Blocks<'a, F> as FragmentSource>⟧.to_come self.old ≡ Some fs
+            → TakesFirst fs (⟦<Blocks<'a, F> as FragmentSource>⟧.to_come self.new) result }
+        ensures sound { (fs : ListOf Fragment) → ⟦<Blocks<'a, F> as FragmentSource>⟧.to_come self.old ≡ Some fs → IfBad (λ n at. ⊥) result }
+        ensures ends { Shrinks (⟦<Blocks<'a, F> as FragmentSource>⟧.at_most self.old) (⟦<Blocks<'a, F> as FragmentSource>⟧.at_most self.new) result }
+        ensures count { Counted (F.Tally.number self.old.pieces.tally) (F.Tally.number self.new.pieces.tally) (IsErrOf result TableFault.Read) }
+        ensures bad { IfBad (IsBadBlock self.old.pieces.file.order.now self.old.pieces.file.columns.now self.old.pieces.file.number self.old.pieces.file.end
+            (F.contents self.old.pieces.file.sealed.now) self.new.pieces.onward) result }
+    {
+        match self.statics.take() {
+            Some(columns) => Ok(Some(Fragment::Static(columns))),
+            None => self.window.next(&mut self.pieces),
+        }
+    }
+
+    /// The tally that was handed in, with the faults of the reads.
+    pub fn end(self) -> F::Tally
+        ensures { result ≡ self.entry.pieces.tally }
+    {
+        let pieces = self.pieces;
+        pieces.tally
+    }
+}
+
+impl<'a, F: Sealed> FragmentSource for Blocks<'a, F> {
+    ghost use Rattle.std.specs.Prelude.{◌+◌, length};
+    ghost use Rattle.std.specs.Vec.Iter.{into_iter_items};
+    ghost use Rattle.cas_blocks.specs.Inner.Pieces.{pieces_left, pieces_room};
+    ghost use Rattle.cas_blocks.specs.Inner.Windows.{window, window_room, static_part, behind_static};
+
+    type Fault = TableFault;
+
+    ghost to_come = { λ b. behind_static b.statics (window b.pieces.file.order.now b.window.slice b.window.phase b.window.force b.window.ahead
+        (pieces_left b.pieces.file.order.now b.pieces.file.columns.now b.pieces.file.end (F.contents b.pieces.file.sealed.now) b.pieces.onward
+        (into_iter_items b.pieces.rest))) };
+
+    ghost over_all = { λ b. b.top };
+
+    ghost at_most = { λ b. length (static_part b.statics) + window_room b.window.phase b.window.ahead
+        (pieces_room b.pieces.file.end b.pieces.onward (into_iter_items b.pieces.rest)) };
+
+    ghost broken_by = { λ b. b.fault };
+
+    fn top(&self) -> Option<Deletion> {
+        self.top
+    }
+
+    /// The next fragment. A block is bad only where the file has no such partition there, and a read fails
+    /// only where the tally rose.
+    fn next(&mut self) -> Result<Option<Fragment>, TableFault>
+        ensures same_top { ⟦<Blocks<'a, F> as FragmentSource>⟧.over_all self.new ≡ ⟦<Blocks<'a, F> as FragmentSource>⟧.over_all self.old }
+        ensures first { (fs : ListOf Fragment) → ⟦<Blocks<'a, F> as FragmentSource>⟧.to_come self.old ≡ Some fs
+            → TakesFirst fs (⟦<Blocks<'a, F> as FragmentSource>⟧.to_come self.new) result }
+        ensures ends { Shrinks (⟦<Blocks<'a, F> as FragmentSource>⟧.at_most self.old) (⟦<Blocks<'a, F> as FragmentSource>⟧.at_most self.new) result }
+        ensures faults { KeepsFault (⟦<Blocks<'a, F> as FragmentSource>⟧.broken_by self.old) (⟦<Blocks<'a, F> as FragmentSource>⟧.broken_by self.new) result }
+        ensures sound { self.old.fault ≡ None → (fs : ListOf Fragment) → ⟦<Blocks<'a, F> as FragmentSource>⟧.to_come self.old ≡ Some fs → IfBad (λ n at. ⊥) result }
+        ensures count { Counted (F.Tally.number self.old.pieces.tally) (F.Tally.number self.new.pieces.tally) ((self.old.fault ≡ None) × IsErrOf result TableFault.Read) }
+        ensures bad { self.old.fault ≡ None → IfBad (IsBadBlock self.old.pieces.file.order.now self.old.pieces.file.columns.now self.old.pieces.file.number
+            self.old.pieces.file.end (F.contents self.old.pieces.file.sealed.now) self.new.pieces.onward) result }
+    {
+        if let Some(fault) = self.fault {
+            return Err(fault);
+        }
+        match self.advance() {
+            Ok(fragment) => Ok(fragment),
+            Err(fault) => {
+                self.fault = Some(fault);
+                Err(fault)
+            }
+        }
+    }
+}

@@ -1,0 +1,217 @@
+//! The blocks of a partition, one after another.
+
+ghost use Rattle.std.specs.Prelude.{◌≡◌, ◌+◌, ◌≤◌, ◌<◌, ◌^◌, ℕ, List as ListOf, Some, None, length, vec_len, nat_le, IfOk, IfSome, MatchOption, IsErrOf, OnOk};
+ghost use Rattle.std.specs.Option.{option_copied};
+ghost use Rattle.cas_disk.specs.Counts.{Counted};
+ghost use Rattle.cas_streams.specs.Places.{place_of};
+ghost use Rattle.cas_streams.specs.Streams.{IsThere};
+ghost use Rattle.cas_fragments.specs.Blocks.{past_all, last_place, Reached, is_full};
+ghost use Rattle.cas_blocks.specs.Reading.{left_at};
+ghost use Rattle.cas_blocks.specs.Inner.Bodies.{TellsLength, NoBody, IsBody};
+ghost use Rattle.cas_blocks.specs.Inner.Steps.{reached, IsStep, Parses, Answers, IsShorter};
+
+use crate::fault::TableFault;
+use crate::file::TableFile;
+use crate::reading::read_range;
+use cas_atoms::Row;
+use cas_cell::Deletion;
+use cas_codec::{ReadFault, Reader};
+use cas_disk::{FolderFault, Sealed};
+use cas_fragments::{BLOCK_LEAST, Block, read_block};
+use cas_streams::Fragment;
+use cas_types::List;
+use std::alloc::{AllocError, Global};
+
+/// How a partition goes on: the place of the next block, or of the end; whether the end may stand
+/// there, and whether a block may; the last fragment's place and the range deletion in force there.
+#[derive(Drop)]
+pub struct Onward {
+    pub place: u64,
+    pub ends: bool,
+    pub goes_on: bool,
+    pub last: Option<Fragment>,
+    pub force: Option<Deletion>,
+}
+
+/// A block's fragments, and how the partition goes on behind them.
+#[derive(Drop)]
+pub struct Step {
+    pub fragments: Vec<Fragment>,
+    pub onward: Onward,
+}
+
+// The length that is told at a place; none where it doesn't stand before the end.
+fn read_length<F: Sealed>(
+    file: &TableFile<'_, F>,
+    place: u64,
+    tally: &mut F::Tally,
+) -> Result<Option<u32>, FolderFault>
+    ensures told { IfOk result (λ n. (b : ListOf ℕ) → F.contents file.now.sealed.now ≡ Some b → TellsLength n (left_at b file.now.end place)) }
+    ensures within { IfOk result (λ n. IfSome n (λ long. place + 4 ≤ file.now.end)) }
+    ensures count { Counted (F.Tally.number tally.old) (F.Tally.number tally.new) (IsErrOf result FolderFault.Failed) }
+{
+    if file.end.saturating_sub(place) < 4 {
+        return Ok(None);
+    }
+    let bytes = read_range(file.alloc, file.sealed, place, 4, tally)?;
+    let mut reader = Reader::new(&bytes, place);
+    match reader.u32() {
+        Ok(long) => Ok(Some(long)),
+        Err(_) => Ok(None),
+    }
+}
+
+// The bytes behind the length that is told at a place; none where they don't stand before the end.
+fn read_body<F: Sealed>(
+    file: &TableFile<'_, F>,
+    place: u64,
+    tally: &mut F::Tally,
+) -> Result<Option<Vec<u8>>, FolderFault>
+    ensures told { IfOk result (λ v. (b : ListOf ℕ) → F.contents file.now.sealed.now ≡ Some b
+        → MatchOption v (NoBody (left_at b file.now.end place)) (λ body. IsBody body.items (left_at b file.now.end place))) }
+    ensures within { IfOk result (λ v. IfSome v (λ body. place + 4 + vec_len body ≤ file.now.end)) }
+    ensures count { Counted (F.Tally.number tally.old) (F.Tally.number tally.new) (IsErrOf result FolderFault.Failed) }
+{
+    let Some(long) = read_length(file, place, tally)? else {
+        return Ok(None);
+    };
+    if u64::from(long) > file.end - place - 4 {
+        return Ok(None);
+    }
+    let long = long as usize;
+    let body = read_range(file.alloc, file.sealed, place + 4, long, tally)?;
+    if body.len() < long {
+        return Ok(None);
+    }
+    Ok(Some(body))
+}
+
+// A fragment that stands for the place of another one, and says nothing else.
+fn place_mark(alloc: Global, fragment: &Fragment) -> Result<Fragment, AllocError>
+    ensures { IfOk result (λ f. place_of f ≡ place_of fragment.now) }
+{
+    match fragment {
+        Fragment::Static(_) => Ok(Fragment::Static(List::from_vec(Vec::new(alloc)))),
+        Fragment::Row(row) => Ok(Fragment::Row(Row {
+            clustering: row.clustering.copied()?,
+            deletion: None,
+            live: None,
+            columns: List::from_vec(Vec::new(alloc)),
+        })),
+        Fragment::Marker(cut, _) => Ok(Fragment::Marker(cut.copied()?, None)),
+    }
+}
+
+// The place of the last of some fragments.
+fn last_mark(alloc: Global, fragments: &[Fragment]) -> Result<Option<Fragment>, AllocError>
+    ensures { IfOk result (λ last. (r : Reached) → IsThere fragments.now → last_place last ≡ (past_all r fragments.now).last) }
+{
+    match fragments.last() {
+        Some(last) => Ok(Some(place_mark(alloc, last)?)),
+        None => Ok(None),
+    }
+}
+
+// How the partition goes on behind a block of so many bytes.
+fn behind(alloc: Global, at: &Onward, block: Block, long: usize) -> Result<Step, AllocError>
+    requires place { at.now.place + 4 + long ≤ 2 ^ 62 }
+    requires some { IsThere block.fragments.items }
+    requires few { length block.fragments.items ≤ long }
+    requires force { block.force ≡ (past_all (reached at.now) block.fragments.items).force }
+    requires full { is_full block.fragments.items ≡ nat_le BLOCK_LEAST long }
+    ensures same { IfOk result (λ step. step.fragments.items ≡ block.fragments.items) }
+    ensures step { IfOk result (IsStep at.now long) }
+{
+    let last = last_mark(alloc, &block.fragments)?;
+    let onward = Onward {
+        place: at.place + 4 + long as u64,
+        ends: block.force.is_none(),
+        goes_on: BLOCK_LEAST <= long,
+        last,
+        force: block.force,
+    };
+    Ok(Step {
+        fragments: block.fragments,
+        onward,
+    })
+}
+
+// The fragment that stands for what comes before the next block.
+fn mark_before(at: &Onward) -> Option<&Fragment>
+    ensures { option_copied result ≡ at.now.last }
+{
+    match &at.last {
+        Some(last) => Some(last),
+        None => None,
+    }
+}
+
+// The block that these bytes are.
+fn parse_block<F: Sealed>(
+    file: &TableFile<'_, F>,
+    at: &Onward,
+    body: &[u8],
+) -> Result<Step, TableFault>
+    requires { at.now.place + 4 + length body.now ≤ file.now.end }
+    ensures { Parses file.now.order.now file.now.columns.now file.now.number at.now body.now result }
+{
+    let mut reader = Reader::new(body, at.place + 4);
+    let last = mark_before(at);
+    match read_block(
+        file.alloc,
+        &mut reader,
+        file.order,
+        file.columns,
+        last,
+        at.force,
+    ) {
+        Ok(block) => Ok(behind(file.alloc, at, block, body.len())?),
+        Err(ReadFault::Mem) => Err(TableFault::Mem),
+        Err(_) => Err(file.bad_block(at.place)),
+    }
+}
+
+// What these bytes are, which the file tells there: a block, or none where they are the end.
+fn judge<F: Sealed>(
+    file: &TableFile<'_, F>,
+    at: &Onward,
+    body: &[u8],
+) -> Result<Option<Step>, TableFault>
+    requires { at.now.place + 4 + length body.now ≤ file.now.end }
+    ensures told { (b : ListOf ℕ) → IsBody body.now (left_at b file.now.end at.now.place)
+        → Answers file.now.order.now file.now.columns.now file.now.number file.now.end b at.now result }
+    ensures shorter { IfOk result (λ o. IfSome o (IsShorter file.now.end at.now)) }
+    ensures no_read { IsErrOf result TableFault.Read → ⊥ }
+{
+    if body.is_empty() {
+        if at.ends {
+            return Ok(None);
+        }
+        return Err(file.bad_block(at.place));
+    }
+    if !at.goes_on {
+        return Err(file.bad_block(at.place));
+    }
+    match parse_block(file, at, body) {
+        Ok(step) => Ok(Some(step)),
+        Err(fault) => Err(fault),
+    }
+}
+
+/// The next block of a partition; none at its end.
+pub(crate) fn next_block<F: Sealed>(
+    file: &TableFile<'_, F>,
+    at: &Onward,
+    tally: &mut F::Tally,
+) -> Result<Option<Step>, TableFault>
+    ensures told { (b : ListOf ℕ) → F.contents file.now.sealed.now ≡ Some b
+        → Answers file.now.order.now file.now.columns.now file.now.number file.now.end b at.now result }
+    ensures shorter { IfOk result (λ o. IfSome o (IsShorter file.now.end at.now)) }
+    ensures count { Counted (F.Tally.number tally.old) (F.Tally.number tally.new) (IsErrOf result TableFault.Read) }
+{
+    match read_body(file, at.place, tally) {
+        Ok(Some(body)) => judge(file, at, &body),
+        Ok(None) => Err(file.bad_block(at.place)),
+        Err(fault) => Err(TableFault::from(fault)),
+    }
+}
