@@ -32,8 +32,10 @@ impl<F: Sealed> Table<F> {
     }
 
     // What the index says.
+    #[tactic(auto, using(cas_index::proofs::SearchLaws::key_within))]
     fn find_in_index(&self, key: &[u8]) -> Option<u32>
-        ensures { HasKey self.now.kept.partitions key.now result }
+        ensures has { HasKey self.now.kept.partitions key.now result }
+        ensures within { IfSome result (λ n. n < length self.now.kept.partitions) }
     {
         match self.parts.index.find(key) {
             Some(number) => Some(number),
@@ -55,6 +57,7 @@ impl<F: Sealed> Table<F> {
     pub fn find(&self, key: &[u8]) -> Option<u32>
         ensures found { IsFound self.now.kept key.now result }
         ensures exact { HasOwnFilter self.now.kept → HasKey self.now.kept.partitions key.now result }
+        ensures within { IfSome result (λ n. n < length self.now.kept.partitions) }
     {
         if self.may_hold(key) {
             self.find_in_index(key)

@@ -1,0 +1,6 @@
+//! Tests of table files: one worked out by hand, what is found in it, and where it is refused when a byte of it is
+//! another. They stand apart since a crate with tests is proved twice.
+#![tactic(auto)]
+
+#[cfg(test)]
+mod by_hand;
