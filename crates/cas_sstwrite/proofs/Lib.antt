@@ -1,0 +1,5 @@
+pub mod Results
+pub mod Cutting
+pub mod Taking
+pub mod Hindering
+pub mod Rowing

@@ -1,0 +1,13 @@
+//! Writes table files: a partition at a time, of which no more than a block is held.
+#![tactic(auto)]
+
+mod fault;
+mod held;
+mod part;
+mod rooms;
+mod rows;
+mod sink;
+
+pub use fault::{Measure, PartitionFault, WriteFault};
+pub use held::TableWriter;
+pub use rooms::{has_room, have_room};
