@@ -3,3 +3,4 @@ pub mod Cutting
 pub mod Taking
 pub mod Hindering
 pub mod Rowing
+pub mod Ending

@@ -169,6 +169,32 @@ impl Part {
         self.write_block(sink, tally)
     }
 
+    /// Takes the first fragment of a partition, which may be the static row: of that nothing is to
+    /// be written behind the partition's head.
+    pub fn take_first<D: Draft>(
+        &mut self,
+        sink: &mut Sink<D>,
+        fragment: &Fragment,
+        tally: &mut D::Tally,
+    ) -> Result<(), WriteFault>
+        ensures taken { OnOk result ((start : ℕ) (before : Option FactsOf) (top : Option DeletionOf) (text : List ℕ)
+            → Taken start before top [] self.old text → sink.old.place ≡ start + length text
+            → Goes D.number D.written start before top (fragment.now ∷ []) sink.old sink.new self.new text) }
+        ensures count { Counted (D.Tally.number tally.old) (D.Tally.number tally.new) (IsErrOf result WriteFault.Failed) }
+        ensures why { IfErr result (λ e. (start : ℕ) (before : Option FactsOf) (top : Option DeletionOf) (text : List ℕ)
+            → Taken start before top [] self.old text → sink.old.place ≡ start + length text
+            → (rest : List FragmentOf) → Hinders start (behind_statics (fragment.now ∷ rest)) e) }
+    {
+        match fragment {
+            Fragment::Static(_) => {
+                self.seen.see(fragment);
+                Ok(())
+            }
+            Fragment::Row(_) => self.take(sink, fragment, tally),
+            Fragment::Marker(_, _) => self.take(sink, fragment, tally),
+        }
+    }
+
     // Puts its length before what waits, if anything does, and the partition's end behind it.
     #[tactic(auto, unfolding(cas_codec::specs::Fields::bytes32))]
     fn seal_end(&mut self) -> Result<(), WriteFault>

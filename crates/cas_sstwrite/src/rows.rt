@@ -51,3 +51,51 @@ fn take_rest<D: Draft, S: FragmentSource>(
     }
     Ok(())
 }
+
+// Takes the fragments of a partition, of which the first one was given.
+fn take_all<D: Draft, S: FragmentSource>(
+    part: &mut Part,
+    sink: &mut Sink<D>,
+    first: Fragment,
+    source: &mut S,
+    tally: &mut D::Tally,
+) -> Result<(), PartitionFault<S::Fault>>
+    ensures taken { OnOk result ((start : ℕ) (before : Option FactsOf) (top : Option DeletionOf) (text : List ℕ)
+        → Taken start before top [] part.old text → sink.old.place ≡ start + length text
+        → GoesOn D.number D.written start before top (first ∷ []) sink.old sink.new part.new text (S.to_come source.old)) }
+    ensures count { Counted (D.Tally.number tally.old) (D.Tally.number tally.new) (IsErrOf result (PartitionFault.Write WriteFault.Failed)) }
+    ensures why { IfErr result (λ e. (start : ℕ) (before : Option FactsOf) (top : Option DeletionOf) (text : List ℕ)
+        → Taken start before top [] part.old text → sink.old.place ≡ start + length text
+        → (fs : List FragmentOf) → S.to_come source.old ≡ Some fs → RowsFault start (behind_statics (first ∷ fs)) e) }
+    ensures own { IfErr result (λ e. IsOwn e (S.broken_by source.new)) }
+{
+    let taken = part.take_first(sink, &first, tally);
+    drop(first);
+    taken?;
+    take_rest(part, sink, source, tally)
+}
+
+/// Writes the rows and markers of a partition and its end. The first fragment of the partition was
+/// given, or it has none.
+pub(crate) fn write_rows<D: Draft, S: FragmentSource>(
+    part: &mut Part,
+    sink: &mut Sink<D>,
+    first: Option<Fragment>,
+    source: &mut S,
+    tally: &mut D::Tally,
+) -> Result<(), PartitionFault<S::Fault>>
+    ensures wrote { OnOk result ((start : ℕ) (before : Option FactsOf) (top : Option DeletionOf) (text : List ℕ)
+        → Taken start before top [] part.old text → sink.old.place ≡ start + length text
+        → WroteRows D.number D.written start before top first sink.old sink.new part.new text (S.to_come source.old)) }
+    ensures count { Counted (D.Tally.number tally.old) (D.Tally.number tally.new) (IsErrOf result (PartitionFault.Write WriteFault.Failed)) }
+    ensures why { IfErr result (λ e. (start : ℕ) (before : Option FactsOf) (top : Option DeletionOf) (text : List ℕ)
+        → Taken start before top [] part.old text → sink.old.place ≡ start + length text
+        → (fs : List FragmentOf) → Says first (S.to_come source.old) fs → RowsFault start (behind_statics fs) e) }
+    ensures own { IfErr result (λ e. IsOwn e (S.broken_by source.new)) }
+{
+    let Some(first) = first else {
+        return Ok(part.end(sink, tally)?);
+    };
+    take_all(part, sink, first, source, tally)?;
+    Ok(part.end(sink, tally)?)
+}
