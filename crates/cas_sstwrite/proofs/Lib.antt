@@ -4,3 +4,5 @@ pub mod Taking
 pub mod Hindering
 pub mod Rowing
 pub mod Ending
+pub mod Partitions
+pub mod Writing

@@ -15,6 +15,8 @@ use Rattle.cas_sstwrite.specs.Rooms.{IsHeld}
 use Rattle.cas_sstwrite.specs.declared.fault.TheConstants.{BLOCK_LIMIT}
 use Rattle.cas_sstwrite.specs.declared.fault.Measure.{Measure}
 use Rattle.cas_sstwrite.specs.declared.fault.Measure.TheVariants.{FileBytes, BlockBytes, Partitions}
+use Rattle.cas_sstwrite.specs.declared.fault.PartitionFault.{PartitionFault}
+use Rattle.cas_sstwrite.specs.declared.fault.PartitionFault.TheVariants.{Write, Source}
 use Rattle.cas_sstwrite.specs.declared.fault.WriteFault.{WriteFault}
 use Rattle.cas_sstwrite.specs.declared.fault.WriteFault.TheVariants.{Failed, Order, TooMany, Unfit, Mem}
 
@@ -42,3 +44,13 @@ Causes entries place key top fs Order = is_next_key (last_or None entries) key �
 Causes entries place key top fs (TooMany what limit) = (limit ≡ limit_of what) × TooMuch what (length entries) place key top fs
 Causes entries place key top fs Unfit = IsUnfit key fs
 Causes entries place key top fs Mem = Unit {0}
+
+-- the same where the source may have answered a fault, which says nothing of the partition
+abbrev pub WhyNot : {E : Type 0} → List PartitionEntry → ℕ → List ℕ → Option Deletion → List Fragment → PartitionFault E → Type 0
+WhyNot entries place key top fs (Write e) = Causes entries place key top fs e
+WhyNot entries place key top fs (Source e) = Unit {0}
+
+-- a fault of the source is that by which it is broken
+abbrev pub IsOwn : {E : Type 0} → PartitionFault E → Option E → Type 0
+IsOwn (Write e) broken = Unit {0}
+IsOwn (Source e) broken = broken ≡ Some e

@@ -1,3 +1,5 @@
 pub mod Sinks
 pub mod Parts
 pub mod Props
+pub mod Whole
+pub mod Adding

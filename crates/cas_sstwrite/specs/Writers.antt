@@ -19,12 +19,20 @@ use Rattle.cas_tables.specs.Allowed.{FitsHeader}
 use Rattle.cas_tables.specs.Contents.{Partition, Contents, keys, atoms_of}
 use Rattle.cas_tables.specs.Files.{front_bytes, index_of}
 use Rattle.cas_tables.specs.Fitting.{FitsPartition}
+use Rattle.cas_index.specs.declared.entries.PartitionEntry.{PartitionEntry}
 use Rattle.cas_sstwrite.specs.declared.fault.PartitionFault.{PartitionFault}
 use Rattle.cas_sstwrite.specs.declared.held.TableWriter.{TableWriter}
 
 -- the fault that the writer answered; from then on it answers no other
 abbrev pub fault_of : {D E : Type 0} → TableWriter D E → Option (PartitionFault E)
 fault_of w = w.broken
+
+-- what its index is to tell so far, and where the next partition is to stand
+abbrev pub entries_of : {D E : Type 0} → TableWriter D E → List PartitionEntry
+entries_of w = w.entries.items
+
+abbrev pub place_of : {D E : Type 0} → TableWriter D E → ℕ
+place_of w = w.sink.place
 
 -- a file with the writer's header and level, of these partitions
 abbrev pub contents_of : {D E : Type 0} → TableWriter D E → List Partition → Contents

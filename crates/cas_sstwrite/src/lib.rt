@@ -4,9 +4,11 @@
 mod fault;
 mod held;
 mod part;
+mod partition;
 mod rooms;
 mod rows;
 mod sink;
+mod writer;
 
 pub use fault::{Measure, PartitionFault, WriteFault};
 pub use held::TableWriter;

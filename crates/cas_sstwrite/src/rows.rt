@@ -8,7 +8,8 @@ ghost use Rattle.cas_facts.specs.declared.facts.Facts.{Facts as FactsOf};
 ghost use Rattle.cas_disk.specs.Counts.{Counted};
 ghost use Rattle.cas_streams.specs.Streams.{IsThere};
 ghost use Rattle.cas_fragments.specs.Blocks.{behind_statics};
-ghost use Rattle.cas_sstwrite.specs.Inner.Parts.{Taken, Goes, Hinders, IsOfSource, RowsFault, IsOwn, GoesOn, WroteRows, Says};
+ghost use Rattle.cas_sstwrite.specs.Causes.{IsOwn};
+ghost use Rattle.cas_sstwrite.specs.Inner.Parts.{Taken, Goes, Hinders, IsOfSource, RowsFault, GoesOn, WroteRows, Says};
 
 use crate::fault::{PartitionFault, WriteFault};
 use crate::held::{Part, Sink};
@@ -16,8 +17,8 @@ use cas_disk::Draft;
 use cas_streams::{Fragment, FragmentSource};
 use std::mem::drop;
 
-// The next fragment; the source's fault is told as its own.
-fn next_of<S: FragmentSource>(source: &mut S) -> Result<Option<Fragment>, PartitionFault<S::Fault>>
+/// The next fragment; the source's fault is told as its own.
+pub(crate) fn next_of<S: FragmentSource>(source: &mut S) -> Result<Option<Fragment>, PartitionFault<S::Fault>>
     ensures first { (fs : List FragmentOf) → S.to_come source.old ≡ Some fs → TakesFirst fs (S.to_come source.new) result }
     ensures ends { Shrinks (S.at_most source.old) (S.at_most source.new) result }
     ensures why { IfErr result (λ e. IsOfSource e (S.broken_by source.new)) }

@@ -163,11 +163,6 @@ abbrev pub RowsFault : {E : Type 0} → ℕ → List Fragment → PartitionFault
 RowsFault start rows (Write e) = Hinders start rows e
 RowsFault start rows (Source e) = Unit {0}
 
--- a fault of the source is its own
-abbrev pub IsOwn : {E : Type 0} → PartitionFault E → Option E → Type 0
-IsOwn (Write e) broken = Unit {0}
-IsOwn (Source e) broken = broken ≡ Some e
-
 -- on the way: some were taken, and the others are to come
 pub record GoneOn {D : Type 0} (number_of : D → ℕ) (written : D → List ℕ → Type 0) (start : ℕ) (before : Option Facts) (top : Option Deletion) (gs : List Fragment)
     (s t : Sink D) (new : Part) (text : List ℕ) (told now : Option (List Fragment)) : Type 0 where
