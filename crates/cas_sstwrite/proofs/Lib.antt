@@ -6,3 +6,4 @@ pub mod Rowing
 pub mod Ending
 pub mod Partitions
 pub mod Writing
+pub mod Adding

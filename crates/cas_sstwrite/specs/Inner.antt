@@ -3,3 +3,4 @@ pub mod Parts
 pub mod Props
 pub mod Whole
 pub mod Adding
+pub mod Ends

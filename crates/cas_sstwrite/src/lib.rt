@@ -2,6 +2,7 @@
 #![tactic(auto)]
 
 mod fault;
+mod finish;
 mod held;
 mod part;
 mod partition;

@@ -1,6 +1,6 @@
 //! Bytes go into a draft, and are counted.
 
-ghost use Rattle.std.specs.Prelude.{◌≡◌, ℕ, ◌<◌, ◌+◌, length, OnOk, IfErr, IsErrOf};
+ghost use Rattle.std.specs.Prelude.{◌≡◌, ℕ, List, ◌<◌, ◌+◌, length, OnOk, IfErr, IsErrOf};
 ghost use Rattle.cas_disk.specs.Counts.{Counted};
 ghost use Rattle.cas_sstwrite.specs.Inner.Sinks.{Took, LongFault};
 
@@ -45,5 +45,17 @@ impl<D: Draft> Sink<D> {
         }
         self.place += long;
         Ok(())
+    }
+
+    /// Makes the bytes last.
+    pub fn sync(&mut self, tally: &mut D::Tally) -> Result<(), WriteFault>
+        ensures kept { OnOk result ((bytes : List ℕ) → D.written self.new.draft bytes → D.written self.old.draft bytes) }
+        ensures place { self.new.place ≡ self.old.place }
+        ensures number { D.number self.new.draft ≡ D.number self.old.draft }
+        ensures synced { OnOk result (D.is_synced self.new.draft) }
+        ensures count { Counted (D.Tally.number tally.old) (D.Tally.number tally.new) (IsErrOf result WriteFault.Failed) }
+        ensures why { IfErr result (λ e. e ≡ WriteFault.Failed) }
+    {
+        Ok(self.draft.sync(tally)?)
     }
 }

@@ -1,6 +1,6 @@
 //! Writes a table file, partition by partition.
 
-ghost use Rattle.std.specs.Prelude.{◌≡◌, ◌⊎◌, ◌↔◌, ◌+◌, ◌≤◌, ◌<◌, ◌^◌, ◌++◌, ◌∷◌, ℕ, [], List as ListOf, length, true, false, Option, None, Some, Err, vec_len, IfOk, OnOk, OnErr, IfErr, IsErrOf};
+ghost use Rattle.std.specs.Prelude.{◌≡◌, ◌⊎◌, ◌+◌, ◌≤◌, ◌<◌, ◌^◌, ◌++◌, ◌∷◌, ℕ, [], List as ListOf, length, true, false, Option, None, Some, Err, vec_len, IfOk, OnOk, OnErr, IfErr, IsErrOf};
 ghost use Rattle.std.specs.List.{All, last_or};
 ghost use Rattle.std.specs.Option.{option_copied};
 ghost use Rattle.cas_types.specs.declared.schema.Column.{Column as ColumnOf};
@@ -15,7 +15,7 @@ ghost use Rattle.cas_tables.specs.declared.header.Version.TheVariants.{Second};
 ghost use Rattle.cas_sstwrite.specs.Writers.{Writes, FitsStream, partition_of, fault_of, entries_of, place_of, Repeats};
 ghost use Rattle.cas_sstwrite.specs.Causes.{WhyNot, IsOwn};
 ghost use Rattle.cas_sstwrite.specs.Inner.Parts.{Says};
-ghost use Rattle.cas_sstwrite.specs.Inner.Adding.{Adds, AddsFirst, WrittenFault};
+ghost use Rattle.cas_sstwrite.specs.Inner.Adding.{is_nothing, AddsFirst, AddsTold, WrittenFault};
 
 use crate::fault::{Measure, PartitionFault, WriteFault};
 use crate::held::{Sink, TableWriter};
@@ -47,6 +47,13 @@ fn is_next(entries: &[PartitionEntry], key: &[u8]) -> bool
         Some(before) => compare_bytes(before.key.as_slice(), key).is_lt(),
         None => true,
     }
+}
+
+// Whether nothing is said of a partition with that deletion and that first fragment.
+fn is_nothing(top: Option<Deletion>, first: &Option<Fragment>) -> bool
+    ensures { result ≡ is_nothing top first.now }
+{
+    top.is_none() && first.is_none()
 }
 
 // Adds what the index is to tell of a partition.
@@ -148,5 +155,82 @@ impl<D: Draft, E: Copy> TableWriter<D, E> {
             place,
             part.entries,
         )?)
+    }
+
+    // The same of a key that stands above those before, of a source of which nothing was asked.
+    fn advance<S: FragmentSource<Fault = E>>(
+        &mut self,
+        key: &[u8],
+        source: &mut S,
+        tally: &mut D::Tally,
+    ) -> Result<(), PartitionFault<E>>
+        ensures added { OnOk result (AddsTold D.number D.written key.now (S.over_all source.old) self.old self.new (S.to_come source.old)) }
+        ensures broken { self.new.broken ≡ self.old.broken }
+        ensures count { Counted (D.Tally.number tally.old) (D.Tally.number tally.new) (IsErrOf result (PartitionFault.Write WriteFault.Failed)) }
+        ensures why { IfErr result (λ e. (fs : ListOf FragmentOf) → S.to_come source.old ≡ Some fs
+            → WrittenFault (length self.old.entries.items) self.old.sink.place key.now (S.over_all source.old) fs e) }
+        ensures own { IfErr result (λ e. IsOwn e (S.broken_by source.new)) }
+    {
+        let top = source.top();
+        let first = next_of(source)?;
+        if is_nothing(top, &first) {
+            drop(first);
+            return Ok(());
+        }
+        self.write(key, top, first, source, tally)
+    }
+
+    // The same of a writer that isn't broken.
+    fn add<S: FragmentSource<Fault = E>>(
+        &mut self,
+        key: &[u8],
+        source: &mut S,
+        tally: &mut D::Tally,
+    ) -> Result<(), PartitionFault<E>>
+        ensures above { OnOk result (is_next_key (last_or None self.old.entries.items) key.now ≡ true) }
+        ensures added { OnOk result (AddsTold D.number D.written key.now (S.over_all source.old) self.old self.new (S.to_come source.old)) }
+        ensures broken { self.new.broken ≡ self.old.broken }
+        ensures count { Counted (D.Tally.number tally.old) (D.Tally.number tally.new) (IsErrOf result (PartitionFault.Write WriteFault.Failed)) }
+        ensures why { IfErr result (λ e. (fs : ListOf FragmentOf) → S.to_come source.old ≡ Some fs
+            → WhyNot self.old.entries.items self.old.sink.place key.now (S.over_all source.old) fs e) }
+        ensures own { IfErr result (λ e. IsOwn e (S.broken_by source.new)) }
+        ensures order { is_next_key (last_or None self.old.entries.items) key.now ≡ false → result ≡ Err (PartitionFault.Write WriteFault.Order) }
+    {
+        if !is_next(&self.entries, key) {
+            return Err(PartitionFault::Write(WriteFault::Order));
+        }
+        self.advance(key, source, tally)
+    }
+
+    /// Writes a partition under a key: what the source says of it. Where nothing is said, none is
+    /// written. After a fault the writer is broken, and answers that fault again.
+    pub fn partition<S: FragmentSource<Fault = E>>(
+        &mut self,
+        key: &[u8],
+        source: &mut S,
+        tally: &mut D::Tally,
+    ) -> Result<(), PartitionFault<E>>
+        ensures written { OnOk result ((columns : ListOf ColumnOf) (ps : ListOf PartitionOf) (fs : ListOf FragmentOf)
+            → Writes D.number D.written columns self.old ps → S.to_come source.old ≡ Some fs → FitsStream columns key.now (S.over_all source.old) fs
+            → Writes D.number D.written columns self.new (ps ++ partition_of key.now (S.over_all source.old) fs)) }
+        ensures why { IfErr result (λ e. fault_of self.old ≡ None → (fs : ListOf FragmentOf) → S.to_come source.old ≡ Some fs
+            → WhyNot (entries_of self.old) (place_of self.old) key.now (S.over_all source.old) fs e) }
+        ensures own { IfErr result (λ e. fault_of self.old ≡ None → IsOwn e (S.broken_by source.new)) }
+        ensures order { fault_of self.old ≡ None → is_next_key (last_or None (entries_of self.old)) key.now ≡ false
+            → result ≡ Err (PartitionFault.Write WriteFault.Order) }
+        ensures repeats { Repeats (fault_of self.old) (fault_of self.new) result }
+        ensures count { Counted (D.Tally.number tally.old) (D.Tally.number tally.new)
+            ((fault_of self.old ≡ None) × IsErrOf result (PartitionFault.Write WriteFault.Failed)) }
+    {
+        if let Some(fault) = self.broken {
+            return Err(fault);
+        }
+        match self.add(key, source, tally) {
+            Ok(()) => Ok(()),
+            Err(fault) => {
+                self.broken = Some(fault);
+                Err(fault)
+            }
+        }
     }
 }

@@ -1,5 +1,5 @@
 -- One partition more.
-use Rattle.std.specs.Prelude.{◌≡◌, ◌+◌, ◌≤◌, ◌<◌, ◌^◌, ℕ, List, [], ◌∷◌, ◌++◌, length, Option, None, Some}
+use Rattle.std.specs.Prelude.{◌≡◌, ◌+◌, ◌≤◌, ◌<◌, ◌^◌, ℕ, List, [], ◌∷◌, ◌++◌, length, Option, None, Some, Bool, true, false}
 use Rattle.std.specs.List.{AllByRecursion}
 use Rattle.cas_atoms.specs.declared.atom.Atom.{Atom}
 use Rattle.cas_cell.specs.declared.deletion.Deletion.{Deletion}
@@ -38,6 +38,12 @@ pub record AddsOne {D E : Type 0} (number_of : D → ℕ) (written : D → List 
   pub header : new.header ≡ old.header
   pub level : new.level ≡ old.level
 
+-- nothing is said of a partition with that deletion of the whole and that first fragment
+abbrev pub is_nothing : Option Deletion → Option Fragment → Bool
+is_nothing None None = true
+is_nothing None (Some f) = false
+is_nothing (Some d) first = false
+
 -- or nothing changed, where nothing is said of it
 abbrev pub Adds : {D E : Type 0} → (D → ℕ) → (D → List ℕ → Type 0) → List ℕ → Option Deletion → List Fragment → TableWriter D E → TableWriter D E → Type 0
 Adds number_of written key None [] old new = new ≡ old
@@ -51,6 +57,13 @@ pub record AddsFirst {D E : Type 0} (number_of : D → ℕ) (written : D → Lis
   pub adds : AddsOne number_of written under top given old new
   pub front : BeginWith first given
   pub all : (fs : List Fragment) → Says first told fs → given ≡ fs
+
+-- what the source says was written; where nothing is said, nothing changed
+pub record AddsTold {D E : Type 0} (number_of : D → ℕ) (written : D → List ℕ → Type 0) (under : List ℕ) (top : Option Deletion)
+    (old new : TableWriter D E) (told : Option (List Fragment)) : Type 0 where
+  pub given : List Fragment
+  pub adds : Adds number_of written under top given old new
+  pub all : (fs : List Fragment) → told ≡ Some fs → given ≡ fs
 
 -- why it isn't written behind so many that end at that place; the source's own fault says nothing of it
 abbrev pub WrittenFault : {E : Type 0} → ℕ → ℕ → List ℕ → Option Deletion → List Fragment → PartitionFault E → Type 0
