@@ -1,29 +1,26 @@
 -- What a partition comes to as its fragments are taken one by one.
-use Rattle.std.proofs.Common.{◌≡◌, ℕ, ◌+◌, ◌<◌, ◌≤◌, ◌^◌, Bool, true, false, cond, List, [], ◌∷◌, ◌++◌, length, drop, Option, None, Some, refl, sym, ap, subst, ◌∙◌, append_assoc, arith}
+use Rattle.std.proofs.Common.{◌≡◌, ℕ, ◌+◌, ◌<◌, ◌≤◌, true, false, cond, List, [], ◌∷◌, ◌++◌, length, Option, None, refl, sym, ap, ◌∙◌, append_assoc, arith}
 use Rattle.std.specs.List.{AllByRecursion, flat_map}
-use Rattle.std.proofs.lemmas.Bool.{leb-true, leb-false, le-leb}
+use Rattle.std.proofs.lemmas.Bool.{leb-true, le-leb}
 use Rattle.std.proofs.lemmas.Grind.{flat_map-append}
 use Rattle.std.proofs.lemmas.List.{append-nil, length-append}
 use Rattle.cas_atoms.specs.declared.atom.Atom.{Atom}
 use Rattle.cas_cell.specs.declared.deletion.Deletion.{Deletion}
-use Rattle.cas_codec.specs.Fields.{u32, bytes32}
+use Rattle.cas_codec.specs.Fields.{u32}
 use Rattle.cas_codec.proofs.FieldLengths.{u32_long}
 use Rattle.cas_streams.specs.Flat.{changes, at_end}
 use Rattle.cas_streams.specs.Joined.{opened}
 use Rattle.cas_streams.specs.declared.fragment.Fragment.{Fragment}
 use Rattle.cas_streams.specs.declared.fragment.Fragment.TheVariants as fragment
-use Rattle.cas_facts.specs.Facts.{AreFactsSoFar}
 use Rattle.cas_facts.specs.Told.{top_told, told, all_told}
-use Rattle.cas_facts.specs.declared.facts.Facts.{Facts}
 use Rattle.cas_fragments.specs.Spelling.{fragment_bytes, body_bytes, block_bytes}
-use Rattle.cas_fragments.specs.Blocks.{is_full, last_block, blocks_from, blocks_of, blocks_bytes, behind_statics}
+use Rattle.cas_fragments.specs.Blocks.{is_full, last_block, blocks_from, behind_statics}
 use Rattle.cas_fragments.specs.Laws.{joined}
 use Rattle.cas_fragments.specs.declared.blocks.TheConstants.{BLOCK_LEAST}
-use Rattle.cas_tables.specs.Places.{first_cut, block_entries}
+use Rattle.cas_tables.specs.Places.{block_entries}
 use Rattle.cas_index.specs.declared.entries.BlockEntry.{BlockEntry}
 use Rattle.cas_sstwrite.specs.Rooms.{IsHeld}
-use Rattle.cas_sstwrite.specs.declared.held.Part.{Part}
-use Rattle.cas_sstwrite.specs.Inner.Parts.{waiting, Taken, with_block, with_entry, entry_of, Added}
+use Rattle.cas_sstwrite.specs.Inner.Parts.{waiting, with_block, with_entry, entry_of}
 
 -- ---- one fragment more
 

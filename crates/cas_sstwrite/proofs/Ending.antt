@@ -1,6 +1,6 @@
 -- The fragments of a partition are taken, the first and the others, and it ends.
-use Rattle.std.proofs.Common.{◌≡◌, ℕ, ◌+◌, ◌<◌, ◌≤◌, List, [], ◌∷◌, ◌++◌, length, Option, None, Some, refl, sym, ap, subst, ◌∙◌, append_assoc, arith}
-use Rattle.std.proofs.lemmas.List.{append-nil, length-append}
+use Rattle.std.proofs.Common.{◌≡◌, ℕ, ◌+◌, List, [], ◌∷◌, ◌++◌, length, Option, None, Some, refl, sym, ap, subst, ◌∙◌, append_assoc}
+use Rattle.std.proofs.lemmas.List.{append-nil}
 use Rattle.cas_atoms.specs.declared.atom.Atom.{Atom}
 use Rattle.cas_atoms.specs.declared.row.RowColumn.{RowColumn}
 use Rattle.cas_atoms.specs.declared.row.Row.{Row}
@@ -11,12 +11,11 @@ use Rattle.cas_streams.specs.declared.fragment.Fragment.TheVariants as fragment
 use Rattle.cas_facts.specs.Facts.{AreFactsSoFar}
 use Rattle.cas_facts.specs.Told.{told, all_told}
 use Rattle.cas_facts.specs.declared.facts.Facts.{Facts}
-use Rattle.cas_fragments.specs.Blocks.{blocks_of, blocks_bytes, behind_statics}
+use Rattle.cas_fragments.specs.Blocks.{behind_statics}
 use Rattle.cas_sstwrite.specs.declared.fault.WriteFault.{WriteFault}
 use Rattle.cas_sstwrite.specs.declared.held.Part.{Part}
 use Rattle.cas_sstwrite.specs.declared.held.Sink.{Sink}
-use Rattle.cas_sstwrite.specs.Inner.Sinks.{Took}
-use Rattle.cas_sstwrite.specs.Inner.Parts.{Taken, Goes, GoesOn, Ends, WroteRows, Says, BeginWith, Hinders}
+use Rattle.cas_sstwrite.specs.Inner.Parts.{Taken, Goes, GoesOn, Ends, WroteRows, Says, Hinders}
 use Rattle.cas_sstwrite.proofs.Cutting.{told_more}
 use Rattle.cas_sstwrite.proofs.Taking.{nothing_more}
 use Rattle.cas_sstwrite.proofs.Rowing.{took_both, place_then}

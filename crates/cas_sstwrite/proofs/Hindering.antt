@@ -1,15 +1,15 @@
 -- Why a partition isn't written.
-use Rattle.std.proofs.Common.{◌≡◌, ℕ, ◌+◌, ◌<◌, ◌≤◌, ◌^◌, List, [], ◌∷◌, ◌++◌, length, drop, Option, refl, sym, ap, subst, ◌∙◌, append_assoc, arith}
+use Rattle.std.proofs.Common.{◌≡◌, ℕ, ◌+◌, ◌<◌, ◌≤◌, ◌^◌, List, [], ◌∷◌, ◌++◌, length, drop, Option, refl, ap, subst, ◌∙◌, arith}
 use Rattle.std.specs.List.{AllByRecursion, flat_map}
 use Rattle.std.proofs.lemmas.Grind.{flat_map-append}
 use Rattle.std.proofs.lemmas.List.{length-append, drop_at}
 use Rattle.cas_cell.specs.declared.deletion.Deletion.{Deletion}
-use Rattle.cas_codec.specs.Fields.{u32, bytes32}
+use Rattle.cas_codec.specs.Fields.{u32}
 use Rattle.cas_codec.proofs.FieldLengths.{u32_long, bytes32_long}
 use Rattle.cas_streams.specs.declared.fragment.Fragment.{Fragment}
 use Rattle.cas_facts.specs.declared.facts.Facts.{Facts}
 use Rattle.cas_fragments.specs.Spelling.{body_bytes, block_bytes}
-use Rattle.cas_fragments.specs.Blocks.{last_block, blocks_from, blocks_of, blocks_bytes, behind_statics, is_full}
+use Rattle.cas_fragments.specs.Blocks.{blocks_from, blocks_of, blocks_bytes, behind_statics}
 use Rattle.cas_fragments.specs.declared.blocks.TheConstants.{BLOCK_LEAST}
 use Rattle.cas_sstwrite.specs.Rooms.{IsHeld}
 use Rattle.cas_sstwrite.specs.declared.fault.Measure.TheVariants.{FileBytes, BlockBytes, Partitions}
@@ -18,7 +18,7 @@ use Rattle.cas_sstwrite.specs.declared.fault.WriteFault.TheVariants.{Failed, Ord
 use Rattle.cas_sstwrite.specs.declared.held.Part.{Part}
 use Rattle.cas_sstwrite.specs.Inner.Sinks.{LongFault}
 use Rattle.cas_sstwrite.specs.Inner.Parts.{waiting, Taken, Added, AddFault, BlockFault, SealFault, Hinders, ended}
-use Rattle.cas_sstwrite.proofs.Cutting.{more_behind, cut_end, full_at, waits_long}
+use Rattle.cas_sstwrite.proofs.Cutting.{cut_end, full_at}
 use Rattle.cas_sstwrite.proofs.Taking.{body_waits, whole_text}
 
 pub too_long : (place a b : ℕ) (e : WriteFault) → a ≡ 4 + b → LongFault place a e → BlockFault place b e

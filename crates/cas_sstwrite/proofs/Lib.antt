@@ -7,3 +7,4 @@ pub mod Ending
 pub mod Partitions
 pub mod Writing
 pub mod Adding
+pub mod Finishing

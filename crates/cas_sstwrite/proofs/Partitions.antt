@@ -1,6 +1,5 @@
 -- A partition is written: its head, its rows and markers, and its end.
-use Rattle.std.proofs.Common.{◌≡◌, ℕ, ◌+◌, ◌<◌, ◌≤◌, ◌^◌, List, [], ◌∷◌, ◌++◌, length, Option, None, Some, refl, sym, ap, subst, ◌∙◌, append_assoc, arith}
-use Rattle.std.specs.List.{AllByRecursion}
+use Rattle.std.proofs.Common.{◌≡◌, ℕ, ◌+◌, ◌<◌, ◌^◌, List, [], ◌++◌, length, Option, None, Some, refl, sym, ap, subst, ◌∙◌, arith}
 use Rattle.std.specs.Option.{option_to_list}
 use Rattle.std.proofs.lemmas.List.{append-nil, length-append}
 use Rattle.cas_atoms.specs.declared.atom.Atom.{Atom}
@@ -9,12 +8,11 @@ use Rattle.cas_cell.specs.declared.deletion.Deletion.{Deletion}
 use Rattle.cas_streams.specs.declared.fragment.Fragment.{Fragment}
 use Rattle.cas_streams.specs.declared.fragment.Fragment.TheVariants as fragment
 use Rattle.cas_facts.specs.Facts.{AreFactsSoFar}
-use Rattle.cas_facts.specs.Told.{top_told, all_told}
+use Rattle.cas_facts.specs.Told.{top_told}
 use Rattle.cas_facts.specs.declared.facts.Facts.{Facts}
 use Rattle.cas_fragments.specs.Allowed.{HaveRoom}
 use Rattle.cas_tables.specs.Places.{block_entries}
-use Rattle.cas_fragments.specs.Spelling.{body_bytes}
-use Rattle.cas_fragments.specs.Blocks.{blocks_of, blocks_bytes, statics_in, behind_statics, head_bytes, partition_bytes}
+use Rattle.cas_fragments.specs.Blocks.{blocks_of, blocks_bytes, statics_in, behind_statics, head_bytes}
 use Rattle.cas_sstwrite.specs.declared.fault.Measure.TheVariants.{FileBytes, BlockBytes, Partitions}
 use Rattle.cas_sstwrite.specs.declared.fault.WriteFault.{WriteFault}
 use Rattle.cas_sstwrite.specs.declared.fault.WriteFault.TheVariants.{Failed, Order, TooMany, Unfit, Mem}
@@ -100,9 +98,15 @@ head_stops place key top first told fs e says why =
     of : (cs : List RowColumn) → cs ≡ statics_in fs → (e : WriteFault) → HeadFault place key top cs e → Stops place key top fs e
     of cs same Failed why = tt
     of cs same Order why = absurd why
-    of cs same (TooMany FileBytes limit) why =
-        (why.0, omega (arith, why.1, ap (λ (xs : List RowColumn). length (head_bytes key top xs)) same,
-        length-append (head_bytes key top (statics_in fs)) (blocks_bytes (blocks_of (behind_statics fs)))))
+    of cs same (TooMany FileBytes limit) why = (
+      why.0,
+      omega (
+        arith,
+        why.1,
+        ap (λ (xs : List RowColumn). length (head_bytes key top xs)) same,
+        length-append (head_bytes key top (statics_in fs)) (blocks_bytes (blocks_of (behind_statics fs))),
+      ),
+    )
     of cs same (TooMany BlockBytes limit) why = absurd why
     of cs same (TooMany Partitions limit) why = absurd why
     of cs same Unfit why = λ fit. why (fit.0, subst HaveRoom (sym same) fit.1)

@@ -1,5 +1,5 @@
 -- A fragment is taken, and a partition ends.
-use Rattle.std.proofs.Common.{◌≡◌, ℕ, ◌+◌, ◌*◌, ◌<◌, ◌≤◌, ◌^◌, Bool, true, false, cond, leb, List, [], ◌∷◌, ◌++◌, length, drop, Option, None, Some, refl, sym, ap, subst, ◌∙◌, append_assoc, arith}
+use Rattle.std.proofs.Common.{◌≡◌, ℕ, ◌+◌, ◌*◌, ◌<◌, ◌≤◌, ◌^◌, true, cond, List, [], ◌∷◌, ◌++◌, length, drop, Option, None, refl, sym, ap, subst, ◌∙◌, append_assoc, arith}
 use Rattle.std.specs.List.{AllByRecursion, flat_map}
 use Rattle.std.proofs.lemmas.Bool.{leb-true, le-leb}
 use Rattle.std.proofs.lemmas.Grind.{flat_map-append}
@@ -11,14 +11,13 @@ use Rattle.cas_info.specs.declared.info.TheConstants.{FILE_LIMIT}
 use Rattle.cas_streams.specs.Flat.{changes, at_end}
 use Rattle.cas_streams.specs.declared.fragment.Fragment.{Fragment}
 use Rattle.cas_facts.specs.Facts.{AreFactsSoFar}
-use Rattle.cas_facts.specs.Told.{told, all_told}
+use Rattle.cas_facts.specs.Told.{all_told}
 use Rattle.cas_facts.specs.declared.facts.Facts.{Facts}
 use Rattle.cas_fragments.specs.Spelling.{fragment_bytes, body_bytes, block_bytes}
 use Rattle.cas_fragments.specs.Blocks.{is_full, last_block, blocks_from, blocks_of, blocks_bytes, behind_statics}
 use Rattle.cas_fragments.specs.Laws.{joined}
 use Rattle.cas_fragments.specs.declared.blocks.TheConstants.{BLOCK_LEAST}
 use Rattle.cas_tables.specs.Places.{block_entries}
-use Rattle.cas_index.specs.declared.entries.BlockEntry.{BlockEntry}
 use Rattle.cas_sstwrite.specs.declared.held.Part.{Part}
 use Rattle.cas_sstwrite.specs.declared.held.Sink.{Sink}
 use Rattle.cas_sstwrite.specs.Inner.Sinks.{Took}

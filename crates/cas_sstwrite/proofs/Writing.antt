@@ -1,6 +1,5 @@
 -- A partition stands behind those that were written.
-use Rattle.std.proofs.Common.{◌≡◌, ℕ, ◌+◌, ◌<◌, ◌≤◌, ◌^◌, true, List, [], ◌∷◌, ◌++◌, map, length, Option, None, Some, refl, sym, ap, subst, ◌∙◌, append_assoc, arith}
-use Rattle.std.specs.Prelude.{IfSome}
+use Rattle.std.proofs.Common.{◌≡◌, ℕ, ◌+◌, ◌≤◌, true, List, [], ◌∷◌, ◌++◌, map, length, Option, None, Some, refl, sym, ap, subst, ◌∙◌, append_assoc, arith}
 use Rattle.std.specs.List.{AllByRecursion, flat_map, last_or}
 use Rattle.std.specs.List.Sorted.{IsStrictlySortedBy}
 use Rattle.std.specs.Ordering.{is_lt}
@@ -14,32 +13,27 @@ use Rattle.cas_types.specs.declared.schema.Column.{Column}
 use Rattle.cas_atoms.specs.declared.atom.Atom.{Atom}
 use Rattle.cas_cell.specs.declared.deletion.Deletion.{Deletion}
 use Rattle.cas_bounds.specs.declared.cuts.Cut.{Cut}
-use Rattle.cas_disk.specs.Disk.{Appends}
 use Rattle.cas_info.specs.declared.info.TheConstants.{LAST_LEVEL}
 use Rattle.cas_streams.specs.Flat.{Change, changes, at_end, own, ranges, flat}
-use Rattle.cas_streams.specs.Streams.{IsThere, Differ, IsFragment, WellFormed}
-use Rattle.cas_streams.specs.Joined.{Stream}
+use Rattle.cas_streams.specs.Streams.{IsThere, WellFormed}
 use Rattle.cas_streams.specs.Merged.{flat_of, flats}
 use Rattle.cas_streams.specs.declared.fragment.Fragment.{Fragment}
 use Rattle.cas_streams.specs.declared.fragment.Fragment.TheVariants as fragment
 use Rattle.cas_facts.specs.Facts.{AreFactsSoFar}
-use Rattle.cas_facts.specs.Told.{all_told}
 use Rattle.cas_facts.proofs.Streams.{streams_tell_their_facts}
-use Rattle.cas_fragments.specs.Spelling.{body_bytes}
-use Rattle.cas_fragments.specs.Blocks.{blocks_of, statics_in, behind_statics, head_bytes, partition_bytes}
+use Rattle.cas_fragments.specs.Blocks.{partition_bytes}
 use Rattle.cas_index.specs.Entries.{is_next_key}
 use Rattle.cas_index.specs.declared.entries.PartitionEntry.{PartitionEntry}
 use Rattle.cas_tables.specs.declared.header.Header.{Header}
 use Rattle.cas_tables.specs.declared.header.Version.TheVariants.{Second}
 use Rattle.cas_tables.specs.Allowed.{FitsHeader}
 use Rattle.cas_tables.specs.Spelling.{header_bytes}
-use Rattle.cas_tables.specs.Contents.{Partition, Contents, keys, atoms_of}
+use Rattle.cas_tables.specs.Contents.{Partition}
 use Rattle.cas_tables.specs.Places.{head_of, text_of, blocks, block_entries, entries}
-use Rattle.cas_tables.specs.Files.{front_bytes, index_of}
 use Rattle.cas_tables.specs.Fitting.{FitsPartition}
 use Rattle.cas_sstwrite.specs.declared.held.Sink.{Sink}
 use Rattle.cas_sstwrite.specs.declared.held.TableWriter.{TableWriter}
-use Rattle.cas_sstwrite.specs.Writers.{Writes, FitsStream, partition_of, contents_of}
+use Rattle.cas_sstwrite.specs.Writers.{Writes, FitsStream, partition_of}
 use Rattle.cas_sstwrite.specs.Inner.Sinks.{Took}
 use Rattle.cas_sstwrite.specs.Inner.Adding.{partition_entry, AddsOne, Adds}
 

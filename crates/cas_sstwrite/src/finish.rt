@@ -1,7 +1,7 @@
 //! The end of a table file: its index, its filter, what is told of it, and its footer.
 
-ghost use Rattle.std.specs.Prelude.{◌≡◌, ◌⊎◌, ◌+◌, ◌≤◌, ◌<◌, ◌^◌, ◌++◌, ◌∷◌, [], ℕ, List as ListOf, length, map, Option, None, Some, Err, IfOk, IfSome, OnOk, IfErr, IsErrOf};
-ghost use Rattle.std.specs.List.{All};
+ghost use Rattle.std.specs.Prelude.{◌≡◌, ◌⊎◌, ◌+◌, ◌≤◌, ◌<◌, ◌^◌, ◌++◌, ◌∷◌, [], ℕ, List as ListOf, length, map, Option, None, Some, Err, IfOk, IfSome, IfNone, OnSome, OnOk, IfErr, IsErrOf};
+ghost use Rattle.std.specs.List.{All, last_or};
 ghost use Rattle.cas_types.specs.declared.schema.Column.{Column as ColumnOf};
 ghost use Rattle.cas_disk.specs.Counts.{Counted};
 ghost use Rattle.cas_info.specs.declared.info.TheConstants.{PARTITION_LIMIT};
@@ -11,8 +11,10 @@ ghost use Rattle.cas_index.specs.Allowed.{HasRooms};
 ghost use Rattle.cas_index.specs.Spelling.{index_bytes};
 ghost use Rattle.cas_tables.specs.Contents.{Partition as PartitionOf};
 ghost use Rattle.cas_sstwrite.specs.Inner.Sinks.{Took};
-ghost use Rattle.cas_sstwrite.specs.Inner.Ends.{footer_at, body_at, tail_at, info_at, with_bytes, filter_at, TailFault};
-ghost use Rattle.cas_sstwrite.specs.declared.held.TableWriter.{TableWriter as WriterOf};
+ghost use Rattle.cas_sstwrite.specs.Inner.Ends.{footer_at, body_at, tail_at, info_at, with_bytes, filter_at, TailFault, IsTold, AreEnds, Ended, EndFault};
+ghost use Rattle.cas_sstwrite.specs.Writers.{Writes, contents_of, fault_of};
+ghost use Rattle.cas_sstwrite.specs.Finished.{Finishes, FinishFault};
+ghost use Rattle.cas_sstwrite.specs.declared.fault.PartitionFault.{PartitionFault as FaultOf};
 
 use crate::fault::{PartitionFault, WriteFault};
 use crate::held::{Sink, TableWriter};
@@ -142,4 +144,84 @@ fn write_tail<D: Draft>(
     sink.append(&tail, tally)?;
     sink.sync(tally)?;
     Ok(info)
+}
+
+// The last of these partitions.
+fn last_from<'a>(first: &'a PartitionEntry, rest: &'a [PartitionEntry]) -> &'a PartitionEntry
+    ensures { last_or (Some first.now) rest.now ≡ Some result.now }
+{
+    match rest.last() {
+        Some(last) => last,
+        None => first,
+    }
+}
+
+// The first and the last of these partitions; nothing where there are none.
+fn ends(entries: &[PartitionEntry]) -> Option<(&PartitionEntry, &PartitionEntry)>
+    requires { All HasRooms entries.now }
+    ensures none { IfNone result (entries.now ≡ []) }
+    ensures some { IfSome result (λ p. AreEnds entries.now p.0.now.key p.1.now.key) }
+{
+    match entries {
+        [] => None,
+        [first, rest @ ..] => Some((first, last_from(first, rest))),
+    }
+}
+
+impl<D: Draft, E: Copy> TableWriter<D, E> {
+    // What is told of the file but for its length; nothing where nothing was written.
+    fn told(&self) -> Result<Option<TableInfo>, WriteFault>
+        ensures told { IfOk result (λ r. IsTold self.now.header.number self.now.level self.now.entries.items self.now.seen.facts r) }
+        ensures short { IfOk result (λ r. IfSome r (λ i. (length i.first < 2 ^ 16) × (length i.last < 2 ^ 16))) }
+        ensures why { IfErr result (λ e. e ≡ WriteFault.Mem) }
+    {
+        let Some(facts) = self.seen.facts else {
+            return Ok(None);
+        };
+        let Some((first, last)) = ends(&self.entries) else {
+            return Ok(None);
+        };
+        let keys = self.entries.len() as u32;
+        let info = info_of(&self.header, self.level, keys, first, last, facts)?;
+        Ok(Some(info))
+    }
+
+    // Writes what stands behind the partitions, if there are any.
+    fn end(&mut self, tally: &mut D::Tally) -> Result<Option<TableInfo>, WriteFault>
+        ensures ended { IfOk result (λ r. (columns : ListOf ColumnOf) (ps : ListOf PartitionOf) → Writes D.number D.written columns self.old ps
+            → Ended D.number D.written columns (contents_of self.old ps) self.new.sink.draft r) }
+        ensures synced { IfOk result (λ r. OnSome r (D.is_synced self.new.sink.draft)) }
+        ensures count { Counted (D.Tally.number tally.old) (D.Tally.number tally.new) (IsErrOf result WriteFault.Failed) }
+        ensures why { IfErr result (λ e. (columns : ListOf ColumnOf) (ps : ListOf PartitionOf) → Writes D.number D.written columns self.old ps
+            → EndFault (contents_of self.old ps) e) }
+    {
+        let Some(info) = self.told()? else {
+            return Ok(None);
+        };
+        let info = write_tail(self.alloc, &mut self.sink, &self.entries, info, tally)?;
+        Ok(Some(info))
+    }
+
+    /// Writes what stands behind the partitions, and makes the file last: gives what is told of it, and
+    /// the draft. None where no partition was written.
+    pub fn finish(self, tally: &mut D::Tally) -> Result<Option<(TableInfo, D)>, PartitionFault<E>>
+        ensures finished { IfOk result (λ r. (columns : ListOf ColumnOf) (ps : ListOf PartitionOf) → Writes D.number D.written columns self ps
+            → Finishes D.number D.written columns (contents_of self ps) r) }
+        ensures synced { IfOk result (λ r. IfSome r (λ p. D.is_synced p.1)) }
+        ensures broken { (e : FaultOf _) → fault_of self ≡ Some e → result ≡ Err e }
+        ensures why { IfErr result (λ e. fault_of self ≡ None → (columns : ListOf ColumnOf) (ps : ListOf PartitionOf)
+            → Writes D.number D.written columns self ps → FinishFault (contents_of self ps) e) }
+        ensures count { Counted (D.Tally.number tally.old) (D.Tally.number tally.new)
+            ((fault_of self ≡ None) × IsErrOf result (PartitionFault.Write WriteFault.Failed)) }
+    {
+        let mut writer = self;
+        if let Some(fault) = writer.broken {
+            return Err(fault);
+        }
+        match writer.end(tally) {
+            Ok(Some(info)) => Ok(Some((info, writer.sink.draft))),
+            Ok(None) => Ok(None),
+            Err(fault) => Err(PartitionFault::Write(fault)),
+        }
+    }
 }

@@ -18,7 +18,9 @@ use cas_streams::{Fragment, FragmentSource};
 use std::mem::drop;
 
 /// The next fragment; the source's fault is told as its own.
-pub(crate) fn next_of<S: FragmentSource>(source: &mut S) -> Result<Option<Fragment>, PartitionFault<S::Fault>>
+pub(crate) fn next_of<S: FragmentSource>(
+    source: &mut S,
+) -> Result<Option<Fragment>, PartitionFault<S::Fault>>
     ensures first { (fs : List FragmentOf) → S.to_come source.old ≡ Some fs → TakesFirst fs (S.to_come source.new) result }
     ensures ends { Shrinks (S.at_most source.old) (S.at_most source.new) result }
     ensures why { IfErr result (λ e. IsOfSource e (S.broken_by source.new)) }

@@ -148,13 +148,7 @@ impl<D: Draft, E: Copy> TableWriter<D, E> {
             tally,
         )?;
         self.seen = part.seen;
-        Ok(keep(
-            self.alloc,
-            &mut self.entries,
-            key,
-            place,
-            part.entries,
-        )?)
+        Ok(keep(self.alloc, &mut self.entries, key, place, part.entries)?)
     }
 
     // The same of a key that stands above those before, of a source of which nothing was asked.

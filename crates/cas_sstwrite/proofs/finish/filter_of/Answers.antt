@@ -1,5 +1,5 @@
 use Rattle.std.proofs.Common.{◌≡◌, ◌*◌, ℕ, ◌/◌, [], ap, length, arith, ◌∙◌}
-use Rattle.cas_filter.specs.Filters.{bits_for, filter_of}
+use Rattle.cas_filter.specs.Filters.{bits_for}
 use Rattle.cas_filter.proofs.FilterLaws.{length_of}
 use Rattle.cas_sstwrite.proofs.finish.filter_of.Goals as goal
 

@@ -1,9 +1,8 @@
-use Rattle.std.proofs.Common.{◌≡◌, ◌+◌, ℕ, List, [], length, Option, subst, arith}
-use Rattle.std.specs.Option.{option_to_list}
+use Rattle.std.proofs.Common.{◌≡◌, ◌+◌, ℕ, List, [], Option, subst, arith}
 use Rattle.cas_atoms.specs.declared.row.RowColumn.{RowColumn}
 use Rattle.cas_cell.specs.declared.deletion.Deletion.{Deletion}
 use Rattle.cas_streams.specs.declared.fragment.Fragment.{Fragment}
-use Rattle.cas_fragments.specs.Blocks.{head_bytes, statics_in}
+use Rattle.cas_fragments.specs.Blocks.{head_bytes}
 use Rattle.cas_sstwrite.specs.declared.fault.PartitionFault.{PartitionFault}
 use Rattle.cas_sstwrite.specs.Inner.Sinks.{Took}
 use Rattle.cas_sstwrite.specs.Inner.Parts.{Says}

@@ -1,6 +1,6 @@
-use Rattle.std.proofs.Common.{◌↔◌, ◌<◌, ◌^◌, length}
+use Rattle.std.proofs.Common.{◌↔◌, length}
 use Rattle.std.specs.List.{AllByRecursion}
-use Rattle.cas_fragments.specs.Allowed.{CellHasRoom, ColumnHasRoom}
+use Rattle.cas_fragments.specs.Allowed.{ColumnHasRoom}
 use Rattle.cas_sstwrite.proofs.rooms.each_has_room.Given as goal
 
 abbrev pub invariant-loop-rest : goal.invariant-loop-rest

@@ -1,6 +1,5 @@
 use Rattle.std.proofs.Common.{◌↔◌, ◌<◌, ◌^◌, length}
 use Rattle.std.specs.List.{AllByRecursion}
-use Rattle.cas_fragments.specs.Allowed.{CellHasRoom, ColumnHasRoom}
 use Rattle.cas_sstwrite.proofs.rooms.each_short.Given as goal
 
 abbrev pub invariant-loop-rest : goal.invariant-loop-rest

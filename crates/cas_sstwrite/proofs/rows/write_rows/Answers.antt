@@ -1,4 +1,4 @@
-use Rattle.std.proofs.Common.{◌≡◌, ◌+◌, ◌++◌, ◌∷◌, [], ℕ, List, length, Option, Some, sym, subst}
+use Rattle.std.proofs.Common.{◌≡◌, ◌+◌, [], ℕ, List, length, Option, sym, subst}
 use Rattle.cas_fragments.specs.Blocks.{behind_statics}
 use Rattle.cas_cell.specs.declared.deletion.Deletion.{Deletion}
 use Rattle.cas_streams.specs.declared.fragment.Fragment.{Fragment}

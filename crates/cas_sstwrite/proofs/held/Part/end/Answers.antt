@@ -1,4 +1,4 @@
-use Rattle.std.proofs.Common.{◌≡◌, ◌+◌, ◌++◌, ◌∷◌, [], ℕ, List, length, drop, Option, ap, subst, arith}
+use Rattle.std.proofs.Common.{◌≡◌, ◌+◌, ℕ, List, length, drop, Option, subst, arith}
 use Rattle.std.proofs.lemmas.Result.{on_ok_weaker, IfErr-weaker}
 use Rattle.cas_fragments.specs.Blocks.{behind_statics}
 use Rattle.cas_cell.specs.declared.deletion.Deletion.{Deletion}
@@ -8,7 +8,7 @@ use Rattle.cas_sstwrite.specs.declared.fault.WriteFault.{WriteFault}
 use Rattle.cas_sstwrite.specs.declared.fault.WriteFault.TheVariants.{Failed}
 use Rattle.cas_sstwrite.specs.declared.held.Part.{Part}
 use Rattle.cas_sstwrite.specs.Inner.Sinks.{Took, LongFault}
-use Rattle.cas_sstwrite.specs.Inner.Parts.{SealFault, Taken, Hinders, ended}
+use Rattle.cas_sstwrite.specs.Inner.Parts.{SealFault, Taken, Hinders}
 use Rattle.cas_sstwrite.proofs.Results.{passed_on, another}
 use Rattle.cas_sstwrite.proofs.Taking.{ends}
 use Rattle.cas_sstwrite.proofs.Hindering.{hinder_seal, hinder_end}

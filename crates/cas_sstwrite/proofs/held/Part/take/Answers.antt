@@ -1,7 +1,6 @@
-use Rattle.std.proofs.Common.{◌≡◌, ◌≤◌, ◌<◌, ◌+◌, ◌++◌, ◌∷◌, [], ℕ, List, length, drop, Option, arith}
+use Rattle.std.proofs.Common.{◌≡◌, ◌+◌, ◌++◌, ◌∷◌, ℕ, List, length, drop, Option, arith}
 use Rattle.std.proofs.lemmas.Result.{on_ok_weaker, IfErr-weaker}
 use Rattle.cas_fragments.specs.Blocks.{behind_statics}
-use Rattle.cas_fragments.specs.declared.blocks.TheConstants.{BLOCK_LEAST}
 use Rattle.cas_sstwrite.specs.Inner.Parts.{BlockFault, Taken, Hinders}
 use Rattle.cas_cell.specs.declared.deletion.Deletion.{Deletion}
 use Rattle.cas_streams.specs.declared.fragment.Fragment.{Fragment}

@@ -1,4 +1,4 @@
-use Rattle.std.proofs.Common.{◌≡◌, ℕ, List, length, Option, Some}
+use Rattle.std.proofs.Common.{◌≡◌, List, length, Some}
 use Rattle.std.proofs.lemmas.Result.{IfErr-weaker}
 use Rattle.cas_streams.specs.declared.fragment.Fragment.{Fragment}
 use Rattle.cas_sstwrite.specs.Causes.{WhyNot}

@@ -1,4 +1,4 @@
-use Rattle.std.proofs.Common.{◌≡◌, ◌++◌, List, [], ℕ, refl, ap, subst, ◌∙◌}
+use Rattle.std.proofs.Common.{◌++◌, List, ℕ, refl, ap, subst, ◌∙◌}
 use Rattle.cas_tables.specs.Spelling.{header_bytes}
 use Rattle.cas_sstwrite.specs.Inner.Sinks.{Took}
 use Rattle.cas_sstwrite.proofs.Writing.{nothing_written}
