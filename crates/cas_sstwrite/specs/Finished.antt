@@ -14,8 +14,10 @@ use Rattle.cas_tables.specs.Contents.{Contents, atoms_of}
 use Rattle.cas_tables.specs.Files.{info_of, table_bytes, IsTable}
 use Rattle.cas_tables.specs.Fitting.{FitsContents}
 
--- the draft of a table with these columns is the file of these contents, which it may have, where it tells its bytes; the info is what the file tells of itself
-pub record IsFinished {D : Type 0} (number_of : D → ℕ) (written : D → List ℕ → Type 0) (columns : List Column) (c : Contents) (told : TableInfo) (draft : D) : Type 0 where
+-- the draft of a table with these columns is the file of these contents, which it may have, where it tells its bytes; the info is what the file
+-- tells of itself
+pub record IsFinished {D : Type 0} (number_of : D → ℕ) (written : D → List ℕ → Type 0) (columns : List Column) (c : Contents) (told : TableInfo)
+    (draft : D) : Type 0 where
   pub fits : FitsContents columns c
   pub facts : Facts
   pub of_atoms : AreFacts (atoms_of c) facts

@@ -40,7 +40,8 @@ contents_of w ps = record { header = w.header; level = w.level; partitions = ps 
 
 -- The writer has written these partitions of a table with these columns: its draft has, where it tells its bytes, the header and their texts; and what will
 -- stand behind these is known.
-pub record Writes {D E : Type 0} (number_of : D → ℕ) (written : D → List ℕ → Type 0) (columns : List Column) (w : TableWriter D E) (ps : List Partition) : Type 0 where
+pub record Writes {D E : Type 0} (number_of : D → ℕ) (written : D → List ℕ → Type 0) (columns : List Column) (w : TableWriter D E)
+    (ps : List Partition) : Type 0 where
   pub header : FitsHeader w.header
   pub version : w.header.version ≡ Second
   pub level : w.level ≤ LAST_LEVEL

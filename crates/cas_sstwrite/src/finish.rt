@@ -1,14 +1,13 @@
 //! The end of a table file: its index, its filter, what is told of it, and its footer.
 
-ghost use Rattle.std.specs.Prelude.{◌≡◌, ◌⊎◌, ◌+◌, ◌≤◌, ◌<◌, ◌^◌, ◌++◌, ◌∷◌, [], ℕ, List as ListOf, length, map, Option, None, Some, Err, IfOk, IfSome, IfNone, OnSome, OnOk, IfErr, IsErrOf};
+ghost use Rattle.std.specs.Prelude.{◌≡◌, ◌+◌, ◌≤◌, ◌<◌, ◌^◌, [], List as ListOf, length, map, Option};
+ghost use Rattle.std.specs.Prelude.{None, Some, Err, IfOk, IfSome, IfNone, OnSome, OnOk, IfErr, IsErrOf};
 ghost use Rattle.std.specs.List.{All, last_or};
 ghost use Rattle.cas_types.specs.declared.schema.Column.{Column as ColumnOf};
 ghost use Rattle.cas_disk.specs.Counts.{Counted};
 ghost use Rattle.cas_info.specs.declared.info.TheConstants.{PARTITION_LIMIT};
 ghost use Rattle.cas_filter.specs.Filters.{bits_for, filter_of};
-ghost use Rattle.cas_filter.specs.Spelling.{filter_bytes};
 ghost use Rattle.cas_index.specs.Allowed.{HasRooms};
-ghost use Rattle.cas_index.specs.Spelling.{index_bytes};
 ghost use Rattle.cas_tables.specs.Contents.{Partition as PartitionOf};
 ghost use Rattle.cas_sstwrite.specs.Inner.Sinks.{Took};
 ghost use Rattle.cas_sstwrite.specs.Inner.Ends.{footer_at, body_at, tail_at, info_at, with_bytes, filter_at, TailFault, IsTold, AreEnds, Ended, EndFault};

@@ -1,7 +1,6 @@
 //! A partition while it is written: of its rows and markers no more than a block is held.
 
-ghost use Rattle.std.specs.Prelude.{◌≡◌, ◌≤◌, ◌<◌, ◌+◌, ◌++◌, ◌∷◌, [], ◌^◌, ℕ, List, length, drop, vec_len, Option, IfOk, OnOk, IfErr, OnErr, IsErrOf, ⊤};
-ghost use Rattle.std.specs.List.{All};
+ghost use Rattle.std.specs.Prelude.{◌≡◌, ◌≤◌, ◌<◌, ◌+◌, ◌++◌, ◌∷◌, [], ◌^◌, ℕ, List, length, drop, vec_len, Option, IfOk, OnOk, IfErr, IsErrOf};
 ghost use Rattle.cas_codec.specs.Fields.{u32};
 ghost use Rattle.cas_cell.specs.declared.deletion.Deletion.{Deletion as DeletionOf};
 ghost use Rattle.cas_streams.specs.declared.fragment.Fragment.{Fragment as FragmentOf};
@@ -10,10 +9,9 @@ ghost use Rattle.cas_fragments.specs.Blocks.{behind_statics};
 ghost use Rattle.cas_disk.specs.Counts.{Counted};
 ghost use Rattle.cas_streams.specs.Joined.{opened};
 ghost use Rattle.cas_tables.specs.Places.{first_cut};
-ghost use Rattle.cas_index.specs.Allowed.{HasRoom};
 ghost use Rattle.cas_sstwrite.specs.Rooms.{IsHeld};
-ghost use Rattle.cas_sstwrite.specs.Inner.Sinks.{Took};
-ghost use Rattle.cas_sstwrite.specs.Inner.Parts.{Taken, Closes, SealFault, BlockFault, Goes, Ends, Hinders, Added, AddFault, with_block, with_entry, entry_of, ended};
+ghost use Rattle.cas_sstwrite.specs.Inner.Parts.{Taken, Closes, SealFault, BlockFault, Goes, Ends};
+ghost use Rattle.cas_sstwrite.specs.Inner.Parts.{Hinders, Added, AddFault, with_block, with_entry, entry_of, ended};
 ghost use Rattle.cas_sstwrite.specs.declared.fault.TheConstants.{BLOCK_LIMIT};
 
 use crate::fault::{BLOCK_LIMIT, Measure, WriteFault};

@@ -2,9 +2,7 @@
 
 ghost use Rattle.std.specs.Prelude.{◌≡◌, ◌<◌, ◌^◌, ℕ, List, [], length, Option, IfOk, OnOk, IfErr, IsErrOf, None};
 ghost use Rattle.std.specs.Option.{option_to_list};
-ghost use Rattle.cas_cell.specs.declared.deletion.Deletion.{Deletion as DeletionOf};
 ghost use Rattle.cas_streams.specs.declared.fragment.Fragment.{Fragment as FragmentOf};
-ghost use Rattle.cas_facts.specs.declared.facts.Facts.{Facts as FactsOf};
 ghost use Rattle.cas_disk.specs.Counts.{Counted};
 ghost use Rattle.cas_fragments.specs.Blocks.{head_bytes, statics_in};
 ghost use Rattle.cas_sstwrite.specs.Inner.Sinks.{Took};

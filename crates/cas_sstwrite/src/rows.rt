@@ -1,6 +1,6 @@
 //! The rows and markers of a partition, as a source gives them.
 
-ghost use Rattle.std.specs.Prelude.{◌≡◌, ◌+◌, ◌++◌, ◌∷◌, [], ℕ, List, length, Option, Some, IfOk, OnOk, IfErr, IsErrOf};
+ghost use Rattle.std.specs.Prelude.{◌≡◌, ◌+◌, ◌++◌, ◌∷◌, [], ℕ, List, length, Option, Some, OnOk, IfErr, IsErrOf};
 ghost use Rattle.cas_cell.specs.declared.deletion.Deletion.{Deletion as DeletionOf};
 ghost use Rattle.cas_streams.specs.declared.fragment.Fragment.{Fragment as FragmentOf};
 ghost use Rattle.cas_streams.specs.Sources.{TakesFirst, Shrinks};
@@ -9,7 +9,7 @@ ghost use Rattle.cas_disk.specs.Counts.{Counted};
 ghost use Rattle.cas_streams.specs.Streams.{IsThere};
 ghost use Rattle.cas_fragments.specs.Blocks.{behind_statics};
 ghost use Rattle.cas_sstwrite.specs.Causes.{IsOwn};
-ghost use Rattle.cas_sstwrite.specs.Inner.Parts.{Taken, Goes, Hinders, IsOfSource, RowsFault, GoesOn, WroteRows, Says};
+ghost use Rattle.cas_sstwrite.specs.Inner.Parts.{Taken, IsOfSource, RowsFault, GoesOn, WroteRows, Says};
 
 use crate::fault::{PartitionFault, WriteFault};
 use crate::held::{Part, Sink};

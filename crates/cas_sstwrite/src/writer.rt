@@ -1,6 +1,7 @@
 //! Writes a table file, partition by partition.
 
-ghost use Rattle.std.specs.Prelude.{◌≡◌, ◌⊎◌, ◌+◌, ◌≤◌, ◌<◌, ◌^◌, ◌++◌, ◌∷◌, ℕ, [], List as ListOf, length, true, false, Option, None, Some, Err, vec_len, IfOk, OnOk, OnErr, IfErr, IsErrOf};
+ghost use Rattle.std.specs.Prelude.{◌≡◌, ◌⊎◌, ◌+◌, ◌≤◌, ◌<◌, ◌^◌, ◌++◌, ◌∷◌, ℕ, [], List as ListOf};
+ghost use Rattle.std.specs.Prelude.{length, true, false, Option, None, Some, Err, vec_len, IfOk, OnOk, IfErr, IsErrOf};
 ghost use Rattle.std.specs.List.{All, last_or};
 ghost use Rattle.std.specs.Option.{option_copied};
 ghost use Rattle.cas_types.specs.declared.schema.Column.{Column as ColumnOf};

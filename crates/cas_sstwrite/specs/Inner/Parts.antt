@@ -114,14 +114,16 @@ BlockFault place long Unfit = ⊥
 BlockFault place long Mem = Unit {0}
 
 -- one fragment more was taken
-pub record Goes {D : Type 0} (number_of : D → ℕ) (written : D → List ℕ → Type 0) (start : ℕ) (before : Option Facts) (top : Option Deletion) (gs : List Fragment)
+pub record Goes {D : Type 0} (number_of : D → ℕ) (written : D → List ℕ → Type 0) (start : ℕ) (before : Option Facts) (top : Option Deletion)
+    (gs : List Fragment)
     (s t : Sink D) (new : Part) (text : List ℕ) : Type 0 where
   pub more : List ℕ
   pub took : Took number_of written more s t
   pub taken : Taken start before top gs new (text ++ more)
 
 -- the partition ended: its blocks were written, and the length of 0
-pub record Ends {D : Type 0} (number_of : D → ℕ) (written : D → List ℕ → Type 0) (start : ℕ) (before : Option Facts) (top : Option Deletion) (gs : List Fragment)
+pub record Ends {D : Type 0} (number_of : D → ℕ) (written : D → List ℕ → Type 0) (start : ℕ) (before : Option Facts) (top : Option Deletion)
+    (gs : List Fragment)
     (s t : Sink D) (new : Part) (text : List ℕ) : Type 0 where
   pub more : List ℕ
   pub took : Took number_of written more s t
@@ -164,21 +166,24 @@ RowsFault start rows (Write e) = Hinders start rows e
 RowsFault start rows (Source e) = Unit {0}
 
 -- on the way: some were taken, and the others are to come
-pub record GoneOn {D : Type 0} (number_of : D → ℕ) (written : D → List ℕ → Type 0) (start : ℕ) (before : Option Facts) (top : Option Deletion) (gs : List Fragment)
+pub record GoneOn {D : Type 0} (number_of : D → ℕ) (written : D → List ℕ → Type 0) (start : ℕ) (before : Option Facts) (top : Option Deletion)
+    (gs : List Fragment)
     (s t : Sink D) (new : Part) (text : List ℕ) (told now : Option (List Fragment)) : Type 0 where
   pub given : List Fragment
   pub goes : Goes number_of written start before top (gs ++ given) s t new text
   pub left : (fs : List Fragment) → told ≡ Some fs → (rest : List Fragment) × (now ≡ Some rest) × (fs ≡ given ++ rest)
 
 -- of a source these rows and markers were taken
-pub record GoesOn {D : Type 0} (number_of : D → ℕ) (written : D → List ℕ → Type 0) (start : ℕ) (before : Option Facts) (top : Option Deletion) (gs : List Fragment)
+pub record GoesOn {D : Type 0} (number_of : D → ℕ) (written : D → List ℕ → Type 0) (start : ℕ) (before : Option Facts) (top : Option Deletion)
+    (gs : List Fragment)
     (s t : Sink D) (new : Part) (text : List ℕ) (told : Option (List Fragment)) : Type 0 where
   pub given : List Fragment
   pub goes : Goes number_of written start before top (gs ++ given) s t new text
   pub all : (fs : List Fragment) → told ≡ Some fs → given ≡ fs
 
 -- the rows and markers of a partition were written, and its end
-pub record WroteRows {D : Type 0} (number_of : D → ℕ) (written : D → List ℕ → Type 0) (start : ℕ) (before : Option Facts) (top : Option Deletion) (first : Option Fragment)
+pub record WroteRows {D : Type 0} (number_of : D → ℕ) (written : D → List ℕ → Type 0) (start : ℕ) (before : Option Facts) (top : Option Deletion)
+    (first : Option Fragment)
     (s t : Sink D) (new : Part) (text : List ℕ) (told : Option (List Fragment)) : Type 0 where
   pub given : List Fragment
   pub ends : Ends number_of written start before top given s t new text

@@ -35,7 +35,8 @@ HeadFault place key top cs Unfit = (length key < 2 ^ 16) × HaveRoom cs → ⊥
 HeadFault place key top cs Mem = Unit {0}
 
 -- the partition was written, of the fragments that were given; what the index is to tell of its blocks, and what was seen
-pub record WrotePartition {D : Type 0} (number_of : D → ℕ) (written : D → List ℕ → Type 0) (under : List ℕ) (top : Option Deletion) (first : Option Fragment)
+pub record WrotePartition {D : Type 0} (number_of : D → ℕ) (written : D → List ℕ → Type 0) (under : List ℕ) (top : Option Deletion)
+    (first : Option Fragment)
     (before : Option Facts) (s t : Sink D) (new : Part) (told : Option (List Fragment)) : Type 0 where
   pub given : List Fragment
   pub took : Took number_of written (partition_bytes under top given) s t
