@@ -11,7 +11,7 @@ ghost use Rattle.cas_streams.specs.Joined.{opened};
 ghost use Rattle.cas_tables.specs.Places.{first_cut};
 ghost use Rattle.cas_sstwrite.specs.Rooms.{IsHeld};
 ghost use Rattle.cas_sstwrite.specs.Inner.Parts.{Taken, Closes, SealFault, BlockFault, Goes, Ends};
-ghost use Rattle.cas_sstwrite.specs.Inner.Parts.{Hinders, Added, AddFault, with_block, with_entry, entry_of, ended};
+ghost use Rattle.cas_sstwrite.specs.Inner.Parts.{Hinders, IsOfPart, Added, AddFault, with_block, with_entry, entry_of, ended};
 ghost use Rattle.cas_sstwrite.specs.declared.fault.TheConstants.{BLOCK_LIMIT};
 
 use crate::fault::{BLOCK_LIMIT, Measure, WriteFault};
@@ -156,6 +156,7 @@ impl Part {
             → Taken start before top gs self.old text → sink.old.place ≡ start + length text
             → Goes D.number D.written start before top (gs ++ fragment.now ∷ []) sink.old sink.new self.new text) }
         ensures count { Counted (D.Tally.number tally.old) (D.Tally.number tally.new) (IsErrOf result WriteFault.Failed) }
+        ensures kind { IfErr result (λ e. IsOfPart e) }
         ensures why { IfErr result (λ e. (start : ℕ) (before : Option FactsOf) (top : Option DeletionOf) (gs : List FragmentOf) (text : List ℕ)
             → Taken start before top gs self.old text → sink.old.place ≡ start + length text
             → (rest : List FragmentOf) → Hinders start (behind_statics gs ++ fragment.now ∷ rest) e) }
@@ -179,6 +180,7 @@ impl Part {
             → Taken start before top [] self.old text → sink.old.place ≡ start + length text
             → Goes D.number D.written start before top (fragment.now ∷ []) sink.old sink.new self.new text) }
         ensures count { Counted (D.Tally.number tally.old) (D.Tally.number tally.new) (IsErrOf result WriteFault.Failed) }
+        ensures kind { IfErr result (λ e. IsOfPart e) }
         ensures why { IfErr result (λ e. (start : ℕ) (before : Option FactsOf) (top : Option DeletionOf) (text : List ℕ)
             → Taken start before top [] self.old text → sink.old.place ≡ start + length text
             → (rest : List FragmentOf) → Hinders start (behind_statics (fragment.now ∷ rest)) e) }
@@ -217,6 +219,7 @@ impl Part {
             → Taken start before top gs self.old text → sink.old.place ≡ start + length text
             → Ends D.number D.written start before top gs sink.old sink.new self.new text) }
         ensures count { Counted (D.Tally.number tally.old) (D.Tally.number tally.new) (IsErrOf result WriteFault.Failed) }
+        ensures kind { IfErr result (λ e. IsOfPart e) }
         ensures why { IfErr result (λ e. (start : ℕ) (before : Option FactsOf) (top : Option DeletionOf) (gs : List FragmentOf) (text : List ℕ)
             → Taken start before top gs self.old text → sink.old.place ≡ start + length text → Hinders start (behind_statics gs) e) }
     {

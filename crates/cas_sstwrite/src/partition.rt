@@ -7,7 +7,7 @@ ghost use Rattle.cas_disk.specs.Counts.{Counted};
 ghost use Rattle.cas_fragments.specs.Blocks.{head_bytes, statics_in};
 ghost use Rattle.cas_sstwrite.specs.Inner.Sinks.{Took};
 ghost use Rattle.cas_sstwrite.specs.Causes.{IsOwn};
-ghost use Rattle.cas_sstwrite.specs.Inner.Parts.{Taken, Says};
+ghost use Rattle.cas_sstwrite.specs.Inner.Parts.{IsOfRows, Taken, Says};
 ghost use Rattle.cas_sstwrite.specs.Inner.Whole.{HeadFault, WrotePartition, PartFault};
 
 use crate::fault::{PartitionFault, WriteFault};
@@ -85,6 +85,7 @@ pub(crate) fn write_partition<D: Draft, S: FragmentSource>(
 ) -> Result<Part, PartitionFault<S::Fault>>
     ensures wrote { IfOk result (λ part. WrotePartition D.number D.written key.now top first seen.facts sink.old sink.new part (S.to_come source.old)) }
     ensures count { Counted (D.Tally.number tally.old) (D.Tally.number tally.new) (IsErrOf result (PartitionFault.Write WriteFault.Failed)) }
+    ensures kind { IfErr result (λ e. IsOfRows e) }
     ensures why { IfErr result (λ e. (fs : List FragmentOf) → Says first (S.to_come source.old) fs → PartFault sink.old.place key.now top fs e) }
     ensures own { IfErr result (λ e. IsOwn e (S.broken_by source.new)) }
 {

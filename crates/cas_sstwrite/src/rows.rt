@@ -9,7 +9,7 @@ ghost use Rattle.cas_disk.specs.Counts.{Counted};
 ghost use Rattle.cas_streams.specs.Streams.{IsThere};
 ghost use Rattle.cas_fragments.specs.Blocks.{behind_statics};
 ghost use Rattle.cas_sstwrite.specs.Causes.{IsOwn};
-ghost use Rattle.cas_sstwrite.specs.Inner.Parts.{Taken, IsOfSource, RowsFault, GoesOn, WroteRows, Says};
+ghost use Rattle.cas_sstwrite.specs.Inner.Parts.{IsOfRows, Taken, IsOfSource, RowsFault, GoesOn, WroteRows, Says};
 
 use crate::fault::{PartitionFault, WriteFault};
 use crate::held::{Part, Sink};
@@ -42,6 +42,7 @@ fn take_rest<D: Draft, S: FragmentSource>(
         → Taken start before top gs part.old text → sink.old.place ≡ start + length text
         → GoesOn D.number D.written start before top gs sink.old sink.new part.new text (S.to_come source.old)) }
     ensures count { Counted (D.Tally.number tally.old) (D.Tally.number tally.new) (IsErrOf result (PartitionFault.Write WriteFault.Failed)) }
+    ensures kind { IfErr result (λ e. IsOfRows e) }
     ensures why { IfErr result (λ e. (start : ℕ) (before : Option FactsOf) (top : Option DeletionOf) (gs : List FragmentOf) (text : List ℕ)
         → IsThere gs → Taken start before top gs part.old text → sink.old.place ≡ start + length text
         → (fs : List FragmentOf) → S.to_come source.old ≡ Some fs → RowsFault start (behind_statics (gs ++ fs)) e) }
@@ -67,6 +68,7 @@ fn take_all<D: Draft, S: FragmentSource>(
         → Taken start before top [] part.old text → sink.old.place ≡ start + length text
         → GoesOn D.number D.written start before top (first ∷ []) sink.old sink.new part.new text (S.to_come source.old)) }
     ensures count { Counted (D.Tally.number tally.old) (D.Tally.number tally.new) (IsErrOf result (PartitionFault.Write WriteFault.Failed)) }
+    ensures kind { IfErr result (λ e. IsOfRows e) }
     ensures why { IfErr result (λ e. (start : ℕ) (before : Option FactsOf) (top : Option DeletionOf) (text : List ℕ)
         → Taken start before top [] part.old text → sink.old.place ≡ start + length text
         → (fs : List FragmentOf) → S.to_come source.old ≡ Some fs → RowsFault start (behind_statics (first ∷ fs)) e) }
@@ -91,6 +93,7 @@ pub(crate) fn write_rows<D: Draft, S: FragmentSource>(
         → Taken start before top [] part.old text → sink.old.place ≡ start + length text
         → WroteRows D.number D.written start before top first sink.old sink.new part.new text (S.to_come source.old)) }
     ensures count { Counted (D.Tally.number tally.old) (D.Tally.number tally.new) (IsErrOf result (PartitionFault.Write WriteFault.Failed)) }
+    ensures kind { IfErr result (λ e. IsOfRows e) }
     ensures why { IfErr result (λ e. (start : ℕ) (before : Option FactsOf) (top : Option DeletionOf) (text : List ℕ)
         → Taken start before top [] part.old text → sink.old.place ≡ start + length text
         → (fs : List FragmentOf) → Says first (S.to_come source.old) fs → RowsFault start (behind_statics fs) e) }

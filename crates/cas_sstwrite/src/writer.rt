@@ -1,6 +1,6 @@
 //! Writes a table file, partition by partition.
 
-ghost use Rattle.std.specs.Prelude.{◌≡◌, ◌⊎◌, ◌+◌, ◌≤◌, ◌<◌, ◌^◌, ◌++◌, ◌∷◌, ℕ, [], List as ListOf};
+ghost use Rattle.std.specs.Prelude.{◌≡◌, ◌↔◌, ◌⊎◌, ◌+◌, ◌≤◌, ◌<◌, ◌^◌, ◌++◌, ◌∷◌, ℕ, [], List as ListOf};
 ghost use Rattle.std.specs.Prelude.{length, true, false, Option, None, Some, Err, vec_len, IfOk, OnOk, IfErr, IsErrOf};
 ghost use Rattle.std.specs.List.{All, last_or};
 ghost use Rattle.std.specs.Option.{option_copied};
@@ -126,6 +126,7 @@ impl<D: Draft, E: Copy> TableWriter<D, E> {
         ensures added { OnOk result (AddsFirst D.number D.written key.now top first self.old self.new (S.to_come source.old)) }
         ensures broken { self.new.broken ≡ self.old.broken }
         ensures count { Counted (D.Tally.number tally.old) (D.Tally.number tally.new) (IsErrOf result (PartitionFault.Write WriteFault.Failed)) }
+        ensures kind { IfErr result (λ e. e ≡ PartitionFault.Write WriteFault.Order → ⊥) }
         ensures why { IfErr result (λ e. (fs : ListOf FragmentOf) → Says first (S.to_come source.old) fs
             → WrittenFault (length self.old.entries.items) self.old.sink.place key.now top fs e) }
         ensures own { IfErr result (λ e. IsOwn e (S.broken_by source.new)) }
@@ -162,6 +163,7 @@ impl<D: Draft, E: Copy> TableWriter<D, E> {
         ensures added { OnOk result (AddsTold D.number D.written key.now (S.over_all source.old) self.old self.new (S.to_come source.old)) }
         ensures broken { self.new.broken ≡ self.old.broken }
         ensures count { Counted (D.Tally.number tally.old) (D.Tally.number tally.new) (IsErrOf result (PartitionFault.Write WriteFault.Failed)) }
+        ensures kind { IfErr result (λ e. e ≡ PartitionFault.Write WriteFault.Order → ⊥) }
         ensures why { IfErr result (λ e. (fs : ListOf FragmentOf) → S.to_come source.old ≡ Some fs
             → WrittenFault (length self.old.entries.items) self.old.sink.place key.now (S.over_all source.old) fs e) }
         ensures own { IfErr result (λ e. IsOwn e (S.broken_by source.new)) }
@@ -189,7 +191,7 @@ impl<D: Draft, E: Copy> TableWriter<D, E> {
         ensures why { IfErr result (λ e. (fs : ListOf FragmentOf) → S.to_come source.old ≡ Some fs
             → WhyNot self.old.entries.items self.old.sink.place key.now (S.over_all source.old) fs e) }
         ensures own { IfErr result (λ e. IsOwn e (S.broken_by source.new)) }
-        ensures order { is_next_key (last_or None self.old.entries.items) key.now ≡ false → result ≡ Err (PartitionFault.Write WriteFault.Order) }
+        ensures order { (result ≡ Err (PartitionFault.Write WriteFault.Order)) ↔ (is_next_key (last_or None self.old.entries.items) key.now ≡ false) }
     {
         if !is_next(&self.entries, key) {
             return Err(PartitionFault::Write(WriteFault::Order));
@@ -211,8 +213,8 @@ impl<D: Draft, E: Copy> TableWriter<D, E> {
         ensures why { IfErr result (λ e. fault_of self.old ≡ None → (fs : ListOf FragmentOf) → S.to_come source.old ≡ Some fs
             → WhyNot (entries_of self.old) (place_of self.old) key.now (S.over_all source.old) fs e) }
         ensures own { IfErr result (λ e. fault_of self.old ≡ None → IsOwn e (S.broken_by source.new)) }
-        ensures order { fault_of self.old ≡ None → is_next_key (last_or None (entries_of self.old)) key.now ≡ false
-            → result ≡ Err (PartitionFault.Write WriteFault.Order) }
+        ensures order { fault_of self.old ≡ None → ((result ≡ Err (PartitionFault.Write WriteFault.Order))
+            ↔ (is_next_key (last_or None (entries_of self.old)) key.now ≡ false)) }
         ensures repeats { Repeats (fault_of self.old) (fault_of self.new) result }
         ensures count { Counted (D.Tally.number tally.old) (D.Tally.number tally.new)
             ((fault_of self.old ≡ None) × IsErrOf result (PartitionFault.Write WriteFault.Failed)) }

@@ -189,3 +189,18 @@ pub record WroteRows {D : Type 0} (number_of : D → ℕ) (written : D → List 
   pub ends : Ends number_of written start before top given s t new text
   pub front : BeginWith first given
   pub all : (fs : List Fragment) → Says first told fs → given ≡ fs
+
+-- a fault of a partition that is being written: neither that of its key nor that of the number of partitions
+abbrev pub IsOfPart : WriteFault → Type 0
+IsOfPart Failed = Unit {0}
+IsOfPart Order = ⊥
+IsOfPart (TooMany FileBytes limit) = Unit {0}
+IsOfPart (TooMany BlockBytes limit) = Unit {0}
+IsOfPart (TooMany Partitions limit) = ⊥
+IsOfPart Unfit = Unit {0}
+IsOfPart Mem = Unit {0}
+
+-- or one of its source
+abbrev pub IsOfRows : {E : Type 0} → PartitionFault E → Type 0
+IsOfRows (Write e) = IsOfPart e
+IsOfRows (Source e) = Unit {0}
