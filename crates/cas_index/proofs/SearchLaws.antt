@@ -27,9 +27,9 @@ use Rattle.cas_index.specs.declared.entries.BlockAt.{BlockAt}
 use Rattle.cas_index.specs.declared.entries.BlockEntry.{BlockEntry}
 use Rattle.cas_index.specs.declared.entries.PartitionEntry.{PartitionEntry}
 use Rattle.cas_index.specs.Entries.{Index}
-use Rattle.cas_index.specs.Allowed.{Chain, IsNextBlock, IsNextPartition, AreEntries}
+use Rattle.cas_index.specs.Allowed.{Chain, IsNextBlock, IsNextPartition, AreEntries, HasRoom, HasRooms}
 use Rattle.cas_index.specs.Searches.{IsFirst, HasKey, is_after, IsNextAfter, begins_before, next_is_above, can_meet, IsBlockFor}
-use Rattle.cas_index.specs.Inner.Rooms.{HasRoom, HasRooms, KeysAscend, BlocksInOrder}
+use Rattle.cas_index.specs.Inner.Rooms.{KeysAscend, BlocksInOrder}
 use Rattle.cas_index.proofs.Searching.{chain_ascends, chain_rises, chain_each, chain_more, lt_less, turned, not_gt, none_within, some_at, get_or_any, ascend_rises, parted_upto, parted_below, meets, none_meets, no_items, all_late, first_meets}
 
 -- ---- what each partition and each block of an index is

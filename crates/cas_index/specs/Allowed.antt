@@ -1,6 +1,7 @@
 -- Which indexes and footers a table file may have.
 -- Own format.
 use Rattle.std.specs.Prelude.{◌≡◌, ◌<◌, ◌≤◌, ◌^◌, ℕ, true, List, [], ◌∷◌, length, Option, None, Some, IfSome}
+use Rattle.std.specs.List.{All, AllByRecursion}
 use Rattle.cas_atoms.specs.Fits.{FitsKey, FitsCut, FitsDeletion}
 use Rattle.cas_bounds.specs.declared.order.Ordered.{Ordered}
 use Rattle.cas_info.specs.declared.info.TheConstants.{PARTITION_LIMIT}
@@ -45,3 +46,16 @@ FitsIndex order partitions = (1 ≤ length partitions) × AreEntries order parti
 -- places have room in eight bytes
 abbrev pub FitsFooter : Footer → Type 0
 FitsFooter f = (f.index < 2 ^ 64) × (f.filter < 2 ^ 64) × (f.info < 2 ^ 64)
+
+-- ---- what has room in its fields
+
+-- fewer than 256 values in the cut, each of fewer than 65,536 bytes
+pub record HasRoom (b : BlockEntry) : Type 0 where
+  pub few : length b.cut.prefix < 2 ^ 8
+  pub short : AllByRecursion (λ v. length v < 2 ^ 16) b.cut.prefix
+
+-- a key of fewer than 65,536 bytes, fewer than 2^32 blocks, and each of them with room
+pub record HasRooms (p : PartitionEntry) : Type 0 where
+  pub key : length p.key < 2 ^ 16
+  pub few : length p.blocks < 2 ^ 32
+  pub blocks : All HasRoom p.blocks

@@ -15,4 +15,4 @@ pub use footer::{FOOTER_LENGTH, Footer, put_footer, read_footer};
 pub use index::PartitionIndex;
 pub use laws::{footers_are_exact, indexes_are_exact, indexes_by_hand};
 pub use reading::read_index;
-pub use writing::put_index;
+pub use writing::{put_entries, put_index};

@@ -6,7 +6,7 @@ ghost use Rattle.std.specs.Vec.{vec_capacity};
 ghost use Rattle.cas_codec.specs.Fields.{maybe};
 ghost use Rattle.cas_records.specs.Spelling.{deletion_bytes};
 ghost use Rattle.cas_index.specs.Spelling.{block_bytes, head_bytes, partition_bytes, index_bytes};
-ghost use Rattle.cas_index.specs.Inner.Rooms.{HasRoom, HasRooms};
+ghost use Rattle.cas_index.specs.Allowed.{HasRoom, HasRooms};
 
 use crate::entries::{BlockEntry, PartitionEntry};
 use crate::index::PartitionIndex;
@@ -108,16 +108,36 @@ fn put_partitions(out: &mut Vec<u8>, partitions: &[PartitionEntry]) -> Result<()
 }
 
 // Adds the partitions after their number.
-fn put_all(out: &mut Vec<u8>, index: &PartitionIndex) -> Result<(), Mem>
-    ensures written { OnOk result (out.new.items ≡ out.old.items ++ index_bytes index.now.partitions) }
-    ensures length { OnOk result (vec_len out.new ≡ vec_len out.old + length (index_bytes index.now.partitions)) }
+fn put_all(out: &mut Vec<u8>, partitions: &[PartitionEntry]) -> Result<(), Mem>
+    requires few { length partitions.now < 2 ^ 32 }
+    requires rooms { All HasRooms partitions.now }
+    ensures written { OnOk result (out.new.items ≡ out.old.items ++ index_bytes partitions.now) }
+    ensures length { OnOk result (vec_len out.new ≡ vec_len out.old + length (index_bytes partitions.now)) }
     ensures kept { OnErr result (take (vec_len out.old) out.new.items ≡ out.old.items) }
-    ensures full { OnErr result (vec_capacity out.old < vec_len out.old + length (index_bytes index.now.partitions)) }
+    ensures full { OnErr result (vec_capacity out.old < vec_len out.old + length (index_bytes partitions.now)) }
     ensures capacity { vec_capacity out.old ≤ vec_capacity out.new }
 {
-    let partitions = index.as_slice();
     put_u32(out, partitions.len() as u32)?;
     put_partitions(out, partitions)
+}
+
+/// Adds the index of these partitions, whose numbers and lengths have room in their fields; who
+/// writes a file needn't know more of them.
+pub fn put_entries(out: &mut Vec<u8>, partitions: &[PartitionEntry]) -> Result<(), Mem>
+    requires few { length partitions.now < 2 ^ 32 }
+    requires rooms { All HasRooms partitions.now }
+    ensures written { OnOk result (out.new.items ≡ out.old.items ++ index_bytes partitions.now) }
+    ensures length { OnOk result (vec_len out.new ≡ vec_len out.old + length (index_bytes partitions.now)) }
+    ensures unchanged { OnErr result (out.new.items ≡ out.old.items) }
+    ensures full { OnErr result (vec_capacity out.old < vec_len out.old + length (index_bytes partitions.now)) }
+    ensures capacity { vec_capacity out.old ≤ vec_capacity out.new }
+{
+    let start = out.len();
+    let result = put_all(out, partitions);
+    if result.is_err() {
+        out.truncate(start);
+    }
+    result
 }
 
 /// Adds an index.
@@ -128,10 +148,5 @@ pub fn put_index(out: &mut Vec<u8>, index: &PartitionIndex) -> Result<(), Mem>
     ensures full { OnErr result (vec_capacity out.old < vec_len out.old + length (index_bytes index.now.partitions)) }
     ensures capacity { vec_capacity out.old ≤ vec_capacity out.new }
 {
-    let start = out.len();
-    let result = put_all(out, index);
-    if result.is_err() {
-        out.truncate(start);
-    }
-    result
+    put_entries(out, index.as_slice())
 }

@@ -6,6 +6,7 @@ use Rattle.cas_codec.specs.Fields.{u8, u64}
 use Rattle.cas_changes.specs.declared.entry.Entry.{Entry}
 use Rattle.cas_changes.specs.declared.entry.Entry.TheVariants as entry
 use Rattle.cas_changes.specs.declared.said.TheConstants.{FILE_LIMIT, LISTED_LIMIT, SEGMENT_LIMIT}
+use Rattle.cas_changes.specs.Spelling.{entry_bytes}
 use Rattle.cas_changes.specs.Saying.{listed_after}
 use Rattle.cas_log.specs.Logs.{place_of}
 use Rattle.cas_log.specs.declared.log.Log.{Log}

@@ -1,14 +1,10 @@
 use Rattle.std.proofs.Common.{◌≡◌, take, vec_len, arith}
 use Rattle.cas_index.proofs.Lengths.{kept_of, on_err, on_any, index_long}
-use Rattle.cas_index.proofs.SearchLaws.{entries_room}
 use Rattle.cas_index.proofs.writing.put_all.Goals as goal
 
 pub returns-in_err-put_u32-clause-full : goal.returns-in_err-put_u32-clause-full
 returns-in_err-put_u32-clause-full c =
-    on_any c.from_residual.result _ (omega (arith, index_long c.args.index.now.partitions, c.in_err-put_u32.ensures.full))
-
-pub put_partitions-requires : goal.put_partitions-requires
-put_partitions-requires c = entries_room _ _ c.as_slice-partitions.ensures.entries
+    on_any c.from_residual.result _ (omega (arith, index_long c.args.partitions.now, c.in_err-put_u32.ensures.full))
 
 pub returns-clause-kept : goal.returns-clause-kept
 returns-clause-kept c =
