@@ -1,6 +1,8 @@
 -- What is left of a row, by whether something is said of its columns.
-use Rattle.std.proofs.Common.{◌≡◌, Bool, true, false, cond, ◌||◌, Option, None, Some, is_some, List, [], ◌∷◌, ◌++◌, map, refl, sym, ap, ◌∙◌, append_assoc}
+use Rattle.std.proofs.Common.{◌≡◌, Bool, true, false, cond, ◌&&◌, ◌||◌, filter, Option, None, Some, is_some, List, [], ◌∷◌, ◌++◌, map, refl, sym, ap, ◌∙◌, append_assoc}
+use Rattle.std.proofs.lemmas.Bool.{true≢false}
 use Rattle.std.specs.List.{flat_map, cons_option}
+use Rattle.cas_cell.specs.Cells.{cell_at}
 use Rattle.cas_cell.specs.declared.deletion.Deletion.{Deletion}
 use Rattle.cas_bounds.specs.declared.cuts.Clustering.{Clustering}
 use Rattle.cas_atoms.specs.declared.atom.Atom.{Atom}
@@ -10,9 +12,9 @@ use Rattle.cas_atoms.specs.declared.row.Row.{Row}
 use Rattle.cas_atoms.specs.declared.row.RowColumn.{RowColumn}
 use Rattle.cas_atoms.specs.declared.row.PathCell.{PathCell}
 use Rattle.cas_streams.specs.Flat.{atom_of, writes, empties, of_column, own}
-use Rattle.cas_streams.specs.Settled.{if_said, bare_column, bare_columns}
+use Rattle.cas_streams.specs.Settled.{is_bare, if_said, bare_column, bare_columns}
 use Rattle.cas_streams.specs.declared.fragment.Fragment.TheVariants as fragment
-use Rattle.cas_merge.specs.Inner.Said.{says, any_says}
+use Rattle.cas_merge.specs.Inner.Said.{says, any_says, has_cells, are_cells}
 
 -- whether atoms are there
 there : List Atom → Bool
@@ -72,3 +74,30 @@ kept_column at over c cs kept written total said e w =
 pub dropped_column : (at : Option Clustering) (over : Option Deletion) (c : RowColumn) (cs kept total : List RowColumn) → says (bare_column over c).deletion (bare_column over c).cells ≡ false
     → kept ++ bare_columns at over (c ∷ cs) ≡ total → kept ++ bare_columns at over cs ≡ total
 dropped_column at over c cs kept total said e = ap (λ o. kept ++ cons_option o (bare_columns at over cs)) (sym (column_left at (bare_column over c) false said)) ∙ e
+
+-- ---- columns that nothing covers
+
+bare_cells : (cells : List PathCell) → filter (λ p. is_bare None (cell_at p.cell)) cells ≡ cells
+bare_cells [] = refl
+bare_cells (p ∷ cells) = ap (λ l. p ∷ l) (bare_cells cells)
+
+column_stays : (at : Option Clustering) (column : ColumnRef) (d : Option Deletion) (cells : List PathCell) → has_cells d cells ≡ true
+    → if_said (of_column at (bare_column None (record { column = column; deletion = d; cells = cells }))) (bare_column None (record { column = column; deletion = d; cells = cells }))
+    ≡ Some (record { column = column; deletion = d; cells = cells })
+column_stays at column (Some d) cells e = absurd (true≢false (sym e))
+column_stays at column None [] e = absurd (true≢false (sym e))
+column_stays at column None (p ∷ cells) e = ap (λ l. Some (record { column = column; deletion = None; cells = p ∷ l })) (bare_cells cells)
+
+both_true : (a b : Bool) → (a && b) ≡ true → (a ≡ true) × (b ≡ true)
+both_true true b e = (refl, e)
+both_true false b e = absurd (true≢false (sym e))
+
+columns_stay : (at : Option Clustering) (cs : List RowColumn) → are_cells cs ≡ true → cs ≡ bare_columns at None cs
+columns_stay at [] e = refl
+columns_stay at (c ∷ cs) e =
+    let (first, others) = both_true (has_cells c.deletion c.cells) (are_cells cs) e in
+    sym (λ i. cons_option (column_stays at c.column c.deletion c.cells first i) (sym (columns_stay at cs others) i))
+
+pub all_stay : (at : Option Clustering) (over : Option Deletion) (cs : List RowColumn) → is_some over ≡ false → are_cells cs ≡ true → cs ≡ bare_columns at over cs
+all_stay at None cs e f = columns_stay at cs f
+all_stay at (Some d) cs e f = absurd (true≢false e)

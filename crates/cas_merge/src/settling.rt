@@ -7,7 +7,7 @@ ghost use Rattle.cas_cell.specs.Cells.{cell_at};
 ghost use Rattle.cas_streams.specs.Flat.{own};
 ghost use Rattle.cas_streams.specs.Settled.{is_bare, if_said, bare_column, bare_columns, bare_row, bare, same_force, left_of};
 ghost use Rattle.cas_streams.specs.declared.fragment.Fragment.TheVariants as fragment;
-ghost use Rattle.cas_merge.specs.Inner.Said.{says, any_says};
+ghost use Rattle.cas_merge.specs.Inner.Said.{says, any_says, are_cells};
 
 use cas_atoms::{PathCell, Row, RowColumn, greater_deletion, standing_live};
 use cas_cell::{Cell, Deletion, covers};
@@ -76,11 +76,37 @@ fn bare_columns(
     Ok(kept)
 }
 
+// Whether each of the columns has cells and no deletion of its own.
+fn are_cells(columns: &[RowColumn]) -> bool
+    ensures { result ≡ are_cells columns.now }
+{
+    match columns {
+        [] => true,
+        [c, rest @ ..] => {
+            c.deletion.is_none() && !c.cells.as_slice().is_empty() && are_cells(rest)
+        }
+    }
+}
+
+// What is left of the columns, which are given on as they are where nothing can cover them.
+fn left_columns(
+    alloc: Global,
+    over: Option<Deletion>,
+    columns: List<RowColumn>,
+) -> Result<Vec<RowColumn>, AllocError>
+    ensures { IfOk result (λ v. (at : Option Clustering) → v.items ≡ bare_columns at over columns) }
+{
+    if over.is_none() && are_cells(columns.as_slice()) {
+        return Ok(columns.into_vec());
+    }
+    bare_columns(alloc, over, columns)
+}
+
 fn bare_row(alloc: Global, over: Option<Deletion>, r: Row) -> Result<Row, AllocError>
     ensures { IfOk result (λ s. s ≡ bare_row over r) }
 {
     let all = greater_deletion(over, r.deletion);
-    let columns = bare_columns(alloc, all, r.columns)?;
+    let columns = left_columns(alloc, all, r.columns)?;
     Ok(Row {
         clustering: r.clustering,
         deletion: r.deletion,
@@ -137,7 +163,7 @@ fn bare_static(
 ) -> Result<List<RowColumn>, AllocError>
     ensures { IfOk result (λ cs. cs ≡ bare_columns None top columns) }
 {
-    Ok(List::from_vec(bare_columns(alloc, top, columns)?))
+    Ok(List::from_vec(left_columns(alloc, top, columns)?))
 }
 
 /// What is left of a fragment under the top, where that is in force before it.

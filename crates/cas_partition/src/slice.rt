@@ -192,27 +192,6 @@ fn are_below(columns: &[RowColumn], number: u16) -> bool
     }
 }
 
-// A row with what is said at a further spot of it.
-fn row_with(alloc: Global, row: Row, spot: &Spot, content: &Content) -> Result<Fragment, AllocError>
-    requires { IsSome spot.now.row }
-    ensures { IfOk result (λ f. f ≡ joined_fragment (fragment.Row row) (said spot.now content.now)) }
-{
-    if let Some(number) = spot.column {
-        if are_below(row.columns.as_slice(), number) {
-            let mut columns = row.columns.into_vec();
-            columns.push(column_at(alloc, number, &spot.path, content)?)?;
-            return Ok(Fragment::Row(Row {
-                clustering: row.clustering,
-                deletion: row.deletion,
-                live: row.live,
-                columns: List::from_vec(columns),
-            }));
-        }
-    }
-    let piece = further(alloc, spot, content)?;
-    joined_fragment(alloc, Fragment::Row(row), piece)
-}
-
 // The last piece with what is said at a further spot of its row.
 fn add_to(
     alloc: Global,
@@ -223,13 +202,8 @@ fn add_to(
     requires { IsSome spot.now.row }
     ensures { IfOk result (λ f. f ≡ joined_fragment last (said spot.now content.now)) }
 {
-    match last {
-        Fragment::Row(row) => row_with(alloc, row, spot, content),
-        other => {
-            let piece = further(alloc, spot, content)?;
-            joined_fragment(alloc, other, piece)
-        }
-    }
+    let piece = further(alloc, spot, content)?;
+    joined_fragment(alloc, last, piece)
 }
 
 // Whether the last of the rows and the piece are of one.
