@@ -36,11 +36,12 @@ impl<F: Sealed> Pieces<'_, F> {
     fn next_in_block(&mut self) -> Result<Option<Fragment>, TableFault>
         requires { into_iter_items self.old.rest ≡ [] }
         ensures file { self.new.file ≡ self.old.file }
-        ensures first { (fs : ListOf Fragment) → pieces_left self.old.file.order.now self.old.file.columns.now self.old.file.end (F.contents self.old.file.sealed.now)
-            self.old.onward [] ≡ Some fs → TakesFirst fs (pieces_left self.old.file.order.now self.old.file.columns.now self.old.file.end
+        ensures first { (fs : ListOf Fragment) → pieces_left self.old.file.order.now self.old.file.columns.now self.old.file.end
+            (F.contents self.old.file.sealed.now) self.old.onward [] ≡ Some fs
+            → TakesFirst fs (pieces_left self.old.file.order.now self.old.file.columns.now self.old.file.end
             (F.contents self.old.file.sealed.now) self.new.onward (into_iter_items self.new.rest)) result }
-        ensures sound { (fs : ListOf Fragment) → pieces_left self.old.file.order.now self.old.file.columns.now self.old.file.end (F.contents self.old.file.sealed.now)
-            self.old.onward [] ≡ Some fs → IfBad (λ n at. ⊥) result }
+        ensures sound { (fs : ListOf Fragment) → pieces_left self.old.file.order.now self.old.file.columns.now self.old.file.end
+            (F.contents self.old.file.sealed.now) self.old.onward [] ≡ Some fs → IfBad (λ n at. ⊥) result }
         ensures ends { Shrinks (pieces_room self.old.file.end self.old.onward [])
             (pieces_room self.old.file.end self.new.onward (into_iter_items self.new.rest)) result }
         ensures count { Counted (F.Tally.number self.old.tally) (F.Tally.number self.new.tally) (IsErrOf result TableFault.Read) }
@@ -67,11 +68,12 @@ impl<F: Sealed> Pieces<'_, F> {
     /// The next fragment; none at the partition's end.
     pub fn next(&mut self) -> Result<Option<Fragment>, TableFault>
         ensures file { self.new.file ≡ self.old.file }
-        ensures first { (fs : ListOf Fragment) → pieces_left self.old.file.order.now self.old.file.columns.now self.old.file.end (F.contents self.old.file.sealed.now)
-            self.old.onward (into_iter_items self.old.rest) ≡ Some fs → TakesFirst fs (pieces_left self.old.file.order.now self.old.file.columns.now
+        ensures first { (fs : ListOf Fragment) → pieces_left self.old.file.order.now self.old.file.columns.now self.old.file.end
+            (F.contents self.old.file.sealed.now) self.old.onward (into_iter_items self.old.rest) ≡ Some fs
+            → TakesFirst fs (pieces_left self.old.file.order.now self.old.file.columns.now
             self.old.file.end (F.contents self.old.file.sealed.now) self.new.onward (into_iter_items self.new.rest)) result }
-        ensures sound { (fs : ListOf Fragment) → pieces_left self.old.file.order.now self.old.file.columns.now self.old.file.end (F.contents self.old.file.sealed.now)
-            self.old.onward (into_iter_items self.old.rest) ≡ Some fs → IfBad (λ n at. ⊥) result }
+        ensures sound { (fs : ListOf Fragment) → pieces_left self.old.file.order.now self.old.file.columns.now self.old.file.end
+            (F.contents self.old.file.sealed.now) self.old.onward (into_iter_items self.old.rest) ≡ Some fs → IfBad (λ n at. ⊥) result }
         ensures ends { Shrinks (pieces_room self.old.file.end self.old.onward (into_iter_items self.old.rest))
             (pieces_room self.old.file.end self.new.onward (into_iter_items self.new.rest)) result }
         ensures count { Counted (F.Tally.number self.old.tally) (F.Tally.number self.new.tally) (IsErrOf result TableFault.Read) }

@@ -158,8 +158,10 @@ impl<'a, F: Sealed> FragmentSource for Blocks<'a, F> {
             → TakesFirst fs (⟦<Blocks<'a, F> as FragmentSource>⟧.to_come self.new) result }
         ensures ends { Shrinks (⟦<Blocks<'a, F> as FragmentSource>⟧.at_most self.old) (⟦<Blocks<'a, F> as FragmentSource>⟧.at_most self.new) result }
         ensures faults { KeepsFault (⟦<Blocks<'a, F> as FragmentSource>⟧.broken_by self.old) (⟦<Blocks<'a, F> as FragmentSource>⟧.broken_by self.new) result }
-        ensures sound { self.old.fault ≡ None → (fs : ListOf Fragment) → ⟦<Blocks<'a, F> as FragmentSource>⟧.to_come self.old ≡ Some fs → IfBad (λ n at. ⊥) result }
-        ensures count { Counted (F.Tally.number self.old.pieces.tally) (F.Tally.number self.new.pieces.tally) ((self.old.fault ≡ None) × IsErrOf result TableFault.Read) }
+        ensures sound { self.old.fault ≡ None → (fs : ListOf Fragment) → ⟦<Blocks<'a, F> as FragmentSource>⟧.to_come self.old ≡ Some fs
+            → IfBad (λ n at. ⊥) result }
+        ensures count { Counted (F.Tally.number self.old.pieces.tally) (F.Tally.number self.new.pieces.tally)
+            ((self.old.fault ≡ None) × IsErrOf result TableFault.Read) }
         ensures bad { self.old.fault ≡ None → IfBad (IsBadBlock self.old.pieces.file.order.now self.old.pieces.file.columns.now self.old.pieces.file.number
             self.old.pieces.file.end (F.contents self.old.pieces.file.sealed.now) self.new.pieces.onward) result }
     {

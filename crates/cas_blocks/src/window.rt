@@ -45,7 +45,8 @@ impl Window {
         ensures file { pieces.new.file ≡ pieces.old.file }
         ensures first { (fs : List Fragment) → window pieces.old.file.order.now self.old.slice Phase.Inside self.old.force self.old.ahead
             (pieces_left pieces.old.file.order.now pieces.old.file.columns.now pieces.old.file.end (F.contents pieces.old.file.sealed.now) pieces.old.onward
-            (into_iter_items pieces.old.rest)) ≡ Some fs → TakesFirst fs (window pieces.old.file.order.now self.new.slice self.new.phase self.new.force self.new.ahead
+            (into_iter_items pieces.old.rest)) ≡ Some fs
+            → TakesFirst fs (window pieces.old.file.order.now self.new.slice self.new.phase self.new.force self.new.ahead
             (pieces_left pieces.old.file.order.now pieces.old.file.columns.now pieces.old.file.end (F.contents pieces.old.file.sealed.now) pieces.new.onward
             (into_iter_items pieces.new.rest))) result }
         ensures sound { (fs : List Fragment) → window pieces.old.file.order.now self.old.slice Phase.Inside self.old.force self.old.ahead
@@ -75,7 +76,8 @@ impl Window {
         ensures file { pieces.new.file ≡ pieces.old.file }
         ensures first { (fs : List Fragment) → window pieces.old.file.order.now self.old.slice Phase.Before self.old.force self.old.ahead
             (pieces_left pieces.old.file.order.now pieces.old.file.columns.now pieces.old.file.end (F.contents pieces.old.file.sealed.now) pieces.old.onward
-            (into_iter_items pieces.old.rest)) ≡ Some fs → TakesFirst fs (window pieces.old.file.order.now self.new.slice self.new.phase self.new.force self.new.ahead
+            (into_iter_items pieces.old.rest)) ≡ Some fs
+            → TakesFirst fs (window pieces.old.file.order.now self.new.slice self.new.phase self.new.force self.new.ahead
             (pieces_left pieces.old.file.order.now pieces.old.file.columns.now pieces.old.file.end (F.contents pieces.old.file.sealed.now) pieces.new.onward
             (into_iter_items pieces.new.rest))) result }
         ensures sound { (fs : List Fragment) → window pieces.old.file.order.now self.old.slice Phase.Before self.old.force self.old.ahead
@@ -104,13 +106,15 @@ impl Window {
         ensures file { pieces.new.file ≡ pieces.old.file }
         ensures first { (fs : List Fragment) → window pieces.old.file.order.now self.old.slice self.old.phase self.old.force self.old.ahead
             (pieces_left pieces.old.file.order.now pieces.old.file.columns.now pieces.old.file.end (F.contents pieces.old.file.sealed.now) pieces.old.onward
-            (into_iter_items pieces.old.rest)) ≡ Some fs → TakesFirst fs (window pieces.old.file.order.now self.new.slice self.new.phase self.new.force self.new.ahead
+            (into_iter_items pieces.old.rest)) ≡ Some fs
+            → TakesFirst fs (window pieces.old.file.order.now self.new.slice self.new.phase self.new.force self.new.ahead
             (pieces_left pieces.old.file.order.now pieces.old.file.columns.now pieces.old.file.end (F.contents pieces.old.file.sealed.now) pieces.new.onward
             (into_iter_items pieces.new.rest))) result }
         ensures sound { (fs : List Fragment) → window pieces.old.file.order.now self.old.slice self.old.phase self.old.force self.old.ahead
             (pieces_left pieces.old.file.order.now pieces.old.file.columns.now pieces.old.file.end (F.contents pieces.old.file.sealed.now) pieces.old.onward
             (into_iter_items pieces.old.rest)) ≡ Some fs → IfBad (λ n at. ⊥) result }
-        ensures ends { Shrinks (window_room self.old.phase self.old.ahead (pieces_room pieces.old.file.end pieces.old.onward (into_iter_items pieces.old.rest)))
+        ensures ends { Shrinks (window_room self.old.phase self.old.ahead (pieces_room pieces.old.file.end pieces.old.onward
+            (into_iter_items pieces.old.rest)))
             (window_room self.new.phase self.new.ahead (pieces_room pieces.old.file.end pieces.new.onward (into_iter_items pieces.new.rest))) result }
         ensures count { Counted (F.Tally.number pieces.old.tally) (F.Tally.number pieces.new.tally) (IsErrOf result TableFault.Read) }
         ensures bad { IfBad (IsBadBlock pieces.old.file.order.now pieces.old.file.columns.now pieces.old.file.number pieces.old.file.end

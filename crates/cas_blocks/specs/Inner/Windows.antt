@@ -32,7 +32,8 @@ abbrev pub behind_static : Option (List RowColumn) → Option (List Fragment) �
 behind_static statics left = option_map (λ fs. static_part statics ++ fs) left
 
 -- what a way to the slice's beginning found: the fragment behind it, and what is left behind that
-pub record Begun (order : List Ordered) (s : Slice) (force now : Option Deletion) (fs : List Fragment) (ahead : Option Fragment) (left : Option (List Fragment)) : Type 0 where
+pub record Begun (order : List Ordered) (s : Slice) (force now : Option Deletion) (fs : List Fragment) (ahead : Option Fragment)
+    (left : Option (List Fragment)) : Type 0 where
   pub rest : List Fragment
   pub left_is : left ≡ Some rest
   pub same : cut_from order s force fs ≡ opened_at s.lo now ++ up_to_end order s now (option_to_list ahead ++ rest)
