@@ -1,5 +1,5 @@
 -- The shards of a store with the mutations of its log, one after another.
-use Rattle.std.proofs.Common.{◌≡◌, ◌≢◌, ◌⊎◌, inl, inr, ◌<◌, ◌+◌, ◌==◌, ℕ, zero, suc, Bool, List, [], ◌∷◌, ◌++◌, map, Some, refl, sym, ap, ◌∙◌, subst}
+use Rattle.std.proofs.Common.{◌≡◌, ◌≢◌, ◌⊎◌, inl, inr, ◌<◌, ◌+◌, ◌==◌, ℕ, zero, suc, Bool, List, [], ◌∷◌, ◌++◌, take, Some, refl, sym, ap, ◌∙◌, subst}
 use Rattle.std.specs.Prelude.{slice_get, slice_set, if◌then◌else◌}
 use Rattle.std.specs.List.{AllByRecursion}
 use Rattle.cas_types.specs.declared.schema.TableSchema.{TableSchema}
@@ -30,10 +30,6 @@ one_new tables shards x are stands n y is =
     elim (get_pushed shards x y n is) [ inl before ↦ are n y before | inr same ↦ subst (λ (z : Shard). Stands tables (found_shard empty_shard) z) same stands ]
 
 -- ---- a mutation more
-
-pub map_itself : {X : Type 0} (xs : List X) → map (λ x. x) xs ≡ xs
-map_itself [] = refl
-map_itself (x ∷ xs) = ap (λ l. x ∷ l) (map_itself xs)
 
 front_ascends : (pre rest : List ℕ) → AscendByOne (pre ++ rest) → AscendByOne pre
 front_ascends [] rest ascend = tt
@@ -74,6 +70,12 @@ module _ (tables : List TableSchema) (shards : ℕ) (done : List Mutation) (m : 
   pub above_here : last_number 0 (found_in m.shard done).entries < m.number
   above_here = is_above (numbers_of m.shard done) (found_in m.shard done) m.number (numbers_of m.shard rest) fits_here.fits.number.0 ascend_here (reads_done m.shard)
 
+  pub front_log : AreOfALog tables shards done
+  front_log = record {
+    fit = front_fits (FitsRecord tables shards) done (m ∷ rest) fit_all;
+    ordered = λ n. front_ascends (numbers_of n done) _ (ascend_all n);
+  }
+
 found_here : (done : List Mutation) (m : Mutation) → found_in m.shard (done ++ m ∷ []) ≡ restored m (found_in m.shard done)
 found_here done m = one_more m.shard done m ∙ ap (λ (b : Bool). if b then restored m (found_in m.shard done) else found_in m.shard done) (is_same m.shard)
 
@@ -95,6 +97,18 @@ more_restored tables done m shards old new are there stands n x is = at (same_pl
     at (inr other) =
         subst (λ (o : ShardOpening). Stands tables (found_shard o) x) (sym (found_other n done m other))
         (are n x (sym (get_other shards m.shard n new other) ∙ is))
+
+-- ---- the first shards
+
+get_front : {X : Type 0} (n : ℕ) (xs : List X) (k : ℕ) (x : X) → slice_get (take n xs) k ≡ Some x → slice_get xs k ≡ Some x
+get_front zero xs k x is = absurd cc
+get_front (suc n) [] k x is = is
+get_front (suc n) (y ∷ ys) zero x is = is
+get_front (suc n) (y ∷ ys) (suc k) x is = get_front n ys k x is
+
+pub first_restored : (tables : List TableSchema) (mutations : List Mutation) (n : ℕ) (shards : List Shard) → AreRestored tables mutations shards
+    → AreRestored tables mutations (take n shards)
+first_restored tables mutations n shards are k x is = are k x (get_front n shards k x is)
 
 -- ---- where the numbers go on
 

@@ -10,8 +10,8 @@ use Rattle.cas_changes.specs.Saying.{Saying, IsSaid, said_by}
 use Rattle.cas_replay.specs.Grammar.{AreOfALog}
 use Rattle.cas_journal.specs.Stores.{Told}
 use Rattle.cas_journal.specs.Journals.{Lasts}
-use Rattle.cas_opening.specs.Opening.{IsOfBytes, IsOpened, IsReadAs, OpensAs, told}
-use Rattle.cas_opening.specs.declared.opened.Opened.{Opened}
+use Rattle.cas_opening.specs.Opening.{IsOfBytes, IsOpenedWith, IsReadWith, OpensAs, told}
+use Rattle.cas_opening.specs.declared.opened.OpenStore.{OpenStore}
 use Rattle.cas_opening.proofs.Saids.{sound}
 use Rattle.cas_shard.specs.declared.shard.Shard.{Shard}
 use Rattle.define_laws.proofs.Telling.{named_segments_define_nothing}
@@ -23,7 +23,7 @@ use Rattle.cas_node.proofs.Restoring.{next_numbers}
 
 -- ---- what was read
 
-module _ (entries : List Entry) (mutations : List Mutation) (o : Opened) (read : IsReadAs entries mutations o) where
+module _ (entries : List Entry) (mutations handed : List Mutation) (o : OpenStore) (read : IsReadWith entries mutations handed o.journal o.said) where
   pub tables_read : o.said.tables ≡ (said_by entries).tables
   tables_read = ap (λ (s : Saying). s.tables) read.said ∙ (named_segments_define_nothing entries read.numbers).0
 
@@ -42,17 +42,17 @@ module _ (entries : List Entry) (mutations : List Mutation) (o : Opened) (read :
   pub flushed_read : (IsUnflushed o.said → ⊥) → IsUnflushed (said_by entries) → ⊥
   flushed_read some none = some (subst IsUnflushed (sym read.said) (renamed entries read.numbers none))
 
-  pub all_read : IsUnflushed o.said → o.mutations.items ≡ mutations
+  pub all_read : IsUnflushed o.said → handed ≡ mutations
   all_read none = read.above ∙ all_given (said_by entries) mutations (unflushed_read none) read.log.fit
 
-  pub log_read : IsUnflushed o.said → AreOfALog o.said.tables o.said.shards o.mutations.items
+  pub log_read : IsUnflushed o.said → AreOfALog o.said.tables o.said.shards handed
   log_read none =
-      subst (λ ts. AreOfALog ts o.said.shards o.mutations.items) (sym tables_read)
-      (subst (λ n. AreOfALog (said_by entries).tables n o.mutations.items) (sym shards_read)
+      subst (λ ts. AreOfALog ts o.said.shards handed) (sym tables_read)
+      (subst (λ n. AreOfALog (said_by entries).tables n handed) (sym shards_read)
       (subst (λ ms. AreOfALog (said_by entries).tables (said_by entries).shards ms) (sym (all_read none)) read.log))
 
   pub in_memory_read : IsUnflushed o.said → (given limits : Limits) (tables : List TableSchema) (shards : List Shard) → limits ≡ record given { shards = o.said.shards }
-      → tables ≡ o.said.tables → length shards ≡ o.said.shards → AreRestored tables o.mutations.items shards → IsInMemory given entries mutations limits tables shards
+      → tables ≡ o.said.tables → length shards ≡ o.said.shards → AreRestored tables handed shards → IsInMemory given entries mutations limits tables shards
   in_memory_read none given limits tables shards same are count restored =
       let all : AreRestored tables mutations shards = subst (λ ms. AreRestored tables ms shards) (all_read none) restored in
       record {
@@ -75,9 +75,9 @@ module _ (entries : List Entry) (mutations : List Mutation) (o : Opened) (read :
 
 -- ---- what the journal was told
 
-pub opened_lasts : (entries : List Entry) (mutations : List Mutation) (o : Opened) (new : Disk) → IsOpened entries mutations o new
+pub opened_lasts : (entries : List Entry) (mutations handed : List Mutation) (o : OpenStore) (new : Disk) → IsOpenedWith entries mutations handed o.journal o.said new
     → (t : Told) × IsTold entries mutations t × Lasts o.journal new t
-opened_lasts entries mutations o new is = (
+opened_lasts entries mutations handed o new is = (
   told entries mutations is.numbers,
   record {
     tables = (named_segments_define_nothing entries is.numbers).0;

@@ -2,3 +2,4 @@ pub mod Sound
 pub mod Definitions
 pub mod Serving
 pub mod Turns
+pub mod Restoring

@@ -2,6 +2,7 @@
 //! bytes to the output's bytes.
 #![tactic(auto)]
 
+mod all_shards;
 mod answer;
 mod cause;
 mod defining;

@@ -11,22 +11,28 @@ ghost use Rattle.cas_changes.specs.Saying.{IsSaid, part_of, no_part, no_times};
 ghost use Rattle.cas_changes.specs.declared.entry.Entry.{Entry as EntryOf};
 ghost use Rattle.cas_log.specs.Segment.{IsSize};
 ghost use Rattle.cas_manifest.specs.Loading.{IsNew};
-ghost use Rattle.cas_replay.specs.Grammar.{AreOfALog};
+ghost use Rattle.cas_replay.specs.Grammar.{IsWithinLimits};
 ghost use Rattle.cas_journal.specs.Journals.{AreFree};
 ghost use Rattle.cas_journal.specs.Stores.{IsStore};
-ghost use Rattle.cas_opening.specs.Opening.{IsOfBytes, IsReadAs, MayBeMadeNew, MayBeOpened};
+ghost use Rattle.cas_opening.specs.Opening.{IsOfBytes, IsReadWith, MayBeMadeNew, MayBeOpened};
 ghost use Rattle.cas_node.specs.Found.{IsUnfit, IsUnflushed};
+ghost use Rattle.cas_node.specs.Inner.Restoring.{HaveRestored, HasRestored};
 ghost use Rattle.cas_node.specs.Starts.{AreRestored, IsInMemory, IsStarted};
 
+use crate::all_shards::{AllShards, Restoring};
 use cas_atoms::Mutation;
 use cas_bind::Limits;
 use cas_changes::Said;
 use cas_disk::{Folder, Name};
 use cas_journal::Journal;
-use cas_opening::{OpenFault, Opened, open};
+use cas_opening::{OpenFault, OpenStore, open_to};
+use cas_replay::TakesMutations;
 use cas_shard::Shard;
 use cas_types::{Mem, TableSchema};
 use std::alloc::Global;
+
+/// So many shards can a mutation name.
+const SHARDS: usize = 256;
 
 /// The last drawn timestamp of a shard that drew none.
 const NONE_DRAWN: i64 = -2;
@@ -86,7 +92,7 @@ fn is_unflushed(said: &Said) -> bool
 }
 
 // So many shards without a mutation.
-fn new_shards(alloc: Global, count: u8) -> Result<Vec<Shard>, Mem>
+fn new_shards(alloc: Global, count: usize) -> Result<Vec<Shard>, Mem>
     ensures count { IfOk result (λ v. length v.items ≡ count) }
     ensures new { IfOk result (λ v. (tables : List Schema) → AreRestored tables [] v.items) }
 {
@@ -97,23 +103,58 @@ fn new_shards(alloc: Global, count: u8) -> Result<Vec<Shard>, Mem>
     Ok(shards)
 }
 
-// The shards of a store with what the log has of each.
-fn restored(
-    alloc: Global,
-    tables: &[TableSchema],
-    count: u8,
-    mutations: Vec<Mutation>,
-) -> Result<Vec<Shard>, Mem>
-    requires { AreOfALog tables.now count mutations.items }
-    ensures count { IfOk result (λ v. length v.items ≡ count) }
-    ensures restored { IfOk result (λ v. AreRestored tables.now mutations.items v.items) }
-{
-    let _tables = tables;
-    let mut shards = new_shards(alloc, count)?;
-    for mutation in mutations {
-        let place = mutation.shard as usize;
-        shards[place].restore(alloc, mutation)?;
+impl AllShards {
+    // Those without a mutation.
+    fn new(alloc: Global) -> Result<AllShards, Mem>
+        ensures { IfOk result (λ all. HaveRestored [] all.shards.items) }
+    {
+        match new_shards(alloc, SHARDS) {
+            Ok(shards) => Ok(AllShards { shards }),
+            Err(Mem) => Err(Mem),
+        }
     }
+
+    // Enters a mutation above those that were restored before it.
+    fn restore(&mut self, alloc: Global, mutation: Mutation) -> Result<(), Mem>
+        requires { IsWithinLimits mutation }
+        ensures { (before : List MutationOf) → HaveRestored before self.old.shards.items
+            → OnOk result (HaveRestored (before ++ mutation ∷ []) self.new.shards.items) }
+    {
+        let place = mutation.shard as usize;
+        match self.shards[place].restore(alloc, mutation) {
+            Ok(()) => Ok(()),
+            Err(Mem) => Err(Mem),
+        }
+    }
+}
+
+impl TakesMutations for Restoring {
+    ghost has_taken = { λ mutations r. HasRestored mutations r.shards };
+
+    fn take(&mut self, mutation: Mutation) -> Result<(), Mem> {
+        let Some(mut shards) = self.shards.take() else {
+            return Err(Mem);
+        };
+        match shards.restore(self.alloc, mutation) {
+            Ok(()) => {
+                self.shards = Some(shards);
+                Ok(())
+            }
+            Err(Mem) => Err(Mem),
+        }
+    }
+}
+
+// The first shards, so many, with what was restored of each.
+fn restored(restoring: Restoring, count: u8) -> Result<Vec<Shard>, Mem>
+    ensures count { IfOk result (λ v. length v.items ≡ count) }
+    ensures restored { (mutations : List MutationOf) → HasRestored mutations restoring.shards → IfOk result (λ v. HaveRestored mutations v.items) }
+{
+    let Some(all) = restoring.shards else {
+        return Err(Mem);
+    };
+    let mut shards = all.shards;
+    shards.truncate(count as usize);
     Ok(shards)
 }
 
@@ -135,26 +176,27 @@ fn copied(alloc: Global, tables: &[TableSchema]) -> Result<Vec<TableSchema>, Mem
 }
 
 // The store with its shards in memory, of an opening that has no table files.
-fn in_memory(alloc: Global, given: &Limits, opened: Opened) -> Result<Started, Mem>
-    requires read { (entries : List EntryOf) × (mutations : List MutationOf) × IsReadAs entries mutations opened }
-    requires unflushed { IsUnflushed opened.said }
-    ensures started { (entries : List EntryOf) (mutations : List MutationOf) → IsReadAs entries mutations opened
-        → IfOk result (λ s. IsInMemory given.now entries mutations s.limits s.tables.items s.shards.items) }
+fn in_memory(
+    alloc: Global,
+    limits: &Limits,
+    opened: OpenStore,
+    restoring: Restoring,
+) -> Result<Started, Mem>
+    requires { IsUnflushed opened.said }
+    ensures started { (entries : List EntryOf) (mutations given : List MutationOf) → IsReadWith entries mutations given opened.journal opened.said
+        → HasRestored given restoring.shards
+        → IfOk result (λ s. IsInMemory limits.now entries mutations s.limits s.tables.items s.shards.items) }
     ensures journal { IfOk result (λ s. s.journal ≡ opened.journal) }
 {
-    let Opened {
-        journal,
-        said,
-        mutations,
-    } = opened;
+    let OpenStore { journal, said } = opened;
     let tables = copied(alloc, said.tables())?;
-    let shards = restored(alloc, &tables, said.shards(), mutations)?;
+    let shards = restored(restoring, said.shards())?;
     Ok(Started {
         limits: Limits {
             shards: said.shards(),
-            segment: given.segment,
-            memtable: given.memtable,
-            compactors: given.compactors,
+            segment: limits.segment,
+            memtable: limits.memtable,
+            compactors: limits.compactors,
         },
         tables,
         shards,
@@ -182,7 +224,15 @@ pub(crate) fn open_store<F: Folder>(
         → ((entries : List EntryOf) (mutations : List MutationOf) → IsStore entries mutations c → ⊥) → During Same (F.disk folder.old) (F.disk folder.new) }
     ensures count { Counted (F.faults_of folder.old) (F.faults_of folder.new) (IsErrOf result OpenFault.Failed) }
 {
-    let opened = match open(alloc, folder, limits.shards, limits.segment) {
+    let all = match AllShards::new(alloc) {
+        Ok(all) => all,
+        Err(Mem) => return Err(OpenFault::Mem),
+    };
+    let mut restoring = Restoring {
+        alloc,
+        shards: Some(all),
+    };
+    let opened = match open_to(alloc, folder, limits.shards, limits.segment, &mut restoring) {
         Ok(opened) => opened,
         Err(fault) => return Err(fault),
     };
@@ -192,7 +242,7 @@ pub(crate) fn open_store<F: Folder>(
             at: 0,
         });
     }
-    match in_memory(alloc, limits, opened) {
+    match in_memory(alloc, limits, opened, restoring) {
         Ok(started) => Ok(started),
         Err(Mem) => Err(OpenFault::Mem),
     }
