@@ -6,7 +6,6 @@ use Rattle.cas_codec.specs.Fields.{u8, u64}
 use Rattle.cas_changes.specs.declared.entry.Entry.{Entry}
 use Rattle.cas_changes.specs.declared.entry.Entry.TheVariants as entry
 use Rattle.cas_changes.specs.declared.said.TheConstants.{FILE_LIMIT, LISTED_LIMIT, SEGMENT_LIMIT}
-use Rattle.cas_changes.specs.Spelling.{entry_bytes}
 use Rattle.cas_changes.specs.Saying.{listed_after}
 use Rattle.cas_log.specs.Logs.{place_of}
 use Rattle.cas_log.specs.declared.log.Log.{Log}
@@ -40,7 +39,7 @@ over_by true b listed long what most many more is = subst (λ (w : Counted). Ove
 over_by false true listed long what most many more is = subst (λ (w : Counted). Over w listed long) (ap counted_in is) (ltb-true FILE_LIMIT long more)
 over_by false false listed long what most many more is = absurd cc
 
-over_is : (j : Journal) (e : Entry) (what : Counted) → Over what (listed_after j.manifest.listed e) ((manifest_place j.manifest).end + length (entry_bytes e) + 10) → IsOver what e j
+over_is : (j : Journal) (e : Entry) (what : Counted) → Over what (listed_after j.manifest.listed e) ((manifest_place j.manifest).end + room_of e + 1) → IsOver what e j
 over_is j e Manifest over = omega (arith, over)
 over_is j e TableFiles over = over
 over_is j e Segments over = over
@@ -50,8 +49,8 @@ pub told_over : (j : Journal) (e : Entry) (r : Result (Unit {0}) JournalFault) �
     → IsOver what e j
 told_over j e r limits what most is =
     over_is j e what
-    (over_by (ltb LISTED_LIMIT (listed_after j.manifest.listed e)) (ltb FILE_LIMIT ((manifest_place j.manifest).end + length (entry_bytes e) + 10))
-    (listed_after j.manifest.listed e) ((manifest_place j.manifest).end + length (entry_bytes e) + 10) what most refl refl
+    (over_by (ltb LISTED_LIMIT (listed_after j.manifest.listed e)) (ltb FILE_LIMIT ((manifest_place j.manifest).end + room_of e + 1))
+    (listed_after j.manifest.listed e) ((manifest_place j.manifest).end + room_of e + 1) what most refl refl
     (subst (λ (q : Result (Unit {0}) JournalFault). Limits (entry_limit j e) q) is limits))
 
 -- a definition is told
