@@ -1,0 +1,10 @@
+pub mod Results
+pub mod Cutting
+pub mod Taking
+pub mod Hindering
+pub mod Rowing
+pub mod Ending
+pub mod Partitions
+pub mod Writing
+pub mod Adding
+pub mod Finishing

@@ -1,0 +1,10 @@
+use Rattle.std.proofs.Common.{◌↔◌, length}
+use Rattle.std.specs.List.{AllByRecursion}
+use Rattle.cas_fragments.specs.Allowed.{ColumnHasRoom}
+use Rattle.cas_sstwrite.proofs.rooms.each_has_room.Given as goal
+
+abbrev pub invariant-loop-rest : goal.invariant-loop-rest
+invariant-loop-rest l = AllByRecursion ColumnHasRoom l.fn.columns ↔ AllByRecursion ColumnHasRoom l.rest
+
+abbrev pub decreases-loop-rest : goal.decreases-loop-rest
+decreases-loop-rest l = length l.rest

@@ -1,0 +1,5 @@
+pub mod Rooms
+pub mod Writers
+pub mod Causes
+pub mod Finished
+pub mod Inner
