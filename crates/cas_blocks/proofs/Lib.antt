@@ -9,3 +9,4 @@ pub mod NextBlock
 pub mod Onwards
 pub mod PiecesLeft
 pub mod WindowLaws
+pub mod HeadLaws

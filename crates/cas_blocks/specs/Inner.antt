@@ -2,3 +2,4 @@ pub mod Bodies
 pub mod Steps
 pub mod Pieces
 pub mod Windows
+pub mod Fronts

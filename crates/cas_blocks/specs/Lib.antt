@@ -1,5 +1,6 @@
 pub mod Cutting
 pub mod Reading
 pub mod Faults
+pub mod Heads
 pub mod Laws
 pub mod Inner

@@ -4,6 +4,7 @@
 mod cutting;
 mod fault;
 mod file;
+mod heads;
 mod laws;
 mod pieces;
 mod reading;
@@ -14,5 +15,6 @@ mod window;
 
 pub use fault::TableFault;
 pub use file::TableFile;
+pub use heads::read_head_at;
 pub use laws::{cuts_are_one, tables_are_read};
 pub use source::Blocks;
