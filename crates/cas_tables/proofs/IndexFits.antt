@@ -318,8 +318,12 @@ last_before place last (p ∷ ps) below =
     let some : place < place + head = omega (arith, head_some p) in
     let own : last_place (Some (record { key = p.key; place = place; blocks = block_entries (place + head) None (blocks p) })) < place + length (text_of p) =
     omega (arith, last_behind place (place + head) None None (blocks p) some, text_long p) in
-    omega (arith, length-append (text_of p) (flat_map text_of ps), last_before (place + length (text_of p))
-    (Some (record { key = p.key; place = place; blocks = block_entries (place + head) None (blocks p) })) ps own)
+    omega (
+      arith,
+      length-append (text_of p) (flat_map text_of ps),
+      last_before (place + length (text_of p))
+          (Some (record { key = p.key; place = place; blocks = block_entries (place + head) None (blocks p) })) ps own,
+    )
 
 pub last_within : (c : Contents) → last_place (last_or None (index_of c)) < index_place c
 last_within c =

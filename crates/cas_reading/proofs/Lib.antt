@@ -1,0 +1,4 @@
+pub mod Told
+pub mod Heads
+pub mod ContentsRead
+pub mod LoadedLaws

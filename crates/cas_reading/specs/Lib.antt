@@ -1,0 +1,4 @@
+pub mod Slices
+pub mod Contents
+pub mod Laws
+pub mod Inner
