@@ -1,5 +1,5 @@
 -- The store that a folder's files are, and what every image of it has. Storage engine: commit log; own.
-use Rattle.std.specs.Prelude.{◌≡◌, ◌≢◌, ◌⊎◌, ℕ, ◌≤◌, List, [], ◌∷◌, ◌++◌, length, map, take, Some}
+use Rattle.std.specs.Prelude.{◌≡◌, ◌≢◌, ◌⊎◌, ℕ, ◌≤◌, List, [], ◌∷◌, ◌++◌, length, map, take, drop, Some}
 use Rattle.cas_disk.specs.declared.name.Name.TheVariants.{Manifest as manifest_name, Table as table_name}
 use Rattle.cas_disk.specs.Disk.{Image}
 use Rattle.cas_atoms.specs.declared.atom.Mutation.{Mutation}
@@ -19,26 +19,34 @@ pub record IsStore (entries : List Entry) (mutations : List Mutation) (c : Image
   pub made : entries ≢ []
   pub log : IsLog (said_by entries).tables (said_by entries).shards (segment_in c) (said_by entries).segments mutations
 
--- What a journal was told: the entries that the manifest has; one that failed, which may be there or not; the mutations that it took, behind those
--- that it was opened with; and how many of them are committed.
+-- What a journal was told: the entries that the manifest has; one that failed, which may be there or not; the mutations of the segments that are
+-- listed, those that it was opened with and those that it took; how many of them are committed; and how many at their front are gone where that entry
+-- is there, as it may drop their segment.
 pub record Told : Type 0 where
   pub entries : List Entry
   pub failed : List Entry
   pub taken : List Mutation
   pub committed : ℕ
+  pub leaving : ℕ
 
 -- entries that an image may have: those that the manifest has, or that one more
 abbrev pub MayList : Told → List Entry → Type 0
 MayList t entries = (entries ≡ t.entries) ⊎ (entries ≡ t.entries ++ t.failed)
 
+-- so many mutations are gone from the front, where an image has these entries: none, or those that leave with the entry that failed
+abbrev pub HaveGone : Told → List Entry → ℕ → Type 0
+HaveGone t entries gone = (gone ≡ 0) ⊎ ((entries ≡ t.entries ++ t.failed) × (gone ≡ t.leaving))
+
 -- The image is the store, with what was told: every entry, and a front of the mutations, with each that is committed, whole.
 pub record Holds (t : Told) (c : Image) : Type 0 where
   pub entries : List Entry
   pub listed : MayList t entries
+  pub gone : ℕ
+  pub front : HaveGone t entries gone
   pub count : ℕ
   pub least : t.committed ≤ count
   pub most : count ≤ length t.taken
-  pub store : IsStore entries (take count t.taken) c
+  pub store : IsStore entries (drop gone (take count t.taken)) c
 
 -- so many segments more are listed
 abbrev pub named : List ℕ → List Entry
@@ -55,6 +63,7 @@ pub record MadeRoom (t u : Told) : Type 0 where
   pub failed : FailedToName t.failed u.failed
   pub taken : u.taken ≡ t.taken
   pub committed : t.committed ≤ u.committed
+  pub leaving : u.leaving ≡ t.leaving
 
 -- the image holds what was told, or that with room made
 abbrev pub HoldsWithRoom : Told → Image → Type 0
