@@ -30,7 +30,7 @@ use Rattle.cas_journal.proofs.Holding.{HasItsSegment, store_with, store_now, hol
 use Rattle.cas_journal.proofs.Moving.{still_so, log_still, earlier_still, spare_still, manifest_changed}
 
 -- the manifest is written again, with the same entries
-store_rewritten : (entries : List Entry) (ms : List Mutation) (d c : Image) → IsStore entries ms d → ((k : Name) → k ≢ manifest_name → c k ≡ d k)
+pub store_rewritten : (entries : List Entry) (ms : List Mutation) (d c : Image) → IsStore entries ms d → ((k : Name) → k ≢ manifest_name → c k ≡ d k)
     → (f : List ℕ) → c manifest_name ≡ Some f → IsManifest entries f → IsStore entries ms c
 store_rewritten entries ms d c store same f there manifest = record {
   file = f;

@@ -150,7 +150,7 @@ module _ (j : Journal) (disk : Disk) (t : Told) (goes : Goes j disk t) where
   pub all_fit : AllByRecursion (FitsRecord said.tables said.shards) (joined goes.parts ++ (goes.written ++ goes.pushed))
   all_fit = subst (λ (l : List Mutation). AllByRecursion (FitsRecord said.tables said.shards) l) (sym goes.all) goes.fit
 
-  written_fit : AllByRecursion (FitsRecord said.tables said.shards) (goes.written ++ goes.pushed)
+  pub written_fit : AllByRecursion (FitsRecord said.tables said.shards) (goes.written ++ goes.pushed)
   written_fit = all_back (FitsRecord said.tables said.shards) (joined goes.parts) (goes.written ++ goes.pushed) all_fit
 
   -- what is committed is a front of what was taken

@@ -1,11 +1,12 @@
 -- The store that a folder's files are, and what every image of it has. Storage engine: commit log; own.
-use Rattle.std.specs.Prelude.{◌≡◌, ◌≢◌, ◌⊎◌, ℕ, ◌≤◌, List, [], ◌∷◌, ◌++◌, length, map, take, drop, Some}
+use Rattle.std.specs.Prelude.{◌≡◌, ◌≢◌, ◌⊎◌, ℕ, ◌-◌, ◌≤◌, List, [], ◌∷◌, ◌++◌, length, map, take, drop, Some}
 use Rattle.cas_disk.specs.declared.name.Name.TheVariants.{Manifest as manifest_name, Table as table_name}
-use Rattle.cas_disk.specs.Disk.{Image}
+use Rattle.cas_disk.specs.Disk.{Image, Disk}
 use Rattle.cas_atoms.specs.declared.atom.Mutation.{Mutation}
 use Rattle.cas_changes.specs.declared.entry.Entry.{Entry}
-use Rattle.cas_changes.specs.declared.entry.Entry.TheVariants.{NewSegment}
+use Rattle.cas_changes.specs.declared.entry.Entry.TheVariants.{NewSegment, DropSegment}
 use Rattle.cas_changes.specs.Saying.{said_by}
+use Rattle.cas_log.specs.Segment.{IsSegment}
 use Rattle.cas_manifest.specs.File.{IsManifest}
 use Rattle.cas_replay.specs.Reading.{segment_in}
 use Rattle.cas_replay.specs.Grammar.{IsLog}
@@ -88,3 +89,27 @@ failed_at e t = record t { failed = e ∷ [] }
 -- the file of every table is as it was
 abbrev pub SameTables : Image → Image → Type 0
 SameTables d c = (n : ℕ) → c (table_name n) ≡ d (table_name n)
+
+-- ---- a segment that is dropped
+
+-- the lowest of the segments that are listed, and not the last of them
+abbrev pub IsLowest : ℕ → List ℕ → Type 0
+IsLowest number segments = (next : ℕ) × (others : List ℕ) × (segments ≡ number ∷ next ∷ others)
+
+-- The segment has so many of the mutations, the first of those that are listed: whatever a crash leaves has them there, and they are committed.
+pub record HasFirst (number many : ℕ) (t : Told) (disk : Disk) : Type 0 where
+  pub committed : many ≤ t.committed
+  pub file : (c : Image) → disk.may_leave c → IsSegment number (take many t.taken) (segment_in c number)
+
+-- the same without this segment, and the mutations that it has
+abbrev pub without : ℕ → ℕ → Told → Told
+without number many t =
+    record t { entries = t.entries ++ DropSegment number ∷ []; taken = drop many t.taken; committed = t.committed - many }
+
+-- the same, with it or without
+abbrev pub may_be_without : ℕ → ℕ → Told → Told
+may_be_without number many t = record t { failed = DropSegment number ∷ []; leaving = many }
+
+-- an image while it is dropped: it holds what was told, with the segment or without
+abbrev pub HoldsDropped : ℕ → Told → Disk → Image → Type 0
+HoldsDropped number t disk c = Holds t c ⊎ ((many : ℕ) × HasFirst number many t disk × Holds (may_be_without number many t) c)
