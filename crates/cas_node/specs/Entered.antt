@@ -18,6 +18,7 @@ use Rattle.cas_node.specs.History.{History, shard_at}
 -- the entry of a mutation, as a shard's history tells it
 abbrev pub entry_told : ℕ → ℕ → Event → List Entry
 entry_told session call (event.Accepted m) = entry.Wrote session call m ∷ []
+entry_told session call (event.Changed c) = []
 
 -- the entry, where it is a mutation of this shard
 abbrev pub entry_in : ℕ → Item Event → List Entry

@@ -1,3 +1,4 @@
 pub mod Accepting
 pub mod Standing
 pub mod Tables
+pub mod Settling

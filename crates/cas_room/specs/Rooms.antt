@@ -16,6 +16,7 @@ use Rattle.cas_room.specs.declared.event.Event.TheVariants as event
 -- the mutation that an event tells
 abbrev pub mutation_told : Event → List Mutation
 mutation_told (event.Accepted m) = m ∷ []
+mutation_told (event.Changed c) = []
 
 -- the mutation that an entry of the history has
 abbrev pub mutation_of : Item Event → List Mutation

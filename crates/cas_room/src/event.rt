@@ -1,6 +1,7 @@
 //! What the entries of the history tell.
 
 use cas_atoms::Mutation;
+use cas_changes::Change;
 use cas_ledger::Tells;
 
 /// What an entry of the history tells.
@@ -8,6 +9,8 @@ use cas_ledger::Tells;
 pub enum Event {
     /// A mutation that was accepted.
     Accepted(Mutation),
+    /// A change of table files, as the manifest has it.
+    Changed(Change),
 }
 
 /// Tells of a mutation that it was accepted, without a copy of it.
@@ -20,4 +23,16 @@ impl<'a> Tells<Event> for Accepted<'a> {
     ghost use Rattle.cas_room.specs.declared.event.Event.TheVariants as event;
 
     ghost entry = { λ a. event.Accepted a.mutation.now };
+}
+
+/// Tells of a change of table files, without a copy of it.
+#[derive(Drop)]
+pub struct Changed<'a> {
+    pub change: &'a Change,
+}
+
+impl<'a> Tells<Event> for Changed<'a> {
+    ghost use Rattle.cas_room.specs.declared.event.Event.TheVariants as event;
+
+    ghost entry = { λ c. event.Changed c.change.now };
 }

@@ -2,12 +2,13 @@
 //! history that say what came onto it.
 #![tactic(auto)]
 
+mod changing;
 mod event;
 mod fault;
 mod room;
 mod table_files;
 
-pub use event::{Accepted, Event};
+pub use event::{Accepted, Changed, Event};
 pub use fault::FreshFault;
 pub use room::Room;
 pub use table_files::LIVE_LIMIT;

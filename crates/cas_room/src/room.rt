@@ -9,8 +9,8 @@ ghost use Rattle.cas_log.specs.Logs.{IsOfATable, half};
 ghost use Rattle.cas_changes.specs.Allowed.{FitsEntry, HasSpelling};
 ghost use Rattle.cas_changes.specs.Saying.{said_by};
 ghost use Rattle.cas_changes.specs.Spelling.{entry_bytes};
-ghost use Rattle.cas_journal.specs.Ends.{Ends, IsDefinition, IsOfFolder, IsToldAtOnce, Limits, Prepares, WritesNothing, entry_limit};
-ghost use Rattle.cas_journal.specs.Reach.{reach_of, reach_after, GoesOn, HasNoPlace, IsFull};
+ghost use Rattle.cas_journal.specs.Ends.{Ends, IsDefinition, IsOfFolder, IsTold, IsToldAtOnce, Limits, Prepares, WritesNothing, entry_limit};
+ghost use Rattle.cas_journal.specs.Reach.{reach_of, reach_after, GoesOn, HasNoPlace, IsFull, IsOver};
 ghost use Rattle.cas_journal.specs.Stores.{Told, Holds, HoldsWithRoom, MadeRoom, MayList, SameTables, failed_at};
 ghost use Rattle.cas_journal.specs.Journals.{Lasts, AreFree, MayTake};
 ghost use Rattle.cas_history.specs.Items.{listed, log_list, front_list, faults_list};
@@ -231,6 +231,7 @@ impl<F: Folder, J: Store> Room<F, J> {
         ensures numbers { self.new.numbers ≡ self.old.numbers }
         ensures size { self.new.journal.size ≡ self.old.journal.size }
         ensures reach { reach_of self.new.journal ≡ reach_of self.old.journal }
+        ensures manifest { self.new.journal.manifest ≡ self.old.journal.manifest }
         ensures accepted { self.new.accepted ≡ self.old.accepted }
         ensures same { OnErr result (self.new.faults.committed ≡ self.old.faults.committed) }
         ensures rises { self.old.faults.committed ≤ self.new.faults.committed }
@@ -241,6 +242,52 @@ impl<F: Folder, J: Store> Room<F, J> {
     {
         let result = self.journal.commit(&mut self.folder);
         self.committed = committed_by(&result, self.accepted, self.committed);
+        note(
+            &self.folder,
+            &self.journal,
+            self.committed,
+            &mut self.faults,
+            session,
+        );
+        result
+    }
+
+    // Tells an entry: after Ok it is in every image.
+    pub(crate) fn tell(
+        &mut self,
+        alloc: Global,
+        session: &mut Session<Event, J>,
+        entry: &Entry,
+    ) -> Result<(), JournalFault>
+        requires spelled { HasSpelling entry.now }
+        requires short { length (entry_bytes entry.now) < 2 ^ 32 }
+        requires told { IsTold entry.now }
+        ensures kept { (found : List MutationOf) (t : Told)
+            → Keeps self.old.journal (F.disk self.old.folder) (listed log_list self.old.log.pass.saw) self.old.faults.committed found t
+            → FitsEntry (said_by t.entries) entry.now
+            → Keeps self.new.journal (F.disk self.new.folder) (listed log_list self.new.log.pass.saw) self.new.faults.committed found
+            (after_define result entry.now t) }
+        ensures log { self.new.log ≡ self.old.log }
+        ensures session { (session.new.list ≡ session.old.list) × (session.new.calls ≡ session.old.calls)
+            × (listed session.old.list session.new.pass.saw ≡ listed session.old.list session.old.pass.saw)
+            × IsPrefix session.old.pass.saw session.new.pass.saw }
+        ensures crash { (t : Told) → Lasts self.old.journal (F.disk self.old.folder) t → FitsEntry (said_by t.entries) entry.now
+            → Leaves (λ c. Holds t c ⊎ Holds (failed_at entry.now t) c) (F.disk self.old.folder) (F.disk self.new.folder) }
+        ensures tables { During SameTables (F.disk self.old.folder) (F.disk self.new.folder) }
+        ensures known { Knows self.new.faults.number self.new.faults.committed self.new.faults.first (listed faults_list session.new.pass.saw) }
+        ensures first { self.new.faults.first ≡ first_number self.new.journal.first }
+        ensures numbers { self.new.numbers ≡ self.old.numbers }
+        ensures size { self.new.journal.size ≡ self.old.journal.size }
+        ensures reach { reach_of self.new.journal ≡ reach_after result entry.now (reach_of self.old.journal) }
+        ensures full { (what : _) (most : _) → result ≡ Err (JournalFault.TooMany what most) → IsOver what entry.now self.old.journal }
+        ensures accepted { self.new.accepted ≡ self.old.accepted }
+        ensures committed { self.new.faults.committed ≡ self.old.faults.committed }
+        ensures outcome { Ends self.old.journal.first self.new.journal.first (F.faults_of self.old.folder) (F.faults_of self.new.folder) result }
+        ensures limits { Limits (entry_limit self.old.journal entry.now) result }
+        ensures untouched { IfErr result (λ f. WritesNothing f → During Same (F.disk self.old.folder) (F.disk self.new.folder)) }
+        ensures count { F.faults_of self.old.folder ≤ F.faults_of self.new.folder }
+    {
+        let result = self.journal.tell(alloc, &mut self.folder, entry);
         note(
             &self.folder,
             &self.journal,
@@ -287,15 +334,7 @@ impl<F: Folder, J: Store> Room<F, J> {
         ensures untouched { IfErr result (λ f. WritesNothing f → During Same (F.disk self.old.folder) (F.disk self.new.folder)) }
         ensures count { F.faults_of self.old.folder ≤ F.faults_of self.new.folder }
     {
-        let result = self.journal.tell(alloc, &mut self.folder, entry);
-        note(
-            &self.folder,
-            &self.journal,
-            self.committed,
-            &mut self.faults,
-            session,
-        );
-        result
+        self.tell(alloc, session, entry)
     }
 
     /// Whatever a crash leaves now stands for a front of the history: what the opening found, and behind it
