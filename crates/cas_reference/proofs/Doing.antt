@@ -1,11 +1,13 @@
 -- From what the parts of an answer come to, to what the line is answered.
-use Rattle.std.proofs.Common.{◌≡◌, ℕ, ℤ, List, Option, Some, Ok, refl, subst, sym}
+use Rattle.std.proofs.Common.{◌≡◌, ℕ, ℤ, List, None, Some, Ok, refl, subst, sym}
 use Rattle.cas_types.specs.Limits.{IsMoment}
 use Rattle.cas_effects.specs.declared.effect.BoundWrite.{BoundWrite}
+use Rattle.cas_effects.specs.declared.refusal.TheConstants.{SYNTAX}
 use Rattle.cas_bind.specs.declared.bound.BoundRead.{BoundRead}
 use Rattle.cas_bind.specs.declared.bound.Bound.TheVariants as bound
 use Rattle.cas_bind.specs.Meaning.{meaning}
 use Rattle.cas_render.specs.declared.reply.Reply.{Reply}
+use Rattle.cas_render.specs.declared.reply.Reply.TheVariants as reply
 use Rattle.cql_parse.specs.declared.syntax.Statement.{Statement}
 use Rattle.cas_lines.specs.declared.line.Line.{Line}
 use Rattle.cas_lines.specs.declared.line.Line.TheVariants as line
@@ -26,11 +28,22 @@ pub does_read : (Gives : ℤ → Type 0) (s after : Store) (q : BoundRead) (r : 
     → Reads reading q s.kept r after.kept → Keeps after.kept s after → Does Gives s (Ok (bound.Read q)) r after
 does_read Gives s after q r reading given reads keeps = (reading, given, reads, keeps)
 
+pub answers_blank : (Gives : ℤ → Type 0) (s : Store) (text : List ℕ) (l : Line) → Says text l → l ≡ line.Blank → Answers Gives s text None s
+unfolding Answers
+answers_blank Gives s text l says is = (line.Blank, subst (λ l. Says text l) is says, (refl, refl))
+
+pub answers_syntax : (Gives : ℤ → Type 0) (s : Store) (text : List ℕ) (l : Line) → Says text l → l ≡ line.Syntax
+    → Answers Gives s text (Some (reply.Refused SYNTAX)) s
+unfolding Answers
+answers_syntax Gives s text l says is = (line.Syntax, subst (λ l. Says text l) is says, (refl, refl))
+
 pub answers_clock : (Gives : ℤ → Type 0) (s after : Store) (text : List ℕ) (l : Line) (n m : ℤ) (r : Reply) → SetsClock s.kind s m r after → m ≡ n
     → Says text l → l ≡ line.Clock n → Answers Gives s text (Some r) after
+unfolding Answers
 answers_clock Gives s after text l n m r sets same says is =
     (line.Clock n, subst (λ l. Says text l) is says, (r, refl, subst (λ k. SetsClock s.kind s k r after) same sets))
 
 pub answers_statement : (Gives : ℤ → Type 0) (s after : Store) (text : List ℕ) (l : Line) (x : Statement) (r : Reply)
     → Does Gives s (meaning s.limits.shards s.tables x) r after → Says text l → l ≡ line.Statement x → Answers Gives s text (Some r) after
+unfolding Answers
 answers_statement Gives s after text l x r does says is = (line.Statement x, subst (λ l. Says text l) is says, (r, refl, does))

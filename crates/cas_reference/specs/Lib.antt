@@ -1,3 +1,4 @@
 pub mod Kept
 pub mod Replies
 pub mod Held
+pub mod Inner

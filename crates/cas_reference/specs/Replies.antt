@@ -91,5 +91,5 @@ Answered Gives s (line.Clock n) r after = (answer : Reply) × (r ≡ Some answer
 Answered Gives s (line.Statement x) r after = (answer : Reply) × (r ≡ Some answer) × Does Gives s (meaning s.limits.shards s.tables x) answer after
 
 -- the line is answered so, by what it says
-abbrev pub Answers : (ℤ → Type 0) → Store → List ℕ → Option Reply → Store → Type 0
+unfoldable pub Answers : (ℤ → Type 0) → Store → List ℕ → Option Reply → Store → Type 0
 Answers Gives s text r after = (l : Line) × Says text l × Answered Gives s l r after

@@ -2,6 +2,8 @@
 
 ghost use Rattle.std.specs.Prelude.{◌≡◌, ◌≤◌, vec_len};
 ghost use Rattle.cas_types.specs.Limits.{IsMoment, IsShardCount};
+ghost use Rattle.cas_bind.specs.Tables.{AreTables};
+ghost use Rattle.cas_reference.specs.Inner.Made.{made_props};
 
 use crate::accepted::Accepted;
 use crate::altered::altered;
@@ -29,6 +31,7 @@ pub struct Reference {
     ghost shards: { IsShardCount limits.shards },
     ghost each: { vec_len accepted.met ≡ limits.shards },
     ghost moment: { IsMoment seconds },
+    ghost made: { AreTables tables.items } by { Prim.hlevel made_props },
 }
 
 impl Reference {
@@ -72,6 +75,7 @@ impl Reference {
 
     #[tactic(auto, unfolding(cas_bind::specs::Tables::tables_after))]
     fn create(&mut self, table: TableSchema) -> Result<Reply, Mem>
+        requires { AreTables (tables_after self.old.tables.items (bounds.Create table)) }
         ensures done { IfOk result (λ r. r ≡ replies.Done) }
         ensures tables { OnOk result (held self.new ≡ with_tables (bounds.Create table) (held self.old)) }
     {
@@ -81,6 +85,7 @@ impl Reference {
 
     #[tactic(auto, unfolding(cas_bind::specs::Tables::tables_after))]
     fn alter(&mut self, alloc: Global, addition: Addition) -> Result<Reply, Mem>
+        requires { AreTables (tables_after self.old.tables.items (bounds.Alter addition)) }
         ensures done { IfOk result (λ r. r ≡ replies.Done) }
         ensures tables { OnOk result (held self.new ≡ with_tables (bounds.Alter addition) (held self.old)) }
     {
@@ -91,8 +96,7 @@ impl Reference {
     #[tactic(auto, using(crate::proofs::Doing::does_write), unfolding(cas_bind::specs::Tables::tables_after))]
     fn write<C: Clock>(&mut self, alloc: Global, clock: &C, write: BoundWrite) -> Result<Reply, Mem>
         requires { IsWithin self.old.limits.shards (bounds.Write write) }
-        ensures does { IfOk result (λ r. Does (C.may_give clock.now) (held self.old) (OkOf (bounds.Write write)) r (held self.new)) }
-        ensures tables { self.new.tables.items ≡ self.old.tables.items }
+        ensures { IfOk result (λ r. Does (C.may_give clock.now) (held self.old) (OkOf (bounds.Write write)) r (held self.new)) }
     {
         let reading = reading(self.kind, clock, self.seconds);
         self.accepted
@@ -102,8 +106,7 @@ impl Reference {
     #[tactic(auto, using(crate::proofs::Doing::does_read), unfolding(cas_bind::specs::Tables::tables_after))]
     fn read<C: Clock>(&mut self, alloc: Global, clock: &C, read: &BoundRead) -> Result<Reply, Mem>
         requires { IsWithin self.old.limits.shards (bounds.Read read.now) }
-        ensures does { IfOk result (λ r. Does (C.may_give clock.now) (held self.old) (OkOf (bounds.Read read.now)) r (held self.new)) }
-        ensures tables { self.new.tables.items ≡ self.old.tables.items }
+        ensures { IfOk result (λ r. Does (C.may_give clock.now) (held self.old) (OkOf (bounds.Read read.now)) r (held self.new)) }
     {
         let reading = reading(self.kind, clock, self.seconds);
         self.accepted.read(alloc, reading, read)
@@ -112,8 +115,8 @@ impl Reference {
     #[tactic(auto, unfolding(cas_bind::specs::Tables::tables_after))]
     fn perform<C: Clock>(&mut self, alloc: Global, clock: &C, bound: Bound) -> Result<Reply, Mem>
         requires within { IsWithin self.old.limits.shards bound }
-        ensures does { IfOk result (λ r. Does (C.may_give clock.now) (held self.old) (OkOf bound) r (held self.new)) }
-        ensures tables { OnOk result (self.new.tables.items ≡ tables_after self.old.tables.items bound) }
+        requires made { AreTables (tables_after self.old.tables.items bound) }
+        ensures { IfOk result (λ r. Does (C.may_give clock.now) (held self.old) (OkOf bound) r (held self.new)) }
     {
         match bound {
             Bound::Create(table) => self.create(table),
@@ -129,10 +132,8 @@ impl Reference {
         clock: &C,
         statement: &Statement,
     ) -> Result<Reply, Mem>
-        requires { AreTables (held self.old).tables }
-        ensures does { IfOk result (λ r. Does (C.may_give clock.now) (held self.old)
+        ensures { IfOk result (λ r. Does (C.may_give clock.now) (held self.old)
             (meaning self.old.limits.shards self.old.tables.items statement.now) r (held self.new)) }
-        ensures tables { OnOk result (AreTables (held self.new).tables) }
     {
         match bind(alloc, &self.tables, statement, &self.limits) {
             Ok(bound) => self.perform(alloc, clock, bound),
@@ -155,7 +156,7 @@ impl Reference {
     }
 
     // Answers a line that says this.
-    #[tactic(auto, using(crate::proofs::Doing::says_moment, crate::proofs::Doing::answers_clock, crate::proofs::Doing::answers_statement))]
+    #[tactic(auto, using(crate::proofs::Doing::says_moment, crate::proofs::Doing::answers_blank, crate::proofs::Doing::answers_syntax, crate::proofs::Doing::answers_clock, crate::proofs::Doing::answers_statement))]
     fn answer_known<C: Clock>(
         &mut self,
         alloc: Global,
@@ -163,10 +164,8 @@ impl Reference {
         text: &[u8],
         line: Line,
     ) -> Result<Option<Reply>, Mem>
-        requires tables { AreTables (held self.old).tables }
         requires says { Says text.now line }
-        ensures answers { IfOk result (λ r. Answers (C.may_give clock.now) (held self.old) text.now r (held self.new)) }
-        ensures tables { OnOk result (AreTables (held self.new).tables) }
+        ensures { IfOk result (λ r. Answers (C.may_give clock.now) (held self.old) text.now r (held self.new)) }
     {
         match line {
             Line::Blank => Ok(None),
@@ -185,9 +184,7 @@ impl Reference {
         clock: &C,
         line: &[u8],
     ) -> Result<Option<Reply>, Mem>
-        requires { AreTables (held self.old).tables }
-        ensures answers { IfOk result (λ r. Answers (C.may_give clock.now) (held self.old) line.now r (held self.new)) }
-        ensures tables { OnOk result (AreTables (held self.new).tables) }
+        ensures { IfOk result (λ r. Answers (C.may_give clock.now) (held self.old) line.now r (held self.new)) }
     {
         let known = read_line(alloc, line)?;
         self.answer_known(alloc, clock, line, known)

@@ -1,17 +1,16 @@
 //! Answers runs by the program and by the slow reference, and tells where the two differ.
 
-ghost use Rattle.std.specs.Prelude.{IfOk, IfSome, OnOk};
+ghost use Rattle.std.specs.Prelude.{IfOk, IfSome};
 ghost use Rattle.cas_types.specs.Limits.{IsShardCount};
-ghost use Rattle.cas_bind.specs.Tables.{AreTables};
 
 use crate::clock::ListedClock;
 use crate::gate::CountedGate;
-use crate::generated::generated;
-use crate::reference::Reference;
 use crate::row::{RowFault, Trial, trials};
 use crate::running::run_script;
+use cas_chance::generated;
 use cas_disk::{FaultPlan, MemFolder};
 use cas_lines::next_line;
+use cas_reference::Reference;
 use cas_render::render;
 use cas_types::Mem;
 use cas_words::{Command, read_words};
@@ -63,10 +62,7 @@ fn put_reply(
     clock: &ListedClock<'_>,
     line: &[u8],
     text: &mut Vec<u8>,
-) -> Result<(), Mem>
-    requires { AreTables reference.old.tables.items }
-    ensures { OnOk result (AreTables reference.new.tables.items) }
-{
+) -> Result<(), Mem> {
     text.clear();
     match reference.answer_line(alloc, clock, line)? {
         Some(reply) => render(alloc, &reply, text),
@@ -80,10 +76,7 @@ fn compare_run(
     reference: &mut Reference,
     trial: &Trial,
     output: &[u8],
-) -> Result<Compared, Mem>
-    requires { AreTables reference.old.tables.items }
-    ensures { OnOk result (AreTables reference.new.tables.items) }
-{
+) -> Result<Compared, Mem> {
     let clock = ListedClock::new(&trial.readings);
     let mut reply = Vec::new(alloc);
     let mut number: u64 = 0;
@@ -111,13 +104,10 @@ fn compare_trial(
     reference: &mut Reference,
     trial: &Trial,
     output: &[u8],
-) -> Result<Compared, Mem>
-    requires { AreTables reference.old.tables.items }
-    ensures { OnOk result (AreTables reference.new.tables.items) }
-{
+) -> Result<Compared, Mem> {
     match read_words(alloc, &trial.words)? {
         Some(command) => {
-            reference.begin(&command)?;
+            reference.begin(alloc, &command)?;
             compare_run(alloc, reference, trial, output)
         }
         None => Ok(Compared::Alike(0)),
@@ -156,7 +146,7 @@ fn compare_trials(alloc: Global, trials: &[Trial]) -> Result<Compared, Mem> {
     let Some(command) = first_command(alloc, trials)? else {
         return Ok(Compared::Alike(0));
     };
-    let mut reference = Reference::new(alloc, &command);
+    let mut reference = Reference::new(alloc, &command)?;
     let mut lines: u64 = 0;
     for (i, (trial, output)) in trials.iter().zip(&outputs(alloc, trials)?).enumerate() {
         match compare_trial(alloc, &mut reference, trial, output)? {

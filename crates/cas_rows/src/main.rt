@@ -2,18 +2,14 @@
 //! or their status, isn't what stands beside them.
 #![tactic(auto)]
 
-mod accepted;
 mod alike;
-mod chance;
 mod clock;
 mod compare;
 mod crash;
 mod cut;
 mod gate;
-mod generated;
 mod lines;
 mod past;
-mod reference;
 mod row;
 mod running;
 mod seen;

@@ -4,6 +4,7 @@
 mod fault;
 mod finish;
 mod held;
+mod laws;
 mod part;
 mod partition;
 mod rooms;
@@ -13,4 +14,5 @@ mod writer;
 
 pub use fault::{Measure, PartitionFault, WriteFault};
 pub use held::TableWriter;
+pub use laws::what_fits_is_written;
 pub use rooms::{has_room, have_room};
