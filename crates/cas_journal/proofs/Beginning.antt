@@ -57,6 +57,8 @@ module _ (j : Journal) (old new : Disk) (t : Told) (number : ℕ) (next : j.last
       reworded (begins number) (λ _ c. Holds t c) old new call (λ d c was made. record {
         entries = t.entries;
         listed = inl refl;
+        gone = 0;
+        front = inl refl;
         count = t.committed;
         least = omega arith;
         most = committed_few j old t goes;
@@ -69,6 +71,7 @@ module _ (j : Journal) (old new : Disk) (t : Told) (number : ℕ) (next : j.last
     manifest = subst (λ m. ManifestStands (manifest_place m) new t.entries) (sym manifest)
         (manifest_still (begins number) old new call (manifest_place j.manifest) t.entries (λ d c made. made.others manifest_name (manifest_is_no_log number)) goes.manifest);
     none_failed = goes.none_failed;
+    none_leaving = goes.none_leaving;
     made = goes.made;
     before = goes.before;
     parts = goes.parts;

@@ -30,7 +30,7 @@ use Rattle.cas_journal.proofs.Holding.{HasItsSegment, store_with, store_now, hol
 use Rattle.cas_journal.proofs.Moving.{still_so, log_still, earlier_still, spare_still, manifest_changed}
 
 -- the manifest is written again, with the same entries
-store_rewritten : (entries : List Entry) (ms : List Mutation) (d c : Image) → IsStore entries ms d → ((k : Name) → k ≢ manifest_name → c k ≡ d k)
+pub store_rewritten : (entries : List Entry) (ms : List Mutation) (d c : Image) → IsStore entries ms d → ((k : Name) → k ≢ manifest_name → c k ≡ d k)
     → (f : List ℕ) → c manifest_name ≡ Some f → IsManifest entries f → IsStore entries ms c
 store_rewritten entries ms d c store same f there manifest = record {
   file = f;
@@ -42,10 +42,12 @@ store_rewritten entries ms d c store same f there manifest = record {
 }
 
 -- what is held with nothing that failed is held with an entry that failed
-pub holds_failed : (t : Told) (e : Entry) (c : Image) → t.failed ≡ [] → Holds t c → Holds (failed_at e t) c
-holds_failed t e c none holds = record {
+pub holds_failed : (t : Told) (e : Entry) (c : Image) → t.failed ≡ [] → t.leaving ≡ 0 → Holds t c → Holds (failed_at e t) c
+holds_failed t e c none all_there holds = record {
   entries = holds.entries;
   listed = inl (⊎_elim (λ is. is) (λ is. is ∙ ap (λ (l : List Entry). t.entries ++ l) none ∙ append-nil t.entries) holds.listed);
+  gone = holds.gone;
+  front = inl (⊎_elim (λ is. is) (λ (is : _ × (holds.gone ≡ t.leaving)). is.1 ∙ all_there) holds.front);
   count = holds.count;
   least = holds.least;
   most = holds.most;
@@ -76,6 +78,8 @@ module _ (j : Journal) (old : Disk) (t : Told) (e : Entry) (goes : Goes j old t)
       by_manifest d c was made (inl without) = inl (record {
         entries = t.entries;
         listed = inl refl;
+        gone = 0;
+        front = inl refl;
         count = t.committed;
         least = omega arith;
         most = committed_few j old t goes;
@@ -84,6 +88,8 @@ module _ (j : Journal) (old : Disk) (t : Told) (e : Entry) (goes : Goes j old t)
       by_manifest d c was made (inr with_it) = inr (record {
         entries = t.entries ++ e ∷ [];
         listed = inr refl;
+        gone = 0;
+        front = inl refl;
         count = t.committed;
         least = omega arith;
         most = committed_few j old t goes;
@@ -93,7 +99,7 @@ module _ (j : Journal) (old : Disk) (t : Told) (e : Entry) (goes : Goes j old t)
   -- after one that failed
   pub append_fails : (new : Disk) → During (λ _ c. either c) old new → (c : Image) → new.may_leave c → Holds (failed_at e t) c
   append_fails new leaves c left =
-      ⊎_elim (λ (without : Holds t c). holds_failed t e c goes.none_failed without) (λ (with_it : Holds (failed_at e t) c). with_it)
+      ⊎_elim (λ (without : Holds t c). holds_failed t e c goes.none_failed goes.none_leaving without) (λ (with_it : Holds (failed_at e t) c). with_it)
       (still_so (λ _ x. either x) old new leaves either (λ d x was made. made) (λ x was. inl (holds_now j old t goes x was)) c left)
 
 -- ---- an entry that is told
@@ -161,6 +167,7 @@ module _ (j k : Journal) (old new : Disk) (t : Told) (e : Entry) (goes : Goes j 
       record {
         manifest = stands;
         none_failed = goes.none_failed;
+        none_leaving = goes.none_leaving;
         made = some t.entries;
         before = goes.before;
         parts = goes.parts;

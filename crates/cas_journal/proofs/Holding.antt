@@ -1,5 +1,5 @@
 -- What each image of a journal that goes on has, and what an image has where one file changed.
-use Rattle.std.proofs.Common.{◌≡◌, ◌≢◌, inl, ℕ, ◌≤◌, List, [], ◌∷◌, ◌++◌, length, take, Option, None, Some, refl, sym, ap, subst, ◌∙◌, arith, append_assoc, length-append}
+use Rattle.std.proofs.Common.{◌≡◌, ◌≢◌, ⊎_elim, inl, ℕ, ◌≤◌, List, [], ◌∷◌, ◌++◌, length, take, drop, Option, None, Some, refl, sym, ap, subst, ◌∙◌, arith, append_assoc, length-append}
 use Rattle.std.specs.List.{AllByRecursion}
 use Rattle.std.proofs.lemmas.List.{append-nil}
 use Rattle.cas_disk.specs.declared.name.Name.{Name}
@@ -132,6 +132,11 @@ store_with entries e ms d c store is fits has same f there manifest =
     some [] is = cc
     some (x ∷ xs) is = cc
 
+-- where no mutation may be gone, an image has a front of them all
+pub whole_store : (t : Told) (c : Image) → t.leaving ≡ 0 → (holds : Holds t c) → IsStore holds.entries (take holds.count t.taken) c
+whole_store t c none holds =
+    subst (λ (n : ℕ). IsStore holds.entries (drop n (take holds.count t.taken)) c) (⊎_elim (λ is. is) (λ (is : _ × (holds.gone ≡ t.leaving)). is.1 ∙ none) holds.front) holds.store
+
 -- ---- a journal that goes on
 
 module _ (j : Journal) (disk : Disk) (t : Told) (goes : Goes j disk t) where
@@ -145,7 +150,7 @@ module _ (j : Journal) (disk : Disk) (t : Told) (goes : Goes j disk t) where
   pub all_fit : AllByRecursion (FitsRecord said.tables said.shards) (joined goes.parts ++ (goes.written ++ goes.pushed))
   all_fit = subst (λ (l : List Mutation). AllByRecursion (FitsRecord said.tables said.shards) l) (sym goes.all) goes.fit
 
-  written_fit : AllByRecursion (FitsRecord said.tables said.shards) (goes.written ++ goes.pushed)
+  pub written_fit : AllByRecursion (FitsRecord said.tables said.shards) (goes.written ++ goes.pushed)
   written_fit = all_back (FitsRecord said.tables said.shards) (joined goes.parts) (goes.written ++ goes.pushed) all_fit
 
   -- what is committed is a front of what was taken
@@ -199,4 +204,4 @@ module _ (j : Journal) (disk : Disk) (t : Told) (goes : Goes j disk t) where
       }
 
   pub holds_now : (c : Image) → disk.may_leave c → Holds t c
-  holds_now c left = record { entries = t.entries; listed = inl refl; count = t.committed; least = omega arith; most = committed_few; store = store_now c left }
+  holds_now c left = record { entries = t.entries; listed = inl refl; gone = 0; front = inl refl; count = t.committed; least = omega arith; most = committed_few; store = store_now c left }

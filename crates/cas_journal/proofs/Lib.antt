@@ -12,3 +12,4 @@ pub mod Rooms
 pub mod Taking
 pub mod Tables
 pub mod Reaching
+pub mod Lowest

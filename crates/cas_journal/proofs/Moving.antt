@@ -1,5 +1,5 @@
 -- What a call leaves of a journal, by the files that it doesn't change.
-use Rattle.std.proofs.Common.{◌≡◌, ◌≢◌, ◌⊎◌, inl, inr, ⊎_elim, ℕ, ◌+◌, ◌<◌, ◌≤◌, List, [], ◌∷◌, ◌++◌, length, take, Option, None, Some, refl, sym, ap, subst, ◌∙◌, arith, append_assoc, length-append}
+use Rattle.std.proofs.Common.{◌≡◌, ◌≢◌, ◌⊎◌, inl, inr, ⊎_elim, ℕ, ◌+◌, ◌<◌, ◌≤◌, List, [], ◌∷◌, ◌++◌, length, take, drop, Option, None, Some, refl, sym, ap, subst, ◌∙◌, arith, append_assoc, length-append}
 use Rattle.std.specs.List.{AllByRecursion}
 use Rattle.std.specs.Prelude.{Err}
 use Rattle.std.proofs.lemmas.List.{append-nil, take_all, take-append-le}
@@ -81,10 +81,12 @@ pub holds_same : (t : Told) (d c : Image) → Holds t d → Same d c → Holds t
 holds_same t d c holds same = record {
   entries = holds.entries;
   listed = holds.listed;
+  gone = holds.gone;
+  front = holds.front;
   count = holds.count;
   least = holds.least;
   most = holds.most;
-  store = store_same holds.entries (take holds.count t.taken) d c holds.store same;
+  store = store_same holds.entries (drop holds.gone (take holds.count t.taken)) d c holds.store same;
 }
 
 -- a journal that goes on lasts
@@ -161,6 +163,8 @@ module _ (j : Journal) (log : Log) (old : Disk) (t : Told) (goes : Goes j old t)
       by_segment d c was made (inl without) = record {
         entries = t.entries;
         listed = inl refl;
+        gone = 0;
+        front = inl refl;
         count = t.committed;
         least = omega arith;
         most = few_committed;
@@ -173,6 +177,8 @@ module _ (j : Journal) (log : Log) (old : Disk) (t : Told) (goes : Goes j old t)
       by_segment d c was made (inr with_them) = record {
         entries = t.entries;
         listed = inl refl;
+        gone = 0;
+        front = inl refl;
         count = length t.taken;
         least = few_committed;
         most = omega arith;
@@ -189,6 +195,7 @@ module _ (j : Journal) (log : Log) (old : Disk) (t : Told) (goes : Goes j old t)
     manifest = subst (λ m. ManifestStands (manifest_place m) new t.entries) (sym manifest)
         (manifest_still step old new call (manifest_place j.manifest) t.entries (λ d c made. made.others manifest_name (manifest_is_no_log log.number)) goes.manifest);
     none_failed = goes.none_failed;
+    none_leaving = goes.none_leaving;
     made = goes.made;
     before = goes.before;
     parts = goes.parts;
@@ -236,10 +243,12 @@ module _ (j k : Journal) (disk : Disk) (t : Told) (m : Mutation) where
   holds_took c holds = record {
     entries = holds.entries;
     listed = holds.listed;
+    gone = holds.gone;
+    front = holds.front;
     count = holds.count;
     least = holds.least;
     most = omega (arith, holds.most, length-append t.taken (m ∷ []));
-    store = subst (λ (ms : List Mutation). IsStore holds.entries ms c) (sym (take-append-le holds.count t.taken (m ∷ []) holds.most)) holds.store;
+    store = subst (λ (ms : List Mutation). IsStore holds.entries (drop holds.gone ms) c) (sym (take-append-le holds.count t.taken (m ∷ []) holds.most)) holds.store;
   }
 
   module _ (log after : Log) (is : j.log ≡ Some log) (now : k.log ≡ Some after) (place : place_of after ≡ place_of log)
@@ -252,6 +261,7 @@ module _ (j k : Journal) (disk : Disk) (t : Told) (m : Mutation) where
         record {
           manifest = subst (λ x. ManifestStands (manifest_place x) disk t.entries) (sym manifest) goes.manifest;
           none_failed = goes.none_failed;
+          none_leaving = goes.none_leaving;
           made = goes.made;
           before = goes.before;
           parts = goes.parts;

@@ -96,6 +96,7 @@ module _ (j : Journal) (old : Disk) (t : Told) (goes : Goes j old t) where
         record {
           manifest = stands;
           none_failed = goes.none_failed;
+          none_leaving = goes.none_leaving;
           made = some t.entries;
           before = said.segments;
           parts = parts;
@@ -131,6 +132,7 @@ spare_reserved j k disk t log next was now place pushed manifest same last first
       record {
         manifest = subst (λ m. ManifestStands (manifest_place m) disk t.entries) (sym manifest) goes.manifest;
         none_failed = goes.none_failed;
+        none_leaving = goes.none_leaving;
         made = goes.made;
         before = goes.before;
         parts = goes.parts;

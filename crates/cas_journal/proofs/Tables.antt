@@ -1,5 +1,5 @@
 -- The files of tables beside a journal: what changes of one of them leaves what it was told.
-use Rattle.std.proofs.Common.{◌≡◌, ◌≢◌, ℕ, List, [], ◌∷◌, take, Option}
+use Rattle.std.proofs.Common.{◌≡◌, ◌≢◌, ℕ, List, [], ◌∷◌, take, drop, Option}
 use Rattle.std.specs.List.{AllByRecursion}
 use Rattle.cas_disk.specs.declared.name.Name.TheVariants.{Manifest as manifest_name, Log as log_name, Table as table_name}
 use Rattle.cas_disk.specs.Disk.{Image, Disk, During, Changed}
@@ -33,10 +33,12 @@ pub holds_apart : (t : Told) (n : ℕ) (change : Option (List ℕ) → Option (L
 holds_apart t n change d c holds made = record {
   entries = holds.entries;
   listed = holds.listed;
+  gone = holds.gone;
+  front = holds.front;
   count = holds.count;
   least = holds.least;
   most = holds.most;
-  store = store_apart holds.entries (take holds.count t.taken) d c (table_name n) holds.store (manifest_is_no_table n)
+  store = store_apart holds.entries (drop holds.gone (take holds.count t.taken)) d c (table_name n) holds.store (manifest_is_no_table n)
       (none_is_table n (said_by holds.entries).segments) made.others;
 }
 
@@ -53,6 +55,7 @@ module _ (n : ℕ) (change : Option (List ℕ) → Option (List ℕ) → Type 0)
       record {
         manifest = manifest_still step old new call (manifest_place j.manifest) t.entries (λ d c made. made.others manifest_name (manifest_is_no_table n)) goes.manifest;
         none_failed = goes.none_failed;
+        none_leaving = goes.none_leaving;
         made = goes.made;
         before = goes.before;
         parts = goes.parts;

@@ -42,6 +42,7 @@ module _ (j k : Journal) (old new : Disk) (t : Told) (call : During Same old new
         manifest = subst (λ (p : Place). ManifestStands p new t.entries) (sym place)
             (manifest_still Same old new call (manifest_place j.manifest) t.entries (λ d c same. same manifest_name) goes.manifest);
         none_failed = goes.none_failed;
+        none_leaving = goes.none_leaving;
         made = goes.made;
         before = goes.before;
         parts = goes.parts;

@@ -41,6 +41,7 @@ AreFree j disk = NoneAbove j.last_segment disk
 pub record Goes (j : Journal) (disk : Disk) (t : Told) : Type 0 where
   pub manifest : ManifestStands (manifest_place j.manifest) disk t.entries
   pub none_failed : t.failed ≡ []
+  pub none_leaving : t.leaving ≡ 0
   pub made : t.entries ≢ []
   pub before : List ℕ
   pub parts : List (List Mutation)

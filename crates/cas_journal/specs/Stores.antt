@@ -1,11 +1,12 @@
 -- The store that a folder's files are, and what every image of it has. Storage engine: commit log; own.
-use Rattle.std.specs.Prelude.{◌≡◌, ◌≢◌, ◌⊎◌, ℕ, ◌≤◌, List, [], ◌∷◌, ◌++◌, length, map, take, Some}
+use Rattle.std.specs.Prelude.{◌≡◌, ◌≢◌, ◌⊎◌, ℕ, ◌-◌, ◌≤◌, List, [], ◌∷◌, ◌++◌, length, map, take, drop, Some}
 use Rattle.cas_disk.specs.declared.name.Name.TheVariants.{Manifest as manifest_name, Table as table_name}
-use Rattle.cas_disk.specs.Disk.{Image}
+use Rattle.cas_disk.specs.Disk.{Image, Disk}
 use Rattle.cas_atoms.specs.declared.atom.Mutation.{Mutation}
 use Rattle.cas_changes.specs.declared.entry.Entry.{Entry}
-use Rattle.cas_changes.specs.declared.entry.Entry.TheVariants.{NewSegment}
+use Rattle.cas_changes.specs.declared.entry.Entry.TheVariants.{NewSegment, DropSegment}
 use Rattle.cas_changes.specs.Saying.{said_by}
+use Rattle.cas_log.specs.Segment.{IsSegment}
 use Rattle.cas_manifest.specs.File.{IsManifest}
 use Rattle.cas_replay.specs.Reading.{segment_in}
 use Rattle.cas_replay.specs.Grammar.{IsLog}
@@ -19,26 +20,34 @@ pub record IsStore (entries : List Entry) (mutations : List Mutation) (c : Image
   pub made : entries ≢ []
   pub log : IsLog (said_by entries).tables (said_by entries).shards (segment_in c) (said_by entries).segments mutations
 
--- What a journal was told: the entries that the manifest has; one that failed, which may be there or not; the mutations that it took, behind those
--- that it was opened with; and how many of them are committed.
+-- What a journal was told: the entries that the manifest has; one that failed, which may be there or not; the mutations of the segments that are
+-- listed, those that it was opened with and those that it took; how many of them are committed; and how many at their front are gone where that entry
+-- is there, as it may drop their segment.
 pub record Told : Type 0 where
   pub entries : List Entry
   pub failed : List Entry
   pub taken : List Mutation
   pub committed : ℕ
+  pub leaving : ℕ
 
 -- entries that an image may have: those that the manifest has, or that one more
 abbrev pub MayList : Told → List Entry → Type 0
 MayList t entries = (entries ≡ t.entries) ⊎ (entries ≡ t.entries ++ t.failed)
 
+-- so many mutations are gone from the front, where an image has these entries: none, or those that leave with the entry that failed
+abbrev pub HaveGone : Told → List Entry → ℕ → Type 0
+HaveGone t entries gone = (gone ≡ 0) ⊎ ((entries ≡ t.entries ++ t.failed) × (gone ≡ t.leaving))
+
 -- The image is the store, with what was told: every entry, and a front of the mutations, with each that is committed, whole.
 pub record Holds (t : Told) (c : Image) : Type 0 where
   pub entries : List Entry
   pub listed : MayList t entries
+  pub gone : ℕ
+  pub front : HaveGone t entries gone
   pub count : ℕ
   pub least : t.committed ≤ count
   pub most : count ≤ length t.taken
-  pub store : IsStore entries (take count t.taken) c
+  pub store : IsStore entries (drop gone (take count t.taken)) c
 
 -- so many segments more are listed
 abbrev pub named : List ℕ → List Entry
@@ -55,6 +64,7 @@ pub record MadeRoom (t u : Told) : Type 0 where
   pub failed : FailedToName t.failed u.failed
   pub taken : u.taken ≡ t.taken
   pub committed : t.committed ≤ u.committed
+  pub leaving : u.leaving ≡ t.leaving
 
 -- the image holds what was told, or that with room made
 abbrev pub HoldsWithRoom : Told → Image → Type 0
@@ -79,3 +89,27 @@ failed_at e t = record t { failed = e ∷ [] }
 -- the file of every table is as it was
 abbrev pub SameTables : Image → Image → Type 0
 SameTables d c = (n : ℕ) → c (table_name n) ≡ d (table_name n)
+
+-- ---- a segment that is dropped
+
+-- the lowest of the segments that are listed, and not the last of them
+abbrev pub IsLowest : ℕ → List ℕ → Type 0
+IsLowest number segments = (next : ℕ) × (others : List ℕ) × (segments ≡ number ∷ next ∷ others)
+
+-- The segment has so many of the mutations, the first of those that are listed: whatever a crash leaves has them there, and they are committed.
+pub record HasFirst (number many : ℕ) (t : Told) (disk : Disk) : Type 0 where
+  pub committed : many ≤ t.committed
+  pub file : (c : Image) → disk.may_leave c → IsSegment number (take many t.taken) (segment_in c number)
+
+-- the same without this segment, and the mutations that it has
+abbrev pub without : ℕ → ℕ → Told → Told
+without number many t =
+    record t { entries = t.entries ++ DropSegment number ∷ []; taken = drop many t.taken; committed = t.committed - many }
+
+-- the same, with it or without
+abbrev pub may_be_without : ℕ → ℕ → Told → Told
+may_be_without number many t = record t { failed = DropSegment number ∷ []; leaving = many }
+
+-- an image while it is dropped: it holds what was told, with the segment or without
+abbrev pub HoldsDropped : ℕ → Told → Disk → Image → Type 0
+HoldsDropped number t disk c = Holds t c ⊎ ((many : ℕ) × HasFirst number many t disk × Holds (may_be_without number many t) c)

@@ -2,6 +2,7 @@
 //! image of the disk stand all definitions and a front of the mutations, with each that is committed.
 #![tactic(auto)]
 
+mod dropping;
 mod fault;
 mod journal;
 mod making_room;

@@ -12,6 +12,7 @@ use Rattle.cas_changes.specs.Saying.{said_by}
 use Rattle.cas_changes.specs.declared.entry.Entry.{Entry as ManifestEntry}
 use Rattle.cas_history.specs.declared.item.Item.{Item}
 use Rattle.cas_history.specs.declared.item.Item.TheVariants.{Wrote}
+use Rattle.cas_journal.proofs.Holding.{whole_store}
 use Rattle.cas_journal.specs.Stores.{Told, Holds, HoldsWithRoom, IsStore, MadeRoom, MayList, failed_at, took}
 use Rattle.cas_room.specs.declared.event.Event.{Event}
 use Rattle.cas_room.specs.declared.event.Event.TheVariants as event
@@ -32,8 +33,8 @@ front_is found accepted taken rest n all more fewer =
 
 -- an image that holds what the journal was told, of which all was accepted by the end of the call
 holds_amid : (t : Told) (h : History) (found rest : List Mutation) (list : List (Item Event)) (c : Image) → t.taken ++ rest ≡ found ++ accepted_in list
-    → length found + h.acknowledged ≤ t.committed → (said_by t.entries).tables ≡ h.tables → length t.failed ≤ 1 → Holds t c → IsLeftAmid found list h c
-holds_amid t h found rest list c all committed tables few holds = listed holds.listed
+    → length found + h.acknowledged ≤ t.committed → t.leaving ≡ 0 → (said_by t.entries).tables ≡ h.tables → length t.failed ≤ 1 → Holds t c → IsLeftAmid found list h c
+holds_amid t h found rest list c all committed whole tables few holds = listed holds.listed
   where
     long : length t.taken + length rest ≡ length found + length (accepted_in list)
     long = sym (length-append t.taken rest) ∙ ap length all ∙ length-append found (accepted_in list)
@@ -51,7 +52,7 @@ holds_amid t h found rest list c all committed tables few holds = listed holds.l
       most = omega (arith, long, holds.most, committed, holds.least);
       store =
           subst (λ (ms : List Mutation). IsStore holds.entries ms c)
-          (front_is found (accepted_in list) t.taken rest holds.count all (omega (arith, committed, holds.least)) holds.most) holds.store;
+          (front_is found (accepted_in list) t.taken rest holds.count all (omega (arith, committed, holds.least)) holds.most) (whole_store t c whole holds);
     }
 
     listed : MayList t holds.entries → IsLeftAmid found list h c
@@ -71,7 +72,7 @@ module _ (h : History) (found : List Mutation) (s : State) (d : Disk) (told : To
   -- room was made, before anything is accepted
   roomy : (rest : List Mutation) (list : List (Item Event)) → told.taken ++ rest ≡ found ++ accepted_in list → (c : Image) → HoldsWithRoom told c → IsLeftAmid found list h c
   roomy rest list all c (u, made, holds) =
-      holds_amid u h found rest list c (ap (λ ms. ms ++ rest) made.taken ∙ all) (omega (arith, committed, made.committed))
+      holds_amid u h found rest list c (ap (λ ms. ms ++ rest) made.taken ∙ all) (omega (arith, committed, made.committed)) (made.leaving ∙ lasts.keeps.whole)
       (ap (λ es. (said_by es).tables) made.entries ∙ (named_segments_define_nothing told.entries made.numbers).0 ∙ tables)
       (few_failed told.failed u.failed made.failed lasts.few) holds
 
@@ -91,7 +92,7 @@ module _ (h : History) (found : List Mutation) (s : State) (d : Disk) (told : To
       leaves_either (λ c. HoldsWithRoom told c) (λ c. Holds (took m u) c) (λ c. IsLeftAmid found list h c) d e f first second
       (λ c holds. roomy (m ∷ []) list all c holds)
       (λ c holds.
-      holds_amid (took m u) h found [] list c (append-nil (u.taken ++ m ∷ []) ∙ ap (λ ms. ms ++ m ∷ []) made.taken ∙ all) (omega (arith, committed, made.committed))
+      holds_amid (took m u) h found [] list c (append-nil (u.taken ++ m ∷ []) ∙ ap (λ ms. ms ++ m ∷ []) made.taken ∙ all) (omega (arith, committed, made.committed)) (made.leaving ∙ lasts.keeps.whole)
       (ap (λ es. (said_by es).tables) made.entries ∙ (named_segments_define_nothing told.entries made.numbers).0 ∙ tables)
       (few_failed told.failed u.failed made.failed lasts.few) holds)
     where
@@ -107,8 +108,8 @@ module _ (h : History) (found : List Mutation) (s : State) (d : Disk) (told : To
   amid_defined list x e same leaves =
       reworded (λ _ c. Holds told c ⊎ Holds (failed_at x told) c) (λ _ c. IsLeftAmid found list h c) d e leaves
       (λ b c was either. ⊎_elim
-      (λ holds. holds_amid told h found [] list c (all_of list same) committed tables lasts.few holds)
-      (λ holds. holds_amid (failed_at x told) h found [] list c (all_of list same) committed tables (omega arith) holds) either)
+      (λ holds. holds_amid told h found [] list c (all_of list same) committed lasts.keeps.whole tables lasts.few holds)
+      (λ holds. holds_amid (failed_at x told) h found [] list c (all_of list same) committed lasts.keeps.whole tables (omega arith) holds) either)
 
 -- the folder is as it was
 pub amid_still : {X : Type 0} (h : History) (found : List Mutation) (s : State) (x y : X) (told : Told) (disk : X → Disk) → StandsFor h s → LastsFor h found s (disk x) told

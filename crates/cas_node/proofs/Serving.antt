@@ -85,6 +85,7 @@ module _ (given : Limits) (entries : List ManifestEntry) (mutations : List Mutat
       lasts = lasts;
       all = told.taken ∙ sym (append-nil mutations) ∙ ap (λ (l : List (Item Event)). mutations ++ accepted_in l) (sym list);
       committed = omega (arith, told.committed, committed);
+      whole = told.whole;
     };
     tables = told.tables ∙ sym memory.tables_are;
     shards = told.shards ∙ ap (λ (l : Limits). l.shards) (sym memory.same);

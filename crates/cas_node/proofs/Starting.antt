@@ -85,6 +85,7 @@ opened_lasts entries mutations handed o new is = (
     failed = refl;
     taken = refl;
     committed = omega arith;
+    whole = refl;
   },
   is.lasts,
 )

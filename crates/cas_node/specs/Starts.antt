@@ -40,6 +40,7 @@ pub record IsTold (entries : List ManifestEntry) (mutations : List Mutation) (t 
   pub failed : t.failed ≡ []
   pub taken : t.taken ≡ mutations
   pub committed : length mutations ≤ t.committed
+  pub whole : t.leaving ≡ 0
 
 -- The store of a folder was opened: its limits, tables, shards and journal are those of the entries and mutations that were found, and these last.
 pub record IsStarted (given limits : Limits) (tables : List TableSchema) (shards : List Shard) (journal : Journal) (old new : Disk) : Type 0 where

@@ -74,12 +74,14 @@ all_taken entries ms c store = subst (λ (l : List Mutation). IsStore entries l 
 
 module _ (entries : List Entry) (ms : List Mutation) where
   pub holds_store : (c : Image) → IsStore entries ms c → Holds (while_named entries ms) c
-  holds_store c store = record { entries = entries; listed = inl refl; count = length ms; least = omega arith; most = omega arith; store = all_taken entries ms c store }
+  holds_store c store = record { entries = entries; listed = inl refl; gone = 0; front = inl refl; count = length ms; least = omega arith; most = omega arith; store = all_taken entries ms c store }
 
   holds_named : (n : ℕ) → n ≡ next_segment entries → (c : Image) → IsStore (entries ++ NewSegment n ∷ []) ms c → Holds (while_named entries ms) c
   holds_named n next c store = record {
     entries = entries ++ NewSegment n ∷ [];
     listed = inr (ap (λ (k : ℕ). entries ++ NewSegment k ∷ []) next);
+    gone = 0;
+    front = inl refl;
     count = length ms;
     least = omega arith;
     most = omega arith;
@@ -143,6 +145,7 @@ module _ (entries : List Entry) (ms : List Mutation) where
           lasting j z (told entries ms (n ∷ [])) (record {
             manifest = subst (λ (x : Manifest). Stands (place_of x) z (entries ++ e ∷ [])) (sym of) stands;
             none_failed = refl;
+            none_leaving = refl;
             made = λ nil. one_there entries nil;
             before = s.segments;
             parts = keeps.parts;
@@ -181,10 +184,11 @@ module _ (entries : List Entry) (ms : List Mutation) where
       → IsSpare j.spare (said_by entries).last_segment z → Lasts j z (told entries ms [])
   unnamed_lasts j m z of none keeps last spare =
       let s = said_by entries in
-      subst (λ (es : List Entry). Lasts j z (record { entries = es; failed = []; taken = ms; committed = length ms })) (sym (append-nil entries))
-      (lasting j z (record { entries = entries; failed = []; taken = ms; committed = length ms }) (record {
+      subst (λ (es : List Entry). Lasts j z (record { entries = es; failed = []; taken = ms; committed = length ms; leaving = 0 })) (sym (append-nil entries))
+      (lasting j z (record { entries = entries; failed = []; taken = ms; committed = length ms; leaving = 0 }) (record {
         manifest = subst (λ (x : Manifest). Stands (place_of x) z entries) (sym of) keeps.manifest;
         none_failed = refl;
+        none_leaving = refl;
         made = keeps.made;
         before = s.segments;
         parts = keeps.parts;

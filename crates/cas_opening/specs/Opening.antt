@@ -114,7 +114,7 @@ IsReadAs entries mutations o = IsReadWith entries mutations o.mutations.items o.
 
 -- what a journal is told that opens a store of these entries and mutations, and names these segments
 abbrev pub told : List Entry → List Mutation → List ℕ → Told
-told entries mutations numbers = record { entries = entries ++ named numbers; failed = []; taken = mutations; committed = length mutations }
+told entries mutations numbers = record { entries = entries ++ named numbers; failed = []; taken = mutations; committed = length mutations; leaving = 0 }
 
 -- The store that was opened: its journal goes on behind the mutations that were there; of these those above their frontiers are given, in order.
 pub record IsOpenedWith (entries : List Entry) (mutations given : List Mutation) (j : Journal) (s : Saying) (disk : Disk) : Type 0 where
@@ -158,7 +158,7 @@ Answers shards c (Err Mem) = Unit {0}
 
 -- what each image has while the next segment is begun: the store, with the entry that names it or without
 abbrev pub while_named : List Entry → List Mutation → Told
-while_named entries mutations = record { entries = entries; failed = next_named entries ∷ []; taken = mutations; committed = length mutations }
+while_named entries mutations = record { entries = entries; failed = next_named entries ∷ []; taken = mutations; committed = length mutations; leaving = 0 }
 
 -- the image has the store of these entries and mutations, and each file that stays as it was, but the manifest
 pub record HasStayed (entries : List Entry) (mutations : List Mutation) (d c : Image) : Type 0 where

@@ -31,11 +31,12 @@ counts_one_more n list shard session call number m few =
 -- what the room keeps, once room was made and the mutation was pushed
 pub keeps_one_more : (j : Journal) (disk : Disk) (list : List (Item Event)) (said : ℕ) (found : List Mutation) (t u : Told)
     (shard session call number : ℕ) (m : Mutation)
-    → t.taken ≡ found ++ accepted_in list → length found + said ≤ t.committed → MadeRoom t u → Lasts j disk (took m u)
+    → t.taken ≡ found ++ accepted_in list → length found + said ≤ t.committed → t.leaving ≡ 0 → MadeRoom t u → Lasts j disk (took m u)
     → Keeps j disk (list ++ Wrote shard session call number (event.Accepted m) ∷ []) said found (took m u)
-keeps_one_more j disk list said found t u shard session call number m all committed made lasts = record {
+keeps_one_more j disk list said found t u shard session call number m all committed whole made lasts = record {
   lasts = lasts;
   all = ap (λ (ms : List Mutation). ms ++ m ∷ []) (made.taken ∙ all) ∙ append_assoc found (accepted_in list) (m ∷ [])
       ∙ ap (λ (ms : List Mutation). found ++ ms) (sym (more_accepted list (Wrote shard session call number (event.Accepted m))));
   committed = omega (arith, committed, made.committed);
+  whole = made.leaving ∙ whole;
 }

@@ -20,7 +20,7 @@ use Rattle.cas_room.specs.Changing.{Have, Stand, HoldsSettled, MayBeTold}
 -- an image with all mutations that were taken has those that were committed
 holds_fewer : (t : Told) (c : Image) → t.committed ≤ length t.taken → Holds (committed_all t) c → Holds t c
 holds_fewer t c few holds =
-    record { entries = holds.entries; listed = holds.listed; count = holds.count; least = omega (arith, few, holds.least); most = holds.most; store = holds.store }
+    record { entries = holds.entries; listed = holds.listed; gone = holds.gone; front = holds.front; count = holds.count; least = omega (arith, few, holds.least); most = holds.most; store = holds.store }
 
 module _ (t : Told) (e : Entry) (a b z : Disk) (first : During (λ _ c. Holds t c) a b) where
   pub only_settled : During (λ _ c. HoldsSettled t e c) a b

@@ -22,17 +22,17 @@ use Rattle.cas_room.specs.Tables.{Draws}
 pub table_keeps : (n : ℕ) (change : Option (List ℕ) → Option (List ℕ) → Type 0) (old new : Disk) → During (Changed (table_name n) change) old new
     → (j : Journal) (list : List (Item Event)) (said : ℕ) (found : List Mutation) (t : Told) → Keeps j old list said found t → Keeps j new list said found t
 table_keeps n change old new call j list said found t keeps =
-    record { lasts = table_lasts n change old new call j t keeps.lasts; all = keeps.all; committed = keeps.committed }
+    record { lasts = table_lasts n change old new call j t keeps.lasts; all = keeps.all; committed = keeps.committed; whole = keeps.whole }
 
 -- after a commit all that the room accepted is committed, after a fault as much as before
 pub commit_keeps : (k : Journal) (disk : Disk) (list : List (Item Event)) (before now accepted : ℕ) (found : List Mutation) (t : Told) (r : Result (Unit {0}) JournalFault)
     → MatchResult r (λ _. Lasts k disk (committed_all t)) (λ _. Lasts k disk t)
-    → t.taken ≡ found ++ accepted_in list → length found + before ≤ t.committed → accepted ≤ length (accepted_in list)
+    → t.taken ≡ found ++ accepted_in list → length found + before ≤ t.committed → t.leaving ≡ 0 → accepted ≤ length (accepted_in list)
     → OnOk r (now ≡ accepted) → OnErr r (now ≡ before) → Keeps k disk list now found (after_commit r t)
-commit_keeps k disk list before now accepted found t (Ok x) lasts all committed few done undone =
-    record { lasts = lasts; all = all; committed = omega (arith, done, few, ap length all, length-append found (accepted_in list)) }
-commit_keeps k disk list before now accepted found t (Err fault) lasts all committed few done undone =
-    record { lasts = lasts; all = all; committed = omega (arith, undone, committed) }
+commit_keeps k disk list before now accepted found t (Ok x) lasts all committed whole few done undone =
+    record { lasts = lasts; all = all; committed = omega (arith, done, few, ap length all, length-append found (accepted_in list)); whole = whole }
+commit_keeps k disk list before now accepted found t (Err fault) lasts all committed whole few done undone =
+    record { lasts = lasts; all = all; committed = omega (arith, undone, committed); whole = whole }
 
 -- ---- a number that is drawn
 

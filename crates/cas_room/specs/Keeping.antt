@@ -11,11 +11,12 @@ use Rattle.cas_room.specs.declared.event.Event.{Event}
 use Rattle.cas_room.specs.Rooms.{accepted_in}
 
 -- A journal over a folder with this disk keeps a list of the room, of which it said that so many are committed: what it was told are the mutations that
--- the opening found, and then those of the list, each in its order; and at least as many are committed as it said.
+-- the opening found, and then those of the list, each in its order; at least as many are committed as it said; and none of them leaves with a segment.
 pub record Keeps (journal : Journal) (disk : Disk) (list : List (Item Event)) (said : ℕ) (found : List Mutation) (t : Told) : Type 0 where
   pub lasts : Lasts journal disk t
   pub all : t.taken ≡ found ++ accepted_in list
   pub committed : length found + said ≤ t.committed
+  pub whole : t.leaving ≡ 0
 
 -- The image stands for a front of what was accepted: it is a store, with such entries, of the mutations that the opening found and the first ones that
 -- were accepted, in their order, each whole; no fewer than were said to be committed.

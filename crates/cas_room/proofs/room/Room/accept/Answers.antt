@@ -27,5 +27,5 @@ returns-clause-kept g c found t keeps may =
       made,
       subst (λ (list : List (Item Event)). Keeps c.push.new.self (g.F.Folder.disk c.prepare.new.folder) list c.args.self.now.faults.committed found
           (took c.args.mutation.now u)) (sym c.write-number.ensures.log)
-          (keeps_one_more _ _ _ _ found t u _ _ _ _ c.args.mutation.now keeps.all keeps.committed made pushed),
+          (keeps_one_more _ _ _ _ found t u _ _ _ _ c.args.mutation.now keeps.all keeps.committed keeps.whole made pushed),
     )

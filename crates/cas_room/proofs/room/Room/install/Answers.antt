@@ -35,10 +35,10 @@ pub returns-in-Err-clause-front : goal.returns-in-Err-clause-front
 returns-in-Err-clause-front g c found t keeps fits =
     let disk = g.F.Folder.disk in
     settled_stands t c.args.entry.now found (accepted_in (listed log_list c.args.self.now.log.pass.saw)) c.args.self.now.faults.committed
-    (disk c.args.self.now.folder) (disk c.settle.new.self.folder) keeps.all keeps.committed (c.settle.ensures.crash found t keeps fits)
+    (disk c.args.self.now.folder) (disk c.settle.new.self.folder) keeps.all keeps.committed keeps.whole (c.settle.ensures.crash found t keeps fits)
 
 pub returns-clause-front : goal.returns-clause-front
 returns-clause-front g c found t keeps fits =
     let disk = g.F.Folder.disk in
     settled_stands t c.args.entry.now found (accepted_in (listed log_list c.args.self.now.log.pass.saw)) c.args.self.now.faults.committed
-    (disk c.args.self.now.folder) (disk c.settle.new.self.folder) keeps.all keeps.committed (c.settle.ensures.crash found t keeps fits)
+    (disk c.args.self.now.folder) (disk c.settle.new.self.folder) keeps.all keeps.committed keeps.whole (c.settle.ensures.crash found t keeps fits)
