@@ -11,7 +11,7 @@ use cas_types::{
 };
 use std::alloc::{AllocError, Global};
 
-const FILE: [u8; 221] = [
+pub(crate) const FILE: [u8; 221] = [
     0x43, 0x41, 0x53, 0x53, 0x54, 0x41, 0x42, 0x31, // CASSTAB1
     0, 2, 0, 3, 1, // version 2, table 3, shard 1
     0, 0, 0, 0, 0, 0, 0, 0xff, // file 255
@@ -119,7 +119,7 @@ fn sealed(alloc: Global, bytes: &[u8]) -> Option<MemSealed> {
 }
 
 // The file of these bytes, loaded, or the place where it is refused.
-fn load(alloc: Global, bytes: &[u8]) -> Result<Table<MemSealed>, u64> {
+pub(crate) fn load(alloc: Global, bytes: &[u8]) -> Result<Table<MemSealed>, u64> {
     let (Ok(table), Ok(info), Some(file)) = (table(alloc), info(alloc), sealed(alloc, bytes)) else {
         return Err(1000);
     };

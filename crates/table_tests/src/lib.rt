@@ -4,3 +4,5 @@
 
 #[cfg(test)]
 mod by_hand;
+#[cfg(test)]
+mod reads;
