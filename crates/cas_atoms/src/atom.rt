@@ -17,7 +17,7 @@ pub struct ColumnRef {
 
 /// The least that a statement writes or deletes in a partition. A path is an element of a set, a
 /// key of a map, the place of an element of a list, and empty for a plain column.
-#[derive(Clone, Drop)]
+#[derive(Drop)]
 pub enum Atom {
     PartitionDeletion(Deletion),
     /// What stands past the first cut and not past the second.

@@ -6,14 +6,14 @@ use cas_cell::{Cell, Deletion, Liveness};
 use cas_types::{Bytes, List};
 
 /// A cell at its path.
-#[derive(Clone, Drop)]
+#[derive(Drop)]
 pub struct PathCell {
     pub path: Bytes,
     pub cell: Cell,
 }
 
 /// What there is of one column of a row.
-#[derive(Clone, Drop)]
+#[derive(Drop)]
 pub struct RowColumn {
     pub column: ColumnRef,
     pub deletion: Option<Deletion>,
@@ -21,7 +21,7 @@ pub struct RowColumn {
 }
 
 /// What there is of one row.
-#[derive(Clone, Drop)]
+#[derive(Drop)]
 pub struct Row {
     pub clustering: Clustering,
     pub deletion: Option<Deletion>,

@@ -6,7 +6,7 @@ use cas_cell::Deletion;
 use cas_types::List;
 
 /// A piece of a partition, as streams and tables hold it.
-#[derive(Clone, Drop)]
+#[derive(Drop)]
 pub enum Fragment {
     /// The columns of the static row. It comes first, or not at all.
     Static(List<RowColumn>),
