@@ -47,3 +47,6 @@ pub answers_statement : (Gives : ℤ → Type 0) (s after : Store) (text : List 
     → Does Gives s (meaning s.limits.shards s.tables x) r after → Says text l → l ≡ line.Statement x → Answers Gives s text (Some r) after
 unfolding Answers
 answers_statement Gives s after text l x r does says is = (line.Statement x, subst (λ l. Says text l) is says, (r, refl, does))
+
+-- what a line that was read is answered
+pub ruleset answers_known = (says_moment, answers_blank, answers_syntax, answers_clock, answers_statement)

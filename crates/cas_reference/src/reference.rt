@@ -156,7 +156,7 @@ impl Reference {
     }
 
     // Answers a line that says this.
-    #[tactic(auto, using(crate::proofs::Doing::says_moment, crate::proofs::Doing::answers_blank, crate::proofs::Doing::answers_syntax, crate::proofs::Doing::answers_clock, crate::proofs::Doing::answers_statement))]
+    #[tactic(auto, using(crate::proofs::Doing::answers_known))]
     fn answer_known<C: Clock>(
         &mut self,
         alloc: Global,

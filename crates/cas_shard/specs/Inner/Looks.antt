@@ -30,7 +30,8 @@ pub record TellPartition {M : Type 0} (tells : M → Option (List Fragment)) (to
 -- whichever mutations the table's memory holds, these sources tell of the partition
 abbrev pub Sources : {M : Type 0} → Slice → List ℕ → Option Parts → (M → Option (List Fragment)) → (M → Option Deletion) → List M → Type 0
 Sources s key memory tells tops sources =
-    (order : List Ordered) (ws : List Mutation) → Holds order memory ws → s.lo.order ≡ order → s.hi.order ≡ order → TellPartition tells tops order s key ws sources
+    (order : List Ordered) (ws : List Mutation) → Holds order memory ws → s.lo.order ≡ order → s.hi.order ≡ order
+    → TellPartition tells tops order s key ws sources
 
 -- and these rows are the live view
 abbrev pub Answers : Query → ℤ → Option Parts → List LiveRow → Type 0
