@@ -1,6 +1,6 @@
 use Rattle.std.proofs.Common.{arith}
 use Rattle.std.proofs.lemmas.Int.{ints}
-use Rattle.cas_node.proofs.Answering.{sets_clock}
+use Rattle.cas_node.proofs.Answered.{sets_clock}
 use Rattle.cas_node.proofs.runner.Runner.set_clock.Goals as goal
 
 pub returns-in-Manual-clause-sets : goal.returns-in-Manual-clause-sets
