@@ -3,6 +3,7 @@ use Rattle.std.proofs.Common.{◌≡◌, inl, inr, ℕ, ℤ, List, Some, refl, s
 use Rattle.cas_types.specs.Limits.{IsMoment}
 use Rattle.cas_disk.specs.Disk.{Disk}
 use Rattle.cas_bind.specs.Meaning.{meaning}
+use Rattle.cas_effects.specs.declared.refusal.TheConstants.{NOT_HERE}
 use Rattle.cas_lines.specs.Lines.{Says}
 use Rattle.cas_lines.specs.declared.line.Line.{Line}
 use Rattle.cas_lines.specs.declared.line.Line.TheVariants as line
@@ -80,3 +81,7 @@ pub sets_clock : (kind : ClockKind) (s : State) (n m : ℤ) (d : Disk) → kind 
     → Moves (λ h after. SetsClock kind h n reply.Done after) s (record s { clock = m }) d d
 sets_clock kind s n m d is same h stands =
     (record h { clock = m }, subst (λ k. SetsClock k h n reply.Done (record h { clock = m })) (sym is) (refl, ap (λ k. record h { clock = k }) same), with_clock h s m d stands)
+
+pub refuses_clock : (kind : ClockKind) (s : State) (n : ℤ) (d : Disk) → kind ≡ clock.System → Moves (λ h after. SetsClock kind h n (reply.Refused NOT_HERE) after) s s d d
+refuses_clock kind s n d is h stands =
+    (h, subst (λ k. SetsClock k h n (reply.Refused NOT_HERE) h) (sym is) (refl, refl), record { stands = stands; lasts = λ found told lasts. (told, lasts) })
