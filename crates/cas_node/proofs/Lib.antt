@@ -1,22 +1,6 @@
-mod Places
-mod Sounding
-mod Telling
-mod Idling
-mod Moving
-mod Answering
-mod Performing
-mod Lasting
-mod Crashing
-mod Entering
-mod Tables
-mod Serving
+mod Answered
 mod Stopping
 mod RunLemmas
-mod Founding
-mod Unflushed
-mod Restoring
-mod Starting
-mod Seating
 mod NumbersRise
 mod OneOutcome
 pub mod SessionLemmas

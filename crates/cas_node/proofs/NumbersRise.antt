@@ -23,11 +23,13 @@ use Rattle.cas_shard.specs.Stands.{NumbersRise}
 use Rattle.cas_shard.proofs.Numbering.{all_stand, one_entered}
 use Rattle.cas_words.specs.declared.words.ClockKind.{ClockKind}
 use Rattle.cas_words.specs.declared.words.ClockKind.TheVariants as clock
-use Rattle.cas_node.specs.History.{History, DiskState, SetsClock, Does, Answered, Answers, Takes, shard_at, after_entries, with_shard}
-use Rattle.cas_node.specs.Found.{AreOfAStore, found_in, start}
+use Rattle.cas_sessions.specs.History.{History, DiskState, Does, Takes, shard_at, after_entries, with_shard}
+use Rattle.cas_node.specs.Lines.{SetsClock, Answered, Answers}
+use Rattle.cas_recovery.specs.Found.{AreOfAStore, found_in}
+use Rattle.cas_sessions.specs.Starts.{start}
 use Rattle.cas_node.specs.Laws.{AllRise, FoundRise, NumbersStay, AllAreRead}
-use Rattle.cas_node.proofs.Founding.{log_reads, none_read}
-use Rattle.cas_node.proofs.Serving.{numbered, many_mapped, many_numbers}
+use Rattle.cas_recovery.proofs.Founding.{log_reads, none_read}
+use Rattle.cas_sessions.proofs.Serving.{numbered, many_mapped, many_numbers}
 
 -- ---- a shard
 

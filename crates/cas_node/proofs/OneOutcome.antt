@@ -28,7 +28,8 @@ use Rattle.cas_lines.proofs.OneLine.{one_line}
 use Rattle.cas_entries.specs.declared.entry.Entry.{Entry}
 use Rattle.cas_shard.specs.Shards.{take_refusal, mutation_at}
 use Rattle.cas_words.specs.declared.words.ClockKind.TheVariants as clock
-use Rattle.cas_node.specs.History.{History, DiskState, Takes, Shows, Defines, Changes, Does, Answered, Answers, Runs, WritesAt, after_read, after_write, entry_of, shard_at, tells_want, is_starved}
+use Rattle.cas_sessions.specs.History.{History, DiskState, Takes, Shows, Defines, Changes, Does, WritesAt, after_read, after_write, entry_of, shard_at, tells_want}
+use Rattle.cas_node.specs.Lines.{Answered, Answers, Runs, is_starved}
 use Rattle.cas_node.specs.Laws.{OneOutcome, SameStore, IsRoomy, StaysWell}
 
 -- ---- the disk along a run

@@ -35,17 +35,17 @@ use Rattle.cas_words.specs.declared.words.Command.{Command}
 use Rattle.cas_node.specs.declared.cause.Cause.{Cause}
 use Rattle.cas_node.specs.declared.cause.Cause.TheVariants as cause
 use Rattle.cas_node.specs.declared.program.TheConstants.{SCRIPT_LIMIT}
-use Rattle.cas_node.specs.History.{History, DiskState, Runs}
-use Rattle.cas_node.specs.Found.{Begins, IsUnfit, IsUnflushed, start}
+use Rattle.cas_sessions.specs.History.{History, DiskState}
+use Rattle.cas_node.specs.Lines.{Runs}
+use Rattle.cas_sessions.specs.Starts.{Begins, start, BeginsAs, IsOpenedAs}
+use Rattle.cas_recovery.specs.Found.{IsUnfit, IsUnflushed}
 use Rattle.cas_node.specs.Ran.{AllWell, Ended, GoodOrMem, IfBad, IsGranted, IsNotRun, Outside, Ran, RanAll, RanFrom, Stop, WriteRose, at_the_end, at_the_sink, for_memory, has_risen, reply_cause, with_faults, worse, worst}
 use Rattle.cas_node.specs.Inner.Serving.{Served, Serves}
-use Rattle.cas_node.specs.Entered.{IsLeft}
-use Rattle.cas_node.specs.Starts.{BeginsAs, IsInMemory, IsOpenedAs, IsStarted}
-use Rattle.cas_node.specs.Inner.Turns.{cause_of_opening}
-use Rattle.cas_node.specs.Nodes.{State, StandsFor, LastsFor, disk_of}
-use Rattle.cas_node.specs.Nodes.{Moves}
+use Rattle.cas_sessions.specs.Entered.{IsLeft}
+use Rattle.cas_recovery.specs.Restored.{IsInMemory, IsStarted}
+use Rattle.cas_node.specs.Inner.Turns.{cause_of_opening, IsEnd}
+use Rattle.cas_sessions.specs.Nodes.{State, StandsFor, LastsFor, disk_of, Moves}
 use Rattle.cas_node.proofs.Stopping.{stop_is_counted}
-use Rattle.cas_node.specs.Inner.Turns.{IsEnd}
 
 -- ---- what was served
 

@@ -18,12 +18,11 @@ use Rattle.cas_node.specs.declared.cause.Cause.TheVariants as cause
 use Rattle.cas_node.specs.declared.script.PrintFault.{PrintFault}
 use Rattle.cas_node.specs.declared.script.PrintFault.TheVariants as print
 use Rattle.cas_disk.specs.Disk.{Disk}
-use Rattle.cas_node.specs.History.{History, Answers, Runs}
+use Rattle.cas_sessions.specs.History.{History}
+use Rattle.cas_node.specs.Lines.{Answers, Runs}
 use Rattle.cas_node.specs.Text.{output, line_text}
-use Rattle.cas_node.specs.Ran.{RanFrom, reply_cause, worse, worst}
-use Rattle.cas_node.specs.Ran.{at_the_end, at_the_sink, for_memory}
-use Rattle.cas_node.specs.Nodes.{State}
-use Rattle.cas_node.specs.Nodes.{GoesOnTo, Moves}
+use Rattle.cas_node.specs.Ran.{RanFrom, reply_cause, worse, worst, at_the_end, at_the_sink, for_memory}
+use Rattle.cas_sessions.specs.Nodes.{State, GoesOnTo, Moves}
 use Rattle.cas_node.specs.Inner.Turns.{IsEnd, IsToldSo, Turned, Printed, PrintedReply, StopsFor}
 
 -- ---- text

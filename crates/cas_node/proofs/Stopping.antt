@@ -17,7 +17,8 @@ use Rattle.cas_render.specs.declared.reply.Reply.{Reply}
 use Rattle.cas_render.specs.declared.reply.Reply.TheVariants as reply
 use Rattle.cas_words.specs.declared.words.ClockKind.{ClockKind}
 use Rattle.cas_words.specs.declared.words.ClockKind.TheVariants as clock
-use Rattle.cas_node.specs.History.{History, DiskState, Takes, Defines, Does, Answered, Answers, Runs, SetsClock, Stays, Stops}
+use Rattle.cas_sessions.specs.History.{History, DiskState, Takes, Defines, Does, Stays, Stops}
+use Rattle.cas_node.specs.Lines.{Answered, Answers, Runs, SetsClock}
 
 -- its count doesn't fall, and rises where the disk is stopped
 record Counts (d e : DiskState) : Type 0 where

@@ -1,5 +1,2 @@
-pub mod Sound
-pub mod Definitions
 pub mod Serving
 pub mod Turns
-pub mod Restoring

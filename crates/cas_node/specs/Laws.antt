@@ -2,21 +2,20 @@
 use Rattle.std.specs.Prelude.{◌≡◌, ◌<◌, ◌≤◌, ◌+◌, ◌^◌, ℕ, ℤ, false, List, Option}
 use Rattle.std.specs.List.{list_any}
 use Rattle.cas_io.specs.Causes.{Rose}
-use Rattle.cas_disk.specs.Disk.{Disk}
 use Rattle.cas_atoms.specs.declared.atom.Mutation.{Mutation}
 use Rattle.cas_bind.specs.declared.bound.Limits.{Limits}
 use Rattle.cas_changes.specs.declared.entry.Entry.{Entry as ManifestEntry}
 use Rattle.cas_changes.specs.declared.said.TheConstants.{SEGMENT_LIMIT, FILE_LIMIT}
 use Rattle.cas_journal.specs.Reach.{Reach}
-use Rattle.cas_journal.specs.Stores.{Told}
 use Rattle.cas_render.specs.declared.reply.Reply.{Reply}
 use Rattle.cas_shard.specs.Shards.{ShardHistory}
 use Rattle.cas_shard.specs.Stands.{NumbersRise, AreShown}
 use Rattle.cas_words.specs.declared.words.ClockKind.{ClockKind}
 use Rattle.cas_words.specs.declared.words.ClockKind.TheVariants as clock
-use Rattle.cas_node.specs.History.{History, DiskState, Runs, is_starved, shard_at}
-use Rattle.cas_node.specs.Found.{AreOfAStore, start}
-use Rattle.cas_node.specs.Nodes.{State, StandsFor, LastsFor}
+use Rattle.cas_sessions.specs.History.{History, DiskState, shard_at}
+use Rattle.cas_node.specs.Lines.{Runs, is_starved}
+use Rattle.cas_recovery.specs.Found.{AreOfAStore}
+use Rattle.cas_sessions.specs.Starts.{start}
 
 -- a segment's number is left, and place for the longest entry in the manifest
 abbrev pub IsRoomy : Reach → Type 0
@@ -55,17 +54,3 @@ NumbersStay Gives =
 -- so the front cuts nothing off: a SELECT reads all mutations of its partition that its shard has accepted, before the run or in it
 abbrev pub AllAreRead : Type 0
 AllAreRead = (s : ShardHistory) → NumbersRise s → AreShown s
-
--- the history of a store in the eyes of another session, which wrote so often
-abbrev pub as_another : ℕ → ℕ → History → History
-as_another session calls h = record h { session = session; calls = calls }
-
--- the store as that session has it
-abbrev pub to_another : ℕ → ℕ → State → State
-to_another session calls s = record s { session = session; calls = calls }
-
--- whatever one session knows of a store, over this disk, holds for all of them
-abbrev pub AllShare : Disk → Type 0
-AllShare disk =
-    (h : History) (s : State) (session calls : ℕ) → StandsFor h s → StandsFor (as_another session calls h) (to_another session calls s)
-    × ((found : List Mutation) (told : Told) → LastsFor h found s disk told → LastsFor (as_another session calls h) found (to_another session calls s) disk told)

@@ -1,9 +1,4 @@
-pub mod History
-pub mod Found
-pub mod Entered
-pub mod Nodes
-pub mod Starts
-pub mod Calls
+pub mod Lines
 pub mod Text
 pub mod Ran
 pub mod Laws

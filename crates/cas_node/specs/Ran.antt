@@ -25,9 +25,11 @@ use Rattle.cas_words.specs.declared.words.Command.{Command}
 use Rattle.cas_node.specs.declared.cause.Cause.{Cause}
 use Rattle.cas_node.specs.declared.cause.Cause.TheVariants as cause
 use Rattle.cas_node.specs.declared.program.TheConstants.{SCRIPT_LIMIT}
-use Rattle.cas_node.specs.History.{History, Runs, tells_want}
-use Rattle.cas_node.specs.Found.{IsFound, Begins, IsUnflushed}
-use Rattle.cas_node.specs.Entered.{AreEntered, IsLeft}
+use Rattle.cas_sessions.specs.History.{History, tells_want}
+use Rattle.cas_node.specs.Lines.{Runs}
+use Rattle.cas_recovery.specs.Found.{IsFound, IsUnflushed}
+use Rattle.cas_sessions.specs.Starts.{Begins}
+use Rattle.cas_sessions.specs.Entered.{AreEntered, IsLeft}
 use Rattle.cas_node.specs.Text.{output}
 
 -- ---- how a run ends

@@ -1,8 +1,7 @@
-//! What holds of every run of a script, and of every open store.
+//! What holds of every run of a script.
 
-ghost use Rattle.cas_node.specs.Laws.{AllAreRead, AllShare, FoundRise, NumbersStay, OneOutcome};
+ghost use Rattle.cas_node.specs.Laws.{AllAreRead, FoundRise, NumbersStay, OneOutcome};
 
-use cas_disk::Folder;
 use cas_io::Clock;
 
 /// Under the manual clock a script prints one output, as long as memory doesn't run out and the disk is
@@ -18,11 +17,3 @@ pub fn numbers_rise<C: Clock>()
     ensures stay { (clock : C) → NumbersStay (C.may_give clock) }
     ensures read { AllAreRead }
 {}
-
-/// What an open store stands for in the eyes of one session it stands for in those of any other, under that
-/// one's number and with its writes; and its disk keeps the same.
-pub fn sessions_share<F: Folder>(folder: &F)
-    ensures { AllShare (F.disk folder.now) }
-{
-    let _folder = folder;
-}

@@ -10,22 +10,20 @@ ghost use Rattle.cas_atoms.specs.declared.atom.Mutation.{Mutation as MutationOf}
 ghost use Rattle.cas_changes.specs.declared.entry.Entry.{Entry as EntryOf};
 ghost use Rattle.cas_journal.specs.Stores.{IsStore};
 ghost use Rattle.cas_opening.specs.Opening.{IsOfBytes, MayBeOpened};
-ghost use Rattle.cas_node.specs.Found.{IsUnfit};
+ghost use Rattle.cas_recovery.specs.Found.{IsUnfit};
 ghost use Rattle.cas_node.specs.Ran.{RanAll, IfBad, IfTooLong, AllWell, GoodOrMem, count_taken, has_risen, is_too_long, outside, status_of};
 ghost use Rattle.cas_node.specs.Ran.{weight, with_faults};
 ghost use Rattle.cas_node.specs.Inner.Serving.{EndsServed, Serves};
 ghost use Rattle.cas_node.specs.Inner.Turns.{cause_of_fault, cause_of_opening};
 
 use crate::cause::Cause;
-use crate::node::{Closed, Pass};
-use crate::opened::{Opened, start};
 use crate::runner::Runner;
 use crate::script::{run_lines, worse};
-use crate::statements::Ask;
 use cas_disk::{Count, Folder};
 use cas_io::{Clock, Gate, ScriptFault, Sink, Source, read_script};
 use cas_ledger::Store;
 use cas_opening::OpenFault;
+use cas_sessions::{Ask, Closed, Opened, Pass, start};
 use cas_words::{Command, read_words};
 use std::alloc::{AllocError, Global};
 use std::marker::Brand;

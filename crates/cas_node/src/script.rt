@@ -3,18 +3,18 @@
 ghost use Rattle.std.specs.Prelude.{◌≡◌, ◌≤◌, ◌⊎◌, Some};
 ghost use Rattle.cas_io.specs.Causes.{Rose};
 ghost use Rattle.cas_render.specs.Text.{reply_text};
-ghost use Rattle.cas_node.specs.Nodes.{CountsOn, IsFew, Moves};
+ghost use Rattle.cas_sessions.specs.Nodes.{CountsOn, IsFew, Moves};
 ghost use Rattle.cas_node.specs.Inner.Turns.{IsEnd, IsToldSo, Printed, PrintedReply, StopsFor, Turned};
 ghost use Rattle.cas_node.specs.Ran.{RanFrom, reply_cause, weight, worse};
 
 use crate::cause::Cause;
 use crate::runner::{Runner, Running};
-use crate::statements::Ask;
 use cas_disk::Folder;
 use cas_io::{Clock, Sink, write_all};
 use cas_ledger::Store;
 use cas_lines::next_line;
 use cas_render::{Failure, Reply, render};
+use cas_sessions::Ask;
 use cas_types::Mem;
 use std::alloc::Global;
 

@@ -7,7 +7,7 @@ use cas_bind::Limits;
 use cas_disk::{FaultPlan, MemFolder};
 use cas_io::ManualClock;
 use cas_ledger::Store;
-use cas_node::{Answer, Fault, Node, Opened, Session, Stored, start};
+use cas_sessions::{Answer, Fault, Node, Opened, Session, Stored, start};
 use std::alloc::Global;
 use std::marker::Brand;
 use std::test::Fail;

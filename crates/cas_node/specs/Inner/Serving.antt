@@ -15,11 +15,11 @@ use Rattle.cas_shard.specs.declared.shard.Shard.{Shard}
 use Rattle.cas_words.specs.declared.words.ClockKind.{ClockKind}
 use Rattle.cas_node.specs.declared.cause.Cause.{Cause}
 use Rattle.cas_node.specs.declared.cause.Cause.TheVariants as cause
-use Rattle.cas_node.specs.History.{History}
-use Rattle.cas_node.specs.Found.{Begins}
-use Rattle.cas_node.specs.Entered.{AreEntered, IsLeft}
+use Rattle.cas_sessions.specs.History.{History}
+use Rattle.cas_sessions.specs.Starts.{Begins}
+use Rattle.cas_sessions.specs.Entered.{AreEntered, IsLeft}
 use Rattle.cas_node.specs.Ran.{RanFrom, with_faults}
-use Rattle.cas_node.specs.Starts.{IsInMemory, IsTold}
+use Rattle.cas_recovery.specs.Restored.{IsInMemory, IsTold}
 use Rattle.cas_node.specs.Inner.Turns.{IsEnd}
 
 -- The lines of the script ran in a store of these entries and mutations, and accepted this list; where all that was found lasts, so does what was

@@ -1,44 +1,21 @@
 -- One line's turn, and what came of its reply (own).
-use Rattle.std.specs.Prelude.{◌≡◌, ℕ, ℤ, false, Option, None, Some, Err, List}
+use Rattle.std.specs.Prelude.{◌≡◌, ℕ, ℤ, false, Option, None, Some, List}
 use Rattle.std.specs.Io.KnownBytes.{Appends, Keeps}
 use Rattle.cas_io.specs.Streams.{AppendsFront}
 use Rattle.cas_io.specs.declared.script.ScriptFault.{ScriptFault}
 use Rattle.cas_io.specs.declared.script.ScriptFault.TheVariants as fault
-use Rattle.cas_effects.specs.declared.refusal.TheConstants.{TOO_LARGE, TOO_MANY}
-use Rattle.cas_journal.specs.declared.fault.JournalFault.{JournalFault}
-use Rattle.cas_journal.specs.declared.fault.JournalFault.TheVariants.{TooLarge, TooMany, Stopped, Failed, Mem}
 use Rattle.cas_opening.specs.declared.fault.OpenFault.{OpenFault}
 use Rattle.cas_opening.specs.declared.fault.OpenFault.TheVariants as open_fault
 use Rattle.cas_render.specs.declared.reply.Reply.{Reply}
 use Rattle.cas_render.specs.Text.{reply_text}
 use Rattle.cas_words.specs.declared.words.ClockKind.{ClockKind}
-use Rattle.cas_words.specs.declared.words.ClockKind.TheVariants as clock
-use Rattle.cas_node.specs.declared.answer.Fault.{Fault}
-use Rattle.cas_node.specs.declared.answer.Fault.TheVariants as fault_of
 use Rattle.cas_node.specs.declared.cause.Cause.{Cause}
 use Rattle.cas_node.specs.declared.cause.Cause.TheVariants as cause
 use Rattle.cas_node.specs.declared.script.PrintFault.{PrintFault}
 use Rattle.cas_node.specs.declared.script.PrintFault.TheVariants as print
-use Rattle.cas_node.specs.History.{History, Answers, tells_want}
-use Rattle.cas_node.specs.Calls.{reply_of}
+use Rattle.cas_sessions.specs.History.{History, tells_want}
+use Rattle.cas_node.specs.Lines.{Answers}
 use Rattle.cas_node.specs.Ran.{reply_cause, worse}
-
--- what a write or a definition is answered that the room didn't take
-abbrev pub fault_for : JournalFault → Fault
-fault_for (TooLarge length limit) = fault_of.Refused TOO_LARGE
-fault_for (TooMany what limit) = fault_of.Refused TOO_MANY
-fault_for (Stopped first) = fault_of.Stopped first
-fault_for Failed = fault_of.Disk None
-fault_for Mem = fault_of.Mem
-
--- and what is printed then
-abbrev pub reply_for : JournalFault → Reply
-reply_for f = reply_of (Err (fault_for f))
-
--- where the manual clock stands, by which statements are performed; the system's stands anywhere
-abbrev pub StandsAt : ClockKind → ℤ → ℤ → Type 0
-StandsAt clock.Manual seconds at = at ≡ seconds
-StandsAt clock.System seconds at = Unit {0}
 
 -- what came of writing a reply: all of it was written; a front of it; or nothing, as memory ran out, and it isn't `failed memory`
 abbrev pub PrintedReply : Option PrintFault → Reply → Option (List ℕ) → Option (List ℕ) → Type 0

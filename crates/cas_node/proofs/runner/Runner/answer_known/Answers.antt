@@ -1,6 +1,7 @@
 use Rattle.std.proofs.Common.{arith}
 use Rattle.std.proofs.lemmas.Int.{ints}
-use Rattle.cas_node.proofs.Answering.{answers_clock, answers_statement, says_moment, says_spelled, stands_at}
+use Rattle.cas_node.proofs.Answered.{answers_clock, answers_statement, says_moment}
+use Rattle.cas_sessions.proofs.Answering.{says_spelled, stands_at}
 use Rattle.cas_node.proofs.runner.Runner.answer_known.Goals as goal
 
 pub set_clock-requires : goal.set_clock-requires

@@ -1,7 +1,10 @@
 use Rattle.std.proofs.Common.{arith}
 use Rattle.std.proofs.lemmas.Int.{ints}
-use Rattle.cas_node.proofs.Answering.{sets_clock}
+use Rattle.cas_node.proofs.Answered.{refuses_clock, sets_clock}
 use Rattle.cas_node.proofs.runner.Runner.set_clock.Goals as goal
 
 pub returns-in-Manual-clause-sets : goal.returns-in-Manual-clause-sets
 returns-in-Manual-clause-sets g c = sets_clock c.args.kind _ c.args.seconds _ _ c.in-Manual.is (omega (arith, ints))
+
+pub returns-in-System-clause-sets : goal.returns-in-System-clause-sets
+returns-in-System-clause-sets g c = refuses_clock c.args.kind _ c.args.seconds _ c.in-System.is

@@ -1,0 +1,87 @@
+-- What a line does with a store, from what its parts do.
+use Rattle.std.proofs.Common.{◌≡◌, inl, inr, ℕ, ℤ, List, Some, refl, sym, ap, subst}
+use Rattle.cas_types.specs.Limits.{IsMoment}
+use Rattle.cas_disk.specs.Disk.{Disk}
+use Rattle.cas_bind.specs.Meaning.{meaning}
+use Rattle.cas_effects.specs.declared.refusal.TheConstants.{NOT_HERE}
+use Rattle.cas_lines.specs.Lines.{Says}
+use Rattle.cas_lines.specs.declared.line.Line.{Line}
+use Rattle.cas_lines.specs.declared.line.Line.TheVariants as line
+use Rattle.cas_lines.proofs.LineReading.{clock_is_moment}
+use Rattle.cas_render.specs.declared.reply.Reply.{Reply}
+use Rattle.cas_render.specs.declared.reply.Reply.TheVariants as reply
+use Rattle.cas_words.specs.declared.words.ClockKind.{ClockKind}
+use Rattle.cas_words.specs.declared.words.ClockKind.TheVariants as clock
+use Rattle.cql_parse.specs.declared.syntax.Statement.{Statement}
+use Rattle.cas_sessions.specs.History.{History, Does}
+use Rattle.cas_node.specs.Lines.{Answers, SetsClock}
+use Rattle.cas_sessions.specs.Nodes.{State, StandsFor, GoesOnTo, Moves, OrWant}
+use Rattle.cas_sessions.proofs.Answering.{moves_as}
+
+-- ---- a line
+
+module _ (kind : ClockKind) (Gives : ℤ → Type 0) where
+  pub answers_clock : (s t : State) (d e : Disk) (text : List ℕ) (l : Line) (n m : ℤ) (r : Reply)
+      → Moves (λ h after. SetsClock kind h m r after) s t d e → m ≡ n → Says text l → l ≡ line.Clock n → Moves (λ h after. Answers kind Gives h text (Some r) after) s t d e
+  answers_clock s t d e text l n m r moves same says is h stands =
+      let (after, so, goes) = moves h stands in
+      (after, inr (line.Clock n, subst (λ l. Says text l) is says, (r, refl, subst (λ k. SetsClock kind h k r after) same so)), goes)
+
+  pub answers_statement : (s t : State) (d e : Disk) (text : List ℕ) (l : Line) (x : Statement) (r q : Reply) → r ≡ q → Says text l → l ≡ line.Statement x
+      → Moves (λ h after. OrWant q (λ h after. Does kind Gives h (meaning s.limits.shards s.tables x) q after) h after) s t d e
+      → Moves (λ h after. Answers kind Gives h text (Some r) after) s t d e
+  answers_statement s t d e text l x r q told says is moves =
+      moves_as s t d e (λ h after. OrWant r (λ h after. Does kind Gives h (meaning s.limits.shards s.tables x) r after) h after)
+      (λ h after. Answers kind Gives h text (Some r) after) (subst (λ p. Moves (λ h after. OrWant p (λ h after. Does kind Gives h (meaning s.limits.shards s.tables x) p after) h after) s t d e) (sym told) moves) answers
+    where
+      answers : (h after : History) → StandsFor h s → OrWant r (λ h after. Does kind Gives h (meaning s.limits.shards s.tables x) r after) h after
+          → Answers kind Gives h text (Some r) after
+      answers h after stands (inl want) = inl (ap (λ q. Some q) want.0, want.1)
+      answers h after stands (inr does) =
+          let of : Does kind Gives h (meaning h.limits.shards h.tables x) r after =
+          subst (λ l. Does kind Gives h (meaning l.shards h.tables x) r after) (sym stands.limits)
+          (subst (λ ts. Does kind Gives h (meaning s.limits.shards ts x) r after) (sym stands.tables) does) in
+          inr (line.Statement x, subst (λ l. Says text l) is says, (r, refl, of))
+
+-- ---- the clock
+
+pub says_moment : (text : List ℕ) (l : Line) (n m : ℤ) → m ≡ n → Says text l → l ≡ line.Clock n → IsMoment m
+says_moment text l n m same says is = subst IsMoment (sym same) (clock_is_moment text n (subst (λ l. Says text l) is says))
+
+with_clock : (h : History) (s : State) (n : ℤ) (d : Disk) → StandsFor h s → GoesOnTo h (record h { clock = n }) s (record s { clock = n }) d d
+with_clock h s n d stands = record {
+  stands = record {
+    limits = stands.limits;
+    tables = stands.tables;
+    clock = refl;
+    session = stands.session;
+    calls = stands.calls;
+    disk = stands.disk;
+    count = stands.count;
+    shards = stands.shards;
+    entered = stands.entered;
+  };
+  lasts = λ found told lasts. (
+    told,
+    record {
+      keeps = lasts.keeps;
+      tables = lasts.tables;
+      shards = lasts.shards;
+      few = lasts.few;
+      ordered = lasts.ordered;
+      next = lasts.next;
+      counted = lasts.counted;
+      acknowledged = lasts.acknowledged;
+      whole = lasts.whole;
+    },
+  );
+}
+
+pub sets_clock : (kind : ClockKind) (s : State) (n m : ℤ) (d : Disk) → kind ≡ clock.Manual → m ≡ n
+    → Moves (λ h after. SetsClock kind h n reply.Done after) s (record s { clock = m }) d d
+sets_clock kind s n m d is same h stands =
+    (record h { clock = m }, subst (λ k. SetsClock k h n reply.Done (record h { clock = m })) (sym is) (refl, ap (λ k. record h { clock = k }) same), with_clock h s m d stands)
+
+pub refuses_clock : (kind : ClockKind) (s : State) (n : ℤ) (d : Disk) → kind ≡ clock.System → Moves (λ h after. SetsClock kind h n (reply.Refused NOT_HERE) after) s s d d
+refuses_clock kind s n d is h stands =
+    (h, subst (λ k. SetsClock k h n (reply.Refused NOT_HERE) h) (sym is) (refl, refl), record { stands = stands; lasts = λ found told lasts. (told, lasts) })

@@ -1,9 +1,0 @@
-use Rattle.std.proofs.Common.{◌∙◌, refl, ap}
-use Rattle.cas_history.specs.Items.{listed, log_list}
-use Rattle.cas_node.proofs.Serving.{begins}
-use Rattle.cas_node.proofs.opened.assembled.Goals as goal
-
-pub returns-clause-begins : goal.returns-clause-begins
-returns-clause-begins g c = λ given entries mutations memory session.
-    begins given entries mutations _ _ memory refl (ap (λ l. listed log_list l.pass.saw) c.new.ensures.log ∙ c.requires.log) refl
-    (ap (λ f. f.committed) c.new.ensures.faults ∙ c.requires.new.1)

@@ -1,0 +1,42 @@
+-- What each line of a script is answered, one after another.
+-- Statements by CQL documentation, "Data definition" and "Data manipulation"; the command is own.
+use Rattle.std.specs.Prelude.{◌≡◌, ◌⊎◌, ℕ, ℤ, Bool, false, Option, None, Some, List, [], ◌∷◌}
+use Rattle.cas_bind.specs.Meaning.{meaning}
+use Rattle.cas_effects.specs.declared.refusal.TheConstants.{NOT_HERE, SYNTAX}
+use Rattle.cas_render.specs.declared.reply.Failure.TheVariants as failure
+use Rattle.cas_render.specs.declared.reply.Reply.{Reply}
+use Rattle.cas_render.specs.declared.reply.Reply.TheVariants as reply
+use Rattle.cas_lines.specs.declared.line.Line.{Line}
+use Rattle.cas_lines.specs.declared.line.Line.TheVariants as line
+use Rattle.cas_lines.specs.Lines.{Says}
+use Rattle.cas_words.specs.declared.words.ClockKind.{ClockKind}
+use Rattle.cas_words.specs.declared.words.ClockKind.TheVariants as clock
+use Rattle.cas_sessions.specs.History.{History, Does, tells_want}
+
+-- the line was answered that memory ran out
+abbrev pub is_starved : Option Reply → Bool
+is_starved None = false
+is_starved (Some r) = tells_want r
+
+-- `\clock` sets the manual clock, and is refused where the clock is the system's
+abbrev pub SetsClock : ClockKind → History → ℤ → Reply → History → Type 0
+SetsClock clock.Manual h n r after = (r ≡ reply.Done) × (after ≡ record h { clock = n })
+SetsClock clock.System h n r after = (r ≡ reply.Refused NOT_HERE) × (after ≡ h)
+
+-- a line that says this is answered so; one that says nothing isn't answered
+abbrev pub Answered : ClockKind → (ℤ → Type 0) → History → Line → Option Reply → History → Type 0
+Answered kind Gives h line.Blank r after = (r ≡ None) × (after ≡ h)
+Answered kind Gives h line.Syntax r after = (r ≡ Some (reply.Refused SYNTAX)) × (after ≡ h)
+Answered kind Gives h (line.Clock n) r after = (answer : Reply) × (r ≡ Some answer) × SetsClock kind h n answer after
+Answered kind Gives h (line.Statement s) r after = (answer : Reply) × (r ≡ Some answer) × Does kind Gives h (meaning h.limits.shards h.tables s) answer after
+
+-- the line is answered; or memory ran out before it changed anything
+abbrev pub Answers : ClockKind → (ℤ → Type 0) → History → List ℕ → Option Reply → History → Type 0
+Answers kind Gives h text r after =
+    ((r ≡ Some (reply.Failed failure.Memory)) × (after ≡ h)) ⊎ ((l : Line) × Says text l × Answered kind Gives h l r after)
+
+-- the lines run alone one after another: these replies, and this history after the last
+abbrev pub Runs : ClockKind → (ℤ → Type 0) → History → List (List ℕ) → List (Option Reply) → History → Type 0
+Runs kind Gives h [] [] after = after ≡ h
+Runs kind Gives h (l ∷ ls) (r ∷ rs) after = (between : History) × Answers kind Gives h l r between × Runs kind Gives between ls rs after
+Runs kind Gives h _ _ after = ⊥

@@ -1,0 +1,5 @@
+pub mod Places
+pub mod Founding
+mod Unflushed
+mod Restoring
+mod Starting

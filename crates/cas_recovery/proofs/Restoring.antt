@@ -1,0 +1,121 @@
+-- The shards of a store with the mutations of its log, one after another.
+use Rattle.std.proofs.Common.{◌≡◌, ◌≢◌, ◌⊎◌, inl, inr, ◌<◌, ◌+◌, ◌==◌, ℕ, zero, suc, Bool, List, [], ◌∷◌, ◌++◌, take, Some, refl, sym, ap, ◌∙◌, subst}
+use Rattle.std.specs.Prelude.{slice_get, slice_set, if◌then◌else◌}
+use Rattle.std.specs.List.{AllByRecursion}
+use Rattle.cas_types.specs.declared.schema.TableSchema.{TableSchema}
+use Rattle.cas_atoms.specs.declared.atom.Mutation.{Mutation}
+use Rattle.cas_mutations.specs.Allowed.{FitsRecord}
+use Rattle.cas_replay.specs.Grammar.{AreOfALog, AscendByOne, numbers_of}
+use Rattle.cas_entries.specs.Entries.{last_number}
+use Rattle.cas_entries.specs.declared.entry.ShardOpening.{ShardOpening}
+use Rattle.cas_shard.specs.Shards.{empty_shard, found_shard, restored}
+use Rattle.cas_shard.specs.Stands.{Belongs, Stands}
+use Rattle.cas_shard.specs.declared.shard.Shard.{Shard}
+use Rattle.cas_recovery.specs.Found.{found_in}
+use Rattle.cas_recovery.specs.Restored.{AreRestored}
+use Rattle.cas_recovery.proofs.Founding.{Reads, found_reads, goes_on, is_above, log_reads, numbers_more, numbers_some, one_more}
+use Rattle.cas_recovery.proofs.Places.{get_here, get_other, is_other, is_same, same_place}
+
+-- ---- shards without a mutation
+
+get_pushed : {X : Type 0} (xs : List X) (x y : X) (n : ℕ) → slice_get (xs ++ x ∷ []) n ≡ Some y → (slice_get xs n ≡ Some y) ⊎ (x ≡ y)
+get_pushed [] x y zero is = inr cc
+get_pushed [] x y (suc n) is = cc
+get_pushed (z ∷ xs) x y zero is = inl is
+get_pushed (z ∷ xs) x y (suc n) is = get_pushed xs x y n is
+
+pub one_new : (tables : List TableSchema) (shards : List Shard) (x : Shard) → AreRestored tables [] shards → Stands tables (found_shard empty_shard) x
+    → AreRestored tables [] (shards ++ x ∷ [])
+one_new tables shards x are stands n y is =
+    elim (get_pushed shards x y n is) [ inl before ↦ are n y before | inr same ↦ subst (λ (z : Shard). Stands tables (found_shard empty_shard) z) same stands ]
+
+-- ---- a mutation more
+
+front_ascends : (pre rest : List ℕ) → AscendByOne (pre ++ rest) → AscendByOne pre
+front_ascends [] rest ascend = tt
+front_ascends (n ∷ []) rest ascend = tt
+front_ascends (n ∷ m ∷ pre) rest ascend = (ascend.0, front_ascends (m ∷ pre) rest ascend.1)
+
+front_fits : (P : Mutation → Type 0) (pre rest : List Mutation) → AllByRecursion P (pre ++ rest) → AllByRecursion P pre
+front_fits P [] rest all = tt
+front_fits P (m ∷ pre) rest all = (all.0, front_fits P pre rest all.1)
+
+here_fits : (P : Mutation → Type 0) (pre : List Mutation) (m : Mutation) (rest : List Mutation) → AllByRecursion P (pre ++ m ∷ rest) → P m
+here_fits P [] m rest all = all.0
+here_fits P (x ∷ pre) m rest all = here_fits P pre m rest all.1
+
+module _ (tables : List TableSchema) (shards : ℕ) (done : List Mutation) (m : Mutation) (rest all : List Mutation) (are : done ++ m ∷ rest ≡ all)
+    (log : AreOfALog tables shards all) where
+  fit_all : AllByRecursion (FitsRecord tables shards) (done ++ m ∷ rest)
+  fit_all = subst (AllByRecursion (FitsRecord tables shards)) (sym are) log.fit
+
+  pub fits_here : FitsRecord tables shards m
+  fits_here = here_fits (FitsRecord tables shards) done m rest fit_all
+
+  pub belongs_here : Belongs tables shards m
+  belongs_here = (fits_here.table, fits_here.there, fits_here.fits)
+
+  ascend_all : (n : ℕ) → AscendByOne (numbers_of n done ++ ((if m.shard == n then m.number ∷ [] else []) ++ numbers_of n rest))
+  ascend_all n = subst AscendByOne (ap (numbers_of n) (sym are) ∙ numbers_more n done m rest) (log.ordered n)
+
+  ascend_here : AscendByOne (numbers_of m.shard done ++ m.number ∷ numbers_of m.shard rest)
+  ascend_here =
+      subst (λ (b : Bool). AscendByOne (numbers_of m.shard done ++ ((if b then m.number ∷ [] else []) ++ numbers_of m.shard rest))) (is_same m.shard) (ascend_all m.shard)
+
+  reads_done : (n : ℕ) → Reads (numbers_of n done) (found_in n done)
+  reads_done n =
+      found_reads n done (numbers_some tables shards done (front_fits (FitsRecord tables shards) done (m ∷ rest) fit_all))
+      (front_ascends (numbers_of n done) _ (ascend_all n))
+
+  pub above_here : last_number 0 (found_in m.shard done).entries < m.number
+  above_here = is_above (numbers_of m.shard done) (found_in m.shard done) m.number (numbers_of m.shard rest) fits_here.fits.number.0 ascend_here (reads_done m.shard)
+
+  pub front_log : AreOfALog tables shards done
+  front_log = record {
+    fit = front_fits (FitsRecord tables shards) done (m ∷ rest) fit_all;
+    ordered = λ n. front_ascends (numbers_of n done) _ (ascend_all n);
+  }
+
+found_here : (done : List Mutation) (m : Mutation) → found_in m.shard (done ++ m ∷ []) ≡ restored m (found_in m.shard done)
+found_here done m = one_more m.shard done m ∙ ap (λ (b : Bool). if b then restored m (found_in m.shard done) else found_in m.shard done) (is_same m.shard)
+
+found_other : (n : ℕ) (done : List Mutation) (m : Mutation) → n ≢ m.shard → found_in n (done ++ m ∷ []) ≡ found_in n done
+found_other n done m other =
+    one_more n done m ∙ ap (λ (b : Bool). if b then restored m (found_in n done) else found_in n done) (is_other m.shard n other)
+
+pub more_restored : (tables : List TableSchema) (done : List Mutation) (m : Mutation) (shards : List Shard) (old new : Shard) → AreRestored tables done shards
+    → slice_get shards m.shard ≡ Some old → Stands tables (found_shard (restored m (found_in m.shard done))) new
+    → AreRestored tables (done ++ m ∷ []) (slice_set shards m.shard new)
+more_restored tables done m shards old new are there stands n x is = at (same_place n m.shard)
+  where
+    at : (n ≡ m.shard) ⊎ (n ≢ m.shard) → Stands tables (found_shard (found_in n (done ++ m ∷ []))) x
+    at (inl here) =
+        let same : new ≡ x = (let set = get_here shards m.shard old new there in let its = ap (slice_get (slice_set shards m.shard new)) here in cc) in
+        let found : found_in n (done ++ m ∷ []) ≡ restored m (found_in m.shard done) = ap (λ (k : ℕ). found_in k (done ++ m ∷ [])) here ∙ found_here done m in
+        subst (λ (o : ShardOpening). Stands tables (found_shard o) x) (sym found)
+        (subst (λ (y : Shard). Stands tables (found_shard (restored m (found_in m.shard done))) y) same stands)
+    at (inr other) =
+        subst (λ (o : ShardOpening). Stands tables (found_shard o) x) (sym (found_other n done m other))
+        (are n x (sym (get_other shards m.shard n new other) ∙ is))
+
+-- ---- the first shards
+
+get_front : {X : Type 0} (n : ℕ) (xs : List X) (k : ℕ) (x : X) → slice_get (take n xs) k ≡ Some x → slice_get xs k ≡ Some x
+get_front zero xs k x is = absurd cc
+get_front (suc n) [] k x is = is
+get_front (suc n) (y ∷ ys) zero x is = is
+get_front (suc n) (y ∷ ys) (suc k) x is = get_front n ys k x is
+
+pub first_restored : (tables : List TableSchema) (mutations : List Mutation) (n : ℕ) (shards : List Shard) → AreRestored tables mutations shards
+    → AreRestored tables mutations (take n shards)
+first_restored tables mutations n shards are k x is = are k x (get_front n shards k x is)
+
+-- ---- where the numbers go on
+
+pub next_numbers : (tables : List TableSchema) (count : ℕ) (mutations : List Mutation) (shards : List Shard) → AreOfALog tables count mutations
+    → AreRestored tables mutations shards → (n : ℕ) (x : Shard) → slice_get shards n ≡ Some x → AscendByOne (numbers_of n mutations ++ (x.number + 1) ∷ [])
+unfolding last_number
+next_numbers tables count mutations shards log are n x is =
+    let number : x.number ≡ (found_in n mutations).number = (are n x is).number in
+    subst (λ (k : ℕ). AscendByOne (numbers_of n mutations ++ (k + 1) ∷ [])) (sym number)
+    (goes_on (numbers_of n mutations) (found_in n mutations) (log_reads tables count n mutations log))

@@ -1,0 +1,4 @@
+use Rattle.cas_recovery.proofs.all_shards.AllShards.new.Goals as goal
+
+pub returns-in-Ok : goal.returns-in-Ok
+returns-in-Ok c tables count log = c.in-Ok.ensures.new tables

@@ -1,0 +1,13 @@
+use Rattle.std.proofs.Common.{arith, sym, subst, []}
+use Rattle.std.proofs.lemmas.Grind.{common_steps}
+use Rattle.cas_recovery.specs.Restored.{AreRestored}
+use Rattle.cas_recovery.proofs.Restoring.{one_new}
+use Rattle.cas_recovery.proofs.memory.new_shards.Goals as goal
+
+pub loop-shard-preserved : goal.loop-shard-preserved
+loop-shard-preserved c = record {
+  count = grind (arith, common_steps);
+  new = λ tables.
+      subst (λ xs. AreRestored tables [] xs) (sym c.in_ok-push.ensures.items)
+      (one_new tables c.loop-shard.shards.items c.new.result (c.loop-shard.invariant.new tables) (c.new.ensures tables));
+}

@@ -1,0 +1,12 @@
+mod Sounding
+mod Telling
+mod Idling
+mod Moving
+pub mod Answering
+mod Performing
+mod Lasting
+mod Crashing
+mod Entering
+mod Tables
+pub mod Serving
+mod Seating

@@ -1,0 +1,168 @@
+-- A store's memory stands for the history after a step.
+use Rattle.std.proofs.Common.{◌≡◌, ◌≢◌, ◌<◌, ◌+◌, ⊎_elim, ◌==◌, ℕ, ℤ, Bool, true, false, List, [], ◌∷◌, ◌++◌, length, Some, refl, sym, ap, ◌∙◌, subst, append-nil}
+use Rattle.std.specs.Prelude.{slice_set, slice_get, if◌then◌else◌}
+use Rattle.std.proofs.lemmas.List.{flat_map_more}
+use Rattle.std.proofs.lemmas.Bool.{true≢false}
+use Rattle.std.proofs.lemmas.Option.{same_Some}
+use Rattle.cas_atoms.specs.declared.atom.Mutation.{Mutation}
+use Rattle.cas_history.specs.declared.item.Item.{Item}
+use Rattle.cas_history.specs.declared.item.Item.TheVariants.{Wrote}
+use Rattle.cas_room.specs.declared.event.Event.{Event}
+use Rattle.cas_room.specs.declared.event.Event.TheVariants as event
+use Rattle.cas_entries.specs.declared.entry.Entry.{Entry}
+use Rattle.cas_entries.specs.declared.entry.Entry.TheVariants as entry
+use Rattle.cas_bind.specs.declared.bound.BoundRead.{BoundRead}
+use Rattle.cas_disk.specs.Disk.{Disk}
+use Rattle.cas_render.specs.declared.reply.Failure.TheVariants as failure
+use Rattle.cas_render.specs.declared.reply.Reply.{Reply}
+use Rattle.cas_render.specs.declared.reply.Reply.TheVariants as reply
+use Rattle.cas_room.specs.Keeping.{Keeps}
+use Rattle.cas_types.specs.declared.schema.TableSchema.{TableSchema}
+use Rattle.cas_shard.specs.Shards.{ShardHistory, found_shard, empty_shard, look_at, raised}
+use Rattle.cas_shard.specs.declared.answers.Look.{Look}
+use Rattle.cas_shard.specs.Stands.{Stands}
+use Rattle.cas_shard.specs.declared.shard.Shard.{Shard}
+use Rattle.cas_sessions.specs.History.{History, Shows, after_entries, after_read, after_write, rows_reply, shard_at, with_shard}
+use Rattle.cas_sessions.specs.Entered.{entries_in, entry_in}
+use Rattle.cas_sessions.specs.Nodes.{State, StandsFor, disk_of, Moves}
+use Rattle.cas_sessions.proofs.Lasting.{lasts_still}
+use Rattle.cas_recovery.proofs.Places.{same_place, length_set, get_here, get_other, get_within, index_here, index_other, is_same, is_other}
+
+-- ---- entries
+
+-- the entries of a shard with these behind them, if they are of it
+abbrev pub with_entries : ℕ → ℕ → List Entry → List Entry → List Entry
+with_entries n k new old = old ++ (if n == k then new else [])
+
+pub none_more : (n k : ℕ) (old : List Entry) → old ≡ with_entries n k [] old
+none_more n k old = by (n == k)
+  where
+    by : (b : Bool) → old ≡ old ++ (if b then [] else [])
+    by true = sym (append-nil old)
+    by false = sym (append-nil old)
+
+pub one_more : (list : List (Item Event)) (m : Mutation) (session call k : ℕ)
+    → entries_in k (list ++ Wrote m.shard session call m.number (event.Accepted m) ∷ []) ≡ with_entries m.shard k (entry.Wrote session call m ∷ []) (entries_in k list)
+one_more list m session call k = sym (flat_map_more (entry_in k) [] list (Wrote m.shard session call m.number (event.Accepted m)))
+
+-- a look and a write that entered nothing
+pub raised_is : (reading : ℤ) (s : ShardHistory) → raised reading s ≡ after_entries reading [] s
+raised_is reading s = ap (λ es. record (raised reading s) { entries = es }) (sym (append-nil s.entries))
+
+-- ---- a step in one shard
+
+module _ (h : History) (s t : State) (n : ℕ) (x y : Shard) (reading : ℤ) (new : List Entry) (stands : StandsFor h s) (there : slice_get s.shards n ≡ Some x)
+    (shards : t.shards ≡ slice_set s.shards n y) (stands_new : Stands h.tables (after_entries reading new (shard_at h n)) y)
+    (entered : (k : ℕ) → entries_in k t.list ≡ with_entries n k new (entries_in k s.list)) where
+  abbrev after : History
+  after = with_shard h n (after_entries reading new (shard_at h n))
+
+  within : n < length h.shards
+  within = subst (λ (k : ℕ). n < k) (sym stands.count) (get_within s.shards n x there)
+
+  at_here : shard_at after n ≡ after_entries reading new (shard_at h n)
+  at_here = index_here h.shards n _ (found_shard empty_shard) within
+
+  at_other : (k : ℕ) → k ≢ n → shard_at after k ≡ shard_at h k
+  at_other k other = index_other h.shards n k _ (found_shard empty_shard) other
+
+  pub shards_stand : (k : ℕ) (z : Shard) → slice_get t.shards k ≡ Some z → Stands h.tables (shard_at after k) z
+  shards_stand k z got = ⊎_elim here elsewhere (same_place k n)
+    where
+      got_set : slice_get (slice_set s.shards n y) k ≡ Some z
+      got_set = subst (λ (xs : List Shard). slice_get xs k ≡ Some z) shards got
+
+      here : k ≡ n → Stands h.tables (shard_at after k) z
+      here e =
+          let at_k : slice_get (slice_set s.shards n y) k ≡ Some y =
+          subst (λ (j : ℕ). slice_get (slice_set s.shards n y) j ≡ Some y) (sym e) (get_here s.shards n x y there) in
+          let same : y ≡ z = same_Some y z (sym at_k ∙ got_set) in
+          subst (λ (j : ℕ). Stands h.tables (shard_at after j) z) (sym e)
+          (subst (λ (q : ShardHistory). Stands h.tables q z) (sym at_here) (subst (λ (w : Shard). Stands h.tables (after_entries reading new (shard_at h n)) w) same stands_new))
+
+      elsewhere : k ≢ n → Stands h.tables (shard_at after k) z
+      elsewhere other = subst (λ (q : ShardHistory). Stands h.tables q z) (sym (at_other k other)) (stands.shards k z (sym (get_other s.shards n k y other) ∙ got_set))
+
+  pub are_entered : (k : ℕ) → k < length after.shards → (shard_at after k).entries ≡ entries_in k t.list
+  are_entered k lt = ⊎_elim here elsewhere (same_place k n)
+    where
+      few : k < length h.shards
+      few = subst (λ (j : ℕ). k < j) (length_set h.shards n _) lt
+
+      here : k ≡ n → (shard_at after k).entries ≡ entries_in k t.list
+      here e =
+          let told : (shard_at after n).entries ≡ entries_in n t.list =
+          ap (λ (q : ShardHistory). q.entries) at_here ∙ ap (λ (es : List Entry). es ++ new) (stands.entered n within)
+          ∙ sym (entered n ∙ ap (λ (b : Bool). entries_in n s.list ++ (if b then new else [])) (is_same n)) in
+          subst (λ (j : ℕ). (shard_at after j).entries ≡ entries_in j t.list) (sym e) told
+
+      elsewhere : k ≢ n → (shard_at after k).entries ≡ entries_in k t.list
+      elsewhere other =
+          ap (λ (q : ShardHistory). q.entries) (at_other k other) ∙ stands.entered k few
+          ∙ sym (entered k ∙ ap (λ (b : Bool). entries_in k s.list ++ (if b then new else [])) (is_other n k other) ∙ append-nil (entries_in k s.list))
+
+  pub still_many : length after.shards ≡ length t.shards
+  still_many = length_set h.shards n _ ∙ stands.count ∙ sym (length_set s.shards n y) ∙ ap length (sym shards)
+
+  pub stands_write : (r : Reply) → t.limits ≡ s.limits → t.tables ≡ s.tables → t.clock ≡ s.clock → t.session ≡ s.session → t.calls ≡ s.calls + length new
+      → StandsFor (after_write h n reading r new (disk_of t)) t
+  stands_write r limits tables clock session calls = record {
+    limits = stands.limits ∙ sym limits;
+    tables = stands.tables ∙ sym tables;
+    clock = stands.clock ∙ sym clock;
+    session = stands.session ∙ sym session;
+    calls = ap (λ (k : ℕ). k + length new) stands.calls ∙ sym calls;
+    disk = refl;
+    count = still_many;
+    shards = shards_stand;
+    entered = are_entered;
+  }
+
+  pub stands_read : t.limits ≡ s.limits → t.tables ≡ s.tables → t.clock ≡ s.clock → t.session ≡ s.session → t.calls ≡ s.calls → disk_of t ≡ disk_of s
+      → StandsFor after t
+  stands_read limits tables clock session calls disk = record {
+    limits = stands.limits ∙ sym limits;
+    tables = stands.tables ∙ sym tables;
+    clock = stands.clock ∙ sym clock;
+    session = stands.session ∙ sym session;
+    calls = stands.calls ∙ sym calls;
+    disk = stands.disk ∙ sym disk;
+    count = still_many;
+    shards = shards_stand;
+    entered = are_entered;
+  }
+
+-- ---- a SELECT
+
+pub shows_rows : (s : ShardHistory) (reading now : ℤ) (q : BoundRead) (l : Look) → now ≡ l.now → l ≡ look_at reading s q.query
+    → Shows s reading q (reply.Rows l.rows q.shard l.front now)
+shows_rows s reading now q l same is told = ap (λ (n : ℤ). reply.Rows l.rows q.shard l.front n) same ∙ ap (rows_reply q.shard) is
+
+pub shows_none : (s : ShardHistory) (reading : ℤ) (q : BoundRead) → Shows s reading q (reply.Failed failure.Memory)
+shows_none s reading q told = absurd (true≢false told)
+
+-- the store whose shard of that number is now this
+abbrev pub with_looked : State → ℕ → Shard → State
+with_looked s n y = record s { shards = slice_set s.shards n y }
+
+pub moves_look : (s : State) (d : Disk) (q : BoundRead) (x y : Shard) (reading : ℤ) (r : Reply) → slice_get s.shards q.shard ≡ Some x → y.number ≡ x.number
+    → ((ts : List TableSchema) (z : ShardHistory) → Stands ts z x → Stands ts (raised reading z) y)
+    → ((z : ShardHistory) → Stands s.tables z x → Shows z reading q r)
+    → Moves (λ h after. Shows (shard_at h q.shard) reading q r × (after ≡ after_read h q.shard reading)) s (with_looked s q.shard y) d d
+moves_look s d q x y reading r there number raises shows h stands =
+    let one : Stands h.tables (shard_at h q.shard) x = stands.shards q.shard x there in
+    let still : Stands h.tables (after_entries reading [] (shard_at h q.shard)) y =
+    subst (λ (z : ShardHistory). Stands h.tables z y) (raised_is reading (shard_at h q.shard)) (raises h.tables (shard_at h q.shard) one) in (
+      after_read h q.shard reading,
+      (shows (shard_at h q.shard) (subst (λ (ts : List TableSchema). Stands ts (shard_at h q.shard) x) stands.tables one), refl),
+      record {
+        stands = stands_read h s (with_looked s q.shard y) q.shard x y reading [] stands there refl still (λ k. none_more q.shard k (entries_in k s.list)) refl refl refl refl refl refl;
+        lasts = λ found told lasts. (
+          told,
+          lasts_still h (after_read h q.shard reading) found s (with_looked s q.shard y) d d told q.shard x y refl there refl number
+              (λ l same c count keeps.
+              subst (λ (ls : List (Item Event)). Keeps s.journal d ls c found told) (sym same) (subst (λ (k : ℕ). Keeps s.journal d s.list k found told) (sym count) keeps))
+              refl refl refl refl refl (λ on. on) lasts,
+        );
+      },
+    )

@@ -1,0 +1,151 @@
+-- A run over a store that was opened, from its beginning to what a crash leaves of it.
+use Rattle.std.proofs.Common.{◌≡◌, ◌<◌, ◌≤◌, ◌+◌, ℕ, zero, suc, pos, inl, inr, false, List, [], ◌∷◌, ◌++◌, length, map, Option, Some, None, is_some, refl, sym, ap, ◌∙◌, subst, arith, append-nil}
+use Rattle.std.specs.Prelude.{slice_get, slice_index_or}
+use Rattle.cas_disk.specs.Disk.{Disk, Image}
+use Rattle.cas_gates.specs.declared.first.First.{First}
+use Rattle.cas_ledger.specs.Hands.{numbers}
+use Rattle.cas_atoms.specs.declared.atom.Mutation.{Mutation}
+use Rattle.cas_bind.specs.declared.bound.Limits.{Limits}
+use Rattle.cas_changes.specs.Saying.{said_by}
+use Rattle.cas_changes.specs.declared.entry.Entry.{Entry as ManifestEntry}
+use Rattle.cas_history.specs.declared.item.Item.{Item}
+use Rattle.cas_journal.specs.Journals.{Lasts}
+use Rattle.cas_journal.specs.Stores.{Told, MayList}
+use Rattle.cas_replay.specs.Grammar.{AreInOrder, AscendByOne, numbers_of}
+use Rattle.cas_room.specs.Keeping.{StandsFor as ImageStands}
+use Rattle.cas_room.specs.Rooms.{accepted_in}
+use Rattle.cas_room.specs.declared.event.Event.{Event}
+use Rattle.cas_shard.specs.Shards.{ShardHistory, found_shard, empty_shard}
+use Rattle.cas_shard.specs.Stands.{Stands}
+use Rattle.cas_shard.specs.declared.shard.Shard.{Shard}
+use Rattle.cas_sessions.specs.History.{History, shard_at}
+use Rattle.cas_recovery.specs.Found.{found_in}
+use Rattle.cas_sessions.specs.Starts.{start, BeginsAs}
+use Rattle.cas_sessions.specs.Entered.{HasTables, IsLeft, entries_in}
+use Rattle.cas_recovery.specs.Restored.{IsInMemory, IsTold}
+use Rattle.cas_sessions.specs.Nodes.{State, StandsFor, LastsFor, disk_of}
+use Rattle.cas_recovery.proofs.Places.{get_within}
+
+-- ---- numbers
+
+pub many_numbers : (m n : ℕ) → length (numbers m n) ≡ n
+many_numbers m zero = refl
+many_numbers m (suc n) = ap suc (many_numbers (suc m) n)
+
+pub many_mapped : {X Y : Type 0} (f : X → Y) (xs : List X) → length (map f xs) ≡ length xs
+many_mapped f [] = refl
+many_mapped f (x ∷ xs) = ap suc (many_mapped f xs)
+
+pub numbered : {X : Type 0} (f : ℕ → X) (d : X) (m n k : ℕ) → k < n → slice_index_or (map f (numbers m n)) k d ≡ f (m + k)
+numbered f d m zero k lt = absurd (omega (arith, lt))
+numbered f d m (suc n) zero lt = ap f (omega arith)
+numbered f d m (suc n) (suc k) lt = numbered f d (suc m) n k (omega (arith, lt)) ∙ ap f (omega arith)
+
+from_none : (n : ℕ) → 0 + n ≡ n
+from_none n = omega arith
+
+-- ---- the beginning
+
+module _ (given : Limits) (entries : List ManifestEntry) (mutations : List Mutation) (s : State) (memory : IsInMemory given entries mutations s.limits s.tables s.shards)
+    (clock : s.clock ≡ pos 0) (list : s.list ≡ []) (calls : s.calls ≡ 0) where
+  abbrev count : ℕ
+  count = (said_by entries).shards
+
+  many : length s.shards ≡ count
+  many = memory.count ∙ ap (λ (l : Limits). l.shards) memory.same
+
+  at : (n : ℕ) → n < count → shard_at (start given entries mutations s.session (disk_of s)) n ≡ found_shard (found_in n mutations)
+  unfolding start
+  at n lt =
+      numbered (λ (k : ℕ). found_shard (found_in k mutations)) (found_shard empty_shard) 0 count n lt ∙ ap (λ (k : ℕ). found_shard (found_in k mutations)) (from_none n)
+
+  first_stands : StandsFor (start given entries mutations s.session (disk_of s)) s
+  unfolding start
+  first_stands = record {
+    limits = sym memory.same;
+    tables = sym memory.tables_are;
+    clock = sym clock;
+    session = refl;
+    calls = sym calls;
+    disk = refl;
+    count = many_mapped _ (numbers 0 count) ∙ many_numbers 0 count ∙ sym many;
+    shards = λ n x there.
+        let lt : n < count = subst (λ (k : ℕ). n < k) many (get_within s.shards n x there) in
+        subst (λ (q : ShardHistory). Stands (said_by entries).tables q x) (sym (at n lt))
+        (subst (λ ts. Stands ts (found_shard (found_in n mutations)) x) memory.tables_are (memory.restored n x there));
+    entered = λ n lt.
+        ap (λ (q : ShardHistory). q.entries) (at n (subst (λ (k : ℕ). n < k) (many_mapped _ (numbers 0 count) ∙ many_numbers 0 count) lt))
+        ∙ ap (entries_in n) (sym list);
+  }
+
+  first_lasts : (d : Disk) (t : Told) → IsTold entries mutations t → Lasts s.journal d t → s.committed ≡ 0
+      → LastsFor (start given entries mutations s.session (disk_of s)) mutations s d t
+  unfolding start
+  first_lasts d t told lasts committed = record {
+    keeps = record {
+      lasts = lasts;
+      all = told.taken ∙ sym (append-nil mutations) ∙ ap (λ (l : List (Item Event)). mutations ++ accepted_in l) (sym list);
+      committed = omega (arith, told.committed, committed);
+      whole = told.whole;
+    };
+    tables = told.tables ∙ sym memory.tables_are;
+    shards = told.shards ∙ ap (λ (l : Limits). l.shards) (sym memory.same);
+    few = subst (λ (es : List ManifestEntry). length es ≤ 1) (sym told.failed) (omega arith);
+    ordered = subst AreInOrder (sym told.taken) memory.ordered;
+    next =
+        subst (λ (ms : List Mutation). (n : ℕ) (x : Shard) → slice_get s.shards n ≡ Some x → AscendByOne (numbers_of n ms ++ (x.number + 1) ∷ [])) (sym told.taken)
+        memory.next;
+    counted = none s.accepted;
+    acknowledged = (omega arith, omega arith);
+    whole = λ on. none s.committed;
+  }
+    where
+      none : (n : ℕ) → length (accepted_in s.list) ≤ n
+      none n = subst (λ (l : List (Item Event)). length (accepted_in l) ≤ n) (sym list) (omega arith)
+
+-- the store stands for the history that begins with what was found
+pub begins : (given : Limits) (entries : List ManifestEntry) (mutations : List Mutation) (s : State) (d : Disk) → IsInMemory given entries mutations s.limits s.tables s.shards
+    → s.clock ≡ pos 0 → s.list ≡ [] → s.calls ≡ 0 → s.committed ≡ 0 → BeginsAs given entries mutations d s
+begins given entries mutations s d memory clock list calls committed = record {
+  stands = first_stands given entries mutations s memory clock list calls;
+  lasts = λ t told lasts. first_lasts given entries mutations s memory clock list calls d t told lasts committed;
+}
+
+-- ---- what a crash leaves
+
+not_first : (first : Option First) → is_some first ≡ false → first ≡ None
+not_first None e = refl
+not_first (Some first) e = cc
+
+module _ (final : History) (mutations : List Mutation) (s : State) (d : Disk) (t : Told) (stands : StandsFor final s) (lasts : LastsFor final mutations s d t) where
+  going : final.disk.stopped ≡ false → s.journal.first ≡ None
+  going on = not_first s.journal.first (ap (λ disk. disk.stopped) (sym stands.disk) ∙ on)
+
+  has_tables : (entries : List ManifestEntry) → MayList t entries → HasTables final entries
+  has_tables entries (inl same) = record {
+    told = t.entries;
+    more = [];
+    are = same ∙ sym (append-nil t.entries);
+    tables = lasts.tables ∙ sym stands.tables;
+    few = omega arith;
+    none = λ on. refl;
+  }
+  has_tables entries (inr more) = record {
+    told = t.entries;
+    more = t.failed;
+    are = more;
+    tables = lasts.tables ∙ sym stands.tables;
+    few = lasts.few;
+    none = λ on. (lasts.keeps.lasts.goes (going on)).none_failed;
+  }
+
+  pub is_left : (i : Image) → ImageStands (MayList t) mutations (accepted_in s.list) s.committed i → IsLeft mutations s.list final i
+  is_left i image = record {
+    entries = image.entries;
+    tables = has_tables image.entries image.may;
+    count = image.count;
+    least = omega (arith, lasts.acknowledged.0, image.least);
+    most = image.most;
+    all = λ on. let whole = lasts.whole (ap (λ disk. disk.stopped) (sym stands.disk) ∙ on) in omega (arith, whole, image.least, image.most);
+    store = image.store;
+  }

@@ -1,0 +1,53 @@
+-- What the fault of a call tells beside its reply.
+use Rattle.std.proofs.Common.{◌≡◌, ◌+◌, ℕ, List, [], ◌∷◌, ◌++◌, Option, None, Some, Err, sym, ap, ◌∙◌, subst}
+use Rattle.cas_atoms.specs.declared.atom.Mutation.{Mutation}
+use Rattle.cas_gates.specs.declared.first.First.{First}
+use Rattle.cas_history.specs.declared.item.Item.{Item}
+use Rattle.cas_history.specs.declared.item.Item.TheVariants.{Wrote}
+use Rattle.cas_journal.specs.Ends.{Prepares, Ends}
+use Rattle.cas_journal.specs.declared.fault.JournalFault.{JournalFault}
+use Rattle.cas_journal.specs.declared.fault.JournalFault.TheVariants.{TooLarge, TooMany, Stopped, Failed, Mem}
+use Rattle.cas_room.specs.declared.event.Event.{Event}
+use Rattle.cas_room.specs.declared.event.Event.TheVariants as event
+use Rattle.cas_sessions.specs.declared.answer.Fault.{Fault}
+use Rattle.cas_sessions.specs.Calls.{IsTrueOf}
+use Rattle.cas_sessions.specs.Nodes.{State}
+use Rattle.cas_sessions.specs.Inner.Faults.{fault_for}
+
+stopped_by : (T : Type 0) (first kept : Option First) (before now : ℕ) (g : First) → Ends {T = T} first kept before now (Err (Stopped g)) → first ≡ Some g
+stopped_by T None kept before now g p = absurd p
+stopped_by T (Some h) kept before now g p = cc
+
+-- a definition that wasn't made
+pub true_of_end : (T : Type 0) (f : JournalFault) (x : Fault) (s t : State) (before now : ℕ) → x ≡ fault_for f
+    → Ends {T = T} s.journal.first t.journal.first before now (Err f) → t.list ≡ s.list → IsTrueOf (Err x) s t
+true_of_end T f x s t before now is ends same = subst (λ (y : Fault). IsTrueOf (Err y) s t) (sym is) (by f ends)
+  where
+    by : (f : JournalFault) → Ends {T = T} s.journal.first t.journal.first before now (Err f) → IsTrueOf (Err (fault_for f)) s t
+    by (TooLarge length limit) p = tt
+    by (TooMany what limit) p = tt
+    by (Stopped first) p = stopped_by T s.journal.first t.journal.first before now first p
+    by Failed p = same
+    by Mem p = tt
+
+-- a mutation that wasn't accepted
+pub true_of_prepare : (T : Type 0) (f : JournalFault) (x : Fault) (s t : State) (long most before now : ℕ) → x ≡ fault_for f
+    → Prepares {T = T} long most s.journal.first t.journal.first before now (Err f) → t.list ≡ s.list → IsTrueOf (Err x) s t
+true_of_prepare T f x s t long most before now is prepares same = subst (λ (y : Fault). IsTrueOf (Err y) s t) (sym is) (by f prepares)
+  where
+    by : (f : JournalFault) → Prepares {T = T} long most s.journal.first t.journal.first before now (Err f) → IsTrueOf (Err (fault_for f)) s t
+    by (TooLarge length limit) p = tt
+    by (TooMany what limit) p = tt
+    by (Stopped first) p = stopped_by (Unit {0}) s.journal.first t.journal.first before now first p.1
+    by Failed p = same
+    by Mem p = tt
+
+-- a mutation that was accepted
+pub true_of_accepted : (list new : List (Item Event)) (m : Mutation) (session calls now number : ℕ) → new ≡ list ++ Wrote m.shard session (calls + 1) m.number (event.Accepted m) ∷ []
+    → now ≡ calls + 1 → number ≡ m.number → (q : Mutation) × (q.number ≡ number) × (new ≡ list ++ Wrote q.shard session now number (event.Accepted q) ∷ [])
+true_of_accepted list new m session calls now number is counted same = (
+  m,
+  sym same,
+  is ∙ ap (λ (k : ℕ). list ++ Wrote m.shard session k m.number (event.Accepted m) ∷ []) (sym counted)
+      ∙ ap (λ (k : ℕ). list ++ Wrote m.shard session now k (event.Accepted m) ∷ []) (sym same),
+)

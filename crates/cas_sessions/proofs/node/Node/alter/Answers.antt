@@ -1,0 +1,106 @@
+use Rattle.std.proofs.Common.{◌∙◌, List, length, Err, refl, sym, ap, subst, arith}
+use Rattle.std.proofs.lemmas.Option.{slice_get_read}
+use Rattle.cas_types.specs.declared.schema.TableSchema.{TableSchema}
+use Rattle.cas_bind.specs.Tables.{AreTables}
+use Rattle.cas_bind.specs.declared.bound.Bound.TheVariants as bounds
+use Rattle.cas_changes.specs.declared.entry.Entry.TheVariants.{AddColumns}
+use Rattle.cas_history.specs.Items.{listed, log_list}
+use Rattle.cas_shard.specs.Stands.{Stands}
+use Rattle.cas_recovery.proofs.Places.{get_within}
+use Rattle.cas_sessions.proofs.Tables.{adds_no_keys, altered_by, has_spelling, is_short, mapped, moves_done, moves_not, moves_nowhere, under_altered}
+use Rattle.cas_sessions.specs.Calls.{reply_of}
+use Rattle.cas_sessions.specs.declared.answer.Fault.{Fault}
+use Rattle.cas_sessions.proofs.Sounding.{sound_told}
+use Rattle.cas_sessions.proofs.Telling.{true_of_end}
+use Rattle.cas_sessions.proofs.Crashing.{amid_defined, amid_nothing, fits_told}
+use Rattle.cas_sessions.proofs.node.Node.alter.Goals as goal
+
+pub returns-in-Err-clause-changes : goal.returns-in-Err-clause-changes
+returns-in-Err-clause-changes g c = λ clock. moves_nowhere _ _ (AddColumns c.args.addition.table c.args.addition.columns) (bounds.Alter c.args.addition)
+
+pub define-requires-clause-spelled : goal.define-requires-clause-spelled
+define-requires-clause-spelled g c =
+    has_spelling c.args.self.now.tables.items (bounds.Alter c.args.addition) (AddColumns c.args.addition.table c.args.addition.columns) c.requires.told
+
+pub define-requires-clause-short : goal.define-requires-clause-short
+define-requires-clause-short g c =
+    is_short c.args.self.now.tables.items (bounds.Alter c.args.addition) (AddColumns c.args.addition.table c.args.addition.columns) c.requires.told
+
+pub returns-in-Err-define-clause-changes : goal.returns-in-Err-define-clause-changes
+returns-in-Err-define-clause-changes g c = λ clock.
+    let short = is_short c.args.self.now.tables.items (bounds.Alter c.args.addition) (AddColumns c.args.addition.table c.args.addition.columns) c.requires.told in
+    moves_not _ _ _ _ (AddColumns c.args.addition.table c.args.addition.columns) (bounds.Alter c.args.addition) c.requires.told c.args.self.now.sound.some
+    (record {
+      limits = refl;
+      shards = refl;
+      places = refl;
+      numbers = refl;
+      clock = refl;
+      list = ap (λ log. listed log_list log.pass.saw) c.define.ensures.log;
+      session = c.define.ensures.session.0;
+      calls = c.define.ensures.session.1;
+      accepted = c.define.ensures.accepted;
+      committed = c.define.ensures.committed;
+    })
+    c.define.ensures.count (reply_of (Err c.fault_for.result)) c.in-Err-define.fault (ap (λ (x : Fault). reply_of (Err x)) c.fault_for.ensures) refl short c.in-Err-define.ensures.outcome c.in-Err-define.ensures.reach
+    (λ what most e. c.in-Err-define.ensures.full what most (ap Err e)) c.in-Err-define.ensures.kept
+
+pub index_mut-requires : goal.index_mut-requires
+index_mut-requires g c =
+    let lt = get_within c.args.self.now.tables.items c.args.addition.table c.requires.there.0 c.requires.there.1 in
+    omega (arith, c.args.self.now.tables.ok.0, lt)
+
+pub returns-clause-changes : goal.returns-clause-changes
+returns-clause-changes g c = λ clock.
+    let ts = c.args.self.now.tables.items in
+    let a = c.args.addition in
+    let lt = get_within ts a.table c.requires.there.0 c.requires.there.1 in
+    let new =
+    altered_by ts a c.index.result.now c.index_mut.result.now c.in-Ok.columns c.args.self.now.sound.tables.numbered
+    (slice_get_read ts (length ts) a.table c.index.result.now refl lt c.index.ensures)
+    (slice_get_read ts (length ts) a.table c.index_mut.result.now refl lt c.index_mut.ensures.value) c.in-Ok.ensures in
+    moves_done _ _ _ _ (AddColumns a.table a.columns) (bounds.Alter a) c.requires.told c.args.self.now.sound.some
+    (record {
+      limits = refl;
+      shards = refl;
+      places = refl;
+      numbers = refl;
+      clock = refl;
+      list = ap (λ log. listed log_list log.pass.saw) c.define.ensures.log;
+      session = c.define.ensures.session.0;
+      calls = c.define.ensures.session.1;
+      accepted = c.define.ensures.accepted;
+      committed = c.define.ensures.committed;
+    })
+    c.define.ensures.count tt (new ∙ sym (mapped ts a))
+    (λ z y so. subst (λ (us : List TableSchema). Stands us z y) (sym new) (under_altered a (adds_no_keys ts a c.requires.told) ts z y so))
+    c.in_default.ensures.outcome c.in_default.ensures.reach c.in_default.ensures.kept
+
+pub invariant_of-self-2 : goal.invariant_of-self-2
+invariant_of-self-2 g c =
+    let ts = c.args.self.now.tables.items in
+    let a = c.args.addition in
+    let lt = get_within ts a.table c.requires.there.0 c.requires.there.1 in
+    let new =
+    altered_by ts a c.index.result.now c.index_mut.result.now c.in-Ok.columns c.args.self.now.sound.tables.numbered
+    (slice_get_read ts (length ts) a.table c.index.result.now refl lt c.index.ensures)
+    (slice_get_read ts (length ts) a.table c.index_mut.result.now refl lt c.index_mut.ensures.value) c.in-Ok.ensures in
+    record { sound = sound_told _ _ _ _ _ _ _ _ c.args.self.now.sound c.define.ensures.size (subst AreTables (sym (new ∙ sym (mapped ts a))) c.requires.told.kept) }
+
+pub returns-in-Err-define-clause-told : goal.returns-in-Err-define-clause-told
+returns-in-Err-define-clause-told g c =
+    true_of_end _ c.in-Err-define.fault c.fault_for.result _ _ _ _ c.fault_for.ensures c.in-Err-define.ensures.outcome
+    (ap (λ log. listed log_list log.pass.saw) c.define.ensures.log)
+
+pub returns-in-Err-clause-crash : goal.returns-in-Err-clause-crash
+returns-in-Err-clause-crash g c = λ clock h found told stands lasts. amid_nothing h found _ _ told stands lasts _
+
+pub returns-in-Err-define-clause-crash : goal.returns-in-Err-define-clause-crash
+returns-in-Err-define-clause-crash g c = λ clock h found told stands lasts.
+    amid_defined h found _ _ told stands lasts _ (AddColumns c.args.addition.table c.args.addition.columns) _ (ap (λ log. listed log_list log.pass.saw) c.define.ensures.log)
+    (c.define.ensures.crash told lasts.keeps.lasts (fits_told h found _ _ told (bounds.Alter c.args.addition) (AddColumns c.args.addition.table c.args.addition.columns) c.requires.told c.args.self.now.sound.some lasts))
+
+pub returns-clause-crash : goal.returns-clause-crash
+returns-clause-crash g c = λ clock h found told stands lasts.
+    amid_defined h found _ _ told stands lasts _ (AddColumns c.args.addition.table c.args.addition.columns) _ (ap (λ log. listed log_list log.pass.saw) c.define.ensures.log)
+    (c.define.ensures.crash told lasts.keeps.lasts (fits_told h found _ _ told (bounds.Alter c.args.addition) (AddColumns c.args.addition.table c.args.addition.columns) c.requires.told c.args.self.now.sound.some lasts))

@@ -1,0 +1,89 @@
+use Rattle.std.proofs.Common.{◌∙◌, List, Err, refl, sym, ap, subst}
+use Rattle.cas_types.specs.declared.schema.TableSchema.{TableSchema}
+use Rattle.cas_bind.specs.Tables.{AreTables}
+use Rattle.cas_bind.specs.declared.bound.Bound.TheVariants as bounds
+use Rattle.cas_changes.specs.declared.entry.Entry.TheVariants.{Schema}
+use Rattle.cas_history.specs.Items.{listed, log_list}
+use Rattle.cas_shard.specs.Stands.{Stands}
+use Rattle.cas_sessions.proofs.Tables.{created, has_spelling, is_short, moves_done, moves_not, moves_reserved, pushed, under_created}
+use Rattle.cas_sessions.specs.Calls.{reply_of}
+use Rattle.cas_sessions.specs.declared.answer.Fault.{Fault}
+use Rattle.cas_sessions.proofs.Sounding.{sound_told}
+use Rattle.cas_sessions.proofs.Telling.{true_of_end}
+use Rattle.cas_sessions.proofs.Crashing.{amid_defined, amid_nothing, fits_told}
+use Rattle.cas_sessions.proofs.node.Node.create.Goals as goal
+
+pub returns-in-Err-clause-changes : goal.returns-in-Err-clause-changes
+returns-in-Err-clause-changes g c = λ clock. moves_reserved _ _ (Schema c.args.table) (bounds.Create c.args.table) c.reserve.new.self.items c.reserve.ensures.items
+
+pub define-requires-clause-spelled : goal.define-requires-clause-spelled
+define-requires-clause-spelled g c = has_spelling c.args.self.now.tables.items (bounds.Create c.args.table) (Schema c.args.table) c.requires.told
+
+pub define-requires-clause-short : goal.define-requires-clause-short
+define-requires-clause-short g c = is_short c.args.self.now.tables.items (bounds.Create c.args.table) (Schema c.args.table) c.requires.told
+
+pub returns-in-Err-define-clause-changes : goal.returns-in-Err-define-clause-changes
+returns-in-Err-define-clause-changes g c = λ clock.
+    let short = is_short c.args.self.now.tables.items (bounds.Create c.args.table) (Schema c.args.table) c.requires.told in
+    moves_not _ _ _ _ (Schema c.args.table) (bounds.Create c.args.table) c.requires.told c.args.self.now.sound.some
+    (record {
+      limits = refl;
+      shards = refl;
+      places = refl;
+      numbers = refl;
+      clock = refl;
+      list = ap (λ log. listed log_list log.pass.saw) c.define.ensures.log;
+      session = c.define.ensures.session.0;
+      calls = c.define.ensures.session.1;
+      accepted = c.define.ensures.accepted;
+      committed = c.define.ensures.committed;
+    })
+    c.define.ensures.count (reply_of (Err c.fault_for.result)) c.in-Err-define.fault (ap (λ (x : Fault). reply_of (Err x)) c.fault_for.ensures) c.reserve.ensures.items short c.in-Err-define.ensures.outcome c.in-Err-define.ensures.reach
+    (λ what most e. c.in-Err-define.ensures.full what most (ap Err e)) c.in-Err-define.ensures.kept
+
+pub returns-clause-changes : goal.returns-clause-changes
+returns-clause-changes g c = λ clock.
+    let ts = c.args.self.now.tables.items in
+    let new =
+    pushed ts c.reserve.new.self.items c.push_reserved.new.self.items c.args.table c.table_of.result c.reserve.ensures.items c.push_reserved.ensures.items c.table_of.ensures in
+    moves_done _ _ _ _ (Schema c.args.table) (bounds.Create c.args.table) c.requires.told c.args.self.now.sound.some
+    (record {
+      limits = refl;
+      shards = refl;
+      places = refl;
+      numbers = refl;
+      clock = refl;
+      list = ap (λ log. listed log_list log.pass.saw) c.define.ensures.log;
+      session = c.define.ensures.session.0;
+      calls = c.define.ensures.session.1;
+      accepted = c.define.ensures.accepted;
+      committed = c.define.ensures.committed;
+    })
+    c.define.ensures.count tt (new ∙ sym (created ts c.args.table))
+    (λ z y so. subst (λ (us : List TableSchema). Stands us z y) (sym new) (under_created ts c.args.table z y so))
+    c.in_default-define.ensures.outcome c.in_default-define.ensures.reach c.in_default-define.ensures.kept
+
+pub invariant_of-self-2 : goal.invariant_of-self-2
+invariant_of-self-2 g c =
+    let ts = c.args.self.now.tables.items in
+    let new =
+    pushed ts c.reserve.new.self.items c.push_reserved.new.self.items c.args.table c.table_of.result c.reserve.ensures.items c.push_reserved.ensures.items c.table_of.ensures in
+    record { sound = sound_told _ _ _ _ _ _ _ _ c.args.self.now.sound c.define.ensures.size (subst AreTables (sym (new ∙ sym (created ts c.args.table))) c.requires.told.kept) }
+
+pub returns-in-Err-define-clause-told : goal.returns-in-Err-define-clause-told
+returns-in-Err-define-clause-told g c =
+    true_of_end _ c.in-Err-define.fault c.fault_for.result _ _ _ _ c.fault_for.ensures c.in-Err-define.ensures.outcome
+    (ap (λ log. listed log_list log.pass.saw) c.define.ensures.log)
+
+pub returns-in-Err-clause-crash : goal.returns-in-Err-clause-crash
+returns-in-Err-clause-crash g c = λ clock h found told stands lasts. amid_nothing h found _ _ told stands lasts _
+
+pub returns-in-Err-define-clause-crash : goal.returns-in-Err-define-clause-crash
+returns-in-Err-define-clause-crash g c = λ clock h found told stands lasts.
+    amid_defined h found _ _ told stands lasts _ (Schema c.args.table) _ (ap (λ log. listed log_list log.pass.saw) c.define.ensures.log)
+    (c.define.ensures.crash told lasts.keeps.lasts (fits_told h found _ _ told (bounds.Create c.args.table) (Schema c.args.table) c.requires.told c.args.self.now.sound.some lasts))
+
+pub returns-clause-crash : goal.returns-clause-crash
+returns-clause-crash g c = λ clock h found told stands lasts.
+    amid_defined h found _ _ told stands lasts _ (Schema c.args.table) _ (ap (λ log. listed log_list log.pass.saw) c.define.ensures.log)
+    (c.define.ensures.crash told lasts.keeps.lasts (fits_told h found _ _ told (bounds.Create c.args.table) (Schema c.args.table) c.requires.told c.args.self.now.sound.some lasts))

@@ -1,0 +1,246 @@
+use Rattle.std.proofs.Common.{◌≡◌, ◌+◌, Some}
+use Rattle.std.proofs.Common.{w64, ℤ, to_z, of_z}
+use Rattle.std.proofs.Common.{ℕ, pos, map, Err, ap, sym, subst, ◌∙◌, refl, arith}
+use Rattle.std.proofs.lemmas.Int.{ints}
+use Rattle.cas_shard.specs.Shards.{prepare_answer, raised}
+use Rattle.cas_shard.specs.Stands.{Stands}
+use Rattle.std.specs.Prelude.{slice_get}
+use Rattle.std.proofs.lemmas.Option.{slice_get_read}
+use Rattle.cas_history.specs.Items.{listed, log_list}
+use Rattle.cas_journal.specs.Stores.{took, committed_all}
+use Rattle.cas_shard.specs.declared.shard.Shard.{Shard}
+use Rattle.cas_sessions.specs.Calls.{reply_of}
+use Rattle.cas_sessions.specs.declared.answer.Fault.{Fault}
+use Rattle.cas_sessions.proofs.Entering.{may_take, refused_at_once, starved_at_once, of_a_table, seated, place_is, number_is, not_taken, taken_and_committed, taken_and_failed, set_twice}
+use Rattle.cas_sessions.proofs.Sounding.{sound_looked, sound_with}
+use Rattle.cas_sessions.proofs.Telling.{true_of_accepted, true_of_prepare}
+use Rattle.cas_sessions.proofs.Idling.{idle_taken}
+use Rattle.cas_sessions.proofs.Crashing.{amid_nothing, amid_room, amid_taken}
+use Rattle.cas_sessions.proofs.node.Node.write.Goals as goal
+
+-- src/writing.rt:56:49
+pub returns-in-Err-Refused-clause-writes : goal.returns-in-Err-Refused-clause-writes
+returns-in-Err-Refused-clause-writes g c = λ clock.
+    let at : to_z w64 (of_z w64 c.args.reading) ≡ c.args.reading = omega (arith, ints) in
+    refused_at_once _ c.args.write c.args.reading _ c.prepare.new.self c.prepare.result
+    (record { sound = c.args.self.now.sound; within = c.requires.within.0; fits = c.requires.fits; seat = c.index_mut.ensures.value; answered = λ ts q stands quiet. c.prepare.ensures.answered ts q stands quiet ∙ ap (λ (k : ℤ). prepare_answer c.args.self.now.limits.segment k q c.args.write) at; stands = λ ts n q stands suits. subst (λ (k : ℤ). Stands ts (raised k q) c.prepare.new.self) at (c.prepare.ensures.stands ts n q stands suits); number = c.prepare.ensures.number })
+    _ _ _ c.in-Err-Refused.refused-is (c.in-Err-Refused.is ∙ ap Err c.in-Err-Refused.field-0-is)
+
+pub returns-in-Err-Mem-clause-writes : goal.returns-in-Err-Mem-clause-writes
+returns-in-Err-Mem-clause-writes g c = λ clock.
+    let at : to_z w64 (of_z w64 c.args.reading) ≡ c.args.reading = omega (arith, ints) in
+    starved_at_once _ c.args.write c.args.reading _ c.prepare.new.self c.prepare.result
+    (record { sound = c.args.self.now.sound; within = c.requires.within.0; fits = c.requires.fits; seat = c.index_mut.ensures.value; answered = λ ts q stands quiet. c.prepare.ensures.answered ts q stands quiet ∙ ap (λ (k : ℤ). prepare_answer c.args.self.now.limits.segment k q c.args.write) at; stands = λ ts n q stands suits. subst (λ (k : ℤ). Stands ts (raised k q) c.prepare.new.self) at (c.prepare.ensures.stands ts n q stands suits); number = c.prepare.ensures.number }) _
+
+-- src/writing.rt:60:28
+pub accept-requires-clause-of : goal.accept-requires-clause-of
+accept-requires-clause-of g c =
+    let at : to_z w64 (of_z w64 c.args.reading) ≡ c.args.reading = omega (arith, ints) in
+    of_a_table
+    (record {
+      limits = c.args.self.now.limits;
+      tables = c.args.self.now.tables.items;
+      shards = c.args.self.now.shards.items;
+      places = map (λ f. f.shard) c.args.self.now.fronts.items;
+      numbers = map (λ f. f.number) c.args.self.now.fronts.items;
+      clock = pos 0;
+      list = listed log_list c.args.self.now.room.log.pass.saw;
+      session = c.args.session.now.seat.list;
+      calls = c.args.session.now.seat.calls;
+      accepted = c.args.self.now.room.accepted;
+      committed = c.args.self.now.room.faults.committed;
+      journal = c.args.self.now.room.journal;
+      faults = g.F.Folder.faults_of c.args.self.now.room.folder;
+    }) c.args.write c.args.reading c.index_mut.result.now c.prepare.new.self c.prepare.result
+    (record { sound = c.args.self.now.sound; within = c.requires.within.0; fits = c.requires.fits; seat = c.index_mut.ensures.value; answered = λ ts q stands quiet. c.prepare.ensures.answered ts q stands quiet ∙ ap (λ (k : ℤ). prepare_answer c.args.self.now.limits.segment k q c.args.write) at; stands = λ ts n q stands suits. subst (λ (k : ℤ). Stands ts (raised k q) c.prepare.new.self) at (c.prepare.ensures.stands ts n q stands suits); number = c.prepare.ensures.number })
+    c.in-Ok.mutation c.in-Ok.is c.in-Ok.ensures.prepared c.in-Ok.ensures.ready
+
+-- src/writing.rt:60:28
+pub accept-requires-clause-number : goal.accept-requires-clause-number
+accept-requires-clause-number g c =
+    let fs = c.args.self.now.fronts.items in
+    let f = c.index_mut-front.result.now in
+    let at_f : slice_get fs c.args.write.shard ≡ Some f = seated (λ q. q.shard) fs c.args.self.now.limits.shards c.args.write.shard f c.args.self.now.sound.places c.requires.within.0 c.index_mut-front.ensures.value in
+    let at_x : slice_get c.args.self.now.shards.items c.args.write.shard ≡ Some c.index_mut.result.now = slice_get_read c.args.self.now.shards.items c.args.self.now.limits.shards c.args.write.shard c.index_mut.result.now (sym c.args.self.now.sound.count) c.requires.within.0 c.index_mut.ensures.value in
+    let same = number_is (λ q. q.number) (λ (q : Shard). q.number) fs c.args.self.now.shards.items c.args.write.shard f c.index_mut.result.now c.args.self.now.sound.numbers at_f at_x in (
+      c.in-Ok.ensures.ready.shard ∙ sym (place_is (λ q. q.shard) fs c.args.self.now.limits.shards c.args.write.shard f c.args.self.now.sound.places c.requires.within.0 at_f),
+      c.in-Ok.ensures.prepared.next ∙ ap (λ k. k + 1) (c.prepare.ensures.number ∙ sym same),
+    )
+
+-- src/writing.rt:60:28
+pub accept-requires-clause-few : goal.accept-requires-clause-few
+accept-requires-clause-few g c =
+    let fs = c.args.self.now.fronts.items in
+    let f = c.index_mut-front.result.now in
+    let at_f : slice_get fs c.args.write.shard ≡ Some f = seated (λ q. q.shard) fs c.args.self.now.limits.shards c.args.write.shard f c.args.self.now.sound.places c.requires.within.0 c.index_mut-front.ensures.value in
+    let at_x : slice_get c.args.self.now.shards.items c.args.write.shard ≡ Some c.index_mut.result.now = slice_get_read c.args.self.now.shards.items c.args.self.now.limits.shards c.args.write.shard c.index_mut.result.now (sym c.args.self.now.sound.count) c.requires.within.0 c.index_mut.ensures.value in
+    let same = number_is (λ q. q.number) (λ (q : Shard). q.number) fs c.args.self.now.shards.items c.args.write.shard f c.index_mut.result.now c.args.self.now.sound.numbers at_f at_x in
+    (omega (arith, same, c.prepare.ensures.number, c.in-Ok.ensures.prepared.next, c.in-Ok.ensures.prepared.few), c.requires.few.0)
+
+-- src/writing.rt:62:27
+pub returns-in-Err-clause-writes : goal.returns-in-Err-clause-writes
+returns-in-Err-clause-writes g c = λ clock.
+    let at : to_z w64 (of_z w64 c.args.reading) ≡ c.args.reading = omega (arith, ints) in
+    not_taken _ c.args.write c.args.reading c.index_mut.result.now c.prepare.new.self c.prepare.result
+    (record { sound = c.args.self.now.sound; within = c.requires.within.0; fits = c.requires.fits; seat = c.index_mut.ensures.value; answered = λ ts q stands quiet. c.prepare.ensures.answered ts q stands quiet ∙ ap (λ (k : ℤ). prepare_answer c.args.self.now.limits.segment k q c.args.write) at; stands = λ ts n q stands suits. subst (λ (k : ℤ). Stands ts (raised k q) c.prepare.new.self) at (c.prepare.ensures.stands ts n q stands suits); number = c.prepare.ensures.number })
+    c.in-Ok.mutation c.in-Ok.is c.in-Ok.ensures.prepared c.in-Ok.ensures.ready
+    _ _ _ c.in-Err.fault (reply_of (Err c.fault_for.result)) (ap (λ (x : Fault). reply_of (Err x)) c.fault_for.ensures)
+    (record {
+      shards = refl;
+      limits = refl;
+      tables = refl;
+      clock = refl;
+      session = c.accept.ensures.seats.0;
+      calls = c.in-Err.ensures.unentered.2;
+      list = c.in-Err.ensures.unentered.0;
+      accepted = c.in-Err.ensures.unaccepted;
+      committed = c.accept.ensures.committed;
+      keeps = c.in-Err.ensures.kept;
+      ends = c.in-Err.ensures.outcome;
+      reach = c.accept.ensures.reach;
+      full = λ what most is. c.accept.ensures.full what most (c.in-Err.is ∙ ap Err is);
+      count = c.accept.ensures.count;
+    })
+
+-- src/writing.rt:39:5
+pub returns-in-Ok-commit-clause-writes : goal.returns-in-Ok-commit-clause-writes
+returns-in-Ok-commit-clause-writes g c = λ clock.
+    let at : to_z w64 (of_z w64 c.args.reading) ≡ c.args.reading = omega (arith, ints) in
+    taken_and_committed _ c.args.write c.args.reading c.index_mut.result.now c.prepare.new.self c.prepare.result
+    (record { sound = c.args.self.now.sound; within = c.requires.within.0; fits = c.requires.fits; seat = c.index_mut.ensures.value; answered = λ ts q stands quiet. c.prepare.ensures.answered ts q stands quiet ∙ ap (λ (k : ℤ). prepare_answer c.args.self.now.limits.segment k q c.args.write) at; stands = λ ts n q stands suits. subst (λ (k : ℤ). Stands ts (raised k q) c.prepare.new.self) at (c.prepare.ensures.stands ts n q stands suits); number = c.prepare.ensures.number })
+    c.in-Ok.mutation c.in-Ok.is c.in-Ok.ensures.prepared c.in-Ok.ensures.ready
+    _ _ _ c.index_mut-2.result.now c.enter.new.self
+    (record {
+      shards = refl;
+      seat = c.index_mut-2.ensures.value;
+      limits = refl;
+      tables = refl;
+      clock = refl;
+      session = c.commit.ensures.session.0 ∙ c.accept.ensures.seats.0;
+      calls = c.commit.ensures.session.1 ∙ c.in-Ok-accept.ensures.calls;
+      few = c.requires.few.1;
+      list = ap (λ l. listed log_list l.pass.saw) c.commit.ensures.log ∙ c.in-Ok-accept.ensures.entered.0;
+      accepted = c.commit.ensures.accepted ∙ c.in-Ok-accept.ensures.accepted;
+      stands = c.enter.ensures.stands;
+      number = c.enter.ensures.number;
+      keeps = λ found told keeps may. let got = c.in-Ok-accept.ensures.kept found told keeps may in (got.0, committed_all (took c.in-Ok.mutation got.0), got.1, refl, refl, refl, c.in-Ok-commit.ensures.kept found _ got.2);
+      first = _;
+      faults = _;
+      ended = c.in-Ok-accept.ensures.outcome.1;
+      reach = (_, c.accept.ensures.reach, c.commit.ensures.reach);
+      rises = (c.accept.ensures.count, c.commit.ensures.count);
+    })
+    _ c.in-Ok-accept.ensures.number
+    c.in-Ok-commit.field-0 c.in-Ok-commit.ensures.outcome (c.in-Ok-commit.ensures.all ∙ sym c.commit.ensures.accepted)
+
+-- src/writing.rt:39:5
+pub returns-in-Err-commit-clause-writes : goal.returns-in-Err-commit-clause-writes
+returns-in-Err-commit-clause-writes g c = λ clock.
+    let at : to_z w64 (of_z w64 c.args.reading) ≡ c.args.reading = omega (arith, ints) in
+    taken_and_failed _ c.args.write c.args.reading c.index_mut.result.now c.prepare.new.self c.prepare.result
+    (record { sound = c.args.self.now.sound; within = c.requires.within.0; fits = c.requires.fits; seat = c.index_mut.ensures.value; answered = λ ts q stands quiet. c.prepare.ensures.answered ts q stands quiet ∙ ap (λ (k : ℤ). prepare_answer c.args.self.now.limits.segment k q c.args.write) at; stands = λ ts n q stands suits. subst (λ (k : ℤ). Stands ts (raised k q) c.prepare.new.self) at (c.prepare.ensures.stands ts n q stands suits); number = c.prepare.ensures.number })
+    c.in-Ok.mutation c.in-Ok.is c.in-Ok.ensures.prepared c.in-Ok.ensures.ready
+    _ _ _ c.index_mut-2.result.now c.enter.new.self
+    (record {
+      shards = refl;
+      seat = c.index_mut-2.ensures.value;
+      limits = refl;
+      tables = refl;
+      clock = refl;
+      session = c.commit.ensures.session.0 ∙ c.accept.ensures.seats.0;
+      calls = c.commit.ensures.session.1 ∙ c.in-Ok-accept.ensures.calls;
+      few = c.requires.few.1;
+      list = ap (λ l. listed log_list l.pass.saw) c.commit.ensures.log ∙ c.in-Ok-accept.ensures.entered.0;
+      accepted = c.commit.ensures.accepted ∙ c.in-Ok-accept.ensures.accepted;
+      stands = c.enter.ensures.stands;
+      number = c.enter.ensures.number;
+      keeps = λ found told keeps may. let got = c.in-Ok-accept.ensures.kept found told keeps may in (got.0, took c.in-Ok.mutation got.0, got.1, refl, refl, refl, c.in-Err-commit.ensures.kept found _ got.2);
+      first = _;
+      faults = _;
+      ended = c.in-Ok-accept.ensures.outcome.1;
+      reach = (_, c.accept.ensures.reach, c.commit.ensures.reach);
+      rises = (c.accept.ensures.count, c.commit.ensures.count);
+    })
+    (Unit {0}) c.in-Err-commit.field-0 c.in-Err-commit.ensures.outcome c.in-Err-commit.ensures.why (omega (arith, c.accept.ensures.committed, c.commit.ensures.rises))
+
+-- src/writing.rt:39:5
+pub returns-in-Err-clause-told : goal.returns-in-Err-clause-told
+returns-in-Err-clause-told g c =
+    true_of_prepare ℕ c.in-Err.fault c.fault_for.result _ _ _ _ _ _ c.fault_for.ensures c.in-Err.ensures.outcome c.in-Err.ensures.unentered.0
+
+pub returns-in-Err-commit-clause-told : goal.returns-in-Err-commit-clause-told
+returns-in-Err-commit-clause-told g c =
+    true_of_accepted _ _ c.in-Ok.mutation _ _ _ _ (ap (λ l. listed log_list l.pass.saw) c.commit.ensures.log ∙ c.in-Ok-accept.ensures.entered.0)
+    (c.commit.ensures.session.1 ∙ c.in-Ok-accept.ensures.calls) c.in-Ok-accept.ensures.number
+
+pub returns-in-Err-Refused-clause-crash : goal.returns-in-Err-Refused-clause-crash
+returns-in-Err-Refused-clause-crash g c = λ clock h found told stands lasts. amid_nothing h found _ _ told stands lasts _
+
+pub returns-in-Err-Mem-clause-crash : goal.returns-in-Err-Mem-clause-crash
+returns-in-Err-Mem-clause-crash g c = λ clock h found told stands lasts. amid_nothing h found _ _ told stands lasts _
+
+pub returns-in-Err-clause-crash : goal.returns-in-Err-clause-crash
+returns-in-Err-clause-crash g c = λ clock h found told stands lasts.
+    amid_room h found _ _ told stands lasts _ _ c.in-Err.ensures.unentered.0 (c.accept.ensures.crash told lasts.keeps.lasts)
+
+pub returns-in-Ok-commit-clause-crash : goal.returns-in-Ok-commit-clause-crash
+returns-in-Ok-commit-clause-crash g c = λ clock h found told stands lasts.
+    let at : to_z w64 (of_z w64 c.args.reading) ≡ c.args.reading = omega (arith, ints) in
+    let got = c.in-Ok-accept.ensures.kept found told lasts.keeps
+    (may_take _ c.args.write c.args.reading c.index_mut.result.now c.prepare.new.self c.prepare.result
+    (record { sound = c.args.self.now.sound; within = c.requires.within.0; fits = c.requires.fits; seat = c.index_mut.ensures.value; answered = λ ts q stands quiet. c.prepare.ensures.answered ts q stands quiet ∙ ap (λ (k : ℤ). prepare_answer c.args.self.now.limits.segment k q c.args.write) at; stands = λ ts n q stands suits. subst (λ (k : ℤ). Stands ts (raised k q) c.prepare.new.self) at (c.prepare.ensures.stands ts n q stands suits); number = c.prepare.ensures.number })
+    c.in-Ok.mutation c.in-Ok.is c.in-Ok.ensures.prepared c.in-Ok.ensures.ready h found _ told lasts) in
+    amid_taken h found _ _ told stands lasts _ c.in-Ok.mutation _ _ got.0 _ _
+    (ap (λ l. listed log_list l.pass.saw) c.commit.ensures.log ∙ c.in-Ok-accept.ensures.entered.0) got.1
+    (c.accept.ensures.crash told lasts.keeps.lasts) (c.commit.ensures.crash _ got.2.lasts)
+
+pub returns-in-Err-commit-clause-crash : goal.returns-in-Err-commit-clause-crash
+returns-in-Err-commit-clause-crash g c = λ clock h found told stands lasts.
+    let at : to_z w64 (of_z w64 c.args.reading) ≡ c.args.reading = omega (arith, ints) in
+    let got = c.in-Ok-accept.ensures.kept found told lasts.keeps
+    (may_take _ c.args.write c.args.reading c.index_mut.result.now c.prepare.new.self c.prepare.result
+    (record { sound = c.args.self.now.sound; within = c.requires.within.0; fits = c.requires.fits; seat = c.index_mut.ensures.value; answered = λ ts q stands quiet. c.prepare.ensures.answered ts q stands quiet ∙ ap (λ (k : ℤ). prepare_answer c.args.self.now.limits.segment k q c.args.write) at; stands = λ ts n q stands suits. subst (λ (k : ℤ). Stands ts (raised k q) c.prepare.new.self) at (c.prepare.ensures.stands ts n q stands suits); number = c.prepare.ensures.number })
+    c.in-Ok.mutation c.in-Ok.is c.in-Ok.ensures.prepared c.in-Ok.ensures.ready h found _ told lasts) in
+    amid_taken h found _ _ told stands lasts _ c.in-Ok.mutation _ _ got.0 _ _
+    (ap (λ l. listed log_list l.pass.saw) c.commit.ensures.log ∙ c.in-Ok-accept.ensures.entered.0) got.1
+    (c.accept.ensures.crash told lasts.keeps.lasts) (c.commit.ensures.crash _ got.2.lasts)
+
+pub invariant_of-self : goal.invariant_of-self
+invariant_of-self g c =
+    let at_x : slice_get c.args.self.now.shards.items c.args.write.shard ≡ Some c.index_mut.result.now = slice_get_read c.args.self.now.shards.items c.args.self.now.limits.shards c.args.write.shard c.index_mut.result.now (sym c.args.self.now.sound.count) c.requires.within.0 c.index_mut.ensures.value in
+    record {
+      sound =
+          sound_looked _ _ _ _ _ _ c.args.write.shard c.index_mut.result.now c.prepare.new.self c.args.self.now.sound at_x c.prepare.ensures.number;
+    }
+
+pub invariant_of-self-in-Err-accept : goal.invariant_of-self-in-Err-accept
+invariant_of-self-in-Err-accept g c =
+    let fs = c.args.self.now.fronts.items in
+    let f = c.index_mut-front.result.now in
+    let at_f : slice_get fs c.args.write.shard ≡ Some f = seated (λ q. q.shard) fs c.args.self.now.limits.shards c.args.write.shard f c.args.self.now.sound.places c.requires.within.0 c.index_mut-front.ensures.value in
+    let at_x : slice_get c.args.self.now.shards.items c.args.write.shard ≡ Some c.index_mut.result.now = slice_get_read c.args.self.now.shards.items c.args.self.now.limits.shards c.args.write.shard c.index_mut.result.now (sym c.args.self.now.sound.count) c.requires.within.0 c.index_mut.ensures.value in
+    let same = number_is (λ q. q.number) (λ (q : Shard). q.number) fs c.args.self.now.shards.items c.args.write.shard f c.index_mut.result.now c.args.self.now.sound.numbers at_f at_x in
+    record {
+      sound =
+          sound_with (λ q. q.shard) (λ q. q.number) _ _ _ _ _ _ c.args.write.shard fs f c.accept.new.front c.prepare.new.self c.args.self.now.sound at_f c.accept.ensures.seats.1
+          (ap (λ q. q.number) c.in-Err.ensures.unentered.1 ∙ same ∙ sym c.prepare.ensures.number) refl c.accept.ensures.size;
+    }
+
+pub invariant_of-self-2 : goal.invariant_of-self-2
+invariant_of-self-2 g c =
+    let fs = c.args.self.now.fronts.items in
+    let f = c.index_mut-front.result.now in
+    let at_f : slice_get fs c.args.write.shard ≡ Some f = seated (λ q. q.shard) fs c.args.self.now.limits.shards c.args.write.shard f c.args.self.now.sound.places c.requires.within.0 c.index_mut-front.ensures.value in
+    record {
+      sound =
+          sound_with (λ q. q.shard) (λ q. q.number) _ _ _ _ _ _ c.args.write.shard fs f c.accept.new.front c.enter.new.self c.args.self.now.sound at_f c.accept.ensures.seats.1
+          (c.in-Ok-accept.ensures.front ∙ sym c.enter.ensures.number) (set_twice c.args.self.now.shards.items c.args.write.shard c.prepare.new.self c.enter.new.self)
+          (c.commit.ensures.size ∙ c.accept.ensures.size);
+    }
+
+pub invariant_of-session-2 : goal.invariant_of-session-2
+invariant_of-session-2 g c = record {
+  idle = idle_taken _ _ c.in-Ok.mutation _ _ c.args.session.now.idle
+      (ap (λ (k : ℕ). listed k c.commit.new.session.pass.saw) c.commit.ensures.session.0 ∙ c.commit.ensures.session.2
+      ∙ ap (λ (k : ℕ). listed k c.accept.new.session.pass.saw) c.accept.ensures.seats.0 ∙ c.in-Ok-accept.ensures.entered.2);
+}

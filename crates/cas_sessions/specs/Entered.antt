@@ -1,0 +1,69 @@
+-- What the history of a run has of each shard, and what a crash leaves of it. Own.
+use Rattle.std.specs.Prelude.{◌≡◌, ℕ, ◌<◌, ◌≤◌, ◌==◌, false, if◌then◌else◌, List, [], ◌∷◌, ◌++◌, length, take}
+use Rattle.std.specs.List.{flat_map}
+use Rattle.cas_disk.specs.Disk.{Image}
+use Rattle.cas_atoms.specs.declared.atom.Mutation.{Mutation}
+use Rattle.cas_changes.specs.declared.entry.Entry.{Entry as ManifestEntry}
+use Rattle.cas_changes.specs.Saying.{said_by}
+use Rattle.cas_history.specs.declared.item.Item.{Item}
+use Rattle.cas_history.specs.declared.item.Item.TheVariants.{Wrote}
+use Rattle.cas_journal.specs.Stores.{IsStore}
+use Rattle.cas_room.specs.declared.event.Event.{Event}
+use Rattle.cas_room.specs.declared.event.Event.TheVariants as event
+use Rattle.cas_room.specs.Rooms.{accepted_in}
+use Rattle.cas_entries.specs.declared.entry.Entry.{Entry}
+use Rattle.cas_entries.specs.declared.entry.Entry.TheVariants as entry
+use Rattle.cas_sessions.specs.History.{History, shard_at}
+
+-- the entry of a mutation, as a shard's history tells it
+abbrev pub entry_told : ℕ → ℕ → Event → List Entry
+entry_told session call (event.Accepted m) = entry.Wrote session call m ∷ []
+entry_told session call (event.Changed c) = []
+
+-- the entry, where it is a mutation of this shard
+abbrev pub entry_in : ℕ → Item Event → List Entry
+entry_in n (Wrote shard session call number what) = if shard == n then entry_told session call what else []
+entry_in n other = []
+
+-- the entries of a shard, in the order of the list of all
+abbrev pub entries_in : ℕ → List (Item Event) → List Entry
+entries_in n list = flat_map (entry_in n) list
+
+-- the shards' entries are those of the list, and no others
+abbrev pub AreEntered : List (Item Event) → History → Type 0
+AreEntered list h = (n : ℕ) → n < length h.shards → (shard_at h n).entries ≡ entries_in n list
+
+-- the image tells of the tables of a run, in order, as they were defined, and at most of one definition more, for which the disk failed
+pub record HasTables (h : History) (entries : List ManifestEntry) : Type 0 where
+  pub told : List ManifestEntry
+  pub more : List ManifestEntry
+  pub are : entries ≡ told ++ more
+  pub tables : (said_by told).tables ≡ h.tables
+  pub few : length more ≤ 1
+  pub none : h.disk.stopped ≡ false → more ≡ []
+
+-- What a crash leaves of a run that began with these mutations and accepted those of the list: a store with all that began, and behind it a front
+-- of what was accepted, each whole, every one acknowledged by an `ok` among them; and where no write failed all of them.
+pub record IsLeft (found : List Mutation) (list : List (Item Event)) (h : History) (c : Image) : Type 0 where
+  pub entries : List ManifestEntry
+  pub tables : HasTables h entries
+  pub count : ℕ
+  pub least : h.acknowledged ≤ count
+  pub most : count ≤ length (accepted_in list)
+  pub all : h.disk.stopped ≡ false → count ≡ length (accepted_in list)
+  pub store : IsStore entries (found ++ take count (accepted_in list)) c
+
+-- What a crash leaves while a call is under way, of a store that stood for this history before it, and by whose end this list was accepted: a store with
+-- all that the store was opened with, and behind it a front of that list, each mutation whole, every one acknowledged before the call among them; its
+-- tables are those before the call, and at most one definition more, which is under way or for which the disk failed.
+pub record IsLeftAmid (found : List Mutation) (list : List (Item Event)) (h : History) (c : Image) : Type 0 where
+  pub entries : List ManifestEntry
+  pub told : List ManifestEntry
+  pub more : List ManifestEntry
+  pub are : entries ≡ told ++ more
+  pub tables : (said_by told).tables ≡ h.tables
+  pub few : length more ≤ 1
+  pub count : ℕ
+  pub least : h.acknowledged ≤ count
+  pub most : count ≤ length (accepted_in list)
+  pub store : IsStore entries (found ++ take count (accepted_in list)) c

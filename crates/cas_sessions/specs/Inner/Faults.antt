@@ -1,0 +1,21 @@
+-- What is answered that the room didn't take (own).
+use Rattle.std.specs.Prelude.{None, Err}
+use Rattle.cas_effects.specs.declared.refusal.TheConstants.{TOO_LARGE, TOO_MANY}
+use Rattle.cas_journal.specs.declared.fault.JournalFault.{JournalFault}
+use Rattle.cas_journal.specs.declared.fault.JournalFault.TheVariants.{TooLarge, TooMany, Stopped, Failed, Mem}
+use Rattle.cas_render.specs.declared.reply.Reply.{Reply}
+use Rattle.cas_sessions.specs.declared.answer.Fault.{Fault}
+use Rattle.cas_sessions.specs.declared.answer.Fault.TheVariants as fault_of
+use Rattle.cas_sessions.specs.Calls.{reply_of}
+
+-- what a write or a definition is answered that the room didn't take
+abbrev pub fault_for : JournalFault → Fault
+fault_for (TooLarge length limit) = fault_of.Refused TOO_LARGE
+fault_for (TooMany what limit) = fault_of.Refused TOO_MANY
+fault_for (Stopped first) = fault_of.Stopped first
+fault_for Failed = fault_of.Disk None
+fault_for Mem = fault_of.Mem
+
+-- and what is printed then
+abbrev pub reply_for : JournalFault → Reply
+reply_for f = reply_of (Err (fault_for f))

@@ -1,0 +1,32 @@
+-- What is always so of an open store (own).
+use Rattle.std.specs.Prelude.{◌≡◌, ◌+◌, ℕ, List, [], ◌∷◌, length, map}
+use mathlib.Core.HLevel.{Unit-prop, ×_prop}
+use Rattle.std.proofs.Props.{props}
+use Rattle.cas_types.specs.Limits.{IsShardCount}
+use Rattle.cas_types.specs.declared.schema.TableSchema.{TableSchema}
+use Rattle.cas_bind.specs.declared.bound.Limits.{Limits}
+use Rattle.cas_bind.specs.Tables.{AreInPlace, AreTables}
+use Rattle.cas_log.specs.Segment.{IsSize}
+use Rattle.cas_ledger.specs.Hands.{numbers}
+use Rattle.cas_shard.specs.declared.shard.Shard.{Shard}
+use Rattle.cas_sessions.specs.Nodes.{State}
+
+-- that each table's number is its place is shown in one way
+pub AreInPlace-prop : (n : ℕ) (ts : List TableSchema) → IsProp (AreInPlace n ts)
+AreInPlace-prop n [] = Unit-prop
+AreInPlace-prop n (t ∷ ts) = ×_prop (hlevel props) (AreInPlace-prop (n + 1) ts)
+
+pub ruleset sound_props = (props, AreInPlace-prop)
+
+-- its tables are tables, it has as many shards as its limits say, of each a seat with its last number, and segments of that size
+pub record IsSound (l : Limits) (ts : List TableSchema) (xs : List Shard) (seats counts : List ℕ) (segment : ℕ) : Type 0 where
+  pub tables : AreTables ts
+  pub count : length xs ≡ l.shards
+  pub some : IsShardCount l.shards
+  pub size : (segment ≡ l.segment) × IsSize l.segment
+  pub places : seats ≡ numbers 0 l.shards
+  pub numbers : counts ≡ map (λ x. x.number) xs
+
+-- the same of what contracts see of it
+abbrev pub IsSoundState : State → Type 0
+IsSoundState s = IsSound s.limits s.tables s.shards s.places s.numbers s.journal.size

@@ -1,0 +1,96 @@
+-- What a store that is open stands for, and how it goes on (own).
+use Rattle.std.specs.Prelude.{◌≡◌, ◌⊎◌, ◌≤◌, ◌<◌, ◌+◌, ◌^◌, ℕ, ℤ, List, [], ◌∷◌, ◌++◌, length, false, is_some, slice_get, Some}
+use Rattle.cas_types.specs.declared.schema.TableSchema.{TableSchema}
+use Rattle.cas_disk.specs.Disk.{Disk, Leaves}
+use Rattle.cas_atoms.specs.declared.atom.Mutation.{Mutation}
+use Rattle.cas_bind.specs.declared.bound.Limits.{Limits}
+use Rattle.cas_changes.specs.Saying.{said_by}
+use Rattle.cas_replay.specs.Grammar.{AreInOrder, AscendByOne, numbers_of}
+use Rattle.cas_journal.specs.declared.journal.Journal.{Journal}
+use Rattle.cas_journal.specs.Stores.{Told}
+use Rattle.cas_journal.specs.Reach.{reach_of}
+use Rattle.cas_history.specs.declared.item.Item.{Item}
+use Rattle.cas_render.specs.declared.reply.Failure.TheVariants as failure
+use Rattle.cas_render.specs.declared.reply.Reply.{Reply}
+use Rattle.cas_render.specs.declared.reply.Reply.TheVariants as reply
+use Rattle.cas_room.specs.declared.event.Event.{Event}
+use Rattle.cas_room.specs.Keeping.{Keeps}
+use Rattle.cas_room.specs.Rooms.{accepted_in}
+use Rattle.cas_shard.specs.declared.shard.Shard.{Shard}
+use Rattle.cas_shard.specs.Stands.{Stands}
+use Rattle.cas_sessions.specs.History.{History, DiskState, shard_at}
+use Rattle.cas_sessions.specs.Entered.{AreEntered, IsLeftAmid}
+
+-- What an open store is made of, as one of its sessions has it: its limits, its tables, its shards; the shards of their seats and the last number of
+-- each; the clock; the list of all that was accepted; the session, and how often it wrote; how many mutations the room accepted, and how many of them
+-- it said are committed; its journal, and how often its folder failed.
+pub record State : Type 0 where
+  pub limits : Limits
+  pub tables : List TableSchema
+  pub shards : List Shard
+  pub places : List ℕ
+  pub numbers : List ℕ
+  pub clock : ℤ
+  pub list : List (Item Event)
+  pub session : ℕ
+  pub calls : ℕ
+  pub accepted : ℕ
+  pub committed : ℕ
+  pub journal : Journal
+  pub faults : ℕ
+
+-- how often the session wrote, and the room accepted, can be counted once more
+abbrev pub IsFew : State → Type 0
+IsFew s = (s.calls + 1 < 2 ^ 64) × (s.accepted + 1 < 2 ^ 64)
+
+-- at most one mutation more was counted
+abbrev pub CountsOn : State → State → Type 0
+CountsOn s t = (t.calls ≤ s.calls + 1) × (t.accepted ≤ s.accepted + 1)
+
+-- how its disk stands
+abbrev pub disk_of : State → DiskState
+disk_of s = record { stopped = is_some s.journal.first; faults = s.faults; reach = reach_of s.journal }
+
+-- a store's memory stands for a history: each shard's state does, and the entries are those of the list
+pub record StandsFor (h : History) (s : State) : Type 0 where
+  pub limits : h.limits ≡ s.limits
+  pub tables : h.tables ≡ s.tables
+  pub clock : h.clock ≡ s.clock
+  pub session : h.session ≡ s.session
+  pub calls : h.calls ≡ s.calls
+  pub disk : h.disk ≡ disk_of s
+  pub count : length h.shards ≡ length s.shards
+  pub shards : (n : ℕ) (x : Shard) → slice_get s.shards n ≡ Some x → Stands h.tables (shard_at h n) x
+  pub entered : AreEntered s.list h
+
+-- A store's disk keeps what its history says. What the journal was told are the mutations that were found and then all that was accepted, by which
+-- each shard's next number goes on; the manifest tells of the tables. Each mutation that was acknowledged was said to be committed, and where no
+-- write failed all were.
+pub record LastsFor (h : History) (found : List Mutation) (s : State) (disk : Disk) (t : Told) : Type 0 where
+  pub keeps : Keeps s.journal disk s.list s.committed found t
+  pub tables : (said_by t.entries).tables ≡ s.tables
+  pub shards : (said_by t.entries).shards ≡ s.limits.shards
+  pub few : length t.failed ≤ 1
+  pub ordered : AreInOrder t.taken
+  pub next : (n : ℕ) (x : Shard) → slice_get s.shards n ≡ Some x → AscendByOne (numbers_of n t.taken ++ (x.number + 1) ∷ [])
+  pub counted : length (accepted_in s.list) ≤ s.accepted
+  pub acknowledged : (h.acknowledged ≤ s.committed) × (h.acknowledged ≤ length (accepted_in s.list))
+  pub whole : is_some s.journal.first ≡ false → length (accepted_in s.list) ≤ s.committed
+
+-- from one history to another the store went on: its memory stands for the other, and its disk keeps what that says
+pub record GoesOnTo (h after : History) (s t : State) (old new : Disk) : Type 0 where
+  pub stands : StandsFor after t
+  pub lasts : (found : List Mutation) (told : Told) → LastsFor h found s old told → (now : Told) × LastsFor after found t new now
+
+-- whichever history it stood for, it went on to one that follows it so
+abbrev pub Moves : (History → History → Type 0) → State → State → Disk → Disk → Type 0
+Moves Follows s t old new = (h : History) → StandsFor h s → (after : History) × Follows h after × GoesOnTo h after s t old new
+
+-- whatever a crash leaves while the call is under way has all that was acknowledged before it
+abbrev pub KeepsAll : State → State → Disk → Disk → Type 0
+KeepsAll s t old new =
+    (h : History) (found : List Mutation) (told : Told) → StandsFor h s → LastsFor h found s old told → Leaves (IsLeftAmid found t.list h) old new
+
+-- memory ran out before anything changed, or this follows
+abbrev pub OrWant : Reply → (History → History → Type 0) → History → History → Type 0
+OrWant r Follows h after = ((r ≡ reply.Failed failure.Memory) × (after ≡ h)) ⊎ Follows h after

@@ -1,0 +1,18 @@
+//! A store that is open over a folder that lasts, with the sessions that share it.
+#![tactic(auto)]
+
+mod answer;
+mod defining;
+mod laws;
+mod node;
+mod opened;
+mod reading;
+mod seats;
+mod statements;
+mod writing;
+
+pub use answer::{Answer, Fault, reply_of};
+pub use laws::sessions_share;
+pub use node::{Closed, Node, Pass, SESSION_LIMIT, Session, SessionFault, Stored};
+pub use opened::{Opened, start};
+pub use statements::Ask;

@@ -1,0 +1,156 @@
+//! A store that was opened, before its history has a name.
+
+ghost use Rattle.std.specs.Prelude.{◌≡◌, ◌≤◌, ℕ, ℤ, List, [], pos, length, map, IfOk, IfErr, None};
+ghost use Rattle.cas_types.specs.Limits.{IsShardCount};
+ghost use Rattle.cas_disk.specs.Counts.{Counted};
+ghost use Rattle.cas_disk.specs.Disk.{Image, During, Same};
+ghost use Rattle.cas_atoms.specs.declared.atom.Mutation.{Mutation as MutationOf};
+ghost use Rattle.cas_changes.specs.declared.entry.Entry.{Entry as EntryOf};
+ghost use Rattle.cas_log.specs.Segment.{IsSize};
+ghost use Rattle.cas_manifest.specs.Loading.{IsNew};
+ghost use Rattle.cas_journal.specs.Journals.{AreFree};
+ghost use Rattle.cas_journal.specs.Stores.{IsStore};
+ghost use Rattle.cas_ledger.specs.Hands.{numbers};
+ghost use Rattle.cas_history.specs.Items.{listed, log_list};
+ghost use Rattle.cas_bind.specs.Tables.{AreTables};
+ghost use Rattle.cas_opening.specs.Opening.{IsOfBytes, MayBeMadeNew, MayBeOpened};
+ghost use Rattle.cas_recovery.specs.Found.{IsUnfit};
+ghost use Rattle.cas_sessions.specs.Starts.{BeginsAs, IsOpenedAs};
+ghost use Rattle.cas_recovery.specs.Restored.{IsInMemory, IsStarted};
+ghost use Rattle.cas_sessions.specs.Inner.Sound.{sound_props};
+
+use crate::node::{Closed, Node, Stored};
+use crate::seats::{Seats, make_seats};
+use cas_bind::Limits;
+use cas_disk::{Count, Folder};
+use cas_history::Item;
+use cas_ledger::{Opened as Table, Store};
+use cas_opening::OpenFault;
+use cas_recovery::{Started, open_store};
+use cas_room::{Event, Room};
+use cas_types::Mem;
+use std::alloc::{AllocError, Global};
+
+/// A store that was opened: its tables and shards in memory, its journal, and the table of a new history,
+/// which `named` names. It can't be dropped.
+pub struct Opened<F: Folder> {
+    pub(crate) started: Started,
+    pub(crate) folder: F,
+    pub(crate) table: Table<Item<Event>>,
+    ghost free: { AreFree started.journal (F.disk folder) },
+    pub ghost runs: { (started.journal.first ≡ None) × (started.journal.size ≡ started.limits.segment) × IsSize started.limits.segment },
+    ghost good: { AreTables started.tables.items × (length started.shards.items ≡ started.limits.shards) × IsShardCount started.limits.shards } by { Prim.hlevel sound_props },
+}
+
+// A folder whose store wasn't opened.
+fn not_opened<F: Folder>(folder: F) -> Closed<F>
+    ensures folder { result.folder ≡ folder }
+    ensures none { (result.pass ≡ None) × (result.first ≡ None) }
+    ensures tally { ⟦<F::Tally as Count>⟧.number result.tally ≡ 0 }
+{
+    Closed {
+        folder,
+        pass: None,
+        tally: F::Tally::fresh(),
+        first: None,
+    }
+}
+
+/// Opens the store of a folder, or makes one where it has none: then it gets so many shards. What a crash
+/// left is made to last first. A store that has table files isn't opened yet.
+pub fn start<F: Folder>(
+    alloc: Global,
+    folder: F,
+    limits: &Limits,
+) -> Result<Opened<F>, (OpenFault, Closed<F>)>
+    requires shards { IsShardCount limits.now.shards }
+    requires size { IsSize limits.now.segment }
+    ensures started { IfOk result (λ o. IsStarted limits.now o.started.limits o.started.tables.items o.started.shards.items o.started.journal
+        (F.disk folder) (F.disk o.folder)) }
+    ensures refused { IfErr result (λ r. (name : _) (at : ℕ) → r.0 ≡ OpenFault.Bad name at → (c : Image) → (F.disk folder).reads c → IsOfBytes c
+        → IsUnfit limits.now.shards name at c) }
+    ensures unopened { IfErr result (λ r. (r.1.pass ≡ None) × (r.1.first ≡ None) × (⟦<F::Tally as Count>⟧.number r.1.tally ≡ 0)) }
+    ensures stays { (after : F) → IfOk result (λ o. after ≡ o.folder) → IfErr result (λ r. after ≡ r.1.folder)
+        → (c : Image) → (F.disk folder).reads c → IsOfBytes c → (entries : List EntryOf) (mutations : List MutationOf) → IsStore entries mutations c
+        → During (MayBeOpened entries mutations) (F.disk folder) (F.disk after) }
+    ensures made { (after : F) → IfOk result (λ o. after ≡ o.folder) → IfErr result (λ r. after ≡ r.1.folder)
+        → (c : Image) → (F.disk folder).reads c → IsOfBytes c → IsNew c → During (MayBeMadeNew limits.now.shards) (F.disk folder) (F.disk after) }
+    ensures untouched { (after : F) → IfOk result (λ o. after ≡ o.folder) → IfErr result (λ r. after ≡ r.1.folder)
+        → (c : Image) → (F.disk folder).reads c → IsOfBytes c → (IsNew c → ⊥)
+        → ((entries : List EntryOf) (mutations : List MutationOf) → IsStore entries mutations c → ⊥) → During Same (F.disk folder) (F.disk after) }
+    ensures count { IfOk result (λ o. F.faults_of folder ≤ F.faults_of o.folder) }
+    ensures failed { IfErr result (λ r. Counted (F.faults_of folder) (F.faults_of r.1.folder) (r.0 ≡ OpenFault.Failed)) }
+{
+    let mut folder = folder;
+    let started = match open_store(alloc, &mut folder, limits) {
+        Ok(started) => started,
+        Err(fault) => return Err((fault, not_opened(folder))),
+    };
+    match Table::new(alloc) {
+        Ok(table) => Ok(Opened {
+            started,
+            folder,
+            table,
+        }),
+        Err(AllocError) => Err((OpenFault::Mem, not_opened(folder))),
+    }
+}
+
+// A store in memory, with its seats and its room.
+fn assembled<F: Folder, J: Store>(started: Started, seats: Seats<J>, folder: F) -> Node<F, J>
+    requires free { AreFree started.journal (F.disk folder) }
+    requires runs { (started.journal.first ≡ None) × (started.journal.size ≡ started.limits.segment) × IsSize started.limits.segment }
+    requires good { AreTables started.tables.items × (length started.shards.items ≡ started.limits.shards) × IsShardCount started.limits.shards }
+    requires new { (seats.faults.number ≡ 0) × (seats.faults.committed ≡ 0) × (seats.faults.first ≡ 0) }
+    requires log { listed log_list seats.log.pass.saw ≡ [] }
+    requires places { map (λ f. f.shard) seats.fronts.items ≡ numbers 0 (length started.shards.items) }
+    requires numbers { map (λ f. f.number) seats.fronts.items ≡ map (λ x. x.number) started.shards.items }
+    ensures made { (session : ℕ) (clock : ℤ)
+        → IsOpenedAs started.limits started.tables.items started.shards.items started.journal (F.faults_of folder) (⟦<Node<F, J> as Stored>⟧.state result session 0 clock) }
+    ensures begins { (given : Limits) (entries : List EntryOf) (mutations : List MutationOf)
+        → IsInMemory given entries mutations started.limits started.tables.items started.shards.items
+        → (session : ℕ) → BeginsAs given entries mutations (F.disk folder) (⟦<Node<F, J> as Stored>⟧.state result session 0 (pos 0)) }
+    ensures folder { result.room.folder ≡ folder }
+    ensures sessions { ⟦<Node<F, J> as Stored>⟧.sessions result ≡ seats.maker.out }
+{
+    Node {
+        limits: started.limits,
+        tables: started.tables,
+        shards: started.shards,
+        fronts: seats.fronts,
+        room: Room::new(
+            folder,
+            started.journal,
+            seats.log,
+            seats.faults,
+            seats.numbers,
+        ),
+        maker: seats.maker,
+    }
+}
+
+impl<F: Folder> Opened<F> {
+    /// The open store, in the new history that `J` names, before any session is out. Where memory runs out
+    /// the folder is handed back.
+    pub fn named<J: Store>(self, alloc: Global) -> Result<Node<F, J>, Closed<F>>
+        requires table { self.table.seat.table_id ≡ J.table }
+        ensures made { IfOk result (λ n. (session : ℕ) (clock : ℤ) → IsOpenedAs self.started.limits self.started.tables.items self.started.shards.items
+            self.started.journal (F.faults_of self.folder) (⟦<Node<F, J> as Stored>⟧.state n session 0 clock)) }
+        ensures begins { IfOk result (λ n. (given : Limits) (entries : List EntryOf) (mutations : List MutationOf)
+            → IsInMemory given entries mutations self.started.limits self.started.tables.items self.started.shards.items
+            → (session : ℕ) → BeginsAs given entries mutations (F.disk self.folder) (⟦<Node<F, J> as Stored>⟧.state n session 0 (pos 0))) }
+        ensures folder { IfOk result (λ n. n.room.folder ≡ self.folder) }
+        ensures sessions { IfOk result (λ n. ⟦<Node<F, J> as Stored>⟧.sessions n ≡ 0) }
+        ensures kept { IfErr result (λ c. (c.folder ≡ self.folder) × (c.pass ≡ None) × (c.first ≡ None) × (⟦<F::Tally as Count>⟧.number c.tally ≡ 0)) }
+    {
+        let Opened {
+            started,
+            folder,
+            table,
+        } = self;
+        match make_seats::<J>(alloc, table, &started.shards) {
+            Ok(seats) => Ok(assembled(started, seats, folder)),
+            Err(Mem) => Err(not_opened(folder)),
+        }
+    }
+}
