@@ -1,18 +1,16 @@
--- Rows that are merged with no markers.
+-- Rows among which there are markers, or none.
 use Rattle.std.proofs.Common.{◌≡◌, ℕ, ◌==◌, Bool, true, Option, None, Some, List, [], ◌∷◌, length, refl, sym, ap, ◌∙◌, arith}
 use Rattle.std.proofs.lemmas.Bool.{eqb-true}
 use Rattle.cas_cell.specs.declared.deletion.Deletion.{Deletion}
 use Rattle.cas_cell.proofs.OrderLaws.{deletion_laws}
 use Rattle.cas_atoms.proofs.GreatestLemmas.{greater_none}
 use Rattle.cas_streams.specs.Weaving.{woven}
-use Rattle.cas_streams.specs.Joined.{Stream, joined, raised, opened, by_place}
+use Rattle.cas_streams.specs.Joined.{raised, opened, by_place}
 use Rattle.cas_streams.specs.Settled.{settled}
-use Rattle.cas_streams.specs.Merged.{merged}
 use Rattle.cas_streams.specs.declared.fragment.Fragment.{Fragment}
 use Rattle.cas_streams.specs.declared.fragment.Fragment.TheVariants as fragment
 use Rattle.cas_merge.specs.Told.{told_first, streams_told}
 use Rattle.cas_partition.specs.Inner.Sources.{TellMerge}
-use Rattle.cas_partition.proofs.Shown.{two_told}
 
 pub no_items : {X : Type 0} (b : Bool) (n : ℕ) (xs : List X) → b ≡ (n == 0) → n ≡ length xs → b ≡ true → xs ≡ []
 no_items b n [] e l t = refl
@@ -23,23 +21,15 @@ raised_none (fragment.Static columns) = refl
 raised_none (fragment.Row r) = refl
 raised_none (fragment.Marker cut d) = ap (fragment.Marker cut) (greater_none deletion_laws.orders d)
 
-woven_none : (now : Option Deletion) (fs : List Fragment) → woven by_place (record { left = now; right = None }) fs [] ≡ fs
+pub woven_none : (now : Option Deletion) (fs : List Fragment) → woven by_place (record { left = now; right = None }) fs [] ≡ fs
 woven_none now [] = refl
 woven_none now (f ∷ fs) = λ i. raised_none f i ∷ woven_none (opened now f) fs i
 
-joined_none : (s : Stream) → joined s (record { top = None; fragments = [] }) ≡ s
-joined_none s = λ i. record { top = greater_none deletion_laws.orders s.top i; fragments = woven_none None s.fragments i }
-
-pub one_tells : {I : Type 0} (tells : I → Option (List Fragment)) (tops : I → Option Deletion) (a : I) (parts : List I) (rows marks : List Fragment) (top : Option Deletion)
-    → parts ≡ a ∷ [] → tells a ≡ Some rows → tops a ≡ top → marks ≡ [] → TellMerge tells tops top rows marks parts
-one_tells tells tops a parts rows marks top e f g none =
-    let s : Stream = record { top = top; fragments = rows } in (
-      s ∷ [],
-      ap (streams_told tells tops) e ∙ (λ j. told_first (g j) (f j) (Some [])),
-      ap settled (sym (joined_none s)) ∙ ap (λ l. merged (s ∷ record { top = None; fragments = l } ∷ [])) (sym none),
-    )
-
-pub two_tell : {I : Type 0} (tells : I → Option (List Fragment)) (tops : I → Option Deletion) (a b : I) (parts : List I) (rows marks : List Fragment) (top : Option Deletion)
-    → parts ≡ a ∷ b ∷ [] → tells a ≡ Some rows → tells b ≡ Some marks → tops a ≡ top → tops b ≡ None → TellMerge tells tops top rows marks parts
-two_tell tells tops a b parts rows marks top e f g h i =
-    (record { top = top; fragments = rows } ∷ record { top = None; fragments = marks } ∷ [], two_told tells tops a b parts rows marks top None e f g h i, refl)
+-- one source that tells both streams woven
+pub one_tells : {I : Type 0} (tells : I → Option (List Fragment)) (tops : I → Option Deletion) (a : I) (parts : List I) (rows marks fragments : List Fragment) (top : Option Deletion)
+    → parts ≡ a ∷ [] → tells a ≡ Some fragments → tops a ≡ top → fragments ≡ woven by_place (record { left = None; right = None }) rows marks → TellMerge tells tops top rows marks parts
+one_tells tells tops a parts rows marks fragments top e f g both = (
+  record { top = top; fragments = fragments } ∷ [],
+  ap (streams_told tells tops) e ∙ (λ j. told_first (g j) (f j) (Some [])),
+  λ i. settled (record { top = sym (greater_none deletion_laws.orders top) i; fragments = both i }),
+)

@@ -196,3 +196,11 @@ numbers_decide s t a b p q k n =
     sym (ap (λ c. ordering_then c (within s t)) (fronts_decide s.row t.row a b (subst (λ f. (f ≡ no_front) ⊎ HasFront s.row f) (sym p) (row_front s.row))
     (subst (λ f. (f ≡ no_front) ⊎ HasFront t.row f) (sym q) (row_front t.row)) k n)
     ∙ differ a.number b.number (within s t) n)
+
+-- ---- cuts
+
+pub keys_decide : (k q : MapKey) (a b : Front) → a ≡ front_at k.order k.values → b ≡ front_at q.order q.values → a.kind ≡ b.kind → (a.number ≡ b.number → ⊥)
+    → int_cmp a.number b.number ≡ key_cmp k q
+keys_decide k q a b e f same n =
+    sym (fronts_decide (Some k) (Some q) a b (subst (λ g. (g ≡ no_front) ⊎ HasFront (Some k) g) (sym e) (row_front (Some k)))
+    (subst (λ g. (g ≡ no_front) ⊎ HasFront (Some q) g) (sym f) (row_front (Some q))) same n)

@@ -9,6 +9,7 @@ pub mod Forming
 pub mod Clipping
 pub mod Shown
 pub mod Going
+pub mod Statics
 pub mod Alone
 pub mod NoMore
 pub mod Fronts

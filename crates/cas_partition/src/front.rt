@@ -64,7 +64,8 @@ fn front_by(order: &Ordered, number: Option<i64>) -> Front
     Front { kind, number: n }
 }
 
-fn front_at(order: &[Ordered], values: &[Bytes]) -> Front
+/// That of these values.
+pub(crate) fn front_at(order: &[Ordered], values: &[Bytes]) -> Front
     ensures { result ≡ front_at order.now values.now }
 {
     match (order, values) {

@@ -2,6 +2,7 @@
 //! the cuts at which what is in force changes.
 #![tactic(auto)]
 
+mod cut_key;
 mod front;
 mod laws;
 mod partition;
@@ -9,7 +10,9 @@ mod ranges;
 mod slice;
 mod spot;
 mod spot_key;
+mod weaving;
 
+pub use cut_key::CutKey;
 pub use front::Front;
 pub use laws::slices_show;
 pub use partition::Partition;

@@ -9,6 +9,7 @@ ghost use Rattle.cas_partition.specs.Ranges.{lies, raised, with_cut, change_at, 
 ghost use Rattle.cas_partition.specs.Inner.Slots.{cut_of, changes_of, raised_at, last_force, force_below, force_behind, between, amid};
 ghost use Rattle.cas_partition.specs.Partitions.{marker};
 
+use crate::cut_key::CutKey;
 use cas_atoms::greater_deletion;
 use cas_bounds::{Cut, End, MapKey, Slice};
 use cas_cell::Deletion;
@@ -23,7 +24,7 @@ use std::ops::Bound;
 /// deletion is in force, or none. Contracts see it as the list of these changes.
 #[derive(Drop)]
 pub struct Ranges {
-    cuts: BTreeMap<MapKey, usize>,
+    cuts: BTreeMap<CutKey, usize>,
     forces: Vec<Option<Deletion>>,
 }
 
@@ -51,7 +52,7 @@ fn force_at(forces: &[Option<Deletion>], slot: usize) -> Option<Deletion>
 }
 
 // What is in force from the last of these cuts on.
-fn last_force(forces: &[Option<Deletion>], cuts: Range<'_, MapKey, usize>) -> Option<Deletion>
+fn last_force(forces: &[Option<Deletion>], cuts: Range<'_, CutKey, usize>) -> Option<Deletion>
     ensures { result ≡ last_force None cuts.entry forces.now }
 {
     let mut rest = cuts;
@@ -63,9 +64,9 @@ fn last_force(forces: &[Option<Deletion>], cuts: Range<'_, MapKey, usize>) -> Op
 
 // What is in force right before the key.
 fn force_below(
-    cuts: &BTreeMap<MapKey, usize>,
+    cuts: &BTreeMap<CutKey, usize>,
     forces: &[Option<Deletion>],
-    key: &MapKey,
+    key: &CutKey,
 ) -> Option<Deletion>
     ensures { result ≡ force_below key.now None cuts.now.entries forces.now }
 {
@@ -74,9 +75,9 @@ fn force_below(
 
 // What is in force right behind the key.
 fn force_behind(
-    cuts: &BTreeMap<MapKey, usize>,
+    cuts: &BTreeMap<CutKey, usize>,
     forces: &[Option<Deletion>],
-    key: &MapKey,
+    key: &CutKey,
 ) -> Option<Deletion>
     ensures { result ≡ force_behind key.now None cuts.now.entries forces.now }
 {
@@ -93,10 +94,10 @@ fn raise_slot(forces: &mut Vec<Option<Deletion>>, slot: usize, d: Deletion)
 
 // Raises what is in force from each cut between the keys on.
 fn raise_between(
-    cuts: &BTreeMap<MapKey, usize>,
+    cuts: &BTreeMap<CutKey, usize>,
     forces: &mut Vec<Option<Deletion>>,
-    from: &MapKey,
-    to: &MapKey,
+    from: &CutKey,
+    to: &CutKey,
     d: Deletion,
 )
     ensures { forces.new.items ≡ raised_at d (between from.now to.now cuts.now.entries) forces.old.items }
@@ -143,13 +144,13 @@ fn add_change(
 fn add_markers(
     markers: &mut Vec<Fragment>,
     forces: &[Option<Deletion>],
-    cuts: Range<'_, MapKey, usize>,
+    cuts: Range<'_, CutKey, usize>,
 ) -> Result<(), AllocError>
     ensures { OnOk result (markers.new.items ≡ markers.old.items ++ map marker (changes_of cuts.entry forces.now)) }
 {
     let mut rest = cuts;
     while let Some((key, slot)) = rest.next() {
-        let cut = cut_of(key)?;
+        let cut = cut_of(key.key())?;
         markers.push(Fragment::Marker(cut, force_at(forces, *slot)))?;
     }
     Ok(())
@@ -158,10 +159,10 @@ fn add_markers(
 // The markers of the cuts between two keys.
 fn add_amid(
     markers: &mut Vec<Fragment>,
-    cuts: &BTreeMap<MapKey, usize>,
+    cuts: &BTreeMap<CutKey, usize>,
     forces: &[Option<Deletion>],
-    low: &MapKey,
-    high: &MapKey,
+    low: &CutKey,
+    high: &CutKey,
 ) -> Result<(), AllocError>
     requires { key_cmp low.now high.now ≡ Less }
     ensures { OnOk result (markers.new.items ≡ markers.old.items ++ map marker (changes_of (amid low.now high.now cuts.now.entries) forces.now)) }
@@ -189,7 +190,7 @@ impl Ranges {
         ensures there { OnOk result (self.new ≡ with_cut cut self.old) }
         ensures err { OnErr result (self.new ≡ self.old) }
     {
-        let key = MapKey::of_cut(cut);
+        let key = CutKey::of(cut);
         if self.cuts.contains_key(&key) {
             return Ok(());
         }
@@ -205,8 +206,8 @@ impl Ranges {
     pub fn raise(&mut self, lo: Cut, hi: Cut, d: Deletion)
         ensures { self.new ≡ raised (lies lo hi) d self.old }
     {
-        let from = MapKey::of_cut(lo);
-        let to = MapKey::of_cut(hi);
+        let from = CutKey::of(lo);
+        let to = CutKey::of(hi);
         raise_between(&self.cuts, &mut self.forces, &from, &to, d);
     }
 
@@ -215,8 +216,8 @@ impl Ranges {
     pub(crate) fn markers(&self, alloc: Global, slice: &Slice) -> Result<Vec<Fragment>, AllocError>
         ensures { IfOk result (λ v. v.items ≡ map marker (clipped slice.now self.now)) }
     {
-        let low = MapKey::of_cut(slice.lo.copied()?);
-        let high = MapKey::of_cut(slice.hi.copied()?);
+        let low = CutKey::of(slice.lo.copied()?);
+        let high = CutKey::of(slice.hi.copied()?);
         let mut markers = Vec::new(alloc);
         if low.cmp(&high).is_lt() {
             let begun = force_behind(&self.cuts, &self.forces, &low);

@@ -8,8 +8,7 @@ ghost use Rattle.cas_streams.specs.declared.fragment.Fragment.{Fragment};
 ghost use Rattle.cas_streams.specs.Joined.{joined_fragment};
 ghost use Rattle.cas_partition.specs.Spots.{spot_cmp, column_at, columns_at, cells_at, said, row_piece};
 ghost use Rattle.cas_partition.specs.Slices.{grouped, grouped_from, meet, AreRowsOf, Shows};
-ghost use Rattle.cas_partition.specs.Ranged.{piece_of, spot_at, spots_below, spots_between, statics_of, rows_between};
-ghost use Rattle.cas_partition.specs.Inner.Firsts.{with_first};
+ghost use Rattle.cas_partition.specs.Ranged.{piece_of, spot_at, spots_between, statics_of, rows_between};
 ghost use Rattle.cas_partition.specs.Inner.Entries.{lent_piece, GoesOn, EndsIn, Takes, TakesLast, grouped_on, ends_as, are_below};
 ghost use Rattle.cas_partition.specs.Inner.Sources.{TellMerge};
 ghost use Rattle.cas_streams.specs.declared.fragment.Fragment.TheVariants as fragment;
@@ -17,6 +16,7 @@ ghost use Rattle.cas_streams.specs.declared.fragment.Fragment.TheVariants as fra
 use crate::partition::Partition;
 use crate::spot::{Content, Spot};
 use crate::spot_key::SpotKey;
+use crate::weaving::{first_of, woven};
 use cas_atoms::{ColumnRef, PathCell, Row, RowColumn};
 use cas_bounds::{Clustering, End, MapKey, RowOrder, Slice, Values, compare_points};
 use cas_cell::{Cell, Deletion};
@@ -37,14 +37,17 @@ fn cells_at(
 ) -> Result<Vec<PathCell>, AllocError>
     ensures { IfOk result (λ v. v.items ≡ cells_at path.now cell.now) }
 {
-    let mut cells = Vec::new(alloc);
-    if let (Some(path), Some(cell)) = (path, cell) {
-        cells.push(PathCell {
-            path: path.clone()?,
-            cell: cell.copied()?,
-        })?;
+    match (path, cell) {
+        (Some(path), Some(cell)) => {
+            let mut cells = Vec::with_capacity(alloc, 1)?;
+            cells.push(PathCell {
+                path: path.clone()?,
+                cell: cell.copied()?,
+            })?;
+            Ok(cells)
+        }
+        _ => Ok(Vec::new(alloc)),
     }
-    Ok(cells)
 }
 
 // What is said of a column, or of a cell of it.
@@ -336,7 +339,7 @@ fn add_range<'a>(
     Ok(())
 }
 
-// The key below all rows, and that of a cut.
+// The key of a cut, as a spot.
 fn at(row: MapKey) -> SpotKey
     ensures { result ≡ spot_at row }
 {
@@ -347,17 +350,22 @@ fn at(row: MapKey) -> SpotKey
     })
 }
 
-// What is said at the spots below one.
-fn add_below<'a>(
+// What is said of the static row, which stands before all rows.
+fn add_static<'a>(
     entries: &mut Vec<(&'a Spot, &'a Content)>,
     spots: &'a BTreeMap<SpotKey, Content>,
-    first: &SpotKey,
 ) -> Result<(), AllocError>
-    ensures added { OnOk result (map lent_piece entries.new.items ≡ map lent_piece entries.old.items
-        ++ map piece_of (spots_below first.now spots.now.entries)) }
-    ensures sorted { IsStrictlySortedBy spot_cmp (keys_of spots.now.entries) }
+    ensures added { OnOk result (map lent_piece entries.new.items ≡ map lent_piece entries.old.items ++ map piece_of (statics_of spots.now.entries)) }
+    ensures sorted { OnOk result (IsStrictlySortedBy spot_cmp (keys_of spots.now.entries)) }
 {
-    add_range(entries, spots.range(..first))
+    let mut rest = spots.iter();
+    while let Some((key, content)) = rest.next() {
+        if key.spot().row.is_some() {
+            return Ok(());
+        }
+        entries.push((key.spot(), content))?;
+    }
+    Ok(())
 }
 
 // What is said at the spots between two.
@@ -377,18 +385,11 @@ fn add_between<'a>(
     }
 }
 
-// The next fragment, and the others stay.
-fn first_of(rest: &mut IntoIter<Fragment>) -> Option<Fragment>
-    ensures { with_first result (into_iter_items rest.new) ≡ into_iter_items rest.old }
-{
-    rest.next()
-}
-
 // The pieces of entries put together one after another.
 fn few_rows(alloc: Global, entries: &[(&Spot, &Content)]) -> Result<Vec<Fragment>, AllocError>
     ensures { IfOk result (λ v. v.items ≡ grouped None (map lent_piece entries.now)) }
 {
-    let mut rows = Vec::new(alloc);
+    let mut rows = Vec::with_capacity(alloc, entries.len() / 2)?;
     let mut rest = entries;
     while let [(spot, content), others @ ..] = rest {
         add_entry(alloc, &mut rows, spot, content)?;
@@ -487,21 +488,16 @@ fn rows_in(
         ++ rows_between slice.now.lo slice.now.hi spots.now.entries)) v.items) }
     ensures sorted { OnOk result (IsStrictlySortedBy spot_cmp (keys_of spots.now.entries)) }
 {
-    let first = at(MapKey {
-        values: Values::from_vec(Vec::new(alloc)),
-        end: End::Before,
-        order: RowOrder::from_vec(Vec::new(alloc)),
-    });
     let low = at(MapKey::of_cut(slice.lo.copied()?));
     let high = at(MapKey::of_cut(slice.hi.copied()?));
     let mut entries = Vec::new(alloc);
-    add_below(&mut entries, spots, &first)?;
+    add_static(&mut entries, spots)?;
     add_between(&mut entries, spots, &low, &high)?;
     rows_of(alloc, &entries)
 }
 
-// The rows under the deletion of the whole, and the markers where there are some.
-fn sources(
+// What a slice shows, as one source: the rows under the deletion of the whole, among them the markers where there are some.
+fn source(
     alloc: Global,
     top: Option<Deletion>,
     rows: Vec<Fragment>,
@@ -509,12 +505,9 @@ fn sources(
 ) -> Result<Vec<Part>, AllocError>
     ensures { IfOk result (λ v. TellMerge ⟦<Part as FragmentSource>⟧.to_come ⟦<Part as FragmentSource>⟧.over_all top rows.items marks.items v.items) }
 {
-    let mut sources = Vec::new(alloc);
-    sources.push(Part::new(top, rows))?;
-    if marks.is_empty() {
-        return Ok(sources);
-    }
-    sources.push(Part::new(None, marks))?;
+    let fragments = woven(alloc, rows, marks)?;
+    let mut sources = Vec::with_capacity(alloc, 1)?;
+    sources.push(Part::new(top, fragments))?;
     Ok(sources)
 }
 
@@ -526,6 +519,6 @@ impl Partition {
     {
         let rows = rows_in(alloc, &self.spots, slice)?;
         let marks = self.ranges.markers(alloc, slice)?;
-        Ok(Merger::new(sources(alloc, self.top, rows, marks)?))
+        Ok(Merger::new(source(alloc, self.top, rows, marks)?))
     }
 }

@@ -8,7 +8,7 @@ use Rattle.cas_partition.proofs.partition.Partition.slice.Goals as goal
 pub returns : goal.returns
 returns c =
     let rows = c.in_ok-rows.rows.items in
-    let told = c.in_ok-sources.ensures in
+    let told = c.in_ok-source.ensures in
     let ss : List Stream = told.0 in
     let whole : merged ss ≡ merged (slice_streams c.args.slice.now c.args.self.now rows) =
     told.2 ∙ ap (λ l. merged (record { top = c.args.self.now.top; fragments = rows } ∷ record { top = None; fragments = l } ∷ [])) c.in_ok-marks.ensures in (

@@ -4,7 +4,7 @@ use Rattle.cas_bounds.specs.Keys.{key_cmp}
 use Rattle.cas_partition.specs.Ranges.{key_of, change_at, clipped}
 use Rattle.cas_partition.specs.Partitions.{marker}
 use Rattle.cas_partition.specs.Inner.Slots.{changes_of, force_below, force_behind, amid}
-use Rattle.cas_partition.proofs.Slots.{as_key, slice_of_slots, empty_slice}
+use Rattle.cas_partition.proofs.Slots.{slice_of_slots, empty_slice}
 use Rattle.cas_partition.proofs.Clipping.{marks_in_turn}
 use Rattle.cas_partition.proofs.ranges.Ranges.markers.Goals as goal
 use Rattle.cas_partition.proofs.ranges.Ranges.markers.Goals.{then-is_lt+in_ok-add_change+in_ok-add_amid+in_ok-add_change-2, else-is_lt}
@@ -14,10 +14,10 @@ returns c =
     let s = c.args.slice.now in
     let es = c.self.inside.cuts.entries in
     let fs = c.self.inside.forces.items in
-    let low = c.of_cut-low.result in
-    let high = c.of_cut-high.result in
-    let at_low : low ≡ key_of s.lo = as_key low c.in_ok-copied.field-0 c.of_cut-low.ensures.point c.of_cut-low.ensures.order ∙ ap key_of c.in_ok-copied.ensures in
-    let at_high : high ≡ key_of s.hi = as_key high c.in_ok-copied-2.field-0 c.of_cut-high.ensures.point c.of_cut-high.ensures.order ∙ ap key_of c.in_ok-copied-2.ensures in
+    let low = c.of-low.result in
+    let high = c.of-high.result in
+    let at_low : low ≡ key_of s.lo = c.of-low.ensures ∙ ap key_of c.in_ok-copied.ensures in
+    let at_high : high ≡ key_of s.hi = c.of-high.ensures ∙ ap key_of c.in_ok-copied-2.ensures in
     elim c.if-is_lt.branch [
       | then-is_lt+in_ok-add_change+in_ok-add_amid+in_ok-add_change-2 w ↦
           let below : is_lt (key_cmp low high) ≡ true = sym (c.is_lt.ensures ∙ ap is_lt c.cmp.ensures) ∙ w.if-is_lt.true in

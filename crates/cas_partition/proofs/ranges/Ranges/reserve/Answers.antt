@@ -1,14 +1,13 @@
-use Rattle.std.proofs.Common.{◌≡◌, None, sym, ap, ◌∙◌}
-use Rattle.cas_partition.specs.Ranges.{key_of, with_cut}
+use Rattle.std.proofs.Common.{None, sym, ap, ◌∙◌}
+use Rattle.cas_partition.specs.Ranges.{with_cut}
 use Rattle.cas_partition.specs.Inner.Slots.{force_below}
-use Rattle.cas_partition.proofs.Slots.{as_key, already, more_whole, more_same, put_whole, put_in, on_err}
+use Rattle.cas_partition.proofs.Slots.{already, more_whole, more_same, put_whole, put_in, on_err}
 use Rattle.cas_partition.proofs.ranges.Ranges.reserve.Goals as goal
 
 pub returns-then-contains_key-clause-there : goal.returns-then-contains_key-clause-there
 returns-then-contains_key-clause-there c =
-    let key : c.of_cut-key.result ≡ key_of c.args.cut = as_key c.of_cut-key.result c.args.cut c.of_cut-key.ensures.point c.of_cut-key.ensures.order in
     sym c.self.view_is
-    ∙ already c.args.cut c.of_cut-key.result c.self.inside.cuts.entries c.self.inside.forces.items key c.self.invariant.cuts (sym c.contains_key.ensures ∙ c.if-contains_key.true)
+    ∙ already c.args.cut c.of-key.result c.self.inside.cuts.entries c.self.inside.forces.items c.of-key.ensures c.self.invariant.cuts (sym c.contains_key.ensures ∙ c.if-contains_key.true)
     ∙ ap (with_cut c.args.cut) c.self.view_is
 
 pub invariant_of-self-in_err-insert : goal.invariant_of-self-in_err-insert
@@ -23,14 +22,12 @@ returns-in_err-insert-clause-err c =
 
 pub invariant_of-self-2 : goal.invariant_of-self-2
 invariant_of-self-2 c =
-    let key : c.of_cut-key.result ≡ key_of c.args.cut = as_key c.of_cut-key.result c.args.cut c.of_cut-key.ensures.point c.of_cut-key.ensures.order in
-    put_whole c.args.cut c.of_cut-key.result c.self.inside.cuts.entries c.insert.new.self.entries c.self.inside.forces.items c.push.new.self.items c.force_below-force.result c.len-slot.result key (c.len-slot.ensures ∙ c.self.inside.forces.ok.0)
+    put_whole c.args.cut c.of-key.result c.self.inside.cuts.entries c.insert.new.self.entries c.self.inside.forces.items c.push.new.self.items c.force_below-force.result c.len-slot.result c.of-key.ensures (c.len-slot.ensures ∙ c.self.inside.forces.ok.0)
     c.in_ok-insert.ensures.entries c.in_ok-push.ensures.items c.in_ok-insert.ensures.ordered c.self.invariant
 
 pub returns-clause-there : goal.returns-clause-there
 returns-clause-there c =
-    let key : c.of_cut-key.result ≡ key_of c.args.cut = as_key c.of_cut-key.result c.args.cut c.of_cut-key.ensures.point c.of_cut-key.ensures.order in
-    put_in c.args.cut c.of_cut-key.result c.self.inside.cuts.entries c.insert.new.self.entries c.self.inside.forces.items c.push.new.self.items c.force_below-force.result c.len-slot.result key (c.len-slot.ensures ∙ c.self.inside.forces.ok.0)
-    c.in_ok-insert.ensures.entries c.in_ok-push.ensures.items (c.force_below-force.ensures ∙ ap (force_below c.of_cut-key.result None c.self.inside.cuts.entries) c.deref.ensures.value)
+    put_in c.args.cut c.of-key.result c.self.inside.cuts.entries c.insert.new.self.entries c.self.inside.forces.items c.push.new.self.items c.force_below-force.result c.len-slot.result c.of-key.ensures (c.len-slot.ensures ∙ c.self.inside.forces.ok.0)
+    c.in_ok-insert.ensures.entries c.in_ok-push.ensures.items (c.force_below-force.ensures ∙ ap (force_below c.of-key.result None c.self.inside.cuts.entries) c.deref.ensures.value)
     (sym c.contains_key.ensures ∙ c.if-contains_key.false) c.self.invariant
     ∙ ap (with_cut c.args.cut) c.self.view_is
