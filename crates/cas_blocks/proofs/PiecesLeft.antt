@@ -15,7 +15,7 @@ use Rattle.cas_fragments.specs.Blocks.{past_all, is_full}
 use Rattle.cas_blocks.specs.Reading.{left_at, fragments_on}
 use Rattle.cas_blocks.specs.Cutting.{is_behind, up_to_end, cut_from}
 use Rattle.cas_blocks.specs.Inner.Steps.{reached, Answers}
-use Rattle.cas_blocks.specs.Inner.Pieces.{told_on, IsBadBlock, IfBad, with_first}
+use Rattle.cas_blocks.specs.Inner.Pieces.{pieces_left, told_on, IsBadBlock, IfBad, with_first}
 use Rattle.cas_blocks.specs.Inner.Windows.{Begun}
 use Rattle.cas_blocks.specs.declared.fault.TableFault.{TableFault}
 use Rattle.cas_blocks.specs.declared.fault.TableFault.TheVariants as table_fault
@@ -29,6 +29,14 @@ some_is x y e = cc
 map_none : {X : Type 0} (o : Option (List X)) → option_map (λ fs. [] ++ fs) o ≡ o
 map_none None = refl
 map_none (Some x) = refl
+
+-- where the partition goes on and nothing is left of the block at hand, what is told is of the blocks behind it
+pub told_there : (order : List Ordered) (columns : List Column) (end : ℕ) (contents : Option (List ℕ)) (onward : Option Onward) (o : Onward)
+    (rest fs : List Fragment) → onward ≡ Some o → rest ≡ [] → pieces_left order columns end contents onward rest ≡ Some fs
+    → told_on order columns end contents o [] ≡ Some fs
+told_there order columns end contents onward o rest fs is empty told =
+    subst (λ (gs : List Fragment). told_on order columns end contents o gs ≡ Some fs) empty
+    (subst (λ (x : Option Onward). pieces_left order columns end contents x rest ≡ Some fs) is told)
 
 module _ (order : List Ordered) (columns : List Column) (number end : ℕ) where
   -- at the partition's end nothing is left

@@ -1,14 +1,13 @@
 //! A slice of a partition in a table's file, as a stream.
 
 ghost use Rattle.std.specs.Prelude.{◌≡◌, ◌+◌, List as ListOf, Some, None, true, false, length, IsErrOf};
-ghost use Rattle.std.specs.Vec.Iter.{into_iter_items};
 ghost use Rattle.cas_disk.specs.Counts.{Counted};
 ghost use Rattle.cas_streams.specs.Sources.{TakesFirst, Shrinks, KeepsFault};
 ghost use Rattle.cas_streams.specs.declared.fragment.Fragment.{Fragment};
 ghost use Rattle.cas_fragments.specs.Laws.{static_of};
 ghost use Rattle.cas_blocks.specs.Reading.{slice_of};
-ghost use Rattle.cas_blocks.specs.Inner.Pieces.{pieces_left, pieces_room, IsBadBlock, IfBad};
-ghost use Rattle.cas_blocks.specs.Inner.Windows.{window, window_room, static_part, behind_static};
+ghost use Rattle.cas_blocks.specs.Inner.Pieces.{IsBadBlock, IfBad};
+ghost use Rattle.cas_blocks.specs.Inner.Windows.{slice_left, slice_room, static_part, behind_static};
 
 use crate::fault::TableFault;
 use crate::file::TableFile;
@@ -30,8 +29,9 @@ pub struct Blocks<'a, F: Sealed> {
     // Where something is still to be given of the static row.
     statics: Option<List<RowColumn>>,
     window: Window,
-    pieces: Pieces<'a, F>,
     fault: Option<TableFault>,
+    file: TableFile<'a, F>,
+    tally: F::Tally,
 }
 
 // Static columns, where there are some.
@@ -73,7 +73,7 @@ impl<'a, F: Sealed> Blocks<'a, F> {
             (F.contents file.entry.sealed.now) file.entry.end statics slice block }
         ensures top { ⟦<Blocks<'a, F> as FragmentSource>⟧.over_all result ≡ top }
         ensures sound { ⟦<Blocks<'a, F> as FragmentSource>⟧.broken_by result ≡ None }
-        ensures tally { result.pieces.tally ≡ tally }
+        ensures tally { result.tally ≡ tally }
     {
         let rest = Vec::new(file.alloc).into_iter();
         let statics = some_columns(statics);
@@ -89,14 +89,11 @@ impl<'a, F: Sealed> Blocks<'a, F> {
                 phase,
                 force,
                 ahead: None,
-            },
-            pieces: Pieces {
-                file,
-                onward,
-                rest,
-                tally,
+                pieces: Pieces { onward, rest },
             },
             fault: None,
+            file,
+            tally,
         }
     }
 
@@ -108,41 +105,35 @@ impl<'a, F: Sealed> Blocks<'a, F> {
             → TakesFirst fs (⟦<Blocks<'a, F> as FragmentSource>⟧.to_come self.new) result }
         ensures sound { (fs : ListOf Fragment) → ⟦<Blocks<'a, F> as FragmentSource>⟧.to_come self.old ≡ Some fs → IfBad (λ n at. ⊥) result }
         ensures ends { Shrinks (⟦<Blocks<'a, F> as FragmentSource>⟧.at_most self.old) (⟦<Blocks<'a, F> as FragmentSource>⟧.at_most self.new) result }
-        ensures count { Counted (F.Tally.number self.old.pieces.tally) (F.Tally.number self.new.pieces.tally) (IsErrOf result TableFault.Read) }
-        ensures bad { IfBad (IsBadBlock self.old.pieces.file.order.now self.old.pieces.file.columns.now self.old.pieces.file.number self.old.pieces.file.end
-            (F.contents self.old.pieces.file.sealed.now) self.new.pieces.onward) result }
+        ensures count { Counted (F.Tally.number self.old.tally) (F.Tally.number self.new.tally) (IsErrOf result TableFault.Read) }
+        ensures bad { IfBad (IsBadBlock self.old.file.order.now self.old.file.columns.now self.old.file.number self.old.file.end
+            (F.contents self.old.file.sealed.now) self.new.window.pieces.onward) result }
     {
         match self.statics.take() {
             Some(columns) => Ok(Some(Fragment::Static(columns))),
-            None => self.window.next(&mut self.pieces),
+            None => self.window.next(&self.file, &mut self.tally),
         }
     }
 
     /// The tally that was handed in, with the faults of the reads.
     pub fn end(self) -> F::Tally
-        ensures { result ≡ self.entry.pieces.tally }
+        ensures { result ≡ self.entry.tally }
     {
-        let pieces = self.pieces;
-        pieces.tally
+        self.tally
     }
 }
 
 impl<'a, F: Sealed> FragmentSource for Blocks<'a, F> {
     ghost use Rattle.std.specs.Prelude.{◌+◌, length};
-    ghost use Rattle.std.specs.Vec.Iter.{into_iter_items};
-    ghost use Rattle.cas_blocks.specs.Inner.Pieces.{pieces_left, pieces_room};
-    ghost use Rattle.cas_blocks.specs.Inner.Windows.{window, window_room, static_part, behind_static};
+    ghost use Rattle.cas_blocks.specs.Inner.Windows.{slice_left, slice_room, static_part, behind_static};
 
     type Fault = TableFault;
 
-    ghost to_come = { λ b. behind_static b.statics (window b.pieces.file.order.now b.window.slice b.window.phase b.window.force b.window.ahead
-        (pieces_left b.pieces.file.order.now b.pieces.file.columns.now b.pieces.file.end (F.contents b.pieces.file.sealed.now) b.pieces.onward
-        (into_iter_items b.pieces.rest))) };
+    ghost to_come = { λ b. behind_static b.statics (slice_left b.file.order.now b.file.columns.now b.file.end (F.contents b.file.sealed.now) b.window) };
 
     ghost over_all = { λ b. b.top };
 
-    ghost at_most = { λ b. length (static_part b.statics) + window_room b.window.phase b.window.ahead
-        (pieces_room b.pieces.file.end b.pieces.onward (into_iter_items b.pieces.rest)) };
+    ghost at_most = { λ b. length (static_part b.statics) + slice_room b.file.end b.window };
 
     ghost broken_by = { λ b. b.fault };
 
@@ -160,10 +151,10 @@ impl<'a, F: Sealed> FragmentSource for Blocks<'a, F> {
         ensures faults { KeepsFault (⟦<Blocks<'a, F> as FragmentSource>⟧.broken_by self.old) (⟦<Blocks<'a, F> as FragmentSource>⟧.broken_by self.new) result }
         ensures sound { self.old.fault ≡ None → (fs : ListOf Fragment) → ⟦<Blocks<'a, F> as FragmentSource>⟧.to_come self.old ≡ Some fs
             → IfBad (λ n at. ⊥) result }
-        ensures count { Counted (F.Tally.number self.old.pieces.tally) (F.Tally.number self.new.pieces.tally)
+        ensures count { Counted (F.Tally.number self.old.tally) (F.Tally.number self.new.tally)
             ((self.old.fault ≡ None) × IsErrOf result TableFault.Read) }
-        ensures bad { self.old.fault ≡ None → IfBad (IsBadBlock self.old.pieces.file.order.now self.old.pieces.file.columns.now self.old.pieces.file.number
-            self.old.pieces.file.end (F.contents self.old.pieces.file.sealed.now) self.new.pieces.onward) result }
+        ensures bad { self.old.fault ≡ None → IfBad (IsBadBlock self.old.file.order.now self.old.file.columns.now self.old.file.number
+            self.old.file.end (F.contents self.old.file.sealed.now) self.new.window.pieces.onward) result }
     {
         if let Some(fault) = self.fault {
             return Err(fault);

@@ -1,15 +1,16 @@
 //! A slice on the way through a partition's fragments.
 
-ghost use Rattle.std.specs.Prelude.{◌≡◌, ◌+◌, List, Some, None, IsErrOf};
-ghost use Rattle.std.specs.Vec.Iter.{into_iter_items};
+ghost use Rattle.std.specs.Prelude.{◌≡◌, ◌+◌, ◌≤◌, List, Some, length, IfOk, IsErrOf};
+ghost use Rattle.std.specs.Option.{option_to_list};
 ghost use Rattle.cas_disk.specs.Counts.{Counted};
 ghost use Rattle.cas_streams.specs.Sources.{TakesFirst, Shrinks};
 ghost use Rattle.cas_streams.specs.declared.fragment.Fragment.{Fragment};
-ghost use Rattle.cas_blocks.specs.Inner.Pieces.{pieces_left, pieces_room, IsBadBlock, IfBad};
-ghost use Rattle.cas_blocks.specs.Inner.Windows.{window, window_room};
+ghost use Rattle.cas_blocks.specs.Inner.Pieces.{IsBadBlock, IfBad};
+ghost use Rattle.cas_blocks.specs.Inner.Windows.{slice_left, slice_room, Enters};
 
 use crate::cutting::{closing, opening};
 use crate::fault::TableFault;
+use crate::file::TableFile;
 use crate::pieces::Pieces;
 use crate::seeking::{next_inside, seek};
 use cas_bounds::Slice;
@@ -25,105 +26,83 @@ pub enum Phase {
     Over,
 }
 
-/// A slice, how far a read of it came, the range deletion in force there, and a fragment that was read
-/// ahead.
+/// A slice, how far a read of it came, the range deletion in force there, a fragment that was read
+/// ahead, and what is to be read behind that.
 #[derive(Drop)]
 pub struct Window {
     pub slice: Slice,
     pub phase: Phase,
     pub force: Option<Deletion>,
     pub ahead: Option<Fragment>,
+    pub pieces: Pieces,
 }
 
 impl Window {
-    // The next fragment, of a read that is in the slice.
-    fn go_on<F: Sealed>(
+    // Goes into the slice, where the read is before it: gives the marker with which it begins, if
+    // something is in force there.
+    fn enter<F: Sealed>(
         &mut self,
-        pieces: &mut Pieces<'_, F>,
+        file: &TableFile<'_, F>,
+        tally: &mut F::Tally,
     ) -> Result<Option<Fragment>, TableFault>
-        requires { self.old.phase ≡ Phase.Inside }
-        ensures file { pieces.new.file ≡ pieces.old.file }
-        ensures first { (fs : List Fragment) → window pieces.old.file.order.now self.old.slice Phase.Inside self.old.force self.old.ahead
-            (pieces_left pieces.old.file.order.now pieces.old.file.columns.now pieces.old.file.end (F.contents pieces.old.file.sealed.now) pieces.old.onward
-            (into_iter_items pieces.old.rest)) ≡ Some fs
-            → TakesFirst fs (window pieces.old.file.order.now self.new.slice self.new.phase self.new.force self.new.ahead
-            (pieces_left pieces.old.file.order.now pieces.old.file.columns.now pieces.old.file.end (F.contents pieces.old.file.sealed.now) pieces.new.onward
-            (into_iter_items pieces.new.rest))) result }
-        ensures sound { (fs : List Fragment) → window pieces.old.file.order.now self.old.slice Phase.Inside self.old.force self.old.ahead
-            (pieces_left pieces.old.file.order.now pieces.old.file.columns.now pieces.old.file.end (F.contents pieces.old.file.sealed.now) pieces.old.onward
-            (into_iter_items pieces.old.rest)) ≡ Some fs → IfBad (λ n at. ⊥) result }
-        ensures ends { Shrinks (window_room Phase.Inside self.old.ahead (pieces_room pieces.old.file.end pieces.old.onward (into_iter_items pieces.old.rest)))
-            (window_room self.new.phase self.new.ahead (pieces_room pieces.old.file.end pieces.new.onward (into_iter_items pieces.new.rest))) result }
-        ensures count { Counted (F.Tally.number pieces.old.tally) (F.Tally.number pieces.new.tally) (IsErrOf result TableFault.Read) }
-        ensures bad { IfBad (IsBadBlock pieces.old.file.order.now pieces.old.file.columns.now pieces.old.file.number pieces.old.file.end
-            (F.contents pieces.old.file.sealed.now) pieces.new.onward) result }
+        ensures entered { IfOk result (λ m. self.new.phase ≡ Phase.Before → ⊥) }
+        ensures told { (fs : List Fragment) →
+            slice_left file.now.order.now file.now.columns.now file.now.end (F.contents file.now.sealed.now) self.old ≡ Some fs
+            → IfOk result (λ m. Enters fs m (slice_left file.now.order.now file.now.columns.now file.now.end (F.contents file.now.sealed.now) self.new)) }
+        ensures sound { (fs : List Fragment) →
+            slice_left file.now.order.now file.now.columns.now file.now.end (F.contents file.now.sealed.now) self.old ≡ Some fs
+            → IfBad (λ n at. ⊥) result }
+        ensures room { IfOk result (λ m. length (option_to_list m) + slice_room file.now.end self.new ≤ slice_room file.now.end self.old) }
+        ensures count { Counted (F.Tally.number tally.old) (F.Tally.number tally.new) (IsErrOf result TableFault.Read) }
+        ensures bad { IfBad (IsBadBlock file.now.order.now file.now.columns.now file.now.number file.now.end (F.contents file.now.sealed.now)
+            self.new.pieces.onward) result }
     {
-        let ahead = self.ahead.take();
-        match next_inside(pieces, &self.slice, &mut self.force, ahead)? {
-            Some(fragment) => Ok(Some(fragment)),
-            None => {
-                self.phase = Phase::Over;
-                Ok(closing(&self.slice.hi, self.force)?)
-            }
+        if let Phase::Before = self.phase {
+            let ahead = seek(file, &mut self.pieces, &self.slice, &mut self.force, tally)?;
+            self.ahead = ahead;
+            self.phase = Phase::Inside;
+            return Ok(opening(&self.slice.lo, self.force)?);
         }
-    }
-
-    // The first fragment, of a read that is before the slice.
-    fn begin<F: Sealed>(
-        &mut self,
-        pieces: &mut Pieces<'_, F>,
-    ) -> Result<Option<Fragment>, TableFault>
-        ensures file { pieces.new.file ≡ pieces.old.file }
-        ensures first { (fs : List Fragment) → window pieces.old.file.order.now self.old.slice Phase.Before self.old.force self.old.ahead
-            (pieces_left pieces.old.file.order.now pieces.old.file.columns.now pieces.old.file.end (F.contents pieces.old.file.sealed.now) pieces.old.onward
-            (into_iter_items pieces.old.rest)) ≡ Some fs
-            → TakesFirst fs (window pieces.old.file.order.now self.new.slice self.new.phase self.new.force self.new.ahead
-            (pieces_left pieces.old.file.order.now pieces.old.file.columns.now pieces.old.file.end (F.contents pieces.old.file.sealed.now) pieces.new.onward
-            (into_iter_items pieces.new.rest))) result }
-        ensures sound { (fs : List Fragment) → window pieces.old.file.order.now self.old.slice Phase.Before self.old.force self.old.ahead
-            (pieces_left pieces.old.file.order.now pieces.old.file.columns.now pieces.old.file.end (F.contents pieces.old.file.sealed.now) pieces.old.onward
-            (into_iter_items pieces.old.rest)) ≡ Some fs → IfBad (λ n at. ⊥) result }
-        ensures ends { Shrinks (window_room Phase.Before self.old.ahead (pieces_room pieces.old.file.end pieces.old.onward (into_iter_items pieces.old.rest)))
-            (window_room self.new.phase self.new.ahead (pieces_room pieces.old.file.end pieces.new.onward (into_iter_items pieces.new.rest))) result }
-        ensures count { Counted (F.Tally.number pieces.old.tally) (F.Tally.number pieces.new.tally) (IsErrOf result TableFault.Read) }
-        ensures bad { IfBad (IsBadBlock pieces.old.file.order.now pieces.old.file.columns.now pieces.old.file.number pieces.old.file.end
-            (F.contents pieces.old.file.sealed.now) pieces.new.onward) result }
-    {
-        let ahead = seek(pieces, &self.slice, &mut self.force)?;
-        self.ahead = ahead;
-        self.phase = Phase::Inside;
-        match opening(&self.slice.lo, self.force)? {
-            Some(marker) => Ok(Some(marker)),
-            None => self.go_on(pieces),
-        }
+        Ok(None)
     }
 
     /// The next fragment of the slice; none behind the last one.
     pub fn next<F: Sealed>(
         &mut self,
-        pieces: &mut Pieces<'_, F>,
+        file: &TableFile<'_, F>,
+        tally: &mut F::Tally,
     ) -> Result<Option<Fragment>, TableFault>
-        ensures file { pieces.new.file ≡ pieces.old.file }
-        ensures first { (fs : List Fragment) → window pieces.old.file.order.now self.old.slice self.old.phase self.old.force self.old.ahead
-            (pieces_left pieces.old.file.order.now pieces.old.file.columns.now pieces.old.file.end (F.contents pieces.old.file.sealed.now) pieces.old.onward
-            (into_iter_items pieces.old.rest)) ≡ Some fs
-            → TakesFirst fs (window pieces.old.file.order.now self.new.slice self.new.phase self.new.force self.new.ahead
-            (pieces_left pieces.old.file.order.now pieces.old.file.columns.now pieces.old.file.end (F.contents pieces.old.file.sealed.now) pieces.new.onward
-            (into_iter_items pieces.new.rest))) result }
-        ensures sound { (fs : List Fragment) → window pieces.old.file.order.now self.old.slice self.old.phase self.old.force self.old.ahead
-            (pieces_left pieces.old.file.order.now pieces.old.file.columns.now pieces.old.file.end (F.contents pieces.old.file.sealed.now) pieces.old.onward
-            (into_iter_items pieces.old.rest)) ≡ Some fs → IfBad (λ n at. ⊥) result }
-        ensures ends { Shrinks (window_room self.old.phase self.old.ahead (pieces_room pieces.old.file.end pieces.old.onward
-            (into_iter_items pieces.old.rest)))
-            (window_room self.new.phase self.new.ahead (pieces_room pieces.old.file.end pieces.new.onward (into_iter_items pieces.new.rest))) result }
-        ensures count { Counted (F.Tally.number pieces.old.tally) (F.Tally.number pieces.new.tally) (IsErrOf result TableFault.Read) }
-        ensures bad { IfBad (IsBadBlock pieces.old.file.order.now pieces.old.file.columns.now pieces.old.file.number pieces.old.file.end
-            (F.contents pieces.old.file.sealed.now) pieces.new.onward) result }
+        ensures first { (fs : List Fragment) →
+            slice_left file.now.order.now file.now.columns.now file.now.end (F.contents file.now.sealed.now) self.old ≡ Some fs
+            → TakesFirst fs (slice_left file.now.order.now file.now.columns.now file.now.end (F.contents file.now.sealed.now) self.new) result }
+        ensures sound { (fs : List Fragment) →
+            slice_left file.now.order.now file.now.columns.now file.now.end (F.contents file.now.sealed.now) self.old ≡ Some fs
+            → IfBad (λ n at. ⊥) result }
+        ensures ends { Shrinks (slice_room file.now.end self.old) (slice_room file.now.end self.new) result }
+        ensures count { Counted (F.Tally.number tally.old) (F.Tally.number tally.new) (IsErrOf result TableFault.Read) }
+        ensures bad { IfBad (IsBadBlock file.now.order.now file.now.columns.now file.now.number file.now.end (F.contents file.now.sealed.now)
+            self.new.pieces.onward) result }
     {
-        match self.phase {
-            Phase::Before => self.begin(pieces),
-            Phase::Inside => self.go_on(pieces),
-            Phase::Over => Ok(None),
+        if let Some(marker) = self.enter(file, tally)? {
+            return Ok(Some(marker));
+        }
+        if let Phase::Over = self.phase {
+            return Ok(None);
+        }
+        let ahead = self.ahead.take();
+        match next_inside(
+            file,
+            &mut self.pieces,
+            &self.slice,
+            &mut self.force,
+            ahead,
+            tally,
+        )? {
+            Some(fragment) => Ok(Some(fragment)),
+            None => {
+                self.phase = Phase::Over;
+                Ok(closing(&self.slice.hi, self.force)?)
+            }
         }
     }
 }

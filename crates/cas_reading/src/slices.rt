@@ -113,7 +113,7 @@ fn slice_at<'a, F: Sealed>(
     ensures told { (e : PartitionEntry) → slice_get table.now.kept.partitions partition ≡ Some e → EntryAnswers table.now key.now slice.now
         ⟦<Blocks<'a, F> as FragmentSource>⟧.over_all ⟦<Blocks<'a, F> as FragmentSource>⟧.to_come e result }
     ensures sound { IfOk result (λ b. ⟦<Blocks<'a, F> as FragmentSource>⟧.broken_by b ≡ None) }
-    ensures fresh { IfOk result (λ b. F.Tally.number b.pieces.tally ≡ 0) }
+    ensures fresh { IfOk result (λ b. F.Tally.number b.tally ≡ 0) }
     ensures count { Counted (F.Tally.number tally.old) (F.Tally.number tally.new) (IsErrOf result TableFault.Read) }
 {
     let file = file_of(alloc, table);
@@ -141,7 +141,7 @@ fn asked<'a, F: Sealed>(
     requires one { IsSliceOf (clustering_order table.now.columns) slice.now }
     ensures told { Answers table.now key.now slice.now ⟦<Blocks<'a, F> as FragmentSource>⟧.over_all ⟦<Blocks<'a, F> as FragmentSource>⟧.to_come result }
     ensures sound { IfOk result (λ o. IfSome o (λ b. ⟦<Blocks<'a, F> as FragmentSource>⟧.broken_by b ≡ None)) }
-    ensures fresh { IfOk result (λ o. IfSome o (λ b. F.Tally.number b.pieces.tally ≡ 0)) }
+    ensures fresh { IfOk result (λ o. IfSome o (λ b. F.Tally.number b.tally ≡ 0)) }
     ensures count { Counted (F.Tally.number tally.old) (F.Tally.number tally.new) (IsErrOf result TableFault.Read) }
 {
     let Some(partition) = table.find(key) else {
@@ -170,7 +170,7 @@ pub fn read_slice<'a, F: Sealed>(
     ensures contents { (c : Contents) (f : Facts) → IsOf table.now c f
         → AnswersOf c key.now slice.now ⟦<Blocks<'a, F> as FragmentSource>⟧.over_all ⟦<Blocks<'a, F> as FragmentSource>⟧.to_come result }
     ensures sound { IfOk result (λ o. IfSome o (λ b. ⟦<Blocks<'a, F> as FragmentSource>⟧.broken_by b ≡ None)) }
-    ensures fresh { IfOk result (λ o. IfSome o (λ b. F.Tally.number b.pieces.tally ≡ 0)) }
+    ensures fresh { IfOk result (λ o. IfSome o (λ b. F.Tally.number b.tally ≡ 0)) }
     ensures count { Counted (F.Tally.number tally.old) (F.Tally.number tally.new) (IsErrOf result TableFault.Read) }
 {
     asked(alloc, table, key, slice, tally)

@@ -1,6 +1,7 @@
 -- What is still to be read of a partition's blocks (own).
 use Rattle.std.specs.Prelude.{◌≡◌, ℕ, ◌+◌, ◌-◌, List, [], ◌∷◌, length, ◌++◌, Option, None, Some, Result, Ok, Err}
 use Rattle.std.specs.Option.{option_map}
+use Rattle.std.specs.Vec.Iter.{into_iter_items}
 use Rattle.cas_types.specs.declared.schema.Column.{Column}
 use Rattle.cas_bounds.specs.declared.order.Ordered.{Ordered}
 use Rattle.cas_codec.specs.declared.fault.ReadFault.{ReadFault}
@@ -11,6 +12,7 @@ use Rattle.cas_blocks.specs.Inner.Steps.{reached}
 use Rattle.cas_blocks.specs.declared.fault.TableFault.{TableFault}
 use Rattle.cas_blocks.specs.declared.fault.TableFault.TheVariants as table_fault
 use Rattle.cas_blocks.specs.declared.steps.Onward.{Onward}
+use Rattle.cas_blocks.specs.declared.pieces.Pieces.{Pieces}
 
 -- the rest of the block at hand, and the blocks behind it, where the file tells its bytes
 abbrev pub told_on : List Ordered → List Column → ℕ → Option (List ℕ) → Onward → List Fragment → Option (List Fragment)
@@ -23,10 +25,17 @@ abbrev pub pieces_left : List Ordered → List Column → ℕ → Option (List �
 pieces_left order columns end contents None rest = Some rest
 pieces_left order columns end contents (Some o) rest = told_on order columns end contents o rest
 
+-- what is left of what a read has
+abbrev pub left_of : List Ordered → List Column → ℕ → Option (List ℕ) → Pieces → Option (List Fragment)
+left_of order columns end contents p = pieces_left order columns end contents p.onward (into_iter_items p.rest)
+
 -- at most so many fragments are to come
 abbrev pub pieces_room : ℕ → Option Onward → List Fragment → ℕ
 pieces_room end None rest = length rest
 pieces_room end (Some o) rest = length rest + (end - o.place)
+
+abbrev pub room_of : ℕ → Pieces → ℕ
+room_of end p = pieces_room end p.onward (into_iter_items p.rest)
 
 -- the next block is the bad one: what stands at its place is no block that may stand there
 abbrev pub IsBadBlock : List Ordered → List Column → ℕ → ℕ → Option (List ℕ) → Option Onward → ℕ → ℕ → Type 0

@@ -9,6 +9,9 @@ use Rattle.cas_streams.specs.Slices.{opened_at, closed_at}
 use Rattle.cas_streams.specs.declared.fragment.Fragment.{Fragment}
 use Rattle.cas_streams.specs.declared.fragment.Fragment.TheVariants as fragment
 use Rattle.cas_blocks.specs.Cutting.{cut_from, up_to_end}
+use Rattle.cas_types.specs.declared.schema.Column.{Column}
+use Rattle.cas_blocks.specs.Inner.Pieces.{left_of, room_of}
+use Rattle.cas_blocks.specs.declared.window.Window.{Window}
 use Rattle.cas_blocks.specs.declared.window.Phase.{Phase}
 use Rattle.cas_blocks.specs.declared.window.Phase.TheVariants.{Before, Inside, Over}
 
@@ -22,6 +25,13 @@ abbrev pub window_room : Phase → Option Fragment → ℕ → ℕ
 window_room Before ahead room = 2 + room
 window_room Inside ahead room = 1 + length (option_to_list ahead) + room
 window_room Over ahead room = 0
+
+-- what is to come of the slice that a window is of, where the file tells its bytes
+abbrev pub slice_left : List Ordered → List Column → ℕ → Option (List ℕ) → Window → Option (List Fragment)
+slice_left order columns end contents w = window order w.slice w.phase w.force w.ahead (left_of order columns end contents w.pieces)
+
+abbrev pub slice_room : ℕ → Window → ℕ
+slice_room end w = window_room w.phase w.ahead (room_of end w.pieces)
 
 -- static columns that are still to be given
 abbrev pub static_part : Option (List RowColumn) → List Fragment
@@ -37,6 +47,12 @@ pub record Begun (order : List Ordered) (s : Slice) (force now : Option Deletion
   pub rest : List Fragment
   pub left_is : left ≡ Some rest
   pub same : cut_from order s force fs ≡ opened_at s.lo now ++ up_to_end order s now (option_to_list ahead ++ rest)
+
+-- what a way into the slice gave, and what is to come behind that
+pub record Enters (fs : List Fragment) (given : Option Fragment) (left : Option (List Fragment)) : Type 0 where
+  pub rest : List Fragment
+  pub left_is : left ≡ Some rest
+  pub same : fs ≡ option_to_list given ++ rest
 
 -- the next fragment before the slice's end; none where what is in force is to be closed
 abbrev pub GoesOn : List Ordered → Slice → Option Deletion → Option Deletion → List Fragment → Option Fragment → Option (List Fragment) → Type 0

@@ -4,15 +4,16 @@ use Rattle.cas_streams.specs.declared.fragment.Fragment.{Fragment}
 use Rattle.cas_blocks.specs.Inner.Pieces.{IfBad, IsBadBlock}
 use Rattle.cas_blocks.specs.declared.fault.TableFault.{TableFault}
 use Rattle.cas_blocks.specs.declared.steps.Onward.{Onward}
-use Rattle.cas_blocks.proofs.PiecesLeft.{piece_end, piece_block, piece_bad, piece_sound, taken}
+use Rattle.cas_blocks.proofs.PiecesLeft.{told_there, piece_end, piece_block, piece_bad, piece_sound, taken}
 use Rattle.cas_blocks.proofs.pieces.Pieces.next_in_block.Goals as goal
 
 pub returns-in-Ok-None-clause-first : goal.returns-in-Ok-None-clause-first
 returns-in-Ok-None-clause-first g c = λ fs told.
     let answers = rw c.in-Ok-None.field-0-is at c.in-Ok-None.ensures.told in
-    let on = rw c.in-Some.is at told in (
-      piece_end c.args.self.now.file.order.now c.args.self.now.file.columns.now c.args.self.now.file.number c.args.self.now.file.end
-          (g.F.Sealed.contents c.args.self.now.file.sealed.now) c.in-Some.at fs on answers,
+    let on = told_there c.args.file.now.order.now c.args.file.now.columns.now c.args.file.now.end (g.F.Sealed.contents c.args.file.now.sealed.now)
+    c.args.self.now.onward c.in-Some.at (into_iter_items c.args.self.now.rest) fs c.in-Some.is c.requires told in (
+      piece_end c.args.file.now.order.now c.args.file.now.columns.now c.args.file.now.number c.args.file.now.end
+          (g.F.Sealed.contents c.args.file.now.sealed.now) c.in-Some.at fs on answers,
       ap (λ (xs : List Fragment). Some xs) c.requires,
     )
 
@@ -20,24 +21,26 @@ pub returns-in-Ok-Some-clause-first : goal.returns-in-Ok-Some-clause-first
 returns-in-Ok-Some-clause-first g c = λ fs told.
     let answers = rw c.in-Ok-Some.field-0-is at c.in-Ok-Some.ensures.told in
     let shorter = rw c.in-Ok-Some.field-0-is at c.in-Ok-Some.ensures.shorter in
-    let on = rw c.in-Some.is at told in
-    let there = piece_block c.args.self.now.file.order.now c.args.self.now.file.columns.now c.args.self.now.file.number c.args.self.now.file.end
-    (g.F.Sealed.contents c.args.self.now.file.sealed.now) c.in-Some.at fs c.in-Ok-Some.step on answers in
-    taken c.args.self.now.file.order.now c.args.self.now.file.columns.now c.args.self.now.file.number c.args.self.now.file.end
-    (g.F.Sealed.contents c.args.self.now.file.sealed.now) c.in-Ok-Some.step.onward fs c.in-Ok-Some.step.fragments.items (into_iter_items c.first_of.new.rest)
+    let on = told_there c.args.file.now.order.now c.args.file.now.columns.now c.args.file.now.end (g.F.Sealed.contents c.args.file.now.sealed.now)
+    c.args.self.now.onward c.in-Some.at (into_iter_items c.args.self.now.rest) fs c.in-Some.is c.requires told in
+    let there = piece_block c.args.file.now.order.now c.args.file.now.columns.now c.args.file.now.number c.args.file.now.end
+    (g.F.Sealed.contents c.args.file.now.sealed.now) c.in-Some.at fs c.in-Ok-Some.step on answers in
+    taken c.args.file.now.order.now c.args.file.now.columns.now c.args.file.now.number c.args.file.now.end
+    (g.F.Sealed.contents c.args.file.now.sealed.now) c.in-Ok-Some.step.onward fs c.in-Ok-Some.step.fragments.items (into_iter_items c.first_of.new.rest)
     c.first_of.result there (c.first_of.ensures.split ∙ c.into_iter.ensures.rest) shorter.some
 
 pub returns-in-Err-clause-bad : goal.returns-in-Err-clause-bad
 returns-in-Err-clause-bad g c =
     let is : c.args.self.now.onward ≡ Some c.in-Some.at = c.in-Some.is in
     let fault : Result (Option Fragment) TableFault = Err c.in-Err.fault in
-    subst (λ (o : Option Onward). IfBad (IsBadBlock c.args.self.now.file.order.now c.args.self.now.file.columns.now c.args.self.now.file.number
-    c.args.self.now.file.end (g.F.Sealed.contents c.args.self.now.file.sealed.now) o) fault) (sym is)
-    (piece_bad c.args.self.now.file.order.now c.args.self.now.file.columns.now c.args.self.now.file.number c.args.self.now.file.end
-    (g.F.Sealed.contents c.args.self.now.file.sealed.now) c.in-Some.at c.in-Err.fault c.in-Err.ensures.told)
+    subst (λ (o : Option Onward). IfBad (IsBadBlock c.args.file.now.order.now c.args.file.now.columns.now c.args.file.now.number
+    c.args.file.now.end (g.F.Sealed.contents c.args.file.now.sealed.now) o) fault) (sym is)
+    (piece_bad c.args.file.now.order.now c.args.file.now.columns.now c.args.file.now.number c.args.file.now.end
+    (g.F.Sealed.contents c.args.file.now.sealed.now) c.in-Some.at c.in-Err.fault c.in-Err.ensures.told)
 
 pub returns-in-Err-clause-sound : goal.returns-in-Err-clause-sound
 returns-in-Err-clause-sound g c = λ fs told.
-    let on = rw c.in-Some.is at told in
-    piece_sound c.args.self.now.file.order.now c.args.self.now.file.columns.now c.args.self.now.file.number c.args.self.now.file.end
-    (g.F.Sealed.contents c.args.self.now.file.sealed.now) c.in-Some.at c.in-Err.fault fs on c.in-Err.ensures.told
+    let on = told_there c.args.file.now.order.now c.args.file.now.columns.now c.args.file.now.end (g.F.Sealed.contents c.args.file.now.sealed.now)
+    c.args.self.now.onward c.in-Some.at (into_iter_items c.args.self.now.rest) fs c.in-Some.is c.requires told in
+    piece_sound c.args.file.now.order.now c.args.file.now.columns.now c.args.file.now.number c.args.file.now.end
+    (g.F.Sealed.contents c.args.file.now.sealed.now) c.in-Some.at c.in-Err.fault fs on c.in-Err.ensures.told
