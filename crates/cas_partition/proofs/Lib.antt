@@ -1,5 +1,6 @@
 pub mod Slots
 pub mod Raising
+pub mod AtCuts
 pub mod Spots
 pub mod Tabling
 pub mod Taking

@@ -28,6 +28,7 @@ use Rattle.cas_bounds.specs.declared.order.Ordered.{Ordered}
 use Rattle.cas_bounds.specs.declared.cuts.Cut.{Cut}
 use Rattle.cas_bounds.specs.declared.cuts.Slice.{Slice}
 use Rattle.cas_bounds.specs.declared.map_key.MapKey.{MapKey}
+use Rattle.cas_atoms.specs.Fits.{FitsCut}
 use Rattle.cas_atoms.specs.Greatest.{greater, greatest}
 use Rattle.cas_atoms.specs.Coordinates.{Coordinate, RowKey, row, clustered, row_of, same_row, deletion_at, live_at_row, cell_at_path}
 use Rattle.cas_atoms.specs.Winners.{cover, standing, Same}
@@ -50,13 +51,14 @@ use Rattle.cas_streams.proofs.Merges.{merge_is_join, merge_ordered}
 use Rattle.cas_merge.specs.Told.{told_first, streams_told}
 use Rattle.cas_partition.specs.Ranges.{key_of, clipped}
 use Rattle.cas_partition.specs.Spots.{spot_cmp, piece}
-use Rattle.cas_partition.specs.Partitions.{said_at, partition_atoms, marker, IsOf, IsRowOf, AreIn}
+use Rattle.cas_partition.specs.Partitions.{said_at, partition_atoms, marker, IsOf, IsRowOf, AreIn, AreAtCuts}
 use Rattle.cas_partition.specs.Slices.{grouped_from, meet, Halves, both, pieces_in, rows_by, AreRowsOf, Shows, slice_pieces, slice_streams, SlicesShow}
 use Rattle.cas_partition.specs.Ranged.{piece_of, spot_at, below_rows, statics_of, rows_between}
 use Rattle.cas_partition.specs.declared.spot.Spot.{Spot}
 use Rattle.cas_partition.specs.declared.spot.Content.{Content}
 use Rattle.cas_partition.specs.declared.partition.Partition.{Partition}
 use Rattle.cas_partition.proofs.Spots.{alike_itself, alike_is, in_front, Rows}
+use Rattle.cas_partition.proofs.AtCuts.{merge_at, clipped_at}
 use Rattle.cas_partition.proofs.Taking.{marked, rising, closes}
 use Rattle.cas_partition.proofs.NoMore.{slice_no_more}
 use Rattle.cas_partition.proofs.Slicing.{halves_alike, halves_ordered, Weak, OfRow, pieces_of, kept_rows, kept_weak, cross, no_key, past_key}
@@ -310,6 +312,9 @@ shows s p rows top fs sorted are t f = subst (λ d. Shows s p d fs) (sym t) (sub
   same = λ order of low high. chained (merge_is_join order ss (each_ordered order of low high)) (in_slice order of low high);
   formed = λ columns t low high. merge_forms columns ss (each_ordered (clustering_order columns) t.of low high)
       (subst (AllByRecursion (Tabled columns)) are.2 (rows_in_table columns s.lo s.hi p.spots.entries are.0 are.1 t.entries), (markers_have columns (clipped s p.ranges), tt));
+  cuts = λ columns t low high. merge_at (FitsCut (clustering_order columns)) ss
+      (subst (AreAtCuts columns) (sym (in_rows (clustering_order columns) t.of).1) tt,
+      (subst (AreAtCuts columns) (sym (marked (clipped s p.ranges))) (clipped_at (FitsCut (clustering_order columns)) s p.ranges low high t.cuts), tt));
 }))
   where
     with_markers : List Change → List Stream

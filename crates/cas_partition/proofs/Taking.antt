@@ -17,6 +17,7 @@ use Rattle.cas_bounds.specs.ClusteringOrder.{clustering_order}
 use Rattle.cas_bounds.specs.Points.{point_cmp, cut_point}
 use Rattle.cas_bounds.specs.declared.order.Ordered.{Ordered}
 use Rattle.cas_bounds.specs.declared.cuts.Cut.{Cut}
+use Rattle.cas_atoms.specs.Fits.{Fits, FitsCut}
 use Rattle.cas_atoms.specs.Greatest.{greater, greatest}
 use Rattle.cas_atoms.specs.Coordinates.{Coordinate, row_of, deletion_at, live_at_row, cell_at_path}
 use Rattle.cas_atoms.specs.Winners.{cover, Same}
@@ -36,7 +37,7 @@ use Rattle.cas_streams.proofs.Joining.{Alike, alike_both, alike_same}
 use Rattle.cas_partition.specs.Ranges.{lies, raised, has_cut, with_cut}
 use Rattle.cas_partition.specs.Spots.{spot_cmp, joined_content, said}
 use Rattle.cas_partition.specs.Placed.{wanted, given}
-use Rattle.cas_partition.specs.Partitions.{said_at, atoms_with, partition_atoms, marker, IsOf, IsAtomOf, IsRowOf, AreIn, IsOfTable, has_spot, is_there, HasPlace, with_spot, MakesPlace, Joins}
+use Rattle.cas_partition.specs.Partitions.{said_at, atoms_with, partition_atoms, marker, IsOf, IsAtomOf, IsRowOf, AreIn, AreAtCuts, IsOfTable, has_spot, is_there, HasPlace, with_spot, MakesPlace, Joins}
 use Rattle.cas_partition.specs.declared.spot.Spot.{Spot}
 use Rattle.cas_partition.specs.declared.spot.Content.{Content}
 use Rattle.cas_partition.specs.declared.spot.Room.{Room}
@@ -45,6 +46,7 @@ use Rattle.cas_partition.specs.declared.spot.Addition.{Addition}
 use Rattle.cas_partition.specs.declared.spot.Addition.TheVariants as gives
 use Rattle.cas_partition.specs.declared.partition.Partition.{Partition}
 use Rattle.cas_partition.proofs.Raising.{raised_rise, raised_closed, raised_covers, with_cut_rise, with_cut_closed, with_cut_covers, raised_has, with_cut_has, with_cut_itself}
+use Rattle.cas_partition.proofs.AtCuts.{with_cut_at, raised_at}
 use Rattle.cas_partition.proofs.Spots.{alike_itself, alike_is, in_front, at_back, set_said, with_spot_says, with_spot_there, with_spot_kept, set_kept, Rows, set_rows, with_spot_rows}
 use Rattle.cas_partition.proofs.NoMore.{one_cut_no_more, both_cuts_no_more, one_spot_no_more, whole_no_more, range_no_more, spot_no_more}
 use Rattle.cas_partition.proofs.Tabling.{fits_of, wanted_in, given_in, set_in, with_spot_in}
@@ -139,7 +141,7 @@ empty_of order p none nobody = record {
 }
 
 pub empty_of_table : (columns : List Column) (p : Partition) → p.ranges ≡ [] → p.spots.entries ≡ [] → IsOfTable columns p
-empty_of_table columns p none nobody = record { of = empty_of (clustering_order columns) p none nobody; entries = subst (AreIn columns) (sym nobody) tt }
+empty_of_table columns p none nobody = record { of = empty_of (clustering_order columns) p none nobody; cuts = subst (AreAtCuts columns) (sym none) tt; entries = subst (AreIn columns) (sym nobody) tt }
 
 pub nothing_made : (a : Atom) (p : Partition) → MakesPlace a p p
 nothing_made a p = record {
@@ -158,14 +160,15 @@ with_changes : (a : Atom) (p : Partition) (ns : List Change)
     → ((order : List Ordered) → IsAtomOf order a → Rise order p.ranges → at_end None p.ranges ≡ None
     → Rise order ns × (at_end None ns ≡ None) × ((x : Coordinate) → cover (ranges ns) x ≡ cover (ranges p.ranges) x))
     → ((order : List Ordered) → IsOf order p → SaysNoMore (partition_atoms (with_ranges p ns)) (partition_atoms p))
+    → ((columns : List Column) → Fits columns a → AreAtCuts columns p.ranges → AreAtCuts columns ns)
     → ((c : Cut) → has_cut c p.ranges ≡ true → has_cut c ns ≡ true) → MakesPlace a p (with_ranges p ns)
-with_changes a p ns h no_more kept = record {
+with_changes a p ns h no_more at kept = record {
   no_more = no_more;
   same = λ order of atom.
       let (rise, closed, covers) = h order atom (rising order p.ranges of.marks) (closes order p.ranges of.marks) in
       alike_same (alike_both (alike_itself (atom_of PartitionDeletion p.top)) (alike_both (same_ranges p.ranges ns covers) (alike_itself (said_at p.spots.entries))));
   of = in_order;
-  fits = λ columns t f. record { of = in_order (clustering_order columns) t.of (fits_of columns a f); entries = t.entries };
+  fits = λ columns t f. record { of = in_order (clustering_order columns) t.of (fits_of columns a f); cuts = at columns f t.cuts; entries = t.entries };
   others = λ b e. cuts_kept p.ranges ns p.spots.entries kept (wanted b) e;
 }
   where
@@ -174,7 +177,26 @@ with_changes a p ns h no_more kept = record {
         let (rise, closed, covers) = h order atom (rising order p.ranges of.marks) (closes order p.ranges of.marks) in
         record { marks = in_marks order ns rise closed; rows = of.rows }
 
--- where an atom is kept at cuts, they are in the table's order
+-- where an atom that the table may hold is kept at cuts, the table may have them
+cuts_fit : (columns : List Column) (a : Atom) (lo hi : Cut) → wanted a ≡ wants.Cuts lo hi → Fits columns a → FitsCut (clustering_order columns) lo × FitsCut (clustering_order columns) hi
+cuts_fit columns a lo hi w f = subst AtRoom w (own_cuts a f)
+  where
+    AtRoom : Room → Type 0
+    AtRoom wants.Whole = Unit {0}
+    AtRoom (wants.Cuts k l) = FitsCut (clustering_order columns) k × FitsCut (clustering_order columns) l
+    AtRoom (wants.At s tag) = Unit {0}
+
+    own_cuts : (b : Atom) → Fits columns b → AtRoom (wanted b)
+    own_cuts (PartitionDeletion d) g = tt
+    own_cuts (RangeDeletion k l d) g = (g.0.0, g.0.1)
+    own_cuts (RowDeletion c d) g = tt
+    own_cuts (CollectionDeletion c ref d) g = tt
+    own_cuts (Live c l) g = tt
+    own_cuts (Write c ref q v) g = tt
+    own_cuts (StaticWrite ref q v) g = tt
+    own_cuts (StaticCollectionDeletion ref d) g = tt
+
+-- and they are in the table's order
 cuts_of : (order : List Ordered) (a : Atom) (lo hi : Cut) → wanted a ≡ wants.Cuts lo hi → IsAtomOf order a → (lo.order ≡ order) × (hi.order ≡ order)
 cuts_of order (PartitionDeletion d) lo hi e of = cc
 cuts_of order (RangeDeletion k l d) lo hi e of = (ap (λ w. (low w).order) (sym e) ∙ of.0, ap (λ w. (high w).order) (sym e) ∙ of.1)
@@ -203,6 +225,7 @@ one_cut a p ns lo hi w e =
     let (l, h) = cuts_of order a lo hi w atom in
     (with_cut_rise order lo l p.ranges rise, with_cut_closed order lo l p.ranges rise closed, λ x. with_cut_covers order lo l p.ranges rise closed x (row_of x) refl))
     (λ order of. one_cut_no_more p lo (closes order p.ranges of.marks))
+    (λ columns f all. with_cut_at (FitsCut (clustering_order columns)) lo p.ranges (cuts_fit columns a lo hi w f).0 all)
     (λ c. with_cut_has c lo p.ranges))
 
 pub both_cuts : (a : Atom) (p : Partition) (ns : List Change) (lo hi : Cut) → wanted a ≡ wants.Cuts lo hi → ns ≡ with_cut hi (with_cut lo p.ranges) → MakesPlace a p (with_ranges p ns)
@@ -218,6 +241,10 @@ both_cuts a p ns lo hi w e =
       λ x. with_cut_covers order hi h (with_cut lo p.ranges) first ends x (row_of x) refl ∙ with_cut_covers order lo l p.ranges rise closed x (row_of x) refl,
     ))
     (λ order of. both_cuts_no_more p lo hi (closes order p.ranges of.marks))
+    (λ columns f all.
+    let Allowed : Cut → Type 0 = FitsCut (clustering_order columns) in
+    let (l, h) = cuts_fit columns a lo hi w f in
+    with_cut_at Allowed hi (with_cut lo p.ranges) h (with_cut_at Allowed lo p.ranges l all))
     (λ c has. with_cut_has c hi (with_cut lo p.ranges) (with_cut_has c lo p.ranges has)))
 
 pub cuts_there : (a : Atom) (p : Partition) (ns : List Change) (lo hi : Cut) → wanted a ≡ wants.Cuts lo hi → ns ≡ with_cut hi (with_cut lo p.ranges) → HasPlace (with_ranges p ns) a
@@ -230,7 +257,7 @@ cuts_there a p ns lo hi w e =
 pub same_changes : (a : Atom) (p : Partition) (ns : List Change) → ns ≡ p.ranges → MakesPlace a p (with_ranges p ns)
 same_changes a p ns e =
     subst (λ l. MakesPlace a p (with_ranges p l)) (sym e)
-    (with_changes a p p.ranges (λ order atom rise closed. (rise, closed, λ x. refl)) (λ order of. no_more_itself (partition_atoms p)) (λ c has. has))
+    (with_changes a p p.ranges (λ order atom rise closed. (rise, closed, λ x. refl)) (λ order of. no_more_itself (partition_atoms p)) (λ columns f all. all) (λ c has. has))
 
 -- one more spot
 abbrev with_spots : Partition → BTreeMap Spot Content → Partition
@@ -265,6 +292,7 @@ one_spot a p m s tag w e = record {
   of = in_order;
   fits = λ columns t f. record {
     of = in_order (clustering_order columns) t.of (fits_of columns a f);
+    cuts = t.cuts;
     entries = subst (AreIn columns) (sym e) (with_spot_in columns s tag p.spots.entries (wanted_in columns a s tag w f) t.entries);
   };
   others = λ b h. spots_kept p.ranges p.spots.entries m.entries (λ t there. ap (has_spot t) e ∙ with_spot_kept t s tag p.spots.entries there) (wanted b) h;
@@ -287,6 +315,7 @@ same_spots a p m e = record {
   of = λ order of atom. record { marks = of.marks; rows = subst (Rows order) (sym e) of.rows };
   fits = λ columns t f. record {
     of = record { marks = t.of.marks; rows = subst (Rows (clustering_order columns)) (sym e) t.of.rows };
+    cuts = t.cuts;
     entries = subst (AreIn columns) (sym e) t.entries;
   };
   others = λ b h. ap (λ l. is_there p.ranges l (wanted b)) e ∙ h;
@@ -310,7 +339,7 @@ whole_joins a p top d g e = record {
       (alike_same (in_front (atom_of PartitionDeletion (greater deletion_cmp p.top (Some d))) (atom_of PartitionDeletion p.top) (PartitionDeletion d ∷ [])
       (ranges p.ranges ++ said_at p.spots.entries) (raised_top p.top d))));
   of = λ order of atom. record { marks = of.marks; rows = of.rows };
-  fits = λ columns t f. record { of = record { marks = t.of.marks; rows = t.of.rows }; entries = t.entries };
+  fits = λ columns t f. record { of = record { marks = t.of.marks; rows = t.of.rows }; cuts = t.cuts; entries = t.entries };
   others = λ b h. h;
 }
   where
@@ -367,7 +396,11 @@ module _ (a : Atom) (lo hi : Cut) (d : Deletion) (g : given a ≡ gives.Range lo
             (more_ranges p.ranges (raised (lies lo hi) d p.ranges) lo hi d
             (λ x. raised_covers order lo hi d p.ranges lo_of hi_of below low high rise closed x (row_of x) refl))))));
         of = in_order low high;
-        fits = λ columns t f. record { of = in_order low high (clustering_order columns) t.of (fits_of columns a f); entries = t.entries };
+        fits = λ columns t f. record {
+          of = in_order low high (clustering_order columns) t.of (fits_of columns a f);
+          cuts = subst (AreAtCuts columns) (sym e) (raised_at (FitsCut (clustering_order columns)) (lies lo hi) d p.ranges t.cuts);
+          entries = t.entries;
+        };
         others = λ b h. cuts_kept p.ranges ns p.spots.entries (λ c has. ap (has_cut c) e ∙ raised_has c (lies lo hi) d p.ranges ∙ has) (wanted b) h;
       }
     where
@@ -446,6 +479,7 @@ module _ (a : Atom) (s : Spot) (c : Content) (g : given a ≡ gives.At s c) wher
         of = λ order of atom. record { marks = of.marks; rows = subst (Rows order) (sym e) (set_rows order (is_at (spot_cmp s)) (joined_content old c) p.spots.entries of.rows) };
         fits = λ columns t f. record {
           of = record { marks = t.of.marks; rows = subst (Rows (clustering_order columns)) (sym e) (set_rows (clustering_order columns) (is_at (spot_cmp s)) (joined_content old c) p.spots.entries t.of.rows) };
+          cuts = t.cuts;
           entries = subst (AreIn columns) (sym e) (set_in columns s old c p.spots.entries is (given_in columns a s c g f) t.entries);
         };
         others = λ b h. spots_kept p.ranges p.spots.entries m.entries (λ t has. ap (has_spot t) e ∙ set_kept t (is_at (spot_cmp s)) (joined_content old c) p.spots.entries has) (wanted b) h;

@@ -15,7 +15,7 @@ use Rattle.cas_bounds.specs.Cuts.{cut_cmp}
 use Rattle.cas_bounds.specs.declared.order.Ordered.{Ordered}
 use Rattle.cas_bounds.specs.declared.map_key.End.TheVariants.{Row}
 use Rattle.cas_bounds.specs.declared.map_key.MapKey.{MapKey}
-use Rattle.cas_atoms.specs.Fits.{Fits, Names, is_path}
+use Rattle.cas_atoms.specs.Fits.{Fits, FitsCut, Names, is_path}
 use Rattle.cas_atoms.specs.Winners.{Same}
 use Rattle.cas_atoms.specs.declared.atom.Atom.{Atom}
 use Rattle.cas_atoms.specs.declared.atom.Atom.TheVariants.{PartitionDeletion, RangeDeletion, RowDeletion, CollectionDeletion}
@@ -102,9 +102,14 @@ IsIn columns row (Some n) path c = IsColumnIn columns row n path c
 abbrev pub AreIn : List Column → List (Spot × Content) → Type 0
 AreIn columns es = AllByRecursion (λ e. IsIn columns e.0.row e.0.column e.0.path e.1) es
 
--- a partition of the table: its rows and cuts are in the table's order, and what is said is said of the table's columns
+-- the changes are at cuts that the table may have: their values are values of its first clustering columns
+abbrev pub AreAtCuts : List Column → List Change → Type 0
+AreAtCuts columns ms = AllByRecursion (λ m. FitsCut (clustering_order columns) m.at) ms
+
+-- a partition of the table: its rows and cuts are in the table's order, the cuts are ones that it may have, and what is said is said of its columns
 pub record IsOfTable (columns : List Column) (p : Partition) : Type 0 where
   pub of : IsOf (clustering_order columns) p
+  pub cuts : AreAtCuts columns p.ranges
   pub entries : AreIn columns p.spots.entries
 
 -- ---- places

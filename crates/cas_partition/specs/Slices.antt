@@ -9,8 +9,9 @@ use Rattle.cas_cell.specs.declared.deletion.Deletion.{Deletion}
 use Rattle.cas_bounds.specs.ClusteringOrder.{clustering_order}
 use Rattle.cas_bounds.specs.declared.order.Ordered.{Ordered}
 use Rattle.cas_bounds.specs.declared.cuts.Slice.{Slice}
+use Rattle.cas_atoms.specs.Fits.{FitsCut}
 use Rattle.cas_laws.specs.Inside.{SameIn}
-use Rattle.cas_streams.specs.Flat.{flat}
+use Rattle.cas_streams.specs.Flat.{changes, flat}
 use Rattle.cas_streams.specs.NoMore.{SaysNoMore}
 use Rattle.cas_streams.specs.Streams.{IsOrdered, WellFormed}
 use Rattle.cas_streams.specs.Joined.{joined_fragment, fragment_cmp, Stream}
@@ -18,7 +19,7 @@ use Rattle.cas_streams.specs.Merged.{merged}
 use Rattle.cas_streams.specs.declared.fragment.Fragment.{Fragment}
 use Rattle.cas_partition.specs.Ranges.{clipped}
 use Rattle.cas_partition.specs.Spots.{spot_cmp}
-use Rattle.cas_partition.specs.Partitions.{partition_atoms, marker, IsOf, IsOfTable}
+use Rattle.cas_partition.specs.Partitions.{partition_atoms, marker, IsOf, AreAtCuts, IsOfTable}
 use Rattle.cas_partition.specs.Ranged.{piece_of, statics_of, rows_between}
 use Rattle.cas_partition.specs.declared.partition.Partition.{Partition}
 
@@ -34,13 +35,15 @@ grouped None [] = []
 grouped None (g ∷ gs) = grouped_from g gs
 
 -- a stream that tells these fragments under that deletion says in the slice what the partition says, and nowhere more: its fragments are in order, and
--- well formed where the partition is of a table with these columns
+-- well formed where the partition is of a table with these columns; its markers then stand at cuts that the table may have, if the slice's own are
 pub record Shows (s : Slice) (p : Partition) (top : Option Deletion) (fs : List Fragment) : Type 0 where
   pub ordered : (order : List Ordered) → IsOf order p → s.lo.order ≡ order → s.hi.order ≡ order → IsOrdered order fs
   pub same : (order : List Ordered) → IsOf order p → s.lo.order ≡ order → s.hi.order ≡ order → SameIn s (flat top fs) (partition_atoms p)
   pub no_more : (order : List Ordered) → IsOf order p → SaysNoMore (flat top fs) (partition_atoms p)
   pub formed : (columns : List Column) → IsOfTable columns p → s.lo.order ≡ clustering_order columns → s.hi.order ≡ clustering_order columns
       → WellFormed columns fs
+  pub cuts : (columns : List Column) → IsOfTable columns p → FitsCut (clustering_order columns) s.lo → FitsCut (clustering_order columns) s.hi
+      → AreAtCuts columns (changes fs)
 
 -- rows one after another: where the first of the later ones is the last of the earlier ones, both are put together
 abbrev pub meet_from : Fragment → List Fragment → List Fragment → List Fragment

@@ -94,6 +94,7 @@ module _ {M : Type 0} (tells : M → Option (List Fragment)) (tops : M → Optio
         same = subst (SameIn s (flats shown.streams)) (sym same) shown.same;
         no_more = subst (SaysNoMore (flats shown.streams)) (sym same) shown.no_more;
         formed = λ columns is each. shown.formed columns is each.1;
+        cuts = λ columns is each lo hi. shown.cuts columns is each.1 lo hi;
         none = λ e. same ∙ shown.none e;
         some = λ e. shown.some (sym same ∙ e);
       }
@@ -119,6 +120,7 @@ module _ {M : Type 0} (tells : M → Option (List Fragment)) (tops : M → Optio
             (no_more_then (flat (tops x) fs) (partition_atoms h.partition) (atoms_under key ws) (shows.no_more order (stands.of key h is)) no_more) shown.no_more);
         formed = λ columns are each.
             (shows.formed columns (each.0 key h is) (low ∙ sym are) (high ∙ sym are), shown.formed columns are each.1);
+        cuts = λ columns are each lo hi. (shows.cuts columns (each.0 key h is) lo hi, shown.cuts columns are each.1 lo hi);
         none = λ e. cc;
         some = λ e. absurd (gives.0 (sym (ap least_held is) ∙ stands.least key ∙ ap (least_with None) (front_nothing (atoms_under key ws) (atoms_under key rest) (sym both ∙ e))));
       }
@@ -137,6 +139,7 @@ module _ {M : Type 0} (tells : M → Option (List Fragment)) (tops : M → Optio
     same = record { covers = λ x i. refl; lives = λ r i. refl; cells = λ x i. refl };
     no_more = no_more_itself [];
     formed = λ columns are each. tt;
+    cuts = λ columns are each lo hi. tt;
     none = λ e. refl;
     some = λ e. gathers;
   }

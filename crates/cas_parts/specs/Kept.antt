@@ -11,16 +11,19 @@ use Rattle.cas_bounds.specs.declared.order.Ordered.{Ordered}
 use Rattle.cas_bounds.specs.declared.cuts.Slice.{Slice}
 use Rattle.cas_cell.specs.declared.deletion.Deletion.{Deletion}
 use Rattle.cas_atoms.specs.Coordinates.{same_bytes}
+use Rattle.cas_atoms.specs.Fits.{FitsCut}
 use Rattle.cas_atoms.specs.Winners.{Same}
 use Rattle.cas_atoms.specs.declared.atom.Atom.{Atom}
 use Rattle.cas_atoms.specs.declared.atom.Mutation.{Mutation}
 use Rattle.cas_laws.specs.Inside.{SameIn}
 use Rattle.cas_merge.specs.Told.{streams_told}
+use Rattle.cas_streams.specs.Flat.{changes}
 use Rattle.cas_streams.specs.Joined.{Stream}
 use Rattle.cas_streams.specs.Merged.{flats}
 use Rattle.cas_streams.specs.NoMore.{SaysNoMore}
 use Rattle.cas_streams.specs.Streams.{IsOrdered, WellFormed}
 use Rattle.cas_streams.specs.declared.fragment.Fragment.{Fragment}
+use Rattle.cas_partition.specs.Partitions.{AreAtCuts}
 use Rattle.cas_memtable.specs.Memtables.{atoms_of, is_above, least_of, least_with, bytes_with, IsOfColumns}
 use Rattle.cas_memtable.specs.Memtables.{IsOfTable as IsOrderedBy}
 use Rattle.cas_memtable.specs.declared.memtable.MemPart.{MemPart}
@@ -100,8 +103,9 @@ with_one w (ws ∷ vs ∷ wss) = ws ∷ with_one w (vs ∷ wss)
 abbrev pub begun : List (List Mutation) → List (List Mutation)
 begun wss = wss ++ [] ∷ []
 
--- Sources that show a partition: what they tell are streams in order, and well formed where the memory is of a table with some columns; in the slice they
--- say the same as the mutations together, and nowhere more. There is none exactly where nothing was written under the key.
+-- Sources that show a partition: what they tell are streams in order, and well formed where the memory is of a table with some columns, whose markers then
+-- stand at cuts that the table may have, if the slice's own are; in the slice they say the same as the mutations together, and nowhere more. There is none
+-- exactly where nothing was written under the key.
 pub record ShowPartition {M : Type 0} (tells : M → Option (List Fragment)) (tops : M → Option Deletion) (order : List Ordered) (s : Slice)
     (key : List ℕ) (ms : List MemPart) (ws : List Mutation) (sources : List M) : Type 0 where
   pub streams : List Stream
@@ -111,5 +115,8 @@ pub record ShowPartition {M : Type 0} (tells : M → Option (List Fragment)) (to
   pub no_more : SaysNoMore (flats streams) (atoms_under key ws)
   pub formed : (columns : List Column) → clustering_order columns ≡ order → AllByRecursion (IsOfColumns columns) ms
       → AllByRecursion (λ x. WellFormed columns x.fragments) streams
+  pub cuts : (columns : List Column) → clustering_order columns ≡ order → AllByRecursion (IsOfColumns columns) ms
+      → FitsCut (clustering_order columns) s.lo → FitsCut (clustering_order columns) s.hi
+      → AllByRecursion (λ x. AreAtCuts columns (changes x.fragments)) streams
   pub none : sources ≡ [] → atoms_under key ws ≡ []
   pub some : atoms_under key ws ≡ [] → sources ≡ []

@@ -1,5 +1,5 @@
 -- What a source says was written, or why it wasn't.
-use Rattle.std.proofs.Common.{◌≡◌, ℕ, false, List, [], ◌∷◌, length, Option, None, Some, Ok}
+use Rattle.std.proofs.Common.{◌≡◌, ℕ, false, List, [], ◌∷◌, length, Option, None, Some, Ok, ap, arith}
 use Rattle.cas_cell.specs.declared.deletion.Deletion.{Deletion}
 use Rattle.cas_streams.specs.Sources.{TakesFirst}
 use Rattle.cas_streams.specs.declared.fragment.Fragment.{Fragment}
@@ -9,6 +9,7 @@ use Rattle.cas_sstwrite.specs.declared.fault.WriteFault.TheVariants.{Failed, Ord
 use Rattle.cas_sstwrite.specs.declared.fault.PartitionFault.{PartitionFault}
 use Rattle.cas_sstwrite.specs.declared.fault.PartitionFault.TheVariants.{Write, Source}
 use Rattle.cas_sstwrite.specs.declared.held.TableWriter.{TableWriter}
+use Rattle.cas_sstwrite.specs.Rooms.{AreHeld}
 use Rattle.cas_sstwrite.specs.Causes.{WhyNot}
 use Rattle.cas_sstwrite.specs.Inner.Parts.{BeginWith, Says}
 use Rattle.cas_sstwrite.specs.Inner.Adding.{AddsOne, Adds, AddsFirst, AddsTold, WrittenFault, is_nothing}
@@ -34,6 +35,20 @@ adds_told E number_of written key top first old new told after some takes adds =
   adds = adds_all number_of written key top first adds.given old new adds.front some adds.adds;
   all = λ fs is. adds.all fs (says_of E fs after first (takes fs is));
 }
+
+-- a table file can hold what was written
+pub adds_held : {D F : Type 0} (number_of : D → ℕ) (written : D → List ℕ → Type 0) (key : List ℕ) (top : Option Deletion) (fs : List Fragment) (old new : TableWriter D F)
+    → Adds number_of written key top fs old new → AreHeld fs
+adds_held number_of written key None [] old new adds = ((omega arith, tt), tt)
+adds_held number_of written key None (f ∷ fs) old new adds = (adds.statics, adds.held)
+adds_held number_of written key (Some d) fs old new adds = (adds.statics, adds.held)
+
+-- of a file that is the same
+pub adds_kept : {D F : Type 0} (number_of : D → ℕ) (written : D → List ℕ → Type 0) (key : List ℕ) (top : Option Deletion) (fs : List Fragment) (old new : TableWriter D F)
+    → Adds number_of written key top fs old new → (new.header ≡ old.header) × (new.level ≡ old.level)
+adds_kept number_of written key None [] old new adds = (ap (λ w. w.header) adds, ap (λ w. w.level) adds)
+adds_kept number_of written key None (f ∷ fs) old new adds = (adds.header, adds.level)
+adds_kept number_of written key (Some d) fs old new adds = (adds.header, adds.level)
 
 pub written_why : (E : Type 0) (entries : List PartitionEntry) (place : ℕ) (key : List ℕ) (top : Option Deletion) (fs : List Fragment) (e : PartitionFault E)
     → WrittenFault (length entries) place key top fs e → WhyNot entries place key top fs e

@@ -40,6 +40,7 @@ static_taken number_of written start before top s p q text cs t buffer entries f
     force = force ∙ t.force;
     full = t.full;
     short = t.short;
+    held = tt;
     early = t.early;
     facts = λ A h. subst (λ xs. AreFactsSoFar xs q.seen.facts) (told_more A top [] (fragment.Static cs)) (seen (A ++ all_told top []) (t.facts A h));
   });
@@ -94,6 +95,7 @@ some_ends number_of written start before top f s t u p q text told at on end =
         entries = ends.entries;
         few = ends.few;
         short = ends.short;
+        held = ends.held;
         facts = ends.facts;
       };
       front = (on.given, refl);

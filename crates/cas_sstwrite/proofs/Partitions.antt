@@ -39,6 +39,7 @@ nothing_taken start before top p buffer entries force seen = record {
   force = force;
   full = tt;
   short = tt;
+  held = tt;
   early = omega arith;
   facts = λ A h. subst (λ (xs : List Atom). AreFactsSoFar (A ++ xs) p.seen.facts) (sym (append-nil (top_told top))) (seen A h);
 }
@@ -55,13 +56,13 @@ says_begin None told fs says = says
 says_begin (Some f) told fs says = (says.0, says.2)
 
 pub partition_written : {D : Type 0} (number_of : D → ℕ) (written : D → List ℕ → Type 0) (key : List ℕ) (top : Option Deletion) (first : Option Fragment)
-    (before : Option Facts) (s t u : Sink D) (p q : Part) (told : Option (List Fragment)) → length key < 2 ^ 16
+    (before : Option Facts) (s t u : Sink D) (p q : Part) (told : Option (List Fragment)) → length key < 2 ^ 16 → HaveRoom (statics_in (option_to_list first))
     → Took number_of written (head_bytes key top (statics_in (option_to_list first))) s t
     → ((start : ℕ) → Taken start before top [] p [])
     → ((start : ℕ) (before : Option Facts) (top : Option Deletion) (text : List ℕ) → Taken start before top [] p text → t.place ≡ start + length text
     → WroteRows number_of written start before top first t u q text told)
     → WrotePartition number_of written key top first before s u q told
-partition_written number_of written key top first before s t u p q told short head none rows =
+partition_written number_of written key top first before s t u p q told short room head none rows =
     let w = rows t.place before top [] (none t.place) (let e : t.place ≡ t.place + 0 = omega arith in e) in
     let same : statics_in (option_to_list first) ≡ statics_in w.given = statics_first first w.given w.front in
     let headed : Took number_of written (head_bytes key top (statics_in w.given)) s t = subst (λ (cs : List RowColumn). Took number_of written (head_bytes key top cs) s t) same head in
@@ -74,6 +75,8 @@ partition_written number_of written key top first before s t u p q told short he
       short = w.ends.short;
       facts = w.ends.facts;
       key = short;
+      statics = subst HaveRoom same room;
+      held = w.ends.held;
       front = w.front;
       all = w.all;
     }

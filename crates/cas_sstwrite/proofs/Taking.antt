@@ -20,6 +20,7 @@ use Rattle.cas_fragments.specs.declared.blocks.TheConstants.{BLOCK_LEAST}
 use Rattle.cas_tables.specs.Places.{block_entries}
 use Rattle.cas_sstwrite.specs.declared.held.Part.{Part}
 use Rattle.cas_sstwrite.specs.declared.held.Sink.{Sink}
+use Rattle.cas_sstwrite.specs.Rooms.{IsHeld}
 use Rattle.cas_sstwrite.specs.Inner.Sinks.{Took}
 use Rattle.cas_sstwrite.specs.Inner.Parts.{waiting, Taken, with_block, with_entry, entry_of, Added, Closes, Goes, Ends, ended}
 use Rattle.cas_sstwrite.proofs.Cutting.{more_behind, one_behind, force_more, told_more, waits_long, waiting_some, buffer_more, last_more, entries_more, cut_wait, cut_end, full_at, not_full}
@@ -65,6 +66,14 @@ rows_now : (start : ℕ) (before : Option Facts) (top : Option Deletion) (gs : L
 rows_now start before top gs p q f text place t a =
     one_behind gs f a.held ∙ ap (λ (xs : List Fragment). xs ++ f ∷ []) t.rows ∙ append_assoc (joined t.done) t.begun (f ∷ [])
 
+one_held : (fs : List Fragment) (f : Fragment) → AllByRecursion IsHeld fs → IsHeld f → AllByRecursion IsHeld (fs ++ f ∷ [])
+one_held [] f all one = (one, tt)
+one_held (g ∷ fs) f all one = (all.0, one_held fs f all.1 one)
+
+held_now : (start : ℕ) (before : Option Facts) (top : Option Deletion) (gs : List Fragment) (p q : Part) (f : Fragment) (text : List ℕ) (place : ℕ)
+    → Taken start before top gs p text → Added f place p q → AllByRecursion IsHeld (behind_statics (gs ++ f ∷ []))
+held_now start before top gs p q f text place t a = subst (AllByRecursion IsHeld) (sym (one_behind gs f a.held)) (one_held (behind_statics gs) f t.held a.held)
+
 pub waits : (start : ℕ) (before : Option Facts) (top : Option Deletion) (gs : List Fragment) (p q : Part) (f : Fragment) (text : List ℕ) (place : ℕ)
     → Taken start before top gs p text → place ≡ start + length text → Added f place p q → length q.buffer.items < 4 + BLOCK_LEAST
     → Taken start before top (gs ++ f ∷ []) q text
@@ -83,6 +92,7 @@ waits start before top gs p q f text place t at a below =
       force = a.force ∙ force_more gs f p.force a.held t.force;
       full = t.full;
       short = t.short;
+      held = held_now start before top gs p q f text place t a;
       early = early;
       facts = facts_now start before top gs p q f text place t a;
     }
@@ -138,6 +148,7 @@ closes number_of written start before top gs s u p q r f text t at a long c =
         force = c.force ∙ a.force ∙ force_more gs f p.force a.held t.force;
         full = all_more (λ b. is_full b ≡ true) t.done block t.full full;
         short = all_more (λ b. length (body_bytes b) < 2 ^ 32) t.done block t.short short;
+        held = held_now start before top gs p q f text s.place t a;
         early = omega arith;
         facts = λ A h. subst (λ w. AreFactsSoFar (A ++ all_told top (gs ++ f ∷ [])) w.facts) (sym c.seen) (facts_now start before top gs p q f text s.place t a A h);
       };
@@ -209,6 +220,7 @@ ends number_of written start before top gs s u p q text t at low took same seen 
         full_long t.done t.full,
         ap length t.text,
       );
+      held = t.held;
       short = subst (AllByRecursion (λ b. length (body_bytes b) < 2 ^ 32)) (sym blocks) (short_last t.done t.begun t.short t.early);
       facts = λ A h. subst (λ w. AreFactsSoFar (A ++ all_told top gs) w.facts) (sym seen) (t.facts A h);
     }

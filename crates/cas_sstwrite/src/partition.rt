@@ -4,6 +4,7 @@ ghost use Rattle.std.specs.Prelude.{◌≡◌, ◌<◌, ◌^◌, ℕ, List, [], 
 ghost use Rattle.std.specs.Option.{option_to_list};
 ghost use Rattle.cas_streams.specs.declared.fragment.Fragment.{Fragment as FragmentOf};
 ghost use Rattle.cas_disk.specs.Counts.{Counted};
+ghost use Rattle.cas_fragments.specs.Allowed.{HaveRoom};
 ghost use Rattle.cas_fragments.specs.Blocks.{head_bytes, statics_in};
 ghost use Rattle.cas_sstwrite.specs.Inner.Sinks.{Took};
 ghost use Rattle.cas_sstwrite.specs.Causes.{IsOwn};
@@ -46,6 +47,7 @@ fn write_head<D: Draft>(
 ) -> Result<(), WriteFault>
     ensures took { OnOk result (Took D.number D.written (head_bytes key.now top columns.now) sink.old sink.new) }
     ensures key { OnOk result (length key.now < 2 ^ 16) }
+    ensures room { OnOk result (HaveRoom columns.now) }
     ensures count { Counted (D.Tally.number tally.old) (D.Tally.number tally.new) (IsErrOf result WriteFault.Failed) }
     ensures why { IfErr result (λ e. HeadFault sink.old.place key.now top columns.now e) }
 {

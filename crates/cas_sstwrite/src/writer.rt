@@ -14,6 +14,7 @@ ghost use Rattle.cas_tables.specs.Allowed.{FitsHeader};
 ghost use Rattle.cas_tables.specs.Contents.{Partition as PartitionOf};
 ghost use Rattle.cas_tables.specs.declared.header.Version.TheVariants.{Second};
 ghost use Rattle.cas_sstwrite.specs.Writers.{Writes, FitsStream, partition_of, fault_of, entries_of, place_of, Repeats};
+ghost use Rattle.cas_sstwrite.specs.Rooms.{AreHeld};
 ghost use Rattle.cas_sstwrite.specs.Causes.{WhyNot, IsOwn};
 ghost use Rattle.cas_sstwrite.specs.Inner.Parts.{Says};
 ghost use Rattle.cas_sstwrite.specs.Inner.Adding.{is_nothing, AddsFirst, AddsTold, WrittenFault};
@@ -210,6 +211,8 @@ impl<D: Draft, E: Copy> TableWriter<D, E> {
         ensures written { OnOk result ((columns : ListOf ColumnOf) (ps : ListOf PartitionOf) (fs : ListOf FragmentOf)
             → Writes D.number D.written columns self.old ps → S.to_come source.old ≡ Some fs → FitsStream columns key.now (S.over_all source.old) fs
             → Writes D.number D.written columns self.new (ps ++ partition_of key.now (S.over_all source.old) fs)) }
+        ensures kept { OnOk result ((self.new.header ≡ self.old.header) × (self.new.level ≡ self.old.level)) }
+        ensures held { OnOk result ((fs : ListOf FragmentOf) → S.to_come source.old ≡ Some fs → AreHeld fs) }
         ensures why { IfErr result (λ e. fault_of self.old ≡ None → (fs : ListOf FragmentOf) → S.to_come source.old ≡ Some fs
             → WhyNot (entries_of self.old) (place_of self.old) key.now (S.over_all source.old) fs e) }
         ensures own { IfErr result (λ e. fault_of self.old ≡ None → IsOwn e (S.broken_by source.new)) }

@@ -6,10 +6,12 @@ use Rattle.cas_cell.specs.declared.deletion.Deletion.{Deletion}
 use Rattle.cas_streams.specs.declared.fragment.Fragment.{Fragment}
 use Rattle.cas_facts.specs.Facts.{AreFactsSoFar}
 use Rattle.cas_facts.specs.Told.{all_told}
+use Rattle.cas_fragments.specs.Allowed.{HaveRoom}
 use Rattle.cas_fragments.specs.Spelling.{body_bytes}
 use Rattle.cas_fragments.specs.Blocks.{blocks_of, statics_in, behind_statics, head_bytes, partition_bytes}
 use Rattle.cas_index.specs.declared.entries.PartitionEntry.{PartitionEntry}
 use Rattle.cas_tables.specs.Places.{block_entries}
+use Rattle.cas_sstwrite.specs.Rooms.{IsHeld}
 use Rattle.cas_sstwrite.specs.declared.held.TableWriter.{TableWriter}
 use Rattle.cas_info.specs.declared.info.TheConstants.{PARTITION_LIMIT}
 use Rattle.cas_sstwrite.specs.declared.fault.Measure.TheVariants.{Partitions}
@@ -34,6 +36,8 @@ pub record AddsOne {D E : Type 0} (number_of : D → ℕ) (written : D → List 
   pub took : Took number_of written (partition_bytes under top fs) old.sink new.sink
   pub entries : new.entries.items ≡ old.entries.items ++ partition_entry under top fs old.sink.place ∷ []
   pub short : AllByRecursion (λ b. length (body_bytes b) < 2 ^ 32) (blocks_of (behind_statics fs))
+  pub statics : HaveRoom (statics_in fs)
+  pub held : AllByRecursion IsHeld (behind_statics fs)
   pub facts : (A : List Atom) → AreFactsSoFar A old.seen.facts → AreFactsSoFar (A ++ all_told top fs) new.seen.facts
   pub header : new.header ≡ old.header
   pub level : new.level ≡ old.level

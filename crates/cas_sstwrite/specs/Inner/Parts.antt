@@ -47,6 +47,7 @@ pub record Taken (start : ℕ) (before : Option Facts) (top : Option Deletion) (
   pub force : p.force ≡ at_end None (changes (behind_statics gs))
   pub full : AllByRecursion (λ b. is_full b ≡ true) done
   pub short : AllByRecursion (λ b. length (body_bytes b) < 2 ^ 32) done
+  pub held : AllByRecursion IsHeld (behind_statics gs)
   pub early : length (body_bytes begun) < BLOCK_LEAST
   pub facts : (A : List Atom) → AreFactsSoFar A before → AreFactsSoFar (A ++ all_told top gs) p.seen.facts
 
@@ -131,6 +132,7 @@ pub record Ends {D : Type 0} (number_of : D → ℕ) (written : D → List ℕ �
   pub entries : new.entries.items ≡ block_entries start None (blocks_of (behind_statics gs))
   pub few : length new.entries.items < 2 ^ 32
   pub short : AllByRecursion (λ b. length (body_bytes b) < 2 ^ 32) (blocks_of (behind_statics gs))
+  pub held : AllByRecursion IsHeld (behind_statics gs)
   pub facts : (A : List Atom) → AreFactsSoFar A before → AreFactsSoFar (A ++ all_told top gs) new.seen.facts
 
 -- why a partition with these rows and markers isn't written, whose blocks begin at a place

@@ -19,6 +19,7 @@ use Rattle.cas_sstwrite.specs.declared.fault.WriteFault.{WriteFault}
 use Rattle.cas_sstwrite.specs.declared.fault.WriteFault.TheVariants.{Failed, Order, TooMany, Unfit, Mem}
 use Rattle.cas_sstwrite.specs.declared.fault.PartitionFault.{PartitionFault}
 use Rattle.cas_sstwrite.specs.declared.fault.PartitionFault.TheVariants.{Write, Source}
+use Rattle.cas_sstwrite.specs.Rooms.{IsHeld}
 use Rattle.cas_sstwrite.specs.declared.held.Part.{Part}
 use Rattle.cas_sstwrite.specs.declared.held.Sink.{Sink}
 use Rattle.cas_sstwrite.specs.Inner.Sinks.{Took}
@@ -45,6 +46,8 @@ pub record WrotePartition {D : Type 0} (number_of : D → ℕ) (written : D → 
   pub short : AllByRecursion (λ b. length (body_bytes b) < 2 ^ 32) (blocks_of (behind_statics given))
   pub facts : (A : List Atom) → AreFactsSoFar A before → AreFactsSoFar (A ++ all_told top given) new.seen.facts
   pub key : length under < 2 ^ 16
+  pub statics : HaveRoom (statics_in given)
+  pub held : AllByRecursion IsHeld (behind_statics given)
   pub front : BeginWith first given
   pub all : (fs : List Fragment) → Says first told fs → given ≡ fs
 

@@ -2,6 +2,7 @@ use Rattle.std.proofs.Common.{◌≡◌, ◌+◌, ℕ, List, [], Option, subst, 
 use Rattle.cas_atoms.specs.declared.row.RowColumn.{RowColumn}
 use Rattle.cas_cell.specs.declared.deletion.Deletion.{Deletion}
 use Rattle.cas_streams.specs.declared.fragment.Fragment.{Fragment}
+use Rattle.cas_fragments.specs.Allowed.{HaveRoom}
 use Rattle.cas_fragments.specs.Blocks.{head_bytes}
 use Rattle.cas_sstwrite.specs.declared.fault.PartitionFault.{PartitionFault}
 use Rattle.cas_sstwrite.specs.Inner.Sinks.{Took}
@@ -34,5 +35,6 @@ returns-clause-wrote g c =
     let t = c.write_head.new.sink in
     partition_written g.D.Draft.number g.D.Draft.written c.args.key.now c.args.top c.args.first c.args.seen.facts s t c.write_rows.new.sink c.begun-part.result
     c.write_rows.new.part (g.S.FragmentSource.to_come c.args.source.now) c.in_ok-write_head.ensures.key
+    (subst HaveRoom c.statics_of.ensures c.in_ok-write_head.ensures.room)
     (subst (λ (cs : List RowColumn). Took g.D.Draft.number g.D.Draft.written (head_bytes c.args.key.now c.args.top cs) s t) c.statics_of.ensures c.in_ok-write_head.ensures.took)
     c.begun-part.ensures c.in_ok-write_rows.ensures.wrote

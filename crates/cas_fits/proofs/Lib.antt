@@ -1,0 +1,3 @@
+pub mod Allowing
+pub mod Fitted
+pub mod Silent
