@@ -183,8 +183,7 @@ module _ (columns : List Column) where
   at_place s m q w (path t n p) v r f e =
       let (same, is) = if_true (is_at s m q (path t n p)) w v e in
       let (rows, rest) = both_hold (same_row s t) ((m == n) && same_bytes q p) same in
-      let (number, bytes) = both_hold (m == n) (same_bytes q p) rest in
-      (
+      let (number, bytes) = both_hold (m == n) (same_bytes q p) rest in (
         subst RowFits (equal_rows s t rows) r,
         subst (λ k. CellFits k p v) (equal_numbers m n number) (subst (λ z. CellFits m z v) (equal_bytes q p bytes) (subst (CellFits m q) is f)),
       )

@@ -196,5 +196,5 @@ module _ (columns : List Column) where
   stream_fits top fs atoms formed cuts no_more all room =
       let s : Stream = record { top = top; fragments = fs } in
       let (over, told) = all_holds (Allowed columns) (allowed_by_place columns) (clustering_order columns) s formed.ordered
-          (all_allowed columns atoms all (flat top fs) no_more) in
+      (all_allowed columns atoms all (flat top fs) no_more) in
       fits_told top fs formed cuts over told room

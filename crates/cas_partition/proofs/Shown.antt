@@ -312,9 +312,10 @@ shows s p rows top fs sorted are t f = subst (λ d. Shows s p d fs) (sym t) (sub
   same = λ order of low high. chained (merge_is_join order ss (each_ordered order of low high)) (in_slice order of low high);
   formed = λ columns t low high. merge_forms columns ss (each_ordered (clustering_order columns) t.of low high)
       (subst (AllByRecursion (Tabled columns)) are.2 (rows_in_table columns s.lo s.hi p.spots.entries are.0 are.1 t.entries), (markers_have columns (clipped s p.ranges), tt));
-  cuts = λ columns t low high. merge_at (FitsCut (clustering_order columns)) ss
-      (subst (AreAtCuts columns) (sym (in_rows (clustering_order columns) t.of).1) tt,
-      (subst (AreAtCuts columns) (sym (marked (clipped s p.ranges))) (clipped_at (FitsCut (clustering_order columns)) s p.ranges low high t.cuts), tt));
+  cuts = λ columns t low high. merge_at (FitsCut (clustering_order columns)) ss (
+    subst (AreAtCuts columns) (sym (in_rows (clustering_order columns) t.of).1) tt,
+    (subst (AreAtCuts columns) (sym (marked (clipped s p.ranges))) (clipped_at (FitsCut (clustering_order columns)) s p.ranges low high t.cuts), tt),
+  );
 }))
   where
     with_markers : List Change → List Stream

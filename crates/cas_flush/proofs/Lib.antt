@@ -1,0 +1,4 @@
+pub mod Holding
+pub mod Reaching
+pub mod Writing
+pub mod Counting

@@ -1,0 +1,82 @@
+-- One key of a flush (own).
+use Rattle.std.specs.Prelude.{◌≡◌, ◌⊎◌, ℕ, Bool, true, false, not, List, [], ◌∷◌, ◌++◌, length, Option}
+use Rattle.cas_types.specs.declared.schema.Column.{Column}
+use Rattle.cas_cell.specs.declared.deletion.Deletion.{Deletion}
+use Rattle.cas_bounds.specs.ClusteringOrder.{clustering_order}
+use Rattle.cas_bounds.specs.declared.cuts.Cut.{Cut}
+use Rattle.cas_bounds.specs.declared.cuts.Slice.{Slice}
+use Rattle.cas_bounds.specs.declared.order.Ordered.{Ordered}
+use Rattle.cas_atoms.specs.Winners.{Same}
+use Rattle.cas_atoms.specs.declared.atom.Mutation.{Mutation}
+use Rattle.cas_streams.specs.Flat.{flat}
+use Rattle.cas_streams.specs.NoMore.{SaysNoMore}
+use Rattle.cas_streams.specs.declared.fragment.Fragment.{Fragment}
+use Rattle.cas_memtable.specs.Memtables.{is_above}
+use Rattle.cas_parts.specs.Kept.{atoms_under}
+use Rattle.cas_tables.specs.declared.header.Header.{Header}
+use Rattle.cas_tables.specs.Contents.{Partition, Contents}
+use Rattle.cas_tables.specs.Files.{index_of, front_bytes}
+use Rattle.cas_sstwrite.specs.declared.fault.PartitionFault.{PartitionFault}
+use Rattle.cas_sstwrite.specs.declared.fault.PartitionFault.TheVariants.{Write, Source}
+use Rattle.cas_sstwrite.specs.declared.fault.WriteFault.{WriteFault}
+use Rattle.cas_sstwrite.specs.declared.fault.WriteFault.TheVariants.{Failed, Order, TooMany, Unfit, Mem}
+use Rattle.cas_sstwrite.specs.declared.held.TableWriter.{TableWriter}
+use Rattle.cas_sstwrite.specs.Causes.{Causes}
+use Rattle.cas_sstwrite.specs.Writers.{Writes, partition_of}
+use Rattle.cas_flush.specs.Flushed.{AreOf, is_below}
+
+-- ---- all rows of a partition
+
+-- one end of a partition
+abbrev pub end_at : List Ordered → Bool → Cut
+end_at order after = record { prefix = []; after = after; order = order }
+
+-- from one end to the other
+pub record IsWhole (columns : List Column) (s : Slice) : Type 0 where
+  pub lo : s.lo ≡ end_at (clustering_order columns) false
+  pub hi : s.hi ≡ end_at (clustering_order columns) true
+
+-- ---- faults
+
+-- a source in memory has no fault but that memory ran out
+abbrev pub told : {E : Type 0} → PartitionFault E → WriteFault
+told (Write e) = e
+told (Source e) = Mem
+
+-- the writer's reason not to write a stream under a key, which says what the mutations say there
+pub record Refuses (c : Contents) (key : List ℕ) (ws : List Mutation) (e : WriteFault) : Type 0 where
+  pub top : Option Deletion
+  pub fragments : List Fragment
+  pub same : Same (flat top fragments) (atoms_under key ws)
+  pub no_more : SaysNoMore (flat top fragments) (atoms_under key ws)
+  pub causes : Causes (index_of c) (length (front_bytes c)) key top fragments e
+
+-- or memory ran out
+abbrev pub KeyFault : Contents → List ℕ → List Mutation → WriteFault → Type 0
+KeyFault c key ws e = (e ≡ Mem) ⊎ Refuses c key ws e
+
+-- behind the partitions of the keys below some key
+pub record Stops (header : Header) (level : ℕ) (ws : List Mutation) (e : WriteFault) : Type 0 where
+  pub before : List Partition
+  pub key : List ℕ
+  pub below : AreOf (is_below key) ws before
+  pub why : Refuses (record { header = header; level = level; partitions = before }) key ws e
+  pub order : e ≡ Order → ⊥
+
+abbrev pub StopsAt : Header → ℕ → List Mutation → WriteFault → Type 0
+StopsAt header level ws e = (e ≡ Mem) ⊎ Stops header level ws e
+
+-- ---- what is written
+
+-- one partition more, if something is said of it: a stream that says what the mutations say under the key
+pub record WritesKey {D E : Type 0} (number_of : D → ℕ) (written : D → List ℕ → Type 0) (columns : List Column) (w : TableWriter D E) (ps : List Partition)
+    (under : List ℕ) (ws : List Mutation) : Type 0 where
+  pub top : Option Deletion
+  pub fragments : List Fragment
+  pub same : Same (flat top fragments) (atoms_under under ws)
+  pub no_more : SaysNoMore (flat top fragments) (atoms_under under ws)
+  pub writes : Writes number_of written columns w (ps ++ partition_of under top fragments)
+
+-- the keys up to that one, or none
+abbrev pub is_reached : Option (List ℕ) → List ℕ → Bool
+is_reached after key = not (is_above after key)
