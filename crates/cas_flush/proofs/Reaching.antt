@@ -65,7 +65,7 @@ between Equal e f = refl
 between Greater e f = absurd (true≢false f)
 
 apart : (a b : List ℕ) → (a ≡ b → ⊥) → same_bytes a b ≡ false
-apart a b h = elim (same_bytes a b) as (λ t. same_bytes a b ≡ t → t ≡ false) [ | true ↦ λ e. absurd (h (equal_bytes a b e)) | false ↦ λ e. refl ] refl
+apart a b h = elim (same_bytes a b) as (λ t. same_bytes a b ≡ t → t ≡ false) [ true ↦ λ e. absurd (h (equal_bytes a b e)) | false ↦ λ e. refl ] refl
 
 own : (a : List ℕ) → same_bytes a a ≡ true
 own a = ap is_eq (itself a)
