@@ -15,7 +15,7 @@ use cas_streams::{Fragment, FragmentSource};
 #[derive(Drop)]
 pub struct FileSource<'a, S: Sealed> {
     blocks: Blocks<'a, S>,
-    ghost counted: { blocks.fault ≡ Some table_fault.Read → 1 ≤ S.Tally.number blocks.pieces.tally },
+    ghost counted: { blocks.fault ≡ Some table_fault.Read → 1 ≤ S.Tally.number blocks.tally },
 }
 
 impl<'a, S: Sealed> FileSource<'a, S> {
