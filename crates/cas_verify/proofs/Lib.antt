@@ -1,0 +1,11 @@
+pub mod Bodies
+pub mod Turns
+pub mod Steps
+pub mod Heads
+pub mod Rounds
+pub mod Comparing
+pub mod Ranges
+pub mod Parts
+pub mod FieldsLaws
+pub mod CheckLaws
+pub mod Ending
