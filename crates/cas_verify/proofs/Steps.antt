@@ -1,6 +1,6 @@
 -- A block further, or the end of a partition.
 use Rattle.std.proofs.Common.{◌≡◌, ℕ, ◌+◌, ◌*◌, ◌<◌, ◌≤◌, Bool, true, false, List, [], ◌∷◌, ◌++◌, length, vec_len, Option, None, Some, Result, Ok, Err, inl, inr, refl, sym, ap, subst, ◌∙◌, arith}
-use Rattle.std.specs.Prelude.{is_none, IsSome}
+use Rattle.std.specs.Prelude.{is_none, IsSome, slice_get}
 use Rattle.std.specs.Option.{option_to_list}
 use Rattle.std.specs.List.{All, AllByRecursion, flat_map}
 use Rattle.cas_types.specs.declared.schema.Column.{Column}
@@ -30,7 +30,7 @@ use Rattle.cas_index.specs.declared.entries.BlockEntry.{BlockEntry}
 use Rattle.cas_tables.specs.Places.{first_cut, block_entries}
 use Rattle.cas_blocks.proofs.NextBlock.{next_bad}
 use Rattle.cas_sstread.specs.Loading.{IsBadAt}
-use Rattle.cas_verify.specs.Inner.Walks.{IsFirst}
+use Rattle.cas_verify.specs.Inner.Walks.{HasCut, IsFirst}
 use Rattle.cas_verify.proofs.Turns.{bad_then}
 
 -- ---- the next block isn't there
@@ -57,22 +57,29 @@ pub first_there : (fs : List Fragment) → IsFirst fs → IsThere fs
 first_there [] first = first
 first_there (f ∷ fs) first = tt
 
-cut_short : (f : Fragment) (fs : List Fragment) → IsFirst (f ∷ fs) → AreShort (first_cut f).prefix
-cut_short (fragment.Static cs) fs first = absurd first
-cut_short (fragment.Row r) fs first = first
-cut_short (fragment.Marker cut d) fs first = first
+pub first_has : (fs : List Fragment) (f : Fragment) → Some f ≡ slice_get fs 0 → IsFirst fs → HasCut f
+first_has [] f e first = absurd first
+first_has (g ∷ fs) f e first = let same : g ≡ f = cc in subst HasCut same first
 
--- the entry of a block: it has room, and is what the index is to tell
-pub entry_room : (fs : List Fragment) (cut : Cut) (place : ℕ) (now : Option Deletion) → IsFirst fs
-    → ((f : Fragment) (gs : List Fragment) → fs ≡ f ∷ gs → cut ≡ first_cut f)
-    → HasRoom (record { cut = cut; place = place; in_force = now }) × (record { cut = cut; place = place; in_force = now } ∷ [] ≡ block_entries place now (fs ∷ []))
-entry_room [] cut place now first is = absurd first
-entry_room (f ∷ fs) cut place now first is =
-    let same : cut ≡ first_cut f = is f fs refl in
-    let short : AreShort cut.prefix = subst (λ (c : Cut). AreShort c.prefix) (sym same) (cut_short f fs first) in (
-      record { few = short.0; short = short.1 },
-      ap (λ (c : Cut). record { cut = c; place = place; in_force = now } ∷ []) same,
-    )
+pub first_none : (fs : List Fragment) → None ≡ slice_get fs 0 → IsFirst fs → ⊥
+first_none [] e first = first
+first_none (g ∷ fs) e first = absurd cc
+
+cut_short : (f : Fragment) → HasCut f → AreShort (first_cut f).prefix
+cut_short (fragment.Static cs) has = absurd has
+cut_short (fragment.Row r) has = has
+cut_short (fragment.Marker cut d) has = has
+
+-- the entry of a block has room, and is what the index is to tell
+pub entry_room : (f : Fragment) (cut : Cut) (place : ℕ) (now : Option Deletion) → HasCut f → cut ≡ first_cut f → HasRoom (record { cut = cut; place = place; in_force = now })
+entry_room f cut place now has is =
+    let short : AreShort cut.prefix = subst (λ (c : Cut). AreShort c.prefix) (sym is) (cut_short f has) in record { few = short.0; short = short.1 }
+
+pub entry_told : (fs : List Fragment) (f : Fragment) (cut : Cut) (place : ℕ) (now : Option Deletion) → Some f ≡ slice_get fs 0 → cut ≡ first_cut f
+    → record { cut = cut; place = place; in_force = now } ∷ [] ≡ block_entries place now (fs ∷ [])
+entry_told [] f cut place now e is = absurd cc
+entry_told (g ∷ fs) f cut place now e is =
+    let same : f ≡ g = cc in ap (λ (c : Cut). record { cut = c; place = place; in_force = now } ∷ []) (is ∙ ap first_cut same)
 
 -- the last of the fragments was taken
 pub reached_pop : (r : Reached) (fs front : List Fragment) (last : Option Fragment) (force : Option Deletion) → fs ≡ front ++ option_to_list last → IsSome last

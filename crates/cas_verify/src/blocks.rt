@@ -1,6 +1,6 @@
 //! The blocks of a partition, one after another; of the one before, the last fragment is kept.
 
-ghost use Rattle.std.specs.Prelude.{◌≡◌, ◌+◌, ◌≤◌, ◌<◌, ◌^◌, ◌∷◌, ℕ, List, length, Some, true, IfOk, OnOk, IsErrOf};
+ghost use Rattle.std.specs.Prelude.{◌≡◌, ◌+◌, ◌≤◌, ◌<◌, ◌^◌, [], ◌∷◌, ℕ, List, length, Some, true, IfOk, OnOk, IsErrOf};
 ghost use Rattle.std.specs.Option.{option_copied};
 ghost use Rattle.cas_types.specs.Limits.{IsNarrow};
 ghost use Rattle.cas_bounds.specs.ClusteringOrder.{clustering_order};
@@ -11,12 +11,12 @@ ghost use Rattle.cas_fragments.specs.Laws.{IsBlock};
 ghost use Rattle.cas_fragments.specs.Reading.{body_at, next_block_at, blocks_at};
 ghost use Rattle.cas_fragments.specs.Spelling.{body_bytes};
 ghost use Rattle.std.specs.List.{flat_map};
-ghost use Rattle.cas_streams.specs.declared.fragment.Fragment.{Fragment as FragmentOf};
 ghost use Rattle.cas_info.specs.declared.info.TheConstants.{FILE_LIMIT};
-ghost use Rattle.cas_tables.specs.Places.{first_cut};
+ghost use Rattle.cas_index.specs.Allowed.{HasRoom};
+ghost use Rattle.cas_tables.specs.Places.{first_cut, block_entries};
 ghost use Rattle.cas_blocks.specs.Reading.{left_at};
 ghost use Rattle.cas_verify.specs.Inner.Ends.{Ends};
-ghost use Rattle.cas_verify.specs.Inner.Walks.{reached, Sees, IsSound, Goes, Steps, Went, IsFirst};
+ghost use Rattle.cas_verify.specs.Inner.Walks.{reached, HasCut, IsFirst, Sees, IsSound, Goes, Steps, Went};
 
 use crate::bodies::read_body;
 use crate::faults::{bad, fault_in};
@@ -45,12 +45,12 @@ pub(crate) struct Walk {
     pub(crate) seen: Tally,
 }
 
-// The cut by which a block begins that begins with these fragments.
-fn first_cut(fragments: &[Fragment]) -> Result<Cut, AllocError>
-    requires { IsFirst fragments.now }
-    ensures { IfOk result (λ c. (f : FragmentOf) (fs : List FragmentOf) → fragments.now ≡ f ∷ fs → c ≡ first_cut f) }
+// The cut by which a block begins that begins with the row or marker.
+fn first_cut(fragment: &Fragment) -> Result<Cut, AllocError>
+    requires { HasCut fragment.now }
+    ensures { IfOk result (λ c. c ≡ first_cut fragment.now) }
 {
-    match &fragments[0] {
+    match fragment {
         Fragment::Static(_) => unreachable!(),
         Fragment::Row(row) => {
             let clustering = row.clustering.copied()?;
@@ -61,6 +61,26 @@ fn first_cut(fragments: &[Fragment]) -> Result<Cut, AllocError>
             })
         }
         Fragment::Marker(cut, _) => cut.copied(),
+    }
+}
+
+// What the index is to tell of a block of these fragments.
+fn entry_of(
+    fragments: &[Fragment],
+    place: u64,
+    force: Option<Deletion>,
+) -> Result<BlockEntry, AllocError>
+    requires { IsFirst fragments.now }
+    ensures room { IfOk result (λ e. HasRoom e) }
+    ensures told { IfOk result (λ e. e ∷ [] ≡ block_entries place force (fragments.now ∷ [])) }
+{
+    match fragments.first() {
+        Some(first) => Ok(BlockEntry {
+            cut: first_cut(first)?,
+            place,
+            in_force: force,
+        }),
+        None => unreachable!(),
     }
 }
 
@@ -126,12 +146,8 @@ impl Walk {
         ensures sound { OnOk result (IsSound self.new) }
     {
         let mut block = block;
-        let cut = first_cut(&block.fragments)?;
-        self.entries.push(BlockEntry {
-            cut,
-            place: self.place,
-            in_force: self.force,
-        })?;
+        let entry = entry_of(&block.fragments, self.place, self.force)?;
+        self.entries.push(entry)?;
         see_all(&mut self.seen, &block.fragments);
         self.last = block.fragments.pop();
         self.place = self.place + 4 + long as u64;

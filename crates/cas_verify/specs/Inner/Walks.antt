@@ -43,12 +43,16 @@ pub record IsBegun (h : Head) (place : ℕ) (seen : Tally) (w : Walk) : Type 0 w
   pub entries : w.entries.items ≡ []
   pub seen_is : w.seen ≡ seen
 
--- fragments of which the first is a row or a marker, and has room in its fields
+-- a row or a marker, whose cut has room in its fields
+abbrev pub HasCut : Fragment → Type 0
+HasCut (fragment.Static cs) = ⊥
+HasCut (fragment.Row r) = AreShort r.clustering.values
+HasCut (fragment.Marker cut d) = AreShort cut.prefix
+
+-- fragments of which the first is such
 abbrev pub IsFirst : List Fragment → Type 0
 IsFirst [] = ⊥
-IsFirst (fragment.Static cs ∷ fs) = ⊥
-IsFirst (fragment.Row r ∷ fs) = AreShort r.clustering.values
-IsFirst (fragment.Marker cut d ∷ fs) = AreShort cut.prefix
+IsFirst (f ∷ fs) = HasCut f
 
 -- a block further
 pub record Goes (w v : Walk) (fs : List Fragment) : Type 0 where
