@@ -14,7 +14,7 @@ use Rattle.cas_codec.specs.Exact.{AreBytes, IsExact, Begins}
 use Rattle.cas_codec.specs.Reading.{Left, Read, ◌>>=◌, checked, bytes_at}
 use Rattle.cas_codec.specs.declared.fault.ReadFault.{ReadFault}
 use Rattle.cas_codec.specs.declared.fault.ReadFault.TheVariants.{Bad}
-use Rattle.cas_codec.proofs.Exactness.{bind_ok, test_ok, exact_checked, exact_map, AreBytes-rest, read_left}
+use Rattle.cas_codec.proofs.Exactness.{bind_ok, test_ok, ok_is, exact_checked, exact_map, AreBytes-rest, read_left}
 use Rattle.cas_codec.proofs.FieldLaws.{exact_bytes}
 use Rattle.cas_records.specs.Spelling.{deletion_bytes, cut_bytes}
 use Rattle.cas_info.specs.declared.info.TableInfo.{TableInfo}
@@ -52,11 +52,7 @@ all_of fields = flat_map (λ (f : List ℕ). f) fields
 
 fields_found : (fs : List (List ℕ)) (left new : Left) → AreBytes left.bytes → fields_at fs left ≡ Ok (tt, new) → left.bytes ≡ all_of fs ++ new.bytes
 unfolding fields_at
-fields_found [] left new are e = ap (λ (r : Read (Unit {0})). bytes_in r) e
-  where
-    bytes_in : Read (Unit {0}) → List ℕ
-    bytes_in (Ok p) = p.1.bytes
-    bytes_in (Err f) = []
+fields_found [] left new are e = ap (λ (q : Unit {0} × Left). q.1.bytes) (ok_is (tt, left) (tt, new) e)
 fields_found (f ∷ fs) left new are e =
     let one = bind_ok (field_at f left) (λ (p : Unit {0} × Left). fields_at fs p.1) (tt, new) e in
     let g = (field_exact f).found left one.0.1 tt are one.1 in

@@ -171,10 +171,8 @@ module _ (order : List Ordered) (columns : List Column) (end : ℕ) (file : List
 
   key_then : (s t : Scan) (p : Part × Left) → Adds end file s t p → key_before t ≡ Some p.0.0.0
   key_then s t p adds =
-      ap (λ (es : List PartitionEntry). option_key es) adds.entries ∙ last_pushed (λ (e : PartitionEntry). e.key) s.entries.items (entry_for s.place p.0)
-    where
-      option_key : List PartitionEntry → Option (List ℕ)
-      option_key es = last_key (λ (e : PartitionEntry). e.key) es
+      ap (λ (es : List PartitionEntry). last_key (λ (e : PartitionEntry). e.key) es) adds.entries
+      ∙ last_pushed (λ (e : PartitionEntry). e.key) s.entries.items (entry_for s.place p.0)
 
   module _ (n : ℕ) (s t : Scan) (p : Part × Left) (next : NextOf s ≡ Ok p) (adds : Adds end file s t p) where
     at_is : p.1.at ≡ t.place
