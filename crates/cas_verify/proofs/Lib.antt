@@ -1,7 +1,7 @@
-pub mod Bodies
+pub mod BodyLaws
 pub mod Turns
 pub mod Steps
-pub mod Heads
+pub mod HeadLaws
 pub mod Rounds
 pub mod Comparing
 pub mod Ranges

@@ -19,7 +19,7 @@ use Rattle.cas_tables.specs.declared.header.Version.{Version}
 use Rattle.cas_tables.specs.declared.header.Version.TheVariants.{First, Second}
 use Rattle.cas_blocks.specs.Reading.{left_at}
 use Rattle.cas_sstread.specs.Reading.{part, filled_at, Loaded}
-use Rattle.cas_verify.specs.declared.check.TheConstants.{VERSION_PLACE}
+use Rattle.cas_verify.specs.declared.whole.TheConstants.{VERSION_PLACE}
 use Rattle.cas_verify.specs.Partitions.{Part, partitions_at, atoms_in, entries_for}
 use Rattle.cas_verify.specs.Fields.{fields_at, index_fields, filter_fields, info_fields}
 

@@ -19,10 +19,11 @@ use cas_records::{put_cut, put_deletion};
 use cas_types::{Mem, compare_bytes};
 
 // Whether a field was spelled.
-fn spelled(result: Result<(), Mem>) -> Result<(), ReadFault>
-    ensures ok { OnOk result (IsOk result.entry) }
+fn spelled(written: Result<(), Mem>) -> Result<(), ReadFault>
+    ensures ok { OnOk result (IsOk written) }
+    ensures why { IfErr result (λ f. f ≡ ReadFault.Mem) }
 {
-    match result {
+    match written {
         Ok(()) => Ok(()),
         Err(Mem) => Err(ReadFault::Mem),
     }

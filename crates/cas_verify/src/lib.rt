@@ -3,13 +3,13 @@
 
 mod blocks;
 mod bodies;
-mod check;
 mod faults;
 mod fields;
 mod heads;
 mod laws;
 mod partitions;
 mod rest;
+mod whole;
 
-pub use check::check;
 pub use laws::{checking_is_exact, there_are_facts};
+pub use whole::check;
