@@ -196,12 +196,12 @@ module _ (columns : List Column) (narrow : IsNarrow columns) (table shard : ℕ)
       some_atoms [] there fits = absurd there
       some_atoms (q ∷ qs) there fits = there_before (flat_of (stream_of q)) (atoms_in qs) (part_fits columns q fits.0).said
 
+      ok_same : (xs ys : List Part) → (let r : Result (List Part) ReadFault = Ok xs in r) ≡ Ok ys → xs ≡ ys
+      ok_same xs ys e = ok_is xs ys e
+
       of_facts : (o : Option Facts) → AreFactsSoFar (atoms_in ps) o → (f : Facts) × AreFactsOf columns k file f
       of_facts None e = absurd (subst IsThere e (some_atoms ps (parts_are ps is).some (parts_are ps is).fit))
       of_facts (Some f) h = (f, λ qs there. subst (λ (xs : List Part). AreFacts (atoms_in xs) f) (ok_same ps qs (sym is ∙ there)) h)
-
-      ok_same : (xs ys : List Part) → (let r : Result (List Part) ReadFault = Ok xs in r) ≡ Ok ys → xs ≡ ys
-      ok_same xs ys e = ok_is xs ys e
 
   module _ (f : Facts) (ps : List Part) (second : k.version ≡ Second) (found : own_partitions_at columns k file ≡ Ok ps) (facts : AreFacts (atoms_in ps) f)
       (rest : own_rest_at (entries_for HEADER_LENGTH ps) info f k.end file ≡ Ok tt) where

@@ -17,6 +17,7 @@ use Rattle.cas_records.specs.Reading.{key_at}
 use Rattle.cas_streams.specs.Flat.{changes, at_end}
 use Rattle.cas_streams.specs.Merged.{flat_of}
 use Rattle.cas_streams.specs.declared.fragment.Fragment.{Fragment}
+use Rattle.cas_streams.specs.declared.fragment.Fragment.TheVariants as fragment
 use Rattle.cas_facts.specs.Facts.{AreFactsSoFar}
 use Rattle.cas_facts.specs.Told.{told, top_told, all_told}
 use Rattle.cas_facts.specs.declared.facts.Tally.{Tally}
@@ -52,6 +53,14 @@ HeadOf = List ℕ × Option Deletion × List RowColumn
 static_closed : (cs : List RowColumn) (fs : List Fragment) → changes (static_of cs ++ fs) ≡ changes fs
 static_closed [] fs = refl
 static_closed (c ∷ cs) fs = refl
+
+static_told : (cs : List RowColumn) → told (fragment.Static cs) ≡ flat_map told (static_of cs)
+static_told [] = refl
+static_told (c ∷ cs) = sym (append-nil (told (fragment.Static (c ∷ cs))))
+
+pub sees_head : (s t u : Tally) (top : Option Deletion) (cs : List RowColumn) → Sees s (top_told top) t → Sees t (told (fragment.Static cs)) u → Sees s (all_told top (static_of cs)) u
+sees_head s t u top cs a b =
+    subst (λ (atoms : List Atom). Sees s (top_told top ++ atoms) u) (static_told cs) (sees_both s t u (top_told top) (told (fragment.Static cs)) a b)
 
 told_all : (top : Option Deletion) (xs ys : List Fragment) → all_told top xs ++ flat_map told ys ≡ all_told top (xs ++ ys)
 told_all top xs ys = append_assoc (top_told top) (flat_map told xs) (flat_map told ys) ∙ ap (λ t. top_told top ++ t) (sym (flat_both told xs ys))

@@ -1,6 +1,6 @@
 -- A block further, or the end of a partition.
 use Rattle.std.proofs.Common.{◌≡◌, ℕ, ◌+◌, ◌*◌, ◌<◌, ◌≤◌, Bool, true, false, List, [], ◌∷◌, ◌++◌, length, vec_len, Option, None, Some, Result, Ok, Err, inl, inr, refl, sym, ap, subst, ◌∙◌, arith}
-use Rattle.std.specs.Prelude.{is_none, IsSome, slice_get}
+use Rattle.std.specs.Prelude.{is_some, is_none, not, IsSome, slice_get}
 use Rattle.std.specs.Option.{option_to_list}
 use Rattle.std.specs.List.{All, AllByRecursion, flat_map}
 use Rattle.cas_types.specs.declared.schema.Column.{Column}
@@ -84,7 +84,7 @@ entry_told (g ∷ fs) f cut place now e is =
 -- the last of the fragments was taken
 pub reached_pop : (r : Reached) (fs front : List Fragment) (last : Option Fragment) (force : Option Deletion) → fs ≡ front ++ option_to_list last → IsSome last
     → force ≡ (past_all r fs).force → record { last = last_place last; force = force } ≡ past_all r fs
-reached_pop r fs front None force e some same = absurd some
+reached_pop r fs front None force e some same = absurd (let no : false ≡ true = some in cc)
 reached_pop r fs front (Some x) force e some same =
     let last : place_of x ≡ (past_all r fs).last = sym (ap (λ gs. (past_all r gs).last) e ∙ ap (λ (q : Reached). q.last) (past_pushed r front x)) in
     λ i. record { last = last i; force = same i }
@@ -95,3 +95,13 @@ block_long fs = bytes32_long (body_bytes fs)
 pub none_is : {X : Type 0} (o : Option X) → is_none o ≡ true → o ≡ None
 none_is None e = refl
 none_is (Some x) e = absurd cc
+
+pub first_some : (fs : List Fragment) → IsFirst fs → 0 < length fs
+first_some [] first = absurd first
+first_some (f ∷ fs) first = omega arith
+
+pub none_by : {X : Type 0} (o : Option X) (b : Bool) → is_some o ≡ not b → b ≡ is_none o
+none_by None true e = refl
+none_by None false e = absurd cc
+none_by (Some x) true e = absurd cc
+none_by (Some x) false e = refl

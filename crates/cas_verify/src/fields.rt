@@ -146,7 +146,10 @@ impl Fields<'_> {
         ensures { Gives (λ u. u) result self.new.left (fields_at (flat_map block_fields blocks.now) self.old.left) }
     {
         for block in blocks {
-            self.block(block)?;
+            match self.block(block) {
+                Ok(()) => {}
+                Err(fault) => return Err(fault),
+            }
         }
         Ok(())
     }
@@ -167,8 +170,10 @@ impl Fields<'_> {
         requires { HasRooms partition.now }
         ensures { Gives (λ u. u) result self.new.left (fields_at (partition_fields partition.now) self.old.left) }
     {
-        self.head(partition)?;
-        self.blocks(partition.blocks.as_slice())
+        match self.head(partition) {
+            Ok(()) => self.blocks(partition.blocks.as_slice()),
+            Err(fault) => Err(fault),
+        }
     }
 
     fn partitions(&mut self, partitions: &[PartitionEntry]) -> Result<(), ReadFault>
@@ -176,7 +181,10 @@ impl Fields<'_> {
         ensures { Gives (λ u. u) result self.new.left (fields_at (flat_map partition_fields partitions.now) self.old.left) }
     {
         for partition in partitions {
-            self.partition(partition)?;
+            match self.partition(partition) {
+                Ok(()) => {}
+                Err(fault) => return Err(fault),
+            }
         }
         Ok(())
     }
@@ -197,8 +205,10 @@ impl Fields<'_> {
         requires rooms { All HasRooms partitions.now }
         ensures { Gives (λ u. u) result self.new.left (fields_at (index_fields partitions.now) self.old.left) }
     {
-        self.count(partitions)?;
-        self.partitions(partitions)
+        match self.count(partitions) {
+            Ok(()) => self.partitions(partitions),
+            Err(fault) => Err(fault),
+        }
     }
 
     /// The filter of these bytes.

@@ -62,6 +62,7 @@ fn read_next_head(
     columns: &[Column],
     before: Option<&[u8]>,
 ) -> Result<Head, ReadFault>
+    requires { reader.old.at + length reader.old.bytes < 2 ^ 64 }
     ensures { Gives (λ h. (h.key, h.top, h.columns)) result reader.new (next_head_at columns.now (option_copied before.entry) reader.old) }
 {
     let mut ahead = Reader::new(reader.left(), reader.at());

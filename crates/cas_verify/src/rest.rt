@@ -42,7 +42,7 @@ fn filter_for(alloc: Global, entries: &[PartitionEntry]) -> Result<Filter, Mem>
 
 // The key of a partition; no bytes where there is none.
 fn key_of(alloc: Global, entry: Option<&PartitionEntry>) -> Result<Bytes, AllocError>
-    requires { IfSome (option_copied entry.entry) (λ e. length e.key < 2 ^ 16) }
+    requires { IfSome (option_copied entry) (λ e. length e.key < 2 ^ 16) }
     ensures key { IfOk result (λ b. b ≡ key_or (option_copied entry.entry)) }
     ensures short { IfOk result (λ b. length b < 2 ^ 16) }
 {
