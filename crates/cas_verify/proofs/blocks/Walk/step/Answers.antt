@@ -1,7 +1,7 @@
 use Rattle.std.proofs.Common.{◌≡◌, ◌+◌, ◌<◌, None, inr, refl, ap, ◌∙◌, length, vec_len, arith}
 use Rattle.cas_bounds.specs.ClusteringOrder.{clustering_order}
 use Rattle.cas_blocks.specs.Reading.{left_at}
-use Rattle.cas_blocks.proofs.NextBlock.{next_end, next_no_end, next_no_more}
+use Rattle.cas_blocks.proofs.NextBlock.{next_end, next_no_end, next_no_more, no_bytes, some_bytes}
 use Rattle.cas_verify.specs.Inner.Walks.{reached}
 use Rattle.cas_verify.proofs.Steps.{first_of}
 use Rattle.cas_verify.proofs.blocks.Walk.step.Goals as goal
@@ -10,7 +10,8 @@ pub returns-then-not-self-clause-told : goal.returns-then-not-self-clause-told
 returns-then-not-self-clause-told g c = λ b is.
     let w = c.args.self.now in
     let t = c.in_ok-body.ensures.told b is in
-    let none : length t.0.0 ≡ 0 = omega (arith, ap length t.2.0) in
+    let empty : vec_len c.in_ok-body.body ≡ 0 = no_bytes (vec_len c.in_ok-body.body) c.is_empty.result c.is_empty.ensures c.if-is_empty.true in
+    let none : length t.0.0 ≡ 0 = omega (arith, ap length t.2.0, empty) in
     rw c.bad.ensures (refl, inr (next_no_end (clustering_order c.args.table.now.columns) c.args.table.now.columns w.ends w.goes_on (reached w)
     (left_at b c.args.table.now.kept.end w.place) t.0.0 t.0.1 t.1 none c.if-not-self.true))
 
@@ -18,8 +19,9 @@ pub returns-then-is_empty-clause-told : goal.returns-then-is_empty-clause-told
 returns-then-is_empty-clause-told g c = λ b is.
     let w = c.args.self.now in
     let t = c.in_ok-body.ensures.told b is in
-    let none : length t.0.0 ≡ 0 = omega (arith, ap length t.2.0) in
-    let place : w.place + 4 + vec_len c.in_ok-body.body ≡ w.place + 4 = omega (arith, ap length t.2.0) in
+    let empty : vec_len c.in_ok-body.body ≡ 0 = no_bytes (vec_len c.in_ok-body.body) c.is_empty.result c.is_empty.ensures c.if-is_empty.true in
+    let none : length t.0.0 ≡ 0 = omega (arith, ap length t.2.0, empty) in
+    let place : w.place + 4 + vec_len c.in_ok-body.body ≡ w.place + 4 = omega (arith, empty) in
     ((None, t.0.1), next_end (clustering_order c.args.table.now.columns) c.args.table.now.columns w.ends w.goes_on (reached w)
     (left_at b c.args.table.now.kept.end w.place) t.0.0 t.0.1 t.1 none c.if-not-self.false, record {
       left = t.2.1 ∙ ap (left_at b c.args.table.now.kept.end) place;
@@ -30,7 +32,8 @@ pub returns-then-not-self-2-clause-told : goal.returns-then-not-self-2-clause-to
 returns-then-not-self-2-clause-told g c = λ b is.
     let w = c.args.self.now in
     let t = c.in_ok-body.ensures.told b is in
-    let some : 0 < length t.0.0 = omega (arith, ap length t.2.0) in
+    let full : 0 < vec_len c.in_ok-body.body = some_bytes (vec_len c.in_ok-body.body) c.is_empty.result c.is_empty.ensures c.if-is_empty.false in
+    let some : 0 < length t.0.0 = omega (arith, ap length t.2.0, full) in
     rw c.bad-then-not-self-2.ensures (refl, inr (next_no_more (clustering_order c.args.table.now.columns) c.args.table.now.columns w.ends w.goes_on (reached w)
     (left_at b c.args.table.now.kept.end w.place) t.0.0 t.0.1 t.1 some c.if-not-self-2.true))
 
