@@ -3,7 +3,7 @@ use Rattle.cas_bounds.specs.ClusteringOrder.{clustering_order}
 use Rattle.cas_blocks.specs.Reading.{left_at}
 use Rattle.cas_blocks.proofs.NextBlock.{next_end, next_no_end, next_no_more, no_bytes, some_bytes}
 use Rattle.cas_verify.specs.Inner.Walks.{reached}
-use Rattle.cas_verify.proofs.Steps.{first_of}
+use Rattle.cas_verify.proofs.Steps.{first_of, block_long}
 use Rattle.cas_verify.proofs.blocks.Walk.step.Goals as goal
 
 pub returns-then-not-self-clause-told : goal.returns-then-not-self-clause-told
@@ -40,3 +40,10 @@ returns-then-not-self-2-clause-told g c = λ b is.
 pub pass-requires-clause-first : goal.pass-requires-clause-first
 pass-requires-clause-first g c =
     first_of c.args.table.now.columns (reached c.args.self.now) c.in_ok-block.block.fragments.items c.in_ok-block.ensures.block.0
+
+pub returns-clause-within : goal.returns-clause-within
+returns-clause-within g c =
+    let n = c.in_ok-body.ensures.within in
+    let long : c.pass.new.self.place ≡ c.args.self.now.place + 4 + vec_len c.in_ok-body.body =
+    omega (arith, c.in_ok-pass.ensures.goes.place, block_long c.in_ok-block.block.fragments.items, ap length c.in_ok-block.ensures.block.1, ap length c.deref.ensures.value) in
+    (omega (arith, long), omega (arith, long, n.0), omega (arith, long, n.1))

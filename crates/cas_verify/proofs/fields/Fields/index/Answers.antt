@@ -8,7 +8,7 @@ use Rattle.cas_verify.proofs.fields.Fields.index.Goals as goal
 pub returns-in-Ok : goal.returns-in-Ok
 returns-in-Ok c =
     then_gives (u32 (length c.args.partitions.now) ∷ []) (flat_map partition_fields c.args.partitions.now) c.args.self.now.left c.count.new.self.left
-    c.partitions-in-Ok.new.self.left c.partitions-in-Ok.result c.in-Ok.ensures c.partitions-in-Ok.ensures
+    c.partitions.new.self.left c.partitions.result c.in-Ok.ensures c.partitions.ensures
 
 pub returns-in-Err : goal.returns-in-Err
 returns-in-Err c =

@@ -6,7 +6,7 @@ use Rattle.cas_verify.proofs.fields.Fields.partition.Goals as goal
 pub returns-in-Ok : goal.returns-in-Ok
 returns-in-Ok c =
     then_gives (head_fields c.args.partition.now) (flat_map block_fields c.args.partition.now.blocks) c.args.self.now.left c.head.new.self.left c.blocks-in-Ok.new.self.left
-    c.blocks-in-Ok.result c.in-Ok.ensures (rw c.as_slice-in-Ok.ensures at c.blocks-in-Ok.ensures)
+    c.blocks-in-Ok.result c.in-Ok.ensures (rw c.as_slice.ensures at c.blocks-in-Ok.ensures)
 
 pub returns-in-Err : goal.returns-in-Err
 returns-in-Err c =
