@@ -1,10 +1,9 @@
 //! A table file by hand: a partition that is deleted, and one with a row.
 
-ghost use Rattle.std.specs.Prelude.{◌<◌, ◌≤◌, IfOk};
-ghost use Rattle.cas_info.specs.declared.info.TheConstants.{FILE_LIMIT};
+ghost use Rattle.std.specs.Prelude.{◌<◌};
 
 use cas_disk::{Count, Draft, FaultCount, FaultPlan, Folder, MemFolder, MemSealed};
-use cas_info::TableInfo;
+use cas_info::{FILE_LIMIT, TableInfo};
 use cas_sstread::{Table, TableFault};
 use cas_types::{
     Bytes, Column, Kind, List, Options, Shape, Strategy, TableSchema, Text, TypeTag, Unit,
@@ -61,12 +60,13 @@ fn column(alloc: Global, kind: Kind) -> Column {
     }
 }
 
-// `k blob, c int, v int, PRIMARY KEY (k, c)`, as far as it matters
+// `k blob, c int, v int, s int static, PRIMARY KEY (k, c)`, as far as it matters
 fn table(alloc: Global) -> Result<TableSchema, AllocError> {
     let columns = vec![in alloc;
         column(alloc, Kind::Partition),
         column(alloc, Kind::Ascending),
         column(alloc, Kind::Regular),
+        column(alloc, Kind::Static),
     ]?;
     Ok(TableSchema {
         number: 3,
@@ -89,9 +89,7 @@ fn table(alloc: Global) -> Result<TableSchema, AllocError> {
     })
 }
 
-fn info(alloc: Global) -> Result<TableInfo, AllocError>
-    ensures { IfOk result (λ i. i.bytes ≤ FILE_LIMIT) }
-{
+fn info(alloc: Global) -> Result<TableInfo, AllocError> {
     Ok(TableInfo {
         number: 255,
         bytes: 221,
@@ -118,16 +116,31 @@ fn sealed(alloc: Global, bytes: &[u8]) -> Option<MemSealed> {
     folder.admit(draft).ok()
 }
 
-// The file of these bytes, loaded, or the place where it is refused.
-pub(crate) fn load(alloc: Global, bytes: &[u8]) -> Result<Table<MemSealed>, u64> {
-    let (Ok(table), Ok(info), Some(file)) = (table(alloc), info(alloc), sealed(alloc, bytes)) else {
+// That file of the table, of which this is told, loaded, or the place where it is refused.
+pub(crate) fn load_file(
+    alloc: Global,
+    file: MemSealed,
+    info: &TableInfo,
+) -> Result<Table<MemSealed>, u64> {
+    let Ok(table) = table(alloc) else {
         return Err(1000);
     };
+    if info.bytes > FILE_LIMIT {
+        return Err(1000);
+    }
     let mut tally = FaultCount::fresh();
-    match Table::load(alloc, file, &table, 1, &info, &mut tally) {
+    match Table::load(alloc, file, &table, 1, info, &mut tally) {
         Ok(table) => Ok(table),
         Err(TableFault::BadBlock { at, .. }) => Err(at),
         Err(_) => Err(1000),
+    }
+}
+
+// The file of these bytes, loaded, or the place where it is refused.
+pub(crate) fn load(alloc: Global, bytes: &[u8]) -> Result<Table<MemSealed>, u64> {
+    match (info(alloc), sealed(alloc, bytes)) {
+        (Ok(info), Some(file)) => load_file(alloc, file, &info),
+        _ => Err(1000),
     }
 }
 

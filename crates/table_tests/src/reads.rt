@@ -7,7 +7,7 @@ ghost use Rattle.cas_index.specs.Searches.{IsSliceOf};
 ghost use Rattle.cas_tables.specs.declared.header.Version.TheVariants.{Second};
 
 use crate::by_hand::{FILE, load};
-use cas_blocks::Blocks;
+use cas_blocks::{Blocks, TableFault};
 use cas_bounds::{Cut, Slice, Values};
 use cas_disk::{Count, FaultCount, MemSealed};
 use cas_reading::read_slice;
@@ -95,27 +95,43 @@ fn drawn(source: Blocks<'_, MemSealed>) -> Told {
     }
 }
 
-// What is read of a key in a slice.
-fn read(alloc: Global, table: &Table<MemSealed>, key: u8, slice: &Slice) -> Told
+// The rows of a key in a slice, as a source; none where nothing is read.
+fn source_in<'a>(
+    alloc: Global,
+    table: &'a Table<MemSealed>,
+    key: u8,
+    slice: &Slice,
+) -> Result<Option<Blocks<'a, MemSealed>>, TableFault>
     requires narrow { IsNarrow table.now.columns }
     requires version { table.now.kept.version ≡ Second }
     requires one { IsSliceOf (clustering_order table.now.columns) slice.now }
 {
     let mut tally = FaultCount::fresh();
-    match read_slice(alloc, table, &[key], slice, &mut tally) {
-        Ok(Some(source)) => drawn(source),
-        Ok(None) => Told::Nothing,
-        Err(_) => Told::Failed,
+    read_slice(alloc, table, &[key], slice, &mut tally)
+}
+
+// The same from a row on, or from behind it.
+pub(crate) fn source_of<'a>(
+    alloc: Global,
+    table: &'a Table<MemSealed>,
+    key: u8,
+    value: u8,
+    after: bool,
+) -> Result<Option<Blocks<'a, MemSealed>>, TableFault> {
+    if !is_readable(table) {
+        return Err(TableFault::Mem);
+    }
+    match rows_from(alloc, table, value, after) {
+        Ok(slice) => source_in(alloc, table, key, &slice),
+        Err(_) => Err(TableFault::Mem),
     }
 }
 
 // What is read of a key, from a row on.
 fn read_from(alloc: Global, table: &Table<MemSealed>, key: u8, value: u8, after: bool) -> Told {
-    if !is_readable(table) {
-        return Told::Failed;
-    }
-    match rows_from(alloc, table, value, after) {
-        Ok(slice) => read(alloc, table, key, &slice),
+    match source_of(alloc, table, key, value, after) {
+        Ok(Some(source)) => drawn(source),
+        Ok(None) => Told::Nothing,
         Err(_) => Told::Failed,
     }
 }
