@@ -1,0 +1,58 @@
+-- What files and memtables hold after a flush.
+use Rattle.std.proofs.Common.{◌≡◌, ℕ, zero, suc, List, [], ◌∷◌, ◌++◌, length, refl, sym, ap, ◌∙◌, subst}
+use Rattle.std.specs.Prelude.{take, drop}
+use Rattle.std.specs.List.{AllByRecursion}
+use Rattle.std.proofs.lemmas.Grind.{flat_map-append}
+use Rattle.cas_types.specs.declared.schema.Column.{Column}
+use Rattle.cas_bounds.specs.declared.order.Ordered.{Ordered}
+use Rattle.cas_atoms.specs.declared.atom.Mutation.{Mutation}
+use Rattle.cas_streams.proofs.Weaves.{all_and}
+use Rattle.cas_memtable.specs.Memtables.{IsOfColumns}
+use Rattle.cas_memtable.specs.declared.memtable.MemPart.{MemPart}
+use Rattle.cas_parts.specs.Kept.{StandInEach, all_of}
+use Rattle.cas_sstread.specs.Loading.{Held}
+use Rattle.cas_view.specs.Views.{File}
+use Rattle.cas_stored.specs.Stored.{AreOfTable, HoldEach, IsFileOf, StandInFile, flushed, oldest}
+
+-- ---- all mutations
+
+take_and_drop : {X : Type 0} (n : ℕ) (xs : List X) → take n xs ++ drop n xs ≡ xs
+take_and_drop zero xs = refl
+take_and_drop (suc n) [] = refl
+take_and_drop (suc n) (x ∷ xs) = ap (λ l. x ∷ l) (take_and_drop n xs)
+
+in_parts : (count : ℕ) (wss : List (List Mutation)) → all_of (take count wss) ++ all_of (drop count wss) ≡ all_of wss
+in_parts count wss = sym (flat_map-append (λ ws. ws) (take count wss) (drop count wss)) ∙ ap all_of (take_and_drop count wss)
+
+pub all_flushed : (files count : ℕ) (wss : List (List Mutation)) → all_of (flushed files count wss) ≡ all_of wss
+all_flushed zero count wss = in_parts count wss
+all_flushed (suc files) count [] = in_parts count []
+all_flushed (suc files) count (ws ∷ wss) = ap (λ l. ws ++ l) (all_flushed files count wss)
+
+-- ---- what stands where
+
+module _ (order : List Ordered) (ms ns : List MemPart) (f : File Held) (count : ℕ)
+    (memory : (wss : List (List Mutation)) → StandInEach order ms wss → StandInEach order ns (drop count wss)) where
+  pub flush_holds : (fs : List (File Held)) (wss : List (List Mutation)) → HoldEach order fs ms wss → StandInFile order f (oldest (length fs) count wss)
+      → HoldEach order (fs ++ f ∷ []) ns (flushed (length fs) count wss)
+  flush_holds [] wss holds stands = (stands, memory wss holds)
+  flush_holds (g ∷ fs) [] holds stands = absurd holds
+  flush_holds (g ∷ fs) (ws ∷ wss) holds stands = (holds.0, flush_holds fs wss holds.1 stands)
+
+-- by the views before and after
+pub swap_holds : (order : List Ordered) (ms ns : List MemPart) (old new fs : List (File Held)) (f : File Held) (count : ℕ) (wss : List (List Mutation))
+    → ((wss : List (List Mutation)) → StandInEach order ms wss → StandInEach order ns (drop count wss)) → new ≡ fs → fs ≡ old ++ f ∷ []
+    → HoldEach order old ms wss → StandInFile order f (oldest (length old) count wss)
+    → HoldEach order new ns (flushed (length old) count wss) × (all_of (flushed (length old) count wss) ≡ all_of wss)
+swap_holds order ms ns old new fs f count wss memory set is holds stands = (
+  subst (λ l. HoldEach order l ns (flushed (length old) count wss)) (sym (set ∙ is)) (flush_holds order ms ns f count memory old wss holds stands),
+  all_flushed (length old) count wss,
+)
+
+pub swap_of : (columns : List Column) (ms ns : List MemPart) (old new fs : List (File Held)) (f : File Held)
+    → (AllByRecursion (IsOfColumns columns) ms → AllByRecursion (IsOfColumns columns) ns) → new ≡ fs → fs ≡ old ++ f ∷ []
+    → AreOfTable columns old ms → IsFileOf columns f → AreOfTable columns new ns
+swap_of columns ms ns old new fs f memory set is of own = record {
+  files = subst (AllByRecursion (IsFileOf columns)) (sym (set ∙ is)) (all_and (IsFileOf columns) old (f ∷ []) of.files (own, tt));
+  memtables = memory of.memtables;
+}

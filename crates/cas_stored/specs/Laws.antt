@@ -1,0 +1,19 @@
+-- When mutations stand in a file that is loaded (own).
+use Rattle.std.specs.Prelude.{◌≡◌, ℕ, List, []}
+use Rattle.std.specs.List.{Contains}
+use Rattle.cas_bounds.specs.ClusteringOrder.{clustering_order}
+use Rattle.cas_atoms.specs.declared.atom.Mutation.{Mutation}
+use Rattle.cas_facts.specs.declared.facts.Facts.{Facts}
+use Rattle.cas_parts.specs.Kept.{atoms_under}
+use Rattle.cas_tables.specs.Contents.{Contents, Partition}
+use Rattle.cas_tables.specs.Files.{info_of}
+use Rattle.cas_sstread.specs.Loading.{Held}
+use Rattle.cas_reading.specs.Contents.{HasNone, IsOf}
+use Rattle.cas_view.specs.Views.{File}
+use Rattle.cas_stored.specs.Stored.{SaysWhatIsWritten, StandInFile}
+
+-- in the file of contents, loaded and listed as it tells of itself, the mutations stand of which these say what was written, and nothing else was
+abbrev pub LoadedStands : Type 0
+LoadedStands = (f : File Held) (c : Contents) (facts : Facts) (ws : List Mutation) → IsOf f.table c facts → f.info ≡ info_of c facts
+    → ((p : Partition) → Contains c.partitions p → SaysWhatIsWritten ws p) → ((key : List ℕ) → HasNone c key → atoms_under key ws ≡ [])
+    → StandInFile (clustering_order f.table.columns) f ws

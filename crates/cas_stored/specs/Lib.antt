@@ -1,0 +1,5 @@
+pub mod Stored
+pub mod Reading
+pub mod Rows
+pub mod Laws
+pub mod Inner

@@ -1,0 +1,39 @@
+-- Which files of a table may be read in a slice, and why a partition isn't read.
+-- Own.
+use Rattle.std.specs.Prelude.{◌≡◌, ℕ, true, List}
+use Rattle.std.specs.List.{AllByRecursion}
+use Rattle.cas_types.specs.Limits.{IsNarrow}
+use Rattle.cas_bounds.specs.ClusteringOrder.{clustering_order}
+use Rattle.cas_bounds.specs.declared.cuts.Slice.{Slice}
+use Rattle.cas_laws.specs.Given.{Has}
+use Rattle.cas_index.specs.Searches.{IsSliceOf}
+use Rattle.cas_index.specs.declared.entries.PartitionEntry.{PartitionEntry}
+use Rattle.cas_tables.specs.declared.header.Version.TheVariants.{Second}
+use Rattle.cas_blocks.specs.declared.fault.TableFault.{TableFault}
+use Rattle.cas_blocks.specs.declared.fault.TableFault.TheVariants as table_fault
+use Rattle.cas_sstread.specs.Loading.{Held}
+use Rattle.cas_reading.specs.Slices.{IsTold, IsBadHead}
+use Rattle.cas_view.specs.Views.{File, may_hold}
+
+-- a slice of the file can be read: it is of the format's second version, of a table with at most 256 columns, and orders its rows as the slice does
+pub record IsReadIn (s : Slice) (f : File Held) : Type 0 where
+  pub narrow : IsNarrow f.table.columns
+  pub version : f.table.kept.version ≡ Second
+  pub slice : IsSliceOf (clustering_order f.table.columns) s
+
+-- of each of the files
+abbrev pub AreReadIn : Slice → List (File Held) → Type 0
+AreReadIn s fs = AllByRecursion (IsReadIn s) fs
+
+-- at that place of the file of that number no head of the key's partition stands, though its index tells of it there
+pub record IsBadIn (key : List ℕ) (n at : ℕ) (f : File Held) : Type 0 where
+  pub entry : PartitionEntry
+  pub range : may_hold f.info key ≡ true
+  pub told : IsTold f.table.kept key entry
+  pub bad : IsBadHead f.table key entry n at
+
+-- why the sources of a partition aren't given: the disk failed, a file is bad, or memory ran out
+abbrev pub IsWhyNot : List (File Held) → List ℕ → TableFault → Type 0
+IsWhyNot fs key table_fault.Read = Unit {0}
+IsWhyNot fs key (table_fault.BadBlock n at) = (f : File Held) × Has fs f × IsBadIn key n at f
+IsWhyNot fs key table_fault.Mem = Unit {0}

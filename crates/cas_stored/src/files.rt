@@ -1,0 +1,96 @@
+//! The sources of a partition in the files of a view.
+
+ghost use Rattle.std.specs.Prelude.{◌≡◌, ◌++◌, ◌∷◌, [], None, IfOk, IfErr, IfSome, OnOk, IsErrOf, map};
+ghost use Rattle.std.specs.Option.{option_to_list};
+ghost use Rattle.cas_disk.specs.Counts.{Counted};
+ghost use Rattle.cas_view.specs.Views.{file_of, files_of};
+ghost use Rattle.cas_stored.specs.Reading.{IsReadIn, AreReadIn, IsWhyNot};
+ghost use Rattle.cas_stored.specs.Inner.Files.{FileAnswers, FilesGiveBehind};
+
+use crate::file::FileSource;
+use crate::source::{Source, StoredSource};
+use cas_blocks::TableFault;
+use cas_bounds::Slice;
+use cas_disk::{Count, Sealed};
+use cas_merge::Merger;
+use cas_reading::read_slice;
+use cas_sstread::Table;
+use cas_streams::{FragmentSource, Part};
+use cas_view::{OpenFile, may_hold};
+use std::alloc::{AllocError, Global};
+
+// The source of a file that has the key. Nothing of the file is read where its range denies the key.
+fn file_source<'a, S: Sealed>(
+    alloc: Global,
+    file: &'a OpenFile<Table<S>>,
+    key: &[u8],
+    slice: &Slice,
+    tally: &mut S::Tally,
+) -> Result<Option<Source<'a, S>>, TableFault>
+    requires { IsReadIn slice.now (file_of file.now) }
+    ensures answers { FileAnswers (file_of file.now) key.now slice.now ⟦<Source<'a, S> as FragmentSource>⟧.over_all
+        ⟦<Source<'a, S> as FragmentSource>⟧.to_come result }
+    ensures sound { IfOk result (λ o. IfSome o (λ x. ⟦<Source<'a, S> as FragmentSource>⟧.broken_by x ≡ None)) }
+    ensures why { IfErr result (IsWhyNot (file_of file.now ∷ []) key.now) }
+    ensures count { Counted (S.Tally.number tally.old) (S.Tally.number tally.new) (IsErrOf result TableFault.Read) }
+{
+    if !may_hold(&file.info, key) {
+        return Ok(None);
+    }
+    match read_slice(alloc, &file.table, key, slice, tally) {
+        Ok(Some(blocks)) => Ok(Some(StoredSource::File(FileSource::new(blocks)))),
+        Ok(None) => Ok(None),
+        Err(fault) => Err(fault),
+    }
+}
+
+// Puts a source behind the others, if there is one.
+fn put<'a, S: Sealed>(
+    sources: &mut Vec<Source<'a, S>>,
+    source: Option<Source<'a, S>>,
+) -> Result<(), AllocError>
+    ensures { OnOk result (sources.new.items ≡ sources.old.items ++ option_to_list source.entry) }
+{
+    if let Some(source) = source {
+        sources.push(source)?;
+    }
+    Ok(())
+}
+
+/// Puts the sources of a partition in these files behind the others.
+pub(crate) fn put_files<'a, S: Sealed>(
+    alloc: Global,
+    sources: &mut Vec<Source<'a, S>>,
+    files: &'a [OpenFile<Table<S>>],
+    key: &[u8],
+    slice: &Slice,
+    tally: &mut S::Tally,
+) -> Result<(), TableFault>
+    requires { AreReadIn slice.now (files_of files.now) }
+    ensures gives { OnOk result (FilesGiveBehind key.now slice.now ⟦<Source<'a, S> as FragmentSource>⟧.over_all
+        ⟦<Source<'a, S> as FragmentSource>⟧.to_come (files_of files.now) sources.old.items sources.new.items) }
+    ensures why { IfErr result (IsWhyNot (files_of files.now) key.now) }
+    ensures count { Counted (S.Tally.number tally.old) (S.Tally.number tally.new) (IsErrOf result TableFault.Read) }
+{
+    match files {
+        [] => Ok(()),
+        [file, others @ ..] => {
+            put(sources, file_source(alloc, file, key, slice, tally)?)?;
+            put_files(alloc, sources, others, key, slice, tally)
+        }
+    }
+}
+
+/// Puts the sources of memtables behind the others.
+pub(crate) fn put_memory<'a, S: Sealed>(
+    sources: &mut Vec<Source<'a, S>>,
+    memory: Vec<Merger<Part>>,
+) -> Result<(), AllocError>
+    ensures { OnOk result (sources.new.items ≡ sources.old.items ++ map StoredSource.Memory memory.items) }
+{
+    let mut rest = memory.into_iter();
+    while let Some(source) = rest.next() {
+        sources.push(StoredSource::Memory(source))?;
+    }
+    Ok(())
+}

@@ -1,0 +1,50 @@
+//! A source of a partition, of what is in memory or of what stands in a file.
+
+ghost use Rattle.cas_stored.specs.Inner.Either.{of_either, fault_of};
+
+use crate::file::FileSource;
+use cas_blocks::TableFault;
+use cas_cell::Deletion;
+use cas_merge::Merger;
+use cas_streams::{Fragment, FragmentSource, Part};
+use std::alloc::AllocError;
+
+/// One source of a partition: of a memtable, or of a table's file.
+#[derive(Drop)]
+pub enum StoredSource<M, F> {
+    Memory(M),
+    File(F),
+}
+
+/// What a table has stored of a partition in one place.
+pub type Source<'a, S> = StoredSource<Merger<Part>, FileSource<'a, S>>;
+
+impl<M: FragmentSource<Fault = AllocError>, F: FragmentSource<Fault = TableFault>> FragmentSource
+    for StoredSource<M, F> {
+    ghost use Rattle.cas_stored.specs.Inner.Either.{of_either, fault_of};
+
+    type Fault = TableFault;
+
+    ghost to_come = { λ s. of_either M.to_come F.to_come s };
+
+    ghost over_all = { λ s. of_either M.over_all F.over_all s };
+
+    ghost at_most = { λ s. of_either M.at_most F.at_most s };
+
+    ghost broken_by = { λ s. fault_of M.broken_by F.broken_by s };
+
+    fn top(&self) -> Option<Deletion> {
+        match self {
+            StoredSource::Memory(memory) => memory.top(),
+            StoredSource::File(file) => file.top(),
+        }
+    }
+
+    /// The next fragment; where memory runs out, `Mem`.
+    fn next(&mut self) -> Result<Option<Fragment>, TableFault> {
+        match self {
+            StoredSource::Memory(memory) => Ok(memory.next()?),
+            StoredSource::File(file) => file.next(),
+        }
+    }
+}
