@@ -35,8 +35,8 @@ use Rattle.cas_memtable.specs.declared.memtable.MemPart.{MemPart}
 use Rattle.cas_parts.specs.Kept.{StandIn, StandInEach, ShowPartition, all_of, atoms_at, atoms_under, has_key}
 use Rattle.cas_parts.proofs.Keeping.{more_under}
 use Rattle.cas_parts.proofs.Showing.{nothing_written}
-use Rattle.cas_fits.specs.Fitting.{FitsTable, HasRoom}
-use Rattle.cas_fits.proofs.Fitted.{stream_fits}
+use Rattle.cas_flush.specs.Fitting.{FitsTable, HasRoom}
+use Rattle.cas_flush.proofs.Fitted.{stream_fits}
 use Rattle.cas_sstwrite.specs.Rooms.{IsHeld, AreHeld}
 use Rattle.cas_sstwrite.specs.Writers.{FitsStream}
 use Rattle.cas_flush.specs.Flushed.{MayHold, HoldMutations}

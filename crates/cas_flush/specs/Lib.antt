@@ -1,2 +1,4 @@
+pub mod Fitting
+pub mod Laws
 pub mod Flushed
 pub mod Inner

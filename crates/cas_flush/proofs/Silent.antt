@@ -14,8 +14,8 @@ use Rattle.cas_atoms.specs.Winners.{Same, cover, standing}
 use Rattle.cas_atoms.specs.declared.atom.Atom.{Atom}
 use Rattle.cas_atoms.specs.declared.atom.Atom.TheVariants.{PartitionDeletion, RangeDeletion, RowDeletion, CollectionDeletion}
 use Rattle.cas_atoms.specs.declared.atom.Atom.TheVariants.{Live, Write, StaticWrite, StaticCollectionDeletion}
-use Rattle.cas_fits.specs.Laws.{IsRange}
-use Rattle.cas_fits.proofs.Allowing.{where_true, same_itself, column_itself, at_itself}
+use Rattle.cas_flush.specs.Laws.{IsRange}
+use Rattle.cas_flush.proofs.Allowing.{where_true, same_itself, column_itself, at_itself}
 
 -- where there is no greatest, nothing is given
 none_given : {Y : Type 0} (cmp : Y → Y → Ordering) (f : Atom → Option Y) (A : List Atom) → greatest cmp f A ≡ None → AllByRecursion (λ a. f a ≡ None) A

@@ -36,8 +36,8 @@ use Rattle.cas_streams.specs.declared.fragment.Fragment.TheVariants as fragment
 use Rattle.cas_streams.proofs.NoMore.{Says, of_its, all_row, flat_all, all_holds}
 use Rattle.cas_fragments.specs.Allowed.{FitsPathCell, FitsColumn, FitColumns, FitsRow, FitsFragment, CellHasRoom, ColumnHasRoom, HaveRoom, HasSpelling}
 use Rattle.cas_partition.specs.Partitions.{AllFit, AreAtCuts}
-use Rattle.cas_fits.specs.Fitting.{FitsTable, HasRoom}
-use Rattle.cas_fits.proofs.Allowing.{RowFits, CellFits, Allowed, allowed_by_place, allowed_emptied, allowed_written, all_allowed}
+use Rattle.cas_flush.specs.Fitting.{FitsTable, HasRoom}
+use Rattle.cas_flush.proofs.Allowing.{RowFits, CellFits, Allowed, allowed_by_place, allowed_emptied, allowed_written, all_allowed}
 
 module _ (columns : List Column) where
   -- ---- cells and columns

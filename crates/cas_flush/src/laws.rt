@@ -1,6 +1,6 @@
 //! What a table file may hold of streams.
 
-ghost use Rattle.cas_fits.specs.Laws.{WhatIsAllowedFits, MergesKeepCuts, MergesFit, SilentAreRanges};
+ghost use Rattle.cas_flush.specs.Laws.{WhatIsAllowedFits, MergesKeepCuts, MergesFit, SilentAreRanges};
 
 /// A stream that says no more than atoms that a table may hold fits the table.
 pub fn what_is_allowed_fits()

@@ -14,7 +14,7 @@ use Rattle.cas_streams.specs.NoMore.{SaysNoMore}
 use Rattle.cas_streams.specs.Streams.{WellFormed}
 use Rattle.cas_streams.specs.declared.fragment.Fragment.{Fragment}
 use Rattle.cas_partition.specs.Partitions.{AllFit, AreAtCuts}
-use Rattle.cas_fits.specs.Fitting.{FitsTable, HasRoom}
+use Rattle.cas_flush.specs.Fitting.{FitsTable, HasRoom}
 
 -- A well-formed stream fits the table if it says no more than atoms that the table may hold, its markers stand at cuts that the table may have, and its
 -- lengths have room in their fields. That nothing is invented doesn't tell at which cuts a range stands, and a row may be longer than any mutation.

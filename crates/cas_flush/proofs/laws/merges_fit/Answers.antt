@@ -9,8 +9,8 @@ use Rattle.cas_streams.specs.Streams.{IsOrdered, WellFormed}
 use Rattle.cas_streams.proofs.Formed.{merge_is_well_formed}
 use Rattle.cas_streams.proofs.NoMore.{merge_says_no_more, no_more_then}
 use Rattle.cas_partition.proofs.AtCuts.{merge_at}
-use Rattle.cas_fits.proofs.Fitted.{stream_fits}
-use Rattle.cas_fits.proofs.laws.merges_fit.Goals as goal
+use Rattle.cas_flush.proofs.Fitted.{stream_fits}
+use Rattle.cas_flush.proofs.laws.merges_fit.Goals as goal
 
 in_order : (columns : List Column) (ss : List Stream) → AllByRecursion (λ s. WellFormed columns s.fragments) ss
     → AllByRecursion (λ s. IsOrdered (clustering_order columns) s.fragments) ss

@@ -1,3 +1,0 @@
-pub mod Allowing
-pub mod Fitted
-pub mod Silent

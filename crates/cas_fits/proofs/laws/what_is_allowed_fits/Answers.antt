@@ -1,5 +1,0 @@
-use Rattle.cas_fits.proofs.Fitted.{stream_fits}
-use Rattle.cas_fits.proofs.laws.what_is_allowed_fits.Goals as goal
-
-pub returns : goal.returns
-returns c = stream_fits
