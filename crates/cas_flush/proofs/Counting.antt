@@ -15,7 +15,7 @@ use Rattle.cas_laws.specs.Given.{Has}
 use Rattle.cas_memtable.specs.Memtables.{is_above, held_at, least_held, least_of}
 use Rattle.cas_memtable.specs.declared.memtable.Held.{Held}
 use Rattle.cas_memtable.specs.declared.memtable.MemPart.{MemPart}
-use Rattle.cas_parts.specs.Kept.{IsNextKey, has_key}
+use Rattle.cas_memtable.specs.Kept.{IsNextKey, has_key}
 
 abbrev Keys : Type 0
 Keys = List (List ℕ)

@@ -32,9 +32,9 @@ use Rattle.cas_partition.specs.Partitions.{AllFit, AreAtCuts}
 use Rattle.cas_partition.proofs.AtCuts.{merge_at}
 use Rattle.cas_memtable.specs.Memtables.{least_of, least_with, IsOfColumns}
 use Rattle.cas_memtable.specs.declared.memtable.MemPart.{MemPart}
-use Rattle.cas_parts.specs.Kept.{StandIn, StandInEach, ShowPartition, all_of, atoms_at, atoms_under, has_key}
-use Rattle.cas_parts.proofs.Keeping.{more_under}
-use Rattle.cas_parts.proofs.Showing.{nothing_written}
+use Rattle.cas_memtable.specs.Kept.{StandIn, StandInEach, ShowPartition, all_of, atoms_at, atoms_under, has_key}
+use Rattle.cas_memtable.proofs.Keeping.{more_under}
+use Rattle.cas_memtable.proofs.Showing.{nothing_written}
 use Rattle.cas_flush.specs.Fitting.{FitsTable, HasRoom}
 use Rattle.cas_flush.proofs.Fitted.{stream_fits}
 use Rattle.cas_sstwrite.specs.Rooms.{IsHeld, AreHeld}

@@ -26,7 +26,7 @@ use Rattle.cas_index.specs.Entries.{is_next_key}
 use Rattle.cas_index.specs.declared.entries.PartitionEntry.{PartitionEntry}
 use Rattle.cas_memtable.specs.Memtables.{is_above}
 use Rattle.cas_memtable.specs.declared.memtable.MemPart.{MemPart}
-use Rattle.cas_parts.specs.Kept.{StandInEach, IsNextKey, all_of, atoms_under, has_key}
+use Rattle.cas_memtable.specs.Kept.{StandInEach, IsNextKey, all_of, atoms_under, has_key}
 use Rattle.cas_tables.specs.Contents.{Partition}
 use Rattle.cas_tables.specs.Places.{head_of, text_of, blocks, block_entries, entries}
 use Rattle.cas_sstwrite.specs.Writers.{partition_of}

@@ -16,7 +16,7 @@ use Rattle.cas_streams.specs.declared.fragment.Fragment.{Fragment}
 use Rattle.cas_index.specs.Entries.{is_next_key}
 use Rattle.cas_index.specs.declared.entries.PartitionEntry.{PartitionEntry}
 use Rattle.cas_memtable.specs.declared.memtable.MemPart.{MemPart}
-use Rattle.cas_parts.specs.Kept.{ShowPartition, all_of, atoms_under, has_key}
+use Rattle.cas_memtable.specs.Kept.{ShowPartition, all_of, atoms_under, has_key}
 use Rattle.cas_tables.specs.declared.header.Header.{Header}
 use Rattle.cas_tables.specs.Contents.{Partition, Contents}
 use Rattle.cas_tables.specs.Files.{index_of, front_bytes}

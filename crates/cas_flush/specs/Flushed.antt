@@ -18,7 +18,7 @@ use Rattle.cas_streams.specs.Streams.{IsThere}
 use Rattle.cas_partition.specs.Partitions.{AllFit}
 use Rattle.cas_memtable.specs.Memtables.{IsOfColumns}
 use Rattle.cas_memtable.specs.declared.memtable.MemPart.{MemPart}
-use Rattle.cas_parts.specs.Kept.{StandInEach, all_of, atoms_under}
+use Rattle.cas_memtable.specs.Kept.{StandInEach, all_of, atoms_under}
 use Rattle.cas_tables.specs.declared.header.Header.{Header}
 use Rattle.cas_tables.specs.Contents.{Partition, Contents}
 use Rattle.cas_tables.specs.Files.{index_of, front_bytes}

@@ -7,16 +7,15 @@ ghost use Rattle.cas_bounds.specs.ClusteringOrder.{clustering_order};
 ghost use Rattle.cas_atoms.specs.declared.atom.Mutation.{Mutation as Wrote};
 ghost use Rattle.cas_disk.specs.Counts.{Counted};
 ghost use Rattle.cas_tables.specs.Contents.{Partition as PartitionOf};
-ghost use Rattle.cas_parts.specs.Kept.{all_of, has_key};
+ghost use Rattle.cas_memtable.specs.Kept.{all_of, has_key};
 ghost use Rattle.cas_sstwrite.specs.Writers.{Writes, contents_of, fault_of as fault_in};
 ghost use Rattle.cas_flush.specs.Flushed.{HoldMutations};
 ghost use Rattle.cas_flush.specs.Inner.Keys.{IsWhole, end_at, told, WritesKey, KeyFault};
 
 use cas_bounds::{Cut, RowOrder, Slice, Values, clustering_order};
 use cas_disk::Draft;
-use cas_memtable::MemPart;
+use cas_memtable::{MemPart, sources_of};
 use cas_merge::Merger;
-use cas_parts::sources_of;
 use cas_sstwrite::{PartitionFault, TableWriter, WriteFault};
 use cas_types::{Bytes, Column};
 use std::alloc::{AllocError, Global};

@@ -1,3 +1,6 @@
+pub mod Parts
+pub mod Moves
+pub mod LogLists
 pub mod Lists
 pub mod Rising
 pub mod Shares

@@ -4,9 +4,9 @@ use Rattle.std.specs.Prelude.{Option, None, Some}
 use Rattle.std.specs.List.{fold}
 use Rattle.std.proofs.lemmas.Bool.Decides.{eqb_tells}
 use Rattle.std.proofs.lemmas.List.Sums.{fold-append}
-use Rattle.cas_ledger.specs.Log.{Has, Each}
-use Rattle.cas_ledger.proofs.Lists.{has_or_not}
-use Rattle.cas_ledger.proofs.Parts.{part_gets, part_stays}
+use Rattle.cas_history.specs.Log.{Has, Each}
+use Rattle.cas_history.proofs.LogLists.{has_or_not}
+use Rattle.cas_history.proofs.Parts.{part_gets, part_stays}
 use Rattle.cas_history.specs.declared.item.Item.{Item}
 use Rattle.cas_history.specs.Items.{items, listed, lists_of}
 

@@ -4,9 +4,9 @@ use Rattle.std.specs.List.{filter, flat_map}
 use Rattle.std.proofs.lemmas.Grind.{flat_map-append}
 use Rattle.std.proofs.lemmas.List.Elements.{filter-append}
 use Rattle.std.proofs.lemmas.List.Sums.{fold-append}
-use Rattle.cas_ledger.specs.Log.{Has, Legal}
-use Rattle.cas_ledger.specs.Hands.{numbers}
-use Rattle.cas_ledger.proofs.Parts.{list_grows}
+use Rattle.cas_history.specs.Log.{Has, Legal}
+use Rattle.cas_history.specs.Hands.{numbers}
+use Rattle.cas_history.proofs.Parts.{list_grows}
 use Rattle.cas_history.specs.declared.item.Item.{Item}
 use Rattle.cas_history.specs.declared.item.Item.TheVariants.{Found, Stood, Wrote, Purged, Faulted, Read, Rose, Drew, Began, Ended, Changed}
 use Rattle.cas_history.specs.Items.{items, listed, lists_of, MayCome, log_list, front_list, first_diary}

@@ -3,8 +3,8 @@ use Rattle.std.proofs.Common.{◌≡◌, ◌≢◌, ℕ, ◌<◌, ◌≤◌, Lis
 use Rattle.std.specs.List.{fold}
 use Rattle.std.proofs.lemmas.List.Sums.{fold-append}
 use mathlib.Core.List.{IsPrefix}
-use Rattle.cas_ledger.specs.Log.{Has, Legal}
-use Rattle.cas_ledger.proofs.Parts.{list_grows}
+use Rattle.cas_history.specs.Log.{Has, Legal}
+use Rattle.cas_history.proofs.Parts.{list_grows}
 use Rattle.cas_history.specs.declared.item.Item.{Item}
 use Rattle.cas_history.specs.declared.item.Item.TheVariants.{Found, Stood, Wrote, Purged, Faulted, Read, Rose, Drew, Began, Ended, Changed}
 use Rattle.cas_history.specs.Last.{number_after, last_number, fault_after, committed_after, first_after, moment_after, file_after, last_fault, last_committed, last_first, last_moment, last_file}

@@ -4,9 +4,9 @@ use Rattle.std.specs.Prelude.{◌==◌}
 use Rattle.std.specs.List.{filter, list_any}
 use mathlib.Core.List.{IsPrefix}
 use Rattle.std.proofs.lemmas.List.Elements.{filter-append}
-use Rattle.cas_ledger.specs.Log.{Has, Follows, Legal}
-use Rattle.cas_ledger.proofs.Lists.{has_or_not}
-use Rattle.cas_ledger.proofs.Parts.{part_gets, part_stays, legal_grows}
+use Rattle.cas_history.specs.Log.{Has, Follows, Legal}
+use Rattle.cas_history.proofs.LogLists.{has_or_not}
+use Rattle.cas_history.proofs.Parts.{part_gets, part_stays, legal_grows}
 use Rattle.cas_history.specs.declared.item.Item.{Item}
 use Rattle.cas_history.specs.declared.item.Item.TheVariants.{Found, Stood, Wrote, Purged, Faulted, Read, Rose, Drew, Began, Ended, Changed}
 use Rattle.cas_history.specs.Items.{items, listed, lists_of, log_list, front_list, changes_list, room_changes, book_changes}

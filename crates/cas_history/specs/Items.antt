@@ -1,6 +1,6 @@
 -- Which lists an entry of the history stands in, and what it may follow there.
 use Rattle.std.specs.Prelude.{◌≡◌, ◌≢◌, ℕ, ◌+◌, ◌/◌, ◌%◌, ◌<◌, ◌≤◌, List, [], ◌∷◌, true, None, Some}
-use Rattle.cas_ledger.specs.Log.{Rules, Each, Has, part}
+use Rattle.cas_history.specs.Log.{Rules, Each, Has, part}
 use Rattle.cas_history.specs.declared.item.Item.{Item}
 use Rattle.cas_history.specs.declared.item.Item.TheVariants.{Found, Stood, Wrote, Purged, Faulted, Read, Rose, Drew, Began, Ended, Changed}
 use Rattle.cas_history.specs.Last.{last_number, last_call, last_fault, last_committed, last_first, last_moment, last_file}

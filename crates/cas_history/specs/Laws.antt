@@ -1,7 +1,7 @@
 -- What the lists have to do with each other.
 use Rattle.std.specs.Prelude.{◌≡◌, ℕ, ◌+◌, ◌<◌, ◌≤◌, List, [], ◌∷◌, length, Bool, false, ◌==◌}
 use Rattle.std.specs.List.{fold, filter, flat_map}
-use Rattle.cas_ledger.specs.Hands.{numbers}
+use Rattle.cas_history.specs.Hands.{numbers}
 use Rattle.cas_history.specs.declared.item.Item.{Item}
 use Rattle.cas_history.specs.declared.item.Item.TheVariants.{Found, Wrote}
 use Rattle.cas_history.specs.Items.{first_diary}

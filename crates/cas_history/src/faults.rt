@@ -1,7 +1,7 @@
 //! What the room says of its disk.
 ghost use Rattle.std.specs.Prelude.{◌≡◌, ◌≢◌, ◌≤◌, [], ◌∷◌, ◌++◌};
 ghost use mathlib.Core.List.{IsPrefix};
-ghost use Rattle.cas_ledger.specs.Hands.{Owns};
+ghost use Rattle.cas_history.specs.Hands.{Owns};
 ghost use Rattle.cas_history.specs.Items.{listed, faults_list};
 ghost use Rattle.cas_history.specs.Last.{last_fault, last_committed, last_first};
 ghost use Rattle.cas_history.specs.declared.item.Item.TheVariants.{Faulted};
@@ -10,7 +10,7 @@ use crate::fresh::Fresh;
 use crate::front::Session;
 use crate::item::Item;
 use crate::numbers::Files;
-use cas_ledger::{Pass, Store, Tells, accept_alone, look};
+use crate::{Pass, Store, Tells, accept_alone, look};
 use std::marker::PhantomData;
 
 /// The room's seat for its faults. It has what it said last.

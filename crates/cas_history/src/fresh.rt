@@ -1,10 +1,10 @@
 //! A pass with a list of its own, of which a seat is made.
 ghost use Rattle.std.specs.Prelude.{◌≡◌, [], ◌∷◌};
-ghost use Rattle.cas_ledger.specs.Hands.{Owns};
+ghost use Rattle.cas_history.specs.Hands.{Owns};
 ghost use Rattle.cas_history.specs.Items.{listed};
 
 use crate::item::Item;
-use cas_ledger::{Pass, Store};
+use crate::{Pass, Store};
 
 /// A pass with an empty list of its own.
 #[derive(Drop)]

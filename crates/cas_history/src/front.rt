@@ -1,14 +1,14 @@
 //! Mutations: the room's list of all, each shard's list, each session's own.
 ghost use Rattle.std.specs.Prelude.{◌≡◌, ℕ, ◌+◌, ◌%◌, ◌<◌, ◌≤◌, [], ◌∷◌, ◌++◌};
 ghost use mathlib.Core.List.{IsPrefix};
-ghost use Rattle.cas_ledger.specs.Hands.{Owns};
+ghost use Rattle.cas_history.specs.Hands.{Owns};
 ghost use Rattle.cas_history.specs.Items.{items, listed, log_list, front_list, first_diary};
 ghost use Rattle.cas_history.specs.Last.{last_number, last_call};
 ghost use Rattle.cas_history.specs.declared.item.Item.TheVariants.{Found, Wrote};
 
 use crate::fresh::Fresh;
 use crate::item::Item;
-use cas_ledger::{Pass, Store, Tells, accept_alone, accept_three};
+use crate::{Pass, Store, Tells, accept_alone, accept_three};
 use std::marker::PhantomData;
 
 /// The room's seat: it owns the list of all mutations.

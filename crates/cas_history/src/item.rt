@@ -1,5 +1,5 @@
 //! The entries of the history.
-use cas_ledger::Entries;
+use crate::Entries;
 use std::collections::LinkedList;
 
 /// An entry. `session` and `pass` are the number of the list of who made it, `works` that of the list of a

@@ -6,7 +6,7 @@ ghost use Rattle.cas_history.specs.Last.{last_number};
 ghost use Rattle.cas_history.specs.Laws.{writes_of, writes_in, Stands};
 
 use crate::front::{Front, Log, Session};
-use cas_ledger::{Store, look};
+use crate::{Store, look};
 
 /// A session is shown a shard. The answer is the number of the shard's last mutation, which isn't below one
 /// that the session was shown; from here on the session has the shard's list. What it was shown before, of

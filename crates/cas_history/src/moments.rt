@@ -1,8 +1,8 @@
 //! Moments of shards, and the readings that raised them.
 ghost use Rattle.std.specs.Prelude.{◌≡◌, ◌/◌, ◌<◌, ◌≤◌, max, [], ◌∷◌, ◌++◌};
 ghost use mathlib.Core.List.{IsPrefix};
-ghost use Rattle.cas_ledger.specs.Hands.{Owns};
-ghost use Rattle.cas_ledger.specs.Log.{Has};
+ghost use Rattle.cas_history.specs.Hands.{Owns};
+ghost use Rattle.cas_history.specs.Log.{Has};
 ghost use Rattle.cas_history.specs.Items.{listed, moments_list};
 ghost use Rattle.cas_history.specs.Last.{last_moment};
 ghost use Rattle.cas_history.specs.declared.item.Item.TheVariants.{Found, Read};
@@ -10,7 +10,7 @@ ghost use Rattle.cas_history.specs.declared.item.Item.TheVariants.{Found, Read};
 use crate::fresh::Fresh;
 use crate::front::{Finding, Session};
 use crate::item::Item;
-use cas_ledger::{Pass, Store, Tells, accept_alone, accept_two, look};
+use crate::{Pass, Store, Tells, accept_alone, accept_two, look};
 use std::marker::PhantomData;
 
 /// A shard's seat for its moment, in seconds since 1970.

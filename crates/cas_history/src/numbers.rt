@@ -1,8 +1,8 @@
 //! Numbers for new table files.
 ghost use Rattle.std.specs.Prelude.{◌≡◌, ◌+◌, ◌%◌, ◌<◌, ◌≤◌, true, [], ◌∷◌, ◌++◌};
 ghost use mathlib.Core.List.{IsPrefix};
-ghost use Rattle.cas_ledger.specs.Log.{Has};
-ghost use Rattle.cas_ledger.specs.Hands.{Owns};
+ghost use Rattle.cas_history.specs.Log.{Has};
+ghost use Rattle.cas_history.specs.Hands.{Owns};
 ghost use Rattle.cas_history.specs.Items.{listed, numbers_list, first_diary, Distinct};
 ghost use Rattle.cas_history.specs.Last.{last_file, holds, used};
 ghost use Rattle.cas_history.specs.declared.item.Item.TheVariants.{Found, Drew};
@@ -10,7 +10,7 @@ ghost use Rattle.cas_history.specs.declared.item.Item.TheVariants.{Found, Drew};
 use crate::fresh::Fresh;
 use crate::front::{Finding, Session};
 use crate::item::Item;
-use cas_ledger::{Pass, Store, Tells, accept_alone, accept_two, look};
+use crate::{Pass, Store, Tells, accept_alone, accept_two, look};
 use std::marker::PhantomData;
 
 /// The room's seat for file numbers. It has the last one.

@@ -1,11 +1,11 @@
 -- What the book's seat keeps.
 use Rattle.std.proofs.Common.{◌≡◌, ℕ, ◌<◌, List, [], ◌∷◌, Bool, true, false, refl, sym, subst, ⊎_elim, true≢false}
 use Rattle.std.specs.Prelude.{not, Option, None, Some}
-use Rattle.cas_ledger.specs.Log.{Has, Legal}
-use Rattle.cas_ledger.specs.Hands.{Knows, Entered, sees}
-use Rattle.cas_ledger.specs.declared.hand.Hand.{Hand}
-use Rattle.cas_ledger.proofs.Parts.{owned, gets, stays}
-use Rattle.cas_ledger.proofs.Lists.{has_or_not}
+use Rattle.cas_history.specs.Log.{Has, Legal}
+use Rattle.cas_history.specs.Hands.{Knows, Entered, sees}
+use Rattle.cas_history.specs.declared.hand.Hand.{Hand}
+use Rattle.cas_history.proofs.Parts.{owned, gets, stays}
+use Rattle.cas_history.proofs.LogLists.{has_or_not}
 use Rattle.std.proofs.lemmas.List.Sums.{fold-append}
 use Rattle.cas_refs.specs.declared.Count.{Count}
 use Rattle.cas_refs.specs.declared.RefBook.{RefBook}

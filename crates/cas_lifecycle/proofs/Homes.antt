@@ -2,11 +2,11 @@
 use Rattle.std.proofs.Common.{◌≡◌, ◌≢◌, ℕ, zero, suc, ◌+◌, ◌%◌, ◌<◌, ◌≤◌, ◌⊎◌, List, [], ◌∷◌, length, Bool, true, false, cond, refl, ap, sym, ◌∙◌, subst, inl, inr, ⊎_elim, arith, leb, le-leb, eqb}
 use Rattle.std.specs.Prelude.{None, Some, ◌==◌}
 use Rattle.std.proofs.lemmas.Bool.Decides.{leb_tells, eqb_tells}
-use Rattle.cas_ledger.specs.declared.hand.Hand.{Hand}
-use Rattle.cas_ledger.specs.Log.{Has, Each}
-use Rattle.cas_ledger.specs.Hands.{numbers, times, shares, beyond, Owns, Knows, Apart, sees, gave, given, both, founder, dealt, further, either_right}
-use Rattle.cas_ledger.proofs.Lists.{times_append, each_at}
-use Rattle.cas_ledger.proofs.Parts.{deals_all}
+use Rattle.cas_history.specs.declared.hand.Hand.{Hand}
+use Rattle.cas_history.specs.Log.{Has, Each}
+use Rattle.cas_history.specs.Hands.{numbers, times, shares, beyond, Owns, Knows, Apart, sees, gave, given, both, founder, dealt, further, either_right}
+use Rattle.cas_history.proofs.LogLists.{times_append, each_at}
+use Rattle.cas_history.proofs.Parts.{deals_all}
 use Rattle.cas_history.specs.declared.item.Item.{Item}
 use Rattle.cas_history.specs.Items.{items, listed, first_diary, Distinct}
 use Rattle.cas_history.specs.Last.{Idle, turn}

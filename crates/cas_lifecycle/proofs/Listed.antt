@@ -3,9 +3,9 @@ use Rattle.std.proofs.Common.{◌≡◌, ◌≢◌, ◌⊎◌, ℕ, ◌<◌, ◌
 use Rattle.std.specs.Prelude.{not, ◌==◌}
 use Rattle.std.specs.List.{fold, filter, list_any}
 use Rattle.std.proofs.lemmas.List.Sums.{fold-append}
-use Rattle.cas_ledger.specs.Log.{Has, Follows, Legal}
-use Rattle.cas_ledger.proofs.Lists.{has_or_not, each_at}
-use Rattle.cas_ledger.proofs.Parts.{part_gets, part_stays, legal_grows, names_it}
+use Rattle.cas_history.specs.Log.{Has, Follows, Legal}
+use Rattle.cas_history.proofs.LogLists.{has_or_not, each_at}
+use Rattle.cas_history.proofs.Parts.{part_gets, part_stays, legal_grows, names_it}
 use Rattle.cas_history.specs.declared.item.Item.{Item}
 use Rattle.cas_history.specs.declared.item.Item.TheVariants.{Found, Stood, Wrote, Purged, Faulted, Read, Rose, Drew, Began, Ended, Changed}
 use Rattle.cas_history.specs.Items.{items, listed, lists_of, MayCome, Distinct, first_diary, front_list, changes_list}

@@ -3,8 +3,8 @@ use Rattle.std.proofs.Common.{◌%◌, ◌≤◌, ◌≡◌, ◌≢◌, ℕ, ◌
 use Rattle.std.specs.Prelude.{Option, None, Some, ◌==◌}
 use Rattle.std.proofs.lemmas.Bool.Decides.{eqb_tells}
 use Rattle.std.proofs.lemmas.List.Sums.{fold-append}
-use Rattle.cas_ledger.specs.Log.{Has, Follows, Legal}
-use Rattle.cas_ledger.proofs.Parts.{part_stays, legal_grows}
+use Rattle.cas_history.specs.Log.{Has, Follows, Legal}
+use Rattle.cas_history.proofs.Parts.{part_stays, legal_grows}
 use Rattle.cas_history.specs.declared.item.Item.{Item}
 use Rattle.cas_history.specs.declared.item.Item.TheVariants.{Found, Stood, Wrote, Purged, Faulted, Read, Rose, Drew, Began, Ended, Changed}
 use Rattle.cas_history.specs.Last.{runs, runs_after, turn, turn_after, Idle}

@@ -1,8 +1,8 @@
 -- The book of table files, and the files that shards have.
 use Rattle.std.specs.Prelude.{◌≡◌, ℕ, ◌<◌, Bool, true, false, not, Option, None, Some}
-use Rattle.cas_ledger.specs.Log.{Has}
-use Rattle.cas_ledger.specs.Hands.{Owns}
-use Rattle.cas_ledger.specs.declared.hand.Hand.{Hand}
+use Rattle.cas_history.specs.Log.{Has}
+use Rattle.cas_history.specs.Hands.{Owns}
+use Rattle.cas_history.specs.declared.hand.Hand.{Hand}
 use Rattle.cas_refs.specs.declared.Count.{Count}
 use Rattle.cas_refs.specs.declared.RefBook.{RefBook}
 use Rattle.cas_refs.specs.Counts.{at}

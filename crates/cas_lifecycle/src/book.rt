@@ -1,14 +1,13 @@
 //! The book of table files with its seat, which knows the changes of each shard.
 ghost use Rattle.std.specs.Prelude.{◌≡◌, ◌≢◌, ℕ, ◌+◌, ◌<◌, true, false, Some, None, OnOk, OnErr, IfOk, IfSome, IfNone};
-ghost use Rattle.cas_ledger.specs.Log.{Has};
+ghost use Rattle.cas_history.specs.Log.{Has};
 ghost use Rattle.cas_refs.specs.Counts.{at, pins_of, one_less};
 ghost use Rattle.cas_history.specs.Items.{listed, changes_list, book_changes};
 ghost use Rattle.cas_history.specs.Last.{files_of};
 ghost use Rattle.cas_lifecycle.specs.Books.{Booked, is_live};
 
 use crate::changes::Changes;
-use cas_history::Item;
-use cas_ledger::{Pass, Store, look};
+use cas_history::{Item, Pass, Store, look};
 use cas_refs::{Count, Full, Pin, RefBook, Removal};
 use std::alloc::AllocError;
 

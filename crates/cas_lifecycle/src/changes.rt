@@ -1,8 +1,8 @@
 //! Changes of a shard's table files, and the copies of them that the room and the book have.
 ghost use Rattle.std.specs.Prelude.{◌≡◌, ◌≢◌, ℕ, ◌<◌, ◌≤◌, true, [], ◌∷◌, ◌++◌};
 ghost use mathlib.Core.List.{IsPrefix};
-ghost use Rattle.cas_ledger.specs.Log.{Each, Has};
-ghost use Rattle.cas_ledger.specs.Hands.{Owns};
+ghost use Rattle.cas_history.specs.Log.{Each, Has};
+ghost use Rattle.cas_history.specs.Hands.{Owns};
 ghost use Rattle.cas_history.specs.Items.{listed, front_list, changes_list, room_changes, book_changes, numbers_list, Distinct};
 ghost use Rattle.cas_history.specs.Last.{holds, used, all_added, files_of, frontier_of};
 ghost use Rattle.cas_lifecycle.specs.Books.{is_live};
@@ -10,8 +10,7 @@ ghost use Rattle.cas_refs.specs.Counts.{at};
 ghost use Rattle.cas_history.specs.declared.item.Item.TheVariants.{Changed, Stood};
 
 use crate::book::Book;
-use cas_history::{Files, Fresh, Front, Item, Numbers};
-use cas_ledger::{Pass, Store, Tells, accept_five, look};
+use cas_history::{Files, Fresh, Front, Item, Numbers, Pass, Store, Tells, accept_five, look};
 use std::marker::PhantomData;
 
 /// The shard's seat for its changes.

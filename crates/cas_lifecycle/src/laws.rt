@@ -2,7 +2,7 @@
 ghost use Rattle.std.specs.Prelude.{◌≡◌, ℕ, ◌%◌, ◌≤◌, [], ◌∷◌, ◌++◌, true, None, Some};
 ghost use mathlib.Core.List.{IsPrefix};
 ghost use Rattle.cas_history.specs.Items.{listed, log_list, front_list, changes_list, room_changes, book_changes, first_diary};
-ghost use Rattle.cas_ledger.specs.Hands.{Owns};
+ghost use Rattle.cas_history.specs.Hands.{Owns};
 ghost use Rattle.cas_history.specs.Last.{turn, Idle};
 ghost use Rattle.cas_history.specs.Laws.{Stands};
 ghost use Rattle.cas_history.specs.declared.item.Item.TheVariants.{Began};
@@ -11,8 +11,7 @@ use crate::book::Book;
 use crate::changes::{Changes, RoomCopy};
 use crate::maker::Maker;
 use crate::works::Works;
-use cas_history::{Item, Log, Session};
-use cas_ledger::{Kept, Store, Tells, join, look, look_three};
+use cas_history::{Item, Kept, Log, Session, Store, Tells, join, look, look_three};
 
 /// The room's copy of a shard's changes is the shard's list.
 pub fn room_stands<E, J: Store>(changes: &mut Changes<E, J>, room: &mut RoomCopy<E, J>)

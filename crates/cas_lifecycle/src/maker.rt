@@ -1,15 +1,14 @@
 //! Who makes passes.
 ghost use Rattle.std.specs.Prelude.{◌≡◌, ℕ, ◌+◌, ◌%◌, ◌<◌, ◌≤◌, max, [], ◌∷◌, None, IfOk, OnOk, OnErr};
 ghost use mathlib.Core.List.{IsPrefix};
-ghost use Rattle.cas_ledger.specs.Hands.{Owns};
+ghost use Rattle.cas_history.specs.Hands.{Owns};
 ghost use Rattle.cas_history.specs.Items.{listed, first_diary, book_changes};
 ghost use Rattle.cas_history.specs.Last.{Idle};
 ghost use Rattle.cas_lifecycle.specs.Inner.Homes.{Homely};
 
 use crate::book::Book;
 use crate::works::Works;
-use cas_history::{Files, Fresh, Item, Session};
-use cas_ledger::{Opened, Pass, Store, deal, join};
+use cas_history::{Files, Fresh, Item, Opened, Pass, Session, Store, deal, join};
 use cas_refs::RefBook;
 use std::alloc::AllocError;
 

@@ -1,13 +1,12 @@
 //! Flushes and compactions: what runs, and whose turn it is to end it.
 ghost use Rattle.std.specs.Prelude.{◌≡◌, ◌≢◌, ◌≤◌, ◌%◌, Bool, true, false, None, Some, [], ◌∷◌, ◌++◌, OnErr, IfSome, IfNone};
 ghost use mathlib.Core.List.{IsPrefix};
-ghost use Rattle.cas_ledger.specs.Hands.{Owns};
+ghost use Rattle.cas_history.specs.Hands.{Owns};
 ghost use Rattle.cas_history.specs.Items.{listed, first_diary, front_list};
 ghost use Rattle.cas_history.specs.Last.{runs, turn, decided};
 ghost use Rattle.cas_history.specs.declared.item.Item.TheVariants.{Began, Ended, Purged};
 
-use cas_history::{Fresh, Front, Item, Session};
-use cas_ledger::{Pass, Store, Tells, accept_three, accept_two, look};
+use cas_history::{Fresh, Front, Item, Pass, Session, Store, Tells, accept_three, accept_two, look};
 use std::marker::PhantomData;
 
 /// A shard's seat for the flushes of one table, or for its compactions. It has the diary of who flushes or

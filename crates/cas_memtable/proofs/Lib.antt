@@ -1,2 +1,5 @@
+pub mod Keeping
+mod Scanning
+pub mod Showing
 pub mod Keys
 pub mod Nexts

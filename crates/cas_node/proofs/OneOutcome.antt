@@ -25,7 +25,7 @@ use Rattle.cas_lines.specs.declared.line.Line.{Line}
 use Rattle.cas_lines.specs.declared.line.Line.TheVariants as line
 use Rattle.cas_lines.specs.Lines.{Says}
 use Rattle.cas_lines.proofs.OneLine.{one_line}
-use Rattle.cas_entries.specs.declared.entry.Entry.{Entry}
+use Rattle.cas_shard.specs.declared.entry.Entry.{Entry}
 use Rattle.cas_shard.specs.Shards.{take_refusal, mutation_at}
 use Rattle.cas_words.specs.declared.words.ClockKind.TheVariants as clock
 use Rattle.cas_sessions.specs.History.{History, DiskState, Takes, Shows, Defines, Changes, Does, WritesAt, after_read, after_write, entry_of, shard_at, tells_want}

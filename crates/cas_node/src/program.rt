@@ -21,7 +21,7 @@ use crate::runner::Runner;
 use crate::script::{run_lines, worse};
 use cas_disk::{Count, Folder};
 use cas_io::{Clock, Gate, ScriptFault, Sink, Source, read_script};
-use cas_ledger::Store;
+use cas_history::Store;
 use cas_opening::OpenFault;
 use cas_sessions::{Ask, Closed, Opened, Pass, start};
 use cas_words::{Command, read_words};

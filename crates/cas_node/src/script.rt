@@ -11,7 +11,7 @@ use crate::cause::Cause;
 use crate::runner::{Runner, Running};
 use cas_disk::Folder;
 use cas_io::{Clock, Sink, write_all};
-use cas_ledger::Store;
+use cas_history::Store;
 use cas_lines::next_line;
 use cas_render::{Failure, Reply, render};
 use cas_sessions::Ask;

@@ -8,9 +8,9 @@ use Rattle.cas_types.specs.declared.schema.TableSchema.{TableSchema}
 use Rattle.cas_atoms.specs.declared.atom.Mutation.{Mutation}
 use Rattle.cas_mutations.specs.Allowed.{FitsRecord}
 use Rattle.cas_replay.specs.Grammar.{AreOfALog, AscendByOne, numbers_of}
-use Rattle.cas_entries.specs.declared.entry.Entry.TheVariants.{Wrote}
-use Rattle.cas_entries.specs.declared.entry.ShardOpening.{ShardOpening}
-use Rattle.cas_entries.specs.Entries.{last_number, number_after}
+use Rattle.cas_shard.specs.declared.entry.Entry.TheVariants.{Wrote}
+use Rattle.cas_shard.specs.declared.entry.ShardOpening.{ShardOpening}
+use Rattle.cas_shard.specs.Entries.{last_number, number_after}
 use Rattle.cas_shard.specs.Shards.{empty_shard, found_shard, restored}
 use Rattle.cas_shard.specs.Stands.{NumbersRise}
 use Rattle.cas_shard.proofs.Numbering.{one_restored}

@@ -11,7 +11,7 @@ use Rattle.cas_replay.specs.Grammar.{AreOfALog}
 use Rattle.cas_changes.specs.declared.entry.Entry.{Entry as ManifestEntry}
 use Rattle.cas_changes.specs.Saying.{Saying, said_by, nothing, part_of, no_part, no_times}
 use Rattle.cas_manifest.specs.File.{MayFollow}
-use Rattle.cas_entries.specs.declared.entry.ShardOpening.{ShardOpening}
+use Rattle.cas_shard.specs.declared.entry.ShardOpening.{ShardOpening}
 use Rattle.cas_opening.specs.Opening.{IsOfBytes, IsRefused, OpensAs}
 use Rattle.cas_shard.specs.Shards.{empty_shard, restored}
 

@@ -14,7 +14,7 @@ ghost use Rattle.cas_journal.specs.Ends.{Ends, IsTold, IsToldAtOnce, entry_limit
 ghost use Rattle.cas_journal.specs.Reach.{reach_of, reach_after, IsOver};
 ghost use Rattle.cas_journal.specs.Stores.{Told, Holds, SameTables, appended, committed_all};
 ghost use Rattle.cas_journal.specs.Journals.{Lasts};
-ghost use Rattle.cas_ledger.specs.Log.{Each, Has};
+ghost use Rattle.cas_history.specs.Log.{Each, Has};
 ghost use Rattle.cas_refs.specs.Counts.{at};
 ghost use Rattle.cas_history.specs.Items.{listed, log_list, front_list, faults_list, changes_list, room_changes, book_changes, Distinct};
 ghost use Rattle.cas_history.specs.Last.{holds, last_fault, files_of, frontier_of};
@@ -27,9 +27,8 @@ use crate::event::{Changed, Event};
 use crate::room::{Room, say};
 use cas_changes::{Change, Entry};
 use cas_disk::{Draft, Folder, FolderFault, Name};
-use cas_history::{Files, Front, Session};
+use cas_history::{Files, Front, Session, Store};
 use cas_journal::JournalFault;
-use cas_ledger::Store;
 use cas_lifecycle::{Book, Changes, RoomCopy, install};
 use std::alloc::Global;
 

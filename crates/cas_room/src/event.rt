@@ -2,7 +2,7 @@
 
 use cas_atoms::Mutation;
 use cas_changes::Change;
-use cas_ledger::Tells;
+use cas_history::Tells;
 
 /// What an entry of the history tells.
 #[derive(Drop)]

@@ -23,9 +23,8 @@ use cas_atoms::Mutation;
 use cas_changes::Entry;
 use cas_disk::Folder;
 use cas_gates::First;
-use cas_history::{Faults, Front, Log, Numbers, Session, write};
+use cas_history::{Faults, Front, Log, Numbers, Session, Store, write};
 use cas_journal::{Journal, JournalFault};
-use cas_ledger::Store;
 use std::alloc::Global;
 
 /// The folder of a store with its journal, and the seats of what came onto it: the list of all mutations,

@@ -17,10 +17,9 @@ use crate::event::Event;
 use crate::fault::FreshFault;
 use crate::room::{Room, say};
 use cas_disk::{Draft, Folder, Name};
-use cas_history::Files;
+use cas_history::{Files, Store};
 use cas_info::FILE_NUMBER_LIMIT;
 use cas_io::Failed;
-use cas_ledger::Store;
 use cas_refs::Removal;
 
 /// How many table files may be live: those that the manifest lists, and those that were retired and

@@ -12,8 +12,8 @@ use Rattle.cas_atoms.specs.declared.atom.Mutation.{Mutation}
 use Rattle.cas_bind.specs.Fitting.{BoundFits}
 use Rattle.cas_bind.specs.declared.bound.Bound.TheVariants as bound
 use Rattle.cas_effects.specs.declared.effect.BoundWrite.{BoundWrite}
-use Rattle.cas_entries.specs.declared.entry.Entry.{Entry}
-use Rattle.cas_entries.specs.declared.entry.Entry.TheVariants as entry
+use Rattle.cas_shard.specs.declared.entry.Entry.{Entry}
+use Rattle.cas_shard.specs.declared.entry.Entry.TheVariants as entry
 use Rattle.cas_history.specs.declared.item.Item.TheVariants.{Wrote}
 use Rattle.cas_journal.specs.Ends.{Prepares as JournalPrepares, Ends, EndsBy, IsOfFolder}
 use Rattle.cas_journal.specs.Journals.{MayTake}
@@ -22,7 +22,7 @@ use Rattle.cas_journal.specs.Stores.{Told, MadeRoom}
 use Rattle.cas_journal.specs.declared.fault.Counted.{Counted}
 use Rattle.cas_journal.specs.declared.fault.JournalFault.{JournalFault}
 use Rattle.cas_journal.specs.declared.fault.JournalFault.TheVariants.{TooLarge, TooMany, Stopped, Failed, Mem}
-use Rattle.cas_ledger.specs.Hands.{numbers}
+use Rattle.cas_history.specs.Hands.{numbers}
 use Rattle.cas_render.specs.declared.reply.Failure.TheVariants as failure
 use Rattle.cas_render.specs.declared.reply.Reply.{Reply}
 use Rattle.cas_render.specs.declared.reply.Reply.TheVariants as reply

@@ -9,8 +9,8 @@ use Rattle.cas_history.specs.declared.item.Item.{Item}
 use Rattle.cas_history.specs.declared.item.Item.TheVariants.{Wrote}
 use Rattle.cas_room.specs.declared.event.Event.{Event}
 use Rattle.cas_room.specs.declared.event.Event.TheVariants as event
-use Rattle.cas_entries.specs.declared.entry.Entry.{Entry}
-use Rattle.cas_entries.specs.declared.entry.Entry.TheVariants as entry
+use Rattle.cas_shard.specs.declared.entry.Entry.{Entry}
+use Rattle.cas_shard.specs.declared.entry.Entry.TheVariants as entry
 use Rattle.cas_bind.specs.declared.bound.BoundRead.{BoundRead}
 use Rattle.cas_disk.specs.Disk.{Disk}
 use Rattle.cas_render.specs.declared.reply.Failure.TheVariants as failure

@@ -1,7 +1,7 @@
 -- The seats of shards, one after another.
 use Rattle.std.proofs.Common.{◌≡◌, ◌<◌, ◌+◌, ℕ, zero, suc, List, [], ◌∷◌, ◌++◌, length, map, take, get_or, sym, ap, ◌∙◌, arith}
 use Rattle.std.proofs.lemmas.List.{map-append, take_more}
-use Rattle.cas_ledger.specs.Hands.{numbers}
+use Rattle.cas_history.specs.Hands.{numbers}
 
 numbers_suc : (m n : ℕ) → numbers m (suc n) ≡ numbers m n ++ (m + n) ∷ []
 numbers_suc m zero = ap (λ (k : ℕ). k ∷ []) (omega arith)

@@ -11,8 +11,8 @@ use Rattle.cas_journal.specs.Stores.{IsStore}
 use Rattle.cas_room.specs.declared.event.Event.{Event}
 use Rattle.cas_room.specs.declared.event.Event.TheVariants as event
 use Rattle.cas_room.specs.Rooms.{accepted_in}
-use Rattle.cas_entries.specs.declared.entry.Entry.{Entry}
-use Rattle.cas_entries.specs.declared.entry.Entry.TheVariants as entry
+use Rattle.cas_shard.specs.declared.entry.Entry.{Entry}
+use Rattle.cas_shard.specs.declared.entry.Entry.TheVariants as entry
 use Rattle.cas_sessions.specs.History.{History, shard_at}
 
 -- the entry of a mutation, as a shard's history tells it

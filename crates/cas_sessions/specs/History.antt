@@ -26,8 +26,8 @@ use Rattle.cas_render.specs.declared.reply.Reply.{Reply}
 use Rattle.cas_render.specs.declared.reply.Reply.TheVariants as reply
 use Rattle.cas_words.specs.declared.words.ClockKind.{ClockKind}
 use Rattle.cas_words.specs.declared.words.ClockKind.TheVariants as clock
-use Rattle.cas_entries.specs.declared.entry.Entry.{Entry}
-use Rattle.cas_entries.specs.declared.entry.Entry.TheVariants as entry
+use Rattle.cas_shard.specs.declared.entry.Entry.{Entry}
+use Rattle.cas_shard.specs.declared.entry.Entry.TheVariants as entry
 use Rattle.cas_shard.specs.declared.answers.Look.{Look}
 use Rattle.cas_shard.specs.Shards.{ShardHistory, found_shard, empty_shard, moment_at, mutation_at, take_refusal, look_at}
 

@@ -14,7 +14,7 @@ use Rattle.cas_shard.specs.declared.shard.Shard.{Shard}
 use Rattle.cas_shard.specs.Shards.{found_shard}
 use Rattle.cas_recovery.specs.Found.{found_in}
 use Rattle.cas_sessions.specs.Nodes.{State, StandsFor, LastsFor, disk_of}
-use Rattle.cas_ledger.specs.Hands.{numbers}
+use Rattle.cas_history.specs.Hands.{numbers}
 use Rattle.cas_sessions.specs.History.{History, DiskState}
 use Rattle.cas_recovery.specs.Restored.{IsTold}
 

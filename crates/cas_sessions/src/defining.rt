@@ -15,7 +15,7 @@ use crate::writing::fault_for;
 use cas_changes::Entry;
 use cas_define::Addition;
 use cas_disk::Folder;
-use cas_ledger::Store;
+use cas_history::Store;
 use cas_types::{Column, List, Mem, TableSchema};
 use std::alloc::{AllocError, Global};
 

@@ -13,7 +13,7 @@ use crate::answer::{Answer, Fault};
 use crate::node::{Node, Stored};
 use cas_bind::BoundRead;
 use cas_disk::Folder;
-use cas_ledger::Store;
+use cas_history::Store;
 use cas_types::Mem;
 use std::alloc::Global;
 

@@ -2,10 +2,9 @@
 
 ghost use Rattle.std.specs.Prelude.{◌≡◌, ◌≤◌, ◌<◌, [], length, map, IfOk};
 ghost use Rattle.cas_history.specs.Items.{listed, log_list};
-ghost use Rattle.cas_ledger.specs.Hands.{numbers};
+ghost use Rattle.cas_history.specs.Hands.{numbers};
 
-use cas_history::{Faults, Front, Item, Log, Numbers};
-use cas_ledger::{Opened as Table, Store};
+use cas_history::{Faults, Front, Item, Log, Numbers, Opened as Table, Store};
 use cas_lifecycle::Maker;
 use cas_room::Event;
 use cas_shard::Shard;

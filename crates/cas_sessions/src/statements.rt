@@ -18,7 +18,7 @@ use cas_bind::{Bound, bind};
 use cas_disk::Folder;
 use cas_effects::{BindFault, NOT_HERE, SYNTAX};
 use cas_io::{Clock, ManualClock};
-use cas_ledger::Store;
+use cas_history::Store;
 use cas_lines::{Line, read_line};
 use cas_types::{LAST_MICROSECOND, Mem};
 use cas_words::ClockKind;

@@ -22,13 +22,13 @@ use Rattle.cas_streams.specs.Streams.{IsOrdered}
 use Rattle.cas_streams.specs.declared.fragment.Fragment.{Fragment}
 use Rattle.cas_streams.proofs.Merges.{merge_is_join, merge_ordered}
 use Rattle.cas_merge.specs.Told.{streams_told}
-use Rattle.cas_parts.specs.Kept.{Keeps, ShowPartition, all_of, atoms_at, atoms_under, memtables_of}
-use Rattle.cas_parts.specs.declared.parts.Parts.{Parts}
-use Rattle.cas_parts.proofs.Keeping.{more_under}
-use Rattle.cas_entries.specs.declared.entry.Entry.{Entry}
-use Rattle.cas_entries.specs.declared.entry.Entry.TheVariants.{Wrote}
-use Rattle.cas_entries.specs.Entries.{first}
-use Rattle.cas_entries.specs.Laws.{atoms_of_partition}
+use Rattle.cas_memtable.specs.Kept.{Keeps, ShowPartition, all_of, atoms_at, atoms_under, memtables_of}
+use Rattle.cas_memtable.specs.declared.parts.Parts.{Parts}
+use Rattle.cas_memtable.proofs.Keeping.{more_under}
+use Rattle.cas_shard.specs.declared.entry.Entry.{Entry}
+use Rattle.cas_shard.specs.declared.entry.Entry.TheVariants.{Wrote}
+use Rattle.cas_shard.specs.Entries.{first}
+use Rattle.cas_shard.specs.Laws.{atoms_of_partition}
 use Rattle.cas_shard.specs.Shards.{ShardHistory, all_entries, look_at, moment_at, number_of, raised}
 use Rattle.cas_shard.specs.Stands.{Asks, Holds, Stands, mutations_of, of_table, order_at, order_of, written_to}
 use Rattle.cas_shard.specs.Inner.Looks.{Answers, Sources, TellPartition}

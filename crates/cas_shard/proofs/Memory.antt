@@ -6,9 +6,9 @@ use Rattle.cas_bounds.specs.declared.order.Ordered.{Ordered}
 use Rattle.cas_atoms.specs.declared.atom.Mutation.{Mutation}
 use Rattle.cas_partition.specs.Partitions.{AreAtomsOf}
 use Rattle.cas_memtable.specs.Memtables.{HasPlaces}
-use Rattle.cas_parts.specs.Kept.{Keeps, all_of, begun, with_one}
-use Rattle.cas_parts.specs.declared.parts.Parts.{Parts}
-use Rattle.cas_parts.proofs.Keeping.{all_begun, all_joined}
+use Rattle.cas_memtable.specs.Kept.{Keeps, all_of, begun, with_one}
+use Rattle.cas_memtable.specs.declared.parts.Parts.{Parts}
+use Rattle.cas_memtable.proofs.Keeping.{all_begun, all_joined}
 use Rattle.cas_shard.specs.Stands.{HasRoom, Holds, PlacesAt}
 use Rattle.cas_shard.specs.Inner.Parts.{AllStay, JoinsRoom, MakesRoom, StayFew}
 

@@ -12,14 +12,14 @@ use Rattle.cas_atoms.specs.declared.atom.Mutation.{Mutation}
 use Rattle.cas_effects.specs.AtomsOf.{mutation_of}
 use Rattle.cas_effects.specs.declared.effect.BoundWrite.{BoundWrite}
 use Rattle.cas_partition.specs.Partitions.{AreAtomsOf}
-use Rattle.cas_entries.specs.declared.entry.Entry.{Entry}
-use Rattle.cas_entries.specs.declared.entry.Entry.TheVariants.{Wrote}
-use Rattle.cas_entries.specs.declared.entry.ShardOpening.{ShardOpening}
-use Rattle.cas_entries.specs.Entries.{last_number}
-use Rattle.cas_entries.proofs.Numbers.{drawn_of_none, last_of_none, last_drawn_more, last_number_more}
+use Rattle.cas_shard.specs.declared.entry.Entry.{Entry}
+use Rattle.cas_shard.specs.declared.entry.Entry.TheVariants.{Wrote}
+use Rattle.cas_shard.specs.declared.entry.ShardOpening.{ShardOpening}
+use Rattle.cas_shard.specs.Entries.{last_number}
+use Rattle.cas_shard.proofs.Numbers.{drawn_of_none, last_of_none, last_drawn_more, last_number_more}
 use Rattle.cas_shard.specs.Shards.{Prepares, ShardHistory, all_entries, drawn_with, entered, entry_unless, found_shard, later_drawn, later_moment}
 use Rattle.cas_shard.specs.Shards.{mutation_at, next_number, prepare_answer, raised, restored, take_refusal, taken_unless, told_shard, write_answer, write_entries}
-use Rattle.cas_parts.specs.declared.parts.Parts.{Parts}
+use Rattle.cas_memtable.specs.declared.parts.Parts.{Parts}
 use Rattle.cas_shard.specs.Stands.{Belongs, Holds, Stands, mutations_of, of_table, order_at}
 use Rattle.cas_shard.specs.Inner.Parts.{AllStay, JoinsRoom, MakesRoom}
 use Rattle.cas_shard.specs.Inner.Turns.{Answered, Took}

@@ -1,3 +1,5 @@
+pub mod Entries
+pub mod Laws
 pub mod Shards
 pub mod Stands
 pub mod Inner

@@ -12,10 +12,10 @@ use Rattle.cas_atoms.specs.LogLength.{record_length}
 use Rattle.cas_effects.specs.declared.effect.BoundWrite.{BoundWrite}
 use Rattle.cas_effects.specs.declared.refusal.TheConstants.{TOO_LARGE, TOO_MANY}
 use Rattle.cas_effects.specs.AtomsOf.{mutation_of}
-use Rattle.cas_entries.specs.declared.entry.Entry.{Entry}
-use Rattle.cas_entries.specs.declared.entry.Entry.TheVariants.{Wrote}
-use Rattle.cas_entries.specs.declared.entry.ShardOpening.{ShardOpening}
-use Rattle.cas_entries.specs.Entries.{first, last_drawn, last_number}
+use Rattle.cas_shard.specs.declared.entry.Entry.{Entry}
+use Rattle.cas_shard.specs.declared.entry.Entry.TheVariants.{Wrote}
+use Rattle.cas_shard.specs.declared.entry.ShardOpening.{ShardOpening}
+use Rattle.cas_shard.specs.Entries.{first, last_drawn, last_number}
 use Rattle.cas_shard.specs.declared.answers.Look.{Look}
 use Rattle.cas_shard.specs.declared.answers.TakeFault.{TakeFault}
 use Rattle.cas_shard.specs.declared.answers.TakeFault.TheVariants as fault

@@ -14,12 +14,12 @@ use Rattle.cas_atoms.specs.declared.query.Query.{Query}
 use Rattle.cas_effects.specs.FitsBound.{FitsBound}
 use Rattle.cas_effects.specs.declared.effect.BoundWrite.{BoundWrite}
 use Rattle.cas_memtable.specs.Memtables.{HasPlaces}
-use Rattle.cas_parts.specs.Kept.{Keeps, all_of}
-use Rattle.cas_parts.specs.declared.parts.Parts.{Parts}
-use Rattle.cas_entries.specs.declared.entry.Entry.{Entry}
-use Rattle.cas_entries.specs.declared.entry.Entry.TheVariants.{Wrote}
-use Rattle.cas_entries.specs.Entries.{AreNumbered, first, last_number}
-use Rattle.cas_entries.specs.Laws.{atoms_of_partition}
+use Rattle.cas_memtable.specs.Kept.{Keeps, all_of}
+use Rattle.cas_memtable.specs.declared.parts.Parts.{Parts}
+use Rattle.cas_shard.specs.declared.entry.Entry.{Entry}
+use Rattle.cas_shard.specs.declared.entry.Entry.TheVariants.{Wrote}
+use Rattle.cas_shard.specs.Entries.{AreNumbered, first, last_number}
+use Rattle.cas_shard.specs.Laws.{atoms_of_partition}
 use Rattle.cas_shard.specs.Shards.{ShardHistory, all_entries, number_of, drawn_of}
 use Rattle.cas_shard.specs.declared.shard.Shard.{Shard}
 

@@ -1,10 +1,17 @@
-//! One shard: its memtables, and what a write and a SELECT do in it.
+//! One shard: its memtables, what a write and a SELECT do in it, and its history: what is entered into
+//! it, and what of it a SELECT reads.
 #![tactic(auto)]
 
 mod answers;
+mod entry;
+mod first;
+mod laws;
 mod parts;
 mod rows;
 mod shard;
 
 pub use answers::{Look, TakeFault};
+pub use entry::{Entry, ShardOpening};
+pub use first::append_read;
+pub use laws::all_stand_up_to_the_last;
 pub use shard::Shard;

@@ -5,7 +5,7 @@ ghost use Rattle.cas_shard.specs.Stands.{HasRoom};
 ghost use Rattle.cas_shard.specs.Inner.Parts.{AllStay, JoinsRoom, MakesRoom, StayFew};
 
 use cas_atoms::Mutation;
-use cas_parts::Parts;
+use cas_memtable::Parts;
 use cas_types::Mem;
 use std::alloc::{AllocError, Global};
 

@@ -8,8 +8,8 @@ ghost use Rattle.cas_shard.specs.Inner.Looks.{Answers, Sources};
 
 use cas_atoms::{LiveRow, Query};
 use cas_live::LiveRows;
+use cas_memtable::Parts;
 use cas_merge::Merger;
-use cas_parts::Parts;
 use cas_streams::{FragmentSource, Part};
 use std::alloc::{AllocError, Global};
 

@@ -10,7 +10,7 @@ use crate::parts::{freeze, join, reserve};
 use crate::rows::rows_of;
 use cas_atoms::{Mutation, Query, length};
 use cas_effects::{BoundWrite, TOO_LARGE, TOO_MANY, atoms_of};
-use cas_parts::Parts;
+use cas_memtable::Parts;
 use cas_types::{LAST_DRAWN, LEAST_TIMESTAMP, List, MUTATION_LIMIT, Mem};
 use std::alloc::{AllocError, Global};
 
@@ -65,9 +65,9 @@ impl Shard {
     ghost use Rattle.cas_types.specs.declared.limits.TheConstants.{LAST_DRAWN, LEAST_TIMESTAMP, MUTATION_LIMIT};
     ghost use Rattle.cas_types.specs.declared.schema.TableSchema.{TableSchema as Schema};
     ghost use Rattle.cas_effects.specs.AtomsOf.{mutation_of};
-    ghost use Rattle.cas_entries.specs.Entries.{last_number};
-    ghost use Rattle.cas_entries.specs.declared.entry.Entry.TheVariants.{Wrote};
-    ghost use Rattle.cas_entries.specs.declared.entry.ShardOpening.{ShardOpening as Opening};
+    ghost use Rattle.cas_shard.specs.Entries.{last_number};
+    ghost use Rattle.cas_shard.specs.declared.entry.Entry.TheVariants.{Wrote};
+    ghost use Rattle.cas_shard.specs.declared.entry.ShardOpening.{ShardOpening as Opening};
     ghost use Rattle.cas_shard.specs.Shards.{IsTime, Prepares, ShardHistory, Shows, after_restore, empty_shard, entered, found_shard};
     ghost use Rattle.cas_shard.specs.Shards.{later_drawn, later_moment, number_of, raised, take_refusal, told_shard};
     ghost use Rattle.cas_shard.specs.Stands.{AreShown, Asks, Belongs, HasRoom, IsPrepared, IsReady, Stands, Suits};

@@ -9,7 +9,7 @@ use Rattle.cas_atoms.specs.declared.atom.Mutation.{Mutation}
 use Rattle.cas_streams.proofs.Weaves.{all_and}
 use Rattle.cas_memtable.specs.Memtables.{IsOfColumns}
 use Rattle.cas_memtable.specs.declared.memtable.MemPart.{MemPart}
-use Rattle.cas_parts.specs.Kept.{StandInEach, all_of}
+use Rattle.cas_memtable.specs.Kept.{StandInEach, all_of}
 use Rattle.cas_sstread.specs.Loading.{Held}
 use Rattle.cas_view.specs.Views.{File}
 use Rattle.cas_stored.specs.Stored.{AreOfTable, HoldEach, IsFileOf, StandInFile, flushed, oldest}

@@ -1,3 +1,7 @@
+pub mod Told
+pub mod Heads
+pub mod ContentsRead
+pub mod LoadedLaws
 pub mod Lists
 pub mod CutSays
 pub mod Gathering

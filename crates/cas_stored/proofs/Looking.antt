@@ -20,7 +20,7 @@ use Rattle.cas_streams.specs.declared.fragment.Fragment.{Fragment}
 use Rattle.cas_streams.proofs.Merges.{merge_is_join, merge_ordered}
 use Rattle.cas_merge.specs.Told.{streams_told}
 use Rattle.cas_memtable.specs.declared.memtable.MemPart.{MemPart}
-use Rattle.cas_parts.specs.Kept.{all_of, atoms_under}
+use Rattle.cas_memtable.specs.Kept.{all_of, atoms_under}
 use Rattle.cas_sstread.specs.Loading.{Held}
 use Rattle.cas_view.specs.Views.{File}
 use Rattle.cas_stored.specs.Stored.{HoldEach, ShowStored}

@@ -25,13 +25,13 @@ use Rattle.cas_streams.proofs.Cutting.{cut_is_well_formed, cut_keeps_the_slice}
 use Rattle.cas_streams.proofs.NoMore.{no_more_then}
 use Rattle.cas_merge.specs.Told.{streams_told, told_first}
 use Rattle.cas_memtable.specs.declared.memtable.MemPart.{MemPart}
-use Rattle.cas_parts.specs.Kept.{ShowPartition, StandInEach, all_of, atoms_under}
-use Rattle.cas_parts.proofs.Keeping.{more_under}
+use Rattle.cas_memtable.specs.Kept.{ShowPartition, StandInEach, all_of, atoms_under}
+use Rattle.cas_memtable.proofs.Keeping.{more_under}
 use Rattle.cas_tables.specs.Contents.{Contents, Partition}
 use Rattle.cas_tables.specs.Fitting.{FitsPartition}
 use Rattle.cas_blocks.specs.declared.fault.TableFault.{TableFault}
 use Rattle.cas_sstread.specs.Loading.{Held}
-use Rattle.cas_reading.specs.Contents.{AnswersOf, HasNone, IsCut}
+use Rattle.cas_stored.specs.Contents.{AnswersOf, HasNone, IsCut}
 use Rattle.cas_view.specs.Views.{File, may_hold}
 use Rattle.cas_stored.specs.Stored.{AreOfTable, HoldEach, SaysWhatIsWritten, ShowStored, StandInFile}
 use Rattle.cas_stored.specs.Reading.{AreReadIn, IsReadIn}

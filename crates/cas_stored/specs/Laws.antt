@@ -1,16 +1,24 @@
--- When mutations stand in a file that is loaded (own).
-use Rattle.std.specs.Prelude.{◌≡◌, ℕ, List, []}
+-- What holds of tables that are loaded, and when mutations stand in a file that is loaded (own).
+use Rattle.std.specs.Prelude.{◌≡◌, ℕ, Some, Ok, List, []}
 use Rattle.std.specs.List.{Contains}
 use Rattle.cas_bounds.specs.ClusteringOrder.{clustering_order}
 use Rattle.cas_atoms.specs.declared.atom.Mutation.{Mutation}
+use Rattle.cas_facts.specs.Facts.{AreFacts}
 use Rattle.cas_facts.specs.declared.facts.Facts.{Facts}
-use Rattle.cas_parts.specs.Kept.{atoms_under}
-use Rattle.cas_tables.specs.Contents.{Contents, Partition}
-use Rattle.cas_tables.specs.Files.{info_of}
+use Rattle.cas_memtable.specs.Kept.{atoms_under}
+use Rattle.cas_tables.specs.Contents.{Contents, Partition, atoms_of}
+use Rattle.cas_tables.specs.Files.{info_of, table_bytes}
+use Rattle.cas_tables.specs.Fitting.{FitsContents}
+use Rattle.cas_sstread.specs.Reading.{loaded_at}
 use Rattle.cas_sstread.specs.Loading.{Held}
-use Rattle.cas_reading.specs.Contents.{HasNone, IsOf}
+use Rattle.cas_stored.specs.Contents.{HasNone, IsOf}
 use Rattle.cas_view.specs.Views.{File}
 use Rattle.cas_stored.specs.Stored.{SaysWhatIsWritten, StandInFile}
+
+-- a table that was loaded of the file of contents that it may have, as that is listed, is of these
+abbrev pub LoadedIsOf : Type 0
+LoadedIsOf = (t : Held) (c : Contents) (f : Facts) → FitsContents t.columns c → AreFacts (atoms_of c) f → t.contents ≡ Some (table_bytes c f)
+    → loaded_at (clustering_order t.columns) c.header.table c.header.shard (info_of c f) (table_bytes c f) ≡ Ok t.kept → IsOf t c f
 
 -- in the file of contents, loaded and listed as it tells of itself, the mutations stand of which these say what was written, and nothing else was
 abbrev pub LoadedStands : Type 0

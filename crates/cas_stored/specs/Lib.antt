@@ -1,3 +1,5 @@
+pub mod Slices
+pub mod Contents
 pub mod Stored
 pub mod Reading
 pub mod Rows

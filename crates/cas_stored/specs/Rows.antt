@@ -8,7 +8,7 @@ use Rattle.cas_atoms.specs.declared.query.Query.{Query}
 use Rattle.cas_atoms.specs.declared.query.LiveRow.{LiveRow}
 use Rattle.cas_index.specs.Searches.{IsSliceOf}
 use Rattle.cas_memtable.specs.declared.memtable.MemPart.{MemPart}
-use Rattle.cas_parts.specs.Kept.{all_of, atoms_under}
+use Rattle.cas_memtable.specs.Kept.{all_of, atoms_under}
 use Rattle.cas_sstread.specs.Loading.{Held}
 use Rattle.cas_view.specs.Views.{File}
 use Rattle.cas_stored.specs.Stored.{HoldEach}

@@ -19,11 +19,11 @@ use Rattle.cas_streams.specs.declared.fragment.Fragment.{Fragment}
 use Rattle.cas_merge.specs.Told.{streams_told}
 use Rattle.cas_memtable.specs.Memtables.{IsOfColumns}
 use Rattle.cas_memtable.specs.declared.memtable.MemPart.{MemPart}
-use Rattle.cas_parts.specs.Kept.{all_of, atoms_under, StandInEach}
+use Rattle.cas_memtable.specs.Kept.{all_of, atoms_under, StandInEach}
 use Rattle.cas_facts.specs.declared.facts.Facts.{Facts}
 use Rattle.cas_tables.specs.Contents.{Contents, Partition}
 use Rattle.cas_sstread.specs.Loading.{Held}
-use Rattle.cas_reading.specs.Contents.{HasNone, IsOf}
+use Rattle.cas_stored.specs.Contents.{HasNone, IsOf}
 use Rattle.cas_view.specs.Views.{File, may_hold}
 
 -- ---- files

@@ -8,12 +8,12 @@ ghost use Rattle.cas_stored.specs.Reading.{IsReadIn, AreReadIn, IsWhyNot};
 ghost use Rattle.cas_stored.specs.Inner.Files.{FileAnswers, FilesGiveBehind};
 
 use crate::file::FileSource;
+use crate::read_slice;
 use crate::source::{Source, StoredSource};
 use cas_blocks::TableFault;
 use cas_bounds::Slice;
 use cas_disk::{Count, Sealed};
 use cas_merge::Merger;
-use cas_reading::read_slice;
 use cas_sstread::Table;
 use cas_streams::{FragmentSource, Part};
 use cas_view::{OpenFile, may_hold};

@@ -1,15 +1,17 @@
-//! What a table has stored in a shard, in memory and in files: its partitions as streams of both, and
-//! what a SELECT shows of them.
+//! What a table has stored in a shard, in memory and in files: a slice of a key's partition in a file
+//! that is loaded, its partitions as streams of both, and what a SELECT shows of them.
 #![tactic(auto)]
 
 mod file;
 mod files;
 mod laws;
 mod rows;
+mod slices;
 mod source;
 mod table;
 
 pub use file::FileSource;
-pub use laws::loaded_stands;
+pub use laws::{loaded_is_of, loaded_stands};
+pub use slices::read_slice;
 pub use source::{Source, StoredSource};
 pub use table::TableStore;

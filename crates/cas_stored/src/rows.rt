@@ -5,7 +5,7 @@ ghost use Rattle.std.specs.Arc.{arc_value};
 ghost use Rattle.cas_types.specs.Limits.{IsNarrow};
 ghost use Rattle.cas_atoms.specs.declared.query.LiveRow.{LiveRow as Shown};
 ghost use Rattle.cas_live.specs.Inner.Coming.{rows_to_come};
-ghost use Rattle.cas_parts.specs.Kept.{memtables_of};
+ghost use Rattle.cas_memtable.specs.Kept.{memtables_of};
 ghost use Rattle.cas_stored.specs.Reading.{AreReadIn};
 ghost use Rattle.cas_stored.specs.Rows.{AreRowsOf};
 

@@ -5,8 +5,7 @@ ghost use Rattle.cas_history.specs.Items.{listed, log_list, front_list};
 ghost use Rattle.cas_history.specs.Last.{Idle};
 ghost use Rattle.cas_history.specs.Laws.{Stands};
 
-use cas_history::{Front, Item, Log, Session, show, write};
-use cas_ledger::{Kept, Opened, Store, Tells};
+use cas_history::{Front, Item, Kept, Log, Opened, Session, Store, Tells, show, write};
 use cas_lifecycle::{Maker, begin_alone, conclude};
 use std::marker::Brand;
 use std::sync::{Mutex, Wait};

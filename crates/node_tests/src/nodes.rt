@@ -6,7 +6,7 @@ ghost use Rattle.std.specs.Prelude.{◌≡◌, ◌≤◌, pos};
 use cas_bind::Limits;
 use cas_disk::{FaultPlan, MemFolder};
 use cas_io::ManualClock;
-use cas_ledger::Store;
+use cas_history::Store;
 use cas_sessions::{Answer, Fault, Node, Opened, Session, Stored, start};
 use std::alloc::Global;
 use std::marker::Brand;

@@ -10,7 +10,7 @@ use crate::by_hand::{FILE, load};
 use cas_blocks::Blocks;
 use cas_bounds::{Cut, Slice, Values};
 use cas_disk::{Count, FaultCount, MemSealed};
-use cas_reading::read_slice;
+use cas_stored::read_slice;
 use cas_sstread::Table;
 use cas_streams::{Fragment, FragmentSource};
 use cas_tables::Version;

@@ -12,7 +12,7 @@ use Rattle.cas_streams.specs.Flat.{flat}
 use Rattle.cas_streams.specs.NoMore.{SaysNoMore}
 use Rattle.cas_streams.specs.declared.fragment.Fragment.{Fragment}
 use Rattle.cas_memtable.specs.Memtables.{is_above}
-use Rattle.cas_parts.specs.Kept.{atoms_under}
+use Rattle.cas_memtable.specs.Kept.{atoms_under}
 use Rattle.cas_tables.specs.declared.header.Header.{Header}
 use Rattle.cas_tables.specs.Contents.{Partition, Contents}
 use Rattle.cas_tables.specs.Files.{index_of, front_bytes}

@@ -1,8 +1,8 @@
 -- What the maker of passes keeps.
 use Rattle.std.specs.Prelude.{◌≡◌, ℕ, ◌%◌, ◌<◌, ◌≤◌, List, [], length, Some}
-use Rattle.cas_ledger.specs.Log.{Each}
-use Rattle.cas_ledger.specs.Hands.{shares}
-use Rattle.cas_ledger.specs.declared.hand.Hand.{Hand}
+use Rattle.cas_history.specs.Log.{Each}
+use Rattle.cas_history.specs.Hands.{shares}
+use Rattle.cas_history.specs.declared.hand.Hand.{Hand}
 use Rattle.cas_history.specs.declared.item.Item.{Item}
 use Rattle.cas_history.specs.Items.{listed, first_diary, Distinct}
 use Rattle.cas_history.specs.Last.{Idle}

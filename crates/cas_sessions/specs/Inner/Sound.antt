@@ -7,7 +7,7 @@ use Rattle.cas_types.specs.declared.schema.TableSchema.{TableSchema}
 use Rattle.cas_bind.specs.declared.bound.Limits.{Limits}
 use Rattle.cas_bind.specs.Tables.{AreInPlace, AreTables}
 use Rattle.cas_log.specs.Segment.{IsSize}
-use Rattle.cas_ledger.specs.Hands.{numbers}
+use Rattle.cas_history.specs.Hands.{numbers}
 use Rattle.cas_shard.specs.declared.shard.Shard.{Shard}
 use Rattle.cas_sessions.specs.Nodes.{State}
 

@@ -15,8 +15,8 @@ use Rattle.cas_streams.specs.Merged.{flats}
 use Rattle.cas_streams.specs.Streams.{IsOrdered}
 use Rattle.cas_streams.specs.declared.fragment.Fragment.{Fragment}
 use Rattle.cas_merge.specs.Told.{streams_told}
-use Rattle.cas_parts.specs.Kept.{atoms_under}
-use Rattle.cas_parts.specs.declared.parts.Parts.{Parts}
+use Rattle.cas_memtable.specs.Kept.{atoms_under}
+use Rattle.cas_memtable.specs.declared.parts.Parts.{Parts}
 use Rattle.cas_shard.specs.Stands.{Holds}
 
 -- sources that tell streams of a partition: in order, and in the slice the same as what these mutations write under the key

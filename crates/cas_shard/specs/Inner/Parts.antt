@@ -3,7 +3,7 @@ use Rattle.std.specs.Prelude.{◌≡◌, ℕ, ◌<◌, ◌≤◌, List, [], ◌�
 use Rattle.cas_bounds.specs.declared.order.Ordered.{Ordered}
 use Rattle.cas_atoms.specs.declared.atom.Mutation.{Mutation}
 use Rattle.cas_partition.specs.Partitions.{AreAtomsOf}
-use Rattle.cas_parts.specs.declared.parts.Parts.{Parts}
+use Rattle.cas_memtable.specs.declared.parts.Parts.{Parts}
 use Rattle.cas_shard.specs.Stands.{Holds}
 
 -- no more tables have memory than before, or than the table's number asks for

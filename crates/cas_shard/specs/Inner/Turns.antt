@@ -3,7 +3,7 @@ use Rattle.std.specs.Prelude.{◌≡◌, ℕ, ℤ, false, Result, List}
 use Rattle.cas_types.specs.declared.schema.TableSchema.{TableSchema}
 use Rattle.cas_atoms.specs.declared.atom.Mutation.{Mutation}
 use Rattle.cas_effects.specs.declared.effect.BoundWrite.{BoundWrite}
-use Rattle.cas_entries.specs.declared.entry.Entry.{Entry}
+use Rattle.cas_shard.specs.declared.entry.Entry.{Entry}
 use Rattle.cas_shard.specs.Shards.{ShardHistory, Takes, entered, raised, take_refusal, taken_unless, wants}
 use Rattle.cas_shard.specs.Stands.{Stands}
 use Rattle.cas_shard.specs.declared.answers.TakeFault.{TakeFault}

@@ -6,7 +6,7 @@ use Rattle.std.specs.Option.{option_copied}
 use Rattle.cas_bounds.specs.ClusteringOrder.{clustering_order}
 use Rattle.cas_atoms.specs.declared.atom.Mutation.{Mutation}
 use Rattle.cas_memtable.specs.declared.memtable.MemPart.{MemPart}
-use Rattle.cas_parts.specs.Kept.{IsNextKey, all_of, has_key}
+use Rattle.cas_memtable.specs.Kept.{IsNextKey, all_of, has_key}
 use Rattle.cas_sstwrite.specs.Finished.{Finishes}
 use Rattle.cas_sstwrite.specs.Writers.{contents_of}
 use Rattle.cas_sstwrite.proofs.Results.{passed_on}

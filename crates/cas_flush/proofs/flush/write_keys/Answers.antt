@@ -5,7 +5,7 @@ use Rattle.cas_types.specs.declared.schema.Column.{Column}
 use Rattle.cas_bounds.specs.ClusteringOrder.{clustering_order}
 use Rattle.cas_atoms.specs.declared.atom.Mutation.{Mutation}
 use Rattle.cas_memtable.specs.declared.memtable.MemPart.{MemPart}
-use Rattle.cas_parts.specs.Kept.{IsNextKey, all_of}
+use Rattle.cas_memtable.specs.Kept.{IsNextKey, all_of}
 use Rattle.cas_sstwrite.proofs.Results.{passed_on}
 use Rattle.cas_sstwrite.specs.Writers.{Writes, partition_of}
 use Rattle.cas_flush.specs.Flushed.{HoldMutations}

@@ -4,7 +4,7 @@ use Rattle.std.specs.Option.{option_copied}
 use Rattle.cas_types.specs.declared.schema.Column.{Column}
 use Rattle.cas_atoms.specs.declared.atom.Mutation.{Mutation}
 use Rattle.cas_disk.specs.Counts.{Counted}
-use Rattle.cas_parts.specs.Kept.{all_of}
+use Rattle.cas_memtable.specs.Kept.{all_of}
 use Rattle.cas_tables.specs.Contents.{Partition}
 use Rattle.cas_sstwrite.specs.Writers.{Writes, fault_of}
 use Rattle.cas_flush.specs.Flushed.{HoldMutations, AreOf}

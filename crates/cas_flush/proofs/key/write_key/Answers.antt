@@ -3,7 +3,7 @@ use Rattle.std.specs.Arc.{arc_value}
 use Rattle.cas_bounds.specs.ClusteringOrder.{clustering_order}
 use Rattle.cas_flush.specs.Inner.Keys.{KeyFault}
 use Rattle.cas_sstwrite.specs.Writers.{contents_of}
-use Rattle.cas_parts.specs.Kept.{all_of}
+use Rattle.cas_memtable.specs.Kept.{all_of}
 use Rattle.cas_flush.proofs.Holding.{low, high}
 use Rattle.cas_flush.proofs.Writing.{key_written, key_refused}
 use Rattle.cas_flush.proofs.key.write_key.Goals as goal

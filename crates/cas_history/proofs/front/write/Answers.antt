@@ -1,7 +1,7 @@
 use Rattle.std.proofs.Common.{◌≡◌, ◌≢◌, ℕ, ◌+◌, ◌<◌, ◌≤◌, ◌∙◌, [], ◌∷◌, ap, refl, sym, subst, inl, inr, arith}
 use Rattle.std.proofs.lemmas.List.Sums.{fold-append}
-use Rattle.cas_ledger.specs.Hands.{Owns}
-use Rattle.cas_ledger.proofs.Parts.{gets, begins}
+use Rattle.cas_history.specs.Hands.{Owns}
+use Rattle.cas_history.proofs.Parts.{gets, begins}
 use Rattle.cas_history.specs.Items.{items, listed, log_list, front_list}
 use Rattle.cas_history.specs.Last.{last_number, number_after, last_call, call_after}
 use Rattle.cas_history.proofs.front.write.Goals as goal

@@ -1,5 +1,5 @@
 use Rattle.std.proofs.Common.{◌∙◌, ap, sym}
-use Rattle.cas_ledger.proofs.Parts.{owned}
+use Rattle.cas_history.proofs.Parts.{owned}
 use Rattle.cas_history.specs.Items.{items, log_list, front_list}
 use Rattle.cas_history.specs.Laws.{writes_in}
 use Rattle.cas_history.proofs.Shares.{shard_writes}

@@ -1,5 +1,5 @@
 use Rattle.std.proofs.Common.{◌≤◌, ◌∙◌, ap, refl, sym, subst}
-use Rattle.cas_ledger.proofs.Parts.{owned}
+use Rattle.cas_history.proofs.Parts.{owned}
 use Rattle.cas_history.specs.Items.{items, listed, front_list}
 use Rattle.cas_history.specs.Last.{last_number}
 use mathlib.Core.List.{IsPrefix}

@@ -1,6 +1,6 @@
 use Rattle.std.proofs.Common.{◌≡◌, ℕ, ◌+◌, ◌≤◌, ◌∙◌, ap, sym, subst, arith}
-use Rattle.cas_ledger.specs.Hands.{Owns, shares}
-use Rattle.cas_ledger.proofs.Parts.{owned}
+use Rattle.cas_history.specs.Hands.{Owns, shares}
+use Rattle.cas_history.proofs.Parts.{owned}
 use Rattle.cas_history.specs.Items.{items}
 use Rattle.cas_history.specs.Last.{holds}
 use Rattle.cas_history.proofs.Once.{holds_once}

@@ -1,6 +1,6 @@
 use Rattle.std.proofs.Common.{sym, subst}
-use Rattle.cas_ledger.specs.Log.{Has}
-use Rattle.cas_ledger.proofs.Parts.{owned}
+use Rattle.cas_history.specs.Log.{Has}
+use Rattle.cas_history.proofs.Parts.{owned}
 use Rattle.cas_history.specs.Items.{items, listed, changes_list, numbers_list, Distinct}
 use Rattle.cas_history.specs.Last.{all_added, used}
 use Rattle.cas_history.proofs.Lists.{each_from}

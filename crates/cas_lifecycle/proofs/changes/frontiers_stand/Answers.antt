@@ -1,5 +1,5 @@
 use Rattle.std.proofs.Common.{ℕ, ◌≤◌, ◌∙◌, ap, sym, subst}
-use Rattle.cas_ledger.proofs.Parts.{owned}
+use Rattle.cas_history.proofs.Parts.{owned}
 use Rattle.cas_history.specs.Items.{items, listed, front_list, changes_list}
 use Rattle.cas_history.specs.Last.{frontier_of, last_number}
 use Rattle.cas_lifecycle.proofs.Listed.{frontier_below}

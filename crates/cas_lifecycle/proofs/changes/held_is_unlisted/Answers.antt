@@ -1,6 +1,6 @@
 use Rattle.std.proofs.Common.{◌∙◌, ap, sym, subst}
-use Rattle.cas_ledger.specs.Log.{Has}
-use Rattle.cas_ledger.proofs.Parts.{owned}
+use Rattle.cas_history.specs.Log.{Has}
+use Rattle.cas_history.proofs.Parts.{owned}
 use Rattle.cas_history.specs.Items.{items, changes_list}
 use Rattle.cas_history.specs.Last.{holds, all_added}
 use Rattle.cas_history.proofs.Once.{held_unlisted}

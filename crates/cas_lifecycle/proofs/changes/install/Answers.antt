@@ -1,9 +1,9 @@
 use Rattle.std.proofs.Common.{◌≡◌, ◌≢◌, ℕ, ◌<◌, ◌≤◌, ◌∙◌, [], ◌∷◌, true, ap, refl, sym, subst, inl, inr, ⊎_elim, arith}
 use Rattle.std.proofs.lemmas.List.Sums.{fold-append}
-use Rattle.cas_ledger.specs.Hands.{Owns}
-use Rattle.cas_ledger.specs.Log.{Has}
-use Rattle.cas_ledger.proofs.Lists.{each_at}
-use Rattle.cas_ledger.proofs.Parts.{gets, begins}
+use Rattle.cas_history.specs.Hands.{Owns}
+use Rattle.cas_history.specs.Log.{Has}
+use Rattle.cas_history.proofs.LogLists.{each_at}
+use Rattle.cas_history.proofs.Parts.{gets, begins}
 use Rattle.cas_refs.specs.Counts.{at}
 use Rattle.cas_history.specs.Items.{items, listed, front_list, changes_list, room_changes, book_changes, Distinct}
 use Rattle.cas_history.specs.Last.{all_added, files_of, last_number, number_after}

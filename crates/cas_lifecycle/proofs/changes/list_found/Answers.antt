@@ -1,9 +1,9 @@
 use Rattle.std.proofs.Common.{◌≡◌, ℕ, ◌≤◌, ◌∙◌, [], ◌∷◌, true, ap, refl, sym, subst, inl, inr, arith}
 use Rattle.std.proofs.lemmas.List.Sums.{fold-append}
-use Rattle.cas_ledger.specs.Hands.{Owns}
-use Rattle.cas_ledger.specs.Log.{Has, Each}
-use Rattle.cas_ledger.proofs.Lists.{each_at}
-use Rattle.cas_ledger.proofs.Parts.{gets}
+use Rattle.cas_history.specs.Hands.{Owns}
+use Rattle.cas_history.specs.Log.{Has, Each}
+use Rattle.cas_history.proofs.LogLists.{each_at}
+use Rattle.cas_history.proofs.Parts.{gets}
 use Rattle.cas_refs.specs.Counts.{at}
 use Rattle.cas_history.specs.Items.{items, listed, numbers_list, front_list, changes_list, room_changes, book_changes}
 use Rattle.cas_history.specs.Last.{used, last_number, number_after}

@@ -1,5 +1,5 @@
 use Rattle.std.proofs.Common.{◌∙◌, sym, subst}
-use Rattle.cas_ledger.proofs.Parts.{owned}
+use Rattle.cas_history.proofs.Parts.{owned}
 use Rattle.cas_history.specs.Items.{items, changes_list, book_changes}
 use Rattle.cas_lifecycle.specs.Books.{Booked}
 use Rattle.cas_lifecycle.proofs.Books.{booked_sees}

@@ -1,5 +1,5 @@
 use Rattle.std.proofs.Common.{◌∙◌, ap, sym, subst}
-use Rattle.cas_ledger.proofs.Parts.{owned}
+use Rattle.cas_history.proofs.Parts.{owned}
 use Rattle.cas_history.specs.Items.{items, listed, log_list, front_list}
 use Rattle.cas_history.specs.Last.{turn}
 use Rattle.cas_history.specs.Laws.{Stands}

@@ -1,6 +1,6 @@
 use Rattle.std.proofs.Common.{◌≡◌, ℕ, ◌<◌, ◌∙◌, arith, ap, sym, subst, ⊎_elim, true≢false}
-use Rattle.cas_ledger.specs.Hands.{shares}
-use Rattle.cas_ledger.proofs.Parts.{owned}
+use Rattle.cas_history.specs.Hands.{shares}
+use Rattle.cas_history.proofs.Parts.{owned}
 use Rattle.cas_history.specs.Items.{items, listed}
 use Rattle.cas_history.specs.Last.{runs, turn}
 use Rattle.cas_lifecycle.specs.Inner.Homes.{Homely}

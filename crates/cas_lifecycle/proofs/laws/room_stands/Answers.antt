@@ -1,6 +1,6 @@
 use Rattle.std.proofs.Common.{◌∙◌, sym, subst}
-use Rattle.cas_ledger.specs.Hands.{Owns}
-use Rattle.cas_ledger.proofs.Parts.{owned}
+use Rattle.cas_history.specs.Hands.{Owns}
+use Rattle.cas_history.proofs.Parts.{owned}
 use Rattle.cas_history.specs.Items.{items, changes_list, room_changes}
 use Rattle.cas_history.proofs.Shares.{room_copies}
 use Rattle.cas_lifecycle.proofs.laws.room_stands.Goals as goal

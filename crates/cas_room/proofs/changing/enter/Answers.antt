@@ -1,5 +1,5 @@
 use Rattle.std.proofs.Common.{ℕ, List, sym, subst}
-use Rattle.cas_ledger.specs.Log.{Has}
+use Rattle.cas_history.specs.Log.{Has}
 use Rattle.cas_room.proofs.changing.enter.Goals as goal
 
 pub returns-clause-retires : goal.returns-clause-retires

@@ -1,5 +1,5 @@
 use Rattle.std.proofs.Common.{◌≡◌, ◌≤◌, ◌+◌, map, take}
-use Rattle.cas_ledger.specs.Hands.{numbers}
+use Rattle.cas_history.specs.Hands.{numbers}
 use Rattle.cas_sessions.proofs.seats.fronts.Given as goal
 
 abbrev pub invariant-loop-place : goal.invariant-loop-place

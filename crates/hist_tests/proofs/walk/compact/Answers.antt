@@ -1,5 +1,5 @@
 use Rattle.std.proofs.Common.{◌≡◌, ◌+◌, ◌≤◌, ◌∙◌, ap, inl, refl, sym, subst, arith, ℕ}
-use Rattle.cas_ledger.specs.Log.{Has}
+use Rattle.cas_history.specs.Log.{Has}
 use Rattle.cas_history.specs.Items.{listed, changes_list}
 use Rattle.cas_history.specs.Last.{files_of, holds}
 use Rattle.cas_lifecycle.specs.Books.{is_live}

@@ -1,5 +1,5 @@
 use Rattle.std.proofs.Common.{◌≡◌, ◌≤◌, ◌∙◌, List, ◌++◌, [], ◌∷◌, ap, inl, refl, sym, subst, arith, ℕ}
-use Rattle.cas_ledger.specs.Log.{Has}
+use Rattle.cas_history.specs.Log.{Has}
 use Rattle.cas_history.specs.declared.item.Item.{Item}
 use Rattle.cas_history.specs.declared.item.Item.TheVariants.{Stood}
 use Rattle.cas_history.specs.Items.{listed, changes_list, numbers_list}

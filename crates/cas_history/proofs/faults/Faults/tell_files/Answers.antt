@@ -1,5 +1,5 @@
 use Rattle.std.proofs.Common.{◌≤◌, ◌∙◌, ap, refl, sym, subst}
-use Rattle.cas_ledger.proofs.Parts.{owned}
+use Rattle.cas_history.proofs.Parts.{owned}
 use Rattle.cas_history.specs.Items.{items, listed, faults_list}
 use Rattle.cas_history.specs.Last.{last_fault}
 use Rattle.cas_history.proofs.Rising.{faults_rise}

@@ -1,6 +1,6 @@
 use Rattle.std.proofs.Common.{sym, subst}
-use Rattle.cas_ledger.specs.Log.{Has}
-use Rattle.cas_ledger.proofs.Lists.{has_last}
+use Rattle.cas_history.specs.Log.{Has}
+use Rattle.cas_history.proofs.LogLists.{has_last}
 use Rattle.cas_history.specs.declared.item.Item.TheVariants.{Read}
 use Rattle.cas_history.proofs.front.Session.read.Goals as goal
 

@@ -1,6 +1,6 @@
 use Rattle.std.proofs.Common.{ℕ, ◌<◌, ◌≤◌, ◌∙◌, [], ◌∷◌, ap, refl, sym, subst, inl, inr, arith}
-use Rattle.cas_ledger.specs.Log.{Has}
-use Rattle.cas_ledger.proofs.Parts.{owned, stays, gets, begins}
+use Rattle.cas_history.specs.Log.{Has}
+use Rattle.cas_history.proofs.Parts.{owned, stays, gets, begins}
 use Rattle.cas_history.specs.Items.{items, listed, moments_list, first_diary}
 use Rattle.cas_history.specs.Last.{last_moment, moment_after}
 use Rattle.std.proofs.lemmas.List.Sums.{fold-append}

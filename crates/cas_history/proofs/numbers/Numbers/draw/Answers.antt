@@ -1,7 +1,7 @@
 use Rattle.std.proofs.Common.{◌≡◌, ◌≢◌, ℕ, ◌+◌, ◌<◌, ◌≤◌, ◌∙◌, [], ◌∷◌, true, false, cond, ap, refl, sym, subst, inl, inr, eq-eqb, arith}
 use Rattle.std.proofs.lemmas.List.Sums.{fold-append}
-use Rattle.cas_ledger.specs.Hands.{Owns}
-use Rattle.cas_ledger.proofs.Parts.{gets, begins}
+use Rattle.cas_history.specs.Hands.{Owns}
+use Rattle.cas_history.proofs.Parts.{gets, begins}
 use Rattle.cas_history.specs.Items.{items, listed, numbers_list}
 use Rattle.cas_history.specs.Last.{last_file, file_after, holds, holds_after}
 use Rattle.cas_history.proofs.Once.{used_stand}

@@ -1,6 +1,6 @@
 use Rattle.std.proofs.Common.{◌≡◌, ◌∙◌, ℕ, ◌+◌, ◌<◌, true, false, ap, sym, subst, ⊎_elim}
-use Rattle.cas_ledger.specs.Log.{Has}
-use Rattle.cas_ledger.proofs.Parts.{owned}
+use Rattle.cas_history.specs.Log.{Has}
+use Rattle.cas_history.proofs.Parts.{owned}
 use Rattle.std.specs.Prelude.{Result, Ok, Err, Some, IfOk, OnErr}
 use Rattle.cas_refs.specs.Counts.{at, pins_of}
 use Rattle.cas_refs.specs.declared.Pin.{Pin}

@@ -1,5 +1,5 @@
 use Rattle.std.proofs.Common.{◌∙◌, ap, subst}
-use Rattle.cas_ledger.specs.Log.{Has}
+use Rattle.cas_history.specs.Log.{Has}
 use Rattle.cas_refs.specs.Counts.{at}
 use Rattle.cas_history.specs.Items.{listed, book_changes}
 use Rattle.cas_history.specs.Last.{files_of}

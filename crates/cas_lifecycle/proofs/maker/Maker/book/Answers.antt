@@ -1,7 +1,7 @@
 use Rattle.std.proofs.Common.{◌≡◌, ℕ, ◌+◌, ◌%◌, ◌<◌, ◌≤◌, ◌∙◌, refl, ap, sym, subst, arith}
-use Rattle.cas_ledger.specs.Log.{Has}
-use Rattle.cas_ledger.specs.Hands.{Owns, dealt, times}
-use Rattle.cas_ledger.proofs.Parts.{deals_all}
+use Rattle.cas_history.specs.Log.{Has}
+use Rattle.cas_history.specs.Hands.{Owns, dealt, times}
+use Rattle.cas_history.proofs.Parts.{deals_all}
 use Rattle.cas_history.specs.Items.{listed, book_changes, first_diary}
 use Rattle.cas_history.specs.Last.{files_of}
 use Rattle.cas_lifecycle.specs.Inner.Homes.{Homely}

@@ -1,7 +1,7 @@
 use Rattle.std.proofs.Common.{◌≡◌, ◌+◌, ◌-◌, ◌<◌, ◌∙◌, ap, sym, subst, arith}
-use Rattle.cas_ledger.specs.Hands.{times}
-use Rattle.cas_ledger.proofs.Lists.{times_append}
-use Rattle.cas_ledger.proofs.Parts.{owned}
+use Rattle.cas_history.specs.Hands.{times}
+use Rattle.cas_history.proofs.LogLists.{times_append}
+use Rattle.cas_history.proofs.Parts.{owned}
 use Rattle.cas_lifecycle.specs.Inner.Homes.{Homely}
 use Rattle.cas_history.specs.Items.{items}
 use Rattle.cas_lifecycle.proofs.Homes.{some_out, homely_keeps}

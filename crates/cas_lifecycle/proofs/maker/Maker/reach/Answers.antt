@@ -1,5 +1,5 @@
 use Rattle.std.proofs.Common.{ℕ, ◌-◌, ◌≤◌, ◌∙◌, sym, subst, arith}
-use Rattle.cas_ledger.specs.Hands.{Knows, gave, given, both}
+use Rattle.cas_history.specs.Hands.{Knows, gave, given, both}
 use Rattle.cas_lifecycle.specs.Inner.Homes.{Homely}
 use Rattle.cas_history.specs.Items.{items}
 use Rattle.cas_lifecycle.proofs.Homes.{homely_reaches}

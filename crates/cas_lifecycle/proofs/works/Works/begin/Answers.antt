@@ -2,8 +2,8 @@ use Rattle.std.proofs.Common.{◌≡◌, ◌≢◌, ℕ, ◌%◌, ◌∙◌, [],
 use Rattle.std.specs.Prelude.{Option, None, Some}
 use Rattle.std.specs.Option.{is_some}
 use Rattle.std.proofs.lemmas.List.Sums.{fold-append}
-use Rattle.cas_ledger.specs.Hands.{Owns}
-use Rattle.cas_ledger.proofs.Parts.{gets, begins}
+use Rattle.cas_history.specs.Hands.{Owns}
+use Rattle.cas_history.proofs.Parts.{gets, begins}
 use Rattle.cas_history.specs.Items.{items, listed}
 use Rattle.cas_history.specs.Last.{runs, runs_after, turn, turn_after, last_call, call_after}
 use Rattle.cas_lifecycle.proofs.works.Works.begin.Goals as goal

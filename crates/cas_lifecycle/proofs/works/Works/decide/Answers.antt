@@ -1,8 +1,8 @@
 use Rattle.std.proofs.Common.{◌≡◌, ◌≢◌, ℕ, ◌%◌, ◌<◌, ◌≤◌, ◌∙◌, ◌++◌, [], ◌∷◌, Bool, false, cond, ap, refl, sym, subst, inl, inr, eq-eqb, arith}
 use Rattle.std.specs.Prelude.{None}
 use Rattle.std.proofs.lemmas.List.Sums.{fold-append}
-use Rattle.cas_ledger.specs.Hands.{Owns}
-use Rattle.cas_ledger.proofs.Parts.{owned, gets}
+use Rattle.cas_history.specs.Hands.{Owns}
+use Rattle.cas_history.proofs.Parts.{owned, gets}
 use Rattle.cas_history.specs.declared.item.Item.TheVariants.{Purged}
 use Rattle.cas_history.specs.Items.{items, listed, front_list, first_diary}
 use Rattle.cas_history.specs.Last.{runs, runs_after, turn, turn_after, decided, decided_after, last_number, number_after, last_call, call_after}

@@ -1,8 +1,8 @@
 use Rattle.std.proofs.Common.{◌≡◌, ◌≢◌, ℕ, ◌%◌, ◌∙◌, ◌++◌, [], ◌∷◌, false, cond, eq-eqb, ap, refl, sym, subst, inl, inr, arith}
 use Rattle.std.specs.Prelude.{None}
 use Rattle.std.proofs.lemmas.List.Sums.{fold-append}
-use Rattle.cas_ledger.specs.Hands.{Owns}
-use Rattle.cas_ledger.proofs.Parts.{owned, gets}
+use Rattle.cas_history.specs.Hands.{Owns}
+use Rattle.cas_history.proofs.Parts.{owned, gets}
 use Rattle.cas_history.specs.declared.item.Item.TheVariants.{Ended}
 use Rattle.cas_history.specs.Items.{items, listed}
 use Rattle.cas_history.specs.Last.{runs, runs_after, turn, turn_after, last_call, call_after}

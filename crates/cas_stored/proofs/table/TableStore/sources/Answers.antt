@@ -1,6 +1,6 @@
 use Rattle.std.proofs.Common.{◌∙◌}
 use Rattle.std.specs.Arc.{arc_value}
-use Rattle.cas_parts.specs.Kept.{memtables_of}
+use Rattle.cas_memtable.specs.Kept.{memtables_of}
 use Rattle.cas_view.specs.Views.{files_of}
 use Rattle.cas_stored.specs.declared.source.StoredSource.TheVariants.{Memory}
 use Rattle.cas_stored.proofs.Showing.{sources_show}

@@ -1,6 +1,6 @@
 use Rattle.std.proofs.Common.{refl}
 use Rattle.std.specs.Arc.{arc_value}
-use Rattle.cas_parts.specs.Kept.{memtables_of}
+use Rattle.cas_memtable.specs.Kept.{memtables_of}
 use Rattle.cas_stored.proofs.Flushing.{swap_holds, swap_of}
 use Rattle.cas_stored.proofs.table.TableStore.swap.Goals as goal
 

@@ -1,3 +1,0 @@
-pub mod Keeping
-mod Scanning
-pub mod Showing

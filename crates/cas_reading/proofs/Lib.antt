@@ -1,4 +1,0 @@
-pub mod Told
-pub mod Heads
-pub mod ContentsRead
-pub mod LoadedLaws

@@ -1,4 +1,0 @@
-pub mod Slices
-pub mod Contents
-pub mod Laws
-pub mod Inner

@@ -1,0 +1,32 @@
+-- What the parts of a reading answer (own).
+use Rattle.std.specs.Prelude.{◌≡◌, ℕ, List, Option, Result, Ok, Err}
+use Rattle.cas_types.specs.declared.schema.Column.{Column}
+use Rattle.cas_cell.specs.declared.deletion.Deletion.{Deletion}
+use Rattle.cas_bounds.specs.declared.cuts.Slice.{Slice}
+use Rattle.cas_codec.specs.Reading.{Left}
+use Rattle.cas_streams.specs.declared.fragment.Fragment.{Fragment}
+use Rattle.cas_fragments.specs.declared.heads.Head.{Head}
+use Rattle.cas_index.specs.declared.entries.PartitionEntry.{PartitionEntry}
+use Rattle.cas_blocks.specs.declared.fault.TableFault.{TableFault}
+use Rattle.cas_blocks.specs.declared.fault.TableFault.TheVariants as table_fault
+use Rattle.cas_sstread.specs.Loading.{Held}
+use Rattle.cas_stored.specs.Slices.{IsHead, HasNoHead, IsSlice, IsBadHead}
+
+-- the head that stands there, or that in the file of that number none of the key does
+abbrev pub HeadAnswers : List Column → ℕ → Left → List ℕ → Result Head TableFault → Type 0
+HeadAnswers columns number left key (Ok h) = IsHead columns left key h.top h.columns
+HeadAnswers columns number left key (Err table_fault.Read) = Unit {0}
+HeadAnswers columns number left key (Err (table_fault.BadBlock n at)) = (n ≡ number) × (at ≡ left.at) × HasNoHead columns left key
+HeadAnswers columns number left key (Err table_fault.Mem) = Unit {0}
+
+-- why the partition of which the index tells this isn't read
+abbrev pub IsFault : Held → List ℕ → PartitionEntry → TableFault → Type 0
+IsFault t key e table_fault.Read = Unit {0}
+IsFault t key e (table_fault.BadBlock n at) = IsBadHead t key e n at
+IsFault t key e table_fault.Mem = Unit {0}
+
+-- what is answered of it
+abbrev pub EntryAnswers : {X : Type 0} → Held → List ℕ → Slice → (X → Option Deletion) → (X → Option (List Fragment)) → PartitionEntry → Result X TableFault
+    → Type 0
+EntryAnswers t key s top to_come e (Ok x) = IsSlice t key s e (top x) (to_come x)
+EntryAnswers t key s top to_come e (Err fault) = IsFault t key e fault
