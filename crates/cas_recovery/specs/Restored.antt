@@ -22,8 +22,8 @@ abbrev pub AreRestored : List TableSchema → List Mutation → List Shard → T
 AreRestored tables mutations shards = (n : ℕ) (x : Shard) → slice_get shards n ≡ Some x → Stands tables (found_shard (found_in n mutations)) x
 
 -- the limits, tables and shards of a store of these entries and mutations
-pub record IsInMemory (given : Limits) (entries : List ManifestEntry) (mutations : List Mutation) (limits : Limits) (tables : List TableSchema) (shards : List Shard)
-    : Type 0 where
+pub record IsInMemory (given : Limits) (entries : List ManifestEntry) (mutations : List Mutation) (limits : Limits) (tables : List TableSchema)
+    (shards : List Shard) : Type 0 where
   pub same : limits ≡ record given { shards = (said_by entries).shards }
   pub tables_are : tables ≡ (said_by entries).tables
   pub good : AreTables tables

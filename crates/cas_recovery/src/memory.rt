@@ -175,6 +175,18 @@ fn copied(alloc: Global, tables: &[TableSchema]) -> Result<Vec<TableSchema>, Mem
     Ok(copies)
 }
 
+// The limits that were given, with so many shards.
+fn with_shards(limits: &Limits, count: u8) -> Limits
+    ensures { result ≡ record limits.now { shards = count } }
+{
+    Limits {
+        shards: count,
+        segment: limits.segment,
+        memtable: limits.memtable,
+        compactors: limits.compactors,
+    }
+}
+
 // The store with its shards in memory, of an opening that has no table files.
 fn in_memory(
     alloc: Global,
@@ -192,12 +204,7 @@ fn in_memory(
     let tables = copied(alloc, said.tables())?;
     let shards = restored(restoring, said.shards())?;
     Ok(Started {
-        limits: Limits {
-            shards: said.shards(),
-            segment: limits.segment,
-            memtable: limits.memtable,
-            compactors: limits.compactors,
-        },
+        limits: with_shards(limits, said.shards()),
         tables,
         shards,
         journal,

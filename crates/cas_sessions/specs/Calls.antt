@@ -39,7 +39,8 @@ reply_of (Err Mem) = reply.Failed failure.Memory
 abbrev pub IsTrueOf : Result Answer Fault → State → State → Type 0
 IsTrueOf (Err (Stopped first)) s t = s.journal.first ≡ Some first
 IsTrueOf (Err (Disk None)) s t = t.list ≡ s.list
-IsTrueOf (Err (Disk (Some number))) s t = (m : Mutation) × (m.number ≡ number) × (t.list ≡ s.list ++ WroteOf m.shard s.session t.calls number (event.Accepted m) ∷ [])
+IsTrueOf (Err (Disk (Some number))) s t =
+    (m : Mutation) × (m.number ≡ number) × (t.list ≡ s.list ++ WroteOf m.shard s.session t.calls number (event.Accepted m) ∷ [])
 IsTrueOf _ s t = Unit {0}
 
 -- tokens of some source spell the statement

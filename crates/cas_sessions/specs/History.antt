@@ -1,6 +1,7 @@
 -- What each line answers, and what it enters into the history of the store.
 -- CQL documentation, "Data definition" and "Data manipulation"; numbers, timestamps, moments, what a failed write stops, and the command are own.
-use Rattle.std.specs.Prelude.{◌≡◌, ◌⊎◌, ℕ, ◌+◌, ◌^◌, ◌<◌, ◌≤◌, ℤ, pos, ◌*ℤ◌, Bool, true, false, None, Some, Result, Ok, Err, List, [], ◌∷◌, ◌++◌, length, slice_index_or, slice_set}
+use Rattle.std.specs.Prelude.{◌≡◌, ◌⊎◌, ℕ, ◌+◌, ◌^◌, ◌<◌, ◌≤◌, ℤ, pos, ◌*ℤ◌, Bool, true, false, None, Some, Result, Ok, Err}
+use Rattle.std.specs.Prelude.{List, [], ◌∷◌, ◌++◌, length, slice_index_or, slice_set}
 use Rattle.std.specs.Int.{int_max, int_min}
 use Rattle.cas_types.specs.declared.limits.TheConstants.{LAST_MICROSECOND}
 use Rattle.cas_types.specs.declared.schema.TableSchema.{TableSchema}
@@ -109,7 +110,8 @@ IsStopped d e = (d.stopped ≡ true) × Stays d e
 
 -- why a write is refused once it is bound: its record is longer than half a segment, or the shard is full; or no segment can be named any more
 abbrev pub IsRefusedFor : ℕ → Mutation → DiskState → DiskState → ℕ → Type 0
-IsRefusedFor segment m d e why = (take_refusal segment m ≡ Some why) ⊎ ((take_refusal segment m ≡ None) × (d.stopped ≡ false) × (why ≡ TOO_MANY) × IsFull e.reach)
+IsRefusedFor segment m d e why =
+    (take_refusal segment m ≡ Some why) ⊎ ((take_refusal segment m ≡ None) × (d.stopped ≡ false) × (why ≡ TOO_MANY) × IsFull e.reach)
 
 -- A write of this mutation, whose entry is this, is answered so, and takes these entries. With `ok` and its number: the entry, which lasts.
 -- Refused, stopped, or where memory runs out: none. Where the disk fails: the entry, which may last or not, or none.

@@ -18,4 +18,5 @@ to_another session calls s = record s { session = session; calls = calls }
 abbrev pub AllShare : Disk → Type 0
 AllShare disk =
     (h : History) (s : State) (session calls : ℕ) → StandsFor h s → StandsFor (as_another session calls h) (to_another session calls s)
-    × ((found : List Mutation) (told : Told) → LastsFor h found s disk told → LastsFor (as_another session calls h) found (to_another session calls s) disk told)
+    × ((found : List Mutation) (told : Told) → LastsFor h found s disk told
+    → LastsFor (as_another session calls h) found (to_another session calls s) disk told)

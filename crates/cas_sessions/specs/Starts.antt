@@ -53,4 +53,5 @@ pub record IsOpenedAs (l : Limits) (tables : List TableSchema) (shards : List Sh
 -- The store stands for the history that begins with these entries and mutations, and its disk keeps what was told of them.
 pub record BeginsAs (given : Limits) (entries : List ManifestEntry) (mutations : List Mutation) (disk : Disk) (s : State) : Type 0 where
   pub stands : StandsFor (start given entries mutations s.session (disk_of s)) s
-  pub lasts : (t : Told) → IsTold entries mutations t → Lasts s.journal disk t → LastsFor (start given entries mutations s.session (disk_of s)) mutations s disk t
+  pub lasts : (t : Told) → IsTold entries mutations t → Lasts s.journal disk t
+      → LastsFor (start given entries mutations s.session (disk_of s)) mutations s disk t

@@ -82,7 +82,8 @@ impl<F: Folder, J: Store> Node<F, J> {
     ) -> Result<Answer, Fault>
         requires there { IsThere self.old.tables.items addition.table }
         requires told { MayBeTold self.old.tables.items (bounds.Alter addition) (AddColumns addition.table addition.columns) }
-        ensures changes { (clock : ℤ) → Moves (λ h after. Changes h (AddColumns addition.table addition.columns) (bounds.Alter addition) (reply_of result) after)
+        ensures changes { (clock : ℤ)
+            → Moves (λ h after. Changes h (AddColumns addition.table addition.columns) (bounds.Alter addition) (reply_of result) after)
             (⟦<Node<F, J> as Stored>⟧.state self.old session.old.seat.list session.old.seat.calls clock)
             (⟦<Node<F, J> as Stored>⟧.state self.new session.new.seat.list session.new.seat.calls clock)
             (⟦<Node<F, J> as Stored>⟧.disk self.old) (⟦<Node<F, J> as Stored>⟧.disk self.new) }

@@ -106,7 +106,8 @@ pub struct Node<F: Folder, J: Store> {
     pub(crate) fronts: Vec<Front<Event, J>>,
     pub(crate) room: Room<F, J>,
     pub(crate) maker: Maker<Event, J>,
-    ghost sound: { IsSound limits tables.items shards.items (map (λ f. f.shard) fronts.items) (map (λ f. f.number) fronts.items) room.journal.size } by { Prim.hlevel sound_props },
+    ghost sound: { IsSound limits tables.items shards.items (map (λ f. f.shard) fronts.items) (map (λ f. f.number) fronts.items)
+        room.journal.size } by { Prim.hlevel sound_props },
 }
 
 impl<F: Folder, J: Store> Stored for Node<F, J> {

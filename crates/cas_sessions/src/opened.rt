@@ -38,7 +38,8 @@ pub struct Opened<F: Folder> {
     pub(crate) table: Table<Item<Event>>,
     ghost free: { AreFree started.journal (F.disk folder) },
     pub ghost runs: { (started.journal.first ≡ None) × (started.journal.size ≡ started.limits.segment) × IsSize started.limits.segment },
-    ghost good: { AreTables started.tables.items × (length started.shards.items ≡ started.limits.shards) × IsShardCount started.limits.shards } by { Prim.hlevel sound_props },
+    ghost good: { AreTables started.tables.items × (length started.shards.items ≡ started.limits.shards)
+        × IsShardCount started.limits.shards } by { Prim.hlevel sound_props },
 }
 
 // A folder whose store wasn't opened.
@@ -105,7 +106,8 @@ fn assembled<F: Folder, J: Store>(started: Started, seats: Seats<J>, folder: F) 
     requires places { map (λ f. f.shard) seats.fronts.items ≡ numbers 0 (length started.shards.items) }
     requires numbers { map (λ f. f.number) seats.fronts.items ≡ map (λ x. x.number) started.shards.items }
     ensures made { (session : ℕ) (clock : ℤ)
-        → IsOpenedAs started.limits started.tables.items started.shards.items started.journal (F.faults_of folder) (⟦<Node<F, J> as Stored>⟧.state result session 0 clock) }
+        → IsOpenedAs started.limits started.tables.items started.shards.items started.journal (F.faults_of folder)
+        (⟦<Node<F, J> as Stored>⟧.state result session 0 clock) }
     ensures begins { (given : Limits) (entries : List EntryOf) (mutations : List MutationOf)
         → IsInMemory given entries mutations started.limits started.tables.items started.shards.items
         → (session : ℕ) → BeginsAs given entries mutations (F.disk folder) (⟦<Node<F, J> as Stored>⟧.state result session 0 (pos 0)) }

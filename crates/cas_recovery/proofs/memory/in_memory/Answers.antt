@@ -8,5 +8,5 @@ returns-clause-started c = λ entries mutations handed read has.
     let o = c.args.opened in
     let are = c.in_ok-tables.ensures ∙ c.tables.ensures in
     in_memory_read entries mutations handed o read c.requires c.args.limits.now _ c.in_ok-tables.tables.items c.in_ok-shards.shards.items
-    (ap (λ (n : ℕ). record c.args.limits.now { shards = n }) c.shards-2.ensures) are (c.in_ok-shards.ensures.count ∙ c.shards.ensures)
+    (c.with_shards.ensures ∙ ap (λ (n : ℕ). record c.args.limits.now { shards = n }) c.shards-2.ensures) are (c.in_ok-shards.ensures.count ∙ c.shards.ensures)
     (subst (λ ts. AreRestored ts handed c.in_ok-shards.shards.items) (sym are) (c.in_ok-shards.ensures.restored handed has o.said.tables o.said.shards (log_read entries mutations handed o read c.requires)))
