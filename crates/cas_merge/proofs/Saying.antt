@@ -3,18 +3,22 @@ use Rattle.std.proofs.Common.{◌≡◌, Bool, true, false, cond, ◌&&◌, ◌|
 use Rattle.std.proofs.lemmas.Bool.{true≢false}
 use Rattle.std.specs.List.{flat_map, cons_option}
 use Rattle.cas_cell.specs.Cells.{cell_at}
+use Rattle.cas_cell.specs.Deletions.{deletion_cmp}
 use Rattle.cas_cell.specs.declared.deletion.Deletion.{Deletion}
+use Rattle.cas_cell.proofs.OrderLaws.{deletion_laws}
 use Rattle.cas_bounds.specs.declared.cuts.Clustering.{Clustering}
+use Rattle.cas_atoms.specs.Greatest.{greater}
 use Rattle.cas_atoms.specs.declared.atom.Atom.{Atom}
 use Rattle.cas_atoms.specs.declared.atom.Atom.TheVariants.{RowDeletion, Live}
 use Rattle.cas_atoms.specs.declared.atom.ColumnRef.{ColumnRef}
 use Rattle.cas_atoms.specs.declared.row.Row.{Row}
 use Rattle.cas_atoms.specs.declared.row.RowColumn.{RowColumn}
 use Rattle.cas_atoms.specs.declared.row.PathCell.{PathCell}
+use Rattle.cas_atoms.proofs.GreatestLemmas.{greater_none}
 use Rattle.cas_streams.specs.Flat.{atom_of, writes, empties, of_column, own}
 use Rattle.cas_streams.specs.Settled.{is_bare, if_said, bare_column, bare_columns}
 use Rattle.cas_streams.specs.declared.fragment.Fragment.TheVariants as fragment
-use Rattle.cas_merge.specs.Inner.Said.{says, any_says, has_cells, are_cells}
+use Rattle.cas_merge.specs.Inner.Said.{says, any_says, all_bare, stays, all_stay}
 
 -- whether atoms are there
 there : List Atom → Bool
@@ -77,27 +81,28 @@ dropped_column at over c cs kept total said e = ap (λ o. kept ++ cons_option o 
 
 -- ---- columns that nothing covers
 
-bare_cells : (cells : List PathCell) → filter (λ p. is_bare None (cell_at p.cell)) cells ≡ cells
-bare_cells [] = refl
-bare_cells (p ∷ cells) = ap (λ l. p ∷ l) (bare_cells cells)
-
-column_stays : (at : Option Clustering) (column : ColumnRef) (d : Option Deletion) (cells : List PathCell) → has_cells d cells ≡ true
-    → if_said (of_column at (bare_column None (record { column = column; deletion = d; cells = cells }))) (bare_column None (record { column = column; deletion = d; cells = cells }))
-    ≡ Some (record { column = column; deletion = d; cells = cells })
-column_stays at column (Some d) cells e = absurd (true≢false (sym e))
-column_stays at column None [] e = absurd (true≢false (sym e))
-column_stays at column None (p ∷ cells) e = ap (λ l. Some (record { column = column; deletion = None; cells = p ∷ l })) (bare_cells cells)
-
 both_true : (a b : Bool) → (a && b) ≡ true → (a ≡ true) × (b ≡ true)
 both_true true b e = (refl, e)
 both_true false b e = absurd (true≢false (sym e))
 
-columns_stay : (at : Option Clustering) (cs : List RowColumn) → are_cells cs ≡ true → cs ≡ bare_columns at None cs
-columns_stay at [] e = refl
-columns_stay at (c ∷ cs) e =
-    let (first, others) = both_true (has_cells c.deletion c.cells) (are_cells cs) e in
-    sym (λ i. cons_option (column_stays at c.column c.deletion c.cells first i) (sym (columns_stay at cs others) i))
+bare_cells : (over : Option Deletion) (cells : List PathCell) → all_bare over cells ≡ true → filter (λ p. is_bare over (cell_at p.cell)) cells ≡ cells
+bare_cells over [] e = refl
+bare_cells over (p ∷ cells) e =
+    let (first, others) = both_true (is_bare over (cell_at p.cell)) (all_bare over cells) e in
+    ap (λ b. cond b (p ∷ filter (λ p. is_bare over (cell_at p.cell)) cells) (filter (λ p. is_bare over (cell_at p.cell)) cells)) first ∙ ap (λ l. p ∷ l) (bare_cells over cells others)
 
-pub all_stay : (at : Option Clustering) (over : Option Deletion) (cs : List RowColumn) → is_some over ≡ false → are_cells cs ≡ true → cs ≡ bare_columns at over cs
-all_stay at None cs e f = columns_stay at cs f
-all_stay at (Some d) cs e f = absurd (true≢false e)
+column_stays : (at : Option Clustering) (over : Option Deletion) (column : ColumnRef) (d : Option Deletion) (cells : List PathCell) → stays over d cells ≡ true
+    → if_said (of_column at (bare_column over (record { column = column; deletion = d; cells = cells }))) (bare_column over (record { column = column; deletion = d; cells = cells }))
+    ≡ Some (record { column = column; deletion = d; cells = cells })
+column_stays at over column (Some d) cells e = absurd (true≢false (sym e))
+column_stays at over column None [] e = absurd (true≢false (sym e))
+column_stays at over column None (p ∷ cells) e =
+    let kept : filter (λ q. is_bare (greater deletion_cmp over None) (cell_at q.cell)) (p ∷ cells) ≡ p ∷ cells =
+    ap (λ o. filter (λ q. is_bare o (cell_at q.cell)) (p ∷ cells)) (greater_none deletion_laws.orders over) ∙ bare_cells over (p ∷ cells) e in
+    ap (λ l. if_said (of_column at (record { column = column; deletion = None; cells = l })) (record { column = column; deletion = None; cells = l })) kept
+
+pub columns_stay : (at : Option Clustering) (over : Option Deletion) (cs : List RowColumn) → all_stay over cs ≡ true → cs ≡ bare_columns at over cs
+columns_stay at over [] e = refl
+columns_stay at over (c ∷ cs) e =
+    let (first, others) = both_true (stays over c.deletion c.cells) (all_stay over cs) e in
+    sym (λ i. cons_option (column_stays at over c.column c.deletion c.cells first i) (sym (columns_stay at over cs others) i))

@@ -7,7 +7,7 @@ ghost use Rattle.cas_cell.specs.Cells.{cell_at};
 ghost use Rattle.cas_streams.specs.Flat.{own};
 ghost use Rattle.cas_streams.specs.Settled.{is_bare, if_said, bare_column, bare_columns, bare_row, bare, same_force, left_of};
 ghost use Rattle.cas_streams.specs.declared.fragment.Fragment.TheVariants as fragment;
-ghost use Rattle.cas_merge.specs.Inner.Said.{says, any_says, are_cells};
+ghost use Rattle.cas_merge.specs.Inner.Said.{says, any_says, all_bare, stays, all_stay};
 
 use cas_atoms::{PathCell, Row, RowColumn, greater_deletion, standing_live};
 use cas_cell::{Cell, Deletion, covers};
@@ -76,19 +76,34 @@ fn bare_columns(
     Ok(kept)
 }
 
-// Whether each of the columns has cells and no deletion of its own.
-fn are_cells(columns: &[RowColumn]) -> bool
-    ensures { result ≡ are_cells columns.now }
+// Whether none of the cells is covered.
+fn all_bare(over: Option<Deletion>, cells: &[PathCell]) -> bool
+    ensures { result ≡ all_bare over cells.now }
 {
-    match columns {
+    match cells {
         [] => true,
-        [c, rest @ ..] => {
-            c.deletion.is_none() && !c.cells.as_slice().is_empty() && are_cells(rest)
-        }
+        [p, rest @ ..] => is_bare(over, &p.cell) && all_bare(over, rest),
     }
 }
 
-// What is left of the columns, which are given on as they are where nothing can cover them.
+// Whether the column has cells, none of which is covered, and no deletion of its own.
+fn stays(over: Option<Deletion>, c: &RowColumn) -> bool
+    ensures { result ≡ stays over c.now.deletion c.now.cells }
+{
+    c.deletion.is_none() && !c.cells.as_slice().is_empty() && all_bare(over, c.cells.as_slice())
+}
+
+// Whether each of the columns does.
+fn all_stay(over: Option<Deletion>, columns: &[RowColumn]) -> bool
+    ensures { result ≡ all_stay over columns.now }
+{
+    match columns {
+        [] => true,
+        [c, rest @ ..] => stays(over, c) && all_stay(over, rest),
+    }
+}
+
+// What is left of the columns, which are given on as they are where nothing covers them.
 fn left_columns(
     alloc: Global,
     over: Option<Deletion>,
@@ -96,7 +111,7 @@ fn left_columns(
 ) -> Result<Vec<RowColumn>, AllocError>
     ensures { IfOk result (λ v. (at : Option Clustering) → v.items ≡ bare_columns at over columns) }
 {
-    if over.is_none() && are_cells(columns.as_slice()) {
+    if all_stay(over, columns.as_slice()) {
         return Ok(columns.into_vec());
     }
     bare_columns(alloc, over, columns)

@@ -1,9 +1,9 @@
-use Rattle.std.proofs.Common.{not, sym, ap, ◌∙◌}
-use Rattle.cas_merge.specs.Inner.Said.{are_cells}
-use Rattle.cas_merge.proofs.Saying.{all_stay}
+use Rattle.std.proofs.Common.{sym, ap, ◌∙◌}
+use Rattle.cas_merge.specs.Inner.Said.{all_stay}
+use Rattle.cas_merge.proofs.Saying.{columns_stay}
 use Rattle.cas_merge.proofs.settling.left_columns.Goals as goal
 
-pub returns-then-are_cells : goal.returns-then-are_cells
-returns-then-are_cells c at =
+pub returns-then-all_stay : goal.returns-then-all_stay
+returns-then-all_stay c at =
     c.into_vec.ensures
-    ∙ all_stay at c.args.over c.args.columns (c.is_none.ensures ∙ ap not c.if-is_none.true) (ap are_cells (sym c.as_slice.ensures) ∙ sym c.are_cells.ensures ∙ c.if-are_cells.true)
+    ∙ columns_stay at c.args.over c.args.columns (ap (all_stay c.args.over) (sym c.as_slice.ensures) ∙ sym c.all_stay.ensures ∙ c.if-all_stay.true)

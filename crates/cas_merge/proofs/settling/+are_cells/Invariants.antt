@@ -1,5 +1,0 @@
-use Rattle.std.proofs.Common.{length}
-use Rattle.cas_merge.proofs.settling.+are_cells.Given as goal
-
-abbrev pub decreases-are_cells : goal.decreases-are_cells
-decreases-are_cells l = length l.columns.now
