@@ -9,7 +9,7 @@ use std::alloc::AllocError;
 
 /// A column by its number in the table, with the type that orders its paths: the type of a set's
 /// elements or of a map's keys. Lists and plain columns have none.
-#[derive(Clone, Copy, Debug)]
+#[derive(Clone, Copy)]
 pub struct ColumnRef {
     pub number: u16,
     pub path: Option<TypeTag>,

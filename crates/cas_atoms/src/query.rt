@@ -4,7 +4,7 @@ use cas_bounds::Slice;
 use cas_types::{Bytes, Column, List, TypeTag};
 
 /// What a `SELECT` asks of a column, which it names by number.
-#[derive(Clone, Copy, Debug)]
+#[derive(Clone, Copy)]
 pub enum Pick {
     Value(u16),
     WriteTime(u16),

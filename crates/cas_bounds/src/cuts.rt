@@ -11,7 +11,7 @@ use std::alloc::AllocError;
 use std::cmp::Ordering;
 
 /// Where a row stands in its partition: the values of its clustering columns.
-#[derive(Clone, Drop)]
+#[derive(Drop)]
 pub struct Clustering {
     pub values: Values,
     pub order: RowOrder,
@@ -22,13 +22,16 @@ impl Clustering {
     pub fn copied(&self) -> Result<Self, AllocError>
         ensures { IfOk result (λ c. c ≡ self.now) }
     {
-        self.clone()
+        Ok(Clustering {
+            values: self.values.clone()?,
+            order: self.order.clone()?,
+        })
     }
 }
 
 /// A place between rows. It stands before, or after, every clustering that begins with the prefix;
 /// with the empty prefix it is one of the partition's two ends.
-#[derive(Clone, Drop)]
+#[derive(Drop)]
 pub struct Cut {
     pub prefix: Values,
     pub after: bool,
@@ -40,15 +43,31 @@ impl Cut {
     pub fn copied(&self) -> Result<Self, AllocError>
         ensures { IfOk result (λ c. c ≡ self.now) }
     {
-        self.clone()
+        Ok(Cut {
+            prefix: self.prefix.clone()?,
+            after: self.after,
+            order: self.order.clone()?,
+        })
     }
 }
 
 /// What lies between two cuts, as a SELECT or a range DELETE names it.
-#[derive(Clone, Drop)]
+#[derive(Drop)]
 pub struct Slice {
     pub lo: Cut,
     pub hi: Cut,
+}
+
+impl Slice {
+    /// A copy of the slice.
+    pub fn copied(&self) -> Result<Self, AllocError>
+        ensures { IfOk result (λ s. s ≡ self.now) }
+    {
+        Ok(Slice {
+            lo: self.lo.copied()?,
+            hi: self.hi.copied()?,
+        })
+    }
 }
 
 /// The order of two cuts of one partition.

@@ -16,7 +16,7 @@ use std::cmp::Ordering;
 
 /// What a point's values stand for: all that a row has, or those that all rows past a cut, or all
 /// before it, begin with.
-#[derive(Clone, Copy, Debug)]
+#[derive(Clone, Copy)]
 pub enum End {
     Before,
     Row,

@@ -12,7 +12,7 @@ use std::cmp::Ordering;
 
 /// How one clustering column is ordered: by its type, and from the greatest value down where the
 /// CLUSTERING ORDER says DESC.
-#[derive(Clone, Copy, Debug)]
+#[derive(Clone, Copy)]
 pub struct Ordered {
     pub tag: TypeTag,
     pub descending: bool,

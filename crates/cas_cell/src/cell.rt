@@ -10,7 +10,7 @@ use std::alloc::AllocError;
 use std::cmp::Ordering;
 
 /// What a write or a `DELETE` of one column of a row leaves behind.
-#[derive(Clone, Drop)]
+#[derive(Drop)]
 pub enum Cell {
     /// A value with no TTL, and the write's timestamp in microseconds.
     Plain {
@@ -36,7 +36,27 @@ impl Cell {
     pub fn copied(&self) -> Result<Self, AllocError>
         ensures { IfOk result (λ c. c ≡ self.now) }
     {
-        self.clone()
+        Ok(match self {
+            Cell::Plain { at, value } => Cell::Plain {
+                at: *at,
+                value: value.clone()?,
+            },
+            Cell::Expiring {
+                at,
+                expiry,
+                ttl,
+                value,
+            } => Cell::Expiring {
+                at: *at,
+                expiry: *expiry,
+                ttl: *ttl,
+                value: value.clone()?,
+            },
+            Cell::Tombstone { at, second } => Cell::Tombstone {
+                at: *at,
+                second: *second,
+            },
+        })
     }
 
     /// The timestamp of the write or the `DELETE`.

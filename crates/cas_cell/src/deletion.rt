@@ -6,7 +6,7 @@ ghost use Rattle.cas_cell.specs.Deletions.{deletion_cmp, covered};
 
 /// What a `DELETE` of a range, a row or a partition leaves behind: its timestamp in microseconds,
 /// and the second at which it was made.
-#[derive(Clone, Copy, Debug)]
+#[derive(Clone, Copy)]
 pub struct Deletion {
     pub at: i64,
     pub second: i64,

@@ -6,7 +6,7 @@ ghost use Rattle.cas_cell.specs.Lives.{live_at, live_rank, live_second, live_ttl
 
 /// What an `INSERT` leaves of a row beside its columns, which keeps the row alive though all of
 /// its columns are null.
-#[derive(Clone, Copy, Debug)]
+#[derive(Clone, Copy)]
 pub enum Liveness {
     /// Of an `INSERT` with no TTL, at its timestamp in microseconds.
     Plain { at: i64 },

@@ -7,7 +7,7 @@ use std::alloc::{AllocError, AllocFailed};
 
 /// Why a field wasn't read. The place is that of the field's first byte, counted from the file's
 /// start.
-#[derive(Clone, Copy, Debug, PartialEq, Eq)]
+#[derive(Clone, Copy, PartialEq)]
 pub enum ReadFault {
     /// The bytes end before the field does.
     Short { at: u64 },

@@ -7,7 +7,7 @@ ghost use Rattle.cas_effects.specs.Refusals.{refusal_for};
 use crate::refusal::Refusal;
 
 /// What a statement is to be refused for.
-#[derive(Clone, Copy, Debug)]
+#[derive(Clone, Copy)]
 pub struct Reasons {
     pub no_table: bool,
     pub table_exists: bool,

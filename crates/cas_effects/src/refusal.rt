@@ -20,7 +20,7 @@ pub const NOT_HERE: u8 = 13;
 pub const TOO_MANY: u8 = 14;
 
 /// Why a statement isn't done.
-#[derive(Clone, Copy, Debug, PartialEq, Eq)]
+#[derive(Clone, Copy)]
 pub enum Refusal {
     /// No such table or keyspace.
     NoTable,
@@ -49,7 +49,7 @@ pub enum Refusal {
 }
 
 /// What there can be too many of.
-#[derive(Clone, Copy, Debug, PartialEq, Eq)]
+#[derive(Clone, Copy)]
 pub enum Counted {
     Tables,
     Columns,
@@ -78,7 +78,7 @@ impl Refusal {
 }
 
 /// Why a statement wasn't bound.
-#[derive(Clone, Copy, Debug, PartialEq, Eq)]
+#[derive(Clone, Copy)]
 pub enum BindFault {
     /// It is refused.
     Refused(Refusal),

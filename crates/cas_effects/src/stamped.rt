@@ -12,7 +12,7 @@ pub const NUMBER_LIMIT: u64 = 1 << 62;
 
 /// When a mutation is made: its timestamp in microseconds, its moment in seconds, its number in its
 /// shard, and the seconds that what it writes lives, of which 0 are for ever.
-#[derive(Clone, Copy, Debug)]
+#[derive(Clone, Copy)]
 pub(crate) struct Stamp {
     pub at: i64,
     pub moment: i64,

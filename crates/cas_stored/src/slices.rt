@@ -95,7 +95,7 @@ fn head_for<F: Sealed>(
 fn copy_slice(slice: &Slice) -> Result<Slice, AllocError>
     ensures { IfOk result (λ s. s ≡ slice.now) }
 {
-    slice.clone()
+    slice.copied()
 }
 
 // The slice of the partition that has this number in the index, and this key.

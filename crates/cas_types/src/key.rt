@@ -14,7 +14,7 @@ use std::marker::Model;
 
 /// Why there is no key. The length is that of the key's bytes, and stands at 2^64-1 where it is
 /// greater.
-#[derive(Clone, Copy, Debug, PartialEq, Eq)]
+#[derive(Clone, Copy)]
 pub enum KeyFault {
     Empty,
     TooLong { length: u64 },

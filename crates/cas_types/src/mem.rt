@@ -3,7 +3,7 @@
 use std::alloc::{AllocError, AllocFailed};
 
 /// The call ran out of memory.
-#[derive(Clone, Copy, Debug, PartialEq, Eq)]
+#[derive(Clone, Copy, Debug)]
 pub struct Mem;
 
 impl From<AllocError> for Mem {

@@ -9,7 +9,7 @@ use crate::tag::TypeTag;
 use crate::text::Text;
 
 /// Whether a column has one value or is a collection.
-#[derive(Clone, Copy, Debug, PartialEq, Eq)]
+#[derive(Clone, Copy)]
 pub enum Shape {
     One,
     Set,
@@ -39,7 +39,7 @@ impl Shape {
 }
 
 /// What a column is in its table. A clustering column is ascending or descending.
-#[derive(Clone, Copy, Debug, PartialEq, Eq)]
+#[derive(Clone, Copy)]
 pub enum Kind {
     Partition,
     Ascending,
@@ -122,7 +122,7 @@ impl Column {
 }
 
 /// A compaction strategy.
-#[derive(Clone, Copy, Debug, PartialEq, Eq)]
+#[derive(Clone, Copy)]
 pub enum Strategy {
     SizeTiered,
     Leveled,
@@ -130,7 +130,7 @@ pub enum Strategy {
 }
 
 /// The unit of `compaction_window_unit`.
-#[derive(Clone, Copy, Debug, PartialEq, Eq)]
+#[derive(Clone, Copy)]
 pub enum Unit {
     Minutes,
     Hours,
@@ -139,7 +139,7 @@ pub enum Unit {
 
 /// The options of a table: seconds for `gc_grace_seconds` and `default_time_to_live`, whole
 /// hundredths for the buckets' bounds, bytes for `min_sstable_size`.
-#[derive(Clone, Copy, Debug)]
+#[derive(Clone, Copy)]
 pub struct Options {
     pub gc_grace_seconds: u32,
     pub default_time_to_live: u32,

@@ -1,7 +1,7 @@
 //! The native types.
 
 /// A native type of CQL.
-#[derive(Clone, Copy, Debug, PartialEq, Eq)]
+#[derive(Clone, Copy)]
 pub enum TypeTag {
     Ascii,
     BigInt,

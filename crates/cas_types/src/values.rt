@@ -12,7 +12,7 @@ use crate::uuid_order::{compare_uuids, uuid_version};
 use std::cmp::Ordering;
 
 /// The bytes are no value of the type.
-#[derive(Clone, Copy, Debug, PartialEq, Eq)]
+#[derive(Clone, Copy)]
 pub struct BadValue;
 
 /// Whether the bytes are a value of the type.

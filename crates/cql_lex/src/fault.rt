@@ -7,7 +7,7 @@ use cas_types::Mem;
 use std::alloc::{AllocError, AllocFailed};
 
 /// Why a line has no tokens.
-#[derive(Clone, Copy, PartialEq, Eq, Debug)]
+#[derive(Clone, Copy, Debug)]
 pub enum LexFault {
     /// The rules give none.
     Syntax,

@@ -4,7 +4,7 @@ use crate::token::TokenKind;
 
 /// What stands at one place of a line: a token of a kind, or a blank or a comment, and its size in
 /// bytes.
-#[derive(Clone, Copy, PartialEq, Eq, Debug)]
+#[derive(Clone, Copy)]
 pub(crate) struct Piece {
     pub(crate) kind: Option<TokenKind>,
     pub(crate) size: usize,

@@ -1,7 +1,7 @@
 //! Tokens, each with the span that it stands in.
 
 /// A mark of one or two characters.
-#[derive(Clone, Copy, PartialEq, Eq, Debug)]
+#[derive(Clone, Copy)]
 pub enum Mark {
     AtMost,
     AtLeast,
@@ -24,7 +24,7 @@ pub enum Mark {
 }
 
 /// What kind of token a span of a statement is.
-#[derive(Clone, Copy, PartialEq, Eq, Debug)]
+#[derive(Clone, Copy)]
 pub enum TokenKind {
     Uuid,
     Blob,
@@ -37,7 +37,7 @@ pub enum TokenKind {
 }
 
 /// A token: its kind, and the span of the source that it stands in, in bytes.
-#[derive(Clone, Copy, PartialEq, Eq, Debug)]
+#[derive(Clone, Copy)]
 pub struct Token {
     pub kind: TokenKind,
     pub start: usize,

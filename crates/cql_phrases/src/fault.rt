@@ -7,7 +7,7 @@ use cas_types::Mem;
 use std::alloc::{AllocError, AllocFailed};
 
 /// Why tokens gave no statement.
-#[derive(Clone, Copy, Debug, PartialEq, Eq)]
+#[derive(Clone, Copy, Debug)]
 pub enum ParseFault {
     /// They aren't in the grammar.
     Syntax,

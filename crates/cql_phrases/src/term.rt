@@ -39,7 +39,7 @@ pub enum Element {
 }
 
 /// The span of a literal within a literal.
-#[derive(Clone, Copy, PartialEq, Eq, Debug)]
+#[derive(Clone, Copy)]
 pub struct Nested {
     pub start: usize,
     pub end: usize,

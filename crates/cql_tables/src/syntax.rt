@@ -57,7 +57,7 @@ pub struct PrimaryKey {
 }
 
 /// The type of a column.
-#[derive(Clone, Copy, PartialEq, Eq, Debug)]
+#[derive(Clone, Copy)]
 pub enum ColumnType {
     One(TypeTag),
     SetOf(TypeTag),

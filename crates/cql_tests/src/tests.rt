@@ -1,20 +1,56 @@
 mod options;
 mod printing;
 
-use cql_lex::{LexFault, one_reading, quotes_round_trip, tokens, well_placed};
+use cql_lex::{LexFault, Mark, TokenKind, one_reading, quotes_round_trip, tokens, well_placed};
 use cql_parse::{Element, Literal, ParseFault, Statement, Term, one_statement, statement};
 use std::alloc::Global;
 use std::fmt::Write;
 use std::test::Fail;
 
+fn mark_name(mark: Mark) -> &'static str {
+    match mark {
+        Mark::AtMost => "Mark(AtMost)",
+        Mark::AtLeast => "Mark(AtLeast)",
+        Mark::OpenParen => "Mark(OpenParen)",
+        Mark::CloseParen => "Mark(CloseParen)",
+        Mark::OpenBracket => "Mark(OpenBracket)",
+        Mark::CloseBracket => "Mark(CloseBracket)",
+        Mark::OpenBrace => "Mark(OpenBrace)",
+        Mark::CloseBrace => "Mark(CloseBrace)",
+        Mark::Less => "Mark(Less)",
+        Mark::Greater => "Mark(Greater)",
+        Mark::Equals => "Mark(Equals)",
+        Mark::Comma => "Mark(Comma)",
+        Mark::Semicolon => "Mark(Semicolon)",
+        Mark::Colon => "Mark(Colon)",
+        Mark::Dot => "Mark(Dot)",
+        Mark::Plus => "Mark(Plus)",
+        Mark::Minus => "Mark(Minus)",
+        Mark::Star => "Mark(Star)",
+    }
+}
+
+fn kind_name(kind: TokenKind) -> &'static str {
+    match kind {
+        TokenKind::Uuid => "Uuid",
+        TokenKind::Blob => "Blob",
+        TokenKind::Number => "Number",
+        TokenKind::Ratio => "Ratio",
+        TokenKind::Name => "Name",
+        TokenKind::QuotedName => "QuotedName",
+        TokenKind::String => "String",
+        TokenKind::Mark(mark) => mark_name(mark),
+    }
+}
+
 // How a test writes tokens: each one's kind, and where its span begins and ends.
 fn written(alloc: Global, source: &str) -> Result<String, Fail> {
     let mut text = String::new(alloc);
     for token in tokens(alloc, source)? {
-        let kind = token.kind;
+        let kind = kind_name(token.kind);
         let start = token.start;
         let end = token.end;
-        write!(text, "{kind:?} {start} {end}; ")?;
+        write!(text, "{kind} {start} {end}; ")?;
     }
     Ok(text)
 }
@@ -150,7 +186,7 @@ fn what_no_rule_takes_is_refused(rt: HostRuntime) {
     ];
     for source in cases {
         let found = tokens(rt.alloc(), source);
-        assert_eq!(rt; found.err(), Some(LexFault::Syntax), "{source:?}");
+        assert!(rt; matches!(found, Err(LexFault::Syntax)), "{source:?}");
     }
     one_reading();
     well_placed();
