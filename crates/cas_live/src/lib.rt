@@ -1,11 +1,13 @@
 //! The live view of a partition that comes as a stream: its live rows, one after another.
 #![tactic(auto)]
 
+mod all;
 mod laws;
 mod live_rows;
 mod viewer;
 mod views;
 
+pub use all::all_rows;
 pub use laws::{shows_what_is_written, streams_answer, walks_show};
 pub use live_rows::LiveRows;
 pub use viewer::Viewer;

@@ -1,7 +1,7 @@
 use Rattle.std.proofs.Common.{◌≡◌, ◌∷◌, ◌++◌, [], List, Some, sym, ap, ◌∙◌, append_assoc}
 use Rattle.cas_atoms.specs.declared.query.LiveRow.{LiveRow}
 use Rattle.cas_live.specs.Inner.Coming.{rows_to_come}
-use Rattle.cas_shard.proofs.rows.all_rows.Goals as goal
+use Rattle.cas_live.proofs.all.all_rows.Goals as goal
 
 pub loop-rest-preserved : goal.loop-rest-preserved
 loop-rest-preserved g c rs e =

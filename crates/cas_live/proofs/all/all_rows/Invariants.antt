@@ -1,7 +1,7 @@
 use Rattle.std.proofs.Common.{◌≡◌, ◌++◌, Some, List}
 use Rattle.cas_atoms.specs.declared.query.LiveRow.{LiveRow}
 use Rattle.cas_live.specs.Inner.Coming.{rows_to_come, rows_left}
-use Rattle.cas_shard.proofs.rows.all_rows.Given as goal
+use Rattle.cas_live.proofs.all.all_rows.Given as goal
 
 abbrev pub invariant-loop-rest : goal.invariant-loop-rest
 invariant-loop-rest g l =
