@@ -7,6 +7,4 @@ mod fragments;
 #[cfg(test)]
 mod lives;
 #[cfg(test)]
-mod merges;
-#[cfg(test)]
-mod purges;
+mod streams;

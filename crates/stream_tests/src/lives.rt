@@ -1,11 +1,11 @@
 //! What one partition shows to several queries, by hand.
 
-use crate::fragments::{marker, order, row, values};
+use crate::fragments::{Short, cut, stream};
 use cas_atoms::{ColumnRef, Datum, LiveRow, PathCell, Pick, Query, RowColumn};
-use cas_bounds::{Cut, Slice, Values};
+use cas_bounds::Slice;
 use cas_cell::Cell;
 use cas_live::LiveRows;
-use cas_streams::{Fragment, FragmentSource, Part};
+use cas_streams::{Fragment, Part};
 use cas_types::{Bytes, Column, Kind, List, Shape, Text, TypeTag};
 use std::alloc::{AllocError, Global};
 use std::test::Fail;
@@ -29,31 +29,11 @@ fn columns(alloc: Global) -> Result<List<Column>, AllocError> {
     Ok(List::from_vec(columns))
 }
 
-// Where the slice begins: before the row of that value, or of the partition.
-fn lower(alloc: Global, least: Option<u8>) -> Result<Cut, AllocError> {
-    let prefix = match least {
-        None => Values::from_vec(Vec::new(alloc)),
-        Some(c) => values(alloc, c)?,
-    };
-    Ok(Cut {
-        prefix,
-        after: false,
-        order: order(alloc)?,
-    })
-}
-
-fn upper(alloc: Global) -> Result<Cut, AllocError> {
-    Ok(Cut {
-        prefix: Values::from_vec(Vec::new(alloc)),
-        after: true,
-        order: order(alloc)?,
-    })
-}
-
+// From the row of that value on, or all.
 fn slice(alloc: Global, least: Option<u8>) -> Result<Slice, AllocError> {
     Ok(Slice {
-        lo: lower(alloc, least)?,
-        hi: upper(alloc)?,
+        lo: cut(alloc, least, false)?,
+        hi: cut(alloc, None, true)?,
     })
 }
 
@@ -101,34 +81,11 @@ fn static_column(alloc: Global) -> Result<RowColumn, AllocError> {
     })
 }
 
-fn add_first(alloc: Global, fragments: &mut Vec<Fragment>) -> Result<(), AllocError> {
+// The static row, and so many of: rows 1, 4 and 7, which live; row 3 under a deletion of the rows from 2 to 5.
+fn partition(alloc: Global, rows: &[Short]) -> Result<Part, AllocError> {
     let columns = vec![in alloc; static_column(alloc)?]?;
-    fragments.push(Fragment::Static(List::from_vec(columns)))?;
-    fragments.push(row(alloc, 1, 10)?)?;
-    Ok(())
-}
-
-fn add_deleted(alloc: Global, fragments: &mut Vec<Fragment>) -> Result<(), AllocError> {
-    fragments.push(marker(alloc, 2, false, Some(20))?)?;
-    fragments.push(row(alloc, 3, 15)?)?;
-    Ok(())
-}
-
-fn add_last(alloc: Global, fragments: &mut Vec<Fragment>) -> Result<(), AllocError> {
-    fragments.push(row(alloc, 4, 30)?)?;
-    fragments.push(marker(alloc, 5, true, None)?)?;
-    fragments.push(row(alloc, 7, 5)?)?;
-    Ok(())
-}
-
-// So many of: the static row; rows 1, 4 and 7, which live; row 3 under a deletion of the rows from 2 to 5.
-fn partition(alloc: Global, count: usize) -> Result<Part, AllocError> {
-    let mut fragments = Vec::new(alloc);
-    add_first(alloc, &mut fragments)?;
-    add_deleted(alloc, &mut fragments)?;
-    add_last(alloc, &mut fragments)?;
-    fragments.truncate(count);
-    Ok(Part::new(None, fragments))
+    let fragments = vec![in alloc; Fragment::Static(List::from_vec(columns))]?;
+    stream(alloc, 0, fragments, rows)
 }
 
 fn value(datum: Option<&Datum>) -> u8 {
@@ -148,10 +105,10 @@ fn short(row: &LiveRow) -> u8 {
     }
 }
 
-// The first five answers of live rows, in short; 0 is none.
-fn first_five(rows: &mut LiveRows<Part>) -> Result<[u8; 5], AllocError> {
-    let mut found = [0; 5];
-    for i in 0..5 {
+// The first four answers of live rows, in short; 0 is none.
+fn first_four(rows: &mut LiveRows<Part>) -> Result<[u8; 4], AllocError> {
+    let mut found = [0; 4];
+    for i in 0..4 {
         if let Some(row) = rows.next()? {
             found[i] = short(&row);
         }
@@ -162,31 +119,28 @@ fn first_five(rows: &mut LiveRows<Part>) -> Result<[u8; 5], AllocError> {
 #[test]
 fn queries_show_the_rows_that_live(rt: HostRuntime) -> Result<(), Fail> {
     let alloc = rt.alloc();
-    let table = [
-        (7, None, false, None, [1, 4, 7, 0, 0]),
-        (7, None, true, None, [7, 4, 1, 0, 0]),
-        (7, None, false, Some(2), [1, 4, 0, 0, 0]),
-        (7, None, true, Some(2), [7, 4, 0, 0, 0]),
-        (7, Some(2), false, None, [4, 7, 0, 0, 0]),
-        (1, None, true, Some(1), [100, 0, 0, 0, 0]),
-        (1, Some(2), false, None, [0, 0, 0, 0, 0]),
+    let all = [
+        ('r', 1, 10),
+        ('b', 2, 20),
+        ('r', 3, 15),
+        ('r', 4, 30),
+        ('a', 5, 0),
+        ('r', 7, 5),
     ];
-    for (count, least, reversed, limit, want) in table {
+    let table = [
+        (&all[..], None, false, None, [1, 4, 7, 0]),
+        (&all[..], None, true, None, [7, 4, 1, 0]),
+        (&all[..], None, false, Some(2), [1, 4, 0, 0]),
+        (&all[..], None, true, Some(2), [7, 4, 0, 0]),
+        (&all[..], Some(2), false, None, [4, 7, 0, 0]),
+        (&all[..0], None, true, Some(1), [100, 0, 0, 0]),
+        (&all[..0], Some(2), false, None, [0, 0, 0, 0]),
+    ];
+    for (rows, least, reversed, limit, want) in table {
         let query = select(alloc, least, reversed, limit)?;
         assert!(rt; query.columns.len() < 65_536);
-        let mut rows = LiveRows::new(alloc, partition(alloc, count)?, query, 100);
-        assert_eq!(rt; first_five(&mut rows)?, want);
+        let mut shown = LiveRows::new(alloc, partition(alloc, rows)?, query, 100);
+        assert_eq!(rt; first_four(&mut shown)?, want);
     }
-    Ok(())
-}
-
-#[test]
-fn a_limit_stops_reading(rt: HostRuntime) -> Result<(), Fail> {
-    let alloc = rt.alloc();
-    let query = select(alloc, None, false, Some(2))?;
-    assert!(rt; query.columns.len() < 65_536);
-    let mut rows = LiveRows::new(alloc, partition(alloc, 7)?, query, 100);
-    assert_eq!(rt; first_five(&mut rows)?, [1, 4, 0, 0, 0]);
-    assert!(rt; matches!(rows.end().next()?, Some(Fragment::Marker(_, None))));
     Ok(())
 }
