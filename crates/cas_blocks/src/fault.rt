@@ -8,7 +8,7 @@ use cas_disk::FolderFault;
 use std::alloc::{AllocError, AllocFailed};
 
 /// Why nothing more is read of a table.
-#[derive(Clone, Copy, Debug, PartialEq, Eq)]
+#[derive(Clone, Copy)]
 pub enum TableFault {
     /// The disk failed, and the tally has counted it.
     Read,

@@ -7,7 +7,7 @@ use cas_io::Failed;
 use std::alloc::{AllocError, AllocFailed};
 
 /// Why a table file wasn't read.
-#[derive(Clone, Copy, Debug, PartialEq, Eq)]
+#[derive(Clone, Copy)]
 pub enum TableFault {
     /// The file failed, and the tally that was handed in has counted it.
     ReadFault,

@@ -9,7 +9,7 @@ use cas_types::Mem;
 use std::alloc::{AllocError, AllocFailed};
 
 /// What a table file may have so much of, and no more.
-#[derive(Clone, Copy, Debug, PartialEq, Eq)]
+#[derive(Clone, Copy)]
 pub enum Measure {
     FileBytes,
     BlockBytes,
@@ -17,7 +17,7 @@ pub enum Measure {
 }
 
 /// Why something wasn't written.
-#[derive(Clone, Copy, Debug, PartialEq, Eq)]
+#[derive(Clone, Copy)]
 pub enum WriteFault {
     /// The disk failed, and the tally that was handed in has counted it.
     Failed,
@@ -33,7 +33,7 @@ pub enum WriteFault {
 }
 
 /// Why a partition wasn't written.
-#[derive(Clone, Copy, Debug)]
+#[derive(Clone, Copy)]
 pub enum PartitionFault<E> {
     Write(WriteFault),
     /// The source's own fault.
