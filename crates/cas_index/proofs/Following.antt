@@ -1,6 +1,6 @@
 -- Items one after another, each read by the one before it: their reading is exact where an item's is, and how a loop comes by them.
-use Rattle.std.proofs.Common.{◌≡◌, ℕ, zero, suc, ◌+◌, ◌-◌, ◌<◌, ◌≤◌, List, [], ◌∷◌, ◌++◌, length, Option, None, Some, Ok, Err, refl, sym, ap, subst, ◌∙◌, append_assoc, arith}
-use Rattle.std.specs.Prelude.{slice_get, IfSome}
+use Rattle.std.proofs.Common.{◌≡◌, ℕ, zero, suc, ◌+◌, ◌-◌, ◌<◌, ◌≤◌, List, [], ◌∷◌, ◌++◌, length, Option, None, Some, Ok, Err, refl, sym, ap, ◌∙◌, append_assoc, arith}
+use Rattle.std.specs.Prelude.{slice_get}
 use Rattle.std.proofs.lemmas.List.{append-nil}
 use Rattle.std.specs.List.{flat_map, last_or}
 use Rattle.cas_codec.specs.declared.fault.ReadFault.{ReadFault}
@@ -91,10 +91,6 @@ regrouped front x (Err f) = refl
 pub last_more : {A : Type 0} (o : Option A) (xs : List A) (x : A) → last_or o (xs ++ x ∷ []) ≡ Some x
 last_more o [] x = refl
 last_more o (y ∷ ys) x = last_more (Some y) ys x
-
-pub last_fits : {A : Type 0} (P : A → Type 0) (front grown : List A) (x : A) → grown ≡ front ++ x ∷ [] → P x → IfSome (last_or None grown) P
-last_fits {A} P front grown x grows fits =
-    subst (λ (o : Option A). IfSome o P) (sym (ap (λ (xs : List A). last_or None xs) grows ∙ last_more None front x)) fits
 
 -- the items that are there, and the reading of those that aren't
 abbrev pub HasDone : {A : Type 0} → (Option A → Left → Read A) → ℕ → Read (List A) → ℕ → List A → Left → Type 0

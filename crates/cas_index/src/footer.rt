@@ -17,7 +17,7 @@ pub const FOOTER_LENGTH: u64 = 32;
 pub(crate) const END_WORD: u64 = 0x4341_5353_454e_4431;
 
 /// Where the index, the filter and what is told of a table file stand in it.
-#[derive(Clone, Copy, Debug, PartialEq, Eq)]
+#[derive(Clone, Copy)]
 pub struct Footer {
     pub index: u64,
     pub filter: u64,

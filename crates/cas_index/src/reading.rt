@@ -1,6 +1,6 @@
 //! Reads the index of a table file.
 
-ghost use Rattle.std.specs.Prelude.{◌≡◌, None, IfOk, IfSome};
+ghost use Rattle.std.specs.Prelude.{◌≡◌, None, IfOk};
 ghost use Rattle.std.specs.List.{last_or};
 ghost use Rattle.cas_codec.specs.Reading.{Gives, checked, maybe_at};
 ghost use Rattle.cas_records.specs.Reading.{key_at, cut_at, deletion_at};
@@ -9,7 +9,8 @@ ghost use Rattle.cas_index.specs.Reading.{following_at, place_at, block_at, bloc
 
 use crate::entries::{BlockEntry, PartitionEntry, block_place, last, last_place};
 use crate::index::PartitionIndex;
-use cas_bounds::{Cut, RowOrder, cmp_cut};
+use crate::search::begins_upto;
+use cas_bounds::{Cut, RowOrder};
 use cas_cell::Deletion;
 use cas_codec::{ReadFault, Reader};
 use cas_info::PARTITION_LIMIT;
@@ -41,6 +42,16 @@ fn read_in_force(reader: &mut Reader<'_>) -> Result<Option<Deletion>, ReadFault>
     Ok(None)
 }
 
+// Whether a cut doesn't stand below that of the last of these blocks.
+fn is_next_cut(before: &[BlockEntry], cut: &Cut) -> bool
+    ensures { result ≡ is_next_cut (last_or None before.now) cut.now }
+{
+    match last(before) {
+        Some(last) => begins_upto(last, cut),
+        None => true,
+    }
+}
+
 // The cut of a block that follows those before it.
 #[tactic(auto, unfolding(cas_codec::specs::Reading::checked))]
 fn read_next_cut(
@@ -49,16 +60,12 @@ fn read_next_cut(
     order: &RowOrder,
     before: &[BlockEntry],
 ) -> Result<Cut, ReadFault>
-    requires { IfSome (last_or None before.now) (λ b. b.cut.order ≡ order.now) }
-    ensures exact { Gives (λ c. c) result reader.new (checked (is_next_cut (last_or None before.now)) (cut_at order.now) reader.old) }
-    ensures order { IfOk result (λ c. c.order ≡ order.now) }
+    ensures { Gives (λ c. c) result reader.new (checked (is_next_cut (last_or None before.now)) (cut_at order.now) reader.old) }
 {
     let at = reader.at();
     let cut = read_cut(alloc, reader, order)?;
-    if let Some(last) = last(before) {
-        if cmp_cut(&last.cut, &cut).is_gt() {
-            return Err(ReadFault::Bad { at });
-        }
+    if !is_next_cut(before, &cut) {
+        return Err(ReadFault::Bad { at });
     }
     Ok(cut)
 }
@@ -72,9 +79,7 @@ fn read_block(
     place: u64,
     before: &[BlockEntry],
 ) -> Result<BlockEntry, ReadFault>
-    requires { IfSome (last_or None before.now) (λ b. b.cut.order ≡ order.now) }
-    ensures exact { Gives (λ b. b) result reader.new (block_at order.now place (last_or None before.now) reader.old) }
-    ensures order { IfOk result (λ b. b.cut.order ≡ order.now) }
+    ensures { Gives (λ b. b) result reader.new (block_at order.now place (last_or None before.now) reader.old) }
 {
     let cut = read_next_cut(alloc, reader, order, before)?;
     let place = read_place(reader, block_place(place, before))?;
@@ -121,6 +126,16 @@ fn read_blocks(
     Ok(List::from_vec(blocks))
 }
 
+// Whether a key stands above that of the last of these partitions.
+fn is_next_key(before: &[PartitionEntry], key: &[u8]) -> bool
+    ensures { result ≡ is_next_key (last_or None before.now) key.now }
+{
+    match last(before) {
+        Some(last) => compare_bytes(last.key.as_slice(), key).is_lt(),
+        None => true,
+    }
+}
+
 // The key of a partition that follows those before it.
 #[tactic(auto, unfolding(cas_codec::specs::Reading::checked))]
 fn read_next_key(
@@ -132,10 +147,8 @@ fn read_next_key(
 {
     let at = reader.at();
     let key = read_key(alloc, reader)?;
-    if let Some(last) = last(before) {
-        if !compare_bytes(last.key.as_slice(), key.as_slice()).is_lt() {
-            return Err(ReadFault::Bad { at });
-        }
+    if !is_next_key(before, key.as_slice()) {
+        return Err(ReadFault::Bad { at });
     }
     Ok(key)
 }

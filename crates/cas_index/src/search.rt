@@ -114,8 +114,8 @@ fn compare_cuts(a: &Cut, b: &Cut) -> Ordering
     )
 }
 
-// Whether the block doesn't begin above the cut.
-fn begins_upto(block: &BlockEntry, cut: &Cut) -> bool
+/// Whether the block doesn't begin above the cut.
+pub(crate) fn begins_upto(block: &BlockEntry, cut: &Cut) -> bool
     ensures { result ≡ not (is_gt (cut_cmp block.now.cut cut.now)) }
 {
     !compare_cuts(&block.cut, cut).is_gt()

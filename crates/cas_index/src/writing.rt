@@ -3,9 +3,9 @@
 ghost use Rattle.std.specs.Prelude.{◌≡◌, ◌+◌, ◌<◌, ◌≤◌, ◌^◌, ◌++◌, length, take, OnOk, OnErr, vec_len};
 ghost use Rattle.std.specs.List.{All, flat_map};
 ghost use Rattle.std.specs.Vec.{vec_capacity};
-ghost use Rattle.cas_codec.specs.Fields.{maybe};
+ghost use Rattle.cas_codec.specs.Fields.{bytes16, maybe, u32, u64};
 ghost use Rattle.cas_records.specs.Spelling.{deletion_bytes};
-ghost use Rattle.cas_index.specs.Spelling.{block_bytes, head_bytes, partition_bytes, index_bytes};
+ghost use Rattle.cas_index.specs.Spelling.{block_bytes, partition_bytes, index_bytes};
 ghost use Rattle.cas_index.specs.Allowed.{HasRoom, HasRooms};
 
 use crate::entries::{BlockEntry, PartitionEntry};
@@ -64,22 +64,22 @@ fn put_blocks(out: &mut Vec<u8>, blocks: &[BlockEntry]) -> Result<(), Mem>
     Ok(())
 }
 
-// Adds what stands before the blocks of a partition.
-#[tactic(auto, using(crate::proofs::Lengths::head_long))]
-fn put_head(out: &mut Vec<u8>, partition: &PartitionEntry) -> Result<(), Mem>
-    requires { HasRooms partition.now }
-    ensures written { OnOk result (out.new.items ≡ out.old.items ++ head_bytes partition.now) }
-    ensures length { OnOk result (vec_len out.new ≡ vec_len out.old + length (head_bytes partition.now)) }
+// Adds what stands before the blocks of a partition: its key, its place, and their number.
+fn put_head(out: &mut Vec<u8>, key: &[u8], place: u64, count: u32) -> Result<(), Mem>
+    requires { length key.now < 2 ^ 16 }
+    ensures written { OnOk result (out.new.items ≡ out.old.items ++ (bytes16 key.now ++ (u64 place ++ u32 count))) }
+    ensures length { OnOk result (vec_len out.new ≡ vec_len out.old + (2 + length key.now + 12)) }
     ensures kept { OnErr result (take (vec_len out.old) out.new.items ≡ out.old.items) }
-    ensures full { OnErr result (vec_capacity out.old < vec_len out.old + length (head_bytes partition.now)) }
+    ensures full { OnErr result (vec_capacity out.old < vec_len out.old + (2 + length key.now + 12)) }
     ensures capacity { vec_capacity out.old ≤ vec_capacity out.new }
 {
-    put_bytes16(out, partition.key.as_slice())?;
-    put_u64(out, partition.place)?;
-    put_u32(out, partition.blocks.len() as u32)
+    put_bytes16(out, key)?;
+    put_u64(out, place)?;
+    put_u32(out, count)
 }
 
 // Adds a partition.
+#[tactic(auto, using(crate::proofs::Lengths::head_long))]
 fn put_partition(out: &mut Vec<u8>, partition: &PartitionEntry) -> Result<(), Mem>
     requires { HasRooms partition.now }
     ensures written { OnOk result (out.new.items ≡ out.old.items ++ partition_bytes partition.now) }
@@ -88,8 +88,9 @@ fn put_partition(out: &mut Vec<u8>, partition: &PartitionEntry) -> Result<(), Me
     ensures full { OnErr result (vec_capacity out.old < vec_len out.old + length (partition_bytes partition.now)) }
     ensures capacity { vec_capacity out.old ≤ vec_capacity out.new }
 {
-    put_head(out, partition)?;
-    put_blocks(out, partition.blocks.as_slice())
+    let blocks = partition.blocks.as_slice();
+    put_head(out, partition.key.as_slice(), partition.place, blocks.len() as u32)?;
+    put_blocks(out, blocks)
 }
 
 // Adds partitions, one after another.
