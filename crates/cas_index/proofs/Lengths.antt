@@ -41,6 +41,10 @@ head_long p =
       u32_long (length p.blocks),
     )
 
+-- its blocks come behind that
+pub partition_long : (p : PartitionEntry) → 2 + length p.key + 12 ≤ length (partition_bytes p)
+partition_long p = omega (arith, length-append (head_bytes p) (flat_map block_bytes p.blocks), head_long p)
+
 pub index_long : (ps : List PartitionEntry) → 4 ≤ length (index_bytes ps)
 index_long ps = omega (arith, length-append (u32 (length ps)) (flat_map partition_bytes ps), u32_long (length ps))
 

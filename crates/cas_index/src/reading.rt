@@ -2,9 +2,10 @@
 
 ghost use Rattle.std.specs.Prelude.{◌≡◌, None, IfOk};
 ghost use Rattle.std.specs.List.{last_or};
-ghost use Rattle.cas_codec.specs.Reading.{Gives, checked, maybe_at};
-ghost use Rattle.cas_records.specs.Reading.{key_at, cut_at, deletion_at};
+ghost use Rattle.cas_codec.specs.Reading.{Gives, maybe_at};
+ghost use Rattle.cas_records.specs.Reading.{deletion_at};
 ghost use Rattle.cas_index.specs.Entries.{is_next_cut, is_next_key};
+ghost use Rattle.cas_index.specs.Inner.Following.{next_cut_at, next_key_at};
 ghost use Rattle.cas_index.specs.Reading.{following_at, place_at, block_at, blocks_at, partition_at, index_at};
 
 use crate::entries::{BlockEntry, PartitionEntry, block_place, last, last_place};
@@ -53,14 +54,14 @@ fn is_next_cut(before: &[BlockEntry], cut: &Cut) -> bool
 }
 
 // The cut of a block that follows those before it.
-#[tactic(auto, unfolding(cas_codec::specs::Reading::checked))]
+#[tactic(auto, unfolding(crate::specs::Inner::Following::next_cut_at, cas_codec::specs::Reading::checked))]
 fn read_next_cut(
     alloc: Global,
     reader: &mut Reader<'_>,
     order: &RowOrder,
     before: &[BlockEntry],
 ) -> Result<Cut, ReadFault>
-    ensures { Gives (λ c. c) result reader.new (checked (is_next_cut (last_or None before.now)) (cut_at order.now) reader.old) }
+    ensures { Gives (λ c. c) result reader.new (next_cut_at order.now (last_or None before.now) reader.old) }
 {
     let at = reader.at();
     let cut = read_cut(alloc, reader, order)?;
@@ -71,7 +72,7 @@ fn read_next_cut(
 }
 
 // A block that follows those before it, of a partition at that place.
-#[tactic(auto, unfolding(crate::specs::Reading::block_at))]
+#[tactic(auto, unfolding(crate::specs::Reading::block_at, crate::specs::Inner::Following::next_cut_at))]
 fn read_block(
     alloc: Global,
     reader: &mut Reader<'_>,
@@ -137,13 +138,13 @@ fn is_next_key(before: &[PartitionEntry], key: &[u8]) -> bool
 }
 
 // The key of a partition that follows those before it.
-#[tactic(auto, unfolding(cas_codec::specs::Reading::checked))]
+#[tactic(auto, unfolding(crate::specs::Inner::Following::next_key_at, cas_codec::specs::Reading::checked))]
 fn read_next_key(
     alloc: Global,
     reader: &mut Reader<'_>,
     before: &[PartitionEntry],
 ) -> Result<Bytes, ReadFault>
-    ensures { Gives (λ k. k) result reader.new (checked (is_next_key (last_or None before.now)) key_at reader.old) }
+    ensures { Gives (λ k. k) result reader.new (next_key_at (last_or None before.now) reader.old) }
 {
     let at = reader.at();
     let key = read_key(alloc, reader)?;
@@ -154,7 +155,7 @@ fn read_next_key(
 }
 
 // A partition that follows those before it.
-#[tactic(auto, unfolding(crate::specs::Reading::partition_at))]
+#[tactic(auto, unfolding(crate::specs::Reading::partition_at, crate::specs::Inner::Following::next_key_at))]
 fn read_partition(
     alloc: Global,
     reader: &mut Reader<'_>,

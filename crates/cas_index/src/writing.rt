@@ -89,7 +89,12 @@ fn put_partition(out: &mut Vec<u8>, partition: &PartitionEntry) -> Result<(), Me
     ensures capacity { vec_capacity out.old ≤ vec_capacity out.new }
 {
     let blocks = partition.blocks.as_slice();
-    put_head(out, partition.key.as_slice(), partition.place, blocks.len() as u32)?;
+    put_head(
+        out,
+        partition.key.as_slice(),
+        partition.place,
+        blocks.len() as u32,
+    )?;
     put_blocks(out, blocks)
 }
 

@@ -28,7 +28,7 @@ pub const LAST_SHARD: u8 = SHARD_LIMIT - 1;
 pub const HEADER_LENGTH: u64 = 21;
 
 /// The versions of the format. In the first, partitions have no static columns.
-#[derive(Clone, Copy, Debug, PartialEq, Eq)]
+#[derive(Clone, Copy)]
 pub enum Version {
     First,
     Second,
@@ -36,7 +36,7 @@ pub enum Version {
 
 /// What a table file begins with: its version, the number of the table, the shard and the number of
 /// the file.
-#[derive(Clone, Copy, Debug, PartialEq, Eq)]
+#[derive(Clone, Copy)]
 pub struct Header {
     pub version: Version,
     pub table: u16,
