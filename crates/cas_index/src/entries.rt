@@ -28,7 +28,7 @@ pub struct PartitionEntry {
 
 /// Where a read of a slice begins: the number of a block in its partition, the block's place in the
 /// file, and the range deletion in force before its first fragment.
-#[derive(Clone, Copy, Debug)]
+#[derive(Clone, Copy)]
 pub struct BlockAt {
     pub number: u32,
     pub place: u64,
