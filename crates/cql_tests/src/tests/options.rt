@@ -5,16 +5,28 @@ use cas_types::{Options, Strategy, TableSchema, Unit};
 use cql_lex::tokens;
 use cql_parse::{Statement, statement};
 use std::alloc::Global;
-use std::test::Fail;
+
+// What stands behind a CREATE TABLE, and each option as it is given or by its default.
+const OPTIONS: &str = "\
+-- none => size days 864000 0 4 32 50 150 52428800 160 10 1
+WITH gc_grace_seconds = 2147483647 AND default_time_to_live = 630720000 \
+=> size days 2147483647 630720000 4 32 50 150 52428800 160 10 1
+WITH compaction = {'min_threshold': 99, 'min_threshold': 2, 'max_threshold': '2', 'min_sstable_size': 1099511627776} \
+=> size days 864000 0 2 2 50 150 1099511627776 160 10 1
+WITH compaction = {'class': 'SizeTieredCompactionStrategy', 'bucket_low': '0.9', 'bucket_high': 100} \
+=> size days 864000 0 4 32 90 10000 52428800 160 10 1
+WITH compaction = {'class': 'LeveledCompactionStrategy', 'sstable_size_in_mb': 1024, 'fanout_size': '2'} \
+=> leveled days 864000 0 4 32 50 150 52428800 1024 2 1
+WITH compaction = {'class': 'org.apache.cassandra.db.compaction.TimeWindowCompactionStrategy', \
+'compaction_window_unit': 'HOURS', 'compaction_window_size': 65535} \
+=> window hours 864000 0 4 32 50 150 52428800 160 10 65535";
 
 // The table that the CREATE TABLE makes.
-fn created(alloc: Global, source: &str) -> Result<TableSchema, Fail> {
-    match statement(alloc, &tokens(alloc, source)?, source)? {
-        Statement::Create(create) => match bind_create(alloc, &[], &create) {
-            Ok(table) => Ok(table),
-            Err(_) => Err(Fail::new("no table is made")),
-        },
-        _ => Err(Fail::new("no CREATE TABLE")),
+fn created(alloc: Global, source: &str) -> Option<TableSchema> {
+    let found = tokens(alloc, source).ok()?;
+    match statement(alloc, &found, source) {
+        Ok(Statement::Create(create)) => bind_create(alloc, &[], &create).ok(),
+        _ => None,
     }
 }
 
@@ -33,83 +45,59 @@ fn numbers(options: &Options) -> [u64; 10] {
     ]
 }
 
-fn is_strategy(found: Strategy, wanted: Strategy) -> bool {
-    match wanted {
-        Strategy::SizeTiered => matches!(found, Strategy::SizeTiered),
-        Strategy::Leveled => matches!(found, Strategy::Leveled),
-        Strategy::TimeWindow => matches!(found, Strategy::TimeWindow),
+fn is_strategy(word: Option<&str>, strategy: Strategy) -> bool {
+    match strategy {
+        Strategy::SizeTiered => word == Some("size"),
+        Strategy::Leveled => word == Some("leveled"),
+        Strategy::TimeWindow => word == Some("window"),
     }
 }
 
-fn is_unit(found: Unit, wanted: Unit) -> bool {
-    match wanted {
-        Unit::Minutes => matches!(found, Unit::Minutes),
-        Unit::Hours => matches!(found, Unit::Hours),
-        Unit::Days => matches!(found, Unit::Days),
+fn is_unit(word: Option<&str>, unit: Unit) -> bool {
+    match unit {
+        Unit::Minutes => word == Some("minutes"),
+        Unit::Hours => word == Some("hours"),
+        Unit::Days => word == Some("days"),
     }
+}
+
+fn is_number(word: Option<&str>, number: u64) -> bool {
+    match word {
+        Some(word) => word.parse().ok() == Some(number),
+        None => false,
+    }
+}
+
+fn are_told(options: &Options, told: &str) -> bool {
+    let mut words = told.split(' ');
+    if !is_strategy(words.next(), options.strategy) || !is_unit(words.next(), options.unit) {
+        return false;
+    }
+    for number in numbers(options) {
+        if !is_number(words.next(), number) {
+            return false;
+        }
+    }
+    true
+}
+
+fn source_of(alloc: Global, part: &str) -> Option<String> {
+    let mut source = String::new(alloc);
+    source.push_str("CREATE TABLE o (k int PRIMARY KEY) ").ok()?;
+    source.push_str(part).ok()?;
+    Some(source)
+}
+
+fn is_told(alloc: Global, line: &str) -> Option<bool> {
+    let (part, told) = line.split_once(" => ")?;
+    let source = source_of(alloc, part)?;
+    let table = created(alloc, source.as_str())?;
+    Some(are_told(&table.options, told))
 }
 
 #[test]
-fn an_option_is_as_given_or_its_default(rt: HostRuntime) -> Result<(), Fail> {
-    let alloc = rt.alloc();
-    let cases: [(&str, Strategy, Unit, [u64; 10]); 6] = [
-        (
-            "",
-            Strategy::SizeTiered,
-            Unit::Days,
-            [864_000, 0, 4, 32, 50, 150, 52_428_800, 160, 10, 1],
-        ),
-        (
-            " WITH gc_grace_seconds = 2147483647 AND default_time_to_live = 630720000",
-            Strategy::SizeTiered,
-            Unit::Days,
-            [
-                2_147_483_647,
-                630_720_000,
-                4,
-                32,
-                50,
-                150,
-                52_428_800,
-                160,
-                10,
-                1,
-            ],
-        ),
-        (
-            " WITH compaction = {'min_threshold': 99, 'min_threshold': 2, 'max_threshold': '2', 'min_sstable_size': 1099511627776}",
-            Strategy::SizeTiered,
-            Unit::Days,
-            [864_000, 0, 2, 2, 50, 150, 1_099_511_627_776, 160, 10, 1],
-        ),
-        (
-            " WITH compaction = {'class': 'SizeTieredCompactionStrategy', 'bucket_low': '0.9', 'bucket_high': 100}",
-            Strategy::SizeTiered,
-            Unit::Days,
-            [864_000, 0, 4, 32, 90, 10_000, 52_428_800, 160, 10, 1],
-        ),
-        (
-            " WITH compaction = {'class': 'LeveledCompactionStrategy', 'sstable_size_in_mb': 1024, 'fanout_size': '2'}",
-            Strategy::Leveled,
-            Unit::Days,
-            [864_000, 0, 4, 32, 50, 150, 52_428_800, 1_024, 2, 1],
-        ),
-        (
-            " WITH compaction = {'class': 'org.apache.cassandra.db.compaction.TimeWindowCompactionStrategy', \
-             'compaction_window_unit': 'HOURS', 'compaction_window_size': 65535}",
-            Strategy::TimeWindow,
-            Unit::Hours,
-            [864_000, 0, 4, 32, 50, 150, 52_428_800, 160, 10, 65_535],
-        ),
-    ];
-    for (part, strategy, unit, wanted) in &cases {
-        let source = format!(in alloc; "CREATE TABLE o (k int PRIMARY KEY){part}")?;
-        let options = created(alloc, source.as_str())?.options;
-        assert_eq!(rt; numbers(&options), *wanted, "{part}");
-        assert!(rt;
-            is_strategy(options.strategy, *strategy) && is_unit(options.unit, *unit),
-            "{part}"
-        );
+fn an_option_is_as_given_or_its_default(rt: HostRuntime) {
+    for line in OPTIONS.lines() {
+        assert!(rt; is_told(rt.alloc(), line) == Some(true), "{line}");
     }
-    Ok(())
 }

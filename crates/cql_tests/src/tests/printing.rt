@@ -3,12 +3,59 @@
 use cas_atoms::{Datum, LiveRow};
 use cas_render::{Failure, Reply, render};
 use cas_types::{Bytes, List, Mem, TypeTag};
+use cql_lex::blob_of;
 use std::alloc::Global;
-use std::test::Fail;
+
+const TYPES: [TypeTag; 11] = [
+    TypeTag::Ascii,
+    TypeTag::BigInt,
+    TypeTag::Boolean,
+    TypeTag::Date,
+    TypeTag::Int,
+    TypeTag::SmallInt,
+    TypeTag::Text,
+    TypeTag::Time,
+    TypeTag::TimeUuid,
+    TypeTag::TinyInt,
+    TypeTag::Uuid,
+];
+
+// For each of the types bytes that are no value of it, as they are printed.
+const BYTES: &str = "\
+0x6180
+0x00000001
+0x02
+0x800000
+0x
+0x01
+0xff
+0x00004e94914f0000
+0x550e8400e29b41d4a716446655440000
+0x
+0x550e";
+
+// What is printed behind the row.
+const BEHIND: &str = "\n-- 1 rows, shard 15, front 18446744073709551615, now 253402300799\n";
+
+const FAILURES: [Failure; 5] = [
+    Failure::Memory,
+    Failure::Stopped,
+    Failure::Disk,
+    Failure::Read,
+    Failure::Block,
+];
+
+const FAILED: &str = "\
+failed memory
+failed stopped
+failed disk
+failed read
+failed block
+";
 
 // A reply of one row with this value.
-fn row(alloc: Global, tag: TypeTag, bytes: &[u8]) -> Result<Reply, Mem> {
-    let values = vec![in alloc; Datum::One(tag, Bytes::copy_of(alloc, bytes)?)]?;
+fn row(alloc: Global, tag: TypeTag, bytes: Bytes) -> Result<Reply, Mem> {
+    let values = vec![in alloc; Datum::One(tag, bytes)]?;
     let row = LiveRow {
         values: List::from_vec(values),
     };
@@ -20,48 +67,37 @@ fn row(alloc: Global, tag: TypeTag, bytes: &[u8]) -> Result<Reply, Mem> {
     })
 }
 
-#[test]
-fn what_no_script_shows_is_printed(rt: HostRuntime) -> Result<(), Fail> {
-    let alloc = rt.alloc();
-    let values: [(TypeTag, &'static [u8], &'static str); 11] = [
-        (TypeTag::Ascii, b"a\x80", "0x6180"),
-        (TypeTag::BigInt, b"\0\0\0\x01", "0x00000001"),
-        (TypeTag::Boolean, b"\x02", "0x02"),
-        (TypeTag::Date, b"\x80\0\0", "0x800000"),
-        (TypeTag::Int, b"", "0x"),
-        (TypeTag::SmallInt, b"\x01", "0x01"),
-        (TypeTag::Text, b"\xff", "0xff"),
-        (
-            TypeTag::Time,
-            b"\0\0\x4e\x94\x91\x4f\0\0",
-            "0x00004e94914f0000",
-        ),
-        (
-            TypeTag::TimeUuid,
-            b"\x55\x0e\x84\0\xe2\x9b\x41\xd4\xa7\x16\x44\x66\x55\x44\0\0",
-            "0x550e8400e29b41d4a716446655440000",
-        ),
-        (TypeTag::TinyInt, b"", "0x"),
-        (TypeTag::Uuid, b"\x55\x0e", "0x550e"),
-    ];
-    let failures = [
-        (Failure::Memory, "failed memory\n"),
-        (Failure::Stopped, "failed stopped\n"),
-        (Failure::Disk, "failed disk\n"),
-        (Failure::Read, "failed read\n"),
-        (Failure::Block, "failed block\n"),
-    ];
+fn is_row(all: &[u8], text: &str) -> bool {
+    let (front, behind) = all.split_at(text.len().min(all.len()));
+    front == text.as_bytes() && behind == BEHIND.as_bytes()
+}
+
+fn is_printed(alloc: Global, tag: TypeTag, text: &str) -> Option<bool> {
+    let bytes = blob_of(alloc, text.as_bytes()).ok()??;
+    let reply = row(alloc, tag, bytes).ok()?;
     let mut all = Vec::new(alloc);
-    let mut wanted = String::new(alloc);
-    for (tag, bytes, text) in values {
-        render(alloc, &row(alloc, tag, bytes)?, &mut all)?;
-        wanted.push_str(text)?;
-        wanted.push_str("\n-- 1 rows, shard 15, front 18446744073709551615, now 253402300799\n")?;
+    render(alloc, &reply, &mut all).ok()?;
+    Some(is_row(&all, text))
+}
+
+fn are_failures_printed(alloc: Global) -> bool {
+    let mut all = Vec::new(alloc);
+    for failure in FAILURES {
+        if render(alloc, &Reply::Failed(failure), &mut all).is_err() {
+            return false;
+        }
     }
-    for (failure, text) in failures {
-        render(alloc, &Reply::Failed(failure), &mut all)?;
-        wanted.push_str(text)?;
+    all.as_slice() == FAILED.as_bytes()
+}
+
+#[test]
+fn what_no_script_shows_is_printed(rt: HostRuntime) {
+    let mut lines = BYTES.lines();
+    for tag in TYPES {
+        let Some(text) = lines.next() else {
+            panic!(rt; "a line too few");
+        };
+        assert!(rt; is_printed(rt.alloc(), tag, text) == Some(true), "{text}");
     }
-    assert_eq!(rt; all.as_slice(), wanted.as_bytes());
-    Ok(())
+    assert!(rt; are_failures_printed(rt.alloc()));
 }
