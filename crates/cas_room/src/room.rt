@@ -339,7 +339,6 @@ impl<F: Folder, J: Store> Room<F, J> {
 
     /// Whatever a crash leaves now stands for a front of the history: what the opening found, and behind it
     /// the first mutations of the room's list, each that was said to be committed among them.
-    #[tactic(auto, using(crate::proofs::Standing::images_stand))]
     pub fn images_stand(&self)
         ensures law { (found : List MutationOf) (t : Told)
             → Keeps self.now.journal (F.disk self.now.folder) (listed log_list self.now.log.pass.saw) self.now.faults.committed found t
