@@ -94,6 +94,16 @@ impl<F: Folder, J: Store> Room<F, J> {
     }
 }
 
+// The number of the fault that stopped the journal, 0 where none did.
+fn number_of(first: Option<First>) -> u64
+    ensures { result ≡ first_number first }
+{
+    match first {
+        Some(first) => first.number,
+        None => 0,
+    }
+}
+
 // The room says what it knows of its disk, with so many mutations committed.
 pub(crate) fn say<F: Folder, J: Store>(
     folder: &F,
@@ -106,11 +116,7 @@ pub(crate) fn say<F: Folder, J: Store>(
     ensures said { (faults.new.number ≡ F.faults_of folder.now) × (faults.new.committed ≡ committed)
         × (faults.new.first ≡ first_number journal.now.first) }
 {
-    let first = match journal.stopped() {
-        Some(first) => first.number,
-        None => 0,
-    };
-    faults.say(folder.faults(), committed, first);
+    faults.say(folder.faults(), committed, number_of(journal.stopped()));
 }
 
 // The room says what it knows of its disk, with so many mutations committed, and the session gets to know it.
@@ -139,10 +145,10 @@ fn committed_by(ended: &Result<(), JournalFault>, accepted: u64, committed: u64)
     ensures all { OnOk ended.now (result ≡ accepted) }
     ensures same { OnErr ended.now (result ≡ committed) }
 {
-    if ended.is_ok() {
-        return accepted;
+    match ended {
+        Ok(()) => accepted,
+        Err(_) => committed,
     }
-    committed
 }
 
 impl<F: Folder, J: Store> Room<F, J> {
