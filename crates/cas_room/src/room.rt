@@ -93,6 +93,16 @@ impl<F: Folder, J: Store> Room<F, J> {
     }
 }
 
+// The number of the fault that stopped the journal, 0 where none did.
+fn number_of(first: Option<First>) -> u64
+    ensures { result ≡ first_number first }
+{
+    match first {
+        Some(first) => first.number,
+        None => 0,
+    }
+}
+
 // The room says what it knows of its disk, with so many mutations committed.
 pub(crate) fn say<F: Folder, J: Store>(
     folder: &F,
@@ -105,11 +115,7 @@ pub(crate) fn say<F: Folder, J: Store>(
     ensures said { (faults.new.number ≡ F.faults_of folder.now) × (faults.new.committed ≡ committed)
         × (faults.new.first ≡ first_number journal.now.first) }
 {
-    let first = match journal.stopped() {
-        Some(first) => first.number,
-        None => 0,
-    };
-    faults.say(folder.faults(), committed, first);
+    faults.say(folder.faults(), committed, number_of(journal.stopped()));
 }
 
 // The room says what it knows of its disk, with so many mutations committed, and the session gets to know it.
@@ -138,10 +144,10 @@ fn committed_by(ended: &Result<(), JournalFault>, accepted: u64, committed: u64)
     ensures all { OnOk ended.now (result ≡ accepted) }
     ensures same { OnErr ended.now (result ≡ committed) }
 {
-    if ended.is_ok() {
-        return accepted;
+    match ended {
+        Ok(()) => accepted,
+        Err(_) => committed,
     }
-    committed
 }
 
 impl<F: Folder, J: Store> Room<F, J> {
@@ -338,7 +344,6 @@ impl<F: Folder, J: Store> Room<F, J> {
 
     /// Whatever a crash leaves now stands for a front of the history: what the opening found, and behind it
     /// the first mutations of the room's list, each that was said to be committed among them.
-    #[tactic(auto, using(crate::proofs::Standing::images_stand))]
     pub fn images_stand(&self)
         ensures law { (found : List MutationOf) (t : Told)
             → Keeps self.now.journal (F.disk self.now.folder) (listed log_list self.now.log.pass.saw) self.now.faults.committed found t

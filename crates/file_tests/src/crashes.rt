@@ -38,10 +38,12 @@ fn leaves(folder: &MemFolder, choice: Choice, bytes: &[u8], has_manifest: bool) 
 #[test]
 fn a_crash_leaves_what_is_synced_and_any_bytes_of_the_rest(rt: HostRuntime) {
     let mut folder = MemFolder::new(rt.alloc(), FaultPlan::none(rt.alloc()));
-    assert!(rt; write(&mut folder));
-    assert!(rt; leaves(&folder, Choice::Old, b"abcd", false));
-    assert!(rt; leaves(&folder, Choice::New, b"abxyz", true));
-    assert!(rt; leaves(&folder, Choice::Fill(b'-'), b"ab---", true));
+    assert!(rt;
+        write(&mut folder)
+            && leaves(&folder, Choice::Old, b"abcd", false)
+            && leaves(&folder, Choice::New, b"abxyz", true)
+            && leaves(&folder, Choice::Fill(b'-'), b"ab---", true)
+    );
 }
 
 fn is_left(folder: &MemFolder, choice: Choice) -> bool {
@@ -54,10 +56,15 @@ fn is_left(folder: &MemFolder, choice: Choice) -> bool {
 #[test]
 fn a_removal_lasts_once_the_manifest_is_synced(rt: HostRuntime) {
     let mut folder = MemFolder::new(rt.alloc(), FaultPlan::none(rt.alloc()));
-    assert!(rt; write(&mut folder) && folder.remove(LOG).is_ok());
-    assert!(rt; is_left(&folder, Choice::Old) && !is_left(&folder, Choice::New));
-    assert!(rt; folder.sync(Name::Manifest).is_ok());
-    assert!(rt; !is_left(&folder, Choice::Old) && folder.calls() == 7);
+    assert!(rt;
+        write(&mut folder)
+            && folder.remove(LOG).is_ok()
+            && is_left(&folder, Choice::Old)
+            && !is_left(&folder, Choice::New)
+            && folder.sync(Name::Manifest).is_ok()
+            && !is_left(&folder, Choice::Old)
+            && folder.calls() == 7
+    );
 }
 
 fn plan(alloc: Global) -> Option<FaultPlan> {
@@ -95,19 +102,28 @@ fn counts_read(file: &MemSealed, tally: &mut FaultCount) -> [Option<usize>; 2] {
     ]
 }
 
+// Whether the calls of the folder fail that are planned to, and no others, until it stops.
+fn are_by_plan(folder: &mut MemFolder) -> bool {
+    let mut tally = FaultCount::fresh();
+    let is_made = make(folder, Name::Manifest)
+        && folder.sync(Name::Manifest).is_err()
+        && folder.sync(Name::Manifest).is_ok();
+    let is_read = match table(folder, &mut tally) {
+        Ok(Some(table)) => counts_read(&table, &mut tally) == [None, Some(3)],
+        _ => false,
+    };
+    folder.stop_after(folder.calls());
+    is_made
+        && is_read
+        && tally.faults() == 2
+        && folder.sync(Name::Manifest).is_err()
+        && folder.faults() == 2
+}
+
 #[test]
 fn calls_fail_by_plan_and_are_counted(rt: HostRuntime) {
     let Some(plan) = plan(rt.alloc()) else {
         panic!(rt; "no memory");
     };
-    let mut folder = MemFolder::new(rt.alloc(), plan);
-    let mut tally = FaultCount::fresh();
-    assert!(rt; make(&mut folder, Name::Manifest));
-    assert!(rt; folder.sync(Name::Manifest).is_err() && folder.sync(Name::Manifest).is_ok());
-    let Ok(Some(table)) = table(&mut folder, &mut tally) else {
-        panic!(rt; "no table");
-    };
-    assert!(rt; counts_read(&table, &mut tally) == [None, Some(3)] && tally.faults() == 2);
-    folder.stop_after(folder.calls());
-    assert!(rt; folder.sync(Name::Manifest).is_err() && folder.faults() == 2);
+    assert!(rt; are_by_plan(&mut MemFolder::new(rt.alloc(), plan)));
 }

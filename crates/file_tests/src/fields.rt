@@ -78,16 +78,22 @@ fn are_read(alloc: Global, reader: &mut Reader<'_>) -> bool {
         && is_read(reader.bytes16(), b"")
 }
 
+// Whether the reader stands before the last five bytes, and reads them.
+fn is_left(reader: &mut Reader<'_>) -> bool {
+    if reader.at() != 1045 || reader.left().len() != 5 {
+        return false;
+    }
+    let is_empty = match reader.part(4) {
+        Ok(mut part) => is_read(part.bytes32(), b"") && part.is_empty(),
+        Err(_) => false,
+    };
+    is_empty && reader.u8() == Ok(9) && reader.u8() == Err(ReadFault::Short { at: 1050 })
+}
+
 #[test]
 fn fields_are_read_as_by_hand(rt: HostRuntime) {
     let mut reader = Reader::new(&FIELDS, 1000);
-    assert!(rt; are_read(rt.alloc(), &mut reader));
-    assert!(rt; reader.at() == 1045 && reader.left().len() == 5);
-    let Ok(mut part) = reader.part(4) else {
-        panic!(rt; "fewer than four bytes");
-    };
-    assert!(rt; is_read(part.bytes32(), b"") && part.is_empty());
-    assert!(rt; reader.u8() == Ok(9) && reader.u8() == Err(ReadFault::Short { at: 1050 }));
+    assert!(rt; are_read(rt.alloc(), &mut reader) && is_left(&mut reader));
 }
 
 // How so many zeros behind a first byte are refused as a number that may be absent.

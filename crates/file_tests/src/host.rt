@@ -69,21 +69,28 @@ pub(crate) fn is_written(rt: &HostRuntime, path: &str, wanted: &[u8]) -> bool {
     }
 }
 
+// Whether each call does its work on a folder that isn't there yet.
+fn is_kept(rt: &HostRuntime, folder: &mut HostFolder<'_, HostRuntime>) -> bool {
+    answered(folder) == [true, true, false, true, true, false, true, true]
+        && is_written(rt, "a_folder/log-00000000000000ff", b"abxyz")
+        && fs::write(rt, "a_folder/log-00000000000000FE", "not ours").is_ok()
+        && fs::write(rt, "a_folder/import-000000000000000a", "abc").is_ok()
+        && lists(folder)
+        && reads(folder, LOG, 1, b"bxyz")
+        && reads(folder, LOG, 3, b"yz")
+        && reads(folder, LOG, 5, b"")
+        && reads(folder, Name::Log(256), 0, b"")
+        && folder.remove(LOG).is_ok()
+        && folder.remove(LOG).is_err()
+        && folder.faults() == 3
+}
+
 #[test]
 fn files_of_a_real_folder(rt: HostRuntime) {
     let Some(mut folder) = folder_at(&rt, "a_folder") else {
         panic!(rt; "no memory");
     };
-    let answers = answered(&mut folder);
-    assert!(rt; answers == [true, true, false, true, true, false, true, true]);
-    assert!(rt; is_written(&rt, "a_folder/log-00000000000000ff", b"abxyz"));
-    assert!(rt; fs::write(&rt, "a_folder/log-00000000000000FE", "not ours").is_ok());
-    assert!(rt; fs::write(&rt, "a_folder/import-000000000000000a", "abc").is_ok());
-    assert!(rt; lists(&mut folder));
-    assert!(rt; reads(&mut folder, LOG, 1, b"bxyz") && reads(&mut folder, LOG, 3, b"yz"));
-    assert!(rt; reads(&mut folder, LOG, 5, b"") && reads(&mut folder, Name::Log(256), 0, b""));
-    assert!(rt; folder.remove(LOG).is_ok() && folder.remove(LOG).is_err());
-    assert!(rt; folder.faults() == 3 && fs::remove_dir_all(&rt, "a_folder").is_ok());
+    assert!(rt; is_kept(&rt, &mut folder) && fs::remove_dir_all(&rt, "a_folder").is_ok());
 }
 
 // Table 1 with "abcd".
@@ -107,39 +114,46 @@ fn holds(file: &HostSealed, at: u64, wanted: &[u8]) -> bool {
     }
 }
 
+// Whether a table that was admitted is read back, and one that isn't there is refused and counted.
+fn is_sealed(folder: &mut HostFolder<'_, HostRuntime>) -> bool {
+    let mut tally = FaultCount::fresh();
+    let is_held = match table(folder, &mut tally) {
+        Ok(table) => holds(&table, 1, b"bcd"),
+        Err(_) => false,
+    };
+    is_held
+        && tally.faults() == 0
+        && folder.sealed(1).is_ok()
+        && folder.sealed(2).is_err()
+        && folder.faults() == 1
+}
+
+// Whether a file that was put into the folder is imported.
+fn is_imported(rt: &HostRuntime, folder: &mut HostFolder<'_, HostRuntime>) -> bool {
+    if fs::write(rt, "b_folder/import-0000000000000001", "abc").is_err() {
+        return false;
+    }
+    match folder.import(1) {
+        Ok(import) => holds(&import, 0, b"abc"),
+        Err(_) => false,
+    }
+}
+
 #[test]
-fn a_table_of_a_real_folder(rt: HostRuntime) {
+fn tables_of_a_real_folder(rt: HostRuntime) {
     let Some(mut folder) = folder_at(&rt, "b_folder") else {
         panic!(rt; "no memory");
     };
-    let mut tally = FaultCount::fresh();
-    let Ok(table) = table(&mut folder, &mut tally) else {
-        panic!(rt; "no table");
-    };
-    assert!(rt; holds(&table, 1, b"bcd") && tally.faults() == 0);
-    assert!(rt; folder.sealed(1).is_ok() && folder.sealed(2).is_err() && folder.faults() == 1);
+    assert!(rt; is_sealed(&mut folder) && is_imported(&rt, &mut folder));
     assert!(rt; fs::remove_dir_all(&rt, "b_folder").is_ok());
 }
 
 #[test]
-fn an_import_of_a_real_folder(rt: HostRuntime) {
-    let Some(mut folder) = folder_at(&rt, "e_folder") else {
-        panic!(rt; "no memory");
-    };
-    assert!(rt; folder.create(Name::Manifest).is_ok());
-    assert!(rt; fs::write(&rt, "e_folder/import-0000000000000001", "abc").is_ok());
-    let Ok(import) = folder.import(1) else {
-        panic!(rt; "no import");
-    };
-    assert!(rt; holds(&import, 0, b"abc") && fs::remove_dir_all(&rt, "e_folder").is_ok());
-}
-
-#[test]
 fn a_folder_that_cannot_be_made(rt: HostRuntime) {
-    assert!(rt; fs::write(&rt, "no_folder", "").is_ok());
+    let is_there = fs::write(&rt, "no_folder", "").is_ok();
     let Some(mut folder) = folder_at(&rt, "no_folder/a") else {
         panic!(rt; "no memory");
     };
-    assert!(rt; folder.list().is_err() && folder.faults() == 1);
+    assert!(rt; is_there && folder.list().is_err() && folder.faults() == 1);
     assert!(rt; fs::remove_file(&rt, "no_folder").is_ok());
 }

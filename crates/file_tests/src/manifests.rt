@@ -96,35 +96,3 @@ fn a_manifest_by_hand(rt: HostRuntime) {
         );
     }
 }
-
-// The manifest of a store of one shard.
-const STORE: [u8; 21] = *b"\x01CASSMAN1\x01\0\0\0\x02\0\0\0\x01\x01\x01\0";
-
-// Another byte at each place from one to another: how many entries are read, or where the manifest is refused.
-const ALTERED_STORE: [(usize, usize, u8, Result<usize, u64>); 11] = [
-    (0, 0, 1, Ok(1)), // as it is
-    (0, 0, 0, Err(0)), // it isn't made
-    (1, 8, 0, Err(1)), // another word
-    (9, 9, 0, Ok(0)), // the gate is closed
-    (10, 12, 1, Err(10)), // more than there is
-    (13, 13, 3, Err(20)), // a byte is left over
-    (14, 16, 1, Err(14)), // a block has one entry
-    (17, 17, 0, Err(14)),
-    (18, 18, 2, Err(18)), // the shards come first
-    (19, 19, 17, Err(19)), // at most 16
-    (20, 20, 1, Err(21)), // open, and no block behind it
-];
-
-#[test]
-fn each_byte_of_a_new_store(rt: HostRuntime) {
-    for i in 0..11 {
-        let (first, last, byte, answer) = ALTERED_STORE[i];
-        for place in first..=last {
-            let mut bytes = STORE;
-            assert!(rt;
-                count_altered(rt.alloc(), &mut bytes, place, byte) == answer,
-                "{place}"
-            );
-        }
-    }
-}

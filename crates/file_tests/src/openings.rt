@@ -7,10 +7,25 @@ use std::alloc::Global;
 
 const SIZE: u64 = 4_096;
 
-// The greatest number of a segment that the store of a folder names once it is opened.
-fn last_segment(alloc: Global, folder: &mut MemFolder) -> Result<u64, OpenFault> {
-    let opened = open(alloc, folder, 2, SIZE)?;
-    Ok(opened.said.last_segment())
+// The greatest number of a segment that the store of a folder names once it is opened, or where it is refused: the
+// segment, 0 for the manifest, and the place; 99 and 99 for any other fault.
+fn last_segment(alloc: Global, folder: &mut MemFolder) -> Result<u64, (u64, u64)> {
+    match open(alloc, folder, 2, SIZE) {
+        Ok(opened) => Ok(opened.said.last_segment()),
+        Err(
+            OpenFault::Bad {
+                name: Name::Manifest,
+                at,
+            },
+        ) => Err((0, at)),
+        Err(
+            OpenFault::Bad {
+                name: Name::Log(number),
+                at,
+            },
+        ) => Err((number, at)),
+        Err(_) => Err((99, 99)),
+    }
 }
 
 // Whether a file is made where none was.
@@ -45,57 +60,46 @@ fn is_opened(alloc: Global, folder: &MemFolder, choice: Choice) -> bool {
         && left.has(Name::Import(3))
 }
 
-#[test]
-fn what_is_not_listed_is_removed(rt: HostRuntime) {
-    let folder = littered(rt.alloc());
-    assert!(rt; folder.is_some_and(|folder| is_opened(rt.alloc(), &folder, Choice::New)));
+// Whether an opening that is stopped after so many calls is answered so, and each image of it is opened.
+fn is_stopped(alloc: Global, calls: u64) -> bool {
+    let Some(mut folder) = littered(alloc) else {
+        return false;
+    };
+    folder.stop_after(folder.calls().saturating_add(calls));
+    let answer = last_segment(alloc, &mut folder);
+    for choice in CHOICES {
+        if !is_opened(alloc, &folder, choice) {
+            return false;
+        }
+    }
+    answer == Err((99, 99)) || answer == Ok(2)
 }
 
 #[test]
 fn every_stop_of_an_opening(rt: HostRuntime) {
     for calls in 0..=20 {
-        let made = littered(rt.alloc());
-        assert!(rt; made.is_some());
-        if let Some(mut folder) = made {
-            let before = folder.calls();
-            folder.stop_after(before.saturating_add(calls));
-            let answer = last_segment(rt.alloc(), &mut folder);
-            assert!(rt;
-                answer == Err(OpenFault::Failed) || answer == Ok(2),
-                "after {calls} calls"
-            );
-            for choice in CHOICES {
-                assert!(rt;
-                    is_opened(rt.alloc(), &folder, choice),
-                    "after {calls} calls"
-                );
-            }
-        }
+        assert!(rt; is_stopped(rt.alloc(), calls), "after {calls} calls");
     }
 }
 
-// A folder of a log file alone, and one whose manifest lists a segment that isn't there.
+// Whether a folder of a log file alone is refused, and stays as it is.
+fn is_lost_refused(alloc: Global) -> bool {
+    let mut lost = MemFolder::new(alloc, FaultPlan::none(alloc));
+    make(&mut lost, Name::Log(1))
+        && last_segment(alloc, &mut lost) == Err((0, 0))
+        && lost.has(Name::Log(1))
+}
+
+// Whether a store is refused of which the one segment that it lists is empty.
+fn is_cut_refused(alloc: Global) -> bool {
+    let mut cut = MemFolder::new(alloc, FaultPlan::none(alloc));
+    last_segment(alloc, &mut cut) == Ok(1)
+        && cut.remove(Name::Log(1)).is_ok()
+        && make(&mut cut, Name::Log(1))
+        && last_segment(alloc, &mut cut) == Err((1, 0))
+}
+
 #[test]
 fn what_is_no_store_is_refused(rt: HostRuntime) {
-    let mut lost = MemFolder::new(rt.alloc(), FaultPlan::none(rt.alloc()));
-    assert!(rt; make(&mut lost, Name::Log(1)));
-    assert_eq!(rt;
-        last_segment(rt.alloc(), &mut lost),
-        Err(OpenFault::Bad {
-            name: Name::Manifest,
-            at: 0
-        })
-    );
-    assert!(rt; lost.has(Name::Log(1)));
-    let mut cut = MemFolder::new(rt.alloc(), FaultPlan::none(rt.alloc()));
-    assert_eq!(rt; last_segment(rt.alloc(), &mut cut), Ok(1));
-    assert!(rt; cut.remove(Name::Log(1)).is_ok());
-    assert!(rt; make(&mut cut, Name::Log(1)));
-    assert_eq!(rt;
-        last_segment(rt.alloc(), &mut cut),
-        Err(OpenFault::Bad {
-            name: Name::Log(1),
-            at: 0
-        })
-    );
+    assert!(rt; is_lost_refused(rt.alloc()) && is_cut_refused(rt.alloc()));
 }

@@ -4,7 +4,6 @@
 ghost use Rattle.std.specs.Prelude.{IfOk};
 ghost use Rattle.cas_log.specs.Logs.{IsOfATable};
 
-use crate::host::{folder_at, is_written, opened};
 use crate::insert::{RECORD, tables};
 use cas_atoms::Mutation;
 use cas_codec::{ReadFault, Reader};
@@ -13,7 +12,6 @@ use cas_log::{Log, LogFault};
 use cas_mutations::{read_record, records_are_exact};
 use cas_replay::{ReplayFault, replay};
 use std::alloc::Global;
-use std::fs;
 use std::test::Fail;
 
 // What stands before the record: the segment's header, the open gate and the block's lengths.
@@ -75,40 +73,9 @@ fn count_altered(alloc: Global, long: usize, place: usize, byte: u8) -> Result<u
     count(alloc, &mut folder, &[1], 0)
 }
 
-// How long the segment is cut, another byte at a place, and what is read of it.
-const ALTERED: [(usize, usize, u8, Result<usize, (u64, u64)>); 17] = [
-    (4, 0, 0x43, Err((1, 0))), // cut within its first word
-    (24, 0, 0x43, Err((1, 24))), // cut behind its header
-    (119, 0, 0x43, Ok(1)), // whole
-    (119, 0, 0x44, Err((1, 0))), // another word
-    (119, 15, 2, Err((1, 8))), // another number
-    (119, 22, 0x0f, Err((1, 16))), // below 4,096
-    (119, 24, 0, Ok(0)), // the gate is closed
-    (119, 27, 0x10, Err((1, 25))), // past the segment's size
-    (119, 28, 87, Err((1, 25))), // more than there is
-    (119, 28, 86, Err((1, 118))), // a byte is left over
-    (119, 28, 84, Err((1, 33))), // the record runs past the body
-    (119, 32, 2, Err((1, 118))), // a record too many
-    (119, 32, 0, Err((1, 33))), // and one too few
-    (119, 38, 1, Err((1, 37))), // no such table
-    (119, 39, 1, Err((1, 39))), // no such shard
-    (119, 118, 1, Err((1, 119))), // open, and no block behind it
-    (119, 118, 7, Ok(1)), // any other byte counts as closed
-];
-
-#[test]
-fn altered_bytes_of_a_segment(rt: HostRuntime) {
-    for i in 0..17 {
-        let (long, place, byte, answer) = ALTERED[i];
-        assert!(rt;
-            count_altered(rt.alloc(), long, place, byte) == answer,
-            "{place}"
-        );
-    }
-}
-
 // Another byte at each place from one to another: how many mutations are read of the whole segment, or where it is refused.
-const EACH: [(usize, usize, u8, Result<usize, u64>); 55] = [
+const EACH: [(usize, usize, u8, Result<usize, u64>); 58] = [
+    (0, 0, 0x43, Ok(1)), // as it is
     (0, 7, 0, Err(0)), // another word
     (8, 14, 1, Err(8)), // another number
     (15, 15, 2, Err(8)),
@@ -119,7 +86,9 @@ const EACH: [(usize, usize, u8, Result<usize, u64>); 55] = [
     (23, 23, 1, Ok(1)),
     (24, 24, 2, Ok(0)), // the gate is closed
     (25, 27, 1, Err(25)), // more than there is
+    (28, 28, 87, Err(25)), // more than there is
     (28, 28, 86, Err(118)), // a byte is left over
+    (28, 28, 84, Err(33)), // the record runs past the body
     (29, 31, 1, Err(118)), // records too many
     (32, 32, 0, Err(33)), // and one too few
     (33, 35, 1, Err(33)), // the record runs past the body
@@ -188,7 +157,7 @@ fn are_answered(
 
 #[test]
 fn each_byte_of_a_segment(rt: HostRuntime) {
-    for i in 0..55 {
+    for i in 0..58 {
         let (first, last, byte, answer) = EACH[i];
         assert!(rt;
             are_answered(rt.alloc(), first, last, byte, answer),
@@ -237,6 +206,8 @@ fn a_log_of_20_segments(rt: HostRuntime) {
         Err((21, 0)),
     ];
     assert!(rt; counts(rt.alloc(), &mut folder) == expected);
+    assert!(rt; count_altered(rt.alloc(), 4, 0, 0x43) == Err((1, 0))); // cut within its first word
+    assert!(rt; count_altered(rt.alloc(), 24, 0, 0x43) == Err((1, 24))); // cut behind its header
 }
 
 fn mutation(alloc: Global) -> Result<Mutation, ReadFault>
@@ -320,35 +291,4 @@ fn each_stop_of_a_commit(rt: HostRuntime) -> Result<(), Fail> {
         assert!(rt; found == (acknowledged, read), "{calls}");
     }
     Ok(())
-}
-
-// Whether the mutation is committed to a segment of a real folder.
-fn is_committed(rt: &HostRuntime, mutation: &Mutation) -> bool
-    requires { IsOfATable mutation.now }
-{
-    let Some(mut folder) = folder_at(rt, "c_folder") else {
-        return false;
-    };
-    match Log::begin(rt.alloc(), &mut folder, &mut None, 1, 4096) {
-        Ok(mut log) => commit(&mut folder, &mut log, mutation).is_ok(),
-        Err(_) => false,
-    }
-}
-
-fn count_opened(rt: &HostRuntime, segment: u64) -> Result<usize, (u64, u64)> {
-    match opened(rt, "c_folder") {
-        Some(mut folder) => count(rt.alloc(), &mut folder, &[segment], 0),
-        None => Err((0, 0)),
-    }
-}
-
-#[test]
-fn a_segment_of_a_real_folder(rt: HostRuntime) {
-    let Ok(mutation) = mutation(rt.alloc()) else {
-        panic!(rt; "no mutation");
-    };
-    assert!(rt; is_committed(&rt, &mutation));
-    assert!(rt; is_written(&rt, "c_folder/log-0000000000000001", &segment(1)));
-    assert!(rt; count_opened(&rt, 1) == Ok(1) && count_opened(&rt, 2) == Err((2, 0)));
-    assert!(rt; fs::remove_dir_all(&rt, "c_folder").is_ok());
 }
