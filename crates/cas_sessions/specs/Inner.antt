@@ -1,3 +1,4 @@
 pub mod Sound
 pub mod Definitions
 pub mod Faults
+pub mod Texts

@@ -9,6 +9,7 @@ mod opened;
 mod reading;
 mod seats;
 mod statements;
+mod texts;
 mod writing;
 
 pub use answer::{Answer, Fault, reply_of};

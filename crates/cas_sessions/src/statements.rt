@@ -7,20 +7,20 @@ ghost use Rattle.cas_bind.specs.Meaning.{meaning};
 ghost use Rattle.cas_bind.specs.Tables.{IsWithin};
 ghost use Rattle.cas_shard.specs.Shards.{IsTime};
 ghost use Rattle.cas_words.specs.declared.words.ClockKind.TheVariants as clocks;
-ghost use Rattle.cas_sessions.specs.Calls.{IfTaken, IsSpelled, IsTrueOf, Performs, StandsAt, reply_of, takes};
+ghost use Rattle.cas_sessions.specs.Calls.{IsSpelled, IsTrueOf, Performs, StandsAt, reply_of};
 ghost use Rattle.cas_sessions.specs.History.{Does, IsReading, clamped};
 ghost use Rattle.cas_sessions.specs.Nodes.{CountsOn, IsFew, KeepsAll, Moves, OrWant};
 ghost use Rattle.cas_sessions.specs.Inner.Definitions.{IsTold};
 
 use crate::answer::{Answer, Fault};
 use crate::node::{Node, Session, Stored};
+use crate::texts::statement_of;
 use cas_bind::{Bound, bind};
 use cas_disk::Folder;
-use cas_effects::{BindFault, NOT_HERE, SYNTAX};
-use cas_io::{Clock, ManualClock};
+use cas_effects::BindFault;
 use cas_history::Store;
-use cas_lines::{Line, read_line};
-use cas_types::{LAST_MICROSECOND, Mem};
+use cas_io::{Clock, ManualClock};
+use cas_types::LAST_MICROSECOND;
 use cas_words::ClockKind;
 use cql_parse::Statement;
 use std::alloc::Global;
@@ -48,16 +48,6 @@ fn reading<C: Clock>(ask: &Ask<'_, C>, seconds: i64) -> i64
     match ask.kind {
         ClockKind::Manual => seconds * 1_000_000,
         ClockKind::System => clamped(ask.clock.read()),
-    }
-}
-
-// Whether a call takes a statement, which takes definitions, or all others.
-fn is_taken(statement: &Statement, defines: bool) -> bool
-    ensures { result ≡ takes defines statement.now }
-{
-    match statement {
-        Statement::Create(_) | Statement::Alter(_) => defines,
-        _ => !defines,
     }
 }
 
@@ -139,42 +129,6 @@ impl<F: Folder, J: Store> Node<F, J> {
         }
     }
 
-    // Performs a statement of one kind: definitions, or all others.
-    fn answer_kind<C: Clock>(
-        &mut self,
-        alloc: Global,
-        session: &mut Session<J>,
-        clock: &C,
-        statement: &Statement,
-        defines: bool,
-    ) -> Result<Answer, Fault>
-        requires few { IsFew (⟦<Node<F, J> as Stored>⟧.state self.old session.old.seat.list session.old.seat.calls (pos 0)) }
-        requires spelled { IsSpelled statement.now }
-        ensures performs { (at : ℤ) → Moves (λ h after. OrWant (reply_of result) (λ h after. IfTaken (takes defines statement.now) (reply_of result) h after
-            (Does clocks.System (C.may_give clock.now) h (meaning self.old.limits.shards self.old.tables.items statement.now) (reply_of result) after)) h after)
-            (⟦<Node<F, J> as Stored>⟧.state self.old session.old.seat.list session.old.seat.calls at)
-            (⟦<Node<F, J> as Stored>⟧.state self.new session.new.seat.list session.new.seat.calls at)
-            (⟦<Node<F, J> as Stored>⟧.disk self.old) (⟦<Node<F, J> as Stored>⟧.disk self.new) }
-        ensures crash { (at : ℤ) → KeepsAll (⟦<Node<F, J> as Stored>⟧.state self.old session.old.seat.list session.old.seat.calls at)
-            (⟦<Node<F, J> as Stored>⟧.state self.new session.new.seat.list session.new.seat.calls at)
-            (⟦<Node<F, J> as Stored>⟧.disk self.old) (⟦<Node<F, J> as Stored>⟧.disk self.new) }
-        ensures told { IsTrueOf result (⟦<Node<F, J> as Stored>⟧.state self.old session.old.seat.list session.old.seat.calls (pos 0))
-            (⟦<Node<F, J> as Stored>⟧.state self.new session.new.seat.list session.new.seat.calls (pos 0)) }
-        ensures counts { CountsOn (⟦<Node<F, J> as Stored>⟧.state self.old session.old.seat.list session.old.seat.calls (pos 0))
-            (⟦<Node<F, J> as Stored>⟧.state self.new session.new.seat.list session.new.seat.calls (pos 0)) }
-        ensures limits { self.new.limits ≡ self.old.limits }
-        ensures sessions { ⟦<Node<F, J> as Stored>⟧.sessions self.new ≡ ⟦<Node<F, J> as Stored>⟧.sessions self.old }
-    {
-        if !is_taken(statement, defines) {
-            return Err(Fault::Refused(NOT_HERE));
-        }
-        let ask = Ask {
-            kind: ClockKind::System,
-            clock,
-        };
-        self.answer(alloc, session, &ask, 0, statement)
-    }
-
     // Performs a text, where it is a statement of that kind.
     fn answer_text<C: Clock>(
         &mut self,
@@ -199,12 +153,15 @@ impl<F: Folder, J: Store> Node<F, J> {
         ensures limits { self.new.limits ≡ self.old.limits }
         ensures sessions { ⟦<Node<F, J> as Stored>⟧.sessions self.new ≡ ⟦<Node<F, J> as Stored>⟧.sessions self.old }
     {
-        match read_line(alloc, text.as_bytes()) {
-            Ok(Line::Statement(statement)) => {
-                self.answer_kind(alloc, session, clock, &statement, defines)
+        match statement_of(alloc, text, defines) {
+            Ok(statement) => {
+                let ask = Ask {
+                    kind: ClockKind::System,
+                    clock,
+                };
+                self.answer(alloc, session, &ask, 0, &statement)
             }
-            Ok(Line::Blank | Line::Syntax | Line::Clock(_)) => Err(Fault::Refused(SYNTAX)),
-            Err(Mem) => Err(Fault::Mem),
+            Err(fault) => Err(fault),
         }
     }
 

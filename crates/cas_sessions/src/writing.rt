@@ -15,8 +15,8 @@ use crate::node::{Node, Session, Stored};
 use cas_atoms::Mutation;
 use cas_disk::Folder;
 use cas_effects::{BoundWrite, TOO_LARGE, TOO_MANY};
-use cas_journal::JournalFault;
 use cas_history::Store;
+use cas_journal::JournalFault;
 use cas_shard::TakeFault;
 use std::alloc::Global;
 

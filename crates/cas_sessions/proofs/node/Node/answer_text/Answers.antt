@@ -1,13 +1,24 @@
-use Rattle.std.proofs.Common.{subst}
-use Rattle.cas_lines.specs.Lines.{Says}
-use Rattle.cas_sessions.proofs.Answering.{says_spelled}
-use Rattle.cas_sessions.proofs.Performing.{performs_statement}
+use Rattle.std.proofs.Common.{arith}
+use Rattle.cas_sessions.proofs.Crashing.{amid_nothing}
+use Rattle.cas_sessions.proofs.Performing.{found_spelled, performs_nothing, performs_statement, tells_nothing}
 use Rattle.cas_sessions.proofs.node.Node.answer_text.Goals as goal
 
-pub answer_kind-requires-clause-spelled : goal.answer_kind-requires-clause-spelled
-answer_kind-requires-clause-spelled g c = says_spelled c.as_bytes.result.now c.in-Ok-Statement.field-0 c.in-Ok-Statement.statement c.in-Ok-Statement.ensures c.in-Ok-Statement.field-0-is
+pub answer-requires-clause-spelled : goal.answer-requires-clause-spelled
+answer-requires-clause-spelled g c = found_spelled c.args.defines c.args.text.now c.in-Ok.statement c.in-Ok.ensures
 
-pub returns-in-Ok-Statement-clause-performs : goal.returns-in-Ok-Statement-clause-performs
-returns-in-Ok-Statement-clause-performs g c = λ at.
-    performs_statement c.args.defines (g.C.Clock.may_give c.args.clock.now) c.args.text.now c.in-Ok-Statement.field-0 c.in-Ok-Statement.statement _ _ _ _ _
-    (c.answer_kind.ensures.performs at) (subst (λ t. Says t c.in-Ok-Statement.field-0) c.as_bytes.ensures.value c.in-Ok-Statement.ensures) c.in-Ok-Statement.field-0-is
+pub returns-in-Ok-clause-performs : goal.returns-in-Ok-clause-performs
+returns-in-Ok-clause-performs g c = λ at.
+    performs_statement c.args.defines (g.C.Clock.may_give c.args.clock.now) c.args.text.now c.in-Ok.statement _ _ _ _ _ (c.answer.ensures.does at tt) c.in-Ok.ensures
+
+pub returns-in-Err-clause-performs : goal.returns-in-Err-clause-performs
+returns-in-Err-clause-performs g c = λ at.
+    performs_nothing c.args.defines (g.C.Clock.may_give c.args.clock.now) c.args.text.now c.in-Err.fault _ _ c.in-Err.ensures
+
+pub returns-in-Err-clause-crash : goal.returns-in-Err-clause-crash
+returns-in-Err-clause-crash g c = λ at h found told stands lasts. amid_nothing h found _ _ told stands lasts _
+
+pub returns-in-Err-clause-told : goal.returns-in-Err-clause-told
+returns-in-Err-clause-told g c = tells_nothing c.args.defines c.args.text.now c.in-Err.fault _ c.in-Err.ensures
+
+pub returns-in-Err-clause-counts : goal.returns-in-Err-clause-counts
+returns-in-Err-clause-counts g c = (omega arith, omega arith)

@@ -1,5 +1,5 @@
-use Rattle.std.proofs.Common.{◌≡◌, ◌∙◌, ℤ, arith, rules, of_z, to_z, w64, sym, ap, subst}
-use Rattle.std.proofs.lemmas.Int.{ints}
+use Rattle.std.proofs.Common.{◌≡◌, ◌∙◌, ℤ, rules, of_z, to_z, w64, sym, ap, subst}
+use Rattle.std.proofs.lemmas.Int.{to_z-of_z}
 use Rattle.std.proofs.lemmas.Option.{slice_get_read}
 use Rattle.cas_shard.specs.Shards.{look_at, raised}
 use Rattle.cas_shard.specs.Stands.{Stands}
@@ -11,7 +11,7 @@ pub returns-in-Ok-clause-shows : goal.returns-in-Ok-clause-shows
 returns-in-Ok-clause-shows g c = λ session calls clock.
     let n = c.args.self.now in
     let x = c.index_mut.result.now in
-    let at : to_z w64 (of_z w64 c.args.reading) ≡ c.args.reading = omega (arith, ints) in
+    let at = to_z-of_z w64 c.args.reading c.ranges.reading in
     let now : to_z w64 (of_z w64 c.in-Ok.look.now) ≡ c.in-Ok.look.now = search rules in
     moves_look _ _ c.args.read x c.look.new.self c.args.reading _
     (slice_get_read n.shards.items n.limits.shards c.args.read.shard x (sym c.args.self.now.sound.count) c.requires.within.0 c.index_mut.ensures.value) c.look.ensures.number
@@ -24,7 +24,7 @@ pub returns-in-Err-clause-shows : goal.returns-in-Err-clause-shows
 returns-in-Err-clause-shows g c = λ session calls clock.
     let n = c.args.self.now in
     let x = c.index_mut.result.now in
-    let at : to_z w64 (of_z w64 c.args.reading) ≡ c.args.reading = omega (arith, ints) in
+    let at = to_z-of_z w64 c.args.reading c.ranges.reading in
     moves_look _ _ c.args.read x c.look.new.self c.args.reading _
     (slice_get_read n.shards.items n.limits.shards c.args.read.shard x (sym c.args.self.now.sound.count) c.requires.within.0 c.index_mut.ensures.value) c.look.ensures.number
     (λ ts z stands. subst (λ (k : ℤ). Stands ts (raised k z) c.look.new.self) at (c.look.ensures.stands ts z stands))

@@ -1,7 +1,7 @@
 use Rattle.std.proofs.Common.{◌≡◌, ◌+◌, Some}
-use Rattle.std.proofs.Common.{w64, ℤ, to_z, of_z}
+use Rattle.std.proofs.Common.{w64, ℤ}
 use Rattle.std.proofs.Common.{ℕ, pos, map, Err, ap, sym, subst, ◌∙◌, refl, arith}
-use Rattle.std.proofs.lemmas.Int.{ints}
+use Rattle.std.proofs.lemmas.Int.{to_z-of_z}
 use Rattle.cas_shard.specs.Shards.{prepare_answer, raised}
 use Rattle.cas_shard.specs.Stands.{Stands}
 use Rattle.std.specs.Prelude.{slice_get}
@@ -21,21 +21,21 @@ use Rattle.cas_sessions.proofs.node.Node.write.Goals as goal
 -- src/writing.rt:56:49
 pub returns-in-Err-Refused-clause-writes : goal.returns-in-Err-Refused-clause-writes
 returns-in-Err-Refused-clause-writes g c = λ clock.
-    let at : to_z w64 (of_z w64 c.args.reading) ≡ c.args.reading = omega (arith, ints) in
+    let at = to_z-of_z w64 c.args.reading c.ranges.reading in
     refused_at_once _ c.args.write c.args.reading _ c.prepare.new.self c.prepare.result
     (record { sound = c.args.self.now.sound; within = c.requires.within.0; fits = c.requires.fits; seat = c.index_mut.ensures.value; answered = λ ts q stands quiet. c.prepare.ensures.answered ts q stands quiet ∙ ap (λ (k : ℤ). prepare_answer c.args.self.now.limits.segment k q c.args.write) at; stands = λ ts n q stands suits. subst (λ (k : ℤ). Stands ts (raised k q) c.prepare.new.self) at (c.prepare.ensures.stands ts n q stands suits); number = c.prepare.ensures.number })
     _ _ _ c.in-Err-Refused.refused-is (c.in-Err-Refused.is ∙ ap Err c.in-Err-Refused.field-0-is)
 
 pub returns-in-Err-Mem-clause-writes : goal.returns-in-Err-Mem-clause-writes
 returns-in-Err-Mem-clause-writes g c = λ clock.
-    let at : to_z w64 (of_z w64 c.args.reading) ≡ c.args.reading = omega (arith, ints) in
+    let at = to_z-of_z w64 c.args.reading c.ranges.reading in
     starved_at_once _ c.args.write c.args.reading _ c.prepare.new.self c.prepare.result
     (record { sound = c.args.self.now.sound; within = c.requires.within.0; fits = c.requires.fits; seat = c.index_mut.ensures.value; answered = λ ts q stands quiet. c.prepare.ensures.answered ts q stands quiet ∙ ap (λ (k : ℤ). prepare_answer c.args.self.now.limits.segment k q c.args.write) at; stands = λ ts n q stands suits. subst (λ (k : ℤ). Stands ts (raised k q) c.prepare.new.self) at (c.prepare.ensures.stands ts n q stands suits); number = c.prepare.ensures.number }) _
 
 -- src/writing.rt:60:28
 pub accept-requires-clause-of : goal.accept-requires-clause-of
 accept-requires-clause-of g c =
-    let at : to_z w64 (of_z w64 c.args.reading) ≡ c.args.reading = omega (arith, ints) in
+    let at = to_z-of_z w64 c.args.reading c.ranges.reading in
     of_a_table
     (record {
       limits = c.args.self.now.limits;
@@ -80,7 +80,7 @@ accept-requires-clause-few g c =
 -- src/writing.rt:62:27
 pub returns-in-Err-clause-writes : goal.returns-in-Err-clause-writes
 returns-in-Err-clause-writes g c = λ clock.
-    let at : to_z w64 (of_z w64 c.args.reading) ≡ c.args.reading = omega (arith, ints) in
+    let at = to_z-of_z w64 c.args.reading c.ranges.reading in
     not_taken _ c.args.write c.args.reading c.index_mut.result.now c.prepare.new.self c.prepare.result
     (record { sound = c.args.self.now.sound; within = c.requires.within.0; fits = c.requires.fits; seat = c.index_mut.ensures.value; answered = λ ts q stands quiet. c.prepare.ensures.answered ts q stands quiet ∙ ap (λ (k : ℤ). prepare_answer c.args.self.now.limits.segment k q c.args.write) at; stands = λ ts n q stands suits. subst (λ (k : ℤ). Stands ts (raised k q) c.prepare.new.self) at (c.prepare.ensures.stands ts n q stands suits); number = c.prepare.ensures.number })
     c.in-Ok.mutation c.in-Ok.is c.in-Ok.ensures.prepared c.in-Ok.ensures.ready
@@ -105,7 +105,7 @@ returns-in-Err-clause-writes g c = λ clock.
 -- src/writing.rt:39:5
 pub returns-in-Ok-commit-clause-writes : goal.returns-in-Ok-commit-clause-writes
 returns-in-Ok-commit-clause-writes g c = λ clock.
-    let at : to_z w64 (of_z w64 c.args.reading) ≡ c.args.reading = omega (arith, ints) in
+    let at = to_z-of_z w64 c.args.reading c.ranges.reading in
     taken_and_committed _ c.args.write c.args.reading c.index_mut.result.now c.prepare.new.self c.prepare.result
     (record { sound = c.args.self.now.sound; within = c.requires.within.0; fits = c.requires.fits; seat = c.index_mut.ensures.value; answered = λ ts q stands quiet. c.prepare.ensures.answered ts q stands quiet ∙ ap (λ (k : ℤ). prepare_answer c.args.self.now.limits.segment k q c.args.write) at; stands = λ ts n q stands suits. subst (λ (k : ℤ). Stands ts (raised k q) c.prepare.new.self) at (c.prepare.ensures.stands ts n q stands suits); number = c.prepare.ensures.number })
     c.in-Ok.mutation c.in-Ok.is c.in-Ok.ensures.prepared c.in-Ok.ensures.ready
@@ -136,7 +136,7 @@ returns-in-Ok-commit-clause-writes g c = λ clock.
 -- src/writing.rt:39:5
 pub returns-in-Err-commit-clause-writes : goal.returns-in-Err-commit-clause-writes
 returns-in-Err-commit-clause-writes g c = λ clock.
-    let at : to_z w64 (of_z w64 c.args.reading) ≡ c.args.reading = omega (arith, ints) in
+    let at = to_z-of_z w64 c.args.reading c.ranges.reading in
     taken_and_failed _ c.args.write c.args.reading c.index_mut.result.now c.prepare.new.self c.prepare.result
     (record { sound = c.args.self.now.sound; within = c.requires.within.0; fits = c.requires.fits; seat = c.index_mut.ensures.value; answered = λ ts q stands quiet. c.prepare.ensures.answered ts q stands quiet ∙ ap (λ (k : ℤ). prepare_answer c.args.self.now.limits.segment k q c.args.write) at; stands = λ ts n q stands suits. subst (λ (k : ℤ). Stands ts (raised k q) c.prepare.new.self) at (c.prepare.ensures.stands ts n q stands suits); number = c.prepare.ensures.number })
     c.in-Ok.mutation c.in-Ok.is c.in-Ok.ensures.prepared c.in-Ok.ensures.ready
@@ -185,7 +185,7 @@ returns-in-Err-clause-crash g c = λ clock h found told stands lasts.
 
 pub returns-in-Ok-commit-clause-crash : goal.returns-in-Ok-commit-clause-crash
 returns-in-Ok-commit-clause-crash g c = λ clock h found told stands lasts.
-    let at : to_z w64 (of_z w64 c.args.reading) ≡ c.args.reading = omega (arith, ints) in
+    let at = to_z-of_z w64 c.args.reading c.ranges.reading in
     let got = c.in-Ok-accept.ensures.kept found told lasts.keeps
     (may_take _ c.args.write c.args.reading c.index_mut.result.now c.prepare.new.self c.prepare.result
     (record { sound = c.args.self.now.sound; within = c.requires.within.0; fits = c.requires.fits; seat = c.index_mut.ensures.value; answered = λ ts q stands quiet. c.prepare.ensures.answered ts q stands quiet ∙ ap (λ (k : ℤ). prepare_answer c.args.self.now.limits.segment k q c.args.write) at; stands = λ ts n q stands suits. subst (λ (k : ℤ). Stands ts (raised k q) c.prepare.new.self) at (c.prepare.ensures.stands ts n q stands suits); number = c.prepare.ensures.number })
@@ -196,7 +196,7 @@ returns-in-Ok-commit-clause-crash g c = λ clock h found told stands lasts.
 
 pub returns-in-Err-commit-clause-crash : goal.returns-in-Err-commit-clause-crash
 returns-in-Err-commit-clause-crash g c = λ clock h found told stands lasts.
-    let at : to_z w64 (of_z w64 c.args.reading) ≡ c.args.reading = omega (arith, ints) in
+    let at = to_z-of_z w64 c.args.reading c.ranges.reading in
     let got = c.in-Ok-accept.ensures.kept found told lasts.keeps
     (may_take _ c.args.write c.args.reading c.index_mut.result.now c.prepare.new.self c.prepare.result
     (record { sound = c.args.self.now.sound; within = c.requires.within.0; fits = c.requires.fits; seat = c.index_mut.ensures.value; answered = λ ts q stands quiet. c.prepare.ensures.answered ts q stands quiet ∙ ap (λ (k : ℤ). prepare_answer c.args.self.now.limits.segment k q c.args.write) at; stands = λ ts n q stands suits. subst (λ (k : ℤ). Stands ts (raised k q) c.prepare.new.self) at (c.prepare.ensures.stands ts n q stands suits); number = c.prepare.ensures.number })
