@@ -1,3 +1,4 @@
+pub mod Ranges
 pub mod Bodies
 pub mod Steps
 pub mod Pieces

@@ -1,13 +1,35 @@
 //! Reads a range of a sealed file.
 
-ghost use Rattle.std.specs.Prelude.{◌≡◌, ◌+◌, ◌≤◌, ◌<◌, ◌^◌, ℕ, List, Some, take, drop, vec_len, IfOk, IsErrOf};
+ghost use Rattle.std.specs.Prelude.{◌≡◌, ◌+◌, ◌≤◌, ◌<◌, ◌^◌, ℕ, List, Some, take, drop, length, vec_len, IfOk, IsErr, IsErrOf};
 ghost use Rattle.cas_disk.specs.Counts.{Counted};
+ghost use Rattle.cas_blocks.specs.Inner.Ranges.{IsFilled};
 
 use cas_disk::{FolderFault, Sealed};
+use cas_io::Failed;
 use std::alloc::Global;
 
-/// So many bytes are read at once.
-const PIECE: usize = 4_096;
+// Fills bytes from a place of the file on, and says how many the file had.
+fn fill<F: Sealed>(
+    file: &F,
+    at: u64,
+    bytes: &mut [u8],
+    tally: &mut F::Tally,
+) -> Result<usize, Failed>
+    requires { at + length bytes.old < 2 ^ 63 }
+    ensures bound { IfOk result (λ count. count ≤ length bytes.old) }
+    ensures filled { IfOk result (λ count. (b : List ℕ) → F.contents file.now ≡ Some b → IsFilled b at (length bytes.old) count bytes.new) }
+    ensures count { Counted (F.Tally.number tally.old) (F.Tally.number tally.new) (IsErr result) }
+{
+    let mut filled = 0;
+    while filled < bytes.len() {
+        let given = file.read_at(at + filled as u64, &mut bytes[filled..], tally)?;
+        if given == 0 {
+            return Ok(filled);
+        }
+        filled += given;
+    }
+    Ok(filled)
+}
 
 /// The next bytes from a place on, so many, or fewer where the file ends before.
 pub(crate) fn read_range<F: Sealed>(
@@ -22,18 +44,11 @@ pub(crate) fn read_range<F: Sealed>(
     ensures bound { IfOk result (λ v. vec_len v ≤ count) }
     ensures count { Counted (F.Tally.number tally.old) (F.Tally.number tally.new) (IsErrOf result FolderFault.Failed) }
 {
-    let mut bytes = Vec::with_capacity(alloc, count)?;
-    let mut piece = [0u8; PIECE];
-    while bytes.len() < count {
-        let want = PIECE.min(count - bytes.len());
-        let given = match file.read_at(at + bytes.len() as u64, &mut piece[..want], tally) {
-            Ok(given) => given,
-            Err(fault) => return Err(FolderFault::from(fault)),
-        };
-        if given == 0 {
-            return Ok(bytes);
-        }
-        bytes.extend_from_slice(&piece[..given])?;
-    }
+    let mut bytes = vec![in alloc; 0; count]?;
+    let filled = match fill(file, at, &mut bytes, tally) {
+        Ok(filled) => filled,
+        Err(_) => return Err(FolderFault::Failed),
+    };
+    bytes.truncate(filled);
     Ok(bytes)
 }
