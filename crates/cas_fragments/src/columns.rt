@@ -1,13 +1,14 @@
 //! Columns of rows and of the static row, as bytes.
 
-ghost use Rattle.std.specs.Prelude.{◌≡◌, ◌&&◌, ◌||◌, not, nat_lt, nat_le, is_some, None, option_map};
+ghost use Rattle.std.specs.Prelude.{◌≡◌, None, option_map};
 ghost use Rattle.std.specs.Ordering.{nat_cmp};
 ghost use Rattle.cas_types.specs.Schemas.{is_plain, path_type};
-ghost use Rattle.cas_codec.specs.Reading.{Gives, checked, u16_at, u32_at, flag_at, maybe_at};
+ghost use Rattle.cas_codec.specs.Reading.{Gives, maybe_at};
 ghost use Rattle.cas_atoms.specs.RowsAndPaths.{path_cmp};
 ghost use Rattle.cas_records.specs.Reading.{deletion_at};
-ghost use Rattle.cas_fragments.specs.Reading.{is_above, chain_at, next_path_at, path_cell_at, is_count, cells_at};
+ghost use Rattle.cas_fragments.specs.Reading.{is_above, chain_at, next_path_at, path_cell_at, cells_at};
 ghost use Rattle.cas_fragments.specs.Reading.{none_at, emptied_at, next_column_at, row_column_at, columns_at};
+ghost use Rattle.cas_fragments.specs.Inner.Counts.{cell_count_at, column_count_at};
 ghost use Rattle.cas_fragments.specs.Inner.Lasts.{last_key};
 
 use cas_atoms::{ColumnRef, PathCell, RowColumn, compare_paths};
@@ -104,13 +105,13 @@ fn read_each_cell(
 }
 
 // How many cells the column has.
-#[tactic(auto, unfolding(cas_codec::specs::Reading::checked))]
+#[tactic(auto, unfolding(crate::specs::Inner::Counts::cell_count_at, cas_codec::specs::Reading::checked))]
 fn read_cell_count(
     reader: &mut Reader<'_>,
     column: &Column,
     deletion: Option<Deletion>,
 ) -> Result<u32, ReadFault>
-    ensures { Gives (λ n. n) result reader.new (checked (is_count column.now deletion) u32_at reader.old) }
+    ensures { Gives (λ n. n) result reader.new (cell_count_at column.now deletion reader.old) }
 {
     let at = reader.at();
     let count = reader.u32()?;
@@ -120,7 +121,7 @@ fn read_cell_count(
     Err(ReadFault::Bad { at })
 }
 
-#[tactic(auto, unfolding(crate::specs::Reading::cells_at))]
+#[tactic(auto, unfolding(crate::specs::Reading::cells_at, crate::specs::Inner::Counts::cell_count_at))]
 fn read_cells(
     alloc: Global,
     reader: &mut Reader<'_>,
@@ -158,12 +159,22 @@ fn read_emptied(reader: &mut Reader<'_>, column: &Column) -> Result<Option<Delet
     }
 }
 
+// The number of the last of these columns.
+fn last_number(columns: &[RowColumn]) -> Option<u16>
+    ensures { result ≡ last_key (λ c. c.column.number) columns.now }
+{
+    match columns.last() {
+        Some(column) => Some(column.column.number),
+        None => None,
+    }
+}
+
 // Whether a column's number is above those of these columns.
 fn is_next_number(columns: &[RowColumn], number: u16) -> bool
     ensures { result ≡ is_above nat_cmp (last_key (λ c. c.column.number) columns.now) number }
 {
-    match columns.last() {
-        Some(before) => before.column.number < number,
+    match last_number(columns) {
+        Some(before) => before < number,
         None => true,
     }
 }
@@ -228,7 +239,7 @@ fn read_each_column(
 }
 
 /// Reads columns of that kind, at least so many.
-#[tactic(auto, unfolding(crate::specs::Reading::columns_at))]
+#[tactic(auto, unfolding(crate::specs::Reading::columns_at, crate::specs::Inner::Counts::column_count_at))]
 pub(crate) fn read_at_least(
     alloc: Global,
     reader: &mut Reader<'_>,
@@ -244,9 +255,9 @@ pub(crate) fn read_at_least(
 }
 
 // The number of columns, at least so many.
-#[tactic(auto, unfolding(cas_codec::specs::Reading::checked))]
+#[tactic(auto, unfolding(crate::specs::Inner::Counts::column_count_at, cas_codec::specs::Reading::checked))]
 fn read_column_count(reader: &mut Reader<'_>, least: u16) -> Result<u16, ReadFault>
-    ensures { Gives (λ n. n) result reader.new (checked (nat_le least) u16_at reader.old) }
+    ensures { Gives (λ n. n) result reader.new (column_count_at least reader.old) }
 {
     let at = reader.at();
     let count = reader.u16()?;
