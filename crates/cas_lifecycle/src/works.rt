@@ -6,7 +6,9 @@ ghost use Rattle.cas_history.specs.Items.{listed, first_diary, front_list};
 ghost use Rattle.cas_history.specs.Last.{runs, turn, decided};
 ghost use Rattle.cas_history.specs.declared.item.Item.TheVariants.{Began, Ended, Purged};
 
-use cas_history::{Fresh, Front, Item, Pass, Session, Store, Tells, accept_three, accept_two, look};
+use cas_history::{
+    Fresh, Front, Item, Pass, Session, Store, Tells, accept_three, accept_two, look,
+};
 use std::marker::PhantomData;
 
 /// A shard's seat for the flushes of one table, or for its compactions. It has the diary of who flushes or

@@ -9,8 +9,8 @@ ghost use Rattle.cas_sessions.specs.Nodes.{CountsOn, IsFew, Moves, State};
 
 use cas_disk::Folder;
 use cas_effects::{NOT_HERE, SYNTAX};
-use cas_io::Clock;
 use cas_history::Store;
+use cas_io::Clock;
 use cas_lines::{Line, read_line};
 use cas_render::{Failure, Reply};
 use cas_sessions::{Ask, Node, Session, Stored, reply_of};

@@ -24,7 +24,7 @@ ghost use Rattle.cas_room.specs.Keeping.{Keeps};
 ghost use Rattle.cas_room.specs.Changing.{added_by, Stand, MayBeTold, HoldsSettled, HoldsChange, StandsAmid, TellsLimit, Installs};
 
 use crate::event::{Changed, Event};
-use crate::room::{Room, say};
+use crate::room::{Room, note_files};
 use cas_changes::{Change, Entry};
 use cas_disk::{Draft, Folder, FolderFault, Name};
 use cas_history::{Files, Front, Session, Store};
@@ -69,13 +69,13 @@ impl<F: Folder, J: Store> Room<F, J> {
             Ok(sealed) => return Ok(sealed),
             Err(fault) => fault,
         };
-        say(
+        note_files(
             &self.folder,
             &self.journal,
             self.committed,
             &mut self.faults,
+            files,
         );
-        self.faults.tell_files(files);
         Err(fault)
     }
 

@@ -14,6 +14,7 @@ ghost use Rattle.cas_journal.specs.Reach.{reach_of, reach_after, GoesOn, HasNoPl
 ghost use Rattle.cas_journal.specs.Stores.{Told, Holds, HoldsWithRoom, MadeRoom, MayList, SameTables, failed_at};
 ghost use Rattle.cas_journal.specs.Journals.{Lasts, AreFree, MayTake};
 ghost use Rattle.cas_history.specs.Items.{listed, log_list, front_list, faults_list};
+ghost use Rattle.cas_history.specs.Last.{last_fault};
 ghost use Rattle.cas_history.specs.declared.item.Item.TheVariants.{Wrote};
 ghost use Rattle.cas_room.specs.Rooms.{accepted_in, first_number, Accepts, Knows, after_accept, after_commit, after_define};
 ghost use Rattle.cas_room.specs.Keeping.{Keeps, StandsFor};
@@ -23,7 +24,7 @@ use cas_atoms::Mutation;
 use cas_changes::Entry;
 use cas_disk::Folder;
 use cas_gates::First;
-use cas_history::{Faults, Front, Log, Numbers, Session, Store, write};
+use cas_history::{Faults, Files, Front, Log, Numbers, Session, Store, write};
 use cas_journal::{Journal, JournalFault};
 use std::alloc::Global;
 
@@ -137,6 +138,27 @@ fn note<F: Folder, J: Store>(
 {
     say(folder, journal, committed, faults);
     faults.tell(session);
+}
+
+// The room says what it knows of its disk, with so many mutations committed, and a seat of files gets to know it.
+pub(crate) fn note_files<F: Folder, J: Store>(
+    folder: &F,
+    journal: &Journal,
+    committed: u64,
+    faults: &mut Faults<Event, J>,
+    files: &mut Files<Event, J>,
+)
+    requires rises { (faults.old.number ≤ F.faults_of folder.now) × (faults.old.committed ≤ committed)
+        × (faults.old.first ≢ 0 → first_number journal.now.first ≡ faults.old.first) }
+    ensures said { (faults.new.number ≡ F.faults_of folder.now) × (faults.new.committed ≡ committed)
+        × (faults.new.first ≡ first_number journal.now.first) }
+    ensures known { last_fault (listed faults_list files.new.pass.saw) ≡ F.faults_of folder.now }
+    ensures files { (files.new.list ≡ files.old.list)
+        × (listed files.old.list files.new.pass.saw ≡ listed files.old.list files.old.pass.saw)
+        × IsPrefix files.old.pass.saw files.new.pass.saw }
+{
+    say(folder, journal, committed, faults);
+    faults.tell_files(files);
 }
 
 // How many mutations are committed, once a commit ended so: all that were accepted, or as many as before.

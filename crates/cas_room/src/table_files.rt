@@ -15,7 +15,7 @@ ghost use Rattle.cas_room.specs.Tables.{Begins, Draws, IsFull};
 
 use crate::event::Event;
 use crate::fault::FreshFault;
-use crate::room::{Room, say};
+use crate::room::{Room, note_files};
 use cas_disk::{Draft, Folder, Name};
 use cas_history::{Files, Store};
 use cas_info::FILE_NUMBER_LIMIT;
@@ -67,13 +67,13 @@ impl<F: Folder, J: Store> Room<F, J> {
             Ok(draft) => return Ok((number, draft)),
             Err(fault) => fault,
         };
-        say(
+        note_files(
             &self.folder,
             &self.journal,
             self.committed,
             &mut self.faults,
+            files,
         );
-        self.faults.tell_files(files);
         Err(FreshFault::from(fault))
     }
 

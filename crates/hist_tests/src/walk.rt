@@ -6,7 +6,10 @@ ghost use Rattle.cas_history.specs.Last.{frontier_of, files_of};
 ghost use Rattle.cas_history.specs.Log.{Has};
 
 use crate::two::Value;
-use cas_history::{Faults, Files, Front, Item, Log, Moments, Numbers, Opened, Store, held_once, history_stands, session_stands, shard_stands, show, write};
+use cas_history::{
+    Faults, Files, Front, Item, Log, Moments, Numbers, Opened, Store, held_once, history_stands,
+    session_stands, shard_stands, show, write,
+};
 use cas_lifecycle::{
     Book, Change, Changes, Maker, RoomCopy, Standing, begin_alone, book_stands, files_apart,
     files_stand, frontiers_stand, held_is_unlisted, install, list_found, room_stands,

@@ -5,8 +5,8 @@ ghost use Rattle.std.specs.Prelude.{◌≡◌, ◌≤◌, pos};
 
 use cas_bind::Limits;
 use cas_disk::{FaultPlan, MemFolder};
-use cas_io::ManualClock;
 use cas_history::Store;
+use cas_io::ManualClock;
 use cas_sessions::{Answer, Fault, Node, Opened, Session, Stored, start};
 use std::alloc::Global;
 use std::marker::Brand;

@@ -133,6 +133,7 @@ pub(crate) fn load(alloc: Global, bytes: &[u8]) -> Result<Table<MemSealed>, u64>
 
 // The answer where a file is loaded, and where no bytes are so.
 const LOADED: u64 = 999;
+
 const FAILED: u64 = 1000;
 
 // Where the file is refused that has this byte at a place, is so long, and where it is longer has a zero behind it.
@@ -191,7 +192,10 @@ const ALTERED: [(usize, u8, usize, u64); 34] = [
 fn each_part_is_refused_where_it_is_wrong(rt: HostRuntime) {
     for i in 0..34 {
         let (place, byte, long, answer) = ALTERED[i];
-        assert!(rt; altered(rt.alloc(), place, byte, long) == answer, "{place} of {long}");
+        assert!(rt;
+            altered(rt.alloc(), place, byte, long) == answer,
+            "{place} of {long}"
+        );
     }
 }
 
@@ -204,11 +208,7 @@ fn found(table: &Table<MemSealed>, key: u8) -> (u64, u64, u8) {
         None => 0,
     };
     match table.find(&after) {
-        Some(partition) => (
-            table.place(partition),
-            table.place_behind(partition),
-            next,
-        ),
+        Some(partition) => (table.place(partition), table.place_behind(partition), next),
         None => (0, 0, next),
     }
 }

@@ -37,7 +37,7 @@ pub returns-clause-kept : goal.returns-clause-kept
 returns-clause-kept g c found t keeps =
     let disk = g.F.Folder.disk in
     subst (λ (n : ℕ). Keeps c.args.self.now.journal (disk c.admit.new.self) (listed log_list c.args.self.now.log.pass.saw) n found t)
-    (sym (c.tell_files.ensures.same.1 ∙ c.say.ensures.said.1 ∙ sym c.args.self.now.told.0))
+    (sym (c.note_files.ensures.said.1 ∙ sym c.args.self.now.told.0))
     (table_keeps _ MayBeAnything (disk c.args.self.now.folder) (disk c.admit.new.self) c.admit.ensures.during c.args.self.now.journal _ _ found t keeps)
 
 pub returns-clause-crash : goal.returns-clause-crash

@@ -38,14 +38,14 @@ returns-clause-drawn g c room =
     let drew = c.draw-number in
     drawn_and_told drew.result (c.args.self.now.numbers.last + 1) drew.new.self.last c.args.files.now.list drew.new.files.list
     (listed numbers_list c.args.self.now.numbers.pass.saw) (listed numbers_list drew.new.self.pass.saw) (listed c.args.files.now.list c.args.files.now.pass.saw)
-    (λ (l : ℕ). listed l drew.new.files.pass.saw) (λ (l : ℕ). listed l c.tell_files.new.files.pass.saw)
-    drew.ensures.next.0 drew.ensures.next.1 drew.ensures.list drew.ensures.files.0 drew.ensures.files.1 c.tell_files.ensures.files.1 drew.ensures.held
+    (λ (l : ℕ). listed l drew.new.files.pass.saw) (λ (l : ℕ). listed l c.note_files.new.files.pass.saw)
+    drew.ensures.next.0 drew.ensures.next.1 drew.ensures.list drew.ensures.files.0 drew.ensures.files.1 c.note_files.ensures.files.1 drew.ensures.held
 
 pub returns-clause-kept : goal.returns-clause-kept
 returns-clause-kept g c found t keeps =
     let disk = g.F.Folder.disk in
     subst (λ (n : ℕ). Keeps c.args.self.now.journal (disk c.draft.new.self) (listed log_list c.args.self.now.log.pass.saw) n found t)
-    (sym (c.tell_files.ensures.same.1 ∙ c.say.ensures.said.1 ∙ sym c.args.self.now.told.0))
+    (sym (c.note_files.ensures.said.1 ∙ sym c.args.self.now.told.0))
     (table_keeps _ MayBeAnything (disk c.args.self.now.folder) (disk c.draft.new.self) c.draft.ensures.during c.args.self.now.journal _ _ found t keeps)
 
 pub returns-clause-crash : goal.returns-clause-crash
