@@ -40,7 +40,8 @@ OpensAs shards entries mutations c = IsStore entries mutations c ⊎ (IsNew c ×
 -- the first field of a listed segment that isn't as it must be stands there
 abbrev pub IsBadLog : Saying → ℕ → ℕ → Image → Type 0
 IsBadLog s number at c =
-    (log_of s.tables s.shards (segment_in c) s.segments [] ≡ Err (number, Short at)) ⊎ (log_of s.tables s.shards (segment_in c) s.segments [] ≡ Err (number, BadField at))
+    (log_of s.tables s.shards (segment_in c) s.segments [] ≡ Err (number, Short at))
+    ⊎ (log_of s.tables s.shards (segment_in c) s.segments [] ≡ Err (number, BadField at))
 
 -- Why a folder is refused: the first field of its manifest that isn't as it must be stands there, or there is no manifest, but a log or table file;
 -- or it is a field of the first listed segment that has one.

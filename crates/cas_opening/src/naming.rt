@@ -60,7 +60,8 @@ fn name_segment<F: Folder>(
     number: u64,
 ) -> Result<bool, OpenFault>
     ensures named { (entries : List EntryOf) → Stands (place_of manifest.old) (F.disk folder.old) entries → FitsEntry (said_by entries) (NewSegment number)
-        → IfOk result (λ is_named. IsNamed entries (NewSegment number) (place_of manifest.old) (place_of manifest.new) (F.disk folder.old) (F.disk folder.new) is_named) }
+        → IfOk result (λ is_named. IsNamed entries (NewSegment number) (place_of manifest.old) (place_of manifest.new) (F.disk folder.old)
+        (F.disk folder.new) is_named) }
     ensures during { (entries : List EntryOf) → Stands (place_of manifest.old) (F.disk folder.old) entries → FitsEntry (said_by entries) (NewSegment number)
         → During (Changed Name.Manifest (λ _ file. MayHave entries (NewSegment number) file)) (F.disk folder.old) (F.disk folder.new) }
     ensures others { During (Changed Name.Manifest MayBeAnything) (F.disk folder.old) (F.disk folder.new) }
@@ -88,13 +89,13 @@ pub(crate) fn begin<F: Folder>(
 ) -> Result<(Journal, Said), OpenFault>
     requires size { IsSize size }
     requires none { NoneAbove said.last_segment (F.disk folder.old) }
-    ensures begun { (entries : List EntryOf) (mutations : List MutationOf) → Keeps (place_of manifest) entries mutations (F.disk folder.old) → said ≡ said_by entries
-        → IfOk result (λ r. IsBegunWith entries mutations r.0 r.1 (F.disk folder.new)) }
+    ensures begun { (entries : List EntryOf) (mutations : List MutationOf) → Keeps (place_of manifest) entries mutations (F.disk folder.old)
+        → said ≡ said_by entries → IfOk result (λ r. IsBegunWith entries mutations r.0 r.1 (F.disk folder.new)) }
     ensures told { (entries : List EntryOf) → said ≡ said_by entries → IfOk result (λ r. IsToldOf entries r.0 r.1) }
     ensures free { IfOk result (λ r. AreFree r.0 (F.disk folder.new)) }
     ensures runs { IfOk result (λ r. (r.0.first ≡ None) × (r.0.size ≡ size)) }
-    ensures during { (entries : List EntryOf) (mutations : List MutationOf) → Keeps (place_of manifest) entries mutations (F.disk folder.old) → said ≡ said_by entries
-        → During (HasStayed entries mutations) (F.disk folder.old) (F.disk folder.new) }
+    ensures during { (entries : List EntryOf) (mutations : List MutationOf) → Keeps (place_of manifest) entries mutations (F.disk folder.old)
+        → said ≡ said_by entries → During (HasStayed entries mutations) (F.disk folder.old) (F.disk folder.new) }
     ensures why { IfErr result (λ f. IsOfFolder f) }
     ensures count { Counted (F.faults_of folder.old) (F.faults_of folder.new) (IsErrOf result OpenFault.Failed) }
 {

@@ -59,9 +59,11 @@ fn hand_on<T: TakesMutations>(
     taker: &mut T,
 ) -> Result<(), Mem>
     requires { IsWithinLimits mutation }
-    ensures handed { (first before : List MutationOf) → Stands of.now.shards of.now.frontiers.now (λ ms. T.has_taken (first ++ ms) taker.old) lasts.old.numbers before
+    ensures handed { (first before : List MutationOf)
+        → Stands of.now.shards of.now.frontiers.now (λ ms. T.has_taken (first ++ ms) taker.old) lasts.old.numbers before
         → OnOk result (Stands of.now.shards of.now.frontiers.now (λ ms. T.has_taken (first ++ ms) taker.new) lasts.new.numbers (before ++ mutation ∷ [])) }
-    ensures kept { (first before : List MutationOf) → Stands of.now.shards of.now.frontiers.now (λ ms. T.has_taken (first ++ ms) taker.old) lasts.old.numbers before
+    ensures kept { (first before : List MutationOf)
+        → Stands of.now.shards of.now.frontiers.now (λ ms. T.has_taken (first ++ ms) taker.old) lasts.old.numbers before
         → OnErr result (Stands of.now.shards of.now.frontiers.now (λ ms. T.has_taken (first ++ ms) taker.new) lasts.new.numbers before) }
 {
     let (shard, number) = (mutation.shard, mutation.number);

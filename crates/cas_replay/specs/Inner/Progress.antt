@@ -26,8 +26,8 @@ pub record Stands (shards : ℕ) (frontiers : List ℕ) (took : List Mutation �
   pub handed : took (filter (is_above shards frontiers) read)
 
 -- Behind these mutations others were read, which a log may have there, and with all of them something is so.
-pub record Went (tables : List TableSchema) (shards : ℕ) (frontiers : List ℕ) (took : List Mutation → Type 0) (numbers : List (Option ℕ)) (before : List Mutation)
-    (says : List Mutation → Type 0) : Type 0 where
+pub record Went (tables : List TableSchema) (shards : ℕ) (frontiers : List ℕ) (took : List Mutation → Type 0) (numbers : List (Option ℕ))
+    (before : List Mutation) (says : List Mutation → Type 0) : Type 0 where
   pub after : List Mutation
   pub stands : Stands shards frontiers took numbers after
   pub stay : StayALog tables shards before after
