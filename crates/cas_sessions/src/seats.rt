@@ -1,6 +1,6 @@
 //! The seats of a store in its one history: of its room and its shards, and the right to make more.
 
-ghost use Rattle.std.specs.Prelude.{◌≡◌, ◌≤◌, ◌<◌, [], length, map, IfOk};
+ghost use Rattle.std.specs.Prelude.{◌≡◌, ◌+◌, ◌≤◌, ◌<◌, [], length, map, IfOk};
 ghost use Rattle.cas_history.specs.Items.{listed, log_list};
 ghost use Rattle.cas_history.specs.Hands.{numbers};
 
@@ -21,6 +21,22 @@ pub(crate) struct Seats<J: Store> {
     pub maker: Maker<Event, J>,
 }
 
+// The seat of the shard of this number, whose last mutation has that one.
+fn front<J: Store>(
+    maker: &mut Maker<Event, J>,
+    place: u64,
+    number: u64,
+) -> Result<Front<Event, J>, Mem>
+    requires next { maker.old.next ≤ 16 + place }
+    requires few { place < 16 }
+    ensures seat { IfOk result (λ f. (f.shard ≡ place) × (f.number ≡ number)) }
+    ensures next { maker.new.next ≤ 17 + place }
+    ensures out { maker.new.out ≡ maker.old.out }
+{
+    let fresh = maker.fresh(16 + place)?;
+    Ok(Front::new(fresh, place, number))
+}
+
 // A seat for each shard, with its last number.
 fn fronts<J: Store>(
     alloc: Global,
@@ -36,9 +52,8 @@ fn fronts<J: Store>(
 {
     let mut fronts = Vec::new(alloc);
     for place in 0..shards.len() as u64 {
-        let fresh = maker.fresh(16 + place)?;
         let number = shards[place as usize].number();
-        fronts.push(Front::new(fresh, place, number))?;
+        fronts.push(front(maker, place, number)?)?;
     }
     Ok(fronts)
 }

@@ -4,10 +4,10 @@ use Rattle.cas_sessions.proofs.seats.fronts.Goals as goal
 
 pub loop-place-preserved : goal.loop-place-preserved
 loop-place-preserved g c = record {
-  places = more_places (λ f. f.shard) c.loop-place.fronts.items c.push.new.self.items c.new.result c.loop-place.place c.loop-place.invariant.places
-      c.in_ok-push.ensures.items c.new.ensures.0;
-  numbers = more_numbers (λ f. f.number) (λ x. x.number) c.loop-place.fronts.items c.push.new.self.items c.new.result c.args.shards.now c.index-shards-place.result
-      c.loop-place.place c.loop-place.invariant.numbers c.in_ok-push.ensures.items (c.new.ensures.1 ∙ c.number-number.ensures.value) (omega arith) c.index-shards-place.is;
-  next = omega (arith, c.in_ok-fresh.ensures.ok);
-  out = c.in_ok-fresh.ensures.out ∙ c.loop-place.invariant.out;
+  places = more_places (λ f. f.shard) c.loop-place.fronts.items c.push.new.self.items c.in_ok-front.field-0 c.loop-place.place c.loop-place.invariant.places
+      c.in_ok-push.ensures.items c.in_ok-front.ensures.seat.0;
+  numbers = more_numbers (λ f. f.number) (λ x. x.number) c.loop-place.fronts.items c.push.new.self.items c.in_ok-front.field-0 c.args.shards.now c.index-shards-place.result
+      c.loop-place.place c.loop-place.invariant.numbers c.in_ok-push.ensures.items (c.in_ok-front.ensures.seat.1 ∙ c.number-number.ensures.value) (omega arith) c.index-shards-place.is;
+  next = omega (arith, c.front.ensures.next);
+  out = c.front.ensures.out ∙ c.loop-place.invariant.out;
 }
