@@ -210,7 +210,8 @@ GoodOrMem why = (why ≡ cause.Good) ⊎ (why ≡ cause.Mem)
 
 -- no line of the script is refused, whatever the clock reads, unless memory runs out
 abbrev pub IsGranted : History → ClockKind → (ℤ → Type 0) → List ℕ → Type 0
-IsGranted first kind Gives script = (replies : List (Option Reply)) (final : History) → Runs kind Gives first (lines script) replies final → GoodOrMem (worst replies)
+IsGranted first kind Gives script =
+    (replies : List (Option Reply)) (final : History) → Runs kind Gives first (lines script) replies final → GoodOrMem (worst replies)
 
 -- this holds of the bytes that were taken, if the script is too long
 abbrev pub IfTooLong : Cause → (ℕ → Type 0) → Type 0

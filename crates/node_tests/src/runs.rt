@@ -1,22 +1,49 @@
+//! Runs whose source or sink fails, and the longest script.
+
 use cas_disk::{FaultPlan, MemFolder};
-use cas_io::{Failed, FreeGate, ManualClock, MemSink, MemSource, Source};
-use cas_node::{Cause, Outcome, SCRIPT_LIMIT, run};
+use cas_io::{FreeGate, ManualClock, MemSink, MemSource};
+use cas_node::{Cause, Outcome, run};
 use std::alloc::Global;
-use std::fmt::Write;
 use std::test::Fail;
 
-const CREATE: &str = "CREATE TABLE t (k int, c int, v text, PRIMARY KEY (k, c));\n";
+const SCRIPT: &[u8] = b"CREATE TABLE t (k int PRIMARY KEY, v text);\n\
+    INSERT INTO t (k, v) VALUES (1, 'a');\n\
+    INSERT INTO t (k, v) VALUES (1, 'a')\n";
 
-const INSERT: &str = "INSERT INTO t (k, c, v) VALUES (1, 1, 'a');\n";
-
-/// What a run came to: how it ended, what it wrote, and whether lines were run.
-#[derive(Drop)]
-struct Ended {
+/// A run, and what it is to come to.
+#[derive(Clone, Copy)]
+struct Case {
+    shows: &'static str,
+    /// The script is this text, so many times.
+    text: &'static [u8],
+    times: usize,
+    /// The source fails behind so many bytes, and gives at most so many at once.
+    fails_after: Option<u64>,
+    given: u64,
+    /// The write of this number fails, counted from 1, and each takes at most so many bytes.
+    failing: u64,
+    taken: u64,
     status: u8,
     cause: Cause,
-    output: Vec<u8>,
+    output: &'static [u8],
     has_run: bool,
 }
+
+/// Nothing fails. Out of memory is an answer that needs no cause, so that a body which always gives it is
+/// refused by a run alone.
+const GOOD: Case = Case {
+    shows: "a run ends well and hands back its history",
+    text: SCRIPT,
+    times: 1,
+    fails_after: None,
+    given: u64::MAX,
+    failing: 0,
+    taken: u64::MAX,
+    status: 0,
+    cause: Cause::Good,
+    output: b"ok\nok 1\nok 2\n",
+    has_run: true,
+};
 
 /// The words that the text has between its blanks.
 pub(crate) fn words_of(alloc: Global, text: &str) -> Result<Vec<String>, Fail> {
@@ -27,10 +54,12 @@ pub(crate) fn words_of(alloc: Global, text: &str) -> Result<Vec<String>, Fail> {
     Ok(list)
 }
 
-// Runs with the manual clock and one shard.
-fn run_over<S: Source>(alloc: Global, source: &mut S, mut sink: MemSink) -> Result<Ended, Fail> {
+// Whether the run comes to that, with the manual clock and one shard.
+fn is_so(alloc: Global, case: &Case) -> Result<bool, Fail> {
+    let bytes = case.text.repeat(alloc, case.times)?;
+    let mut source = MemSource::with_plan(bytes, case.fails_after, case.given);
+    let mut sink = MemSink::with_plan(alloc, vec![in alloc; case.failing]?, case.taken);
     let words = words_of(alloc, "--clock manual --shards 1 d")?;
-    let clock = ManualClock { reading: 7 };
     let Outcome {
         status,
         cause,
@@ -40,133 +69,71 @@ fn run_over<S: Source>(alloc: Global, source: &mut S, mut sink: MemSink) -> Resu
     } = run(
         alloc,
         &words,
-        source,
+        &mut source,
         &mut sink,
         MemFolder::new(alloc, FaultPlan::none(alloc)),
-        &clock,
+        &ManualClock { reading: 7 },
         &FreeGate,
     );
-    let has_run = pass.is_some();
-    let output = sink.taken().to_vec(alloc)?;
-    Ok(Ended {
-        status,
-        cause,
-        output,
-        has_run,
-    })
+    Ok(
+        status == case.status
+            && cause == case.cause
+            && sink.taken() == case.output
+            && pass.is_some() == case.has_run,
+    )
 }
 
-fn source_of(alloc: Global, text: &str) -> Result<MemSource, Fail> {
-    Ok(MemSource::new(text.as_bytes().to_vec(alloc)?))
-}
-
-fn script(alloc: Global) -> Result<String, Fail> {
-    Ok(format!(in alloc; "{CREATE}{INSERT}{INSERT}")?)
-}
-
-// Out of memory is an answer that needs no cause, so that a body which always gives it is refused by
-// a run alone.
 #[test]
-fn a_run_ends_well_and_hands_back_its_history(rt: HostRuntime) -> Result<(), Fail> {
-    let alloc = rt.alloc();
-    let mut source = source_of(alloc, &script(alloc)?)?;
-    let ended = run_over(alloc, &mut source, MemSink::new(alloc))?;
-    assert_eq!(rt; ended.cause, Cause::Good);
-    assert_eq!(rt; ended.output.as_slice(), b"ok\nok 1\nok 2\n".as_slice());
-    assert!(rt; ended.has_run);
-    Ok(())
-}
-
-// The source fails after ten bytes.
-#[test]
-fn a_source_that_fails_is_not_run(rt: HostRuntime) -> Result<(), Fail> {
-    let alloc = rt.alloc();
-    let mut source = MemSource::with_plan(CREATE.as_bytes().to_vec(alloc)?, Some(10), 7);
-    let ended = run_over(alloc, &mut source, MemSink::new(alloc))?;
-    assert_eq!(rt; (ended.status, ended.output.len()), (3, 0));
-    assert!(rt; !ended.has_run);
-    Ok(())
-}
-
-// The second write fails; or each takes nothing.
-#[test]
-fn a_sink_that_fails_or_takes_nothing_ends_the_run(rt: HostRuntime) -> Result<(), Fail> {
-    let alloc = rt.alloc();
-    let script = script(alloc)?;
-    let failing = MemSink::with_plan(alloc, vec![in alloc; 2]?, 9);
-    let failed = run_over(alloc, &mut source_of(alloc, &script)?, failing)?;
-    assert_eq!(rt; failed.status, 4);
-    assert_eq!(rt; failed.output.as_slice(), b"ok\n".as_slice());
-    let stalling = MemSink::with_plan(alloc, Vec::new(alloc), 0);
-    let stalled = run_over(alloc, &mut source_of(alloc, &script)?, stalling)?;
-    assert_eq!(rt; (stalled.status, stalled.output.len()), (4, 0));
-    Ok(())
-}
-
-// A source that makes so many line feeds.
-#[derive(Drop)]
-struct Feeds {
-    left: u64,
-}
-
-impl Source for Feeds {
-    ghost use Rattle.std.specs.Prelude.{None};
-
-    ghost left = { λ _. None };
-
-    ghost faults = { λ _. 0 };
-
-    fn read(&mut self, into: &mut [u8]) -> Result<usize, Failed> {
-        let count = self.left.min(into.len() as u64) as usize;
-        into[..count].fill(b'\n');
-        self.left -= count as u64;
-        Ok(count)
+fn runs_end_as_they_should(rt: HostRuntime) -> Result<(), Fail> {
+    let cases = [
+        GOOD,
+        Case {
+            shows: "a source that fails is not run",
+            fails_after: Some(10),
+            given: 7,
+            status: 3,
+            cause: Cause::Read,
+            output: b"",
+            has_run: false,
+            ..GOOD
+        },
+        Case {
+            shows: "a sink whose second write fails ends the run",
+            failing: 2,
+            taken: 9,
+            status: 4,
+            cause: Cause::Write,
+            output: b"ok\n",
+            ..GOOD
+        },
+        Case {
+            shows: "a sink that takes nothing ends the run",
+            taken: 0,
+            status: 4,
+            cause: Cause::Write,
+            output: b"",
+            ..GOOD
+        },
+        Case {
+            shows: "the longest script of empty lines is run",
+            text: b"\n",
+            times: 67_108_864,
+            output: b"",
+            ..GOOD
+        },
+        Case {
+            shows: "a script above the limit is not run",
+            text: b"\n",
+            times: 67_108_865,
+            status: 8,
+            cause: Cause::TooLong { taken: 67_108_865 },
+            output: b"",
+            has_run: false,
+            ..GOOD
+        },
+    ];
+    for case in &cases {
+        assert!(rt; is_so(rt.alloc(), case)?, "{}", case.shows);
     }
-}
-
-#[test]
-fn the_longest_script_of_empty_lines_is_run(rt: HostRuntime) -> Result<(), Fail> {
-    let alloc = rt.alloc();
-    let mut source = Feeds { left: SCRIPT_LIMIT };
-    let ended = run_over(alloc, &mut source, MemSink::new(alloc))?;
-    assert_eq!(rt; (ended.status, ended.output.len()), (0, 0));
-    Ok(())
-}
-
-#[test]
-fn a_script_above_the_limit_is_not_run(rt: HostRuntime) -> Result<(), Fail> {
-    let alloc = rt.alloc();
-    let mut source = Feeds {
-        left: SCRIPT_LIMIT + 1,
-    };
-    let ended = run_over(alloc, &mut source, MemSink::new(alloc))?;
-    assert_eq!(rt; ended.cause, Cause::TooLong { taken: 67_108_865 });
-    assert!(rt; !ended.has_run);
-    Ok(())
-}
-
-// Statements over 8 partitions, every 100th of them a SELECT.
-fn many_statements(script: &mut String, count: u32) -> Result<(), Fail> {
-    for i in 1..=count {
-        let key = i % 8;
-        if i % 100 == 0 {
-            writeln!(script, "SELECT * FROM t WHERE k = {key}")?;
-        } else {
-            writeln!(script, "INSERT INTO t (k, c, v) VALUES ({key}, {i}, 'a')")?;
-        }
-    }
-    Ok(())
-}
-
-// The last SELECT shows partition 0: of its 1,250 statements 50 are SELECTs.
-#[test]
-fn ten_thousand_statements_end(rt: HostRuntime) -> Result<(), Fail> {
-    let alloc = rt.alloc();
-    let mut script = String::from_str(alloc, CREATE)?;
-    many_statements(&mut script, 10_000)?;
-    let ended = run_over(alloc, &mut source_of(alloc, &script)?, MemSink::new(alloc))?;
-    assert_eq!(rt; ended.status, 0);
-    let last = b"\n0 | 9992 | 'a'\n-- 1200 rows, shard 0, front 9900, now 0\n".as_slice();
-    assert!(rt; ended.output.ends_with(last));
     Ok(())
 }
