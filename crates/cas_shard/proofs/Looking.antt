@@ -1,5 +1,5 @@
 -- The rows that a SELECT shows of the memory are the live view of all that was written to the partition.
-use Rattle.std.proofs.Common.{◌≡◌, ℕ, ℤ, Option, None, Some, Bool, true, false, List, [], ◌∷◌, ◌++◌, refl, sym, ap, ◌∙◌, subst, append-nil, Result, Ok, Err, IfOk}
+use Rattle.std.proofs.Common.{◌≡◌, ℕ, ℤ, Option, None, Some, Bool, true, false, List, [], ◌∷◌, ◌++◌, refl, sym, ap, ◌∙◌, subst, append-nil, append_assoc, Result, Ok, Err, IfOk}
 use Rattle.std.specs.Prelude.{slice_get, ◌==◌, ◌&&◌, if◌then◌else◌}
 use Rattle.cas_types.specs.declared.schema.TableSchema.{TableSchema}
 use Rattle.cas_cell.specs.declared.deletion.Deletion.{Deletion}
@@ -21,6 +21,7 @@ use Rattle.cas_streams.specs.Merged.{merged, flat_of, flats}
 use Rattle.cas_streams.specs.Streams.{IsOrdered}
 use Rattle.cas_streams.specs.declared.fragment.Fragment.{Fragment}
 use Rattle.cas_streams.proofs.Merges.{merge_is_join, merge_ordered}
+use Rattle.cas_live.specs.Rows.{GivesFirst}
 use Rattle.cas_merge.specs.Told.{streams_told}
 use Rattle.cas_parts.specs.Kept.{Keeps, ShowPartition, all_of, atoms_at, atoms_under, memtables_of}
 use Rattle.cas_parts.specs.declared.parts.Parts.{Parts}
@@ -89,6 +90,20 @@ rows_shown q now same memory tells tops ms top told come shown e sources f g row
     given _ (rows (merged ss).fragments (f ss from.told) (merge_ordered order ss from.ordered))
     ∙ (λ i. answer q (flat (g ss from.told i) (merged ss).fragments) (e i))
     ∙ same_in_answers (flat_of (merged ss)) (atoms_under q.key ws) q (chained q.slice (flat_of (merged ss)) (flats ss) (atoms_under q.key ws) (merge_is_join order ss from.ordered) from.same) now
+
+-- one of the rows to come was shown
+pub row_more : {E : Type 0} (left before now rs : List LiveRow) (come : Option (List LiveRow)) (next : Option LiveRow) (row : LiveRow) → GivesFirst {E = E} left come (Ok next)
+    → next ≡ Some row → now ≡ before ++ row ∷ [] → before ++ left ≡ rs → (more : List LiveRow) × (come ≡ Some more) × (now ++ more ≡ rs)
+row_more {E} left before now rs come next row gives is pushed so_far =
+    let (more, of, told) : GivesFirst {E = E} left come (Ok (Some row)) = subst (λ o. GivesFirst {E = E} left come (Ok o)) is gives in
+    (more, told, ap (λ l. l ++ more) pushed ∙ append_assoc before (row ∷ []) more ∙ ap (λ l. before ++ l) (sym of) ∙ so_far)
+
+-- all were shown
+pub rows_done : {E : Type 0} (left shown rs : List LiveRow) (come : Option (List LiveRow)) (next : Option LiveRow) → GivesFirst {E = E} left come (Ok next)
+    → next ≡ None → shown ++ left ≡ rs → shown ≡ rs
+rows_done {E} left shown rs come next gives is so_far =
+    let (none, told) : GivesFirst {E = E} left come (Ok None) = subst (λ o. GivesFirst {E = E} left come (Ok o)) is gives in
+    sym (append-nil shown) ∙ ap (λ l. shown ++ l) (sym none) ∙ so_far
 
 -- what entries write to a partition is what the mutations of their table write under its key
 under_entry : (table : ℕ) (key : List ℕ) (e : Entry) → atoms_under key (of_table table e) ≡ atoms_of_partition table key e
