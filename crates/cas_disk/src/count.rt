@@ -21,7 +21,7 @@ pub trait Count: Drop {
 }
 
 /// A plain count.
-#[derive(Debug, Drop)]
+#[derive(Drop)]
 pub struct FaultCount {
     faults: u64,
 }

@@ -22,7 +22,7 @@ pub enum Event {
 
 /// Which of the images that a crash may leave is looked at: of each change that isn't synced, as it
 /// was before, as it is after, or after with each written range filled with this byte.
-#[derive(Clone, Copy, Debug, PartialEq, Eq)]
+#[derive(Clone, Copy)]
 pub enum Choice {
     Old,
     New,

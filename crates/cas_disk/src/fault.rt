@@ -7,7 +7,7 @@ use cas_io::Failed;
 use std::alloc::{AllocError, AllocFailed};
 
 /// Why a call of a folder didn't do its work.
-#[derive(Clone, Copy, Debug, PartialEq, Eq)]
+#[derive(Clone, Copy)]
 pub enum FolderFault {
     /// The disk failed, and the folder has counted it.
     Failed,
@@ -16,7 +16,7 @@ pub enum FolderFault {
 }
 
 /// Why a draft didn't take the bytes.
-#[derive(Clone, Copy, Debug, PartialEq, Eq)]
+#[derive(Clone, Copy)]
 pub enum DraftFault {
     /// The disk failed, and the tally that was handed in has counted it.
     Failed,

@@ -15,7 +15,7 @@ pub enum Name {
 }
 
 /// A file that is there, with its length.
-#[derive(Clone, Copy, Debug, PartialEq, Eq)]
+#[derive(Clone, Copy)]
 pub struct Entry {
     pub name: Name,
     pub size: u64,

@@ -10,7 +10,7 @@ use std::alloc::{AllocError, Global};
 /// The calls that fail, all counted from 1: of the folder; of its drafts, each by the draft's number
 /// among them and the call's among its own; and reads of its tables, each by the table's number and
 /// the read's among its own.
-#[derive(Debug, Drop)]
+#[derive(Drop)]
 pub struct FaultPlan {
     pub calls: Vec<u64>,
     pub drafts: Vec<(u64, u64)>,

@@ -12,7 +12,7 @@ pub trait Clock {
 }
 
 /// A clock that gives the one reading that it is set to.
-#[derive(Clone, Copy, Debug)]
+#[derive(Drop)]
 pub struct ManualClock {
     pub reading: i64,
 }

@@ -1,5 +1,5 @@
 //! The one fault of a call to the outside.
 
 /// The call failed. What was called has counted it.
-#[derive(Clone, Copy, Debug, PartialEq, Eq)]
+#[derive(Clone, Copy)]
 pub struct Failed;

@@ -10,7 +10,7 @@ pub trait Gate {
 }
 
 /// A gate that holds nothing back.
-#[derive(Clone, Copy, Debug)]
+#[derive(Drop)]
 pub struct FreeGate;
 
 impl Gate for FreeGate {

@@ -8,7 +8,7 @@ use cas_log::LogFault;
 use cas_manifest::{Limit, ManifestFault};
 
 /// What there may be only so much of.
-#[derive(Clone, Copy, Debug, PartialEq, Eq)]
+#[derive(Clone, Copy)]
 pub enum Counted {
     /// The numbers of segments.
     Segments,
@@ -19,7 +19,7 @@ pub enum Counted {
 }
 
 /// Why a call of the journal didn't do its work.
-#[derive(Clone, Copy, Debug, PartialEq, Eq)]
+#[derive(Clone, Copy)]
 pub enum JournalFault {
     /// The mutation's record is longer than half a segment.
     TooLarge { length: u64, limit: u64 },

@@ -7,7 +7,7 @@ use cas_gates::First;
 use std::alloc::{AllocError, AllocFailed};
 
 /// Why a call of the log didn't do its work.
-#[derive(Clone, Copy, Debug, PartialEq, Eq)]
+#[derive(Clone, Copy)]
 pub enum LogFault {
     /// The record is longer than half a segment.
     TooLarge { length: u64, limit: u64 },

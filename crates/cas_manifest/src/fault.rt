@@ -9,7 +9,7 @@ use cas_gates::First;
 use std::alloc::{AllocError, AllocFailed};
 
 /// What there may be only so much of.
-#[derive(Clone, Copy, Debug, PartialEq, Eq)]
+#[derive(Clone, Copy)]
 pub enum Limit {
     /// The bytes of the file.
     Bytes,
@@ -18,7 +18,7 @@ pub enum Limit {
 }
 
 /// Why a call of the manifest didn't do its work.
-#[derive(Clone, Copy, Debug, PartialEq, Eq)]
+#[derive(Clone, Copy)]
 pub enum ManifestFault {
     /// With the entry there were more than so many.
     TooMany { what: Limit, limit: u64 },

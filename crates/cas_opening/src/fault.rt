@@ -9,7 +9,7 @@ use cas_manifest::ManifestFault;
 use cas_replay::ReplayFault;
 
 /// Why a store wasn't opened.
-#[derive(Clone, Copy, Debug, PartialEq, Eq)]
+#[derive(Clone, Copy)]
 pub enum OpenFault {
     /// The bytes of this file aren't allowed at this place.
     Bad { name: Name, at: u64 },

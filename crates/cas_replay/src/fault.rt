@@ -6,7 +6,7 @@ ghost use Rattle.cas_replay.specs.Inner.Faults.{of_field};
 use cas_codec::ReadFault;
 
 /// Why a replay didn't give the mutations.
-#[derive(Clone, Copy, Debug, PartialEq, Eq)]
+#[derive(Clone, Copy)]
 pub enum ReplayFault {
     /// The bytes of this segment aren't allowed at this place.
     Bad { segment: u64, at: u64 },

@@ -6,7 +6,7 @@ ghost use Rattle.cas_room.specs.Tables.{of_folder};
 use cas_disk::FolderFault;
 
 /// Why a table's file wasn't begun.
-#[derive(Clone, Copy, Debug, PartialEq, Eq)]
+#[derive(Clone, Copy)]
 pub enum FreshFault {
     /// As many table files are live as may be, or there is no number left. So many are live.
     Full { files: u64 },
