@@ -16,8 +16,8 @@ use std::marker::Model;
 /// the key.
 #[derive(Drop)]
 pub struct CutKey {
-    front: Front,
-    key: MapKey,
+    pub(crate) front: Front,
+    pub(crate) key: MapKey,
 }
 
 impl Model for CutKey {

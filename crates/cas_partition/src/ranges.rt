@@ -5,7 +5,7 @@ ghost use Rattle.std.specs.declared.cmp.Ordering.TheVariants.{Less};
 ghost use Rattle.cas_cell.specs.Deletions.{deletion_cmp};
 ghost use Rattle.cas_bounds.specs.Keys.{key_cmp};
 ghost use Rattle.cas_atoms.specs.Greatest.{greater};
-ghost use Rattle.cas_partition.specs.Ranges.{lies, raised, with_cut, change_at, clipped};
+ghost use Rattle.cas_partition.specs.Ranges.{lies, raised, with_cut, change_at, clipped, key_of};
 ghost use Rattle.cas_partition.specs.Inner.Slots.{cut_of, changes_of, raised_at, last_force, force_below, force_behind, between, amid};
 ghost use Rattle.cas_partition.specs.Partitions.{marker};
 
@@ -212,18 +212,24 @@ impl Ranges {
     }
 
     /// The changes in the slice as markers of a stream: it begins with the deletion in force where
-    /// the slice begins, and closes the one in force at its end.
-    pub(crate) fn markers(&self, alloc: Global, slice: &Slice) -> Result<Vec<Fragment>, AllocError>
+    /// the slice begins, and closes the one in force at its end. The keys are those of its cuts.
+    pub(crate) fn markers(
+        &self,
+        alloc: Global,
+        slice: &Slice,
+        low: &CutKey,
+        high: &CutKey,
+    ) -> Result<Vec<Fragment>, AllocError>
+        requires low { low.now ≡ key_of slice.now.lo }
+        requires high { high.now ≡ key_of slice.now.hi }
         ensures { IfOk result (λ v. v.items ≡ map marker (clipped slice.now self.now)) }
     {
-        let low = CutKey::of(slice.lo.copied()?);
-        let high = CutKey::of(slice.hi.copied()?);
         let mut markers = Vec::new(alloc);
-        if low.cmp(&high).is_lt() {
-            let begun = force_behind(&self.cuts, &self.forces, &low);
+        if low.cmp(high).is_lt() {
+            let begun = force_behind(&self.cuts, &self.forces, low);
             add_change(&mut markers, &slice.lo, begun, begun)?;
-            add_amid(&mut markers, &self.cuts, &self.forces, &low, &high)?;
-            let ended = force_below(&self.cuts, &self.forces, &high);
+            add_amid(&mut markers, &self.cuts, &self.forces, low, high)?;
+            let ended = force_below(&self.cuts, &self.forces, high);
             add_change(&mut markers, &slice.hi, ended, None)?;
         }
         Ok(markers)

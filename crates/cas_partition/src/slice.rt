@@ -8,17 +8,18 @@ ghost use Rattle.cas_streams.specs.declared.fragment.Fragment.{Fragment};
 ghost use Rattle.cas_streams.specs.Joined.{joined_fragment};
 ghost use Rattle.cas_partition.specs.Spots.{spot_cmp, column_at, columns_at, cells_at, said, row_piece};
 ghost use Rattle.cas_partition.specs.Slices.{grouped, grouped_from, meet, AreRowsOf, Shows};
-ghost use Rattle.cas_partition.specs.Ranged.{piece_of, spot_at, spots_between, statics_of, rows_between};
+ghost use Rattle.cas_partition.specs.Ranged.{piece_of, spots_between, statics_of};
 ghost use Rattle.cas_partition.specs.Inner.Entries.{lent_piece, GoesOn, EndsIn, Takes, TakesLast, grouped_on, ends_as, are_below};
 ghost use Rattle.cas_partition.specs.Inner.Sources.{TellMerge};
 ghost use Rattle.cas_streams.specs.declared.fragment.Fragment.TheVariants as fragment;
 
+use crate::cut_key::CutKey;
 use crate::partition::Partition;
 use crate::spot::{Content, Spot};
 use crate::spot_key::SpotKey;
 use crate::weaving::{first_of, woven};
 use cas_atoms::{ColumnRef, PathCell, Row, RowColumn};
-use cas_bounds::{Clustering, End, MapKey, RowOrder, Slice, Values, compare_points};
+use cas_bounds::{Clustering, End, RowOrder, Slice, Values, compare_points};
 use cas_cell::{Cell, Deletion};
 use cas_merge::{Merger, compare_fragments, joined_fragment};
 use cas_streams::{Fragment, FragmentSource, Part};
@@ -339,17 +340,6 @@ fn add_range<'a>(
     Ok(())
 }
 
-// The key of a cut, as a spot.
-fn at(row: MapKey) -> SpotKey
-    ensures { result ≡ spot_at row }
-{
-    SpotKey::of(Spot {
-        row: Some(row),
-        column: None,
-        path: None,
-    })
-}
-
 // What is said of the static row, which stands before all rows.
 fn add_static<'a>(
     entries: &mut Vec<(&'a Spot, &'a Content)>,
@@ -478,21 +468,20 @@ fn rows_of(alloc: Global, entries: &[(&Spot, &Content)]) -> Result<Vec<Fragment>
     meet(alloc, left, right)
 }
 
-// What is said of the static row and of the rows of the slice.
+// What is said of the static row and of the rows between two spots.
 fn rows_in(
     alloc: Global,
     spots: &BTreeMap<SpotKey, Content>,
-    slice: &Slice,
+    low: &SpotKey,
+    high: &SpotKey,
 ) -> Result<Vec<Fragment>, AllocError>
     ensures rows { IfOk result (λ v. AreRowsOf (map piece_of (statics_of spots.now.entries
-        ++ rows_between slice.now.lo slice.now.hi spots.now.entries)) v.items) }
+        ++ spots_between low.now high.now spots.now.entries)) v.items) }
     ensures sorted { OnOk result (IsStrictlySortedBy spot_cmp (keys_of spots.now.entries)) }
 {
-    let low = at(MapKey::of_cut(slice.lo.copied()?));
-    let high = at(MapKey::of_cut(slice.hi.copied()?));
     let mut entries = Vec::new(alloc);
     add_static(&mut entries, spots)?;
-    add_between(&mut entries, spots, &low, &high)?;
+    add_between(&mut entries, spots, low, high)?;
     rows_of(alloc, &entries)
 }
 
@@ -517,8 +506,10 @@ impl Partition {
         ensures { IfOk result (λ m. (fs : ListOf Fragment) × (⟦<Merger<Part> as FragmentSource>⟧.to_come m ≡ Some fs)
             × Shows slice.now self.now (⟦<Merger<Part> as FragmentSource>⟧.over_all m) fs) }
     {
-        let rows = rows_in(alloc, &self.spots, slice)?;
-        let marks = self.ranges.markers(alloc, slice)?;
+        let low = CutKey::of(slice.lo.copied()?);
+        let high = CutKey::of(slice.hi.copied()?);
+        let marks = self.ranges.markers(alloc, slice, &low, &high)?;
+        let rows = rows_in(alloc, &self.spots, &SpotKey::at(low), &SpotKey::at(high))?;
         Ok(Merger::new(source(alloc, self.top, rows, marks)?))
     }
 }

@@ -4,8 +4,10 @@ ghost use Rattle.std.specs.Prelude.{◌≡◌, Some, refl};
 ghost use Rattle.std.specs.Ordering.{eq_by_cmp};
 ghost use Rattle.std.specs.Cmp.{eq_by_cmp_equiv, partial_equiv_from_equiv, partial_order_from_agreeing_total};
 ghost use Rattle.cas_partition.specs.Spots.{spot_cmp};
+ghost use Rattle.cas_partition.specs.Ranged.{spot_at};
 ghost use Rattle.cas_partition.specs.Inner.Fronts.{spot_total};
 
+use crate::cut_key::CutKey;
 use crate::front::{Front, front_of};
 use crate::spot::Spot;
 use std::cmp::Ordering;
@@ -38,6 +40,20 @@ impl SpotKey {
         SpotKey {
             front: front_of(&spot.row),
             spot,
+        }
+    }
+
+    /// The row at a cut's key.
+    pub(crate) fn at(cut: CutKey) -> Self
+        ensures { result ≡ spot_at cut }
+    {
+        SpotKey {
+            front: cut.front,
+            spot: Spot {
+                row: Some(cut.key),
+                column: None,
+                path: None,
+            },
         }
     }
 

@@ -27,7 +27,7 @@ fn weave(
 ) -> Result<Vec<Fragment>, AllocError>
     ensures { IfOk result (λ v. v.items ≡ woven by_place (record { left = None; right = None }) left.items right.items) }
 {
-    let mut out = Vec::with_capacity(alloc, left.len())?;
+    let mut out = Vec::with_capacity(alloc, left.len().saturating_add(right.len()))?;
     let mut left = left.into_iter();
     let mut right = right.into_iter();
     let mut first = first_of(&mut left);

@@ -14,10 +14,10 @@ returns c =
     let s = c.args.slice.now in
     let es = c.self.inside.cuts.entries in
     let fs = c.self.inside.forces.items in
-    let low = c.of-low.result in
-    let high = c.of-high.result in
-    let at_low : low ≡ key_of s.lo = c.of-low.ensures ∙ ap key_of c.in_ok-copied.ensures in
-    let at_high : high ≡ key_of s.hi = c.of-high.ensures ∙ ap key_of c.in_ok-copied-2.ensures in
+    let low = c.args.low.now in
+    let high = c.args.high.now in
+    let at_low : low ≡ key_of s.lo = c.requires.low in
+    let at_high : high ≡ key_of s.hi = c.requires.high in
     elim c.if-is_lt.branch [
       | then-is_lt+in_ok-add_change+in_ok-add_amid+in_ok-add_change-2 w ↦
           let below : is_lt (key_cmp low high) ≡ true = sym (c.is_lt.ensures ∙ ap is_lt c.cmp.ensures) ∙ w.if-is_lt.true in
