@@ -15,35 +15,24 @@ type Short = (char, u8, i64);
 
 const NOTHING: Short = ('-', 0, 0);
 
-fn join(
-    part: &mut MemPart,
-    alloc: Global,
-    k: u8,
-    what: Statement,
-    at: u8,
-) -> Result<(), AllocError> {
-    let mutation = mutation(alloc, k, what, at)?;
-    part.reserve(&mutation)?;
-    part.apply(mutation);
-    Ok(())
-}
-
 // The UPDATE at 8 is older than what the INSERT at 10 wrote. Under 3 there is only a place.
 fn written(alloc: Global) -> Result<MemPart, AllocError> {
     let mut part = MemPart::new(alloc);
-    let statements = [
-        (1, Statement::Insert(3), 10),
-        (1, Statement::Insert(5), 20),
-        (1, Statement::Update(3), 8),
-        (1, Statement::DeleteRow(7), 12),
-        (1, Statement::DeleteRows(4, 6), 15),
-        (1, Statement::UpdateStatic, 9),
-        (2, Statement::Insert(1), 30),
+    let statements: [(u8, Statement); 7] = [
+        (1, ('i', 3, 10)),
+        (1, ('i', 5, 20)),
+        (1, ('u', 3, 8)),
+        (1, ('d', 7, 12)),
+        (1, ('r', 4, 15)),
+        (1, ('s', 0, 9)),
+        (2, ('i', 1, 30)),
     ];
-    for (k, what, at) in statements {
-        join(&mut part, alloc, k, what, at)?;
+    for (k, statement) in statements {
+        let mutation = mutation(alloc, k, statement)?;
+        part.reserve(&mutation)?;
+        part.apply(mutation);
     }
-    part.reserve(&mutation(alloc, 3, Statement::Insert(1), 40)?)?;
+    part.reserve(&mutation(alloc, 3, ('i', 1, 40))?)?;
     Ok(part)
 }
 

@@ -6,20 +6,9 @@ use cas_cell::{Cell, Deletion, Liveness};
 use cas_types::{Bytes, List, TypeTag};
 use std::alloc::{AllocError, Global};
 
-/// What is done to a partition. What is written is the statement's timestamp.
-#[derive(Clone, Copy)]
-pub(crate) enum Statement {
-    /// INSERT of the row.
-    Insert(u8),
-    /// UPDATE of v in the row.
-    Update(u8),
-    /// UPDATE of s.
-    UpdateStatic,
-    /// DELETE of the row.
-    DeleteRow(u8),
-    /// DELETE of the rows from the first to the second, both among them.
-    DeleteRows(u8, u8),
-}
+/// i for the INSERT of a row, u for the UPDATE of v in it, s for that of s, d for the DELETE of the row, r for the
+/// DELETE of the rows from there to 6; the row's c; and the timestamp, which is also what is written.
+pub(crate) type Statement = (char, u8, u8);
 
 fn order(alloc: Global) -> Result<RowOrder, AllocError> {
     Ok(RowOrder::from_vec(vec![in alloc;
@@ -30,28 +19,14 @@ fn order(alloc: Global) -> Result<RowOrder, AllocError> {
     ]?))
 }
 
-fn values(alloc: Global, c: u8) -> Result<Values, AllocError> {
-    Ok(Values::one(Bytes::copy_of(alloc, &[c])?))
-}
-
-fn place(alloc: Global, c: u8) -> Result<Clustering, AllocError> {
-    Ok(Clustering {
-        values: values(alloc, c)?,
-        order: order(alloc)?,
-    })
-}
-
-fn cut(alloc: Global, c: u8, after: bool) -> Result<Cut, AllocError> {
+// Before or after the row of that value; without one, the partition's end there.
+fn cut(alloc: Global, c: Option<u8>, after: bool) -> Result<Cut, AllocError> {
+    let prefix = match c {
+        Some(c) => Values::one(key(alloc, c)?),
+        None => Values::from_vec(Vec::new(alloc)),
+    };
     Ok(Cut {
-        prefix: values(alloc, c)?,
-        after,
-        order: order(alloc)?,
-    })
-}
-
-fn end(alloc: Global, after: bool) -> Result<Cut, AllocError> {
-    Ok(Cut {
-        prefix: Values::from_vec(Vec::new(alloc)),
+        prefix,
         after,
         order: order(alloc)?,
     })
@@ -59,82 +34,83 @@ fn end(alloc: Global, after: bool) -> Result<Cut, AllocError> {
 
 /// That row, or all rows of a partition.
 pub(crate) fn slice(alloc: Global, row: Option<u8>) -> Result<Slice, AllocError> {
-    Ok(match row {
-        Some(c) => Slice {
-            lo: cut(alloc, c, false)?,
-            hi: cut(alloc, c, true)?,
-        },
-        None => Slice {
-            lo: end(alloc, false)?,
-            hi: end(alloc, true)?,
-        },
+    Ok(Slice {
+        lo: cut(alloc, row, false)?,
+        hi: cut(alloc, row, true)?,
     })
 }
 
-fn column(number: u16) -> ColumnRef {
-    ColumnRef { number, path: None }
+fn place(alloc: Global, c: u8) -> Result<Clustering, AllocError> {
+    let cut = cut(alloc, Some(c), false)?;
+    Ok(Clustering {
+        values: cut.prefix,
+        order: cut.order,
+    })
 }
 
 fn cell(alloc: Global, at: u8) -> Result<Cell, AllocError> {
     Ok(Cell::Plain {
         at: i64::from(at),
-        value: Bytes::copy_of(alloc, &[at])?,
+        value: key(alloc, at)?,
     })
 }
 
 fn written(alloc: Global, c: u8, at: u8) -> Result<Atom, AllocError> {
     let path = Bytes::copy_of(alloc, &[])?;
-    Ok(Atom::Write(place(alloc, c)?, column(2), path, cell(alloc, at)?))
-}
-
-fn inserted(alloc: Global, c: u8, at: u8) -> Result<Vec<Atom>, AllocError> {
-    let live = Liveness::Plain { at: i64::from(at) };
-    let place = place(alloc, c)?;
-    Ok(vec![in alloc; Atom::Live(place, live), written(alloc, c, at)?]?)
+    let column = ColumnRef {
+        number: 2,
+        path: None,
+    };
+    Ok(Atom::Write(place(alloc, c)?, column, path, cell(alloc, at)?))
 }
 
 fn static_written(alloc: Global, at: u8) -> Result<Atom, AllocError> {
     let path = Bytes::copy_of(alloc, &[])?;
-    Ok(Atom::StaticWrite(column(3), path, cell(alloc, at)?))
+    let column = ColumnRef {
+        number: 3,
+        path: None,
+    };
+    Ok(Atom::StaticWrite(column, path, cell(alloc, at)?))
 }
 
-fn atoms(alloc: Global, statement: Statement, at: u8) -> Result<Vec<Atom>, AllocError> {
-    let deletion = Deletion {
+fn rows_deleted(alloc: Global, c: u8, d: Deletion) -> Result<Atom, AllocError> {
+    let lo = cut(alloc, Some(c), false)?;
+    Ok(Atom::RangeDeletion(lo, cut(alloc, Some(6), true)?, d))
+}
+
+fn atom(alloc: Global, (kind, c, at): Statement) -> Result<Atom, AllocError> {
+    let at_that = Deletion {
         at: i64::from(at),
         second: 0,
     };
-    let atom = match statement {
-        Statement::Insert(c) => return inserted(alloc, c, at),
-        Statement::Update(c) => written(alloc, c, at)?,
-        Statement::UpdateStatic => static_written(alloc, at)?,
-        Statement::DeleteRow(c) => Atom::RowDeletion(place(alloc, c)?, deletion),
-        Statement::DeleteRows(least, greatest) => {
-            let lo = cut(alloc, least, false)?;
-            Atom::RangeDeletion(lo, cut(alloc, greatest, true)?, deletion)
-        }
-    };
-    Ok(vec![in alloc; atom]?)
+    match kind {
+        's' => static_written(alloc, at),
+        'd' => Ok(Atom::RowDeletion(place(alloc, c)?, at_that)),
+        'r' => rows_deleted(alloc, c, at_that),
+        _ => written(alloc, c, at),
+    }
 }
 
 pub(crate) fn key(alloc: Global, k: u8) -> Result<Bytes, AllocError> {
     Bytes::copy_of(alloc, &[k])
 }
 
-/// The statement on the partition k, at the timestamp.
-pub(crate) fn mutation(
-    alloc: Global,
-    k: u8,
-    statement: Statement,
-    at: u8,
-) -> Result<Mutation, AllocError> {
+/// The statement on the partition k.
+pub(crate) fn mutation(alloc: Global, k: u8, statement: Statement) -> Result<Mutation, AllocError> {
+    let (kind, c, at) = statement;
+    let at = i64::from(at);
+    let mut atoms = vec![in alloc; atom(alloc, statement)?]?;
+    if kind == 'i' {
+        atoms.push(Atom::Live(place(alloc, c)?, Liveness::Plain { at }))?;
+    }
     Ok(Mutation {
         table: 0,
         shard: 0,
         number: 0,
         drawn: false,
-        at: i64::from(at),
+        at,
         moment: 0,
         key: key(alloc, k)?,
-        atoms: List::from_vec(atoms(alloc, statement, at)?),
+        atoms: List::from_vec(atoms),
     })
 }
