@@ -121,117 +121,115 @@ fn sealed(alloc: Global, bytes: &[u8]) -> Option<MemSealed> {
 // The file of these bytes, loaded, or the place where it is refused.
 pub(crate) fn load(alloc: Global, bytes: &[u8]) -> Result<Table<MemSealed>, u64> {
     let (Ok(table), Ok(info), Some(file)) = (table(alloc), info(alloc), sealed(alloc, bytes)) else {
-        return Err(1000);
+        return Err(FAILED);
     };
     let mut tally = FaultCount::fresh();
     match Table::load(alloc, file, &table, 1, &info, &mut tally) {
         Ok(table) => Ok(table),
         Err(TableFault::BadBlock { at, .. }) => Err(at),
-        Err(_) => Err(1000),
+        Err(_) => Err(FAILED),
     }
 }
 
-// What is answered where the byte at that place is this one.
-fn altered(alloc: Global, place: usize, byte: u8) -> Result<(), u64>
-    requires { place < 221 }
-{
-    let mut bytes = FILE;
+// The answer where a file is loaded, and where no bytes are so.
+const LOADED: u64 = 999;
+
+const FAILED: u64 = 1000;
+
+// Where the file is refused that has this byte at a place, is so long, and where it is longer has a zero behind it.
+fn altered(alloc: Global, place: usize, byte: u8, long: usize) -> u64 {
+    let mut bytes = [0; 222];
+    bytes[..221].copy_from_slice(&FILE);
+    if place >= 222 || long > 222 {
+        return FAILED;
+    }
     bytes[place] = byte;
-    match load(alloc, &bytes) {
-        Ok(_) => Ok(()),
-        Err(at) => Err(at),
+    match load(alloc, &bytes[..long]) {
+        Ok(_) => LOADED,
+        Err(at) => at,
     }
 }
 
-// Another byte at a place: whether the file is loaded, or where it is refused.
-const ALTERED: [(usize, u8, Result<(), u64>); 30] = [
-    (0, 0x43, Ok(())), // as it is
-    (7, 0x32, Err(0)), // another word
-    (9, 1, Ok(())), // the first version
-    (9, 3, Err(8)), // a third one
-    (11, 4, Err(10)), // another table
-    (12, 2, Err(12)), // another shard
-    (20, 0xfe, Err(13)), // another file
-    (23, 9, Ok(())), // partitions aren't looked at
-    (85, 3, Err(133)), // more partitions than there are
-    (85, 1, Err(101)), // fewer
-    (88, 3, Err(101)), // the second key isn't above the first
-    (96, 0x16, Err(82)), // no partition stands behind the header
-    (103, 1, Err(101)), // one key twice
-    (111, 0x15, Err(104)), // one place twice
-    (115, 0, Err(116)), // a block fewer
-    (131, 0x52, Err(82)), // a block behind the partitions
-    (136, 0x48, Err(137)), // more bits than there are
-    (137, 0, Ok(())), // bits of keys aren't looked at
-    (152, 0xfe, Err(145)), // another file
-    (160, 0xdc, Err(153)), // another length
-    (163, 2, Err(161)), // another first key
-    (166, 3, Err(164)), // another last key
-    (174, 4, Err(167)), // another timestamp
-    (183, 2, Err(183)), // no flag
-    (184, 1, Err(184)), // another level
-    (188, 1, Err(185)), // fewer keys
-    (196, 0x10, Err(189)), // an index within the header
-    (204, 0x51, Err(197)), // a filter before the index
-    (212, 0xbe, Err(205)), // an info behind the footer
-    (220, 0x32, Err(213)), // another word
+// Another byte at a place, or another length: whether the file is loaded, or where it is refused.
+const ALTERED: [(usize, u8, usize, u64); 34] = [
+    (0, 0x43, 221, LOADED), // as it is
+    (7, 0x32, 221, 0), // another word
+    (9, 1, 221, LOADED), // the first version
+    (9, 3, 221, 8), // a third one
+    (11, 4, 221, 10), // another table
+    (12, 2, 221, 12), // another shard
+    (20, 0xfe, 221, 13), // another file
+    (23, 9, 221, LOADED), // partitions aren't looked at
+    (85, 3, 221, 133), // more partitions than there are
+    (85, 1, 221, 101), // fewer
+    (88, 3, 221, 101), // the second key isn't above the first
+    (96, 0x16, 221, 82), // no partition stands behind the header
+    (103, 1, 221, 101), // one key twice
+    (111, 0x15, 221, 104), // one place twice
+    (115, 0, 221, 116), // a block fewer
+    (131, 0x52, 221, 82), // a block behind the partitions
+    (136, 0x48, 221, 137), // more bits than there are
+    (137, 0, 221, LOADED), // bits of keys aren't looked at
+    (152, 0xfe, 221, 145), // another file
+    (160, 0xdc, 221, 153), // another length
+    (163, 2, 221, 161), // another first key
+    (166, 3, 221, 164), // another last key
+    (174, 4, 221, 167), // another timestamp
+    (183, 2, 221, 183), // no flag
+    (184, 1, 221, 184), // another level
+    (188, 1, 221, 185), // fewer keys
+    (196, 0x10, 221, 189), // an index within the header
+    (204, 0x51, 221, 197), // a filter before the index
+    (212, 0xbe, 221, 205), // an info behind the footer
+    (220, 0x32, 221, 213), // another word
+    (221, 0, 222, 221), // a byte more
+    (0, 0x43, 220, 213), // a byte fewer
+    (0, 0x43, 100, 189), // cut in the index
+    (0, 0x43, 5, 0), // cut in the header
 ];
 
 #[test]
 fn each_part_is_refused_where_it_is_wrong(rt: HostRuntime) {
-    for i in 0..30 {
-        let (place, byte, answer) = ALTERED[i];
-        if place < 221 {
-            assert!(rt; altered(rt.alloc(), place, byte) == answer, "{place}");
-        }
+    for i in 0..34 {
+        let (place, byte, long, answer) = ALTERED[i];
+        assert!(rt;
+            altered(rt.alloc(), place, byte, long) == answer,
+            "{place} of {long}"
+        );
     }
 }
 
-// Where the file is refused that ends there, or has one byte more.
-fn ends(alloc: Global, long: usize) -> Result<(), u64> {
-    let mut bytes = [0; 222];
-    bytes[..221].copy_from_slice(&FILE);
-    if long > 222 {
-        return Ok(());
-    }
-    match load(alloc, &bytes[..long]) {
-        Ok(_) => Ok(()),
-        Err(at) => Err(at),
+// Where the partition of the key stands, where it ends, and the next key; zero for what isn't there,
+// and for no key.
+fn found(table: &Table<MemSealed>, key: u8) -> (u64, u64, u8) {
+    let after = [key];
+    let next = match table.next_key(if key == 0 { None } else { Some(&after) }) {
+        Some(next) => next.first().copied().unwrap_or(0),
+        None => 0,
+    };
+    match table.find(&after) {
+        Some(partition) => (table.place(partition), table.place_behind(partition), next),
+        None => (0, 0, next),
     }
 }
 
-#[test]
-fn a_file_of_another_length(rt: HostRuntime) {
-    let alloc = rt.alloc();
-    assert!(rt;
-        ends(alloc, 221) == Ok(())
-            && ends(alloc, 222) == Err(221)
-            && ends(alloc, 220) == Err(213)
-            && ends(alloc, 100) == Err(189)
-            && ends(alloc, 5) == Err(0)
-    );
-}
-
-// Where the partition of the key stands, and where it ends.
-fn places(table: &Table<MemSealed>, key: u8) -> Option<(u64, u64)> {
-    match table.find(&[key]) {
-        Some(partition) => Some((table.place(partition), table.place_behind(partition))),
-        None => None,
-    }
-}
+// Keys, and what is found of them.
+const FOUND: [(u8, (u64, u64, u8)); 4] = [
+    (0, (0, 0, 1)),
+    (1, (21, 47, 2)),
+    (2, (47, 82, 0)),
+    (3, (0, 0, 0)),
+];
 
 #[test]
 fn what_is_found(rt: HostRuntime) {
     let table = load(rt.alloc(), &FILE);
-    assert!(rt;
-        match &table {
-            Ok(table) => places(table, 1) == Some((21, 47))
-                && places(table, 2) == Some((47, 82))
-                && places(table, 3) == None
-                && table.next_key(None) == Some(&[1])
-                && table.next_key(Some(&[1])) == Some(&[2])
-                && table.next_key(Some(&[2])) == None,
+    for i in 0..4 {
+        let (key, answer) = FOUND[i];
+        let is = match &table {
+            Ok(table) => found(table, key) == answer,
             Err(_) => false,
-        }
-    );
+        };
+        assert!(rt; is, "{key}");
+    }
 }

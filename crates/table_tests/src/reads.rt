@@ -17,14 +17,14 @@ use cas_tables::Version;
 use cas_types::{Bytes, COLUMN_LIMIT};
 use std::alloc::{AllocError, Global};
 
-// What is read of a key: nothing, or the timestamp of the partition's deletion, the last byte of the
-// first row's place, and whether there is nothing behind it.
-#[derive(Clone, Copy, Debug, PartialEq, Eq)]
-enum Told {
-    Nothing,
-    Partition(Option<i64>, Option<u8>, bool),
-    Failed,
-}
+// What is read of a key: the timestamp of the partition's deletion, the last byte of the first row's
+// place, and whether there is nothing behind it; zero for what isn't there.
+type Told = (i64, u8, bool);
+
+// There is no such partition.
+const NOTHING: Told = (-1, 0, false);
+
+const FAILED: Told = (-2, 0, false);
 
 fn is_second(table: &Table<MemSealed>) -> bool
     ensures { IsTrue result → table.now.kept.version ≡ Second }
@@ -66,14 +66,14 @@ fn rows_from(
 }
 
 // The last byte of a row's place.
-fn place_of(fragment: &Fragment) -> Option<u8> {
+fn place_of(fragment: &Fragment) -> u8 {
     match fragment {
         Fragment::Row(row) => match row.clustering.values.as_slice().first() {
-            Some(value) => value.as_slice().last().copied(),
-            None => None,
+            Some(value) => value.as_slice().last().copied().unwrap_or(0),
+            None => 0,
         },
-        Fragment::Static(_) => None,
-        Fragment::Marker(_, _) => None,
+        Fragment::Static(_) => 0,
+        Fragment::Marker(_, _) => 0,
     }
 }
 
@@ -81,17 +81,17 @@ fn place_of(fragment: &Fragment) -> Option<u8> {
 fn drawn(source: Blocks<'_, MemSealed>) -> Told {
     let mut source = source;
     let deleted = match source.top() {
-        Some(deletion) => Some(deletion.at),
-        None => None,
+        Some(deletion) => deletion.at,
+        None => 0,
     };
     let row = match source.next() {
         Ok(Some(fragment)) => place_of(&fragment),
-        Ok(None) => None,
-        Err(_) => return Told::Failed,
+        Ok(None) => 0,
+        Err(_) => return FAILED,
     };
     match source.next() {
-        Ok(next) => Told::Partition(deleted, row, next.is_none()),
-        Err(_) => Told::Failed,
+        Ok(next) => (deleted, row, next.is_none()),
+        Err(_) => FAILED,
     }
 }
 
@@ -104,35 +104,41 @@ fn read(alloc: Global, table: &Table<MemSealed>, key: u8, slice: &Slice) -> Told
     let mut tally = FaultCount::fresh();
     match read_slice(alloc, table, &[key], slice, &mut tally) {
         Ok(Some(source)) => drawn(source),
-        Ok(None) => Told::Nothing,
-        Err(_) => Told::Failed,
+        Ok(None) => NOTHING,
+        Err(_) => FAILED,
     }
 }
 
 // What is read of a key, from a row on.
 fn read_from(alloc: Global, table: &Table<MemSealed>, key: u8, value: u8, after: bool) -> Told {
     if !is_readable(table) {
-        return Told::Failed;
+        return FAILED;
     }
     match rows_from(alloc, table, value, after) {
         Ok(slice) => read(alloc, table, key, &slice),
-        Err(_) => Told::Failed,
+        Err(_) => FAILED,
     }
 }
+
+// Keys, from where on their rows are read, whether behind that one, and what is read.
+const READ: [(u8, u8, bool, Told); 5] = [
+    (1, 0, false, (5, 0, true)),
+    (2, 0, false, (0, 9, true)),
+    (2, 9, false, (0, 9, true)),
+    (2, 9, true, (0, 0, true)),
+    (3, 0, false, NOTHING),
+];
 
 #[test]
 fn what_is_read(rt: HostRuntime) {
     let alloc = rt.alloc();
     let table = load(alloc, &FILE);
-    assert!(rt;
-        match &table {
-            Ok(table) => read_from(alloc, table, 1, 0, false)
-                == Told::Partition(Some(5), None, true)
-                && read_from(alloc, table, 2, 0, false) == Told::Partition(None, Some(9), true)
-                && read_from(alloc, table, 2, 9, false) == Told::Partition(None, Some(9), true)
-                && read_from(alloc, table, 2, 9, true) == Told::Partition(None, None, true)
-                && read_from(alloc, table, 3, 0, false) == Told::Nothing,
+    for i in 0..5 {
+        let (key, value, after, answer) = READ[i];
+        let is = match &table {
+            Ok(table) => read_from(alloc, table, key, value, after) == answer,
             Err(_) => false,
-        }
-    );
+        };
+        assert!(rt; is, "{key} from {value}");
+    }
 }
