@@ -1,12 +1,12 @@
 //! Sources joined in pairs, and pairs in pairs.
 
-ghost use Rattle.std.specs.Prelude.{◌≡◌, List, Option, Some, OnOk, ◌≤◌, ◌+◌};
+ghost use Rattle.std.specs.Prelude.{◌≡◌, ◌⊎◌, List, Option, Some, OnOk, IfErr, alloc_error, ◌≤◌, ◌+◌};
 ghost use Rattle.cas_streams.specs.Sources.{TakesFirst, Shrinks};
 ghost use Rattle.cas_streams.specs.Merged.{Draw, entered};
 ghost use Rattle.cas_streams.specs.Joined.{Stream};
 ghost use Rattle.cas_streams.specs.declared.fragment.Fragment.{Fragment};
 ghost use Rattle.cas_streams.specs.Joined.{raised, opened};
-ghost use Rattle.cas_merge.specs.Inner.Brackets.{coming, room, with_next, side_room, ahead_of, IsAsked, Steps, Lessens, fresh, left_to_come, IsFresh, Tells};
+ghost use Rattle.cas_merge.specs.Inner.Brackets.{coming, room, with_next, side_room, ahead_of, IsAsked, IsBrokenBy, Steps, Lessens, fresh, left_to_come, IsFresh, Tells};
 
 use crate::joining::{joined_fragment, opened, raised};
 use crate::places::compare_fragments;
@@ -118,6 +118,7 @@ impl<I: FragmentSource> Bracket<I> {
     pub fn next(&mut self, alloc: Global) -> Result<Option<Fragment>, I::Fault>
         ensures first { (fs : List Fragment) → coming I.to_come self.old ≡ Some fs → TakesFirst fs (coming I.to_come self.new) result }
         ensures ends { Shrinks (room I.at_most self.old) (room I.at_most self.new) result }
+        ensures causes { IfErr result (λ e. IsBrokenBy I.broken_by e self.new ⊎ I.Fault.from_gives alloc_error e) }
     {
         match self {
             Bracket::Nobody => Ok(None),
@@ -167,6 +168,7 @@ impl<I: FragmentSource> Bracket<I> {
         ensures first { (fs : List Fragment) → left_to_come top now.old (coming I.to_come self.old) ≡ Some fs
             → TakesFirst fs (left_to_come top now.new (coming I.to_come self.new)) result }
         ensures ends { Shrinks (room I.at_most self.old) (room I.at_most self.new) result }
+        ensures causes { IfErr result (λ e. IsBrokenBy I.broken_by e self.new ⊎ I.Fault.from_gives alloc_error e) }
     {
         while let Some(f) = self.next(alloc)? {
             let before = *now;
@@ -186,6 +188,7 @@ impl<I: FragmentSource> Bracket<I> {
         ensures ends { OnOk result (side_room side.new.ahead (room I.at_most self.new) ≤ side_room side.old.ahead (room I.at_most self.old)) }
         ensures force { side.new.in_force ≡ side.old.in_force }
         ensures asked { OnOk result (IsAsked side.new.ahead) }
+        ensures causes { IfErr result (λ e. IsBrokenBy I.broken_by e self.new ⊎ I.Fault.from_gives alloc_error e) }
     {
         match &side.ahead {
             Ahead::Unasked => {}

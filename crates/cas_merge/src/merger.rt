@@ -1,13 +1,13 @@
 //! The merge of sources, itself a source.
 
-ghost use Rattle.std.specs.Prelude.{◌≡◌, List, [], ◌++◌, Option, None, Some, IfOk};
+ghost use Rattle.std.specs.Prelude.{◌≡◌, ◌⊎◌, List, [], ◌++◌, Option, None, Some, IfOk, IfErr, IfSome, alloc_error};
 ghost use Rattle.std.specs.Option.{option_to_list};
 ghost use Rattle.cas_cell.specs.Deletions.{deletion_cmp};
 ghost use Rattle.cas_atoms.specs.Greatest.{greatest};
 ghost use Rattle.cas_streams.specs.Joined.{Stream};
 ghost use Rattle.cas_streams.specs.Merged.{draw, joined_all, merged};
 ghost use Rattle.cas_merge.specs.Told.{streams_told, HasGiven};
-ghost use Rattle.cas_merge.specs.Inner.Brackets.{coming, room};
+ghost use Rattle.cas_merge.specs.Inner.Brackets.{coming, room, IsBrokenBy};
 ghost use Rattle.cas_merge.specs.Inner.Mergers.{rooms, merger_to_come, merger_room};
 ghost use Rattle.cas_streams.specs.Sources.{TakesFirst, Shrinks, KeepsFault};
 ghost use Rattle.cas_streams.specs.declared.fragment.Fragment.{Fragment};
@@ -52,6 +52,7 @@ pub struct Merger<I: FragmentSource> {
     waiting: Vec<I>,
     bracket: Bracket<I>,
     broken: Option<I::Fault>,
+    ghost caused: { ∥ IfSome broken (λ e. IsBrokenBy I.broken_by e bracket ⊎ I.Fault.from_gives alloc_error e) ∥₁ },
 }
 
 impl<I: FragmentSource> Merger<I> {
@@ -74,8 +75,18 @@ impl<I: FragmentSource> Merger<I> {
         }
     }
 
+    /// The sources that were asked, in their pairs and at the places that were reached, also after a
+    /// fault. A fault is one that broke one of them, or want of memory.
+    pub fn end(self) -> Bracket<I>
+        ensures bracket { result ≡ self.bracket }
+        ensures causes { ∥ IfSome self.broken (λ e. IsBrokenBy I.broken_by e result ⊎ I.Fault.from_gives alloc_error e) ∥₁ }
+    {
+        self.bracket
+    }
+
     // The next fragment, of a merger that isn't broken.
     fn advance(&mut self) -> Result<Option<Fragment>, I::Fault>
+        requires { self.old.broken ≡ None }
         ensures top { self.new.top ≡ self.old.top }
         ensures broken { self.new.broken ≡ self.old.broken }
         ensures first { (fs : List Fragment) → merger_to_come I.to_come I.over_all self.old.top self.old.in_force self.old.waiting.items
@@ -83,6 +94,7 @@ impl<I: FragmentSource> Merger<I> {
             self.new.bracket) result }
         ensures ends { Shrinks (merger_room I.at_most self.old.waiting.items self.old.bracket)
             (merger_room I.at_most self.new.waiting.items self.new.bracket) result }
+        ensures causes { IfErr result (λ e. IsBrokenBy I.broken_by e self.new.bracket ⊎ I.Fault.from_gives alloc_error e) }
     {
         if !self.waiting.is_empty() {
             let alloc = *self.waiting.allocator();
