@@ -6,7 +6,8 @@ ghost use Rattle.cas_streams.specs.Merged.{Draw, entered};
 ghost use Rattle.cas_streams.specs.Joined.{Stream};
 ghost use Rattle.cas_streams.specs.declared.fragment.Fragment.{Fragment};
 ghost use Rattle.cas_streams.specs.Joined.{raised, opened};
-ghost use Rattle.cas_merge.specs.Inner.Brackets.{coming, room, with_next, side_room, ahead_of, IsAsked, IsBrokenBy, Steps, Lessens, fresh, left_to_come, IsFresh, Tells};
+ghost use Rattle.cas_merge.specs.Told.{IsBrokenBy};
+ghost use Rattle.cas_merge.specs.Inner.Brackets.{coming, room, with_next, side_room, ahead_of, IsAsked, Steps, Lessens, fresh, left_to_come, IsFresh, Tells};
 
 use crate::joining::{joined_fragment, opened, raised};
 use crate::places::compare_fragments;

@@ -6,8 +6,8 @@ ghost use Rattle.cas_cell.specs.Deletions.{deletion_cmp};
 ghost use Rattle.cas_atoms.specs.Greatest.{greatest};
 ghost use Rattle.cas_streams.specs.Joined.{Stream};
 ghost use Rattle.cas_streams.specs.Merged.{draw, joined_all, merged};
-ghost use Rattle.cas_merge.specs.Told.{streams_told, HasGiven};
-ghost use Rattle.cas_merge.specs.Inner.Brackets.{coming, room, IsBrokenBy};
+ghost use Rattle.cas_merge.specs.Told.{streams_told, HasGiven, IsBrokenBy};
+ghost use Rattle.cas_merge.specs.Inner.Brackets.{coming, room};
 ghost use Rattle.cas_merge.specs.Inner.Mergers.{rooms, merger_to_come, merger_room};
 ghost use Rattle.cas_streams.specs.Sources.{TakesFirst, Shrinks, KeepsFault};
 ghost use Rattle.cas_streams.specs.declared.fragment.Fragment.{Fragment};
@@ -79,7 +79,7 @@ impl<I: FragmentSource> Merger<I> {
     /// fault. A fault is one that broke one of them, or want of memory.
     pub fn end(self) -> Bracket<I>
         ensures bracket { result ≡ self.bracket }
-        ensures causes { ∥ IfSome self.broken (λ e. IsBrokenBy I.broken_by e result ⊎ I.Fault.from_gives alloc_error e) ∥₁ }
+        ensures causes { ∥ IfSome (⟦<Merger<I> as FragmentSource>⟧.broken_by self) (λ e. IsBrokenBy I.broken_by e result ⊎ I.Fault.from_gives alloc_error e) ∥₁ }
     {
         self.bracket
     }

@@ -1,5 +1,5 @@
 -- What is still to come of sources that are joined in pairs, and pairs in pairs (own).
-use Rattle.std.specs.Prelude.{◌≡◌, ◌⊎◌, ℕ, ◌+◌, Option, None, Some, List, [], ◌∷◌, Result}
+use Rattle.std.specs.Prelude.{◌≡◌, ℕ, ◌+◌, Option, None, Some, List, [], ◌∷◌, Result}
 use Rattle.cas_cell.specs.declared.deletion.Deletion.{Deletion}
 use Rattle.cas_streams.specs.Weaving.{woven}
 use Rattle.cas_streams.specs.Joined.{by_place}
@@ -74,12 +74,6 @@ Tells tells tops Nobody nobody = Unit {0}
 Tells tells tops (Source s) (one t) = (tells s ≡ Some t.fragments) × (tops s ≡ t.top)
 Tells tells tops (Pair' p l s q r t) (pair a b) = Tells tells tops l a × Tells tells tops r b × (s ≡ fresh) × (t ≡ fresh)
 Tells tells tops b d = ⊥
-
--- one of the sources is broken by that fault
-abbrev pub IsBrokenBy : {I E : Type 0} → (I → Option E) → E → Bracket I → Type 0
-IsBrokenBy broken e Nobody = ⊥
-IsBrokenBy broken e (Source s) = broken s ≡ Some e
-IsBrokenBy broken e (Pair' p l s q r t) = IsBrokenBy broken e l ⊎ IsBrokenBy broken e r
 
 -- no side was asked yet
 abbrev pub IsFresh : {I : Type 0} → Bracket I → Type 0
