@@ -19,7 +19,8 @@ use Rattle.cas_streams.specs.declared.fragment.Fragment.{Fragment}
 use Rattle.cas_merge.specs.Told.{streams_told}
 use Rattle.cas_memtable.specs.Memtables.{IsOfColumns}
 use Rattle.cas_memtable.specs.declared.memtable.MemPart.{MemPart}
-use Rattle.cas_memtable.specs.Kept.{all_of, atoms_under, StandInEach}
+use Rattle.cas_memtable.specs.declared.parts.Parts.{Parts}
+use Rattle.cas_memtable.specs.Kept.{all_of, atoms_under, memtables_of, StandInEach}
 use Rattle.cas_facts.specs.declared.facts.Facts.{Facts}
 use Rattle.cas_tables.specs.Contents.{Contents, Partition}
 use Rattle.cas_sstread.specs.Loading.{Held}
@@ -57,10 +58,23 @@ HoldEach order [] ms wss = StandInEach order ms wss
 HoldEach order (f ∷ fs) ms [] = ⊥
 HoldEach order (f ∷ fs) ms (ws ∷ wss) = StandInFile order f ws × HoldEach order fs ms wss
 
+-- what a table has stored in a shard: its files, in the order in which they came, and its memtables
+pub record StoredTable : Type 0 where
+  pub files : List (File Held)
+  pub parts : Parts
+
+-- it holds these mutations: file by file, and behind them memtable by memtable
+abbrev pub HoldsEach : List Ordered → StoredTable → List (List Mutation) → Type 0
+HoldsEach order t wss = HoldEach order t.files (memtables_of t.parts) wss
+
 -- files and memtables are of a table with these columns
 pub record AreOfTable (columns : List Column) (fs : List (File Held)) (ms : List MemPart) : Type 0 where
   pub files : AllByRecursion (IsFileOf columns) fs
   pub memtables : AllByRecursion (IsOfColumns columns) ms
+
+-- it is of a table with these columns
+abbrev pub IsStoredOf : List Column → StoredTable → Type 0
+IsStoredOf columns t = AreOfTable columns t.files (memtables_of t.parts)
 
 -- Sources that show a partition: what they tell are streams in order, and well formed where files and memtables are of a table with some columns; in the slice
 -- they say the same as the mutations together, and nowhere more. There is none exactly where nothing was written under the key.

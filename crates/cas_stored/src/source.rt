@@ -1,10 +1,14 @@
 //! A source of a partition, of what is in memory or of what stands in a file.
 
+ghost use Rattle.std.specs.Prelude.{◌≡◌, Some};
+ghost use Rattle.cas_blocks.specs.declared.fault.TableFault.TheVariants as table_fault;
+ghost use Rattle.cas_disk.specs.Counts.{Counted};
 ghost use Rattle.cas_stored.specs.Inner.Either.{of_either, fault_of};
 
 use crate::file::FileSource;
 use cas_blocks::TableFault;
 use cas_cell::Deletion;
+use cas_disk::{Count, Sealed};
 use cas_merge::Merger;
 use cas_streams::{Fragment, FragmentSource, Part};
 use std::alloc::AllocError;
@@ -18,6 +22,17 @@ pub enum StoredSource<M, F> {
 
 /// What a table has stored of a partition in one place.
 pub type Source<'a, S> = StoredSource<Merger<Part>, FileSource<'a, S>>;
+
+/// Adds the tally of a source; where it was broken by a read that failed, the sum rises.
+pub(crate) fn add_tally<'a, S: Sealed>(source: Source<'a, S>, tally: &mut S::Tally)
+    ensures { Counted (S.Tally.number tally.old) (S.Tally.number tally.new)
+        (⟦<Source<'a, S> as FragmentSource>⟧.broken_by source.entry ≡ Some table_fault.Read) }
+{
+    match source {
+        StoredSource::Memory(_) => {}
+        StoredSource::File(file) => tally.add(file.end()),
+    }
+}
 
 impl<M: FragmentSource<Fault = AllocError>, F: FragmentSource<Fault = TableFault>> FragmentSource
     for StoredSource<M, F> {

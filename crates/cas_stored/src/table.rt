@@ -1,19 +1,22 @@
 //! What a table has stored in a shard.
 
-ghost use Rattle.std.specs.Prelude.{◌≡◌, ◌++◌, ◌∷◌, [], ◌≤◌, length, IfOk, IfErr, IsErrOf, List as ListOf};
+ghost use Rattle.std.specs.Prelude.{◌≡◌, ◌++◌, ◌∷◌, [], ◌≤◌, length, IfOk, IfErr, IsErrOf, OnOk, List as ListOf, is_ok, ◌&&◌, not, ◌==◌, if◌then◌else◌};
 ghost use Rattle.std.specs.Arc.{arc_value};
 ghost use Rattle.cas_bounds.specs.declared.order.Ordered.{Ordered as Order};
 ghost use Rattle.cas_types.specs.declared.schema.Column.{Column as ColumnOf};
 ghost use Rattle.cas_atoms.specs.declared.atom.Mutation.{Mutation as Wrote};
 ghost use Rattle.cas_disk.specs.Counts.{Counted};
-ghost use Rattle.cas_memtable.specs.Kept.{all_of, memtables_of};
+ghost use Rattle.cas_partition.specs.Partitions.{AllFit, AreAtomsOf};
+ghost use Rattle.cas_memtable.specs.Memtables.{HasPlaces};
+ghost use Rattle.cas_memtable.specs.Kept.{all_of, begun, memtables_of, with_one};
 ghost use Rattle.cas_sstread.specs.Loading.{Held};
 ghost use Rattle.cas_view.specs.Views.{File, file_of};
-ghost use Rattle.cas_stored.specs.Stored.{AreOfTable, HoldEach, IsFileOf, ShowStored, StandInFile, flushed, oldest};
+ghost use Rattle.cas_stored.specs.Stored.{HoldsEach, IsFileOf, IsStoredOf, ShowStored, StandInFile, flushed, oldest};
 ghost use Rattle.cas_stored.specs.Reading.{AreReadIn, IsWhyNot};
 
 use crate::files::{put_files, put_memory};
 use crate::source::Source;
+use cas_atoms::Mutation;
 use cas_blocks::TableFault;
 use cas_bounds::Slice;
 use cas_disk::{Count, Sealed};
@@ -22,18 +25,87 @@ use cas_sstread::Table;
 use cas_streams::FragmentSource;
 use cas_types::{Bytes, Mem};
 use cas_view::{OpenFile, View};
-use std::alloc::Global;
+use std::alloc::{AllocError, Global};
+use std::marker::Model;
 use std::sync::Arc;
 
 /// What a table has stored in a shard: its memtables, and a view of its files. Who reads shares the
 /// view, and goes on with it when the table has another one.
 #[derive(Drop)]
 pub struct TableStore<S: Sealed> {
-    pub parts: Parts,
-    pub view: Arc<View<Table<S>>, Global>,
+    pub(crate) parts: Parts,
+    pub(crate) view: Arc<View<Table<S>>, Global>,
+}
+
+impl<S: Sealed> Model for TableStore<S> {
+    ghost use Rattle.std.specs.Arc.{arc_value};
+    ghost use Rattle.cas_stored.specs.Stored.{StoredTable};
+
+    ghost Value = { StoredTable };
+
+    ghost view = { λ t. record { files = arc_value t.view; parts = t.parts } };
 }
 
 impl<S: Sealed> TableStore<S> {
+    /// One memtable, which holds nothing, and no file.
+    pub fn new(alloc: Global) -> Result<Self, Mem>
+        ensures holds { IfOk result (λ t. (order : ListOf Order) → HoldsEach order t ([] ∷ [])) }
+        ensures files { IfOk result (λ t. t.files ≡ []) }
+        ensures columns { IfOk result (λ t. (columns : ListOf ColumnOf) → IsStoredOf columns t) }
+    {
+        Ok(TableStore {
+            parts: Parts::new(alloc),
+            view: Arc::new(alloc, View::new(alloc))?,
+        })
+    }
+
+    /// Its memtables.
+    pub fn parts(&self) -> &Parts
+        ensures { result.now ≡ self.now.parts }
+    {
+        &self.parts
+    }
+
+    /// Its files.
+    pub fn view(&self) -> &Arc<View<Table<S>>, Global>
+        ensures { arc_value result.now ≡ self.now.files }
+    {
+        &self.view
+    }
+
+    /// Makes place for a mutation, which `apply` then takes without memory.
+    pub fn reserve(&mut self, mutation: &Mutation) -> Result<(), AllocError>
+        ensures places { OnOk result (HasPlaces self.new.parts.active mutation.now) }
+        ensures holds { (order : ListOf Order) (wss : ListOf (ListOf Wrote)) → HoldsEach order self.old wss → AreAtomsOf order mutation.now.atoms
+            → HoldsEach order self.new wss }
+        ensures columns { (columns : ListOf ColumnOf) → IsStoredOf columns self.old → AllFit columns mutation.now.atoms → IsStoredOf columns self.new }
+        ensures files { self.new.files ≡ self.old.files }
+    {
+        self.parts.reserve(mutation)
+    }
+
+    /// Joins a mutation for which place was made.
+    pub fn apply(&mut self, mutation: Mutation)
+        requires { HasPlaces self.old.parts.active mutation }
+        ensures holds { (order : ListOf Order) (wss : ListOf (ListOf Wrote)) → HoldsEach order self.old wss → AreAtomsOf order mutation.atoms
+            → HoldsEach order self.new (with_one mutation wss) × (all_of (with_one mutation wss) ≡ all_of wss ++ mutation ∷ []) }
+        ensures columns { (columns : ListOf ColumnOf) → IsStoredOf columns self.old → AllFit columns mutation.atoms → IsStoredOf columns self.new }
+        ensures files { self.new.files ≡ self.old.files }
+    {
+        self.parts.apply(mutation);
+    }
+
+    /// Freezes the memtable that is written to, and begins another one. One whose records have no
+    /// bytes stays. Where memory runs out all is as before.
+    pub fn freeze(&mut self, alloc: Global) -> Result<(), Mem>
+        ensures holds { (order : ListOf Order) (wss : ListOf (ListOf Wrote)) → HoldsEach order self.old wss
+            → HoldsEach order self.new (if is_ok result && not (self.old.parts.active.bytes == 0) then begun wss else wss) }
+        ensures columns { (columns : ListOf ColumnOf) → IsStoredOf columns self.old → IsStoredOf columns self.new }
+        ensures files { self.new.files ≡ self.old.files }
+    {
+        self.parts.freeze(alloc)
+    }
+
     /// The sources of a partition in a slice: one of each file that has the key, and one of each
     /// memtable in which something was written under it. Their merge is the partition.
     pub fn sources<'a>(
@@ -43,12 +115,12 @@ impl<S: Sealed> TableStore<S> {
         slice: &Slice,
         tally: &mut S::Tally,
     ) -> Result<Vec<Source<'a, S>>, TableFault>
-        requires { AreReadIn slice.now (arc_value self.now.view) }
+        requires { AreReadIn slice.now self.now.files }
         ensures shows { IfOk result (λ v. (order : ListOf Order) (wss : ListOf (ListOf Wrote))
-            → HoldEach order (arc_value self.now.view) (memtables_of self.now.parts) wss → slice.now.lo.order ≡ order → slice.now.hi.order ≡ order
+            → HoldsEach order self.now wss → slice.now.lo.order ≡ order → slice.now.hi.order ≡ order
             → ShowStored ⟦<Source<'a, S> as FragmentSource>⟧.to_come ⟦<Source<'a, S> as FragmentSource>⟧.over_all order slice.now key.now
-            (arc_value self.now.view) (memtables_of self.now.parts) (all_of wss) v.items) }
-        ensures why { IfErr result (IsWhyNot (arc_value self.now.view) key.now) }
+            self.now.files (memtables_of self.now.parts) (all_of wss) v.items) }
+        ensures why { IfErr result (IsWhyNot self.now.files key.now) }
         ensures count { Counted (S.Tally.number tally.old) (S.Tally.number tally.new) (IsErrOf result TableFault.Read) }
     {
         let memory = self.parts.sources(alloc, key, slice)?;
@@ -71,7 +143,7 @@ impl<S: Sealed> TableStore<S> {
         alloc: Global,
         file: OpenFile<Table<S>>,
     ) -> Result<Arc<View<Table<S>>, Global>, Mem>
-        ensures { IfOk result (λ v. arc_value v ≡ arc_value self.now.view ++ file_of file ∷ []) }
+        ensures { IfOk result (λ v. arc_value v ≡ self.now.files ++ file_of file ∷ []) }
     {
         let mut added = Vec::new(alloc);
         added.push(file)?;
@@ -83,14 +155,13 @@ impl<S: Sealed> TableStore<S> {
     /// stands now, and lets go of these.
     pub fn swap(&mut self, view: Arc<View<Table<S>>, Global>, count: usize)
         requires { count ≤ length self.old.parts.frozen.items }
-        ensures holds { (order : ListOf Order) (wss : ListOf (ListOf Wrote)) (f : File Held) → arc_value view ≡ arc_value self.old.view ++ f ∷ []
-            → HoldEach order (arc_value self.old.view) (memtables_of self.old.parts) wss
-            → StandInFile order f (oldest (length (arc_value self.old.view)) count wss)
-            → HoldEach order (arc_value self.new.view) (memtables_of self.new.parts) (flushed (length (arc_value self.old.view)) count wss)
-            × (all_of (flushed (length (arc_value self.old.view)) count wss) ≡ all_of wss) }
-        ensures columns { (columns : ListOf ColumnOf) (f : File Held) → arc_value view ≡ arc_value self.old.view ++ f ∷ []
-            → AreOfTable columns (arc_value self.old.view) (memtables_of self.old.parts) → IsFileOf columns f
-            → AreOfTable columns (arc_value self.new.view) (memtables_of self.new.parts) }
+        ensures holds { (order : ListOf Order) (wss : ListOf (ListOf Wrote)) (f : File Held) → arc_value view ≡ self.old.files ++ f ∷ []
+            → HoldsEach order self.old wss → StandInFile order f (oldest (length self.old.files) count wss)
+            → HoldsEach order self.new (flushed (length self.old.files) count wss)
+            × (all_of (flushed (length self.old.files) count wss) ≡ all_of wss) }
+        ensures columns { (columns : ListOf ColumnOf) (f : File Held) → arc_value view ≡ self.old.files ++ f ∷ []
+            → IsStoredOf columns self.old → IsFileOf columns f → IsStoredOf columns self.new }
+        ensures files { self.new.files ≡ arc_value view }
     {
         self.view = view;
         self.parts.forget(count);
