@@ -1,5 +1,5 @@
 pub mod Places
 pub mod Founding
 mod Unflushed
-mod Restoring
+pub mod Restoring
 mod Starting

@@ -1,5 +1,5 @@
 -- The shards of a store with the mutations of its log, one after another.
-use Rattle.std.proofs.Common.{◌≡◌, ◌≢◌, ◌⊎◌, inl, inr, ◌<◌, ◌+◌, ◌==◌, ℕ, zero, suc, Bool, List, [], ◌∷◌, ◌++◌, take, Some, refl, sym, ap, ◌∙◌, subst}
+use Rattle.std.proofs.Common.{◌≡◌, ◌≢◌, ◌⊎◌, inl, inr, ◌<◌, ◌+◌, ◌==◌, ℕ, zero, suc, Bool, List, [], ◌∷◌, ◌++◌, take, length, Some, refl, sym, ap, ◌∙◌, subst}
 use Rattle.std.specs.Prelude.{slice_get, slice_set, if◌then◌else◌}
 use Rattle.std.specs.List.{AllByRecursion}
 use Rattle.cas_types.specs.declared.schema.TableSchema.{TableSchema}
@@ -9,10 +9,9 @@ use Rattle.cas_replay.specs.Grammar.{AreOfALog, AscendByOne, numbers_of}
 use Rattle.cas_shard.specs.Entries.{last_number}
 use Rattle.cas_shard.specs.declared.entry.ShardOpening.{ShardOpening}
 use Rattle.cas_shard.specs.Shards.{empty_shard, found_shard, restored}
-use Rattle.cas_shard.specs.Stands.{Belongs, Stands}
-use Rattle.cas_shard.specs.declared.shard.Shard.{Shard}
+use Rattle.cas_shard.specs.Stands.{Belongs, HasNoFiles, KeepsFiles, ShardState, Stands}
 use Rattle.cas_recovery.specs.Found.{found_in}
-use Rattle.cas_recovery.specs.Restored.{AreRestored}
+use Rattle.cas_recovery.specs.Restored.{AreRestored, HaveNoFiles}
 use Rattle.cas_recovery.proofs.Founding.{Reads, found_reads, goes_on, is_above, log_reads, numbers_more, numbers_some, one_more}
 use Rattle.cas_recovery.proofs.Places.{get_here, get_other, is_other, is_same, same_place}
 
@@ -24,10 +23,14 @@ get_pushed [] x y (suc n) is = cc
 get_pushed (z ∷ xs) x y zero is = inl is
 get_pushed (z ∷ xs) x y (suc n) is = get_pushed xs x y n is
 
-pub one_new : (tables : List TableSchema) (shards : List Shard) (x : Shard) → AreRestored tables [] shards → Stands tables (found_shard empty_shard) x
+pub one_new : (tables : List TableSchema) (shards : List ShardState) (x : ShardState) → AreRestored tables [] shards → Stands tables (found_shard empty_shard) x
     → AreRestored tables [] (shards ++ x ∷ [])
 one_new tables shards x are stands n y is =
-    elim (get_pushed shards x y n is) [ inl before ↦ are n y before | inr same ↦ subst (λ (z : Shard). Stands tables (found_shard empty_shard) z) same stands ]
+    elim (get_pushed shards x y n is) [ inl before ↦ are n y before | inr same ↦ subst (λ (z : ShardState). Stands tables (found_shard empty_shard) z) same stands ]
+
+pub no_files_new : (shards : List ShardState) (x : ShardState) → HaveNoFiles shards → HasNoFiles x → HaveNoFiles (shards ++ x ∷ [])
+no_files_new shards x are none n y is =
+    elim (get_pushed shards x y n is) [ inl before ↦ are n y before | inr same ↦ subst HasNoFiles same none ]
 
 -- ---- a mutation more
 
@@ -83,7 +86,7 @@ found_other : (n : ℕ) (done : List Mutation) (m : Mutation) → n ≢ m.shard 
 found_other n done m other =
     one_more n done m ∙ ap (λ (b : Bool). if b then restored m (found_in n done) else found_in n done) (is_other m.shard n other)
 
-pub more_restored : (tables : List TableSchema) (done : List Mutation) (m : Mutation) (shards : List Shard) (old new : Shard) → AreRestored tables done shards
+pub more_restored : (tables : List TableSchema) (done : List Mutation) (m : Mutation) (shards : List ShardState) (old new : ShardState) → AreRestored tables done shards
     → slice_get shards m.shard ≡ Some old → Stands tables (found_shard (restored m (found_in m.shard done))) new
     → AreRestored tables (done ++ m ∷ []) (slice_set shards m.shard new)
 more_restored tables done m shards old new are there stands n x is = at (same_place n m.shard)
@@ -93,10 +96,21 @@ more_restored tables done m shards old new are there stands n x is = at (same_pl
         let same : new ≡ x = (let set = get_here shards m.shard old new there in let its = ap (slice_get (slice_set shards m.shard new)) here in cc) in
         let found : found_in n (done ++ m ∷ []) ≡ restored m (found_in m.shard done) = ap (λ (k : ℕ). found_in k (done ++ m ∷ [])) here ∙ found_here done m in
         subst (λ (o : ShardOpening). Stands tables (found_shard o) x) (sym found)
-        (subst (λ (y : Shard). Stands tables (found_shard (restored m (found_in m.shard done))) y) same stands)
+        (subst (λ (y : ShardState). Stands tables (found_shard (restored m (found_in m.shard done))) y) same stands)
     at (inr other) =
         subst (λ (o : ShardOpening). Stands tables (found_shard o) x) (sym (found_other n done m other))
         (are n x (sym (get_other shards m.shard n new other) ∙ is))
+
+-- a shard that keeps its files has none where it had none, and the others stay
+pub one_keeps_none : (shards : List ShardState) (place : ℕ) (old new : ShardState) → HaveNoFiles shards → slice_get shards place ≡ Some old → KeepsFiles old new
+    → HaveNoFiles (slice_set shards place new)
+one_keeps_none shards place old new are there keeps n x is = at (same_place n place)
+  where
+    at : (n ≡ place) ⊎ (n ≢ place) → HasNoFiles x
+    at (inl here) =
+        let same : new ≡ x = (let set = get_here shards place old new there in let its = ap (slice_get (slice_set shards place new)) here in cc) in
+        subst HasNoFiles same (λ table. ap length (keeps table) ∙ are place old there table)
+    at (inr other) = are n x (sym (get_other shards place n new other) ∙ is)
 
 -- ---- the first shards
 
@@ -106,14 +120,17 @@ get_front (suc n) [] k x is = is
 get_front (suc n) (y ∷ ys) zero x is = is
 get_front (suc n) (y ∷ ys) (suc k) x is = get_front n ys k x is
 
-pub first_restored : (tables : List TableSchema) (mutations : List Mutation) (n : ℕ) (shards : List Shard) → AreRestored tables mutations shards
+pub first_restored : (tables : List TableSchema) (mutations : List Mutation) (n : ℕ) (shards : List ShardState) → AreRestored tables mutations shards
     → AreRestored tables mutations (take n shards)
 first_restored tables mutations n shards are k x is = are k x (get_front n shards k x is)
 
+pub first_no_files : (n : ℕ) (shards : List ShardState) → HaveNoFiles shards → HaveNoFiles (take n shards)
+first_no_files n shards are k x is = are k x (get_front n shards k x is)
+
 -- ---- where the numbers go on
 
-pub next_numbers : (tables : List TableSchema) (count : ℕ) (mutations : List Mutation) (shards : List Shard) → AreOfALog tables count mutations
-    → AreRestored tables mutations shards → (n : ℕ) (x : Shard) → slice_get shards n ≡ Some x → AscendByOne (numbers_of n mutations ++ (x.number + 1) ∷ [])
+pub next_numbers : (tables : List TableSchema) (count : ℕ) (mutations : List Mutation) (shards : List ShardState) → AreOfALog tables count mutations
+    → AreRestored tables mutations shards → (n : ℕ) (x : ShardState) → slice_get shards n ≡ Some x → AscendByOne (numbers_of n mutations ++ (x.number + 1) ∷ [])
 unfolding last_number
 next_numbers tables count mutations shards log are n x is =
     let number : x.number ≡ (found_in n mutations).number = (are n x is).number in

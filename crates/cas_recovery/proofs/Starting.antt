@@ -13,11 +13,11 @@ use Rattle.cas_journal.specs.Journals.{Lasts}
 use Rattle.cas_opening.specs.Opening.{IsOfBytes, IsOpenedWith, IsReadWith, OpensAs, told}
 use Rattle.cas_opening.specs.declared.opened.OpenStore.{OpenStore}
 use Rattle.cas_opening.proofs.Saids.{sound}
-use Rattle.cas_shard.specs.declared.shard.Shard.{Shard}
+use Rattle.cas_shard.specs.Stands.{ShardState}
 use Rattle.define_laws.proofs.Telling.{named_segments_define_nothing}
 use Rattle.define_laws.proofs.Told.{told_tables_are_tables}
 use Rattle.cas_recovery.specs.Found.{IsFound, IsUnflushed}
-use Rattle.cas_recovery.specs.Restored.{AreRestored, IsInMemory, IsTold}
+use Rattle.cas_recovery.specs.Restored.{AreRestored, HaveNoFiles, IsInMemory, IsTold}
 use Rattle.cas_recovery.proofs.Unflushed.{all_given, renamed, unnamed}
 use Rattle.cas_recovery.proofs.Restoring.{next_numbers}
 
@@ -51,9 +51,9 @@ module _ (entries : List Entry) (mutations handed : List Mutation) (o : OpenStor
       (subst (λ n. AreOfALog (said_by entries).tables n handed) (sym shards_read)
       (subst (λ ms. AreOfALog (said_by entries).tables (said_by entries).shards ms) (sym (all_read none)) read.log))
 
-  pub in_memory_read : IsUnflushed o.said → (given limits : Limits) (tables : List TableSchema) (shards : List Shard) → limits ≡ record given { shards = o.said.shards }
-      → tables ≡ o.said.tables → length shards ≡ o.said.shards → AreRestored tables handed shards → IsInMemory given entries mutations limits tables shards
-  in_memory_read none given limits tables shards same are count restored =
+  pub in_memory_read : IsUnflushed o.said → (given limits : Limits) (tables : List TableSchema) (shards : List ShardState) → limits ≡ record given { shards = o.said.shards }
+      → tables ≡ o.said.tables → length shards ≡ o.said.shards → AreRestored tables handed shards → HaveNoFiles shards → IsInMemory given entries mutations limits tables shards
+  in_memory_read none given limits tables shards same are count restored no_files =
       let all : AreRestored tables mutations shards = subst (λ ms. AreRestored tables ms shards) (all_read none) restored in
       record {
         same = same ∙ ap (λ (n : ℕ). record given { shards = n }) shards_read;
@@ -61,6 +61,7 @@ module _ (entries : List Entry) (mutations handed : List Mutation) (o : OpenStor
         good = subst AreTables (sym (are ∙ tables_read)) (told_tables_are_tables entries read.follow);
         count = count ∙ ap (λ (l : Limits). l.shards) (sym same);
         restored = all;
+        no_files = no_files;
         ordered = read.log.ordered;
         next = next_numbers tables (said_by entries).shards mutations shards
             (subst (λ ts. AreOfALog ts (said_by entries).shards mutations) (sym (are ∙ tables_read)) read.log) all;

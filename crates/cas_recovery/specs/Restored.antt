@@ -12,25 +12,29 @@ use Rattle.cas_journal.specs.Stores.{Told}
 use Rattle.cas_journal.specs.Journals.{Lasts}
 use Rattle.cas_journal.specs.declared.journal.Journal.{Journal}
 use Rattle.cas_opening.specs.Opening.{IsOfBytes, next_segment}
-use Rattle.cas_shard.specs.declared.shard.Shard.{Shard}
 use Rattle.cas_shard.specs.Shards.{found_shard}
-use Rattle.cas_shard.specs.Stands.{Stands}
+use Rattle.cas_shard.specs.Stands.{HasNoFiles, ShardState, Stands}
 use Rattle.cas_recovery.specs.Found.{IsFound, found_in}
 
 -- each shard has what the log has of it
-abbrev pub AreRestored : List TableSchema → List Mutation → List Shard → Type 0
-AreRestored tables mutations shards = (n : ℕ) (x : Shard) → slice_get shards n ≡ Some x → Stands tables (found_shard (found_in n mutations)) x
+abbrev pub AreRestored : List TableSchema → List Mutation → List ShardState → Type 0
+AreRestored tables mutations shards = (n : ℕ) (x : ShardState) → slice_get shards n ≡ Some x → Stands tables (found_shard (found_in n mutations)) x
+
+-- no shard has a table file
+abbrev pub HaveNoFiles : List ShardState → Type 0
+HaveNoFiles shards = (n : ℕ) (x : ShardState) → slice_get shards n ≡ Some x → HasNoFiles x
 
 -- the limits, tables and shards of a store of these entries and mutations
 pub record IsInMemory (given : Limits) (entries : List ManifestEntry) (mutations : List Mutation) (limits : Limits) (tables : List TableSchema)
-    (shards : List Shard) : Type 0 where
+    (shards : List ShardState) : Type 0 where
   pub same : limits ≡ record given { shards = (said_by entries).shards }
   pub tables_are : tables ≡ (said_by entries).tables
   pub good : AreTables tables
   pub count : length shards ≡ limits.shards
   pub restored : AreRestored tables mutations shards
+  pub no_files : HaveNoFiles shards
   pub ordered : AreInOrder mutations
-  pub next : (n : ℕ) (x : Shard) → slice_get shards n ≡ Some x → AscendByOne (numbers_of n mutations ++ (x.number + 1) ∷ [])
+  pub next : (n : ℕ) (x : ShardState) → slice_get shards n ≡ Some x → AscendByOne (numbers_of n mutations ++ (x.number + 1) ∷ [])
 
 -- what the journal was told of a store of these entries and mutations, which are all there
 pub record IsTold (entries : List ManifestEntry) (mutations : List Mutation) (t : Told) : Type 0 where
@@ -42,7 +46,7 @@ pub record IsTold (entries : List ManifestEntry) (mutations : List Mutation) (t 
   pub whole : t.leaving ≡ 0
 
 -- The store of a folder was opened: its limits, tables, shards and journal are those of the entries and mutations that were found, and these last.
-pub record IsStarted (given limits : Limits) (tables : List TableSchema) (shards : List Shard) (journal : Journal) (old new : Disk) : Type 0 where
+pub record IsStarted (given limits : Limits) (tables : List TableSchema) (shards : List ShardState) (journal : Journal) (old new : Disk) : Type 0 where
   pub entries : List ManifestEntry
   pub mutations : List Mutation
   pub found : IsFound given.shards old entries mutations

@@ -17,13 +17,13 @@ ghost use Rattle.cas_journal.specs.Stores.{IsStore};
 ghost use Rattle.cas_opening.specs.Opening.{IsOfBytes, IsReadWith, MayBeMadeNew, MayBeOpened};
 ghost use Rattle.cas_recovery.specs.Found.{IsUnfit, IsUnflushed};
 ghost use Rattle.cas_recovery.specs.Inner.Restoring.{HaveRestored, HasRestored};
-ghost use Rattle.cas_recovery.specs.Restored.{AreRestored, IsInMemory, IsStarted};
+ghost use Rattle.cas_recovery.specs.Restored.{AreRestored, HaveNoFiles, IsInMemory, IsStarted};
 
 use crate::all_shards::{AllShards, Restoring};
 use cas_atoms::Mutation;
 use cas_bind::Limits;
 use cas_changes::Said;
-use cas_disk::{Folder, Name};
+use cas_disk::{Folder, Name, Sealed};
 use cas_journal::Journal;
 use cas_opening::{OpenFault, OpenStore, open_to};
 use cas_replay::TakesMutations;
@@ -39,10 +39,10 @@ const NONE_DRAWN: i64 = -2;
 
 /// A store that was opened: its limits, tables and shards in memory, and its journal.
 #[derive(Drop)]
-pub struct Started {
+pub struct Started<S: Sealed> {
     pub limits: Limits,
     pub tables: Vec<TableSchema>,
-    pub shards: Vec<Shard>,
+    pub shards: Vec<Shard<S>>,
     pub journal: Journal,
 }
 
@@ -92,8 +92,9 @@ fn is_unflushed(said: &Said) -> bool
 }
 
 // So many shards without a mutation.
-fn new_shards(alloc: Global, count: usize) -> Result<Vec<Shard>, Mem>
+fn new_shards<S: Sealed>(alloc: Global, count: usize) -> Result<Vec<Shard<S>>, Mem>
     ensures count { IfOk result (λ v. length v.items ≡ count) }
+    ensures no_files { IfOk result (λ v. HaveNoFiles v.items) }
     ensures new { IfOk result (λ v. (tables : List Schema) → AreRestored tables [] v.items) }
 {
     let mut shards = Vec::new(alloc);
@@ -103,10 +104,10 @@ fn new_shards(alloc: Global, count: usize) -> Result<Vec<Shard>, Mem>
     Ok(shards)
 }
 
-impl AllShards {
+impl<S: Sealed> AllShards<S> {
     // Those without a mutation.
-    fn new(alloc: Global) -> Result<AllShards, Mem>
-        ensures { IfOk result (λ all. HaveRestored [] all.shards.items) }
+    fn new(alloc: Global) -> Result<AllShards<S>, Mem>
+        ensures { IfOk result (λ all. HaveRestored [] all) }
     {
         match new_shards(alloc, SHARDS) {
             Ok(shards) => Ok(AllShards { shards }),
@@ -117,8 +118,8 @@ impl AllShards {
     // Enters a mutation above those that were restored before it.
     fn restore(&mut self, alloc: Global, mutation: Mutation) -> Result<(), Mem>
         requires { IsWithinLimits mutation }
-        ensures { (before : List MutationOf) → HaveRestored before self.old.shards.items
-            → OnOk result (HaveRestored (before ++ mutation ∷ []) self.new.shards.items) }
+        ensures { (before : List MutationOf) → HaveRestored before self.old
+            → OnOk result (HaveRestored (before ++ mutation ∷ []) self.new) }
     {
         let place = mutation.shard as usize;
         match self.shards[place].restore(alloc, mutation) {
@@ -128,7 +129,7 @@ impl AllShards {
     }
 }
 
-impl TakesMutations for Restoring {
+impl<S: Sealed> TakesMutations for Restoring<S> {
     ghost has_taken = { λ mutations r. HasRestored mutations r.shards };
 
     fn take(&mut self, mutation: Mutation) -> Result<(), Mem> {
@@ -146,7 +147,7 @@ impl TakesMutations for Restoring {
 }
 
 // The first shards, so many, with what was restored of each.
-fn restored(restoring: Restoring, count: u8) -> Result<Vec<Shard>, Mem>
+fn restored<S: Sealed>(restoring: Restoring<S>, count: u8) -> Result<Vec<Shard<S>>, Mem>
     ensures count { IfOk result (λ v. length v.items ≡ count) }
     ensures restored { (mutations : List MutationOf) → HasRestored mutations restoring.shards → IfOk result (λ v. HaveRestored mutations v.items) }
 {
@@ -188,12 +189,12 @@ fn with_shards(limits: &Limits, count: u8) -> Limits
 }
 
 // The store with its shards in memory, of an opening that has no table files.
-fn in_memory(
+fn in_memory<S: Sealed>(
     alloc: Global,
     limits: &Limits,
     opened: OpenStore,
-    restoring: Restoring,
-) -> Result<Started, Mem>
+    restoring: Restoring<S>,
+) -> Result<Started<S>, Mem>
     requires { IsUnflushed opened.said }
     ensures started { (entries : List EntryOf) (mutations given : List MutationOf) → IsReadWith entries mutations given opened.journal opened.said
         → HasRestored given restoring.shards
@@ -216,7 +217,7 @@ pub fn open_store<F: Folder>(
     alloc: Global,
     folder: &mut F,
     limits: &Limits,
-) -> Result<Started, OpenFault>
+) -> Result<Started<F::Sealed>, OpenFault>
     requires shards { IsShardCount limits.now.shards }
     requires size { IsSize limits.now.segment }
     ensures started { IfOk result (λ s. IsStarted limits.now s.limits s.tables.items s.shards.items s.journal (F.disk folder.old) (F.disk folder.new)) }

@@ -1,94 +1,78 @@
--- The rows that a SELECT shows of the memory are the live view of all that was written to the partition.
-use Rattle.std.proofs.Common.{◌≡◌, ℕ, ℤ, Option, None, Some, Bool, true, false, List, [], ◌∷◌, ◌++◌, refl, sym, ap, ◌∙◌, subst, append-nil, Result, Ok, Err, IfOk}
-use Rattle.std.specs.Prelude.{slice_get, ◌==◌, ◌&&◌, if◌then◌else◌}
+-- The rows that a SELECT shows of what a shard has stored are the live view of all that was written to the partition.
+use Rattle.std.proofs.Common.{◌≡◌, ◌+◌, ℕ, zero, suc, ℤ, Option, None, Some, Bool, true, false, List, [], ◌∷◌, ◌++◌, take, refl, sym, ap, ◌∙◌, subst, append-nil, Result, Ok, Err, IfOk}
+use Rattle.std.specs.Prelude.{map, slice_get, ◌==◌, ◌&&◌, ◌||◌, if◌then◌else◌}
+use Rattle.cas_types.specs.declared.schema.Column.{Column}
 use Rattle.cas_types.specs.declared.schema.TableSchema.{TableSchema}
-use Rattle.cas_cell.specs.declared.deletion.Deletion.{Deletion}
 use Rattle.cas_bounds.specs.ClusteringOrder.{clustering_order}
 use Rattle.cas_bounds.specs.declared.order.Ordered.{Ordered}
-use Rattle.cas_bounds.specs.declared.cuts.Slice.{Slice}
-use Rattle.cas_atoms.specs.Answers.{answer}
-use Rattle.cas_atoms.specs.Coordinates.{same_bytes}
-use Rattle.cas_atoms.specs.Winners.{Same}
-use Rattle.cas_atoms.specs.declared.atom.Atom.{Atom}
+use Rattle.cas_atoms.specs.Answers.{answer, answered, has_cell, has_kind, is_whole, limited, row_shown, turned, with_static}
+use Rattle.cas_atoms.specs.Coordinates.{RowKey, same_bytes, static_row}
 use Rattle.cas_atoms.specs.declared.atom.Mutation.{Mutation}
 use Rattle.cas_atoms.specs.declared.query.Query.{Query}
 use Rattle.cas_atoms.specs.declared.query.LiveRow.{LiveRow}
-use Rattle.cas_laws.specs.Inside.{SameIn}
-use Rattle.cas_laws.proofs.AliveProofs.{same_in_answers}
-use Rattle.cas_streams.specs.Flat.{flat}
-use Rattle.cas_streams.specs.Joined.{Stream}
-use Rattle.cas_streams.specs.Merged.{merged, flat_of, flats}
-use Rattle.cas_streams.specs.Streams.{IsOrdered}
-use Rattle.cas_streams.specs.declared.fragment.Fragment.{Fragment}
-use Rattle.cas_streams.proofs.Merges.{merge_is_join, merge_ordered}
-use Rattle.cas_merge.specs.Told.{streams_told}
-use Rattle.cas_memtable.specs.Kept.{Keeps, ShowPartition, all_of, atoms_at, atoms_under, memtables_of}
-use Rattle.cas_memtable.specs.declared.parts.Parts.{Parts}
+use Rattle.cas_memtable.specs.Kept.{atoms_at, atoms_under, memtables_of}
 use Rattle.cas_memtable.proofs.Keeping.{more_under}
+use Rattle.cas_stored.specs.Rows.{AreRowsOf}
+use Rattle.cas_stored.specs.Stored.{StoredTable}
 use Rattle.cas_shard.specs.declared.entry.Entry.{Entry}
 use Rattle.cas_shard.specs.declared.entry.Entry.TheVariants.{Wrote}
 use Rattle.cas_shard.specs.Entries.{first}
 use Rattle.cas_shard.specs.Laws.{atoms_of_partition}
 use Rattle.cas_shard.specs.Shards.{ShardHistory, all_entries, look_at, moment_at, number_of, raised}
-use Rattle.cas_shard.specs.Stands.{Asks, Holds, Stands, mutations_of, of_table, order_at, order_of, written_to}
-use Rattle.cas_shard.specs.Inner.Looks.{Answers, Sources, TellPartition}
+use Rattle.cas_shard.specs.Stands.{Asks, Holds, ShardState, Stands, mutations_of, of_table, order_at, order_of, written_to}
+use Rattle.cas_shard.specs.Inner.Looks.{Answers}
 use Rattle.cas_shard.specs.declared.answers.Look.{Look}
-use Rattle.cas_shard.specs.declared.shard.Shard.{Shard}
 use Rattle.cas_shard.proofs.Memory.{holds_at, none_held}
 use Rattle.cas_shard.proofs.Numbering.{all_stand}
 
--- ---- sources
-
-chained : (s : Slice) (A B C : List Atom) → Same A B → SameIn s B C → SameIn s A C
-chained s A B C a b = record { covers = λ x i. a.covers x ∙ b.covers x i; lives = λ r i. a.lives r ∙ b.lives r i; cells = λ x i. a.cells x ∙ b.cells x i }
+-- ---- rows
 
 pub if_ok_too : {A E : Type 0} (r : Result A E) (P Q : A → Type 0) → ((x : A) → P x → Q x) → IfOk r P → IfOk r Q
 if_ok_too (Ok x) P Q h p = h x p
 if_ok_too (Err e) P Q h p = tt
 
--- of a table without memory there are none
-pub none_told : {M : Type 0} (s : Slice) (key : List ℕ) (memory : Option Parts) (tells : M → Option (List Fragment)) (tops : M → Option Deletion) (ms : List M)
-    → ms ≡ [] → memory ≡ None → Sources s key memory tells tops ms
-none_told s key memory tells tops ms e none order ws holds low high = record {
-  streams = [];
-  told = ap (streams_told tells tops) e;
-  ordered = tt;
-  same = subst (λ l. SameIn s [] (atoms_under key l)) (sym (none_held order ws (holds_at order ws memory None (sym none) holds)))
-      (record { covers = λ x i. refl; lives = λ r i. refl; cells = λ x i. refl });
-}
+take_none : {X : Type 0} (n : ℕ) → take {A = X} n [] ≡ []
+take_none zero = refl
+take_none (suc n) = refl
 
--- of one with memory
-pub memory_told : {M : Type 0} (s : Slice) (key : List ℕ) (memory : Option Parts) (p : Parts) (tells : M → Option (List Fragment)) (tops : M → Option Deletion) (ms : List M) → memory ≡ Some p
-    → ((order : List Ordered) (wss : List (List Mutation)) → Keeps order p wss → s.lo.order ≡ order → s.hi.order ≡ order → ShowPartition tells tops order s key (memtables_of p) (all_of wss) ms)
-    → Sources s key memory tells tops ms
-memory_told {M} s key memory p tells tops ms is shows order ws holds low high = by (holds_at order ws memory (Some p) (sym is) holds)
+-- of no atoms nothing is shown
+no_cell : (now : ℤ) (r : RowKey) (n : ℕ) (columns : List Column) → has_cell [] now r n columns ≡ false
+no_cell now r n [] = refl
+no_cell now r n (c ∷ cs) = by (has_kind r c.kind) ∙ no_cell now r (n + 1) cs
   where
-    by : Holds order (Some p) ws → TellPartition tells tops order s key ws ms
-    by h =
-        let shown : ShowPartition tells tops order s key (memtables_of p) (all_of h.memtables) ms = shows order h.memtables h.keeps low high in
-        record {
-          streams = shown.streams;
-          told = shown.told;
-          ordered = shown.ordered;
-          same = subst (λ l. SameIn s (flats shown.streams) (atoms_under key l)) h.all shown.same;
-        }
+    by : (b : Bool) → ((b && false) || has_cell [] now r (n + 1) cs) ≡ has_cell [] now r (n + 1) cs
+    by true = refl
+    by false = refl
 
--- ---- rows
+nothing : (q : Query) (now : ℤ) → answer q [] now ≡ []
+unfolding answer answered
+nothing q now = ap (map (row_shown q [] now)) (none_limited q.limit (turned_none q.reversed))
+  where
+    turned_none : (b : Bool) → with_static q [] now (turned b []) ≡ []
+    turned_none b = ap (with_static q [] now) (none b) ∙ alone (is_whole q.slice)
+      where
+        none : (b : Bool) → turned b [] ≡ []
+        none true = refl
+        none false = refl
 
--- what comes of the merge of sources, by what its making ensures
-pub rows_shown : {M : Type 0} (q : Query) (now same : ℤ) (memory : Option Parts) (tells : M → Option (List Fragment)) (tops : M → Option Deletion) (ms : List M)
-    (top : Option Deletion) (told : Option (List Fragment)) (come : Option (List LiveRow)) (shown : List LiveRow) → same ≡ now → Sources q.slice q.key memory tells tops ms
-    → ((ss : List Stream) → streams_told tells tops ms ≡ Some ss → told ≡ Some (merged ss).fragments)
-    → ((ss : List Stream) → streams_told tells tops ms ≡ Some ss → top ≡ (merged ss).top)
-    → ((fs : List Fragment) → told ≡ Some fs → IsOrdered (clustering_order q.columns) fs → come ≡ Some (answer q (flat top fs) same))
-    → ((rs : List LiveRow) → come ≡ Some rs → shown ≡ rs) → Answers q now memory shown
-rows_shown q now same memory tells tops ms top told come shown e sources f g rows given ws holds low high =
-    let order : List Ordered = clustering_order q.columns in
-    let from : TellPartition tells tops order q.slice q.key ws ms = sources order ws holds low high in
-    let ss : List Stream = from.streams in
-    given _ (rows (merged ss).fragments (f ss from.told) (merge_ordered order ss from.ordered))
-    ∙ (λ i. answer q (flat (g ss from.told i) (merged ss).fragments) (e i))
-    ∙ same_in_answers (flat_of (merged ss)) (atoms_under q.key ws) q (chained q.slice (flat_of (merged ss)) (flats ss) (atoms_under q.key ws) (merge_is_join order ss from.ordered) from.same) now
+        alone : (w : Bool) → (if w && has_cell [] now static_row 0 q.columns then static_row ∷ [] else []) ≡ []
+        alone true = ap (λ b. if b then static_row ∷ [] else []) (no_cell now static_row 0 q.columns)
+        alone false = refl
+
+    none_limited : (o : Option ℕ) {rows : List RowKey} → rows ≡ [] → limited o rows ≡ []
+    none_limited None e = e
+    none_limited (Some n) e = ap (take n) e ∙ take_none n
+
+-- of a table that has nothing stored
+pub none_shown : (q : Query) (now : ℤ) (stored : Option StoredTable) (shown : List LiveRow) → stored ≡ None → shown ≡ [] → Answers q now stored shown
+none_shown q now stored shown is none ws holds one =
+    none ∙ sym (ap (λ l. answer q (atoms_under q.key l) now) (none_held (clustering_order q.columns) ws (holds_at (clustering_order q.columns) ws stored None (sym is) holds)) ∙ nothing q now)
+
+-- of one with something stored
+pub store_shown : (q : Query) (now : ℤ) (stored : Option StoredTable) (t : StoredTable) (shown : List LiveRow) → stored ≡ Some t → AreRowsOf t.files (memtables_of t.parts) q now shown → Answers q now stored shown
+store_shown q now stored t shown is are ws holds one =
+    let h : Holds (clustering_order q.columns) (Some t) ws = holds_at (clustering_order q.columns) ws stored (Some t) (sym is) holds in
+    are h.places h.holds one ∙ ap (λ l. answer q (atoms_under q.key l) now) h.all
 
 -- what entries write to a partition is what the mutations of their table write under its key
 under_entry : (table : ℕ) (key : List ℕ) (e : Entry) → atoms_under key (of_table table e) ≡ atoms_of_partition table key e
@@ -103,18 +87,18 @@ under_table table key [] = refl
 under_table table key (e ∷ entries) =
     more_under key (of_table table e) (mutations_of table entries) ∙ (λ i. under_entry table key e i ++ under_table table key entries i)
 
-shown : (tables : List TableSchema) (s : ShardHistory) (x : Shard) (q : Query) (now : ℤ) (rows : List LiveRow) → Stands tables s x → Asks tables q
-    → Answers q now (slice_get x.parts.items q.table) rows → rows ≡ answer q (first (number_of s) q.table q.key (all_entries s)) now
+shown : (tables : List TableSchema) (s : ShardHistory) (x : ShardState) (q : Query) (now : ℤ) (rows : List LiveRow) → Stands tables s x → Asks tables q
+    → Answers q now (slice_get x.stores q.table) rows → rows ≡ answer q (first (number_of s) q.table q.key (all_entries s)) now
 shown tables s x q now rows h asks a =
     let t : TableSchema = asks.0 in
     let ws : List Mutation = mutations_of q.table (all_entries s) in
     let order : order_at tables q.table ≡ clustering_order q.columns = ap order_of asks.1 ∙ ap clustering_order (sym asks.2.columns) in
     let to_query : clustering_order t.columns ≡ clustering_order q.columns = ap clustering_order (sym asks.2.columns) in
-    a ws (subst (λ o. Holds o (slice_get x.parts.items q.table) ws) order (h.kept q.table)) (asks.2.low.0 ∙ to_query) (asks.2.high.0 ∙ to_query)
+    a ws (subst (λ o. Holds o (slice_get x.stores q.table) ws) order (h.kept q.table)) (asks.2.low.0 ∙ to_query, asks.2.high.0 ∙ to_query)
     ∙ ap (λ l. answer q l now) (under_table q.table q.key (all_entries s) ∙ sym (all_stand s q.table q.key h.numbers))
 
-pub shows : (tables : List TableSchema) (s : ShardHistory) (x : Shard) (reading : ℤ) (q : Query) (l : Look) (ps : List Parts) (rows : List LiveRow) → Stands tables (raised reading s) x → Asks tables q
-    → Answers q l.now (slice_get ps q.table) rows → ps ≡ x.parts.items → l.rows ≡ rows → l.front ≡ x.number → l.now ≡ x.moment → l ≡ look_at reading s q
+pub shows : (tables : List TableSchema) (s : ShardHistory) (x : ShardState) (reading : ℤ) (q : Query) (l : Look) (ps : List StoredTable) (rows : List LiveRow) → Stands tables (raised reading s) x → Asks tables q
+    → Answers q l.now (slice_get ps q.table) rows → ps ≡ x.stores → l.rows ≡ rows → l.front ≡ x.number → l.now ≡ x.moment → l ≡ look_at reading s q
 unfolding look_at
 shows tables s x reading q l ps rows h asks a same are f n =
     let moment : l.now ≡ moment_at reading s = n ∙ h.moment in

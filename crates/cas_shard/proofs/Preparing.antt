@@ -17,10 +17,9 @@ use Rattle.cas_effects.proofs.Fitting.{mutations_fit}
 use Rattle.cas_partition.specs.Partitions.{AreAtomsOf}
 use Rattle.cas_partition.proofs.Tabling.{all_fit_of}
 use Rattle.cas_shard.specs.Shards.{IsTime, drawn_with, later_drawn, take_refusal, taken_unless}
-use Rattle.cas_shard.specs.Stands.{Belongs, HasRoom, IsPrepared, IsReady, Suits, order_at, order_of}
+use Rattle.cas_shard.specs.Stands.{Belongs, HasRoom, IsPrepared, IsReady, ShardState, Suits, order_at, order_of}
 use Rattle.cas_shard.specs.Inner.Turns.{Answered}
 use Rattle.cas_shard.specs.declared.answers.TakeFault.{TakeFault}
-use Rattle.cas_shard.specs.declared.shard.Shard.{Shard}
 use Rattle.cas_shard.proofs.Refusals.{is_few, is_low, is_short}
 
 -- ---- mutations of a table
@@ -114,8 +113,8 @@ taken_ok (Some n) w m e = cc
 answered_ok : (segment : ℕ) (w m : Mutation) → Answered segment w (Ok m) → (take_refusal segment w ≡ None) × (m ≡ w)
 answered_ok segment w m a = taken_ok (take_refusal segment w) w m (a refl)
 
-pub is_prepared : (segment : ℕ) (w : BoundWrite) (drawn moment : ℤ) (m : Mutation) (r : Result Mutation TakeFault) (y : Shard) → m ≡ mutation_of w drawn moment (y.number + 1) → Answered segment m r
-    → IfOk r (λ k. HasRoom k y.parts.items) → IfOk r (λ k. IsPrepared y k)
+pub is_prepared : (segment : ℕ) (w : BoundWrite) (drawn moment : ℤ) (m : Mutation) (r : Result Mutation TakeFault) (y : ShardState) → m ≡ mutation_of w drawn moment (y.number + 1) → Answered segment m r
+    → IfOk r (λ k. HasRoom k y.stores) → IfOk r (λ k. IsPrepared y k)
 is_prepared segment w drawn moment m (Ok k) y e a room =
     let is : (take_refusal segment m ≡ None) × (k ≡ m) = answered_ok segment m k a in
     record {

@@ -1,3 +1,3 @@
-pub mod Parts
+pub mod Stores
 pub mod Looks
 pub mod Turns

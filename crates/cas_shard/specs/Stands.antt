@@ -1,4 +1,4 @@
--- A shard's state stands for its history: its memory holds all that was entered; and when a mutation can be entered.
+-- A shard's state stands for its history: its memtables and files hold all that was entered; and when a mutation can be entered.
 -- Cassandra documentation, "Storage engine: memtables"; own.
 use Rattle.std.specs.Prelude.{◌≡◌, ℕ, ◌==◌, if◌then◌else◌, ◌+◌, ◌/◌, ◌<◌, ◌≤◌, ◌≤ℤ◌, true, Option, None, Some, List, [], ◌∷◌, length, slice_get}
 use Rattle.std.specs.List.{flat_map}
@@ -14,14 +14,15 @@ use Rattle.cas_atoms.specs.declared.query.Query.{Query}
 use Rattle.cas_effects.specs.FitsBound.{FitsBound}
 use Rattle.cas_effects.specs.declared.effect.BoundWrite.{BoundWrite}
 use Rattle.cas_memtable.specs.Memtables.{HasPlaces}
-use Rattle.cas_memtable.specs.Kept.{Keeps, all_of}
-use Rattle.cas_memtable.specs.declared.parts.Parts.{Parts}
+use Rattle.cas_memtable.specs.Kept.{all_of}
+use Rattle.cas_sstread.specs.Loading.{Held}
+use Rattle.cas_stored.specs.Stored.{HoldsEach, StoredTable}
+use Rattle.cas_view.specs.Views.{File}
 use Rattle.cas_shard.specs.declared.entry.Entry.{Entry}
 use Rattle.cas_shard.specs.declared.entry.Entry.TheVariants.{Wrote}
 use Rattle.cas_shard.specs.Entries.{AreNumbered, first, last_number}
 use Rattle.cas_shard.specs.Laws.{atoms_of_partition}
 use Rattle.cas_shard.specs.Shards.{ShardHistory, all_entries, number_of, drawn_of}
-use Rattle.cas_shard.specs.declared.shard.Shard.{Shard}
 
 -- ---- a history
 
@@ -68,7 +69,15 @@ Belongs tables shards m = (t : TableSchema) × (slice_get tables m.table ≡ Som
 abbrev pub Asks : List TableSchema → Query → Type 0
 Asks tables q = (t : TableSchema) × (slice_get tables q.table ≡ Some t) × FitsQuery t q
 
--- ---- memory
+-- ---- what a shard has stored
+
+-- a shard's state: what it has stored of each table, at the tables' numbers, the number of its last mutation, the last timestamp that it drew, and its last
+-- moment in seconds
+pub record ShardState : Type 0 where
+  pub stores : List StoredTable
+  pub number : ℕ
+  pub drawn : ℤ
+  pub moment : ℤ
 
 -- an entry's mutation, if it is of that table
 abbrev pub of_table : ℕ → Entry → List Mutation
@@ -78,41 +87,56 @@ of_table table (Wrote session call m) = if m.table == table then m ∷ [] else [
 abbrev pub mutations_of : ℕ → List Entry → List Mutation
 mutations_of table entries = flat_map (of_table table) entries
 
--- what a table has in memory keeps these mutations, memtable by memtable; a table without memory keeps none
-abbrev pub KeepsIn : List Ordered → Option Parts → List (List Mutation) → Type 0
-KeepsIn order None wss = wss ≡ []
-KeepsIn order (Some p) wss = Keeps order p wss
+-- what a table has stored holds these mutations, file by file and memtable by memtable; a table that has nothing stored holds none
+abbrev pub HoldsIn : List Ordered → Option StoredTable → List (List Mutation) → Type 0
+HoldsIn order None wss = wss ≡ []
+HoldsIn order (Some t) wss = HoldsEach order t wss
 
--- the memory of a table that orders its rows so holds just these mutations
-pub record Holds (order : List Ordered) (memory : Option Parts) (ws : List Mutation) : Type 0 where
-  pub memtables : List (List Mutation)
-  pub keeps : KeepsIn order memory memtables
-  pub all : all_of memtables ≡ ws
+-- what a table that orders its rows so has stored holds just these mutations
+pub record Holds (order : List Ordered) (stored : Option StoredTable) (ws : List Mutation) : Type 0 where
+  pub places : List (List Mutation)
+  pub holds : HoldsIn order stored places
+  pub all : all_of places ≡ ws
 
 -- a shard's state stands for its history
-pub record Stands (tables : List TableSchema) (s : ShardHistory) (x : Shard) : Type 0 where
+pub record Stands (tables : List TableSchema) (s : ShardHistory) (x : ShardState) : Type 0 where
   pub numbers : NumbersRise s
   pub number : x.number ≡ number_of s
   pub drawn : x.drawn ≡ drawn_of s
   pub moment : x.moment ≡ s.moment
-  pub kept : (table : ℕ) → Holds (order_at tables table) (slice_get x.parts.items table) (mutations_of table (all_entries s))
-  pub few : length x.parts.items ≤ length tables
+  pub kept : (table : ℕ) → Holds (order_at tables table) (slice_get x.stores table) (mutations_of table (all_entries s))
+  pub few : length x.stores ≤ length tables
+
+-- ---- files
+
+-- the files of a table, if it has something stored
+abbrev pub files_at : Option StoredTable → List (File Held)
+files_at None = []
+files_at (Some t) = t.files
+
+-- no table has a file
+abbrev pub HasNoFiles : ShardState → Type 0
+HasNoFiles x = (table : ℕ) → length (files_at (slice_get x.stores table)) ≡ 0
+
+-- each table has the files that it had
+abbrev pub KeepsFiles : ShardState → ShardState → Type 0
+KeepsFiles old new = (table : ℕ) → files_at (slice_get new.stores table) ≡ files_at (slice_get old.stores table)
 
 -- ---- what can be entered
 
 -- the mutation's atoms have their places in the memtable that is written to
-abbrev pub PlacesAt : Option Parts → Mutation → Type 0
+abbrev pub PlacesAt : Option StoredTable → Mutation → Type 0
 PlacesAt None m = ⊥
-PlacesAt (Some p) m = HasPlaces p.active m
+PlacesAt (Some t) m = HasPlaces t.parts.active m
 
 -- in that of its table
-abbrev pub HasRoom : Mutation → List Parts → Type 0
-HasRoom m parts = (m.table < length parts) × PlacesAt (slice_get parts m.table) m
+abbrev pub HasRoom : Mutation → List StoredTable → Type 0
+HasRoom m stores = (m.table < length stores) × PlacesAt (slice_get stores m.table) m
 
 -- A shard is prepared for the mutation, which then enters without memory: it has its places, it is the next one, and neither its number nor what was
 -- drawn for it is past its limit.
-pub record IsPrepared (x : Shard) (m : Mutation) : Type 0 where
-  pub room : HasRoom m x.parts.items
+pub record IsPrepared (x : ShardState) (m : Mutation) : Type 0 where
+  pub room : HasRoom m x.stores
   pub next : m.number ≡ x.number + 1
   pub few : m.number ≤ MUTATION_LIMIT
   pub low : m.drawn ≡ true → m.at ≤ℤ LAST_DRAWN

@@ -1,4 +1,4 @@
-//! One shard: its memtables, what a write and a SELECT do in it, and its history: what is entered into
+//! One shard: what it has stored of each table, what a write and a SELECT do in it, and its history: what is entered into
 //! it, and what of it a SELECT reads.
 #![tactic(auto)]
 
@@ -6,9 +6,9 @@ mod answers;
 mod entry;
 mod first;
 mod laws;
-mod parts;
 mod rows;
 mod shard;
+mod stores;
 
 pub use answers::{Look, TakeFault};
 pub use entry::{Entry, ShardOpening};

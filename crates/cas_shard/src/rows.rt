@@ -1,39 +1,36 @@
-//! What a SELECT reads of a shard's memory, and the rows that it shows.
+//! The rows that a SELECT shows of what a shard has stored.
 
-ghost use Rattle.std.specs.Prelude.{◌≤ℤ◌, pos, IfOk, slice_get};
+ghost use Rattle.std.specs.Prelude.{◌≡◌, ◌≤ℤ◌, pos, length, IfOk, IfErr, IsErrOf, slice_get};
 ghost use Rattle.cas_types.specs.Limits.{IsNarrow};
-ghost use Rattle.cas_shard.specs.Inner.Looks.{Answers, Sources};
+ghost use Rattle.cas_blocks.specs.declared.fault.TableFault.TheVariants as table_fault;
+ghost use Rattle.cas_disk.specs.Counts.{Counted};
+ghost use Rattle.cas_stored.specs.Reading.{AreReadIn};
+ghost use Rattle.cas_shard.specs.Stands.{files_at};
+ghost use Rattle.cas_shard.specs.Inner.Looks.{Answers};
 
 use cas_atoms::{LiveRow, Query};
-use cas_live::{LiveRows, all_rows};
-use cas_memtable::Parts;
-use cas_merge::Merger;
-use cas_streams::{FragmentSource, Part};
-use std::alloc::{AllocError, Global};
+use cas_blocks::TableFault;
+use cas_disk::{Count, Sealed};
+use cas_stored::TableStore;
+use std::alloc::Global;
 
-// The sources of the query's partition: one of each memtable of its table in which something was
-// written to it.
-fn sources(alloc: Global, parts: &[Parts], query: &Query) -> Result<Vec<Merger<Part>>, AllocError>
-    ensures { IfOk result (λ v. Sources query.now.slice query.now.key (slice_get parts.now query.now.table)
-        ⟦<Merger<Part> as FragmentSource>⟧.to_come ⟦<Merger<Part> as FragmentSource>⟧.over_all v.items) }
-{
-    match parts.get(query.table as usize) {
-        None => Ok(Vec::new(alloc)),
-        Some(part) => part.sources(alloc, &query.key, &query.slice),
-    }
-}
-
-/// The rows that a query shows of the memory at a moment.
-pub(crate) fn rows_of(
+/// The rows that a query shows of its table at a moment.
+pub(crate) fn rows_of<S: Sealed>(
     alloc: Global,
-    parts: &[Parts],
+    stores: &[TableStore<S>],
     query: Query,
     now: i64,
-) -> Result<Vec<LiveRow>, AllocError>
+    tally: &mut S::Tally,
+) -> Result<Vec<LiveRow>, TableFault>
     requires begun { pos 0 ≤ℤ now }
     requires columns { IsNarrow query.columns }
-    ensures { IfOk result (λ v. Answers query now (slice_get parts.now query.table) v.items) }
+    requires reads { AreReadIn query.slice (files_at (slice_get stores.now query.table)) }
+    ensures rows { IfOk result (λ v. Answers query now (slice_get stores.now query.table) v.items) }
+    ensures count { Counted (S.Tally.number tally.old) (S.Tally.number tally.new) (IsErrOf result TableFault.Read) }
+    ensures memory { length (files_at (slice_get stores.now query.table)) ≡ 0 → IfErr result (λ e. e ≡ table_fault.Mem) }
 {
-    let merger = Merger::new(sources(alloc, parts, &query)?);
-    all_rows(alloc, LiveRows::new(alloc, merger, query, now))
+    match stores.get(query.table as usize) {
+        None => Ok(Vec::new(alloc)),
+        Some(store) => store.rows_of(alloc, query, now, tally),
+    }
 }

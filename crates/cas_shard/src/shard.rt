@@ -1,4 +1,4 @@
-//! One shard: what it has in memory, and what a write and a SELECT do in it.
+//! One shard: what it has stored, and what a write and a SELECT do in it.
 
 ghost use Rattle.std.specs.Prelude.{◌≡◌, ◌≤◌, ◌≤ℤ◌, if◌then◌else◌};
 ghost use Rattle.cas_types.specs.Limits.{IsMoment};
@@ -6,25 +6,38 @@ ghost use Rattle.cas_types.specs.declared.limits.TheConstants.{LAST_DRAWN, MUTAT
 ghost use Rattle.cas_shard.specs.Shards.{drawn_with, take_refusal};
 
 use crate::answers::{Look, TakeFault};
-use crate::parts::{freeze, join, reserve};
 use crate::rows::rows_of;
+use crate::stores::{freeze, join, reserve};
 use cas_atoms::{Mutation, Query, length};
+use cas_blocks::TableFault;
+use cas_disk::{Count, Sealed};
 use cas_effects::{BoundWrite, TOO_LARGE, TOO_MANY, atoms_of};
-use cas_memtable::Parts;
+use cas_stored::TableStore;
 use cas_types::{LAST_DRAWN, LEAST_TIMESTAMP, List, MUTATION_LIMIT, Mem};
-use std::alloc::{AllocError, Global};
+use std::alloc::Global;
+use std::marker::Model;
 
-/// One shard: the memory of each table, at the tables' numbers, the number of its last mutation, the last
-/// timestamp that it drew, and its last moment in seconds.
+/// One shard: what it has stored of each table, at the tables' numbers, the number of its last mutation, the
+/// last timestamp that it drew, and its last moment in seconds.
 #[derive(Drop)]
-pub struct Shard {
-    pub(crate) parts: Vec<Parts>,
+pub struct Shard<S: Sealed> {
+    pub(crate) stores: Vec<TableStore<S>>,
     pub(crate) number: u64,
     pub(crate) drawn: i64,
     pub(crate) moment: i64,
-    ghost few: { number ≤ MUTATION_LIMIT },
-    ghost low: { drawn ≤ℤ LAST_DRAWN },
-    ghost begun: { IsMoment moment },
+}
+
+impl<S: Sealed> Model for Shard<S> {
+    ghost use Rattle.std.specs.Prelude.{◌≤◌, ◌≤ℤ◌};
+    ghost use Rattle.cas_types.specs.Limits.{IsMoment};
+    ghost use Rattle.cas_types.specs.declared.limits.TheConstants.{LAST_DRAWN, MUTATION_LIMIT};
+    ghost use Rattle.cas_shard.specs.Stands.{ShardState};
+
+    ghost Value = { ShardState };
+
+    ghost view = { λ s. record { stores = s.stores.items; number = s.number; drawn = s.drawn; moment = s.moment } };
+
+    ghost invariant = { λ s. (s.number ≤ MUTATION_LIMIT) × (s.drawn ≤ℤ LAST_DRAWN) × IsMoment s.moment };
 }
 
 // Why the shard doesn't take the mutation.
@@ -59,8 +72,8 @@ fn drawn_with(drawn: i64, mutation: &Mutation) -> i64
     }
 }
 
-impl Shard {
-    ghost use Rattle.std.specs.Prelude.{◌≡◌, ◌+◌, ◌^◌, ◌<◌, ◌≤◌, ◌≤ℤ◌, ◌∷◌, [], max, true, ℕ, List as ListOf, IfOk, IfSome, OnOk, if◌then◌else◌};
+impl<S: Sealed> Shard<S> {
+    ghost use Rattle.std.specs.Prelude.{◌≡◌, ◌+◌, ◌^◌, ◌<◌, ◌≤◌, ◌≤ℤ◌, ◌∷◌, [], max, true, ℕ, length, slice_get, List as ListOf, IfOk, IfErr, IsErrOf, IfSome, OnOk, if◌then◌else◌};
     ghost use Rattle.cas_types.specs.Limits.{IsMoment, IsNarrow};
     ghost use Rattle.cas_types.specs.declared.limits.TheConstants.{LAST_DRAWN, LEAST_TIMESTAMP, MUTATION_LIMIT};
     ghost use Rattle.cas_types.specs.declared.schema.TableSchema.{TableSchema as Schema};
@@ -70,13 +83,17 @@ impl Shard {
     ghost use Rattle.cas_shard.specs.declared.entry.ShardOpening.{ShardOpening as Opening};
     ghost use Rattle.cas_shard.specs.Shards.{IsTime, Prepares, ShardHistory, Shows, after_restore, empty_shard, entered, found_shard};
     ghost use Rattle.cas_shard.specs.Shards.{later_drawn, later_moment, number_of, raised, take_refusal, told_shard};
-    ghost use Rattle.cas_shard.specs.Stands.{AreShown, Asks, Belongs, HasRoom, IsPrepared, IsReady, Stands, Suits};
-    ghost use Rattle.cas_shard.specs.Inner.Parts.{MakesRoom};
+    ghost use Rattle.cas_shard.specs.Stands.{AreShown, Asks, Belongs, HasNoFiles, HasRoom, IsPrepared, IsReady, KeepsFiles, Stands, Suits, files_at};
+    ghost use Rattle.cas_shard.specs.Inner.Stores.{MakesRoom};
     ghost use Rattle.cas_shard.specs.Inner.Turns.{Answered, Took};
+    ghost use Rattle.cas_blocks.specs.declared.fault.TableFault.TheVariants as table_fault;
+    ghost use Rattle.cas_disk.specs.Counts.{Counted};
+    ghost use Rattle.cas_stored.specs.Reading.{AreReadIn};
 
     /// A shard without a mutation.
     pub fn new(alloc: Global) -> Self
-        ensures { (tables : ListOf Schema) → Stands tables (found_shard empty_shard) result }
+        ensures stands { (tables : ListOf Schema) → Stands tables (found_shard empty_shard) result }
+        ensures files { HasNoFiles result }
     {
         Self::open(alloc, 0, -2, 0)
     }
@@ -89,9 +106,10 @@ impl Shard {
         requires begun { IsMoment moment }
         ensures stands { (tables : ListOf Schema) → Stands tables (found_shard (told_shard number drawn moment)) result }
         ensures number { result.number ≡ number }
+        ensures files { HasNoFiles result }
     {
         Shard {
-            parts: Vec::new(alloc),
+            stores: Vec::new(alloc),
             number,
             drawn,
             moment,
@@ -107,12 +125,13 @@ impl Shard {
         ensures stands { (tables : ListOf Schema) (shards : ℕ) (found : Opening) → Stands tables (found_shard found) self.old → Belongs tables shards mutation
             → last_number 0 found.entries < mutation.number → Stands tables (found_shard (after_restore result mutation found)) self.new }
         ensures number { OnOk result (self.new.number ≡ max self.old.number mutation.number) }
+        ensures files { KeepsFiles self.old self.new }
     {
-        reserve(&mut self.parts, alloc, &mutation)?;
+        reserve(&mut self.stores, alloc, &mutation)?;
         self.number = self.number.max(mutation.number);
         self.drawn = drawn_with(self.drawn, &mutation);
         self.moment = self.moment.max(mutation.moment);
-        join(&mut self.parts, mutation);
+        join(&mut self.stores, mutation);
         Ok(())
     }
 
@@ -163,7 +182,7 @@ impl Shard {
     fn raise(&mut self, reading: i64)
         requires { IsTime reading }
         ensures stands { (tables : ListOf Schema) (s : ShardHistory) → Stands tables s self.old → Stands tables (raised reading s) self.new }
-        ensures parts { self.new.parts.items ≡ self.old.parts.items }
+        ensures stores { self.new.stores ≡ self.old.stores }
         ensures number { self.new.number ≡ self.old.number }
         ensures drawn { self.new.drawn ≡ self.old.drawn }
         ensures moment { self.new.moment ≡ later_moment reading self.old.moment }
@@ -179,9 +198,9 @@ impl Shard {
         mutation: Mutation,
     ) -> Result<Mutation, TakeFault>
         ensures answered { Answered segment mutation result }
-        ensures room { IfOk result (λ m. HasRoom m self.new.parts.items) }
-        ensures makes { MakesRoom mutation self.old.parts.items self.new.parts.items }
-        ensures refused { IfSome (take_refusal segment mutation) (λ why. self.new.parts.items ≡ self.old.parts.items) }
+        ensures room { IfOk result (λ m. HasRoom m self.new.stores) }
+        ensures makes { MakesRoom mutation self.old.stores self.new.stores }
+        ensures refused { IfSome (take_refusal segment mutation) (λ why. self.new.stores ≡ self.old.stores) }
         ensures number { self.new.number ≡ self.old.number }
         ensures drawn { self.new.drawn ≡ self.old.drawn }
         ensures moment { self.new.moment ≡ self.old.moment }
@@ -189,9 +208,9 @@ impl Shard {
         if let Some(refused) = take_refusal(segment, &mutation) {
             return Err(TakeFault::Refused(refused));
         }
-        match reserve(&mut self.parts, alloc, &mutation) {
+        match reserve(&mut self.stores, alloc, &mutation) {
             Ok(()) => Ok(mutation),
-            Err(AllocError) => Err(TakeFault::Mem),
+            Err(Mem) => Err(TakeFault::Mem),
         }
     }
 
@@ -214,6 +233,7 @@ impl Shard {
         ensures prepared { IfOk result (λ m. IsPrepared self.new m) }
         ensures ready { IfOk result (λ m. IsReady segment write m) }
         ensures number { self.new.number ≡ self.old.number }
+        ensures files { KeepsFiles self.old self.new }
     {
         let mutation = self.mutation_at(alloc, reading, write);
         self.raise(reading);
@@ -229,10 +249,11 @@ impl Shard {
         ensures stands { (tables : ListOf Schema) (shards : ℕ) (s : ShardHistory) (session call : ℕ) → Stands tables s self.old
             → Belongs tables shards mutation → Stands tables (entered (Wrote session call mutation ∷ []) s) self.new }
         ensures number { self.new.number ≡ mutation.number }
+        ensures files { KeepsFiles self.old self.new }
     {
         self.number = mutation.number;
         self.drawn = drawn_after(self.drawn, &mutation);
-        join(&mut self.parts, mutation);
+        join(&mut self.stores, mutation);
     }
 
     /// Prepares a write and enters its mutation at once, where nothing comes between.
@@ -245,8 +266,9 @@ impl Shard {
     ) -> Result<u64, TakeFault>
         requires time { IsTime reading }
         requires stated { IfSome write.timestamp (λ at. LEAST_TIMESTAMP ≤ℤ at) }
-        ensures { (tables : ListOf Schema) (shards : ℕ) (s : ShardHistory) (session call : ℕ) → Stands tables s self.old → Suits tables shards write
+        ensures took { (tables : ListOf Schema) (shards : ℕ) (s : ShardHistory) (session call : ℕ) → Stands tables s self.old → Suits tables shards write
             → Took tables segment s reading session call write result self.new }
+        ensures files { KeepsFiles self.old self.new }
     {
         let mutation = self.prepare(alloc, segment, reading, write)?;
         let number = mutation.number;
@@ -259,21 +281,32 @@ impl Shard {
     pub fn freeze(&mut self, alloc: Global, table: u16) -> Result<(), Mem>
         ensures stands { (tables : ListOf Schema) (s : ShardHistory) → Stands tables s self.old → Stands tables s self.new }
         ensures number { self.new.number ≡ self.old.number }
+        ensures files { KeepsFiles self.old self.new }
     {
-        freeze(&mut self.parts, alloc, table)
+        freeze(&mut self.stores, alloc, table)
     }
 
-    /// Shows the rows of a SELECT. The moment rises also where memory runs out. It reads what the
-    /// query's slice needs of its partition alone.
-    pub fn look(&mut self, alloc: Global, reading: i64, query: Query) -> Result<Look, Mem>
+    /// Shows the rows of a SELECT. The moment rises also where the disk fails or memory runs out. It reads
+    /// what the query's slice needs of its partition alone.
+    pub fn look(
+        &mut self,
+        alloc: Global,
+        reading: i64,
+        query: Query,
+        tally: &mut S::Tally,
+    ) -> Result<Look, TableFault>
         requires time { IsTime reading }
         requires columns { IsNarrow query.columns }
+        requires reads { AreReadIn query.slice (files_at (slice_get self.old.stores query.table)) }
         ensures shows { (tables : ListOf Schema) (s : ShardHistory) → Stands tables s self.old → Asks tables query → Shows s reading query result }
         ensures stands { (tables : ListOf Schema) (s : ShardHistory) → Stands tables s self.old → Stands tables (raised reading s) self.new }
         ensures number { self.new.number ≡ self.old.number }
+        ensures files { KeepsFiles self.old self.new }
+        ensures count { Counted (S.Tally.number tally.old) (S.Tally.number tally.new) (IsErrOf result TableFault.Read) }
+        ensures memory { length (files_at (slice_get self.old.stores query.table)) ≡ 0 → IfErr result (λ e. e ≡ table_fault.Mem) }
     {
         self.raise(reading);
-        let rows = rows_of(alloc, &self.parts, query, self.moment)?;
+        let rows = rows_of(alloc, &self.stores, query, self.moment, tally)?;
         Ok(Look {
             rows: List::from_vec(rows),
             front: self.number,

@@ -5,13 +5,12 @@ use Rattle.cas_atoms.specs.declared.atom.Mutation.{Mutation}
 use Rattle.cas_effects.specs.declared.effect.BoundWrite.{BoundWrite}
 use Rattle.cas_shard.specs.declared.entry.Entry.{Entry}
 use Rattle.cas_shard.specs.Shards.{ShardHistory, Takes, entered, raised, take_refusal, taken_unless, wants}
-use Rattle.cas_shard.specs.Stands.{Stands}
+use Rattle.cas_shard.specs.Stands.{ShardState, Stands}
 use Rattle.cas_shard.specs.declared.answers.TakeFault.{TakeFault}
-use Rattle.cas_shard.specs.declared.shard.Shard.{Shard}
 
 -- a write was answered so by a shard that stood for the history `s`, and stands for that with what was entered
 pub record Took (tables : List TableSchema) (segment : ℕ) (s : ShardHistory) (reading : ℤ) (session call : ℕ) (w : BoundWrite)
-    (r : Result ℕ TakeFault) (x : Shard) : Type 0 where
+    (r : Result ℕ TakeFault) (x : ShardState) : Type 0 where
   pub entries : List Entry
   pub takes : Takes segment s reading session call w entries r
   pub stands : Stands tables (entered entries (raised reading s)) x

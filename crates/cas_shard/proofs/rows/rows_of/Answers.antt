@@ -1,11 +1,14 @@
-use Rattle.std.proofs.Common.{arith, of_z, to_z, w64}
-use Rattle.std.specs.Prelude.{slice_get}
-use Rattle.std.proofs.lemmas.Int.{ints}
-use Rattle.cas_shard.proofs.Looking.{if_ok_too, rows_shown}
+use Rattle.std.proofs.Common.{refl, rules}
+use Rattle.std.proofs.lemmas.Option.{slice_get_read, slice_get_past}
+use Rattle.cas_shard.proofs.Looking.{if_ok_too, none_shown, store_shown}
 use Rattle.cas_shard.proofs.rows.rows_of.Goals as goal
 
-pub returns : goal.returns
-returns c =
-    if_ok_too c.all_rows.result _ _
-    (λ v given. rows_shown c.args.query c.args.now (to_z w64 (of_z w64 c.args.now)) (slice_get c.args.parts.now c.args.query.table) _ _ _ c.new-merger.result.top _ _ v.items (omega (arith, ints))
-    c.in_ok-sources.ensures c.new-merger.ensures.fragments c.new-merger.ensures.top c.new.ensures.rows given) c.all_rows.ensures
+pub returns-in-None-clause-rows : goal.returns-in-None-clause-rows
+returns-in-None-clause-rows g c =
+    none_shown c.args.query c.args.now _ c.new.result.items (slice_get_past c.args.stores.now c.args.query.table (search rules)) c.new.ensures.items
+
+pub returns-in-Some-clause-rows : goal.returns-in-Some-clause-rows
+returns-in-Some-clause-rows g c =
+    if_ok_too c.rows_of.result _ _
+    (λ v are. store_shown c.args.query c.args.now _ c.in-Some.store.now v.items
+    (slice_get_read c.args.stores.now _ c.args.query.table c.in-Some.store.now refl c.in-Some.ensures.lookup.3.0 c.in-Some.ensures.lookup.1) are) c.rows_of.ensures.rows
