@@ -25,7 +25,7 @@ use Rattle.cas_opening.specs.declared.fault.OpenFault.{OpenFault}
 use Rattle.cas_opening.specs.declared.fault.OpenFault.TheVariants as open_fault
 use Rattle.cas_opening.proofs.Readings.{one_store, opens_not_bad}
 use Rattle.cas_room.specs.declared.event.Event.{Event}
-use Rattle.cas_shard.specs.declared.shard.Shard.{Shard}
+use Rattle.cas_shard.specs.Stands.{ShardState}
 use Rattle.cas_render.specs.declared.reply.Reply.{Reply}
 use Rattle.cas_render.specs.declared.reply.Reply.TheVariants as reply
 use Rattle.cas_render.specs.declared.reply.Failure.TheVariants as failure
@@ -50,7 +50,7 @@ use Rattle.cas_node.proofs.Stopping.{stop_is_counted}
 -- ---- what was served
 
 module _ (kind : ClockKind) (Gives : ℤ → Type 0) (script : List ℕ) (old new : Option (List ℕ)) (s t : State) (d e : Disk) (faults_before : ℕ) (told why : Cause)
-    (moves : Moves (λ h after. RanFrom h kind Gives script old new after told) s t d e) (l : Limits) (tables : List TableSchema) (shards : List Shard) (journal : Journal)
+    (moves : Moves (λ h after. RanFrom h kind Gives script old new after told) s t d e) (l : Limits) (tables : List TableSchema) (shards : List ShardState) (journal : Journal)
     (faults : ℕ) (opened : IsOpenedAs l tables shards journal faults s)
     (begins : (given : Limits) (entries : List ManifestEntry) (mutations : List Mutation) → IsInMemory given entries mutations l tables shards
     → BeginsAs given entries mutations d s)
@@ -99,7 +99,7 @@ module _ (kind : ClockKind) (Gives : ℤ → Type 0) (script : List ℕ) (old ne
       (subst (λ n. Serves kind Gives script old new l tables shards journal d faults faults_before e n pass why) count (serves pass some is)))
 
 -- a store that was opened is the same in the eyes of a session that wrote nothing
-pub opened_as : (l : Limits) (tables : List TableSchema) (shards : List Shard) (journal : Journal) (faults : ℕ) (f g : ℕ → ℕ → ℤ → State) (session calls : ℕ) (clock : ℤ)
+pub opened_as : (l : Limits) (tables : List TableSchema) (shards : List ShardState) (journal : Journal) (faults : ℕ) (f g : ℕ → ℕ → ℤ → State) (session calls : ℕ) (clock : ℤ)
     → f ≡ g → calls ≡ 0 → ((session : ℕ) (clock : ℤ) → IsOpenedAs l tables shards journal faults (g session 0 clock)) → IsOpenedAs l tables shards journal faults (f session calls clock)
 opened_as l tables shards journal faults f g session calls clock same none opened =
     subst (λ (k : ℕ → ℕ → ℤ → State). IsOpenedAs l tables shards journal faults (k session calls clock)) (sym same)
@@ -143,7 +143,7 @@ keeps None new same = tt
 keeps (Some xs) None same = absurd cc
 keeps (Some xs) (Some ys) same = same_Some ys xs same
 
-module _ (words : List (List ℕ)) (Gives : ℤ → Type 0) (before after : Outside) (c : Command) (script : List ℕ) (limits : Limits) (tables : List TableSchema) (shards : List Shard)
+module _ (words : List (List ℕ)) (Gives : ℤ → Type 0) (before after : Outside) (c : Command) (script : List ℕ) (limits : Limits) (tables : List TableSchema) (shards : List ShardState)
     (journal : Journal) (mid : Disk) (faults : ℕ) (why : Cause) (said : command_of words ≡ Some c) (read : ReadToEnd before.left after.left script)
     (started : IsStarted c.limits limits tables shards journal before.folder mid) (kept : before.folder_faults ≤ faults) (n : ℕ) (counted : n ≡ before.folder_faults) where
   earlier : (h : History) → Begins c.limits started.entries started.mutations faults h → Begins c.limits started.entries started.mutations before.folder_faults h
@@ -290,7 +290,7 @@ module _ (words : List (List ℕ)) (Gives : ℤ → Type 0) (before after : Outs
       (stops_well ran.first c.clock Gives script before.taken after.taken ran.final ran.told granted (λ e. well.no_write_fault (write (is ∙ e))) r.stop r.run r.rest r.replies r.cut
       r.steps r.ended)
 
-  pub ends_well : (script : List ℕ) (limits : Limits) (tables : List TableSchema) (shards : List Shard) (journal : Journal) (mid : Disk) (faults : ℕ)
+  pub ends_well : (script : List ℕ) (limits : Limits) (tables : List TableSchema) (shards : List ShardState) (journal : Journal) (mid : Disk) (faults : ℕ)
       (pass : Option (List (Item Event))) (why : Cause) → ReadToEnd before.left after.left script
       → IsStarted c.limits limits tables shards journal before.folder mid → before.folder_faults ≤ faults
       → (n : ℕ) → n ≡ before.folder_faults

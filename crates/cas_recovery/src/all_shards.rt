@@ -13,9 +13,13 @@ pub(crate) struct AllShards<S: Sealed> {
 
 impl<S: Sealed> Model for AllShards<S> {
     ghost use Rattle.std.specs.Prelude.{◌≡◌, List, length};
+    ghost use Rattle.std.specs.Coded.{codes};
+    ghost use Rattle.cas_memtable.specs.contracts.parts.Parts as p;
     ghost use Rattle.cas_shard.specs.Stands.{ShardState};
 
     ghost Value = { List ShardState };
+
+    ghost coded = { Prim.hlevel (codes, p.the_row.coded) };
 
     ghost view = { λ a. a.shards.items };
 

@@ -30,10 +30,9 @@ use Rattle.cas_room.specs.declared.event.Event.TheVariants as event
 use Rattle.cas_room.specs.Keeping.{Keeps}
 use Rattle.cas_shard.specs.Shards.{ShardHistory, Prepares, mutation_at, take_refusal, taken_unless, prepare_answer, raised, wants}
 use Rattle.cas_shard.specs.Shards.{entered as with_entered}
-use Rattle.cas_shard.specs.Stands.{Stands, Suits, Belongs, IsPrepared, IsReady}
+use Rattle.cas_shard.specs.Stands.{Belongs, IsPrepared, IsReady, ShardState, Stands, Suits}
 use Rattle.cas_shard.specs.declared.answers.TakeFault.{TakeFault}
 use Rattle.cas_shard.specs.declared.answers.TakeFault.TheVariants as fault
-use Rattle.cas_shard.specs.declared.shard.Shard.{Shard}
 use Rattle.cas_sessions.specs.History.{History, DiskState, Takes, WritesAt, Stays, acknowledges, after_entries, after_write, entry_of, shard_at}
 use Rattle.cas_sessions.specs.Entered.{entries_in}
 use Rattle.cas_sessions.specs.Nodes.{State, StandsFor, LastsFor, disk_of, Moves}
@@ -95,7 +94,7 @@ prepared_is None m p e = (refl, cc)
 prepared_is (Some x) m p e = (cc, cc)
 
 -- What is known when a shard was asked to prepare a write: it stood in its place, and what it gave.
-pub record Asked (s : State) (w : BoundWrite) (reading : ℤ) (x y : Shard) (result : Result Mutation TakeFault) : Type 0 where
+pub record Asked (s : State) (w : BoundWrite) (reading : ℤ) (x y : ShardState) (result : Result Mutation TakeFault) : Type 0 where
   pub sound : IsSoundState s
   pub within : w.shard < s.limits.shards
   pub fits : BoundFits s.limits.shards s.tables (bound.Write w)
@@ -108,7 +107,7 @@ pub record Asked (s : State) (w : BoundWrite) (reading : ℤ) (x y : Shard) (res
 abbrev pub mutation_in : History → ℤ → BoundWrite → Mutation
 mutation_in h reading w = mutation_at reading (shard_at h w.shard) w
 
-module _ (s : State) (w : BoundWrite) (reading : ℤ) (x y : Shard) (result : Result Mutation TakeFault) (asked : Asked s w reading x y result) where
+module _ (s : State) (w : BoundWrite) (reading : ℤ) (x y : ShardState) (result : Result Mutation TakeFault) (asked : Asked s w reading x y result) where
   pub there : slice_get s.shards w.shard ≡ Some x
   there = seat_at s.shards w.shard x (subst (λ (k : ℕ). w.shard < k) (sym asked.sound.count) asked.within) asked.seat
 
@@ -150,10 +149,10 @@ stays_same d = record {
 
 -- ---- a write that wasn't taken
 
-abbrev pub prepared_only : State → ℕ → Shard → State
+abbrev pub prepared_only : State → ℕ → ShardState → State
 prepared_only s n y = record s { shards = slice_set s.shards n y }
 
-module _ (s : State) (w : BoundWrite) (reading : ℤ) (x y : Shard) (result : Result Mutation TakeFault) (asked : Asked s w reading x y result) (d : Disk) where
+module _ (s : State) (w : BoundWrite) (reading : ℤ) (x y : ShardState) (result : Result Mutation TakeFault) (asked : Asked s w reading x y result) (d : Disk) where
   at_once : (r : Reply) → acknowledges r ≡ 0
       → ((h : History) → StandsFor h s → Takes h.limits.segment (mutation_in h reading w) (entry_of h (mutation_in h reading w)) h.disk r [] (disk_of s))
       → Moves (λ h after. WritesAt h reading w r after) s (prepared_only s w.shard y) d d
@@ -254,7 +253,7 @@ quiet Failed = refl
 quiet Mem = refl
 
 -- what is left where the room didn't take the mutation
-pub record NotTaken (s t : State) (d e : Disk) (n : ℕ) (y : Shard) (m : Mutation) (f : JournalFault) : Type 0 where
+pub record NotTaken (s t : State) (d e : Disk) (n : ℕ) (y : ShardState) (m : Mutation) (f : JournalFault) : Type 0 where
   pub shards : t.shards ≡ slice_set s.shards n y
   pub limits : t.limits ≡ s.limits
   pub tables : t.tables ≡ s.tables
@@ -288,7 +287,7 @@ going_since (Stopped g) first kept before now long most p short off = kept_since
 going_since Failed first kept before now long most p short off = kept_since first kept before now Failed p.1 off
 going_since Mem first kept before now long most p short off = kept_since first kept before now Mem p.1 off
 
-module _ (s : State) (w : BoundWrite) (reading : ℤ) (x y : Shard) (result : Result Mutation TakeFault) (asked : Asked s w reading x y result) (m : Mutation)
+module _ (s : State) (w : BoundWrite) (reading : ℤ) (x y : ShardState) (result : Result Mutation TakeFault) (asked : Asked s w reading x y result) (m : Mutation)
     (is : result ≡ Ok m) (prepared : IsPrepared y m) (ready : IsReady s.limits.segment w m) where
   abbrev pub table : TableSchema
   table = asked.fits.0
@@ -394,7 +393,7 @@ rose_since : (a b c : ℕ) → a ≤ b → Rose b c → Rose a c
 rose_since a b c le rose = omega (arith, le, rose)
 
 -- what is left where the room took the mutation, and its shard
-pub record Took (s t : State) (d e : Disk) (w : BoundWrite) (y yy z : Shard) (m : Mutation) : Type 0 where
+pub record Took (s t : State) (d e : Disk) (w : BoundWrite) (y yy z : ShardState) (m : Mutation) : Type 0 where
   pub shards : t.shards ≡ slice_set (slice_set s.shards w.shard y) w.shard z
   pub seat : yy ≡ slice_index_or (slice_set s.shards w.shard y) w.shard yy
   pub limits : t.limits ≡ s.limits
@@ -417,9 +416,9 @@ pub record Took (s t : State) (d e : Disk) (w : BoundWrite) (y yy z : Shard) (m 
   pub reach : (r : Reach) × GoesOn (reach_of s.journal) r × (reach_of t.journal ≡ r)
   pub rises : (s.faults ≤ faults) × (faults ≤ t.faults)
 
-module _ (s : State) (w : BoundWrite) (reading : ℤ) (x y : Shard) (result : Result Mutation TakeFault) (asked : Asked s w reading x y result) (m : Mutation)
+module _ (s : State) (w : BoundWrite) (reading : ℤ) (x y : ShardState) (result : Result Mutation TakeFault) (asked : Asked s w reading x y result) (m : Mutation)
     (is : result ≡ Ok m) (prepared : IsPrepared y m) (ready : IsReady s.limits.segment w m)
-    (t : State) (d e : Disk) (yy z : Shard) (left : Took s t d e w y yy z m) where
+    (t : State) (d e : Disk) (yy z : ShardState) (left : Took s t d e w y yy z m) where
   abbrev new : List Entry
   new = entry.Wrote s.session (s.calls + 1) m ∷ []
 
@@ -462,7 +461,7 @@ module _ (s : State) (w : BoundWrite) (reading : ℤ) (x y : Shard) (result : Re
       ) in
       let stands_new : Stands h.tables (after_entries reading new (shard_at h w.shard)) z =
       left.stands h.tables s.limits.shards (raised reading (shard_at h w.shard)) s.session (s.calls + 1)
-      (subst (λ (q : Shard). Stands h.tables (raised reading (shard_at h w.shard)) q) same_shard (raises s w reading x y result asked h stands)) belongs in
+      (subst (λ (q : ShardState). Stands h.tables (raised reading (shard_at h w.shard)) q) same_shard (raises s w reading x y result asked h stands)) belongs in
       let its_entry : new ≡ entry_of h (mutation_in h reading w) ∷ [] =
       ap (λ (q : Mutation). entry.Wrote s.session (s.calls + 1) q ∷ []) both.1
       ∙ ap (λ (j : ℕ). entry.Wrote j (s.calls + 1) (mutation_in h reading w) ∷ []) (sym stands.session)

@@ -22,7 +22,7 @@ use Rattle.cas_room.specs.declared.event.Event.{Event}
 use Rattle.cas_room.specs.declared.event.Event.TheVariants as event
 use Rattle.cas_room.specs.Keeping.{Keeps}
 use Rattle.cas_room.specs.Rooms.{accepted_in, mutation_of}
-use Rattle.cas_shard.specs.declared.shard.Shard.{Shard}
+use Rattle.cas_shard.specs.Stands.{ShardState}
 use Rattle.define_laws.proofs.Telling.{named_segments_define_nothing}
 use Rattle.cas_sessions.specs.History.{History}
 use Rattle.cas_sessions.specs.Nodes.{State, LastsFor}
@@ -36,20 +36,20 @@ one_accepted list m session call =
     ap length (sym (flat_map_more mutation_of [] list (Wrote m.shard session call m.number (event.Accepted m)))) ∙ length-append (accepted_in list) (m ∷ [])
 
 -- the next numbers of shards that are the same
-same_next : (s t : State) (n : ℕ) (x y : Shard) (told : List Mutation) → slice_get s.shards n ≡ Some x → t.shards ≡ slice_set s.shards n y → y.number ≡ x.number
-    → ((k : ℕ) (z : Shard) → slice_get s.shards k ≡ Some z → AscendByOne (numbers_of k told ++ (z.number + 1) ∷ []))
-    → (k : ℕ) (z : Shard) → slice_get t.shards k ≡ Some z → AscendByOne (numbers_of k told ++ (z.number + 1) ∷ [])
+same_next : (s t : State) (n : ℕ) (x y : ShardState) (told : List Mutation) → slice_get s.shards n ≡ Some x → t.shards ≡ slice_set s.shards n y → y.number ≡ x.number
+    → ((k : ℕ) (z : ShardState) → slice_get s.shards k ≡ Some z → AscendByOne (numbers_of k told ++ (z.number + 1) ∷ []))
+    → (k : ℕ) (z : ShardState) → slice_get t.shards k ≡ Some z → AscendByOne (numbers_of k told ++ (z.number + 1) ∷ [])
 same_next s t n x y told there shards same next k z got = ⊎_elim here elsewhere (same_place k n)
   where
     got_set : slice_get (slice_set s.shards n y) k ≡ Some z
-    got_set = subst (λ (xs : List Shard). slice_get xs k ≡ Some z) shards got
+    got_set = subst (λ (xs : List ShardState). slice_get xs k ≡ Some z) shards got
 
     here : k ≡ n → AscendByOne (numbers_of k told ++ (z.number + 1) ∷ [])
     here e =
         let at_k : slice_get (slice_set s.shards n y) k ≡ Some y =
         subst (λ (j : ℕ). slice_get (slice_set s.shards n y) j ≡ Some y) (sym e) (get_here s.shards n x y there) in
         let is : y ≡ z = same_Some y z (sym at_k ∙ got_set) in
-        subst (λ (j : ℕ). AscendByOne (numbers_of k told ++ (j + 1) ∷ [])) (sym same ∙ ap (λ (w : Shard). w.number) is)
+        subst (λ (j : ℕ). AscendByOne (numbers_of k told ++ (j + 1) ∷ [])) (sym same ∙ ap (λ (w : ShardState). w.number) is)
         (next k x (subst (λ (j : ℕ). slice_get s.shards j ≡ Some x) (sym e) there))
 
     elsewhere : k ≢ n → AscendByOne (numbers_of k told ++ (z.number + 1) ∷ [])
@@ -57,7 +57,7 @@ same_next s t n x y told there shards same next k z got = ⊎_elim here elsewher
 
 -- ---- a step that enters nothing, and leaves the room alone
 
-pub lasts_still : (h k : History) (found : List Mutation) (s t : State) (d e : Disk) (told : Told) (n : ℕ) (x y : Shard) → k.acknowledged ≡ h.acknowledged
+pub lasts_still : (h k : History) (found : List Mutation) (s t : State) (d e : Disk) (told : Told) (n : ℕ) (x y : ShardState) → k.acknowledged ≡ h.acknowledged
     → slice_get s.shards n ≡ Some x → t.shards ≡ slice_set s.shards n y → y.number ≡ x.number
     → ((l : List (Item Event)) → l ≡ s.list → (c : ℕ) → c ≡ s.committed → Keeps s.journal d s.list s.committed found told → Keeps t.journal e l c found told)
     → t.list ≡ s.list → t.committed ≡ s.committed → t.tables ≡ s.tables → t.limits ≡ s.limits → t.accepted ≡ s.accepted
@@ -77,7 +77,7 @@ lasts_still h k found s t d e told n x y acks there shards same keeps list commi
 
 -- ---- a mutation that may be taken
 
-pub may_be_taken : (h : History) (found : List Mutation) (s : State) (d : Disk) (t : Told) (m : Mutation) (table : TableSchema) (x : Shard) → LastsFor h found s d t
+pub may_be_taken : (h : History) (found : List Mutation) (s : State) (d : Disk) (t : Told) (m : Mutation) (table : TableSchema) (x : ShardState) → LastsFor h found s d t
     → slice_get s.tables m.table ≡ Some table → FitsMutation table s.limits.shards m → record_length m < 2 ^ 32 → slice_get s.shards m.shard ≡ Some x
     → m.number ≡ x.number + 1 → MayTake t m
 may_be_taken h found s d t m table x lasts there fits short seat number =
@@ -97,7 +97,7 @@ pub few_failed : (before now : List ManifestEntry) → FailedToName before now �
 few_failed before now (inl same) few = subst (λ (es : List ManifestEntry). length es ≤ 1) (sym same) few
 few_failed before now (inr named) few = subst (λ (es : List ManifestEntry). length es ≤ 1) (sym named.1) (omega arith)
 
-pub lasts_with_room : (h k : History) (found : List Mutation) (s t : State) (d e : Disk) (told u : Told) (n : ℕ) (x y : Shard) → k.acknowledged ≡ h.acknowledged
+pub lasts_with_room : (h k : History) (found : List Mutation) (s t : State) (d e : Disk) (told u : Told) (n : ℕ) (x y : ShardState) → k.acknowledged ≡ h.acknowledged
     → slice_get s.shards n ≡ Some x → t.shards ≡ slice_set s.shards n y → y.number ≡ x.number → MadeRoom told u → Keeps t.journal e t.list t.committed found u
     → t.list ≡ s.list → t.committed ≡ s.committed → t.tables ≡ s.tables → t.limits ≡ s.limits → t.accepted ≡ s.accepted
     → (is_some t.journal.first ≡ false → is_some s.journal.first ≡ false)
@@ -111,7 +111,7 @@ lasts_with_room h k found s t d e told u n x y acks there shards same made keeps
       few = few_failed told.failed u.failed made.failed lasts.few;
       ordered = subst AreInOrder (sym made.taken) lasts.ordered;
       next =
-          subst (λ ms. (j : ℕ) (z : Shard) → slice_get t.shards j ≡ Some z → AscendByOne (numbers_of j ms ++ (z.number + 1) ∷ [])) (sym made.taken)
+          subst (λ ms. (j : ℕ) (z : ShardState) → slice_get t.shards j ≡ Some z → AscendByOne (numbers_of j ms ++ (z.number + 1) ∷ [])) (sym made.taken)
           (same_next s t n x y told.taken there shards same lasts.next);
       counted = omega (arith, lasts.counted, accepted, ap (λ l. length (accepted_in l)) list);
       acknowledged = (omega (arith, lasts.acknowledged.0, acks, committed), omega (arith, lasts.acknowledged.1, acks, ap (λ l. length (accepted_in l)) list));
@@ -124,7 +124,7 @@ lasts_with_room h k found s t d e told u n x y acks there shards same made keeps
 counts : (n a b : ℕ) → n ≤ a → n + 1 < 2 ^ 64 → b ≡ min (a + 1) (2 ^ 64 - 1) → n + 1 ≤ b
 counts n a b few room is = omega (arith, few, room, is)
 
-module _ (h k : History) (found : List Mutation) (s t : State) (d e : Disk) (told u v : Told) (m : Mutation) (x y : Shard) (there : slice_get s.shards m.shard ≡ Some x)
+module _ (h k : History) (found : List Mutation) (s t : State) (d e : Disk) (told u v : Told) (m : Mutation) (x y : ShardState) (there : slice_get s.shards m.shard ≡ Some x)
     (shards : t.shards ≡ slice_set s.shards m.shard y) (number : m.number ≡ x.number + 1) (new : y.number ≡ m.number) (made : MadeRoom told u)
     (entries : v.entries ≡ u.entries) (failed : v.failed ≡ u.failed) (taken : v.taken ≡ u.taken ++ m ∷ []) (lasts : LastsFor h found s d told) where
   comes : AscendByOne (numbers_of m.shard told.taken ++ m.number ∷ [])
@@ -133,18 +133,18 @@ module _ (h k : History) (found : List Mutation) (s t : State) (d e : Disk) (tol
   all : v.taken ≡ told.taken ++ m ∷ []
   all = taken ∙ ap (λ ms. ms ++ m ∷ []) made.taken
 
-  next_now : (j : ℕ) (z : Shard) → slice_get t.shards j ≡ Some z → AscendByOne (numbers_of j (told.taken ++ m ∷ []) ++ (z.number + 1) ∷ [])
+  next_now : (j : ℕ) (z : ShardState) → slice_get t.shards j ≡ Some z → AscendByOne (numbers_of j (told.taken ++ m ∷ []) ++ (z.number + 1) ∷ [])
   next_now j z got = ⊎_elim here elsewhere (same_place j m.shard)
     where
       got_set : slice_get (slice_set s.shards m.shard y) j ≡ Some z
-      got_set = subst (λ (xs : List Shard). slice_get xs j ≡ Some z) shards got
+      got_set = subst (λ (xs : List ShardState). slice_get xs j ≡ Some z) shards got
 
       here : j ≡ m.shard → AscendByOne (numbers_of j (told.taken ++ m ∷ []) ++ (z.number + 1) ∷ [])
       here is =
           let at_j : slice_get (slice_set s.shards m.shard y) j ≡ Some y =
           subst (λ (i : ℕ). slice_get (slice_set s.shards m.shard y) i ≡ Some y) (sym is) (get_here s.shards m.shard x y there) in
           let same : y ≡ z = same_Some y z (sym at_j ∙ got_set) in
-          next_after told.taken m comes j (x.number + 1) (z.number + 1) (λ _. ap (λ (w : Shard). w.number + 1) (sym same) ∙ ap (λ i. i + 1) new) (λ other. absurd (other (sym is)))
+          next_after told.taken m comes j (x.number + 1) (z.number + 1) (λ _. ap (λ (w : ShardState). w.number + 1) (sym same) ∙ ap (λ i. i + 1) new) (λ other. absurd (other (sym is)))
           (lasts.next j x (subst (λ (i : ℕ). slice_get s.shards i ≡ Some x) (sym is) there))
 
       elsewhere : j ≢ m.shard → AscendByOne (numbers_of j (told.taken ++ m ∷ []) ++ (z.number + 1) ∷ [])
@@ -167,7 +167,7 @@ module _ (h k : History) (found : List Mutation) (s t : State) (d e : Disk) (tol
         few = subst (λ es. length es ≤ 1) (sym failed) (few_failed told.failed u.failed made.failed lasts.few);
         ordered = subst AreInOrder (sym all) (next_in_order told.taken m comes lasts.ordered);
         next =
-            subst (λ ms. (j : ℕ) (z : Shard) → slice_get t.shards j ≡ Some z → AscendByOne (numbers_of j ms ++ (z.number + 1) ∷ [])) (sym all) next_now;
+            subst (λ ms. (j : ℕ) (z : ShardState) → slice_get t.shards j ≡ Some z → AscendByOne (numbers_of j ms ++ (z.number + 1) ∷ [])) (sym all) next_now;
         counted = omega (arith, longer, counted);
         acknowledged = (acks_by either longer counted, omega (arith, longer, acks, lasts.acknowledged.1));
         whole = λ on. let same = going on in omega (arith, same, longer, counted);

@@ -17,11 +17,14 @@ use Rattle.cas_render.specs.declared.reply.Failure.TheVariants as failure
 use Rattle.cas_render.specs.declared.reply.Reply.{Reply}
 use Rattle.cas_render.specs.declared.reply.Reply.TheVariants as reply
 use Rattle.cas_room.specs.Keeping.{Keeps}
+use Rattle.cas_bounds.specs.declared.cuts.Slice.{Slice}
+use Rattle.cas_sstread.specs.Loading.{Held}
+use Rattle.cas_stored.specs.Reading.{AreReadIn}
+use Rattle.cas_view.specs.Views.{File}
 use Rattle.cas_types.specs.declared.schema.TableSchema.{TableSchema}
 use Rattle.cas_shard.specs.Shards.{ShardHistory, found_shard, empty_shard, look_at, raised}
 use Rattle.cas_shard.specs.declared.answers.Look.{Look}
-use Rattle.cas_shard.specs.Stands.{Stands}
-use Rattle.cas_shard.specs.declared.shard.Shard.{Shard}
+use Rattle.cas_shard.specs.Stands.{ShardState, Stands}
 use Rattle.cas_sessions.specs.History.{History, Shows, after_entries, after_read, after_write, rows_reply, shard_at, with_shard}
 use Rattle.cas_sessions.specs.Entered.{entries_in, entry_in}
 use Rattle.cas_sessions.specs.Nodes.{State, StandsFor, disk_of, Moves}
@@ -49,9 +52,14 @@ one_more list m session call k = sym (flat_map_more (entry_in k) [] list (Wrote 
 pub raised_is : (reading : ℤ) (s : ShardHistory) → raised reading s ≡ after_entries reading [] s
 raised_is reading s = ap (λ es. record (raised reading s) { entries = es }) (sym (append-nil s.entries))
 
+-- of a shard without files every slice may be read
+pub read_in_none : (s : Slice) (fs : List (File Held)) → length fs ≡ 0 → AreReadIn s fs
+read_in_none s [] e = tt
+read_in_none s (f ∷ fs) e = cc
+
 -- ---- a step in one shard
 
-module _ (h : History) (s t : State) (n : ℕ) (x y : Shard) (reading : ℤ) (new : List Entry) (stands : StandsFor h s) (there : slice_get s.shards n ≡ Some x)
+module _ (h : History) (s t : State) (n : ℕ) (x y : ShardState) (reading : ℤ) (new : List Entry) (stands : StandsFor h s) (there : slice_get s.shards n ≡ Some x)
     (shards : t.shards ≡ slice_set s.shards n y) (stands_new : Stands h.tables (after_entries reading new (shard_at h n)) y)
     (entered : (k : ℕ) → entries_in k t.list ≡ with_entries n k new (entries_in k s.list)) where
   abbrev after : History
@@ -66,11 +74,11 @@ module _ (h : History) (s t : State) (n : ℕ) (x y : Shard) (reading : ℤ) (ne
   at_other : (k : ℕ) → k ≢ n → shard_at after k ≡ shard_at h k
   at_other k other = index_other h.shards n k _ (found_shard empty_shard) other
 
-  pub shards_stand : (k : ℕ) (z : Shard) → slice_get t.shards k ≡ Some z → Stands h.tables (shard_at after k) z
+  pub shards_stand : (k : ℕ) (z : ShardState) → slice_get t.shards k ≡ Some z → Stands h.tables (shard_at after k) z
   shards_stand k z got = ⊎_elim here elsewhere (same_place k n)
     where
       got_set : slice_get (slice_set s.shards n y) k ≡ Some z
-      got_set = subst (λ (xs : List Shard). slice_get xs k ≡ Some z) shards got
+      got_set = subst (λ (xs : List ShardState). slice_get xs k ≡ Some z) shards got
 
       here : k ≡ n → Stands h.tables (shard_at after k) z
       here e =
@@ -78,7 +86,7 @@ module _ (h : History) (s t : State) (n : ℕ) (x y : Shard) (reading : ℤ) (ne
           subst (λ (j : ℕ). slice_get (slice_set s.shards n y) j ≡ Some y) (sym e) (get_here s.shards n x y there) in
           let same : y ≡ z = same_Some y z (sym at_k ∙ got_set) in
           subst (λ (j : ℕ). Stands h.tables (shard_at after j) z) (sym e)
-          (subst (λ (q : ShardHistory). Stands h.tables q z) (sym at_here) (subst (λ (w : Shard). Stands h.tables (after_entries reading new (shard_at h n)) w) same stands_new))
+          (subst (λ (q : ShardHistory). Stands h.tables q z) (sym at_here) (subst (λ (w : ShardState). Stands h.tables (after_entries reading new (shard_at h n)) w) same stands_new))
 
       elsewhere : k ≢ n → Stands h.tables (shard_at after k) z
       elsewhere other = subst (λ (q : ShardHistory). Stands h.tables q z) (sym (at_other k other)) (stands.shards k z (sym (get_other s.shards n k y other) ∙ got_set))
@@ -142,10 +150,10 @@ pub shows_none : (s : ShardHistory) (reading : ℤ) (q : BoundRead) → Shows s 
 shows_none s reading q told = absurd (true≢false told)
 
 -- the store whose shard of that number is now this
-abbrev pub with_looked : State → ℕ → Shard → State
+abbrev pub with_looked : State → ℕ → ShardState → State
 with_looked s n y = record s { shards = slice_set s.shards n y }
 
-pub moves_look : (s : State) (d : Disk) (q : BoundRead) (x y : Shard) (reading : ℤ) (r : Reply) → slice_get s.shards q.shard ≡ Some x → y.number ≡ x.number
+pub moves_look : (s : State) (d : Disk) (q : BoundRead) (x y : ShardState) (reading : ℤ) (r : Reply) → slice_get s.shards q.shard ≡ Some x → y.number ≡ x.number
     → ((ts : List TableSchema) (z : ShardHistory) → Stands ts z x → Stands ts (raised reading z) y)
     → ((z : ShardHistory) → Stands s.tables z x → Shows z reading q r)
     → Moves (λ h after. Shows (shard_at h q.shard) reading q r × (after ≡ after_read h q.shard reading)) s (with_looked s q.shard y) d d

@@ -16,8 +16,7 @@ use Rattle.cas_room.specs.Keeping.{StandsFor as ImageStands}
 use Rattle.cas_room.specs.Rooms.{accepted_in}
 use Rattle.cas_room.specs.declared.event.Event.{Event}
 use Rattle.cas_shard.specs.Shards.{ShardHistory, found_shard, empty_shard}
-use Rattle.cas_shard.specs.Stands.{Stands}
-use Rattle.cas_shard.specs.declared.shard.Shard.{Shard}
+use Rattle.cas_shard.specs.Stands.{ShardState, Stands}
 use Rattle.cas_sessions.specs.History.{History, shard_at}
 use Rattle.cas_recovery.specs.Found.{found_in}
 use Rattle.cas_sessions.specs.Starts.{start, BeginsAs}
@@ -93,7 +92,7 @@ module _ (given : Limits) (entries : List ManifestEntry) (mutations : List Mutat
     few = subst (λ (es : List ManifestEntry). length es ≤ 1) (sym told.failed) (omega arith);
     ordered = subst AreInOrder (sym told.taken) memory.ordered;
     next =
-        subst (λ (ms : List Mutation). (n : ℕ) (x : Shard) → slice_get s.shards n ≡ Some x → AscendByOne (numbers_of n ms ++ (x.number + 1) ∷ [])) (sym told.taken)
+        subst (λ (ms : List Mutation). (n : ℕ) (x : ShardState) → slice_get s.shards n ≡ Some x → AscendByOne (numbers_of n ms ++ (x.number + 1) ∷ [])) (sym told.taken)
         memory.next;
     counted = none s.accepted;
     acknowledged = (omega arith, omega arith);

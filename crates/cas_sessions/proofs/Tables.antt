@@ -40,8 +40,7 @@ use Rattle.cas_room.specs.declared.event.Event.{Event}
 use Rattle.cas_room.specs.Keeping.{Keeps}
 use Rattle.cas_room.specs.Rooms.{accepted_in}
 use Rattle.cas_shard.specs.Shards.{ShardHistory}
-use Rattle.cas_shard.specs.Stands.{Stands, order_at, order_of}
-use Rattle.cas_shard.specs.declared.shard.Shard.{Shard}
+use Rattle.cas_shard.specs.Stands.{ShardState, Stands, order_at, order_of}
 use Rattle.cas_shard.proofs.Standing.{stands_under}
 use Rattle.cas_sessions.specs.History.{Changes, Defines, History, DiskState, shard_at}
 use Rattle.cas_sessions.specs.Inner.Definitions.{MayBeTold}
@@ -55,7 +54,7 @@ first_of [] us n lt = absurd (omega (arith, lt))
 first_of (t ∷ ts) us zero lt = refl
 first_of (t ∷ ts) us (suc n) lt = first_of ts us n (omega (arith, lt))
 
-pub under_created : (tables : List TableSchema) (t : TableSchema) (s : ShardHistory) (x : Shard) → Stands tables s x → Stands (tables ++ t ∷ []) s x
+pub under_created : (tables : List TableSchema) (t : TableSchema) (s : ShardHistory) (x : ShardState) → Stands tables s x → Stands (tables ++ t ∷ []) s x
 under_created tables t s x stands =
     stands_under tables (tables ++ t ∷ []) s x (omega (arith, length-append tables (t ∷ []))) (first_of tables (t ∷ [])) stands
 
@@ -73,7 +72,7 @@ module _ (a : Addition) (bare : NoKeys a.columns) where
   many [] = refl
   many (t ∷ ts) = ap suc (many ts)
 
-  pub under_altered : (tables : List TableSchema) (s : ShardHistory) (x : Shard) → Stands tables s x → Stands (map (with_added a) tables) s x
+  pub under_altered : (tables : List TableSchema) (s : ShardHistory) (x : ShardState) → Stands tables s x → Stands (map (with_added a) tables) s x
   under_altered tables s x stands =
       stands_under tables (map (with_added a) tables) s x (omega (arith, many tables)) (λ n lt. each_order tables n) stands
 
@@ -151,7 +150,7 @@ adds_no_keys ts a may =
 
 -- its memory stands for the history with these tables
 pub stands_defined : (h : History) (s t : State) → StandsFor h s → t.limits ≡ s.limits → t.clock ≡ s.clock → t.session ≡ s.session → t.calls ≡ s.calls
-    → t.list ≡ s.list → t.shards ≡ s.shards → ((q : ShardHistory) (x : Shard) → Stands h.tables q x → Stands t.tables q x)
+    → t.list ≡ s.list → t.shards ≡ s.shards → ((q : ShardHistory) (x : ShardState) → Stands h.tables q x → Stands t.tables q x)
     → StandsFor (record h { tables = t.tables; disk = disk_of t }) t
 stands_defined h s t stands limits clock session calls list shards under = record {
   limits = stands.limits ∙ sym limits;
@@ -161,7 +160,7 @@ stands_defined h s t stands limits clock session calls list shards under = recor
   calls = stands.calls ∙ sym calls;
   disk = refl;
   count = stands.count ∙ ap length (sym shards);
-  shards = λ n x got. under (shard_at h n) x (stands.shards n x (subst (λ (xs : List Shard). slice_get xs n ≡ Some x) shards got));
+  shards = λ n x got. under (shard_at h n) x (stands.shards n x (subst (λ (xs : List ShardState). slice_get xs n ≡ Some x) shards got));
   entered = λ n lt. stands.entered n lt ∙ ap (entries_in n) (sym list);
 }
 
@@ -178,7 +177,7 @@ lasts_defined h k found s t d e told now lasts acks keeps taken few tables said 
   few = few;
   ordered = subst AreInOrder (sym taken) lasts.ordered;
   next = λ n x got.
-      subst (λ (ms : List Mutation). AscendByOne (numbers_of n ms ++ (x.number + 1) ∷ [])) (sym taken) (lasts.next n x (subst (λ (xs : List Shard). slice_get xs n ≡ Some x) shards got));
+      subst (λ (ms : List Mutation). AscendByOne (numbers_of n ms ++ (x.number + 1) ∷ [])) (sym taken) (lasts.next n x (subst (λ (xs : List ShardState). slice_get xs n ≡ Some x) shards got));
   counted = omega (arith, lasts.counted, accepted, ap (λ (l : List (Item Event)). length (accepted_in l)) list);
   acknowledged = (omega (arith, lasts.acknowledged.0, acks, committed), omega (arith, lasts.acknowledged.1, acks, ap (λ (l : List (Item Event)). length (accepted_in l)) list));
   whole = λ on. let all = lasts.whole (going on) in omega (arith, all, committed, ap (λ (l : List (Item Event)). length (accepted_in l)) list);
@@ -328,7 +327,7 @@ module _ (s t : State) (d e : Disk) (x : ManifestEntry) (b : Bound) (may : MayBe
     },
   )
 
-  pub moves_done : IsDefinition x → t.tables ≡ tables_after s.tables b → ((z : ShardHistory) (y : Shard) → Stands s.tables z y → Stands t.tables z y)
+  pub moves_done : IsDefinition x → t.tables ≡ tables_after s.tables b → ((z : ShardHistory) (y : ShardState) → Stands s.tables z y → Stands t.tables z y)
       → Ends {T = Unit {0}} s.journal.first t.journal.first s.faults t.faults (Ok tt)
       → reach_of t.journal ≡ record { segment = (reach_of s.journal).segment; manifest = (reach_of s.journal).manifest + room_of x }
       → ((found : List Mutation) (told : Told) → Keeps s.journal d s.list s.committed found told → FitsEntry (said_by told.entries) x

@@ -16,8 +16,7 @@ use Rattle.cas_render.specs.declared.reply.Reply.TheVariants as reply
 use Rattle.cas_room.specs.declared.event.Event.{Event}
 use Rattle.cas_room.specs.Keeping.{Keeps}
 use Rattle.cas_room.specs.Rooms.{accepted_in}
-use Rattle.cas_shard.specs.declared.shard.Shard.{Shard}
-use Rattle.cas_shard.specs.Stands.{Stands}
+use Rattle.cas_shard.specs.Stands.{ShardState, Stands}
 use Rattle.cas_sessions.specs.History.{History, DiskState, shard_at}
 use Rattle.cas_sessions.specs.Entered.{AreEntered, IsLeftAmid}
 
@@ -27,7 +26,7 @@ use Rattle.cas_sessions.specs.Entered.{AreEntered, IsLeftAmid}
 pub record State : Type 0 where
   pub limits : Limits
   pub tables : List TableSchema
-  pub shards : List Shard
+  pub shards : List ShardState
   pub places : List ℕ
   pub numbers : List ℕ
   pub clock : ℤ
@@ -60,7 +59,7 @@ pub record StandsFor (h : History) (s : State) : Type 0 where
   pub calls : h.calls ≡ s.calls
   pub disk : h.disk ≡ disk_of s
   pub count : length h.shards ≡ length s.shards
-  pub shards : (n : ℕ) (x : Shard) → slice_get s.shards n ≡ Some x → Stands h.tables (shard_at h n) x
+  pub shards : (n : ℕ) (x : ShardState) → slice_get s.shards n ≡ Some x → Stands h.tables (shard_at h n) x
   pub entered : AreEntered s.list h
 
 -- A store's disk keeps what its history says. What the journal was told are the mutations that were found and then all that was accepted, by which
@@ -72,7 +71,7 @@ pub record LastsFor (h : History) (found : List Mutation) (s : State) (disk : Di
   pub shards : (said_by t.entries).shards ≡ s.limits.shards
   pub few : length t.failed ≤ 1
   pub ordered : AreInOrder t.taken
-  pub next : (n : ℕ) (x : Shard) → slice_get s.shards n ≡ Some x → AscendByOne (numbers_of n t.taken ++ (x.number + 1) ∷ [])
+  pub next : (n : ℕ) (x : ShardState) → slice_get s.shards n ≡ Some x → AscendByOne (numbers_of n t.taken ++ (x.number + 1) ∷ [])
   pub counted : length (accepted_in s.list) ≤ s.accepted
   pub acknowledged : (h.acknowledged ≤ s.committed) × (h.acknowledged ≤ length (accepted_in s.list))
   pub whole : is_some s.journal.first ≡ false → length (accepted_in s.list) ≤ s.committed

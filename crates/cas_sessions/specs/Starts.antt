@@ -10,7 +10,7 @@ use Rattle.cas_journal.specs.Stores.{Told}
 use Rattle.cas_journal.specs.Journals.{Lasts}
 use Rattle.cas_journal.specs.declared.journal.Journal.{Journal}
 use Rattle.cas_opening.specs.Opening.{next_segment}
-use Rattle.cas_shard.specs.declared.shard.Shard.{Shard}
+use Rattle.cas_shard.specs.Stands.{ShardState}
 use Rattle.cas_shard.specs.Shards.{found_shard}
 use Rattle.cas_recovery.specs.Found.{found_in}
 use Rattle.cas_sessions.specs.Nodes.{State, StandsFor, LastsFor, disk_of}
@@ -42,7 +42,7 @@ pub record Begins (l : Limits) (entries : List ManifestEntry) (mutations : List 
   pub segment : disk.reach.segment ≤ next_segment entries
 
 -- The store is as it was opened, in a new history: it accepted nothing.
-pub record IsOpenedAs (l : Limits) (tables : List TableSchema) (shards : List Shard) (journal : Journal) (faults : ℕ) (s : State) : Type 0 where
+pub record IsOpenedAs (l : Limits) (tables : List TableSchema) (shards : List ShardState) (journal : Journal) (faults : ℕ) (s : State) : Type 0 where
   pub limits_are : s.limits ≡ l
   pub tables_are : s.tables ≡ tables
   pub shards_are : s.shards ≡ shards

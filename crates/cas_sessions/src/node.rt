@@ -6,6 +6,7 @@ ghost use Rattle.cas_atoms.specs.declared.atom.Mutation.{Mutation};
 ghost use Rattle.cas_journal.specs.Stores.{Told};
 ghost use Rattle.cas_history.specs.Items.{listed};
 ghost use Rattle.cas_history.specs.Last.{Idle};
+ghost use Rattle.cas_recovery.specs.Restored.{HaveNoFiles};
 ghost use Rattle.cas_sessions.specs.Entered.{IsLeft};
 ghost use Rattle.cas_sessions.specs.History.{History};
 ghost use Rattle.cas_sessions.specs.Nodes.{State, StandsFor, LastsFor};
@@ -102,12 +103,13 @@ impl<F: Folder> Closed<F> {
 pub struct Node<F: Folder, J: Store> {
     pub(crate) limits: Limits,
     pub(crate) tables: Vec<TableSchema>,
-    pub(crate) shards: Vec<Shard>,
+    pub(crate) shards: Vec<Shard<F::Sealed>>,
     pub(crate) fronts: Vec<Front<Event, J>>,
     pub(crate) room: Room<F, J>,
     pub(crate) maker: Maker<Event, J>,
     ghost sound: { IsSound limits tables.items shards.items (map (λ f. f.shard) fronts.items) (map (λ f. f.number) fronts.items)
         room.journal.size } by { Prim.hlevel sound_props },
+    ghost no_files: { HaveNoFiles shards.items },
 }
 
 impl<F: Folder, J: Store> Stored for Node<F, J> {

@@ -16,7 +16,7 @@ ghost use Rattle.cas_bind.specs.Tables.{AreTables};
 ghost use Rattle.cas_opening.specs.Opening.{IsOfBytes, MayBeMadeNew, MayBeOpened};
 ghost use Rattle.cas_recovery.specs.Found.{IsUnfit};
 ghost use Rattle.cas_sessions.specs.Starts.{BeginsAs, IsOpenedAs};
-ghost use Rattle.cas_recovery.specs.Restored.{IsInMemory, IsStarted};
+ghost use Rattle.cas_recovery.specs.Restored.{HaveNoFiles, IsInMemory, IsStarted};
 ghost use Rattle.cas_sessions.specs.Inner.Sound.{sound_props};
 
 use crate::node::{Closed, Node, Stored};
@@ -33,13 +33,14 @@ use std::alloc::{AllocError, Global};
 /// A store that was opened: its tables and shards in memory, its journal, and the table of a new history,
 /// which `named` names. It can't be dropped.
 pub struct Opened<F: Folder> {
-    pub(crate) started: Started,
+    pub(crate) started: Started<F::Sealed>,
     pub(crate) folder: F,
     pub(crate) table: Table<Item<Event>>,
     ghost free: { AreFree started.journal (F.disk folder) },
     pub ghost runs: { (started.journal.first ≡ None) × (started.journal.size ≡ started.limits.segment) × IsSize started.limits.segment },
     ghost good: { AreTables started.tables.items × (length started.shards.items ≡ started.limits.shards)
         × IsShardCount started.limits.shards } by { Prim.hlevel sound_props },
+    ghost no_files: { HaveNoFiles started.shards.items },
 }
 
 // A folder whose store wasn't opened.
@@ -97,10 +98,11 @@ pub fn start<F: Folder>(
 }
 
 // A store in memory, with its seats and its room.
-fn assembled<F: Folder, J: Store>(started: Started, seats: Seats<J>, folder: F) -> Node<F, J>
+fn assembled<F: Folder, J: Store>(started: Started<F::Sealed>, seats: Seats<J>, folder: F) -> Node<F, J>
     requires free { AreFree started.journal (F.disk folder) }
     requires runs { (started.journal.first ≡ None) × (started.journal.size ≡ started.limits.segment) × IsSize started.limits.segment }
     requires good { AreTables started.tables.items × (length started.shards.items ≡ started.limits.shards) × IsShardCount started.limits.shards }
+    requires no_files { HaveNoFiles started.shards.items }
     requires new { (seats.faults.number ≡ 0) × (seats.faults.committed ≡ 0) × (seats.faults.first ≡ 0) }
     requires log { listed log_list seats.log.pass.saw ≡ [] }
     requires places { map (λ f. f.shard) seats.fronts.items ≡ numbers 0 (length started.shards.items) }
@@ -149,7 +151,7 @@ impl<F: Folder> Opened<F> {
             folder,
             table,
         } = self;
-        match make_seats::<J>(alloc, table, &started.shards) {
+        match make_seats::<J, F::Sealed>(alloc, table, &started.shards) {
             Ok(seats) => Ok(assembled(started, seats, folder)),
             Err(Mem) => Err(not_opened(folder)),
         }

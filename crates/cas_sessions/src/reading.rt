@@ -1,6 +1,7 @@
 //! SELECTs: a shard's rows at a moment.
 
 ghost use Rattle.std.specs.Prelude.{◌≡◌, ℕ, ℤ, IfErr};
+ghost use Rattle.cas_blocks.specs.declared.fault.TableFault.TheVariants as table_fault;
 ghost use Rattle.cas_bind.specs.Fitting.{BoundFits};
 ghost use Rattle.cas_bind.specs.Tables.{IsWithin};
 ghost use Rattle.cas_bind.specs.declared.bound.Bound.TheVariants as bounds;
@@ -12,10 +13,18 @@ ghost use Rattle.cas_sessions.specs.Nodes.{Moves};
 use crate::answer::{Answer, Fault};
 use crate::node::{Node, Stored};
 use cas_bind::BoundRead;
-use cas_disk::Folder;
+use cas_blocks::TableFault;
+use cas_disk::{Count, Folder};
 use cas_history::Store;
-use cas_types::Mem;
 use std::alloc::Global;
+
+// Why a read of memory alone isn't answered: memory ran out.
+fn want_of(_fault: TableFault) -> Fault
+    requires { _fault ≡ table_fault.Mem }
+    ensures { result ≡ Fault.Mem }
+{
+    Fault::Mem
+}
 
 impl<F: Folder, J: Store> Node<F, J> {
     /// Shows the rows of a SELECT. The shard's moment rises also where memory runs out. It reads what the
@@ -39,14 +48,15 @@ impl<F: Folder, J: Store> Node<F, J> {
         ensures sessions { ⟦<Node<F, J> as Stored>⟧.sessions self.new ≡ ⟦<Node<F, J> as Stored>⟧.sessions self.old }
     {
         let BoundRead { shard, query } = read;
-        match self.shards[shard as usize].look(alloc, reading, query) {
+        let mut tally = F::Tally::fresh();
+        match self.shards[shard as usize].look(alloc, reading, query, &mut tally) {
             Ok(look) => Ok(Answer::Rows {
                 rows: look.rows,
                 shard,
                 front: look.front,
                 now: look.now,
             }),
-            Err(Mem) => Err(Fault::Mem),
+            Err(fault) => Err(want_of(fault)),
         }
     }
 }

@@ -7,6 +7,7 @@ ghost use Rattle.cas_history.specs.Hands.{numbers};
 use cas_history::{Faults, Front, Item, Log, Numbers, Opened as Table, Store};
 use cas_lifecycle::Maker;
 use cas_room::Event;
+use cas_disk::Sealed;
 use cas_shard::Shard;
 use cas_types::Mem;
 use std::alloc::Global;
@@ -38,10 +39,10 @@ fn front<J: Store>(
 }
 
 // A seat for each shard, with its last number.
-fn fronts<J: Store>(
+fn fronts<J: Store, S: Sealed>(
     alloc: Global,
     maker: &mut Maker<Event, J>,
-    shards: &[Shard],
+    shards: &[Shard<S>],
 ) -> Result<Vec<Front<Event, J>>, Mem>
     requires next { maker.old.next ≤ 16 }
     requires few { length shards.now ≤ 16 }
@@ -59,10 +60,10 @@ fn fronts<J: Store>(
 }
 
 /// The seats of a store with these shards.
-pub(crate) fn make_seats<J: Store>(
+pub(crate) fn make_seats<J: Store, S: Sealed>(
     alloc: Global,
     table: Table<Item<Event>>,
-    shards: &[Shard],
+    shards: &[Shard<S>],
 ) -> Result<Seats<J>, Mem>
     requires table { table.seat.table_id ≡ J.table }
     requires few { length shards.now ≤ 16 }

@@ -31,9 +31,13 @@ impl<S: Sealed> Model for Shard<S> {
     ghost use Rattle.std.specs.Prelude.{◌≤◌, ◌≤ℤ◌};
     ghost use Rattle.cas_types.specs.Limits.{IsMoment};
     ghost use Rattle.cas_types.specs.declared.limits.TheConstants.{LAST_DRAWN, MUTATION_LIMIT};
+    ghost use Rattle.std.specs.Coded.{codes};
+    ghost use Rattle.cas_memtable.specs.contracts.parts.Parts as p;
     ghost use Rattle.cas_shard.specs.Stands.{ShardState};
 
     ghost Value = { ShardState };
+
+    ghost coded = { Prim.hlevel (codes, p.the_row.coded) };
 
     ghost view = { λ s. record { stores = s.stores.items; number = s.number; drawn = s.drawn; moment = s.moment } };
 

@@ -38,10 +38,14 @@ pub struct TableStore<S: Sealed> {
 }
 
 impl<S: Sealed> Model for TableStore<S> {
+    ghost use Rattle.std.specs.Coded.{codes};
+    ghost use Rattle.cas_memtable.specs.contracts.parts.Parts as p;
     ghost use Rattle.std.specs.Arc.{arc_value};
     ghost use Rattle.cas_stored.specs.Stored.{StoredTable};
 
     ghost Value = { StoredTable };
+
+    ghost coded = { Prim.hlevel (codes, p.the_row.coded) };
 
     ghost view = { λ t. record { files = arc_value t.view; parts = t.parts } };
 }

@@ -11,7 +11,7 @@ use Rattle.cas_journal.specs.Stores.{Told}
 use Rattle.cas_journal.specs.declared.journal.Journal.{Journal}
 use Rattle.cas_opening.specs.Opening.{next_segment}
 use Rattle.cas_room.specs.declared.event.Event.{Event}
-use Rattle.cas_shard.specs.declared.shard.Shard.{Shard}
+use Rattle.cas_shard.specs.Stands.{ShardState}
 use Rattle.cas_words.specs.declared.words.ClockKind.{ClockKind}
 use Rattle.cas_node.specs.declared.cause.Cause.{Cause}
 use Rattle.cas_node.specs.declared.cause.Cause.TheVariants as cause
@@ -38,7 +38,7 @@ pub record Served (kind : ClockKind) (Gives : ℤ → Type 0) (script : List ℕ
   pub ended : why ≡ with_faults faults_before faults_now told
 
 -- whichever entries and mutations the store has, a run over it is such; or memory ran out before a line was run
-abbrev pub Serves : ClockKind → (ℤ → Type 0) → List ℕ → Option (List ℕ) → Option (List ℕ) → Limits → List TableSchema → List Shard → Journal → Disk → ℕ → ℕ
+abbrev pub Serves : ClockKind → (ℤ → Type 0) → List ℕ → Option (List ℕ) → Option (List ℕ) → Limits → List TableSchema → List ShardState → Journal → Disk → ℕ → ℕ
     → Disk → ℕ → Option (List (Item Event)) → Cause → Type 0
 Serves kind Gives script old new limits tables shards journal before faults faults_before after faults_now None why = why ≡ cause.Mem
 Serves kind Gives script old new limits tables shards journal before faults faults_before after faults_now (Some list) why =

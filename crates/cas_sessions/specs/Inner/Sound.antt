@@ -8,7 +8,7 @@ use Rattle.cas_bind.specs.declared.bound.Limits.{Limits}
 use Rattle.cas_bind.specs.Tables.{AreInPlace, AreTables}
 use Rattle.cas_log.specs.Segment.{IsSize}
 use Rattle.cas_history.specs.Hands.{numbers}
-use Rattle.cas_shard.specs.declared.shard.Shard.{Shard}
+use Rattle.cas_shard.specs.Stands.{ShardState}
 use Rattle.cas_sessions.specs.Nodes.{State}
 
 -- that each table's number is its place is shown in one way
@@ -19,7 +19,7 @@ AreInPlace-prop n (t ∷ ts) = ×_prop (hlevel props) (AreInPlace-prop (n + 1) t
 pub ruleset sound_props = (props, AreInPlace-prop)
 
 -- its tables are tables, it has as many shards as its limits say, of each a seat with its last number, and segments of that size
-pub record IsSound (l : Limits) (ts : List TableSchema) (xs : List Shard) (seats counts : List ℕ) (segment : ℕ) : Type 0 where
+pub record IsSound (l : Limits) (ts : List TableSchema) (xs : List ShardState) (seats counts : List ℕ) (segment : ℕ) : Type 0 where
   pub tables : AreTables ts
   pub count : length xs ≡ l.shards
   pub some : IsShardCount l.shards

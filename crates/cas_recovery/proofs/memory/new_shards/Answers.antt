@@ -1,13 +1,14 @@
 use Rattle.std.proofs.Common.{arith, sym, subst, []}
 use Rattle.std.proofs.lemmas.Grind.{common_steps}
-use Rattle.cas_recovery.specs.Restored.{AreRestored}
-use Rattle.cas_recovery.proofs.Restoring.{one_new}
+use Rattle.cas_recovery.specs.Restored.{AreRestored, HaveNoFiles}
+use Rattle.cas_recovery.proofs.Restoring.{no_files_new, one_new}
 use Rattle.cas_recovery.proofs.memory.new_shards.Goals as goal
 
 pub loop-shard-preserved : goal.loop-shard-preserved
-loop-shard-preserved c = record {
+loop-shard-preserved g c = record {
   count = grind (arith, common_steps);
+  no_files = subst HaveNoFiles (sym c.in_ok-push.ensures.items) (no_files_new c.loop-shard.shards.items c.new.result c.loop-shard.invariant.no_files c.new.ensures.files);
   new = λ tables.
       subst (λ xs. AreRestored tables [] xs) (sym c.in_ok-push.ensures.items)
-      (one_new tables c.loop-shard.shards.items c.new.result (c.loop-shard.invariant.new tables) (c.new.ensures tables));
+      (one_new tables c.loop-shard.shards.items c.new.result (c.loop-shard.invariant.new tables) (c.new.ensures.stands tables));
 }

@@ -85,7 +85,7 @@ invariant_of-self-2 g c =
     altered_by ts a c.index.result.now c.index_mut.result.now c.in-Ok.columns c.args.self.now.sound.tables.numbered
     (slice_get_read ts (length ts) a.table c.index.result.now refl lt c.index.ensures)
     (slice_get_read ts (length ts) a.table c.index_mut.result.now refl lt c.index_mut.ensures.value) c.in-Ok.ensures in
-    record { sound = sound_told _ _ _ _ _ _ _ _ c.args.self.now.sound c.define.ensures.size (subst AreTables (sym (new ∙ sym (mapped ts a))) c.requires.told.kept) }
+    record { sound = sound_told _ _ _ _ _ _ _ _ c.args.self.now.sound c.define.ensures.size (subst AreTables (sym (new ∙ sym (mapped ts a))) c.requires.told.kept); no_files = c.args.self.now.no_files }
 
 pub returns-in-Err-define-clause-told : goal.returns-in-Err-define-clause-told
 returns-in-Err-define-clause-told g c =

@@ -68,7 +68,7 @@ invariant_of-self-2 g c =
     let ts = c.args.self.now.tables.items in
     let new =
     pushed ts c.reserve.new.self.items c.push_reserved.new.self.items c.args.table c.table_of.result c.reserve.ensures.items c.push_reserved.ensures.items c.table_of.ensures in
-    record { sound = sound_told _ _ _ _ _ _ _ _ c.args.self.now.sound c.define.ensures.size (subst AreTables (sym (new ∙ sym (created ts c.args.table))) c.requires.told.kept) }
+    record { sound = sound_told _ _ _ _ _ _ _ _ c.args.self.now.sound c.define.ensures.size (subst AreTables (sym (new ∙ sym (created ts c.args.table))) c.requires.told.kept); no_files = c.args.self.now.no_files }
 
 pub returns-in-Err-define-clause-told : goal.returns-in-Err-define-clause-told
 returns-in-Err-define-clause-told g c =

@@ -3,12 +3,13 @@ use Rattle.std.proofs.Common.{w64, ℤ}
 use Rattle.std.proofs.Common.{ℕ, pos, map, Err, ap, sym, subst, ◌∙◌, refl, arith}
 use Rattle.std.proofs.lemmas.Int.{to_z-of_z}
 use Rattle.cas_shard.specs.Shards.{prepare_answer, raised}
-use Rattle.cas_shard.specs.Stands.{Stands}
-use Rattle.std.specs.Prelude.{slice_get}
+use Rattle.cas_shard.specs.Stands.{ShardState, Stands}
+use Rattle.std.specs.Prelude.{slice_get, slice_set}
 use Rattle.std.proofs.lemmas.Option.{slice_get_read}
 use Rattle.cas_history.specs.Items.{listed, log_list}
 use Rattle.cas_journal.specs.Stores.{took, committed_all}
-use Rattle.cas_shard.specs.declared.shard.Shard.{Shard}
+use Rattle.cas_recovery.proofs.Places.{length_set}
+use Rattle.cas_recovery.proofs.Restoring.{one_keeps_none}
 use Rattle.cas_sessions.specs.Calls.{reply_of}
 use Rattle.cas_sessions.specs.declared.answer.Fault.{Fault}
 use Rattle.cas_sessions.proofs.Entering.{may_take, refused_at_once, starved_at_once, of_a_table, seated, place_is, number_is, not_taken, taken_and_committed, taken_and_failed, set_twice}
@@ -62,7 +63,7 @@ accept-requires-clause-number g c =
     let f = c.index_mut-front.result.now in
     let at_f : slice_get fs c.args.write.shard ≡ Some f = seated (λ q. q.shard) fs c.args.self.now.limits.shards c.args.write.shard f c.args.self.now.sound.places c.requires.within.0 c.index_mut-front.ensures.value in
     let at_x : slice_get c.args.self.now.shards.items c.args.write.shard ≡ Some c.index_mut.result.now = slice_get_read c.args.self.now.shards.items c.args.self.now.limits.shards c.args.write.shard c.index_mut.result.now (sym c.args.self.now.sound.count) c.requires.within.0 c.index_mut.ensures.value in
-    let same = number_is (λ q. q.number) (λ (q : Shard). q.number) fs c.args.self.now.shards.items c.args.write.shard f c.index_mut.result.now c.args.self.now.sound.numbers at_f at_x in (
+    let same = number_is (λ q. q.number) (λ (q : ShardState). q.number) fs c.args.self.now.shards.items c.args.write.shard f c.index_mut.result.now c.args.self.now.sound.numbers at_f at_x in (
       c.in-Ok.ensures.ready.shard ∙ sym (place_is (λ q. q.shard) fs c.args.self.now.limits.shards c.args.write.shard f c.args.self.now.sound.places c.requires.within.0 at_f),
       c.in-Ok.ensures.prepared.next ∙ ap (λ k. k + 1) (c.prepare.ensures.number ∙ sym same),
     )
@@ -74,7 +75,7 @@ accept-requires-clause-few g c =
     let f = c.index_mut-front.result.now in
     let at_f : slice_get fs c.args.write.shard ≡ Some f = seated (λ q. q.shard) fs c.args.self.now.limits.shards c.args.write.shard f c.args.self.now.sound.places c.requires.within.0 c.index_mut-front.ensures.value in
     let at_x : slice_get c.args.self.now.shards.items c.args.write.shard ≡ Some c.index_mut.result.now = slice_get_read c.args.self.now.shards.items c.args.self.now.limits.shards c.args.write.shard c.index_mut.result.now (sym c.args.self.now.sound.count) c.requires.within.0 c.index_mut.ensures.value in
-    let same = number_is (λ q. q.number) (λ (q : Shard). q.number) fs c.args.self.now.shards.items c.args.write.shard f c.index_mut.result.now c.args.self.now.sound.numbers at_f at_x in
+    let same = number_is (λ q. q.number) (λ (q : ShardState). q.number) fs c.args.self.now.shards.items c.args.write.shard f c.index_mut.result.now c.args.self.now.sound.numbers at_f at_x in
     (omega (arith, same, c.prepare.ensures.number, c.in-Ok.ensures.prepared.next, c.in-Ok.ensures.prepared.few), c.requires.few.0)
 
 -- src/writing.rt:62:27
@@ -211,6 +212,7 @@ invariant_of-self g c =
     record {
       sound =
           sound_looked _ _ _ _ _ _ c.args.write.shard c.index_mut.result.now c.prepare.new.self c.args.self.now.sound at_x c.prepare.ensures.number;
+      no_files = one_keeps_none c.args.self.now.shards.items c.args.write.shard c.index_mut.result.now c.prepare.new.self c.args.self.now.no_files at_x c.prepare.ensures.files;
     }
 
 pub invariant_of-self-in-Err-accept : goal.invariant_of-self-in-Err-accept
@@ -219,11 +221,12 @@ invariant_of-self-in-Err-accept g c =
     let f = c.index_mut-front.result.now in
     let at_f : slice_get fs c.args.write.shard ≡ Some f = seated (λ q. q.shard) fs c.args.self.now.limits.shards c.args.write.shard f c.args.self.now.sound.places c.requires.within.0 c.index_mut-front.ensures.value in
     let at_x : slice_get c.args.self.now.shards.items c.args.write.shard ≡ Some c.index_mut.result.now = slice_get_read c.args.self.now.shards.items c.args.self.now.limits.shards c.args.write.shard c.index_mut.result.now (sym c.args.self.now.sound.count) c.requires.within.0 c.index_mut.ensures.value in
-    let same = number_is (λ q. q.number) (λ (q : Shard). q.number) fs c.args.self.now.shards.items c.args.write.shard f c.index_mut.result.now c.args.self.now.sound.numbers at_f at_x in
+    let same = number_is (λ q. q.number) (λ (q : ShardState). q.number) fs c.args.self.now.shards.items c.args.write.shard f c.index_mut.result.now c.args.self.now.sound.numbers at_f at_x in
     record {
       sound =
           sound_with (λ q. q.shard) (λ q. q.number) _ _ _ _ _ _ c.args.write.shard fs f c.accept.new.front c.prepare.new.self c.args.self.now.sound at_f c.accept.ensures.seats.1
           (ap (λ q. q.number) c.in-Err.ensures.unentered.1 ∙ same ∙ sym c.prepare.ensures.number) refl c.accept.ensures.size;
+      no_files = one_keeps_none c.args.self.now.shards.items c.args.write.shard c.index_mut.result.now c.prepare.new.self c.args.self.now.no_files at_x c.prepare.ensures.files;
     }
 
 pub invariant_of-self-2 : goal.invariant_of-self-2
@@ -236,6 +239,15 @@ invariant_of-self-2 g c =
           sound_with (λ q. q.shard) (λ q. q.number) _ _ _ _ _ _ c.args.write.shard fs f c.accept.new.front c.enter.new.self c.args.self.now.sound at_f c.accept.ensures.seats.1
           (c.in-Ok-accept.ensures.front ∙ sym c.enter.ensures.number) (set_twice c.args.self.now.shards.items c.args.write.shard c.prepare.new.self c.enter.new.self)
           (c.commit.ensures.size ∙ c.accept.ensures.size);
+      no_files =
+          let xs = c.args.self.now.shards.items in
+          let n = c.args.write.shard in
+          let at_x : slice_get xs n ≡ Some c.index_mut.result.now = slice_get_read xs c.args.self.now.limits.shards n c.index_mut.result.now (sym c.args.self.now.sound.count) c.requires.within.0 c.index_mut.ensures.value in
+          let ys = slice_set xs n c.prepare.new.self in
+          let at_y : slice_get ys n ≡ Some c.index_mut-2.result.now =
+          slice_get_read ys c.args.self.now.limits.shards n c.index_mut-2.result.now (sym (length_set xs n c.prepare.new.self ∙ c.args.self.now.sound.count)) c.requires.within.0 c.index_mut-2.ensures.value in
+          one_keeps_none ys n c.index_mut-2.result.now c.enter.new.self
+          (one_keeps_none xs n c.index_mut.result.now c.prepare.new.self c.args.self.now.no_files at_x c.prepare.ensures.files) at_y c.enter.ensures.files;
     }
 
 pub invariant_of-session-2 : goal.invariant_of-session-2
