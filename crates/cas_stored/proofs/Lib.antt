@@ -7,5 +7,7 @@ pub mod CutSays
 pub mod Gathering
 pub mod Showing
 pub mod Flushing
+pub mod Storing
+pub mod Tallying
 pub mod Looking
 pub mod Loaded

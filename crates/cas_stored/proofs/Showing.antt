@@ -161,6 +161,20 @@ none_made make [] e = refl
 none_made make (m ∷ ms) e = cc
 
 -- the sources of memtables show a partition of a table without files
+pub memory_alone : {M : Type 0} (tells : M → Option (List Fragment)) (tops : M → Option Deletion) (order : List Ordered) (s : Slice) (key : List ℕ)
+    (ms : List MemPart) (ws : List Mutation) (sources : List M) → ShowPartition tells tops order s key ms ws sources → ShowStored tells tops order s key [] ms ws sources
+memory_alone tells tops order s key ms ws sources shows = record {
+  streams = shows.streams;
+  told = shows.told;
+  ordered = shows.ordered;
+  same = shows.same;
+  no_more = shows.no_more;
+  formed = λ columns is of. shows.formed columns is of.memtables;
+  none = shows.none;
+  some = shows.some;
+}
+
+-- so do those that are made of them
 pub memory_shows : {M X : Type 0} (make : M → X) (tells : X → Option (List Fragment)) (tops : X → Option Deletion) (order : List Ordered) (s : Slice) (key : List ℕ)
     (ms : List MemPart) (ws : List Mutation) (sources : List M) → ShowPartition (λ m. tells (make m)) (λ m. tops (make m)) order s key ms ws sources
     → ShowStored tells tops order s key [] ms ws (map make sources)
