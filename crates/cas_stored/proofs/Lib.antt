@@ -9,5 +9,6 @@ pub mod Showing
 pub mod Flushing
 pub mod Storing
 pub mod Tallying
+pub mod Inside
 pub mod Looking
 pub mod Loaded

@@ -14,7 +14,7 @@ use Rattle.cas_stored.specs.Inner.Either.{fault_of}
 
 -- ---- one source
 
-never_read : (o : Option AllocError) → option_map {B = TableFault} (λ e. table_fault.Mem) o ≡ Some table_fault.Read → ⊥
+never_read : (o : Option AllocError) → option_map (λ e. table_fault.Mem) o ≡ Some table_fault.Read → ⊥
 never_read None e = cc
 never_read (Some x) e = cc
 

@@ -2,4 +2,5 @@ use Rattle.cas_stored.proofs.Tallying.{both_count}
 use Rattle.cas_stored.proofs.rows.+add_tallies.Goals as goal
 
 pub returns : goal.returns
-returns g t c = both_count _ _ _ _ _ c.add_tallies.ensures c.add_tallies-in-Pair.ensures
+returns g t c =
+    rw c.in-Pair.is (both_count _ _ _ _ _ (rw c.into_inner.ensures at c.add_tallies.ensures) (rw c.into_inner-in-Pair.ensures at c.add_tallies-in-Pair.ensures))

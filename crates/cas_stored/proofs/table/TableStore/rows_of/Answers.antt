@@ -15,4 +15,4 @@ returns-clause-rows g c =
 
 pub returns-clause-count : goal.returns-clause-count
 returns-clause-count g c =
-    fault_counts c.all_rows-shown.result _ _ _ _ _ c.sources.ensures.count.kept c.add_tallies.ensures (c.all_rows-shown.ensures.causes c.new-rows.ensures.sound) c.end-2.ensures.causes
+    fault_counts c.all_rows-shown.result _ _ _ _ _ c.sources.ensures.count.kept c.add_tallies.ensures (c.all_rows-shown.ensures.causes c.new-rows.ensures.sound) (rw c.end.ensures at c.end-2.ensures.causes)

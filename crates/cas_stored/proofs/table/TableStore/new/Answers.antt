@@ -1,0 +1,10 @@
+use Rattle.std.proofs.Common.{◌∙◌, sym, subst}
+use Rattle.std.specs.List.{AllByRecursion}
+use Rattle.cas_stored.specs.Stored.{IsFileOf}
+use Rattle.cas_stored.proofs.table.TableStore.new.Goals as goal
+
+pub returns-clause-columns : goal.returns-clause-columns
+returns-clause-columns g c columns = record {
+  files = subst (AllByRecursion (IsFileOf columns)) (sym (c.in_ok-new.ensures.ok ∙ c.new-2.ensures)) tt;
+  memtables = c.new.ensures.columns columns;
+}
