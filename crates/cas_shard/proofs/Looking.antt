@@ -1,12 +1,13 @@
 -- The rows that a SELECT shows of what a shard has stored are the live view of all that was written to the partition.
-use Rattle.std.proofs.Common.{◌≡◌, ◌+◌, ℕ, zero, suc, ℤ, Option, None, Some, Bool, true, false, List, [], ◌∷◌, ◌++◌, take, refl, sym, ap, ◌∙◌, subst, append-nil, Result, Ok, Err, IfOk}
+use Rattle.std.proofs.Common.{◌≡◌, ◌+◌, ℕ, zero, suc, ℤ, Option, None, Some, Bool, true, false, List, [], ◌∷◌, ◌++◌, take, reverse, not, refl, sym, ap, ◌∙◌, subst, append-nil, Result, Ok, Err, IfOk}
 use Rattle.std.specs.Prelude.{map, slice_get, ◌==◌, ◌&&◌, ◌||◌, if◌then◌else◌}
 use Rattle.cas_types.specs.declared.schema.Column.{Column}
 use Rattle.cas_types.specs.declared.schema.TableSchema.{TableSchema}
 use Rattle.cas_bounds.specs.ClusteringOrder.{clustering_order}
 use Rattle.cas_bounds.specs.declared.order.Ordered.{Ordered}
-use Rattle.cas_atoms.specs.Answers.{answer, answered, has_cell, has_kind, is_whole, limited, row_shown, turned, with_static}
+use Rattle.cas_atoms.specs.Answers.{answer, answered, has_cell, has_kind, is_empty, is_whole, limited, row_shown, turned, with_static}
 use Rattle.cas_atoms.specs.Coordinates.{RowKey, same_bytes, static_row}
+use Rattle.cas_atoms.specs.RowsAndPaths.{alive_paths, ordered}
 use Rattle.cas_atoms.specs.declared.atom.Mutation.{Mutation}
 use Rattle.cas_atoms.specs.declared.query.Query.{Query}
 use Rattle.cas_atoms.specs.declared.query.LiveRow.{LiveRow}
@@ -31,37 +32,45 @@ pub if_ok_too : {A E : Type 0} (r : Result A E) (P Q : A → Type 0) → ((x : A
 if_ok_too (Ok x) P Q h p = h x p
 if_ok_too (Err e) P Q h p = tt
 
-take_none : {X : Type 0} (n : ℕ) → take {A = X} n [] ≡ []
-take_none zero = refl
-take_none (suc n) = refl
-
 -- of no atoms nothing is shown
+no_paths : (now : ℤ) (r : RowKey) (n : ℕ) (c : Column) → alive_paths [] now r n c ≡ []
+unfolding ordered
+no_paths now r n c = refl
+
 no_cell : (now : ℤ) (r : RowKey) (n : ℕ) (columns : List Column) → has_cell [] now r n columns ≡ false
 no_cell now r n [] = refl
-no_cell now r n (c ∷ cs) = by (has_kind r c.kind) ∙ no_cell now r (n + 1) cs
+no_cell now r n (c ∷ cs) =
+    ap (λ (ps : List (List ℕ)). (has_kind r c.kind && not (is_empty ps)) || has_cell [] now r (n + 1) cs) (no_paths now r n c) ∙ by (has_kind r c.kind) ∙ no_cell now r (n + 1) cs
   where
     by : (b : Bool) → ((b && false) || has_cell [] now r (n + 1) cs) ≡ has_cell [] now r (n + 1) cs
     by true = refl
     by false = refl
 
-nothing : (q : Query) (now : ℤ) → answer q [] now ≡ []
-unfolding answer answered
-nothing q now = ap (map (row_shown q [] now)) (none_limited q.limit (turned_none q.reversed))
+turned_none : {X : Type 0} (b : Bool) (xs : List X) → xs ≡ [] → turned b xs ≡ []
+turned_none true xs e = ap reverse e
+turned_none false xs e = e
+
+limited_none : {X : Type 0} (o : Option ℕ) (xs : List X) → xs ≡ [] → limited o xs ≡ []
+limited_none None xs e = e
+limited_none (Some zero) xs e = ap (take 0) e
+limited_none (Some (suc n)) xs e = ap (take (suc n)) e
+
+static_none : (q : Query) (now : ℤ) → with_static q [] now [] ≡ []
+static_none q now = by (is_whole q.slice)
   where
-    turned_none : (b : Bool) → with_static q [] now (turned b []) ≡ []
-    turned_none b = ap (with_static q [] now) (none b) ∙ alone (is_whole q.slice)
-      where
-        none : (b : Bool) → turned b [] ≡ []
-        none true = refl
-        none false = refl
+    by : (w : Bool) → (if w && has_cell [] now static_row 0 q.columns then static_row ∷ [] else []) ≡ []
+    by true = ap (λ b. if b then static_row ∷ [] else []) (no_cell now static_row 0 q.columns)
+    by false = refl
 
-        alone : (w : Bool) → (if w && has_cell [] now static_row 0 q.columns then static_row ∷ [] else []) ≡ []
-        alone true = ap (λ b. if b then static_row ∷ [] else []) (no_cell now static_row 0 q.columns)
-        alone false = refl
+none_answered : (q : Query) (now : ℤ) → answered q [] now ≡ []
+unfolding answered ordered
+none_answered q now = refl
 
-    none_limited : (o : Option ℕ) {rows : List RowKey} → rows ≡ [] → limited o rows ≡ []
-    none_limited None e = e
-    none_limited (Some n) e = ap (take n) e ∙ take_none n
+nothing : (q : Query) (now : ℤ) → answer q [] now ≡ []
+unfolding answer
+nothing q now =
+    ap (map (row_shown q [] now))
+    (limited_none q.limit (with_static q [] now (turned q.reversed (answered q [] now))) (ap (with_static q [] now) (turned_none q.reversed (answered q [] now) (none_answered q now)) ∙ static_none q now))
 
 -- of a table that has nothing stored
 pub none_shown : (q : Query) (now : ℤ) (stored : Option StoredTable) (shown : List LiveRow) → stored ≡ None → shown ≡ [] → Answers q now stored shown

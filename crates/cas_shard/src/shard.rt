@@ -190,6 +190,7 @@ impl<S: Sealed> Shard<S> {
         ensures number { self.new.number ≡ self.old.number }
         ensures drawn { self.new.drawn ≡ self.old.drawn }
         ensures moment { self.new.moment ≡ later_moment reading self.old.moment }
+        ensures begun { IsMoment self.new.moment }
     {
         self.moment = self.moment_at(reading);
     }

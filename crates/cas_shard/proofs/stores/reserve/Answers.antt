@@ -17,3 +17,8 @@ pub returns-clause-makes : goal.returns-clause-makes
 returns-clause-makes g c =
     made c.args.mutation.now c.args.stores.now.items c.reach.new.stores.items _ c.index_mut-store.result.now c.reserve.new.self c.reach.ensures.kept c.reach.ensures.few c.reach.ensures.files c.in_ok-reach.ensures.there
     (slice_get_read c.reach.new.stores.items _ c.args.mutation.now.table c.index_mut-store.result.now refl c.in_ok-reach.ensures.there c.index_mut-store.ensures.value) refl c.reserve.ensures.holds c.reserve.ensures.files
+
+pub returns-in_err-reserve-clause-makes : goal.returns-in_err-reserve-clause-makes
+returns-in_err-reserve-clause-makes g c =
+    made c.args.mutation.now c.args.stores.now.items c.reach.new.stores.items _ c.index_mut-store.result.now c.reserve.new.self c.reach.ensures.kept c.reach.ensures.few c.reach.ensures.files c.in_ok-reach.ensures.there
+    (slice_get_read c.reach.new.stores.items _ c.args.mutation.now.table c.index_mut-store.result.now refl c.in_ok-reach.ensures.there c.index_mut-store.ensures.value) refl c.reserve.ensures.holds c.reserve.ensures.files

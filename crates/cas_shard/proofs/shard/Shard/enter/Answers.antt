@@ -1,8 +1,10 @@
-use Rattle.std.proofs.Common.{◌≡◌, if◌then◌else◌, of_z, to_z, w64, refl, rules}
+use Rattle.std.proofs.Common.{◌≡◌, ◌+◌, if◌then◌else◌, of_z, to_z, w64, refl, rules, sym, subst}
+use Rattle.cas_shard.specs.Stands.{ShardState, Stands}
 use Rattle.cas_shard.proofs.Standing.{one_enters}
 use Rattle.cas_shard.proofs.shard.Shard.enter.Goals as goal
 
 pub returns-clause-stands : goal.returns-clause-stands
-returns-clause-stands c tables shards s session call h is =
-    let drawn : to_z w64 (of_z w64 c.drawn_after-self.result) ≡ (if c.args.mutation.drawn then c.args.mutation.at else c.args.self.now.drawn) = search rules in
-    one_enters tables shards s session call c.args.mutation c.args.self.now _ h is c.requires.next c.join.ensures refl drawn refl
+returns-clause-stands g c tables shards s session call h is =
+    let next = subst (λ (x : ShardState). c.args.mutation.number ≡ x.number + 1) (sym c.self.view_is) c.requires.next in
+    let drawn : to_z w64 (of_z w64 c.drawn_after-self-inside.result) ≡ (if c.args.mutation.drawn then c.args.mutation.at else c.self.inside.drawn) = search rules in
+    one_enters tables shards s session call c.args.mutation _ _ (subst (λ x. Stands tables s x) (sym c.self.view_is) h) is next c.join.ensures refl drawn refl

@@ -7,8 +7,8 @@ use Rattle.cas_shard.proofs.Preparing.{ready_belongs}
 use Rattle.cas_shard.proofs.Standing.{took, took_nothing}
 use Rattle.cas_shard.proofs.shard.Shard.take.Goals as goal
 
-pub returns : goal.returns
-returns c tables shards s session call h suits =
+pub returns-clause-took : goal.returns-clause-took
+returns-clause-took g c tables shards s session call h suits =
     let reading : to_z w64 (of_z w64 c.args.reading) ≡ c.args.reading = omega (arith, ints) in
     let mutation = c.in_ok-mutation.mutation in
     took tables shards c.args.segment s c.args.reading session call c.args.write mutation c.enter.new.self
@@ -17,8 +17,8 @@ returns c tables shards s session call h suits =
     (subst (λ k. Stands tables (raised k s) c.prepare.new.self) reading (c.prepare.ensures.stands tables shards s h suits))
     (ready_belongs tables shards c.args.segment c.args.write mutation suits c.in_ok-mutation.ensures.ready))
 
-pub returns-in_err-mutation : goal.returns-in_err-mutation
-returns-in_err-mutation c tables shards s session call h suits =
+pub returns-in_err-mutation-clause-took : goal.returns-in_err-mutation-clause-took
+returns-in_err-mutation-clause-took g c tables shards s session call h suits =
     let reading : to_z w64 (of_z w64 c.args.reading) ≡ c.args.reading = omega (arith, ints) in
     let fault = c.in_err-mutation.field-0.0 in
     let p = err_from_is_err_and c.from_residual.result c.from_residual.ensures.1 in
