@@ -122,10 +122,8 @@ impl<S: Sealed> AllShards<S> {
             → OnOk result (HaveRestored (before ++ mutation ∷ []) self.new) }
     {
         let place = mutation.shard as usize;
-        match self.shards[place].restore(alloc, mutation) {
-            Ok(()) => Ok(()),
-            Err(Mem) => Err(Mem),
-        }
+        self.shards[place].restore(alloc, mutation)?;
+        Ok(())
     }
 }
 

@@ -1,4 +1,4 @@
-use Rattle.std.proofs.Common.{◌≡◌, List, Option, Some, sym, subst}
+use Rattle.std.proofs.Common.{◌≡◌, ◌∙◌, List, Option, Some, sym, subst}
 use Rattle.cas_shard.specs.Stands.{ShardState}
 use Rattle.cas_recovery.specs.Inner.Restoring.{HasRestored, HaveRestored}
 use Rattle.cas_recovery.specs.Restored.{AreRestored, HaveNoFiles}
@@ -10,10 +10,10 @@ returns-clause-restored g c mutations has =
     let found = c.in-Some.is in
     let is : c.args.restoring.shards ≡ Some c.in-Some.all = cc in
     let were : HaveRestored mutations c.in-Some.all = subst (λ (o : Option (List ShardState)). HasRestored mutations o) is has in
-    let same = c.all.view_is in
+    let same = c.all.view_is ∙ c.in-Some.all-is in
     (
-      subst HaveNoFiles (sym c.truncate.ensures.items) (first_no_files c.args.count _ (subst HaveNoFiles same were.0)),
+      subst HaveNoFiles (sym c.truncate.ensures.items) (first_no_files c.args.count _ (subst HaveNoFiles (sym same) were.0)),
       λ tables count log.
           subst (λ (l : List ShardState). AreRestored tables mutations l) (sym c.truncate.ensures.items)
-          (first_restored tables mutations c.args.count _ (subst (λ (a : List ShardState). AreRestored tables mutations a) same (were.1 tables count log))),
+          (first_restored tables mutations c.args.count _ (subst (λ (a : List ShardState). AreRestored tables mutations a) (sym same) (were.1 tables count log))),
     )
