@@ -1,8 +1,11 @@
-use Rattle.std.proofs.Common.{◌≡◌, ◌∙◌, ℤ, rules, of_z, to_z, w64, sym, ap, subst}
+use Rattle.std.proofs.Common.{◌≡◌, ◌∙◌, ℤ, Err, rules, of_z, to_z, w64, sym, ap, subst}
 use Rattle.std.proofs.lemmas.Int.{to_z-of_z}
 use Rattle.std.proofs.lemmas.Option.{slice_get_read}
 use Rattle.cas_shard.specs.Shards.{look_at, raised}
 use Rattle.cas_shard.specs.Stands.{Stands}
+use Rattle.cas_sessions.specs.Calls.{reply_of}
+use Rattle.cas_sessions.specs.History.{Shows}
+use Rattle.cas_sessions.specs.declared.answer.Fault.{Fault}
 use Rattle.cas_recovery.proofs.Restoring.{one_keeps_none}
 use Rattle.cas_sessions.proofs.Moving.{moves_look, read_in_none, shows_none, shows_rows}
 use Rattle.cas_sessions.proofs.Sounding.{sound_looked}
@@ -21,15 +24,15 @@ returns-in-Ok-clause-shows g c = λ session calls clock.
     shows_rows z c.args.reading (to_z w64 (of_z w64 c.in-Ok.look.now)) c.args.read c.in-Ok.look now
     (c.in-Ok.ensures.shows n.tables.items z stands c.requires.fits ∙ ap (λ (k : ℤ). look_at k z c.args.read.query) at))
 
-pub returns-in-Err-clause-shows : goal.returns-in-Err-clause-shows
-returns-in-Err-clause-shows g c = λ session calls clock.
+pub returns-clause-shows : goal.returns-clause-shows
+returns-clause-shows g c = λ session calls clock.
     let n = c.args.self.now in
     let x = c.index_mut.result.now in
     let at = to_z-of_z w64 c.args.reading c.ranges.reading in
     moves_look _ _ c.args.read x c.look.new.self c.args.reading _
     (slice_get_read n.shards.items n.limits.shards c.args.read.shard x (sym c.args.self.now.sound.count) c.requires.within.0 c.index_mut.ensures.value) c.look.ensures.number
     (λ ts z stands. subst (λ (k : ℤ). Stands ts (raised k z) c.look.new.self) at (c.look.ensures.stands ts z stands))
-    (λ z stands. shows_none z c.args.reading c.args.read)
+    (λ z stands. subst (λ (f : Fault). Shows z c.args.reading c.args.read (reply_of (Err f))) (sym c.want_of.ensures) (shows_none z c.args.reading c.args.read))
 
 -- a shard without files is asked, so that every slice may be read there
 pub look-requires-clause-reads : goal.look-requires-clause-reads
