@@ -98,7 +98,11 @@ pub fn start<F: Folder>(
 }
 
 // A store in memory, with its seats and its room.
-fn assembled<F: Folder, J: Store>(started: Started<F::Sealed>, seats: Seats<J>, folder: F) -> Node<F, J>
+fn assembled<F: Folder, J: Store>(
+    started: Started<F::Sealed>,
+    seats: Seats<J>,
+    folder: F,
+) -> Node<F, J>
     requires free { AreFree started.journal (F.disk folder) }
     requires runs { (started.journal.first ≡ None) × (started.journal.size ≡ started.limits.segment) × IsSize started.limits.segment }
     requires good { AreTables started.tables.items × (length started.shards.items ≡ started.limits.shards) × IsShardCount started.limits.shards }

@@ -4,10 +4,10 @@ ghost use Rattle.std.specs.Prelude.{◌≡◌, ◌+◌, ◌≤◌, ◌<◌, [], 
 ghost use Rattle.cas_history.specs.Items.{listed, log_list};
 ghost use Rattle.cas_history.specs.Hands.{numbers};
 
+use cas_disk::Sealed;
 use cas_history::{Faults, Front, Item, Log, Numbers, Opened as Table, Store};
 use cas_lifecycle::Maker;
 use cas_room::Event;
-use cas_disk::Sealed;
 use cas_shard::Shard;
 use cas_types::Mem;
 use std::alloc::Global;

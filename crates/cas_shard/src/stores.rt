@@ -11,11 +11,7 @@ use cas_types::Mem;
 use std::alloc::Global;
 
 // Places for tables up to this one, in which nothing is stored yet.
-fn reach<S: Sealed>(
-    stores: &mut Vec<TableStore<S>>,
-    alloc: Global,
-    table: u16,
-) -> Result<(), Mem>
+fn reach<S: Sealed>(stores: &mut Vec<TableStore<S>>, alloc: Global, table: u16) -> Result<(), Mem>
     ensures there { OnOk result (table < length stores.new.items) }
     ensures kept { AllStay stores.old.items stores.new.items }
     ensures few { StayFew table stores.old.items stores.new.items }

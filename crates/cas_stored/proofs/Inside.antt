@@ -35,8 +35,8 @@ module _ (was now : StoredTable) (is : was ≡ now) where
   swaps order ns view f count wss memory =
       subst
       (λ (t : StoredTable).
-        view ≡ t.files ++ f ∷ [] → HoldsEach order t wss → StandInFile order f (oldest (length t.files) count wss)
-        → HoldEach order view ns (flushed (length t.files) count wss) × (all_of (flushed (length t.files) count wss) ≡ all_of wss)) is
+      view ≡ t.files ++ f ∷ [] → HoldsEach order t wss → StandInFile order f (oldest (length t.files) count wss)
+      → HoldEach order view ns (flushed (length t.files) count wss) × (all_of (flushed (length t.files) count wss) ≡ all_of wss)) is
       (swap_holds order (memtables_of was.parts) ns was.files view view f count wss memory refl)
 
   pub swaps_of : (columns : List Column) (ns : List MemPart) (view : List (File Held)) (f : File Held)
@@ -55,6 +55,6 @@ module _ (was now : StoredTable) (is : was ≡ now) where
   shows make tells tops order s key asked fs wss memory old xs ys own same none all partition =
       subst
       (λ (t : StoredTable).
-        HoldsEach order t wss → AreReadIn s t.files → FilesGiveBehind asked s tops tells fs old xs
-        → ShowStored tells tops order s key t.files (memtables_of t.parts) (all_of wss) ys) is
+      HoldsEach order t wss → AreReadIn s t.files → FilesGiveBehind asked s tops tells fs old xs
+      → ShowStored tells tops order s key t.files (memtables_of t.parts) (all_of wss) ys) is
       (sources_show make tells tops order s key asked fs was.files (memtables_of was.parts) wss memory old xs ys own same none all partition)

@@ -10,8 +10,7 @@ returns-clause-restored g c mutations has =
     let found = c.in-Some.is in
     let is : c.args.restoring.shards ≡ Some c.in-Some.all = cc in
     let were : HaveRestored mutations c.in-Some.all = subst (λ (o : Option (List ShardState)). HasRestored mutations o) is has in
-    let same = c.all.view_is ∙ c.in-Some.all-is in
-    (
+    let same = c.all.view_is ∙ c.in-Some.all-is in (
       subst HaveNoFiles (sym c.truncate.ensures.items) (first_no_files c.args.count _ (subst HaveNoFiles (sym same) were.0)),
       λ tables count log.
           subst (λ (l : List ShardState). AreRestored tables mutations l) (sym c.truncate.ensures.items)
