@@ -4,7 +4,6 @@ use Rattle.std.specs.Prelude.{map, slice_get, ◌==◌, ◌&&◌, ◌||◌, if�
 use Rattle.cas_types.specs.declared.schema.Column.{Column}
 use Rattle.cas_types.specs.declared.schema.TableSchema.{TableSchema}
 use Rattle.cas_bounds.specs.ClusteringOrder.{clustering_order}
-use Rattle.cas_bounds.specs.declared.order.Ordered.{Ordered}
 use Rattle.cas_atoms.specs.Answers.{answer, answered, has_cell, has_kind, is_empty, is_whole, limited, row_shown, turned, with_static}
 use Rattle.cas_atoms.specs.Coordinates.{RowKey, same_bytes, static_row}
 use Rattle.cas_atoms.specs.RowsAndPaths.{alive_paths, ordered}

@@ -1,5 +1,5 @@
 -- A stream that is cut to a slice says no more than the whole.
-use Rattle.std.proofs.Common.{◌≡◌, Bool, true, false, Option, None, Some, List, [], ◌∷◌, ◌++◌, cond, filter}
+use Rattle.std.proofs.Common.{Bool, true, false, Option, None, Some, List, [], ◌∷◌, ◌++◌, cond, filter}
 use Rattle.std.specs.List.{AllByRecursion}
 use Rattle.std.specs.Prelude.{not}
 use Rattle.cas_cell.specs.declared.deletion.Deletion.{Deletion}

@@ -1,5 +1,5 @@
 -- What a file answers, and the sources of files behind others.
-use Rattle.std.proofs.Common.{◌≡◌, ◌≤◌, ◌-◌, ℕ, zero, suc, true, false, Option, None, Some, Result, Ok, Err, OnOk, List, [], ◌∷◌, ◌++◌, length, inl, refl, sym, ap, ◌∙◌, subst, arith, append_assoc, append-nil}
+use Rattle.std.proofs.Common.{◌≡◌, ◌≤◌, ◌-◌, ℕ, true, Option, None, Result, Ok, Err, OnOk, List, [], ◌∷◌, ◌++◌, length, inl, refl, sym, ap, ◌∙◌, subst, arith, append_assoc}
 use Rattle.std.specs.Prelude.{map, take, drop, slice_index_or}
 use Rattle.std.specs.Option.{option_to_list}
 use Rattle.cas_cell.specs.declared.deletion.Deletion.{Deletion}
@@ -13,7 +13,7 @@ use Rattle.cas_sstread.specs.Loading.{Held}
 use Rattle.cas_stored.specs.Contents.{AnswersOf, IsOf}
 use Rattle.cas_stored.specs.Slices.{Answers, IsTold, IsBadHead}
 use Rattle.cas_view.specs.Views.{File, may_hold}
-use Rattle.cas_stored.specs.Reading.{IsBadIn, IsWhyNot}
+use Rattle.cas_stored.specs.Reading.{IsWhyNot}
 use Rattle.cas_stored.specs.Inner.Files.{FileAnswers, FilesGive, FilesGiveBehind}
 
 -- ---- one file

@@ -1,5 +1,5 @@
 -- What holds of a table's store as it is inside holds of what is seen of it.
-use Rattle.std.proofs.Common.{◌≡◌, ℕ, Bool, Option, Some, List, [], ◌∷◌, ◌++◌, length, drop, not, ◌&&◌, ◌==◌, refl, sym, ap, subst}
+use Rattle.std.proofs.Common.{◌≡◌, ℕ, Bool, Option, List, [], ◌∷◌, ◌++◌, length, drop, not, ◌&&◌, ◌==◌, refl, subst}
 use Rattle.std.specs.Prelude.{if◌then◌else◌, map}
 use Rattle.cas_cell.specs.declared.deletion.Deletion.{Deletion}
 use Rattle.cas_types.specs.declared.schema.Column.{Column}

@@ -1,5 +1,5 @@
 -- The keys of a file lie from the first to the last that is told of it.
-use Rattle.std.proofs.Common.{◌≡◌, ℕ, ◌&&◌, true, not, List, [], ◌∷◌, map, refl, sym, ap, ◌∙◌, subst}
+use Rattle.std.proofs.Common.{◌≡◌, ℕ, ◌&&◌, true, not, List, [], ◌∷◌, map, refl, sym, ap, subst}
 use Rattle.std.specs.List.{AllByRecursion, Contains}
 use Rattle.std.specs.Ordering.{is_gt}
 use Rattle.std.specs.declared.cmp.Ordering.TheVariants.{Less}
@@ -9,8 +9,8 @@ use Rattle.cas_types.proofs.OrderLaws.{bytes_orders}
 use Rattle.cas_info.specs.Overlaps.{reaches}
 use Rattle.cas_info.specs.declared.info.TableInfo.{TableInfo}
 use Rattle.cas_streams.proofs.Weaves.{Ascend, all_so, ascend_by_keys}
-use Rattle.cas_tables.specs.Contents.{Contents, Partition, keys}
-use Rattle.cas_tables.specs.Files.{first_key, info_of, last_key}
+use Rattle.cas_tables.specs.Contents.{Partition, keys}
+use Rattle.cas_tables.specs.Files.{first_key, last_key}
 use Rattle.cas_view.specs.Views.{may_hold}
 use Rattle.cas_stored.specs.Laws.{LoadedStands}
 use Rattle.cas_stored.proofs.Lists.{each_one}

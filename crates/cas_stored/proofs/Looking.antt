@@ -1,5 +1,5 @@
 -- The rows that a query shows of files and memtables are the live view of all that was written under its key.
-use Rattle.std.proofs.Common.{◌≡◌, ℤ, Option, Some, List, refl, sym, ap, ◌∙◌}
+use Rattle.std.proofs.Common.{◌≡◌, ℤ, Option, Some, List, ◌∙◌}
 use Rattle.cas_cell.specs.declared.deletion.Deletion.{Deletion}
 use Rattle.cas_bounds.specs.ClusteringOrder.{clustering_order}
 use Rattle.cas_bounds.specs.declared.order.Ordered.{Ordered}

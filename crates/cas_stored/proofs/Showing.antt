@@ -1,10 +1,8 @@
 -- What the sources of a table's files and memtables show of a partition.
-use Rattle.std.proofs.Common.{◌≡◌, ℕ, Bool, true, false, Option, None, Some, Result, Ok, Err, List, [], ◌∷◌, ◌++◌, refl, sym, ap, ◌∙◌, subst, append_assoc}
+use Rattle.std.proofs.Common.{◌≡◌, ℕ, true, false, Option, None, Some, Result, Ok, List, [], ◌∷◌, ◌++◌, refl, sym, ap, ◌∙◌, subst, append_assoc}
 use Rattle.std.specs.Prelude.{map}
-use Rattle.std.specs.List.{AllByRecursion, Contains}
 use Rattle.std.specs.Option.{option_to_list}
 use Rattle.std.proofs.lemmas.Bool.{true≢false}
-use Rattle.cas_types.specs.declared.schema.Column.{Column}
 use Rattle.cas_cell.specs.declared.deletion.Deletion.{Deletion}
 use Rattle.cas_bounds.specs.ClusteringOrder.{clustering_order}
 use Rattle.cas_bounds.specs.declared.cuts.Slice.{Slice}
@@ -15,7 +13,6 @@ use Rattle.cas_atoms.specs.declared.atom.Mutation.{Mutation}
 use Rattle.cas_laws.specs.Inside.{SameIn}
 use Rattle.cas_laws.proofs.JoinProofs.{same_where_joins}
 use Rattle.cas_streams.specs.Flat.{flat}
-use Rattle.cas_streams.specs.Joined.{Stream}
 use Rattle.cas_streams.specs.Merged.{flat_of, flats}
 use Rattle.cas_streams.specs.NoMore.{SaysNoMore}
 use Rattle.cas_streams.specs.Slices.{IsSliceOf, cut_to}
@@ -27,18 +24,17 @@ use Rattle.cas_merge.specs.Told.{streams_told, told_first}
 use Rattle.cas_memtable.specs.declared.memtable.MemPart.{MemPart}
 use Rattle.cas_memtable.specs.Kept.{ShowPartition, StandInEach, all_of, atoms_under}
 use Rattle.cas_memtable.proofs.Keeping.{more_under}
-use Rattle.cas_tables.specs.Contents.{Contents, Partition}
 use Rattle.cas_tables.specs.Fitting.{FitsPartition}
 use Rattle.cas_blocks.specs.declared.fault.TableFault.{TableFault}
 use Rattle.cas_sstread.specs.Loading.{Held}
 use Rattle.cas_stored.specs.Contents.{AnswersOf, HasNone, IsCut}
 use Rattle.cas_view.specs.Views.{File, may_hold}
-use Rattle.cas_stored.specs.Stored.{AreOfTable, HoldEach, SaysWhatIsWritten, ShowStored, StandInFile}
+use Rattle.cas_stored.specs.Stored.{HoldEach, SaysWhatIsWritten, ShowStored, StandInFile}
 use Rattle.cas_stored.specs.Reading.{AreReadIn, IsReadIn}
 use Rattle.cas_stored.specs.Inner.Files.{FileAnswers, FilesGive, FilesGiveBehind}
 use Rattle.cas_stored.proofs.CutSays.{cut_no_more}
 use Rattle.cas_stored.proofs.Gathering.{files_alone}
-use Rattle.cas_stored.proofs.Lists.{both_no_more, each_one, front_none, rest_none}
+use Rattle.cas_stored.proofs.Lists.{both_no_more, each_one, front_none}
 
 pub same_then : (s : Slice) (A B C : List Atom) → SameIn s A B → Same B C → SameIn s A C
 same_then s A B C a b = record { covers = λ x i. a.covers x i ∙ b.covers x; lives = λ r i. a.lives r i ∙ b.lives r; cells = λ x i. a.cells x i ∙ b.cells x }

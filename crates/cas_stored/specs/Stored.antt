@@ -1,6 +1,6 @@
 -- Which mutations stand in which file of a table and in which memtable of it, in one shard, and what all of them say of a partition.
 -- Cassandra documentation, "Storage engine: SSTables, memtables"; own.
-use Rattle.std.specs.Prelude.{◌≡◌, ◌+◌, ℕ, true, Option, None, Some, List, [], ◌∷◌, ◌++◌, length, take, drop}
+use Rattle.std.specs.Prelude.{◌≡◌, ℕ, true, Option, Some, List, [], ◌∷◌, ◌++◌, take, drop}
 use Rattle.std.specs.List.{AllByRecursion, Contains}
 use Rattle.cas_types.specs.declared.schema.Column.{Column}
 use Rattle.cas_cell.specs.declared.deletion.Deletion.{Deletion}
@@ -8,7 +8,6 @@ use Rattle.cas_bounds.specs.ClusteringOrder.{clustering_order}
 use Rattle.cas_bounds.specs.declared.order.Ordered.{Ordered}
 use Rattle.cas_bounds.specs.declared.cuts.Slice.{Slice}
 use Rattle.cas_atoms.specs.Winners.{Same}
-use Rattle.cas_atoms.specs.declared.atom.Atom.{Atom}
 use Rattle.cas_atoms.specs.declared.atom.Mutation.{Mutation}
 use Rattle.cas_laws.specs.Inside.{SameIn}
 use Rattle.cas_streams.specs.Joined.{Stream}

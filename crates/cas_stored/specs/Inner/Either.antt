@@ -1,7 +1,6 @@
 -- What is said of sources of one kind or another (own).
-use Rattle.std.specs.Prelude.{Option, None, Some}
+use Rattle.std.specs.Prelude.{Option}
 use Rattle.std.specs.Option.{option_map}
-use Rattle.std.specs.declared.alloc.AllocError.{AllocError}
 use Rattle.cas_blocks.specs.declared.fault.TableFault.{TableFault}
 use Rattle.cas_blocks.specs.declared.fault.TableFault.TheVariants.{Mem}
 use Rattle.cas_stored.specs.declared.source.StoredSource.{StoredSource}

@@ -1,9 +1,6 @@
 use Rattle.std.proofs.Common.{refl}
-use Rattle.std.specs.Prelude.{slice_set}
 use Rattle.std.proofs.lemmas.Option.{slice_get_read}
-use Rattle.cas_memtable.specs.Memtables.{HasPlaces}
-use Rattle.cas_shard.specs.Stands.{HasRoom}
-use Rattle.cas_shard.proofs.Memory.{reached, made, has_room, on_ok_too}
+use Rattle.cas_shard.proofs.Memory.{reached, made, has_room}
 use Rattle.cas_shard.proofs.stores.reserve.Goals as goal
 
 pub returns-in_err-reach-clause-makes : goal.returns-in_err-reach-clause-makes

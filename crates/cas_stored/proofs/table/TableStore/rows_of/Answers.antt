@@ -1,8 +1,7 @@
-use Rattle.std.proofs.Common.{arith, of_z, to_z, w64, []}
+use Rattle.std.proofs.Common.{arith, of_z, to_z, w64}
 use Rattle.std.proofs.lemmas.Int.{ints}
 use Rattle.cas_memtable.specs.Kept.{memtables_of}
 use Rattle.cas_memtable.proofs.Showing.{if_ok_too}
-use Rattle.cas_merge.specs.Told.{IsBrokenBy}
 use Rattle.cas_stored.proofs.Looking.{rows_shown}
 use Rattle.cas_stored.proofs.Tallying.{fault_counts}
 use Rattle.cas_stored.proofs.table.TableStore.rows_of.Goals as goal
