@@ -43,6 +43,7 @@ use Rattle.cas_verify.specs.Inner.Walks.{reached, Sees, IsBegun, Went}
 use Rattle.cas_verify.specs.Inner.Scans.{next_head_at, IsHead, key_before, Adds, Scanned, IsSeen}
 use Rattle.cas_verify.specs.declared.blocks.Walk.{Walk}
 use Rattle.cas_verify.specs.declared.partitions.Scan.{Scan}
+use Rattle.cas_verify.proofs.BodyLaws.{ends_then}
 use Rattle.cas_verify.proofs.Turns.{bad_then, bad_is, sees_both, flat_both}
 
 abbrev HeadOf : Type 0
@@ -160,6 +161,25 @@ module _ (order : List Ordered) (columns : List Column) (end : ℕ) (file : List
         closed : (past_all nowhere (joined blocks.0)).force ≡ None
         closed = ap (λ (r : Reached). (past_all r (joined blocks.0)).force) (sym begun.reached_is) ∙ went.closed
 
+    pub part_refused : (n : ℕ) (x : Walk) (t : Scan) (f : TableFault) → n ≡ length (left_at file end behind).bytes
+        → Ends (λ (u : Unit {0}). Went end file w x) number (Err f) (blocks_at order columns n w.ends w.goes_on (reached w) (left_at file end w.place))
+        → Ends (λ (u : Unit {0}). Adds end file s t) number (Err f) (NextOf s)
+    part_refused n x t f same is =
+        ends_then (λ (u : Unit {0}). Went end file w x) (λ (u : Unit {0}). Adds end file s t) number f
+        (blocks_at order columns n w.ends w.goes_on (reached w) (left_at file end w.place)) (NextOf s)
+        (λ at bad. part_bad at (bad_is (blocks_at order columns n w.ends w.goes_on (reached w) (left_at file end w.place)) _ at
+        (λ i. blocks_at order columns (same i) w.ends w.goes_on (reached w) (left_at file end w.place)) bad)) is
+
+  pub head_refused : (s t : Scan) (before : Option (List ℕ)) (f : TableFault) → before ≡ key_before s
+      → Ends (λ (h : Head × ℕ). IsHead end file s.place h.0 h.1) number (Err f) (next_head_at columns before (left_at file end s.place))
+      → Ends (λ (u : Unit {0}). Adds end file s t) number (Err f) (NextOf s)
+  head_refused s t before f same is =
+      ends_then (λ (h : Head × ℕ). IsHead end file s.place h.0 h.1) (λ (u : Unit {0}). Adds end file s t) number f
+      (next_head_at columns before (left_at file end s.place)) (NextOf s)
+      (λ at bad. head_bad order columns (key_before s) (left_at file end s.place) at
+      (bad_is (next_head_at columns before (left_at file end s.place)) (next_head_at columns (key_before s) (left_at file end s.place)) at
+      (λ i. next_head_at columns (same i) (left_at file end s.place)) bad)) is
+
   -- ---- all partitions
 
   abbrev AllOf : ℕ → Scan → Result (List Part) ReadFault
@@ -222,6 +242,11 @@ module _ (order : List Ordered) (columns : List Column) (end : ℕ) (file : List
   unfolding partitions_at
   round_none s = inr refl
 
+  pub round_refused : (n : ℕ) (s t x : Scan) (f : TableFault) → Ends (λ (u : Unit {0}). Adds end file s t) number (Err f) (NextOf s)
+      → Ends (λ (u : Unit {0}). Scanned s x) number (Err f) (AllOf (suc n) s)
+  round_refused n s t x f is =
+      ends_then (λ (u : Unit {0}). Adds end file s t) (λ (u : Unit {0}). Scanned s x) number f (NextOf s) (AllOf (suc n) s) (λ at bad. round_bad n at s bad) is
+
 -- ---- from the beginning
 
 pub seen_all : (s t : Scan) (ps : List Part) → s.entries.items ≡ [] → s.place ≡ HEADER_LENGTH → AreFactsSoFar [] s.seen.facts → Scanned s t ps → IsSeen t ps
@@ -229,3 +254,23 @@ seen_all s t ps none place facts is = record {
   entries = is.entries ∙ (λ i. none i ++ entries_for (place i) ps);
   facts = is.seen [] facts;
 }
+
+pub begins : (order : List Ordered) (columns : List Column) (end : ℕ) (file : List ℕ) (number n : ℕ) (s x : Scan) (r : Result (Unit {0}) TableFault)
+    → s.entries.items ≡ [] → s.place ≡ HEADER_LENGTH → AreFactsSoFar [] s.seen.facts
+    → Ends (λ (u : Unit {0}). Scanned s x) number r (partitions_at order columns end n (key_before s) (left_at file end s.place))
+    → Ends (λ (u : Unit {0}). IsSeen x) number r (partitions_at order columns end n None (left_at file end HEADER_LENGTH))
+begins order columns end file number n s x r none place facts is = go r is
+  where
+    same : partitions_at order columns end n (key_before s) (left_at file end s.place) ≡ partitions_at order columns end n None (left_at file end HEADER_LENGTH)
+    same = λ i. partitions_at order columns end n (last_key (λ (e : PartitionEntry). e.key) (none i)) (left_at file end (place i))
+
+    go : (r : Result (Unit {0}) TableFault)
+        → Ends (λ (u : Unit {0}). Scanned s x) number r (partitions_at order columns end n (key_before s) (left_at file end s.place))
+        → Ends (λ (u : Unit {0}). IsSeen x) number r (partitions_at order columns end n None (left_at file end HEADER_LENGTH))
+    go (Ok u) is = (is.0, sym same ∙ is.1, seen_all s x is.0 none place facts is.2)
+    go (Err table_fault.ReadFault) is = tt
+    go (Err (table_fault.BadBlock k at)) is = (
+      is.0,
+      bad_is (partitions_at order columns end n (key_before s) (left_at file end s.place)) (partitions_at order columns end n None (left_at file end HEADER_LENGTH)) at same is.1,
+    )
+    go (Err table_fault.Mem) is = tt

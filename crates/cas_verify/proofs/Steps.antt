@@ -28,7 +28,7 @@ use Rattle.cas_fragments.proofs.LengthLaws.{has_spelling}
 use Rattle.cas_index.specs.Allowed.{HasRoom}
 use Rattle.cas_index.specs.declared.entries.BlockEntry.{BlockEntry}
 use Rattle.cas_tables.specs.Places.{first_cut, block_entries}
-use Rattle.cas_blocks.proofs.NextBlock.{next_bad}
+use Rattle.cas_blocks.proofs.NextBlock.{next_is, next_bad}
 use Rattle.cas_sstread.specs.Loading.{IsBadAt}
 use Rattle.cas_verify.specs.Inner.Walks.{HasCut, IsFirst}
 use Rattle.cas_verify.proofs.Turns.{bad_then}
@@ -44,6 +44,18 @@ module _ (order : List Ordered) (columns : List Column) (ends goes_on : Bool) (r
       → IsBadAt (body_at order columns r (read_left body (left.at + 4))) at → IsBadAt (next_block_at order columns ends goes_on r left) at
   inner_bad body new at there some goes (inl e) = inl (next_bad order columns ends goes_on r left body new there some goes (Short at) e)
   inner_bad body new at there some goes (inr e) = inr (next_bad order columns ends goes_on r left body new there some goes (Bad at) e)
+
+  -- ---- by the bytes as the code has them
+  pub block_bad : (body bytes : List ℕ) (new : Left) → bytes32_at left ≡ Ok (body, new) → body ≡ bytes → 0 < length bytes → goes_on ≡ true → (at : ℕ)
+      → IsBadAt (body_at order columns r (read_left bytes (left.at + 4))) at → IsBadAt (next_block_at order columns ends goes_on r left) at
+  block_bad body bytes new there same some goes at bad = inner_bad bytes new at (there ∙ ap (λ (b : List ℕ). Ok (b, new)) same) some goes bad
+
+  pub block_read : (body bytes : List ℕ) (new after : Left) (fs : List Fragment) (p : List Fragment × Left) → bytes32_at left ≡ Ok (body, new) → body ≡ bytes
+      → 0 < length bytes → goes_on ≡ true → body_at order columns r (read_left bytes (left.at + 4)) ≡ Ok p → p.0 ≡ fs → new ≡ after
+      → next_block_at order columns ends goes_on r left ≡ Ok (Some fs, after)
+  block_read body bytes new after fs p there same some goes is which behind =
+      next_is order columns ends goes_on r left bytes new (there ∙ ap (λ (b : List ℕ). Ok (b, new)) same) some goes p.0 p.1 is
+      ∙ (λ i. Ok (Some (which i), behind i))
 
 -- ---- what a block is
 

@@ -32,8 +32,9 @@ use Rattle.cas_sstread.specs.Loading.{IsBadAt}
 use Rattle.cas_sstread.specs.declared.fault.TableFault.{TableFault}
 use Rattle.cas_sstread.specs.declared.fault.TableFault.TheVariants as table_fault
 use Rattle.cas_verify.specs.Inner.Ends.{Ends}
-use Rattle.cas_verify.specs.Inner.Walks.{reached, Sees, Goes, IsOver, Went}
+use Rattle.cas_verify.specs.Inner.Walks.{reached, Sees, Goes, IsOver, Steps, Went}
 use Rattle.cas_verify.specs.declared.blocks.Walk.{Walk}
+use Rattle.cas_verify.proofs.BodyLaws.{ends_then}
 
 -- ---- faults
 
@@ -192,3 +193,32 @@ module _ (order : List Ordered) (columns : List Column) where
               (bad_then (BlocksOf m v) (λ others. Ok (fs ∷ others.0, others.1)) at is.1),
         )
         go number (Err table_fault.Mem) x is = tt
+
+    -- ---- by what a step answers
+    pub turn_refused : (n number : ℕ) (w v x : Walk) (f : TableFault) → length (left_at file end w.place).bytes ≤ n
+        → Ends (Steps end file w v) number (Err f) (NextOf w) → Ends (λ (u : Unit {0}). Went end file w x) number (Err f) (BlocksOf n w)
+    turn_refused n number w v x f few is =
+        ends_then (Steps end file w v) (λ (u : Unit {0}). Went end file w x) number f (NextOf w) (BlocksOf n w) (λ at bad. turn_bad n at w few bad) is
+
+    pub turn_stops : (n number : ℕ) (w v : Walk) (more : Bool) → more ≡ false → length (left_at file end w.place).bytes ≤ n
+        → Ends (Steps end file w v) number (Ok more) (NextOf w) → (p : List (List Fragment) × Left) × (BlocksOf n w ≡ Ok p) × Went end file w v p
+    turn_stops n number w v true stops few is = absurd cc
+    turn_stops n number w v false stops few is = go is.0.0 is.0.1 is.1 is.2
+      where
+        go : (o : Option (List Fragment)) (left : Left) → NextOf w ≡ Ok (o, left) → Steps end file w v false (o, left)
+            → (p : List (List Fragment) × Left) × (BlocksOf n w ≡ Ok p) × Went end file w v p
+        go None left next steps = turn_over n w v few (next ∙ ap (λ (l : Left). Ok (None, l)) steps.left) steps.step
+        go (Some fs) left next steps = absurd steps.step
+
+    pub turn_goes : (n number : ℕ) (w v : Walk) (more : Bool) → more ≡ true → length (left_at file end w.place).bytes ≤ n → w.place < v.place
+        → Ends (Steps end file w v) number (Ok more) (NextOf w)
+        → (m : ℕ) × (length (left_at file end v.place).bytes ≤ m) × ((k : ℕ) (r : Result (Unit {0}) TableFault) (x : Walk)
+        → Ends (λ (u : Unit {0}). Went end file v x) k r (BlocksOf m v) → Ends (λ (u : Unit {0}). Went end file w x) k r (BlocksOf n w))
+    turn_goes n number w v false goes few ahead is = absurd cc
+    turn_goes n number w v true goes few ahead is = go is.0.0 is.0.1 is.1 is.2
+      where
+        go : (o : Option (List Fragment)) (left : Left) → NextOf w ≡ Ok (o, left) → Steps end file w v true (o, left)
+            → (m : ℕ) × (length (left_at file end v.place).bytes ≤ m) × ((k : ℕ) (r : Result (Unit {0}) TableFault) (x : Walk)
+            → Ends (λ (u : Unit {0}). Went end file v x) k r (BlocksOf m v) → Ends (λ (u : Unit {0}). Went end file w x) k r (BlocksOf n w))
+        go None left next steps = absurd steps.step
+        go (Some fs) left next steps = turn_more n w v fs few ahead (next ∙ ap (λ (l : Left). Ok (Some fs, l)) steps.left) steps.step

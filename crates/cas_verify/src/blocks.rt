@@ -206,7 +206,12 @@ impl Walk {
         ensures within { OnOk result (self.new.place ≤ FILE_LIMIT) }
         ensures count { Counted (F.Tally.number tally.old) (F.Tally.number tally.new) (IsErrOf result TableFault.ReadFault) }
     {
-        while self.step(alloc, table, tally)? {}
-        Ok(())
+        'turns: loop {
+            match self.step(alloc, table, tally) {
+                Ok(true) => {}
+                Ok(false) => return Ok(()),
+                Err(fault) => return Err(fault),
+            }
+        }
     }
 }

@@ -8,8 +8,8 @@ use Rattle.cas_verify.specs.Inner.Walks.{reached, IsSound, Went}
 use Rattle.cas_verify.specs.declared.blocks.Walk.{Walk}
 use Rattle.cas_verify.proofs.blocks.Walk.read_blocks.Given as goal
 
-abbrev pub invariant-loop : goal.invariant-loop
-invariant-loop g l = record {
+abbrev pub invariant-turns : goal.invariant-turns
+invariant-turns g l = record {
   on : (b : List ℕ) → l.table.contents ≡ Some b → (n : ℕ) → length (left_at b l.table.kept.end l.fn.self.place).bytes ≤ n
       → (m : ℕ) × (length (left_at b l.table.kept.end l.self.place).bytes ≤ m) × ((r : Result (Unit {0}) TableFault) (x : Walk)
       → Ends (λ (u : Unit {0}). Went l.table.kept.end b l.self x) l.table.info.number r
@@ -21,5 +21,5 @@ invariant-loop g l = record {
   faults : g.F.Tally.Count.number l.fn.tally ≤ g.F.Tally.Count.number l.tally;
 }
 
-abbrev pub decreases-loop : goal.decreases-loop
-decreases-loop g l = l.table.kept.end - l.self.place
+abbrev pub decreases-turns : goal.decreases-turns
+decreases-turns g l = l.table.kept.end - l.self.place
