@@ -1,5 +1,5 @@
 -- A block's bytes: where none stand, the place is that of their number.
-use Rattle.std.proofs.Common.{◌≡◌, ℕ, ◌+◌, ◌≤◌, Bool, true, false, cond, ltb, List, length, take, drop, Result, Ok, Err, inl, refl, sym, ap, subst, ◌∙◌}
+use Rattle.std.proofs.Common.{◌≡◌, ℕ, ◌+◌, ◌≤◌, Bool, true, false, cond, ltb, List, length, take, drop, Result, Ok, Err, inl, refl, sym, ap, ◌∙◌}
 use Rattle.std.specs.Int.{w32, from_be_bytes}
 use Rattle.cas_codec.specs.Reading.{Left, Read, ◌>>=◌, bytes_at, unsigned_at, u32_at, bytes32_at}
 use Rattle.cas_codec.specs.declared.fault.ReadFault.{ReadFault}
@@ -8,10 +8,10 @@ use Rattle.cas_codec.proofs.Exactness.{read_left}
 use Rattle.cas_blocks.specs.Inner.Bodies.{NoBody, IsBody}
 use Rattle.cas_blocks.specs.Reading.{left_at}
 use Rattle.cas_blocks.proofs.Bodies.{left_behind}
-use Rattle.cas_sstread.specs.Loading.{IsBadAt, IsNoBlock}
+use Rattle.cas_sstread.specs.Loading.{IsBadAt}
 use Rattle.cas_sstread.specs.declared.fault.TableFault.{TableFault}
 use Rattle.cas_sstread.specs.declared.fault.TableFault.TheVariants as table_fault
-use Rattle.cas_verify.specs.Inner.Ends.{Ends}
+use Rattle.cas_verify.specs.Inner.Ends.{IsFault}
 
 -- a reading that gives a value, or is short at that place
 abbrev IsShortAt : {A : Type 0} → ℕ → Read A → Type 0
@@ -52,18 +52,9 @@ body_then file body end place within is = is ∙ ap (λ (l : Left). Ok (body, l)
 
 -- ---- faults
 
-pub ends_bad : {X Y : Type 0} (Seen : X → Y → Type 0) (number at : ℕ) (f : TableFault) (read : Result Y ReadFault) → f ≡ table_fault.BadBlock number at → IsBadAt read at
-    → Ends Seen number (Err f) read
-ends_bad Seen number at f read is bad = subst (λ (x : TableFault). Ends Seen number (Err x) read) (sym is) (refl, bad)
-
-pub ends_none : {X Y : Type 0} (Seen : X → Y → Type 0) (number : ℕ) (f : TableFault) (read : Result Y ReadFault) → IsNoBlock f → Ends Seen number (Err f) read
-ends_none Seen number table_fault.ReadFault read none = tt
-ends_none Seen number (table_fault.BadBlock n at) read none = absurd none
-ends_none Seen number table_fault.Mem read none = tt
-
 -- a fault of a step is one of what follows
-pub ends_then : {X Y U V : Type 0} (Seen : X → Y → Type 0) (See : U → V → Type 0) (number : ℕ) (f : TableFault) (read : Result Y ReadFault) (all : Result V ReadFault)
-    → ((at : ℕ) → IsBadAt read at → IsBadAt all at) → Ends Seen number (Err f) read → Ends See number (Err f) all
-ends_then Seen See number table_fault.ReadFault read all later is = tt
-ends_then Seen See number (table_fault.BadBlock n at) read all later is = (is.0, later at is.1)
-ends_then Seen See number table_fault.Mem read all later is = tt
+pub fault_then : {Y V : Type 0} (number : ℕ) (f : TableFault) (read : Result Y ReadFault) (all : Result V ReadFault)
+    → ((at : ℕ) → IsBadAt read at → IsBadAt all at) → IsFault number f read → IsFault number f all
+fault_then number table_fault.ReadFault read all later is = tt
+fault_then number (table_fault.BadBlock n at) read all later is = (is.0, later at is.1)
+fault_then number table_fault.Mem read all later is = tt

@@ -38,12 +38,12 @@ use Rattle.cas_sstread.specs.Loading.{IsBadAt}
 use Rattle.cas_sstread.specs.declared.fault.TableFault.{TableFault}
 use Rattle.cas_sstread.specs.declared.fault.TableFault.TheVariants as table_fault
 use Rattle.cas_verify.specs.Partitions.{Part, next_partition_at, partitions_at, stream_of, atoms_in, entry_for, entries_for}
-use Rattle.cas_verify.specs.Inner.Ends.{Ends}
+use Rattle.cas_verify.specs.Inner.Ends.{IsFault, Ends}
 use Rattle.cas_verify.specs.Inner.Walks.{reached, Sees, IsBegun, Went}
 use Rattle.cas_verify.specs.Inner.Scans.{next_head_at, IsHead, key_before, Adds, Scanned, IsSeen}
 use Rattle.cas_verify.specs.declared.blocks.Walk.{Walk}
 use Rattle.cas_verify.specs.declared.partitions.Scan.{Scan}
-use Rattle.cas_verify.proofs.BodyLaws.{ends_then}
+use Rattle.cas_verify.proofs.BodyLaws.{fault_then}
 use Rattle.cas_verify.proofs.Turns.{bad_then, bad_is, sees_both, flat_both}
 
 abbrev HeadOf : Type 0
@@ -161,21 +161,16 @@ module _ (order : List Ordered) (columns : List Column) (end : ℕ) (file : List
         closed : (past_all nowhere (joined blocks.0)).force ≡ None
         closed = ap (λ (r : Reached). (past_all r (joined blocks.0)).force) (sym begun.reached_is) ∙ went.closed
 
-    pub part_refused : (n : ℕ) (x : Walk) (t : Scan) (f : TableFault) → n ≡ length (left_at file end behind).bytes
-        → Ends (λ (u : Unit {0}). Went end file w x) number (Err f) (blocks_at order columns n w.ends w.goes_on (reached w) (left_at file end w.place))
-        → Ends (λ (u : Unit {0}). Adds end file s t) number (Err f) (NextOf s)
-    part_refused n x t f same is =
-        ends_then (λ (u : Unit {0}). Went end file w x) (λ (u : Unit {0}). Adds end file s t) number f
-        (blocks_at order columns n w.ends w.goes_on (reached w) (left_at file end w.place)) (NextOf s)
-        (λ at bad. part_bad at (bad_is (blocks_at order columns n w.ends w.goes_on (reached w) (left_at file end w.place)) _ at
-        (λ i. blocks_at order columns (same i) w.ends w.goes_on (reached w) (left_at file end w.place)) bad)) is
+    pub part_refused : (f : TableFault)
+        → IsFault number f (blocks_at order columns (length (left_at file end behind).bytes) w.ends w.goes_on (reached w) (left_at file end w.place))
+        → IsFault number f (NextOf s)
+    part_refused f is =
+        fault_then number f (blocks_at order columns (length (left_at file end behind).bytes) w.ends w.goes_on (reached w) (left_at file end w.place)) (NextOf s) part_bad is
 
-  pub head_refused : (s t : Scan) (before : Option (List ℕ)) (f : TableFault) → before ≡ key_before s
-      → Ends (λ (h : Head × ℕ). IsHead end file s.place h.0 h.1) number (Err f) (next_head_at columns before (left_at file end s.place))
-      → Ends (λ (u : Unit {0}). Adds end file s t) number (Err f) (NextOf s)
-  head_refused s t before f same is =
-      ends_then (λ (h : Head × ℕ). IsHead end file s.place h.0 h.1) (λ (u : Unit {0}). Adds end file s t) number f
-      (next_head_at columns before (left_at file end s.place)) (NextOf s)
+  pub head_refused : (s : Scan) (before : Option (List ℕ)) (f : TableFault) → before ≡ key_before s
+      → IsFault number f (next_head_at columns before (left_at file end s.place)) → IsFault number f (NextOf s)
+  head_refused s before f same is =
+      fault_then number f (next_head_at columns before (left_at file end s.place)) (NextOf s)
       (λ at bad. head_bad order columns (key_before s) (left_at file end s.place) at
       (bad_is (next_head_at columns before (left_at file end s.place)) (next_head_at columns (key_before s) (left_at file end s.place)) at
       (λ i. next_head_at columns (same i) (left_at file end s.place)) bad)) is
@@ -242,10 +237,8 @@ module _ (order : List Ordered) (columns : List Column) (end : ℕ) (file : List
   unfolding partitions_at
   round_none s = inr refl
 
-  pub round_refused : (n : ℕ) (s t x : Scan) (f : TableFault) → Ends (λ (u : Unit {0}). Adds end file s t) number (Err f) (NextOf s)
-      → Ends (λ (u : Unit {0}). Scanned s x) number (Err f) (AllOf (suc n) s)
-  round_refused n s t x f is =
-      ends_then (λ (u : Unit {0}). Adds end file s t) (λ (u : Unit {0}). Scanned s x) number f (NextOf s) (AllOf (suc n) s) (λ at bad. round_bad n at s bad) is
+  pub round_refused : (n : ℕ) (s : Scan) (f : TableFault) → IsFault number f (NextOf s) → IsFault number f (AllOf (suc n) s)
+  round_refused n s f is = fault_then number f (NextOf s) (AllOf (suc n) s) (λ at bad. round_bad n at s bad) is
 
 -- ---- from the beginning
 

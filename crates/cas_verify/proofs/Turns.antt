@@ -31,10 +31,10 @@ use Rattle.cas_blocks.proofs.Parts.{end_is}
 use Rattle.cas_sstread.specs.Loading.{IsBadAt}
 use Rattle.cas_sstread.specs.declared.fault.TableFault.{TableFault}
 use Rattle.cas_sstread.specs.declared.fault.TableFault.TheVariants as table_fault
-use Rattle.cas_verify.specs.Inner.Ends.{Ends}
+use Rattle.cas_verify.specs.Inner.Ends.{IsFault, Ends}
 use Rattle.cas_verify.specs.Inner.Walks.{reached, Sees, Goes, IsOver, Steps, Went}
 use Rattle.cas_verify.specs.declared.blocks.Walk.{Walk}
-use Rattle.cas_verify.proofs.BodyLaws.{ends_then}
+use Rattle.cas_verify.proofs.BodyLaws.{fault_then}
 
 -- ---- faults
 
@@ -195,10 +195,8 @@ module _ (order : List Ordered) (columns : List Column) where
         go number (Err table_fault.Mem) x is = tt
 
     -- ---- by what a step answers
-    pub turn_refused : (n number : ℕ) (w v x : Walk) (f : TableFault) → length (left_at file end w.place).bytes ≤ n
-        → Ends (Steps end file w v) number (Err f) (NextOf w) → Ends (λ (u : Unit {0}). Went end file w x) number (Err f) (BlocksOf n w)
-    turn_refused n number w v x f few is =
-        ends_then (Steps end file w v) (λ (u : Unit {0}). Went end file w x) number f (NextOf w) (BlocksOf n w) (λ at bad. turn_bad n at w few bad) is
+    pub turn_refused : (n number : ℕ) (w : Walk) (f : TableFault) → length (left_at file end w.place).bytes ≤ n → IsFault number f (NextOf w) → IsFault number f (BlocksOf n w)
+    turn_refused n number w f few is = fault_then number f (NextOf w) (BlocksOf n w) (λ at bad. turn_bad n at w few bad) is
 
     pub turn_stops : (n number : ℕ) (w v : Walk) (more : Bool) → more ≡ false → length (left_at file end w.place).bytes ≤ n
         → Ends (Steps end file w v) number (Ok more) (NextOf w) → (p : List (List Fragment) × Left) × (BlocksOf n w ≡ Ok p) × Went end file w v p

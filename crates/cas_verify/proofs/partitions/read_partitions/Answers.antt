@@ -9,10 +9,8 @@ use Rattle.cas_blocks.specs.Reading.{left_at}
 use Rattle.cas_tables.specs.declared.header.TheConstants.{HEADER_LENGTH}
 use Rattle.cas_sstread.specs.declared.fault.TableFault.TheVariants as table_fault
 use Rattle.cas_verify.specs.Partitions.{partitions_at}
-use Rattle.cas_verify.specs.Checking.{own_partitions_at}
-use Rattle.cas_verify.specs.Inner.Ends.{Ends}
-use Rattle.cas_verify.specs.Inner.Scans.{key_before, Scanned, IsSeen}
-use Rattle.cas_verify.proofs.BodyLaws.{ends_then}
+use Rattle.cas_verify.specs.Inner.Ends.{IsFault, Ends}
+use Rattle.cas_verify.specs.Inner.Scans.{key_before, Scanned}
 use Rattle.cas_verify.proofs.Rounds.{round_last, round_more, round_none, round_refused, begins}
 use Rattle.cas_verify.proofs.partitions.read_partitions.Goals as goal
 
@@ -76,15 +74,12 @@ returns-in_err-read_partition-clause-told g c = λ b is.
     let number = c.args.table.now.info.number in
     let done = c.loop-done._done in
     let s = c.loop-done.scan in
-    let t = c.read_partition.new.self in
     let f = c.in_err-read_partition.field-0.0 in
     let left = one_less PARTITION_LIMIT done c.loop-done-test.true in
     let p = err_from_is_err_and c.from_residual.result c.from_residual.ensures.1 in
-    let own = own_partitions_at cols c.args.table.now.kept b in
-    rw (p.1, p.2) (ends_then (λ (u : Unit {0}). IsSeen t) IsSeen number f own own (λ at bad. bad)
-    (c.loop-done.invariant.on b is (Err f) t
-    (subst (λ (m : ℕ). Ends (λ (u : Unit {0}). Scanned s t) number (Err f) (partitions_at order cols end m (key_before s) (left_at b end s.place))) left
-    (round_refused order cols end b number (PARTITION_LIMIT - (done + 1)) s t t f (c.in_err-read_partition.ensures.told b is)))))
+    rw (p.1, p.2) (c.loop-done.invariant.on b is (Err f) s
+    (subst (λ (m : ℕ). IsFault number f (partitions_at order cols end m (key_before s) (left_at b end s.place))) left
+    (round_refused order cols end b number (PARTITION_LIMIT - (done + 1)) s f (c.in_err-read_partition.ensures.told b is))))
 
 pub returns-clause-told : goal.returns-clause-told
 returns-clause-told g c = λ b is.
@@ -96,5 +91,5 @@ returns-clause-told g c = λ b is.
     let none : 0 ≡ PARTITION_LIMIT - c.loop-done._done = omega (arith, c.loop-done-test.false) in
     rw c.bad.ensures
     (c.loop-done.invariant.on b is (Err (table_fault.BadBlock number s.place)) s
-    (subst (λ (m : ℕ). Ends (λ (u : Unit {0}). Scanned s s) number (Err (table_fault.BadBlock number s.place)) (partitions_at order cols end m (key_before s) (left_at b end s.place))) none
+    (subst (λ (m : ℕ). IsFault number (table_fault.BadBlock number s.place) (partitions_at order cols end m (key_before s) (left_at b end s.place))) none
     (refl, round_none order cols end b number s)))

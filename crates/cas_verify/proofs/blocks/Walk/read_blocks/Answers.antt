@@ -37,5 +37,5 @@ returns-in-Err-clause-told g c = λ b is n few.
     let end = c.args.table.now.kept.end in
     let v = c.step.new.self in
     let on = c.turns.invariant.on b is n few in
-    on.2 (Err c.in-Err.fault) v (turn_refused (clustering_order cols) cols end b on.0 c.args.table.now.info.number c.turns.self v v c.in-Err.fault on.1
+    on.2 (Err c.in-Err.fault) v (turn_refused (clustering_order cols) cols end b on.0 c.args.table.now.info.number c.turns.self c.in-Err.fault on.1
     (c.in-Err.ensures.told b is))

@@ -6,7 +6,7 @@ use Rattle.cas_blocks.proofs.NextBlock.{next_end, next_no_end, next_no_more, no_
 use Rattle.cas_verify.specs.Inner.Walks.{reached}
 use Rattle.cas_codec.specs.Reading.{bytes32_at}
 use Rattle.cas_fragments.specs.Reading.{body_at, next_block_at}
-use Rattle.cas_verify.proofs.BodyLaws.{ends_then}
+use Rattle.cas_verify.proofs.BodyLaws.{fault_then}
 use Rattle.cas_verify.proofs.Steps.{body_bad, block_bad, block_read, first_of, block_long}
 use Rattle.cas_verify.proofs.blocks.Walk.step.Goals as goal
 
@@ -58,7 +58,7 @@ returns-in_err-body-clause-told g c = λ b is.
     let w = c.args.self.now in
     let left = left_at b c.args.table.now.kept.end w.place in
     let p = err_from_is_err_and c.from_residual.result c.from_residual.ensures.1 in
-    rw (p.1, p.2) (ends_then _ _ c.args.table.now.info.number c.in_err-body.field-0.0 (bytes32_at left)
+    rw (p.1, p.2) (fault_then c.args.table.now.info.number c.in_err-body.field-0.0 (bytes32_at left)
     (next_block_at (clustering_order cols) cols w.ends w.goes_on (reached w) left)
     (body_bad (clustering_order cols) cols w.ends w.goes_on (reached w) left) (c.in_err-body.ensures.told b is))
 
@@ -74,7 +74,7 @@ returns-in_err-block-clause-told g c = λ b is.
     let some : 0 < length bytes = omega (arith, ap length same, full) in
     let r = c.from_residual-in_err-block in
     let p = err_from_is_err_and r.result r.ensures.1 in
-    rw (p.1, p.2) (ends_then _ _ c.args.table.now.info.number c.in_err-block.field-0.0
+    rw (p.1, p.2) (fault_then c.args.table.now.info.number c.in_err-block.field-0.0
     (body_at (clustering_order cols) cols (reached w) (record { bytes = bytes; at = w.place + 4 }))
     (next_block_at (clustering_order cols) cols w.ends w.goes_on (reached w) left)
     (block_bad (clustering_order cols) cols w.ends w.goes_on (reached w) left t.0.0 bytes t.0.1 t.1 (t.2.0 ∙ sym same) some c.if-not-self-2.false)

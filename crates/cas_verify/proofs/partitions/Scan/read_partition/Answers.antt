@@ -25,7 +25,7 @@ returns-in_err-head-clause-told g c = λ b is.
     let s = c.args.self.now in
     let same : option_copied c.last_key-before.result ≡ key_before s = c.last_key-before.ensures ∙ ap (last_key (λ (e : PartitionEntry). e.key)) c.deref.ensures.value in
     let p = err_from_is_err_and c.from_residual.result c.from_residual.ensures.1 in
-    rw (p.1, p.2) (head_refused (clustering_order cols) cols c.args.table.now.kept.end b c.args.table.now.info.number s s (option_copied c.last_key-before.result)
+    rw (p.1, p.2) (head_refused (clustering_order cols) cols c.args.table.now.kept.end b c.args.table.now.info.number s (option_copied c.last_key-before.result)
     c.in_err-head.field-0.0 same (c.in_err-head.ensures.told b is))
 
 pub returns-in_err-read_blocks-clause-told : goal.returns-in_err-read_blocks-clause-told
@@ -48,7 +48,7 @@ returns-in_err-read_blocks-clause-told g c = λ b is.
     let r = c.from_residual-in_err-read_blocks in
     let p = err_from_is_err_and r.result r.ensures.1 in
     rw (p.1, p.2) (part_refused (clustering_order cols) cols end b c.args.table.now.info.number s h behind w t.0
-    (ap (λ k. next_head_at cols k (left_at b end s.place)) (sym same) ∙ t.1) t.2 now n c.read_blocks.new.self s c.in_err-read_blocks.field-0.0 refl
+    (ap (λ k. next_head_at cols k (left_at b end s.place)) (sym same) ∙ t.1) t.2 now c.in_err-read_blocks.field-0.0
     (c.in_err-read_blocks.ensures.told b is n few))
 
 pub returns-clause-told : goal.returns-clause-told
