@@ -21,7 +21,8 @@ pub(crate) const VERSION_PLACE: u64 = 8;
 
 // Whether files of the table's version are checked.
 fn check_version<F: Sealed>(table: &Table<F>) -> Result<(), TableFault>
-    ensures { Answers (λ u. u) table.now.info.number result (version_at table.now.kept.version) }
+    ensures version { Answers (λ u. u) table.now.info.number result (version_at table.now.kept.version) }
+    ensures no_read { IsErrOf result TableFault.ReadFault → ⊥ }
 {
     match table.version() {
         Version::First => Err(bad(table, VERSION_PLACE)),

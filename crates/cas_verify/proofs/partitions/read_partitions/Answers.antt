@@ -1,9 +1,10 @@
-use Rattle.std.proofs.Common.{◌≡◌, ℕ, suc, ◌+◌, ◌-◌, ◌<◌, ◌≤◌, Ok, Err, inr, refl, sym, subst, arith}
+use Rattle.std.proofs.Common.{◌≡◌, ℕ, suc, ◌+◌, ◌-◌, ◌<◌, ◌≤◌, List, Ok, Err, refl, sym, subst, ◌∙◌, arith}
 use Rattle.std.specs.List.{All}
 use Rattle.std.proofs.lemmas.List.Elements.{All-nil}
 use Rattle.std.proofs.lemmas.Result.{err_from_is_err_and}
 use Rattle.cas_bounds.specs.ClusteringOrder.{clustering_order}
 use Rattle.cas_index.specs.Allowed.{HasRooms}
+use Rattle.cas_index.specs.declared.entries.PartitionEntry.{PartitionEntry}
 use Rattle.cas_info.specs.declared.info.TheConstants.{PARTITION_LIMIT}
 use Rattle.cas_blocks.specs.Reading.{left_at}
 use Rattle.cas_tables.specs.declared.header.TheConstants.{HEADER_LENGTH}
@@ -23,9 +24,9 @@ loop-done-init g c = record {
       let cols = c.args.table.now.columns in
       begins (clustering_order cols) cols c.args.table.now.kept.end b c.args.table.now.info.number PARTITION_LIMIT
       (record { place = HEADER_LENGTH; entries = c.new.result; seen = c.new-2.result }) x r c.new.ensures.items refl c.new-2.ensures e;
-  rooms = ?;
-  long = ?;
-  within = ?;
+  rooms = subst (λ (es : List PartitionEntry). All HasRooms es) (sym c.new.ensures.items) (All-nil HasRooms);
+  long = c.new.ensures.len;
+  within = omega arith;
   faults = omega arith;
 }
 
@@ -44,7 +45,8 @@ loop-done-preserved g c =
           let told = c.in_ok-read_partition.ensures.told b is in
           c.loop-done.invariant.on b is r x
           (subst (λ (m : ℕ). Ends (λ (u : Unit {0}). Scanned s x) number r (partitions_at order cols end m (key_before s) (left_at b end s.place))) left
-          (round_more order cols end b number (PARTITION_LIMIT - (done + 1)) s t told.0 told.1 told.2 c.if-scan-end.false r x e));
+          (round_more order cols end b number (PARTITION_LIMIT - (done + 1)) s t told.0 told.1 told.2
+          (λ there. c.if-scan-end.false (there ∙ sym c.end.ensures.end)) r x e));
       rooms = c.in_ok-read_partition.ensures.rooms;
       long = omega (arith, c.in_ok-read_partition.ensures.long, c.loop-done.invariant.long);
       within = c.in_ok-read_partition.ensures.within;
@@ -64,7 +66,7 @@ returns-then-scan-end-clause-told g c = λ b is.
     let told = c.in_ok-read_partition.ensures.told b is in
     c.loop-done.invariant.on b is (Ok tt) t
     (subst (λ (m : ℕ). Ends (λ (u : Unit {0}). Scanned s t) number (Ok tt) (partitions_at order cols end m (key_before s) (left_at b end s.place))) left
-    (round_last order cols end b number (PARTITION_LIMIT - (done + 1)) s t told.0 told.1 told.2 ?))
+    (round_last order cols end b number (PARTITION_LIMIT - (done + 1)) s t told.0 told.1 told.2 (c.if-scan-end.true ∙ c.end.ensures.end)))
 
 pub returns-in_err-read_partition-clause-told : goal.returns-in_err-read_partition-clause-told
 returns-in_err-read_partition-clause-told g c = λ b is.
