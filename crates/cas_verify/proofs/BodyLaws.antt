@@ -1,5 +1,5 @@
 -- A block's bytes: where none stand, the place is that of their number.
-use Rattle.std.proofs.Common.{◌≡◌, ℕ, ◌+◌, ◌≤◌, Bool, true, false, cond, ltb, List, length, take, drop, Result, Ok, Err, inl, refl, sym, ap, ◌∙◌}
+use Rattle.std.proofs.Common.{◌≡◌, ℕ, ◌+◌, ◌≤◌, Bool, true, false, cond, ltb, List, length, take, drop, Result, Ok, Err, inl, refl, ap, ◌∙◌}
 use Rattle.std.specs.Int.{w32, from_be_bytes}
 use Rattle.cas_codec.specs.Reading.{Left, Read, ◌>>=◌, bytes_at, unsigned_at, u32_at, bytes32_at}
 use Rattle.cas_codec.specs.declared.fault.ReadFault.{ReadFault}

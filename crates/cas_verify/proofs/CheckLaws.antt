@@ -1,19 +1,18 @@
 -- A file in which nothing is found is that of contents that the table may have; and in such a file nothing is found.
-use Rattle.std.proofs.Common.{◌≡◌, ℕ, zero, suc, ◌+◌, ◌-◌, ◌<◌, ◌≤◌, List, [], ◌∷◌, ◌++◌, length, map, take, drop, Option, None, Some, Result, Ok, Err, refl, sym, ap, subst, ◌∙◌, append_assoc, arith, length-append, length-take, length-drop}
+use Rattle.std.proofs.Common.{◌≡◌, ℕ, suc, ◌+◌, ◌-◌, ◌<◌, ◌≤◌, List, [], ◌∷◌, ◌++◌, length, map, take, drop, Option, None, Some, Result, Ok, Err, refl, sym, ap, subst, ◌∙◌, append_assoc, arith, length-append}
 use Rattle.std.specs.Prelude.{pos}
 use Rattle.std.proofs.lemmas.Cmp.{nat_list_cmp_total}
 use Rattle.std.specs.List.{AllByRecursion, flat_map}
 use Rattle.std.specs.List.Sorted.{IsStrictlySortedBy}
-use Rattle.std.proofs.lemmas.List.{take_at, drop_at, append-nil}
+use Rattle.std.proofs.lemmas.List.{take_at, drop_at}
 use Rattle.std.proofs.lemmas.List.Elements.{All-drop, All-take}
 use Rattle.cas_types.specs.Limits.{IsNarrow}
 use Rattle.cas_types.specs.Values.{bytes_cmp}
 use Rattle.cas_types.specs.declared.schema.Column.{Column}
 use Rattle.cas_bounds.specs.ClusteringOrder.{clustering_order}
-use Rattle.cas_bounds.specs.declared.order.Ordered.{Ordered}
 use Rattle.cas_atoms.specs.declared.atom.Atom.{Atom}
 use Rattle.cas_codec.specs.Exact.{AreBytes}
-use Rattle.cas_codec.specs.Reading.{Left, ◌>>=◌}
+use Rattle.cas_codec.specs.Reading.{◌>>=◌}
 use Rattle.cas_codec.specs.declared.fault.ReadFault.{ReadFault}
 use Rattle.cas_codec.proofs.Exactness.{bind_ok, ok_is, exact_alone, read_left}
 use Rattle.cas_codec.specs.Fields.{u64}
@@ -21,7 +20,7 @@ use Rattle.cas_codec.proofs.FieldLengths.{u64_long}
 use Rattle.cas_info.specs.Allowed.{FitsInfo}
 use Rattle.cas_info.specs.Spelling.{info_bytes}
 use Rattle.cas_info.specs.declared.info.TableInfo.{TableInfo}
-use Rattle.cas_info.specs.declared.info.TheConstants.{FILE_LIMIT, PARTITION_LIMIT}
+use Rattle.cas_info.specs.declared.info.TheConstants.{PARTITION_LIMIT}
 use Rattle.cas_info.specs.Reading.{info_at}
 use Rattle.cas_info.proofs.InfoLaws.{info_exact}
 use Rattle.cas_streams.specs.Merged.{flat_of, flats}
@@ -31,29 +30,25 @@ use Rattle.cas_facts.specs.declared.facts.Facts.{Facts}
 use Rattle.cas_facts.proofs.Joining.{facts_are_one}
 use Rattle.cas_filter.specs.Allowed.{FitsFilter}
 use Rattle.cas_filter.specs.Reading.{filter_at}
-use Rattle.cas_filter.specs.Filters.{bits_for, filter_of}
 use Rattle.cas_filter.specs.Spelling.{filter_bytes}
 use Rattle.cas_filter.proofs.Exact.{filter_exact}
 use Rattle.cas_fragments.specs.Blocks.{statics_in, behind_statics}
 use Rattle.cas_fragments.specs.Laws.{static_of, joined, IsPartition, part_bytes}
 use Rattle.cas_fragments.proofs.CutLaws.{blocks_are_partitions}
-use Rattle.cas_fragments.specs.Reading.{is_above}
 use Rattle.cas_fragments.proofs.ChainLaws.{AreChained, chain_sorted, sorted_chain}
 use Rattle.cas_fragments.proofs.FragmentLaws.{there_before}
 use Rattle.cas_index.specs.Allowed.{FitsIndex}
 use Rattle.cas_index.specs.Reading.{index_at}
 use Rattle.cas_index.specs.Spelling.{index_bytes, footer_bytes}
 use Rattle.cas_index.specs.declared.entries.PartitionEntry.{PartitionEntry}
-use Rattle.cas_index.specs.declared.footer.Footer.{Footer}
 use Rattle.cas_index.specs.declared.footer.TheConstants.{FOOTER_LENGTH}
 use Rattle.cas_index.proofs.IndexLaws.{index_exact}
 use Rattle.cas_tables.specs.declared.header.TheConstants.{HEADER_LENGTH}
-use Rattle.cas_tables.specs.declared.header.Header.{Header}
 use Rattle.cas_tables.specs.declared.header.Version.{Version}
 use Rattle.cas_tables.specs.declared.header.Version.TheVariants.{First, Second}
 use Rattle.cas_tables.specs.Allowed.{FitsHeader}
 use Rattle.cas_tables.specs.Contents.{Partition, Contents, keys, atoms_of}
-use Rattle.cas_tables.specs.Files.{index_of, key_filter, index_place, footer_of, with_info, told_of, info_of, table_bytes, IsTable, front_bytes, first_key, last_key}
+use Rattle.cas_tables.specs.Files.{index_of, key_filter, index_place, footer_of, with_info, told_of, info_of, table_bytes, IsTable, first_key, last_key}
 use Rattle.cas_tables.specs.Fitting.{FitsPartition, FitsContents}
 use Rattle.cas_tables.specs.Places.{blocks, text_of, entries}
 use Rattle.cas_tables.specs.Spelling.{header_bytes}

@@ -1,5 +1,5 @@
 -- The whole check, by what its parts answer.
-use Rattle.std.proofs.Common.{◌≡◌, ℕ, List, [], map, Option, None, Some, Result, Ok, Err, inl, inr, refl, sym, ap, subst, ◌∙◌}
+use Rattle.std.proofs.Common.{◌≡◌, ℕ, List, [], map, None, Some, Result, Ok, Err, inl, inr, refl, sym, ap, subst, ◌∙◌}
 use Rattle.cas_types.specs.declared.schema.Column.{Column}
 use Rattle.cas_atoms.specs.Coordinates.{atom_at}
 use Rattle.cas_atoms.specs.declared.atom.Atom.{Atom}
@@ -11,9 +11,8 @@ use Rattle.cas_info.specs.declared.info.TableInfo.{TableInfo}
 use Rattle.cas_facts.specs.Facts.{AreFacts, AreFactsSoFar}
 use Rattle.cas_facts.specs.declared.facts.Facts.{Facts}
 use Rattle.cas_facts.proofs.Joining.{facts_are_one}
-use Rattle.cas_index.specs.declared.entries.PartitionEntry.{PartitionEntry}
 use Rattle.cas_tables.specs.declared.header.TheConstants.{HEADER_LENGTH}
-use Rattle.cas_sstread.specs.Loading.{IsBadAt, Answers}
+use Rattle.cas_sstread.specs.Loading.{Answers}
 use Rattle.cas_sstread.specs.Reading.{Loaded}
 use Rattle.cas_sstread.specs.declared.fault.TableFault.{TableFault}
 use Rattle.cas_sstread.specs.declared.fault.TableFault.TheVariants as table_fault

@@ -1,5 +1,5 @@
 -- Fields are found where they stand one behind another, and nowhere else.
-use Rattle.std.proofs.Common.{◌≡◌, ℕ, ◌+◌, ◌*◌, eqb, cond, Bool, true, List, [], ◌∷◌, ◌++◌, length, Result, Ok, Err, refl, sym, ap, ◌∙◌, append_assoc, arith}
+use Rattle.std.proofs.Common.{◌≡◌, ℕ, ◌+◌, ◌*◌, eqb, cond, Bool, true, List, [], ◌∷◌, ◌++◌, length, Ok, Err, refl, sym, ap, ◌∙◌, append_assoc, arith}
 use Rattle.std.specs.List.{flat_map}
 use Rattle.std.specs.declared.cmp.Ordering.{Ordering}
 use Rattle.std.specs.declared.cmp.Ordering.TheVariants.{Less, Equal, Greater}
@@ -10,17 +10,16 @@ use Rattle.std.proofs.lemmas.Cmp.{nat_list_cmp_total, tied_itself}
 use Rattle.cas_types.specs.Values.{bytes_cmp}
 use Rattle.cas_types.proofs.OrderLaws.{bytes_orders}
 use Rattle.cas_codec.specs.Fields.{u8, u32, u64, i64, bytes16, maybe}
-use Rattle.cas_codec.specs.Exact.{AreBytes, IsExact, Begins}
+use Rattle.cas_codec.specs.Exact.{AreBytes, IsExact}
 use Rattle.cas_codec.specs.Reading.{Left, Read, ◌>>=◌, checked, bytes_at}
-use Rattle.cas_codec.specs.declared.fault.ReadFault.{ReadFault}
 use Rattle.cas_codec.specs.declared.fault.ReadFault.TheVariants.{Bad}
 use Rattle.cas_codec.proofs.Exactness.{bind_ok, test_ok, ok_is, exact_checked, exact_map, AreBytes-rest, read_left}
 use Rattle.cas_codec.proofs.FieldLaws.{exact_bytes}
 use Rattle.cas_records.specs.Spelling.{deletion_bytes, cut_bytes}
 use Rattle.cas_info.specs.declared.info.TableInfo.{TableInfo}
-use Rattle.cas_info.specs.Spelling.{sizes_bytes, range_bytes, times_bytes, rest_bytes, info_bytes}
+use Rattle.cas_info.specs.Spelling.{range_bytes, times_bytes, rest_bytes, info_bytes}
 use Rattle.cas_filter.specs.Spelling.{filter_bytes}
-use Rattle.cas_index.specs.Spelling.{block_bytes, head_bytes, partition_bytes, index_bytes}
+use Rattle.cas_index.specs.Spelling.{block_bytes, partition_bytes, index_bytes}
 use Rattle.cas_index.specs.declared.entries.BlockEntry.{BlockEntry}
 use Rattle.cas_index.specs.declared.entries.PartitionEntry.{PartitionEntry}
 use Rattle.cas_sstread.specs.Reading.{filled_at}

@@ -1,5 +1,5 @@
 -- A head is read of the front of what is left as of the whole.
-use Rattle.std.proofs.Common.{◌≡◌, ℕ, ◌+◌, ◌-◌, ◌<◌, ◌≤◌, ◌^◌, Bool, true, List, ◌++◌, length, take, drop, Option, Result, Ok, Err, inl, inr, refl, sym, ap, subst, ◌∙◌, append_assoc, arith, length-append, length-take, take-append-drop}
+use Rattle.std.proofs.Common.{◌≡◌, ℕ, ◌+◌, ◌-◌, ◌<◌, ◌≤◌, ◌^◌, true, List, ◌++◌, length, take, drop, Option, Result, Ok, Err, inl, inr, refl, sym, ap, ◌∙◌, append_assoc, arith, length-append, length-take, take-append-drop}
 use Rattle.std.proofs.lemmas.List.{take-take, drop-take, drop-drop, drop_at}
 use Rattle.cas_types.specs.Limits.{IsNarrow}
 use Rattle.cas_types.specs.Values.{bytes_cmp}
@@ -21,7 +21,6 @@ use Rattle.cas_fragments.specs.Reading.{is_above, head_at}
 use Rattle.cas_fragments.specs.declared.heads.Head.{Head}
 use Rattle.cas_fragments.proofs.FragmentLaws.{head_exact}
 use Rattle.cas_blocks.specs.Reading.{left_at}
-use Rattle.cas_sstread.specs.Loading.{IsBadAt}
 use Rattle.cas_sstread.specs.declared.fault.TableFault.{TableFault}
 use Rattle.cas_verify.specs.Inner.Ends.{Ends, fault_in}
 use Rattle.cas_verify.specs.Inner.Heads.{FrontTells}

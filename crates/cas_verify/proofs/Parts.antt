@@ -1,9 +1,8 @@
 -- Partitions that are read one after another are those of contents that a table may have.
-use Rattle.std.proofs.Common.{◌≡◌, ℕ, zero, suc, ◌+◌, ◌-◌, ◌<◌, ◌≤◌, ◌^◌, ◌||◌, eqb, cond, Bool, true, false, List, [], ◌∷◌, ◌++◌, length, map, Option, None, Some, Result, Ok, Err, refl, sym, ap, subst, ◌∙◌, append_assoc, arith, length-append}
-use Rattle.std.specs.Prelude.{is_some, is_none}
+use Rattle.std.proofs.Common.{◌≡◌, ℕ, zero, suc, ◌+◌, ◌<◌, ◌≤◌, ◌^◌, eqb, cond, Bool, true, false, List, [], ◌∷◌, ◌++◌, length, map, Option, None, Some, Ok, Err, refl, sym, ap, subst, ◌∙◌, append_assoc, arith, length-append}
+use Rattle.std.specs.Prelude.{is_none}
 use Rattle.std.specs.List.{AllByRecursion, flat_map}
-use Rattle.std.specs.List.Sorted.{IsStrictlySortedBy}
-use Rattle.std.proofs.lemmas.Bool.{true≢false, eqb-true, eqb-false, eq-eqb, ne_eqb}
+use Rattle.std.proofs.lemmas.Bool.{true≢false, eqb-true, eq-eqb, ne_eqb}
 use Rattle.std.proofs.lemmas.List.{append-nil}
 use Rattle.cas_types.specs.Limits.{IsNarrow}
 use Rattle.cas_types.specs.Schemas.{is_static}
@@ -17,9 +16,8 @@ use Rattle.cas_atoms.specs.declared.atom.Atom.{Atom}
 use Rattle.cas_atoms.specs.declared.atom.Atom.TheVariants.{RangeDeletion}
 use Rattle.cas_atoms.specs.declared.row.RowColumn.{RowColumn}
 use Rattle.cas_codec.specs.Fields.{bytes16, maybe}
-use Rattle.cas_codec.specs.Exact.{AreBytes, Begins, IsExact}
+use Rattle.cas_codec.specs.Exact.{AreBytes, Begins}
 use Rattle.cas_codec.specs.Reading.{Left, Read, ◌>>=◌, checked, maybe_at}
-use Rattle.cas_codec.specs.declared.fault.ReadFault.{ReadFault}
 use Rattle.cas_codec.specs.declared.fault.ReadFault.TheVariants.{Bad}
 use Rattle.cas_codec.proofs.Exactness.{bind_ok, test_ok, ok_is, exact_checked, AreBytes-rest, read_left}
 use Rattle.cas_codec.proofs.FieldLengths.{bytes16_long}
@@ -29,7 +27,7 @@ use Rattle.cas_records.specs.declared.columns.Wanted.TheVariants.{Static}
 use Rattle.cas_records.proofs.CellLaws.{key_exact}
 use Rattle.cas_streams.specs.Flat.{Change, changes, at_end, ranges, own, atom_of}
 use Rattle.cas_streams.specs.Merged.{flat_of}
-use Rattle.cas_streams.specs.Streams.{IsThere, WellFormed, IsFragment}
+use Rattle.cas_streams.specs.Streams.{IsThere, WellFormed}
 use Rattle.cas_streams.specs.declared.fragment.Fragment.{Fragment}
 use Rattle.cas_streams.specs.declared.fragment.Fragment.TheVariants as fragment
 use Rattle.cas_fragments.specs.Allowed.{FitColumns, FitsFragment}
@@ -37,15 +35,13 @@ use Rattle.cas_fragments.specs.Spelling.{columns_bytes, body_bytes}
 use Rattle.cas_fragments.specs.Blocks.{Reached, nowhere, past_all, is_full, blocks_of, statics_in, behind_statics, head_bytes, blocks_bytes, says_head}
 use Rattle.cas_fragments.specs.Laws.{static_of, AreBlocks, joined, Stand, IsPartition, part_bytes}
 use Rattle.cas_fragments.specs.Reading.{is_above, columns_at, head_at, blocks_at, partition_at}
-use Rattle.cas_fragments.proofs.CutLaws.{fits_all, one_way, blocks_are_partitions}
+use Rattle.cas_fragments.proofs.CutLaws.{fits_all, one_way}
 use Rattle.cas_fragments.proofs.FragmentLaws.{there_before}
 use Rattle.cas_fragments.proofs.WholeLaws.{partitions_are_exact}
 use Rattle.cas_index.specs.declared.entries.PartitionEntry.{PartitionEntry}
-use Rattle.cas_tables.specs.Contents.{Partition}
 use Rattle.cas_tables.specs.Fitting.{FitsPartition}
 use Rattle.cas_tables.specs.Places.{head_of, blocks, text_of, block_entries, entries}
-use Rattle.cas_blocks.proofs.Parts.{parts_joined, is_partition}
-use Rattle.cas_verify.specs.Partitions.{Part, next_partition_at, partitions_at, stream_of, as_partition, entry_for, entries_for}
+use Rattle.cas_verify.specs.Partitions.{Part, next_partition_at, partitions_at, as_partition, entry_for, entries_for}
 
 abbrev pub HeadOf : Type 0
 HeadOf = List ℕ × Option Deletion × List RowColumn

@@ -1,5 +1,5 @@
 -- The partitions of a file, one after another.
-use Rattle.std.proofs.Common.{◌≡◌, ℕ, zero, suc, ◌+◌, ◌-◌, ◌<◌, ◌≤◌, eqb, Bool, true, false, List, [], ◌∷◌, ◌++◌, length, take, drop, map, cond, Option, None, Some, Result, Ok, Err, inl, inr, refl, sym, ap, subst, ◌∙◌, append_assoc, arith, length-append}
+use Rattle.std.proofs.Common.{◌≡◌, ℕ, suc, ◌+◌, eqb, true, List, [], ◌∷◌, ◌++◌, length, cond, Option, None, Some, Result, Ok, Err, inr, refl, sym, ap, subst, ◌∙◌, append_assoc, arith, length-append}
 use Rattle.std.specs.List.{flat_map}
 use Rattle.std.proofs.lemmas.Bool.{eq-eqb, ne_eqb}
 use Rattle.std.proofs.lemmas.List.{append-nil}
@@ -11,7 +11,6 @@ use Rattle.cas_atoms.specs.declared.atom.Atom.{Atom}
 use Rattle.cas_atoms.specs.declared.row.RowColumn.{RowColumn}
 use Rattle.cas_codec.specs.Reading.{Left, Read, ◌>>=◌, checked}
 use Rattle.cas_codec.specs.declared.fault.ReadFault.{ReadFault}
-use Rattle.cas_codec.specs.declared.fault.ReadFault.TheVariants.{Short, Bad}
 use Rattle.cas_codec.proofs.Exactness.{bind_ok}
 use Rattle.cas_records.specs.Reading.{key_at}
 use Rattle.cas_streams.specs.Flat.{changes, at_end}

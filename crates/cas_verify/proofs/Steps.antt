@@ -1,15 +1,12 @@
 -- A block further, or the end of a partition.
-use Rattle.std.proofs.Common.{◌≡◌, ℕ, ◌+◌, ◌*◌, ◌<◌, ◌≤◌, Bool, true, false, List, [], ◌∷◌, ◌++◌, length, vec_len, Option, None, Some, Result, Ok, Err, inl, inr, refl, sym, ap, subst, ◌∙◌, arith}
+use Rattle.std.proofs.Common.{◌≡◌, ℕ, ◌+◌, ◌<◌, Bool, true, false, List, [], ◌∷◌, ◌++◌, length, Option, None, Some, Ok, inl, inr, refl, sym, ap, subst, ◌∙◌, arith}
 use Rattle.std.specs.Prelude.{is_some, is_none, not, IsSome, slice_get}
 use Rattle.std.specs.Option.{option_to_list}
-use Rattle.std.specs.List.{All, AllByRecursion, flat_map}
 use Rattle.cas_types.specs.declared.schema.Column.{Column}
 use Rattle.cas_cell.specs.declared.deletion.Deletion.{Deletion}
-use Rattle.cas_bounds.specs.ClusteringOrder.{clustering_order}
 use Rattle.cas_bounds.specs.declared.order.Ordered.{Ordered}
 use Rattle.cas_bounds.specs.declared.cuts.Cut.{Cut}
-use Rattle.cas_codec.specs.Reading.{Left, Read, ◌>>=◌, bytes32_at}
-use Rattle.cas_codec.specs.declared.fault.ReadFault.{ReadFault}
+use Rattle.cas_codec.specs.Reading.{Left, bytes32_at}
 use Rattle.cas_codec.specs.declared.fault.ReadFault.TheVariants.{Short, Bad}
 use Rattle.cas_codec.proofs.Exactness.{read_left}
 use Rattle.cas_codec.proofs.FieldLengths.{bytes32_long}
@@ -17,16 +14,14 @@ use Rattle.cas_streams.specs.Streams.{IsThere}
 use Rattle.cas_streams.specs.Places.{place_of}
 use Rattle.cas_streams.specs.declared.fragment.Fragment.{Fragment}
 use Rattle.cas_streams.specs.declared.fragment.Fragment.TheVariants as fragment
-use Rattle.cas_fragments.specs.Allowed.{FitsFragment, AreShort, HasSpelling}
+use Rattle.cas_fragments.specs.Allowed.{AreShort}
 use Rattle.cas_fragments.specs.Spelling.{body_bytes, block_bytes}
-use Rattle.cas_fragments.specs.Blocks.{Reached, past, past_all, last_place, is_full}
+use Rattle.cas_fragments.specs.Blocks.{Reached, past_all, last_place}
 use Rattle.cas_fragments.specs.Laws.{IsBlock}
 use Rattle.cas_fragments.specs.Reading.{body_at, next_block_at}
-use Rattle.cas_fragments.specs.declared.blocks.TheConstants.{BLOCK_LEAST}
 use Rattle.cas_fragments.proofs.BlockLoop.{past_pushed}
 use Rattle.cas_fragments.proofs.LengthLaws.{has_spelling}
 use Rattle.cas_index.specs.Allowed.{HasRoom}
-use Rattle.cas_index.specs.declared.entries.BlockEntry.{BlockEntry}
 use Rattle.cas_tables.specs.Places.{first_cut, block_entries}
 use Rattle.cas_blocks.proofs.NextBlock.{next_is, next_bad}
 use Rattle.cas_sstread.specs.Loading.{IsBadAt}

@@ -6,14 +6,12 @@ use Rattle.std.proofs.lemmas.List.{append-nil, take_more}
 use Rattle.cas_types.specs.declared.schema.Column.{Column}
 use Rattle.cas_bounds.specs.declared.order.Ordered.{Ordered}
 use Rattle.cas_atoms.specs.declared.atom.Atom.{Atom}
-use Rattle.cas_cell.specs.declared.deletion.Deletion.{Deletion}
 use Rattle.cas_codec.specs.Fields.{u32}
 use Rattle.cas_codec.specs.Reading.{Left, Read, ◌>>=◌, bytes_at, bytes32_at}
 use Rattle.cas_codec.specs.declared.fault.ReadFault.{ReadFault}
-use Rattle.cas_codec.specs.declared.fault.ReadFault.TheVariants.{Short, Bad}
+use Rattle.cas_codec.specs.declared.fault.ReadFault.TheVariants.{Short}
 use Rattle.cas_codec.proofs.FieldLengths.{u32_long}
 use Rattle.cas_streams.specs.Flat.{changes, at_end}
-use Rattle.cas_streams.specs.Streams.{IsThere}
 use Rattle.cas_streams.specs.declared.fragment.Fragment.{Fragment}
 use Rattle.cas_facts.specs.Facts.{AreFactsSoFar}
 use Rattle.cas_facts.specs.Told.{told}

@@ -5,7 +5,7 @@ use Rattle.cas_types.specs.declared.schema.Column.{Column}
 use Rattle.cas_bounds.specs.ClusteringOrder.{clustering_order}
 use Rattle.cas_codec.specs.declared.fault.ReadFault.{ReadFault}
 use Rattle.cas_codec.specs.declared.fault.ReadFault.TheVariants.{Bad}
-use Rattle.cas_codec.specs.Reading.{Left, ◌>>=◌}
+use Rattle.cas_codec.specs.Reading.{◌>>=◌}
 use Rattle.cas_info.specs.declared.info.TableInfo.{TableInfo}
 use Rattle.cas_info.specs.declared.info.TheConstants.{PARTITION_LIMIT}
 use Rattle.cas_facts.specs.Facts.{AreFacts}

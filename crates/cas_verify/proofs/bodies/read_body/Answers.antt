@@ -1,4 +1,4 @@
-use Rattle.std.proofs.Common.{◌≡◌, ◌+◌, ◌≤◌, subst, refl, ap, Option, ℕ, Some, IfSome, length, vec_len, arith}
+use Rattle.std.proofs.Common.{◌≡◌, ◌+◌, ◌≤◌, subst, refl, ap, List, Option, ℕ, Some, IfSome, length, vec_len, arith}
 use Rattle.cas_blocks.specs.Reading.{left_at}
 use Rattle.cas_blocks.specs.Inner.Bodies.{TellsLength}
 use Rattle.cas_blocks.proofs.Bodies.{no_length, too_long, cut_short, body_read}
@@ -36,5 +36,5 @@ returns-clause-told g c = λ b is.
     let same : length items ≡ vec_len c.in_ok-body.body = omega arith in (
       (items, left_at b end (c.args.place + 4 + length items)),
       body_then b items end c.args.place (omega (arith, c.in_ok-body.ensures.long)) body,
-      (refl, ap (λ n. left_at b end (c.args.place + 4 + n)) same),
+      (refl {A = List ℕ}, ap (λ n. left_at b end (c.args.place + 4 + n)) same),
     )

@@ -1,4 +1,4 @@
-use Rattle.std.proofs.Common.{ap, ◌∙◌, sym}
+use Rattle.std.proofs.Common.{◌∙◌, sym}
 use Rattle.std.specs.Option.{option_copied}
 use Rattle.cas_verify.specs.Inner.Scans.{next_head_at}
 use Rattle.cas_verify.proofs.HeadLaws.{head_key}

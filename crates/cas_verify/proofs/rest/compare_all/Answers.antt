@@ -1,4 +1,4 @@
-use Rattle.std.proofs.Common.{◌++◌, ℕ, List, Result, Ok, Err, subst}
+use Rattle.std.proofs.Common.{◌++◌, ℕ, List, Err, subst}
 use Rattle.std.proofs.lemmas.Result.{err_from_is_err_and}
 use Rattle.cas_codec.specs.Reading.{Gives}
 use Rattle.cas_verify.specs.Fields.{fields_at, index_fields, filter_fields, info_fields}

@@ -16,8 +16,11 @@ returns-then-not-self-clause-told g c = λ b is.
     let t = c.in_ok-body.ensures.told b is in
     let empty : vec_len c.in_ok-body.body ≡ 0 = no_bytes (vec_len c.in_ok-body.body) c.is_empty.result c.is_empty.ensures c.if-is_empty.true in
     let none : length t.0.0 ≡ 0 = omega (arith, ap length t.2.0, empty) in
-    rw c.bad.ensures (refl, inr (next_no_end (clustering_order c.args.table.now.columns) c.args.table.now.columns w.ends w.goes_on (reached w)
-    (left_at b c.args.table.now.kept.end w.place) t.0.0 t.0.1 t.1 none c.if-not-self.true))
+    rw c.bad.ensures (
+      refl,
+      inr (next_no_end (clustering_order c.args.table.now.columns) c.args.table.now.columns w.ends w.goes_on (reached w)
+          (left_at b c.args.table.now.kept.end w.place) t.0.0 t.0.1 t.1 none c.if-not-self.true),
+    )
 
 pub returns-then-is_empty-clause-told : goal.returns-then-is_empty-clause-told
 returns-then-is_empty-clause-told g c = λ b is.
@@ -25,12 +28,15 @@ returns-then-is_empty-clause-told g c = λ b is.
     let t = c.in_ok-body.ensures.told b is in
     let empty : vec_len c.in_ok-body.body ≡ 0 = no_bytes (vec_len c.in_ok-body.body) c.is_empty.result c.is_empty.ensures c.if-is_empty.true in
     let none : length t.0.0 ≡ 0 = omega (arith, ap length t.2.0, empty) in
-    let place : w.place + 4 + vec_len c.in_ok-body.body ≡ w.place + 4 = omega (arith, empty) in
-    ((None, t.0.1), next_end (clustering_order c.args.table.now.columns) c.args.table.now.columns w.ends w.goes_on (reached w)
-    (left_at b c.args.table.now.kept.end w.place) t.0.0 t.0.1 t.1 none c.if-not-self.false, record {
-      left = t.2.1 ∙ ap (left_at b c.args.table.now.kept.end) place;
-      step = record { closed = c.requires.sound.closed c.if-not-self.false; place = refl; entries = refl; seen = refl };
-    })
+    let place : w.place + 4 + vec_len c.in_ok-body.body ≡ w.place + 4 = omega (arith, empty) in (
+      (None, t.0.1),
+      next_end (clustering_order c.args.table.now.columns) c.args.table.now.columns w.ends w.goes_on (reached w)
+          (left_at b c.args.table.now.kept.end w.place) t.0.0 t.0.1 t.1 none c.if-not-self.false,
+      record {
+        left = t.2.1 ∙ ap (left_at b c.args.table.now.kept.end) place;
+        step = record { closed = c.requires.sound.closed c.if-not-self.false; place = refl; entries = refl; seen = refl };
+      },
+    )
 
 pub returns-then-not-self-2-clause-told : goal.returns-then-not-self-2-clause-told
 returns-then-not-self-2-clause-told g c = λ b is.
@@ -38,8 +44,11 @@ returns-then-not-self-2-clause-told g c = λ b is.
     let t = c.in_ok-body.ensures.told b is in
     let full : 0 < vec_len c.in_ok-body.body = some_bytes (vec_len c.in_ok-body.body) c.is_empty.result c.is_empty.ensures c.if-is_empty.false in
     let some : 0 < length t.0.0 = omega (arith, ap length t.2.0, full) in
-    rw c.bad-then-not-self-2.ensures (refl, inr (next_no_more (clustering_order c.args.table.now.columns) c.args.table.now.columns w.ends w.goes_on (reached w)
-    (left_at b c.args.table.now.kept.end w.place) t.0.0 t.0.1 t.1 some c.if-not-self-2.true))
+    rw c.bad-then-not-self-2.ensures (
+      refl,
+      inr (next_no_more (clustering_order c.args.table.now.columns) c.args.table.now.columns w.ends w.goes_on (reached w)
+          (left_at b c.args.table.now.kept.end w.place) t.0.0 t.0.1 t.1 some c.if-not-self-2.true),
+    )
 
 pub pass-requires-clause-first : goal.pass-requires-clause-first
 pass-requires-clause-first g c =
@@ -94,6 +103,9 @@ returns-clause-told g c = λ b is.
     let full : 0 < vec_len c.in_ok-body.body = some_bytes (vec_len c.in_ok-body.body) c.is_empty.result c.is_empty.ensures c.if-is_empty.false in
     let some : 0 < length bytes = omega (arith, ap length same, full) in
     let long : w.place + 4 + vec_len c.in_ok-body.body ≡ v.place =
-    omega (arith, c.in_ok-pass.ensures.goes.place, block_long fs, ap length c.in_ok-block.ensures.block.1, ap length same) in
-    ((Some fs, left_at b end v.place), block_read (clustering_order cols) cols w.ends w.goes_on (reached w) (left_at b end w.place) t.0.0 bytes t.0.1 (left_at b end v.place) fs u.0
-    t.1 (t.2.0 ∙ sym same) some c.if-not-self-2.false u.1 u.2 (t.2.1 ∙ ap (left_at b end) long), record { left = refl; step = c.in_ok-pass.ensures.goes })
+    omega (arith, c.in_ok-pass.ensures.goes.place, block_long fs, ap length c.in_ok-block.ensures.block.1, ap length same) in (
+      (Some fs, left_at b end v.place),
+      block_read (clustering_order cols) cols w.ends w.goes_on (reached w) (left_at b end w.place) t.0.0 bytes t.0.1 (left_at b end v.place) fs u.0
+          t.1 (t.2.0 ∙ sym same) some c.if-not-self-2.false u.1 u.2 (t.2.1 ∙ ap (left_at b end) long),
+      record { left = refl; step = c.in_ok-pass.ensures.goes },
+    )
