@@ -1,11 +1,13 @@
-use Rattle.std.proofs.Common.{◌≡◌, ◌+◌, ◌<◌, None, Some, inr, refl, sym, ap, ◌∙◌, length, vec_len, arith}
+use Rattle.std.proofs.Common.{◌≡◌, ◌+◌, ◌<◌, ℕ, List, None, Some, inr, refl, sym, ap, ◌∙◌, length, vec_len, arith}
 use Rattle.std.proofs.lemmas.Result.{err_from_is_err_and}
 use Rattle.cas_bounds.specs.ClusteringOrder.{clustering_order}
 use Rattle.cas_blocks.specs.Reading.{left_at}
 use Rattle.cas_blocks.proofs.NextBlock.{next_end, next_no_end, next_no_more, no_bytes, some_bytes}
 use Rattle.cas_verify.specs.Inner.Walks.{reached}
 use Rattle.cas_codec.specs.Reading.{bytes32_at}
+use Rattle.cas_facts.specs.declared.facts.Tally.{Tally}
 use Rattle.cas_fragments.specs.Reading.{body_at, next_block_at}
+use Rattle.cas_index.specs.declared.entries.BlockEntry.{BlockEntry}
 use Rattle.cas_verify.proofs.BodyLaws.{fault_then}
 use Rattle.cas_verify.proofs.Steps.{body_bad, block_bad, block_read, first_of, block_long}
 use Rattle.cas_verify.proofs.blocks.Walk.step.Goals as goal
@@ -34,7 +36,7 @@ returns-then-is_empty-clause-told g c = λ b is.
           (left_at b c.args.table.now.kept.end w.place) t.0.0 t.0.1 t.1 none c.if-not-self.false,
       record {
         left = t.2.1 ∙ ap (left_at b c.args.table.now.kept.end) place;
-        step = record { closed = c.requires.sound.closed c.if-not-self.false; place = refl; entries = refl; seen = refl };
+        step = record { closed = c.requires.sound.closed c.if-not-self.false; place = refl {A = ℕ}; entries = refl {A = List BlockEntry}; seen = refl {A = Tally} };
       },
     )
 
