@@ -1,7 +1,7 @@
 -- The partitions of a file, one after another.
-use Rattle.std.proofs.Common.{◌≡◌, ℕ, suc, ◌+◌, eqb, true, List, [], ◌∷◌, ◌++◌, length, cond, Option, None, Some, Result, Ok, Err, inr, refl, sym, ap, subst, ◌∙◌, append_assoc, arith, length-append}
+use Rattle.std.proofs.Common.{◌≡◌, ℕ, suc, ◌+◌, eqb, Bool, true, false, List, [], ◌∷◌, ◌++◌, length, cond, Option, None, Some, Result, Ok, Err, inr, refl, sym, ap, subst, ◌∙◌, append_assoc, arith, length-append}
 use Rattle.std.specs.List.{flat_map}
-use Rattle.std.proofs.lemmas.Bool.{eq-eqb, ne_eqb}
+use Rattle.std.proofs.lemmas.Bool.{eq-eqb, ne_eqb, eqb-true, eqb-false}
 use Rattle.std.proofs.lemmas.List.{append-nil}
 use Rattle.cas_types.specs.Values.{bytes_cmp}
 use Rattle.cas_types.specs.declared.schema.Column.{Column}
@@ -238,6 +238,14 @@ module _ (order : List Ordered) (columns : List Column) (end : ℕ) (file : List
 
   pub round_refused : (n : ℕ) (s : Scan) (f : TableFault) → IsFault number f (NextOf s) → IsFault number f (AllOf (suc n) s)
   round_refused n s f is = fault_then number f (NextOf s) (AllOf (suc n) s) (λ at bad. round_bad n at s bad) is
+
+-- ---- whether the partitions end there
+
+pub ends_there : (place end : ℕ) (b : Bool) → b ≡ eqb place end → b ≡ true → place ≡ end
+ends_there place end b is e = eqb-true place end (sym is ∙ e)
+
+pub goes_beyond : (place end : ℕ) (b : Bool) → b ≡ eqb place end → b ≡ false → place ≡ end → ⊥
+goes_beyond place end b is e = eqb-false place end (sym is ∙ e)
 
 -- ---- from the beginning
 

@@ -1,6 +1,6 @@
 //! The blocks of a partition, one after another; of the one before, the last fragment is kept.
 
-ghost use Rattle.std.specs.Prelude.{◌≡◌, ◌+◌, ◌≤◌, ◌<◌, ◌^◌, [], ◌∷◌, ℕ, List, length, Some, true, IfOk, OnOk, IsErrOf};
+ghost use Rattle.std.specs.Prelude.{◌≡◌, ◌+◌, ◌≤◌, ◌<◌, ◌^◌, [], ◌∷◌, ℕ, List, length, nat_le, Some, true, IfOk, OnOk, IsErrOf};
 ghost use Rattle.std.specs.Option.{option_copied};
 ghost use Rattle.cas_types.specs.Limits.{IsNarrow};
 ghost use Rattle.cas_bounds.specs.ClusteringOrder.{clustering_order};
@@ -84,6 +84,13 @@ fn entry_of(
     }
 }
 
+// Whether a block of so many bytes is full.
+fn is_full(long: usize) -> bool
+    ensures { result ≡ nat_le BLOCK_LEAST long }
+{
+    BLOCK_LEAST <= long
+}
+
 // Sees what these fragments tell.
 fn see_all(seen: &mut Tally, fragments: &[Fragment])
     ensures { Sees seen.old (flat_map told fragments.now) seen.new }
@@ -152,7 +159,7 @@ impl Walk {
         self.last = block.fragments.pop();
         self.place = self.place + 4 + long as u64;
         self.ends = block.force.is_none();
-        self.goes_on = BLOCK_LEAST <= long;
+        self.goes_on = is_full(long);
         self.force = block.force;
         Ok(())
     }

@@ -1,6 +1,6 @@
 //! The partitions of a file, one after another; of each, what the index is to tell is kept.
 
-ghost use Rattle.std.specs.Prelude.{◌≡◌, ◌+◌, ◌≤◌, ℕ, List as ListOf, Some, vec_len, IfOk, OnOk, IsErrOf};
+ghost use Rattle.std.specs.Prelude.{◌≡◌, ◌+◌, ◌≤◌, ◌==◌, ℕ, List as ListOf, Some, vec_len, IfOk, OnOk, IsErrOf};
 ghost use Rattle.std.specs.List.{All};
 ghost use Rattle.std.specs.Option.{option_copied};
 ghost use Rattle.cas_types.specs.Limits.{IsNarrow};
@@ -121,6 +121,13 @@ impl Scan {
     }
 }
 
+// Whether the partitions of the file end at a place.
+fn end_at<F: Sealed>(table: &Table<F>, place: u64) -> bool
+    ensures { result ≡ (place == table.now.kept.end) }
+{
+    place == table.end()
+}
+
 /// Reads all partitions of a file, up to where they end.
 pub(crate) fn read_partitions<F: Sealed>(
     alloc: Global,
@@ -141,7 +148,7 @@ pub(crate) fn read_partitions<F: Sealed>(
     };
     for _done in 0..PARTITION_LIMIT {
         scan.read_partition(alloc, table, tally)?;
-        if scan.place == table.end() {
+        if end_at(table, scan.place) {
             return Ok(scan);
         }
     }

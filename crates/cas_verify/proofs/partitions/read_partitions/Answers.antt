@@ -1,4 +1,4 @@
-use Rattle.std.proofs.Common.{◌≡◌, ℕ, suc, ◌+◌, ◌-◌, ◌<◌, List, Ok, Err, refl, sym, subst, ◌∙◌, arith}
+use Rattle.std.proofs.Common.{◌≡◌, ℕ, suc, ◌+◌, ◌-◌, ◌<◌, List, Ok, Err, refl, sym, subst, arith}
 use Rattle.std.specs.List.{All}
 use Rattle.std.proofs.lemmas.List.Elements.{All-nil}
 use Rattle.std.proofs.lemmas.Result.{err_from_is_err_and}
@@ -12,7 +12,7 @@ use Rattle.cas_sstread.specs.declared.fault.TableFault.TheVariants as table_faul
 use Rattle.cas_verify.specs.Partitions.{partitions_at}
 use Rattle.cas_verify.specs.Inner.Ends.{IsFault, Ends}
 use Rattle.cas_verify.specs.Inner.Scans.{key_before, Scanned}
-use Rattle.cas_verify.proofs.Rounds.{round_last, round_more, round_none, round_refused, begins}
+use Rattle.cas_verify.proofs.Rounds.{ends_there, goes_beyond, round_last, round_more, round_none, round_refused, begins}
 use Rattle.cas_verify.proofs.partitions.read_partitions.Goals as goal
 
 one_less : (limit done : ℕ) → done < limit → suc (limit - (done + 1)) ≡ limit - done
@@ -46,15 +46,15 @@ loop-done-preserved g c =
           c.loop-done.invariant.on b is r x
           (subst (λ (m : ℕ). Ends (λ (u : Unit {0}). Scanned s x) number r (partitions_at order cols end m (key_before s) (left_at b end s.place))) left
           (round_more order cols end b number (PARTITION_LIMIT - (done + 1)) s t told.0 told.1 told.2
-          (λ there. c.if-scan-end.false (there ∙ sym c.end.ensures.end)) r x e));
+          (goes_beyond t.place end c.end_at.result c.end_at.ensures c.if-end_at.false) r x e));
       rooms = c.in_ok-read_partition.ensures.rooms;
       long = omega (arith, c.in_ok-read_partition.ensures.long, c.loop-done.invariant.long);
       within = c.in_ok-read_partition.ensures.within;
       faults = omega (arith, c.loop-done.invariant.faults, c.read_partition.ensures.count);
     }
 
-pub returns-then-scan-end-clause-told : goal.returns-then-scan-end-clause-told
-returns-then-scan-end-clause-told g c = λ b is.
+pub returns-then-end_at-clause-told : goal.returns-then-end_at-clause-told
+returns-then-end_at-clause-told g c = λ b is.
     let cols = c.args.table.now.columns in
     let order = clustering_order cols in
     let end = c.args.table.now.kept.end in
@@ -66,7 +66,7 @@ returns-then-scan-end-clause-told g c = λ b is.
     let told = c.in_ok-read_partition.ensures.told b is in
     c.loop-done.invariant.on b is (Ok tt) t
     (subst (λ (m : ℕ). Ends (λ (u : Unit {0}). Scanned s t) number (Ok tt) (partitions_at order cols end m (key_before s) (left_at b end s.place))) left
-    (round_last order cols end b number (PARTITION_LIMIT - (done + 1)) s t told.0 told.1 told.2 (c.if-scan-end.true ∙ c.end.ensures.end)))
+    (round_last order cols end b number (PARTITION_LIMIT - (done + 1)) s t told.0 told.1 told.2 (ends_there t.place end c.end_at.result c.end_at.ensures c.if-end_at.true)))
 
 pub returns-in_err-read_partition-clause-told : goal.returns-in_err-read_partition-clause-told
 returns-in_err-read_partition-clause-told g c = λ b is.

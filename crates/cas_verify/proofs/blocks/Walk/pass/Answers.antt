@@ -19,7 +19,7 @@ returns-clause-goes c =
       some = first_there fs c.requires.first;
       reached_is = reached_pop (reached w) fs c.pop.new.self.items c.pop.result c.args.block.force c.pop.ensures.items (c.pop.ensures.variant.1 some) c.requires.force;
       ends = none_by c.args.block.force c.is_none-self.result c.is_none-self.ensures ∙ ap is_none c.requires.force;
-      goes_on = ap (leb 4096) c.requires.long;
+      goes_on = c.is_full-self.ensures ∙ ap (leb 4096) c.requires.long;
       place = omega (arith, c.requires.long, block_long fs);
       entries = c.in_ok-push.ensures.items ∙ ap (λ es. w.entries.items ++ es) c.in_ok-entry.ensures.told
           ∙ ap (λ (xs : List Fragment). w.entries.items ++ block_entries w.place w.force (xs ∷ [])) c.deref.ensures.value;
@@ -32,6 +32,6 @@ returns-clause-sound c =
       rooms = All-same HasRoom c.push.new.self.items (w.entries.items ++ c.in_ok-entry.entry ∷ []) c.in_ok-push.ensures.items
           (All-push HasRoom w.entries.items c.in_ok-entry.entry c.requires.sound.rooms c.in_ok-entry.ensures.room);
       few = omega (arith, c.requires.sound.full c.requires.may, c.in_ok-push.ensures.len);
-      full = λ e. let long : 4096 ≤ c.args.long = leb-true 4096 c.args.long e in omega (arith, c.requires.sound.full c.requires.may, c.in_ok-push.ensures.len);
+      full = λ e. let long : 4096 ≤ c.args.long = leb-true 4096 c.args.long (sym c.is_full-self.ensures ∙ e) in omega (arith, c.requires.sound.full c.requires.may, c.in_ok-push.ensures.len);
       closed = λ e. none_is c.args.block.force (sym (none_by c.args.block.force c.is_none-self.result c.is_none-self.ensures) ∙ e);
     }

@@ -75,7 +75,8 @@ returns-clause-told g c = λ b is.
     subst (λ (y : Tally). Sees y (all_told h.top (static_of h.columns)) w.seen) begun.seen_is c.see_head.ensures in
     part_read (clustering_order cols) cols end b c.args.table.now.info.number s h behind w t.0
     (ap (λ k. next_head_at cols k (left_at b end s.place)) (sym same) ∙ t.1) t.2 now x u went.0 went.1 went.2 sees refl refl
-    (c.in_ok-push.ensures.items ∙ ap (λ (es : List BlockEntry). s.entries.items ++ record { key = h.key; place = s.place; blocks = es } ∷ []) c.from_vec.ensures)
+    (subst (λ (es : List BlockEntry). u.entries.items ≡ s.entries.items ++ record { key = h.key; place = s.place; blocks = es } ∷ []) c.from_vec.ensures
+    c.in_ok-push.ensures.items)
 
 pub returns-clause-rooms : goal.returns-clause-rooms
 returns-clause-rooms g c =
