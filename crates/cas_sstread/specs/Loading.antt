@@ -8,6 +8,7 @@ use Rattle.cas_info.specs.declared.info.TableInfo.{TableInfo}
 use Rattle.cas_sstread.specs.Reading.{Loaded}
 use Rattle.cas_sstread.specs.declared.fault.TableFault.{TableFault}
 use Rattle.cas_sstread.specs.declared.fault.TableFault.TheVariants.{BadBlock}
+use Rattle.cas_sstread.specs.declared.fault.TableFault.TheVariants as table_fault
 
 -- the first field that isn't as it must be stands there
 abbrev pub IsBadAt : {Y : Type 0} → Result Y ReadFault → ℕ → Type 0
@@ -18,6 +19,12 @@ abbrev pub Answers : {X Y : Type 0} → (X → Y) → ℕ → Result X TableFaul
 Answers view number (Ok x) read = read ≡ Ok (view x)
 Answers view number (Err (BadBlock n at)) read = (n ≡ number) × IsBadAt read at
 Answers view number (Err _) read = Unit {0}
+
+-- nothing was read that isn't as it must be
+abbrev pub IsNoBlock : TableFault → Type 0
+IsNoBlock table_fault.ReadFault = Unit {0}
+IsNoBlock (table_fault.BadBlock number at) = ⊥
+IsNoBlock table_fault.Mem = Unit {0}
 
 -- A table that is loaded: the bytes of its file, where the file tells them; the columns of the table, what is listed of the file, and what is kept of it.
 pub record Held : Type 0 where

@@ -3,7 +3,7 @@
 ghost use Rattle.std.specs.Prelude.{◌≡◌, ◌+◌, ◌<◌, ◌≤◌, ◌^◌, ℕ, List, Some, take, drop, length, vec_len, IfOk, IfErr, IsErr, IsErrOf};
 ghost use Rattle.cas_disk.specs.Counts.{Counted};
 ghost use Rattle.cas_sstread.specs.Inner.Parts.{IsFilled};
-ghost use Rattle.cas_sstread.specs.Inner.Ends.{IsNoBlock};
+ghost use Rattle.cas_sstread.specs.Loading.{IsNoBlock};
 
 use crate::fault::TableFault;
 use cas_disk::Sealed;

@@ -1,14 +1,15 @@
 //! A table file that is loaded.
 
-ghost use Rattle.std.specs.Prelude.{◌≡◌, ◌<◌, ◌≤◌, ◌^◌, ℕ, List, Some, true, IfOk, IsErrOf};
+ghost use Rattle.std.specs.Prelude.{◌≡◌, ◌+◌, ◌<◌, ◌≤◌, ◌^◌, ℕ, List, Some, true, take, drop, vec_len, IfOk, IfErr, IsErrOf};
 ghost use Rattle.cas_disk.specs.Counts.{Counted};
 ghost use Rattle.cas_bounds.specs.ClusteringOrder.{clustering_order};
 ghost use Rattle.cas_info.specs.declared.info.TheConstants.{FILE_LIMIT};
 ghost use Rattle.cas_sstread.specs.Reading.{stand_before, loaded_at};
-ghost use Rattle.cas_sstread.specs.Loading.{Held, Answers};
+ghost use Rattle.cas_sstread.specs.Loading.{Held, Answers, IsNoBlock};
 
 use crate::fault::TableFault;
 use crate::loading::{Parts, load_parts};
+use crate::parts::read_part;
 use cas_bounds::{RowOrder, clustering_order};
 use cas_disk::Sealed;
 use cas_info::TableInfo;
@@ -99,6 +100,23 @@ impl<F: Sealed> Table<F> {
         ensures { F.contents result.now ≡ self.now.contents }
     {
         &self.file
+    }
+
+    /// So many bytes of the file from a place on, or all that it has from there on.
+    pub fn read(
+        &self,
+        alloc: Global,
+        at: u64,
+        count: usize,
+        tally: &mut F::Tally,
+    ) -> Result<Vec<u8>, TableFault>
+        requires { at + count < 2 ^ 63 }
+        ensures bytes { IfOk result (λ v. (b : List ℕ) → self.now.contents ≡ Some b → v.items ≡ take count (drop at b)) }
+        ensures long { IfOk result (λ v. vec_len v ≤ count) }
+        ensures count { Counted (F.Tally.number tally.old) (F.Tally.number tally.new) (IsErrOf result TableFault.ReadFault) }
+        ensures why { IfErr result IsNoBlock }
+    {
+        read_part(alloc, &self.file, at, count, tally)
     }
 
     /// The columns of the table.

@@ -17,9 +17,3 @@ abbrev pub told_fault : ℕ → ReadFault → TableFault
 told_fault number (Short at) = table_fault.BadBlock number at
 told_fault number (Bad at) = table_fault.BadBlock number at
 told_fault number Mem = table_fault.Mem
-
--- nothing was read that isn't as it must be
-abbrev pub IsNoBlock : TableFault → Type 0
-IsNoBlock table_fault.ReadFault = Unit {0}
-IsNoBlock (table_fault.BadBlock number at) = ⊥
-IsNoBlock table_fault.Mem = Unit {0}

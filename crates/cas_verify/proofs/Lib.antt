@@ -1,0 +1,11 @@
+pub mod BodyLaws
+pub mod Turns
+pub mod Steps
+pub mod HeadLaws
+pub mod Rounds
+pub mod Comparing
+pub mod Ranges
+pub mod Parts
+pub mod FieldsLaws
+pub mod CheckLaws
+pub mod Ending
