@@ -1,8 +1,7 @@
 -- What a call answers a text.
-use Rattle.std.proofs.Common.{◌≡◌, inl, inr, ℕ, ℤ, Bool, true, List, Ok, Err, refl, sym, ap, subst}
+use Rattle.std.proofs.Common.{inl, inr, ℕ, ℤ, Bool, List, Ok, Err, refl, sym, ap, subst}
 use Rattle.cas_disk.specs.Disk.{Disk}
 use Rattle.cas_bind.specs.Meaning.{meaning}
-use Rattle.cas_lines.specs.Lines.{Says}
 use Rattle.cas_lines.specs.declared.line.Line.{Line}
 use Rattle.cas_lines.specs.declared.line.Line.TheVariants as line
 use Rattle.cas_render.specs.declared.reply.Reply.{Reply}
@@ -10,9 +9,8 @@ use Rattle.cas_words.specs.declared.words.ClockKind.TheVariants as clock
 use Rattle.cql_parse.specs.declared.syntax.Statement.{Statement}
 use Rattle.cas_sessions.specs.History.{History, Does}
 use Rattle.cas_sessions.specs.Nodes.{State, StandsFor, GoesOnTo, Moves, OrWant}
-use Rattle.cas_sessions.specs.Calls.{IfTaken, IsSpelled, IsTrueOf, Performed, Performs, reply_of, takes}
+use Rattle.cas_sessions.specs.Calls.{IfTaken, IsSpelled, IsTrueOf, Performed, Performs, reply_of}
 use Rattle.cas_sessions.specs.declared.answer.Fault.{Fault}
-use Rattle.cas_sessions.specs.declared.answer.Fault.TheVariants.{Refused}
 use Rattle.cas_sessions.specs.Inner.Texts.{Finds, Refuses}
 use Rattle.cas_sessions.proofs.Answering.{says_spelled}
 
