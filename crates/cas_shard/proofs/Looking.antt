@@ -10,8 +10,9 @@ use Rattle.cas_atoms.specs.RowsAndPaths.{alive_paths, ordered}
 use Rattle.cas_atoms.specs.declared.atom.Mutation.{Mutation}
 use Rattle.cas_atoms.specs.declared.query.Query.{Query}
 use Rattle.cas_atoms.specs.declared.query.LiveRow.{LiveRow}
-use Rattle.cas_memtable.specs.Kept.{atoms_at, atoms_under, memtables_of}
+use Rattle.cas_memtable.specs.Kept.{all_of, atoms_at, atoms_under, memtables_of}
 use Rattle.cas_memtable.proofs.Keeping.{more_under}
+use Rattle.cas_laws.proofs.AliveProofs.{same_answers}
 use Rattle.cas_stored.specs.Rows.{AreRowsOf}
 use Rattle.cas_stored.specs.Stored.{StoredTable}
 use Rattle.cas_shard.specs.declared.entry.Entry.{Entry}
@@ -22,7 +23,7 @@ use Rattle.cas_shard.specs.Shards.{ShardHistory, all_entries, look_at, moment_at
 use Rattle.cas_shard.specs.Stands.{Asks, Holds, ShardState, Stands, mutations_of, of_table, order_at, order_of, written_to}
 use Rattle.cas_shard.specs.Inner.Looks.{Answers}
 use Rattle.cas_shard.specs.declared.answers.Look.{Look}
-use Rattle.cas_shard.proofs.Memory.{holds_at, none_held}
+use Rattle.cas_shard.proofs.Memory.{holds_at, none_said}
 use Rattle.cas_shard.proofs.Numbering.{all_stand}
 
 -- ---- rows
@@ -74,13 +75,14 @@ nothing q now =
 -- of a table that has nothing stored
 pub none_shown : (q : Query) (now : ℤ) (stored : Option StoredTable) (shown : List LiveRow) → stored ≡ None → shown ≡ [] → Answers q now stored shown
 none_shown q now stored shown is none ws holds one =
-    none ∙ sym (ap (λ l. answer q (atoms_under q.key l) now) (none_held (clustering_order q.columns) ws (holds_at (clustering_order q.columns) ws stored None (sym is) holds)) ∙ nothing q now)
+    let says = none_said (clustering_order q.columns) ws (holds_at (clustering_order q.columns) ws stored None (sym is) holds) in
+    none ∙ sym (nothing q now) ∙ same_answers [] (atoms_under q.key ws) (says.same q.key) q now
 
 -- of one with something stored
 pub store_shown : (q : Query) (now : ℤ) (stored : Option StoredTable) (t : StoredTable) (shown : List LiveRow) → stored ≡ Some t → AreRowsOf t.files (memtables_of t.parts) q now shown → Answers q now stored shown
 store_shown q now stored t shown is are ws holds one =
     let h : Holds (clustering_order q.columns) (Some t) ws = holds_at (clustering_order q.columns) ws stored (Some t) (sym is) holds in
-    are h.places h.holds one ∙ ap (λ l. answer q (atoms_under q.key l) now) h.all
+    are h.places h.holds one ∙ same_answers (atoms_under q.key (all_of h.places)) (atoms_under q.key ws) (h.says.same q.key) q now
 
 -- what entries write to a partition is what the mutations of their table write under its key
 under_entry : (table : ℕ) (key : List ℕ) (e : Entry) → atoms_under key (of_table table e) ≡ atoms_of_partition table key e

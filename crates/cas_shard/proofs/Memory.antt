@@ -2,13 +2,18 @@
 use Rattle.std.proofs.Common.{◌≡◌, ◌≢◌, ◌⊎◌, inl, inr, ◌<◌, ◌≤◌, ℕ, zero, suc, Option, None, Some, Result, Ok, Err, OnOk, List, [], ◌∷◌, ◌++◌, length, refl, sym, ap, ◌∙◌, subst, arith, length-append, Bool, true, false}
 use Rattle.std.specs.Prelude.{if◌then◌else◌, slice_get, slice_set}
 use Rattle.cas_bounds.specs.declared.order.Ordered.{Ordered}
+use Rattle.cas_atoms.specs.Winners.{Same}
+use Rattle.cas_atoms.specs.declared.atom.Atom.{Atom}
 use Rattle.cas_atoms.specs.declared.atom.Mutation.{Mutation}
+use Rattle.cas_laws.proofs.JoinProofs.{join_laws}
+use Rattle.cas_streams.specs.NoMore.{SaysNoMore}
+use Rattle.cas_streams.proofs.NoMore.{no_more_itself, no_more_kept}
 use Rattle.cas_partition.specs.Partitions.{AreAtomsOf}
 use Rattle.cas_memtable.specs.Memtables.{HasPlaces}
-use Rattle.cas_memtable.specs.Kept.{all_of, begun, with_one}
-use Rattle.cas_memtable.proofs.Keeping.{all_begun}
+use Rattle.cas_memtable.specs.Kept.{all_of, atoms_under, begun, with_one}
+use Rattle.cas_memtable.proofs.Keeping.{all_begun, more_under}
 use Rattle.cas_stored.specs.Stored.{HoldsEach, StoredTable}
-use Rattle.cas_shard.specs.Stands.{HasRoom, Holds, PlacesAt, files_at}
+use Rattle.cas_shard.specs.Stands.{HasRoom, Holds, PlacesAt, SaySame, files_at}
 use Rattle.cas_shard.specs.Inner.Stores.{AllStay, JoinsRoom, KeepFiles, MakesRoom, StayFew}
 
 -- ---- lists
@@ -45,13 +50,34 @@ same_number (suc t) (suc n) = by (same_number t n)
 pub holds_at : (order : List Ordered) (ws : List Mutation) (a b : Option StoredTable) → b ≡ a → Holds order a ws → Holds order b ws
 holds_at order ws a b e h = subst (λ o. Holds order o ws) (sym e) h
 
--- a table that has nothing stored holds nothing
-pub none_held : (order : List Ordered) (ws : List Mutation) → Holds order None ws → ws ≡ []
-none_held order ws h = sym h.all ∙ ap all_of h.holds
+-- ---- mutations that say the same
 
--- what was just begun holds nothing
+pub say_alike : (vs ws : List Mutation) → vs ≡ ws → SaySame vs ws
+say_alike vs ws e = subst (SaySame vs) e (record {
+  same = λ key. record { covers = λ x. refl; lives = λ r. refl; cells = λ x. refl };
+  no_more = λ key. no_more_itself (atoms_under key vs);
+})
+
+-- so they do with one more
+say_more : (w : Mutation) (vs ws : List Mutation) → SaySame vs ws → SaySame (vs ++ w ∷ []) (ws ++ w ∷ [])
+say_more w vs ws says = record {
+  same = λ key.
+      let more : List Atom = atoms_under key (w ∷ []) in
+      subst (λ l. Same l (atoms_under key (ws ++ w ∷ []))) (sym (more_under key vs (w ∷ [])))
+      (subst (Same (atoms_under key vs ++ more)) (sym (more_under key ws (w ∷ []))) (join_laws.kept (atoms_under key vs) (atoms_under key ws) more (says.same key)));
+  no_more = λ key.
+      let more : List Atom = atoms_under key (w ∷ []) in
+      subst (λ l. SaysNoMore l (atoms_under key (ws ++ w ∷ []))) (sym (more_under key vs (w ∷ [])))
+      (subst (SaysNoMore (atoms_under key vs ++ more)) (sym (more_under key ws (w ∷ []))) (no_more_kept (atoms_under key vs) (atoms_under key ws) more (says.no_more key)));
+}
+
+-- a table that has nothing stored says nothing
+pub none_said : (order : List Ordered) (ws : List Mutation) → Holds order None ws → SaySame [] ws
+none_said order ws h = subst (λ places. SaySame (all_of places) ws) h.holds h.says
+
+-- what was just begun says nothing either
 new_holds : (order : List Ordered) (p : StoredTable) (ws : List Mutation) → HoldsEach order p ([] ∷ []) → Holds order None ws → Holds order (Some p) ws
-new_holds order p ws holds h = record { places = [] ∷ []; holds = holds; all = sym (none_held order ws h) }
+new_holds order p ws holds h = record { places = [] ∷ []; holds = holds; says = none_said order ws h }
 
 pub pushed : (ps : List StoredTable) (p : StoredTable) → ((order : List Ordered) → HoldsEach order p ([] ∷ [])) → AllStay ps (ps ++ p ∷ [])
 pushed [] p new zero order ws h = new_holds order p ws (new order) h
@@ -73,7 +99,7 @@ module _ (ps : List StoredTable) (n : ℕ) (p q : StoredTable) (there : n < leng
   set_stays t order ws goes h = by (same_number t n)
     where
       own : t ≡ n → Holds order (Some p) ws → Holds order (Some q) ws
-      own e k = let to = goes k.places e k.holds in record { places = to.0; holds = to.1; all = to.2 ∙ k.all }
+      own e k = let to = goes k.places e k.holds in record { places = to.0; holds = to.1; says = subst (λ l. SaySame l ws) (sym to.2) k.says }
 
       by : (t ≡ n) ⊎ (t ≢ n) → Holds order (slice_get (slice_set ps n q) t) ws
       by (inl e) =
@@ -128,7 +154,7 @@ joined w ps qs p q there is set keeps own = record {
     one_more : (order : List Ordered) (ws : List Mutation) → AreAtomsOf order w.atoms → Holds order (Some p) ws → Holds order (Some q) (ws ++ w ∷ [])
     one_more order ws are h =
         let more : HoldsEach order q (with_one w h.places) × (all_of (with_one w h.places) ≡ all_of h.places ++ w ∷ []) = keeps order h.places h.holds are in
-        record { places = with_one w h.places; holds = more.0; all = more.1 ∙ ap (λ l. l ++ w ∷ []) h.all }
+        record { places = with_one w h.places; holds = more.0; says = subst (λ l. SaySame l (ws ++ w ∷ [])) (sym more.1) (say_more w (all_of h.places) ws h.says) }
 
 -- a memtable is frozen, or not
 pub frozen : (ps qs : List StoredTable) (n : ℕ) (p q : StoredTable) (b : List (List Mutation) → List (List Mutation)) → n < length ps → slice_get ps n ≡ Some p → qs ≡ slice_set ps n q

@@ -25,7 +25,7 @@ use Rattle.cas_shard.specs.Inner.Stores.{AllStay, JoinsRoom, MakesRoom}
 use Rattle.cas_shard.specs.Inner.Turns.{Answered, Took}
 use Rattle.cas_shard.specs.declared.answers.TakeFault.{TakeFault}
 use Rattle.cas_shard.specs.declared.answers.TakeFault.TheVariants as fault
-use Rattle.cas_shard.proofs.Memory.{holds_at, none_held, same_number}
+use Rattle.cas_shard.proofs.Memory.{holds_at, same_number, say_alike}
 use Rattle.cas_shard.proofs.Numbering.{all_joined, all_restored, one_entered, one_restored}
 use Rattle.cas_shard.proofs.Preparing.{in_order, taken_ok}
 
@@ -77,7 +77,7 @@ as_opened tables number drawn moment x p n d m = record {
   number = n ∙ sym (last_of_none number);
   drawn = d ∙ sym (drawn_of_none drawn);
   moment = m;
-  kept = λ t. subst (λ ps. Holds (order_at tables t) (slice_get ps t) []) (sym p) (record { places = []; holds = refl; all = refl });
+  kept = λ t. subst (λ ps. Holds (order_at tables t) (slice_get ps t) []) (sym p) (record { places = []; holds = refl; says = say_alike [] [] refl });
   few = subst (λ ps. length ps ≤ length tables) (sym p) (omega arith);
 }
 
@@ -149,8 +149,8 @@ stands_under old new s x more same stands = record {
     by n (inl lt) = subst (λ (o : List Ordered). Holds o (slice_get x.stores n) (mutations_of n (all_entries s))) (sym (same n lt)) (stands.kept n)
     by n (inr le) =
         let none : slice_get x.stores n ≡ None = slice_get_past x.stores n (omega (arith, le, stands.few)) in
-        let nothing : mutations_of n (all_entries s) ≡ [] = none_held (order_at old n) (mutations_of n (all_entries s)) (holds_at (order_at old n) (mutations_of n (all_entries s)) (slice_get x.stores n) None (sym none) (stands.kept n)) in
-        holds_at (order_at new n) (mutations_of n (all_entries s)) None (slice_get x.stores n) none (record { places = []; holds = refl; all = sym nothing })
+        let nothing : Holds (order_at old n) None (mutations_of n (all_entries s)) = holds_at (order_at old n) (mutations_of n (all_entries s)) (slice_get x.stores n) None (sym none) (stands.kept n) in
+        holds_at (order_at new n) (mutations_of n (all_entries s)) None (slice_get x.stores n) none (record { places = nothing.places; holds = nothing.holds; says = nothing.says })
 
 -- ---- entered
 

@@ -8,14 +8,16 @@ use Rattle.cas_bounds.specs.ClusteringOrder.{clustering_order}
 use Rattle.cas_bounds.specs.declared.order.Ordered.{Ordered}
 use Rattle.cas_atoms.specs.Fits.{FitsMutation, FitsQuery}
 use Rattle.cas_atoms.specs.LogLength.{record_length}
+use Rattle.cas_atoms.specs.Winners.{Same}
 use Rattle.cas_atoms.specs.declared.atom.Atom.{Atom}
 use Rattle.cas_atoms.specs.declared.atom.Mutation.{Mutation}
 use Rattle.cas_atoms.specs.declared.query.Query.{Query}
 use Rattle.cas_effects.specs.FitsBound.{FitsBound}
 use Rattle.cas_effects.specs.declared.effect.BoundWrite.{BoundWrite}
 use Rattle.cas_memtable.specs.Memtables.{HasPlaces}
-use Rattle.cas_memtable.specs.Kept.{all_of}
+use Rattle.cas_memtable.specs.Kept.{all_of, atoms_under}
 use Rattle.cas_sstread.specs.Loading.{Held}
+use Rattle.cas_streams.specs.NoMore.{SaysNoMore}
 use Rattle.cas_stored.specs.Stored.{HoldsEach, StoredTable}
 use Rattle.cas_view.specs.Views.{File}
 use Rattle.cas_shard.specs.declared.entry.Entry.{Entry}
@@ -92,11 +94,16 @@ abbrev pub HoldsIn : List Ordered → Option StoredTable → List (List Mutation
 HoldsIn order None wss = wss ≡ []
 HoldsIn order (Some t) wss = HoldsEach order t wss
 
--- what a table that orders its rows so has stored holds just these mutations
+-- under each key these mutations say the same as those, and no more
+pub record SaySame (vs ws : List Mutation) : Type 0 where
+  pub same : (key : List ℕ) → Same (atoms_under key vs) (atoms_under key ws)
+  pub no_more : (key : List ℕ) → SaysNoMore (atoms_under key vs) (atoms_under key ws)
+
+-- What a table that orders its rows so has stored says the same as these mutations, and no more. Which of them wrote it can't be seen in a file.
 pub record Holds (order : List Ordered) (stored : Option StoredTable) (ws : List Mutation) : Type 0 where
   pub places : List (List Mutation)
   pub holds : HoldsIn order stored places
-  pub all : all_of places ≡ ws
+  pub says : SaySame (all_of places) ws
 
 -- a shard's state stands for its history
 pub record Stands (tables : List TableSchema) (s : ShardHistory) (x : ShardState) : Type 0 where
