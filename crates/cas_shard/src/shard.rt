@@ -77,7 +77,8 @@ fn drawn_with(drawn: i64, mutation: &Mutation) -> i64
 }
 
 impl<S: Sealed> Shard<S> {
-    ghost use Rattle.std.specs.Prelude.{◌≡◌, ◌+◌, ◌^◌, ◌<◌, ◌≤◌, ◌≤ℤ◌, ◌∷◌, [], max, true, ℕ, length, slice_get, List as ListOf, IfOk, IfErr, IsErrOf, IfSome, OnOk, if◌then◌else◌};
+    ghost use Rattle.std.specs.Prelude.{◌≡◌, ◌+◌, ◌^◌, ◌<◌, ◌≤◌, ◌≤ℤ◌, ◌∷◌, [], max, true, ℕ, length, slice_get, List as ListOf, if◌then◌else◌};
+    ghost use Rattle.std.specs.Prelude.{IfOk, IfErr, IsErrOf, IfSome, OnOk};
     ghost use Rattle.cas_types.specs.Limits.{IsMoment, IsNarrow};
     ghost use Rattle.cas_types.specs.declared.limits.TheConstants.{LAST_DRAWN, LEAST_TIMESTAMP, MUTATION_LIMIT};
     ghost use Rattle.cas_types.specs.declared.schema.TableSchema.{TableSchema as Schema};
