@@ -1,0 +1,133 @@
+//! The table `k tinyint, c tinyint, s tinyint static, v tinyint, PRIMARY KEY (k, c)`, and statements on it.
+
+use cas_atoms::{Atom, ColumnRef, Mutation};
+use cas_bounds::{Clustering, Cut, Ordered, RowOrder, Values};
+use cas_cell::{Cell, Deletion, Liveness};
+use cas_types::{Bytes, Column, Kind, List, Shape, Text, TypeTag};
+use std::alloc::{AllocError, Global};
+
+/// What is done to a partition; rows are named by their c.
+#[derive(Clone, Copy)]
+pub(crate) enum Statement {
+    /// INSERT of the row with this v.
+    Insert(u8, u8),
+    /// UPDATE of the row's v.
+    Update(u8, u8),
+    /// UPDATE of s.
+    UpdateStatic(u8),
+    /// DELETE of the row.
+    DeleteRow(u8),
+    /// DELETE of the rows from the first to the second, both among them.
+    DeleteRows(u8, u8),
+}
+
+fn column(alloc: Global, kind: Kind) -> Column {
+    Column {
+        name: Text::from_string(String::new(alloc)),
+        kind,
+        shape: Shape::One,
+        tag: TypeTag::TinyInt,
+        second: None,
+    }
+}
+
+pub(crate) fn columns(alloc: Global) -> Result<List<Column>, AllocError> {
+    Ok(List::from_vec(vec![in alloc;
+        column(alloc, Kind::Partition),
+        column(alloc, Kind::Ascending),
+        column(alloc, Kind::Static),
+        column(alloc, Kind::Regular),
+    ]?))
+}
+
+/// How the table orders its rows.
+pub(crate) fn order(alloc: Global) -> Result<RowOrder, AllocError> {
+    let c = Ordered {
+        tag: TypeTag::TinyInt,
+        descending: false,
+    };
+    Ok(RowOrder::from_vec(vec![in alloc; c]?))
+}
+
+fn place(alloc: Global, c: u8) -> Result<Clustering, AllocError> {
+    Ok(Clustering {
+        values: Values::one(Bytes::copy_of(alloc, &[c])?),
+        order: order(alloc)?,
+    })
+}
+
+fn cut(alloc: Global, c: u8, after: bool) -> Result<Cut, AllocError> {
+    Ok(Cut {
+        prefix: Values::one(Bytes::copy_of(alloc, &[c])?),
+        after,
+        order: order(alloc)?,
+    })
+}
+
+fn cell(alloc: Global, value: u8, at: u8) -> Result<Cell, AllocError> {
+    Ok(Cell::Plain {
+        at: i64::from(at),
+        value: Bytes::copy_of(alloc, &[value])?,
+    })
+}
+
+fn updated(alloc: Global, c: u8, v: u8, at: u8) -> Result<Atom, AllocError> {
+    let column = ColumnRef {
+        number: 3,
+        path: None,
+    };
+    let path = Bytes::copy_of(alloc, &[])?;
+    Ok(Atom::Write(place(alloc, c)?, column, path, cell(alloc, v, at)?))
+}
+
+fn shared(alloc: Global, s: u8, at: u8) -> Result<Atom, AllocError> {
+    let column = ColumnRef {
+        number: 2,
+        path: None,
+    };
+    let path = Bytes::copy_of(alloc, &[])?;
+    Ok(Atom::StaticWrite(column, path, cell(alloc, s, at)?))
+}
+
+fn inserted(alloc: Global, c: u8, v: u8, at: u8) -> Result<Vec<Atom>, AllocError> {
+    let live = Liveness::Plain { at: i64::from(at) };
+    let place = place(alloc, c)?;
+    Ok(vec![in alloc; Atom::Live(place, live), updated(alloc, c, v, at)?]?)
+}
+
+fn atoms(alloc: Global, statement: Statement, at: u8) -> Result<Vec<Atom>, AllocError> {
+    let deletion = Deletion {
+        at: i64::from(at),
+        second: 0,
+    };
+    let atom = match statement {
+        Statement::Insert(c, v) => return inserted(alloc, c, v, at),
+        Statement::Update(c, v) => updated(alloc, c, v, at)?,
+        Statement::UpdateStatic(s) => shared(alloc, s, at)?,
+        Statement::DeleteRow(c) => Atom::RowDeletion(place(alloc, c)?, deletion),
+        Statement::DeleteRows(least, greatest) => {
+            let lo = cut(alloc, least, false)?;
+            Atom::RangeDeletion(lo, cut(alloc, greatest, true)?, deletion)
+        }
+    };
+    Ok(vec![in alloc; atom]?)
+}
+
+/// The statement on the partition k, at the timestamp.
+pub(crate) fn mutation(
+    alloc: Global,
+    k: u8,
+    statement: Statement,
+    at: u8,
+) -> Result<Mutation, AllocError> {
+    Ok(Mutation {
+        table: 3,
+        shard: 1,
+        number: 0,
+        drawn: false,
+        at: i64::from(at),
+        moment: 0,
+        key: Bytes::copy_of(alloc, &[k])?,
+        atoms: List::from_vec(atoms(alloc, statement, at)?),
+    })
+}
