@@ -1,19 +1,13 @@
-//! A memtable that is flushed, what is shown of it before and after, and what is found in its file.
+//! A memtable that is flushed: what is shown of it before and after, what is found in its file, and reads that fail.
 
-use crate::rows::{NONE, Short, is_narrow, shown};
-use crate::writes::{Statement, columns, mutation};
-use cas_disk::{Count, FaultCount, FaultPlan, Folder, MemDraft, MemFolder, MemSealed, Name};
-use cas_disk::Draft;
-use cas_flush::flush_parts;
-use cas_info::{FILE_LIMIT, TableInfo};
-use cas_sstread::{Table, TableFault};
+use crate::files::{checked, flushed, opened, written};
+use crate::rows::{NONE, Short, shown};
+use crate::writes::{Statement, mutation};
+use cas_disk::{FaultPlan, Folder, MemFolder, MemSealed, Name};
+use cas_sstread::Table;
 use cas_stored::TableStore;
-use cas_tables::{Header, Version};
-use cas_types::{List, Options, Strategy, TableSchema, Text, Unit};
-use cas_verify::check;
 use cas_view::OpenFile;
 use std::alloc::{AllocError, Global};
-use std::sync::Arc;
 
 // What goes into the file: a partition, a statement on it, and its timestamp.
 const FIRST: [(u8, Statement, u8); 10] = [
@@ -61,36 +55,6 @@ const ALL_ROWS: [(u8, [Short; 3]); 5] = [
     (5, [NONE, NONE, NONE]),
 ];
 
-// The file 255 of the table 3 in the shard 1.
-const HEADER: Header = Header {
-    version: Version::Second,
-    table: 3,
-    shard: 1,
-    number: 255,
-};
-
-fn schema(alloc: Global) -> Result<TableSchema, AllocError> {
-    Ok(TableSchema {
-        number: 3,
-        name: Text::from_string(String::new(alloc)),
-        columns: columns(alloc)?,
-        options: Options {
-            gc_grace_seconds: 864_000,
-            default_time_to_live: 0,
-            strategy: Strategy::SizeTiered,
-            min_threshold: 4,
-            max_threshold: 32,
-            bucket_low: 50,
-            bucket_high: 150,
-            min_sstable_size: 52_428_800,
-            sstable_size_in_mb: 160,
-            fanout_size: 10,
-            unit: Unit::Days,
-            window: 1,
-        },
-    })
-}
-
 fn join(
     alloc: Global,
     store: &mut TableStore<MemSealed>,
@@ -130,71 +94,6 @@ fn frozen(alloc: Global) -> Option<TableStore<MemSealed>> {
     }
 }
 
-fn admitted(
-    folder: &mut MemFolder,
-    info: TableInfo,
-    draft: MemDraft,
-) -> Option<(TableInfo, MemSealed)>
-    requires { ⟦<MemDraft as Draft>⟧.is_synced draft }
-{
-    match folder.admit(draft) {
-        Ok(file) => Some((info, file)),
-        Err(_) => None,
-    }
-}
-
-// The file that a flush makes of the store's frozen memtables, and what it tells of itself.
-fn written(
-    alloc: Global,
-    folder: &mut MemFolder,
-    store: &TableStore<MemSealed>,
-) -> Option<(TableInfo, MemSealed)> {
-    let (Ok(columns), Ok(draft)) = (columns(alloc), folder.draft(255)) else {
-        return None;
-    };
-    let mut tally = FaultCount::fresh();
-    let memtables = store.parts().frozen();
-    match flush_parts(alloc, memtables, columns.as_slice(), HEADER, draft, &mut tally) {
-        Ok(Some((info, draft))) => admitted(folder, info, draft),
-        _ => None,
-    }
-}
-
-// A file of which that is told, loaded.
-fn opened(
-    alloc: Global,
-    info: TableInfo,
-    file: MemSealed,
-) -> Option<OpenFile<Table<MemSealed>>> {
-    let Ok(schema) = schema(alloc) else {
-        return None;
-    };
-    if info.bytes > FILE_LIMIT {
-        return None;
-    }
-    let mut tally = FaultCount::fresh();
-    let Ok(table) = Table::load(alloc, file, &schema, 1, &info, &mut tally) else {
-        return None;
-    };
-    match Arc::new(alloc, table) {
-        Ok(table) => Some(OpenFile { table, info }),
-        Err(_) => None,
-    }
-}
-
-// The place where the check refuses a table file, or nothing.
-fn checked(alloc: Global, table: &Table<MemSealed>) -> Result<(), u64> {
-    if !is_narrow(table.columns()) || table.info().bytes > FILE_LIMIT {
-        return Err(1000);
-    }
-    let mut tally = FaultCount::fresh();
-    match check(alloc, table, &mut tally) {
-        Ok(()) => Ok(()),
-        Err(TableFault::BadBlock { at, .. }) => Err(at),
-        Err(_) => Err(1000),
-    }
-}
-
 // Whether the store has the file now in the place of its frozen memtable.
 fn swapped(
     alloc: Global,
@@ -209,19 +108,6 @@ fn swapped(
     }
     store.swap(view, 1);
     store.parts().frozen().is_empty()
-}
-
-// The file that a flush makes of the store, loaded.
-fn flushed(
-    alloc: Global,
-    plan: FaultPlan,
-    store: &TableStore<MemSealed>,
-) -> Option<OpenFile<Table<MemSealed>>> {
-    let mut folder = MemFolder::new(alloc, plan);
-    match written(alloc, &mut folder, store) {
-        Some((info, file)) => opened(alloc, info, file),
-        None => None,
-    }
 }
 
 // Flushes the store: whether there is a file, in which nothing is found, and the store has it.

@@ -71,6 +71,13 @@ fn cell(alloc: Global, value: u8, at: u8) -> Result<Cell, AllocError> {
     })
 }
 
+fn deletion(at: u8) -> Deletion {
+    Deletion {
+        at: i64::from(at),
+        second: 0,
+    }
+}
+
 fn updated(alloc: Global, c: u8, v: u8, at: u8) -> Result<Atom, AllocError> {
     let column = ColumnRef {
         number: 3,
@@ -89,28 +96,38 @@ fn shared(alloc: Global, s: u8, at: u8) -> Result<Atom, AllocError> {
     Ok(Atom::StaticWrite(column, path, cell(alloc, s, at)?))
 }
 
-fn inserted(alloc: Global, c: u8, v: u8, at: u8) -> Result<Vec<Atom>, AllocError> {
+fn live(alloc: Global, c: u8, at: u8) -> Result<Atom, AllocError> {
     let live = Liveness::Plain { at: i64::from(at) };
-    let place = place(alloc, c)?;
-    Ok(vec![in alloc; Atom::Live(place, live), updated(alloc, c, v, at)?]?)
+    Ok(Atom::Live(place(alloc, c)?, live))
+}
+
+fn row_deleted(alloc: Global, c: u8, at: u8) -> Result<Atom, AllocError> {
+    Ok(Atom::RowDeletion(place(alloc, c)?, deletion(at)))
+}
+
+fn rows_deleted(alloc: Global, least: u8, greatest: u8, at: u8) -> Result<Atom, AllocError> {
+    let lo = cut(alloc, least, false)?;
+    Ok(Atom::RangeDeletion(lo, cut(alloc, greatest, true)?, deletion(at)))
+}
+
+// What a statement leaves, but for an INSERT's liveness.
+fn atom(alloc: Global, statement: Statement, at: u8) -> Result<Atom, AllocError> {
+    match statement {
+        Statement::Insert(c, v) => updated(alloc, c, v, at),
+        Statement::Update(c, v) => updated(alloc, c, v, at),
+        Statement::UpdateStatic(s) => shared(alloc, s, at),
+        Statement::DeleteRow(c) => row_deleted(alloc, c, at),
+        Statement::DeleteRows(least, greatest) => rows_deleted(alloc, least, greatest, at),
+    }
 }
 
 fn atoms(alloc: Global, statement: Statement, at: u8) -> Result<Vec<Atom>, AllocError> {
-    let deletion = Deletion {
-        at: i64::from(at),
-        second: 0,
-    };
-    let atom = match statement {
-        Statement::Insert(c, v) => return inserted(alloc, c, v, at),
-        Statement::Update(c, v) => updated(alloc, c, v, at)?,
-        Statement::UpdateStatic(s) => shared(alloc, s, at)?,
-        Statement::DeleteRow(c) => Atom::RowDeletion(place(alloc, c)?, deletion),
-        Statement::DeleteRows(least, greatest) => {
-            let lo = cut(alloc, least, false)?;
-            Atom::RangeDeletion(lo, cut(alloc, greatest, true)?, deletion)
-        }
-    };
-    Ok(vec![in alloc; atom]?)
+    let mut atoms = Vec::new(alloc);
+    if let Statement::Insert(c, _) = statement {
+        atoms.push(live(alloc, c, at)?)?;
+    }
+    atoms.push(atom(alloc, statement, at)?)?;
+    Ok(atoms)
 }
 
 /// The statement on the partition k, at the timestamp.
