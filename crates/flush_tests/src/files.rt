@@ -23,10 +23,11 @@ const HEADER: Header = Header {
 };
 
 fn schema(alloc: Global) -> Result<TableSchema, AllocError> {
+    let columns = columns(alloc)?;
     Ok(TableSchema {
         number: 3,
         name: Text::from_string(String::new(alloc)),
-        columns: columns(alloc)?,
+        columns,
         options: Options {
             gc_grace_seconds: 864_000,
             default_time_to_live: 0,

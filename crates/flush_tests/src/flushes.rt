@@ -205,10 +205,11 @@ fn another_byte_is_found(rt: HostRuntime) {
 
 // Loading takes six reads. Behind them that of a head fails, and once a head was read that of its block.
 fn plan(alloc: Global) -> Result<FaultPlan, AllocError> {
+    let reads = vec![in alloc; (255, 7), (255, 9)]?;
     Ok(FaultPlan {
         calls: Vec::new(alloc),
         drafts: Vec::new(alloc),
-        reads: vec![in alloc; (255, 7), (255, 9)]?,
+        reads,
     })
 }
 

@@ -50,10 +50,9 @@ pub(crate) fn order(alloc: Global) -> Result<RowOrder, AllocError> {
 }
 
 fn place(alloc: Global, c: u8) -> Result<Clustering, AllocError> {
-    Ok(Clustering {
-        values: Values::one(Bytes::copy_of(alloc, &[c])?),
-        order: order(alloc)?,
-    })
+    let order = order(alloc)?;
+    let values = Values::one(Bytes::copy_of(alloc, &[c])?);
+    Ok(Clustering { values, order })
 }
 
 fn cut(alloc: Global, c: u8, after: bool) -> Result<Cut, AllocError> {
@@ -78,22 +77,19 @@ fn deletion(at: u8) -> Deletion {
     }
 }
 
+fn column_of(number: u16) -> ColumnRef {
+    ColumnRef { number, path: None }
+}
+
 fn updated(alloc: Global, c: u8, v: u8, at: u8) -> Result<Atom, AllocError> {
-    let column = ColumnRef {
-        number: 3,
-        path: None,
-    };
-    let path = Bytes::copy_of(alloc, &[])?;
-    Ok(Atom::Write(place(alloc, c)?, column, path, cell(alloc, v, at)?))
+    let cell = cell(alloc, v, at)?;
+    let place = place(alloc, c)?;
+    Ok(Atom::Write(place, column_of(3), Bytes::copy_of(alloc, &[])?, cell))
 }
 
 fn shared(alloc: Global, s: u8, at: u8) -> Result<Atom, AllocError> {
-    let column = ColumnRef {
-        number: 2,
-        path: None,
-    };
-    let path = Bytes::copy_of(alloc, &[])?;
-    Ok(Atom::StaticWrite(column, path, cell(alloc, s, at)?))
+    let cell = cell(alloc, s, at)?;
+    Ok(Atom::StaticWrite(column_of(2), Bytes::copy_of(alloc, &[])?, cell))
 }
 
 fn live(alloc: Global, c: u8, at: u8) -> Result<Atom, AllocError> {
