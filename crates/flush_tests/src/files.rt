@@ -1,0 +1,131 @@
+//! The table file that a flush makes, loaded and checked.
+
+use crate::rows::is_narrow;
+use crate::writes::columns;
+use cas_disk::{Count, Draft, FaultCount, FaultPlan, Folder, MemDraft, MemFolder, MemSealed};
+use cas_flush::flush_parts;
+use cas_info::{FILE_LIMIT, TableInfo};
+use cas_sstread::{Table, TableFault};
+use cas_stored::TableStore;
+use cas_tables::{Header, Version};
+use cas_types::{Options, Strategy, TableSchema, Text, Unit};
+use cas_verify::check;
+use cas_view::OpenFile;
+use std::alloc::{AllocError, Global};
+use std::sync::Arc;
+
+// The file 255 of the table 3 in the shard 1.
+const HEADER: Header = Header {
+    version: Version::Second,
+    table: 3,
+    shard: 1,
+    number: 255,
+};
+
+fn schema(alloc: Global) -> Result<TableSchema, AllocError> {
+    let columns = columns(alloc)?;
+    Ok(TableSchema {
+        number: 3,
+        name: Text::from_string(String::new(alloc)),
+        columns,
+        options: Options {
+            gc_grace_seconds: 864_000,
+            default_time_to_live: 0,
+            strategy: Strategy::SizeTiered,
+            min_threshold: 4,
+            max_threshold: 32,
+            bucket_low: 50,
+            bucket_high: 150,
+            min_sstable_size: 52_428_800,
+            sstable_size_in_mb: 160,
+            fanout_size: 10,
+            unit: Unit::Days,
+            window: 1,
+        },
+    })
+}
+
+fn admitted(
+    folder: &mut MemFolder,
+    info: TableInfo,
+    draft: MemDraft,
+) -> Option<(TableInfo, MemSealed)>
+    requires { ⟦<MemDraft as Draft>⟧.is_synced draft }
+{
+    match folder.admit(draft) {
+        Ok(file) => Some((info, file)),
+        Err(_) => None,
+    }
+}
+
+/// The file that a flush makes of the store's frozen memtables, and what it tells of itself.
+pub(crate) fn written(
+    alloc: Global,
+    folder: &mut MemFolder,
+    store: &TableStore<MemSealed>,
+) -> Option<(TableInfo, MemSealed)> {
+    let (Ok(columns), Ok(draft)) = (columns(alloc), folder.draft(255)) else {
+        return None;
+    };
+    let mut tally = FaultCount::fresh();
+    let memtables = store.parts().frozen();
+    match flush_parts(
+        alloc,
+        memtables,
+        columns.as_slice(),
+        HEADER,
+        draft,
+        &mut tally,
+    ) {
+        Ok(Some((info, draft))) => admitted(folder, info, draft),
+        _ => None,
+    }
+}
+
+/// A file of which that is told, loaded.
+pub(crate) fn opened(
+    alloc: Global,
+    info: TableInfo,
+    file: MemSealed,
+) -> Option<OpenFile<Table<MemSealed>>> {
+    let Ok(schema) = schema(alloc) else {
+        return None;
+    };
+    if info.bytes > FILE_LIMIT {
+        return None;
+    }
+    let mut tally = FaultCount::fresh();
+    let Ok(table) = Table::load(alloc, file, &schema, 1, &info, &mut tally) else {
+        return None;
+    };
+    match Arc::new(alloc, table) {
+        Ok(table) => Some(OpenFile { table, info }),
+        Err(_) => None,
+    }
+}
+
+/// The place where the check refuses a table file, or nothing.
+pub(crate) fn checked(alloc: Global, table: &Table<MemSealed>) -> Result<(), u64> {
+    if !is_narrow(table.columns()) || table.info().bytes > FILE_LIMIT {
+        return Err(1000);
+    }
+    let mut tally = FaultCount::fresh();
+    match check(alloc, table, &mut tally) {
+        Ok(()) => Ok(()),
+        Err(TableFault::BadBlock { at, .. }) => Err(at),
+        Err(_) => Err(1000),
+    }
+}
+
+/// The file that a flush makes of the store, loaded.
+pub(crate) fn flushed(
+    alloc: Global,
+    plan: FaultPlan,
+    store: &TableStore<MemSealed>,
+) -> Option<OpenFile<Table<MemSealed>>> {
+    let mut folder = MemFolder::new(alloc, plan);
+    match written(alloc, &mut folder, store) {
+        Some((info, file)) => opened(alloc, info, file),
+        None => None,
+    }
+}
