@@ -82,28 +82,24 @@ fn all_rows(alloc: Global, store: &TableStore<MemSealed>) -> Result<Slice, Alloc
     }
 }
 
-fn picks(alloc: Global) -> Result<List<Pick>, AllocError> {
-    Ok(List::from_vec(vec![in alloc; Pick::Value(1), Pick::Value(3), Pick::Value(2)]?))
-}
-
 // SELECT c, v, s FROM t WHERE k = ..
 fn select(alloc: Global, store: &TableStore<MemSealed>, k: u8) -> Result<Query, AllocError>
     ensures narrow { IfOk result (λ q. IsNarrow q.columns) }
     ensures reads { IfOk result (λ q. AreReadIn q.slice store.now.files) }
 {
-    let slice = all_rows(alloc, store)?;
     let columns = columns(alloc)?;
     if !is_narrow(columns.as_slice()) {
         return Err(AllocError);
     }
+    let picks = vec![in alloc; Pick::Value(1), Pick::Value(3), Pick::Value(2)]?;
     Ok(Query {
         table: 3,
         columns,
         key: Bytes::copy_of(alloc, &[k])?,
-        slice,
+        slice: all_rows(alloc, store)?,
         reversed: false,
         limit: None,
-        picks: picks(alloc)?,
+        picks: List::from_vec(picks),
     })
 }
 
