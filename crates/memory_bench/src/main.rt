@@ -1,0 +1,44 @@
+//! The program `memory_bench`: what writes to a table in memory and reads of it cost, beside the same in a
+//! bare ordered map.
+#![tactic(auto)]
+
+mod bare;
+mod chance;
+mod figures;
+mod memory;
+mod plan;
+mod report;
+mod sizes;
+mod store;
+mod table;
+
+use crate::bare::Bare;
+use crate::figures::measure;
+use crate::memory::Memory;
+use crate::plan::{Kind, MANY_PARTITIONS, ONE_PARTITION, plan_of};
+use crate::report::{agree, tell};
+use crate::sizes::{Sizes, told_sizes};
+use std::io;
+use std::process::ExitCode;
+
+// Both do the steps; whether they answer alike.
+fn compare(rt: &HostRuntime, sizes: Sizes, kinds: &[Kind]) -> io::Result<bool> {
+    let steps = plan_of(rt.alloc(), sizes, kinds)?;
+    let mut memory = Memory::new(rt.alloc(), sizes.value);
+    let mut bare = Bare::new(rt.alloc(), sizes.value);
+    let of_memory = measure(rt, rt.alloc(), &mut memory, &steps)?;
+    let of_bare = measure(rt, rt.alloc(), &mut bare, &steps)?;
+    tell(rt, &of_memory, &of_bare)?;
+    Ok(agree(&memory, &bare, &steps)?)
+}
+
+fn main(rt: HostRuntime) -> io::Result<ExitCode> {
+    let sizes = told_sizes(&rt)?;
+    let are_alike = compare(&rt, sizes, &ONE_PARTITION)? && compare(&rt, sizes, &MANY_PARTITIONS)?;
+    if !are_alike {
+        println!(&rt; "the answers differ")?;
+        return Ok(ExitCode::FAILURE);
+    }
+    println!(&rt; "both answer alike")?;
+    Ok(ExitCode::SUCCESS)
+}

@@ -1,0 +1,86 @@
+//! What is told of the figures: the rows that answered to standard output, the times to standard error.
+
+use crate::figures::Figure;
+use crate::plan::{Step, Work};
+use crate::store::{Span, Store};
+use cas_atoms::{Datum, LiveRow};
+use std::alloc::AllocError;
+use std::io;
+
+fn each(nanos: u64, count: u64) -> u64 {
+    nanos / count.max(1)
+}
+
+// A step: nanoseconds each, of both, and how many times the bare map's.
+fn tell_step(rt: &HostRuntime, memory: &Figure, bare: &Figure) -> io::Result<()> {
+    let (name, count) = (memory.kind.name(), memory.count);
+    if memory.rows == bare.rows {
+        println!(rt; "{name}: {count}, rows {}", memory.rows)?;
+    } else {
+        println!(rt; "{name}: {count}, rows {} and {}", memory.rows, bare.rows)?;
+    }
+    let tenths = memory.nanos.saturating_mul(10) / bare.nanos.max(1);
+    eprintln!(rt;
+        "{name:<24}{count:>9}{:>9}{:>9}{:>6}.{}",
+        each(memory.nanos, count),
+        each(bare.nanos, count),
+        tenths / 10,
+        tenths % 10
+    )
+}
+
+/// Tells of each step.
+pub(crate) fn tell(rt: &HostRuntime, memory: &[Figure], bare: &[Figure]) -> io::Result<()> {
+    eprintln!(rt;
+        "{:<24}{:>9}{:>9}{:>9}{:>8}",
+        "ns each", "count", "memory", "bare map", "times"
+    )?;
+    for (of_memory, of_bare) in memory.iter().zip(bare) {
+        tell_step(rt, of_memory, of_bare)?;
+    }
+    Ok(())
+}
+
+fn is_same(a: &Datum, b: &Datum) -> bool {
+    match (a, b) {
+        (Datum::One(_, x), Datum::One(_, y)) => x == y,
+        _ => false,
+    }
+}
+
+fn are_alike(a: &LiveRow, b: &LiveRow) -> bool {
+    let (a, b) = (a.values.as_slice(), b.values.as_slice());
+    a.len() == b.len() && a.iter().zip(b).all(|(x, y)| is_same(x, y))
+}
+
+fn answer_alike(a: &[LiveRow], b: &[LiveRow]) -> bool {
+    a.len() == b.len() && a.iter().zip(b).all(|(x, y)| are_alike(x, y))
+}
+
+// Whether both answer alike to the first thousand questions.
+fn agree_on<A: Store, B: Store>(memory: &A, bare: &B, spans: &[Span]) -> Result<bool, AllocError> {
+    for span in spans.iter().take(1000) {
+        let found = memory.answer(memory.question_of(*span)?)?;
+        let wanted = bare.answer(bare.question_of(*span)?)?;
+        if !answer_alike(&found, &wanted) {
+            return Ok(false);
+        }
+    }
+    Ok(true)
+}
+
+/// Whether both answer alike to what the steps ask.
+pub(crate) fn agree<A: Store, B: Store>(
+    memory: &A,
+    bare: &B,
+    steps: &[Step],
+) -> Result<bool, AllocError> {
+    for step in steps {
+        if let Work::Reads(spans) = &step.work {
+            if !agree_on(memory, bare, spans)? {
+                return Ok(false);
+            }
+        }
+    }
+    Ok(true)
+}
