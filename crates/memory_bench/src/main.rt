@@ -4,6 +4,7 @@
 
 mod bare;
 mod chance;
+mod entries;
 mod figures;
 mod memory;
 mod plan;
@@ -13,6 +14,7 @@ mod store;
 mod table;
 
 use crate::bare::Bare;
+use crate::entries::Entries;
 use crate::figures::measure;
 use crate::memory::Memory;
 use crate::plan::{Kind, MANY_PARTITIONS, ONE_PARTITION, plan_of};
@@ -25,11 +27,13 @@ use std::process::ExitCode;
 fn compare(rt: &HostRuntime, sizes: Sizes, kinds: &[Kind]) -> io::Result<bool> {
     let steps = plan_of(rt.alloc(), sizes, kinds)?;
     let mut memory = Memory::new(rt.alloc(), sizes.value);
+    let mut entries = Entries::new(rt.alloc(), sizes.value);
     let mut bare = Bare::new(rt.alloc(), sizes.value);
     let of_memory = measure(rt, rt.alloc(), &mut memory, &steps)?;
+    let of_entries = measure(rt, rt.alloc(), &mut entries, &steps)?;
     let of_bare = measure(rt, rt.alloc(), &mut bare, &steps)?;
-    tell(rt, &of_memory, &of_bare)?;
-    Ok(agree(&memory, &bare, &steps)?)
+    tell(rt, &of_memory, &of_entries, &of_bare)?;
+    Ok(agree(&memory, &entries, &steps)? && agree(&memory, &bare, &steps)?)
 }
 
 fn main(rt: HostRuntime) -> io::Result<ExitCode> {

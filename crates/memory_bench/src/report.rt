@@ -7,36 +7,54 @@ use cas_atoms::{Datum, LiveRow};
 use std::alloc::AllocError;
 use std::io;
 
-fn each(nanos: u64, count: u64) -> u64 {
-    nanos / count.max(1)
+// How often, in tenths: nanoseconds of one and of another.
+fn tenths(nanos: u64, of: u64) -> u64 {
+    nanos.saturating_mul(10) / of.max(1)
 }
 
-// A step: nanoseconds each, of both, and how many times the bare map's.
-fn tell_step(rt: &HostRuntime, memory: &Figure, bare: &Figure) -> io::Result<()> {
+fn each(figure: &Figure) -> u64 {
+    figure.nanos / figure.count.max(1)
+}
+
+// A step: nanoseconds each, and how often they are those of the others.
+fn tell_step(
+    rt: &HostRuntime,
+    memory: &Figure,
+    entries: &Figure,
+    numbers: &Figure,
+) -> io::Result<()> {
     let (name, count) = (memory.kind.name(), memory.count);
-    if memory.rows == bare.rows {
-        println!(rt; "{name}: {count}, rows {}", memory.rows)?;
-    } else {
-        println!(rt; "{name}: {count}, rows {} and {}", memory.rows, bare.rows)?;
-    }
-    let tenths = memory.nanos.saturating_mul(10) / bare.nanos.max(1);
+    println!(rt; "{name}: {count}, rows {}", memory.rows)?;
+    let first = tenths(memory.nanos, entries.nanos);
+    let second = tenths(memory.nanos, numbers.nanos);
     eprintln!(rt;
-        "{name:<24}{count:>9}{:>9}{:>9}{:>6}.{}",
-        each(memory.nanos, count),
-        each(bare.nanos, count),
-        tenths / 10,
-        tenths % 10
+        "{name:<24}{count:>9}{:>9}{:>9}{:>9}",
+        each(memory),
+        each(entries),
+        each(numbers)
+    )?;
+    eprintln!(rt;
+        "{:>51}.{}{:>7}.{}",
+        first / 10,
+        first % 10,
+        second / 10,
+        second % 10
     )
 }
 
 /// Tells of each step.
-pub(crate) fn tell(rt: &HostRuntime, memory: &[Figure], bare: &[Figure]) -> io::Result<()> {
+pub(crate) fn tell(
+    rt: &HostRuntime,
+    memory: &[Figure],
+    entries: &[Figure],
+    numbers: &[Figure],
+) -> io::Result<()> {
     eprintln!(rt;
-        "{:<24}{:>9}{:>9}{:>9}{:>8}",
-        "ns each", "count", "memory", "bare map", "times"
+        "{:<24}{:>9}{:>9}{:>9}{:>9}",
+        "ns each", "count", "memory", "entries", "numbers"
     )?;
-    for (of_memory, of_bare) in memory.iter().zip(bare) {
-        tell_step(rt, of_memory, of_bare)?;
+    for (of_memory, (of_entries, of_numbers)) in memory.iter().zip(entries.iter().zip(numbers)) {
+        tell_step(rt, of_memory, of_entries, of_numbers)?;
     }
     Ok(())
 }

@@ -59,14 +59,14 @@ fn order(alloc: Global) -> Result<RowOrder, AllocError> {
     clustering_order(alloc, columns.as_slice())
 }
 
-fn place(alloc: Global, c: u64) -> Result<Clustering, AllocError> {
+pub(crate) fn place(alloc: Global, c: u64) -> Result<Clustering, AllocError> {
     Ok(Clustering {
         values: Values::one(number(alloc, c)?),
         order: order(alloc)?,
     })
 }
 
-fn cut(alloc: Global, c: u64, after: bool) -> Result<Cut, AllocError> {
+pub(crate) fn cut(alloc: Global, c: u64, after: bool) -> Result<Cut, AllocError> {
     Ok(Cut {
         prefix: Values::one(number(alloc, c)?),
         after,
