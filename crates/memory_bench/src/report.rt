@@ -27,14 +27,14 @@ fn tell_step(
     println!(rt; "{name}: {count}, rows {}", memory.rows)?;
     let first = tenths(memory.nanos, entries.nanos);
     let second = tenths(memory.nanos, numbers.nanos);
-    eprintln!(rt;
+    eprint!(rt;
         "{name:<24}{count:>9}{:>9}{:>9}{:>9}",
         each(memory),
         each(entries),
         each(numbers)
     )?;
     eprintln!(rt;
-        "{:>51}.{}{:>7}.{}",
+        "{:>7}.{}{:>7}.{}",
         first / 10,
         first % 10,
         second / 10,
@@ -50,13 +50,17 @@ pub(crate) fn tell(
     numbers: &[Figure],
 ) -> io::Result<()> {
     eprintln!(rt;
-        "{:<24}{:>9}{:>9}{:>9}{:>9}",
-        "ns each", "count", "memory", "entries", "numbers"
+        "nanoseconds each            count   memory  entries  numbers    times    times"
     )?;
     for (of_memory, (of_entries, of_numbers)) in memory.iter().zip(entries.iter().zip(numbers)) {
         tell_step(rt, of_memory, of_entries, of_numbers)?;
     }
     Ok(())
+}
+
+/// Whether as many rows answered in each step.
+pub(crate) fn count_alike(a: &[Figure], b: &[Figure]) -> bool {
+    a.iter().zip(b).all(|(x, y)| x.rows == y.rows)
 }
 
 fn is_same(a: &Datum, b: &Datum) -> bool {
@@ -76,10 +80,10 @@ fn answer_alike(a: &[LiveRow], b: &[LiveRow]) -> bool {
 }
 
 // Whether both answer alike to the first thousand questions.
-fn agree_on<A: Store, B: Store>(memory: &A, bare: &B, spans: &[Span]) -> Result<bool, AllocError> {
+fn agree_on<A: Store, B: Store>(memory: &A, other: &B, spans: &[Span]) -> Result<bool, AllocError> {
     for span in spans.iter().take(1000) {
         let found = memory.answer(memory.question_of(*span)?)?;
-        let wanted = bare.answer(bare.question_of(*span)?)?;
+        let wanted = other.answer(other.question_of(*span)?)?;
         if !answer_alike(&found, &wanted) {
             return Ok(false);
         }
@@ -90,12 +94,12 @@ fn agree_on<A: Store, B: Store>(memory: &A, bare: &B, spans: &[Span]) -> Result<
 /// Whether both answer alike to what the steps ask.
 pub(crate) fn agree<A: Store, B: Store>(
     memory: &A,
-    bare: &B,
+    other: &B,
     steps: &[Step],
 ) -> Result<bool, AllocError> {
     for step in steps {
         if let Work::Reads(spans) = &step.work {
-            if !agree_on(memory, bare, spans)? {
+            if !agree_on(memory, other, spans)? {
                 return Ok(false);
             }
         }

@@ -23,7 +23,7 @@ pub(crate) struct Sizes {
 
 const SMALL: [u64; 7] = [1000, 500, 500, 50, 200, 2, 16];
 
-/// What the words tell; for those that are left out, small sizes.
+/// What the words tell; for those that are left out or aren't numbers, small sizes.
 pub(crate) fn told_sizes(rt: &HostRuntime) -> io::Result<Sizes> {
     let mut told = SMALL;
     let mut place = 0;

@@ -1,4 +1,4 @@
-//! A bare ordered map, from a row's key and clustering to its timestamp and value.
+//! A bare ordered map of numbers: from a row's key and clustering to its timestamp and value.
 
 use crate::store::{Span, Statement, Store};
 use crate::table::{shown, value};
@@ -32,16 +32,16 @@ pub(crate) enum Look {
 
 /// The map.
 #[derive(Drop)]
-pub(crate) struct Bare {
+pub(crate) struct Numbers {
     alloc: Global,
     value: u64,
     rows: BTreeMap<Place, Row>,
 }
 
-impl Bare {
+impl Numbers {
     /// An empty map, of whose rows the values will have so many bytes.
     pub fn new(alloc: Global, value: u64) -> Self {
-        Bare {
+        Numbers {
             alloc,
             value,
             rows: BTreeMap::new(alloc),
@@ -80,7 +80,7 @@ impl Bare {
     }
 }
 
-impl Store for Bare {
+impl Store for Numbers {
     type Write = Change;
 
     type Question = Look;
