@@ -1,25 +1,16 @@
--- A loaded file, as it is found, and behind those that are loaded.
-use Rattle.std.proofs.Common.{◌≡◌, ◌+◌, ◌<◌, ℕ, suc, List, [], ◌∷◌, ◌++◌, length, get_or, map, take, drop, drop-cons, take-append-drop, Some, Ok, refl, sym, ap, subst, ◌∙◌}
+-- A file as it is found, and behind those that are loaded.
+use Rattle.std.proofs.Common.{◌≡◌, ◌+◌, ◌<◌, ℕ, suc, List, [], ◌∷◌, ◌++◌, length, get_or, map, take, drop, drop-cons, take-append-drop, sym, ap, subst, ◌∙◌}
 use Rattle.std.proofs.lemmas.List.{map-append, take_more}
 use Rattle.std.specs.List.{AllByRecursion}
 use Rattle.cas_types.specs.declared.schema.TableSchema.{TableSchema}
-use Rattle.cas_bounds.specs.ClusteringOrder.{clustering_order}
 use Rattle.cas_disk.specs.Disk.{Disk, During, Follows, Image, Same}
 use Rattle.cas_disk.specs.declared.name.Name.TheVariants.{Table as table_name}
 use Rattle.cas_disk.proofs.Moments.{reads_on}
 use Rattle.cas_info.specs.declared.info.TableInfo.{TableInfo}
-use Rattle.cas_sstread.specs.Reading.{loaded_at}
 use Rattle.cas_sstread.specs.Loading.{Held}
 use Rattle.cas_view.specs.Views.{File, file_of, files_of}
 use Rattle.cas_view.specs.declared.view.OpenFile.{OpenFile}
 use Rattle.cas_listed.specs.Listed.{AreLoaded, IsBadFile, IsBadListed, IsLoaded, Loads}
-
--- the table that was loaded, as an open file
-pub opened_loaded : (t : TableSchema) (shard : ℕ) (c : Image) (i : TableInfo) (bytes : List ℕ) (h : Held) (f : File Held) → f ≡ record { table = h; info = i }
-    → c (table_name i.number) ≡ Some bytes → h.contents ≡ Some bytes → h.columns ≡ t.columns
-    → loaded_at (clustering_order t.columns) t.number shard i bytes ≡ Ok h.kept → IsLoaded t shard c i f
-opened_loaded t shard c i bytes h f is there contents columns kept =
-    subst (λ (x : File Held). IsLoaded t shard c i x) (sym is) (record { bytes = bytes; there = there; contents = contents; columns = columns; info = refl; kept = kept })
 
 -- what is found after calls that change nothing stood there before them
 module _ (start now : Disk) (during : During Same start now) (reads : Follows Same start.reads now.reads) (t : TableSchema) (shard : ℕ) (c : Image) (read : start.reads c) (i : TableInfo) where

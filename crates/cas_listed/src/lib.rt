@@ -7,4 +7,4 @@ mod loading;
 
 pub use fault::ListedFault;
 pub use laws::{files_are_never_bad, listed_files_hold};
-pub use loading::{load_file, load_listed};
+pub use loading::load_listed;

@@ -1,10 +1,13 @@
 //! Loads the listed files of a table in a shard, one after another.
 
-ghost use Rattle.std.specs.Prelude.{◌≡◌, ◌≤◌, ℕ, map, IfOk, IsErrOf};
+ghost use Rattle.std.specs.Prelude.{◌≡◌, ◌≤◌, ℕ, List, Some, Ok, map, IfOk, IsErrOf};
 ghost use Rattle.std.specs.List.{AllByRecursion};
+ghost use Rattle.cas_bounds.specs.ClusteringOrder.{clustering_order};
 ghost use Rattle.cas_disk.specs.Counts.{Counted};
 ghost use Rattle.cas_disk.specs.Disk.{Image, During, Follows, Same};
 ghost use Rattle.cas_info.specs.declared.info.TheConstants.{FILE_LIMIT};
+ghost use Rattle.cas_sstread.specs.Reading.{loaded_at};
+ghost use Rattle.cas_sstread.specs.Loading.{Held, IsBadAt};
 ghost use Rattle.cas_view.specs.Views.{file_of, files_of};
 ghost use Rattle.cas_stored.specs.Stored.{IsFileOf};
 ghost use Rattle.cas_listed.specs.Listed.{AreLoaded, IsBadFile, IsBadListed, IsLoaded};
@@ -32,8 +35,36 @@ fn opened<S: Sealed>(
     })
 }
 
-/// Loads the file of that table and that shard of which this is listed.
-pub fn load_file<F: Folder>(
+// Loads a table's file, which is open.
+fn load<S: Sealed>(
+    alloc: Global,
+    file: S,
+    table: &TableSchema,
+    shard: u8,
+    info: &TableInfo,
+    tally: &mut S::Tally,
+) -> Result<OpenFile<Table<S>>, ListedFault>
+    requires { info.now.bytes ≤ FILE_LIMIT }
+    ensures loaded { IfOk result (λ f. (b : List ℕ) → S.contents file ≡ Some b
+        → loaded_at (clustering_order table.now.columns) table.now.number shard info.now b ≡ Ok (file_of {T = Held} f).table.kept) }
+    ensures bad { (number at : ℕ) → IsErrOf result (ListedFault.Bad number at) → (b : List ℕ) → S.contents file ≡ Some b
+        → (number ≡ info.now.number) × IsBadAt (loaded_at (clustering_order table.now.columns) table.now.number shard info.now b) at }
+    ensures contents { IfOk result (λ f. (file_of f).table.contents ≡ S.contents file) }
+    ensures columns { IfOk result (λ f. IsFileOf table.now.columns (file_of f)) }
+    ensures infos { IfOk result (λ f. (f.info ≡ info.now) × ((file_of f).table.info ≡ info.now)) }
+    ensures failed { IsErrOf result ListedFault.Failed → ⊥ }
+    ensures read { Counted (S.Tally.number tally.old) (S.Tally.number tally.new) (IsErrOf result ListedFault.Read) }
+{
+    match Table::load(alloc, file, table, shard, info, tally) {
+        Ok(loaded) => Ok(opened(alloc, loaded, info)?),
+        Err(TableFault::ReadFault) => Err(ListedFault::Read),
+        Err(TableFault::BadBlock { number, at }) => Err(ListedFault::Bad { number, at }),
+        Err(TableFault::Mem) => Err(ListedFault::Mem),
+    }
+}
+
+// Loads the file of that table and that shard of which this is listed.
+fn load_file<F: Folder>(
     alloc: Global,
     folder: &mut F,
     table: &TableSchema,
@@ -57,11 +88,9 @@ pub fn load_file<F: Folder>(
         Err(FolderFault::Failed) => return Err(ListedFault::Failed),
         Err(FolderFault::Mem) => return Err(ListedFault::Mem),
     };
-    match Table::load(alloc, file, table, shard, info, tally) {
-        Ok(loaded) => Ok(opened(alloc, loaded, info)?),
-        Err(TableFault::ReadFault) => Err(ListedFault::Read),
-        Err(TableFault::BadBlock { number, at }) => Err(ListedFault::Bad { number, at }),
-        Err(TableFault::Mem) => Err(ListedFault::Mem),
+    match load(alloc, file, table, shard, info, tally) {
+        Ok(file) => Ok(file),
+        Err(fault) => Err(fault),
     }
 }
 
@@ -77,8 +106,7 @@ fn load_each<F: Folder>(
     requires { AllByRecursion (λ i. i.bytes ≤ FILE_LIMIT) listed.now }
     ensures loaded { IfOk result (λ v. (c : Image) → (F.disk folder.old).reads c → AreLoaded table.now shard c listed.now (files_of v.items)) }
     ensures columns { IfOk result (λ v. AllByRecursion (IsFileOf table.now.columns) (files_of v.items)) }
-    ensures infos { IfOk result (λ v. map (λ f. f.info) (files_of v.items) ≡ listed.now) }
-    ensures own { IfOk result (λ v. map (λ f. f.table.info) (files_of v.items) ≡ listed.now) }
+    ensures infos { IfOk result (λ v. (map (λ f. f.info) (files_of v.items) ≡ listed.now) × (map (λ f. f.table.info) (files_of v.items) ≡ listed.now)) }
     ensures bad { (number at : ℕ) → IsErrOf result (ListedFault.Bad number at) → (c : Image) → (F.disk folder.old).reads c
         → IsBadFile table.now shard c listed.now number at }
     ensures reads { Follows Same (F.disk folder.old).reads (F.disk folder.new).reads }
@@ -109,8 +137,7 @@ pub fn load_listed<F: Folder>(
     requires { AllByRecursion (λ i. i.bytes ≤ FILE_LIMIT) listed.now }
     ensures loaded { IfOk result (λ v. (c : Image) → (F.disk folder.old).reads c → AreLoaded table.now shard c listed.now v) }
     ensures columns { IfOk result (λ v. AllByRecursion (IsFileOf table.now.columns) v) }
-    ensures infos { IfOk result (λ v. map (λ f. f.info) v ≡ listed.now) }
-    ensures own { IfOk result (λ v. map (λ f. f.table.info) v ≡ listed.now) }
+    ensures infos { IfOk result (λ v. (map (λ f. f.info) v ≡ listed.now) × (map (λ f. f.table.info) v ≡ listed.now)) }
     ensures bad { (number at : ℕ) → IsErrOf result (ListedFault.Bad number at) → (c : Image) → (F.disk folder.old).reads c
         → IsBadFile table.now shard c listed.now number at }
     ensures reads { Follows Same (F.disk folder.old).reads (F.disk folder.new).reads }
