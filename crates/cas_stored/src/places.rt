@@ -2,7 +2,8 @@
 
 use std::marker::Brand;
 
-/// Which places of which files may be told bad, by their number and their place. Each read picks them.
+/// Which places of which files may be told bad, by the file's number and the place in it. Each read
+/// picks them; where none does, all may.
 pub trait BadPlaces {
     ghost use Rattle.std.specs.Prelude.{ℕ};
 
@@ -10,5 +11,5 @@ pub trait BadPlaces {
 }
 
 impl BadPlaces for Brand {
-    ghost told = { λ n at. ⊥ };
+    ghost told = { λ n at. Unit {0} };
 }
