@@ -49,7 +49,7 @@ abbrev pub IsBadHead : Held → List ℕ → PartitionEntry → ℕ → ℕ → 
 IsBadHead t key e n at =
     (file : List ℕ) → t.contents ≡ Some file → (n ≡ t.info.number) × (at ≡ e.place) × HasNoHead t.columns (left_at file t.kept.end e.place) key
 
--- behind the head, the blocks from the one on that the index finds for the slice lead to that place, at which none stands that may, where the file tells its bytes
+-- behind the head, the blocks from the one on that the index finds for the slice lead to that place, where none stands that may, if the file tells its bytes
 pub record IsBadBlock (t : Held) (s : Slice) (e : PartitionEntry) (n at : ℕ) : Type 0 where
   pub block : Option BlockAt
   pub first : IsBlockFor s e.blocks block
