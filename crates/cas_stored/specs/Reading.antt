@@ -38,7 +38,8 @@ IsWhyNot fs key table_fault.Read = Unit {0}
 IsWhyNot fs key (table_fault.BadBlock n at) = (f : File Held) × Has fs f × IsBadIn key n at f
 IsWhyNot fs key table_fault.Mem = Unit {0}
 
--- that place of the file of that number is bad, of which the file's index tells: no head of the key's partition stands there, or behind it no block that may
+-- of the key's partition, which the file's range, filter and index have, that place of the file of that number is bad: no head stands there, or behind the head
+-- no block that may
 pub record IsBadFor (key : List ℕ) (s : Slice) (n at : ℕ) (f : File Held) : Type 0 where
   pub entry : PartitionEntry
   pub range : may_hold f.info key ≡ true

@@ -14,9 +14,8 @@ use crate::source::{Source, StoredSource};
 use cas_blocks::TableFault;
 use cas_bounds::Slice;
 use cas_disk::{Count, Sealed};
-use cas_merge::Merger;
 use cas_sstread::Table;
-use cas_streams::{FragmentSource, Part};
+use cas_streams::FragmentSource;
 use cas_view::{OpenFile, may_hold};
 use std::alloc::{AllocError, Global};
 
@@ -47,11 +46,8 @@ fn file_source<'a, S: Sealed, B: BadPlaces>(
 }
 
 // Puts a source behind the others, if there is one.
-fn put<'a, S: Sealed, B: BadPlaces>(
-    sources: &mut Vec<Source<'a, S, B>>,
-    source: Option<Source<'a, S, B>>,
-) -> Result<(), AllocError>
-    ensures { OnOk result (sources.new.items ≡ sources.old.items ++ option_to_list source.entry) }
+fn put<X: Drop>(sources: &mut Vec<X>, source: Option<X>) -> Result<(), AllocError>
+    ensures { OnOk result (sources.new.items ≡ sources.old.items ++ option_to_list source) }
 {
     if let Some(source) = source {
         sources.push(source)?;
@@ -85,9 +81,9 @@ pub(crate) fn put_files<'a, S: Sealed, B: BadPlaces>(
 }
 
 /// Puts the sources of memtables behind the others.
-pub(crate) fn put_memory<'a, S: Sealed, B: BadPlaces>(
-    sources: &mut Vec<Source<'a, S, B>>,
-    memory: Vec<Merger<Part>>,
+pub(crate) fn put_memory<M: Drop, F: Drop>(
+    sources: &mut Vec<StoredSource<M, F>>,
+    memory: Vec<M>,
 ) -> Result<(), AllocError>
     ensures { OnOk result (sources.new.items ≡ sources.old.items ++ map StoredSource.Memory memory.items) }
 {
