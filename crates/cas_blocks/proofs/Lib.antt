@@ -8,5 +8,6 @@ pub mod Bodies
 pub mod NextBlock
 pub mod Onwards
 pub mod PiecesLeft
+pub mod Breaks
 pub mod WindowLaws
 pub mod HeadLaws

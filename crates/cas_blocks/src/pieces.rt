@@ -5,7 +5,7 @@ ghost use Rattle.std.specs.Vec.Iter.{into_iter_items};
 ghost use Rattle.cas_disk.specs.Counts.{Counted};
 ghost use Rattle.cas_streams.specs.Sources.{TakesFirst, Shrinks};
 ghost use Rattle.cas_streams.specs.declared.fragment.Fragment.{Fragment};
-ghost use Rattle.cas_blocks.specs.Inner.Pieces.{left_of, room_of, told_on, IsBadBlock, IfBad, with_first};
+ghost use Rattle.cas_blocks.specs.Inner.Pieces.{left_of, room_of, told_on, IsBadBlock, FindsNoMore, IfBad, with_first};
 
 use crate::fault::TableFault;
 use crate::file::TableFile;
@@ -47,6 +47,8 @@ impl Pieces {
         ensures count { Counted (F.Tally.number tally.old) (F.Tally.number tally.new) (IsErrOf result TableFault.Read) }
         ensures bad { IfBad (IsBadBlock file.now.order.now file.now.columns.now file.now.number file.now.end (F.contents file.now.sealed.now)
             self.new.onward) result }
+        ensures narrows { FindsNoMore file.now.order.now file.now.columns.now file.now.number file.now.end (F.contents file.now.sealed.now)
+            self.old.onward self.new.onward }
     {
         let Some(at) = &self.onward else {
             return Ok(None);
@@ -81,6 +83,8 @@ impl Pieces {
         ensures count { Counted (F.Tally.number tally.old) (F.Tally.number tally.new) (IsErrOf result TableFault.Read) }
         ensures bad { IfBad (IsBadBlock file.now.order.now file.now.columns.now file.now.number file.now.end (F.contents file.now.sealed.now)
             self.new.onward) result }
+        ensures narrows { FindsNoMore file.now.order.now file.now.columns.now file.now.number file.now.end (F.contents file.now.sealed.now)
+            self.old.onward self.new.onward }
     {
         match first_of(&mut self.rest) {
             Some(fragment) => Ok(Some(fragment)),

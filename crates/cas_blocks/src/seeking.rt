@@ -5,7 +5,7 @@ ghost use Rattle.std.specs.Option.{option_to_list};
 ghost use Rattle.cas_disk.specs.Counts.{Counted};
 ghost use Rattle.cas_streams.specs.Sources.{TakesFirst, Shrinks};
 ghost use Rattle.cas_streams.specs.declared.fragment.Fragment.{Fragment};
-ghost use Rattle.cas_blocks.specs.Inner.Pieces.{left_of, room_of, IsBadBlock, IfBad};
+ghost use Rattle.cas_blocks.specs.Inner.Pieces.{left_of, room_of, IsBadBlock, FindsNoMore, IfBad};
 ghost use Rattle.cas_blocks.specs.Inner.Windows.{Begun, GoesOn};
 
 use crate::cutting::{is_before, is_behind, opened};
@@ -34,6 +34,8 @@ pub(crate) fn seek<F: Sealed>(
     ensures count { Counted (F.Tally.number tally.old) (F.Tally.number tally.new) (IsErrOf result TableFault.Read) }
     ensures bad { IfBad (IsBadBlock file.now.order.now file.now.columns.now file.now.number file.now.end (F.contents file.now.sealed.now)
         pieces.new.onward) result }
+    ensures narrows { FindsNoMore file.now.order.now file.now.columns.now file.now.number file.now.end (F.contents file.now.sealed.now)
+        pieces.old.onward pieces.new.onward }
 {
     while let Some(fragment) = pieces.next(file, tally)? {
         if is_behind(file.order, &slice.lo, &fragment) {
@@ -60,6 +62,8 @@ fn draw<F: Sealed>(
     ensures count { Counted (F.Tally.number tally.old) (F.Tally.number tally.new) (IsErrOf result TableFault.Read) }
     ensures bad { IfBad (IsBadBlock file.now.order.now file.now.columns.now file.now.number file.now.end (F.contents file.now.sealed.now)
         pieces.new.onward) result }
+    ensures narrows { FindsNoMore file.now.order.now file.now.columns.now file.now.number file.now.end (F.contents file.now.sealed.now)
+        pieces.old.onward pieces.new.onward }
 {
     match ahead {
         Some(fragment) => Ok(Some(fragment)),
@@ -86,6 +90,8 @@ pub(crate) fn next_inside<F: Sealed>(
     ensures count { Counted (F.Tally.number tally.old) (F.Tally.number tally.new) (IsErrOf result TableFault.Read) }
     ensures bad { IfBad (IsBadBlock file.now.order.now file.now.columns.now file.now.number file.now.end (F.contents file.now.sealed.now)
         pieces.new.onward) result }
+    ensures narrows { FindsNoMore file.now.order.now file.now.columns.now file.now.number file.now.end (F.contents file.now.sealed.now)
+        pieces.old.onward pieces.new.onward }
 {
     let Some(fragment) = draw(file, pieces, ahead, tally)? else {
         return Ok(None);

@@ -1,12 +1,12 @@
 //! A slice of a partition in a table's file, as a stream.
 
-ghost use Rattle.std.specs.Prelude.{◌≡◌, ◌+◌, List as ListOf, Some, None, true, false, length, IsErrOf};
+ghost use Rattle.std.specs.Prelude.{◌≡◌, ℕ, ◌+◌, List as ListOf, Some, None, true, false, length, IsErrOf};
 ghost use Rattle.cas_disk.specs.Counts.{Counted};
 ghost use Rattle.cas_streams.specs.Sources.{TakesFirst, Shrinks, KeepsFault};
 ghost use Rattle.cas_streams.specs.declared.fragment.Fragment.{Fragment};
 ghost use Rattle.cas_fragments.specs.Laws.{static_of};
-ghost use Rattle.cas_blocks.specs.Reading.{slice_of};
-ghost use Rattle.cas_blocks.specs.Inner.Pieces.{IsBadBlock, IfBad};
+ghost use Rattle.cas_blocks.specs.Reading.{slice_of, IsBadBehind};
+ghost use Rattle.cas_blocks.specs.Inner.Pieces.{IsBadBlock, MayBeBad, IfBad};
 ghost use Rattle.cas_blocks.specs.Inner.Windows.{slice_left, slice_room, static_part, behind_static};
 
 use crate::fault::TableFault;
@@ -74,6 +74,9 @@ impl<'a, F: Sealed> Blocks<'a, F> {
         ensures top { ⟦<Blocks<'a, F> as FragmentSource>⟧.over_all result ≡ top }
         ensures sound { ⟦<Blocks<'a, F> as FragmentSource>⟧.broken_by result ≡ None }
         ensures tally { result.tally ≡ tally }
+        ensures narrows { (n at : ℕ) → MayBeBad result.file.order.now result.file.columns.now result.file.number result.file.end
+            (F.contents result.file.sealed.now) result.window.pieces.onward n at → IsBadBehind file.entry.order.now file.entry.columns.now
+            file.entry.number file.entry.end (F.contents file.entry.sealed.now) block n at }
     {
         let rest = Vec::new(file.alloc).into_iter();
         let statics = some_columns(statics);
@@ -108,6 +111,11 @@ impl<'a, F: Sealed> Blocks<'a, F> {
         ensures count { Counted (F.Tally.number self.old.tally) (F.Tally.number self.new.tally) (IsErrOf result TableFault.Read) }
         ensures bad { IfBad (IsBadBlock self.old.file.order.now self.old.file.columns.now self.old.file.number self.old.file.end
             (F.contents self.old.file.sealed.now) self.new.window.pieces.onward) result }
+        ensures narrows { (n at : ℕ) → MayBeBad self.new.file.order.now self.new.file.columns.now self.new.file.number self.new.file.end
+            (F.contents self.new.file.sealed.now) self.new.window.pieces.onward n at → MayBeBad self.old.file.order.now self.old.file.columns.now
+            self.old.file.number self.old.file.end (F.contents self.old.file.sealed.now) self.old.window.pieces.onward n at }
+        ensures tells { IfBad (MayBeBad self.old.file.order.now self.old.file.columns.now self.old.file.number
+            self.old.file.end (F.contents self.old.file.sealed.now) self.old.window.pieces.onward) result }
     {
         match self.statics.take() {
             Some(columns) => Ok(Some(Fragment::Static(columns))),
@@ -155,6 +163,11 @@ impl<'a, F: Sealed> FragmentSource for Blocks<'a, F> {
             ((self.old.fault ≡ None) × IsErrOf result TableFault.Read) }
         ensures bad { self.old.fault ≡ None → IfBad (IsBadBlock self.old.file.order.now self.old.file.columns.now self.old.file.number
             self.old.file.end (F.contents self.old.file.sealed.now) self.new.window.pieces.onward) result }
+        ensures narrows { (n at : ℕ) → MayBeBad self.new.file.order.now self.new.file.columns.now self.new.file.number self.new.file.end
+            (F.contents self.new.file.sealed.now) self.new.window.pieces.onward n at → MayBeBad self.old.file.order.now self.old.file.columns.now
+            self.old.file.number self.old.file.end (F.contents self.old.file.sealed.now) self.old.window.pieces.onward n at }
+        ensures tells { self.old.fault ≡ None → IfBad (MayBeBad self.old.file.order.now self.old.file.columns.now self.old.file.number
+            self.old.file.end (F.contents self.old.file.sealed.now) self.old.window.pieces.onward) result }
     {
         if let Some(fault) = self.fault {
             return Err(fault);

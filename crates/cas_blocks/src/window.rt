@@ -5,7 +5,7 @@ ghost use Rattle.std.specs.Option.{option_to_list};
 ghost use Rattle.cas_disk.specs.Counts.{Counted};
 ghost use Rattle.cas_streams.specs.Sources.{TakesFirst, Shrinks};
 ghost use Rattle.cas_streams.specs.declared.fragment.Fragment.{Fragment};
-ghost use Rattle.cas_blocks.specs.Inner.Pieces.{IsBadBlock, IfBad};
+ghost use Rattle.cas_blocks.specs.Inner.Pieces.{IsBadBlock, FindsNoMore, IfBad};
 ghost use Rattle.cas_blocks.specs.Inner.Windows.{slice_left, slice_room, Enters};
 
 use crate::cutting::{closing, opening};
@@ -56,6 +56,8 @@ impl Window {
         ensures count { Counted (F.Tally.number tally.old) (F.Tally.number tally.new) (IsErrOf result TableFault.Read) }
         ensures bad { IfBad (IsBadBlock file.now.order.now file.now.columns.now file.now.number file.now.end (F.contents file.now.sealed.now)
             self.new.pieces.onward) result }
+        ensures narrows { FindsNoMore file.now.order.now file.now.columns.now file.now.number file.now.end (F.contents file.now.sealed.now)
+            self.old.pieces.onward self.new.pieces.onward }
     {
         if let Phase::Before = self.phase {
             let ahead = seek(file, &mut self.pieces, &self.slice, &mut self.force, tally)?;
@@ -82,6 +84,8 @@ impl Window {
         ensures count { Counted (F.Tally.number tally.old) (F.Tally.number tally.new) (IsErrOf result TableFault.Read) }
         ensures bad { IfBad (IsBadBlock file.now.order.now file.now.columns.now file.now.number file.now.end (F.contents file.now.sealed.now)
             self.new.pieces.onward) result }
+        ensures narrows { FindsNoMore file.now.order.now file.now.columns.now file.now.number file.now.end (F.contents file.now.sealed.now)
+            self.old.pieces.onward self.new.pieces.onward }
     {
         if let Some(marker) = self.enter(file, tally)? {
             return Ok(Some(marker));

@@ -7,7 +7,7 @@ mod live_rows;
 mod viewer;
 mod views;
 
-pub use all::all_rows;
+pub use all::{all_rows, all_rows_and_source, all_rows_of};
 pub use laws::{shows_what_is_written, streams_answer, walks_show};
 pub use live_rows::LiveRows;
 pub use viewer::Viewer;

@@ -4,7 +4,7 @@ ghost use Rattle.std.specs.Prelude.{◌≡◌, ◌≤ℤ◌, pos, length, IfOk, 
 ghost use Rattle.cas_types.specs.Limits.{IsNarrow};
 ghost use Rattle.cas_blocks.specs.declared.fault.TableFault.TheVariants as table_fault;
 ghost use Rattle.cas_disk.specs.Counts.{Counted};
-ghost use Rattle.cas_stored.specs.Reading.{AreReadIn};
+ghost use Rattle.cas_stored.specs.Reading.{AreReadIn, IsWhyNotShown};
 ghost use Rattle.cas_shard.specs.Stands.{files_at};
 ghost use Rattle.cas_shard.specs.Inner.Looks.{Answers};
 
@@ -27,6 +27,7 @@ pub(crate) fn rows_of<S: Sealed>(
     requires reads { AreReadIn query.slice (files_at (slice_get stores.now query.table)) }
     ensures rows { IfOk result (λ v. Answers query now (slice_get stores.now query.table) v.items) }
     ensures count { Counted (S.Tally.number tally.old) (S.Tally.number tally.new) (IsErrOf result TableFault.Read) }
+    ensures why { IfErr result (IsWhyNotShown (files_at (slice_get stores.now query.table)) query.key query.slice) }
     ensures memory { length (files_at (slice_get stores.now query.table)) ≡ 0 → IfErr result (λ e. e ≡ table_fault.Mem) }
 {
     match stores.get(query.table as usize) {

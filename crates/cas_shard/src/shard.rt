@@ -96,7 +96,7 @@ impl<S: Sealed> Shard<S> {
     ghost use Rattle.cas_shard.specs.Inner.Turns.{Answered, Took};
     ghost use Rattle.cas_blocks.specs.declared.fault.TableFault.TheVariants as table_fault;
     ghost use Rattle.cas_disk.specs.Counts.{Counted};
-    ghost use Rattle.cas_stored.specs.Reading.{AreReadIn};
+    ghost use Rattle.cas_stored.specs.Reading.{AreReadIn, IsWhyNotShown};
 
     /// A shard without a mutation.
     pub fn new(alloc: Global) -> Self
@@ -351,6 +351,7 @@ impl<S: Sealed> Shard<S> {
         ensures number { self.new.number ≡ self.old.number }
         ensures files { KeepsFiles self.old self.new }
         ensures count { Counted (S.Tally.number tally.old) (S.Tally.number tally.new) (IsErrOf result TableFault.Read) }
+        ensures why { IfErr result (IsWhyNotShown (files_at (slice_get self.old.stores query.table)) query.key query.slice) }
         ensures memory { length (files_at (slice_get self.old.stores query.table)) ≡ 0 → IfErr result (λ e. e ≡ table_fault.Mem) }
     {
         self.raise(reading);

@@ -9,6 +9,7 @@ pub mod Showing
 pub mod Flushing
 pub mod Storing
 pub mod Tallying
+pub mod WhyNot
 pub mod Inside
 pub mod Looking
 pub mod Loaded

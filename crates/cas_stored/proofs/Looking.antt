@@ -31,17 +31,16 @@ then_in s A B C a b = record { covers = λ x i. a.covers x ∙ b.covers x i; liv
 
 -- what comes of the merge of sources, by what its making ensures
 pub rows_shown : {X : Type 0} (fs : List (File Held)) (ms : List MemPart) (q : Query) (now same : ℤ) (tells : X → Option (List Fragment)) (tops : X → Option Deletion) (xs : List X)
-    (top : Option Deletion) (told : Option (List Fragment)) (come : Option (List LiveRow)) (shown : List LiveRow) → same ≡ now
+    (top : Option Deletion) (told : Option (List Fragment)) (shown : List LiveRow) → same ≡ now
     → ((order : List Ordered) (wss : List (List Mutation)) → HoldEach order fs ms wss → q.slice.lo.order ≡ order → q.slice.hi.order ≡ order → ShowStored tells tops order q.slice q.key fs ms (all_of wss) xs)
     → ((ss : List Stream) → streams_told tells tops xs ≡ Some ss → told ≡ Some (merged ss).fragments)
     → ((ss : List Stream) → streams_told tells tops xs ≡ Some ss → top ≡ (merged ss).top)
-    → ((gs : List Fragment) → told ≡ Some gs → IsOrdered (clustering_order q.columns) gs → come ≡ Some (answer q (flat top gs) same))
-    → ((rs : List LiveRow) → come ≡ Some rs → shown ≡ rs) → AreRowsOf fs ms q now shown
-rows_shown fs ms q now same tells tops xs top told come shown e shows f g rows given wss holds one =
+    → ((gs : List Fragment) → told ≡ Some gs → IsOrdered (clustering_order q.columns) gs → shown ≡ answer q (flat top gs) same) → AreRowsOf fs ms q now shown
+rows_shown fs ms q now same tells tops xs top told shown e shows f g rows wss holds one =
     let order : List Ordered = clustering_order q.columns in
     let from : ShowStored tells tops order q.slice q.key fs ms (all_of wss) xs = shows order wss holds one.0 one.1 in
     let ss : List Stream = from.streams in
     let under : List Atom = atoms_under q.key (all_of wss) in
-    given _ (rows (merged ss).fragments (f ss from.told) (merge_ordered order ss from.ordered))
+    rows (merged ss).fragments (f ss from.told) (merge_ordered order ss from.ordered)
     ∙ (λ i. answer q (flat (g ss from.told i) (merged ss).fragments) (e i))
     ∙ same_in_answers (flat_of (merged ss)) under q (then_in q.slice (flat_of (merged ss)) (flats ss) under (merge_is_join order ss from.ordered) from.same) now

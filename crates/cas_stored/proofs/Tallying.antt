@@ -1,5 +1,5 @@
 -- A read that failed is counted, whichever source it broke.
-use Rattle.std.proofs.Common.{◌≡◌, ◌⊎◌, inl, inr, ◌≤◌, ◌<◌, ◌+◌, ◌-◌, ◌^◌, ℕ, zero, suc, Option, None, Some, Result, IfErr, IfSome, IsErrOf, sym, ap, ◌∙◌, subst, arith}
+use Rattle.std.proofs.Common.{◌≡◌, ◌⊎◌, inl, inr, ◌≤◌, ◌<◌, ◌+◌, ◌-◌, ◌^◌, ℕ, zero, suc, Option, None, Some, Result, IfErr, IfSome, IsErrOf, refl, sym, ap, ◌∙◌, subst, arith}
 use Rattle.std.specs.Prelude.{min}
 use Rattle.std.specs.Option.{option_map}
 use Rattle.std.proofs.lemmas.Grind.{not_there}
@@ -10,13 +10,25 @@ use Rattle.cas_disk.specs.Counts.{Counted, sum_in_range}
 use Rattle.cas_io.specs.Causes.{Rose}
 use Rattle.cas_stored.specs.declared.source.StoredSource.{StoredSource}
 use Rattle.cas_stored.specs.declared.source.StoredSource.TheVariants.{Memory, File}
-use Rattle.cas_stored.specs.Inner.Either.{fault_of}
+use Rattle.cas_stored.specs.Inner.Either.{fault_of, file_in}
 
 -- ---- one source
 
 never_read : (o : Option AllocError) → option_map (λ e. table_fault.Mem) o ≡ Some table_fault.Read → ⊥
 never_read None e = cc
 never_read (Some x) e = cc
+
+-- which kind it is of
+pub is_memory : {M F : Type 0} (s : StoredSource M F) → file_in s ≡ None → (m : M) × (s ≡ Memory m)
+is_memory (Memory m) e = (m, refl)
+is_memory (File f) e = absurd cc
+
+pub is_file : {M F : Type 0} (s : StoredSource M F) (f : F) → file_in s ≡ Some f → s ≡ File f
+is_file (Memory m) f e = absurd cc
+is_file (File g) f e = ap File (some_is g f e)
+  where
+    some_is : {X : Type 0} (x y : X) → (let o : Option X = Some x in o) ≡ Some y → x ≡ y
+    some_is x y same = cc
 
 module _ {M F : Type 0} (memory : M → Option AllocError) (file : F → Option TableFault) (s : StoredSource M F) where
   -- in memory no read fails

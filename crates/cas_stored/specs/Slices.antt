@@ -12,7 +12,7 @@ use Rattle.cas_fragments.specs.Reading.{head_at}
 use Rattle.cas_index.specs.Searches.{IsBlockFor}
 use Rattle.cas_index.specs.declared.entries.BlockAt.{BlockAt}
 use Rattle.cas_index.specs.declared.entries.PartitionEntry.{PartitionEntry}
-use Rattle.cas_blocks.specs.Reading.{left_at, slice_of}
+use Rattle.cas_blocks.specs.Reading.{left_at, slice_of, IsBadBehind}
 use Rattle.cas_blocks.specs.declared.fault.TableFault.{TableFault}
 use Rattle.cas_blocks.specs.declared.fault.TableFault.TheVariants as table_fault
 use Rattle.cas_sstread.specs.Reading.{Loaded}
@@ -48,6 +48,12 @@ pub record IsSlice (t : Held) (key : List ℕ) (s : Slice) (e : PartitionEntry) 
 abbrev pub IsBadHead : Held → List ℕ → PartitionEntry → ℕ → ℕ → Type 0
 IsBadHead t key e n at =
     (file : List ℕ) → t.contents ≡ Some file → (n ≡ t.info.number) × (at ≡ e.place) × HasNoHead t.columns (left_at file t.kept.end e.place) key
+
+-- behind the head, the blocks from the one on that the index finds for the slice lead to that place, where none stands that may, if the file tells its bytes
+pub record IsBadBlock (t : Held) (s : Slice) (e : PartitionEntry) (n at : ℕ) : Type 0 where
+  pub block : Option BlockAt
+  pub first : IsBlockFor s e.blocks block
+  pub bad : IsBadBehind (clustering_order t.columns) t.columns t.info.number t.kept.end t.contents block n at
 
 -- What is answered, a source being seen by its top and by what is to come of it: none where filter or index have no such key; else the slice, or that its
 -- head is bad; or the file failed, or memory ran out.

@@ -1,36 +1,37 @@
 //! The sources of a partition in the files of a view.
 
-ghost use Rattle.std.specs.Prelude.{◌≡◌, ◌++◌, ◌∷◌, [], None, IfOk, IfErr, IfSome, OnOk, IsErrOf, map};
+ghost use Rattle.std.specs.Prelude.{◌≡◌, ℕ, ◌++◌, ◌∷◌, [], None, IfOk, IfErr, IfSome, OnOk, IsErrOf, map};
 ghost use Rattle.std.specs.Option.{option_to_list};
 ghost use Rattle.cas_disk.specs.Counts.{Counted};
 ghost use Rattle.cas_view.specs.Views.{file_of, files_of};
-ghost use Rattle.cas_stored.specs.Reading.{IsReadIn, AreReadIn, IsWhyNot};
+ghost use Rattle.cas_stored.specs.Reading.{IsReadIn, AreReadIn, IsBadFile, IsWhyNot};
 ghost use Rattle.cas_stored.specs.Inner.Files.{FileAnswers, FilesGiveBehind};
 
 use crate::file::FileSource;
+use crate::places::BadPlaces;
 use crate::read_slice;
 use crate::source::{Source, StoredSource};
 use cas_blocks::TableFault;
 use cas_bounds::Slice;
 use cas_disk::{Count, Sealed};
-use cas_merge::Merger;
 use cas_sstread::Table;
-use cas_streams::{FragmentSource, Part};
+use cas_streams::FragmentSource;
 use cas_view::{OpenFile, may_hold};
 use std::alloc::{AllocError, Global};
 
 // The source of a file that has the key. Nothing of the file is read where its range denies the key.
-fn file_source<'a, S: Sealed>(
+fn file_source<'a, S: Sealed, B: BadPlaces>(
     alloc: Global,
     file: &'a OpenFile<Table<S>>,
     key: &[u8],
     slice: &Slice,
     tally: &mut S::Tally,
-) -> Result<Option<Source<'a, S>>, TableFault>
-    requires { IsReadIn slice.now (file_of file.now) }
-    ensures answers { FileAnswers (file_of file.now) key.now slice.now ⟦<Source<'a, S> as FragmentSource>⟧.over_all
-        ⟦<Source<'a, S> as FragmentSource>⟧.to_come result }
-    ensures sound { IfOk result (λ o. IfSome o (λ x. ⟦<Source<'a, S> as FragmentSource>⟧.broken_by x ≡ None)) }
+) -> Result<Option<Source<'a, S, B>>, TableFault>
+    requires reads { IsReadIn slice.now (file_of file.now) }
+    requires told { (n at : ℕ) → IsBadFile (file_of file.now ∷ []) key.now slice.now n at → B.told n at }
+    ensures answers { FileAnswers (file_of file.now) key.now slice.now ⟦<Source<'a, S, B> as FragmentSource>⟧.over_all
+        ⟦<Source<'a, S, B> as FragmentSource>⟧.to_come result }
+    ensures sound { IfOk result (λ o. IfSome o (λ x. ⟦<Source<'a, S, B> as FragmentSource>⟧.broken_by x ≡ None)) }
     ensures why { IfErr result (IsWhyNot (file_of file.now ∷ []) key.now) }
     ensures count { Counted (S.Tally.number tally.old) (S.Tally.number tally.new) (IsErrOf result TableFault.Read) }
 {
@@ -45,11 +46,8 @@ fn file_source<'a, S: Sealed>(
 }
 
 // Puts a source behind the others, if there is one.
-fn put<'a, S: Sealed>(
-    sources: &mut Vec<Source<'a, S>>,
-    source: Option<Source<'a, S>>,
-) -> Result<(), AllocError>
-    ensures { OnOk result (sources.new.items ≡ sources.old.items ++ option_to_list source.entry) }
+fn put<X: Drop>(sources: &mut Vec<X>, source: Option<X>) -> Result<(), AllocError>
+    ensures { OnOk result (sources.new.items ≡ sources.old.items ++ option_to_list source) }
 {
     if let Some(source) = source {
         sources.push(source)?;
@@ -58,17 +56,18 @@ fn put<'a, S: Sealed>(
 }
 
 /// Puts the sources of a partition in these files behind the others.
-pub(crate) fn put_files<'a, S: Sealed>(
+pub(crate) fn put_files<'a, S: Sealed, B: BadPlaces>(
     alloc: Global,
-    sources: &mut Vec<Source<'a, S>>,
+    sources: &mut Vec<Source<'a, S, B>>,
     files: &'a [OpenFile<Table<S>>],
     key: &[u8],
     slice: &Slice,
     tally: &mut S::Tally,
 ) -> Result<(), TableFault>
-    requires { AreReadIn slice.now (files_of files.now) }
-    ensures gives { OnOk result (FilesGiveBehind key.now slice.now ⟦<Source<'a, S> as FragmentSource>⟧.over_all
-        ⟦<Source<'a, S> as FragmentSource>⟧.to_come (files_of files.now) sources.old.items sources.new.items) }
+    requires reads { AreReadIn slice.now (files_of files.now) }
+    requires told { (n at : ℕ) → IsBadFile (files_of files.now) key.now slice.now n at → B.told n at }
+    ensures gives { OnOk result (FilesGiveBehind key.now slice.now ⟦<Source<'a, S, B> as FragmentSource>⟧.over_all
+        ⟦<Source<'a, S, B> as FragmentSource>⟧.to_come (files_of files.now) sources.old.items sources.new.items) }
     ensures why { IfErr result (IsWhyNot (files_of files.now) key.now) }
     ensures count { Counted (S.Tally.number tally.old) (S.Tally.number tally.new) (IsErrOf result TableFault.Read) }
 {
@@ -82,9 +81,9 @@ pub(crate) fn put_files<'a, S: Sealed>(
 }
 
 /// Puts the sources of memtables behind the others.
-pub(crate) fn put_memory<'a, S: Sealed>(
-    sources: &mut Vec<Source<'a, S>>,
-    memory: Vec<Merger<Part>>,
+pub(crate) fn put_memory<M: Drop, F: Drop>(
+    sources: &mut Vec<StoredSource<M, F>>,
+    memory: Vec<M>,
 ) -> Result<(), AllocError>
     ensures { OnOk result (sources.new.items ≡ sources.old.items ++ map StoredSource.Memory memory.items) }
 {

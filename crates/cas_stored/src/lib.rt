@@ -5,6 +5,7 @@
 mod file;
 mod files;
 mod laws;
+mod places;
 mod rows;
 mod slices;
 mod source;
@@ -12,6 +13,7 @@ mod table;
 
 pub use file::FileSource;
 pub use laws::{loaded_is_of, loaded_stands};
+pub use places::BadPlaces;
 pub use slices::read_slice;
 pub use source::{Source, StoredSource};
 pub use table::TableStore;

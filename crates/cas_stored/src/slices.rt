@@ -14,9 +14,10 @@ ghost use Rattle.cas_tables.specs.Contents.{Contents};
 ghost use Rattle.cas_tables.specs.declared.header.Version.TheVariants.{Second};
 ghost use Rattle.cas_blocks.specs.Reading.{left_at};
 ghost use Rattle.cas_blocks.specs.Heads.{IsHeadAt};
-ghost use Rattle.cas_stored.specs.Slices.{Answers};
+ghost use Rattle.cas_blocks.specs.Inner.Pieces.{MayBeBad};
+ghost use Rattle.cas_stored.specs.Slices.{Answers, IsBadBlock};
 ghost use Rattle.cas_stored.specs.Contents.{IsOf, AnswersOf};
-ghost use Rattle.cas_stored.specs.Inner.Parts.{HeadAnswers, EntryAnswers};
+ghost use Rattle.cas_stored.specs.Inner.Parts.{HeadAnswers, EntryAnswers, IsBadSlice};
 
 use cas_blocks::{Blocks, TableFault, TableFile, read_head_at};
 use cas_bounds::Slice;
@@ -113,6 +114,9 @@ fn slice_at<'a, F: Sealed>(
     ensures told { (e : PartitionEntry) → slice_get table.now.kept.partitions partition ≡ Some e → EntryAnswers table.now key.now slice.now
         ⟦<Blocks<'a, F> as FragmentSource>⟧.over_all ⟦<Blocks<'a, F> as FragmentSource>⟧.to_come e result }
     ensures sound { IfOk result (λ b. ⟦<Blocks<'a, F> as FragmentSource>⟧.broken_by b ≡ None) }
+    ensures finds { (e : PartitionEntry) → slice_get table.now.kept.partitions partition ≡ Some e → IfOk result (λ b. (n at : ℕ)
+        → MayBeBad b.file.order.now b.file.columns.now b.file.number b.file.end (F.contents b.file.sealed.now) b.window.pieces.onward n at
+        → IsBadBlock table.now slice.now e n at) }
     ensures fresh { IfOk result (λ b. F.Tally.number b.tally ≡ 0) }
     ensures count { Counted (F.Tally.number tally.old) (F.Tally.number tally.new) (IsErrOf result TableFault.Read) }
 {
@@ -141,6 +145,9 @@ fn asked<'a, F: Sealed>(
     requires one { IsSliceOf (clustering_order table.now.columns) slice.now }
     ensures told { Answers table.now key.now slice.now ⟦<Blocks<'a, F> as FragmentSource>⟧.over_all ⟦<Blocks<'a, F> as FragmentSource>⟧.to_come result }
     ensures sound { IfOk result (λ o. IfSome o (λ b. ⟦<Blocks<'a, F> as FragmentSource>⟧.broken_by b ≡ None)) }
+    ensures finds { IfOk result (λ o. IfSome o (λ b. (n at : ℕ)
+        → MayBeBad b.file.order.now b.file.columns.now b.file.number b.file.end (F.contents b.file.sealed.now) b.window.pieces.onward n at
+        → IsBadSlice table.now key.now slice.now n at)) }
     ensures fresh { IfOk result (λ o. IfSome o (λ b. F.Tally.number b.tally ≡ 0)) }
     ensures count { Counted (F.Tally.number tally.old) (F.Tally.number tally.new) (IsErrOf result TableFault.Read) }
 {
@@ -170,6 +177,9 @@ pub fn read_slice<'a, F: Sealed>(
     ensures contents { (c : Contents) (f : Facts) → IsOf table.now c f
         → AnswersOf c key.now slice.now ⟦<Blocks<'a, F> as FragmentSource>⟧.over_all ⟦<Blocks<'a, F> as FragmentSource>⟧.to_come result }
     ensures sound { IfOk result (λ o. IfSome o (λ b. ⟦<Blocks<'a, F> as FragmentSource>⟧.broken_by b ≡ None)) }
+    ensures finds { IfOk result (λ o. IfSome o (λ b. (n at : ℕ)
+        → MayBeBad b.file.order.now b.file.columns.now b.file.number b.file.end (F.contents b.file.sealed.now) b.window.pieces.onward n at
+        → IsBadSlice table.now key.now slice.now n at)) }
     ensures fresh { IfOk result (λ o. IfSome o (λ b. F.Tally.number b.tally ≡ 0)) }
     ensures count { Counted (F.Tally.number tally.old) (F.Tally.number tally.new) (IsErrOf result TableFault.Read) }
 {

@@ -1,11 +1,12 @@
 //! A source of a partition, of what is in memory or of what stands in a file.
 
-ghost use Rattle.std.specs.Prelude.{◌≡◌, Some};
+ghost use Rattle.std.specs.Prelude.{◌≡◌, ℕ, Some};
 ghost use Rattle.cas_blocks.specs.declared.fault.TableFault.TheVariants as table_fault;
 ghost use Rattle.cas_disk.specs.Counts.{Counted};
-ghost use Rattle.cas_stored.specs.Inner.Either.{of_either, fault_of};
+ghost use Rattle.cas_stored.specs.Inner.Either.{of_either, fault_of, file_in};
 
 use crate::file::FileSource;
+use crate::places::BadPlaces;
 use cas_blocks::TableFault;
 use cas_cell::Deletion;
 use cas_disk::{Count, Sealed};
@@ -20,21 +21,31 @@ pub enum StoredSource<M, F> {
     File(F),
 }
 
-/// What a table has stored of a partition in one place.
-pub type Source<'a, S> = StoredSource<Merger<Part>, FileSource<'a, S>>;
+/// What a table has stored of a partition in one place; in its files places of B may be told bad.
+pub type Source<'a, S, B> = StoredSource<Merger<Part>, FileSource<'a, S, B>>;
+
+impl<M: Drop, F> StoredSource<M, F> {
+    // That of a file, where it is one.
+    fn into_file(self) -> Option<F>
+        ensures { result ≡ file_in self }
+    {
+        match self {
+            StoredSource::Memory(_) => None,
+            StoredSource::File(file) => Some(file),
+        }
+    }
+}
 
 /// Adds the tally of a source; where it was broken by a read that failed, the sum rises.
-pub(crate) fn add_tally<'a, S: Sealed>(source: Source<'a, S>, tally: &mut S::Tally)
-    ensures { Counted (S.Tally.number tally.old) (S.Tally.number tally.new)
-        (⟦<Source<'a, S> as FragmentSource>⟧.broken_by source.entry ≡ Some table_fault.Read) }
+pub(crate) fn add_tally<'a, S: Sealed, B: BadPlaces>(source: Source<'a, S, B>, tally: &mut S::Tally)
+    ensures count { Counted (S.Tally.number tally.old) (S.Tally.number tally.new)
+        (⟦<Source<'a, S, B> as FragmentSource>⟧.broken_by source.entry ≡ Some table_fault.Read) }
+    ensures found { (n at : ℕ) → ⟦<Source<'a, S, B> as FragmentSource>⟧.broken_by source.entry ≡ Some (table_fault.BadBlock n at) → ∥ B.told n at ∥₁ }
 {
-    match source {
-        StoredSource::Memory(_) => {}
-        StoredSource::File(file) => {
-            // So it is known to be at most the greatest u64, and doesn't fall.
-            let _before: u64 = tally.faults();
-            tally.add(file.end());
-        }
+    if let Some(file) = source.into_file() {
+        // So it is known to be at most the greatest u64, and doesn't fall.
+        let _before: u64 = tally.faults();
+        tally.add(file.end());
     }
 }
 

@@ -1,6 +1,6 @@
 //! What a table has stored in a shard.
 
-ghost use Rattle.std.specs.Prelude.{◌≡◌, ◌++◌, ◌∷◌, [], ◌≤◌, length, IfOk, IfErr, IsErrOf, OnOk, List as ListOf, is_ok, ◌&&◌, not, ◌==◌, if◌then◌else◌};
+ghost use Rattle.std.specs.Prelude.{◌≡◌, ℕ, ◌++◌, ◌∷◌, [], ◌≤◌, length, IfOk, IfErr, IsErrOf, OnOk, List as ListOf, is_ok, ◌&&◌, not, ◌==◌, if◌then◌else◌};
 ghost use Rattle.std.specs.Arc.{arc_value};
 ghost use Rattle.std.specs.List.{AllByRecursion};
 ghost use Rattle.cas_bounds.specs.declared.order.Ordered.{Ordered as Order};
@@ -13,9 +13,10 @@ ghost use Rattle.cas_memtable.specs.Kept.{all_of, begun, memtables_of, with_one}
 ghost use Rattle.cas_sstread.specs.Loading.{Held};
 ghost use Rattle.cas_view.specs.Views.{File, file_of};
 ghost use Rattle.cas_stored.specs.Stored.{HoldEach, HoldsEach, IsFileOf, IsStoredOf, ShowStored, StandInFile, flushed, oldest};
-ghost use Rattle.cas_stored.specs.Reading.{AreReadIn, IsWhyNot};
+ghost use Rattle.cas_stored.specs.Reading.{AreReadIn, IsBadFile, IsWhyNot};
 
 use crate::files::{put_files, put_memory};
+use crate::places::BadPlaces;
 use crate::source::Source;
 use cas_atoms::Mutation;
 use cas_blocks::TableFault;
@@ -112,18 +113,20 @@ impl<S: Sealed> TableStore<S> {
     }
 
     /// The sources of a partition in a slice: one of each file that has the key, and one of each
-    /// memtable in which something was written under it. Their merge is the partition.
-    pub fn sources<'a>(
+    /// memtable in which something was written under it. Their merge is the partition. What they tell bad
+    /// is one of B's places.
+    pub fn sources<'a, B: BadPlaces>(
         &'a self,
         alloc: Global,
         key: &Bytes,
         slice: &Slice,
         tally: &mut S::Tally,
-    ) -> Result<Vec<Source<'a, S>>, TableFault>
-        requires { AreReadIn slice.now self.now.files }
+    ) -> Result<Vec<Source<'a, S, B>>, TableFault>
+        requires reads { AreReadIn slice.now self.now.files }
+        requires told { (n at : ℕ) → IsBadFile self.now.files key.now slice.now n at → B.told n at }
         ensures shows { IfOk result (λ v. (order : ListOf Order) (wss : ListOf (ListOf Wrote))
             → HoldsEach order self.now wss → slice.now.lo.order ≡ order → slice.now.hi.order ≡ order
-            → ShowStored ⟦<Source<'a, S> as FragmentSource>⟧.to_come ⟦<Source<'a, S> as FragmentSource>⟧.over_all order slice.now key.now
+            → ShowStored ⟦<Source<'a, S, B> as FragmentSource>⟧.to_come ⟦<Source<'a, S, B> as FragmentSource>⟧.over_all order slice.now key.now
             self.now.files (memtables_of self.now.parts) (all_of wss) v.items) }
         ensures why { IfErr result (IsWhyNot self.now.files key.now) }
         ensures count { Counted (S.Tally.number tally.old) (S.Tally.number tally.new) (IsErrOf result TableFault.Read) }

@@ -7,7 +7,7 @@ use Rattle.cas_bounds.specs.declared.order.Ordered.{Ordered}
 use Rattle.cas_codec.specs.declared.fault.ReadFault.{ReadFault}
 use Rattle.cas_streams.specs.declared.fragment.Fragment.{Fragment}
 use Rattle.cas_fragments.specs.Reading.{next_block_at}
-use Rattle.cas_blocks.specs.Reading.{left_at, fragments_on}
+use Rattle.cas_blocks.specs.Reading.{left_at, fragments_on, BreaksBehind}
 use Rattle.cas_blocks.specs.Inner.Steps.{reached}
 use Rattle.cas_blocks.specs.declared.fault.TableFault.{TableFault}
 use Rattle.cas_blocks.specs.declared.fault.TableFault.TheVariants as table_fault
@@ -43,6 +43,18 @@ IsBadBlock order columns number end contents None n at = ⊥
 IsBadBlock order columns number end contents (Some o) n at =
     (file : List ℕ) → contents ≡ Some file
     → (n ≡ number) × (at ≡ o.place) × ((f : ReadFault) × (next_block_at order columns o.ends o.goes_on (reached o) (left_at file end o.place) ≡ Err f))
+
+-- a read that goes on may find that place of the file of that number bad: blocks that may stand there lead to it, and none does there
+abbrev pub MayBeBad : List Ordered → List Column → ℕ → ℕ → Option (List ℕ) → Option Onward → ℕ → ℕ → Type 0
+MayBeBad order columns number end contents None n at = ⊥
+MayBeBad order columns number end contents (Some o) n at =
+    (file : List ℕ) → contents ≡ Some file
+    → (n ≡ number) × ((bs : List (List Fragment)) × BreaksBehind order columns o.ends o.goes_on (reached o) (left_at file end o.place) bs at)
+
+-- after a call it finds no other place bad than it might before
+abbrev pub FindsNoMore : List Ordered → List Column → ℕ → ℕ → Option (List ℕ) → Option Onward → Option Onward → Type 0
+FindsNoMore order columns number end contents before after =
+    (n at : ℕ) → MayBeBad order columns number end contents after n at → MayBeBad order columns number end contents before n at
 
 abbrev pub IfBad : {A : Type 0} → (ℕ → ℕ → Type 0) → Result A TableFault → Type 0
 IfBad P (Ok x) = Unit {0}

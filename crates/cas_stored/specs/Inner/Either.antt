@@ -1,5 +1,5 @@
 -- What is said of sources of one kind or another (own).
-use Rattle.std.specs.Prelude.{Option}
+use Rattle.std.specs.Prelude.{Option, None, Some}
 use Rattle.std.specs.Option.{option_map}
 use Rattle.cas_blocks.specs.declared.fault.TableFault.{TableFault}
 use Rattle.cas_blocks.specs.declared.fault.TableFault.TheVariants.{Mem}
@@ -15,3 +15,8 @@ of_either memory file (File f) = file f
 abbrev pub fault_of : {M F E : Type 0} → (M → Option E) → (F → Option TableFault) → StoredSource M F → Option TableFault
 fault_of memory file (Memory m) = option_map (λ e. Mem) (memory m)
 fault_of memory file (File f) = file f
+
+-- that of a file, where it is one
+abbrev pub file_in : {M F : Type 0} → StoredSource M F → Option F
+file_in (Memory m) = None
+file_in (File f) = Some f

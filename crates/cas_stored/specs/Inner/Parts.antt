@@ -10,7 +10,7 @@ use Rattle.cas_index.specs.declared.entries.PartitionEntry.{PartitionEntry}
 use Rattle.cas_blocks.specs.declared.fault.TableFault.{TableFault}
 use Rattle.cas_blocks.specs.declared.fault.TableFault.TheVariants as table_fault
 use Rattle.cas_sstread.specs.Loading.{Held}
-use Rattle.cas_stored.specs.Slices.{IsHead, HasNoHead, IsSlice, IsBadHead}
+use Rattle.cas_stored.specs.Slices.{IsHead, HasNoHead, IsSlice, IsTold, IsBadHead, IsBadBlock}
 
 -- the head that stands there, or that in the file of that number none of the key does
 abbrev pub HeadAnswers : List Column → ℕ → Left → List ℕ → Result Head TableFault → Type 0
@@ -30,3 +30,7 @@ abbrev pub EntryAnswers : {X : Type 0} → Held → List ℕ → Slice → (X �
     → Type 0
 EntryAnswers t key s top to_come e (Ok x) = IsSlice t key s e (top x) (to_come x)
 EntryAnswers t key s top to_come e (Err fault) = IsFault t key e fault
+
+-- of the partition of which the index tells, that place of the file of that number is bad behind the head
+abbrev pub IsBadSlice : Held → List ℕ → Slice → ℕ → ℕ → Type 0
+IsBadSlice t key s n at = (e : PartitionEntry) × IsTold t.kept key e × IsBadBlock t s e n at

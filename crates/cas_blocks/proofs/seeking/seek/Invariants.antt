@@ -1,6 +1,6 @@
 use Rattle.std.proofs.Common.{◌≡◌, ◌≤◌, List, Some}
 use Rattle.cas_streams.specs.declared.fragment.Fragment.{Fragment}
-use Rattle.cas_blocks.specs.Inner.Pieces.{left_of, room_of}
+use Rattle.cas_blocks.specs.Inner.Pieces.{left_of, room_of, FindsNoMore}
 use Rattle.cas_blocks.proofs.PiecesLeft.{IsOn}
 use Rattle.cas_blocks.proofs.seeking.seek.Given as goal
 
@@ -10,6 +10,7 @@ invariant-loop-fragment g l = record {
       → IsOn l.file.order.now l.slice l.fn.force l.force fs
       (left_of l.file.order.now l.file.columns.now l.file.end (g.F.Sealed.contents l.file.sealed.now) l.pieces);
   room : room_of l.file.end l.pieces ≤ room_of l.file.end l.fn.pieces;
+  narrows : FindsNoMore l.file.order.now l.file.columns.now l.file.number l.file.end (g.F.Sealed.contents l.file.sealed.now) l.fn.pieces.onward l.pieces.onward;
   faults : g.F.Tally.Count.number l.fn.tally ≤ g.F.Tally.Count.number l.tally;
 }
 

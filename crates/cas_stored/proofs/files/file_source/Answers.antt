@@ -1,6 +1,7 @@
 use Rattle.std.proofs.Common.{◌≡◌, ℕ, None, true, arith, rules}
-use Rattle.std.proofs.lemmas.Grind.{common_steps}
+use Rattle.std.proofs.lemmas.Grind.{common_steps, merely}
 use Rattle.cas_view.specs.Views.{file_of, may_hold}
+use Rattle.cas_stored.proofs.WhyNot.{bad_behind}
 use Rattle.cas_stored.proofs.Gathering.{none_answers, why_one}
 use Rattle.cas_stored.proofs.files.file_source.Goals as goal
 
@@ -13,3 +14,9 @@ pub returns-in-Err-clause-why : goal.returns-in-Err-clause-why
 returns-in-Err-clause-why g c =
     let held : may_hold c.args.file.now.info c.args.key.now ≡ true = first_of (search rules, grind (arith, common_steps)) in
     why_one {Y = ℕ} (file_of c.args.file.now) c.deref.result.now c.args.key.now c.args.slice.now (λ n. None) (λ n. None) c.in-Err.fault c.deref.ensures held c.in-Err.ensures.told
+
+pub new-requires-clause-finds : goal.new-requires-clause-finds
+new-requires-clause-finds g c n at may =
+    let held : may_hold c.args.file.now.info c.args.key.now ≡ true = first_of (search rules, grind (arith, common_steps)) in
+    let finds = rw c.in-Ok-Some.field-0-is at c.in-Ok-Some.ensures.finds in
+    merely (c.requires.told n at (bad_behind c.args.key.now c.args.slice.now n at (file_of c.args.file.now) c.deref.result.now c.deref.ensures held (finds n at may)))

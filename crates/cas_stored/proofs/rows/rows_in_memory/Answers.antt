@@ -11,7 +11,7 @@ returns c =
     let ms = memtables_of c.args.parts.now in
     let q = c.args.query in
     let xs = c.in_ok-sources.field-0.items in
-    if_ok_too c.all_rows.result _ _
-    (λ v given. rows_shown [] ms q c.args.now (to_z w64 (of_z w64 c.args.now)) _ _ xs c.new-merger.result.top _ _ v.items (omega (arith, ints))
+    if_ok_too c.all_rows_of.result _ _
+    (λ v rows. rows_shown [] ms q c.args.now (to_z w64 (of_z w64 c.args.now)) _ _ xs c.new-merger.result.top _ v.items (omega (arith, ints))
     (λ order wss holds low high. memory_alone _ _ order q.slice q.key ms (all_of wss) xs (c.in_ok-sources.ensures order wss holds low high))
-    c.new-merger.ensures.fragments c.new-merger.ensures.top c.new-rows.ensures.rows given) c.all_rows.ensures.shown
+    c.new-merger.ensures.fragments c.new-merger.ensures.top rows) c.all_rows_of.ensures.rows

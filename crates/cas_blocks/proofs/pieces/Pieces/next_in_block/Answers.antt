@@ -1,9 +1,10 @@
-use Rattle.std.proofs.Common.{◌≡◌, List, Option, Some, Result, Err, sym, ap, subst, ◌∙◌}
+use Rattle.std.proofs.Common.{◌≡◌, ℕ, List, Option, Some, Result, Err, sym, ap, subst, ◌∙◌}
 use Rattle.std.specs.Vec.Iter.{into_iter_items}
 use Rattle.cas_streams.specs.declared.fragment.Fragment.{Fragment}
-use Rattle.cas_blocks.specs.Inner.Pieces.{IfBad, IsBadBlock}
+use Rattle.cas_blocks.specs.Inner.Pieces.{IfBad, IsBadBlock, FindsNoMore}
 use Rattle.cas_blocks.specs.declared.fault.TableFault.{TableFault}
 use Rattle.cas_blocks.specs.declared.steps.Onward.{Onward}
+use Rattle.cas_blocks.proofs.Breaks.{before_block}
 use Rattle.cas_blocks.proofs.PiecesLeft.{told_there, piece_end, piece_block, piece_bad, piece_sound, taken}
 use Rattle.cas_blocks.proofs.pieces.Pieces.next_in_block.Goals as goal
 
@@ -44,3 +45,12 @@ returns-in-Err-clause-sound g c = λ fs told.
     c.args.self.now.onward c.in-Some.at (into_iter_items c.args.self.now.rest) fs c.in-Some.is c.requires told in
     piece_sound c.args.file.now.order.now c.args.file.now.columns.now c.args.file.now.number c.args.file.now.end
     (g.F.Sealed.contents c.args.file.now.sealed.now) c.in-Some.at c.in-Err.fault fs on c.in-Err.ensures.told
+
+pub returns-in-Ok-Some-clause-narrows : goal.returns-in-Ok-Some-clause-narrows
+returns-in-Ok-Some-clause-narrows g c =
+    let file = c.args.file.now in
+    let contents : Option (List ℕ) = g.F.Sealed.contents file.sealed.now in
+    let is : c.args.self.now.onward ≡ Some c.in-Some.at = c.in-Some.is in
+    let answers = rw c.in-Ok-Some.field-0-is at c.in-Ok-Some.ensures.told in
+    subst (λ (o : Option Onward). FindsNoMore file.order.now file.columns.now file.number file.end contents o (Some c.in-Ok-Some.step.onward)) (sym is)
+    (before_block file.order.now file.columns.now file.number file.end contents c.in-Some.at c.in-Ok-Some.step answers)
