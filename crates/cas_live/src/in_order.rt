@@ -92,7 +92,9 @@ pub(crate) fn are_in_order(columns: &[Column], mine: &[RowColumn]) -> bool
     let mut rest = mine;
     while let [c, others @ ..] = rest {
         let number = c.column.number;
-        if !(is_below(number, others) && ascend_in(column_at(columns, number), c.cells.as_slice())) {
+        if !(is_below(number, others)
+            && ascend_in(column_at(columns, number), c.cells.as_slice()))
+        {
             return false;
         }
         rest = others;

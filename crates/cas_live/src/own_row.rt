@@ -11,8 +11,10 @@ ghost use Rattle.cas_live.specs.Inner.OwnRow.{own_has_cell, own_is_shown, number
 
 use crate::in_order::column_at;
 use crate::own_cells::{cells_in, columns_from, cover_in, front_of, own_pick, some_shows};
-use cas_atoms::{Atom, Datum, LiveRow, Partition, Pick, Query, Row, RowColumn};
-use cas_atoms::{greater_deletion, picked, standing_live};
+use cas_atoms::{
+    Atom, Datum, LiveRow, Partition, Pick, Query, Row, RowColumn, greater_deletion, picked,
+    standing_live,
+};
 use cas_bounds::{Values, between};
 use cas_cell::{Deletion, Liveness, live_alive};
 use cas_types::{Column, List};
@@ -133,7 +135,14 @@ fn own_or_shared(
         query.now all.entry.atoms.now all.entry.now over values.now (option_copied mine.entry) pick) }
 {
     match if_regular(column_at(query.columns.as_slice(), number_of(pick))) {
-        Some(c) => own_pick(alloc, pick, all.now, cover_in(over, mine), cells_in(mine), c),
+        Some(c) => own_pick(
+            alloc,
+            pick,
+            all.now,
+            cover_in(over, mine),
+            cells_in(mine),
+            c,
+        ),
         None => picked(alloc, query, all, Some(values), pick),
     }
 }
@@ -175,15 +184,7 @@ fn own_row(
         rest = seek(columns, last, rest, number);
         last = number;
         let mine = front_of(number, rest);
-        values.push(own_or_shared(
-            alloc,
-            query,
-            all,
-            over,
-            &row.clustering.values,
-            mine,
-            *pick,
-        )?)?;
+        values.push(own_or_shared(alloc, query, all, over, &row.clustering.values, mine, *pick)?)?;
     }
     Ok(LiveRow {
         values: List::from_vec(values),
@@ -202,7 +203,8 @@ fn own_answer(
     requires columns { AreNumbered query.now.columns }
     ensures { IfOk result (λ r. r ≡ own_answer query.now all.entry.atoms.now all.entry.now over row.now) }
 {
-    if !between(&query.slice.lo, &query.slice.hi, row.clustering.values.as_slice()) {
+    let values = row.clustering.values.as_slice();
+    if !between(&query.slice.lo, &query.slice.hi, values) {
         return Ok(None);
     }
     if !own_is_shown(all.now, over, query.columns.as_slice(), row) {
