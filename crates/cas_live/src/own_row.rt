@@ -176,10 +176,11 @@ fn own_row(
     ensures { IfOk result (λ r. r ≡ own_row query.now all.entry.atoms.now all.entry.now over row.now) }
 {
     let columns = row.columns.as_slice();
-    let mut values = Vec::new(alloc);
+    let picks = query.picks.as_slice();
+    let mut values = Vec::with_capacity(alloc, picks.len())?;
     let mut last = 0;
     let mut rest = columns;
-    for pick in query.picks.as_slice() {
+    for pick in picks {
         let number = number_of(*pick);
         rest = seek(columns, last, rest, number);
         last = number;
