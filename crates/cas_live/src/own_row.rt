@@ -3,11 +3,13 @@
 ghost use Rattle.std.specs.Prelude.{◌≡◌, ◌+◌, ◌<◌, ◌^◌, ◌&&◌, ◌≤ℤ◌, pos, true, length, slice_get, IfOk};
 ghost use Rattle.std.specs.Option.{option_copied};
 ghost use Rattle.cas_types.specs.Schemas.{is_regular};
+ghost use Rattle.cas_atoms.specs.Coordinates.{clustered};
+ghost use Rattle.cas_atoms.specs.Picks.{picked};
 ghost use Rattle.cas_atoms.specs.Answers.{AreNumbered, is_living};
 ghost use Rattle.cas_live.specs.Views.{row_view, if_answered};
 ghost use Rattle.cas_live.specs.Inner.InOrder.{are_of_all, are_in_order};
 ghost use Rattle.cas_live.specs.Inner.OwnRow.{of_whole, top_of, row_cover, columns_from, front_of, cover_in, cells_in, some_shows};
-ghost use Rattle.cas_live.specs.Inner.OwnRow.{own_has_cell, own_is_shown, number_of, if_regular, own_or_shared, own_picked, own_row, own_answer};
+ghost use Rattle.cas_live.specs.Inner.OwnRow.{is_beside_key, none_of_key, key_type, own_has_cell, own_is_shown, number_of, if_regular, own_or_shared, own_picked, own_row, own_answer};
 
 use crate::in_order::column_at;
 use crate::own_cells::{cells_in, columns_from, cover_in, front_of, own_pick, some_shows};
@@ -17,7 +19,7 @@ use cas_atoms::{
 };
 use cas_bounds::{Values, between};
 use cas_cell::{Deletion, Liveness, live_alive};
-use cas_types::{Column, List};
+use cas_types::{Bytes, Column, List, TypeTag};
 use std::alloc::{AllocError, Global};
 
 // The deletion, where the atom is one of the whole partition.
@@ -120,6 +122,56 @@ fn if_regular(column: Option<&Column>) -> Option<&Column>
     }
 }
 
+// Whether the column isn't one of the partition key.
+fn is_beside_key(column: &Column) -> bool
+    ensures { result ≡ is_beside_key column.now }
+{
+    !column.kind.is_partition()
+}
+
+// Whether none of the columns is.
+fn none_of_key(columns: &[Column]) -> bool
+    ensures { result ≡ none_of_key columns.now }
+{
+    let mut rest = columns;
+    while let [c, others @ ..] = rest {
+        if !is_beside_key(c) {
+            return false;
+        }
+        rest = others;
+    }
+    true
+}
+
+// The type of the partition key, where the first column alone makes it.
+fn key_type(columns: &[Column]) -> Option<TypeTag>
+    ensures { result ≡ key_type columns.now }
+{
+    match columns {
+        [c, others @ ..] if c.kind.is_partition() && none_of_key(others) => Some(c.tag),
+        _ => None,
+    }
+}
+
+// What the row shows for a pick by what all rows share and by its key.
+fn picked_of_all(
+    alloc: Global,
+    query: &Query,
+    all: Partition<'_>,
+    values: &Values,
+    pick: Pick,
+) -> Result<Datum, AllocError>
+    requires { pos 0 ≤ℤ all.now }
+    ensures { IfOk result (λ d. d ≡ picked query.now all.entry.atoms.now all.entry.now (clustered values.now) pick) }
+{
+    if let Pick::Value(0) = pick {
+        if let Some(tag) = key_type(query.columns.as_slice()) {
+            return Ok(Datum::One(tag, Bytes::copy_of(alloc, query.key.as_slice())?));
+        }
+    }
+    picked(alloc, query, all, Some(values), pick)
+}
+
 // What the row shows for a pick of that column of its own, or of one that isn't regular.
 fn own_or_shared(
     alloc: Global,
@@ -143,7 +195,7 @@ fn own_or_shared(
             cells_in(mine),
             c,
         ),
-        None => picked(alloc, query, all, Some(values), pick),
+        None => picked_of_all(alloc, query, all, values, pick),
     }
 }
 

@@ -1,9 +1,10 @@
 -- What a row in order shows, read from itself (own).
-use Rattle.std.specs.Prelude.{ℕ, ◌+◌, ◌==◌, ℤ, Bool, false, ◌&&◌, ◌||◌, nat_lt, Option, None, Some, List, [], ◌∷◌, map, filter, slice_get, cond}
+use Rattle.std.specs.Prelude.{ℕ, ◌+◌, ◌==◌, ℤ, Bool, true, false, not, ◌&&◌, ◌||◌, nat_lt, Option, None, Some, List, [], ◌∷◌, map, filter, slice_get, cond}
 use Rattle.std.specs.Bool.{then_some}
 use Rattle.std.specs.Option.{option_map}
-use Rattle.cas_types.specs.Schemas.{is_regular, type_or_blob}
+use Rattle.cas_types.specs.Schemas.{is_partition, is_regular, type_or_blob}
 use Rattle.cas_types.specs.declared.schema.Column.{Column}
+use Rattle.cas_types.specs.declared.tag.TypeTag.{TypeTag}
 use Rattle.cas_types.specs.declared.schema.Shape.{Shape}
 use Rattle.cas_types.specs.declared.schema.Shape.TheVariants as shape
 use Rattle.cas_cell.specs.Cells.{cell_at, cell_value}
@@ -101,6 +102,22 @@ abbrev pub own_pick : Pick → ℤ → Option Deletion → List PathCell → Col
 own_pick (Value n) now over cells c = own_value c.shape now over cells c
 own_pick (WriteTime n) now over cells c = number_or_null (option_map cell_at (plain_shown now over cells))
 own_pick (Ttl n) now over cells c = number_or_null (left_of now (plain_shown now over cells))
+
+-- ---- the partition key
+
+-- the column isn't one of the partition key
+abbrev pub is_beside_key : Column → Bool
+is_beside_key c = not (is_partition c.kind)
+
+-- none of the columns is
+abbrev pub none_of_key : List Column → Bool
+none_of_key [] = true
+none_of_key (c ∷ cs) = is_beside_key c && none_of_key cs
+
+-- the type of the partition key, where the first column alone makes it
+abbrev pub key_type : List Column → Option TypeTag
+key_type [] = None
+key_type (c ∷ cs) = then_some (is_partition c.kind && none_of_key cs) c.tag
 
 -- ---- the row
 
