@@ -1,5 +1,5 @@
 -- What a row shows of a partition key that one column makes.
-use Rattle.std.proofs.Common.{◌≡◌, ℕ, ◌+◌, ℤ, Bool, true, false, cond, ◌&&◌, Option, None, Some, List, [], ◌∷◌, slice_get, refl, sym, ap, ◌∙◌, arith}
+use Rattle.std.proofs.Common.{◌≡◌, ℕ, ◌+◌, ℤ, true, false, cond, ◌&&◌, Some, List, [], ◌∷◌, slice_get, refl, sym, ap, ◌∙◌, arith}
 use Rattle.std.proofs.lemmas.Bool.{true≢false, and_parts, not-true}
 use Rattle.std.specs.Bool.{then_some}
 use Rattle.std.specs.List.{count_by, fold}
