@@ -49,9 +49,7 @@ fn is_whole(slice: &Slice) -> bool
     begins && ends
 }
 
-// What any row shows, where it answers, by a search among all atoms of its view. It stands apart, so
-// that a row in order doesn't pay for what it holds.
-#[inline(never)]
+// What any row shows, where it answers, by a search among all atoms of its view.
 fn show_any_row(
     alloc: Global,
     query: &Query,
