@@ -9,7 +9,8 @@ ghost use Rattle.cas_atoms.specs.Answers.{AreNumbered, is_living};
 ghost use Rattle.cas_live.specs.Views.{row_view, if_answered};
 ghost use Rattle.cas_live.specs.Inner.InOrder.{are_of_all, are_in_order};
 ghost use Rattle.cas_live.specs.Inner.OwnRow.{of_whole, top_of, row_cover, columns_from, front_of, cover_in, cells_in, some_shows};
-ghost use Rattle.cas_live.specs.Inner.OwnRow.{is_beside_key, none_of_key, key_type, own_has_cell, own_is_shown, number_of, if_regular, own_or_shared, own_picked, own_row, own_answer};
+ghost use Rattle.cas_live.specs.Inner.OwnRow.{is_beside_key, none_of_key, key_type, own_has_cell, own_is_shown, number_of};
+ghost use Rattle.cas_live.specs.Inner.OwnRow.{if_regular, own_or_shared, own_picked, own_row, own_answer};
 
 use crate::in_order::column_at;
 use crate::own_cells::{cells_in, columns_from, cover_in, front_of, own_pick, some_shows};

@@ -125,7 +125,7 @@ one_given s start disk shard count t x y z during reads there own before more = 
     here : (u : TableSchema) → slice_get s.tables count ≡ Some u → HasTaken u start shard (part_of s count shard).listed (slice_get x.stores count) (slice_get z.stores count)
     here u is =
         let taken : HasTaken t disk shard (part_of s count shard).listed (slice_get y.stores count) (slice_get z.stores count) =
-            subst (λ (k : ℕ). HasTaken t disk shard (part_of s k shard).listed (slice_get y.stores k) (slice_get z.stores k)) own more.taken in
+        subst (λ (k : ℕ). HasTaken t disk shard (part_of s k shard).listed (slice_get y.stores k) (slice_get z.stores k)) own more.taken in
         subst (λ (v : TableSchema). HasTaken v start shard (part_of s count shard).listed (slice_get x.stores count) (slice_get z.stores count)) (some_same t u (sym there ∙ is))
         (stayed_taken t start shard (part_of s count shard).listed (slice_get x.stores count) (slice_get y.stores count) (slice_get z.stores count) (before.stayed count (omega arith))
         (taken_before t shard (part_of s count shard).listed start disk during reads (slice_get y.stores count) (slice_get z.stores count) taken))
@@ -193,7 +193,7 @@ one_filled s start disk count xs ys x y during reads there before more = record 
           x,
           ap (slice_get xs) e ∙ sym (before.others count (omega arith)) ∙ there,
           subst (λ (k : ℕ). IsFilled s start k x z) (sym e)
-          (subst (IsFilled s start count x) same (filled_before s start disk count x y during reads more)),
+              (subst (IsFilled s start count x) same (filled_before s start disk count x y during reads more)),
         )
     by n (inr apart) z low is = before.filled n z (omega (arith, low, apart)) (sym (get_other ys count n y apart) ∙ is)
 

@@ -115,9 +115,8 @@ module _ (entries : List Entry) (mutations handed : List Mutation) (o : OpenStor
           let low : n < o.said.shards = omega (arith, get_within shards n x there, back.count) in
           let (was, before, filled) = back.filled.filled n x low there in
           let stood : Stands s.tables (found_shard (found_in n (unflushed_of s mutations))) was =
-              subst (λ ms. Stands s.tables (found_shard (found_in n ms)) was) read.above (back.restored.1 s.tables s.shards given_all n was before) in
+          subst (λ ms. Stands s.tables (found_shard (found_in n ms)) was) read.above (back.restored.1 s.tables s.shards given_all n was before) in
           subst (λ ts. Stands ts (found_shard p) x) (sym (back.tables_are ∙ tables_said))
           (opening_stands s mutations old mid n was x p
           (files_stand given.shards old mid c reads (opens c reads bytes) (stays c reads bytes) n (omega (arith, low, shards_said))) stood (back.restored.0 n was before)
           (as_told mid n was x filled) is)
-

@@ -107,7 +107,7 @@ module _ (entries : List Entry) (mutations : List Mutation) (old mid : Disk) (im
         let (c, now) = call.tells image read in
         let (d, left, stay) = left_before c now in
         let alike : AreAlike d c infos =
-            all_listed s d c table shard infos (get_within s.tables table t there) within stay (own_file infos infos (λ n is. is)) in
+        all_listed s d c table shard infos (get_within s.tables table t there) within stay (own_file infos infos (λ n is. is)) in
         hold t shard c infos (files_at b) say.written (has.loaded c now) (stand_alike t shard d c infos say.written alike (say.stand d left))
 
     pub table_holds : (a b : Option StoredTable) (log all : List Mutation) → files_at a ≡ [] → HasTaken t mid shard (part_of s table shard).listed a b

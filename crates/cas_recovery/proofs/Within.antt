@@ -112,7 +112,7 @@ pub within : (entries : List Entry) → MayFollow nothing entries → IsWithin (
 within entries follow =
     let fit : Fit (said_by entries) = said_fits entries follow in
     let part : (table shard : ℕ) → PartFits (part_of (said_by entries) table shard) = λ table shard.
-        at_place PartFits (said_by entries).parts (place_in (said_by entries) table shard) no_part fit.parts no_part_fits in
+    at_place PartFits (said_by entries).parts (place_in (said_by entries) table shard) no_part fit.parts no_part_fits in
     let times : (shard : ℕ) → TimesFit (times_of (said_by entries) shard) = λ shard. at_place TimesFit (said_by entries).times shard no_times fit.times no_times_fit in
     record {
       numbers = λ i t there. ((sound entries follow).tables i t there).0;
@@ -133,5 +133,5 @@ named_alone entries (n ∷ numbers) =
       segments,
       last,
       ap said_by (sym (append_assoc entries (entry.NewSegment n ∷ []) (named numbers))) ∙ is
-      ∙ ap (λ (s : Saying). record s { segments = segments; last_segment = last }) (said_more entries (entry.NewSegment n)),
+          ∙ ap (λ (s : Saying). record s { segments = segments; last_segment = last }) (said_more entries (entry.NewSegment n)),
     )

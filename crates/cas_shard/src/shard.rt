@@ -91,7 +91,8 @@ impl<S: Sealed> Shard<S> {
     ghost use Rattle.cas_shard.specs.declared.entry.ShardOpening.{ShardOpening as Opening};
     ghost use Rattle.cas_shard.specs.Shards.{IsTime, Prepares, ShardHistory, Shows, after_restore, empty_shard, entered, found_shard};
     ghost use Rattle.cas_shard.specs.Shards.{later_drawn, later_moment, number_of, raised, take_refusal, told_shard};
-    ghost use Rattle.cas_shard.specs.Stands.{AreShown, Asks, Belongs, HasNoFiles, HasRoom, IsPrepared, IsReady, KeepsFiles, Stands, Suits, TakesFiles, files_at};
+    ghost use Rattle.cas_shard.specs.Stands.{AreShown, Asks, Belongs, HasNoFiles, HasRoom, IsPrepared, IsReady, KeepsFiles, Stands, Suits};
+    ghost use Rattle.cas_shard.specs.Stands.{TakesFiles, files_at};
     ghost use Rattle.cas_shard.specs.Inner.Stores.{MakesRoom};
     ghost use Rattle.cas_shard.specs.Inner.Turns.{Answered, Took};
     ghost use Rattle.cas_blocks.specs.declared.fault.TableFault.TheVariants as table_fault;

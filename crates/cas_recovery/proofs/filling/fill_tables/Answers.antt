@@ -34,7 +34,7 @@ loop-table-preserved g c =
     let n = c.loop-table.table-index in
     let t = c.table-item.result in
     let there : slice_get c.args.said.now.tables n ≡ Some t = subst (λ us. slice_get us n ≡ Some t) c.tables-table-items.ensures
-        (slice_get-get_or c.tables-table-items.result.now n t c.loop-table-test.true ∙ ap (λ u. Some u) (sym c.table-item.is)) in
+    (slice_get-get_or c.tables-table-items.result.now n t c.loop-table-test.true ∙ ap (λ u. Some u) (sym c.table-item.is)) in
     record {
       given = one_given c.args.said.now (disk c.args.folder.now) (disk c.loop-table.folder) c.args.shard n t c.args.filled.now c.loop-table.filled c.fill_table.new.filled so_far.during so_far.reads
           there (c.requires.within.numbers n t there) so_far.given c.in_default.ensures.given;

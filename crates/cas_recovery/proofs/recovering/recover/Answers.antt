@@ -48,8 +48,8 @@ returns-clause-refused g c name at is image read bytes =
       ms,
       tells image read bytes,
       bad_table entries ms handed c.in-Ok-open_to.opened reads c.args.limits.now.shards old mid image name at read (tells image read bytes)
-      (λ store. c.open_to.ensures.stays image read bytes entries ms store) (λ new. c.open_to.ensures.made image read bytes new)
-      (of_err c.brought_back.result (fault.Bad name at) (λ f. (d : Image) → mid.reads d → IsBadOfShard c.in-Ok-open_to.opened.said d f) is c.brought_back.ensures.bad),
+          (λ store. c.open_to.ensures.stays image read bytes entries ms store) (λ new. c.open_to.ensures.made image read bytes new)
+          (of_err c.brought_back.result (fault.Bad name at) (λ f. (d : Image) → mid.reads d → IsBadOfShard c.in-Ok-open_to.opened.said d f) is c.brought_back.ensures.bad),
     )
 
 pub returns-clause-stays : goal.returns-clause-stays
