@@ -99,7 +99,7 @@ const ALTERED: [(u64, u8, Option<u64>); 10] = [
     (11, 1, Some(10)), // of another table
     (12, 0, Some(12)), // of another shard
     (20, 2, Some(13)), // of another number
-    (67, 31, None), // another value, which isn't read
+    (31, 3, None), // no fragment, in a partition, which isn't read
     (122, 0, Some(121)), // an empty key in the index
     (199, 21, Some(192)), // a timestamp that isn't listed so
     (237, 0x32, Some(230)), // another word at the end
