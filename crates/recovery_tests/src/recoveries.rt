@@ -83,9 +83,20 @@ fn is_found(alloc: Global) -> bool {
         && answer(alloc, &mut folder) == (Ok((1, 0, 6)), 0, 0)
 }
 
+// Whether a table file that isn't listed goes, and the listed one stays.
+fn is_swept(alloc: Global) -> bool {
+    let Some(mut folder) = found(alloc) else {
+        return false;
+    };
+    put(&mut folder, Name::Table(9), b"")
+        && answer(alloc, &mut folder) == FOUND
+        && !folder.has(Name::Table(9))
+        && folder.has(Name::Table(1))
+}
+
 #[test]
 fn a_flushed_file_is_found_by_an_opening(rt: HostRuntime) {
-    assert!(rt; is_found(rt.alloc()));
+    assert!(rt; is_found(rt.alloc()) && is_swept(rt.alloc()));
 }
 
 // Another byte at a place of the table file, and where that is refused.
@@ -164,20 +175,4 @@ fn are_told(alloc: Global) -> bool {
 #[test]
 fn what_fails_is_told(rt: HostRuntime) {
     assert!(rt; is_missed(rt.alloc()) && are_told(rt.alloc()));
-}
-
-// Whether a table file that isn't listed goes, and the listed one stays.
-fn is_swept(alloc: Global) -> bool {
-    let Some(mut folder) = found(alloc) else {
-        return false;
-    };
-    put(&mut folder, Name::Table(9), b"")
-        && answer(alloc, &mut folder) == FOUND
-        && !folder.has(Name::Table(9))
-        && folder.has(Name::Table(1))
-}
-
-#[test]
-fn a_file_that_is_not_listed_goes(rt: HostRuntime) {
-    assert!(rt; is_swept(rt.alloc()));
 }
