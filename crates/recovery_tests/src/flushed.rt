@@ -1,0 +1,168 @@
+//! A folder with a store of two shards and the table `k tinyint, c tinyint, v tinyint, PRIMARY KEY (k, c)`, of which a flush
+//! wrote a file.
+
+use cas_atoms::{Atom, ColumnRef, Mutation};
+use cas_bounds::{Clustering, Ordered, RowOrder, Values};
+use cas_cell::{Cell, Liveness};
+use cas_disk::{Count, Draft, FaultCount, FaultPlan, Folder, MemDraft, MemFolder, MemSealed, Name};
+use cas_flush::flush_parts;
+use cas_stored::TableStore;
+use cas_tables::{Header, Version};
+use cas_types::{Bytes, Column, Kind, List, Shape, Text, TypeTag};
+use std::alloc::{AllocError, Global};
+
+// The manifest by hand. The file has 238 bytes: 21 of the header, 96 of the one partition with two rows of 41, 33 of the
+// index, 12 of the filter, 44 of what is told of it, and 32 of the footer.
+const MANIFEST: [u8; 177] = [
+    1, 0x43, 0x41, 0x53, 0x53, 0x4d, 0x41, 0x4e, 0x31, // its gate is open, CASSMAN1
+    1, 0, 0, 0, 2, 0, 0, 0, 1, // an open gate, and the lengths of a block
+    1, 2, // two shards
+    1, 0, 0, 0, 62, 0, 0, 0, 1, //
+    2, 0, 0, 0, 1, 0x74, // table 0 is t
+    0, 3, // three columns
+    0, 1, 0x6b, 0, 0, 11, // k tinyint, of the partition key
+    0, 1, 0x63, 1, 0, 11, // c tinyint, a clustering column
+    0, 1, 0x76, 3, 0, 11, // v tinyint
+    0, 0x0d, 0x2f, 0, 0, 0, 0, 0, 0, // ten days, no TTL, size-tiered
+    0, 4, 0, 32, 0, 0, 0, 50, 0, 0, 0, 150, // the thresholds and bounds
+    0, 0, 0, 0, 3, 0x20, 0, 0, 0, 160, 0, 10, // the sizes
+    2, 0, 1, // windows of one day
+    1, 0, 0, 0, 76, 0, 0, 0, 1, //
+    5, 0, 0, 1, // table 0 in shard 1
+    0, 0, 0, 0, 0, 0, 0, 77, // the moment
+    0, 0, 0, 0, 0, 0, 0, 5, // the frontier
+    0, 0, 0, 0, 0, 0, 0, 40, // the last drawn timestamp
+    0, 0, 0, 1, // none is removed, one added
+    0, 0, 0, 0, 0, 0, 0, 1, 0, 0, 0, 0, 0, 0, 0, 238, // table file 1 of 238 bytes
+    0, 1, 1, 0, 1, 1, // its keys
+    0, 0, 0, 0, 0, 0, 0, 10, 0, 0, 0, 0, 0, 0, 0, 20, 0, // its timestamps, nothing dead
+    0, 0, 0, 0, 1, // level 0, one key
+    0, // the next gate is closed
+];
+
+const HEADER: Header = Header {
+    version: Version::Second,
+    table: 0,
+    shard: 1,
+    number: 1,
+};
+
+fn column(alloc: Global, kind: Kind) -> Column {
+    Column {
+        name: Text::from_string(String::new(alloc)),
+        kind,
+        shape: Shape::One,
+        tag: TypeTag::TinyInt,
+        second: None,
+    }
+}
+
+fn columns(alloc: Global) -> Result<Vec<Column>, AllocError> {
+    Ok(vec![in alloc;
+        column(alloc, Kind::Partition),
+        column(alloc, Kind::Ascending),
+        column(alloc, Kind::Regular),
+    ]?)
+}
+
+fn place(alloc: Global, c: u8) -> Result<Clustering, AllocError> {
+    let order = Ordered {
+        tag: TypeTag::TinyInt,
+        descending: false,
+    };
+    Ok(Clustering {
+        values: Values::one(Bytes::copy_of(alloc, &[c])?),
+        order: RowOrder::from_vec(vec![in alloc; order]?),
+    })
+}
+
+fn live(alloc: Global, c: u8, at: u8) -> Result<Atom, AllocError> {
+    let live = Liveness::Plain { at: i64::from(at) };
+    Ok(Atom::Live(place(alloc, c)?, live))
+}
+
+fn written(alloc: Global, c: u8, v: u8, at: u8) -> Result<Atom, AllocError> {
+    let cell = Cell::Plain {
+        at: i64::from(at),
+        value: Bytes::copy_of(alloc, &[v])?,
+    };
+    let column = ColumnRef {
+        number: 2,
+        path: None,
+    };
+    Ok(Atom::Write(place(alloc, c)?, column, Bytes::copy_of(alloc, &[])?, cell))
+}
+
+// INSERT INTO t (k, c, v) VALUES (1, c, v) USING TIMESTAMP at
+fn insert(alloc: Global, number: u64, c: u8, v: u8, at: u8) -> Result<Mutation, AllocError> {
+    let atoms = vec![in alloc; live(alloc, c, at)?, written(alloc, c, v, at)?]?;
+    Ok(Mutation {
+        table: 0,
+        shard: 1,
+        number,
+        drawn: false,
+        at: i64::from(at),
+        moment: 77,
+        key: Bytes::copy_of(alloc, &[1])?,
+        atoms: List::from_vec(atoms),
+    })
+}
+
+fn join(store: &mut TableStore<MemSealed>, mutation: Mutation) -> Result<(), AllocError> {
+    store.reserve(&mutation)?;
+    store.apply(mutation);
+    Ok(())
+}
+
+// The store takes two INSERTs.
+fn joined(alloc: Global, store: &mut TableStore<MemSealed>) -> Result<(), AllocError> {
+    join(store, insert(alloc, 4, 3, 30, 10)?)?;
+    join(store, insert(alloc, 5, 5, 50, 20)?)
+}
+
+// A store whose one frozen memtable has two rows of a partition.
+fn frozen(alloc: Global) -> Option<TableStore<MemSealed>> {
+    let Ok(mut store) = TableStore::new(alloc) else {
+        return None;
+    };
+    if joined(alloc, &mut store).is_ok() && store.freeze(alloc).is_ok() {
+        Some(store)
+    } else {
+        None
+    }
+}
+
+fn is_admitted(folder: &mut MemFolder, draft: MemDraft) -> bool
+    requires { ⟦<MemDraft as Draft>⟧.is_synced draft }
+{
+    folder.admit(draft).is_ok()
+}
+
+// Whether a flush of these memtables wrote the table file 1.
+fn is_flushed(alloc: Global, folder: &mut MemFolder, store: &TableStore<MemSealed>) -> bool {
+    let (Ok(columns), Ok(draft)) = (columns(alloc), folder.draft(1)) else {
+        return false;
+    };
+    let mut tally = FaultCount::fresh();
+    let memtables = store.parts().frozen();
+    match flush_parts(alloc, memtables, &columns, HEADER, draft, &mut tally) {
+        Ok(Some((_info, draft))) => is_admitted(folder, draft),
+        _ => false,
+    }
+}
+
+/// Whether a file of these bytes is made where none was.
+pub(crate) fn put(folder: &mut MemFolder, name: Name, bytes: &[u8]) -> bool {
+    !folder.has(name) && folder.create(name).is_ok() && folder.write_at(name, 0, bytes).is_ok()
+}
+
+/// The folder, whose calls fail by this plan.
+pub(crate) fn flushed(alloc: Global, plan: FaultPlan) -> Option<MemFolder> {
+    let mut folder = MemFolder::new(alloc, plan);
+    let store = frozen(alloc)?;
+    if put(&mut folder, Name::Manifest, &MANIFEST) && is_flushed(alloc, &mut folder, &store) {
+        Some(folder)
+    } else {
+        None
+    }
+}
