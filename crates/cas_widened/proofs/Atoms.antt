@@ -7,10 +7,8 @@ use Rattle.cas_atoms.specs.Fits.{Fits, FitsWrite, FitsEmptied}
 use Rattle.cas_atoms.specs.declared.atom.Atom.{Atom}
 use Rattle.cas_atoms.specs.declared.atom.Atom.TheVariants as atom
 use Rattle.cas_atoms.specs.declared.atom.ColumnRef.{ColumnRef}
-use Rattle.cas_atoms.specs.declared.atom.Mutation.{Mutation}
 use Rattle.cas_streams.proofs.Weaves.{all_so}
 use Rattle.cas_partition.specs.Partitions.{AllFit}
-use Rattle.cas_flush.specs.Flushed.{MayHold}
 use Rattle.cas_widened.specs.Laws.{AreAdded, MutationsStay}
 use Rattle.cas_widened.proofs.Columns.{clustering_fits, range_fits, names_still}
 

@@ -1,5 +1,5 @@
 -- Streams, partitions and contents of table files.
-use Rattle.std.proofs.Common.{ℕ, Bool, List, ◌++◌}
+use Rattle.std.proofs.Common.{Bool, List, ◌++◌}
 use Rattle.std.specs.List.{AllByRecursion}
 use Rattle.cas_types.specs.Schemas.{is_static, is_regular}
 use Rattle.cas_types.specs.declared.schema.Column.{Column}
@@ -13,7 +13,7 @@ use Rattle.cas_streams.proofs.Weaves.{all_so}
 use Rattle.cas_fragments.specs.Allowed.{FitsColumn, FitColumns, FitsRow, FitsFragment}
 use Rattle.cas_fragments.specs.Blocks.{statics_in, behind_statics}
 use Rattle.cas_tables.specs.Contents.{Partition}
-use Rattle.cas_tables.specs.Fitting.{FitsPartition, FitsContents}
+use Rattle.cas_tables.specs.Fitting.{FitsPartition}
 use Rattle.cas_widened.specs.Laws.{AreAdded, ContentsStay}
 use Rattle.cas_widened.proofs.Columns.{ordered_still, clustering_fits, cut_fits, names_still}
 

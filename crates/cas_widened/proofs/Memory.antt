@@ -15,7 +15,8 @@ module _ (columns more : List Column) (added : AreAdded more) where
   abbrev wide : List Column
   wide = columns ++ more
 
-  is_in : (row : Option MapKey) (column : Option ℕ) (path : Option (List ℕ)) (c : Content) → IsIn columns row column path c → IsIn wide row column path c
+  is_in : (row : Option MapKey) (column : Option ℕ) (path : Option (List ℕ)) (c : Content) → IsIn columns row column path c
+      → IsIn wide row column path c
   is_in row None path c is = tt
   is_in row (Some n) path c is =
       record { column = is.column; named = names_still columns more _ is.column is.named; kind = is.kind; at = is.at }
