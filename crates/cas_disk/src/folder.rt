@@ -124,6 +124,7 @@ pub trait Folder {
     fn admit(&mut self, draft: Self::Draft) -> Result<Self::Sealed, FolderFault>
         requires synced { Self.Draft.is_synced draft }
         ensures holds { IfOk result (λ file. (b : List ℕ) → Self.Sealed.contents file ≡ Some b → Self.Draft.written draft b) }
+        ensures told { IfOk result (λ file. (c : Image) → (disk self.old).reads c → (b : List ℕ) × (Self.Sealed.contents file ≡ Some b)) }
         ensures stands { OnOk result ((c : Image) → (disk self.new).may_leave c
             → (b : List ℕ) × Self.Draft.written draft b × (c (Name.Table (Self.Draft.number draft)) ≡ Some b)) }
         ensures reads { OnOk result (Follows (Changed (Name.Table (Self.Draft.number draft)) MayBeAnything) (disk self.old).reads (disk self.new).reads) }
@@ -134,6 +135,7 @@ pub trait Folder {
     fn sealed(&mut self, number: u64) -> Result<Self::Sealed, FolderFault>
         ensures holds { IfOk result (λ file. (c : Image) → (disk self.old).reads c
             → (b : List ℕ) → Self.Sealed.contents file ≡ Some b → c (Name.Table number) ≡ Some b) }
+        ensures told { IfOk result (λ file. (c : Image) → (disk self.old).reads c → (b : List ℕ) × (Self.Sealed.contents file ≡ Some b)) }
         ensures reads { Follows Same (disk self.old).reads (disk self.new).reads }
         ensures during { During Same (disk self.old) (disk self.new) }
         ensures count { Counted (faults_of self.old) (faults_of self.new) (IsErrOf result FolderFault.Failed) };
@@ -143,6 +145,7 @@ pub trait Folder {
         requires { (c : Image) → (disk self.old).reads c → c (Name.Import number) ≢ None }
         ensures holds { IfOk result (λ file. (c : Image) → (disk self.old).reads c
             → (b : List ℕ) → Self.Sealed.contents file ≡ Some b → c (Name.Import number) ≡ Some b) }
+        ensures told { IfOk result (λ file. (c : Image) → (disk self.old).reads c → (b : List ℕ) × (Self.Sealed.contents file ≡ Some b)) }
         ensures reads { Follows Same (disk self.old).reads (disk self.new).reads }
         ensures during { During Same (disk self.old) (disk self.new) }
         ensures count { Counted (faults_of self.old) (faults_of self.new) (IsErrOf result FolderFault.Failed) };

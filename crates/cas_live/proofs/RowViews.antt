@@ -113,6 +113,14 @@ not_static c (Some d) = record {
   cells = λ x e. none_wins cell_laws.orders cell_laws.by_time (cell_at_path x) x (RowDeletion c d ∷ []) refl;
 }
 
+-- of the static row a row's view says what all rows share
+pub static_view : (all : List Atom) (force : Option Deletion) (r : Row) → SameWhere (same_row static_row) all (row_view all force r)
+static_view all force r =
+    let deletion : List Atom = atom_of (RowDeletion r.clustering) force in
+    subst (λ A. SameWhere (same_row static_row) A (all ++ (deletion ++ own (fragment.Row r)))) (append-nil all)
+    (same_where_joins (same_row static_row) all all [] (deletion ++ own (fragment.Row r)) (unchanged all)
+    (backwards (same_where_joins (same_row static_row) deletion [] (own (fragment.Row r)) [] (not_static r.clustering force) (other_row (fragment.Row r) static_row refl))))
+
 -- ---- one row of a stream
 
 pub same_itself : (c : List (List ℕ)) → same_values c c ≡ true
@@ -185,11 +193,7 @@ module _ {order : List Ordered} (top : Option Deletion) (fs : List Fragment) (or
   static = flat_map own (filter (λ f. is_row static_row (row_in f)) fs)
 
   in_static : SameWhere (same_row static_row) (flat top fs) (row_view (shared top fs) (in_force fs key) r)
-  in_static =
-      onwards (rows_say_all order top fs ordered static_row)
-      (subst (λ A. SameWhere (same_row static_row) A (shared top fs ++ (deletion ++ own (fragment.Row r)))) (append-nil (shared top fs))
-      (same_where_joins (same_row static_row) (shared top fs) (shared top fs) [] (deletion ++ own (fragment.Row r)) (unchanged (shared top fs))
-      (backwards (same_where_joins (same_row static_row) deletion [] (own (fragment.Row r)) [] (not_static r.clustering (in_force fs key)) (other_row (fragment.Row r) static_row refl)))))
+  in_static = onwards (rows_say_all order top fs ordered static_row) (static_view (shared top fs) (in_force fs key) r)
 
   own_says : SameWhere (same_row key) (row_says top fs key) (atom_of PartitionDeletion top ++ (static ++ (deletion ++ own (fragment.Row r))))
   own_says =

@@ -2,8 +2,11 @@
 #![tactic(auto)]
 
 mod all;
+mod in_order;
 mod laws;
 mod live_rows;
+mod own_cells;
+mod own_row;
 mod viewer;
 mod views;
 

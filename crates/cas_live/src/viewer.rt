@@ -10,6 +10,8 @@ ghost use Rattle.cas_streams.specs.declared.fragment.Fragment.{Fragment};
 ghost use Rattle.cas_live.specs.Views.{row_view, if_answered, or_static};
 ghost use Rattle.cas_live.specs.Walks.{walk, shared_after};
 
+use crate::in_order::{are_in_order, are_of_all};
+use crate::own_row::show_in_order;
 use crate::views::{add_columns, add_row};
 use cas_atoms::{Atom, LiveRow, Partition, Query, Row, is_shown, is_static_shown, row_shown};
 use cas_bounds::{Slice, between};
@@ -47,8 +49,8 @@ fn is_whole(slice: &Slice) -> bool
     begins && ends
 }
 
-// What the row shows, where it answers, by what all rows share and the range deletion in force.
-fn show_row(
+// What any row shows, where it answers, by a search among all atoms of its view.
+fn show_any_row(
     alloc: Global,
     query: &Query,
     now: i64,
@@ -70,6 +72,32 @@ fn show_row(
     let shown = if_answered(alloc, query, partition, row)?;
     shared.truncate(before);
     Ok(shown)
+}
+
+// What the row shows, where it answers, by what all rows share and the range deletion in force.
+fn show_row(
+    alloc: Global,
+    query: &Query,
+    now: i64,
+    shared: &mut Vec<Atom>,
+    force: Option<Deletion>,
+    row: &Row,
+) -> Result<Option<LiveRow>, AllocError>
+    requires begun { pos 0 ≤ℤ now }
+    requires columns { AreNumbered query.now.columns }
+    ensures shown { IfOk result (λ r. r ≡ if_answered query.now now (row_view shared.old.items force row.now) row.now.clustering.values) }
+    ensures shared { OnOk result (shared.new.items ≡ shared.old.items) }
+{
+    let ordered = are_in_order(query.columns.as_slice(), row.columns.as_slice());
+    if ordered && are_of_all(shared.as_slice()) {
+        let all = Partition {
+            atoms: shared.as_slice(),
+            now,
+        };
+        show_in_order(alloc, query, all, force, row)
+    } else {
+        show_any_row(alloc, query, now, shared, force, row)
+    }
 }
 
 /// A query on its way through the fragments of a partition.

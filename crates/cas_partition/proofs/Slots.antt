@@ -43,6 +43,11 @@ cut_back c = λ i. record { prefix = c.prefix; after = side_back c.after i; orde
 pub is_key_of_cut : (k : MapKey) (c : Cut) → k ≡ key_of c → key_of (cut_of k) ≡ k
 is_key_of_cut k c e = subst (λ q. key_of (cut_of q) ≡ q) (sym e) (ap key_of (cut_back c))
 
+pub is_less : (r : Ordering) → is_lt r ≡ true → r ≡ Less
+is_less Less e = refl
+is_less Equal e = absurd (true≢false (sym e))
+is_less Greater e = absurd (true≢false (sym e))
+
 -- ---- what is in force below a key
 
 pub by_last : (t : MapKey → Bool) (now : Option Deletion) (es : List Slot) (fs : Forces) → force_by t now es fs ≡ last_force now (filter (λ e. true && t e.0) es) fs
@@ -56,6 +61,51 @@ by_last t now (e ∷ es) fs =
 pub of_last : (now : Option Deletion) (front : List Slot) (e : Slot) (fs : Forces) → last_force now (front ++ e ∷ []) fs ≡ get_or fs e.1 None
 of_last now [] e fs = refl
 of_last now (f ∷ front) e fs = of_last (get_or fs f.1 None) front e fs
+
+-- ---- what is in force below a key, by what is so behind a lower one
+
+module _ (low high : MapKey) where
+  above : (k : MapKey) (es : List Slot) → key_cmp low k ≡ Less → AllByRecursion (λ y. key_cmp k y ≡ Less) (keys_of es) → AllByRecursion (λ y. key_cmp low y ≡ Less) (keys_of es)
+  above k [] e a = tt
+  above k (f ∷ es) e a = (key_total.trans low k f.0 e a.0, above k es e a.1)
+
+  -- none of these entries counts behind the low key
+  none_counts : (now : Option Deletion) (es : List Slot) (fs : Forces) → AllByRecursion (λ y. key_cmp low y ≡ Less) (keys_of es) → force_behind low now es fs ≡ now
+  none_counts now [] fs a = refl
+  none_counts now (e ∷ es) fs a =
+      ap (λ r. force_behind low (cond (not (is_lt r)) (get_or fs e.1 None) now) es fs) a.0 ∙ none_counts now es fs a.1
+
+  -- those below the high key are amid
+  all_amid : (es : List Slot) → AllByRecursion (λ y. key_cmp low y ≡ Less) (keys_of es) → amid low high es ≡ filter (λ e. true && not (is_le (key_cmp high e.0))) es
+  all_amid [] a = refl
+  all_amid (e ∷ es) a =
+      (λ i. cond (is_lt (a.0 i) && not (is_le (key_cmp high e.0))) (e ∷ all_amid es a.1 i) (all_amid es a.1 i))
+
+  all_behind : (now : Option Deletion) (es : List Slot) (fs : Forces) → AllByRecursion (λ y. key_cmp low y ≡ Less) (keys_of es)
+      → last_force (force_behind low now es fs) (amid low high es) fs ≡ force_below high now es fs
+  all_behind now es fs a =
+      (λ i. last_force (none_counts now es fs a i) (all_amid es a i) fs) ∙ sym (by_last (λ k. not (is_le (key_cmp high k))) now es fs)
+
+  -- a key at the low one or below it is below the high one
+  below_high : (k : MapKey) (r : Ordering) → key_cmp low k ≡ r → is_lt r ≡ false → key_cmp low high ≡ Less → key_cmp high k ≡ Greater
+  below_high k Less e none less = absurd (true≢false none)
+  below_high k Equal e none less = key_total.antisymm high k ∙ ap ordering_reverse (sym (key_total.congr low k high e) ∙ less)
+  below_high k Greater e none less =
+      key_total.antisymm high k ∙ ap ordering_reverse (key_total.trans k low high (key_total.antisymm k low ∙ ap ordering_reverse e) less)
+
+  pub last_amid : key_cmp low high ≡ Less → (now : Option Deletion) (es : List Slot) (fs : Forces) → IsStrictlySortedBy key_cmp (keys_of es)
+      → last_force (force_behind low now es fs) (amid low high es) fs ≡ force_below high now es fs
+  unfolding IsStrictlySortedBy
+  last_amid less now [] fs s = refl
+  last_amid less now (e ∷ es) fs s =
+      elim (is_lt (key_cmp low e.0)) as (λ b. is_lt (key_cmp low e.0) ≡ b → last_force (force_behind low now (e ∷ es) fs) (amid low high (e ∷ es)) fs ≡ force_below high now (e ∷ es) fs) [
+        | true ↦ λ t. let over : key_cmp low e.0 ≡ Less = is_less (key_cmp low e.0) t in all_behind now (e ∷ es) fs (over, above e.0 es over s.0)
+        | false ↦ λ f.
+            let under : key_cmp high e.0 ≡ Greater = below_high e.0 (key_cmp low e.0) refl f less in
+            (λ i. last_force (force_behind low (cond (not (f i)) (get_or fs e.1 None) now) es fs) (cond (f i && not (is_le (key_cmp high e.0))) (e ∷ amid low high es) (amid low high es)) fs)
+            ∙ last_amid less (get_or fs e.1 None) es fs s.1
+            ∙ sym (ap (λ r. force_below high (cond (not (is_le r)) (get_or fs e.1 None) now) es fs) under)
+      ] refl
 
 -- ---- slots that are raised
 

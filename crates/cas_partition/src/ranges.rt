@@ -140,36 +140,43 @@ fn add_change(
     Ok(())
 }
 
-// The markers of these cuts.
+// The markers of these cuts, and what is in force behind them, by what is so before.
 fn add_markers(
     markers: &mut Vec<Fragment>,
     forces: &[Option<Deletion>],
+    before: Option<Deletion>,
     cuts: Range<'_, CutKey, usize>,
-) -> Result<(), AllocError>
-    ensures { OnOk result (markers.new.items ≡ markers.old.items ++ map marker (changes_of cuts.entry forces.now)) }
+) -> Result<Option<Deletion>, AllocError>
+    ensures added { OnOk result (markers.new.items ≡ markers.old.items ++ map marker (changes_of cuts.entry forces.now)) }
+    ensures behind { IfOk result (λ d. d ≡ last_force before cuts.entry forces.now) }
 {
+    let mut last = before;
     let mut rest = cuts;
     while let Some((key, slot)) = rest.next() {
         let cut = cut_of(key.key())?;
-        markers.push(Fragment::Marker(cut, force_at(forces, *slot)))?;
+        last = force_at(forces, *slot);
+        markers.push(Fragment::Marker(cut, last))?;
     }
-    Ok(())
+    Ok(last)
 }
 
-// The markers of the cuts between two keys.
+// The markers of the cuts between two keys, and what is in force behind these cuts.
 fn add_amid(
     markers: &mut Vec<Fragment>,
     cuts: &BTreeMap<CutKey, usize>,
     forces: &[Option<Deletion>],
+    before: Option<Deletion>,
     low: &CutKey,
     high: &CutKey,
-) -> Result<(), AllocError>
+) -> Result<Option<Deletion>, AllocError>
     requires { key_cmp low.now high.now ≡ Less }
-    ensures { OnOk result (markers.new.items ≡ markers.old.items ++ map marker (changes_of (amid low.now high.now cuts.now.entries) forces.now)) }
+    ensures added { OnOk result (markers.new.items ≡ markers.old.items ++ map marker (changes_of (amid low.now high.now cuts.now.entries) forces.now)) }
+    ensures behind { IfOk result (λ d. d ≡ last_force before (amid low.now high.now cuts.now.entries) forces.now) }
 {
     add_markers(
         markers,
         forces,
+        before,
         cuts.range((Bound::Excluded(low), Bound::Excluded(high))),
     )
 }
@@ -222,8 +229,7 @@ impl Ranges {
         if low.cmp(&high).is_lt() {
             let begun = force_behind(&self.cuts, &self.forces, &low);
             add_change(&mut markers, &slice.lo, begun, begun)?;
-            add_amid(&mut markers, &self.cuts, &self.forces, &low, &high)?;
-            let ended = force_below(&self.cuts, &self.forces, &high);
+            let ended = add_amid(&mut markers, &self.cuts, &self.forces, begun, &low, &high)?;
             add_change(&mut markers, &slice.hi, ended, None)?;
         }
         Ok(markers)

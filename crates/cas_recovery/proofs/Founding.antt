@@ -1,8 +1,8 @@
--- What the log has of each shard: its mutations rise, and the shard's number is that of the last.
-use Rattle.std.proofs.Common.{◌≡◌, ◌<◌, ◌≤◌, ◌+◌, ◌==◌, max, ℕ, Bool, true, false, List, [], ◌∷◌, ◌++◌, refl, sym, ap, ◌∙◌, subst, arith, append-nil, append_assoc}
+-- What is given of each shard: its mutations rise, and the shard's number is that of the last.
+use Rattle.std.proofs.Common.{◌≡◌, ◌<◌, ◌≤◌, ◌+◌, ◌==◌, max, ℕ, Bool, true, false, List, [], ◌∷◌, ◌++◌, refl, sym, ◌∙◌, subst, arith, append-nil, append_assoc}
 use Rattle.std.proofs.lemmas.List.Sums.{fold-append}
 use Rattle.std.proofs.lemmas.Grind.{flat_map-append}
-use Rattle.std.specs.Prelude.{if◌then◌else◌}
+use Rattle.std.specs.Prelude.{if◌then◌else◌, filter}
 use Rattle.std.specs.List.{AllByRecursion, fold}
 use Rattle.cas_types.specs.declared.schema.TableSchema.{TableSchema}
 use Rattle.cas_atoms.specs.declared.atom.Mutation.{Mutation}
@@ -15,66 +15,69 @@ use Rattle.cas_shard.specs.Shards.{empty_shard, found_shard, restored}
 use Rattle.cas_shard.specs.Stands.{NumbersRise}
 use Rattle.cas_shard.proofs.Numbering.{one_restored}
 use Rattle.cas_recovery.specs.Found.{found_in}
+use Rattle.cas_recovery.specs.Inner.Restoring.{MayBeGiven, Rise}
 
 -- ---- numbers
 
-same_last : (p : ℕ) (pre : List ℕ) (a b : ℕ) (rest : List ℕ) → AscendByOne (p ∷ pre ++ a ∷ []) → AscendByOne (p ∷ pre ++ b ∷ rest) → b ≡ a
-same_last p [] a b rest one other = omega (arith, one.0, first b rest other)
-  where
-    first : (b : ℕ) (rest : List ℕ) → AscendByOne (p ∷ b ∷ rest) → b ≡ p + 1
-    first b rest ascend = ascend.0
-same_last p (q ∷ pre) a b rest one other = same_last q pre a b rest one.1 other.1
+-- the last of these, where it was n before them
+abbrev last_in : ℕ → List ℕ → ℕ
+last_in n [] = n
+last_in n (m ∷ ms) = last_in m ms
 
-behind : (ns : List ℕ) (n : ℕ) → AscendByOne (ns ++ n ∷ []) → AscendByOne ((ns ++ n ∷ []) ++ (n + 1) ∷ [])
-behind [] n ascend = (refl, tt)
-behind (a ∷ []) n ascend = (ascend.0, (refl, tt))
-behind (a ∷ b ∷ ns) n ascend = (ascend.0, behind (b ∷ ns) n ascend.1)
+last_pushed : (n : ℕ) (ms : List ℕ) (m : ℕ) → last_in n (ms ++ m ∷ []) ≡ m
+last_pushed n [] m = refl
+last_pushed n (k ∷ ms) m = last_pushed k ms m
 
-up_to : (ns : List ℕ) (n : ℕ) (rest : List ℕ) → AscendByOne (ns ++ n ∷ rest) → AscendByOne (ns ++ n ∷ [])
-up_to [] n rest ascend = tt
-up_to (a ∷ []) n [] ascend = ascend
-up_to (a ∷ []) n (r ∷ rest) ascend = (ascend.0, tt)
-up_to (a ∷ b ∷ ns) n rest ascend = (ascend.0, up_to (b ∷ ns) n rest ascend.1)
+-- what comes behind is above the last
+behind_last : (n : ℕ) (ms : List ℕ) (m : ℕ) (rest : List ℕ) → Rise n (ms ++ m ∷ rest) → last_in n ms < m
+behind_last n [] m rest rise = rise.0
+behind_last n (k ∷ ms) m rest rise = behind_last k ms m rest rise.1
 
--- ---- what was found so far
+from_lower : (k n : ℕ) (ms : List ℕ) → k ≤ n → Rise n ms → Rise k ms
+from_lower k n [] low rise = tt
+from_lower k n (m ∷ ms) low rise = (omega (arith, low, rise.0), rise.1)
 
--- nothing yet, or mutations up to the shard's number
-abbrev Ends : List ℕ → ShardOpening → Type 0
-Ends [] o = o.number ≡ 0
-Ends (p ∷ pre) o = AscendByOne (p ∷ pre ++ (o.number + 1) ∷ [])
+pub front_rises : (n : ℕ) (ms rest : List ℕ) → Rise n (ms ++ rest) → Rise n ms
+front_rises n [] rest rise = tt
+front_rises n (m ∷ ms) rest rise = (rise.0, front_rises m ms rest rise.1)
+
+-- numbers that ascend by one rise, and the next goes on behind the last
+by_one_rise : (n m : ℕ) (ms : List ℕ) → n < m → AscendByOne (m ∷ ms) → Rise n (m ∷ ms)
+by_one_rise n m [] low ascend = (low, tt)
+by_one_rise n m (k ∷ ms) low ascend = (low, by_one_rise m k ms (omega (arith, ascend.0)) ascend.1)
+
+by_one_goes_on : (n m : ℕ) (ms : List ℕ) → AscendByOne (m ∷ ms) → AscendByOne (m ∷ ms ++ (last_in n (m ∷ ms) + 1) ∷ [])
+by_one_goes_on n m [] ascend = (refl, tt)
+by_one_goes_on n m (k ∷ ms) ascend = (ascend.0, by_one_goes_on m k ms ascend.1)
+
+-- ---- what was given so far
 
 pub record Reads (pre : List ℕ) (o : ShardOpening) : Type 0 where
   pub rises : NumbersRise (found_shard o)
   pub last : last_number 0 o.entries ≡ o.number
-  pub ends : Ends pre o
+  pub number : o.number ≡ last_in 0 pre
 
--- the number goes on behind them
-pub goes_on : (pre : List ℕ) (o : ShardOpening) → Reads pre o → AscendByOne (pre ++ (o.number + 1) ∷ [])
-goes_on [] o so = tt
-goes_on (p ∷ pre) o so = so.ends
+-- where numbers ascend by one, they go on behind the shard's
+pub goes_on : (pre : List ℕ) (o : ShardOpening) → AscendByOne pre → Reads pre o → AscendByOne (pre ++ (o.number + 1) ∷ [])
+goes_on [] o ascend so = tt
+goes_on (p ∷ pre) o ascend so = subst (λ (k : ℕ). AscendByOne (p ∷ pre ++ (k + 1) ∷ [])) (sym so.number) (by_one_goes_on 0 p pre ascend)
 
-pub is_above : (pre : List ℕ) (o : ShardOpening) (n : ℕ) (rest : List ℕ) → 1 ≤ n → AscendByOne (pre ++ n ∷ rest) → Reads pre o → last_number 0 o.entries < n
-is_above [] o n rest one ascend so = let none : o.number ≡ 0 = so.ends in omega (arith, so.last, none, one)
-is_above (p ∷ pre) o n rest one ascend so = let next = same_last p pre (o.number + 1) n rest so.ends ascend in omega (arith, so.last, next)
+pub is_above : (pre : List ℕ) (o : ShardOpening) (n : ℕ) (rest : List ℕ) → Rise 0 (pre ++ n ∷ rest) → Reads pre o → last_number 0 o.entries < n
+is_above pre o n rest rise so = let low = behind_last 0 pre n rest rise in omega (arith, so.last, so.number, low)
 
 pub none_read : Reads [] empty_shard
 unfolding last_number
-none_read = record { rises = record { ascend = tt; found = omega arith; rise = tt }; last = refl; ends = refl }
+none_read = record { rises = record { ascend = tt; found = omega arith; rise = tt }; last = refl; number = refl }
 
-ends_behind : (pre : List ℕ) (n : ℕ) (o : ShardOpening) → o.number ≡ n → AscendByOne (pre ++ n ∷ []) → Ends (pre ++ n ∷ []) o
-ends_behind [] n o is ascend = (ap (λ k. k + 1) is, tt)
-ends_behind (p ∷ pre) n o is ascend = subst (λ (k : ℕ). AscendByOne ((p ∷ pre ++ n ∷ []) ++ (k + 1) ∷ [])) (sym is) (behind (p ∷ pre) n ascend)
-
-pub one_read : (pre : List ℕ) (o : ShardOpening) (m : Mutation) (rest : List ℕ) → 1 ≤ m.number → AscendByOne (pre ++ m.number ∷ rest) → Reads pre o
-    → Reads (pre ++ m.number ∷ []) (restored m o)
+pub one_read : (pre : List ℕ) (o : ShardOpening) (m : Mutation) (rest : List ℕ) → Rise 0 (pre ++ m.number ∷ rest) → Reads pre o → Reads (pre ++ m.number ∷ []) (restored m o)
 unfolding last_number
-one_read pre o m rest one ascend so =
-    let above = is_above pre o m.number rest one ascend so in
+one_read pre o m rest rise so =
+    let above = is_above pre o m.number rest rise so in
     let greatest : max o.number m.number ≡ m.number = omega (arith, above, so.last) in
     record {
       rises = one_restored m o so.rises above;
       last = fold-append number_after 0 o.entries (Wrote 0 0 m ∷ []) ∙ sym greatest;
-      ends = ends_behind pre m.number (restored m o) greatest (up_to pre m.number rest ascend);
+      number = greatest ∙ sym (last_pushed 0 pre m.number);
     }
 
 -- ---- a log
@@ -90,29 +93,74 @@ pub numbers_more : (n : ℕ) (done : List Mutation) (m : Mutation) (rest : List 
 numbers_more n done m rest = flat_map-append {A = ℕ} (λ (x : Mutation). if x.shard == n then x.number ∷ [] else []) done (m ∷ rest)
 
 module _ (n : ℕ) where
-  reads_by : (b : Bool) (pre : List ℕ) (o : ShardOpening) (m : Mutation) (others : List ℕ) → 1 ≤ m.number
-      → AscendByOne (pre ++ ((if b then m.number ∷ [] else []) ++ others)) → Reads pre o
+  reads_by : (b : Bool) (pre : List ℕ) (o : ShardOpening) (m : Mutation) (others : List ℕ)
+      → Rise 0 (pre ++ ((if b then m.number ∷ [] else []) ++ others)) → Reads pre o
       → Reads (pre ++ (if b then m.number ∷ [] else [])) (if b then restored m o else o)
-  reads_by true pre o m others one ascend so = one_read pre o m others one ascend so
-  reads_by false pre o m others one ascend so = subst (λ (l : List ℕ). Reads l o) (sym (append-nil pre)) so
+  reads_by true pre o m others rise so = one_read pre o m others rise so
+  reads_by false pre o m others rise so = subst (λ (l : List ℕ). Reads l o) (sym (append-nil pre)) so
 
-  reads_all : (pre : List ℕ) (o : ShardOpening) (ms : List Mutation) → AllByRecursion (λ m. 1 ≤ m.number) ms → AscendByOne (pre ++ numbers_of n ms) → Reads pre o
-      → Reads (pre ++ numbers_of n ms) (fold (step n) o ms)
-  reads_all pre o [] some ascend so = subst (λ (l : List ℕ). Reads l o) (sym (append-nil pre)) so
-  reads_all pre o (m ∷ ms) some ascend so =
+  reads_all : (pre : List ℕ) (o : ShardOpening) (ms : List Mutation) → Rise 0 (pre ++ numbers_of n ms) → Reads pre o → Reads (pre ++ numbers_of n ms) (fold (step n) o ms)
+  reads_all pre o [] rise so = subst (λ (l : List ℕ). Reads l o) (sym (append-nil pre)) so
+  reads_all pre o (m ∷ ms) rise so =
       let joined = append_assoc pre (if m.shard == n then m.number ∷ [] else []) (numbers_of n ms) in
       subst (λ (l : List ℕ). Reads l (fold (step n) (step n o m) ms)) joined
-      (reads_all (pre ++ (if m.shard == n then m.number ∷ [] else [])) (step n o m) ms some.1 (subst AscendByOne (sym joined) ascend)
-      (reads_by (m.shard == n) pre o m (numbers_of n ms) some.0 ascend so))
+      (reads_all (pre ++ (if m.shard == n then m.number ∷ [] else [])) (step n o m) ms (subst (Rise 0) (sym joined) rise)
+      (reads_by (m.shard == n) pre o m (numbers_of n ms) rise so))
 
-  pub found_reads : (ms : List Mutation) → AllByRecursion (λ m. 1 ≤ m.number) ms → AscendByOne (numbers_of n ms) → Reads (numbers_of n ms) (found_in n ms)
-  found_reads ms some ascend = reads_all [] empty_shard ms some ascend none_read
+  pub found_reads : (ms : List Mutation) → Rise 0 (numbers_of n ms) → Reads (numbers_of n ms) (found_in n ms)
+  found_reads ms rise = reads_all [] empty_shard ms rise none_read
 
 -- ---- mutations of a log
 
-pub numbers_some : (tables : List TableSchema) (shards : ℕ) (ms : List Mutation) → AllByRecursion (FitsRecord tables shards) ms → AllByRecursion (λ m. 1 ≤ m.number) ms
-numbers_some tables shards [] fit = tt
-numbers_some tables shards (m ∷ ms) fit = (fit.0.fits.number.0, numbers_some tables shards ms fit.1)
+module _ (n : ℕ) where
+  some_by : (b : Bool) (k : ℕ) (others : List ℕ) → 1 ≤ k → AllByRecursion (λ m. 1 ≤ m) others → AllByRecursion (λ m. 1 ≤ m) ((if b then k ∷ [] else []) ++ others)
+  some_by true k others one some = (one, some)
+  some_by false k others one some = some
 
-pub log_reads : (tables : List TableSchema) (shards n : ℕ) (ms : List Mutation) → AreOfALog tables shards ms → Reads (numbers_of n ms) (found_in n ms)
-log_reads tables shards n ms log = found_reads n ms (numbers_some tables shards ms log.fit) (log.ordered n)
+  numbers_some : (tables : List TableSchema) (shards : ℕ) (ms : List Mutation) → AllByRecursion (FitsRecord tables shards) ms → AllByRecursion (λ m. 1 ≤ m) (numbers_of n ms)
+  numbers_some tables shards [] fit = tt
+  numbers_some tables shards (m ∷ ms) fit = some_by (m.shard == n) m.number (numbers_of n ms) fit.0.fits.number.0 (numbers_some tables shards ms fit.1)
+
+all_rise : (ns : List ℕ) → AllByRecursion (λ m. 1 ≤ m) ns → AscendByOne ns → Rise 0 ns
+all_rise [] some ascend = tt
+all_rise (m ∷ ms) some ascend = by_one_rise 0 m ms (omega (arith, some.0)) ascend
+
+pub log_given : (tables : List TableSchema) (shards : ℕ) (ms : List Mutation) → AreOfALog tables shards ms → MayBeGiven tables shards ms
+log_given tables shards ms log = record { fit = log.fit; rise = λ n. all_rise (numbers_of n ms) (numbers_some n tables shards ms log.fit) (log.ordered n) }
+
+-- so may be those of them that some test lets through
+module _ (p : Mutation → Bool) (n : ℕ) where
+  rise_by : (b c : Bool) (k m : ℕ) (some all : List ℕ) → ((j : ℕ) → Rise j all → Rise j some) → Rise k ((if c then m ∷ [] else []) ++ all)
+      → Rise k ((if b then (if c then m ∷ [] else []) else []) ++ some)
+  rise_by true true k m some all goes rise = (rise.0, goes m rise.1)
+  rise_by true false k m some all goes rise = goes k rise
+  rise_by false true k m some all goes rise = goes k (from_lower k m all (omega (arith, rise.0)) rise.1)
+  rise_by false false k m some all goes rise = goes k rise
+
+  numbers_if : (b : Bool) (m : Mutation) (ms : List Mutation)
+      → numbers_of n (if b then m ∷ ms else ms) ≡ (if b then (if m.shard == n then m.number ∷ [] else []) else []) ++ numbers_of n ms
+  numbers_if true m ms = refl
+  numbers_if false m ms = refl
+
+  rest_rises : (ms : List Mutation) (k : ℕ) → Rise k (numbers_of n ms) → Rise k (numbers_of n (filter p ms))
+  rest_rises [] k rise = tt
+  rest_rises (m ∷ ms) k rise =
+      subst (Rise k) (sym (numbers_if (p m) m (filter p ms)))
+      (rise_by (p m) (m.shard == n) k m.number (numbers_of n (filter p ms)) (numbers_of n ms) (rest_rises ms) rise)
+
+all_filtered : (P : Mutation → Type 0) (p : Mutation → Bool) (ms : List Mutation) → AllByRecursion P ms → AllByRecursion P (filter p ms)
+all_filtered P p [] all = tt
+all_filtered P p (m ∷ ms) all = by (p m) (all_filtered P p ms all.1)
+  where
+    by : (b : Bool) → AllByRecursion P (filter p ms) → AllByRecursion P (if b then m ∷ filter p ms else filter p ms)
+    by true rest = (all.0, rest)
+    by false rest = rest
+
+pub some_given : (p : Mutation → Bool) (tables : List TableSchema) (shards : ℕ) (ms : List Mutation) → MayBeGiven tables shards ms → MayBeGiven tables shards (filter p ms)
+some_given p tables shards ms given = record {
+  fit = all_filtered (FitsRecord tables shards) p ms given.fit;
+  rise = λ n. rest_rises p n ms 0 (given.rise n);
+}
+
+pub given_reads : (tables : List TableSchema) (shards n : ℕ) (ms : List Mutation) → MayBeGiven tables shards ms → Reads (numbers_of n ms) (found_in n ms)
+given_reads tables shards n ms given = found_reads n ms (given.rise n)

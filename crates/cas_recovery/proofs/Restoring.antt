@@ -12,7 +12,8 @@ use Rattle.cas_shard.specs.Shards.{empty_shard, found_shard, restored}
 use Rattle.cas_shard.specs.Stands.{Belongs, HasNoFiles, KeepsFiles, ShardState, Stands}
 use Rattle.cas_recovery.specs.Found.{found_in}
 use Rattle.cas_recovery.specs.Restored.{AreRestored, HaveNoFiles}
-use Rattle.cas_recovery.proofs.Founding.{Reads, found_reads, goes_on, is_above, log_reads, numbers_more, numbers_some, one_more}
+use Rattle.cas_recovery.specs.Inner.Restoring.{MayBeGiven, Rise}
+use Rattle.cas_recovery.proofs.Founding.{found_reads, front_rises, given_reads, goes_on, is_above, log_given, numbers_more, one_more}
 use Rattle.cas_recovery.proofs.Places.{get_here, get_other, is_other, is_same, same_place}
 
 -- ---- shards without a mutation
@@ -34,11 +35,6 @@ no_files_new shards x are none n y is =
 
 -- ---- a mutation more
 
-front_ascends : (pre rest : List ℕ) → AscendByOne (pre ++ rest) → AscendByOne pre
-front_ascends [] rest ascend = tt
-front_ascends (n ∷ []) rest ascend = tt
-front_ascends (n ∷ m ∷ pre) rest ascend = (ascend.0, front_ascends (m ∷ pre) rest ascend.1)
-
 front_fits : (P : Mutation → Type 0) (pre rest : List Mutation) → AllByRecursion P (pre ++ rest) → AllByRecursion P pre
 front_fits P [] rest all = tt
 front_fits P (m ∷ pre) rest all = (all.0, front_fits P pre rest all.1)
@@ -48,36 +44,32 @@ here_fits P [] m rest all = all.0
 here_fits P (x ∷ pre) m rest all = here_fits P pre m rest all.1
 
 module _ (tables : List TableSchema) (shards : ℕ) (done : List Mutation) (m : Mutation) (rest all : List Mutation) (are : done ++ m ∷ rest ≡ all)
-    (log : AreOfALog tables shards all) where
+    (given : MayBeGiven tables shards all) where
   fit_all : AllByRecursion (FitsRecord tables shards) (done ++ m ∷ rest)
-  fit_all = subst (AllByRecursion (FitsRecord tables shards)) (sym are) log.fit
+  fit_all = subst (AllByRecursion (FitsRecord tables shards)) (sym are) given.fit
 
-  pub fits_here : FitsRecord tables shards m
+  fits_here : FitsRecord tables shards m
   fits_here = here_fits (FitsRecord tables shards) done m rest fit_all
 
   pub belongs_here : Belongs tables shards m
   belongs_here = (fits_here.table, fits_here.there, fits_here.fits)
 
-  ascend_all : (n : ℕ) → AscendByOne (numbers_of n done ++ ((if m.shard == n then m.number ∷ [] else []) ++ numbers_of n rest))
-  ascend_all n = subst AscendByOne (ap (numbers_of n) (sym are) ∙ numbers_more n done m rest) (log.ordered n)
+  rise_all : (n : ℕ) → Rise 0 (numbers_of n done ++ ((if m.shard == n then m.number ∷ [] else []) ++ numbers_of n rest))
+  rise_all n = subst (Rise 0) (ap (numbers_of n) (sym are) ∙ numbers_more n done m rest) (given.rise n)
 
-  ascend_here : AscendByOne (numbers_of m.shard done ++ m.number ∷ numbers_of m.shard rest)
-  ascend_here =
-      subst (λ (b : Bool). AscendByOne (numbers_of m.shard done ++ ((if b then m.number ∷ [] else []) ++ numbers_of m.shard rest))) (is_same m.shard) (ascend_all m.shard)
+  rise_here : Rise 0 (numbers_of m.shard done ++ m.number ∷ numbers_of m.shard rest)
+  rise_here =
+      subst (λ (b : Bool). Rise 0 (numbers_of m.shard done ++ ((if b then m.number ∷ [] else []) ++ numbers_of m.shard rest))) (is_same m.shard) (rise_all m.shard)
 
-  reads_done : (n : ℕ) → Reads (numbers_of n done) (found_in n done)
-  reads_done n =
-      found_reads n done (numbers_some tables shards done (front_fits (FitsRecord tables shards) done (m ∷ rest) fit_all))
-      (front_ascends (numbers_of n done) _ (ascend_all n))
+  pub front_given : MayBeGiven tables shards done
+  front_given = record {
+    fit = front_fits (FitsRecord tables shards) done (m ∷ rest) fit_all;
+    rise = λ n. front_rises 0 (numbers_of n done) _ (rise_all n);
+  }
 
   pub above_here : last_number 0 (found_in m.shard done).entries < m.number
-  above_here = is_above (numbers_of m.shard done) (found_in m.shard done) m.number (numbers_of m.shard rest) fits_here.fits.number.0 ascend_here (reads_done m.shard)
-
-  pub front_log : AreOfALog tables shards done
-  front_log = record {
-    fit = front_fits (FitsRecord tables shards) done (m ∷ rest) fit_all;
-    ordered = λ n. front_ascends (numbers_of n done) _ (ascend_all n);
-  }
+  above_here =
+      is_above (numbers_of m.shard done) (found_in m.shard done) m.number (numbers_of m.shard rest) rise_here (found_reads m.shard done (front_given.rise m.shard))
 
 found_here : (done : List Mutation) (m : Mutation) → found_in m.shard (done ++ m ∷ []) ≡ restored m (found_in m.shard done)
 found_here done m = one_more m.shard done m ∙ ap (λ (b : Bool). if b then restored m (found_in m.shard done) else found_in m.shard done) (is_same m.shard)
@@ -135,4 +127,4 @@ unfolding last_number
 next_numbers tables count mutations shards log are n x is =
     let number : x.number ≡ (found_in n mutations).number = (are n x is).number in
     subst (λ (k : ℕ). AscendByOne (numbers_of n mutations ++ (k + 1) ∷ [])) (sym number)
-    (goes_on (numbers_of n mutations) (found_in n mutations) (log_reads tables count n mutations log))
+    (goes_on (numbers_of n mutations) (found_in n mutations) (log.ordered n) (given_reads tables count n mutations (log_given tables count mutations log)))

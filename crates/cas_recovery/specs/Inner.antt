@@ -1,1 +1,3 @@
 pub mod Restoring
+pub mod Filling
+pub mod Faults

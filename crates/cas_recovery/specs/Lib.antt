@@ -1,3 +1,5 @@
 pub mod Found
 pub mod Restored
+pub mod Openings
+pub mod Recovered
 pub mod Inner

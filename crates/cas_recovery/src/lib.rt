@@ -1,8 +1,13 @@
-//! The store that a folder has, read back into memory: its tables, its shards with what the log has of
-//! them, and its journal; or a new store.
+//! The store that a folder has, read back into memory: its tables, its shards with what the log and the table
+//! files have of them, and its journal; or a new store.
 #![tactic(auto)]
 
 mod all_shards;
+mod fault;
+mod filling;
 mod memory;
+mod recovering;
 
+pub use fault::RecoveryFault;
 pub use memory::{Started, open_store};
+pub use recovering::recover;

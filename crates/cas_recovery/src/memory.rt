@@ -35,7 +35,7 @@ use std::alloc::Global;
 const SHARDS: usize = 256;
 
 /// The last drawn timestamp of a shard that drew none.
-const NONE_DRAWN: i64 = -2;
+pub(crate) const NONE_DRAWN: i64 = -2;
 
 /// A store that was opened: its limits, tables and shards in memory, and its journal.
 #[derive(Drop)]
@@ -106,7 +106,7 @@ fn new_shards<S: Sealed>(alloc: Global, count: usize) -> Result<Vec<Shard<S>>, M
 
 impl<S: Sealed> AllShards<S> {
     // Those without a mutation.
-    fn new(alloc: Global) -> Result<AllShards<S>, Mem>
+    pub(crate) fn new(alloc: Global) -> Result<AllShards<S>, Mem>
         ensures { IfOk result (λ all. HaveRestored [] all) }
     {
         match new_shards(alloc, SHARDS) {
@@ -145,7 +145,7 @@ impl<S: Sealed> TakesMutations for Restoring<S> {
 }
 
 // The first shards, so many, with what was restored of each.
-fn restored<S: Sealed>(restoring: Restoring<S>, count: u8) -> Result<Vec<Shard<S>>, Mem>
+pub(crate) fn restored<S: Sealed>(restoring: Restoring<S>, count: u8) -> Result<Vec<Shard<S>>, Mem>
     ensures count { IfOk result (λ v. length v.items ≡ count) }
     ensures restored { (mutations : List MutationOf) → HasRestored mutations restoring.shards → IfOk result (λ v. HaveRestored mutations v.items) }
 {
@@ -164,7 +164,7 @@ fn add_copy(copies: &mut Vec<TableSchema>, table: &TableSchema) -> Result<(), Me
     Ok(())
 }
 
-fn copied(alloc: Global, tables: &[TableSchema]) -> Result<Vec<TableSchema>, Mem>
+pub(crate) fn copied(alloc: Global, tables: &[TableSchema]) -> Result<Vec<TableSchema>, Mem>
     ensures { IfOk result (λ v. v.items ≡ tables.now) }
 {
     let mut copies = Vec::new(alloc);
@@ -175,7 +175,7 @@ fn copied(alloc: Global, tables: &[TableSchema]) -> Result<Vec<TableSchema>, Mem
 }
 
 // The limits that were given, with so many shards.
-fn with_shards(limits: &Limits, count: u8) -> Limits
+pub(crate) fn with_shards(limits: &Limits, count: u8) -> Limits
     ensures { result ≡ record limits.now { shards = count } }
 {
     Limits {

@@ -42,6 +42,7 @@ impl<F: Folder, J: Store> Room<F, J> {
     ) -> Result<F::Sealed, FolderFault>
         requires synced { F.Draft.is_synced draft }
         ensures holds { IfOk result (λ file. (b : List ℕ) → F.Sealed.contents file ≡ Some b → F.Draft.written draft b) }
+        ensures told { IfOk result (λ file. (c : Image) → (F.disk self.old.folder).reads c → (b : List ℕ) × (F.Sealed.contents file ≡ Some b)) }
         ensures stands { OnOk result ((c : Image) → (F.disk self.new.folder).may_leave c
             → (b : List ℕ) × F.Draft.written draft b × (c (Name.Table (F.Draft.number draft)) ≡ Some b)) }
         ensures during { During (ChangedIn (Name.Table (F.Draft.number draft)) MayBeAnything) (F.disk self.old.folder) (F.disk self.new.folder) }

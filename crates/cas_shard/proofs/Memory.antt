@@ -1,19 +1,24 @@
 -- What calls on what a shard has stored of one table do to all that it has stored.
+use Rattle.std.proofs.lemmas.Grind.{flat_map-append}
 use Rattle.std.proofs.Common.{◌≡◌, ◌≢◌, ◌⊎◌, inl, inr, ◌<◌, ◌≤◌, ℕ, zero, suc, Option, None, Some, Result, Ok, Err, OnOk, List, [], ◌∷◌, ◌++◌, length, refl, sym, ap, ◌∙◌, subst, arith, length-append, Bool, true, false}
 use Rattle.std.specs.Prelude.{if◌then◌else◌, slice_get, slice_set}
 use Rattle.cas_bounds.specs.declared.order.Ordered.{Ordered}
+use Rattle.cas_atoms.specs.Coordinates.{cell_at_path, live_at_row}
 use Rattle.cas_atoms.specs.Winners.{Same}
 use Rattle.cas_atoms.specs.declared.atom.Atom.{Atom}
 use Rattle.cas_atoms.specs.declared.atom.Mutation.{Mutation}
+use Rattle.cas_laws.specs.Given.{Gives}
 use Rattle.cas_laws.proofs.JoinProofs.{join_laws}
-use Rattle.cas_streams.specs.NoMore.{SaysNoMore}
-use Rattle.cas_streams.proofs.NoMore.{no_more_itself, no_more_kept}
+use Rattle.cas_streams.specs.NoMore.{SaysNoMore, deletion_of}
+use Rattle.cas_streams.proofs.NoMore.{no_more_itself, no_more_kept, no_more_then}
 use Rattle.cas_partition.specs.Partitions.{AreAtomsOf}
 use Rattle.cas_memtable.specs.Memtables.{HasPlaces}
 use Rattle.cas_memtable.specs.Kept.{all_of, atoms_under, begun, with_one}
 use Rattle.cas_memtable.proofs.Keeping.{all_begun, more_under}
-use Rattle.cas_stored.specs.Stored.{HoldsEach, StoredTable}
-use Rattle.cas_shard.specs.Stands.{HasRoom, Holds, PlacesAt, SaySame, files_at}
+use Rattle.cas_sstread.specs.Loading.{Held}
+use Rattle.cas_view.specs.Views.{File}
+use Rattle.cas_stored.specs.Stored.{HoldEach, HoldsEach, StoredTable}
+use Rattle.cas_shard.specs.Stands.{HasRoom, Holds, PlacesAt, SaySame, TakesFiles, files_at}
 use Rattle.cas_shard.specs.Inner.Stores.{AllStay, JoinsRoom, KeepFiles, MakesRoom, StayFew}
 
 -- ---- lists
@@ -182,6 +187,91 @@ pushed_further start ps qs p table stay few files new none is low = (
 -- and keeps its files
 pub frozen_files : (ps qs : List StoredTable) (n : ℕ) (p q : StoredTable) → n < length ps → slice_get ps n ≡ Some p → qs ≡ slice_set ps n q → q.files ≡ p.files → KeepFiles ps qs
 frozen_files ps qs n p q there is set own t = ap (λ l. files_at (slice_get l t)) set ∙ set_files ps n p q there is own t
+
+-- ---- files that an opening finds
+
+-- the same mutations in front of both
+pub say_behind : (us vs ws : List Mutation) → SaySame vs ws → SaySame (us ++ vs) (us ++ ws)
+say_behind us vs ws says = record {
+  same = λ key.
+      let own : List Atom = atoms_under key us in
+      subst (λ l. Same l (atoms_under key (us ++ ws))) (sym (more_under key us vs))
+      (subst (Same (own ++ atoms_under key vs)) (sym (more_under key us ws))
+      (turned own (atoms_under key vs) (atoms_under key ws) (join_laws.kept (atoms_under key vs) (atoms_under key ws) own (says.same key))));
+  no_more = λ key.
+      subst (λ l. SaysNoMore l (atoms_under key (us ++ ws))) (sym (more_under key us vs))
+      (subst (SaysNoMore (atoms_under key us ++ atoms_under key vs)) (sym (more_under key us ws))
+      (no_more_behind (atoms_under key us) (atoms_under key vs) (atoms_under key ws) (says.no_more key)));
+}
+  where
+    turned : (own A B : List Atom) → Same (A ++ own) (B ++ own) → Same (own ++ A) (own ++ B)
+    turned own A B same =
+        let a = join_laws.swapped own A in
+        let b = join_laws.swapped B own in
+        record {
+          covers = λ x. a.covers x ∙ same.covers x ∙ b.covers x;
+          lives = λ r. a.lives r ∙ same.lives r ∙ b.lives r;
+          cells = λ x. a.cells x ∙ same.cells x ∙ b.cells x;
+        }
+
+    given : {K : Type 0} (f : Atom → Option K) (k : K) (own A B : List Atom) → (Gives f A k → Gives f B k) → Gives f (own ++ A) k → Gives f (own ++ B) k
+    given f k [] A B goes h = goes h
+    given f k (x ∷ own) A B goes (inl e) = inl e
+    given f k (x ∷ own) A B goes (inr h) = inr (given f k own A B goes h)
+
+    no_more_behind : (own A B : List Atom) → SaysNoMore A B → SaysNoMore (own ++ A) (own ++ B)
+    no_more_behind own A B a = record {
+      lives = λ r l. given (live_at_row r) l own A B (a.lives r l);
+      cells = λ x v. given (cell_at_path x) v own A B (a.cells x v);
+      deletions = λ t d. given (deletion_of t) d own A B (a.deletions t d);
+    }
+
+-- what says the same as what says the same
+pub say_then : (us vs ws : List Mutation) → SaySame us vs → SaySame vs ws → SaySame us ws
+say_then us vs ws a b = record {
+  same = λ key. record {
+    covers = λ x. (a.same key).covers x ∙ (b.same key).covers x;
+    lives = λ r. (a.same key).lives r ∙ (b.same key).lives r;
+    cells = λ x. (a.same key).cells x ∙ (b.same key).cells x;
+  };
+  no_more = λ key. no_more_then (atoms_under key us) (atoms_under key vs) (atoms_under key ws) (a.no_more key) (b.no_more key);
+}
+
+-- so whoever holds mutations holds all that say the same
+pub holds_alike : (order : List Ordered) (o : Option StoredTable) (vs ws : List Mutation) → SaySame vs ws → Holds order o vs → Holds order o ws
+holds_alike order o vs ws says h = record { places = h.places; holds = h.holds; says = say_then (all_of h.places) vs ws h.says says }
+
+all_joined : (vss wss : List (List Mutation)) → all_of (vss ++ wss) ≡ all_of vss ++ all_of wss
+all_joined vss wss = flat_map-append (λ ws. ws) vss wss
+
+pub adopted : (ps mid qs : List StoredTable) (n : ℕ) (p q : StoredTable) (files : List (File Held)) → AllStay ps mid → StayFew n ps mid → KeepFiles ps mid
+    → n < length mid → slice_get mid n ≡ Some p → qs ≡ slice_set mid n q
+    → ((order : List Ordered) (vss wss : List (List Mutation)) → p.files ≡ [] → HoldsEach order p wss → HoldEach order files [] vss → HoldsEach order q (vss ++ wss))
+    → q.files ≡ files → TakesFiles n files ps qs
+adopted ps mid qs n p q files stay few keep there is set takes own = record {
+  holds = λ order vss ws none each h.
+      holds_at order (all_of vss ++ ws) (Some q) (slice_get qs n) here
+      (more order vss ws each (ap files_at (sym is) ∙ keep n ∙ none)
+      (holds_at order ws (slice_get mid n) (Some p) (sym is) (stay n order ws h)));
+  files_are = ap files_at here ∙ own;
+  others = λ t order ws apart h. holds_at order ws (slice_get mid t) (slice_get qs t) (there_too t apart) (stay t order ws h);
+  other_files = λ t apart. ap files_at (there_too t apart) ∙ keep t;
+  few = λ k a b. subst (λ c. c ≤ k) (sym (ap length set ∙ count_set mid n q)) (few k a b);
+}
+  where
+    here : slice_get qs n ≡ Some q
+    here = ap (λ l. slice_get l n) set ∙ at_set mid n q there
+
+    there_too : (t : ℕ) → t ≢ n → slice_get qs t ≡ slice_get mid t
+    there_too t apart = ap (λ l. slice_get l t) set ∙ at_apart mid n q t apart
+
+    more : (order : List Ordered) (vss : List (List Mutation)) (ws : List Mutation) → HoldEach order files [] vss → p.files ≡ [] → Holds order (Some p) ws
+        → Holds order (Some q) (all_of vss ++ ws)
+    more order vss ws each none h = record {
+      places = vss ++ h.places;
+      holds = takes order vss h.places none h.holds each;
+      says = subst (λ l. SaySame l (all_of vss ++ ws)) (sym (all_joined vss h.places)) (say_behind (all_of vss) (all_of h.places) ws h.says);
+    }
 
 -- ---- from what calls ensure
 

@@ -31,14 +31,14 @@ in_order tables shards m is =
     subst (λ order. AreAtomsOf order m.atoms) (ap order_of (sym is.1)) (all_fit_of t.columns m.atoms (recursion_from_All (Fits t.columns) m.atoms is.2.atoms))
 
 -- the last that was drawn is within the limit, with a mutation that was read back too
+pub later_low : (a b : ℤ) → a ≤ℤ LAST_DRAWN → b ≤ℤ LAST_DRAWN → int_max a b ≤ℤ LAST_DRAWN
+later_low a b x y = elim (int_lt b a) as (λ t. cond t a b ≤ℤ LAST_DRAWN) [ true ↦ x | false ↦ y ]
+
 pub with_low : (m : Mutation) (drawn : ℤ) → drawn ≤ℤ LAST_DRAWN → (m.drawn ≡ true → m.at ≤ℤ LAST_DRAWN) → drawn_with drawn m ≤ℤ LAST_DRAWN
 with_low m drawn low is = by m.drawn refl
   where
-    greater : (a b : ℤ) → a ≤ℤ LAST_DRAWN → b ≤ℤ LAST_DRAWN → int_max a b ≤ℤ LAST_DRAWN
-    greater a b x y = elim (int_lt b a) as (λ t. cond t a b ≤ℤ LAST_DRAWN) [ true ↦ x | false ↦ y ]
-
     by : (b : Bool) → m.drawn ≡ b → (if b then int_max drawn m.at else drawn) ≤ℤ LAST_DRAWN
-    by true e = greater drawn m.at low (is e)
+    by true e = later_low drawn m.at low (is e)
     by false e = low
 
 pub later_begun : (a b : ℤ) → IsMoment a → IsMoment b → IsMoment (int_max a b)

@@ -1,6 +1,6 @@
 -- A shard's state stands for its history: its memtables and files hold all that was entered; and when a mutation can be entered.
 -- Cassandra documentation, "Storage engine: memtables"; own.
-use Rattle.std.specs.Prelude.{◌≡◌, ℕ, ℤ, ◌==◌, if◌then◌else◌, ◌+◌, ◌/◌, ◌<◌, ◌≤◌, ◌≤ℤ◌, true, Option, None, Some, List, [], ◌∷◌, length, slice_get}
+use Rattle.std.specs.Prelude.{◌≡◌, ℕ, ℤ, ◌==◌, if◌then◌else◌, ◌+◌, ◌/◌, ◌<◌, ◌≤◌, ◌≤ℤ◌, true, Option, None, Some, List, [], ◌∷◌, ◌++◌, length, slice_get}
 use Rattle.std.specs.List.{flat_map}
 use Rattle.cas_types.specs.declared.limits.TheConstants.{LAST_DRAWN, MUTATION_LIMIT}
 use Rattle.cas_types.specs.declared.schema.TableSchema.{TableSchema}
@@ -18,7 +18,7 @@ use Rattle.cas_memtable.specs.Memtables.{HasPlaces}
 use Rattle.cas_memtable.specs.Kept.{all_of, atoms_under}
 use Rattle.cas_sstread.specs.Loading.{Held}
 use Rattle.cas_streams.specs.NoMore.{SaysNoMore}
-use Rattle.cas_stored.specs.Stored.{HoldsEach, StoredTable}
+use Rattle.cas_stored.specs.Stored.{HoldEach, HoldsEach, StoredTable}
 use Rattle.cas_view.specs.Views.{File}
 use Rattle.cas_shard.specs.declared.entry.Entry.{Entry}
 use Rattle.cas_shard.specs.declared.entry.Entry.TheVariants.{Wrote}
@@ -128,6 +128,16 @@ HasNoFiles x = (table : ℕ) → length (files_at (slice_get x.stores table)) �
 -- each table has the files that it had
 abbrev pub KeepsFiles : ShardState → ShardState → Type 0
 KeepsFiles old new = (table : ℕ) → files_at (slice_get new.stores table) ≡ files_at (slice_get old.stores table)
+
+-- A table that had no file was given these: it holds what stands in them, and what it held. The other tables hold what they held, and have the files that
+-- they had; and no table more has something stored than the table's number asks for.
+pub record TakesFiles (table : ℕ) (files : List (File Held)) (old new : List StoredTable) : Type 0 where
+  pub holds : (order : List Ordered) (vss : List (List Mutation)) (ws : List Mutation) → files_at (slice_get old table) ≡ []
+      → HoldEach order files [] vss → Holds order (slice_get old table) ws → Holds order (slice_get new table) (all_of vss ++ ws)
+  pub files_are : files_at (slice_get new table) ≡ files
+  pub others : (t : ℕ) (order : List Ordered) (ws : List Mutation) → (t ≡ table → ⊥) → Holds order (slice_get old t) ws → Holds order (slice_get new t) ws
+  pub other_files : (t : ℕ) → (t ≡ table → ⊥) → files_at (slice_get new t) ≡ files_at (slice_get old t)
+  pub few : (n : ℕ) → length old ≤ n → table < n → length new ≤ n
 
 -- ---- what can be entered
 

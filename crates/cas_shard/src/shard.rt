@@ -7,13 +7,15 @@ ghost use Rattle.cas_shard.specs.Shards.{drawn_with, take_refusal};
 
 use crate::answers::{Look, TakeFault};
 use crate::rows::rows_of;
-use crate::stores::{freeze, join, reserve};
+use crate::stores::{adopt, freeze, join, reserve};
 use cas_atoms::{Mutation, Query, length};
 use cas_blocks::TableFault;
 use cas_disk::{Count, Sealed};
 use cas_effects::{BoundWrite, TOO_LARGE, TOO_MANY, atoms_of};
+use cas_sstread::Table;
 use cas_stored::TableStore;
 use cas_types::{LAST_DRAWN, LEAST_TIMESTAMP, List, MUTATION_LIMIT, Mem};
+use cas_view::View;
 use std::alloc::Global;
 use std::marker::Model;
 
@@ -78,7 +80,8 @@ fn drawn_with(drawn: i64, mutation: &Mutation) -> i64
 
 impl<S: Sealed> Shard<S> {
     ghost use Rattle.std.specs.Prelude.{◌≡◌, ◌+◌, ◌^◌, ◌<◌, ◌≤◌, ◌≤ℤ◌, ◌∷◌, [], max, true, ℕ, length, slice_get, List as ListOf, if◌then◌else◌};
-    ghost use Rattle.std.specs.Prelude.{IfOk, IfErr, IsErrOf, IfSome, OnOk};
+    ghost use Rattle.std.specs.Prelude.{IfOk, IfErr, IsErrOf, IfSome, OnOk, OnErr};
+    ghost use Rattle.std.specs.Int.{int_max};
     ghost use Rattle.cas_types.specs.Limits.{IsMoment, IsNarrow};
     ghost use Rattle.cas_types.specs.declared.limits.TheConstants.{LAST_DRAWN, LEAST_TIMESTAMP, MUTATION_LIMIT};
     ghost use Rattle.cas_types.specs.declared.schema.TableSchema.{TableSchema as Schema};
@@ -88,7 +91,8 @@ impl<S: Sealed> Shard<S> {
     ghost use Rattle.cas_shard.specs.declared.entry.ShardOpening.{ShardOpening as Opening};
     ghost use Rattle.cas_shard.specs.Shards.{IsTime, Prepares, ShardHistory, Shows, after_restore, empty_shard, entered, found_shard};
     ghost use Rattle.cas_shard.specs.Shards.{later_drawn, later_moment, number_of, raised, take_refusal, told_shard};
-    ghost use Rattle.cas_shard.specs.Stands.{AreShown, Asks, Belongs, HasNoFiles, HasRoom, IsPrepared, IsReady, KeepsFiles, Stands, Suits, files_at};
+    ghost use Rattle.cas_shard.specs.Stands.{AreShown, Asks, Belongs, HasNoFiles, HasRoom, IsPrepared, IsReady, KeepsFiles, Stands, Suits};
+    ghost use Rattle.cas_shard.specs.Stands.{TakesFiles, files_at};
     ghost use Rattle.cas_shard.specs.Inner.Stores.{MakesRoom};
     ghost use Rattle.cas_shard.specs.Inner.Turns.{Answered, Took};
     ghost use Rattle.cas_blocks.specs.declared.fault.TableFault.TheVariants as table_fault;
@@ -138,6 +142,45 @@ impl<S: Sealed> Shard<S> {
         self.moment = self.moment.max(mutation.moment);
         join(&mut self.stores, mutation);
         Ok(())
+    }
+
+    /// At an opening: the number of a mutation that stands in a table file, which counts where it is greater.
+    pub fn tell_number(&mut self, number: u64)
+        requires { number ≤ MUTATION_LIMIT }
+        ensures number { self.new.number ≡ max self.old.number number }
+        ensures stores { self.new.stores ≡ self.old.stores }
+        ensures drawn { self.new.drawn ≡ self.old.drawn }
+        ensures moment { self.new.moment ≡ self.old.moment }
+    {
+        self.number = self.number.max(number);
+    }
+
+    /// At an opening: the last drawn timestamp and the last moment that the store tells of the shard, which count
+    /// where they are greater.
+    pub fn tell_times(&mut self, drawn: i64, moment: i64)
+        requires low { drawn ≤ℤ LAST_DRAWN }
+        requires begun { IsMoment moment }
+        ensures drawn { self.new.drawn ≡ int_max self.old.drawn drawn }
+        ensures moment { self.new.moment ≡ int_max self.old.moment moment }
+        ensures stores { self.new.stores ≡ self.old.stores }
+        ensures number { self.new.number ≡ self.old.number }
+    {
+        self.drawn = self.drawn.max(drawn);
+        self.moment = self.moment.max(moment);
+    }
+
+    /// At an opening: gives a table the files that the store has of it in this shard. Its memtables hold what
+    /// stands in none of them. Where memory runs out the shard stands for what it stood for.
+    pub fn adopt(&mut self, alloc: Global, table: u16, view: View<Table<S>>) -> Result<(), Mem>
+        ensures taken { OnOk result (TakesFiles table view self.old.stores self.new.stores) }
+        ensures stands { OnErr result ((tables : ListOf Schema) (s : ShardHistory) → Stands tables s self.old → table < length tables
+            → Stands tables s self.new) }
+        ensures files { OnErr result (KeepsFiles self.old self.new) }
+        ensures number { self.new.number ≡ self.old.number }
+        ensures drawn { self.new.drawn ≡ self.old.drawn }
+        ensures moment { self.new.moment ≡ self.old.moment }
+    {
+        adopt(&mut self.stores, alloc, table, view)
     }
 
     /// The number of its last mutation; before the first it is 0.

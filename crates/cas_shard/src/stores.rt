@@ -1,14 +1,17 @@
 //! What a shard has stored of each table, at the tables' numbers.
 
-ghost use Rattle.std.specs.Prelude.{◌≡◌, ◌<◌, length, OnOk};
-ghost use Rattle.cas_shard.specs.Stands.{HasRoom};
+ghost use Rattle.std.specs.Prelude.{◌≡◌, ◌<◌, length, OnOk, OnErr};
+ghost use Rattle.cas_shard.specs.Stands.{HasRoom, TakesFiles};
 ghost use Rattle.cas_shard.specs.Inner.Stores.{AllStay, JoinsRoom, KeepFiles, MakesRoom, StayFew};
 
 use cas_atoms::Mutation;
 use cas_disk::Sealed;
+use cas_sstread::Table;
 use cas_stored::TableStore;
 use cas_types::Mem;
+use cas_view::View;
 use std::alloc::Global;
+use std::sync::Arc;
 
 // Places for tables up to this one, in which nothing is stored yet.
 fn reach<S: Sealed>(stores: &mut Vec<TableStore<S>>, alloc: Global, table: u16) -> Result<(), Mem>
@@ -61,4 +64,23 @@ pub(crate) fn freeze<S: Sealed>(
     }
     let store = &mut stores[table as usize];
     store.freeze(alloc)
+}
+
+/// Gives a table the files of this view.
+pub(crate) fn adopt<S: Sealed>(
+    stores: &mut Vec<TableStore<S>>,
+    alloc: Global,
+    table: u16,
+    view: View<Table<S>>,
+) -> Result<(), Mem>
+    ensures taken { OnOk result (TakesFiles table view stores.old.items stores.new.items) }
+    ensures kept { OnErr result (AllStay stores.old.items stores.new.items) }
+    ensures few { StayFew table stores.old.items stores.new.items }
+    ensures files { OnErr result (KeepFiles stores.old.items stores.new.items) }
+{
+    let view = Arc::new(alloc, view)?;
+    reach(stores, alloc, table)?;
+    let store = &mut stores[table as usize];
+    store.adopt(view);
+    Ok(())
 }

@@ -56,3 +56,12 @@ swap_of columns ms ns old new fs f memory set is of own = record {
   files = subst (AllByRecursion (IsFileOf columns)) (sym (set ∙ is)) (all_and (IsFileOf columns) old (f ∷ []) of.files (own, tt));
   memtables = memory of.memtables;
 }
+
+-- ---- files that an opening finds
+
+pub adopt_holds : (order : List Ordered) (ms : List MemPart) (fs : List (File Held)) (vss wss : List (List Mutation)) → HoldEach order fs [] vss
+    → StandInEach order ms wss → HoldEach order fs ms (vss ++ wss)
+adopt_holds order ms [] [] wss holds memory = memory
+adopt_holds order ms [] (ws ∷ vss) wss holds memory = absurd holds
+adopt_holds order ms (f ∷ fs) [] wss holds memory = absurd holds
+adopt_holds order ms (f ∷ fs) (ws ∷ vss) wss holds memory = (holds.0, adopt_holds order ms fs vss wss holds.1 memory)

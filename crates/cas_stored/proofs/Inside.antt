@@ -16,7 +16,7 @@ use Rattle.cas_stored.specs.Reading.{AreReadIn}
 use Rattle.cas_stored.specs.Stored.{AreOfTable, HoldEach, HoldsEach, IsFileOf, IsStoredOf, ShowStored, StandInFile, StoredTable, flushed, oldest}
 use Rattle.std.specs.List.{AllByRecursion}
 use Rattle.cas_stored.specs.Inner.Files.{FilesGiveBehind}
-use Rattle.cas_stored.proofs.Flushing.{swap_holds, swap_of}
+use Rattle.cas_stored.proofs.Flushing.{adopt_holds, swap_holds, swap_of}
 use Rattle.cas_stored.proofs.Showing.{sources_show}
 use Rattle.cas_stored.proofs.Storing.{memory_begun_if}
 
@@ -45,6 +45,17 @@ module _ (was now : StoredTable) (is : was ≡ now) where
   swaps_of columns ns view f memory =
       subst (λ (t : StoredTable). view ≡ t.files ++ f ∷ [] → IsStoredOf columns t → IsFileOf columns f → AreOfTable columns view ns) is
       (swap_of columns (memtables_of was.parts) ns was.files view view f memory refl)
+
+  pub adopts : (order : List Ordered) (view : List (File Held)) (vss wss : List (List Mutation)) → now.files ≡ [] → HoldsEach order now wss → HoldEach order view [] vss
+      → HoldEach order view (memtables_of was.parts) (vss ++ wss)
+  adopts order view vss wss =
+      subst (λ (t : StoredTable). t.files ≡ [] → HoldsEach order t wss → HoldEach order view [] vss → HoldEach order view (memtables_of was.parts) (vss ++ wss)) is
+      (λ none holds files. adopt_holds order (memtables_of was.parts) view vss wss files (subst (λ fs. HoldEach order fs (memtables_of was.parts) wss) none holds))
+
+  pub adopts_of : (columns : List Column) (view : List (File Held)) → IsStoredOf columns now → AllByRecursion (IsFileOf columns) view → AreOfTable columns view (memtables_of was.parts)
+  adopts_of columns view =
+      subst (λ (t : StoredTable). IsStoredOf columns t → AllByRecursion (IsFileOf columns) view → AreOfTable columns view (memtables_of was.parts)) is
+      (λ of files. record { files = files; memtables = of.memtables })
 
   pub shows : {M X : Type 0} (make : M → X) (tells : X → Option (List Fragment)) (tops : X → Option Deletion) (order : List Ordered) (s : Slice) (key asked : List ℕ) (fs : List (File Held))
       (wss : List (List Mutation)) (memory : List M) (old xs ys : List X) → asked ≡ key → fs ≡ was.files → old ≡ [] → ys ≡ xs ++ map make memory

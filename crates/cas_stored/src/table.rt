@@ -2,6 +2,7 @@
 
 ghost use Rattle.std.specs.Prelude.{◌≡◌, ℕ, ◌++◌, ◌∷◌, [], ◌≤◌, length, IfOk, IfErr, IsErrOf, OnOk, List as ListOf, is_ok, ◌&&◌, not, ◌==◌, if◌then◌else◌};
 ghost use Rattle.std.specs.Arc.{arc_value};
+ghost use Rattle.std.specs.List.{AllByRecursion};
 ghost use Rattle.cas_bounds.specs.declared.order.Ordered.{Ordered as Order};
 ghost use Rattle.cas_types.specs.declared.schema.Column.{Column as ColumnOf};
 ghost use Rattle.cas_atoms.specs.declared.atom.Mutation.{Mutation as Wrote};
@@ -11,7 +12,7 @@ ghost use Rattle.cas_memtable.specs.Memtables.{HasPlaces};
 ghost use Rattle.cas_memtable.specs.Kept.{all_of, begun, memtables_of, with_one};
 ghost use Rattle.cas_sstread.specs.Loading.{Held};
 ghost use Rattle.cas_view.specs.Views.{File, file_of};
-ghost use Rattle.cas_stored.specs.Stored.{HoldsEach, IsFileOf, IsStoredOf, ShowStored, StandInFile, flushed, oldest};
+ghost use Rattle.cas_stored.specs.Stored.{HoldEach, HoldsEach, IsFileOf, IsStoredOf, ShowStored, StandInFile, flushed, oldest};
 ghost use Rattle.cas_stored.specs.Reading.{AreReadIn, IsBadFile, IsWhyNot};
 
 use crate::files::{file_sources, with_memory};
@@ -147,6 +148,17 @@ impl<S: Sealed> TableStore<S> {
         added.push(file)?;
         let view = self.view.with(added)?;
         Ok(Arc::new(alloc, view)?)
+    }
+
+    /// At an opening: takes the files that the store has of the table. The memtables hold what stands in none of them.
+    pub fn adopt(&mut self, view: Arc<View<Table<S>>, Global>)
+        ensures holds { (order : ListOf Order) (vss wss : ListOf (ListOf Wrote)) → self.old.files ≡ [] → HoldsEach order self.old wss
+            → HoldEach order (arc_value view) [] vss → HoldsEach order self.new (vss ++ wss) }
+        ensures columns { (columns : ListOf ColumnOf) → IsStoredOf columns self.old → AllByRecursion (IsFileOf columns) (arc_value view)
+            → IsStoredOf columns self.new }
+        ensures files { self.new.files ≡ arc_value view }
+    {
+        self.view = view;
     }
 
     /// After a flush: takes a view with one file more, in which what stood in the oldest frozen memtables

@@ -1,15 +1,27 @@
--- Shards that take the mutations of a log. Own.
-use Rattle.std.specs.Prelude.{ℕ, List, Option, None, Some}
+-- Shards in memory that take the mutations of a log. Own.
+use Rattle.std.specs.Prelude.{ℕ, ◌<◌, List, [], ◌∷◌, Option, None, Some}
+use Rattle.std.specs.List.{AllByRecursion}
 use Rattle.cas_types.specs.declared.schema.TableSchema.{TableSchema}
 use Rattle.cas_atoms.specs.declared.atom.Mutation.{Mutation}
-use Rattle.cas_replay.specs.Grammar.{AreOfALog}
+use Rattle.cas_mutations.specs.Allowed.{FitsRecord}
+use Rattle.cas_replay.specs.Grammar.{numbers_of}
 use Rattle.cas_shard.specs.Stands.{ShardState}
 use Rattle.cas_recovery.specs.Restored.{AreRestored, HaveNoFiles}
 
--- of whatever tables a log with these mutations is, each shard has what that has of it, and no table file
+-- the numbers rise, from above n
+abbrev pub Rise : ℕ → List ℕ → Type 0
+Rise n [] = Unit {0}
+Rise n (m ∷ ms) = (n < m) × Rise m ms
+
+-- mutations that shards may be given one after another: each is of one of the tables, and per shard their numbers rise
+pub record MayBeGiven (tables : List TableSchema) (count : ℕ) (mutations : List Mutation) : Type 0 where
+  pub fit : AllByRecursion (FitsRecord tables count) mutations
+  pub rise : (n : ℕ) → Rise 0 (numbers_of n mutations)
+
+-- of whatever tables these mutations may be, each shard has what they have of it, and no table file
 abbrev pub HaveRestored : List Mutation → List ShardState → Type 0
 HaveRestored mutations shards =
-    HaveNoFiles shards × ((tables : List TableSchema) (count : ℕ) → AreOfALog tables count mutations → AreRestored tables mutations shards)
+    HaveNoFiles shards × ((tables : List TableSchema) (count : ℕ) → MayBeGiven tables count mutations → AreRestored tables mutations shards)
 
 -- the same of those that are there, unless memory ran out
 abbrev pub HasRestored : List Mutation → Option (List ShardState) → Type 0

@@ -3,7 +3,7 @@ use Rattle.std.proofs.lemmas.Option.{slice_get-get_or}
 use Rattle.std.specs.Prelude.{slice_get}
 use Rattle.cas_recovery.specs.Found.{found_in}
 use Rattle.cas_recovery.specs.Inner.Restoring.{HaveRestored}
-use Rattle.cas_recovery.proofs.Restoring.{above_here, belongs_here, front_log, more_restored, one_keeps_none}
+use Rattle.cas_recovery.proofs.Restoring.{above_here, belongs_here, front_given, more_restored, one_keeps_none}
 use Rattle.cas_recovery.proofs.all_shards.AllShards.restore.Goals as goal
 
 pub returns : goal.returns
@@ -15,9 +15,9 @@ returns g c before has =
     let there : slice_get xs m.shard ≡ Some x = slice_get-get_or xs m.shard x within ∙ ap (λ y. Some y) (sym c.index_mut.ensures.value) in
     let had : HaveRestored before xs = subst (HaveRestored before) (sym c.self.view_is) has in (
       one_keeps_none xs m.shard x c.restore.new.self had.0 there c.restore.ensures.files,
-      λ tables count log.
-          let were = had.1 tables count (front_log tables count before m [] (before ++ m ∷ []) refl log) in
+      λ tables count given.
+          let were = had.1 tables count (front_given tables count before m [] (before ++ m ∷ []) refl given) in
           more_restored tables before m xs x c.restore.new.self were there
-          (c.in_ok-restore.ensures.stands tables count (found_in m.shard before) (were m.shard x there) (belongs_here tables count before m [] (before ++ m ∷ []) refl log)
-          (above_here tables count before m [] (before ++ m ∷ []) refl log)),
+          (c.in_ok-restore.ensures.stands tables count (found_in m.shard before) (were m.shard x there) (belongs_here tables count before m [] (before ++ m ∷ []) refl given)
+          (above_here tables count before m [] (before ++ m ∷ []) refl given)),
     )

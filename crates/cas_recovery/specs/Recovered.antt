@@ -1,0 +1,62 @@
+-- What a store is that was read back into memory, with its table files (own).
+use Rattle.std.specs.Prelude.{◌≡◌, ◌≢◌, ◌⊎◌, ◌<◌, ◌≤◌, ℕ, List, [], length, slice_get, Some}
+use Rattle.cas_types.specs.Limits.{IsShardCount}
+use Rattle.cas_types.specs.declared.schema.TableSchema.{TableSchema}
+use Rattle.cas_disk.specs.Disk.{Disk, Image}
+use Rattle.cas_disk.specs.declared.name.Name.{Name}
+use Rattle.cas_disk.specs.declared.name.Name.TheVariants.{Table as table_name}
+use Rattle.cas_atoms.specs.declared.atom.Mutation.{Mutation}
+use Rattle.cas_bind.specs.Tables.{AreTables}
+use Rattle.cas_bind.specs.declared.bound.Limits.{Limits}
+use Rattle.cas_changes.specs.Saying.{nothing, part_of, said_by}
+use Rattle.cas_changes.specs.declared.entry.Entry.{Entry as ManifestEntry}
+use Rattle.cas_manifest.specs.File.{MayFollow}
+use Rattle.cas_replay.specs.Grammar.{AreOfALog}
+use Rattle.cas_journal.specs.Stores.{Told}
+use Rattle.cas_journal.specs.Journals.{Lasts}
+use Rattle.cas_journal.specs.declared.journal.Journal.{Journal}
+use Rattle.cas_opening.specs.Opening.{IsOfBytes, IsRefused, OpensAs, next_segment}
+use Rattle.cas_listed.specs.Listed.{IsBadFile}
+use Rattle.cas_shard.specs.declared.entry.ShardOpening.{ShardOpening}
+use Rattle.cas_shard.specs.Shards.{found_shard}
+use Rattle.cas_shard.specs.Stands.{ShardState, Stands}
+use Rattle.cas_recovery.specs.Openings.{IsOpening}
+use Rattle.cas_recovery.specs.Restored.{IsTold}
+
+-- The store of a folder was read back: its limits and tables are what the manifest's entries say, and its journal goes on behind the log's mutations,
+-- which last. Where the folder tells what it reads, each shard stands for whatever it may have been before.
+pub record IsRecovered (given limits : Limits) (tables : List TableSchema) (shards : List ShardState) (journal : Journal) (old new : Disk) : Type 0 where
+  pub entries : List ManifestEntry
+  pub mutations : List Mutation
+  pub made : entries ≢ []
+  pub follow : MayFollow nothing entries
+  pub some : IsShardCount (said_by entries).shards
+  pub log : AreOfALog (said_by entries).tables (said_by entries).shards mutations
+  pub told : (c : Image) → old.reads c → IsOfBytes c → OpensAs given.shards entries mutations c
+  pub same : limits ≡ record given { shards = (said_by entries).shards }
+  pub tables_are : tables ≡ (said_by entries).tables
+  pub good : AreTables tables
+  pub count : length shards ≡ limits.shards
+  pub stands : (c : Image) → old.reads c → IsOfBytes c → (n : ℕ) (x : ShardState) (o : ShardOpening) → slice_get shards n ≡ Some x
+      → IsOpening (said_by entries) mutations old n o → Stands tables (found_shard o) x
+  pub segment : journal.last_segment ≤ next_segment entries
+  pub lasts : (c : Image) → old.reads c → IsOfBytes c → (t : Told) × IsTold entries mutations t × Lasts journal new t
+
+-- A listed table file of these entries, as a crash may leave it, isn't as it must be, or as it is listed, at this place.
+pub record IsBadTable (entries : List ManifestEntry) (folder : Disk) (name : Name) (at : ℕ) : Type 0 where
+  pub number : ℕ
+  pub name_is : name ≡ table_name number
+  pub table : ℕ
+  pub schema : TableSchema
+  pub there : slice_get (said_by entries).tables table ≡ Some schema
+  pub shard : ℕ
+  pub within : shard < (said_by entries).shards
+  pub image : Image
+  pub left : folder.may_leave image
+  pub bad : IsBadFile schema shard image (part_of (said_by entries) table shard).listed number at
+
+-- Why a folder isn't read back: the bytes of the manifest or of a segment aren't as they must be at this place, or those of a listed table file.
+abbrev pub IsUnreadable : ℕ → Disk → Name → ℕ → Image → Type 0
+IsUnreadable shards folder name at c =
+    IsRefused name at c
+    ⊎ ((entries : List ManifestEntry) × (mutations : List Mutation) × OpensAs shards entries mutations c × IsBadTable entries folder name at)
