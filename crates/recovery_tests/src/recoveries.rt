@@ -4,7 +4,7 @@ use crate::flushed::{flushed, put};
 use cas_bind::Limits;
 use cas_disk::{Count, FaultCount, FaultPlan, Folder, MemFolder, MemSealed, Name};
 use cas_recovery::{RecoveryFault, Started, recover};
-use std::alloc::{AllocError, Global};
+use std::alloc::Global;
 
 // A new store would have four shards.
 const LIMITS: Limits = Limits {
@@ -18,8 +18,8 @@ const LIMITS: Limits = Limits {
 /// the folder failed, and how often a read of a table file did.
 type Answer = (Result<(usize, u64, u64), RecoveryFault>, u64, u64);
 
-// What is found of the store in the folder.
-const FOUND: Result<(usize, u64, u64), RecoveryFault> = Ok((1, 0, 5));
+// That of the folder as it is.
+const FOUND: Answer = (Ok((1, 0, 5)), 0, 0);
 
 fn numbers(started: &Started<MemSealed>) -> (usize, u64, u64) {
     match started.shards.as_slice() {
@@ -35,6 +35,22 @@ fn answer(alloc: Global, folder: &mut MemFolder) -> Answer {
         Err(fault) => Err(fault),
     };
     (found, folder.faults(), tally.faults())
+}
+
+// The folder, whose table file fails at the read of this number.
+fn failing(alloc: Global, read: u64) -> Option<MemFolder> {
+    let reads = vec![in alloc; (1, read)].ok()?;
+    let plan = FaultPlan {
+        calls: Vec::new(alloc),
+        drafts: Vec::new(alloc),
+        reads,
+    };
+    flushed(alloc, plan)
+}
+
+// The same without such a read.
+fn found(alloc: Global) -> Option<MemFolder> {
+    flushed(alloc, FaultPlan::none(alloc))
 }
 
 // A block of the commit log by hand: of shard 1 the mutation up to which the table file has them, and the next one.
@@ -55,40 +71,21 @@ const BLOCK: [u8; 116] = [
     0, // the next gate is closed
 ];
 
-// What is answered first; once the manifest lists the segment that was begun; and once a block stands in that.
-fn answers(alloc: Global) -> Option<[Answer; 3]> {
-    let mut folder = flushed(alloc, FaultPlan::none(alloc))?;
-    let first = answer(alloc, &mut folder);
-    let second = answer(alloc, &mut folder);
-    if folder.write_at(Name::Log(1), 24, &BLOCK).is_err() {
-        return None;
-    }
-    Some([first, second, answer(alloc, &mut folder)])
+// Whether the folder is opened as it is; once more, where the manifest lists the segment that was begun; and once a block
+// stands in that.
+fn is_found(alloc: Global) -> bool {
+    let Some(mut folder) = found(alloc) else {
+        return false;
+    };
+    answer(alloc, &mut folder) == FOUND
+        && answer(alloc, &mut folder) == FOUND
+        && folder.write_at(Name::Log(1), 24, &BLOCK).is_ok()
+        && answer(alloc, &mut folder) == (Ok((1, 0, 6)), 0, 0)
 }
 
 #[test]
 fn a_flushed_file_is_found_by_an_opening(rt: HostRuntime) {
-    let more = (Ok((1, 0, 6)), 0, 0);
-    assert_eq!(rt;
-        answers(rt.alloc()),
-        Some([(FOUND, 0, 0), (FOUND, 0, 0), more])
-    );
-}
-
-// What is answered where this byte stands at a place of the table file.
-fn altered(alloc: Global, place: u64, byte: u8) -> Option<Answer> {
-    let mut folder = flushed(alloc, FaultPlan::none(alloc))?;
-    if folder.write_at(Name::Table(1), place, &[byte]).is_err() {
-        return None;
-    }
-    Some(answer(alloc, &mut folder))
-}
-
-fn bad(at: u64) -> Result<(usize, u64, u64), RecoveryFault> {
-    Err(RecoveryFault::Bad {
-        name: Name::Table(1),
-        at,
-    })
+    assert!(rt; is_found(rt.alloc()));
 }
 
 // Another byte at a place of the table file, and where that is refused.
@@ -105,14 +102,27 @@ const ALTERED: [(u64, u8, Option<u64>); 10] = [
     (237, 0x32, Some(230)), // another word at the end
 ];
 
+fn expected(refused: Option<u64>) -> Answer {
+    let name = Name::Table(1);
+    match refused {
+        Some(at) => (Err(RecoveryFault::Bad { name, at }), 0, 0),
+        None => FOUND,
+    }
+}
+
+// Whether the folder is answered so where this byte stands at a place of the table file.
+fn is_told(alloc: Global, place: u64, byte: u8, refused: Option<u64>) -> bool {
+    let Some(mut folder) = found(alloc) else {
+        return false;
+    };
+    folder.write_at(Name::Table(1), place, &[byte]).is_ok()
+        && answer(alloc, &mut folder) == expected(refused)
+}
+
 // The first of these that is answered otherwise.
 fn wrong(alloc: Global) -> Option<u64> {
     for (place, byte, refused) in &ALTERED {
-        let found = match refused {
-            Some(at) => bad(*at),
-            None => FOUND,
-        };
-        if altered(alloc, *place, *byte) != Some((found, 0, 0)) {
+        if !is_told(alloc, *place, *byte, *refused) {
             return Some(*place);
         }
     }
@@ -124,63 +134,50 @@ fn another_byte_is_found(rt: HostRuntime) {
     assert_eq!(rt; wrong(rt.alloc()), None);
 }
 
-// What is answered where the listed file isn't there.
-fn answer_without(alloc: Global) -> Option<Answer> {
-    let mut folder = flushed(alloc, FaultPlan::none(alloc))?;
-    if folder.remove(Name::Table(1)).is_err() {
-        return None;
+// Whether a listed file that isn't there is a fault of the folder.
+fn is_missed(alloc: Global) -> bool {
+    let Some(mut folder) = found(alloc) else {
+        return false;
+    };
+    folder.remove(Name::Table(1)).is_ok()
+        && answer(alloc, &mut folder) == (Err(RecoveryFault::Failed), 1, 0)
+}
+
+// Whether the folder is answered so where the read of this number fails.
+fn is_answered(alloc: Global, read: u64, expected: Answer) -> bool {
+    match failing(alloc, read) {
+        Some(mut folder) => answer(alloc, &mut folder) == expected,
+        None => false,
     }
-    Some(answer(alloc, &mut folder))
 }
 
-// What is answered beside a file that isn't listed, and whether that is gone then, and the listed one there.
-fn answer_beside(alloc: Global) -> Option<(Answer, bool)> {
-    let mut folder = flushed(alloc, FaultPlan::none(alloc))?;
-    if !put(&mut folder, Name::Table(9), b"") {
-        return None;
-    }
-    let found = answer(alloc, &mut folder);
-    Some((
-        found,
-        !folder.has(Name::Table(9)) && folder.has(Name::Table(1)),
-    ))
-}
-
-fn failing(alloc: Global, read: u64) -> Result<FaultPlan, AllocError> {
-    let reads = vec![in alloc; (1, read)]?;
-    Ok(FaultPlan {
-        calls: Vec::new(alloc),
-        drafts: Vec::new(alloc),
-        reads,
-    })
-}
-
-// What is answered where the read of this number of the file fails.
-fn answer_failing(alloc: Global, read: u64) -> Option<Answer> {
-    let mut folder = flushed(alloc, failing(alloc, read).ok()?)?;
-    Some(answer(alloc, &mut folder))
-}
-
-// Loading takes six reads: whether each of them that fails is told and counted, and the one behind them isn't done.
+// Loading takes six reads: whether each of them that fails is told and counted, and one behind them isn't done.
 fn are_told(alloc: Global) -> bool {
     for read in 1..=6 {
-        if answer_failing(alloc, read) != Some((Err(RecoveryFault::Read), 0, 1)) {
+        if !is_answered(alloc, read, (Err(RecoveryFault::Read), 0, 1)) {
             return false;
         }
     }
-    answer_failing(alloc, 7) == Some((FOUND, 0, 0))
+    is_answered(alloc, 7, FOUND)
 }
 
 #[test]
 fn what_fails_is_told(rt: HostRuntime) {
-    assert_eq!(rt;
-        answer_without(rt.alloc()),
-        Some((Err(RecoveryFault::Failed), 1, 0))
-    );
-    assert!(rt; are_told(rt.alloc()));
+    assert!(rt; is_missed(rt.alloc()) && are_told(rt.alloc()));
+}
+
+// Whether a table file that isn't listed goes, and the listed one stays.
+fn is_swept(alloc: Global) -> bool {
+    let Some(mut folder) = found(alloc) else {
+        return false;
+    };
+    put(&mut folder, Name::Table(9), b"")
+        && answer(alloc, &mut folder) == FOUND
+        && !folder.has(Name::Table(9))
+        && folder.has(Name::Table(1))
 }
 
 #[test]
 fn a_file_that_is_not_listed_goes(rt: HostRuntime) {
-    assert_eq!(rt; answer_beside(rt.alloc()), Some(((FOUND, 0, 0), true)));
+    assert!(rt; is_swept(rt.alloc()));
 }
