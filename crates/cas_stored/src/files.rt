@@ -55,8 +55,8 @@ fn put<X: Drop>(sources: &mut Vec<X>, source: Option<X>) -> Result<(), AllocErro
     Ok(())
 }
 
-/// Puts the sources of a partition in these files behind the others.
-pub(crate) fn put_files<'a, S: Sealed, B: BadPlaces>(
+// Puts the sources of a partition in these files behind the others.
+fn put_files<'a, S: Sealed, B: BadPlaces>(
     alloc: Global,
     sources: &mut Vec<Source<'a, S, B>>,
     files: &'a [OpenFile<Table<S>>],
@@ -80,16 +80,37 @@ pub(crate) fn put_files<'a, S: Sealed, B: BadPlaces>(
     }
 }
 
-/// Puts the sources of memtables behind the others.
-pub(crate) fn put_memory<M: Drop, F: Drop>(
-    sources: &mut Vec<StoredSource<M, F>>,
-    memory: Vec<M>,
-) -> Result<(), AllocError>
-    ensures { OnOk result (sources.new.items ≡ sources.old.items ++ map StoredSource.Memory memory.items) }
+/// The sources of a partition in these files.
+pub(crate) fn file_sources<'a, S: Sealed, B: BadPlaces>(
+    alloc: Global,
+    files: &'a [OpenFile<Table<S>>],
+    key: &[u8],
+    slice: &Slice,
+    tally: &mut S::Tally,
+) -> Result<Vec<Source<'a, S, B>>, TableFault>
+    requires reads { AreReadIn slice.now (files_of files.now) }
+    requires told { (n at : ℕ) → IsBadFile (files_of files.now) key.now slice.now n at → B.told n at }
+    ensures gives { IfOk result (λ v. FilesGiveBehind key.now slice.now ⟦<Source<'a, S, B> as FragmentSource>⟧.over_all
+        ⟦<Source<'a, S, B> as FragmentSource>⟧.to_come (files_of files.now) [] v.items) }
+    ensures why { IfErr result (IsWhyNot (files_of files.now) key.now) }
+    ensures count { Counted (S.Tally.number tally.old) (S.Tally.number tally.new) (IsErrOf result TableFault.Read) }
 {
+    let mut sources = Vec::new(alloc);
+    put_files(alloc, &mut sources, files, key, slice, tally)?;
+    Ok(sources)
+}
+
+/// The sources of files, and behind them those of memtables.
+pub(crate) fn with_memory<M: Drop, F: Drop>(
+    files: Vec<StoredSource<M, F>>,
+    memory: Vec<M>,
+) -> Result<Vec<StoredSource<M, F>>, AllocError>
+    ensures { IfOk result (λ v. v.items ≡ files.items ++ map StoredSource.Memory memory.items) }
+{
+    let mut sources = files;
     let mut rest = memory.into_iter();
     while let Some(source) = rest.next() {
         sources.push(StoredSource::Memory(source))?;
     }
-    Ok(())
+    Ok(sources)
 }

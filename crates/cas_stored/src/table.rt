@@ -15,7 +15,7 @@ ghost use Rattle.cas_view.specs.Views.{File, file_of};
 ghost use Rattle.cas_stored.specs.Stored.{HoldEach, HoldsEach, IsFileOf, IsStoredOf, ShowStored, StandInFile, flushed, oldest};
 ghost use Rattle.cas_stored.specs.Reading.{AreReadIn, IsBadFile, IsWhyNot};
 
-use crate::files::{put_files, put_memory};
+use crate::files::{file_sources, with_memory};
 use crate::places::BadPlaces;
 use crate::source::Source;
 use cas_atoms::Mutation;
@@ -132,17 +132,8 @@ impl<S: Sealed> TableStore<S> {
         ensures count { Counted (S.Tally.number tally.old) (S.Tally.number tally.new) (IsErrOf result TableFault.Read) }
     {
         let memory = self.parts.sources(alloc, key, slice)?;
-        let mut sources = Vec::new(alloc);
-        put_files(
-            alloc,
-            &mut sources,
-            self.view.files(),
-            key.as_slice(),
-            slice,
-            tally,
-        )?;
-        put_memory(&mut sources, memory)?;
-        Ok(sources)
+        let files = file_sources(alloc, self.view.files(), key.as_slice(), slice, tally)?;
+        Ok(with_memory(files, memory)?)
     }
 
     /// A view of one file more, behind those that it has.

@@ -1,0 +1,4 @@
+pub mod Columns
+pub mod Atoms
+pub mod Memory
+pub mod Files
