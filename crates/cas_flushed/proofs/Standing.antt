@@ -66,11 +66,11 @@ alone : (ps : List Partition) → Ascend bytes_cmp (λ p. p.key) ps → AllByRec
 alone [] ascend = tt
 alone (p ∷ ps) ascend = (
   ap (λ (b : Bool). cond b (flat_of p.stream) [] ++ said_under p.key ps) (ap is_eq (tied_itself bytes_orders.total p.key))
-  ∙ ap (λ (l : List Atom). flat_of p.stream ++ l)
-  (apart p.key ps (one (λ q. bytes_cmp p.key q.key ≡ Less) (λ q. same_bytes q.key p.key ≡ false) ps (λ q less. behind p q less) ascend.0))
-  ∙ append-nil (flat_of p.stream),
+      ∙ ap (λ (l : List Atom). flat_of p.stream ++ l)
+      (apart p.key ps (one (λ q. bytes_cmp p.key q.key ≡ Less) (λ q. same_bytes q.key p.key ≡ false) ps (λ q less. behind p q less) ascend.0))
+      ∙ append-nil (flat_of p.stream),
   both (λ q. bytes_cmp p.key q.key ≡ Less) (λ q. said_under q.key ps ≡ flat_of q.stream) (λ q. said_under q.key (p ∷ ps) ≡ flat_of q.stream) ps
-  (λ q less own. ap (λ (b : Bool). cond b (flat_of p.stream) [] ++ said_under q.key ps) (ap is_eq less) ∙ own) ascend.0 (alone ps ascend.1),
+      (λ q less own. ap (λ (b : Bool). cond b (flat_of p.stream) [] ++ said_under q.key ps) (ap is_eq less) ∙ own) ascend.0 (alone ps ascend.1),
 )
 
 -- ---- a file of contents

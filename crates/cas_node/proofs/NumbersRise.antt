@@ -28,7 +28,7 @@ use Rattle.cas_node.specs.Lines.{SetsClock, Answered, Answers}
 use Rattle.cas_recovery.specs.Found.{AreOfAStore, found_in}
 use Rattle.cas_sessions.specs.Starts.{start}
 use Rattle.cas_node.specs.Laws.{AllRise, FoundRise, NumbersStay, AllAreRead}
-use Rattle.cas_recovery.proofs.Founding.{log_reads, none_read}
+use Rattle.cas_recovery.proofs.Founding.{given_reads, log_given, none_read}
 use Rattle.cas_sessions.proofs.Serving.{numbered, many_mapped, many_numbers}
 
 -- ---- a shard
@@ -145,7 +145,8 @@ first_rise entries mutations store n = ⊎_elim here beyond (below_or_past n (sa
         subst NumbersRise
         (sym (numbered (λ (k : ℕ). found_shard (found_in k mutations)) (found_shard empty_shard) 0 (said_by entries).shards n lt
         ∙ ap (λ (k : ℕ). found_shard (found_in k mutations)) same))
-        (log_reads (said_by entries).tables (said_by entries).shards n mutations store.log).rises
+        (given_reads (said_by entries).tables (said_by entries).shards n mutations
+        (log_given (said_by entries).tables (said_by entries).shards mutations store.log)).rises
 
     beyond : (said_by entries).shards ≤ n → NumbersRise (slice_index_or (first_shards entries mutations) n (found_shard empty_shard))
     beyond le =
