@@ -12,7 +12,7 @@ ghost use Rattle.cas_memtable.specs.Memtables.{HasPlaces};
 ghost use Rattle.cas_memtable.specs.Kept.{all_of, begun, memtables_of, with_one};
 ghost use Rattle.cas_sstread.specs.Loading.{Held};
 ghost use Rattle.cas_view.specs.Views.{File, file_of};
-ghost use Rattle.cas_stored.specs.Stored.{HoldEach, HoldsEach, IsFileOf, IsStoredOf, ShowStored, StandInFile, flushed, oldest};
+ghost use Rattle.cas_stored.specs.Stored.{HoldEach, HoldsEach, IsFileOf, IsStoredOf, ShowStored, StandInFile, flushed};
 ghost use Rattle.cas_stored.specs.Reading.{AreReadIn, IsBadFile, IsWhyNot};
 
 use crate::files::{file_sources, with_memory};
@@ -161,14 +161,12 @@ impl<S: Sealed> TableStore<S> {
         self.view = view;
     }
 
-    /// After a flush: takes a view with one file more, in which what stood in the oldest frozen memtables
-    /// stands now, and lets go of these.
+    /// After a flush: takes a view with one file more, in the place of the oldest frozen memtables, so many, and lets go of
+    /// these. Which mutations stand in the file may be others that say the same.
     pub fn swap(&mut self, view: Arc<View<Table<S>>, Global>, count: usize)
         requires { count ≤ length self.old.parts.frozen.items }
-        ensures holds { (order : ListOf Order) (wss : ListOf (ListOf Wrote)) (f : File Held) → arc_value view ≡ self.old.files ++ f ∷ []
-            → HoldsEach order self.old wss → StandInFile order f (oldest (length self.old.files) count wss)
-            → HoldsEach order self.new (flushed (length self.old.files) count wss)
-            × (all_of (flushed (length self.old.files) count wss) ≡ all_of wss) }
+        ensures holds { (order : ListOf Order) (wss : ListOf (ListOf Wrote)) (ws : ListOf Wrote) (f : File Held) → arc_value view ≡ self.old.files ++ f ∷ []
+            → HoldsEach order self.old wss → StandInFile order f ws → HoldsEach order self.new (flushed (length self.old.files) count ws wss) }
         ensures columns { (columns : ListOf ColumnOf) (f : File Held) → arc_value view ≡ self.old.files ++ f ∷ []
             → IsStoredOf columns self.old → IsFileOf columns f → IsStoredOf columns self.new }
         ensures files { self.new.files ≡ arc_value view }

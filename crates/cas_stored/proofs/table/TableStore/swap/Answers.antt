@@ -4,8 +4,8 @@ use Rattle.cas_stored.proofs.Inside.{swaps, swaps_of}
 use Rattle.cas_stored.proofs.table.TableStore.swap.Goals as goal
 
 pub returns-clause-holds : goal.returns-clause-holds
-returns-clause-holds g c order wss f is holds stands =
-    swaps _ _ c.self.view_is order (memtables_of c.forget.new.self) (arc_value c.args.view) f c.args.count wss (c.forget.ensures.keeps order) is holds stands
+returns-clause-holds g c order wss ws f is holds stands =
+    swaps _ _ c.self.view_is order (memtables_of c.forget.new.self) (arc_value c.args.view) f c.args.count ws wss (c.forget.ensures.keeps order) is holds stands
 
 pub returns-clause-columns : goal.returns-clause-columns
 returns-clause-columns g c columns f is of own =
