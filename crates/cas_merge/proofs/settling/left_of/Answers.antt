@@ -4,7 +4,11 @@ use Rattle.cas_atoms.specs.Greatest.{greater}
 use Rattle.cas_streams.specs.Flat.{own}
 use Rattle.cas_streams.specs.Settled.{if_said, bare_row, left_of as left}
 use Rattle.cas_streams.specs.declared.fragment.Fragment.TheVariants as fragment
+use Rattle.cas_merge.proofs.Saying.{left_whole}
 use Rattle.cas_merge.proofs.settling.left_of.Goals as goal
+
+pub returns-then-is_left_whole : goal.returns-then-is_left_whole
+returns-then-is_left_whole c = left_whole c.args.top c.args.now c.args.f (sym c.is_left_whole.ensures ∙ c.if-is_left_whole.true)
 
 pub returns-in_ok-bare_row-in-Row : goal.returns-in_ok-bare_row-in-Row
 returns-in_ok-bare_row-in-Row c =
