@@ -208,6 +208,30 @@ fn is_left_whole(top: Option<Deletion>, now: Option<Deletion>, f: &Fragment) -> 
     }
 }
 
+// What is left of any fragment. It stands apart, so that a row that stays as it is doesn't pay for
+// what it holds.
+#[inline(never)]
+fn left_of_any(
+    alloc: Global,
+    top: Option<Deletion>,
+    now: Option<Deletion>,
+    f: Fragment,
+) -> Result<Option<Fragment>, AllocError>
+    ensures { IfOk result (λ g. g ≡ left_of top now f) }
+{
+    match f {
+        Fragment::Static(columns) => Ok(static_left(bare_static(alloc, top, columns)?)),
+        Fragment::Row(r) => Ok(row_left(bare_row(alloc, greater_deletion(top, now), r)?)),
+        Fragment::Marker(cut, d) => {
+            if same_force(now, d) {
+                Ok(None)
+            } else {
+                Ok(Some(Fragment::Marker(cut, d)))
+            }
+        }
+    }
+}
+
 /// What is left of a fragment under the top, where that is in force before it.
 pub fn left_of(
     alloc: Global,
@@ -220,15 +244,5 @@ pub fn left_of(
     if is_left_whole(top, now, &f) {
         return Ok(Some(f));
     }
-    match f {
-        Fragment::Static(columns) => Ok(static_left(bare_static(alloc, top, columns)?)),
-        Fragment::Row(r) => Ok(row_left(bare_row(alloc, greater_deletion(top, now), r)?)),
-        Fragment::Marker(cut, d) => {
-            if same_force(now, d) {
-                Ok(None)
-            } else {
-                Ok(Some(Fragment::Marker(cut, d)))
-            }
-        }
-    }
+    left_of_any(alloc, top, now, f)
 }
