@@ -16,6 +16,7 @@ use Rattle.cas_shard.specs.Stands.{NumbersRise}
 use Rattle.cas_shard.proofs.Numbering.{one_restored}
 use Rattle.cas_recovery.specs.Found.{found_in}
 use Rattle.cas_recovery.specs.Inner.Restoring.{MayBeGiven, Rise}
+use Rattle.cas_recovery.proofs.Within.{all_filtered}
 
 -- ---- numbers
 
@@ -147,14 +148,6 @@ module _ (p : Mutation → Bool) (n : ℕ) where
   rest_rises (m ∷ ms) k rise =
       subst (Rise k) (sym (numbers_if (p m) m (filter p ms)))
       (rise_by (p m) (m.shard == n) k m.number (numbers_of n (filter p ms)) (numbers_of n ms) (rest_rises ms) rise)
-
-all_filtered : (P : Mutation → Type 0) (p : Mutation → Bool) (ms : List Mutation) → AllByRecursion P ms → AllByRecursion P (filter p ms)
-all_filtered P p [] all = tt
-all_filtered P p (m ∷ ms) all = by (p m) (all_filtered P p ms all.1)
-  where
-    by : (b : Bool) → AllByRecursion P (filter p ms) → AllByRecursion P (if b then m ∷ filter p ms else filter p ms)
-    by true rest = (all.0, rest)
-    by false rest = rest
 
 pub some_given : (p : Mutation → Bool) (tables : List TableSchema) (shards : ℕ) (ms : List Mutation) → MayBeGiven tables shards ms → MayBeGiven tables shards (filter p ms)
 some_given p tables shards ms given = record {

@@ -24,7 +24,7 @@ use Rattle.cas_recovery.specs.Inner.Filling.{IsWithin}
 
 -- ---- lists
 
-all_filtered : {A : Type 0} (P : A → Type 0) (p : A → Bool) (xs : List A) → AllByRecursion P xs → AllByRecursion P (filter p xs)
+pub all_filtered : {A : Type 0} (P : A → Type 0) (p : A → Bool) (xs : List A) → AllByRecursion P xs → AllByRecursion P (filter p xs)
 all_filtered P p [] all = tt
 all_filtered P p (x ∷ xs) all =
     let rest = all_filtered P p xs all.1 in
