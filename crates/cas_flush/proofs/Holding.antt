@@ -32,14 +32,14 @@ use Rattle.cas_partition.specs.Partitions.{AllFit, AreAtCuts}
 use Rattle.cas_partition.proofs.AtCuts.{merge_at}
 use Rattle.cas_memtable.specs.Memtables.{least_of, least_with, IsOfColumns}
 use Rattle.cas_memtable.specs.declared.memtable.MemPart.{MemPart}
-use Rattle.cas_memtable.specs.Kept.{StandIn, StandInEach, ShowPartition, all_of, atoms_at, atoms_under, has_key}
+use Rattle.cas_memtable.specs.Kept.{HoldMutations, MayHold, StandIn, StandInEach, ShowPartition, all_of, atoms_at, atoms_under, has_key}
+use Rattle.cas_merge.specs.Told.{streams_told}
 use Rattle.cas_memtable.proofs.Keeping.{more_under}
 use Rattle.cas_memtable.proofs.Showing.{nothing_written}
 use Rattle.cas_flush.specs.Fitting.{FitsTable, HasRoom}
 use Rattle.cas_flush.proofs.Fitted.{stream_fits}
 use Rattle.cas_sstwrite.specs.Rooms.{IsHeld, AreHeld}
 use Rattle.cas_sstwrite.specs.Writers.{FitsStream}
-use Rattle.cas_flush.specs.Flushed.{MayHold, HoldMutations}
 use Rattle.cas_flush.specs.Inner.Keys.{end_at, IsWhole}
 
 -- ---- all rows of a partition
@@ -144,8 +144,7 @@ module _ (order : List Ordered) (key : List ℕ) where
 -- ---- the merge of what they have
 
 module _ {M : Type 0} (tells : M → Option (List Fragment)) (tops : M → Option Deletion) (columns : List Column) (s : Slice) (w : IsWhole columns s) (key : List ℕ)
-    (ms : List MemPart) (wss : List (List Mutation)) (hold : HoldMutations columns ms wss) (xs : List M)
-    (shows : ShowPartition tells tops (clustering_order columns) s key ms (all_of wss) xs) where
+    (ms : List MemPart) (wss : List (List Mutation)) (xs : List M) (shows : ShowPartition tells tops (clustering_order columns) s key ms (all_of wss) xs) where
   pub merge_same : Same (flat_of (merged shows.streams)) (atoms_under key (all_of wss))
   merge_same =
       let joins : Same (flat_of (merged shows.streams)) (flats shows.streams) = merge_is_join (clustering_order columns) shows.streams shows.ordered in
@@ -157,31 +156,43 @@ module _ {M : Type 0} (tells : M → Option (List Fragment)) (tops : M → Optio
       no_more_then (flat_of (merged shows.streams)) (flats shows.streams) (atoms_under key (all_of wss))
       (merge_says_no_more (clustering_order columns) shows.streams shows.ordered) shows.no_more
 
-  merge_formed : WellFormed columns (merged shows.streams).fragments
-  merge_formed = merge_is_well_formed columns shows.streams (shows.formed columns refl hold.of)
+  -- whichever mutations these are, the sources tell the same streams
+  module _ (streams : List Stream) (told : streams_told tells tops xs ≡ Some streams) where
+    are_told : shows.streams ≡ streams
+    are_told = let both : Some shows.streams ≡ Some streams = sym shows.told ∙ told in cc
 
-  merge_at_cuts : AreAtCuts columns (changes (merged shows.streams).fragments)
-  merge_at_cuts =
-      merge_at (FitsCut (clustering_order columns)) shows.streams
-      (shows.cuts columns refl hold.of (low_allowed columns s w) (high_allowed columns s w))
+    pub told_same : Same (flat_of (merged streams)) (atoms_under key (all_of wss))
+    told_same = subst (λ ss. Same (flat_of (merged ss)) (atoms_under key (all_of wss))) are_told merge_same
 
-  spelled : (fs : List Fragment) → AllByRecursion IsHeld fs → AllByRecursion HasSpelling fs
-  spelled [] all = tt
-  spelled (fragment.Static cs ∷ fs) all = absurd all.0
-  spelled (fragment.Row r ∷ fs) all = (all.0, spelled fs all.1)
-  spelled (fragment.Marker cut d ∷ fs) all = (all.0, spelled fs all.1)
+    pub told_no_more : SaysNoMore (flat_of (merged streams)) (atoms_under key (all_of wss))
+    told_no_more = subst (λ ss. SaysNoMore (flat_of (merged ss)) (atoms_under key (all_of wss))) are_told merge_no_more
 
-  pub merge_fits : IsThere (atoms_under key (all_of wss)) → AreHeld (merged shows.streams).fragments
-      → FitsStream columns key (merged shows.streams).top (merged shows.streams).fragments
-  merge_fits there held =
-      let fs : List Fragment = (merged shows.streams).fragments in
-      let fit : FitsTable columns (merged shows.streams).top fs =
-      stream_fits columns (merged shows.streams).top fs (atoms_under key (all_of wss)) merge_formed merge_at_cuts merge_no_more (atoms_fit columns key (all_of wss) hold.may)
-      (held.0, spelled (behind_statics fs) held.1) in
-      record {
-        key = key_fits columns key (all_of wss) hold.may there;
-        top = fit.top;
-        well_formed = merge_formed;
-        statics = fit.statics;
-        rest = fit.rest;
-      }
+  module _ (hold : HoldMutations columns ms wss) where
+    merge_formed : WellFormed columns (merged shows.streams).fragments
+    merge_formed = merge_is_well_formed columns shows.streams (shows.formed columns refl hold.of)
+
+    merge_at_cuts : AreAtCuts columns (changes (merged shows.streams).fragments)
+    merge_at_cuts =
+        merge_at (FitsCut (clustering_order columns)) shows.streams
+        (shows.cuts columns refl hold.of (low_allowed columns s w) (high_allowed columns s w))
+
+    spelled : (fs : List Fragment) → AllByRecursion IsHeld fs → AllByRecursion HasSpelling fs
+    spelled [] all = tt
+    spelled (fragment.Static cs ∷ fs) all = absurd all.0
+    spelled (fragment.Row r ∷ fs) all = (all.0, spelled fs all.1)
+    spelled (fragment.Marker cut d ∷ fs) all = (all.0, spelled fs all.1)
+
+    pub merge_fits : IsThere (atoms_under key (all_of wss)) → AreHeld (merged shows.streams).fragments
+        → FitsStream columns key (merged shows.streams).top (merged shows.streams).fragments
+    merge_fits there held =
+        let fs : List Fragment = (merged shows.streams).fragments in
+        let fit : FitsTable columns (merged shows.streams).top fs =
+        stream_fits columns (merged shows.streams).top fs (atoms_under key (all_of wss)) merge_formed merge_at_cuts merge_no_more (atoms_fit columns key (all_of wss) hold.may)
+        (held.0, spelled (behind_statics fs) held.1) in
+        record {
+          key = key_fits columns key (all_of wss) hold.may there;
+          top = fit.top;
+          well_formed = merge_formed;
+          statics = fit.statics;
+          rest = fit.rest;
+        }

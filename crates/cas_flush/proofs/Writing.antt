@@ -16,7 +16,7 @@ use Rattle.cas_streams.specs.declared.fragment.Fragment.{Fragment}
 use Rattle.cas_index.specs.Entries.{is_next_key}
 use Rattle.cas_index.specs.declared.entries.PartitionEntry.{PartitionEntry}
 use Rattle.cas_memtable.specs.declared.memtable.MemPart.{MemPart}
-use Rattle.cas_memtable.specs.Kept.{ShowPartition, all_of, atoms_under, has_key}
+use Rattle.cas_memtable.specs.Kept.{HoldMutations, ShowPartition, StandInEach, all_of, atoms_under, has_key}
 use Rattle.cas_tables.specs.declared.header.Header.{Header}
 use Rattle.cas_tables.specs.Contents.{Partition, Contents}
 use Rattle.cas_tables.specs.Files.{index_of, front_bytes}
@@ -32,9 +32,9 @@ use Rattle.cas_sstwrite.specs.Causes.{Causes, WhyNot}
 use Rattle.cas_sstwrite.specs.Finished.{FinishFault}
 use Rattle.cas_sstwrite.specs.Rooms.{AreHeld}
 use Rattle.cas_sstwrite.specs.Writers.{Writes, FitsStream, contents_of, partition_of}
-use Rattle.cas_flush.specs.Flushed.{HoldMutations, AreOf, any, is_below, at_level_0, Hinders, FlushFault}
+use Rattle.cas_flush.specs.Flushed.{AreOf, any, is_below, at_level_0, Hinders, FlushFault}
 use Rattle.cas_flush.specs.Inner.Keys.{IsWhole, told, Refuses, KeyFault, Stops, StopsAt, WritesKey}
-use Rattle.cas_flush.proofs.Holding.{has_there, merge_same, merge_no_more, merge_fits}
+use Rattle.cas_flush.proofs.Holding.{has_there, merge_same, merge_no_more, merge_fits, told_same, told_no_more}
 use Rattle.cas_flush.proofs.Reaching.{next_in_order}
 
 -- ---- a key
@@ -42,21 +42,23 @@ use Rattle.cas_flush.proofs.Reaching.{next_in_order}
 -- what the writer says of the merge is said of the key
 pub key_written : {D E M : Type 0} (number_of : D → ℕ) (written : D → List ℕ → Type 0) (tells : M → Option (List Fragment)) (tops : M → Option Deletion) (columns : List Column)
     (s : Slice) → (whole : IsWhole columns s) → (key given : List ℕ) (ms : List MemPart) (wss : List (List Mutation)) → (hold : HoldMutations columns ms wss) → (xs : List M)
-    → (shows : ShowPartition tells tops (clustering_order columns) s key ms (all_of wss) xs) → (told : Option (List Fragment)) (over : Option Deletion) (old new : TableWriter D E)
-    (ps : List Partition) → given ≡ key → has_key ms key ≡ true → told ≡ Some (merged shows.streams).fragments → over ≡ (merged shows.streams).top
+    → (each : (vss : List (List Mutation)) → StandInEach (clustering_order columns) ms vss → ShowPartition tells tops (clustering_order columns) s key ms (all_of vss) xs)
+    → (told : Option (List Fragment)) (over : Option Deletion) (old new : TableWriter D E)
+    (ps : List Partition) → given ≡ key → has_key ms key ≡ true → told ≡ Some (merged (each wss hold.stand).streams).fragments → over ≡ (merged (each wss hold.stand).streams).top
     → Writes number_of written columns old ps → ((fs : List Fragment) → told ≡ Some fs → AreHeld fs)
     → ((columns : List Column) (ps : List Partition) (fs : List Fragment) → Writes number_of written columns old ps → told ≡ Some fs → FitsStream columns given over fs
     → Writes number_of written columns new (ps ++ partition_of given over fs))
-    → WritesKey number_of written columns new ps key (all_of wss)
-key_written number_of written tells tops columns s whole key given ms wss hold xs shows told over old new ps same has tells_all top_is w held goes =
+    → WritesKey number_of written columns new ps key ms
+key_written number_of written tells tops columns s whole key given ms wss hold xs each told over old new ps same has tells_all top_is w held goes =
+    let shows : ShowPartition tells tops (clustering_order columns) s key ms (all_of wss) xs = each wss hold.stand in
     let m : Stream = merged shows.streams in
     let fit : FitsStream columns key m.top m.fragments =
-    merge_fits tells tops columns s whole key ms wss hold xs shows (has_there (clustering_order columns) key ms wss hold.stand has) (held m.fragments tells_all) in
+    merge_fits tells tops columns s whole key ms wss xs shows hold (has_there (clustering_order columns) key ms wss hold.stand has) (held m.fragments tells_all) in
     record {
       top = m.top;
       fragments = m.fragments;
-      same = merge_same tells tops columns s whole key ms wss hold xs shows;
-      no_more = merge_no_more tells tops columns s whole key ms wss hold xs shows;
+      same = λ vss stand. told_same tells tops columns s whole key ms vss xs (each vss stand) shows.streams shows.told;
+      no_more = λ vss stand. told_no_more tells tops columns s whole key ms vss xs (each vss stand) shows.streams shows.told;
       writes = subst (λ q. Writes number_of written columns new (ps ++ partition_of q m.top m.fragments)) same
           (subst (λ d. Writes number_of written columns new (ps ++ partition_of given d m.fragments)) top_is
           (goes columns ps m.fragments w tells_all
@@ -90,7 +92,7 @@ pub key_refused : {D E M F : Type 0} (number_of : D → ℕ) (written : D → Li
 key_refused number_of written tells tops columns s whole key given ms wss hold xs shows told_all over w ps e same tells_all top_is writes why =
     let m : Stream = merged shows.streams in
     key_fault number_of written columns w ps key m.top m.fragments (all_of wss) e writes
-    (merge_same tells tops columns s whole key ms wss hold xs shows) (merge_no_more tells tops columns s whole key ms wss hold xs shows)
+    (merge_same tells tops columns s whole key ms wss xs shows) (merge_no_more tells tops columns s whole key ms wss xs shows)
     (subst (λ q. WhyNot w.entries.items w.sink.place q m.top m.fragments e) same
     (subst (λ d. WhyNot w.entries.items w.sink.place given d m.fragments e) top_is (why m.fragments tells_all)))
 

@@ -7,7 +7,6 @@ use Rattle.cas_types.specs.Values.{bytes_cmp}
 use Rattle.cas_types.specs.declared.schema.Column.{Column}
 use Rattle.cas_bounds.specs.ClusteringOrder.{clustering_order}
 use Rattle.cas_atoms.specs.Coordinates.{same_bytes}
-use Rattle.cas_atoms.specs.Fits.{FitsKey}
 use Rattle.cas_atoms.specs.Winners.{Same}
 use Rattle.cas_atoms.specs.declared.atom.Atom.{Atom}
 use Rattle.cas_atoms.specs.declared.atom.Mutation.{Mutation}
@@ -15,8 +14,6 @@ use Rattle.cas_streams.specs.Joined.{Stream}
 use Rattle.cas_streams.specs.Merged.{flat_of}
 use Rattle.cas_streams.specs.NoMore.{SaysNoMore}
 use Rattle.cas_streams.specs.Streams.{IsThere}
-use Rattle.cas_partition.specs.Partitions.{AllFit}
-use Rattle.cas_memtable.specs.Memtables.{IsOfColumns}
 use Rattle.cas_memtable.specs.declared.memtable.MemPart.{MemPart}
 use Rattle.cas_memtable.specs.Kept.{StandInEach, all_of, atoms_under}
 use Rattle.cas_tables.specs.declared.header.Header.{Header}
@@ -28,18 +25,6 @@ use Rattle.cas_sstwrite.specs.declared.fault.WriteFault.{WriteFault}
 use Rattle.cas_sstwrite.specs.declared.fault.WriteFault.TheVariants.{Failed, Order, TooMany, Unfit, Mem}
 use Rattle.cas_sstwrite.specs.Causes.{Causes}
 use Rattle.cas_sstwrite.specs.Finished.{FinishFault}
-
--- ---- what is held
-
--- a key and atoms that a table with these columns may hold
-abbrev pub MayHold : List Column → Mutation → Type 0
-MayHold columns w = FitsKey w.key × AllFit columns w.atoms
-
--- memtables of a table with these columns hold these mutations, memtable by memtable, each of which the table may hold
-pub record HoldMutations (columns : List Column) (ms : List MemPart) (wss : List (List Mutation)) : Type 0 where
-  pub stand : StandInEach (clustering_order columns) ms wss
-  pub of : AllByRecursion (IsOfColumns columns) ms
-  pub may : AllByRecursion (MayHold columns) (all_of wss)
 
 -- ---- what is written
 
@@ -57,6 +42,10 @@ pub record AreOf (passes : List ℕ → Bool) (ws : List Mutation) (ps : List Pa
   pub no_more : (key : List ℕ) → passes key ≡ true → SaysNoMore (said_under key ps) (atoms_under key ws)
   pub written : AllByRecursion (λ p. IsThere (atoms_under p.key ws)) ps
   pub within : AllByRecursion (λ p. passes p.key ≡ true) ps
+
+-- the partitions say what memtables of a table with these columns hold, at the keys that pass: they are those of whichever mutations stand in these
+abbrev pub SayWhatIsHeld : List Column → List MemPart → (List ℕ → Bool) → List Partition → Type 0
+SayWhatIsHeld columns ms passes ps = (wss : List (List Mutation)) → StandInEach (clustering_order columns) ms wss → AreOf passes (all_of wss) ps
 
 -- every key
 abbrev pub any : List ℕ → Bool

@@ -8,10 +8,10 @@ ghost use Rattle.cas_disk.specs.Counts.{Counted};
 ghost use Rattle.cas_tables.specs.Allowed.{FitsHeader};
 ghost use Rattle.cas_tables.specs.Contents.{Partition as PartitionOf};
 ghost use Rattle.cas_tables.specs.declared.header.Version.TheVariants.{Second};
-ghost use Rattle.cas_memtable.specs.Kept.{all_of, has_key};
+ghost use Rattle.cas_memtable.specs.Kept.{HoldMutations, all_of, has_key};
 ghost use Rattle.cas_sstwrite.specs.Writers.{Writes, fault_of as fault_in};
 ghost use Rattle.cas_sstwrite.specs.Finished.{Finishes};
-ghost use Rattle.cas_flush.specs.Flushed.{HoldMutations, AreOf, any, at_level_0, FlushFault};
+ghost use Rattle.cas_flush.specs.Flushed.{SayWhatIsHeld, any, at_level_0, FlushFault};
 ghost use Rattle.cas_flush.specs.Inner.Keys.{IsWhole, StopsAt};
 
 use crate::key::{fault_of, whole, write_key};
@@ -39,7 +39,7 @@ fn write_keys<D: Draft>(
     requires sound { fault_in writer.old ≡ None }
     ensures written { OnOk result ((columns : ListOf ColumnOf) (wss : ListOf (ListOf Wrote)) → HoldMutations columns (map arc_value memtables.now) wss
         → IsWhole columns slice.now → Writes D.number D.written columns writer.old []
-        → (ps : ListOf PartitionOf) × AreOf any (all_of wss) ps × Writes D.number D.written columns writer.new ps) }
+        → (ps : ListOf PartitionOf) × SayWhatIsHeld columns (map arc_value memtables.now) any ps × Writes D.number D.written columns writer.new ps) }
     ensures sound { OnOk result (fault_in writer.new ≡ None) }
     ensures kept { OnOk result ((writer.new.header ≡ writer.old.header) × (writer.new.level ≡ writer.old.level)) }
     ensures why { IfErr result (λ e. (columns : ListOf ColumnOf) (wss : ListOf (ListOf Wrote)) → HoldMutations columns (map arc_value memtables.now) wss
@@ -69,7 +69,8 @@ pub fn flush_parts<D: Draft>(
     requires version { header.version ≡ Second }
     ensures written { IfOk result (λ r. D.number draft ≡ header.number → ((bytes : ListOf ℕ) → D.written draft bytes → bytes ≡ [])
         → (wss : ListOf (ListOf Wrote)) → HoldMutations columns.now (map arc_value memtables.now) wss
-        → (ps : ListOf PartitionOf) × AreOf any (all_of wss) ps × Finishes D.number D.written columns.now (at_level_0 header ps) r) }
+        → (ps : ListOf PartitionOf) × SayWhatIsHeld columns.now (map arc_value memtables.now) any ps
+        × Finishes D.number D.written columns.now (at_level_0 header ps) r) }
     ensures synced { IfOk result (λ r. IfSome r (λ p. D.is_synced p.1)) }
     ensures nothing { ((key : ListOf ℕ) → has_key (map arc_value memtables.now) key ≡ false) → (result ≡ Ok None) × (tally.new ≡ tally.old) }
     ensures why { IfErr result (λ e. D.number draft ≡ header.number → ((bytes : ListOf ℕ) → D.written draft bytes → bytes ≡ [])

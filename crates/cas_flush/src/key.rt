@@ -7,9 +7,8 @@ ghost use Rattle.cas_bounds.specs.ClusteringOrder.{clustering_order};
 ghost use Rattle.cas_atoms.specs.declared.atom.Mutation.{Mutation as Wrote};
 ghost use Rattle.cas_disk.specs.Counts.{Counted};
 ghost use Rattle.cas_tables.specs.Contents.{Partition as PartitionOf};
-ghost use Rattle.cas_memtable.specs.Kept.{all_of, has_key};
+ghost use Rattle.cas_memtable.specs.Kept.{HoldMutations, all_of, has_key};
 ghost use Rattle.cas_sstwrite.specs.Writers.{Writes, contents_of, fault_of as fault_in};
-ghost use Rattle.cas_flush.specs.Flushed.{HoldMutations};
 ghost use Rattle.cas_flush.specs.Inner.Keys.{IsWhole, end_at, told, WritesKey, KeyFault};
 
 use cas_bounds::{Cut, RowOrder, Slice, Values, clustering_order};
@@ -64,7 +63,7 @@ pub(crate) fn write_key<D: Draft>(
     requires there { has_key (map arc_value memtables.now) key.now ≡ true }
     ensures written { OnOk result ((columns : ListOf ColumnOf) (wss : ListOf (ListOf Wrote)) (ps : ListOf PartitionOf)
         → HoldMutations columns (map arc_value memtables.now) wss → IsWhole columns slice.now → Writes D.number D.written columns writer.old ps
-        → WritesKey D.number D.written columns writer.new ps key.now (all_of wss)) }
+        → WritesKey D.number D.written columns writer.new ps key.now (map arc_value memtables.now)) }
     ensures sound { OnOk result (fault_in writer.new ≡ None) }
     ensures kept { OnOk result ((writer.new.header ≡ writer.old.header) × (writer.new.level ≡ writer.old.level)) }
     ensures why { IfErr result (λ e. (columns : ListOf ColumnOf) (wss : ListOf (ListOf Wrote)) (ps : ListOf PartitionOf)

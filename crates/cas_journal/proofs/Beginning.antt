@@ -1,5 +1,5 @@
 -- What the beginning of a segment leaves of a journal.
-use Rattle.std.proofs.Common.{◌≡◌, inl, ℕ, ◌+◌, ◌<◌, ◌≤◌, List, [], ◌∷◌, take, Option, None, Some, refl, sym, subst, ◌∙◌, arith}
+use Rattle.std.proofs.Common.{◌++◌, ◌≡◌, inl, ℕ, ◌+◌, ◌<◌, ◌≤◌, List, [], ◌∷◌, take, Option, None, Some, refl, sym, subst, ◌∙◌, arith}
 use Rattle.std.specs.List.{AllByRecursion}
 use Rattle.cas_disk.specs.declared.name.Name.TheVariants.{Manifest as manifest_name, Log as log_name}
 use Rattle.cas_disk.specs.Disk.{Image, Disk, During, Changed, MayBeAnything}
@@ -9,8 +9,10 @@ use Rattle.cas_log.specs.Logs.{place_of}
 use Rattle.cas_log.specs.declared.log.Log.{Log}
 use Rattle.cas_manifest.specs.Manifests.{place_of as manifest_place, Stands as ManifestStands}
 use Rattle.cas_journal.specs.Stores.{Told, Holds}
-use Rattle.cas_journal.specs.Journals.{Goes, Writes, IsSpare, NoneAbove}
+use Rattle.cas_journal.specs.Notes.{Noted}
+use Rattle.cas_journal.specs.Journals.{Goes, Writes, IsSpare, NoneAbove, all_parts}
 use Rattle.cas_journal.specs.declared.journal.Journal.{Journal}
+use Rattle.cas_journal.specs.declared.notes.Notes.{Notes}
 use Rattle.cas_journal.proofs.Lists.{all_mapped, all_front}
 use Rattle.cas_journal.proofs.Sayings.{all_below}
 use Rattle.cas_journal.proofs.Segments.{manifest_is_no_log, other_log, others_agree, below_differ}
@@ -66,8 +68,8 @@ module _ (j : Journal) (old new : Disk) (t : Told) (number : ℕ) (next : j.last
             (below_differ number said.segments listed_below) made.others;
       })
 
-  pub begin_goes : (k : Journal) → k.manifest ≡ j.manifest → k.log ≡ j.log → said.last_segment ≤ k.last_segment → IsSpare k.spare said.last_segment new → Goes k new t
-  begin_goes k manifest log last spare = record {
+  pub begin_goes : (k : Journal) → k.manifest ≡ j.manifest → k.log ≡ j.log → said.last_segment ≤ k.last_segment → IsSpare k.spare said.last_segment new → k.notes ≡ j.notes → Goes k new t
+  begin_goes k manifest log last spare notes = record {
     manifest = subst (λ m. ManifestStands (manifest_place m) new t.entries) (sym manifest)
         (manifest_still (begins number) old new call (manifest_place j.manifest) t.entries (λ d c made. made.others manifest_name (manifest_is_no_log number)) goes.manifest);
     none_failed = goes.none_failed;
@@ -86,4 +88,6 @@ module _ (j : Journal) (old new : Disk) (t : Told) (number : ℕ) (next : j.last
     ordered = goes.ordered;
     last = last;
     spare = spare;
+    noted = subst (λ (o : Option Log). Noted k.notes said (all_parts o goes.parts (goes.written ++ goes.pushed))) (sym log)
+        (subst (λ (n : Notes). Noted n said (all_parts j.log goes.parts (goes.written ++ goes.pushed))) (sym notes) goes.noted);
   }

@@ -20,9 +20,11 @@ use Rattle.cas_manifest.proofs.Appends.{said_more}
 use Rattle.cas_replay.specs.Reading.{segment_in}
 use Rattle.cas_replay.specs.Grammar.{AreSegments}
 use Rattle.cas_journal.specs.Stores.{IsStore, Told, Holds, appended, failed_at}
-use Rattle.cas_journal.specs.Journals.{Goes, Writes, IsSpare}
+use Rattle.cas_journal.specs.Notes.{Noted}
+use Rattle.cas_journal.specs.Journals.{Goes, Writes, IsSpare, all_parts}
 use Rattle.cas_journal.specs.Ends.{IsTold}
 use Rattle.cas_journal.specs.declared.journal.Journal.{Journal}
+use Rattle.cas_journal.specs.declared.notes.Notes.{Notes}
 use Rattle.cas_journal.proofs.Lists.{all_mapped}
 use Rattle.cas_journal.proofs.Fitting.{IsAppended, goes_on_fitting}
 use Rattle.cas_journal.proofs.Segments.{segments_fit, log_agrees, others_agree, none_is_manifest}
@@ -120,6 +122,14 @@ same_last s (entry.NewSegment n) is = absurd is
 same_last s (entry.DropSegment n) is = absurd is
 same_last s (entry.Change change) is = refl
 
+told_noted : (s : Saying) (e : Entry) → IsTold e → (notes : Notes) (parts : List (List Mutation)) → Noted notes s parts → Noted notes (after s e) parts
+told_noted s (entry.Schema t) is notes parts noted = noted
+told_noted s (entry.AddColumns table columns) is notes parts noted = noted
+told_noted s (entry.Store shards) is notes parts noted = absurd is
+told_noted s (entry.NewSegment n) is notes parts noted = absurd is
+told_noted s (entry.DropSegment n) is notes parts noted = absurd is
+told_noted s (entry.Change change) is notes parts noted = noted
+
 pub told_appended : (e : Entry) → IsTold e → IsAppended e
 told_appended (entry.Schema t) is = tt
 told_appended (entry.AddColumns table columns) is = tt
@@ -161,8 +171,8 @@ module _ (j k : Journal) (old new : Disk) (t : Told) (e : Entry) (goes : Goes j 
   all_stay : (ns : List ℕ) (d c : Image) → step d c → AllByRecursion (λ n. segment_in c n ≡ segment_in d n) ns
   all_stay ns d c made = others_agree c d manifest_name ns made.others (none_is_manifest ns)
 
-  pub told_goes : IsTold e → k.log ≡ j.log → k.spare ≡ j.spare → k.last_segment ≡ j.last_segment → Goes k new (appended e t)
-  told_goes is log spare last =
+  pub told_goes : IsTold e → k.log ≡ j.log → k.spare ≡ j.spare → k.last_segment ≡ j.last_segment → k.notes ≡ j.notes → Goes k new (appended e t)
+  told_goes is log spare last notes =
       let fit : (m : Mutation) → FitsRecord said.tables said.shards m → FitsRecord next.tables next.shards m = goes_on_fitting said e (told_appended e is) fits in
       record {
         manifest = stands;
@@ -191,4 +201,8 @@ module _ (j k : Journal) (old new : Disk) (t : Told) (e : Entry) (goes : Goes j 
             (subst (λ (n : ℕ). IsSpare k.spare n new) (sym (same_last said e is))
             (subst (λ (o : Option Log). IsSpare o said.last_segment new) (sym spare)
             (spare_still step old new call j.spare said.last_segment (λ d c made n above. logs_stay d c made n) goes.spare)));
+        noted = subst (λ (s : Saying). Noted k.notes s (all_parts k.log goes.parts (goes.written ++ goes.pushed))) is_next
+            (told_noted said e is k.notes (all_parts k.log goes.parts (goes.written ++ goes.pushed))
+            (subst (λ (o : Option Log). Noted k.notes said (all_parts o goes.parts (goes.written ++ goes.pushed))) (sym log)
+            (subst (λ (n : Notes). Noted n said (all_parts j.log goes.parts (goes.written ++ goes.pushed))) (sym notes) goes.noted)));
       }

@@ -3,6 +3,7 @@ pub mod Fitting
 pub mod Sayings
 pub mod Segments
 pub mod Holding
+pub mod Noting
 pub mod Moving
 pub mod Entries
 pub mod Telling
@@ -13,3 +14,4 @@ pub mod Taking
 pub mod Tables
 pub mod Reaching
 pub mod Lowest
+pub mod Shrinking

@@ -1,9 +1,9 @@
 -- What is left of a journal without its lowest segment.
-use Rattle.std.proofs.Common.{◌≡◌, ◌≢◌, ◌⊎◌, inl, inr, ⊎_elim, ℕ, ◌+◌, ◌-◌, ◌<◌, ◌≤◌, ◌^◌, Bool, true, false, cond, not, eqb, List, [], ◌∷◌, ◌++◌, length, take, drop, Option, None, Some, refl, sym, ap, subst, ◌∙◌, arith, append_assoc, length-append}
+use Rattle.std.proofs.Common.{◌≡◌, ◌≢◌, ◌⊎◌, inl, inr, ⊎_elim, ℕ, ◌+◌, ◌-◌, ◌<◌, ◌≤◌, ◌^◌, Bool, true, false, cond, not, eqb, List, [], ◌∷◌, ◌++◌, length, map, take, drop, Option, None, Some, refl, sym, ap, subst, ◌∙◌, arith, append_assoc, length-append}
 use Rattle.std.specs.Prelude.{filter}
 use Rattle.std.specs.List.{AllByRecursion}
 use Rattle.std.specs.Prelude.{Result, Err, IfErr}
-use Rattle.std.proofs.lemmas.Bool.{eq-eqb, ne_eqb}
+use Rattle.std.proofs.lemmas.Bool.{eq-eqb, ne_eqb, eqb-true, eqb-false}
 use Rattle.std.proofs.lemmas.List.{append-nil, drop-take}
 use Rattle.std.proofs.lemmas.Grind.{flat_map-append}
 use Rattle.cas_types.specs.declared.schema.TableSchema.{TableSchema}
@@ -25,12 +25,15 @@ use Rattle.cas_manifest.specs.Manifests.{place_of as manifest_place, Stands as M
 use Rattle.cas_manifest.proofs.Appends.{said_more}
 use Rattle.cas_replay.specs.Reading.{segment_in}
 use Rattle.cas_replay.specs.Grammar.{AreSegments, AreInOrder, AscendByOne, IsLog, numbers_of}
-use Rattle.cas_journal.specs.Stores.{IsStore, Told, Holds, SameTables, IsLowest, HasFirst, HoldsDropped, without, may_be_without}
-use Rattle.cas_journal.specs.Journals.{Goes, Lasts, Writes, IsSpare, NoneAbove}
-use Rattle.cas_journal.specs.Ends.{Ends, WritesNothing, LastsAfter}
+use Rattle.cas_journal.specs.Stores.{IsStore, Told, Holds, SameTables, without, may_be_without}
+use Rattle.cas_journal.specs.Inner.Dropping.{IsLowest, HasFirst, HoldsWithout, LastsAfter}
+use Rattle.cas_journal.specs.Notes.{Know, Noted, EachNoted, FirstNoted, FirstNotedIn}
+use Rattle.cas_journal.specs.Journals.{Goes, Lasts, Writes, IsSpare, NoneAbove, all_parts}
+use Rattle.cas_journal.specs.Ends.{Ends, WritesNothing}
 use Rattle.cas_journal.specs.declared.fault.JournalFault.{JournalFault}
 use Rattle.cas_journal.specs.declared.fault.JournalFault.TheVariants.{TooLarge, TooMany, Stopped, Failed, Mem}
 use Rattle.cas_journal.specs.declared.journal.Journal.{Journal}
+use Rattle.cas_journal.specs.declared.notes.Note.{Note}
 use Rattle.cas_journal.proofs.Lists.{all_front, all_back, front_in_order, take_front}
 use Rattle.cas_journal.proofs.Sayings.{Ascends, is_made, low_below}
 use Rattle.cas_journal.proofs.Segments.{others_agree, none_is_manifest, log_agrees, segments_more, joined_more, other_log, manifest_is_no_log}
@@ -137,6 +140,35 @@ log_from tables shards (Some log) ns before parts w p disk writes c left are fit
       ordered = ordered;
     })
 
+-- what is noted of the segments behind the first of two or more
+first_gone : (shards : ℕ) (o : Option Log) (parts : List (List Mutation)) (ms : List Mutation) (notes : List Note) (number next : ℕ) (others : List ℕ)
+    → map (λ (n : Note). n.segment) notes ≡ number ∷ next ∷ others → EachNoted shards notes (all_parts o parts ms)
+    → (map (λ (n : Note). n.segment) (drop 1 notes) ≡ next ∷ others) × EachNoted shards (drop 1 notes) (all_parts o (later_parts parts) ms)
+unfolding tail_of
+first_gone shards o parts ms [] number next others is each = absurd cc
+first_gone shards o parts ms (x ∷ []) number next others is each = absurd (none_there (ap tail_of is))
+  where
+    none_there : [] ≡ next ∷ others → ⊥
+    none_there e = cc
+first_gone shards None [] ms (x ∷ y ∷ notes) number next others is each = absurd each
+first_gone shards None (p ∷ parts) ms (x ∷ y ∷ notes) number next others is each = (ap tail_of is, each.1)
+first_gone shards (Some log) [] ms (x ∷ y ∷ notes) number next others is each = absurd each.1
+first_gone shards (Some log) (p ∷ parts) ms (x ∷ y ∷ notes) number next others is each = (ap tail_of is, each.1)
+
+-- and of the first
+first_noted : (shards : ℕ) (o : Option Log) (parts : List (List Mutation)) (ms : List Mutation) (notes : List Note) (number next : ℕ) (others : List ℕ)
+    → map (λ (n : Note). n.segment) notes ≡ number ∷ next ∷ others → EachNoted shards notes (all_parts o parts ms) → FirstNotedIn shards notes (first_part parts)
+unfolding tail_of
+first_noted shards o parts ms [] number next others is each = absurd cc
+first_noted shards o parts ms (x ∷ []) number next others is each = absurd (none_there (ap tail_of is))
+  where
+    none_there : [] ≡ next ∷ others → ⊥
+    none_there e = cc
+first_noted shards None [] ms (x ∷ y ∷ notes) number next others is each = absurd each
+first_noted shards None (p ∷ parts) ms (x ∷ y ∷ notes) number next others is each = each.0
+first_noted shards (Some log) [] ms (x ∷ y ∷ notes) number next others is each = absurd each.1
+first_noted shards (Some log) (p ∷ parts) ms (x ∷ y ∷ notes) number next others is each = each.0
+
 -- ---- the lowest segment
 
 module _ (j : Journal) (old : Disk) (t : Told) (goes : Goes j old t) (number : ℕ) (lowest : IsLowest number (said_by t.entries).segments) where
@@ -201,11 +233,13 @@ module _ (j : Journal) (old : Disk) (t : Told) (goes : Goes j old t) (number : �
   earlier_less : (c : Image) → old.may_leave c → AreSegments said.tables said.shards (segment_in c) (number ∷ begins.0) goes.parts
   earlier_less c left = subst (λ (l : List ℕ). AreSegments said.tables said.shards (segment_in c) l goes.parts) begins.1 (goes.earlier c left)
 
-  pub has_first : HasFirst number many t old
+  pub has_first : HasFirst j.notes number many t old
   has_first = record {
     committed = omega (arith, lengths);
     file = λ c left. subst (λ (ms : List Mutation). IsSegment number ms (segment_in c number)) (sym first_front)
         (first_segment said.tables said.shards (segment_in c) number begins.0 goes.parts (earlier_less c left));
+    noted = subst (λ (ms : List Mutation). FirstNoted j.notes ms) (sym first_front)
+        (first_noted j.notes.shards j.log goes.parts (goes.written ++ goes.pushed) j.notes.list.items number lowest.0 lowest.1 (goes.noted.1.numbers ∙ lowest.2) goes.noted.1.noted);
   }
 
   ordered_less : AreInOrder (joined (later_parts goes.parts) ++ (goes.written ++ goes.pushed))
@@ -302,16 +336,28 @@ module _ (j : Journal) (old : Disk) (t : Told) (goes : Goes j old t) (number : �
       (still_so (λ _ x. Either x) old new leaves Either (λ d x was made. made) (λ x was. inl (holds_now j old t goes x was)) c left)
 
   -- the words of the contract
-  pub in_words : (new : Disk) → During (λ _ c. Either c) old new → During (λ _ c. HoldsDropped number t old c) old new
+  pub in_words : (new : Disk) → During (λ _ c. Either c) old new → During (λ _ c. HoldsWithout j.notes number t old c) old new
   in_words new leaves =
-      reworded (λ _ c. Either c) (λ _ c. HoldsDropped number t old c) old new leaves
+      reworded (λ _ c. Either c) (λ _ c. HoldsWithout j.notes number t old c) old new leaves
       (λ d c was either. ⊎_elim (λ holds. inl holds) (λ holds. inr (many, has_first, holds)) either)
 
   -- after one that is there
   module _ (k : Journal) (new : Disk) (call : During (Changed manifest_name MayBeAnything) old new)
-      (stands : ManifestStands (manifest_place k.manifest) new (t.entries ++ e ∷ [])) (log : k.log ≡ j.log) (spare : k.spare ≡ j.spare) (last : k.last_segment ≡ j.last_segment) where
+      (stands : ManifestStands (manifest_place k.manifest) new (t.entries ++ e ∷ [])) (log : k.log ≡ j.log) (spare : k.spare ≡ j.spare) (last : k.last_segment ≡ j.last_segment)
+      (shards : k.notes.shards ≡ j.notes.shards) (notes : k.notes.list.items ≡ drop 1 j.notes.list.items) where
     abbrev step : Image → Image → Type 0
     step = Changed manifest_name MayBeAnything
+
+    -- what is noted of the others
+    less_known : Know k.notes (after said e).segments (all_parts k.log (later_parts goes.parts) (goes.written ++ goes.pushed))
+    less_known =
+        let rest = first_gone j.notes.shards j.log goes.parts (goes.written ++ goes.pushed) j.notes.list.items number lowest.0 lowest.1 (goes.noted.1.numbers ∙ lowest.2) goes.noted.1.noted in
+        record {
+          numbers = ap (map (λ (n : Note). n.segment)) notes ∙ rest.0 ∙ sym next_segments;
+          noted = subst (λ (n : ℕ). EachNoted n k.notes.list.items (all_parts k.log (later_parts goes.parts) (goes.written ++ goes.pushed))) (sym shards)
+              (subst (λ (l : List Note). EachNoted j.notes.shards l (all_parts k.log (later_parts goes.parts) (goes.written ++ goes.pushed))) (sym notes)
+              (subst (λ (o : Option Log). EachNoted j.notes.shards (drop 1 j.notes.list.items) (all_parts o (later_parts goes.parts) (goes.written ++ goes.pushed))) (sym log) rest.1));
+        }
 
     pub drop_goes : Goes k new (without number many t)
     drop_goes = record {
@@ -342,6 +388,7 @@ module _ (j : Journal) (old : Disk) (t : Told) (goes : Goes j old t) (number : �
       spare = subst (λ (s : Saying). IsSpare k.spare s.last_segment new) is_next
           (subst (λ (o : Option Log). IsSpare o said.last_segment new) (sym spare)
           (spare_still step old new call j.spare said.last_segment (λ d c made n above. manifest_changed MayBeAnything d c made n) goes.spare));
+      noted = subst (λ (s : Saying). Noted k.notes s (all_parts k.log (later_parts goes.parts) (goes.written ++ goes.pushed))) is_next (shards ∙ goes.noted.0, less_known);
     }
 
   -- the segments that are listed then are above it
@@ -413,6 +460,7 @@ module _ (k : Journal) (old : Disk) (u : Told) (goes : Goes k old u) (number : �
         last = goes.last;
         spare = spare_still goes_away old new call k.spare said.last_segment
             (λ d c made n high. made.others (log_name n) (other_log n number (λ e. absurd (omega (arith, e, high, known))))) goes.spare;
+        noted = goes.noted;
       }
 
   pub removed_leaves : During (λ _ c. IsStore u.entries (take u.committed u.taken) c) old new
@@ -422,10 +470,15 @@ module _ (k : Journal) (old : Disk) (u : Told) (goes : Goes k old u) (number : �
       (none_is (said_by u.entries).segments above) made.others)
 
 -- no segment is above those that were begun
-pub removed_free : (last number : ℕ) (old new : Disk) → number ≤ last → During (Changed (log_name number) MayGo) old new → NoneAbove last old → NoneAbove last new
-removed_free last number old new known call none =
+pub removed_free : (last number : ℕ) (old new : Disk) → During (Changed (log_name number) MayGo) old new → NoneAbove last old → NoneAbove last new
+removed_free last number old new call none =
     still_so (Changed (log_name number) MayGo) old new call (λ c. (n : ℕ) → last < n → c (log_name n) ≡ None)
-    (λ d c was made n high. made.others (log_name n) (other_log n number (λ e. absurd (omega (arith, e, high, known)))) ∙ was n high) none
+    (λ d c was made n high. by_name d c made n (eqb n number) refl (was n high)) none
+  where
+    by_name : (d c : Image) → Changed (log_name number) MayGo d c → (n : ℕ) (is : Bool) → eqb n number ≡ is → d (log_name n) ≡ None → c (log_name n) ≡ None
+    by_name d c made n true same was =
+        subst (λ (k : ℕ). d (log_name k) ≡ None → c (log_name k) ≡ None) (sym (eqb-true n number same)) (λ none. ⊎_elim (λ stays. stays ∙ none) (λ gone. gone) made.here) was
+    by_name d c made n false other was = made.others (log_name n) (other_log n number (eqb-false n number other)) ∙ was
 
 -- ---- the call
 
@@ -439,13 +492,13 @@ module _ (j k : Journal) (old mid : Disk) (t : Told) (number : ℕ) (lasts : Las
 
   -- at each moment of the append
   pub append_words : (first : Option First) → j.first ≡ first → (r : Result (Unit {0}) JournalFault) → Ends first k.first before now r
-      → IfErr r (λ f. WritesNothing f → During Same old mid) → During (λ _ c. HoldsDropped number t old c) old mid
+      → IfErr r (λ f. WritesNothing f → During Same old mid) → During (λ _ c. HoldsWithout j.notes number t old c) old mid
   append_words None none r ends untouched = in_words j old t (lasts.goes none) number lowest mid (leaves_going none)
   append_words (Some x) kept r ends untouched =
       let still : During Same old mid = subst (λ (q : Result (Unit {0}) JournalFault). IfErr q (λ f. WritesNothing f → During Same old mid)) ends.0 untouched tt in
-      reworded Same (λ _ c. HoldsDropped number t old c) old mid still (λ d c was same. inl (holds_same t d c (lasts.holds d was) same))
+      reworded Same (λ _ c. HoldsWithout j.notes number t old c) old mid still (λ d c was same. inl (holds_same t d c (lasts.holds d was) same))
 
-  failed_lasts : (first : Option First) → j.first ≡ first → Ends {T = Unit {0}} first k.first before now (Err Failed) → LastsAfter Failed k mid number t old
+  failed_lasts : (first : Option First) → j.first ≡ first → Ends {T = Unit {0}} first k.first before now (Err Failed) → LastsAfter Failed k mid j.notes number t old
   failed_lasts None none failed =
       let goes = lasts.goes none in (
         many j old t goes number lowest,
@@ -459,30 +512,31 @@ module _ (j k : Journal) (old mid : Disk) (t : Told) (number : ℕ) (lasts : Las
 
   -- after a fault
   pub drop_fault : (f : JournalFault) → Ends {T = Unit {0}} j.first k.first before now (Err f) → (WritesNothing f → During Same old mid)
-      → manifest_place k.manifest ≡ manifest_place j.manifest → k.log ≡ j.log → k.spare ≡ j.spare → k.last_segment ≡ j.last_segment → LastsAfter f k mid number t old
-  drop_fault Failed ends untouched stays log spare last = failed_lasts j.first refl ends
-  drop_fault Mem ends untouched stays log spare last =
-      same_lasts j k old mid t (untouched tt) stays log spare (omega (arith, last)) (none_before j.first k.first before now (Err Mem) ends) lasts
-  drop_fault (TooMany what most) ends untouched stays log spare last =
-      same_lasts j k old mid t (untouched tt) stays log spare (omega (arith, last)) (none_before j.first k.first before now (Err (TooMany what most)) ends) lasts
-  drop_fault (TooLarge long most) ends untouched stays log spare last =
-      same_lasts j k old mid t (untouched tt) stays log spare (omega (arith, last)) (none_before j.first k.first before now (Err (TooLarge long most)) ends) lasts
-  drop_fault (Stopped x) ends untouched stays log spare last =
-      same_lasts j k old mid t (untouched tt) stays log spare (omega (arith, last)) (none_before j.first k.first before now (Err (Stopped x)) ends) lasts
+      → manifest_place k.manifest ≡ manifest_place j.manifest → k.log ≡ j.log → k.spare ≡ j.spare → k.last_segment ≡ j.last_segment → k.notes ≡ j.notes → LastsAfter f k mid j.notes number t old
+  drop_fault Failed ends untouched stays log spare last notes = failed_lasts j.first refl ends
+  drop_fault Mem ends untouched stays log spare last notes =
+      same_lasts j k old mid t (untouched tt) stays log spare (omega (arith, last)) notes (none_before j.first k.first before now (Err Mem) ends) lasts
+  drop_fault (TooMany what most) ends untouched stays log spare last notes =
+      same_lasts j k old mid t (untouched tt) stays log spare (omega (arith, last)) notes (none_before j.first k.first before now (Err (TooMany what most)) ends) lasts
+  drop_fault (TooLarge long most) ends untouched stays log spare last notes =
+      same_lasts j k old mid t (untouched tt) stays log spare (omega (arith, last)) notes (none_before j.first k.first before now (Err (TooLarge long most)) ends) lasts
+  drop_fault (Stopped x) ends untouched stays log spare last notes =
+      same_lasts j k old mid t (untouched tt) stays log spare (omega (arith, last)) notes (none_before j.first k.first before now (Err (Stopped x)) ends) lasts
 
   -- after the append, and the removal of the file
   module _ (none : j.first ≡ None) (new : Disk) (others : During (Changed manifest_name MayBeAnything) old mid)
       (stands : (entries : List Entry) → ManifestStands (manifest_place j.manifest) old entries → FitsEntry (said_by entries) (DropSegment number)
       → ManifestStands (manifest_place k.manifest) mid (entries ++ DropSegment number ∷ []))
-      (log : k.log ≡ j.log) (spare : k.spare ≡ j.spare) (last : k.last_segment ≡ j.last_segment) (removal : During (Changed (log_name number) MayGo) mid new) where
+      (log : k.log ≡ j.log) (spare : k.spare ≡ j.spare) (last : k.last_segment ≡ j.last_segment)
+      (shards : k.notes.shards ≡ j.notes.shards) (notes : k.notes.list.items ≡ drop 1 j.notes.list.items) (removal : During (Changed (log_name number) MayGo) mid new) where
     abbrev going : Goes j old t
     going = lasts.goes none
 
     mid_goes : Goes k mid (without number (many j old t going number lowest) t)
     mid_goes =
-        drop_goes j old t going number lowest k mid others (stands t.entries going.manifest (drop_fits j old t going number lowest few)) log spare last
+        drop_goes j old t going number lowest k mid others (stands t.entries going.manifest (drop_fits j old t going number lowest few)) log spare last shards notes
 
-    pub drop_lasts : (n : ℕ) × HasFirst number n t old × Lasts k new (without number n t)
+    pub drop_lasts : (n : ℕ) × HasFirst j.notes number n t old × Lasts k new (without number n t)
     drop_lasts = (
       many j old t going number lowest,
       has_first j old t going number lowest,
@@ -490,10 +544,10 @@ module _ (j k : Journal) (old mid : Disk) (t : Told) (number : ℕ) (lasts : Las
     )
 
     -- at each moment of both
-    pub both_leave : During (λ _ c. HoldsDropped number t old c) old new
+    pub both_leave : During (λ _ c. HoldsWithout j.notes number t old c) old new
     both_leave =
         leaves_either (Either j old t going number lowest) (λ c. IsStore (t.entries ++ DropSegment number ∷ []) (take (t.committed - many j old t going number lowest) (drop (many j old t going number lowest) t.taken)) c)
-        (λ c. HoldsDropped number t old c) old mid new (leaves_going none)
+        (λ c. HoldsWithout j.notes number t old c) old mid new (leaves_going none)
         (removed_leaves k mid _ mid_goes number (left_above j old t going number lowest) (left_known j old t going number lowest) new removal)
         (λ c either. ⊎_elim (λ holds. inl holds) (λ holds. inr (many j old t going number lowest, has_first j old t going number lowest, holds)) either)
         (λ c store. inr (many j old t going number lowest, has_first j old t going number lowest, holds_left j old t going number lowest c store))

@@ -22,7 +22,8 @@ use Rattle.cas_manifest.specs.Manifests.{Place as ManifestPlace, place_of as man
 use Rattle.cas_replay.specs.Reading.{segment_in}
 use Rattle.cas_replay.specs.Grammar.{AreSegments, AreInOrder, IsLog}
 use Rattle.cas_journal.specs.Stores.{IsStore, Told, Holds, committed_all, took}
-use Rattle.cas_journal.specs.Journals.{Goes, Lasts, Writes, IsSpare, NoneAbove, MayTake}
+use Rattle.cas_journal.specs.Notes.{Noted, StayNoted}
+use Rattle.cas_journal.specs.Journals.{Goes, Lasts, Writes, IsSpare, NoneAbove, MayTake, all_parts}
 use Rattle.cas_journal.specs.declared.journal.Journal.{Journal}
 use Rattle.cas_journal.proofs.Lists.{all_front, all_back, all_more, front_in_order}
 use Rattle.cas_journal.proofs.Sayings.{Ascends, all_below, before_last}
@@ -96,6 +97,62 @@ lasting j disk t goes = record { holds = holds_now j disk t goes; goes = λ none
 -- a fault that is kept
 pub lasting_stopped : (j : Journal) (disk : Disk) (t : Told) → ((c : Image) → disk.may_leave c → Holds t c) → (j.first ≡ None → ⊥) → Lasts j disk t
 lasting_stopped j disk t holds kept = record { holds = holds; goes = λ none. absurd (kept none) }
+
+-- the mutations of the segments, where one is written
+pub written_parts : (o : Option Log) (log : Log) (parts : List (List Mutation)) (ms : List Mutation) → o ≡ Some log → all_parts o parts ms ≡ parts ++ ms ∷ []
+written_parts o log parts ms is = ap (λ (x : Option Log). all_parts x parts ms) is
+
+-- where the journal goes on at the same place, with segments that have what they had, what it was told lasts
+pub resting : (j k : Journal) (disk : Disk) (t : Told) → k.manifest ≡ j.manifest
+    → ((listed before : List ℕ) (written pushed : List Mutation) → Writes j.log listed before written pushed disk → Writes k.log listed before written pushed disk)
+    → ((parts : List (List Mutation)) (ms : List Mutation) → all_parts k.log parts ms ≡ all_parts j.log parts ms)
+    → ((last : ℕ) → IsSpare j.spare last disk → IsSpare k.spare last disk) → k.last_segment ≡ j.last_segment → k.first ≡ j.first
+    → StayNoted j.notes k.notes → Lasts j disk t → Lasts k disk t
+resting j k disk t manifest writes parts spare last first notes lasts = record {
+  holds = lasts.holds;
+  goes = λ none.
+      let goes = lasts.goes (sym first ∙ none) in
+      let said = said_by t.entries in
+      record {
+        manifest = subst (λ m. ManifestStands (manifest_place m) disk t.entries) (sym manifest) goes.manifest;
+        none_failed = goes.none_failed;
+        none_leaving = goes.none_leaving;
+        made = goes.made;
+        before = goes.before;
+        parts = goes.parts;
+        earlier = goes.earlier;
+        written = goes.written;
+        pushed = goes.pushed;
+        writes = writes said.segments goes.before goes.written goes.pushed goes.writes;
+        all = goes.all;
+        committed = goes.committed;
+        fit = goes.fit;
+        ordered = goes.ordered;
+        last = subst (λ (n : ℕ). said.last_segment ≤ n) (sym last) goes.last;
+        spare = spare said.last_segment goes.spare;
+        noted = notes said _ (subst (λ (l : List (List Mutation)). Noted j.notes said l) (sym (parts goes.parts (goes.written ++ goes.pushed))) goes.noted);
+      };
+}
+
+-- memory was made in the segment that is written
+pub writes_reserved : (o : Option Log) (log next : Log) → o ≡ Some log → place_of next ≡ place_of log → ((pushed : List Mutation) → HasPushed log pushed → HasPushed next pushed)
+    → (disk : Disk) (listed before : List ℕ) (written pushed : List Mutation) → Writes o listed before written pushed disk → Writes (Some next) listed before written pushed disk
+writes_reserved o log next is place more disk listed before written pushed writes =
+    let was : Writes (Some log) listed before written pushed disk = subst (λ (x : Option Log). Writes x listed before written pushed disk) is writes in (
+      was.0 ∙ ap (λ (p : Place). before ++ p.number ∷ []) (sym place),
+      subst (λ (p : Place). LogStands p disk written) (sym place) was.1,
+      more pushed was.2,
+    )
+
+-- and in the one that waits
+pub spare_reserved : (o : Option Log) (log next : Log) → o ≡ Some log → place_of next ≡ place_of log → ((pushed : List Mutation) → HasPushed log pushed → HasPushed next pushed)
+    → (disk : Disk) (last : ℕ) → IsSpare o last disk → IsSpare (Some next) last disk
+spare_reserved o log next is place more disk last spare =
+    let was : IsSpare (Some log) last disk = subst (λ (x : Option Log). IsSpare x last disk) is spare in (
+      subst (λ (p : Place). last < p.number) (sym place) was.0,
+      subst (λ (p : Place). LogStands p disk []) (sym place) was.1,
+      more [] was.2,
+    )
 
 -- ---- a commit
 
@@ -190,8 +247,8 @@ module _ (j : Journal) (log : Log) (old : Disk) (t : Told) (goes : Goes j old t)
   -- once it is done
   pub commit_goes : (k : Journal) (after : Log) (new : Disk) → k.log ≡ Some after → (place_of after).number ≡ log.number → LogStands (place_of after) new (goes.written ++ goes.pushed)
       → HasPushed after [] → During (Changed (log_name log.number) MayBeAnything) old new → k.manifest ≡ j.manifest → k.spare ≡ j.spare → k.last_segment ≡ j.last_segment
-      → Goes k new (committed_all t)
-  commit_goes k after new now number stands pushed call manifest spare last = record {
+      → StayNoted j.notes k.notes → Goes k new (committed_all t)
+  commit_goes k after new now number stands pushed call manifest spare last notes = record {
     manifest = subst (λ m. ManifestStands (manifest_place m) new t.entries) (sym manifest)
         (manifest_still step old new call (manifest_place j.manifest) t.entries (λ d c made. made.others manifest_name (manifest_is_no_log log.number)) goes.manifest);
     none_failed = goes.none_failed;
@@ -211,6 +268,10 @@ module _ (j : Journal) (log : Log) (old : Disk) (t : Told) (goes : Goes j old t)
     last = subst (λ (n : ℕ). said.last_segment ≤ n) (sym last) goes.last;
     spare = subst (λ (o : Option Log). IsSpare o said.last_segment new) (sym spare)
         (spare_still step old new call j.spare said.last_segment (λ d c made n above. log_changed log.number MayBeAnything d c made n (omega (arith, number_known, above))) goes.spare);
+    noted = notes said _ (subst (λ (l : List (List Mutation)). Noted j.notes said l)
+        (written_parts j.log log goes.parts (goes.written ++ goes.pushed) is
+        ∙ ap (λ (l : List Mutation). goes.parts ++ l ∷ []) (sym (append-nil (goes.written ++ goes.pushed)))
+        ∙ sym (written_parts k.log after goes.parts ((goes.written ++ goes.pushed) ++ []) now)) goes.noted);
   }
     where
       step : Image → Image → Type 0
@@ -253,7 +314,8 @@ module _ (j k : Journal) (disk : Disk) (t : Told) (m : Mutation) where
 
   module _ (log after : Log) (is : j.log ≡ Some log) (now : k.log ≡ Some after) (place : place_of after ≡ place_of log)
       (more : (pushed : List Mutation) → HasPushed log pushed → HasPushed after (pushed ++ m ∷ []))
-      (manifest : k.manifest ≡ j.manifest) (spare : k.spare ≡ j.spare) (last : k.last_segment ≡ j.last_segment) where
+      (manifest : k.manifest ≡ j.manifest) (spare : k.spare ≡ j.spare) (last : k.last_segment ≡ j.last_segment)
+      (noted : (s : Saying) (parts : List (List Mutation)) (ms : List Mutation) → Noted j.notes s (parts ++ ms ∷ []) → Noted k.notes s (parts ++ (ms ++ m ∷ []) ∷ [])) where
     pub push_goes : Goes j disk t → MayTake t m → Goes k disk (took m t)
     push_goes goes may =
         let said = said_by t.entries in
@@ -280,6 +342,11 @@ module _ (j k : Journal) (disk : Disk) (t : Told) (m : Mutation) where
           ordered = may.next;
           last = subst (λ (n : ℕ). said.last_segment ≤ n) (sym last) goes.last;
           spare = subst (λ (o : Option Log). IsSpare o said.last_segment disk) (sym spare) goes.spare;
+          noted = subst (λ (l : List (List Mutation)). Noted k.notes said l)
+              (ap (λ (l : List Mutation). goes.parts ++ l ∷ []) (append_assoc goes.written goes.pushed (m ∷ []))
+              ∙ sym (written_parts k.log after goes.parts (goes.written ++ (goes.pushed ++ m ∷ [])) now))
+              (noted said goes.parts (goes.written ++ goes.pushed)
+              (subst (λ (l : List (List Mutation)). Noted j.notes said l) (written_parts j.log log goes.parts (goes.written ++ goes.pushed) is) goes.noted));
         }
 
     pub push_lasts : k.first ≡ j.first → Lasts j disk t → MayTake t m → Lasts k disk (took m t)

@@ -12,7 +12,7 @@ use Rattle.cas_changes.specs.declared.entry.Entry.TheVariants.{NewSegment}
 use Rattle.cas_changes.specs.Saying.{Saying, after, said_by}
 use Rattle.cas_changes.specs.Allowed.{FitsEntry, IsMade}
 use Rattle.cas_log.specs.Segment.{IsSegment, joined}
-use Rattle.cas_log.specs.Logs.{Place, place_of, HasPushed, Stands as LogStands}
+use Rattle.cas_log.specs.Logs.{place_of}
 use Rattle.cas_log.specs.declared.log.Log.{Log}
 use Rattle.cas_manifest.specs.Manifests.{place_of as manifest_place, Stands as ManifestStands}
 use Rattle.cas_manifest.proofs.Appends.{said_more}
@@ -20,18 +20,14 @@ use Rattle.cas_replay.specs.Reading.{segment_in}
 use Rattle.cas_replay.specs.Grammar.{AreSegments}
 use Rattle.cas_journal.specs.Fresh.{IsFresh}
 use Rattle.cas_journal.specs.Stores.{Told, appended}
-use Rattle.cas_journal.specs.Journals.{Goes, Lasts, Writes, IsSpare}
+use Rattle.cas_journal.specs.Notes.{Noted}
+use Rattle.cas_journal.specs.Journals.{Goes, Writes, IsSpare, all_parts}
 use Rattle.cas_journal.specs.declared.journal.Journal.{Journal}
 use Rattle.cas_journal.proofs.Lists.{all_front, all_back}
 use Rattle.cas_journal.proofs.Sayings.{is_made}
 use Rattle.cas_journal.proofs.Segments.{joined_more, segments_more, others_agree, none_is_manifest}
 use Rattle.cas_journal.proofs.Holding.{log_file, all_fit, HasItsSegment}
-use Rattle.cas_journal.proofs.Moving.{earlier_still, log_still, manifest_changed}
-
--- the mutations of the segments that are listed, segment by segment
-abbrev pub all_parts : Option Log → List (List Mutation) → List Mutation → List (List Mutation)
-all_parts None parts written = parts
-all_parts (Some log) parts written = parts ++ written ∷ []
+use Rattle.cas_journal.proofs.Moving.{earlier_still, log_still, manifest_changed, written_parts}
 
 module _ (j : Journal) (old : Disk) (t : Told) (goes : Goes j old t) where
   abbrev said : Saying
@@ -84,12 +80,15 @@ module _ (j : Journal) (old : Disk) (t : Told) (goes : Goes j old t) where
     -- once it is there, it is the one that is written
     pub name_goes : (k : Journal) (new : Disk) → During (Changed manifest_name MayBeAnything) old new
         → ManifestStands (manifest_place k.manifest) new (t.entries ++ NewSegment j.last_segment ∷ []) → t.committed ≡ length t.taken
-        → k.log ≡ Some next → k.spare ≡ None → k.last_segment ≡ j.last_segment → Goes k new (appended (NewSegment j.last_segment) t)
-    name_goes k new call stands all log spare last =
+        → k.log ≡ Some next → k.spare ≡ None → k.last_segment ≡ j.last_segment
+        → ((parts : List (List Mutation)) → Noted j.notes said parts → Noted k.notes (after said (NewSegment j.last_segment)) (parts ++ [] ∷ []))
+        → Goes k new (appended (NewSegment j.last_segment) t)
+    name_goes k new call stands all log spare last begun =
         let step = Changed manifest_name MayBeAnything in
         let n = j.last_segment in
         let parts = all_parts j.log goes.parts goes.written in
         let is_next : after said (NewSegment n) ≡ said_by (t.entries ++ NewSegment n ∷ []) = sym (said_more t.entries (NewSegment n)) in
+        let none_more : goes.written ++ goes.pushed ≡ goes.written = ap (λ (l : List Mutation). goes.written ++ l) (none_pushed all) ∙ append-nil goes.written in
         let whole : joined parts ≡ t.taken =
         joined_parts j.log goes.writes ∙ sym (append-nil (joined goes.parts ++ goes.written)) ∙ ap (λ (l : List Mutation). (joined goes.parts ++ goes.written) ++ l) (sym (none_pushed all))
         ∙ append_assoc (joined goes.parts) goes.written goes.pushed ∙ goes.all in
@@ -117,41 +116,10 @@ module _ (j : Journal) (old : Disk) (t : Told) (goes : Goes j old t) where
           ordered = goes.ordered;
           last = subst (λ (s : Saying). s.last_segment ≤ k.last_segment) is_next (omega (arith, last));
           spare = subst (λ (o : Option Log). IsSpare o (said_by (t.entries ++ NewSegment n ∷ [])).last_segment new) (sym spare) tt;
+          noted = subst (λ (s : Saying). Noted k.notes s (all_parts k.log parts [])) is_next
+              (subst (λ (l : List (List Mutation)). Noted k.notes (after said (NewSegment n)) l) (sym (written_parts k.log next parts [] log))
+              (begun parts (subst (λ (l : List Mutation). Noted j.notes said (all_parts j.log goes.parts l)) none_more goes.noted)));
         }
-
--- memory was made for a record in the segment that waits
-pub spare_reserved : (j k : Journal) (disk : Disk) (t : Told) (log next : Log) → j.spare ≡ Some log → k.spare ≡ Some next → place_of next ≡ place_of log
-    → ((pushed : List Mutation) → HasPushed log pushed → HasPushed next pushed) → k.manifest ≡ j.manifest → k.log ≡ j.log → k.last_segment ≡ j.last_segment
-    → k.first ≡ j.first → Lasts j disk t → Lasts k disk t
-spare_reserved j k disk t log next was now place pushed manifest same last first lasts = record {
-  holds = lasts.holds;
-  goes = λ none.
-      let goes = lasts.goes (sym first ∙ none) in
-      let said = said_by t.entries in
-      let spare : IsSpare (Some log) said.last_segment disk = subst (λ (o : Option Log). IsSpare o said.last_segment disk) was goes.spare in
-      record {
-        manifest = subst (λ m. ManifestStands (manifest_place m) disk t.entries) (sym manifest) goes.manifest;
-        none_failed = goes.none_failed;
-        none_leaving = goes.none_leaving;
-        made = goes.made;
-        before = goes.before;
-        parts = goes.parts;
-        earlier = goes.earlier;
-        written = goes.written;
-        pushed = goes.pushed;
-        writes = subst (λ (o : Option Log). Writes o said.segments goes.before goes.written goes.pushed disk) (sym same) goes.writes;
-        all = goes.all;
-        committed = goes.committed;
-        fit = goes.fit;
-        ordered = goes.ordered;
-        last = subst (λ (n : ℕ). said.last_segment ≤ n) (sym last) goes.last;
-        spare = subst (λ (o : Option Log). IsSpare o said.last_segment disk) (sym now) (
-          subst (λ (p : Place). said.last_segment < p.number) (sym place) spare.0,
-          subst (λ (p : Place). LogStands p disk []) (sym place) spare.1,
-          pushed [] spare.2,
-        );
-      };
-}
 
 -- one that is there
 pub some_log : (o : Option Log) → IsSome o → (log : Log) × (o ≡ Some log)

@@ -1,12 +1,12 @@
 -- The files of tables beside a journal: what changes of one of them leaves what it was told.
-use Rattle.std.proofs.Common.{◌≡◌, ◌≢◌, ℕ, List, [], ◌∷◌, take, drop, Option}
+use Rattle.std.proofs.Common.{◌≡◌, ◌≢◌, ℕ, List, [], ◌∷◌, ◌∙◌, take, drop, Option}
 use Rattle.std.specs.List.{AllByRecursion}
 use Rattle.cas_disk.specs.declared.name.Name.TheVariants.{Manifest as manifest_name, Log as log_name, Table as table_name}
 use Rattle.cas_disk.specs.Disk.{Image, Disk, During, Changed}
-use Rattle.cas_disk.proofs.Moments.{reworded}
+use Rattle.cas_disk.proofs.Moments.{reworded, one_call_more}
 use Rattle.cas_changes.specs.Saying.{said_by}
 use Rattle.cas_manifest.specs.Manifests.{place_of as manifest_place}
-use Rattle.cas_journal.specs.Stores.{Told, Holds}
+use Rattle.cas_journal.specs.Stores.{Told, Holds, SameTables}
 use Rattle.cas_journal.specs.Journals.{Goes, Lasts, NoneAbove}
 use Rattle.cas_journal.specs.declared.journal.Journal.{Journal}
 use Rattle.cas_journal.proofs.Segments.{others_agree}
@@ -70,6 +70,7 @@ module _ (n : ℕ) (change : Option (List ℕ) → Option (List ℕ) → Type 0)
         ordered = goes.ordered;
         last = goes.last;
         spare = spare_still step old new call j.spare said.last_segment (λ d c made k above. same_segment d c made k) goes.spare;
+        noted = goes.noted;
       }
 
   -- what a journal was told lasts
@@ -86,3 +87,8 @@ module _ (n : ℕ) (change : Option (List ℕ) → Option (List ℕ) → Type 0)
   -- the next segment can be begun as before
   pub table_free : (last : ℕ) → NoneAbove last old → NoneAbove last new
   table_free last none = still_free step old new call last (λ d c made k above. same_segment d c made k) none
+
+-- two calls that leave them
+pub tables_more : (a b z : Disk) → During SameTables a b → During SameTables b z → During SameTables a z
+tables_more a b z first second =
+    one_call_more SameTables SameTables a b z first second (λ d c was mid same. same) (λ e d c was so_far mid same n. same n ∙ so_far n)

@@ -11,11 +11,13 @@ use Rattle.cas_changes.specs.Allowed.{FitsEntry}
 use Rattle.cas_log.specs.declared.log.Log.{Log}
 use Rattle.cas_manifest.specs.Manifests.{Place, place_of as manifest_place, Stands as ManifestStands, MayHave as MayHaveManifest}
 use Rattle.cas_journal.specs.Stores.{Told, Holds, appended, failed_at}
-use Rattle.cas_journal.specs.Journals.{Goes, Lasts, Writes, IsSpare}
+use Rattle.cas_journal.specs.Notes.{Noted}
+use Rattle.cas_journal.specs.Journals.{Goes, Lasts, Writes, IsSpare, all_parts}
 use Rattle.cas_journal.specs.Ends.{Ends, WritesNothing, told_after, IsTold}
 use Rattle.cas_journal.specs.declared.fault.JournalFault.{JournalFault}
 use Rattle.cas_journal.specs.declared.fault.JournalFault.TheVariants.{TooLarge, TooMany, Stopped, Failed, Mem}
 use Rattle.cas_journal.specs.declared.journal.Journal.{Journal}
+use Rattle.cas_journal.specs.declared.notes.Notes.{Notes}
 use Rattle.cas_journal.proofs.Moving.{still_so, manifest_still, earlier_still, spare_still, holds_same, lasting, lasting_stopped}
 use Rattle.cas_journal.proofs.Entries.{append_leaves, append_fails, writes_still, told_goes, told_appended, told_has}
 use Rattle.cas_journal.proofs.Holding.{same_files, HasItsSegment}
@@ -34,7 +36,7 @@ none_where_ok (Some f) kept before now x ends = cc
 
 -- where no file changed, and the journal is at the same place with the same segments, what it was told lasts
 module _ (j k : Journal) (old new : Disk) (t : Told) (call : During Same old new) (place : manifest_place k.manifest ≡ manifest_place j.manifest)
-    (log : k.log ≡ j.log) (spare : k.spare ≡ j.spare) (last : j.last_segment ≤ k.last_segment) where
+    (log : k.log ≡ j.log) (spare : k.spare ≡ j.spare) (last : j.last_segment ≤ k.last_segment) (notes : k.notes ≡ j.notes) where
   pub same_goes : Goes j old t → Goes k new t
   same_goes goes =
       let said = said_by t.entries in
@@ -58,6 +60,8 @@ module _ (j k : Journal) (old new : Disk) (t : Told) (call : During Same old new
         last = omega (arith, goes.last, last);
         spare = subst (λ (o : Option Log). IsSpare o said.last_segment new) (sym spare)
             (spare_still Same old new call j.spare said.last_segment (λ d c same n above. same (log_name n)) goes.spare);
+        noted = subst (λ (o : Option Log). Noted k.notes said (all_parts o goes.parts (goes.written ++ goes.pushed))) (sym log)
+            (subst (λ (n : Notes). Noted n said (all_parts j.log goes.parts (goes.written ++ goes.pushed))) (sym notes) goes.noted);
       }
 
   pub same_lasts : (k.first ≡ None → j.first ≡ None) → Lasts j old t → Lasts k new t
@@ -99,16 +103,16 @@ module _ (j k : Journal) (old new : Disk) (t : Told) (e : Entry) (lasts : Lasts 
 
   -- after a fault
   pub fault_lasts : (f : JournalFault) → Ends {T = Unit {0}} j.first k.first before now (Err f) → (WritesNothing f → During Same old new)
-      → manifest_place k.manifest ≡ manifest_place j.manifest → k.log ≡ j.log → k.spare ≡ j.spare → k.last_segment ≡ j.last_segment → Lasts k new (told_after f e t)
-  fault_lasts Failed ends untouched stays log spare last = failed_lasts j.first refl ends
-  fault_lasts Mem ends untouched stays log spare last =
-      same_lasts j k old new t (untouched tt) stays log spare (omega (arith, last)) (none_before j.first k.first before now (Err Mem) ends) lasts
-  fault_lasts (TooMany what most) ends untouched stays log spare last =
-      same_lasts j k old new t (untouched tt) stays log spare (omega (arith, last)) (none_before j.first k.first before now (Err (TooMany what most)) ends) lasts
-  fault_lasts (TooLarge long most) ends untouched stays log spare last =
-      same_lasts j k old new t (untouched tt) stays log spare (omega (arith, last)) (none_before j.first k.first before now (Err (TooLarge long most)) ends) lasts
-  fault_lasts (Stopped x) ends untouched stays log spare last =
-      same_lasts j k old new t (untouched tt) stays log spare (omega (arith, last)) (none_before j.first k.first before now (Err (Stopped x)) ends) lasts
+      → manifest_place k.manifest ≡ manifest_place j.manifest → k.log ≡ j.log → k.spare ≡ j.spare → k.last_segment ≡ j.last_segment → k.notes ≡ j.notes → Lasts k new (told_after f e t)
+  fault_lasts Failed ends untouched stays log spare last notes = failed_lasts j.first refl ends
+  fault_lasts Mem ends untouched stays log spare last notes =
+      same_lasts j k old new t (untouched tt) stays log spare (omega (arith, last)) notes (none_before j.first k.first before now (Err Mem) ends) lasts
+  fault_lasts (TooMany what most) ends untouched stays log spare last notes =
+      same_lasts j k old new t (untouched tt) stays log spare (omega (arith, last)) notes (none_before j.first k.first before now (Err (TooMany what most)) ends) lasts
+  fault_lasts (TooLarge long most) ends untouched stays log spare last notes =
+      same_lasts j k old new t (untouched tt) stays log spare (omega (arith, last)) notes (none_before j.first k.first before now (Err (TooLarge long most)) ends) lasts
+  fault_lasts (Stopped x) ends untouched stays log spare last notes =
+      same_lasts j k old new t (untouched tt) stays log spare (omega (arith, last)) notes (none_before j.first k.first before now (Err (Stopped x)) ends) lasts
 
 -- ---- an entry that is told
 
@@ -126,10 +130,10 @@ module _ (j k : Journal) (old new : Disk) (t : Told) (e : Entry) (lasts : Lasts 
       → IfErr r (λ f. WritesNothing f → During Same old new) → IfErr r (λ _. manifest_place k.manifest ≡ manifest_place j.manifest)
       → ((entries : List Entry) → ManifestStands (manifest_place j.manifest) old entries → FitsEntry (said_by entries) e
       → OnOk r (ManifestStands (manifest_place k.manifest) new (entries ++ e ∷ [])))
-      → During (Changed manifest_name MayBeAnything) old new → k.log ≡ j.log → k.spare ≡ j.spare → k.last_segment ≡ j.last_segment
+      → During (Changed manifest_name MayBeAnything) old new → k.log ≡ j.log → k.spare ≡ j.spare → k.last_segment ≡ j.last_segment → k.notes ≡ j.notes
       → MatchResult r (λ _. Lasts k new (appended e t)) (λ f. Lasts k new (told_after f e t))
-  tell_lasts (Ok x) ends untouched stays done others log spare last =
+  tell_lasts (Ok x) ends untouched stays done others log spare last notes =
       let goes = lasts.goes (none_where_ok j.first k.first before now x ends) in
-      lasting k new (appended e t) (told_goes j k old new t e goes fits others (done t.entries goes.manifest fits) is log spare last)
-  tell_lasts (Err f) ends untouched stays done others log spare last =
-      fault_lasts j k old new t e lasts (told_appended e is) ready before now during f ends untouched stays log spare last
+      lasting k new (appended e t) (told_goes j k old new t e goes fits others (done t.entries goes.manifest fits) is log spare last notes)
+  tell_lasts (Err f) ends untouched stays done others log spare last notes =
+      fault_lasts j k old new t e lasts (told_appended e is) ready before now during f ends untouched stays log spare last notes

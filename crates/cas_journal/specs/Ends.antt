@@ -1,5 +1,5 @@
 -- How calls of a journal end. Own.
-use Rattle.std.specs.Prelude.{◌≡◌, ℕ, ◌+◌, ◌-◌, ◌^◌, ◌<◌, ◌≤◌, min, nat_le, if◌then◌else◌, Option, None, Some, Result, Ok, Err}
+use Rattle.std.specs.Prelude.{◌≡◌, ℕ, ◌+◌, ◌-◌, ◌^◌, ◌<◌, ◌≤◌, min, nat_le, if◌then◌else◌, List, Option, None, Some, Result, Ok, Err}
 use Rattle.cas_io.specs.Causes.{Rose}
 use Rattle.cas_disk.specs.Disk.{Disk}
 use Rattle.cas_gates.specs.declared.first.First.{First}
@@ -14,7 +14,7 @@ use Rattle.cas_manifest.specs.declared.fault.Limit.{Limit}
 use Rattle.cas_manifest.specs.declared.fault.Limit.TheVariants as limit
 use Rattle.cas_manifest.specs.declared.fault.ManifestFault.{ManifestFault}
 use Rattle.cas_manifest.specs.declared.fault.ManifestFault.TheVariants as manifest_fault
-use Rattle.cas_journal.specs.Stores.{Told, HasFirst, failed_at, may_be_without}
+use Rattle.cas_journal.specs.Stores.{Told, Dropped, failed_at, without, may_be_without}
 use Rattle.cas_journal.specs.Journals.{Fits, Lasts}
 use Rattle.cas_journal.specs.declared.fault.Counted.{Counted}
 use Rattle.cas_journal.specs.declared.fault.Counted.TheVariants.{Segments, Manifest, Files}
@@ -122,7 +122,8 @@ IsTold (entry.AddColumns table columns) = Unit {0}
 IsTold (entry.Change c) = Unit {0}
 IsTold _ = ⊥
 
--- what lasts after a fault of dropping a segment: what was told, with the segment or without where the folder failed
-abbrev pub LastsAfter : JournalFault → Journal → Disk → ℕ → Told → Disk → Type 0
-LastsAfter Failed j disk number t before = (many : ℕ) × HasFirst number many t before × Lasts j disk (may_be_without number many t)
-LastsAfter _ j disk number t before = Lasts j disk t
+-- what lasts after a fault of dropping segments: what was told without some, and where the folder failed, with one more or without
+abbrev pub LastsDropped : JournalFault → Journal → Disk → ℕ → List ℕ → Told → Type 0
+LastsDropped Failed j disk shards frontiers t = (u : Told) × Dropped shards frontiers t u
+    × (number many : ℕ) × Dropped shards frontiers t (without number many u) × Lasts j disk (may_be_without number many u)
+LastsDropped _ j disk shards frontiers t = (u : Told) × Dropped shards frontiers t u × Lasts j disk u

@@ -13,6 +13,7 @@ use Rattle.cas_log.specs.declared.log.Log.{Log}
 use Rattle.cas_manifest.specs.Manifests.{place_of as manifest_place, Stands as ManifestStands}
 use Rattle.cas_replay.specs.Reading.{segment_in}
 use Rattle.cas_replay.specs.Grammar.{AreSegments, AreInOrder}
+use Rattle.cas_journal.specs.Notes.{Noted, HasPlace}
 use Rattle.cas_journal.specs.Stores.{Told, Holds}
 use Rattle.cas_journal.specs.declared.journal.Journal.{Journal}
 
@@ -22,6 +23,11 @@ abbrev pub Writes : Option Log → List ℕ → List ℕ → List Mutation → L
 Writes None listed before written pushed disk = (listed ≡ before) × (written ≡ []) × (pushed ≡ [])
 Writes (Some log) listed before written pushed disk =
     (listed ≡ before ++ (place_of log).number ∷ []) × LogStands (place_of log) disk written × HasPushed log pushed
+
+-- the mutations of the segments that are listed, segment by segment: of those before the one that is written, and where one is, of that
+abbrev pub all_parts : Option Log → List (List Mutation) → List Mutation → List (List Mutation)
+all_parts None parts written = parts
+all_parts (Some log) parts written = parts ++ written ∷ []
 
 -- a segment that was begun, and that no entry names yet: it lasts, without mutations
 abbrev pub IsSpare : Option Log → ℕ → Disk → Type 0
@@ -37,7 +43,7 @@ abbrev pub AreFree : Journal → Disk → Type 0
 AreFree j disk = NoneAbove j.last_segment disk
 
 -- The journal goes on where this ends: the manifest has all entries, and none failed; the segments before the one that is written last; what is in
--- them, what that one has and what is pushed are the mutations, of the tables, in order.
+-- them, what that one has and what is pushed are the mutations, of the tables, in order; and each is noted with its segment.
 pub record Goes (j : Journal) (disk : Disk) (t : Told) : Type 0 where
   pub manifest : ManifestStands (manifest_place j.manifest) disk t.entries
   pub none_failed : t.failed ≡ []
@@ -55,6 +61,7 @@ pub record Goes (j : Journal) (disk : Disk) (t : Told) : Type 0 where
   pub ordered : AreInOrder t.taken
   pub last : (said_by t.entries).last_segment ≤ j.last_segment
   pub spare : IsSpare j.spare (said_by t.entries).last_segment disk
+  pub noted : Noted j.notes (said_by t.entries) (all_parts j.log parts (written ++ pushed))
 
 -- What the journal was told lasts: whatever a crash leaves holds it; and while no fault is kept, the journal goes on from there.
 pub record Lasts (j : Journal) (disk : Disk) (t : Told) : Type 0 where
@@ -75,9 +82,9 @@ abbrev pub IsPreparedIn : Option Log → Mutation → Type 0
 IsPreparedIn None m = ⊥
 IsPreparedIn (Some log) m = IsReserved log m × Fits log m
 
--- the mutation can be pushed
+-- the mutation can be pushed, and noted
 abbrev pub IsPrepared : Journal → Mutation → Type 0
-IsPrepared j m = IsPreparedIn j.log m
+IsPrepared j m = IsPreparedIn j.log m × HasPlace j.notes m
 
 -- the mutation may be taken: it is of a table that is defined, and the next of its shard
 pub record MayTake (t : Told) (m : Mutation) : Type 0 where

@@ -1,4 +1,5 @@
 pub mod Fresh
+pub mod Notes
 pub mod Stores
 pub mod Journals
 pub mod Ends

@@ -1,14 +1,14 @@
 -- The store that a folder's files are, and what every image of it has. Storage engine: commit log; own.
-use Rattle.std.specs.Prelude.{◌≡◌, ◌≢◌, ◌⊎◌, ℕ, ◌-◌, ◌≤◌, List, [], ◌∷◌, ◌++◌, length, map, take, drop, Some}
+use Rattle.std.specs.Prelude.{◌≡◌, ◌≢◌, ◌⊎◌, ℕ, ◌+◌, ◌-◌, ◌≤◌, List, [], ◌∷◌, ◌++◌, length, map, take, drop, Some}
+use Rattle.std.specs.List.{AllByRecursion}
 use Rattle.cas_disk.specs.declared.name.Name.TheVariants.{Manifest as manifest_name, Table as table_name}
-use Rattle.cas_disk.specs.Disk.{Image, Disk}
+use Rattle.cas_disk.specs.Disk.{Image}
 use Rattle.cas_atoms.specs.declared.atom.Mutation.{Mutation}
 use Rattle.cas_changes.specs.declared.entry.Entry.{Entry}
 use Rattle.cas_changes.specs.declared.entry.Entry.TheVariants.{NewSegment, DropSegment}
 use Rattle.cas_changes.specs.Saying.{said_by}
-use Rattle.cas_log.specs.Segment.{IsSegment}
 use Rattle.cas_manifest.specs.File.{IsManifest}
-use Rattle.cas_replay.specs.Reading.{segment_in}
+use Rattle.cas_replay.specs.Reading.{segment_in, frontier_of}
 use Rattle.cas_replay.specs.Grammar.{IsLog}
 
 -- The image is a store with these entries in its manifest, of which the first makes it, and with these mutations in the segments that it lists, in
@@ -90,18 +90,9 @@ failed_at e t = record t { failed = e ∷ [] }
 abbrev pub SameTables : Image → Image → Type 0
 SameTables d c = (n : ℕ) → c (table_name n) ≡ d (table_name n)
 
--- ---- a segment that is dropped
+-- ---- segments that are dropped
 
--- the lowest of the segments that are listed, and not the last of them
-abbrev pub IsLowest : ℕ → List ℕ → Type 0
-IsLowest number segments = (next : ℕ) × (others : List ℕ) × (segments ≡ number ∷ next ∷ others)
-
--- The segment has so many of the mutations, the first of those that are listed: whatever a crash leaves has them there, and they are committed.
-pub record HasFirst (number many : ℕ) (t : Told) (disk : Disk) : Type 0 where
-  pub committed : many ≤ t.committed
-  pub file : (c : Image) → disk.may_leave c → IsSegment number (take many t.taken) (segment_in c number)
-
--- the same without this segment, and the mutations that it has
+-- the same without this segment, and the mutations that it has, so many
 abbrev pub without : ℕ → ℕ → Told → Told
 without number many t =
     record t { entries = t.entries ++ DropSegment number ∷ []; taken = drop many t.taken; committed = t.committed - many }
@@ -110,6 +101,19 @@ without number many t =
 abbrev pub may_be_without : ℕ → ℕ → Told → Told
 may_be_without number many t = record t { failed = DropSegment number ∷ []; leaving = many }
 
--- an image while it is dropped: it holds what was told, with the segment or without
-abbrev pub HoldsDropped : ℕ → Told → Disk → Image → Type 0
-HoldsDropped number t disk c = Holds t c ⊎ ((many : ℕ) × HasFirst number many t disk × Holds (may_be_without number many t) c)
+-- From one to the other the journal dropped segments, of which so many mutations are gone from the front: they were committed, and each is at or below
+-- the frontier of its table and shard, in a store of so many shards; nothing else changed.
+pub record Dropped (shards : ℕ) (frontiers : List ℕ) (t u : Told) : Type 0 where
+  pub numbers : List ℕ
+  pub many : ℕ
+  pub entries : u.entries ≡ t.entries ++ map DropSegment numbers
+  pub failed : u.failed ≡ t.failed
+  pub taken : u.taken ≡ drop many t.taken
+  pub committed : many + u.committed ≡ t.committed
+  pub leaving : u.leaving ≡ t.leaving
+  pub covered : AllByRecursion (λ m. m.number ≤ frontier_of shards frontiers m.table m.shard) (take many t.taken)
+
+-- an image while segments are dropped: it holds what was told without some, and one more may be gone
+abbrev pub HoldsDropped : ℕ → List ℕ → Told → Image → Type 0
+HoldsDropped shards frontiers t c = (u : Told) × Dropped shards frontiers t u
+    × (Holds u c ⊎ ((number many : ℕ) × Dropped shards frontiers t (without number many u) × Holds (may_be_without number many u) c))

@@ -4,6 +4,7 @@ ghost use Rattle.std.specs.Option.{ForSome};
 ghost use Rattle.cas_log.specs.Segment.{IsSize};
 ghost use Rattle.cas_journal.specs.Fresh.{IsBegun, IsFresh};
 
+use crate::notes::Notes;
 use cas_gates::First;
 use cas_log::Log;
 use cas_manifest::Manifest;
@@ -22,6 +23,8 @@ pub struct Journal {
     pub(crate) size: u64,
     /// The first failed create, write or sync of manifest or log. Once one is kept, neither is written.
     pub(crate) first: Option<First>,
+    /// What is noted of the segments that are listed: of each the greatest numbers of its mutations.
+    pub(crate) notes: Notes,
     ghost sized: { IsSize size },
     ghost written: { ForSome log (λ l. IsBegun size last_segment l) },
     ghost fresh: { ForSome spare (λ l. IsFresh size last_segment l) },

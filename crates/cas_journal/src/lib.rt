@@ -6,7 +6,9 @@ mod dropping;
 mod fault;
 mod journal;
 mod making_room;
+mod notes;
 mod writing;
 
 pub use fault::{Counted, JournalFault};
 pub use journal::Journal;
+pub use notes::{Note, Notes};

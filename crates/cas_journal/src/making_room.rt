@@ -3,11 +3,13 @@
 
 ghost use Rattle.std.specs.Prelude.{◌≡◌, ◌⊎◌, ◌+◌, ◌<◌, ◌≤◌, ◌^◌, None, Err, Ok, OnOk, IfErr, MatchResult, length, IsSome, Some};
 ghost use Rattle.cas_disk.specs.Disk.{During, Same, Leaves};
+ghost use Rattle.cas_atoms.specs.declared.atom.Mutation.{Mutation as MutationOf};
 ghost use Rattle.cas_atoms.specs.LogLength.{record_length};
 ghost use Rattle.cas_changes.specs.declared.entry.Entry.TheVariants.{NewSegment};
 ghost use Rattle.cas_log.specs.Logs.{half};
 ghost use Rattle.cas_journal.specs.Stores.{Told, Holds, MadeRoom, HoldsWithRoom, SameTables, appended, failed_at};
 ghost use Rattle.cas_journal.specs.Journals.{Lasts, AreFree, HasMemory, IsPrepared};
+ghost use Rattle.cas_journal.specs.Notes.{HasPlace, HasNext, HasSpace};
 ghost use Rattle.cas_journal.specs.Ends.{Ends, IsOfFolder, IsToldAtOnce, next_limit, told_after, Prepares, TellsLimit};
 ghost use Rattle.cas_journal.specs.Reach.{GoesOn, IsFull, name_room, reach_of};
 ghost use Rattle.cas_journal.specs.Inner.Parts.{Asks, fits_in, FitsOrSettled, MayBegin};
@@ -18,6 +20,7 @@ use cas_atoms::{Mutation, length};
 use cas_changes::{Entry, SEGMENT_LIMIT};
 use cas_disk::Folder;
 use cas_log::Log;
+use cas_types::Mem;
 use std::alloc::Global;
 
 impl Journal {
@@ -36,10 +39,11 @@ impl Journal {
         }
     }
 
-    // Makes memory for a record in the segment that is written, where there is one.
+    // Makes memory for a record in the segment that is written, where there is one, and room to note it.
     fn reserve<F: Folder>(&mut self, folder: &F, mutation: &Mutation) -> Result<(), JournalFault>
         requires short { record_length mutation.now ≤ half self.old.size }
         ensures memory { OnOk result (HasMemory self.new.log mutation.now) }
+        ensures place { OnOk result (HasPlace self.new.notes mutation.now) }
         ensures why { IfErr result (λ f. f ≡ JournalFault.Mem) }
         ensures lasts { (t : Told) → Lasts self.old (F.disk folder.now) t → Lasts self.new (F.disk folder.now) t }
         ensures fits { fits_in self.new.log mutation.now ≡ fits_in self.old.log mutation.now }
@@ -49,6 +53,9 @@ impl Journal {
         ensures size { self.new.size ≡ self.old.size }
         ensures first { self.new.first ≡ self.old.first }
     {
+        if let Err(Mem) = self.notes.reserve(mutation) {
+            return Err(JournalFault::Mem);
+        }
         let Some(log) = &mut self.log else {
             return Ok(());
         };
@@ -96,6 +103,7 @@ impl Journal {
         ensures last { self.new.last_segment ≡ self.old.last_segment }
         ensures size { self.new.size ≡ self.old.size }
         ensures memory { HasMemory self.old.log mutation.now → HasMemory self.new.log mutation.now }
+        ensures notes { self.new.notes ≡ self.old.notes }
     {
         if self.has_room(mutation) && self.is_short(mutation) {
             return Ok(());
@@ -162,7 +170,7 @@ impl Journal {
         self.begin_spare(alloc, folder)
     }
 
-    // Makes memory for a record in the segment that is begun and not named.
+    // Makes memory for a record in the segment that is begun and not named, and room to note it.
     fn reserve_spare<F: Folder>(
         &mut self,
         folder: &F,
@@ -170,6 +178,7 @@ impl Journal {
     ) -> Result<(), JournalFault>
         requires short { record_length mutation.now ≤ half self.old.size }
         ensures memory { OnOk result (HasMemory self.new.spare mutation.now) }
+        ensures next { OnOk result (HasNext self.new.notes mutation.now) }
         ensures why { IfErr result (λ f. f ≡ JournalFault.Mem) }
         ensures lasts { (t : Told) → Lasts self.old (F.disk folder.now) t → Lasts self.new (F.disk folder.now) t }
         ensures begun { IsSome self.old.spare → IsSome self.new.spare }
@@ -179,6 +188,9 @@ impl Journal {
         ensures size { self.new.size ≡ self.old.size }
         ensures first { self.new.first ≡ self.old.first }
     {
+        if let Err(Mem) = self.notes.reserve_next(mutation) {
+            return Err(JournalFault::Mem);
+        }
         let Some(log) = &mut self.spare else {
             return Ok(());
         };
@@ -192,6 +204,7 @@ impl Journal {
     #[tactic(auto, unfolding(cas_codec::specs::Fields::u8, cas_codec::specs::Fields::u64))]
     fn name_next<F: Folder>(&mut self, alloc: Global, folder: &mut F) -> Result<(), JournalFault>
         requires begun { IsSome self.old.spare }
+        requires space { HasSpace self.old.notes }
         requires free { AreFree self.old (F.disk folder.old) }
         requires going { self.old.first ≡ None }
         ensures free { AreFree self.new (F.disk folder.new) }
@@ -206,6 +219,7 @@ impl Journal {
             → next_limit self.new.spare self.new ≡ Some (JournalFault.TooMany what most) }
         ensures count { F.faults_of folder.old ≤ F.faults_of folder.new }
         ensures log { MatchResult result (λ _. self.new.log ≡ self.old.spare) (λ _. self.new.log ≡ self.old.log) }
+        ensures place { (m : MutationOf) → HasNext self.old.notes m → OnOk result (HasPlace self.new.notes m) }
         ensures last { self.new.last_segment ≡ self.old.last_segment }
         ensures end { ((reach_of self.old).manifest ≤ (reach_of self.new).manifest)
             × ((reach_of self.new).manifest ≤ (reach_of self.old).manifest + name_room) }
@@ -215,6 +229,7 @@ impl Journal {
         match self.append(alloc, folder, &Entry::NewSegment { number }) {
             Ok(()) => {
                 self.log = self.spare.take();
+                self.notes.begin(alloc, number);
                 Ok(())
             }
             Err(fault) => Err(fault),

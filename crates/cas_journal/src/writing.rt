@@ -19,6 +19,7 @@ ghost use Rattle.cas_journal.specs.Reach.{reach_of, reach_after, IsOver};
 
 use crate::fault::JournalFault;
 use crate::journal::Journal;
+use crate::notes::Notes;
 use cas_atoms::Mutation;
 use cas_changes::Entry;
 use cas_disk::{Folder, Name};
@@ -29,14 +30,15 @@ use std::alloc::Global;
 
 impl Journal {
     /// The journal of a store that was opened, with no fault kept: its manifest, the segment that is
-    /// written, one that was begun and isn't named, the greatest number of one that was begun, and how
-    /// long segments are.
+    /// written, one that was begun and isn't named, the greatest number of one that was begun, how long
+    /// segments are, and what is noted of those that are listed.
     pub fn new(
         manifest: Manifest,
         log: Option<Log>,
         spare: Option<Log>,
         last_segment: u64,
         size: u64,
+        notes: Notes,
     ) -> Journal
         requires sized { IsSize size }
         requires written { ForSome log (λ l. IsBegun size last_segment l) }
@@ -47,6 +49,7 @@ impl Journal {
         ensures last { result.last_segment ≡ last_segment }
         ensures size { result.size ≡ size }
         ensures first { result.first ≡ None }
+        ensures notes { result.notes ≡ notes }
     {
         Journal {
             manifest,
@@ -55,6 +58,7 @@ impl Journal {
             last_segment,
             size,
             first: None,
+            notes,
         }
     }
 
@@ -79,6 +83,7 @@ impl Journal {
     {
         if let Some(log) = &mut self.log {
             log.push(mutation);
+            self.notes.note(mutation);
         }
     }
 
@@ -101,6 +106,7 @@ impl Journal {
         ensures last { self.new.last_segment ≡ self.old.last_segment }
         ensures size { self.new.size ≡ self.old.size }
         ensures memory { (m : MutationOf) → HasMemory self.old.log m → HasMemory self.new.log m }
+        ensures notes { self.new.notes ≡ self.old.notes }
     {
         if let Some(first) = self.first {
             return Err(JournalFault::Stopped(first));
@@ -138,6 +144,7 @@ impl Journal {
         ensures spare { self.new.spare ≡ self.old.spare }
         ensures last { self.new.last_segment ≡ self.old.last_segment }
         ensures size { self.new.size ≡ self.old.size }
+        ensures notes { self.new.notes ≡ self.old.notes }
     {
         self.manifest.append(alloc, folder, &mut self.first, entry)?;
         Ok(())
@@ -172,6 +179,7 @@ impl Journal {
         ensures spare { self.new.spare ≡ self.old.spare }
         ensures last { self.new.last_segment ≡ self.old.last_segment }
         ensures size { self.new.size ≡ self.old.size }
+        ensures notes { self.new.notes ≡ self.old.notes }
     {
         self.append(alloc, folder, entry)
     }

@@ -11,7 +11,7 @@ use Rattle.cas_bounds.specs.declared.order.Ordered.{Ordered}
 use Rattle.cas_bounds.specs.declared.cuts.Slice.{Slice}
 use Rattle.cas_cell.specs.declared.deletion.Deletion.{Deletion}
 use Rattle.cas_atoms.specs.Coordinates.{same_bytes}
-use Rattle.cas_atoms.specs.Fits.{FitsCut}
+use Rattle.cas_atoms.specs.Fits.{FitsCut, FitsKey}
 use Rattle.cas_atoms.specs.Winners.{Same}
 use Rattle.cas_atoms.specs.declared.atom.Atom.{Atom}
 use Rattle.cas_atoms.specs.declared.atom.Mutation.{Mutation}
@@ -23,7 +23,7 @@ use Rattle.cas_streams.specs.Merged.{flats}
 use Rattle.cas_streams.specs.NoMore.{SaysNoMore}
 use Rattle.cas_streams.specs.Streams.{IsOrdered, WellFormed}
 use Rattle.cas_streams.specs.declared.fragment.Fragment.{Fragment}
-use Rattle.cas_partition.specs.Partitions.{AreAtCuts}
+use Rattle.cas_partition.specs.Partitions.{AllFit, AreAtCuts}
 use Rattle.cas_memtable.specs.Memtables.{atoms_of, is_above, least_of, least_with, bytes_with, IsOfColumns}
 use Rattle.cas_memtable.specs.Memtables.{IsOfTable as IsOrderedBy}
 use Rattle.cas_memtable.specs.declared.memtable.MemPart.{MemPart}
@@ -77,6 +77,24 @@ IsOfTable columns p = AllByRecursion (IsOfColumns columns) (memtables_of p)
 -- all of them, one after another
 abbrev pub all_of : List (List Mutation) → List Mutation
 all_of wss = flat_map (λ ws. ws) wss
+
+-- ---- what a table may hold
+
+-- a key and atoms that a table with these columns may hold
+abbrev pub MayHold : List Column → Mutation → Type 0
+MayHold columns w = FitsKey w.key × AllFit columns w.atoms
+
+-- memtables of a table with these columns hold these mutations, memtable by memtable, each of which the table may hold
+pub record HoldMutations (columns : List Column) (ms : List MemPart) (wss : List (List Mutation)) : Type 0 where
+  pub stand : StandInEach (clustering_order columns) ms wss
+  pub of : AllByRecursion (IsOfColumns columns) ms
+  pub may : AllByRecursion (MayHold columns) (all_of wss)
+
+-- they hold just these, one after another
+pub record HoldJust (columns : List Column) (ms : List MemPart) (ws : List Mutation) : Type 0 where
+  pub places : List (List Mutation)
+  pub held : HoldMutations columns ms places
+  pub all : all_of places ≡ ws
 
 -- ---- scans
 

@@ -130,6 +130,7 @@ impl Parts {
         ensures keeps { (order : ListOf Order) (wss : ListOf (ListOf Wrote)) → Keeps order self.old wss
             → Keeps order self.new (if is_ok result && not (self.old.active.bytes == 0) then begun wss else wss) }
         ensures columns { (columns : ListOf ColumnOf) → IsOfTable columns self.old → IsOfTable columns self.new }
+        ensures begun { OnOk result (self.new.active.bytes ≡ 0) }
     {
         if self.active.bytes() == 0 {
             return Ok(());
@@ -154,6 +155,7 @@ impl Parts {
         ensures keeps { (order : ListOf Order) (wss : ListOf (ListOf Wrote)) → Keeps order self.old wss → Keeps order self.new (drop count wss) }
         ensures columns { (columns : ListOf ColumnOf) → IsOfTable columns self.old → IsOfTable columns self.new }
         ensures frozen { self.new.frozen.items ≡ drop count self.old.frozen.items }
+        ensures active { self.new.active ≡ self.old.active }
     {
         let mut gone = 0;
         while gone < count {

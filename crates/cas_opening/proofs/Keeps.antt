@@ -1,5 +1,5 @@
 -- What every image has of a store, and goes on having where files that aren't listed change.
-use Rattle.std.proofs.Common.{◌≡◌, ⊎_elim, ℕ, ◌+◌, ◌≤◌, eqb, Bool, true, false, ◌||◌, List, [], ◌∷◌, ◌++◌, Some, refl, ◌∙◌, ap, arith}
+use Rattle.std.proofs.Common.{◌≡◌, ⊎_elim, ℕ, ◌+◌, ◌≤◌, eqb, Bool, true, false, ◌||◌, List, [], ◌∷◌, ◌++◌, length, Some, refl, ◌∙◌, ap, arith}
 use Rattle.std.specs.List.{AllByRecursion}
 use Rattle.std.proofs.lemmas.Bool.Decides.{nat_tests}
 use Rattle.cas_types.specs.declared.schema.TableSchema.{TableSchema}
@@ -72,6 +72,13 @@ manifest_is place entries disk stands within c left = (
   record { gate = stands.gate; rest = stands.rest; spelled = refl; closed = stands.closed; follow = stands.follow; within = omega (arith, stands.end, within) },
 )
 
+-- there is a part for each segment
+pub parts_long : (tables : List TableSchema) (shards : ℕ) (f : ℕ → List ℕ) (ns : List ℕ) (parts : List (List Mutation)) → AreSegments tables shards f ns parts → length parts ≡ length ns
+parts_long tables shards f [] [] are = refl
+parts_long tables shards f (n ∷ ns) (ms ∷ parts) are = omega (arith, parts_long tables shards f ns parts are.1)
+parts_long tables shards f [] (ms ∷ parts) are = absurd are
+parts_long tables shards f (n ∷ ns) [] are = absurd are
+
 -- ---- the store
 
 module _ (place : Place) (entries : List Entry) (mutations : List Mutation) where
@@ -96,6 +103,7 @@ module _ (place : Place) (entries : List Entry) (mutations : List Mutation) wher
         within = keeps.within;
         made = keeps.made;
         parts = keeps.parts;
+        long = keeps.long;
         segments = λ c left. ⊎_elim (λ was. keeps.segments c was)
             (λ made. segments_agree s.tables s.shards (segment_in made.0) (segment_in c) s.segments keeps.parts
             (all_listed_from (λ n. segment_in c n ≡ segment_in made.0 n) s.segments (λ n is. ap bytes_of (made.2 (log_name n) is)))

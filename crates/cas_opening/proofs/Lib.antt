@@ -5,3 +5,4 @@ pub mod Keeps
 pub mod Readings
 pub mod Names
 pub mod Opens
+pub mod Noting

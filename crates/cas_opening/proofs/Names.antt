@@ -25,12 +25,14 @@ use Rattle.cas_log.specs.declared.log.Log.{Log}
 use Rattle.cas_replay.specs.Reading.{segment_in}
 use Rattle.cas_replay.specs.Grammar.{AreSegments}
 use Rattle.cas_journal.specs.Stores.{IsStore, Holds}
-use Rattle.cas_journal.specs.Journals.{Writes, IsSpare, NoneAbove, Lasts}
+use Rattle.cas_journal.specs.Journals.{Writes, IsSpare, NoneAbove, Lasts, all_parts}
 use Rattle.cas_journal.specs.declared.journal.Journal.{Journal}
 use Rattle.cas_journal.proofs.Segments.{segments_agree, log_agrees, others_agree, none_is_manifest, other_log, log_is_no_manifest}
 use Rattle.cas_journal.proofs.Holding.{log_file, store_with}
 use Rattle.cas_journal.proofs.Moving.{lasting}
 use Rattle.cas_opening.specs.Opening.{Stays, HasStayed, next_segment, while_named, told}
+use Rattle.cas_journal.specs.Notes.{Noted}
+use Rattle.cas_opening.specs.Inner.Reading.{AreNotedIn}
 use Rattle.cas_opening.specs.Inner.Keeping.{Keeps}
 use Rattle.cas_opening.specs.Inner.Naming.{HasBegun, IsNamed, IsBegunWith, IsToldOf}
 use Rattle.cas_opening.specs.Inner.Sweeping.{Spares, HasOnlyListed}
@@ -137,8 +139,8 @@ module _ (entries : List Entry) (ms : List Mutation) where
 
       -- the journal that writes it
       pub named_lasts : (j : Journal) (m : Manifest) → j.manifest ≡ m → j.log ≡ Some log → j.spare ≡ None → j.last_segment ≡ n
-          → Stands (place_of m) z (entries ++ NewSegment n ∷ []) → Lasts j z (told entries ms (n ∷ []))
-      named_lasts j m of writes none last stands =
+          → Stands (place_of m) z (entries ++ NewSegment n ∷ []) → Noted j.notes (after (said_by entries) (NewSegment n)) (keeps.parts ++ [] ∷ []) → Lasts j z (told entries ms (n ∷ []))
+      named_lasts j m of writes none last stands noted =
           let s = said_by entries in
           let e = NewSegment n in
           let said : said_by (entries ++ e ∷ []) ≡ record s { segments = s.segments ++ n ∷ []; last_segment = n } = said_more entries e in
@@ -172,6 +174,8 @@ module _ (entries : List Entry) (ms : List Mutation) where
             ordered = keeps.ordered;
             last = omega (arith, ap (λ (u : Saying). u.last_segment) said, last);
             spare = subst (λ (o : Option Log). IsSpare o (said_by (entries ++ e ∷ [])).last_segment z) (sym none) tt;
+            noted = subst (λ (u : Saying). Noted j.notes u (all_parts j.log keeps.parts [])) (sym said)
+                (subst (λ (o : Option Log). Noted j.notes (after s e) (all_parts o keeps.parts [])) (sym writes) noted);
           })
         where
           one_there : (es : List Entry) → es ++ NewSegment n ∷ [] ≡ [] → ⊥
@@ -181,8 +185,8 @@ module _ (entries : List Entry) (ms : List Mutation) where
   -- ---- no segment is written
 
   pub unnamed_lasts : (j : Journal) (m : Manifest) (z : Disk) → j.manifest ≡ m → j.log ≡ None → Keeps (place_of m) entries ms z → (said_by entries).last_segment ≤ j.last_segment
-      → IsSpare j.spare (said_by entries).last_segment z → Lasts j z (told entries ms [])
-  unnamed_lasts j m z of none keeps last spare =
+      → IsSpare j.spare (said_by entries).last_segment z → AreNotedIn j.notes (said_by entries) ms → Lasts j z (told entries ms [])
+  unnamed_lasts j m z of none keeps last spare noted =
       let s = said_by entries in
       subst (λ (es : List Entry). Lasts j z (record { entries = es; failed = []; taken = ms; committed = length ms; leaving = 0 })) (sym (append-nil entries))
       (lasting j z (record { entries = entries; failed = []; taken = ms; committed = length ms; leaving = 0 }) (record {
@@ -202,6 +206,7 @@ module _ (entries : List Entry) (ms : List Mutation) where
         ordered = keeps.ordered;
         last = last;
         spare = spare;
+        noted = subst (λ (o : Option Log). Noted j.notes s (all_parts o keeps.parts [])) (sym none) (noted keeps.parts keeps.long keeps.all);
       }))
 
 -- ---- numbers above which there is no segment
@@ -238,21 +243,23 @@ module _ (entries : List Entry) (ms : List Mutation) (place : Place) (n : ℕ) (
     -- it was named
     pub begin_named : (named : Stands place b entries → FitsEntry (said_by entries) (NewSegment n) → Stands (place_of m) z (entries ++ NewSegment n ∷ []))
         → (Stands place b entries → FitsEntry (said_by entries) (NewSegment n) → During (Changed manifest_name (λ _ f. MayHave entries (NewSegment n) f)) b z)
-        → (t : Saying) → t ≡ after s (NewSegment n) → j.log ≡ Some log → j.spare ≡ None → IsBegunWith entries ms j t z
-    begin_named named names t took writes none =
+        → (t : Saying) → t ≡ after s (NewSegment n) → j.log ≡ Some log → j.spare ≡ None
+        → ((parts : List (List Mutation)) → length parts ≡ length (said_by entries).segments → joined parts ≡ ms → Noted j.notes (after (said_by entries) (NewSegment n)) (parts ++ [] ∷ []))
+        → IsBegunWith entries ms j t z
+    begin_named named names t took writes none noted =
         let stays = begun_keeps entries ms place n next a b keeps begins in
         let fits = fits_next entries ms place n next b stays few in
         record {
           numbers = n ∷ [];
           begins = inl (ap (λ (k : ℕ). k ∷ []) next);
-          lasts = named_lasts entries ms place n next b z stays few log number begun (names stays.manifest fits) j m of writes none last (named stays.manifest fits);
+          lasts = named_lasts entries ms place n next b z stays few log number begun (names stays.manifest fits) j m of writes none last (named stays.manifest fits) (noted stays.parts stays.long stays.all);
           said = took ∙ ap (λ (u : Saying). after u (NewSegment n)) says ∙ sym (said_more entries (NewSegment n));
         }
 
     -- there was no place for its name
     pub begin_unnamed : (Stands place b entries → FitsEntry (said_by entries) (NewSegment n) → IsNamed entries (NewSegment n) place (place_of m) b z false)
-        → j.log ≡ None → j.spare ≡ Some log → IsBegunWith entries ms j s z
-    begin_unnamed refused none spare =
+        → j.log ≡ None → j.spare ≡ Some log → AreNotedIn j.notes (said_by entries) ms → IsBegunWith entries ms j s z
+    begin_unnamed refused none spare noted =
         let stays = begun_keeps entries ms place n next a b keeps begins in
         let (same, call, full) = refused stays.manifest (fits_next entries ms place n next b stays few) in
         let after_all : Keeps place entries ms z = spares_keeps place entries ms b z (same_spares (said_by entries) b z call) stays in
@@ -269,19 +276,19 @@ module _ (entries : List Entry) (ms : List Mutation) (place : Place) (n : ℕ) (
                   end = begun.stands.end;
                 },
                 begun.pushed,
-              ));
+              )) noted;
           said = says ∙ ap said_by (sym (append-nil entries));
         }
 
 -- no number was left
 pub begin_none : (entries : List Entry) (ms : List Mutation) (m : Manifest) (z : Disk) (s : Saying) (j : Journal) → Keeps (place_of m) entries ms z → s ≡ said_by entries → SEGMENT_LIMIT ≤ s.last_segment
-    → j.manifest ≡ m → j.log ≡ None → j.spare ≡ None → j.last_segment ≡ s.last_segment → IsBegunWith entries ms j s z
-begin_none entries ms m z s j keeps says most of none no_spare last =
+    → j.manifest ≡ m → j.log ≡ None → j.spare ≡ None → j.last_segment ≡ s.last_segment → AreNotedIn j.notes (said_by entries) ms → IsBegunWith entries ms j s z
+begin_none entries ms m z s j keeps says most of none no_spare last noted =
     let is : s.last_segment ≡ (said_by entries).last_segment = ap (λ (u : Saying). u.last_segment) says in
     record {
       numbers = [];
       begins = inr (refl, inl (omega (arith, most, is)));
-      lasts = unnamed_lasts entries ms j m z of none keeps (omega (arith, last, is)) (subst (λ (o : Option Log). IsSpare o (said_by entries).last_segment z) (sym no_spare) tt);
+      lasts = unnamed_lasts entries ms j m z of none keeps (omega (arith, last, is)) (subst (λ (o : Option Log). IsSpare o (said_by entries).last_segment z) (sym no_spare) tt) noted;
       said = says ∙ ap said_by (sym (append-nil entries));
     }
 

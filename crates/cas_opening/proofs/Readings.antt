@@ -37,7 +37,7 @@ use Rattle.cas_opening.specs.Inner.Reading.{log_in, above, ReplaysSaid, IsWhole,
 use Rattle.cas_journal.proofs.Sayings.{is_made as made}
 use Rattle.cas_opening.proofs.Saids.{sound, are_tables, shard_count, short_numbers}
 use Rattle.cas_opening.proofs.Counts.{filter_same}
-use Rattle.cas_opening.proofs.Keeps.{all_fit, stands_on}
+use Rattle.cas_opening.proofs.Keeps.{all_fit, stands_on, parts_long}
 
 -- ---- manifests
 
@@ -204,6 +204,7 @@ module _ (shards : ℕ) (place : Place) (s : Saying) (entries : List Entry) (c :
               within = within;
               made = has.2;
               parts = store.log.parts;
+              long = parts_long t.tables t.shards (segment_in c) t.segments store.log.parts store.log.segments;
               segments = λ x left. segments_agree t.tables t.shards (segment_in c) (segment_in x) t.segments store.log.parts
                   (subst (λ (u : Saying). AllByRecursion (λ n. segment_in x n ≡ segment_in c n) u.segments) says
                   (all_mapped (λ n. (r : Image) × z.reads r × (x (log_name n) ≡ r (log_name n))) (λ n. segment_in x n ≡ segment_in c n)
@@ -226,6 +227,7 @@ module _ (shards : ℕ) (place : Place) (s : Saying) (entries : List Entry) (c :
               within = within;
               made = λ e. let has : first_entries shards ≡ [] = sym first ∙ e in absurd cc;
               parts = [];
+              long = ap length (sym none.0) ∙ ap (λ (u : Saying). length u.segments) says;
               segments = λ x left. subst (λ (ns : List ℕ). AreSegments (said_by entries).tables (said_by entries).shards (segment_in x) ns []) (sym none.0 ∙ ap (λ (u : Saying). u.segments) says) tt;
               all = refl;
               fit = tt;

@@ -12,16 +12,18 @@ ghost use Rattle.cas_changes.specs.Allowed.{FitsEntry};
 ghost use Rattle.cas_log.specs.Segment.{IsSize};
 ghost use Rattle.cas_manifest.specs.Manifests.{place_of, Stands, MayHave};
 ghost use Rattle.cas_journal.specs.Fresh.{IsFresh};
+ghost use Rattle.cas_journal.specs.Notes.{HasSpace};
 ghost use Rattle.cas_journal.specs.Journals.{NoneAbove, AreFree};
 ghost use Rattle.cas_opening.specs.Opening.{HasStayed};
 ghost use Rattle.cas_opening.specs.Inner.Faults.{IsOfFolder};
 ghost use Rattle.cas_opening.specs.Inner.Keeping.{Keeps};
+ghost use Rattle.cas_opening.specs.Inner.Reading.{AreNotedIn};
 ghost use Rattle.cas_opening.specs.Inner.Naming.{HasBegun, IsNamed, IsBegunWith, IsToldOf};
 
 use crate::fault::OpenFault;
 use cas_changes::{Entry, SEGMENT_LIMIT, Said};
 use cas_disk::{Folder, Name};
-use cas_journal::Journal;
+use cas_journal::{Journal, Notes};
 use cas_log::{Log, LogFault};
 use cas_manifest::{Manifest, ManifestFault};
 use cas_types::Mem;
@@ -78,19 +80,22 @@ fn name_segment<F: Folder>(
     }
 }
 
-/// Begins the next segment and names it, and answers the journal that writes it. Where no number is
-/// left, or the manifest has no place for the name, no segment is written.
+/// Begins the next segment and names it, and answers the journal that writes it, with what is noted of the
+/// segments. Where no number is left, or the manifest has no place for the name, no segment is written.
 pub(crate) fn begin<F: Folder>(
     alloc: Global,
     folder: &mut F,
     mut manifest: Manifest,
     mut said: Said,
     size: u64,
+    mut notes: Notes,
 ) -> Result<(Journal, Said), OpenFault>
     requires size { IsSize size }
     requires none { NoneAbove said.last_segment (F.disk folder.old) }
+    requires space { HasSpace notes }
     ensures begun { (entries : List EntryOf) (mutations : List MutationOf) → Keeps (place_of manifest) entries mutations (F.disk folder.old)
-        → said ≡ said_by entries → IfOk result (λ r. IsBegunWith entries mutations r.0 r.1 (F.disk folder.new)) }
+        → said ≡ said_by entries → AreNotedIn notes (said_by entries) mutations
+        → IfOk result (λ r. IsBegunWith entries mutations r.0 r.1 (F.disk folder.new)) }
     ensures told { (entries : List EntryOf) → said ≡ said_by entries → IfOk result (λ r. IsToldOf entries r.0 r.1) }
     ensures free { IfOk result (λ r. AreFree r.0 (F.disk folder.new)) }
     ensures runs { IfOk result (λ r. (r.0.first ≡ None) × (r.0.size ≡ size)) }
@@ -101,7 +106,7 @@ pub(crate) fn begin<F: Folder>(
 {
     let last = said.last_segment();
     if last >= SEGMENT_LIMIT {
-        return Ok((Journal::new(manifest, None, None, last, size), said));
+        return Ok((Journal::new(manifest, None, None, last, size, notes), said));
     }
     let number = last + 1;
     let log = match begin_segment(alloc, folder, number, size) {
@@ -113,10 +118,13 @@ pub(crate) fn begin<F: Folder>(
         Err(fault) => return Err(fault),
     };
     if !is_named {
-        return Ok((Journal::new(manifest, None, Some(log), number, size), said));
+        let journal = Journal::new(manifest, None, Some(log), number, size, notes);
+        return Ok((journal, said));
     }
     if let Err(Mem) = said.take(alloc, &Entry::NewSegment { number }) {
         return Err(OpenFault::Mem);
     }
-    Ok((Journal::new(manifest, Some(log), None, number, size), said))
+    notes.begin(alloc, number);
+    let journal = Journal::new(manifest, Some(log), None, number, size, notes);
+    Ok((journal, said))
 }

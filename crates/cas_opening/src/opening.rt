@@ -12,10 +12,12 @@ ghost use Rattle.cas_manifest.specs.File.{MayFollow};
 ghost use Rattle.cas_manifest.specs.Loading.{IsNew};
 ghost use Rattle.cas_manifest.specs.Manifests.{place_of};
 ghost use Rattle.cas_journal.specs.Stores.{IsStore};
+ghost use Rattle.cas_journal.specs.Notes.{HasSpace};
 ghost use Rattle.cas_journal.specs.Journals.{AreFree};
 ghost use Rattle.cas_opening.specs.Opening.{IsOfBytes, OpensAs, Answers, Ends, EndsWith, HasStayed, IsReadAs, IsReadWith, MayBeOpened, MayBeMadeNew};
 ghost use Rattle.cas_opening.specs.Inner.Faults.{IsOfFolder};
 ghost use Rattle.cas_opening.specs.Inner.Keeping.{Keeps};
+ghost use Rattle.cas_opening.specs.Inner.Reading.{AreNotedIn};
 ghost use Rattle.cas_opening.specs.Inner.Naming.{IsBegunWith, IsToldOf};
 
 use crate::fault::OpenFault;
@@ -38,7 +40,9 @@ fn open_stored<F: Folder>(
     requires size { IsSize size }
     requires said { stored.said ≡ said_by stored.entries.items }
     requires follow { MayFollow nothing stored.entries.items }
+    requires space { HasSpace stored.notes }
     ensures opened { (mutations : List MutationOf) → Keeps (place_of stored.manifest) stored.entries.items mutations (F.disk folder.old)
+        → AreNotedIn stored.notes (said_by stored.entries.items) mutations
         → IfOk result (λ o. IsBegunWith stored.entries.items mutations o.journal o.said (F.disk folder.new)) }
     ensures told { IfOk result (λ o. IsToldOf stored.entries.items o.journal o.said) }
     ensures free { IfOk result (λ o. AreFree o.journal (F.disk folder.new)) }
@@ -51,7 +55,14 @@ fn open_stored<F: Folder>(
     if let Err(fault) = sweep(alloc, folder, &stored.said) {
         return Err(fault);
     }
-    match begin(alloc, folder, stored.manifest, stored.said, size) {
+    match begin(
+        alloc,
+        folder,
+        stored.manifest,
+        stored.said,
+        size,
+        stored.notes,
+    ) {
         Ok((journal, said)) => Ok(OpenStore { journal, said }),
         Err(fault) => Err(fault),
     }

@@ -11,33 +11,37 @@ ghost use Rattle.cas_manifest.specs.File.{MayFollow};
 ghost use Rattle.cas_manifest.specs.Manifests.{place_of};
 ghost use Rattle.cas_manifest.specs.Loading.{IsNew, MayBeNewStore};
 ghost use Rattle.cas_replay.specs.Replays.{IsReplayOf, Last};
+ghost use Rattle.cas_journal.specs.Notes.{HasSpace};
 ghost use Rattle.cas_opening.specs.Opening.{IsOfBytes, OpensAs, Answers};
 ghost use Rattle.cas_opening.specs.Inner.Counting.{frontiers_below};
-ghost use Rattle.cas_opening.specs.Inner.Reading.{ReplaysSaid, IsWhole, IsRead, FaultGave};
+ghost use Rattle.cas_opening.specs.Inner.Reading.{ReplaysSaid, IsWhole, IsRead, FaultGave, AreNotedIn};
 
 use crate::collecting::frontiers;
 use crate::fault::{OpenFault, of_loading, of_replay};
 use crate::stored::Stored;
 use cas_changes::Said;
 use cas_disk::{Folder, Name};
+use cas_journal::Notes;
 use cas_manifest::Manifest;
 use cas_replay::{TakesMutations, replay_to};
 use cas_types::Mem;
 use std::alloc::Global;
 
-// Hands on the mutations of the listed segments that are above their frontiers.
+// Hands on the mutations of the listed segments that are above their frontiers, and notes them all together with each segment.
 fn replay_said<F: Folder, T: TakesMutations>(
     alloc: Global,
     folder: &mut F,
     said: &Said,
     taker: &mut T,
-) -> Result<(), OpenFault>
+) -> Result<Notes, OpenFault>
     requires { IsSaid said.now }
     ensures exact { (first : List MutationOf) → T.has_taken first taker.old → (c : Image) → (F.disk folder.old).reads c
         → ReplaysSaid (λ given. T.has_taken (first ++ given) taker.new) said.now c result }
-    ensures replayed { (first : List MutationOf) → T.has_taken first taker.old → OnOk result ((given : List MutationOf)
+    ensures replayed { (first : List MutationOf) → T.has_taken first taker.old → IfOk result (λ notes. (given : List MutationOf)
         × T.has_taken (first ++ given) taker.new
-        × IsReplayOf said.now.tables said.now.shards said.now.segments (frontiers_below said.now (length said.now.tables)) (F.disk folder.old) given) }
+        × (r : IsReplayOf said.now.tables said.now.shards said.now.segments (frontiers_below said.now (length said.now.tables)) (F.disk folder.old) given)
+        × AreNotedIn notes said.now r.all) }
+    ensures space { IfOk result HasSpace }
     ensures taken { (first : List MutationOf) → T.has_taken first taker.old → (given : List MutationOf) × T.has_taken (first ++ given) taker.new }
     ensures lasts { OnOk result (Last said.now.segments (F.disk folder.new)) }
     ensures reads { Follows Same (F.disk folder.old).reads (F.disk folder.new).reads }
@@ -57,7 +61,10 @@ fn replay_said<F: Folder, T: TakesMutations>(
         &frontiers,
         taker,
     ) {
-        Ok(()) => Ok(()),
+        Ok(tops) => match Notes::of(alloc, said.shards(), said.segments(), &tops) {
+            Ok(notes) => Ok(notes),
+            Err(Mem) => Err(OpenFault::Mem),
+        },
         Err(fault) => Err(of_replay(fault)),
     }
 }
@@ -72,13 +79,14 @@ pub(crate) fn read_store<F: Folder, T: TakesMutations>(
     requires shards { IsShardCount shards }
     requires taker { (first : List MutationOf) × T.has_taken first taker.old }
     ensures read { (first : List MutationOf) → T.has_taken first taker.old → IfOk result (λ s. (mutations : List MutationOf) × (given : List MutationOf)
-        × T.has_taken (first ++ given) taker.new × IsWhole s.entries.items mutations given
+        × T.has_taken (first ++ given) taker.new × IsWhole s.entries.items mutations given × AreNotedIn s.notes (said_by s.entries.items) mutations
         × ((c : Image) → (F.disk folder.old).reads c → IsOfBytes c → IsRead shards (place_of s.manifest) s.entries.items mutations c (F.disk folder.new))) }
     ensures gave { (first : List MutationOf) → T.has_taken first taker.old → (c : Image) → (F.disk folder.old).reads c → IsOfBytes c
         → (entries : List EntryOf) (mutations : List MutationOf) → OpensAs shards entries mutations c
         → IfErr result (λ f. (given : List MutationOf) × T.has_taken (first ++ given) taker.new × FaultGave entries mutations given f) }
     ensures said { IfOk result (λ s. s.said ≡ said_by s.entries.items) }
     ensures follow { IfOk result (λ s. MayFollow nothing s.entries.items) }
+    ensures space { IfOk result (λ s. HasSpace s.notes) }
     ensures answers { (c : Image) → (F.disk folder.old).reads c → IsOfBytes c → Answers shards c result }
     ensures during { During (Changed Name.Manifest (MayBeNewStore shards)) (F.disk folder.old) (F.disk folder.new) }
     ensures untouched { (c : Image) → (F.disk folder.old).reads c → (IsNew c → ⊥) → During Same (F.disk folder.old) (F.disk folder.new) }
@@ -89,10 +97,11 @@ pub(crate) fn read_store<F: Folder, T: TakesMutations>(
         Err(fault) => return Err(of_loading(fault)),
     };
     match replay_said(alloc, folder, &said, taker) {
-        Ok(()) => Ok(Stored {
+        Ok(notes) => Ok(Stored {
             manifest,
             said,
             entries,
+            notes,
         }),
         Err(fault) => Err(fault),
     }

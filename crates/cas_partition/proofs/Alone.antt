@@ -10,13 +10,13 @@ use Rattle.cas_streams.specs.Settled.{settled}
 use Rattle.cas_streams.specs.declared.fragment.Fragment.{Fragment}
 use Rattle.cas_streams.specs.declared.fragment.Fragment.TheVariants as fragment
 use Rattle.cas_merge.specs.Told.{told_first, streams_told}
-use Rattle.cas_partition.specs.Inner.Sources.{TellMerge}
+use Rattle.cas_partition.specs.Inner.Sources.{TellMerge, SettleAlike}
 
 pub no_items : {X : Type 0} (b : Bool) (n : ℕ) (xs : List X) → b ≡ (n == 0) → n ≡ length xs → b ≡ true → xs ≡ []
 no_items b n [] e l t = refl
 no_items b n (x ∷ xs) e l t = absurd (omega (arith, eqb-true n 0 (sym e ∙ t), l))
 
-raised_none : (f : Fragment) → raised None f ≡ f
+pub raised_none : (f : Fragment) → raised None f ≡ f
 raised_none (fragment.Static columns) = refl
 raised_none (fragment.Row r) = refl
 raised_none (fragment.Marker cut d) = ap (fragment.Marker cut) (greater_none deletion_laws.orders d)
@@ -25,11 +25,12 @@ pub woven_none : (now : Option Deletion) (fs : List Fragment) → woven by_place
 woven_none now [] = refl
 woven_none now (f ∷ fs) = λ i. raised_none f i ∷ woven_none (opened now f) fs i
 
--- one source that tells both streams woven
+-- one source of which the same is left as of both streams woven
 pub one_tells : {I : Type 0} (tells : I → Option (List Fragment)) (tops : I → Option Deletion) (a : I) (parts : List I) (rows marks fragments : List Fragment) (top : Option Deletion)
-    → parts ≡ a ∷ [] → tells a ≡ Some fragments → tops a ≡ top → fragments ≡ woven by_place (record { left = None; right = None }) rows marks → TellMerge tells tops top rows marks parts
+    → parts ≡ a ∷ [] → tells a ≡ Some fragments → tops a ≡ top → SettleAlike top rows marks fragments → TellMerge tells tops top rows marks parts
 one_tells tells tops a parts rows marks fragments top e f g both = (
   record { top = top; fragments = fragments } ∷ [],
   ap (streams_told tells tops) e ∙ (λ j. told_first (g j) (f j) (Some [])),
-  λ i. settled (record { top = sym (greater_none deletion_laws.orders top) i; fragments = both i }),
+  (λ i. record { top = top; fragments = both i })
+      ∙ (λ i. settled (record { top = sym (greater_none deletion_laws.orders top) i; fragments = woven by_place (record { left = None; right = None }) rows marks })),
 )

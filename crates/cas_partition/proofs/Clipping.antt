@@ -5,7 +5,7 @@ use Rattle.std.specs.Ordering.{is_le, is_lt, ordering_reverse}
 use Rattle.std.specs.declared.cmp.Ordering.{Ordering}
 use Rattle.std.specs.declared.cmp.Ordering.TheVariants.{Less, Equal, Greater}
 use Rattle.cas_cell.specs.declared.deletion.Deletion.{Deletion}
-use Rattle.cas_bounds.specs.Points.{point_cmp, cut_point}
+use Rattle.cas_bounds.specs.Points.{point_cmp, cut_point, side}
 use Rattle.cas_bounds.specs.Inner.KeyLaws.{keys_are_points}
 use Rattle.cas_bounds.specs.declared.order.Ordered.{Ordered}
 use Rattle.cas_bounds.specs.declared.cuts.Cut.{Cut}
@@ -18,6 +18,7 @@ use Rattle.cas_streams.proofs.InOrder.{Rise}
 use Rattle.cas_streams.proofs.Cutting.{after_alike}
 use Rattle.cas_partition.specs.Ranges.{key_of, is_above, is_below, change_at, clipped}
 use Rattle.cas_partition.specs.Partitions.{marker}
+use Rattle.cas_partition.specs.Inner.Slots.{cut_of, is_after}
 use Rattle.cas_partition.proofs.Taking.{marked}
 
 marks_append : (ms ns : List Change) → map marker (ms ++ ns) ≡ map marker ms ++ map marker ns
@@ -114,3 +115,11 @@ marks_in_turn none first then all A B C e a b c =
     c ∙ ap (λ l. l ++ map marker C) (b ∙ ap (λ l. l ++ map marker B) (a ∙ ap (λ l. l ++ map marker A) e))
     ∙ append_assoc (map marker A) (map marker B) (map marker C)
     ∙ sym (marks_append A (B ++ C) ∙ ap (λ l. map marker A ++ l) (marks_append B C))
+
+-- the cut of a cut's key
+pub cut_again : (c : Cut) → cut_of (key_of c) ≡ c
+cut_again c = λ i. record { prefix = c.prefix; after = again c.after i; order = c.order }
+  where
+    again : (b : Bool) → is_after (side b) ≡ b
+    again true = refl
+    again false = refl

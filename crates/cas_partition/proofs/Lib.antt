@@ -12,5 +12,7 @@ pub mod Shown
 pub mod Going
 pub mod Statics
 pub mod Alone
+pub mod Hiding
+pub mod RowsPassed
 pub mod NoMore
 pub mod Fronts

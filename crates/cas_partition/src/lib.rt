@@ -6,6 +6,7 @@ mod cut_key;
 mod front;
 mod laws;
 mod partition;
+mod passing;
 mod ranges;
 mod slice;
 mod spot;

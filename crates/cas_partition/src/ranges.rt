@@ -5,15 +5,16 @@ ghost use Rattle.std.specs.declared.cmp.Ordering.TheVariants.{Less};
 ghost use Rattle.cas_cell.specs.Deletions.{deletion_cmp};
 ghost use Rattle.cas_bounds.specs.Keys.{key_cmp};
 ghost use Rattle.cas_atoms.specs.Greatest.{greater};
-ghost use Rattle.cas_partition.specs.Ranges.{lies, raised, with_cut, change_at, clipped};
+ghost use Rattle.cas_bounds.specs.declared.cuts.Slice.{Slice};
+ghost use Rattle.cas_partition.specs.Ranges.{key_of, lies, raised, with_cut, change_at, clipped};
 ghost use Rattle.cas_partition.specs.Inner.Slots.{cut_of, changes_of, raised_at, last_force, force_below, force_behind, between, amid};
+ghost use Rattle.cas_partition.specs.Inner.Passing.{lent_marker};
 ghost use Rattle.cas_partition.specs.Partitions.{marker};
 
 use crate::cut_key::CutKey;
 use cas_atoms::greater_deletion;
-use cas_bounds::{Cut, End, MapKey, Slice};
+use cas_bounds::{Cut, End, MapKey};
 use cas_cell::Deletion;
-use cas_streams::Fragment;
 use std::alloc::{AllocError, Global};
 use std::collections::BTreeMap;
 use std::collections::btree_map::Range;
@@ -27,6 +28,9 @@ pub struct Ranges {
     cuts: BTreeMap<CutKey, usize>,
     forces: Vec<Option<Deletion>>,
 }
+
+/// The key of a cut, and what is in force from it on.
+pub(crate) type Mark<'a> = (&'a MapKey, Option<Deletion>);
 
 impl Model for Ranges {
     ghost use Rattle.std.specs.Prelude.{List};
@@ -111,7 +115,7 @@ fn raise_between(
 }
 
 // The cut of a key.
-fn cut_of(key: &MapKey) -> Result<Cut, AllocError>
+pub(crate) fn cut_of(key: &MapKey) -> Result<Cut, AllocError>
     ensures { IfOk result (λ c. c ≡ cut_of key.now) }
 {
     let after = match key.end {
@@ -125,56 +129,56 @@ fn cut_of(key: &MapKey) -> Result<Cut, AllocError>
     })
 }
 
-// A marker at the cut, where a deletion is in force.
-fn add_change(
-    markers: &mut Vec<Fragment>,
-    cut: &Cut,
+// A mark at the key of a cut, where a deletion is in force.
+fn add_change<'a>(
+    marks: &mut Vec<Mark<'a>>,
+    key: &'a CutKey,
     in_force: Option<Deletion>,
     to: Option<Deletion>,
 ) -> Result<(), AllocError>
-    ensures { OnOk result (markers.new.items ≡ markers.old.items ++ map marker (change_at cut.now in_force to)) }
+    ensures { OnOk result (map lent_marker marks.new.items ≡ map lent_marker marks.old.items ++ map marker (change_at (cut_of key.now) in_force to)) }
 {
     if in_force.is_some() {
-        markers.push(Fragment::Marker(cut.copied()?, to))?;
+        marks.push((key.key(), to))?;
     }
     Ok(())
 }
 
-// The markers of these cuts, and what is in force behind them, by what is so before.
-fn add_markers(
-    markers: &mut Vec<Fragment>,
+// The marks of these cuts, and what is in force behind them, by what is so before.
+fn add_changes<'a>(
+    marks: &mut Vec<Mark<'a>>,
     forces: &[Option<Deletion>],
     before: Option<Deletion>,
-    cuts: Range<'_, CutKey, usize>,
+    cuts: Range<'a, CutKey, usize>,
 ) -> Result<Option<Deletion>, AllocError>
-    ensures added { OnOk result (markers.new.items ≡ markers.old.items ++ map marker (changes_of cuts.entry forces.now)) }
+    ensures added { OnOk result (map lent_marker marks.new.items ≡ map lent_marker marks.old.items ++ map marker (changes_of cuts.entry forces.now)) }
     ensures behind { IfOk result (λ d. d ≡ last_force before cuts.entry forces.now) }
 {
     let mut last = before;
     let mut rest = cuts;
     while let Some((key, slot)) = rest.next() {
-        let cut = cut_of(key.key())?;
         last = force_at(forces, *slot);
-        markers.push(Fragment::Marker(cut, last))?;
+        marks.push((key.key(), last))?;
     }
     Ok(last)
 }
 
-// The markers of the cuts between two keys, and what is in force behind these cuts.
-fn add_amid(
-    markers: &mut Vec<Fragment>,
-    cuts: &BTreeMap<CutKey, usize>,
+// The marks of the cuts between two keys, and what is in force behind these cuts.
+fn add_amid<'a>(
+    marks: &mut Vec<Mark<'a>>,
+    cuts: &'a BTreeMap<CutKey, usize>,
     forces: &[Option<Deletion>],
     before: Option<Deletion>,
     low: &CutKey,
     high: &CutKey,
 ) -> Result<Option<Deletion>, AllocError>
     requires { key_cmp low.now high.now ≡ Less }
-    ensures added { OnOk result (markers.new.items ≡ markers.old.items ++ map marker (changes_of (amid low.now high.now cuts.now.entries) forces.now)) }
+    ensures added { OnOk result (map lent_marker marks.new.items ≡ map lent_marker marks.old.items
+        ++ map marker (changes_of (amid low.now high.now cuts.now.entries) forces.now)) }
     ensures behind { IfOk result (λ d. d ≡ last_force before (amid low.now high.now cuts.now.entries) forces.now) }
 {
-    add_markers(
-        markers,
+    add_changes(
+        marks,
         forces,
         before,
         cuts.range((Bound::Excluded(low), Bound::Excluded(high))),
@@ -218,20 +222,24 @@ impl Ranges {
         raise_between(&self.cuts, &mut self.forces, &from, &to, d);
     }
 
-    /// The changes in the slice as markers of a stream: it begins with the deletion in force where
+    /// The changes in the slice between the keys of two cuts: it begins with the deletion in force where
     /// the slice begins, and closes the one in force at its end.
-    pub(crate) fn markers(&self, alloc: Global, slice: &Slice) -> Result<Vec<Fragment>, AllocError>
-        ensures { IfOk result (λ v. v.items ≡ map marker (clipped slice.now self.now)) }
+    pub(crate) fn marks<'a>(
+        &'a self,
+        alloc: Global,
+        low: &'a CutKey,
+        high: &'a CutKey,
+    ) -> Result<Vec<Mark<'a>>, AllocError>
+        ensures { IfOk result (λ v. (s : Slice) → low.now ≡ key_of s.lo → high.now ≡ key_of s.hi
+            → map lent_marker v.items ≡ map marker (clipped s self.now)) }
     {
-        let low = CutKey::of(slice.lo.copied()?);
-        let high = CutKey::of(slice.hi.copied()?);
-        let mut markers = Vec::new(alloc);
-        if low.cmp(&high).is_lt() {
-            let begun = force_behind(&self.cuts, &self.forces, &low);
-            add_change(&mut markers, &slice.lo, begun, begun)?;
-            let ended = add_amid(&mut markers, &self.cuts, &self.forces, begun, &low, &high)?;
-            add_change(&mut markers, &slice.hi, ended, None)?;
+        let mut marks = Vec::new(alloc);
+        if low.cmp(high).is_lt() {
+            let begun = force_behind(&self.cuts, &self.forces, low);
+            add_change(&mut marks, low, begun, begun)?;
+            let ended = add_amid(&mut marks, &self.cuts, &self.forces, begun, low, high)?;
+            add_change(&mut marks, high, ended, None)?;
         }
-        Ok(markers)
+        Ok(marks)
     }
 }

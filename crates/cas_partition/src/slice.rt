@@ -10,10 +10,14 @@ ghost use Rattle.cas_partition.specs.Spots.{spot_cmp, column_at, columns_at, cel
 ghost use Rattle.cas_partition.specs.Slices.{grouped, grouped_from, meet, AreRowsOf, Shows};
 ghost use Rattle.cas_partition.specs.Ranged.{piece_of, spot_at, spots_between, statics_of, rows_between};
 ghost use Rattle.cas_partition.specs.Inner.Entries.{lent_piece, GoesOn, EndsIn, Takes, TakesLast, grouped_on, ends_as, are_below};
-ghost use Rattle.cas_partition.specs.Inner.Sources.{TellMerge};
+ghost use Rattle.cas_partition.specs.Inner.Passing.{lent_marker};
+ghost use Rattle.cas_partition.specs.Inner.Sources.{TellMerge, Settles, SettleAlike};
 ghost use Rattle.cas_streams.specs.declared.fragment.Fragment.TheVariants as fragment;
 
+use crate::cut_key::CutKey;
 use crate::partition::Partition;
+use crate::passing::{markers, passed};
+use crate::ranges::Mark;
 use crate::spot::{Content, Spot};
 use crate::spot_key::SpotKey;
 use crate::weaving::{first_of, woven};
@@ -106,7 +110,7 @@ fn piece_at(
 }
 
 // What is said at a spot, as a piece of its row.
-fn piece(alloc: Global, spot: &Spot, content: &Content) -> Result<Fragment, AllocError>
+pub(crate) fn piece(alloc: Global, spot: &Spot, content: &Content) -> Result<Fragment, AllocError>
     ensures { IfOk result (λ f. f ≡ said spot.now content.now) }
 {
     match &spot.row {
@@ -244,7 +248,7 @@ fn push_column(
 }
 
 // So does a piece that is a row.
-fn push_to(
+pub(crate) fn push_to(
     alloc: Global,
     piece: &mut Fragment,
     spot: &Spot,
@@ -478,14 +482,33 @@ fn rows_of(alloc: Global, entries: &[(&Spot, &Content)]) -> Result<Vec<Fragment>
     meet(alloc, left, right)
 }
 
-// What is said of the static row and of the rows of the slice.
-fn rows_in(
+// The entries as rows, and the marks among them.
+fn fragments_of(
     alloc: Global,
+    top: Option<Deletion>,
+    entries: &[(&Spot, &Content)],
+    marks: &[Mark<'_>],
+) -> Result<Vec<Fragment>, AllocError>
+    ensures { IfOk result (λ v. Settles top (map lent_piece entries.now) (map lent_marker marks.now) v.items) }
+{
+    if are_plain(entries) {
+        return passed(alloc, top, entries, marks);
+    }
+    let rows = rows_of(alloc, entries)?;
+    let told = markers(alloc, marks)?;
+    woven(alloc, rows, told)
+}
+
+// What is said of the static row and of the rows of the slice, and the marks among them.
+fn fragments_in(
+    alloc: Global,
+    top: Option<Deletion>,
     spots: &BTreeMap<SpotKey, Content>,
     slice: &Slice,
+    marks: &[Mark<'_>],
 ) -> Result<Vec<Fragment>, AllocError>
-    ensures rows { IfOk result (λ v. AreRowsOf (map piece_of (statics_of spots.now.entries
-        ++ rows_between slice.now.lo slice.now.hi spots.now.entries)) v.items) }
+    ensures rows { IfOk result (λ v. Settles top (map piece_of (statics_of spots.now.entries
+        ++ rows_between slice.now.lo slice.now.hi spots.now.entries)) (map lent_marker marks.now) v.items) }
     ensures sorted { OnOk result (IsStrictlySortedBy spot_cmp (keys_of spots.now.entries)) }
 {
     let low = at(MapKey::of_cut(slice.lo.copied()?));
@@ -493,19 +516,18 @@ fn rows_in(
     let mut entries = Vec::new(alloc);
     add_static(&mut entries, spots)?;
     add_between(&mut entries, spots, &low, &high)?;
-    rows_of(alloc, &entries)
+    fragments_of(alloc, top, &entries, marks)
 }
 
-// What a slice shows, as one source: the rows under the deletion of the whole, among them the markers where there are some.
+// What a slice shows, as one source under the deletion of the whole.
 fn source(
     alloc: Global,
     top: Option<Deletion>,
-    rows: Vec<Fragment>,
-    marks: Vec<Fragment>,
+    fragments: Vec<Fragment>,
 ) -> Result<Vec<Part>, AllocError>
-    ensures { IfOk result (λ v. TellMerge ⟦<Part as FragmentSource>⟧.to_come ⟦<Part as FragmentSource>⟧.over_all top rows.items marks.items v.items) }
+    ensures { IfOk result (λ v. (rows marks : ListOf Fragment) → SettleAlike top rows marks fragments.items
+        → TellMerge ⟦<Part as FragmentSource>⟧.to_come ⟦<Part as FragmentSource>⟧.over_all top rows marks v.items) }
 {
-    let fragments = woven(alloc, rows, marks)?;
     let mut sources = Vec::with_capacity(alloc, 1)?;
     sources.push(Part::new(top, fragments))?;
     Ok(sources)
@@ -517,8 +539,10 @@ impl Partition {
         ensures { IfOk result (λ m. (fs : ListOf Fragment) × (⟦<Merger<Part> as FragmentSource>⟧.to_come m ≡ Some fs)
             × Shows slice.now self.now (⟦<Merger<Part> as FragmentSource>⟧.over_all m) fs) }
     {
-        let rows = rows_in(alloc, &self.spots, slice)?;
-        let marks = self.ranges.markers(alloc, slice)?;
-        Ok(Merger::new(source(alloc, self.top, rows, marks)?))
+        let low = CutKey::of(slice.lo.copied()?);
+        let high = CutKey::of(slice.hi.copied()?);
+        let marks = self.ranges.marks(alloc, &low, &high)?;
+        let fragments = fragments_in(alloc, self.top, &self.spots, slice, &marks)?;
+        Ok(Merger::new(source(alloc, self.top, fragments)?))
     }
 }

@@ -57,7 +57,7 @@ module _ (a b z : Disk) (loading : During Same b z) where
 
 module _ (old new : Disk) (loading : During Same old new) where
   pub still_lasts : (j : Journal) (t : Told) → Lasts j old t → Lasts j new t
-  still_lasts j t lasts = same_lasts j j old new t loading refl refl refl (omega arith) (λ none. none) lasts
+  still_lasts j t lasts = same_lasts j j old new t loading refl refl refl (omega arith) refl (λ none. none) lasts
 
   pub stays_free : (last : ℕ) → NoneAbove last old → NoneAbove last new
   stays_free last none = still_free Same old new loading last (λ d c same k above. same (log_name k)) none

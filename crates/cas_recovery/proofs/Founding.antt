@@ -83,7 +83,7 @@ one_read pre o m rest rise so =
 
 -- ---- a log
 
-abbrev step : ℕ → ShardOpening → Mutation → ShardOpening
+abbrev pub step : ℕ → ShardOpening → Mutation → ShardOpening
 step n o m = if m.shard == n then restored m o else o
 
 pub one_more : (n : ℕ) (done : List Mutation) (m : Mutation) → found_in n (done ++ m ∷ []) ≡ step n (found_in n done) m

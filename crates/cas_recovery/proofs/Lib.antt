@@ -4,6 +4,7 @@ mod Unflushed
 pub mod Restoring
 mod Starting
 pub mod Within
+pub mod Explained
 pub mod Fills
 pub mod Standing
 pub mod Afterwards

@@ -16,7 +16,9 @@ use Rattle.cas_memtable.specs.Kept.{all_of}
 use Rattle.cas_changes.specs.Saying.{Saying, has_file, part_of, said_by}
 use Rattle.cas_changes.specs.declared.entry.Entry.{Entry}
 use Rattle.cas_stored.specs.Stored.{HoldEach, StoredTable}
-use Rattle.cas_listed.specs.Listed.{StandInFiles}
+use Rattle.cas_sstread.specs.Loading.{Held}
+use Rattle.cas_view.specs.Views.{File}
+use Rattle.cas_listed.specs.Listed.{AreLoaded, StandInFiles}
 use Rattle.cas_listed.specs.Laws.{ListedFilesHold}
 use Rattle.cas_opening.specs.Opening.{IsListedTable, MayBeOpened}
 use Rattle.cas_shard.specs.declared.entry.ShardOpening.{ShardOpening}
@@ -78,6 +80,24 @@ stand_alike t shard d c (i ∷ infos) (ws ∷ wss) alike stand = (
   stand_alike t shard d c infos wss alike.1 stand.1,
 )
 
+-- the listed files are loaded as an image has them that has the same in them
+pub loaded_alike : (t : TableSchema) (shard : ℕ) (d c : Image) (infos : List TableInfo) (fs : List (File Held)) → AreAlike d c infos → AreLoaded t shard c infos fs
+    → AreLoaded t shard d infos fs
+loaded_alike t shard d c [] [] alike are = tt
+loaded_alike t shard d c [] (f ∷ fs) alike are = absurd are
+loaded_alike t shard d c (i ∷ infos) [] alike are = absurd are
+loaded_alike t shard d c (i ∷ infos) (f ∷ fs) alike are = (
+  record {
+    bytes = are.0.bytes;
+    there = sym alike.0 ∙ are.0.there;
+    contents = are.0.contents;
+    columns = are.0.columns;
+    info = are.0.info;
+    kept = are.0.kept;
+  },
+  loaded_alike t shard d c infos fs alike.1 are.1,
+)
+
 -- ---- what stands in the files of a table
 
 module _ (entries : List Entry) (mutations : List Mutation) (old mid : Disk) (image : Image) (read : old.reads image)
@@ -98,6 +118,15 @@ module _ (entries : List Entry) (mutations : List Mutation) (old mid : Disk) (im
           → (d : Image) × old.may_leave d × ((number : ℕ) → IsListedTable s number → c (table_name number) ≡ d (table_name number))
       by (inl left) = (c, left, λ number listed. refl)
       by (inr (d, left, step)) = opened d left step
+
+  pub loaded_left : (table shard : ℕ) (t : TableSchema) → slice_get s.tables table ≡ Some t → shard < s.shards → (fs : List (File Held))
+      → ((c : Image) → mid.reads c → AreLoaded t shard c (part_of s table shard).listed fs)
+      → (d : Image) × old.may_leave d × AreLoaded t shard d (part_of s table shard).listed fs
+  loaded_left table shard t there within fs loaded =
+      let infos = (part_of s table shard).listed in
+      let (c, now) = call.tells image read in
+      let (d, left, stay) = left_before c now in
+      (d, left, loaded_alike t shard d c infos fs (all_listed s d c table shard infos (get_within s.tables table t there) within stay (own_file infos infos (λ n is. is))) (loaded c now))
 
   module _ (hold : ListedFilesHold) (table shard : ℕ) (t : TableSchema) (there : slice_get s.tables table ≡ Some t) (within : shard < s.shards) where
     pub files_hold : (a b : Option StoredTable) (log all : List Mutation) → HasTaken t mid shard (part_of s table shard).listed a b
@@ -127,10 +156,16 @@ none_held : (order : List Ordered) (o : Option StoredTable) (ws : List Mutation)
 none_held order o ws none empty =
     subst (λ p. Holds order p ws) (sym none) (record { places = []; holds = refl; says = say_alike [] ws (sym empty) })
 
+pub past : {X : Type 0} (xs : List X) (k : ℕ) → slice_get xs k ≡ None → length xs ≤ k
+past [] k e = omega arith
+past (x ∷ xs) zero e = absurd cc
+past (x ∷ xs) (suc k) e = let low = past xs k e in omega (arith, low)
+
 pub opening_stands : (s : Saying) (mutations : List Mutation) (folder disk : Disk) (n : ℕ) (x y : ShardState) (o : ShardOpening)
-    → ((table : ℕ) (t : TableSchema) (a b : Option StoredTable) (log all : List Mutation) → slice_get s.tables table ≡ Some t → files_at a ≡ []
-    → HasTaken t disk n (part_of s table n).listed a b → SayAll folder t n (part_of s table n).listed log all → Holds (clustering_order t.columns) a log
-    → Holds (clustering_order t.columns) b all)
+    → ((table : ℕ) (t : TableSchema) → slice_get s.tables table ≡ Some t → files_at (slice_get x.stores table) ≡ []
+    → HasTaken t disk n (part_of s table n).listed (slice_get x.stores table) (slice_get y.stores table)
+    → Holds (clustering_order t.columns) (slice_get x.stores table) (mutations_of table (found_in n (unflushed_of s mutations)).entries)
+    → Holds (clustering_order t.columns) (slice_get y.stores table) (mutations_of table o.entries))
     → Stands s.tables (found_shard (found_in n (unflushed_of s mutations))) x → HasNoFiles x → IsFilled s disk n x y → IsOpening s mutations folder n o
     → Stands s.tables (found_shard o) y
 opening_stands s mutations folder disk n x y o hold stands none filled is = record {
@@ -148,11 +183,6 @@ opening_stands s mutations folder disk n x y o hold stands none filled is = reco
     own : (p : ShardOpening) (table : ℕ) → mutations_of table p.entries ≡ mutations_of table (all_entries (found_shard p))
     own p table = ap (mutations_of table) (sym (append-nil p.entries))
 
-    past : (ts : List TableSchema) (k : ℕ) → slice_get ts k ≡ None → length ts ≤ k
-    past [] k e = omega arith
-    past (t ∷ ts) zero e = absurd cc
-    past (t ∷ ts) (suc k) e = let low = past ts k e in omega (arith, low)
-
     by : (table : ℕ) (t : Option TableSchema) → slice_get s.tables table ≡ t
         → Holds (order_at s.tables table) (slice_get y.stores table) (mutations_of table (all_entries (found_shard o)))
     by table None e =
@@ -164,7 +194,6 @@ opening_stands s mutations folder disk n x y o hold stands none filled is = reco
         let order : order_at s.tables table ≡ clustering_order t.columns = ap order_of e in
         subst (λ q. Holds q (slice_get y.stores table) (mutations_of table (all_entries (found_shard o)))) (sym order)
         (subst (Holds (clustering_order t.columns) (slice_get y.stores table)) (own o table)
-        (hold table t (slice_get x.stores table) (slice_get y.stores table) (mutations_of table found.entries) (mutations_of table o.entries) e
-        (no_file (files_at (slice_get x.stores table)) (none table)) (filled.tables table t e) (is.says table t e)
+        (hold table t e (no_file (files_at (slice_get x.stores table)) (none table)) (filled.tables table t e)
         (subst (Holds (clustering_order t.columns) (slice_get x.stores table)) (sym (own found table))
         (subst (λ q. Holds q (slice_get x.stores table) (mutations_of table (all_entries (found_shard found)))) order (stands.kept table)))))

@@ -43,7 +43,7 @@ all_set P [] n x all is = tt
 all_set P (y ∷ ys) zero x all is = (is, all.1)
 all_set P (y ∷ ys) (suc n) x all is = (all.0, all_set P ys n x all.1 is)
 
-at_place : {A : Type 0} (P : A → Type 0) (xs : List A) (n : ℕ) (d : A) → AllByRecursion P xs → P d → P (unwrap_or (slice_get xs n) d)
+pub at_place : {A : Type 0} (P : A → Type 0) (xs : List A) (n : ℕ) (d : A) → AllByRecursion P xs → P d → P (unwrap_or (slice_get xs n) d)
 at_place P [] n d all is = is
 at_place P (y ∷ ys) zero d all is = all.0
 at_place P (y ∷ ys) (suc n) d all is = at_place P ys n d all.1 is

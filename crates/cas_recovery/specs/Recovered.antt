@@ -1,11 +1,14 @@
 -- What a store is that was read back into memory, with its table files (own).
-use Rattle.std.specs.Prelude.{◌≡◌, ◌≢◌, ◌⊎◌, ◌<◌, ◌≤◌, ℕ, List, [], length, slice_get, Some}
+use Rattle.std.specs.Prelude.{◌≡◌, ◌≢◌, ◌⊎◌, ◌<◌, ◌≤◌, ℕ, List, [], length, slice_get, Some, Ok}
 use Rattle.cas_types.specs.Limits.{IsShardCount}
 use Rattle.cas_types.specs.declared.schema.TableSchema.{TableSchema}
+use Rattle.cas_bounds.specs.ClusteringOrder.{clustering_order}
 use Rattle.cas_disk.specs.Disk.{Disk, Image}
 use Rattle.cas_disk.specs.declared.name.Name.{Name}
 use Rattle.cas_disk.specs.declared.name.Name.TheVariants.{Table as table_name}
 use Rattle.cas_atoms.specs.declared.atom.Mutation.{Mutation}
+use Rattle.cas_laws.specs.Given.{Has}
+use Rattle.cas_info.specs.declared.info.TableInfo.{TableInfo}
 use Rattle.cas_bind.specs.Tables.{AreTables}
 use Rattle.cas_bind.specs.declared.bound.Limits.{Limits}
 use Rattle.cas_changes.specs.Saying.{nothing, part_of, said_by}
@@ -16,15 +19,18 @@ use Rattle.cas_journal.specs.Stores.{Told}
 use Rattle.cas_journal.specs.Journals.{Lasts}
 use Rattle.cas_journal.specs.declared.journal.Journal.{Journal}
 use Rattle.cas_opening.specs.Opening.{IsOfBytes, IsRefused, OpensAs, next_segment}
-use Rattle.cas_listed.specs.Listed.{IsBadFile}
+use Rattle.cas_tables.specs.declared.header.Version.TheVariants.{First}
+use Rattle.cas_sstread.specs.Reading.{Loaded, loaded_at}
+use Rattle.cas_listed.specs.Listed.{AreLoaded, IsBadFile}
 use Rattle.cas_shard.specs.declared.entry.ShardOpening.{ShardOpening}
 use Rattle.cas_shard.specs.Shards.{found_shard}
-use Rattle.cas_shard.specs.Stands.{ShardState, Stands}
-use Rattle.cas_recovery.specs.Openings.{IsOpening}
-use Rattle.cas_recovery.specs.Restored.{IsTold}
+use Rattle.cas_shard.specs.Stands.{ShardState, Stands, files_at}
+use Rattle.cas_recovery.specs.Openings.{MayHaveBeen}
+use Rattle.cas_recovery.specs.Restored.{AreListed, HaveNoMore, IsTold}
+use Rattle.cas_recovery.specs.declared.filling.TheConstants.{VERSION_PLACE}
 
--- The store of a folder was read back: its limits and tables are what the manifest's entries say, and its journal goes on behind the log's mutations,
--- which last. Where the folder tells what it reads, each shard stands for whatever it may have been before.
+-- The store of a folder was read back: its limits and tables are what the manifest's entries say, each shard stands for whatever it may have been before,
+-- its tables have the files that are listed, and its journal goes on behind the log's mutations, which last.
 pub record IsRecovered (given limits : Limits) (tables : List TableSchema) (shards : List ShardState) (journal : Journal) (old new : Disk) : Type 0 where
   pub entries : List ManifestEntry
   pub mutations : List Mutation
@@ -37,12 +43,34 @@ pub record IsRecovered (given limits : Limits) (tables : List TableSchema) (shar
   pub tables_are : tables ≡ (said_by entries).tables
   pub good : AreTables tables
   pub count : length shards ≡ limits.shards
-  pub stands : (c : Image) → old.reads c → IsOfBytes c → (n : ℕ) (x : ShardState) (o : ShardOpening) → slice_get shards n ≡ Some x
-      → IsOpening (said_by entries) mutations old n o → Stands tables (found_shard o) x
+  pub stands : (n : ℕ) (x : ShardState) (o : ShardOpening) → slice_get shards n ≡ Some x → MayHaveBeen (said_by entries) mutations old n o
+      → Stands tables (found_shard o) x
+  pub listed : AreListed entries tables shards
+  pub loaded : (c : Image) → old.reads c → IsOfBytes c → (n : ℕ) (x : ShardState) → slice_get shards n ≡ Some x → (table : ℕ) (t : TableSchema)
+      → slice_get tables table ≡ Some t
+      → (d : Image) × old.may_leave d × AreLoaded t n d (part_of (said_by entries) table n).listed (files_at (slice_get x.stores table))
+  pub no_more : HaveNoMore tables shards
   pub segment : journal.last_segment ≤ next_segment entries
   pub lasts : (c : Image) → old.reads c → IsOfBytes c → (t : Told) × IsTold entries mutations t × Lasts journal new t
 
--- A listed table file of these entries, as a crash may leave it, isn't as it must be, or as it is listed, at this place.
+-- The listed file of that number is as it must be and as it is listed, but of the format's first version, whose partitions can't be read in slices yet. The
+-- place is that of its version.
+pub record IsOldFile (t : TableSchema) (shard : ℕ) (c : Image) (listed : List TableInfo) (number at : ℕ) : Type 0 where
+  pub info : TableInfo
+  pub is_listed : Has listed info
+  pub number_is : number ≡ info.number
+  pub bytes : List ℕ
+  pub there : c (table_name info.number) ≡ Some bytes
+  pub kept : Loaded
+  pub loads : loaded_at (clustering_order t.columns) t.number shard info bytes ≡ Ok kept
+  pub old : kept.version ≡ First
+  pub place : at ≡ VERSION_PLACE
+
+-- that file isn't loaded: it is the first that isn't as it must be, or as it is listed; or all are, and it is of the first version
+abbrev pub IsUnfitFile : TableSchema → ℕ → Image → List TableInfo → ℕ → ℕ → Type 0
+IsUnfitFile t shard c listed number at = IsBadFile t shard c listed number at ⊎ IsOldFile t shard c listed number at
+
+-- A listed table file of these entries, as a crash may leave it, isn't loaded, for what stands at this place.
 pub record IsBadTable (entries : List ManifestEntry) (folder : Disk) (name : Name) (at : ℕ) : Type 0 where
   pub number : ℕ
   pub name_is : name ≡ table_name number
@@ -53,7 +81,7 @@ pub record IsBadTable (entries : List ManifestEntry) (folder : Disk) (name : Nam
   pub within : shard < (said_by entries).shards
   pub image : Image
   pub left : folder.may_leave image
-  pub bad : IsBadFile schema shard image (part_of (said_by entries) table shard).listed number at
+  pub bad : IsUnfitFile schema shard image (part_of (said_by entries) table shard).listed number at
 
 -- Why a folder isn't read back: the bytes of the manifest or of a segment aren't as they must be at this place, or those of a listed table file.
 abbrev pub IsUnreadable : ℕ → Disk → Name → ℕ → Image → Type 0

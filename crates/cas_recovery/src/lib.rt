@@ -5,9 +5,12 @@
 mod all_shards;
 mod fault;
 mod filling;
+mod laws;
 mod memory;
 mod recovering;
 
 pub use fault::RecoveryFault;
+pub use filling::VERSION_PLACE;
+pub use laws::{explained_is_taken, log_explains};
 pub use memory::{Started, open_store};
 pub use recovering::recover;

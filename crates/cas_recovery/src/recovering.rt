@@ -13,6 +13,7 @@ ghost use Rattle.cas_journal.specs.Journals.{AreFree};
 ghost use Rattle.cas_journal.specs.Stores.{IsStore};
 ghost use Rattle.cas_opening.specs.Opening.{IsOfBytes, IsReadWith, MayBeMadeNew, MayBeOpened};
 ghost use Rattle.cas_recovery.specs.Recovered.{IsRecovered, IsUnreadable};
+ghost use Rattle.cas_recovery.specs.Restored.{MayBeRead};
 ghost use Rattle.cas_recovery.specs.Inner.Filling.{IsBadOfShard, IsBroughtBack, IsWithin};
 ghost use Rattle.cas_recovery.specs.Inner.Restoring.{HasRestored};
 
@@ -69,6 +70,7 @@ pub fn recover<F: Folder>(
     requires shards { IsShardCount limits.now.shards }
     requires size { IsSize limits.now.segment }
     ensures recovered { IfOk result (λ s. IsRecovered limits.now s.limits s.tables.items s.shards.items s.journal (F.disk folder.old) (F.disk folder.new)) }
+    ensures readable { IfOk result (λ s. MayBeRead s.tables.items s.shards.items) }
     ensures runs { IfOk result (λ s. (s.journal.first ≡ None) × (s.journal.size ≡ limits.now.segment) × AreFree s.journal (F.disk folder.new)) }
     ensures refused { (name : _) (at : ℕ) → IsErrOf result (RecoveryFault.Bad name at) → (c : Image) → (F.disk folder.old).reads c → IsOfBytes c
         → IsUnreadable limits.now.shards (F.disk folder.old) name at c }

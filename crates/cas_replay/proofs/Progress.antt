@@ -13,6 +13,7 @@ use Rattle.cas_replay.specs.Replays.{IsOfALog}
 use Rattle.cas_replay.specs.Grammar.{AreOfALog}
 use Rattle.cas_replay.specs.Inner.Steps.{StayALog}
 use Rattle.cas_replay.specs.Inner.Progress.{Went}
+use Rattle.cas_replay.specs.declared.lasts.Lasts.{Lasts}
 use Rattle.cas_replay.proofs.Order.{in_order}
 use Rattle.cas_replay.proofs.SegmentLaws.{fit_both}
 
@@ -38,9 +39,9 @@ module _ (tables : List TableSchema) (shards : ℕ) where
   }
 
   -- what was taken since nothing was read
-  pub of_a_log : (frontiers : List ℕ) (took : List Mutation → Type 0) (numbers : List (Option ℕ)) (says : List Mutation → Type 0) → Went tables shards frontiers took numbers [] says
+  pub of_a_log : (frontiers : List ℕ) (took : List Mutation → Type 0) (lasts : Lasts) (says : List Mutation → Type 0) → Went tables shards frontiers took lasts [] says
       → (given : List Mutation) × took given × IsOfALog tables shards frontiers given
-  of_a_log frontiers took numbers says went = (
+  of_a_log frontiers took lasts says went = (
     filter (is_above shards frontiers) went.after,
     went.stands.handed,
     record { all = went.after; are = λ are some. went.stay are some (none_yet tables shards); above = refl },

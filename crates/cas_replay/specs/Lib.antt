@@ -1,3 +1,4 @@
+pub mod Tops
 pub mod Reading
 pub mod Grammar
 pub mod Replays

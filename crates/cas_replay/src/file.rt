@@ -105,8 +105,8 @@ fn take_at_hand<T: TakesMutations>(
     ensures name { file.new.name ≡ file.old.name }
     ensures on { IfOk result (λ opened. opened ≡ true → (file.old.at + 9 ≤ file.new.at) × (file.new.at + 1 ≤ size)) }
     ensures went { (first before : List MutationOf)
-        → Stands of.now.shards of.now.frontiers.now (λ ms. T.has_taken (first ++ ms) taker.old) lasts.old.numbers before
-        → Went of.now.tables.now of.now.shards of.now.frontiers.now (λ ms. T.has_taken (first ++ ms) taker.new) lasts.new.numbers before
+        → Stands of.now.shards of.now.frontiers.now (λ ms. T.has_taken (first ++ ms) taker.old) lasts.old before
+        → Went of.now.tables.now of.now.shards of.now.frontiers.now (λ ms. T.has_taken (first ++ ms) taker.new) lasts.new before
         (λ after. (f : List ℕ) → AreNext file.old.at f file.old.bytes → HasBlock size file.old.at f file.old.bytes
         → StepsOn of.now.number f file.new after result (gated_at of.now.tables.now of.now.shards size before (left_of f file.old.at))) }
     ensures failed { IsErrOf result ReplayFault.Failed → ⊥ }
@@ -143,8 +143,8 @@ fn take_block<F: Folder, T: TakesMutations>(
     ensures name { file.new.name ≡ file.old.name }
     ensures on { IfOk result (λ opened. opened ≡ true → (file.old.at + 9 ≤ file.new.at) × (file.new.at + 1 ≤ size)) }
     ensures went { (first before : List MutationOf)
-        → Stands of.now.shards of.now.frontiers.now (λ ms. T.has_taken (first ++ ms) taker.old) lasts.old.numbers before
-        → Went of.now.tables.now of.now.shards of.now.frontiers.now (λ ms. T.has_taken (first ++ ms) taker.new) lasts.new.numbers before
+        → Stands of.now.shards of.now.frontiers.now (λ ms. T.has_taken (first ++ ms) taker.old) lasts.old before
+        → Went of.now.tables.now of.now.shards of.now.frontiers.now (λ ms. T.has_taken (first ++ ms) taker.new) lasts.new before
         (λ after. (c : Image) → (F.disk folder.old).reads c → AreNext file.old.at (bytes_of (c file.old.name)) file.old.bytes
         → StepsOn of.now.number (bytes_of (c file.old.name)) file.new after result
         (gated_at of.now.tables.now of.now.shards size before (left_of (bytes_of (c file.old.name)) file.old.at))) }
@@ -171,8 +171,8 @@ fn take_blocks<F: Folder, T: TakesMutations>(
     requires place { file.old.at ≤ size }
     requires size { size ≤ GREATEST_SEGMENT }
     ensures went { (first before : List MutationOf)
-        → Stands of.now.shards of.now.frontiers.now (λ ms. T.has_taken (first ++ ms) taker.old) lasts.old.numbers before
-        → Went of.now.tables.now of.now.shards of.now.frontiers.now (λ ms. T.has_taken (first ++ ms) taker.new) lasts.new.numbers before
+        → Stands of.now.shards of.now.frontiers.now (λ ms. T.has_taken (first ++ ms) taker.old) lasts.old before
+        → Went of.now.tables.now of.now.shards of.now.frontiers.now (λ ms. T.has_taken (first ++ ms) taker.new) lasts.new before
         (λ after. (c : Image) → (F.disk folder.old).reads c → AreNext file.old.at (bytes_of (c file.old.name)) file.old.bytes
         → GoesThrough after of.now.number result (values_of (blocks_at of.now.tables.now of.now.shards
         (length (drop file.old.at (bytes_of (c file.old.name)))) size before (left_of (bytes_of (c file.old.name)) file.old.at)))) }
@@ -197,8 +197,8 @@ fn read_segment<F: Folder, T: TakesMutations>(
     taker: &mut T,
 ) -> Result<(), ReplayFault>
     ensures went { (first before : List MutationOf)
-        → Stands of.now.shards of.now.frontiers.now (λ ms. T.has_taken (first ++ ms) taker.old) lasts.old.numbers before
-        → Went of.now.tables.now of.now.shards of.now.frontiers.now (λ ms. T.has_taken (first ++ ms) taker.new) lasts.new.numbers before
+        → Stands of.now.shards of.now.frontiers.now (λ ms. T.has_taken (first ++ ms) taker.old) lasts.old before
+        → Went of.now.tables.now of.now.shards of.now.frontiers.now (λ ms. T.has_taken (first ++ ms) taker.new) lasts.new before
         (λ after. (c : Image) → (F.disk folder.old).reads c → GoesThrough after of.now.number result
         (segment_of of.now.tables.now of.now.shards of.now.number before (segment_in c of.now.number))) }
     ensures reads { Follows Same (F.disk folder.old).reads (F.disk folder.new).reads }
@@ -221,8 +221,8 @@ pub(crate) fn replay_segment<F: Folder, T: TakesMutations>(
     taker: &mut T,
 ) -> Result<(), ReplayFault>
     ensures went { (first before : List MutationOf)
-        → Stands of.now.shards of.now.frontiers.now (λ ms. T.has_taken (first ++ ms) taker.old) lasts.old.numbers before
-        → Went of.now.tables.now of.now.shards of.now.frontiers.now (λ ms. T.has_taken (first ++ ms) taker.new) lasts.new.numbers before
+        → Stands of.now.shards of.now.frontiers.now (λ ms. T.has_taken (first ++ ms) taker.old) lasts.old before
+        → Went of.now.tables.now of.now.shards of.now.frontiers.now (λ ms. T.has_taken (first ++ ms) taker.new) lasts.new before
         (λ after. (c : Image) → (F.disk folder.old).reads c → GoesThrough after of.now.number result
         (segment_of of.now.tables.now of.now.shards of.now.number before (segment_in c of.now.number))) }
     ensures lasts { OnOk result (Last (of.now.number ∷ []) (F.disk folder.new)) }

@@ -10,8 +10,10 @@ mod log;
 mod reading;
 mod segment;
 mod taker;
+mod tops;
 
 pub use fault::ReplayFault;
 pub use laws::logs_are_exact;
 pub use log::{replay, replay_to};
 pub use taker::TakesMutations;
+pub use tops::{Tops, place_in};

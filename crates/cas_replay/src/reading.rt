@@ -13,6 +13,7 @@ ghost use Rattle.cas_replay.specs.Inner.Progress.{AreLast, Stands, Went, Tells};
 use crate::lasts::Lasts;
 use crate::segment::Segment;
 use crate::taker::TakesMutations;
+use crate::tops::place_in;
 use cas_atoms::Mutation;
 use cas_codec::{ReadFault, Reader};
 use cas_log::{GREATEST_SEGMENT, LEAST_SEGMENT};
@@ -23,8 +24,7 @@ use cas_types::Mem;
 fn is_above(shards: u8, frontiers: &[u64], mutation: &Mutation) -> bool
     ensures { result ≡ is_above shards frontiers.now mutation.now }
 {
-    let place = mutation.table as usize * shards as usize + mutation.shard as usize;
-    match frontiers.get(place) {
+    match frontiers.get(place_in(shards, mutation)) {
         Some(frontier) => *frontier < mutation.number,
         None => 0 < mutation.number,
     }
@@ -51,7 +51,7 @@ fn read_next(
     Err(ReadFault::Bad { at })
 }
 
-// Hands a mutation on that was read, where it is above its frontier.
+// Notes a mutation that was read, and hands it on where it is above its frontier.
 fn hand_on<T: TakesMutations>(
     of: &Segment<'_>,
     mutation: Mutation,
@@ -60,13 +60,14 @@ fn hand_on<T: TakesMutations>(
 ) -> Result<(), Mem>
     requires { IsWithinLimits mutation }
     ensures handed { (first before : List MutationOf)
-        → Stands of.now.shards of.now.frontiers.now (λ ms. T.has_taken (first ++ ms) taker.old) lasts.old.numbers before
-        → OnOk result (Stands of.now.shards of.now.frontiers.now (λ ms. T.has_taken (first ++ ms) taker.new) lasts.new.numbers (before ++ mutation ∷ [])) }
+        → Stands of.now.shards of.now.frontiers.now (λ ms. T.has_taken (first ++ ms) taker.old) lasts.old before
+        → OnOk result (Stands of.now.shards of.now.frontiers.now (λ ms. T.has_taken (first ++ ms) taker.new) lasts.new (before ++ mutation ∷ [])) }
     ensures kept { (first before : List MutationOf)
-        → Stands of.now.shards of.now.frontiers.now (λ ms. T.has_taken (first ++ ms) taker.old) lasts.old.numbers before
-        → OnErr result (Stands of.now.shards of.now.frontiers.now (λ ms. T.has_taken (first ++ ms) taker.new) lasts.new.numbers before) }
+        → Stands of.now.shards of.now.frontiers.now (λ ms. T.has_taken (first ++ ms) taker.old) lasts.old before
+        → OnErr result (Stands of.now.shards of.now.frontiers.now (λ ms. T.has_taken (first ++ ms) taker.new) lasts.new before) }
 {
     let (shard, number) = (mutation.shard, mutation.number);
+    lasts.note(of.shards, &mutation)?;
     if is_above(of.shards, of.frontiers, &mutation) {
         taker.take(mutation)?;
     }
@@ -82,8 +83,8 @@ fn take_records<T: TakesMutations>(
     lasts: &mut Lasts,
     taker: &mut T,
 ) -> Result<(), ReadFault>
-    ensures { (first before : List MutationOf) → Stands of.now.shards of.now.frontiers.now (λ ms. T.has_taken (first ++ ms) taker.old) lasts.old.numbers before
-        → Went of.now.tables.now of.now.shards of.now.frontiers.now (λ ms. T.has_taken (first ++ ms) taker.new) lasts.new.numbers before
+    ensures { (first before : List MutationOf) → Stands of.now.shards of.now.frontiers.now (λ ms. T.has_taken (first ++ ms) taker.old) lasts.old before
+        → Went of.now.tables.now of.now.shards of.now.frontiers.now (λ ms. T.has_taken (first ++ ms) taker.new) lasts.new before
         (λ after. Tells (λ _. after) (λ ms. ms) after result reader.new (records_at of.now.tables.now of.now.shards count before reader.old)) }
 {
     for _done in 0..count {
@@ -160,8 +161,8 @@ pub(crate) fn take_body<T: TakesMutations>(
     lasts: &mut Lasts,
     taker: &mut T,
 ) -> Result<(), ReadFault>
-    ensures { (first before : List MutationOf) → Stands of.now.shards of.now.frontiers.now (λ ms. T.has_taken (first ++ ms) taker.old) lasts.old.numbers before
-        → Went of.now.tables.now of.now.shards of.now.frontiers.now (λ ms. T.has_taken (first ++ ms) taker.new) lasts.new.numbers before
+    ensures { (first before : List MutationOf) → Stands of.now.shards of.now.frontiers.now (λ ms. T.has_taken (first ++ ms) taker.old) lasts.old before
+        → Went of.now.tables.now of.now.shards of.now.frontiers.now (λ ms. T.has_taken (first ++ ms) taker.new) lasts.new before
         (λ after. Tells (λ _. after) (λ ms. ms) after result body.new (filled_at of.now.tables.now of.now.shards count before body.old)) }
 {
     match take_records(of, body, count, lasts, taker) {

@@ -2,6 +2,8 @@ pub mod Numbers
 pub mod Refusals
 pub mod Preparing
 pub mod Memory
+pub mod InMemory
+pub mod Swapping
 pub mod Numbering
 pub mod Standing
 pub mod Looking

@@ -2,6 +2,7 @@
 use Rattle.std.proofs.lemmas.Grind.{flat_map-append}
 use Rattle.std.proofs.Common.{◌≡◌, ◌≢◌, ◌⊎◌, inl, inr, ◌<◌, ◌≤◌, ℕ, zero, suc, Option, None, Some, Result, Ok, Err, OnOk, List, [], ◌∷◌, ◌++◌, length, refl, sym, ap, ◌∙◌, subst, arith, length-append, Bool, true, false}
 use Rattle.std.specs.Prelude.{if◌then◌else◌, slice_get, slice_set}
+use Rattle.cas_types.specs.declared.schema.Column.{Column}
 use Rattle.cas_bounds.specs.declared.order.Ordered.{Ordered}
 use Rattle.cas_atoms.specs.Coordinates.{cell_at_path, live_at_row}
 use Rattle.cas_atoms.specs.Winners.{Same}
@@ -13,29 +14,30 @@ use Rattle.cas_streams.specs.NoMore.{SaysNoMore, deletion_of}
 use Rattle.cas_streams.proofs.NoMore.{no_more_itself, no_more_kept, no_more_then}
 use Rattle.cas_partition.specs.Partitions.{AreAtomsOf}
 use Rattle.cas_memtable.specs.Memtables.{HasPlaces}
-use Rattle.cas_memtable.specs.Kept.{all_of, atoms_under, begun, with_one}
+use Rattle.cas_memtable.specs.Kept.{HoldJust, MayHold, all_of, atoms_under, begun, with_one}
 use Rattle.cas_memtable.proofs.Keeping.{all_begun, more_under}
 use Rattle.cas_sstread.specs.Loading.{Held}
 use Rattle.cas_view.specs.Views.{File}
 use Rattle.cas_stored.specs.Stored.{HoldEach, HoldsEach, StoredTable}
 use Rattle.cas_shard.specs.Stands.{HasRoom, Holds, PlacesAt, SaySame, TakesFiles, files_at}
-use Rattle.cas_shard.specs.Inner.Stores.{AllStay, JoinsRoom, KeepFiles, MakesRoom, StayFew}
+use Rattle.cas_shard.specs.Flushing.{memtables_at}
+use Rattle.cas_shard.specs.Inner.Stores.{AllStay, JoinsRoom, KeepFiles, MakesRoom, MemoryStays, StayFew}
 
 -- ---- lists
 
-at_set : (ps : List StoredTable) (n : ℕ) (p : StoredTable) → n < length ps → slice_get (slice_set ps n p) n ≡ Some p
+pub at_set : (ps : List StoredTable) (n : ℕ) (p : StoredTable) → n < length ps → slice_get (slice_set ps n p) n ≡ Some p
 at_set [] n p h = absurd (omega (arith, h))
 at_set (q ∷ ps) zero p h = refl
 at_set (q ∷ ps) (suc n) p h = at_set ps n p (omega (arith, h))
 
-at_apart : (ps : List StoredTable) (n : ℕ) (p : StoredTable) (t : ℕ) → t ≢ n → slice_get (slice_set ps n p) t ≡ slice_get ps t
+pub at_apart : (ps : List StoredTable) (n : ℕ) (p : StoredTable) (t : ℕ) → t ≢ n → slice_get (slice_set ps n p) t ≡ slice_get ps t
 at_apart [] n p t h = refl
 at_apart (q ∷ ps) zero p zero h = absurd (h refl)
 at_apart (q ∷ ps) zero p (suc t) h = refl
 at_apart (q ∷ ps) (suc n) p zero h = refl
 at_apart (q ∷ ps) (suc n) p (suc t) h = at_apart ps n p t (λ e. h (ap suc e))
 
-count_set : (ps : List StoredTable) (n : ℕ) (p : StoredTable) → length (slice_set ps n p) ≡ length ps
+pub count_set : (ps : List StoredTable) (n : ℕ) (p : StoredTable) → length (slice_set ps n p) ≡ length ps
 count_set [] n p = refl
 count_set (q ∷ ps) zero p = refl
 count_set (q ∷ ps) (suc n) p = ap suc (count_set ps n p)
@@ -63,17 +65,17 @@ say_alike vs ws e = subst (SaySame vs) e (record {
   no_more = λ key. no_more_itself (atoms_under key vs);
 })
 
--- so they do with one more
-say_more : (w : Mutation) (vs ws : List Mutation) → SaySame vs ws → SaySame (vs ++ w ∷ []) (ws ++ w ∷ [])
-say_more w vs ws says = record {
+-- so they do with these behind both
+pub say_before : (us vs ws : List Mutation) → SaySame vs ws → SaySame (vs ++ us) (ws ++ us)
+say_before us vs ws says = record {
   same = λ key.
-      let more : List Atom = atoms_under key (w ∷ []) in
-      subst (λ l. Same l (atoms_under key (ws ++ w ∷ []))) (sym (more_under key vs (w ∷ [])))
-      (subst (Same (atoms_under key vs ++ more)) (sym (more_under key ws (w ∷ []))) (join_laws.kept (atoms_under key vs) (atoms_under key ws) more (says.same key)));
+      let more : List Atom = atoms_under key us in
+      subst (λ l. Same l (atoms_under key (ws ++ us))) (sym (more_under key vs us))
+      (subst (Same (atoms_under key vs ++ more)) (sym (more_under key ws us)) (join_laws.kept (atoms_under key vs) (atoms_under key ws) more (says.same key)));
   no_more = λ key.
-      let more : List Atom = atoms_under key (w ∷ []) in
-      subst (λ l. SaysNoMore l (atoms_under key (ws ++ w ∷ []))) (sym (more_under key vs (w ∷ [])))
-      (subst (SaysNoMore (atoms_under key vs ++ more)) (sym (more_under key ws (w ∷ []))) (no_more_kept (atoms_under key vs) (atoms_under key ws) more (says.no_more key)));
+      let more : List Atom = atoms_under key us in
+      subst (λ l. SaysNoMore l (atoms_under key (ws ++ us))) (sym (more_under key vs us))
+      (subst (SaysNoMore (atoms_under key vs ++ more)) (sym (more_under key ws us)) (no_more_kept (atoms_under key vs) (atoms_under key ws) more (says.no_more key)));
 }
 
 -- a table that has nothing stored says nothing
@@ -99,18 +101,19 @@ pushed_files (q ∷ ps) p none (suc t) = pushed_files ps p none t
 
 -- what one table has stored changed, and holds the same
 module _ (ps : List StoredTable) (n : ℕ) (p q : StoredTable) (there : n < length ps) (is : slice_get ps n ≡ Some p) where
+  pub set_keeps : (P : Option StoredTable → Type 0) (t : ℕ) → (t ≡ n → P (Some p) → P (Some q)) → P (slice_get ps t) → P (slice_get (slice_set ps n q) t)
+  set_keeps P t goes h = by (same_number t n)
+    where
+      by : (t ≡ n) ⊎ (t ≢ n) → P (slice_get (slice_set ps n q) t)
+      by (inl e) = subst P (sym (ap (slice_get (slice_set ps n q)) e ∙ at_set ps n q there)) (goes e (subst P (ap (slice_get ps) e ∙ is) h))
+      by (inr apart) = subst P (sym (at_apart ps n q t apart)) h
+
   set_stays : (t : ℕ) (order : List Ordered) (ws : List Mutation) → ((wss : List (List Mutation)) → t ≡ n → HoldsEach order p wss → (vss : List (List Mutation)) × HoldsEach order q vss × (all_of vss ≡ all_of wss))
       → Holds order (slice_get ps t) ws → Holds order (slice_get (slice_set ps n q) t) ws
-  set_stays t order ws goes h = by (same_number t n)
+  set_stays t order ws goes h = set_keeps (λ o. Holds order o ws) t own h
     where
       own : t ≡ n → Holds order (Some p) ws → Holds order (Some q) ws
       own e k = let to = goes k.places e k.holds in record { places = to.0; holds = to.1; says = subst (λ l. SaySame l ws) (sym to.2) k.says }
-
-      by : (t ≡ n) ⊎ (t ≢ n) → Holds order (slice_get (slice_set ps n q) t) ws
-      by (inl e) =
-          holds_at order ws (Some q) (slice_get (slice_set ps n q) t) (ap (slice_get (slice_set ps n q)) e ∙ at_set ps n q there)
-          (own e (holds_at order ws (slice_get ps t) (Some p) (sym (ap (slice_get ps) e ∙ is)) h))
-      by (inr apart) = holds_at order ws (slice_get ps t) (slice_get (slice_set ps n q) t) (at_apart ps n q t apart) h
 
   -- its files too
   set_files : q.files ≡ p.files → KeepFiles ps (slice_set ps n q)
@@ -122,17 +125,20 @@ module _ (ps : List StoredTable) (n : ℕ) (p q : StoredTable) (there : n < leng
 
 -- ---- calls
 
-pub reached : (w : Mutation) (ps qs : List StoredTable) → AllStay ps qs → StayFew w.table ps qs → KeepFiles ps qs → MakesRoom w ps qs
-reached w ps qs stay few files = record { kept = λ t order ws are h. stay t order ws h; few = few; files = files }
+pub reached : (w : Mutation) (ps qs : List StoredTable) → AllStay ps qs → StayFew w.table ps qs → KeepFiles ps qs → MemoryStays ps qs → MakesRoom w ps qs
+reached w ps qs stay few files memory = record { kept = λ t order ws are h. stay t order ws h; few = few; files = files; memory = λ t columns ws may. memory t columns ws }
 
 pub made : (w : Mutation) (ps mid qs : List StoredTable) (p q : StoredTable) → AllStay ps mid → StayFew w.table ps mid → KeepFiles ps mid → w.table < length mid → slice_get mid w.table ≡ Some p
-    → qs ≡ slice_set mid w.table q → ((order : List Ordered) (wss : List (List Mutation)) → HoldsEach order p wss → AreAtomsOf order w.atoms → HoldsEach order q wss) → q.files ≡ p.files → MakesRoom w ps qs
-made w ps mid qs p q stay few files there is set keeps own = record {
+    → qs ≡ slice_set mid w.table q → ((order : List Ordered) (wss : List (List Mutation)) → HoldsEach order p wss → AreAtomsOf order w.atoms → HoldsEach order q wss) → q.files ≡ p.files
+    → ((t : ℕ) (columns : List Column) (ws : List Mutation) → (t ≡ w.table → MayHold columns w) → HoldJust columns (memtables_at (slice_get ps t)) ws → HoldJust columns (memtables_at (slice_get qs t)) ws)
+    → MakesRoom w ps qs
+made w ps mid qs p q stay few files there is set keeps own memory = record {
   kept = λ t order ws are h.
       subst (λ l. Holds order (slice_get l t) ws) (sym set)
       (set_stays mid w.table p q there is t order ws (λ wss e k. (wss, keeps order wss k (are e), refl)) (stay t order ws h));
   few = λ k a b. subst (λ c. c ≤ k) (sym (ap length set ∙ count_set mid w.table q)) (few k a b);
   files = λ t. ap (λ l. files_at (slice_get l t)) set ∙ set_files mid w.table p q there is own t ∙ files t;
+  memory = memory;
 }
 
 pub has_room : (w : Mutation) (mid qs : List StoredTable) (q : StoredTable) → w.table < length mid → qs ≡ slice_set mid w.table q → HasPlaces q.parts.active w → HasRoom w qs
@@ -146,20 +152,23 @@ room_in w ps p is room = subst (λ o. PlacesAt o w) is room.1
 
 pub joined : (w : Mutation) (ps qs : List StoredTable) (p q : StoredTable) → w.table < length ps → slice_get ps w.table ≡ Some p → qs ≡ slice_set ps w.table q
     → ((order : List Ordered) (wss : List (List Mutation)) → HoldsEach order p wss → AreAtomsOf order w.atoms → HoldsEach order q (with_one w wss) × (all_of (with_one w wss) ≡ all_of wss ++ w ∷ []))
-    → q.files ≡ p.files → JoinsRoom w ps qs
-joined w ps qs p q there is set keeps own = record {
+    → q.files ≡ p.files
+    → ((columns : List Column) (ws : List Mutation) → MayHold columns w → HoldJust columns (memtables_at (slice_get ps w.table)) ws → HoldJust columns (memtables_at (slice_get qs w.table)) (ws ++ w ∷ []))
+    → JoinsRoom w ps qs
+joined w ps qs p q there is set keeps own memory = record {
   joined = λ order ws are h.
       holds_at order (ws ++ w ∷ []) (Some q) (slice_get qs w.table) (ap (λ l. slice_get l w.table) set ∙ at_set ps w.table q there)
       (one_more order ws are (holds_at order ws (slice_get ps w.table) (Some p) (sym is) h));
   others = λ t apart. ap (λ l. slice_get l t) set ∙ at_apart ps w.table q t apart;
   count = ap length set ∙ count_set ps w.table q;
   files = λ t. ap (λ l. files_at (slice_get l t)) set ∙ set_files ps w.table p q there is own t;
+  memory = memory;
 }
   where
     one_more : (order : List Ordered) (ws : List Mutation) → AreAtomsOf order w.atoms → Holds order (Some p) ws → Holds order (Some q) (ws ++ w ∷ [])
     one_more order ws are h =
         let more : HoldsEach order q (with_one w h.places) × (all_of (with_one w h.places) ≡ all_of h.places ++ w ∷ []) = keeps order h.places h.holds are in
-        record { places = with_one w h.places; holds = more.0; says = subst (λ l. SaySame l (ws ++ w ∷ [])) (sym more.1) (say_more w (all_of h.places) ws h.says) }
+        record { places = with_one w h.places; holds = more.0; says = subst (λ l. SaySame l (ws ++ w ∷ [])) (sym more.1) (say_before (w ∷ []) (all_of h.places) ws h.says) }
 
 -- a memtable is frozen, or not
 pub frozen : (ps qs : List StoredTable) (n : ℕ) (p q : StoredTable) (b : List (List Mutation) → List (List Mutation)) → n < length ps → slice_get ps n ≡ Some p → qs ≡ slice_set ps n q

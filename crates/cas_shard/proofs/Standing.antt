@@ -217,6 +217,11 @@ stays tables shards segment s w x y h belongs n d m makes same = by (take_refusa
       few = subst (λ ps. length ps ≤ length tables) (sym p) h.few;
     }
 
+-- what is prepared is the write's mutation
+pub prepared_is : (segment : ℕ) (s : ShardHistory) (reading : ℤ) (w : BoundWrite) (m : Mutation) → Prepares segment s reading w (Ok m) → m ≡ mutation_at reading s w
+unfolding prepare_answer
+prepared_is segment s reading w m prepared = (taken_ok (take_refusal segment (mutation_at reading s w)) (mutation_at reading s w) m (prepared refl)).1
+
 number_at : (reading : ℤ) (s : ShardHistory) (w : BoundWrite) → (mutation_at reading s w).number ≡ next_number s
 unfolding mutation_at mutation_of
 number_at reading s w = refl

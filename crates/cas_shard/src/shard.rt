@@ -7,17 +7,19 @@ ghost use Rattle.cas_shard.specs.Shards.{drawn_with, take_refusal};
 
 use crate::answers::{Look, TakeFault};
 use crate::rows::rows_of;
-use crate::stores::{adopt, freeze, join, reserve};
+use crate::stores::{adopt, freeze, frozen, join, reserve, swap, view_with};
 use cas_atoms::{Mutation, Query, length};
 use cas_blocks::TableFault;
 use cas_disk::{Count, Sealed};
 use cas_effects::{BoundWrite, TOO_LARGE, TOO_MANY, atoms_of};
+use cas_memtable::MemPart;
 use cas_sstread::Table;
 use cas_stored::TableStore;
 use cas_types::{LAST_DRAWN, LEAST_TIMESTAMP, List, MUTATION_LIMIT, Mem};
-use cas_view::View;
+use cas_view::{OpenFile, View};
 use std::alloc::Global;
 use std::marker::Model;
+use std::sync::Arc;
 
 /// One shard: what it has stored of each table, at the tables' numbers, the number of its last mutation, the
 /// last timestamp that it drew, and its last moment in seconds.
@@ -79,8 +81,10 @@ fn drawn_with(drawn: i64, mutation: &Mutation) -> i64
 }
 
 impl<S: Sealed> Shard<S> {
-    ghost use Rattle.std.specs.Prelude.{◌≡◌, ◌+◌, ◌^◌, ◌<◌, ◌≤◌, ◌≤ℤ◌, ◌∷◌, [], max, true, ℕ, length, slice_get, List as ListOf, if◌then◌else◌};
-    ghost use Rattle.std.specs.Prelude.{IfOk, IfErr, IsErrOf, IfSome, OnOk, OnErr};
+    ghost use Rattle.std.specs.Prelude.{◌≡◌, ◌+◌, ◌^◌, ◌<◌, ◌≤◌, ◌≤ℤ◌, ◌∷◌, ◌++◌, [], true, ℕ, if◌then◌else◌};
+    ghost use Rattle.std.specs.Prelude.{drop, map, max, take, length, slice_get, List as ListOf};
+    ghost use Rattle.std.specs.Arc.{arc_value};
+    ghost use Rattle.std.specs.Prelude.{IfOk, IfErr, IsErrOf, IfSome, OnOk, OnErr, is_ok};
     ghost use Rattle.std.specs.Int.{int_max};
     ghost use Rattle.cas_types.specs.Limits.{IsMoment, IsNarrow};
     ghost use Rattle.cas_types.specs.declared.limits.TheConstants.{LAST_DRAWN, LEAST_TIMESTAMP, MUTATION_LIMIT};
@@ -90,9 +94,13 @@ impl<S: Sealed> Shard<S> {
     ghost use Rattle.cas_shard.specs.declared.entry.Entry.TheVariants.{Wrote};
     ghost use Rattle.cas_shard.specs.declared.entry.ShardOpening.{ShardOpening as Opening};
     ghost use Rattle.cas_shard.specs.Shards.{IsTime, Prepares, ShardHistory, Shows, after_restore, empty_shard, entered, found_shard};
-    ghost use Rattle.cas_shard.specs.Shards.{later_drawn, later_moment, number_of, raised, take_refusal, told_shard};
+    ghost use Rattle.cas_shard.specs.Shards.{later_drawn, later_moment, mutation_at, number_of, raised, take_refusal, told_shard};
     ghost use Rattle.cas_shard.specs.Stands.{AreShown, Asks, Belongs, HasNoFiles, HasRoom, IsPrepared, IsReady, KeepsFiles, Stands, Suits};
-    ghost use Rattle.cas_shard.specs.Stands.{TakesFiles, files_at};
+    ghost use Rattle.cas_shard.specs.Stands.{TakesFiles, files_at, order_at};
+    ghost use Rattle.cas_shard.specs.Flushing.{HasInMemory, SaysWhatTheyDo, bytes_at, frozen_at, memtables_at, one_of};
+    ghost use Rattle.cas_atoms.specs.declared.atom.Mutation.{Mutation as MutationOf};
+    ghost use Rattle.cas_sstread.specs.Loading.{Held};
+    ghost use Rattle.cas_view.specs.Views.{File, file_of};
     ghost use Rattle.cas_shard.specs.Inner.Stores.{MakesRoom};
     ghost use Rattle.cas_shard.specs.Inner.Turns.{Answered, Took};
     ghost use Rattle.cas_blocks.specs.declared.fault.TableFault.TheVariants as table_fault;
@@ -103,6 +111,7 @@ impl<S: Sealed> Shard<S> {
     pub fn new(alloc: Global) -> Self
         ensures stands { (tables : ListOf Schema) → Stands tables (found_shard empty_shard) result }
         ensures files { HasNoFiles result }
+        ensures memory { (tables : ListOf Schema) (n : ℕ) → HasInMemory tables n [] result }
     {
         Self::open(alloc, 0, -2, 0)
     }
@@ -116,6 +125,7 @@ impl<S: Sealed> Shard<S> {
         ensures stands { (tables : ListOf Schema) → Stands tables (found_shard (told_shard number drawn moment)) result }
         ensures number { result.number ≡ number }
         ensures files { HasNoFiles result }
+        ensures memory { (tables : ListOf Schema) (n : ℕ) → HasInMemory tables n [] result }
     {
         Shard {
             stores: Vec::new(alloc),
@@ -135,6 +145,8 @@ impl<S: Sealed> Shard<S> {
             → last_number 0 found.entries < mutation.number → Stands tables (found_shard (after_restore result mutation found)) self.new }
         ensures number { OnOk result (self.new.number ≡ max self.old.number mutation.number) }
         ensures files { KeepsFiles self.old self.new }
+        ensures memory { (tables : ListOf Schema) (shards n : ℕ) (ws : ListOf MutationOf) → Belongs tables shards mutation → HasInMemory tables n ws self.old
+            → HasInMemory tables n (if is_ok result then ws ++ one_of n mutation else ws) self.new }
     {
         reserve(&mut self.stores, alloc, &mutation)?;
         self.number = self.number.max(mutation.number);
@@ -176,6 +188,7 @@ impl<S: Sealed> Shard<S> {
         ensures stands { OnErr result ((tables : ListOf Schema) (s : ShardHistory) → Stands tables s self.old → table < length tables
             → Stands tables s self.new) }
         ensures files { OnErr result (KeepsFiles self.old self.new) }
+        ensures memory { (tables : ListOf Schema) (n : ℕ) (ws : ListOf MutationOf) → HasInMemory tables n ws self.old → HasInMemory tables n ws self.new }
         ensures number { self.new.number ≡ self.old.number }
         ensures drawn { self.new.drawn ≡ self.old.drawn }
         ensures moment { self.new.moment ≡ self.old.moment }
@@ -283,6 +296,8 @@ impl<S: Sealed> Shard<S> {
         ensures ready { IfOk result (λ m. IsReady segment write m) }
         ensures number { self.new.number ≡ self.old.number }
         ensures files { KeepsFiles self.old self.new }
+        ensures memory { (tables : ListOf Schema) (shards n : ℕ) (ws : ListOf MutationOf) → Suits tables shards write → HasInMemory tables n ws self.old
+            → HasInMemory tables n ws self.new }
     {
         let mutation = self.mutation_at(alloc, reading, write);
         self.raise(reading);
@@ -299,6 +314,8 @@ impl<S: Sealed> Shard<S> {
             → Belongs tables shards mutation → Stands tables (entered (Wrote session call mutation ∷ []) s) self.new }
         ensures number { self.new.number ≡ mutation.number }
         ensures files { KeepsFiles self.old self.new }
+        ensures memory { (tables : ListOf Schema) (shards n : ℕ) (ws : ListOf MutationOf) → Belongs tables shards mutation → HasInMemory tables n ws self.old
+            → HasInMemory tables n (ws ++ one_of n mutation) self.new }
     {
         self.number = mutation.number;
         self.drawn = drawn_after(self.drawn, &mutation);
@@ -318,6 +335,9 @@ impl<S: Sealed> Shard<S> {
         ensures took { (tables : ListOf Schema) (shards : ℕ) (s : ShardHistory) (session call : ℕ) → Stands tables s self.old → Suits tables shards write
             → Took tables segment s reading session call write result self.new }
         ensures files { KeepsFiles self.old self.new }
+        ensures memory { (tables : ListOf Schema) (shards n : ℕ) (s : ShardHistory) (ws : ListOf MutationOf) → Stands tables s self.old
+            → Suits tables shards write → HasInMemory tables n ws self.old
+            → HasInMemory tables n (if is_ok result then ws ++ one_of n (mutation_at reading s write) else ws) self.new }
     {
         let mutation = self.prepare(alloc, segment, reading, write)?;
         let number = mutation.number;
@@ -331,8 +351,49 @@ impl<S: Sealed> Shard<S> {
         ensures stands { (tables : ListOf Schema) (s : ShardHistory) → Stands tables s self.old → Stands tables s self.new }
         ensures number { self.new.number ≡ self.old.number }
         ensures files { KeepsFiles self.old self.new }
+        ensures memory { (tables : ListOf Schema) (n : ℕ) (ws : ListOf MutationOf) → HasInMemory tables n ws self.old → HasInMemory tables n ws self.new }
+        ensures begun { OnOk result (bytes_at (slice_get self.new.stores table) ≡ 0) }
     {
         freeze(&mut self.stores, alloc, table)
+    }
+
+    /// The frozen memtables of a table, the oldest first, to be written to a file.
+    pub fn frozen(&self, table: u16) -> &[Arc<MemPart, Global>]
+        ensures { map arc_value result.now ≡ frozen_at (slice_get self.now.stores table) }
+    {
+        frozen(&self.stores, table)
+    }
+
+    /// A view of the files that a table has, and of one more behind them.
+    pub fn view_with(
+        &self,
+        alloc: Global,
+        table: u16,
+        file: OpenFile<Table<S>>,
+    ) -> Result<Arc<View<Table<S>>, Global>, Mem>
+        ensures { IfOk result (λ v. arc_value v ≡ files_at (slice_get self.now.stores table) ++ file_of file ∷ []) }
+    {
+        view_with(&self.stores, alloc, table, file)
+    }
+
+    /// After a flush: a table takes a view with one file more, in the place of so many of its frozen memtables,
+    /// the oldest ones, and lets go of these. It takes no memory.
+    pub fn swap(&mut self, table: u16, view: Arc<View<Table<S>>, Global>, count: usize)
+        requires some { 1 ≤ count }
+        requires there { count ≤ length (frozen_at (slice_get self.old.stores table)) }
+        ensures stands { (tables : ListOf Schema) (s : ShardHistory) (f : File Held) → arc_value view ≡ files_at (slice_get self.old.stores table) ++ f ∷ []
+            → SaysWhatTheyDo (order_at tables table) (take count (frozen_at (slice_get self.old.stores table))) f
+            → Stands tables s self.old → Stands tables s self.new }
+        ensures files { files_at (slice_get self.new.stores table) ≡ arc_value view }
+        ensures memory { memtables_at (slice_get self.new.stores table) ≡ drop count (memtables_at (slice_get self.old.stores table)) }
+        ensures emptied { (tables : ListOf Schema) (ws : ListOf MutationOf) → count ≡ length (frozen_at (slice_get self.old.stores table))
+            → bytes_at (slice_get self.old.stores table) ≡ 0 → HasInMemory tables table ws self.old → HasInMemory tables table [] self.new }
+        ensures others { (n : ℕ) → (n ≡ table → ⊥) → slice_get self.new.stores n ≡ slice_get self.old.stores n }
+        ensures number { self.new.number ≡ self.old.number }
+        ensures drawn { self.new.drawn ≡ self.old.drawn }
+        ensures moment { self.new.moment ≡ self.old.moment }
+    {
+        swap(&mut self.stores, table, view, count);
     }
 
     /// Shows the rows of a SELECT. The moment rises also where the disk fails or memory runs out. It reads
@@ -351,6 +412,7 @@ impl<S: Sealed> Shard<S> {
         ensures stands { (tables : ListOf Schema) (s : ShardHistory) → Stands tables s self.old → Stands tables (raised reading s) self.new }
         ensures number { self.new.number ≡ self.old.number }
         ensures files { KeepsFiles self.old self.new }
+        ensures stores { self.new.stores ≡ self.old.stores }
         ensures count { Counted (S.Tally.number tally.old) (S.Tally.number tally.new) (IsErrOf result TableFault.Read) }
         ensures why { IfErr result (IsWhyNotShown (files_at (slice_get self.old.stores query.table)) query.key query.slice) }
         ensures memory { length (files_at (slice_get self.old.stores query.table)) ≡ 0 → IfErr result (λ e. e ≡ table_fault.Mem) }

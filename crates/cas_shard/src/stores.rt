@@ -1,15 +1,19 @@
 //! What a shard has stored of each table, at the tables' numbers.
 
-ghost use Rattle.std.specs.Prelude.{◌≡◌, ◌<◌, length, OnOk, OnErr};
-ghost use Rattle.cas_shard.specs.Stands.{HasRoom, TakesFiles};
-ghost use Rattle.cas_shard.specs.Inner.Stores.{AllStay, JoinsRoom, KeepFiles, MakesRoom, StayFew};
+ghost use Rattle.std.specs.Prelude.{◌≡◌, ◌<◌, ◌≤◌, ◌++◌, ◌∷◌, [], length, map, slice_get, IfOk, OnOk, OnErr};
+ghost use Rattle.std.specs.Arc.{arc_value};
+ghost use Rattle.cas_view.specs.Views.{file_of};
+ghost use Rattle.cas_shard.specs.Flushing.{bytes_at, frozen_at};
+ghost use Rattle.cas_shard.specs.Stands.{HasRoom, TakesFiles, files_at};
+ghost use Rattle.cas_shard.specs.Inner.Stores.{AllStay, JoinsRoom, KeepFiles, MakesRoom, MemoryStays, StayFew, Swaps};
 
 use cas_atoms::Mutation;
 use cas_disk::Sealed;
+use cas_memtable::MemPart;
 use cas_sstread::Table;
 use cas_stored::TableStore;
 use cas_types::Mem;
-use cas_view::View;
+use cas_view::{OpenFile, View};
 use std::alloc::Global;
 use std::sync::Arc;
 
@@ -19,6 +23,7 @@ fn reach<S: Sealed>(stores: &mut Vec<TableStore<S>>, alloc: Global, table: u16) 
     ensures kept { AllStay stores.old.items stores.new.items }
     ensures few { StayFew table stores.old.items stores.new.items }
     ensures files { KeepFiles stores.old.items stores.new.items }
+    ensures memory { MemoryStays stores.old.items stores.new.items }
 {
     while stores.len() <= table as usize {
         stores.push(TableStore::new(alloc)?)?;
@@ -58,6 +63,8 @@ pub(crate) fn freeze<S: Sealed>(
     ensures kept { AllStay stores.old.items stores.new.items }
     ensures count { length stores.new.items ≡ length stores.old.items }
     ensures files { KeepFiles stores.old.items stores.new.items }
+    ensures memory { MemoryStays stores.old.items stores.new.items }
+    ensures begun { OnOk result (bytes_at (slice_get stores.new.items table) ≡ 0) }
 {
     if stores.len() <= table as usize {
         return Ok(());
@@ -77,10 +84,51 @@ pub(crate) fn adopt<S: Sealed>(
     ensures kept { OnErr result (AllStay stores.old.items stores.new.items) }
     ensures few { StayFew table stores.old.items stores.new.items }
     ensures files { OnErr result (KeepFiles stores.old.items stores.new.items) }
+    ensures memory { MemoryStays stores.old.items stores.new.items }
 {
     let view = Arc::new(alloc, view)?;
     reach(stores, alloc, table)?;
     let store = &mut stores[table as usize];
     store.adopt(view);
     Ok(())
+}
+
+/// The frozen memtables of a table, the oldest first.
+pub(crate) fn frozen<S: Sealed>(stores: &[TableStore<S>], table: u16) -> &[Arc<MemPart, Global>]
+    ensures { map arc_value result.now ≡ frozen_at (slice_get stores.now table) }
+{
+    match stores.get(table as usize) {
+        None => &[],
+        Some(store) => store.parts().frozen(),
+    }
+}
+
+/// A view of a table's files, and of one more behind them.
+pub(crate) fn view_with<S: Sealed>(
+    stores: &[TableStore<S>],
+    alloc: Global,
+    table: u16,
+    file: OpenFile<Table<S>>,
+) -> Result<Arc<View<Table<S>>, Global>, Mem>
+    ensures { IfOk result (λ v. arc_value v ≡ files_at (slice_get stores.now table) ++ file_of file ∷ []) }
+{
+    match stores.get(table as usize) {
+        None => TableStore::new(alloc)?.view_with(alloc, file),
+        Some(store) => store.view_with(alloc, file),
+    }
+}
+
+/// Gives a table this view of its files, and lets go of so many of its oldest frozen memtables.
+pub(crate) fn swap<S: Sealed>(
+    stores: &mut Vec<TableStore<S>>,
+    table: u16,
+    view: Arc<View<Table<S>>, Global>,
+    count: usize,
+)
+    requires some { 1 ≤ count }
+    requires there { count ≤ length (frozen_at (slice_get stores.old.items table)) }
+    ensures { Swaps table count (arc_value view) stores.old.items stores.new.items }
+{
+    let store = &mut stores[table as usize];
+    store.swap(view, count);
 }

@@ -24,30 +24,27 @@ take_and_drop (suc n) (x ∷ xs) = ap (λ l. x ∷ l) (take_and_drop n xs)
 in_parts : (count : ℕ) (wss : List (List Mutation)) → all_of (take count wss) ++ all_of (drop count wss) ≡ all_of wss
 in_parts count wss = sym (flat_map-append (λ ws. ws) (take count wss) (drop count wss)) ∙ ap all_of (take_and_drop count wss)
 
-pub all_flushed : (files count : ℕ) (wss : List (List Mutation)) → all_of (flushed files count wss) ≡ all_of wss
+-- where those of the memtables themselves stand in the file, all are held one after another as before
+pub all_flushed : (files count : ℕ) (wss : List (List Mutation)) → all_of (flushed files count (oldest files count wss) wss) ≡ all_of wss
 all_flushed zero count wss = in_parts count wss
 all_flushed (suc files) count [] = in_parts count []
 all_flushed (suc files) count (ws ∷ wss) = ap (λ l. ws ++ l) (all_flushed files count wss)
 
 -- ---- what stands where
 
-module _ (order : List Ordered) (ms ns : List MemPart) (f : File Held) (count : ℕ)
+module _ (order : List Ordered) (ms ns : List MemPart) (f : File Held) (count : ℕ) (ws : List Mutation) (stands : StandInFile order f ws)
     (memory : (wss : List (List Mutation)) → StandInEach order ms wss → StandInEach order ns (drop count wss)) where
-  pub flush_holds : (fs : List (File Held)) (wss : List (List Mutation)) → HoldEach order fs ms wss → StandInFile order f (oldest (length fs) count wss)
-      → HoldEach order (fs ++ f ∷ []) ns (flushed (length fs) count wss)
-  flush_holds [] wss holds stands = (stands, memory wss holds)
-  flush_holds (g ∷ fs) [] holds stands = absurd holds
-  flush_holds (g ∷ fs) (ws ∷ wss) holds stands = (holds.0, flush_holds fs wss holds.1 stands)
+  pub flush_holds : (fs : List (File Held)) (wss : List (List Mutation)) → HoldEach order fs ms wss → HoldEach order (fs ++ f ∷ []) ns (flushed (length fs) count ws wss)
+  flush_holds [] wss holds = (stands, memory wss holds)
+  flush_holds (g ∷ fs) [] holds = absurd holds
+  flush_holds (g ∷ fs) (vs ∷ wss) holds = (holds.0, flush_holds fs wss holds.1)
 
 -- by the views before and after
-pub swap_holds : (order : List Ordered) (ms ns : List MemPart) (old new fs : List (File Held)) (f : File Held) (count : ℕ) (wss : List (List Mutation))
+pub swap_holds : (order : List Ordered) (ms ns : List MemPart) (old new fs : List (File Held)) (f : File Held) (count : ℕ) (ws : List Mutation) (wss : List (List Mutation))
     → ((wss : List (List Mutation)) → StandInEach order ms wss → StandInEach order ns (drop count wss)) → new ≡ fs → fs ≡ old ++ f ∷ []
-    → HoldEach order old ms wss → StandInFile order f (oldest (length old) count wss)
-    → HoldEach order new ns (flushed (length old) count wss) × (all_of (flushed (length old) count wss) ≡ all_of wss)
-swap_holds order ms ns old new fs f count wss memory set is holds stands = (
-  subst (λ l. HoldEach order l ns (flushed (length old) count wss)) (sym (set ∙ is)) (flush_holds order ms ns f count memory old wss holds stands),
-  all_flushed (length old) count wss,
-)
+    → HoldEach order old ms wss → StandInFile order f ws → HoldEach order new ns (flushed (length old) count ws wss)
+swap_holds order ms ns old new fs f count ws wss memory set is holds stands =
+    subst (λ l. HoldEach order l ns (flushed (length old) count ws wss)) (sym (set ∙ is)) (flush_holds order ms ns f count ws stands memory old wss holds)
 
 pub swap_of : (columns : List Column) (ms ns : List MemPart) (old new fs : List (File Held)) (f : File Held)
     → (AllByRecursion (IsOfColumns columns) ms → AllByRecursion (IsOfColumns columns) ns) → new ≡ fs → fs ≡ old ++ f ∷ []

@@ -13,7 +13,7 @@ use Rattle.cas_memtable.specs.Kept.{ShowPartition, StandInEach, all_of, begun, m
 use Rattle.cas_sstread.specs.Loading.{Held}
 use Rattle.cas_view.specs.Views.{File}
 use Rattle.cas_stored.specs.Reading.{AreReadIn}
-use Rattle.cas_stored.specs.Stored.{AreOfTable, HoldEach, HoldsEach, IsFileOf, IsStoredOf, ShowStored, StandInFile, StoredTable, flushed, oldest}
+use Rattle.cas_stored.specs.Stored.{AreOfTable, HoldEach, HoldsEach, IsFileOf, IsStoredOf, ShowStored, StandInFile, StoredTable, flushed}
 use Rattle.std.specs.List.{AllByRecursion}
 use Rattle.cas_stored.specs.Inner.Files.{FilesGiveBehind}
 use Rattle.cas_stored.proofs.Flushing.{adopt_holds, swap_holds, swap_of}
@@ -28,16 +28,12 @@ module _ (was now : StoredTable) (is : was ≡ now) where
       subst (λ (t : StoredTable). HoldsEach order t wss → HoldEach order was.files ns (if ok && not (t.parts.active.bytes == 0) then begun wss else wss)) is
       (memory_begun_if order (memtables_of was.parts) ns (ok && not (was.parts.active.bytes == 0)) memory was.files wss)
 
-  pub swaps : (order : List Ordered) (ns : List MemPart) (view : List (File Held)) (f : File Held) (count : ℕ) (wss : List (List Mutation))
+  pub swaps : (order : List Ordered) (ns : List MemPart) (view : List (File Held)) (f : File Held) (count : ℕ) (ws : List Mutation) (wss : List (List Mutation))
       → ((vss : List (List Mutation)) → StandInEach order (memtables_of was.parts) vss → StandInEach order ns (drop count vss)) → view ≡ now.files ++ f ∷ []
-      → HoldsEach order now wss → StandInFile order f (oldest (length now.files) count wss)
-      → HoldEach order view ns (flushed (length now.files) count wss) × (all_of (flushed (length now.files) count wss) ≡ all_of wss)
-  swaps order ns view f count wss memory =
-      subst
-      (λ (t : StoredTable).
-      view ≡ t.files ++ f ∷ [] → HoldsEach order t wss → StandInFile order f (oldest (length t.files) count wss)
-      → HoldEach order view ns (flushed (length t.files) count wss) × (all_of (flushed (length t.files) count wss) ≡ all_of wss)) is
-      (swap_holds order (memtables_of was.parts) ns was.files view view f count wss memory refl)
+      → HoldsEach order now wss → StandInFile order f ws → HoldEach order view ns (flushed (length now.files) count ws wss)
+  swaps order ns view f count ws wss memory =
+      subst (λ (t : StoredTable). view ≡ t.files ++ f ∷ [] → HoldsEach order t wss → StandInFile order f ws → HoldEach order view ns (flushed (length t.files) count ws wss)) is
+      (λ grown holds stands. swap_holds order (memtables_of was.parts) ns was.files view view f count ws wss memory refl grown holds stands)
 
   pub swaps_of : (columns : List Column) (ns : List MemPart) (view : List (File Held)) (f : File Held)
       → (AllByRecursion (IsOfColumns columns) (memtables_of was.parts) → AllByRecursion (IsOfColumns columns) ns) → view ≡ now.files ++ f ∷ []

@@ -8,6 +8,7 @@ pub mod Gathering
 pub mod Showing
 pub mod Flushing
 pub mod Storing
+pub mod Remembering
 pub mod Tallying
 pub mod WhyNot
 pub mod Inside

@@ -95,6 +95,6 @@ pub record ShowStored {X : Type 0} (tells : X → Option (List Fragment)) (tops 
 abbrev pub oldest : ℕ → ℕ → List (List Mutation) → List Mutation
 oldest files count wss = all_of (take count (drop files wss))
 
--- once they stand in a file behind the others
-abbrev pub flushed : ℕ → ℕ → List (List Mutation) → List (List Mutation)
-flushed files count wss = take files wss ++ oldest files count wss ∷ drop count (drop files wss)
+-- and behind them, in place of so many memtables, these in a file
+abbrev pub flushed : ℕ → ℕ → List Mutation → List (List Mutation) → List (List Mutation)
+flushed files count ws wss = take files wss ++ ws ∷ drop count (drop files wss)

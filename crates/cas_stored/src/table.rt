@@ -1,6 +1,7 @@
 //! What a table has stored in a shard.
 
-ghost use Rattle.std.specs.Prelude.{◌≡◌, ℕ, ◌++◌, ◌∷◌, [], ◌≤◌, length, IfOk, IfErr, IsErrOf, OnOk, List as ListOf, is_ok, ◌&&◌, not, ◌==◌, if◌then◌else◌};
+ghost use Rattle.std.specs.Prelude.{◌≡◌, ℕ, ◌++◌, ◌∷◌, [], ◌≤◌, length, drop, List as ListOf};
+ghost use Rattle.std.specs.Prelude.{IfOk, IfErr, IsErrOf, OnOk, is_ok, ◌&&◌, not, ◌==◌, if◌then◌else◌};
 ghost use Rattle.std.specs.Arc.{arc_value};
 ghost use Rattle.std.specs.List.{AllByRecursion};
 ghost use Rattle.cas_bounds.specs.declared.order.Ordered.{Ordered as Order};
@@ -9,10 +10,10 @@ ghost use Rattle.cas_atoms.specs.declared.atom.Mutation.{Mutation as Wrote};
 ghost use Rattle.cas_disk.specs.Counts.{Counted};
 ghost use Rattle.cas_partition.specs.Partitions.{AllFit, AreAtomsOf};
 ghost use Rattle.cas_memtable.specs.Memtables.{HasPlaces};
-ghost use Rattle.cas_memtable.specs.Kept.{all_of, begun, memtables_of, with_one};
+ghost use Rattle.cas_memtable.specs.Kept.{HoldJust, MayHold, all_of, begun, memtables_of, with_one};
 ghost use Rattle.cas_sstread.specs.Loading.{Held};
 ghost use Rattle.cas_view.specs.Views.{File, file_of};
-ghost use Rattle.cas_stored.specs.Stored.{HoldEach, HoldsEach, IsFileOf, IsStoredOf, ShowStored, StandInFile, flushed, oldest};
+ghost use Rattle.cas_stored.specs.Stored.{HoldEach, HoldsEach, IsFileOf, IsStoredOf, ShowStored, StandInFile, flushed};
 ghost use Rattle.cas_stored.specs.Reading.{AreReadIn, IsBadFile, IsWhyNot};
 
 use crate::files::{file_sources, with_memory};
@@ -58,6 +59,7 @@ impl<S: Sealed> TableStore<S> {
         ensures holds { IfOk result (λ t. (order : ListOf Order) → HoldsEach order t ([] ∷ [])) }
         ensures files { IfOk result (λ t. t.files ≡ []) }
         ensures columns { IfOk result (λ t. (columns : ListOf ColumnOf) → IsStoredOf columns t) }
+        ensures memory { IfOk result (λ t. (columns : ListOf ColumnOf) → HoldJust columns (memtables_of t.parts) []) }
     {
         Ok(TableStore {
             parts: Parts::new(alloc),
@@ -85,6 +87,8 @@ impl<S: Sealed> TableStore<S> {
         ensures holds { (order : ListOf Order) (wss : ListOf (ListOf Wrote)) → HoldsEach order self.old wss → AreAtomsOf order mutation.now.atoms
             → HoldsEach order self.new wss }
         ensures columns { (columns : ListOf ColumnOf) → IsStoredOf columns self.old → AllFit columns mutation.now.atoms → IsStoredOf columns self.new }
+        ensures memory { (columns : ListOf ColumnOf) (ws : ListOf Wrote) → HoldJust columns (memtables_of self.old.parts) ws → MayHold columns mutation.now
+            → HoldJust columns (memtables_of self.new.parts) ws }
         ensures files { self.new.files ≡ self.old.files }
     {
         self.parts.reserve(mutation)
@@ -96,6 +100,8 @@ impl<S: Sealed> TableStore<S> {
         ensures holds { (order : ListOf Order) (wss : ListOf (ListOf Wrote)) → HoldsEach order self.old wss → AreAtomsOf order mutation.atoms
             → HoldsEach order self.new (with_one mutation wss) × (all_of (with_one mutation wss) ≡ all_of wss ++ mutation ∷ []) }
         ensures columns { (columns : ListOf ColumnOf) → IsStoredOf columns self.old → AllFit columns mutation.atoms → IsStoredOf columns self.new }
+        ensures memory { (columns : ListOf ColumnOf) (ws : ListOf Wrote) → HoldJust columns (memtables_of self.old.parts) ws → MayHold columns mutation
+            → HoldJust columns (memtables_of self.new.parts) (ws ++ mutation ∷ []) }
         ensures files { self.new.files ≡ self.old.files }
     {
         self.parts.apply(mutation);
@@ -107,6 +113,9 @@ impl<S: Sealed> TableStore<S> {
         ensures holds { (order : ListOf Order) (wss : ListOf (ListOf Wrote)) → HoldsEach order self.old wss
             → HoldsEach order self.new (if is_ok result && not (self.old.parts.active.bytes == 0) then begun wss else wss) }
         ensures columns { (columns : ListOf ColumnOf) → IsStoredOf columns self.old → IsStoredOf columns self.new }
+        ensures memory { (columns : ListOf ColumnOf) (ws : ListOf Wrote) → HoldJust columns (memtables_of self.old.parts) ws
+            → HoldJust columns (memtables_of self.new.parts) ws }
+        ensures begun { OnOk result (self.new.parts.active.bytes ≡ 0) }
         ensures files { self.new.files ≡ self.old.files }
     {
         self.parts.freeze(alloc)
@@ -156,21 +165,21 @@ impl<S: Sealed> TableStore<S> {
             → HoldEach order (arc_value view) [] vss → HoldsEach order self.new (vss ++ wss) }
         ensures columns { (columns : ListOf ColumnOf) → IsStoredOf columns self.old → AllByRecursion (IsFileOf columns) (arc_value view)
             → IsStoredOf columns self.new }
+        ensures parts { self.new.parts ≡ self.old.parts }
         ensures files { self.new.files ≡ arc_value view }
     {
         self.view = view;
     }
 
-    /// After a flush: takes a view with one file more, in which what stood in the oldest frozen memtables
-    /// stands now, and lets go of these.
+    /// After a flush: takes a view with one file more, in the place of the oldest frozen memtables, so many, and lets go of
+    /// these. Which mutations stand in the file may be others that say the same.
     pub fn swap(&mut self, view: Arc<View<Table<S>>, Global>, count: usize)
         requires { count ≤ length self.old.parts.frozen.items }
-        ensures holds { (order : ListOf Order) (wss : ListOf (ListOf Wrote)) (f : File Held) → arc_value view ≡ self.old.files ++ f ∷ []
-            → HoldsEach order self.old wss → StandInFile order f (oldest (length self.old.files) count wss)
-            → HoldsEach order self.new (flushed (length self.old.files) count wss)
-            × (all_of (flushed (length self.old.files) count wss) ≡ all_of wss) }
+        ensures holds { (order : ListOf Order) (wss : ListOf (ListOf Wrote)) (ws : ListOf Wrote) (f : File Held) → arc_value view ≡ self.old.files ++ f ∷ []
+            → HoldsEach order self.old wss → StandInFile order f ws → HoldsEach order self.new (flushed (length self.old.files) count ws wss) }
         ensures columns { (columns : ListOf ColumnOf) (f : File Held) → arc_value view ≡ self.old.files ++ f ∷ []
             → IsStoredOf columns self.old → IsFileOf columns f → IsStoredOf columns self.new }
+        ensures memory { memtables_of self.new.parts ≡ drop count (memtables_of self.old.parts) }
         ensures files { self.new.files ≡ arc_value view }
     {
         self.view = view;

@@ -10,7 +10,7 @@ use Rattle.cas_memtable.specs.Memtables.{IsOfColumns}
 use Rattle.cas_memtable.specs.declared.memtable.MemPart.{MemPart}
 use Rattle.cas_tables.specs.Contents.{Contents}
 use Rattle.cas_tables.specs.Fitting.{FitsContents}
-use Rattle.cas_flush.specs.Flushed.{MayHold}
+use Rattle.cas_memtable.specs.Kept.{MayHold}
 
 -- columns as ALTER TABLE ADD adds them: none is of the primary key
 abbrev pub AreAdded : List Column → Type 0

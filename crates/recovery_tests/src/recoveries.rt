@@ -100,8 +100,9 @@ fn a_flushed_file_is_found_by_an_opening(rt: HostRuntime) {
 }
 
 // Another byte at a place of the table file, and where that is refused.
-const ALTERED: [(u64, u8, Option<u64>); 10] = [
+const ALTERED: [(u64, u8, Option<u64>); 11] = [
     (9, 2, None), // as it is
+    (9, 1, Some(8)), // of the first version
     (7, 0x32, Some(0)), // another word
     (9, 3, Some(8)), // no such version
     (11, 1, Some(10)), // of another table

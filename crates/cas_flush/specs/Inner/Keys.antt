@@ -12,7 +12,8 @@ use Rattle.cas_streams.specs.Flat.{flat}
 use Rattle.cas_streams.specs.NoMore.{SaysNoMore}
 use Rattle.cas_streams.specs.declared.fragment.Fragment.{Fragment}
 use Rattle.cas_memtable.specs.Memtables.{is_above}
-use Rattle.cas_memtable.specs.Kept.{atoms_under}
+use Rattle.cas_memtable.specs.declared.memtable.MemPart.{MemPart}
+use Rattle.cas_memtable.specs.Kept.{StandInEach, all_of, atoms_under}
 use Rattle.cas_tables.specs.declared.header.Header.{Header}
 use Rattle.cas_tables.specs.Contents.{Partition, Contents}
 use Rattle.cas_tables.specs.Files.{index_of, front_bytes}
@@ -68,13 +69,13 @@ StopsAt header level ws e = (e ≡ Mem) ⊎ Stops header level ws e
 
 -- ---- what is written
 
--- one partition more, if something is said of it: a stream that says what the mutations say under the key
+-- one partition more, if something is said of it: a stream that says what whichever mutations stand in the memtables say under the key
 pub record WritesKey {D E : Type 0} (number_of : D → ℕ) (written : D → List ℕ → Type 0) (columns : List Column) (w : TableWriter D E) (ps : List Partition)
-    (under : List ℕ) (ws : List Mutation) : Type 0 where
+    (under : List ℕ) (ms : List MemPart) : Type 0 where
   pub top : Option Deletion
   pub fragments : List Fragment
-  pub same : Same (flat top fragments) (atoms_under under ws)
-  pub no_more : SaysNoMore (flat top fragments) (atoms_under under ws)
+  pub same : (wss : List (List Mutation)) → StandInEach (clustering_order columns) ms wss → Same (flat top fragments) (atoms_under under (all_of wss))
+  pub no_more : (wss : List (List Mutation)) → StandInEach (clustering_order columns) ms wss → SaysNoMore (flat top fragments) (atoms_under under (all_of wss))
   pub writes : Writes number_of written columns w (ps ++ partition_of under top fragments)
 
 -- the keys up to that one, or none

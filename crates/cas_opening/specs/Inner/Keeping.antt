@@ -1,5 +1,5 @@
 -- What every image has of a store that was read. Own.
-use Rattle.std.specs.Prelude.{◌≡◌, ◌≢◌, ◌+◌, ◌≤◌, List, []}
+use Rattle.std.specs.Prelude.{◌≡◌, ◌≢◌, ◌+◌, ◌≤◌, List, [], length}
 use Rattle.std.specs.List.{AllByRecursion}
 use Rattle.cas_disk.specs.Disk.{Image, Disk}
 use Rattle.cas_atoms.specs.declared.atom.Mutation.{Mutation}
@@ -18,6 +18,7 @@ pub record Keeps (place : Place) (entries : List Entry) (mutations : List Mutati
   pub within : place.end + 1 ≤ FILE_LIMIT
   pub made : entries ≢ []
   pub parts : List (List Mutation)
+  pub long : length parts ≡ length (said_by entries).segments
   pub segments : (c : Image) → disk.may_leave c → AreSegments (said_by entries).tables (said_by entries).shards (segment_in c) (said_by entries).segments parts
   pub all : joined parts ≡ mutations
   pub fit : AllByRecursion (FitsRecord (said_by entries).tables (said_by entries).shards) mutations

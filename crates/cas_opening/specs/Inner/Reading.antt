@@ -6,10 +6,13 @@ use Rattle.cas_disk.specs.Disk.{Image, Disk}
 use Rattle.cas_atoms.specs.declared.atom.Mutation.{Mutation}
 use Rattle.cas_changes.specs.declared.entry.Entry.{Entry}
 use Rattle.cas_changes.specs.Saying.{Saying, said_by}
+use Rattle.cas_log.specs.Segment.{joined}
 use Rattle.cas_manifest.specs.Manifests.{Place}
 use Rattle.cas_replay.specs.Reading.{log_of, segment_in, above_in}
 use Rattle.cas_replay.specs.Grammar.{AreOfALog}
 use Rattle.cas_replay.specs.Replays.{TookFront}
+use Rattle.cas_journal.specs.Notes.{Noted}
+use Rattle.cas_journal.specs.declared.notes.Notes.{Notes}
 use Rattle.cas_opening.specs.declared.fault.OpenFault.{OpenFault}
 use Rattle.cas_opening.specs.declared.fault.OpenFault.TheVariants.{Bad, Failed, Mem}
 use Rattle.cas_opening.specs.Opening.{IsBadLog, OpensAs, AreFirst, is_above}
@@ -30,6 +33,10 @@ ReplaysSaid took s c (Ok x) = (given : List Mutation) × took given × (above s 
 ReplaysSaid took s c (Err (Bad name at)) = (number : ℕ) × (name ≡ Log number) × IsBadLog s number at c
 ReplaysSaid took s c (Err Failed) = TookFront took (above s c)
 ReplaysSaid took s c (Err Mem) = TookFront took (above s c)
+
+-- where the listed segments have these mutations together, each is noted with its segment
+abbrev pub AreNotedIn : Notes → Saying → List Mutation → Type 0
+AreNotedIn notes s mutations = (parts : List (List Mutation)) → length parts ≡ length s.segments → joined parts ≡ mutations → Noted notes s parts
 
 -- where the folder failed or memory ran out, a front was given of the mutations above their frontiers
 abbrev pub FaultGave : List Entry → List Mutation → List Mutation → OpenFault → Type 0

@@ -1,9 +1,14 @@
 -- What calls on what a shard has stored do (own).
-use Rattle.std.specs.Prelude.{◌≡◌, ℕ, ◌<◌, ◌≤◌, List, [], ◌∷◌, ◌++◌, length, slice_get}
+use Rattle.std.specs.Prelude.{◌≡◌, ℕ, ◌<◌, ◌≤◌, List, [], ◌∷◌, ◌++◌, drop, length, slice_get, take}
+use Rattle.cas_types.specs.declared.schema.Column.{Column}
 use Rattle.cas_bounds.specs.declared.order.Ordered.{Ordered}
 use Rattle.cas_atoms.specs.declared.atom.Mutation.{Mutation}
 use Rattle.cas_partition.specs.Partitions.{AreAtomsOf}
+use Rattle.cas_memtable.specs.Kept.{HoldJust, MayHold}
+use Rattle.cas_sstread.specs.Loading.{Held}
 use Rattle.cas_stored.specs.Stored.{StoredTable}
+use Rattle.cas_view.specs.Views.{File}
+use Rattle.cas_shard.specs.Flushing.{SaysWhatTheyDo, frozen_at, memtables_at}
 use Rattle.cas_shard.specs.Stands.{Holds, files_at}
 
 -- no more tables have something stored than before, or than the table's number asks for
@@ -18,6 +23,11 @@ AllStay ps qs = (t : ℕ) (order : List Ordered) (ws : List Mutation) → Holds 
 abbrev pub KeepFiles : List StoredTable → List StoredTable → Type 0
 KeepFiles ps qs = (t : ℕ) → files_at (slice_get qs t) ≡ files_at (slice_get ps t)
 
+-- and has in memory what it had
+abbrev pub MemoryStays : List StoredTable → List StoredTable → Type 0
+MemoryStays ps qs = (t : ℕ) (columns : List Column) (ws : List Mutation) → HoldJust columns (memtables_at (slice_get ps t)) ws
+    → HoldJust columns (memtables_at (slice_get qs t)) ws
+
 -- so do the others
 abbrev pub OthersStay : ℕ → List StoredTable → List StoredTable → Type 0
 OthersStay table ps qs = (t : ℕ) → (t ≡ table → ⊥) → slice_get qs t ≡ slice_get ps t
@@ -28,6 +38,8 @@ pub record MakesRoom (w : Mutation) (ps qs : List StoredTable) : Type 0 where
       → Holds order (slice_get qs t) ws
   pub few : StayFew w.table ps qs
   pub files : KeepFiles ps qs
+  pub memory : (t : ℕ) (columns : List Column) (ws : List Mutation) → (t ≡ w.table → MayHold columns w) → HoldJust columns (memtables_at (slice_get ps t)) ws
+      → HoldJust columns (memtables_at (slice_get qs t)) ws
 
 -- the mutation was joined to those of its table
 pub record JoinsRoom (w : Mutation) (ps qs : List StoredTable) : Type 0 where
@@ -36,3 +48,14 @@ pub record JoinsRoom (w : Mutation) (ps qs : List StoredTable) : Type 0 where
   pub others : OthersStay w.table ps qs
   pub count : length qs ≡ length ps
   pub files : KeepFiles ps qs
+  pub memory : (columns : List Column) (ws : List Mutation) → MayHold columns w → HoldJust columns (memtables_at (slice_get ps w.table)) ws
+      → HoldJust columns (memtables_at (slice_get qs w.table)) (ws ++ w ∷ [])
+
+-- the table has these files now, and so many of its oldest frozen memtables no longer: where the last file says what these did, it holds what it held
+pub record Swaps (table count : ℕ) (files : List (File Held)) (ps qs : List StoredTable) : Type 0 where
+  pub holds : (order : List Ordered) (f : File Held) (ws : List Mutation) → files ≡ files_at (slice_get ps table) ++ f ∷ []
+      → SaysWhatTheyDo order (take count (frozen_at (slice_get ps table))) f → Holds order (slice_get ps table) ws → Holds order (slice_get qs table) ws
+  pub files_are : files_at (slice_get qs table) ≡ files
+  pub memory : memtables_at (slice_get qs table) ≡ drop count (memtables_at (slice_get ps table))
+  pub others : OthersStay table ps qs
+  pub stay : length qs ≡ length ps

@@ -6,11 +6,11 @@ use Rattle.std.specs.Option.{option_copied}
 use Rattle.cas_bounds.specs.ClusteringOrder.{clustering_order}
 use Rattle.cas_atoms.specs.declared.atom.Mutation.{Mutation}
 use Rattle.cas_memtable.specs.declared.memtable.MemPart.{MemPart}
-use Rattle.cas_memtable.specs.Kept.{IsNextKey, all_of, has_key}
+use Rattle.cas_memtable.specs.Kept.{HoldMutations, IsNextKey, all_of, has_key}
 use Rattle.cas_sstwrite.specs.Finished.{Finishes}
 use Rattle.cas_sstwrite.specs.Writers.{contents_of}
 use Rattle.cas_sstwrite.proofs.Results.{passed_on}
-use Rattle.cas_flush.specs.Flushed.{HoldMutations, FlushFault}
+use Rattle.cas_flush.specs.Flushed.{FlushFault}
 use Rattle.cas_flush.proofs.Reaching.{none_reached, all_reached}
 use Rattle.cas_flush.proofs.Writing.{stop_fault, end_fault, contents_are}
 use Rattle.cas_flush.proofs.flush.flush_parts.Goals as goal
@@ -28,8 +28,8 @@ pub returns-then-is_none-clause-written : goal.returns-then-is_none-clause-writt
 returns-then-is_none-clause-written g c number empty wss hold =
     let ms : List MemPart = map arc_value c.args.memtables.now in (
       [],
-      all_reached (clustering_order c.args.columns.now) ms wss hold.stand None
-          (no_first ms c.next_key.result (c.is_none.ensures ∙ ap not c.if-is_none.true) c.next_key.ensures) [] (none_reached (all_of wss)),
+      λ vss stand. all_reached (clustering_order c.args.columns.now) ms vss stand None
+          (no_first ms c.next_key.result (c.is_none.ensures ∙ ap not c.if-is_none.true) c.next_key.ensures) [] (none_reached (all_of vss)),
       refl,
     )
 
@@ -74,7 +74,7 @@ returns-clause-why g c number empty wss hold =
     let columns = c.args.columns.now in
     let (ps, are, w) = c.in_ok-write_keys.ensures.written columns wss hold c.in_ok-slice.ensures (c.in_ok-writer.ensures.begun number empty columns) in
     subst (FlushFault c.args.header (all_of wss)) (sym c.fault_of.ensures)
-    (end_fault c.args.header (all_of wss) ps (contents_of c.write_keys.new.writer ps) c.in-Err.fault are
+    (end_fault c.args.header (all_of wss) ps (contents_of c.write_keys.new.writer ps) c.in-Err.fault (are wss hold.stand)
     (contents_are c.write_keys.new.writer c.args.header ps (c.in_ok-write_keys.ensures.kept.0 ∙ c.in_ok-writer.ensures.header.0)
     (c.in_ok-write_keys.ensures.kept.1 ∙ c.in_ok-writer.ensures.header.1))
     (c.in-Err.ensures.why c.in_ok-write_keys.ensures.sound columns ps w))

@@ -5,10 +5,9 @@ use Rattle.cas_types.specs.declared.schema.Column.{Column}
 use Rattle.cas_bounds.specs.ClusteringOrder.{clustering_order}
 use Rattle.cas_atoms.specs.declared.atom.Mutation.{Mutation}
 use Rattle.cas_memtable.specs.declared.memtable.MemPart.{MemPart}
-use Rattle.cas_memtable.specs.Kept.{IsNextKey, all_of}
+use Rattle.cas_memtable.specs.Kept.{HoldMutations, IsNextKey, all_of}
 use Rattle.cas_sstwrite.proofs.Results.{passed_on}
 use Rattle.cas_sstwrite.specs.Writers.{Writes, partition_of}
-use Rattle.cas_flush.specs.Flushed.{HoldMutations}
 use Rattle.cas_flush.specs.Inner.Keys.{IsWhole, StopsAt}
 use Rattle.cas_flush.proofs.Counting.{fewer_left}
 use Rattle.cas_flush.proofs.Reaching.{none_reached, reached_next, all_below, all_reached}
@@ -19,7 +18,7 @@ pub loop-key-init : goal.loop-key-init
 loop-key-init g c = record {
   sound = c.requires.sound;
   kept = (refl, refl);
-  written = λ columns wss hold whole w. ([], none_reached (all_of wss), w);
+  written = λ columns wss hold whole w. ([], λ vss stand. none_reached (all_of vss), w);
   count = record { kept = omega arith; rose = λ never. absurd never };
 }
 
@@ -36,7 +35,7 @@ loop-key-preserved g c =
           let (ps, are, writes) = c.loop-key.invariant.written columns wss hold whole w in
           let one = c.in_ok-write_key.ensures.written columns wss ps hold whole writes in (
             ps ++ partition_of key one.top one.fragments,
-            reached_next (clustering_order columns) ms wss hold.stand after key is ps one.top one.fragments are one.same one.no_more,
+            λ vss stand. reached_next (clustering_order columns) ms vss stand after key is ps one.top one.fragments (are vss stand) (one.same vss stand) (one.no_more vss stand),
             one.writes,
           );
       count = record { kept = omega (arith, c.loop-key.invariant.count.kept, c.write_key.ensures.count.kept); rose = λ never. absurd never };
@@ -54,7 +53,7 @@ returns-clause-written g c columns wss hold whole w =
     let after : Option (List ℕ) = option_copied c.loop-key.last in
     let (ps, are, writes) = c.loop-key.invariant.written columns wss hold whole w in (
       ps,
-      all_reached (clustering_order columns) ms wss hold.stand after (subst (IsNextKey ms after) (ap option_copied c.in_default.is) c.next_key.ensures) ps are,
+      λ vss stand. all_reached (clustering_order columns) ms vss stand after (subst (IsNextKey ms after) (ap option_copied c.in_default.is) c.next_key.ensures) ps (are vss stand),
       writes,
     )
 
@@ -75,5 +74,5 @@ returns-in_err-write_key-clause-why g c =
     let (ps, are, writes) = c.loop-key.invariant.written columns wss hold whole w in
     subst (λ h. StopsAt h old.level (all_of wss) e) c.loop-key.invariant.kept.0
     (subst (λ n. StopsAt now.header n (all_of wss) e) c.loop-key.invariant.kept.1
-    (stops_at now.header now.level (all_of wss) ps key e (all_below (clustering_order columns) ms wss hold.stand after key is ps are)
+    (stops_at now.header now.level (all_of wss) ps key e (all_below (clustering_order columns) ms wss hold.stand after key is ps (are wss hold.stand))
     (c.in_err-write_key.ensures.why columns wss ps hold whole writes))))

@@ -12,7 +12,8 @@ pub returns-in-Ok-clause-written : goal.returns-in-Ok-clause-written
 returns-in-Ok-clause-written g c columns wss ps hold whole w =
     let s = c.args.slice.now in
     let shows = c.in_ok-sources.ensures (clustering_order columns) wss hold.stand (low columns s whole) (high columns s whole) in
-    key_written g.D.Draft.number g.D.Draft.written _ _ columns s whole c.args.key.now c.as_slice.result.now (map arc_value c.args.memtables.now) wss hold c.in_ok-sources.sources.items shows
+    key_written g.D.Draft.number g.D.Draft.written _ _ columns s whole c.args.key.now c.as_slice.result.now (map arc_value c.args.memtables.now) wss hold c.in_ok-sources.sources.items
+    (λ vss stand. c.in_ok-sources.ensures (clustering_order columns) vss stand (low columns s whole) (high columns s whole))
     _ _ c.args.writer.now c.partition.new.self ps c.as_slice.ensures c.requires.there (c.new-merged.ensures.fragments shows.streams shows.told)
     (c.new-merged.ensures.top shows.streams shows.told) w c.in-Ok.ensures.held c.in-Ok.ensures.written
 

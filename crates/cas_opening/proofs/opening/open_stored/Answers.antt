@@ -24,12 +24,12 @@ begin-requires-clause-none g c =
     none_above_listed c.args.stored.entries.items c.args.stored.said (g.F.Folder.disk c.sweep.new.folder) c.requires.follow c.requires.said c.in_default.ensures.gone
 
 pub returns-in-Ok-clause-opened : goal.returns-in-Ok-clause-opened
-returns-in-Ok-clause-opened g c ms keeps =
+returns-in-Ok-clause-opened g c ms keeps noted =
     let disk = g.F.Folder.disk in
     let es = c.args.stored.entries.items in
     let swept : During (Spares (said_by es)) (disk c.args.folder.now) (disk c.sweep.new.folder) =
     subst (λ (s : Saying). During (Spares s) (disk c.args.folder.now) (disk c.sweep.new.folder)) c.requires.said c.sweep.ensures.during in
-    c.in-Ok.ensures.begun es ms (spares_keeps (place_of c.args.stored.manifest) es ms (disk c.args.folder.now) (disk c.sweep.new.folder) swept keeps) c.requires.said
+    c.in-Ok.ensures.begun es ms (spares_keeps (place_of c.args.stored.manifest) es ms (disk c.args.folder.now) (disk c.sweep.new.folder) swept keeps) c.requires.said noted
 
 pub returns-in-Ok-clause-during : goal.returns-in-Ok-clause-during
 returns-in-Ok-clause-during g c ms keeps =

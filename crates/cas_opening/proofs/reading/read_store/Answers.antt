@@ -7,6 +7,8 @@ use Rattle.cas_files.proofs.Files.{same_more}
 use Rattle.cas_changes.specs.Saying.{Saying, IsSaid}
 use Rattle.cas_manifest.specs.Manifests.{place_of}
 use Rattle.cas_manifest.specs.Loading.{MayBeNewStore}
+use Rattle.cas_journal.specs.declared.notes.Notes.{Notes}
+use Rattle.cas_opening.specs.Inner.Reading.{AreNotedIn}
 use Rattle.cas_opening.specs.declared.stored.Stored.{Stored}
 use Rattle.cas_opening.proofs.Saids.{sound}
 use Rattle.cas_opening.proofs.Readings.{is_whole, is_read, is_refused, gave_front, gave_none}
@@ -18,11 +20,12 @@ replay_said-requires g c = subst (λ (s : Saying). IsSaid s) (sym c.in-Ok.ensure
 pub returns-in-Ok-replay_said-clause-read : goal.returns-in-Ok-replay_said-clause-read
 returns-in-Ok-replay_said-clause-read g c first has =
     let disk = g.F.Folder.disk in
-    let (given, took, r) = c.in-Ok-replay_said.ensures.replayed first has in (
+    let (given, took, r, noted) = c.in-Ok-replay_said.ensures.replayed first has in (
       r.all,
       given,
       took,
       is_whole c.in-Ok.loaded.1 c.in-Ok.loaded.2.items r.all given c.in-Ok.ensures.said c.in-Ok.ensures.stands.follow c.in-Ok.ensures.made r.are r.above,
+      subst (λ (u : Saying). AreNotedIn c.in-Ok-replay_said.notes u r.all) c.in-Ok.ensures.said noted,
       λ image read bytes.
           is_read c.args.shards (place_of c.in-Ok.loaded.0) c.in-Ok.loaded.1 c.in-Ok.loaded.2.items image bytes (disk c.args.folder.now) (disk c.load.new.folder) (disk c.replay_said.new.folder) read
           (c.in-Ok.ensures.loads image read) c.in-Ok.ensures.said (c.load.ensures.untouched image read) (c.load.ensures.reads image read) (c.load.ensures.during.tells image read)
@@ -33,7 +36,7 @@ returns-in-Ok-replay_said-clause-read g c first has =
 pub returns-in-Ok-replay_said-clause-answers : goal.returns-in-Ok-replay_said-clause-answers
 returns-in-Ok-replay_said-clause-answers g c image read bytes =
     let disk = g.F.Folder.disk in
-    let (given, took, r) = c.in-Ok-replay_said.ensures.replayed c.requires.taker.0 c.requires.taker.1 in
+    let (given, took, r, noted) = c.in-Ok-replay_said.ensures.replayed c.requires.taker.0 c.requires.taker.1 in
     let is = is_read c.args.shards (place_of c.in-Ok.loaded.0) c.in-Ok.loaded.1 c.in-Ok.loaded.2.items image bytes (disk c.args.folder.now) (disk c.load.new.folder) (disk c.replay_said.new.folder) read
     (c.in-Ok.ensures.loads image read) c.in-Ok.ensures.said (c.load.ensures.untouched image read) (c.load.ensures.reads image read) (c.load.ensures.during.tells image read)
     r.all c.in-Ok.ensures.stands c.in-Ok.loaded.0.within r.read c.in-Ok-replay_said.ensures.lasts c.replay_said.ensures.reads
@@ -56,7 +59,7 @@ returns-in-Err-replay_said-clause-answers g c image read bytes =
     let disk = g.F.Folder.disk in
     is_refused c.args.shards (place_of c.in-Ok.loaded.0) c.in-Ok.loaded.1 c.in-Ok.loaded.2.items image bytes (disk c.args.folder.now) (disk c.load.new.folder) (disk c.replay_said.new.folder) read
     (c.in-Ok.ensures.loads image read) c.in-Ok.ensures.said (c.load.ensures.untouched image read) (c.load.ensures.reads image read) (c.load.ensures.during.tells image read)
-    Stored (Unit {0}) (λ (given : List Mutation). g.T.TakesMutations.has_taken (c.requires.taker.0 ++ given) c.replay_said.new.taker) c.in-Err-replay_said.fault
+    Stored Notes (λ (given : List Mutation). g.T.TakesMutations.has_taken (c.requires.taker.0 ++ given) c.replay_said.new.taker) c.in-Err-replay_said.fault
     (c.in-Err-replay_said.ensures.exact c.requires.taker.0 c.requires.taker.1)
 
 pub returns-in-Err-replay_said-clause-gave : goal.returns-in-Err-replay_said-clause-gave
@@ -64,7 +67,7 @@ returns-in-Err-replay_said-clause-gave g c first has image read bytes =
     let disk = g.F.Folder.disk in
     gave_front c.args.shards (place_of c.in-Ok.loaded.0) c.in-Ok.loaded.1 c.in-Ok.loaded.2.items image bytes (disk c.args.folder.now) (disk c.load.new.folder) (disk c.replay_said.new.folder) read
     (c.in-Ok.ensures.loads image read) c.in-Ok.ensures.said (c.load.ensures.untouched image read) (c.load.ensures.reads image read) (c.load.ensures.during.tells image read)
-    (Unit {0}) (λ (given : List Mutation). g.T.TakesMutations.has_taken (first ++ given) c.replay_said.new.taker) (c.replay_said.ensures.taken first has) c.in-Err-replay_said.fault
+    Notes (λ (given : List Mutation). g.T.TakesMutations.has_taken (first ++ given) c.replay_said.new.taker) (c.replay_said.ensures.taken first has) c.in-Err-replay_said.fault
     (c.in-Err-replay_said.ensures.exact first has)
 
 pub returns-in-Err-clause-gave : goal.returns-in-Err-clause-gave

@@ -1,12 +1,14 @@
 use Rattle.std.proofs.Common.{◌≡◌, inr, [], None, sym, subst}
 use Rattle.cas_disk.specs.Disk.{Image}
+use Rattle.cas_bind.specs.Tables.{AreTables}
 use Rattle.cas_journal.specs.Journals.{AreFree}
 use Rattle.cas_journal.specs.declared.journal.Journal.{Journal}
 use Rattle.cas_recovery.specs.Inner.Filling.{IsBadOfShard}
 use Rattle.cas_recovery.specs.declared.fault.RecoveryFault.TheVariants as fault
+use Rattle.define_laws.proofs.Told.{told_tables_are_tables}
 use Rattle.cas_recovery.proofs.Afterwards.{if_both, if_one, made_then, of_err, opened_then, same_then, stays_free}
 use Rattle.cas_recovery.proofs.Refusing.{bad_table}
-use Rattle.cas_recovery.proofs.Returning.{read_within, recovered}
+use Rattle.cas_recovery.proofs.Returning.{may_be_read, read_within, recovered, tables_said}
 use Rattle.cas_recovery.proofs.Starting.{opened_lasts}
 use Rattle.cas_recovery.proofs.recovering.recover.Goals as goal
 
@@ -28,6 +30,14 @@ returns-clause-recovered g c =
     let (given, took, ends) = c.in-Ok-open_to.ensures.opens [] c.in-Ok.ensures d read bytes entries ms (tells d read bytes) in
     opened_lasts entries ms given c.in-Ok-open_to.opened mid ends)
     c.brought_back.ensures.during)
+
+pub returns-clause-readable : goal.returns-clause-readable
+returns-clause-readable g c =
+    let (entries, ms, handed, has, reads, tells) = c.in-Ok-open_to.ensures.read [] c.in-Ok.ensures in
+    let o = c.in-Ok-open_to.opened in
+    let good : AreTables o.said.tables = subst AreTables (sym (tables_said entries ms handed o reads)) (told_tables_are_tables entries reads.follow) in
+    if_one c.brought_back.result _ _ (c.brought_back.ensures.back handed has)
+    (λ s back. may_be_read c.args.limits.now s.limits handed o.said (g.F.Folder.disk c.open_to.new.folder) s.tables.items s.shards.items good back)
 
 pub returns-clause-runs : goal.returns-clause-runs
 returns-clause-runs g c =

@@ -12,8 +12,8 @@ abbrev pub invariant-turns : goal.invariant-turns
 invariant-turns g l = record {
   name : l.file.name ≡ l.fn.file.name;
   place : l.file.at ≤ l.size;
-  went : (first before : List Mutation) → Stands l.of.shards l.of.frontiers.now (λ ms. g.T.TakesMutations.has_taken (first ++ ms) l.fn.taker) l.fn.lasts.numbers before
-      → Went l.of.tables.now l.of.shards l.of.frontiers.now (λ ms. g.T.TakesMutations.has_taken (first ++ ms) l.taker) l.lasts.numbers before
+  went : (first before : List Mutation) → Stands l.of.shards l.of.frontiers.now (λ ms. g.T.TakesMutations.has_taken (first ++ ms) l.fn.taker) l.fn.lasts before
+      → Went l.of.tables.now l.of.shards l.of.frontiers.now (λ ms. g.T.TakesMutations.has_taken (first ++ ms) l.taker) l.lasts before
       (λ after. (c : Image) → (g.F.Folder.disk l.fn.folder).reads c → AreNext l.fn.file.at (bytes_of (c l.fn.file.name)) l.fn.file.bytes
       → AreNext l.file.at (bytes_of (c l.fn.file.name)) l.file.bytes
       × Comes l.of.tables.now l.of.shards l.size after (left_of (bytes_of (c l.fn.file.name)) l.file.at)

@@ -12,13 +12,14 @@ use Rattle.cas_replay.proofs.Whole.{at_start, by_segment, log_more, log_fault, l
 use Rattle.cas_replay.proofs.Answering.{log_refused}
 use Rattle.cas_replay.proofs.Fronts.{behind_segment}
 use Rattle.cas_replay.proofs.Progress.{none_yet, of_a_log}
+use Rattle.cas_replay.specs.declared.tops.Tops.{Tops}
 use Rattle.cas_replay.proofs.log.replay_to.Goals as goal
 
 pub loop-segment-init : goal.loop-segment-init
 loop-segment-init g c = record {
   went = λ first has. record {
     after = [];
-    stands = record { last = c.none-lasts.ensures; handed = subst (λ (l : List Mutation). g.T.TakesMutations.has_taken l c.args.taker.now) (sym (append-nil first)) has };
+    stands = record { last = c.none-lasts.ensures; noted = tt; handed = subst (λ (l : List Mutation). g.T.TakesMutations.has_taken l c.args.taker.now) (sym (append-nil first)) has };
     stay = λ are some so. so;
     so = λ image read. refl;
   };
@@ -69,7 +70,7 @@ returns-in-Err-clause-exact g c first has image read =
     let part = segment_of c.args.tables.now c.args.shards n went.after (segment_in image n) in
     let one = at_start (disk c.args.folder.now) (disk c.loop-segment.folder) c.loop-segment.invariant.during c.loop-segment.invariant.reads (Log n) (Log n) refl
     (λ f. GoesThrough {X = Unit {0}} turn.after n (Err c.in-Err.fault) (segment_of c.args.tables.now c.args.shards n went.after f)) turn.so image read in
-    log_refused (Unit {0}) (Unit {0}) c.args.shards c.args.frontiers.now (λ ms. g.T.TakesMutations.has_taken (first ++ ms) c.replay_segment.new.taker) turn.after n
+    log_refused (Unit {0}) Tops c.args.shards c.args.frontiers.now (λ ms. g.T.TakesMutations.has_taken (first ++ ms) c.replay_segment.new.taker) turn.after n
     c.in-Err.fault part (log_of c.args.tables.now c.args.shards (segment_in image) all []) one
     (λ f e. log_fault c.args.tables.now c.args.shards (segment_in image) n (drop (i + 1) all) (drop i all) went.after _ (went.so image read) is f e)
     (λ front. subst (λ (r : Result (List Mutation) (ℕ × ReadFault)). IsFront (λ ms. ms) turn.after r)
@@ -117,6 +118,7 @@ returns-clause-replayed g c first has =
             log_through c.args.tables.now c.args.shards (segment_in image) went.after _ (drop c.loop-segment.segment-index c.args.segments.now)
             (drop_all c.loop-segment.segment-index c.args.segments.now c.loop-segment-test.false) (went.so image read);
       },
+      went.stands.noted,
     )
 
 pub returns-clause-taken : goal.returns-clause-taken

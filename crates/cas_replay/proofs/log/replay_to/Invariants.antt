@@ -8,7 +8,7 @@ use Rattle.cas_replay.proofs.log.replay_to.Given as goal
 
 abbrev pub invariant-loop-segment : goal.invariant-loop-segment
 invariant-loop-segment g l = record {
-  went : (first : List Mutation) → g.T.TakesMutations.has_taken first l.fn.taker → Went l.tables l.shards l.frontiers (λ ms. g.T.TakesMutations.has_taken (first ++ ms) l.taker) l.lasts.numbers []
+  went : (first : List Mutation) → g.T.TakesMutations.has_taken first l.fn.taker → Went l.tables l.shards l.frontiers (λ ms. g.T.TakesMutations.has_taken (first ++ ms) l.taker) l.lasts []
       (λ after. (c : Image) → (g.F.Folder.disk l.fn.folder).reads c
       → log_of l.tables l.shards (segment_in c) (drop l.segment-index l.segments) after ≡ log_of l.tables l.shards (segment_in c) l.segments []);
   lasts : Last (take l.segment-index l.segments) (g.F.Folder.disk l.folder);

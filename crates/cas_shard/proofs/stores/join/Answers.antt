@@ -1,5 +1,6 @@
 use Rattle.std.proofs.Common.{refl}
 use Rattle.std.proofs.lemmas.Option.{slice_get_read}
+use Rattle.cas_shard.proofs.InMemory.{joined_memory}
 use Rattle.cas_shard.proofs.Memory.{joined}
 use Rattle.cas_shard.proofs.stores.join.Goals as goal
 
@@ -7,3 +8,5 @@ pub returns : goal.returns
 returns g c =
     joined c.args.mutation c.args.stores.now.items _ c.index_mut-store.result.now c.apply.new.self c.requires.0
     (slice_get_read c.args.stores.now.items _ c.args.mutation.table c.index_mut-store.result.now refl c.requires.0 c.index_mut-store.ensures.value) refl c.apply.ensures.holds c.apply.ensures.files
+    (joined_memory c.args.mutation c.args.stores.now.items _ c.index_mut-store.result.now c.apply.new.self c.requires.0
+    (slice_get_read c.args.stores.now.items _ c.args.mutation.table c.index_mut-store.result.now refl c.requires.0 c.index_mut-store.ensures.value) refl c.apply.ensures.memory)

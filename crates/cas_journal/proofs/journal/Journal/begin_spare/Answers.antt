@@ -22,7 +22,7 @@ returns-in-Ok-clause-lasts g c t lasts =
     let above : (said_by t.entries).last_segment < c.in-Ok.log.number = omega (arith, number, goes.last) in
     lasting _ (disk c.begin.new.folder) t
     (begin_goes j (disk c.args.folder.now) (disk c.begin.new.folder) t (j.last_segment + 1) (omega arith) c.begin.ensures.during goes _ refl refl (omega (arith, goes.last))
-    (above, c.in-Ok.ensures.stands, c.in-Ok.ensures.pushed))
+    (above, c.in-Ok.ensures.stands, c.in-Ok.ensures.pushed) refl)
 
 pub returns-in-Ok-clause-during : goal.returns-in-Ok-clause-during
 returns-in-Ok-clause-during g c t lasts =
@@ -44,7 +44,7 @@ returns-in-Err-clause-lasts g c t lasts =
     let none : IsSpare j.spare (said_by t.entries).last_segment (disk c.begin.new.folder) =
     subst (λ (o : Option Log). IsSpare o (said_by t.entries).last_segment (disk c.begin.new.folder)) (sym c.requires.unspared) tt in
     lasting _ (disk c.begin.new.folder) t
-    (begin_goes j (disk c.args.folder.now) (disk c.begin.new.folder) t (j.last_segment + 1) (omega arith) c.begin.ensures.during goes _ refl refl (omega (arith, goes.last)) none)
+    (begin_goes j (disk c.args.folder.now) (disk c.begin.new.folder) t (j.last_segment + 1) (omega arith) c.begin.ensures.during goes _ refl refl (omega (arith, goes.last)) none refl)
 
 pub returns-in-Err-clause-during : goal.returns-in-Err-clause-during
 returns-in-Err-clause-during g c t lasts =

@@ -6,6 +6,8 @@ use Rattle.cas_changes.specs.declared.entry.Entry.TheVariants.{NewSegment}
 use Rattle.cas_journal.specs.Stores.{appended}
 use Rattle.cas_journal.proofs.Moving.{still_free, manifest_changed, lasting}
 use Rattle.cas_journal.proofs.Telling.{leaves_going, fault_lasts}
+use Rattle.cas_changes.specs.Saying.{said_by}
+use Rattle.cas_journal.proofs.Noting.{named_noted}
 use Rattle.cas_journal.proofs.Naming.{some_log, name_fits, name_has, name_goes}
 use Rattle.cas_journal.proofs.journal.Journal.name_next.Goals as goal
 
@@ -24,7 +26,8 @@ returns-in-Ok-clause-lasts g c t lasts all =
     lasting _ (disk c.append.new.folder) (appended (NewSegment j.last_segment) t)
     (name_goes j (disk c.args.folder.now) t goes next is _ (disk c.append.new.folder) c.append.ensures.others
     (c.in-Ok.ensures.appended t.entries goes.manifest (name_fits j (disk c.args.folder.now) t goes next is)) all
-    (c.take.ensures.value ∙ c.append.ensures.spare ∙ is) c.take.ensures.after c.append.ensures.last)
+    (c.take.ensures.value ∙ c.append.ensures.spare ∙ is) c.take.ensures.after c.append.ensures.last
+    (named_noted j.notes c.append.new.self.notes c.begin.new.self (said_by t.entries) j.last_segment c.append.ensures.notes c.begin.ensures.shards c.begin.ensures.know))
 
 pub returns-in-Ok-clause-during : goal.returns-in-Ok-clause-during
 returns-in-Ok-clause-during g c t lasts =
@@ -47,7 +50,7 @@ returns-clause-lasts g c t lasts all =
     let (next, is) = some_log j.spare c.requires.begun in
     fault_lasts j c.append.new.self (disk c.args.folder.now) (disk c.append.new.folder) t (NewSegment j.last_segment) lasts tt
     (λ goes. (name_fits j (disk c.args.folder.now) t goes next is, name_has j (disk c.args.folder.now) t goes next is)) _ _ c.append.ensures.during _
-    c.in-Err.ensures.outcome c.in-Err.ensures.untouched c.in-Err.ensures.stays c.append.ensures.log c.append.ensures.spare c.append.ensures.last
+    c.in-Err.ensures.outcome c.in-Err.ensures.untouched c.in-Err.ensures.stays c.append.ensures.log c.append.ensures.spare c.append.ensures.last c.append.ensures.notes
 
 pub returns-clause-during : goal.returns-clause-during
 returns-clause-during g c t lasts =

@@ -4,6 +4,7 @@ use Rattle.cas_journal.specs.Stores.{committed_all}
 use Rattle.std.proofs.Common.{refl}
 use Rattle.cas_journal.proofs.Holding.{committed_few}
 use Rattle.cas_journal.proofs.Reaching.{next_full}
+use Rattle.cas_journal.proofs.Tables.{tables_more}
 use Rattle.cas_journal.proofs.Rooms.{plain_leaves, behind_leaves, fitting_lasts, all_settled, made_behind}
 use Rattle.cas_journal.proofs.journal.Journal.prepare.Goals as goal
 
@@ -50,3 +51,8 @@ returns-clause-during g c t lasts =
 pub returns-clause-full : goal.returns-clause-full
 returns-clause-full g c what most told =
     next_full c.next_segment.new.self.spare c.next_segment.new.self what most (c.next_segment.ensures.limit what most told).0
+
+pub returns-clause-tables : goal.returns-clause-tables
+returns-clause-tables g c =
+    let disk = g.F.Folder.disk in
+    tables_more (disk c.args.folder.now) (disk c.settle.new.folder) (disk c.next_segment.new.folder) c.settle.ensures.tables c.next_segment.ensures.tables

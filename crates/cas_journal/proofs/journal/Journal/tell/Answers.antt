@@ -18,7 +18,7 @@ returns-clause-lasts g c t lasts fits =
     let disk = g.F.Folder.disk in
     tell_lasts c.args.self.now c.append.new.self (disk c.args.folder.now) (disk c.append.new.folder) t c.args.entry.now lasts c.requires.told fits _ _
     c.append.ensures.during c.append.result c.append.ensures.outcome c.append.ensures.untouched c.append.ensures.stays c.append.ensures.appended c.append.ensures.others
-    c.append.ensures.log c.append.ensures.spare c.append.ensures.last
+    c.append.ensures.log c.append.ensures.spare c.append.ensures.last c.append.ensures.notes
 
 pub returns-clause-during : goal.returns-clause-during
 returns-clause-during g c t lasts fits =

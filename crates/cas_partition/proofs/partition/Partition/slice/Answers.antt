@@ -1,19 +1,27 @@
-use Rattle.std.proofs.Common.{◌≡◌, None, List, [], ◌∷◌, ap, ◌∙◌}
+use Rattle.std.proofs.Common.{◌≡◌, None, List, [], ◌∷◌, map, ap, sym, ◌∙◌, subst}
 use Rattle.cas_streams.specs.Joined.{Stream}
 use Rattle.cas_streams.specs.Merged.{merged}
+use Rattle.cas_partition.specs.Ranges.{key_of, clipped}
+use Rattle.cas_partition.specs.Partitions.{marker}
 use Rattle.cas_partition.specs.Slices.{slice_streams}
+use Rattle.cas_partition.specs.Inner.Passing.{lent_marker}
+use Rattle.cas_partition.specs.Inner.Sources.{SettleAlike}
 use Rattle.cas_partition.proofs.Shown.{shows}
 use Rattle.cas_partition.proofs.partition.Partition.slice.Goals as goal
 
 pub returns : goal.returns
 returns c =
-    let rows = c.in_ok-rows.rows.items in
-    let told = c.in_ok-source.ensures in
+    let s = c.args.slice.now in
+    let p = c.args.self.now in
+    let (rows, are, alike) = c.in_ok-fragments.ensures.rows in
+    let marks : map lent_marker c.deref.result.now ≡ map marker (clipped s p.ranges) =
+    ap (map lent_marker) c.deref.ensures.value
+    ∙ c.in_ok-marks.ensures s (c.of-low.ensures ∙ ap key_of c.in_ok-copied.ensures) (c.of-high.ensures ∙ ap key_of c.in_ok-copied-2.ensures) in
+    let told = c.in_ok-source.ensures rows (map marker (clipped s p.ranges)) (subst (λ ms. SettleAlike p.top rows ms c.in_ok-fragments.fragments.items) marks alike) in
     let ss : List Stream = told.0 in
-    let whole : merged ss ≡ merged (slice_streams c.args.slice.now c.args.self.now rows) =
-    told.2 ∙ ap (λ l. merged (record { top = c.args.self.now.top; fragments = rows } ∷ record { top = None; fragments = l } ∷ [])) c.in_ok-marks.ensures in (
+    let whole : merged ss ≡ merged (slice_streams s p rows) = told.2 in (
       (merged ss).fragments,
       c.new.ensures.fragments ss told.1,
-      shows c.args.slice.now c.args.self.now rows c.new.result.top (merged ss).fragments c.in_ok-rows.ensures.sorted c.in_ok-rows.ensures.rows
-          (c.new.ensures.top ss told.1 ∙ ap (λ s. s.top) whole) (ap (λ s. s.fragments) whole),
+      shows s p rows c.new.result.top (merged ss).fragments c.in_ok-fragments.ensures.sorted are
+          (c.new.ensures.top ss told.1 ∙ ap (λ x. x.top) whole) (ap (λ x. x.fragments) whole),
     )

@@ -4,6 +4,7 @@ use Rattle.cas_types.specs.Limits.{IsMoment}
 use Rattle.cas_effects.specs.AtomsOf.{mutation_of}
 use Rattle.cas_shard.specs.Shards.{later_drawn, later_moment, raised}
 use Rattle.cas_shard.specs.Stands.{Stands}
+use Rattle.cas_shard.proofs.InMemory.{room_memory_unless, same_stores}
 use Rattle.cas_shard.proofs.Preparing.{is_prepared, is_ready, unrefused_belongs}
 use Rattle.cas_shard.proofs.Standing.{prepares, stays}
 use Rattle.cas_shard.proofs.shard.Shard.prepare.Goals as goal
@@ -46,3 +47,14 @@ returns-in-Ok-clause-ready g c =
     is_ready c.args.segment c.args.write c.args.reading x.drawn (later_moment c.args.reading x.moment) x.number c.in-Ok.mutation c.place.result c.requires.time
     (subst IsMoment moment c.raise.ensures.begun)
     (c.in-Ok.ensures ∙ (λ i. mutation_of c.args.write (later_drawn (reading i) x.drawn) (later_moment (reading i) x.moment) (x.number + 1))) c.place.ensures.answered
+
+pub returns-in-Ok-clause-memory : goal.returns-in-Ok-clause-memory
+returns-in-Ok-clause-memory g c tables shards n ws suits h =
+    let x = c.args.self.now in
+    let reading : to_z w64 (of_z w64 c.args.reading) ≡ c.args.reading = omega (arith, ints) in
+    let moment : c.raise.new.self.moment ≡ later_moment c.args.reading x.moment = c.raise.ensures.moment ∙ ap (λ r. later_moment r x.moment) reading in
+    room_memory_unless tables shards n ws c.in-Ok.mutation c.args.segment c.raise.new.self.stores c.place.new.self.stores
+    (unrefused_belongs tables shards c.args.segment c.args.write c.args.reading x.drawn (later_moment c.args.reading x.moment) x.number c.in-Ok.mutation suits c.requires.time
+    (subst IsMoment moment c.raise.ensures.begun)
+    (c.in-Ok.ensures ∙ (λ i. mutation_of c.args.write (later_drawn (reading i) x.drawn) (later_moment (reading i) x.moment) (x.number + 1)))) c.place.ensures.makes c.place.ensures.refused
+    (same_stores tables n ws x.stores c.raise.new.self.stores c.raise.ensures.stores h)

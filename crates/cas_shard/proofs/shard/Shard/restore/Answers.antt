@@ -5,6 +5,8 @@ use Rattle.cas_types.specs.Limits.{IsMoment}
 use Rattle.cas_types.specs.declared.limits.TheConstants.{LAST_DRAWN}
 use Rattle.cas_shard.specs.Shards.{drawn_with, found_shard}
 use Rattle.cas_shard.specs.Stands.{Stands}
+use Rattle.cas_shard.specs.Flushing.{HasInMemory}
+use Rattle.cas_shard.proofs.InMemory.{join_memory, room_memory}
 use Rattle.cas_shard.proofs.Preparing.{later_begun, with_low}
 use Rattle.cas_shard.proofs.Standing.{one_is_restored, room_made}
 use Rattle.cas_shard.proofs.shard.Shard.restore.Goals as goal
@@ -28,3 +30,13 @@ returns-clause-stands g c tables shards found h is above =
     let drawn : to_z w64 (of_z w64 c.drawn_with-self-inside.result) ≡ drawn_with c.self.inside.drawn c.args.mutation = search rules in
     let moment : to_z w64 (of_z w64 c.max-self-inside-2.result) ≡ int_max c.self.inside.moment c.args.mutation.moment = search rules in
     one_is_restored tables shards found c.args.mutation c.reserve.new.stores.items _ _ (subst (λ x. Stands tables (found_shard found) x) (sym c.self.view_is) h) is above c.reserve.ensures.makes c.join.ensures c.max-self-inside.ensures drawn moment
+
+pub returns-in_err-reserve-clause-memory : goal.returns-in_err-reserve-clause-memory
+returns-in_err-reserve-clause-memory g c tables shards n ws is h =
+    let p = err_from_is_err_and c.from_residual.result c.from_residual.ensures.1 in
+    rw (p.1) (room_memory tables shards n ws c.args.mutation _ _ is c.reserve.ensures.makes (subst (λ x. HasInMemory tables n ws x) (sym c.self.view_is) h))
+
+pub returns-clause-memory : goal.returns-clause-memory
+returns-clause-memory g c tables shards n ws is h =
+    join_memory tables shards n ws c.args.mutation c.reserve.new.stores.items _ is c.join.ensures
+    (room_memory tables shards n ws c.args.mutation _ _ is c.reserve.ensures.makes (subst (λ x. HasInMemory tables n ws x) (sym c.self.view_is) h))

@@ -1,11 +1,12 @@
 use Rattle.std.proofs.Common.{◌≡◌, ◌++◌, map, ap, ◌∙◌, subst}
 use Rattle.cas_partition.specs.Ranges.{key_of}
-use Rattle.cas_partition.specs.Slices.{AreRowsOf}
 use Rattle.cas_partition.specs.Ranged.{piece_of, spot_at, spots_between, statics_of, rows_between}
 use Rattle.cas_partition.specs.Inner.Entries.{lent_piece}
+use Rattle.cas_partition.specs.Inner.Passing.{lent_marker}
+use Rattle.cas_partition.specs.Inner.Sources.{Settles}
 use Rattle.cas_partition.proofs.Slots.{as_key}
 use Rattle.cas_partition.proofs.Shown.{if_ok_too, on_ok_as_ever, all_pieces}
-use Rattle.cas_partition.proofs.slice.rows_in.Goals as goal
+use Rattle.cas_partition.proofs.slice.fragments_in.Goals as goal
 
 pub returns-clause-rows : goal.returns-clause-rows
 returns-clause-rows c =
@@ -18,7 +19,8 @@ returns-clause-rows c =
     all_pieces (statics_of es) (rows_between c.args.slice.now.lo c.args.slice.now.hi es) (map lent_piece c.add_static.new.entries.items) (map lent_piece c.add_between.new.entries.items)
     (c.in_ok-add_static.ensures.added ∙ (λ i. map lent_piece (c.new-entries.ensures.items i) ++ map piece_of (statics_of es)))
     (c.in_ok-add_between.ensures ∙ (λ i. map lent_piece c.add_static.new.entries.items ++ map piece_of (spots_between (low i) (high i) es))) in
-    if_ok_too c.rows_of.result _ _ (λ v are. subst (λ ps. AreRowsOf ps v.items) (ap (map lent_piece) c.deref.ensures.value ∙ gathered) are) c.rows_of.ensures
+    if_ok_too c.fragments_of.result _ _
+    (λ v are. subst (λ ps. Settles c.args.top ps (map lent_marker c.args.marks.now) v.items) (ap (map lent_piece) c.deref.ensures.value ∙ gathered) are) c.fragments_of.ensures
 
 pub returns-clause-sorted : goal.returns-clause-sorted
-returns-clause-sorted c = on_ok_as_ever c.rows_of.result _ c.in_ok-add_static.ensures.sorted
+returns-clause-sorted c = on_ok_as_ever c.fragments_of.result _ c.in_ok-add_static.ensures.sorted
