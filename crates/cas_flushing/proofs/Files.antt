@@ -32,7 +32,8 @@ use Rattle.cas_flushed.proofs.Standing.{flushed_say_the_same, listed_contents_st
 use Rattle.cas_shard.specs.Flushing.{SaysWhatTheyDo}
 use Rattle.cas_shard.specs.Stands.{SaySame, order_at, order_of}
 use Rattle.cas_flushing.specs.Flushed.{IsFlushed, IsOldAt, IsOpened, IsUnfitAt, WhyUnopened, head_of}
-use Rattle.cas_flushing.specs.Laws.{FlushStands, StandsForThem}
+use Rattle.cas_flushing.specs.Laws.{FlushStands, SayTheSame, StandsForThem}
+use Rattle.cas_flushing.proofs.Frozen.{in_memory}
 
 module _ {D : Type 0} (number_of : D → ℕ) (wrote : D → List ℕ → Type 0) (t : TableSchema) (shard number : ℕ) (ms : List MemPart) (told : TableInfo) (draft : D)
     (is : IsFlushed number_of wrote t shard number ms told draft) where
@@ -62,7 +63,7 @@ module _ {D : Type 0} (number_of : D → ℕ) (wrote : D → List ℕ → Type 0
   listed : (c : Image) (b : List ℕ) → wrote draft b → c (table_name told.number) ≡ Some b → StandIn t shard c told ws
   listed c b w there = listed_contents_stand t shard c told own (in_image c b w there)
 
-  says : (wss : List (List Mutation)) → StandInEach (clustering_order t.columns) ms wss → SaySame ws (all_of wss)
+  says : SayTheSame t.columns ms ws
   says wss stand =
       let are = is.says wss stand in
       record {
@@ -138,4 +139,4 @@ module _ {D : Type 0} (number_of : D → ℕ) (wrote : D → List ℕ → Type 0
   )
 
 pub flush_stands : {D : Type 0} (number_of : D → ℕ) (wrote : D → List ℕ → Type 0) → FlushStands number_of wrote
-flush_stands number_of wrote = record { stands = for_them number_of wrote; told = is_told number_of wrote }
+flush_stands number_of wrote = record { stands = for_them number_of wrote; told = is_told number_of wrote; memory = in_memory }

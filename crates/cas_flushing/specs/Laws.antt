@@ -9,36 +9,44 @@ use Rattle.cas_disk.specs.Disk.{Image}
 use Rattle.cas_disk.specs.declared.name.Name.TheVariants.{Table as table_name}
 use Rattle.cas_info.specs.Allowed.{FitsInfo}
 use Rattle.cas_info.specs.declared.info.TableInfo.{TableInfo}
-use Rattle.cas_memtable.specs.Kept.{StandInEach, all_of}
+use Rattle.cas_memtable.specs.Kept.{HoldJust, StandInEach, all_of}
 use Rattle.cas_memtable.specs.declared.memtable.MemPart.{MemPart}
 use Rattle.cas_sstread.specs.declared.fault.TableFault.{TableFault}
 use Rattle.cas_sstread.specs.Loading.{Held, IsNoBlock}
 use Rattle.cas_view.specs.Views.{File}
+use Rattle.cas_stored.specs.Stored.{StoredTable}
 use Rattle.cas_listed.specs.Listed.{StandIn}
 use Rattle.cas_widened.specs.Laws.{AreAdded}
-use Rattle.cas_shard.specs.Flushing.{HasInMemory, SaysWhatTheyDo}
+use Rattle.cas_shard.specs.Flushing.{HasInMemory, SaysWhatTheyDo, bytes_at, frozen_at, memtables_at}
 use Rattle.cas_shard.specs.Stands.{SaySame, ShardState, order_at}
 use Rattle.cas_flushing.specs.Flushed.{IsFlushed, IsOpened, WhyUnopened}
 
 -- ---- a flush
+
+-- the mutations say under each key the same as whichever stand in the memtables, and no more
+abbrev pub SayTheSame : List Column → List MemPart → List Mutation → Type 0
+SayTheSame columns ms ws = (wss : List (List Mutation)) → StandInEach (clustering_order columns) ms wss → SaySame ws (all_of wss)
 
 -- The file of a table in a shard, with one of these bytes, stands for memtables: mutations that say the same as those in the memtables, and no more, stand
 -- in it, in each image that has it under its number; where it is opened it says what the memtables do, so that a swap leaves what the shard stands for;
 -- and no place of it is bad.
 pub record StandsForThem (t : TableSchema) (shard : ℕ) (ms : List MemPart) (told : TableInfo) (Bytes : List ℕ → Type 0) : Type 0 where
   pub written : List Mutation
-  pub says : (wss : List (List Mutation)) → StandInEach (clustering_order t.columns) ms wss → SaySame written (all_of wss)
+  pub says : SayTheSame t.columns ms written
   pub listed : (c : Image) (b : List ℕ) → Bytes b → c (table_name told.number) ≡ Some b → StandIn t shard c told written
   pub opened : (tables : List TableSchema) (b : List ℕ) (f : File Held) → slice_get tables t.number ≡ Some t → Bytes b → IsOpened t shard told (Some b) f
       → SaysWhatTheyDo (order_at tables t.number) ms f
   pub whole : (b : List ℕ) (e : TableFault) → Bytes b → WhyUnopened t shard told (Some b) e → IsNoBlock e
 
 -- The file that a flush wrote stands for the memtables that it was written of; what is told of it may be told of a table file, and its number is the draft's.
+-- And what says the same as the frozen memtables, where nothing was written since, says the same as all that is in memory.
 pub record FlushStands {D : Type 0} (number_of : D → ℕ) (written : D → List ℕ → Type 0) : Type 0 where
   pub stands : (t : TableSchema) (shard number : ℕ) (ms : List MemPart) (told : TableInfo) (draft : D)
       → IsFlushed number_of written t shard number ms told draft → StandsForThem t shard ms told (written draft)
   pub told : (t : TableSchema) (shard number : ℕ) (ms : List MemPart) (told : TableInfo) (draft : D)
       → IsFlushed number_of written t shard number ms told draft → FitsInfo told × (told.number ≡ number) × (number_of draft ≡ number)
+  pub memory : (columns : List Column) (o : Option StoredTable) (vs ws : List Mutation) → bytes_at o ≡ 0 → HoldJust columns (memtables_at o) ws
+      → SayTheSame columns (frozen_at o) vs → SaySame vs ws
 
 -- ---- other tables
 

@@ -28,7 +28,7 @@ fn opened<S: Sealed>(
     table: Table<S>,
     info: &TableInfo,
 ) -> Result<OpenFile<Table<S>>, AllocError>
-    ensures { IfOk result (λ f. file_of {T = Held} f ≡ record { table = table; info = info.now }) }
+    ensures { IfOk result (λ f. file_of f ≡ record { table = table; info = info.now }) }
 {
     Ok(OpenFile {
         table: Arc::new(alloc, table)?,
