@@ -111,6 +111,7 @@ last_silent order m (ws ∷ vs ∷ wss) none stand key = absurd stand.1
 -- what says the same as the frozen memtables says the same as all that is in memory
 pub in_memory : (columns : List Column) (o : Option StoredTable) (vs ws : List Mutation) → bytes_at o ≡ 0 → HoldJust columns (memtables_at o) ws → SayTheSame columns (frozen_at o) vs
     → SaySame vs ws
+unfolding first_held
 in_memory columns None vs ws none just says = by just.places just.held.stand just.all
   where
     by : (wss : List (List Mutation)) → StandInEach (clustering_order columns) [] wss → all_of wss ≡ ws → SaySame vs ws
