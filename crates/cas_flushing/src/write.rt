@@ -1,6 +1,6 @@
 //! What is frozen of a table in a shard is written to a table file.
 
-ghost use Rattle.std.specs.Prelude.{◌≡◌, ◌≤◌, ℕ, [], List as ListOf, None, Ok, length, slice_get, IfOk, IfErr, IfSome, IsErrOf};
+ghost use Rattle.std.specs.Prelude.{◌≡◌, ◌≤◌, ℕ, false, [], List as ListOf, None, Ok, length, slice_get, IfOk, IfErr, IfSome, IsErrOf};
 ghost use Rattle.cas_atoms.specs.declared.atom.Mutation.{Mutation as Wrote};
 ghost use Rattle.cas_disk.specs.Counts.{Counted};
 ghost use Rattle.cas_info.specs.declared.info.TheConstants.{FILE_NUMBER_LIMIT};
