@@ -1,0 +1,5 @@
+pub mod Frozen
+pub mod Writing
+pub mod Files
+pub mod Opening
+pub mod Tables
