@@ -13,6 +13,11 @@ use Rattle.cas_replay.specs.Tops.{place_in, top_at, AreNoted, AreTopsOf, AreNote
 any_front : {X : Type 0} (P : X → Type 0) (xs ys : List X) → Any P xs → Any P (xs ++ ys)
 any_front P xs ys (k, x, within, is, so) = (k, x, omega (arith, within, length-append xs ys), get_or_append_left xs ys x k within ∙ is, so)
 
+-- with others behind them
+pub tops_front : (shards : ℕ) (tops : Tops) (ms others : List Mutation) → AreTopsOf shards tops ms → AreTopsOf shards tops (ms ++ others)
+tops_front shards tops ms others exact place =
+    ⊎_elim inl (λ one. inr (any_front (λ m. (place_in shards m ≡ place) × (m.number ≡ top_at tops place)) ms others one)) (exact place)
+
 module _ (shards : ℕ) (a b : Tops) where
   -- where no number falls, what is noted stays so
   pub still_noted : ((at : ℕ) → top_at a at ≤ top_at b at) → (ms : List Mutation) → AreNoted shards a ms → AreNoted shards b ms
