@@ -88,6 +88,6 @@ module _ (j : Journal) (old new : Disk) (t : Told) (number : ℕ) (next : j.last
     ordered = goes.ordered;
     last = last;
     spare = spare;
-    noted = subst (λ (o : Option Log). Noted k.notes said (all_parts o goes.parts (goes.written ++ goes.pushed))) (sym log)
-        (subst (λ (n : Notes). Noted n said (all_parts j.log goes.parts (goes.written ++ goes.pushed))) (sym notes) goes.noted);
+    noted = subst (λ (o : Option Log). Noted k.notes t.found said (all_parts o goes.parts (goes.written ++ goes.pushed))) (sym log)
+        (subst (λ (n : Notes). Noted n t.found said (all_parts j.log goes.parts (goes.written ++ goes.pushed))) (sym notes) goes.noted);
   }

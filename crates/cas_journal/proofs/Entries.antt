@@ -19,7 +19,7 @@ use Rattle.cas_manifest.specs.Manifests.{place_of as manifest_place, Stands as M
 use Rattle.cas_manifest.proofs.Appends.{said_more}
 use Rattle.cas_replay.specs.Reading.{segment_in}
 use Rattle.cas_replay.specs.Grammar.{AreSegments}
-use Rattle.cas_journal.specs.Stores.{IsStore, Told, Holds, appended, failed_at}
+use Rattle.cas_journal.specs.Stores.{Found, IsStore, Told, Holds, appended, failed_at}
 use Rattle.cas_journal.specs.Notes.{Noted}
 use Rattle.cas_journal.specs.Journals.{Goes, Writes, IsSpare, all_parts}
 use Rattle.cas_journal.specs.Ends.{IsTold}
@@ -122,13 +122,13 @@ same_last s (entry.NewSegment n) is = absurd is
 same_last s (entry.DropSegment n) is = absurd is
 same_last s (entry.Change change) is = refl
 
-told_noted : (s : Saying) (e : Entry) → IsTold e → (notes : Notes) (parts : List (List Mutation)) → Noted notes s parts → Noted notes (after s e) parts
-told_noted s (entry.Schema t) is notes parts noted = noted
-told_noted s (entry.AddColumns table columns) is notes parts noted = noted
-told_noted s (entry.Store shards) is notes parts noted = absurd is
-told_noted s (entry.NewSegment n) is notes parts noted = absurd is
-told_noted s (entry.DropSegment n) is notes parts noted = absurd is
-told_noted s (entry.Change change) is notes parts noted = noted
+told_noted : (s : Saying) (e : Entry) → IsTold e → (notes : Notes) (found : Found) (parts : List (List Mutation)) → Noted notes found s parts → Noted notes found (after s e) parts
+told_noted s (entry.Schema t) is notes found parts noted = noted
+told_noted s (entry.AddColumns table columns) is notes found parts noted = noted
+told_noted s (entry.Store shards) is notes found parts noted = absurd is
+told_noted s (entry.NewSegment n) is notes found parts noted = absurd is
+told_noted s (entry.DropSegment n) is notes found parts noted = absurd is
+told_noted s (entry.Change change) is notes found parts noted = noted
 
 pub told_appended : (e : Entry) → IsTold e → IsAppended e
 told_appended (entry.Schema t) is = tt
@@ -201,8 +201,8 @@ module _ (j k : Journal) (old new : Disk) (t : Told) (e : Entry) (goes : Goes j 
             (subst (λ (n : ℕ). IsSpare k.spare n new) (sym (same_last said e is))
             (subst (λ (o : Option Log). IsSpare o said.last_segment new) (sym spare)
             (spare_still step old new call j.spare said.last_segment (λ d c made n above. logs_stay d c made n) goes.spare)));
-        noted = subst (λ (s : Saying). Noted k.notes s (all_parts k.log goes.parts (goes.written ++ goes.pushed))) is_next
-            (told_noted said e is k.notes (all_parts k.log goes.parts (goes.written ++ goes.pushed))
-            (subst (λ (o : Option Log). Noted k.notes said (all_parts o goes.parts (goes.written ++ goes.pushed))) (sym log)
-            (subst (λ (n : Notes). Noted n said (all_parts j.log goes.parts (goes.written ++ goes.pushed))) (sym notes) goes.noted)));
+        noted = subst (λ (s : Saying). Noted k.notes t.found s (all_parts k.log goes.parts (goes.written ++ goes.pushed))) is_next
+            (told_noted said e is k.notes t.found (all_parts k.log goes.parts (goes.written ++ goes.pushed))
+            (subst (λ (o : Option Log). Noted k.notes t.found said (all_parts o goes.parts (goes.written ++ goes.pushed))) (sym log)
+            (subst (λ (n : Notes). Noted n t.found said (all_parts j.log goes.parts (goes.written ++ goes.pushed))) (sym notes) goes.noted)));
       }

@@ -15,3 +15,4 @@ pub mod Tables
 pub mod Reaching
 pub mod Lowest
 pub mod Shrinking
+pub mod Staying

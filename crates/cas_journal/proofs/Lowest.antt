@@ -23,11 +23,14 @@ use Rattle.cas_log.specs.declared.log.Log.{Log}
 use Rattle.cas_manifest.specs.File.{IsManifest}
 use Rattle.cas_manifest.specs.Manifests.{place_of as manifest_place, Stands as ManifestStands, MayHave as MayHaveManifest}
 use Rattle.cas_manifest.proofs.Appends.{said_more}
+use Rattle.cas_replay.specs.declared.tops.Tops.{Tops}
+use Rattle.cas_replay.specs.Tops.{top_at}
 use Rattle.cas_replay.specs.Reading.{segment_in}
 use Rattle.cas_replay.specs.Grammar.{AreSegments, AreInOrder, AscendByOne, IsLog, numbers_of}
-use Rattle.cas_journal.specs.Stores.{IsStore, Told, Holds, SameTables, without, may_be_without}
+use Rattle.cas_journal.specs.Stores.{IsStore, Found, Told, Holds, SameTables, without, may_be_without}
 use Rattle.cas_journal.specs.Inner.Dropping.{IsLowest, HasFirst, HoldsWithout, LastsAfter}
-use Rattle.cas_journal.specs.Notes.{Know, Noted, EachNoted, FirstNoted, FirstNotedIn}
+use Rattle.cas_journal.specs.Inner.Noting.{IsFirstNoted}
+use Rattle.cas_journal.specs.Notes.{Know, Noted, EachNoted}
 use Rattle.cas_journal.specs.Journals.{Goes, Lasts, Writes, IsSpare, NoneAbove, all_parts}
 use Rattle.cas_journal.specs.Ends.{Ends, WritesNothing}
 use Rattle.cas_journal.specs.declared.fault.JournalFault.{JournalFault}
@@ -141,33 +144,33 @@ log_from tables shards (Some log) ns before parts w p disk writes c left are fit
     })
 
 -- what is noted of the segments behind the first of two or more
-first_gone : (shards : ℕ) (o : Option Log) (parts : List (List Mutation)) (ms : List Mutation) (notes : List Note) (number next : ℕ) (others : List ℕ)
-    → map (λ (n : Note). n.segment) notes ≡ number ∷ next ∷ others → EachNoted shards notes (all_parts o parts ms)
-    → (map (λ (n : Note). n.segment) (drop 1 notes) ≡ next ∷ others) × EachNoted shards (drop 1 notes) (all_parts o (later_parts parts) ms)
+first_gone : (shards : ℕ) (found : Found) (o : Option Log) (parts : List (List Mutation)) (ms : List Mutation) (notes : List Note) (number next : ℕ) (others : List ℕ)
+    → map (λ (n : Note). n.segment) notes ≡ number ∷ next ∷ others → EachNoted shards found notes (all_parts o parts ms)
+    → (map (λ (n : Note). n.segment) (drop 1 notes) ≡ next ∷ others) × EachNoted shards found (drop 1 notes) (all_parts o (later_parts parts) ms)
 unfolding tail_of
-first_gone shards o parts ms [] number next others is each = absurd cc
-first_gone shards o parts ms (x ∷ []) number next others is each = absurd (none_there (ap tail_of is))
+first_gone shards found o parts ms [] number next others is each = absurd cc
+first_gone shards found o parts ms (x ∷ []) number next others is each = absurd (none_there (ap tail_of is))
   where
     none_there : [] ≡ next ∷ others → ⊥
     none_there e = cc
-first_gone shards None [] ms (x ∷ y ∷ notes) number next others is each = absurd each
-first_gone shards None (p ∷ parts) ms (x ∷ y ∷ notes) number next others is each = (ap tail_of is, each.1)
-first_gone shards (Some log) [] ms (x ∷ y ∷ notes) number next others is each = absurd each.1
-first_gone shards (Some log) (p ∷ parts) ms (x ∷ y ∷ notes) number next others is each = (ap tail_of is, each.1)
+first_gone shards found None [] ms (x ∷ y ∷ notes) number next others is each = absurd each
+first_gone shards found None (p ∷ parts) ms (x ∷ y ∷ notes) number next others is each = (ap tail_of is, each.1)
+first_gone shards found (Some log) [] ms (x ∷ y ∷ notes) number next others is each = absurd each.1
+first_gone shards found (Some log) (p ∷ parts) ms (x ∷ y ∷ notes) number next others is each = (ap tail_of is, each.1)
 
 -- and of the first
-first_noted : (shards : ℕ) (o : Option Log) (parts : List (List Mutation)) (ms : List Mutation) (notes : List Note) (number next : ℕ) (others : List ℕ)
-    → map (λ (n : Note). n.segment) notes ≡ number ∷ next ∷ others → EachNoted shards notes (all_parts o parts ms) → FirstNotedIn shards notes (first_part parts)
+first_noted : (shards : ℕ) (found : Found) (o : Option Log) (parts : List (List Mutation)) (ms : List Mutation) (notes : List Note) (number next : ℕ) (others : List ℕ)
+    → map (λ (n : Note). n.segment) notes ≡ number ∷ next ∷ others → EachNoted shards found notes (all_parts o parts ms) → IsFirstNoted shards found notes (first_part parts)
 unfolding tail_of
-first_noted shards o parts ms [] number next others is each = absurd cc
-first_noted shards o parts ms (x ∷ []) number next others is each = absurd (none_there (ap tail_of is))
+first_noted shards found o parts ms [] number next others is each = absurd cc
+first_noted shards found o parts ms (x ∷ []) number next others is each = absurd (none_there (ap tail_of is))
   where
     none_there : [] ≡ next ∷ others → ⊥
     none_there e = cc
-first_noted shards None [] ms (x ∷ y ∷ notes) number next others is each = absurd each
-first_noted shards None (p ∷ parts) ms (x ∷ y ∷ notes) number next others is each = each.0
-first_noted shards (Some log) [] ms (x ∷ y ∷ notes) number next others is each = absurd each.1
-first_noted shards (Some log) (p ∷ parts) ms (x ∷ y ∷ notes) number next others is each = each.0
+first_noted shards found None [] ms (x ∷ y ∷ notes) number next others is each = absurd each
+first_noted shards found None (p ∷ parts) ms (x ∷ y ∷ notes) number next others is each = each.0
+first_noted shards found (Some log) [] ms (x ∷ y ∷ notes) number next others is each = absurd each.1
+first_noted shards found (Some log) (p ∷ parts) ms (x ∷ y ∷ notes) number next others is each = each.0
 
 -- ---- the lowest segment
 
@@ -238,8 +241,8 @@ module _ (j : Journal) (old : Disk) (t : Told) (goes : Goes j old t) (number : �
     committed = omega (arith, lengths);
     file = λ c left. subst (λ (ms : List Mutation). IsSegment number ms (segment_in c number)) (sym first_front)
         (first_segment said.tables said.shards (segment_in c) number begins.0 goes.parts (earlier_less c left));
-    noted = subst (λ (ms : List Mutation). FirstNoted j.notes ms) (sym first_front)
-        (first_noted j.notes.shards j.log goes.parts (goes.written ++ goes.pushed) j.notes.list.items number lowest.0 lowest.1 (goes.noted.1.numbers ∙ lowest.2) goes.noted.1.noted);
+    noted = subst (λ (ms : List Mutation). IsFirstNoted j.notes.shards t.found j.notes.list.items ms) (sym first_front)
+        (first_noted j.notes.shards t.found j.log goes.parts (goes.written ++ goes.pushed) j.notes.list.items number lowest.0 lowest.1 (goes.noted.1.numbers ∙ lowest.2) goes.noted.1.noted);
   }
 
   ordered_less : AreInOrder (joined (later_parts goes.parts) ++ (goes.written ++ goes.pushed))
@@ -344,19 +347,20 @@ module _ (j : Journal) (old : Disk) (t : Told) (goes : Goes j old t) (number : �
   -- after one that is there
   module _ (k : Journal) (new : Disk) (call : During (Changed manifest_name MayBeAnything) old new)
       (stands : ManifestStands (manifest_place k.manifest) new (t.entries ++ e ∷ [])) (log : k.log ≡ j.log) (spare : k.spare ≡ j.spare) (last : k.last_segment ≡ j.last_segment)
-      (shards : k.notes.shards ≡ j.notes.shards) (notes : k.notes.list.items ≡ drop 1 j.notes.list.items) where
+      (shards : k.notes.shards ≡ j.notes.shards) (notes : k.notes.list.items ≡ drop 1 j.notes.list.items) (nothing : k.notes.next ≡ j.notes.next) where
     abbrev step : Image → Image → Type 0
     step = Changed manifest_name MayBeAnything
 
     -- what is noted of the others
-    less_known : Know k.notes (after said e).segments (all_parts k.log (later_parts goes.parts) (goes.written ++ goes.pushed))
+    less_known : Know k.notes t.found (after said e).segments (all_parts k.log (later_parts goes.parts) (goes.written ++ goes.pushed))
     less_known =
-        let rest = first_gone j.notes.shards j.log goes.parts (goes.written ++ goes.pushed) j.notes.list.items number lowest.0 lowest.1 (goes.noted.1.numbers ∙ lowest.2) goes.noted.1.noted in
+        let rest = first_gone j.notes.shards t.found j.log goes.parts (goes.written ++ goes.pushed) j.notes.list.items number lowest.0 lowest.1 (goes.noted.1.numbers ∙ lowest.2) goes.noted.1.noted in
         record {
           numbers = ap (map (λ (n : Note). n.segment)) notes ∙ rest.0 ∙ sym next_segments;
-          noted = subst (λ (n : ℕ). EachNoted n k.notes.list.items (all_parts k.log (later_parts goes.parts) (goes.written ++ goes.pushed))) (sym shards)
-              (subst (λ (l : List Note). EachNoted j.notes.shards l (all_parts k.log (later_parts goes.parts) (goes.written ++ goes.pushed))) (sym notes)
-              (subst (λ (o : Option Log). EachNoted j.notes.shards (drop 1 j.notes.list.items) (all_parts o (later_parts goes.parts) (goes.written ++ goes.pushed))) (sym log) rest.1));
+          noted = subst (λ (n : ℕ). EachNoted n t.found k.notes.list.items (all_parts k.log (later_parts goes.parts) (goes.written ++ goes.pushed))) (sym shards)
+              (subst (λ (l : List Note). EachNoted j.notes.shards t.found l (all_parts k.log (later_parts goes.parts) (goes.written ++ goes.pushed))) (sym notes)
+              (subst (λ (o : Option Log). EachNoted j.notes.shards t.found (drop 1 j.notes.list.items) (all_parts o (later_parts goes.parts) (goes.written ++ goes.pushed))) (sym log) rest.1));
+          next = subst (λ (x : Tops). (place : ℕ) → top_at x place ≡ 0) (sym nothing) goes.noted.1.next;
         }
 
     pub drop_goes : Goes k new (without number many t)
@@ -388,7 +392,7 @@ module _ (j : Journal) (old : Disk) (t : Told) (goes : Goes j old t) (number : �
       spare = subst (λ (s : Saying). IsSpare k.spare s.last_segment new) is_next
           (subst (λ (o : Option Log). IsSpare o said.last_segment new) (sym spare)
           (spare_still step old new call j.spare said.last_segment (λ d c made n above. manifest_changed MayBeAnything d c made n) goes.spare));
-      noted = subst (λ (s : Saying). Noted k.notes s (all_parts k.log (later_parts goes.parts) (goes.written ++ goes.pushed))) is_next (shards ∙ goes.noted.0, less_known);
+      noted = subst (λ (s : Saying). Noted k.notes t.found s (all_parts k.log (later_parts goes.parts) (goes.written ++ goes.pushed))) is_next (shards ∙ goes.noted.0, less_known);
     }
 
   -- the segments that are listed then are above it
@@ -528,13 +532,14 @@ module _ (j k : Journal) (old mid : Disk) (t : Told) (number : ℕ) (lasts : Las
       (stands : (entries : List Entry) → ManifestStands (manifest_place j.manifest) old entries → FitsEntry (said_by entries) (DropSegment number)
       → ManifestStands (manifest_place k.manifest) mid (entries ++ DropSegment number ∷ []))
       (log : k.log ≡ j.log) (spare : k.spare ≡ j.spare) (last : k.last_segment ≡ j.last_segment)
-      (shards : k.notes.shards ≡ j.notes.shards) (notes : k.notes.list.items ≡ drop 1 j.notes.list.items) (removal : During (Changed (log_name number) MayGo) mid new) where
+      (shards : k.notes.shards ≡ j.notes.shards) (notes : k.notes.list.items ≡ drop 1 j.notes.list.items) (nothing : k.notes.next ≡ j.notes.next)
+      (removal : During (Changed (log_name number) MayGo) mid new) where
     abbrev going : Goes j old t
     going = lasts.goes none
 
     mid_goes : Goes k mid (without number (many j old t going number lowest) t)
     mid_goes =
-        drop_goes j old t going number lowest k mid others (stands t.entries going.manifest (drop_fits j old t going number lowest few)) log spare last shards notes
+        drop_goes j old t going number lowest k mid others (stands t.entries going.manifest (drop_fits j old t going number lowest few)) log spare last shards notes nothing
 
     pub drop_lasts : (n : ℕ) × HasFirst j.notes number n t old × Lasts k new (without number n t)
     drop_lasts = (

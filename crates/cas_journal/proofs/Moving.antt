@@ -22,7 +22,8 @@ use Rattle.cas_manifest.specs.Manifests.{Place as ManifestPlace, place_of as man
 use Rattle.cas_replay.specs.Reading.{segment_in}
 use Rattle.cas_replay.specs.Grammar.{AreSegments, AreInOrder, IsLog}
 use Rattle.cas_journal.specs.Stores.{IsStore, Told, Holds, committed_all, took}
-use Rattle.cas_journal.specs.Notes.{Noted, StayNoted}
+use Rattle.cas_journal.specs.Notes.{Noted}
+use Rattle.cas_journal.specs.Inner.Noting.{StayNoted}
 use Rattle.cas_journal.specs.Journals.{Goes, Lasts, Writes, IsSpare, NoneAbove, MayTake, all_parts}
 use Rattle.cas_journal.specs.declared.journal.Journal.{Journal}
 use Rattle.cas_journal.proofs.Lists.{all_front, all_back, all_more, front_in_order}
@@ -130,7 +131,7 @@ resting j k disk t manifest writes parts spare last first notes lasts = record {
         ordered = goes.ordered;
         last = subst (λ (n : ℕ). said.last_segment ≤ n) (sym last) goes.last;
         spare = spare said.last_segment goes.spare;
-        noted = notes said _ (subst (λ (l : List (List Mutation)). Noted j.notes said l) (sym (parts goes.parts (goes.written ++ goes.pushed))) goes.noted);
+        noted = notes t.found said _ (subst (λ (l : List (List Mutation)). Noted j.notes t.found said l) (sym (parts goes.parts (goes.written ++ goes.pushed))) goes.noted);
       };
 }
 
@@ -268,7 +269,7 @@ module _ (j : Journal) (log : Log) (old : Disk) (t : Told) (goes : Goes j old t)
     last = subst (λ (n : ℕ). said.last_segment ≤ n) (sym last) goes.last;
     spare = subst (λ (o : Option Log). IsSpare o said.last_segment new) (sym spare)
         (spare_still step old new call j.spare said.last_segment (λ d c made n above. log_changed log.number MayBeAnything d c made n (omega (arith, number_known, above))) goes.spare);
-    noted = notes said _ (subst (λ (l : List (List Mutation)). Noted j.notes said l)
+    noted = notes t.found said _ (subst (λ (l : List (List Mutation)). Noted j.notes t.found said l)
         (written_parts j.log log goes.parts (goes.written ++ goes.pushed) is
         ∙ ap (λ (l : List Mutation). goes.parts ++ l ∷ []) (sym (append-nil (goes.written ++ goes.pushed)))
         ∙ sym (written_parts k.log after goes.parts ((goes.written ++ goes.pushed) ++ []) now)) goes.noted);
@@ -315,7 +316,7 @@ module _ (j k : Journal) (disk : Disk) (t : Told) (m : Mutation) where
   module _ (log after : Log) (is : j.log ≡ Some log) (now : k.log ≡ Some after) (place : place_of after ≡ place_of log)
       (more : (pushed : List Mutation) → HasPushed log pushed → HasPushed after (pushed ++ m ∷ []))
       (manifest : k.manifest ≡ j.manifest) (spare : k.spare ≡ j.spare) (last : k.last_segment ≡ j.last_segment)
-      (noted : (s : Saying) (parts : List (List Mutation)) (ms : List Mutation) → Noted j.notes s (parts ++ ms ∷ []) → Noted k.notes s (parts ++ (ms ++ m ∷ []) ∷ [])) where
+      (noted : (s : Saying) (parts : List (List Mutation)) (ms : List Mutation) → Noted j.notes t.found s (parts ++ ms ∷ []) → Noted k.notes t.found s (parts ++ (ms ++ m ∷ []) ∷ [])) where
     pub push_goes : Goes j disk t → MayTake t m → Goes k disk (took m t)
     push_goes goes may =
         let said = said_by t.entries in
@@ -342,11 +343,11 @@ module _ (j k : Journal) (disk : Disk) (t : Told) (m : Mutation) where
           ordered = may.next;
           last = subst (λ (n : ℕ). said.last_segment ≤ n) (sym last) goes.last;
           spare = subst (λ (o : Option Log). IsSpare o said.last_segment disk) (sym spare) goes.spare;
-          noted = subst (λ (l : List (List Mutation)). Noted k.notes said l)
+          noted = subst (λ (l : List (List Mutation)). Noted k.notes t.found said l)
               (ap (λ (l : List Mutation). goes.parts ++ l ∷ []) (append_assoc goes.written goes.pushed (m ∷ []))
               ∙ sym (written_parts k.log after goes.parts (goes.written ++ (goes.pushed ++ m ∷ [])) now))
               (noted said goes.parts (goes.written ++ goes.pushed)
-              (subst (λ (l : List (List Mutation)). Noted j.notes said l) (written_parts j.log log goes.parts (goes.written ++ goes.pushed) is) goes.noted));
+              (subst (λ (l : List (List Mutation)). Noted j.notes t.found said l) (written_parts j.log log goes.parts (goes.written ++ goes.pushed) is) goes.noted));
         }
 
     pub push_lasts : k.first ≡ j.first → Lasts j disk t → MayTake t m → Lasts k disk (took m t)

@@ -81,7 +81,7 @@ module _ (j : Journal) (old : Disk) (t : Told) (goes : Goes j old t) where
     pub name_goes : (k : Journal) (new : Disk) → During (Changed manifest_name MayBeAnything) old new
         → ManifestStands (manifest_place k.manifest) new (t.entries ++ NewSegment j.last_segment ∷ []) → t.committed ≡ length t.taken
         → k.log ≡ Some next → k.spare ≡ None → k.last_segment ≡ j.last_segment
-        → ((parts : List (List Mutation)) → Noted j.notes said parts → Noted k.notes (after said (NewSegment j.last_segment)) (parts ++ [] ∷ []))
+        → ((parts : List (List Mutation)) → Noted j.notes t.found said parts → Noted k.notes t.found (after said (NewSegment j.last_segment)) (parts ++ [] ∷ []))
         → Goes k new (appended (NewSegment j.last_segment) t)
     name_goes k new call stands all log spare last begun =
         let step = Changed manifest_name MayBeAnything in
@@ -116,9 +116,9 @@ module _ (j : Journal) (old : Disk) (t : Told) (goes : Goes j old t) where
           ordered = goes.ordered;
           last = subst (λ (s : Saying). s.last_segment ≤ k.last_segment) is_next (omega (arith, last));
           spare = subst (λ (o : Option Log). IsSpare o (said_by (t.entries ++ NewSegment n ∷ [])).last_segment new) (sym spare) tt;
-          noted = subst (λ (s : Saying). Noted k.notes s (all_parts k.log parts [])) is_next
-              (subst (λ (l : List (List Mutation)). Noted k.notes (after said (NewSegment n)) l) (sym (written_parts k.log next parts [] log))
-              (begun parts (subst (λ (l : List Mutation). Noted j.notes said (all_parts j.log goes.parts l)) none_more goes.noted)));
+          noted = subst (λ (s : Saying). Noted k.notes t.found s (all_parts k.log parts [])) is_next
+              (subst (λ (l : List (List Mutation)). Noted k.notes t.found (after said (NewSegment n)) l) (sym (written_parts k.log next parts [] log))
+              (begun parts (subst (λ (l : List Mutation). Noted j.notes t.found said (all_parts j.log goes.parts l)) none_more goes.noted)));
         }
 
 -- one that is there

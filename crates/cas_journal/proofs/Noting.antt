@@ -1,55 +1,58 @@
 -- What is noted of segments, once one of them changed or came.
-use Rattle.std.proofs.Common.{◌≡◌, ℕ, zero, suc, ◌+◌, ◌<◌, ◌≤◌, ◌==◌, max, Bool, true, false, List, [], ◌∷◌, ◌++◌, length, map, Result, Ok, Err, refl, sym, ap, subst, ◌∙◌, arith}
+use Rattle.std.proofs.Common.{◌≡◌, inl, ℕ, zero, suc, ◌+◌, ◌<◌, ◌≤◌, ◌==◌, max, Bool, true, false, List, [], ◌∷◌, ◌++◌, length, map, Result, Ok, Err, refl, sym, ap, subst, ◌∙◌, arith, append_assoc}
 use Rattle.std.specs.Prelude.{slice_set, slice_index_or, if◌then◌else◌, OnOk}
 use Rattle.std.specs.List.{AllByRecursion}
 use Rattle.std.proofs.lemmas.Bool.{eq-eqb}
 use Rattle.cas_atoms.specs.declared.atom.Mutation.{Mutation}
+use Rattle.cas_log.specs.Segment.{joined}
 use Rattle.cas_replay.specs.declared.tops.Tops.{Tops}
-use Rattle.cas_replay.specs.Tops.{place_in, top_at, AreNoted}
+use Rattle.cas_replay.specs.Tops.{place_in, top_at, AreNoted, AreTopsOf, AreNotesOf}
+use Rattle.cas_replay.proofs.Noted.{still_noted as stay_noted_all, still_tops, tops_front, one_more_noted as one_more_noted_all, one_more_top}
 use Rattle.cas_changes.specs.declared.entry.Entry.TheVariants.{NewSegment}
-use Rattle.cas_changes.specs.Saying.{Saying, after}
-use Rattle.cas_journal.specs.Notes.{Know, Noted, StayNoted, EachNoted, HasRoom, HasRoomIn}
+use Rattle.cas_changes.specs.Saying.{Saying, after, is_listed}
+use Rattle.cas_journal.specs.Stores.{Found, found_in}
+use Rattle.cas_journal.specs.Notes.{noted_with, IsNoted, Know, Noted, EachNoted, HasRoom, HasRoomIn}
+use Rattle.cas_journal.specs.Inner.Noting.{StayNoted}
 use Rattle.cas_journal.specs.declared.notes.Note.{Note}
 use Rattle.cas_journal.specs.declared.notes.Notes.{Notes}
+use Rattle.cas_journal.proofs.Lists.{all_front, all_back, all_mapped}
 
--- ---- the numbers of one segment
+-- ---- one segment
 
-module _ (shards : ℕ) (a b : Tops) where
-  -- where no number falls, what is noted stays so
-  pub still_noted : ((at : ℕ) → top_at a at ≤ top_at b at) → (ms : List Mutation) → AreNoted shards a ms → AreNoted shards b ms
-  still_noted rises [] noted = tt
-  still_noted rises (m ∷ ms) noted = (omega (arith, noted.0, rises (place_in shards m)), still_noted rises ms noted.1)
+module _ (shards : ℕ) (found : Found) (a b : Note) (same : b.segment ≡ a.segment) where
+  -- where no number changes, its mutations stay noted
+  pub still_noted : ((at : ℕ) → top_at b.tops at ≡ top_at a.tops at) → (ms : List Mutation) → IsNoted shards found a ms → IsNoted shards found b ms
+  still_noted is ms was = record {
+    noted = stay_noted_all shards a.tops b.tops (λ at. let e : top_at b.tops at ≡ top_at a.tops at = is at in omega (arith, e)) ms was.noted;
+    exact = subst (λ (n : ℕ). AreTopsOf shards b.tops (noted_with found n ms)) (sym same) (still_tops shards a.tops b.tops is (noted_with found a.segment ms) was.exact);
+  }
 
-  module _ (m : Mutation) (raised : (at : ℕ) → top_at b at ≡ (if at == place_in shards m then max (top_at a at) m.number else top_at a at)) where
-    raised_by : (at : ℕ) (is : Bool) → (at == place_in shards m) ≡ is → top_at a at ≤ top_at b at
-    raised_by at true is = let e : top_at b at ≡ max (top_at a at) m.number = raised at ∙ rw is refl in omega (arith, e)
-    raised_by at false is = let e : top_at b at ≡ top_at a at = raised at ∙ rw is refl in omega (arith, e)
-
-    more_noted : (ms : List Mutation) → AreNoted shards a ms → m.number ≤ top_at b (place_in shards m) → AreNoted shards b (ms ++ m ∷ [])
-    more_noted [] noted one = (one, tt)
-    more_noted (x ∷ ms) noted one = (omega (arith, noted.0, raised_by (place_in shards x) (place_in shards x == place_in shards m) refl), more_noted ms noted.1 one)
-
-    -- one mutation more is noted
-    pub one_more_noted : (ms : List Mutation) → AreNoted shards a ms → AreNoted shards b (ms ++ m ∷ [])
-    one_more_noted ms noted =
-        let same : (place_in shards m == place_in shards m) ≡ true = eq-eqb (place_in shards m) (place_in shards m) refl in
-        let e : top_at b (place_in shards m) ≡ max (top_at a (place_in shards m)) m.number = raised (place_in shards m) ∙ rw same refl in
-        more_noted ms noted (omega (arith, e))
+  -- one mutation more is noted
+  pub one_more_noted : (m : Mutation) → ((at : ℕ) → top_at b.tops at ≡ (if at == place_in shards m then max (top_at a.tops at) m.number else top_at a.tops at))
+      → (ms : List Mutation) → IsNoted shards found a ms → IsNoted shards found b (ms ++ m ∷ [])
+  one_more_noted m raised ms was =
+      let others : List Mutation = if is_listed found.segments a.segment then found.mutations else [] in
+      record {
+        noted = one_more_noted_all shards a.tops b.tops m raised ms was.noted;
+        exact = subst (λ (n : ℕ). AreTopsOf shards b.tops (noted_with found n (ms ++ m ∷ []))) (sym same)
+            (subst (λ (l : List Mutation). AreTopsOf shards b.tops l) (append_assoc others ms (m ∷ [])) (one_more_top shards a.tops b.tops m raised (others ++ ms) was.exact));
+      }
 
 -- ---- all segments
 
-module _ (shards : ℕ) where
+module _ (shards : ℕ) (found : Found) where
   -- one segment more, without mutations
-  pub each_more : (notes : List Note) (n : Note) (parts : List (List Mutation)) → EachNoted shards notes parts → EachNoted shards (notes ++ n ∷ []) (parts ++ [] ∷ [])
-  each_more [] n [] each = (tt, tt)
-  each_more (x ∷ notes) n (ms ∷ parts) each = (each.0, each_more notes n parts each.1)
-  each_more [] n (ms ∷ parts) each = absurd each
-  each_more (x ∷ notes) n [] each = absurd each
+  pub each_more : (notes : List Note) (n : Note) (parts : List (List Mutation)) → ((place : ℕ) → top_at n.tops place ≡ 0) → EachNoted shards found notes parts
+      → EachNoted shards found (notes ++ n ∷ []) (parts ++ [] ∷ [])
+  each_more [] n [] none each = (record { noted = tt; exact = λ place. inl (none place) }, tt)
+  each_more (x ∷ notes) n (ms ∷ parts) none each = (each.0, each_more notes n parts none each.1)
+  each_more [] n (ms ∷ parts) none each = absurd each
+  each_more (x ∷ notes) n [] none each = absurd each
 
   -- one of them changed
   pub one_changed : (notes : List Note) (i : ℕ) (d y : Note) (parts : List (List Mutation)) → i < length notes
-      → ((ms : List Mutation) → AreNoted shards (slice_index_or notes i d).tops ms → AreNoted shards y.tops ms)
-      → EachNoted shards notes parts → EachNoted shards (slice_set notes i y) parts
+      → ((ms : List Mutation) → IsNoted shards found (slice_index_or notes i d) ms → IsNoted shards found y ms)
+      → EachNoted shards found notes parts → EachNoted shards found (slice_set notes i y) parts
   one_changed [] i d y parts within says each = absurd (omega (arith, within))
   one_changed (x ∷ notes) zero d y [] within says each = absurd each
   one_changed (x ∷ notes) zero d y (ms ∷ parts) within says each = (says ms each.0, each.1)
@@ -58,8 +61,8 @@ module _ (shards : ℕ) where
 
   -- the last of them changed, with its mutations
   pub last_changed : (notes : List Note) (i : ℕ) (d y : Note) (parts : List (List Mutation)) (ms now : List Mutation) → length notes ≡ i + 1
-      → (AreNoted shards (slice_index_or notes i d).tops ms → AreNoted shards y.tops now)
-      → EachNoted shards notes (parts ++ ms ∷ []) → EachNoted shards (slice_set notes i y) (parts ++ now ∷ [])
+      → (IsNoted shards found (slice_index_or notes i d) ms → IsNoted shards found y now)
+      → EachNoted shards found notes (parts ++ ms ∷ []) → EachNoted shards found (slice_set notes i y) (parts ++ now ∷ [])
   last_changed [] i d y parts ms now long says each = absurd (omega (arith, long))
   last_changed (x ∷ []) zero d y [] ms now long says each = (says each.0, tt)
   last_changed (x ∷ []) zero d y (p ∷ []) ms now long says each = absurd each.1
@@ -109,16 +112,17 @@ then_room (Err e) P Q so says = so
 
 -- ---- what the manifest lists
 
-pub stay_noted : (a b : Notes) → b.shards ≡ a.shards → ((ns : List ℕ) (parts : List (List Mutation)) → Know a ns parts → Know b ns parts) → StayNoted a b
-stay_noted a b shards know s parts noted = (shards ∙ noted.0, know s.segments parts noted.1)
+pub stay_noted : (a b : Notes) → b.shards ≡ a.shards
+    → ((found : Found) (ns : List ℕ) (parts : List (List Mutation)) → Know a found ns parts → Know b found ns parts) → StayNoted a b
+stay_noted a b shards know found s parts noted = (shards ∙ noted.0, know found s.segments parts noted.1)
 
 -- a segment is named
-pub named_noted : (a m b : Notes) (s : Saying) (n : ℕ) → m ≡ a → b.shards ≡ m.shards
-    → ((ns : List ℕ) (parts : List (List Mutation)) → Know m ns parts → Know b (ns ++ n ∷ []) (parts ++ [] ∷ []))
-    → (parts : List (List Mutation)) → Noted a s parts → Noted b (after s (NewSegment n)) (parts ++ [] ∷ [])
-named_noted a m b s n same shards know parts noted =
-    let was : Noted m s parts = subst (λ (x : Notes). Noted x s parts) (sym same) noted in
-    (shards ∙ was.0, know s.segments parts was.1)
+pub named_noted : (a m b : Notes) (found : Found) (s : Saying) (n : ℕ) → m ≡ a → b.shards ≡ m.shards
+    → ((found : Found) (ns : List ℕ) (parts : List (List Mutation)) → Know m found ns parts → Know b found (ns ++ n ∷ []) (parts ++ [] ∷ []))
+    → (parts : List (List Mutation)) → Noted a found s parts → Noted b found (after s (NewSegment n)) (parts ++ [] ∷ [])
+named_noted a m b found s n same shards know parts noted =
+    let was : Noted m found s parts = subst (λ (x : Notes). Noted x found s parts) (sym same) noted in
+    (shards ∙ was.0, know found s.segments parts was.1)
 
 -- ---- segments that are noted together
 
@@ -126,14 +130,49 @@ named_noted a m b s n same shards know parts noted =
 abbrev pub AreSame : Tops → List Note → Type 0
 AreSame tops notes = AllByRecursion (λ (n : Note). (at : ℕ) → top_at n.tops at ≡ top_at tops at) notes
 
+pub none_same : (tops : Tops) (notes : List Note) → map (λ (n : Note). n.segment) notes ≡ [] → AreSame tops notes
+none_same tops [] is = tt
+none_same tops (n ∷ notes) is = absurd cc
+
 pub same_more : (tops : Tops) (notes : List Note) (n : Note) → AreSame tops notes → ((at : ℕ) → top_at n.tops at ≡ top_at tops at) → AreSame tops (notes ++ n ∷ [])
 same_more tops [] n same one = (one, tt)
 same_more tops (x ∷ notes) n same one = (same.0, same_more tops notes n same.1 one)
 
-pub each_same : (shards : ℕ) (tops : Tops) (notes : List Note) (parts : List (List Mutation)) → AreSame tops notes → length parts ≡ length notes
-    → AllByRecursion (AreNoted shards tops) parts → EachNoted shards notes parts
-each_same shards tops [] [] same long noted = tt
-each_same shards tops [] (ms ∷ parts) same long noted = absurd (omega (arith, long))
-each_same shards tops (n ∷ notes) [] same long noted = absurd (omega (arith, long))
-each_same shards tops (n ∷ notes) (ms ∷ parts) same long noted =
-    (still_noted shards tops n.tops (λ at. let e : top_at n.tops at ≡ top_at tops at = same.0 at in omega (arith, e)) ms noted.0, each_same shards tops notes parts same.1 (omega (arith, long)) noted.1)
+-- each number is in its list
+listed_more : (x n : ℕ) (ns : List ℕ) (is : Bool) → (x == n) ≡ is → is_listed ns n ≡ true → is_listed (x ∷ ns) n ≡ true
+listed_more x n ns true is listed = rw is refl
+listed_more x n ns false is listed = rw is listed
+
+all_listed : (ns : List ℕ) → AllByRecursion (λ n. is_listed ns n ≡ true) ns
+all_listed [] = tt
+all_listed (n ∷ ns) =
+    let same : (n == n) ≡ true = eq-eqb n n refl in
+    (rw same refl, all_mapped (λ k. is_listed ns k ≡ true) (λ k. is_listed (n ∷ ns) k ≡ true) (λ k listed. listed_more n k ns (n == k) refl listed) ns (all_listed ns))
+
+module _ (shards : ℕ) (tops : Tops) (found : Found) (exact : AreTopsOf shards tops found.mutations) where
+  -- one of those that were found, which has these mutations
+  of_found : (n : Note) → ((at : ℕ) → top_at n.tops at ≡ top_at tops at) → is_listed found.segments n.segment ≡ true → (ms : List Mutation) → AreNoted shards tops ms
+      → IsNoted shards found n ms
+  of_found n same listed ms noted = record {
+    noted = stay_noted_all shards tops n.tops (λ at. let e : top_at n.tops at ≡ top_at tops at = same at in omega (arith, e)) ms noted;
+    exact = rw listed (tops_front shards n.tops found.mutations ms (still_tops shards tops n.tops same found.mutations exact));
+  }
+
+  each_found : (notes : List Note) (ns : List ℕ) (parts : List (List Mutation)) → map (λ (n : Note). n.segment) notes ≡ ns → AreSame tops notes → length parts ≡ length notes
+      → AllByRecursion (λ n. is_listed found.segments n ≡ true) ns → AreNoted shards tops (joined parts) → EachNoted shards found notes parts
+  each_found [] ns [] is same long listed noted = tt
+  each_found [] ns (ms ∷ parts) is same long listed noted = absurd (omega (arith, long))
+  each_found (n ∷ notes) ns [] is same long listed noted = absurd (omega (arith, long))
+  each_found (n ∷ notes) ns (ms ∷ parts) is same long listed noted =
+      let all : AllByRecursion (λ k. is_listed found.segments k ≡ true) (n.segment ∷ map (λ (x : Note). x.segment) notes) =
+      subst (λ (l : List ℕ). AllByRecursion (λ k. is_listed found.segments k ≡ true) l) (sym is) listed in (
+        of_found n same.0 all.0 ms (all_front (λ m. m.number ≤ top_at tops (place_in shards m)) ms (joined parts) noted),
+        each_found notes (map (λ (x : Note). x.segment) notes) parts refl same.1 (omega (arith, long)) all.1
+            (all_back (λ m. m.number ≤ top_at tops (place_in shards m)) ms (joined parts) noted),
+      )
+
+-- each of the segments is noted with what all of them have
+pub each_same : (shards : ℕ) (tops : Tops) (notes : List Note) (ns : List ℕ) (parts : List (List Mutation)) → map (λ (n : Note). n.segment) notes ≡ ns → AreSame tops notes
+    → length parts ≡ length notes → AreNotesOf shards tops (joined parts) → EachNoted shards (found_in ns (joined parts)) notes parts
+each_same shards tops notes ns parts is same long of_all =
+    each_found shards tops (found_in ns (joined parts)) of_all.exact notes ns parts is same long (all_listed ns) of_all.noted

@@ -17,20 +17,20 @@ use Rattle.cas_journal.specs.declared.journal.Journal.{Journal}
 -- what each step is
 
 pub none_made : (t : Told) → MadeRoom t t
-none_made t = record { numbers = []; entries = sym (append-nil t.entries); failed = inl refl; taken = refl; committed = omega arith; leaving = refl }
+none_made t = record { found = refl; numbers = []; entries = sym (append-nil t.entries); failed = inl refl; taken = refl; committed = omega arith; leaving = refl }
 
 pub settled_made : (t : Told) → t.committed ≤ length t.taken → MadeRoom t (committed_all t)
-settled_made t few = record { numbers = []; entries = sym (append-nil t.entries); failed = inl refl; taken = refl; committed = few; leaving = refl }
+settled_made t few = record { found = refl; numbers = []; entries = sym (append-nil t.entries); failed = inl refl; taken = refl; committed = few; leaving = refl }
 
 pub named_made : (t : Told) (n : ℕ) → MadeRoom t (appended (NewSegment n) t)
-named_made t n = record { numbers = n ∷ []; entries = refl; failed = inl refl; taken = refl; committed = omega arith; leaving = refl }
+named_made t n = record { found = refl; numbers = n ∷ []; entries = refl; failed = inl refl; taken = refl; committed = omega arith; leaving = refl }
 
 pub failed_made : (t : Told) (n : ℕ) → MadeRoom t (failed_at (NewSegment n) t)
-failed_made t n = record { numbers = []; entries = sym (append-nil t.entries); failed = inr (n, refl); taken = refl; committed = omega arith; leaving = refl }
+failed_made t n = record { found = refl; numbers = []; entries = sym (append-nil t.entries); failed = inr (n, refl); taken = refl; committed = omega arith; leaving = refl }
 
 pub made_behind : (t u : Told) → t.committed ≤ length t.taken → MadeRoom (committed_all t) u → MadeRoom t u
 made_behind t u few made =
-    record { numbers = made.numbers; entries = made.entries; failed = made.failed; taken = made.taken; committed = omega (arith, few, made.committed); leaving = made.leaving }
+    record { found = made.found; numbers = made.numbers; entries = made.entries; failed = made.failed; taken = made.taken; committed = omega (arith, few, made.committed); leaving = made.leaving }
 
 -- what each image holds
 

@@ -11,8 +11,8 @@ use Rattle.cas_changes.specs.declared.entry.Entry.TheVariants.{DropSegment}
 use Rattle.cas_replay.specs.Tops.{AreNoted, IsCovered, place_in, number_at}
 use Rattle.cas_replay.specs.Reading.{frontier_of}
 use Rattle.cas_replay.specs.declared.tops.Tops.{Tops}
-use Rattle.cas_journal.specs.Notes.{IsFirstCoveredIn, FirstNotedIn}
-use Rattle.cas_journal.specs.Stores.{Told, Dropped, HoldsDropped, without}
+use Rattle.cas_journal.specs.Inner.Noting.{IsFirstCovered, IsFirstAbove, IsFirstNoted}
+use Rattle.cas_journal.specs.Stores.{Found, Told, Dropped, HoldsDropped, without}
 use Rattle.cas_journal.specs.Journals.{Lasts}
 use Rattle.cas_gates.specs.declared.first.First.{First}
 use Rattle.cas_journal.specs.Ends.{Ends, LastsDropped}
@@ -23,7 +23,7 @@ use Rattle.cas_journal.specs.declared.journal.Journal.{Journal}
 use Rattle.cas_journal.specs.declared.notes.Note.{Note}
 
 -- what is noted first is the lowest segment
-pub lowest_of : (notes : List Note) (frontiers : List ℕ) (number : ℕ) (listed : List ℕ) → map (λ (n : Note). n.segment) notes ≡ listed → IsFirstCoveredIn notes frontiers number
+pub lowest_of : (notes : List Note) (frontiers : List ℕ) (number : ℕ) (listed : List ℕ) → map (λ (n : Note). n.segment) notes ≡ listed → IsFirstCovered notes frontiers number
     → IsLowest number listed
 lowest_of [] frontiers number listed is first = absurd first
 lowest_of (n ∷ []) frontiers number listed is first = absurd first
@@ -31,7 +31,7 @@ lowest_of (n ∷ next ∷ notes) frontiers number listed is first =
     (next.segment, map (λ (k : Note). k.segment) notes, sym is ∙ ap (λ (k : ℕ). k ∷ next.segment ∷ map (λ (k : Note). k.segment) notes) first.0)
 
 -- there is one
-pub some_first : (notes : List Note) (frontiers : List ℕ) (number : ℕ) → IsFirstCoveredIn notes frontiers number → 1 ≤ length notes
+pub some_first : (notes : List Note) (frontiers : List ℕ) (number : ℕ) → IsFirstCovered notes frontiers number → 1 ≤ length notes
 some_first [] frontiers number first = absurd first
 some_first (n ∷ notes) frontiers number first = omega arith
 
@@ -52,10 +52,10 @@ module _ (shards : ℕ) (frontiers : List ℕ) where
       (omega (arith, noted.0, covered (place_in shards m), is), all_below tops covered ms noted.1)
 
   -- the mutations of the first segment, where that is covered
-  pub first_below : (notes : List Note) (number : ℕ) → IsFirstCoveredIn notes frontiers number → (ms : List Mutation) → FirstNotedIn shards notes ms → AllByRecursion IsBelow ms
-  first_below [] number first ms noted = absurd first
-  first_below (n ∷ []) number first ms noted = absurd first
-  first_below (n ∷ next ∷ notes) number first ms noted = all_below n.tops first.1 ms noted
+  pub first_below : (notes : List Note) (number : ℕ) → IsFirstCovered notes frontiers number → (found : Found) (ms : List Mutation) → IsFirstNoted shards found notes ms → AllByRecursion IsBelow ms
+  first_below [] number first found ms noted = absurd first
+  first_below (n ∷ []) number first found ms noted = absurd first
+  first_below (n ∷ next ∷ notes) number first found ms noted = all_below n.tops first.1 ms noted.noted
 
   all_take : (a b n : ℕ) (ms : List Mutation) → n ≡ a + b → AllByRecursion IsBelow (take a ms) → AllByRecursion IsBelow (take b (drop a ms)) → AllByRecursion IsBelow (take n ms)
   all_take zero b n ms is front back = subst (λ (k : ℕ). AllByRecursion IsBelow (take k ms)) (let e : b ≡ n = omega (arith, is) in e) back
@@ -66,7 +66,7 @@ module _ (shards : ℕ) (frontiers : List ℕ) where
   -- none is dropped yet
   pub none_dropped : (t : Told) → Dropped shards frontiers t t
   none_dropped t =
-      record { numbers = []; many = 0; entries = sym (append-nil t.entries); failed = refl; taken = refl; committed = omega arith; leaving = refl; covered = tt }
+      record { found = refl; numbers = []; many = 0; entries = sym (append-nil t.entries); failed = refl; taken = refl; committed = omega arith; leaving = refl; covered = tt }
 
   pub none_yet : (t : Told) (j : Journal) (disk : Disk) → Lasts j disk t → (u : Told) × (d : Dropped shards frontiers t u) × (length d.numbers ≡ 0) × Lasts j disk u
   unfolding none_dropped
@@ -76,6 +76,7 @@ module _ (shards : ℕ) (frontiers : List ℕ) where
   pub dropped_more : (t u : Told) → Dropped shards frontiers t u → (number many : ℕ) → many ≤ u.committed → AllByRecursion IsBelow (take many u.taken)
       → Dropped shards frontiers t (without number many u)
   dropped_more t u dropped number many few below = record {
+    found = dropped.found;
     numbers = dropped.numbers ++ number ∷ [];
     many = dropped.many + many;
     entries = ap (λ (l : List Entry). l ++ DropSegment number ∷ []) dropped.entries ∙ append_assoc t.entries (map DropSegment dropped.numbers) (DropSegment number ∷ [])
@@ -89,12 +90,12 @@ module _ (shards : ℕ) (frontiers : List ℕ) where
   }
 
   module _ (t u : Told) (dropped : Dropped shards frontiers t u) (j : Journal) (number : ℕ) (same : j.notes.shards ≡ shards)
-      (first : IsFirstCoveredIn j.notes.list.items frontiers number) (b : Disk) where
+      (first : IsFirstCovered j.notes.list.items frontiers number) (b : Disk) where
     pub one_more : (many : ℕ) → HasFirst j.notes number many u b → Dropped shards frontiers t (without number many u)
     one_more many has =
         dropped_more t u dropped number many has.committed
-        (first_below j.notes.list.items number first (take many u.taken)
-        (subst (λ (n : ℕ). FirstNotedIn n j.notes.list.items (take many u.taken)) same has.noted))
+        (first_below j.notes.list.items number first u.found (take many u.taken)
+        (subst (λ (n : ℕ). IsFirstNoted n u.found j.notes.list.items (take many u.taken)) same has.noted))
 
     pub more_leaves : (a z : Disk) → During (λ _ c. HoldsDropped shards frontiers t c) a b → During (λ _ c. HoldsWithout j.notes number u b c) b z
         → During (λ _ c. HoldsDropped shards frontiers t c) a z

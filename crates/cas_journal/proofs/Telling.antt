@@ -60,8 +60,8 @@ module _ (j k : Journal) (old new : Disk) (t : Told) (call : During Same old new
         last = omega (arith, goes.last, last);
         spare = subst (λ (o : Option Log). IsSpare o said.last_segment new) (sym spare)
             (spare_still Same old new call j.spare said.last_segment (λ d c same n above. same (log_name n)) goes.spare);
-        noted = subst (λ (o : Option Log). Noted k.notes said (all_parts o goes.parts (goes.written ++ goes.pushed))) (sym log)
-            (subst (λ (n : Notes). Noted n said (all_parts j.log goes.parts (goes.written ++ goes.pushed))) (sym notes) goes.noted);
+        noted = subst (λ (o : Option Log). Noted k.notes t.found said (all_parts o goes.parts (goes.written ++ goes.pushed))) (sym log)
+            (subst (λ (n : Notes). Noted n t.found said (all_parts j.log goes.parts (goes.written ++ goes.pushed))) (sym notes) goes.noted);
       }
 
   pub same_lasts : (k.first ≡ None → j.first ≡ None) → Lasts j old t → Lasts k new t

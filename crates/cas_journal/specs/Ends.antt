@@ -1,12 +1,14 @@
 -- How calls of a journal end. Own.
-use Rattle.std.specs.Prelude.{◌≡◌, ℕ, ◌+◌, ◌-◌, ◌^◌, ◌<◌, ◌≤◌, min, nat_le, if◌then◌else◌, List, Option, None, Some, Result, Ok, Err}
+use Rattle.std.specs.Prelude.{◌≡◌, ℕ, ◌+◌, ◌-◌, ◌^◌, ◌<◌, ◌≤◌, min, nat_le, if◌then◌else◌, true, List, [], ◌∷◌, take, Option, None, Some, Result, Ok, Err}
+use Rattle.std.specs.List.{Any}
 use Rattle.cas_io.specs.Causes.{Rose}
-use Rattle.cas_disk.specs.Disk.{Disk}
+use Rattle.cas_disk.specs.Disk.{Image, Disk}
 use Rattle.cas_gates.specs.declared.first.First.{First}
 use Rattle.cas_atoms.specs.declared.atom.Mutation.{Mutation}
 use Rattle.cas_changes.specs.declared.entry.Entry.{Entry}
 use Rattle.cas_changes.specs.declared.entry.Entry.TheVariants as entry
 use Rattle.cas_changes.specs.declared.said.TheConstants.{SEGMENT_LIMIT}
+use Rattle.cas_log.specs.Segment.{IsSegment}
 use Rattle.cas_log.specs.Logs.{place_of}
 use Rattle.cas_log.specs.declared.log.Log.{Log}
 use Rattle.cas_manifest.specs.Manifests.{place_of as manifest_place, passes}
@@ -14,6 +16,8 @@ use Rattle.cas_manifest.specs.declared.fault.Limit.{Limit}
 use Rattle.cas_manifest.specs.declared.fault.Limit.TheVariants as limit
 use Rattle.cas_manifest.specs.declared.fault.ManifestFault.{ManifestFault}
 use Rattle.cas_manifest.specs.declared.fault.ManifestFault.TheVariants as manifest_fault
+use Rattle.cas_replay.specs.Reading.{segment_in, is_above}
+use Rattle.cas_journal.specs.Notes.{noted_with}
 use Rattle.cas_journal.specs.Stores.{Told, Dropped, failed_at, without, may_be_without}
 use Rattle.cas_journal.specs.Journals.{Fits, Lasts}
 use Rattle.cas_journal.specs.declared.fault.Counted.{Counted}
@@ -127,3 +131,16 @@ abbrev pub LastsDropped : JournalFault → Journal → Disk → ℕ → List ℕ
 LastsDropped Failed j disk shards frontiers t = (u : Told) × Dropped shards frontiers t u
     × (number many : ℕ) × Dropped shards frontiers t (without number many u) × Lasts j disk (may_be_without number many u)
 LastsDropped _ j disk shards frontiers t = (u : Told) × Dropped shards frontiers t u × Lasts j disk u
+
+-- A segment is needed still: whatever a crash leaves has some of the mutations in its file, and of those that are noted with it one is above the frontier
+-- of its table and shard, so that no table file has it.
+pub record IsNeeded (shards : ℕ) (frontiers : List ℕ) (t : Told) (disk : Disk) (segment : ℕ) : Type 0 where
+  pub many : ℕ
+  pub file : (c : Image) → disk.may_leave c → IsSegment segment (take many t.taken) (segment_in c segment)
+  pub one : Any (λ m. is_above shards frontiers m ≡ true) (noted_with t.found segment (take many t.taken))
+
+-- the lowest of these segments, where it isn't the last, is needed still
+abbrev pub IsLowestNeeded : ℕ → List ℕ → Told → Disk → List ℕ → Type 0
+IsLowestNeeded shards frontiers t disk [] = Unit {0}
+IsLowestNeeded shards frontiers t disk (segment ∷ []) = Unit {0}
+IsLowestNeeded shards frontiers t disk (segment ∷ next ∷ others) = IsNeeded shards frontiers t disk segment

@@ -61,7 +61,7 @@ pub record Goes (j : Journal) (disk : Disk) (t : Told) : Type 0 where
   pub ordered : AreInOrder t.taken
   pub last : (said_by t.entries).last_segment ≤ j.last_segment
   pub spare : IsSpare j.spare (said_by t.entries).last_segment disk
-  pub noted : Noted j.notes (said_by t.entries) (all_parts j.log parts (written ++ pushed))
+  pub noted : Noted j.notes t.found (said_by t.entries) (all_parts j.log parts (written ++ pushed))
 
 -- What the journal was told lasts: whatever a crash leaves holds it; and while no fault is kept, the journal goes on from there.
 pub record Lasts (j : Journal) (disk : Disk) (t : Told) : Type 0 where

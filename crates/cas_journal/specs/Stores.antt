@@ -20,10 +20,20 @@ pub record IsStore (entries : List Entry) (mutations : List Mutation) (c : Image
   pub made : entries ≢ []
   pub log : IsLog (said_by entries).tables (said_by entries).shards (segment_in c) (said_by entries).segments mutations
 
--- What a journal was told: the entries that the manifest has; one that failed, which may be there or not; the mutations of the segments that are
+-- what a store was found with when it was opened: the segments that its manifest listed, and the mutations that they had together
+pub record Found : Type 0 where
+  pub segments : List ℕ
+  pub mutations : List Mutation
+
+-- the same by its fields
+abbrev pub found_in : List ℕ → List Mutation → Found
+found_in segments mutations = record { segments = segments; mutations = mutations }
+
+-- What a journal was told: what the store was found with; the entries that the manifest has; one that failed, which may be there or not; the mutations of the segments that are
 -- listed, those that it was opened with and those that it took; how many of them are committed; and how many at their front are gone where that entry
 -- is there, as it may drop their segment.
 pub record Told : Type 0 where
+  pub found : Found
   pub entries : List Entry
   pub failed : List Entry
   pub taken : List Mutation
@@ -59,6 +69,7 @@ FailedToName before now = (now ≡ before) ⊎ ((number : ℕ) × (now ≡ NewSe
 
 -- From one to the other the journal made room: segments were begun and named, and mutations committed, no others taken and nothing defined.
 pub record MadeRoom (t u : Told) : Type 0 where
+  pub found : u.found ≡ t.found
   pub numbers : List ℕ
   pub entries : u.entries ≡ t.entries ++ named numbers
   pub failed : FailedToName t.failed u.failed
@@ -104,6 +115,7 @@ may_be_without number many t = record t { failed = DropSegment number ∷ []; le
 -- From one to the other the journal dropped segments, of which so many mutations are gone from the front: they were committed, and each is at or below
 -- the frontier of its table and shard, in a store of so many shards; nothing else changed.
 pub record Dropped (shards : ℕ) (frontiers : List ℕ) (t u : Told) : Type 0 where
+  pub found : u.found ≡ t.found
   pub numbers : List ℕ
   pub many : ℕ
   pub entries : u.entries ≡ t.entries ++ map DropSegment numbers

@@ -6,10 +6,9 @@ ghost use Rattle.cas_disk.specs.Disk.{Image, During, Same, Leaves};
 ghost use Rattle.cas_changes.specs.declared.entry.Entry.TheVariants.{DropSegment};
 ghost use Rattle.cas_changes.specs.Saying.{said_by};
 ghost use Rattle.cas_manifest.specs.Manifests.{place_of};
-ghost use Rattle.cas_journal.specs.Notes.{StaysFirst};
 ghost use Rattle.cas_journal.specs.Stores.{Told, SameTables, Dropped, HoldsDropped, without};
 ghost use Rattle.cas_journal.specs.Journals.{Lasts, AreFree};
-ghost use Rattle.cas_journal.specs.Ends.{Ends, WritesNothing, Limits, LastsDropped, entry_limit};
+ghost use Rattle.cas_journal.specs.Ends.{Ends, WritesNothing, Limits, LastsDropped, IsLowestNeeded, entry_limit};
 ghost use Rattle.cas_journal.specs.Reach.{reach_of, reach_after, IsOver};
 ghost use Rattle.cas_journal.specs.Inner.Dropping.{IsLowest, HasFirst, HoldsWithout, LastsAfter};
 
@@ -78,7 +77,8 @@ impl Journal {
         ensures during { (t : Told) → Lasts self.old (F.disk folder.old) t
             → Leaves (λ c. HoldsDropped self.old.notes.shards frontiers.now t c) (F.disk folder.old) (F.disk folder.new) }
         ensures tables { During SameTables (F.disk folder.old) (F.disk folder.new) }
-        ensures stays { OnOk result (StaysFirst self.new.notes frontiers.now) }
+        ensures stays { OnOk result ((t : Told) → Lasts self.new (F.disk folder.new) t
+            → IsLowestNeeded self.old.notes.shards frontiers.now t (F.disk folder.new) (said_by t.entries).segments) }
         ensures outcome { Ends self.old.first self.new.first (F.faults_of folder.old) (F.faults_of folder.new) result }
         ensures full { (what : _) (most : _) → result ≡ Err (JournalFault.TooMany what most) → (number : ℕ) × IsOver what (DropSegment number) self.new }
         ensures count { F.faults_of folder.old ≤ F.faults_of folder.new }

@@ -9,9 +9,10 @@ ghost use Rattle.cas_changes.specs.declared.entry.Entry.TheVariants.{NewSegment}
 ghost use Rattle.cas_log.specs.Logs.{half};
 ghost use Rattle.cas_journal.specs.Stores.{Told, Holds, MadeRoom, HoldsWithRoom, SameTables, appended, failed_at};
 ghost use Rattle.cas_journal.specs.Journals.{Lasts, AreFree, HasMemory, IsPrepared};
-ghost use Rattle.cas_journal.specs.Notes.{HasPlace, HasNext, HasSpace};
+ghost use Rattle.cas_journal.specs.Notes.{HasPlace, HasSpace};
 ghost use Rattle.cas_journal.specs.Ends.{Ends, IsOfFolder, IsToldAtOnce, next_limit, told_after, Prepares, TellsLimit};
 ghost use Rattle.cas_journal.specs.Reach.{GoesOn, IsFull, name_room, reach_of};
+ghost use Rattle.cas_journal.specs.Inner.Noting.{HasNext};
 ghost use Rattle.cas_journal.specs.Inner.Parts.{Asks, fits_in, FitsOrSettled, MayBegin};
 
 use crate::fault::{Counted, JournalFault};

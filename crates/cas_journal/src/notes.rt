@@ -1,10 +1,12 @@
 //! What is noted of the segments that are listed: of each the greatest numbers of its mutations.
 
 ghost use Rattle.std.specs.Prelude.{◌≡◌, ℕ, List, ◌∷◌, [], ◌++◌, length, drop, IfOk, OnOk, IfSome};
-ghost use Rattle.std.specs.List.{AllByRecursion};
 ghost use Rattle.cas_atoms.specs.declared.atom.Mutation.{Mutation as MutationOf};
-ghost use Rattle.cas_replay.specs.Tops.{AreNoted};
-ghost use Rattle.cas_journal.specs.Notes.{Know, HasPlace, HasSpace, HasNext, IsFirstCovered, StaysFirst};
+ghost use Rattle.cas_replay.specs.Tops.{top_at, AreNotesOf};
+ghost use Rattle.cas_log.specs.Segment.{joined};
+ghost use Rattle.cas_journal.specs.Stores.{Found, found_in};
+ghost use Rattle.cas_journal.specs.Notes.{Know, HasPlace, HasSpace};
+ghost use Rattle.cas_journal.specs.Inner.Noting.{HasNext, IsFirstCovered, IsFirstAbove};
 
 use cas_atoms::Mutation;
 use cas_replay::{Tops, place_in};
@@ -32,7 +34,7 @@ impl Notes {
     /// Those of no segments, in a store of so many shards.
     pub fn none(alloc: Global, shards: u8) -> Notes
         ensures shards { result.shards ≡ shards }
-        ensures know { Know result [] [] }
+        ensures know { (found : Found) → Know result found [] [] }
     {
         Notes {
             shards,
@@ -45,8 +47,8 @@ impl Notes {
     pub fn of(alloc: Global, shards: u8, segments: &[u64], tops: &Tops) -> Result<Notes, Mem>
         ensures shards { IfOk result (λ notes. notes.shards ≡ shards) }
         ensures space { IfOk result HasSpace }
-        ensures know { (parts : List (List MutationOf)) → length parts ≡ length segments.now → AllByRecursion (AreNoted shards tops.now) parts
-            → IfOk result (λ notes. Know notes segments.now parts) }
+        ensures know { (parts : List (List MutationOf)) → length parts ≡ length segments.now → AreNotesOf shards tops.now (joined parts)
+            → IfOk result (λ notes. Know notes (found_in segments.now (joined parts)) segments.now parts) }
     {
         let mut notes = Notes::none(alloc, shards);
         for segment in segments {
@@ -62,7 +64,7 @@ impl Notes {
     /// Makes room to note a mutation in the last segment, where there is one.
     pub(crate) fn reserve(&mut self, mutation: &Mutation) -> Result<(), Mem>
         ensures place { OnOk result (HasPlace self.new mutation.now) }
-        ensures know { (ns : List ℕ) (parts : List (List MutationOf)) → Know self.old ns parts → Know self.new ns parts }
+        ensures know { (found : Found) (ns : List ℕ) (parts : List (List MutationOf)) → Know self.old found ns parts → Know self.new found ns parts }
         ensures shards { self.new.shards ≡ self.old.shards }
     {
         let place = place_in(self.shards, mutation);
@@ -75,7 +77,7 @@ impl Notes {
     /// Makes room for the next segment, and to note a mutation in it.
     pub(crate) fn reserve_next(&mut self, mutation: &Mutation) -> Result<(), Mem>
         ensures next { OnOk result (HasNext self.new mutation.now) }
-        ensures know { (ns : List ℕ) (parts : List (List MutationOf)) → Know self.old ns parts → Know self.new ns parts }
+        ensures know { (found : Found) (ns : List ℕ) (parts : List (List MutationOf)) → Know self.old found ns parts → Know self.new found ns parts }
         ensures shards { self.new.shards ≡ self.old.shards }
     {
         self.list.reserve(1)?;
@@ -85,7 +87,8 @@ impl Notes {
     /// Begins the next segment, for which room was made, without mutations.
     pub fn begin(&mut self, alloc: Global, segment: u64)
         requires { HasSpace self.old }
-        ensures know { (ns : List ℕ) (parts : List (List MutationOf)) → Know self.old ns parts → Know self.new (ns ++ segment ∷ []) (parts ++ [] ∷ []) }
+        ensures know { (found : Found) (ns : List ℕ) (parts : List (List MutationOf)) → Know self.old found ns parts
+            → Know self.new found (ns ++ segment ∷ []) (parts ++ [] ∷ []) }
         ensures place { (m : MutationOf) → HasNext self.old m → HasPlace self.new m }
         ensures shards { self.new.shards ≡ self.old.shards }
     {
@@ -96,8 +99,8 @@ impl Notes {
     /// Notes a mutation of the last segment, for which room was made.
     pub(crate) fn note(&mut self, mutation: &Mutation)
         requires { HasPlace self.old mutation.now }
-        ensures know { (ns : List ℕ) (parts : List (List MutationOf)) (ms : List MutationOf) → Know self.old ns (parts ++ ms ∷ [])
-            → Know self.new ns (parts ++ (ms ++ mutation.now ∷ []) ∷ []) }
+        ensures know { (found : Found) (ns : List ℕ) (parts : List (List MutationOf)) (ms : List MutationOf) → Know self.old found ns (parts ++ ms ∷ [])
+            → Know self.new found ns (parts ++ (ms ++ mutation.now ∷ []) ∷ []) }
         ensures shards { self.new.shards ≡ self.old.shards }
     {
         let place = place_in(self.shards, mutation);
@@ -108,8 +111,8 @@ impl Notes {
 
     /// The first segment, where all that is noted of it is at or below these frontiers, and it isn't the last.
     pub(crate) fn first_covered(&self, frontiers: &[u64]) -> Option<u64>
-        ensures covered { IfSome result (λ number. IsFirstCovered self.now frontiers.now number) }
-        ensures stays { result ≡ None → StaysFirst self.now frontiers.now }
+        ensures covered { IfSome result (λ number. IsFirstCovered self.now.list.items frontiers.now number) }
+        ensures stays { result ≡ None → IsFirstAbove self.now.list.items frontiers.now }
     {
         if self.list.len() < 2 {
             return None;
@@ -124,6 +127,7 @@ impl Notes {
     /// Lets go of the first segment, where there is one.
     pub(crate) fn drop_first(&mut self)
         ensures list { self.new.list.items ≡ drop 1 self.old.list.items }
+        ensures next { self.new.next ≡ self.old.next }
         ensures shards { self.new.shards ≡ self.old.shards }
     {
         if !self.list.is_empty() {

@@ -30,7 +30,7 @@ use Rattle.cas_journal.specs.declared.journal.Journal.{Journal}
 use Rattle.cas_journal.proofs.Segments.{segments_agree, log_agrees, others_agree, none_is_manifest, other_log, log_is_no_manifest}
 use Rattle.cas_journal.proofs.Holding.{log_file, store_with}
 use Rattle.cas_journal.proofs.Moving.{lasting}
-use Rattle.cas_opening.specs.Opening.{Stays, HasStayed, next_segment, while_named, told}
+use Rattle.cas_opening.specs.Opening.{Stays, HasStayed, next_segment, while_named, found_with, told}
 use Rattle.cas_journal.specs.Notes.{Noted}
 use Rattle.cas_opening.specs.Inner.Reading.{AreNotedIn}
 use Rattle.cas_opening.specs.Inner.Keeping.{Keeps}
@@ -139,7 +139,7 @@ module _ (entries : List Entry) (ms : List Mutation) where
 
       -- the journal that writes it
       pub named_lasts : (j : Journal) (m : Manifest) → j.manifest ≡ m → j.log ≡ Some log → j.spare ≡ None → j.last_segment ≡ n
-          → Stands (place_of m) z (entries ++ NewSegment n ∷ []) → Noted j.notes (after (said_by entries) (NewSegment n)) (keeps.parts ++ [] ∷ []) → Lasts j z (told entries ms (n ∷ []))
+          → Stands (place_of m) z (entries ++ NewSegment n ∷ []) → Noted j.notes (found_with entries ms) (after (said_by entries) (NewSegment n)) (keeps.parts ++ [] ∷ []) → Lasts j z (told entries ms (n ∷ []))
       named_lasts j m of writes none last stands noted =
           let s = said_by entries in
           let e = NewSegment n in
@@ -174,8 +174,8 @@ module _ (entries : List Entry) (ms : List Mutation) where
             ordered = keeps.ordered;
             last = omega (arith, ap (λ (u : Saying). u.last_segment) said, last);
             spare = subst (λ (o : Option Log). IsSpare o (said_by (entries ++ e ∷ [])).last_segment z) (sym none) tt;
-            noted = subst (λ (u : Saying). Noted j.notes u (all_parts j.log keeps.parts [])) (sym said)
-                (subst (λ (o : Option Log). Noted j.notes (after s e) (all_parts o keeps.parts [])) (sym writes) noted);
+            noted = subst (λ (u : Saying). Noted j.notes (found_with entries ms) u (all_parts j.log keeps.parts [])) (sym said)
+                (subst (λ (o : Option Log). Noted j.notes (found_with entries ms) (after s e) (all_parts o keeps.parts [])) (sym writes) noted);
           })
         where
           one_there : (es : List Entry) → es ++ NewSegment n ∷ [] ≡ [] → ⊥
@@ -188,8 +188,8 @@ module _ (entries : List Entry) (ms : List Mutation) where
       → IsSpare j.spare (said_by entries).last_segment z → AreNotedIn j.notes (said_by entries) ms → Lasts j z (told entries ms [])
   unnamed_lasts j m z of none keeps last spare noted =
       let s = said_by entries in
-      subst (λ (es : List Entry). Lasts j z (record { entries = es; failed = []; taken = ms; committed = length ms; leaving = 0 })) (sym (append-nil entries))
-      (lasting j z (record { entries = entries; failed = []; taken = ms; committed = length ms; leaving = 0 }) (record {
+      subst (λ (es : List Entry). Lasts j z (record { found = found_with entries ms; entries = es; failed = []; taken = ms; committed = length ms; leaving = 0 })) (sym (append-nil entries))
+      (lasting j z (record { found = found_with entries ms; entries = entries; failed = []; taken = ms; committed = length ms; leaving = 0 }) (record {
         manifest = subst (λ (x : Manifest). Stands (place_of x) z entries) (sym of) keeps.manifest;
         none_failed = refl;
         none_leaving = refl;
@@ -206,7 +206,7 @@ module _ (entries : List Entry) (ms : List Mutation) where
         ordered = keeps.ordered;
         last = last;
         spare = spare;
-        noted = subst (λ (o : Option Log). Noted j.notes s (all_parts o keeps.parts [])) (sym none) (noted keeps.parts keeps.long keeps.all);
+        noted = subst (λ (o : Option Log). Noted j.notes (found_with entries ms) s (all_parts o keeps.parts [])) (sym none) (noted keeps.parts keeps.long keeps.all);
       }))
 
 -- ---- numbers above which there is no segment
@@ -244,7 +244,7 @@ module _ (entries : List Entry) (ms : List Mutation) (place : Place) (n : ℕ) (
     pub begin_named : (named : Stands place b entries → FitsEntry (said_by entries) (NewSegment n) → Stands (place_of m) z (entries ++ NewSegment n ∷ []))
         → (Stands place b entries → FitsEntry (said_by entries) (NewSegment n) → During (Changed manifest_name (λ _ f. MayHave entries (NewSegment n) f)) b z)
         → (t : Saying) → t ≡ after s (NewSegment n) → j.log ≡ Some log → j.spare ≡ None
-        → ((parts : List (List Mutation)) → length parts ≡ length (said_by entries).segments → joined parts ≡ ms → Noted j.notes (after (said_by entries) (NewSegment n)) (parts ++ [] ∷ []))
+        → ((parts : List (List Mutation)) → length parts ≡ length (said_by entries).segments → joined parts ≡ ms → Noted j.notes (found_with entries ms) (after (said_by entries) (NewSegment n)) (parts ++ [] ∷ []))
         → IsBegunWith entries ms j t z
     begin_named named names t took writes none noted =
         let stays = begun_keeps entries ms place n next a b keeps begins in

@@ -19,7 +19,7 @@ use Rattle.cas_manifest.specs.Reading.{Far}
 use Rattle.cas_manifest.specs.Loading.{manifest_in, HasOthers, IsNew, HasStore, IsBadAt, MayBeNewStore, first_entries}
 use Rattle.cas_replay.specs.Reading.{log_of, segment_in}
 use Rattle.cas_replay.specs.Grammar.{AreOfALog}
-use Rattle.cas_journal.specs.Stores.{IsStore, Told, Holds, named}
+use Rattle.cas_journal.specs.Stores.{IsStore, Found, found_in, Told, Holds, named}
 use Rattle.cas_journal.specs.Journals.{Lasts}
 use Rattle.cas_journal.specs.declared.journal.Journal.{Journal}
 use Rattle.cas_opening.specs.declared.opened.OpenStore.{OpenStore}
@@ -113,9 +113,20 @@ pub record IsReadWith (entries : List Entry) (mutations given : List Mutation) (
 abbrev pub IsReadAs : List Entry → List Mutation → Opened → Type 0
 IsReadAs entries mutations o = IsReadWith entries mutations o.mutations.items o.journal o.said
 
+-- what a store of these entries and mutations is found with: the segments that are listed, and all mutations
+abbrev pub found_with : List Entry → List Mutation → Found
+found_with entries mutations = found_in (said_by entries).segments mutations
+
 -- what a journal is told that opens a store of these entries and mutations, and names these segments
 abbrev pub told : List Entry → List Mutation → List ℕ → Told
-told entries mutations numbers = record { entries = entries ++ named numbers; failed = []; taken = mutations; committed = length mutations; leaving = 0 }
+told entries mutations numbers = record {
+  found = found_with entries mutations;
+  entries = entries ++ named numbers;
+  failed = [];
+  taken = mutations;
+  committed = length mutations;
+  leaving = 0;
+}
 
 -- The store that was opened: its journal goes on behind the mutations that were there; of these those above their frontiers are given, in order.
 pub record IsOpenedWith (entries : List Entry) (mutations given : List Mutation) (j : Journal) (s : Saying) (disk : Disk) : Type 0 where
@@ -159,7 +170,14 @@ Answers shards c (Err Mem) = Unit {0}
 
 -- what each image has while the next segment is begun: the store, with the entry that names it or without
 abbrev pub while_named : List Entry → List Mutation → Told
-while_named entries mutations = record { entries = entries; failed = next_named entries ∷ []; taken = mutations; committed = length mutations; leaving = 0 }
+while_named entries mutations = record {
+  found = found_with entries mutations;
+  entries = entries;
+  failed = next_named entries ∷ [];
+  taken = mutations;
+  committed = length mutations;
+  leaving = 0;
+}
 
 -- the image has the store of these entries and mutations, and each file that stays as it was, but the manifest
 pub record HasStayed (entries : List Entry) (mutations : List Mutation) (d c : Image) : Type 0 where

@@ -81,6 +81,7 @@ pub opened_lasts : (entries : List Entry) (mutations handed : List Mutation) (o 
 opened_lasts entries mutations handed o new is = (
   told entries mutations is.numbers,
   record {
+    found = refl;
     tables = (named_segments_define_nothing entries is.numbers).0;
     shards = (named_segments_define_nothing entries is.numbers).1;
     failed = refl;

@@ -14,7 +14,7 @@ use Rattle.cas_changes.specs.declared.entry.Entry.{Entry as ManifestEntry}
 use Rattle.cas_journal.specs.Stores.{Told}
 use Rattle.cas_journal.specs.Journals.{Lasts}
 use Rattle.cas_journal.specs.declared.journal.Journal.{Journal}
-use Rattle.cas_opening.specs.Opening.{IsOfBytes, next_segment}
+use Rattle.cas_opening.specs.Opening.{IsOfBytes, found_with, next_segment}
 use Rattle.cas_shard.specs.Shards.{found_shard}
 use Rattle.cas_shard.specs.Stands.{HasNoFiles, ShardState, Stands, files_at}
 use Rattle.cas_stored.specs.Reading.{AreReadIn}
@@ -58,6 +58,7 @@ pub record IsInMemory (given : Limits) (entries : List ManifestEntry) (mutations
 
 -- what the journal was told of a store of these entries and mutations, which are all there
 pub record IsTold (entries : List ManifestEntry) (mutations : List Mutation) (t : Told) : Type 0 where
+  pub found : t.found ≡ found_with entries mutations
   pub tables : (said_by t.entries).tables ≡ (said_by entries).tables
   pub shards : (said_by t.entries).shards ≡ (said_by entries).shards
   pub failed : t.failed ≡ []

@@ -4,6 +4,7 @@ pub mod Fronts
 pub mod Local
 pub mod Loops
 pub mod Order
+pub mod Noted
 pub mod Limits
 pub mod Progress
 pub mod SegmentLaws

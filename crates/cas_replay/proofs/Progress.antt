@@ -1,5 +1,7 @@
 -- What is kept of what was read, and what is handed on of it.
-use Rattle.std.proofs.Common.{◌≡◌, ℕ, cond, true, List, [], ◌∷◌, ◌++◌, filter, Option, Ok, Err, refl, sym, ap, ◌∙◌}
+use Rattle.std.proofs.Common.{◌≡◌, ℕ, cond, true, false, append_assoc, List, [], ◌∷◌, ◌++◌, filter, Option, Ok, Err, refl, sym, ap, subst, ◌∙◌}
+use Rattle.std.proofs.lemmas.List.{append-nil}
+use Rattle.std.proofs.lemmas.List.Elements.{filter-append}
 use Rattle.cas_types.specs.Limits.{IsShardCount}
 use Rattle.cas_types.specs.declared.schema.TableSchema.{TableSchema}
 use Rattle.cas_codec.specs.declared.fault.ReadFault.TheVariants.{Bad}
@@ -16,6 +18,24 @@ use Rattle.cas_replay.specs.Inner.Progress.{Went}
 use Rattle.cas_replay.specs.declared.lasts.Lasts.{Lasts}
 use Rattle.cas_replay.proofs.Order.{in_order}
 use Rattle.cas_replay.proofs.SegmentLaws.{fit_both}
+
+-- ---- what is handed on
+
+module _ (shards : ℕ) (frontiers : List ℕ) (took : List Mutation → Type 0) (first before : List Mutation) (m : Mutation) where
+  pub handed_more : is_above shards frontiers m ≡ true → took ((first ++ filter (is_above shards frontiers) before) ++ m ∷ [])
+      → took (first ++ filter (is_above shards frontiers) (before ++ m ∷ []))
+  handed_more above was =
+      let one : filter (is_above shards frontiers) (m ∷ []) ≡ m ∷ [] = rw above refl in
+      subst took (append_assoc first (filter (is_above shards frontiers) before) (m ∷ [])
+      ∙ ap (λ (l : List Mutation). first ++ l) (ap (λ (l : List Mutation). filter (is_above shards frontiers) before ++ l) (sym one)
+      ∙ sym (filter-append (is_above shards frontiers) before (m ∷ [])))) was
+
+  pub passed_over : is_above shards frontiers m ≡ false → took (first ++ filter (is_above shards frontiers) before)
+      → took (first ++ filter (is_above shards frontiers) (before ++ m ∷ []))
+  passed_over below was =
+      let none : filter (is_above shards frontiers) (m ∷ []) ≡ [] = rw below refl in
+      subst took (ap (λ (l : List Mutation). first ++ l) (sym (append-nil (filter (is_above shards frontiers) before))
+      ∙ ap (λ (l : List Mutation). filter (is_above shards frontiers) before ++ l) (sym none) ∙ sym (filter-append (is_above shards frontiers) before (m ∷ [])))) was
 
 -- ---- mutations that a log may have
 

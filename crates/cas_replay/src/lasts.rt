@@ -1,12 +1,12 @@
 //! What has to be known of the mutations that were read.
 
-ghost use Rattle.std.specs.Prelude.{◌≡◌, List, [], ◌∷◌, ◌++◌, OnOk};
+ghost use Rattle.std.specs.Prelude.{◌≡◌, ◌<◌, ℕ, List, [], ◌∷◌, ◌++◌, length, OnOk};
 ghost use Rattle.cas_atoms.specs.declared.atom.Mutation.{Mutation as MutationOf};
 ghost use Rattle.cas_replay.specs.Reading.{follows};
-ghost use Rattle.cas_replay.specs.Tops.{AreNoted};
+ghost use Rattle.cas_replay.specs.Tops.{place_in, top_at, AreNotesOf};
 ghost use Rattle.cas_replay.specs.Inner.Progress.{AreLast};
 
-use crate::tops::{Tops, place_in};
+use crate::tops::Tops;
 use cas_atoms::Mutation;
 use cas_types::Mem;
 use std::alloc::Global;
@@ -25,7 +25,8 @@ pub(crate) struct Lasts {
 impl Lasts {
     /// Those of no mutations.
     pub(crate) fn none(alloc: Global) -> Self
-        ensures { AreLast result.numbers [] }
+        ensures last { AreLast result.numbers [] }
+        ensures tops { (place : ℕ) → top_at result.tops place ≡ 0 }
     {
         Lasts {
             numbers: [None; SHARDS],
@@ -44,25 +45,24 @@ impl Lasts {
         }
     }
 
-    /// Notes a mutation of a store of so many shards, before it is put behind them.
-    pub(crate) fn note(&mut self, shards: u8, mutation: &Mutation) -> Result<(), Mem>
-        ensures noted { (read : List MutationOf) → AreNoted shards self.old.tops read
-            → OnOk result (AreNoted shards self.new.tops (read ++ mutation.now ∷ [])) }
-        ensures kept { (read : List MutationOf) → AreNoted shards self.old.tops read → AreNoted shards self.new.tops read }
+    /// Makes room to note a mutation at its place.
+    pub(crate) fn reserve(&mut self, place: usize) -> Result<(), Mem>
+        ensures place { OnOk result (place < length self.new.tops.numbers.items) }
+        ensures notes { (shards : ℕ) (read : List MutationOf) → AreNotesOf shards self.old.tops read → AreNotesOf shards self.new.tops read }
         ensures numbers { self.new.numbers ≡ self.old.numbers }
     {
-        let place = place_in(shards, mutation);
-        self.tops.reserve(place)?;
-        self.tops.note(place, mutation.number);
-        Ok(())
+        self.tops.reserve(place)
     }
 
-    /// The mutation of this shard and number was read behind them.
-    pub(crate) fn put(&mut self, shard: u8, number: u64)
+    /// The mutation of this shard and number was read behind them. It is noted at its place, where room was made.
+    pub(crate) fn put(&mut self, shard: u8, number: u64, place: usize)
+        requires { place < length self.old.tops.numbers.items }
         ensures last { (read : List MutationOf) (m : MutationOf) → AreLast self.old.numbers read → m.shard ≡ shard → m.number ≡ number
             → AreLast self.new.numbers (read ++ m ∷ []) }
-        ensures tops { self.new.tops ≡ self.old.tops }
+        ensures notes { (shards : ℕ) (read : List MutationOf) (m : MutationOf) → AreNotesOf shards self.old.tops read → place ≡ place_in shards m
+            → m.number ≡ number → AreNotesOf shards self.new.tops (read ++ m ∷ []) }
     {
         self.numbers[shard as usize] = Some(number);
+        self.tops.note(place, number);
     }
 }

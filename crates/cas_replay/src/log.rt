@@ -5,7 +5,7 @@ ghost use Rattle.cas_atoms.specs.declared.atom.Mutation.{Mutation as MutationOf}
 ghost use Rattle.cas_disk.specs.Counts.{Counted};
 ghost use Rattle.cas_disk.specs.Disk.{Image, During, Follows, Same};
 ghost use Rattle.cas_replay.specs.Reading.{log_of, segment_in, above_in};
-ghost use Rattle.cas_replay.specs.Tops.{AreNoted};
+ghost use Rattle.cas_replay.specs.Tops.{AreNotesOf};
 ghost use Rattle.cas_replay.specs.Replays.{Replays, HandsOn, IsReplayOf, IsOfALog, Last};
 
 use crate::fault::ReplayFault;
@@ -37,7 +37,7 @@ pub fn replay_to<F: Folder, T: TakesMutations>(
         (above_in shards frontiers.now (log_of tables.now shards (segment_in c) segments.now [])) }
     ensures replayed { (first : List MutationOf) → T.has_taken first taker.old → IfOk result (λ tops. (given : List MutationOf)
         × T.has_taken (first ++ given) taker.new
-        × (r : IsReplayOf tables.now shards segments.now frontiers.now (F.disk folder.old) given) × AreNoted shards tops r.all) }
+        × (r : IsReplayOf tables.now shards segments.now frontiers.now (F.disk folder.old) given) × AreNotesOf shards tops r.all) }
     ensures taken { (first : List MutationOf) → T.has_taken first taker.old → (given : List MutationOf) × T.has_taken (first ++ given) taker.new
         × IsOfALog tables.now shards frontiers.now given }
     ensures lasts { OnOk result (Last segments.now (F.disk folder.new)) }

@@ -51,7 +51,7 @@ fn read_next(
     Err(ReadFault::Bad { at })
 }
 
-// Notes a mutation that was read, and hands it on where it is above its frontier.
+// Hands a mutation on that was read, where it is above its frontier, and notes it.
 fn hand_on<T: TakesMutations>(
     of: &Segment<'_>,
     mutation: Mutation,
@@ -67,11 +67,12 @@ fn hand_on<T: TakesMutations>(
         → OnErr result (Stands of.now.shards of.now.frontiers.now (λ ms. T.has_taken (first ++ ms) taker.new) lasts.new before) }
 {
     let (shard, number) = (mutation.shard, mutation.number);
-    lasts.note(of.shards, &mutation)?;
+    let place = place_in(of.shards, &mutation);
+    lasts.reserve(place)?;
     if is_above(of.shards, of.frontiers, &mutation) {
         taker.take(mutation)?;
     }
-    lasts.put(shard, number);
+    lasts.put(shard, number, place);
     Ok(())
 }
 

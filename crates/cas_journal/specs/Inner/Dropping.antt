@@ -3,9 +3,9 @@ use Rattle.std.specs.Prelude.{◌≡◌, ◌⊎◌, ◌≤◌, ℕ, List, ◌∷
 use Rattle.cas_disk.specs.Disk.{Image, Disk}
 use Rattle.cas_log.specs.Segment.{IsSegment}
 use Rattle.cas_replay.specs.Reading.{segment_in}
-use Rattle.cas_journal.specs.Notes.{FirstNoted}
 use Rattle.cas_journal.specs.Stores.{Told, Holds, may_be_without}
 use Rattle.cas_journal.specs.Journals.{Lasts}
+use Rattle.cas_journal.specs.Inner.Noting.{IsFirstNoted}
 use Rattle.cas_journal.specs.declared.fault.JournalFault.{JournalFault}
 use Rattle.cas_journal.specs.declared.fault.JournalFault.TheVariants.{Failed}
 use Rattle.cas_journal.specs.declared.journal.Journal.{Journal}
@@ -19,7 +19,7 @@ IsLowest number segments = (next : ℕ) × (others : List ℕ) × (segments ≡ 
 pub record HasFirst (notes : Notes) (number many : ℕ) (t : Told) (disk : Disk) : Type 0 where
   pub committed : many ≤ t.committed
   pub file : (c : Image) → disk.may_leave c → IsSegment number (take many t.taken) (segment_in c number)
-  pub noted : FirstNoted notes (take many t.taken)
+  pub noted : IsFirstNoted notes.shards t.found notes.list.items (take many t.taken)
 
 -- an image while it is dropped: it holds what was told, with the segment or without
 abbrev pub HoldsWithout : Notes → ℕ → Told → Disk → Image → Type 0

@@ -11,6 +11,7 @@ use Rattle.cas_manifest.specs.Manifests.{Place}
 use Rattle.cas_replay.specs.Reading.{log_of, segment_in, above_in}
 use Rattle.cas_replay.specs.Grammar.{AreOfALog}
 use Rattle.cas_replay.specs.Replays.{TookFront}
+use Rattle.cas_journal.specs.Stores.{found_in}
 use Rattle.cas_journal.specs.Notes.{Noted}
 use Rattle.cas_journal.specs.declared.notes.Notes.{Notes}
 use Rattle.cas_opening.specs.declared.fault.OpenFault.{OpenFault}
@@ -34,9 +35,9 @@ ReplaysSaid took s c (Err (Bad name at)) = (number : ℕ) × (name ≡ Log numbe
 ReplaysSaid took s c (Err Failed) = TookFront took (above s c)
 ReplaysSaid took s c (Err Mem) = TookFront took (above s c)
 
--- where the listed segments have these mutations together, each is noted with its segment
+-- where the listed segments have these mutations together, each is noted with its segment, and nothing is noted of others
 abbrev pub AreNotedIn : Notes → Saying → List Mutation → Type 0
-AreNotedIn notes s mutations = (parts : List (List Mutation)) → length parts ≡ length s.segments → joined parts ≡ mutations → Noted notes s parts
+AreNotedIn notes s mutations = (parts : List (List Mutation)) → length parts ≡ length s.segments → joined parts ≡ mutations → Noted notes (found_in s.segments mutations) s parts
 
 -- where the folder failed or memory ran out, a front was given of the mutations above their frontiers
 abbrev pub FaultGave : List Entry → List Mutation → List Mutation → OpenFault → Type 0

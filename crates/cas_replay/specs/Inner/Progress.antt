@@ -7,7 +7,7 @@ use Rattle.cas_codec.specs.Reading.{Left, Read}
 use Rattle.cas_atoms.specs.declared.atom.Mutation.{Mutation}
 use Rattle.cas_replay.specs.declared.fault.ReplayFault.{ReplayFault}
 use Rattle.cas_replay.specs.declared.fault.ReplayFault.TheVariants.{Failed, Bad, Mem}
-use Rattle.cas_replay.specs.Tops.{AreNoted}
+use Rattle.cas_replay.specs.Tops.{AreNotesOf}
 use Rattle.cas_replay.specs.Reading.{last_of, is_above}
 use Rattle.cas_replay.specs.Replays.{IsRefusedAt, IsFront}
 use Rattle.cas_replay.specs.Inner.Steps.{StayALog}
@@ -22,10 +22,10 @@ number_of (Some m) = Some m.number
 abbrev pub AreLast : List (Option ℕ) → List Mutation → Type 0
 AreLast numbers read = (shard : ℕ) → shard < 256 → slice_index_or numbers shard None ≡ number_of (last_of shard read)
 
--- So far a log was read: the last numbers are those of these mutations, which are noted, and those of them that are above their frontiers were taken.
+-- So far a log was read: the last numbers are those of these mutations, which are noted, and no others; and those of them that are above their frontiers were taken.
 pub record Stands (shards : ℕ) (frontiers : List ℕ) (took : List Mutation → Type 0) (lasts : Lasts) (read : List Mutation) : Type 0 where
   pub last : AreLast lasts.numbers read
-  pub noted : AreNoted shards lasts.tops read
+  pub noted : AreNotesOf shards lasts.tops read
   pub handed : took (filter (is_above shards frontiers) read)
 
 -- Behind these mutations others were read, which a log may have there, and with all of them something is so.

@@ -9,7 +9,7 @@ use Rattle.cas_journal.proofs.Noting.{named_noted}
 use Rattle.cas_opening.specs.Inner.Reading.{AreNotedIn}
 use Rattle.cas_manifest.specs.Manifests.{place_of}
 use Rattle.cas_opening.specs.Inner.Naming.{IsNamed}
-use Rattle.cas_opening.specs.Opening.{next_segment}
+use Rattle.cas_opening.specs.Opening.{next_segment, found_with}
 use Rattle.cas_opening.proofs.Names.{begun_stayed, begin_stayed, begin_named, begin_unnamed, begin_none, told_none, told_named, none_above_log, none_above_manifest, none_above_at}
 use Rattle.cas_opening.proofs.naming.begin.Goals as goal
 
@@ -91,8 +91,8 @@ returns-clause-begun g c entries ms keeps says noted =
     (λ stands fits. subst (λ (b : Bool). IsNamed entries (NewSegment n) (place_of c.args.manifest) (place_of c.name_segment.new.manifest) (disk c.begin_segment.new.folder) (disk c.name_segment.new.folder) b)
     c.if-not-is_named.false (c.in-Ok-name_segment.ensures.named entries stands fits))
     (c.name_segment.ensures.during entries) c.take.new.self c.in_default.ensures c.new-journal-2.ensures.log c.new-journal-2.ensures.spare
-    (λ parts long all. subst (λ (n : Notes). Noted n (after (said_by entries) (NewSegment (c.last_segment-last.result + 1))) (parts ++ [] ∷ [])) (sym c.new-journal-2.ensures.notes)
-    (named_noted c.args.notes c.args.notes c.begin.new.self (said_by entries) (c.last_segment-last.result + 1) refl c.begin.ensures.shards c.begin.ensures.know parts (noted parts long all)))
+    (λ parts long all. subst (λ (n : Notes). Noted n (found_with entries ms) (after (said_by entries) (NewSegment (c.last_segment-last.result + 1))) (parts ++ [] ∷ [])) (sym c.new-journal-2.ensures.notes)
+    (named_noted c.args.notes c.args.notes c.begin.new.self (found_with entries ms) (said_by entries) (c.last_segment-last.result + 1) refl c.begin.ensures.shards c.begin.ensures.know parts (noted parts long all)))
 
 pub returns-clause-free : goal.returns-clause-free
 returns-clause-free g c =

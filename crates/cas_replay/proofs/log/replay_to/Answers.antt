@@ -1,4 +1,4 @@
-use Rattle.std.proofs.Common.{◌≡◌, ◌<◌, ◌+◌, ℕ, List, [], ◌∷◌, ◌++◌, filter, length, get_or, take, drop, drop-cons, add-one, refl, sym, ap, subst, Result, Ok, Err, arith}
+use Rattle.std.proofs.Common.{inl, ◌≡◌, ◌<◌, ◌+◌, ℕ, List, [], ◌∷◌, ◌++◌, filter, length, get_or, take, drop, drop-cons, add-one, refl, sym, ap, subst, Result, Ok, Err, arith}
 use Rattle.std.proofs.lemmas.List.{append-nil, drop_all, take_more}
 use Rattle.cas_codec.specs.declared.fault.ReadFault.{ReadFault}
 use Rattle.cas_atoms.specs.declared.atom.Mutation.{Mutation}
@@ -19,7 +19,7 @@ pub loop-segment-init : goal.loop-segment-init
 loop-segment-init g c = record {
   went = λ first has. record {
     after = [];
-    stands = record { last = c.none-lasts.ensures; noted = tt; handed = subst (λ (l : List Mutation). g.T.TakesMutations.has_taken l c.args.taker.now) (sym (append-nil first)) has };
+    stands = record { last = c.none-lasts.ensures.last; noted = record { noted = tt; exact = λ place. inl (c.none-lasts.ensures.tops place) }; handed = subst (λ (l : List Mutation). g.T.TakesMutations.has_taken l c.args.taker.now) (sym (append-nil first)) has };
     stay = λ are some so. so;
     so = λ image read. refl;
   };

@@ -23,7 +23,7 @@ returns-in-Ok-clause-lasts g c t lasts =
     let writes = writes_it j log (disk c.args.folder.now) t goes c.in-Some-log.is in
     lasting _ (disk c.commit.new.folder) (committed_all t)
     (commit_goes j log (disk c.args.folder.now) t goes c.in-Some-log.is _ c.commit.new.self (disk c.commit.new.folder) refl c.commit.ensures.number
-    (c.in-Ok.ensures.committed goes.written goes.pushed writes.1 writes.2) (c.in-Ok.ensures.pushed goes.pushed writes.2) c.commit.ensures.others refl refl refl (λ s parts noted. noted))
+    (c.in-Ok.ensures.committed goes.written goes.pushed writes.1 writes.2) (c.in-Ok.ensures.pushed goes.pushed writes.2) c.commit.ensures.others refl refl refl (λ found s parts noted. noted))
 
 pub returns-in-Ok-clause-during : goal.returns-in-Ok-clause-during
 returns-in-Ok-clause-during g c t lasts =

@@ -6,6 +6,7 @@ use Rattle.cas_changes.specs.Saying.{said_by}
 use Rattle.cas_journal.proofs.Moving.{no_first}
 use Rattle.cas_journal.proofs.Tables.{tables_more}
 use Rattle.cas_journal.proofs.Shrinking.{lowest_of, some_first, still_going, none_yet, next_turn, more_leaves, fault_dropped}
+use Rattle.cas_journal.proofs.Staying.{lowest_needed}
 use Rattle.cas_journal.proofs.journal.Journal.drop_covered.Goals as goal
 
 pub turns-init : goal.turns-init
@@ -88,3 +89,9 @@ pub returns-in-Err-clause-tables : goal.returns-in-Err-clause-tables
 returns-in-Err-clause-tables g c =
     let disk = g.F.Folder.disk in
     tables_more (disk c.args.folder.now) (disk c.turns.folder) (disk c.drop_segment.new.folder) c.turns.invariant.tables c.drop_segment.ensures.tables
+
+pub returns-clause-stays : goal.returns-clause-stays
+returns-clause-stays g c t lasts =
+    let inv = c.turns.invariant in
+    lowest_needed c.args.self.now.notes.shards c.args.frontiers.now c.turns.self (g.F.Folder.disk c.turns.folder) t (lasts.goes inv.going) inv.shards
+    (c.first_covered.ensures.stays (no_first c.first_covered.result c.in_default-first_covered.not-Some)) (said_by t.entries).segments refl

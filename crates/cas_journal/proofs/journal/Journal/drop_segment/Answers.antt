@@ -42,7 +42,8 @@ returns-clause-lasts g c t lasts lowest =
     c.append.ensures.during (none_where_ok c.args.self.now.first c.append.new.self.first _ _ _ c.in_default.ensures.outcome) (disk c.remove.new.self) c.append.ensures.others
     c.in_default.ensures.appended c.append.ensures.log c.append.ensures.spare c.append.ensures.last
     (c.drop_first.ensures.shards ∙ ap (λ (n : Notes). n.shards) c.append.ensures.notes)
-    (c.drop_first.ensures.list ∙ ap (λ (n : Notes). drop 1 n.list.items) c.append.ensures.notes) c.remove.ensures.during
+    (c.drop_first.ensures.list ∙ ap (λ (n : Notes). drop 1 n.list.items) c.append.ensures.notes)
+    (c.drop_first.ensures.next ∙ ap (λ (n : Notes). n.next) c.append.ensures.notes) c.remove.ensures.during
 
 pub returns-clause-during : goal.returns-clause-during
 returns-clause-during g c t lasts lowest =
@@ -51,7 +52,8 @@ returns-clause-during g c t lasts lowest =
     c.append.ensures.during (none_where_ok c.args.self.now.first c.append.new.self.first _ _ _ c.in_default.ensures.outcome) (disk c.remove.new.self) c.append.ensures.others
     c.in_default.ensures.appended c.append.ensures.log c.append.ensures.spare c.append.ensures.last
     (c.drop_first.ensures.shards ∙ ap (λ (n : Notes). n.shards) c.append.ensures.notes)
-    (c.drop_first.ensures.list ∙ ap (λ (n : Notes). drop 1 n.list.items) c.append.ensures.notes) c.remove.ensures.during
+    (c.drop_first.ensures.list ∙ ap (λ (n : Notes). drop 1 n.list.items) c.append.ensures.notes)
+    (c.drop_first.ensures.next ∙ ap (λ (n : Notes). n.next) c.append.ensures.notes) c.remove.ensures.during
 
 pub returns-clause-tables : goal.returns-clause-tables
 returns-clause-tables g c =

@@ -27,7 +27,7 @@ returns-in-Ok-clause-lasts g c t lasts all =
     (name_goes j (disk c.args.folder.now) t goes next is _ (disk c.append.new.folder) c.append.ensures.others
     (c.in-Ok.ensures.appended t.entries goes.manifest (name_fits j (disk c.args.folder.now) t goes next is)) all
     (c.take.ensures.value ∙ c.append.ensures.spare ∙ is) c.take.ensures.after c.append.ensures.last
-    (named_noted j.notes c.append.new.self.notes c.begin.new.self (said_by t.entries) j.last_segment c.append.ensures.notes c.begin.ensures.shards c.begin.ensures.know))
+    (named_noted j.notes c.append.new.self.notes c.begin.new.self t.found (said_by t.entries) j.last_segment c.append.ensures.notes c.begin.ensures.shards c.begin.ensures.know))
 
 pub returns-in-Ok-clause-during : goal.returns-in-Ok-clause-during
 returns-in-Ok-clause-during g c t lasts =

@@ -1,9 +1,9 @@
 -- A mutation that is noted in the last segment.
 use Rattle.std.proofs.Common.{refl, ◌≡◌, ◌==◌, max, ◌<◌, ◌∙◌, ◌-◌, ℕ, arith, ap, sym, subst}
 use Rattle.std.specs.Prelude.{if◌then◌else◌}
-use Rattle.cas_journal.specs.Notes.{HasRoom}
+use Rattle.cas_journal.specs.Notes.{HasRoom, IsNoted}
 use Rattle.cas_journal.specs.declared.notes.Note.{Note}
-use Rattle.cas_replay.specs.Tops.{place_in, top_at, AreNoted}
+use Rattle.cas_replay.specs.Tops.{place_in, top_at}
 use Rattle.cas_journal.proofs.Noting.{room_of_last, last_changed, one_more_noted, same_numbers}
 use Rattle.cas_journal.proofs.notes.Notes.note.Goals as goal
 
@@ -18,7 +18,7 @@ note-requires c =
     subst (λ (p : ℕ). HasRoom note.tops p) (sym c.place_in-place.ensures) here
 
 pub returns-in-Some-clause-know : goal.returns-in-Some-clause-know
-returns-in-Some-clause-know c ns parts ms know =
+returns-in-Some-clause-know c found ns parts ms know =
     let self = c.args.self.now in
     let list = self.list in
     let some : 0 < list.len = c.in-Some.ensures.variant.0 refl in
@@ -29,7 +29,7 @@ returns-in-Some-clause-know c ns parts ms know =
     subst (λ (p : ℕ). (at : ℕ) → top_at c.note.new.self at ≡ (if at == p then max (top_at note.tops at) m.number else top_at note.tops at)) c.place_in-place.ensures c.note.ensures.tops in
     record {
       numbers = same_numbers list.items (list.len - 1) note now (ap (λ (n : Note). n.segment) c.in-Some.ensures.value) ∙ know.numbers;
-      noted = last_changed self.shards list.items (list.len - 1) note now parts ms _ (omega (arith, list.ok.0, some))
-          (λ noted. one_more_noted self.shards note.tops c.note.new.self m raised ms
-          (subst (λ (n : Note). AreNoted self.shards n.tops ms) (sym c.in-Some.ensures.value) noted)) know.noted;
+      noted = last_changed self.shards found list.items (list.len - 1) note now parts ms _ (omega (arith, list.ok.0, some))
+          (λ noted. one_more_noted self.shards found note now refl m raised ms (subst (λ (n : Note). IsNoted self.shards found n ms) (sym c.in-Some.ensures.value) noted)) know.noted;
+      next = know.next;
     }
