@@ -141,9 +141,9 @@ module _ (h : History) (s t : State) (n : ℕ) (x y : ShardState) (reading : ℤ
 
 -- ---- a SELECT
 
-pub shows_rows : (files : List (File Held)) (before now : ℕ) (s : ShardHistory) (reading at : ℤ) (q : BoundRead) (l : Look) → at ≡ l.now → l ≡ look_at reading s q.query
-    → Shows files before now s reading q (reply.Rows l.rows q.shard l.front at)
-shows_rows files before now s reading at q l same is = ap (λ (n : ℤ). reply.Rows l.rows q.shard l.front n) same ∙ ap (rows_reply q.shard) is
+pub shows_rows : (s : ShardHistory) (reading at : ℤ) (q : BoundRead) (l : Look) → at ≡ l.now → l ≡ look_at reading s q.query
+    → reply.Rows l.rows q.shard l.front at ≡ rows_reply q.shard (look_at reading s q.query)
+shows_rows s reading at q l same is = ap (λ (n : ℤ). reply.Rows l.rows q.shard l.front n) same ∙ ap (rows_reply q.shard) is
 
 not_want : table_fault.Read ≡ table_fault.Mem → ⊥
 not_want e = cc
