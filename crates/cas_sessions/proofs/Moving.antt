@@ -1,6 +1,6 @@
 -- A store's memory stands for the history after a step.
 use Rattle.std.proofs.Common.{◌≡◌, ◌≢◌, ◌<◌, ◌+◌, ⊎_elim, ◌==◌, ◌≤◌, ℕ, ℤ, Bool, true, false, List, [], ◌∷◌, ◌++◌, length, Some, Err, refl, sym, ap, ◌∙◌, subst, append-nil, arith}
-use Rattle.std.specs.Prelude.{slice_set, slice_get, if◌then◌else◌}
+use Rattle.std.specs.Prelude.{slice_set, slice_get, if◌then◌else◌, Result, IsErrOf}
 use Rattle.std.proofs.lemmas.List.{flat_map_more}
 use Rattle.std.proofs.lemmas.Option.{same_Some}
 use Rattle.cas_atoms.specs.declared.atom.Mutation.{Mutation}
@@ -147,6 +147,11 @@ shows_rows s reading at q l same is = ap (λ (n : ℤ). reply.Rows l.rows q.shar
 
 not_want : table_fault.Read ≡ table_fault.Mem → ⊥
 not_want e = cc
+
+-- why the tally rose, by what was answered
+pub rose_by : {T : Type 0} (r : Result T TableFault) (f : TableFault) (before now : ℕ) → r ≡ Err f → (IsErrOf r table_fault.Read → Rose before now) → f ≡ table_fault.Read
+    → Rose before now
+rose_by {T = T} r f before now is rose e = rose (subst (λ (q : Result T TableFault). IsErrOf q table_fault.Read) (sym is) e)
 
 shows_why : (files : List (File Held)) (before now : ℕ) (s : ShardHistory) (reading : ℤ) (q : BoundRead) (fault : TableFault) → IsWhyNotShown files q.query.key q.query.slice fault
     → (fault ≡ table_fault.Read → Rose before now) → (length files ≡ 0 → fault ≡ table_fault.Mem) → Shows files before now s reading q (reply_of (Err (fault_of_table fault)))

@@ -12,6 +12,7 @@ use Rattle.cas_changes.specs.declared.entry.Entry.{Entry as ManifestEntry}
 use Rattle.cas_history.specs.declared.item.Item.{Item}
 use Rattle.cas_journal.specs.Journals.{Lasts}
 use Rattle.cas_journal.specs.Stores.{Told, MayList}
+use Rattle.cas_journal.specs.declared.journal.Journal.{Journal}
 use Rattle.cas_replay.specs.Grammar.{AreInOrder, AscendByOne, numbers_of}
 use Rattle.cas_room.specs.Keeping.{StandsFor as ImageStands}
 use Rattle.cas_room.specs.Rooms.{accepted_in}
@@ -23,9 +24,9 @@ use Rattle.cas_shard.specs.declared.entry.ShardOpening.{ShardOpening}
 use Rattle.cas_shard.specs.Shards.{ShardHistory, found_shard, empty_shard}
 use Rattle.cas_shard.specs.Stands.{ShardState, Stands}
 use Rattle.cas_sessions.specs.History.{History, shard_at}
-use Rattle.cas_sessions.specs.Starts.{start, AreItsFiles, BeginsAs}
+use Rattle.cas_sessions.specs.Starts.{start, AreItsFiles, BeginsAs, IsInMemory, IsStarted}
 use Rattle.cas_sessions.specs.Entered.{HasTables, IsLeft, entries_in}
-use Rattle.cas_recovery.specs.Openings.{AreOpenings}
+use Rattle.cas_recovery.specs.Openings.{AreOpenings, MayHaveBeen}
 use Rattle.cas_recovery.specs.Recovered.{IsRecovered}
 use Rattle.cas_recovery.specs.Restored.{IsTold}
 use Rattle.cas_sessions.specs.Nodes.{State, StandsFor, LastsFor, disk_of, files_in, files_of}
@@ -58,62 +59,94 @@ there_at [] n lt = absurd (omega (arith, lt))
 there_at (x ∷ xs) zero lt = (x, refl)
 there_at (x ∷ xs) (suc n) lt = there_at xs n (omega (arith, lt))
 
-module _ (given : Limits) (s : State) (found d : Disk) (is : IsRecovered given s.limits s.tables s.shards s.journal found d) (openings : ℕ → ShardOpening)
-    (were : AreOpenings is.entries is.mutations found openings) (clock : s.clock ≡ pos 0) (list : s.list ≡ []) (calls : s.calls ≡ 0) where
-  abbrev count : ℕ
-  count = (said_by is.entries).shards
+-- what was read back is in memory, whatever the shards may have been
+module _ (given limits : Limits) (tables : List TableSchema) (shards : List ShardState) (journal : Journal) (old new : Disk)
+    (is : IsRecovered given limits tables shards journal old new) where
+  many_read : length shards ≡ (said_by is.entries).shards
+  many_read = is.count ∙ ap (λ (l : Limits). l.shards) is.same
 
-  abbrev first : History
-  first = start given is.entries openings s.session (disk_of s)
+  read_back : (openings : ℕ → ShardOpening) → AreOpenings is.entries is.mutations old openings → IsInMemory given is.entries is.mutations openings limits tables shards
+  read_back openings were = record {
+    same = is.same;
+    tables_are = is.tables_are;
+    count = is.count;
+    stands = λ n x there. is.stands n x (openings n) there (may n x there);
+    ordered = is.found.of_a_store.log.ordered;
+    next = λ n x there.
+        opened_goes_on is.entries is.mutations is.found.of_a_store.log old n (openings n) (low n x there) (may n x there) tables x (is.stands n x (openings n) there (may n x there));
+  }
+    where
+      low : (n : ℕ) (x : ShardState) → slice_get shards n ≡ Some x → n < (said_by is.entries).shards
+      low n x there = subst (λ (k : ℕ). n < k) many_read (get_within shards n x there)
+
+      may : (n : ℕ) (x : ShardState) → slice_get shards n ≡ Some x → MayHaveBeen (said_by is.entries) is.mutations old n (openings n)
+      may n x there = were n (low n x there)
+
+  its_files : AreItsFiles is.entries old (files_in shards)
+  its_files = record {
+    listed = λ n table t low there.
+        let (x, at_n) = there_at shards n (subst (λ (k : ℕ). n < k) (sym many_read) low) in
+        ap (λ o. map (λ f. f.info) (files_of o table)) at_n ∙ is.listed n x at_n table t (in_memory table t there);
+    loaded = λ c reads bytes n table t low there.
+        let (x, at_n) = there_at shards n (subst (λ (k : ℕ). n < k) (sym many_read) low) in
+        subst (λ (fs : List (File Held)). (e : Image) × old.may_leave e × AreLoaded t n e (part_of (said_by is.entries) table n).listed fs)
+        (ap (λ o. files_of o table) (sym at_n)) (is.loaded c reads bytes n x at_n table t (in_memory table t there));
+  }
+    where
+      in_memory : (table : ℕ) (t : TableSchema) → slice_get (said_by is.entries).tables table ≡ Some t → slice_get tables table ≡ Some t
+      in_memory table t there = ap (λ (ts : List TableSchema). slice_get ts table) is.tables_are ∙ there
+
+  pub started : IsStarted given limits tables shards journal old new
+  started = record { back = is; memory = read_back; files = its_files }
+
+module _ (given : Limits) (entries : List ManifestEntry) (mutations : List Mutation) (openings : ℕ → ShardOpening) (s : State)
+    (memory : IsInMemory given entries mutations openings s.limits s.tables s.shards) (clock : s.clock ≡ pos 0) (list : s.list ≡ []) (calls : s.calls ≡ 0) where
+  abbrev count : ℕ
+  count = (said_by entries).shards
 
   many : length s.shards ≡ count
-  many = is.count ∙ ap (λ (l : Limits). l.shards) is.same
+  many = memory.count ∙ ap (λ (l : Limits). l.shards) memory.same
 
-  at : (n : ℕ) → n < count → shard_at first n ≡ found_shard (openings n)
+  at : (n : ℕ) → n < count → shard_at (start given entries openings s.session (disk_of s)) n ≡ found_shard (openings n)
   unfolding start
   at n lt = numbered (λ (k : ℕ). found_shard (openings k)) (found_shard empty_shard) 0 count n lt ∙ ap (λ (k : ℕ). found_shard (openings k)) (from_none n)
 
-  there_within : (n : ℕ) (x : ShardState) → slice_get s.shards n ≡ Some x → n < count
-  there_within n x there = subst (λ (k : ℕ). n < k) many (get_within s.shards n x there)
-
-  stood : (n : ℕ) (x : ShardState) → slice_get s.shards n ≡ Some x → Stands s.tables (found_shard (openings n)) x
-  stood n x there = is.stands n x (openings n) there (were n (there_within n x there))
-
-  first_stands : StandsFor first s
+  first_stands : StandsFor (start given entries openings s.session (disk_of s)) s
   unfolding start
   first_stands = record {
-    limits = sym is.same;
-    tables = sym is.tables_are;
+    limits = sym memory.same;
+    tables = sym memory.tables_are;
     clock = sym clock;
     session = refl;
     calls = sym calls;
     disk = refl;
     count = many_mapped _ (numbers 0 count) ∙ many_numbers 0 count ∙ sym many;
     shards = λ n x there.
-        subst (λ (q : ShardHistory). Stands (said_by is.entries).tables q x) (sym (at n (there_within n x there)))
-        (subst (λ ts. Stands ts (found_shard (openings n)) x) is.tables_are (stood n x there));
+        let lt : n < count = subst (λ (k : ℕ). n < k) many (get_within s.shards n x there) in
+        subst (λ (q : ShardHistory). Stands (said_by entries).tables q x) (sym (at n lt))
+        (subst (λ ts. Stands ts (found_shard (openings n)) x) memory.tables_are (memory.stands n x there));
     entered = λ n lt.
         ap (λ (q : ShardHistory). q.entries) (at n (subst (λ (k : ℕ). n < k) (many_mapped _ (numbers 0 count) ∙ many_numbers 0 count) lt))
         ∙ ap (entries_in n) (sym list);
   }
 
-  first_lasts : (t : Told) → IsTold is.entries is.mutations t → Lasts s.journal d t → s.committed ≡ 0 → LastsFor first is.mutations s d t
+  first_lasts : (d : Disk) (t : Told) → IsTold entries mutations t → Lasts s.journal d t → s.committed ≡ 0
+      → LastsFor (start given entries openings s.session (disk_of s)) mutations s d t
   unfolding start
-  first_lasts t told lasts committed = record {
+  first_lasts d t told lasts committed = record {
     keeps = record {
       lasts = lasts;
-      all = told.taken ∙ sym (append-nil is.mutations) ∙ ap (λ (l : List (Item Event)). is.mutations ++ accepted_in l) (sym list);
+      all = told.taken ∙ sym (append-nil mutations) ∙ ap (λ (l : List (Item Event)). mutations ++ accepted_in l) (sym list);
       committed = omega (arith, told.committed, committed);
       whole = told.whole;
     };
-    tables = told.tables ∙ sym is.tables_are;
-    shards = told.shards ∙ ap (λ (l : Limits). l.shards) (sym is.same);
+    tables = told.tables ∙ sym memory.tables_are;
+    shards = told.shards ∙ ap (λ (l : Limits). l.shards) (sym memory.same);
     few = subst (λ (es : List ManifestEntry). length es ≤ 1) (sym told.failed) (omega arith);
-    ordered = subst AreInOrder (sym told.taken) is.found.of_a_store.log.ordered;
+    ordered = subst AreInOrder (sym told.taken) memory.ordered;
     next =
         subst (λ (ms : List Mutation). (n : ℕ) (x : ShardState) → slice_get s.shards n ≡ Some x → AscendByOne (numbers_of n ms ++ (x.number + 1) ∷ [])) (sym told.taken)
-        (λ n x there.
-        opened_goes_on is.entries is.mutations is.found.of_a_store.log found n (openings n) (there_within n x there) (were n (there_within n x there)) s.tables x (stood n x there));
+        memory.next;
     counted = none s.accepted;
     acknowledged = (omega arith, omega arith);
     whole = λ on. none s.committed;
@@ -122,29 +155,13 @@ module _ (given : Limits) (s : State) (found d : Disk) (is : IsRecovered given s
       none : (n : ℕ) → length (accepted_in s.list) ≤ n
       none n = subst (λ (l : List (Item Event)). length (accepted_in l) ≤ n) (sym list) (omega arith)
 
-  -- the table files are the folder's
-  its_files : AreItsFiles is.entries found (files_in s.shards)
-  its_files = record {
-    listed = λ n table t low there.
-        let (x, at_n) = there_at s.shards n (subst (λ (k : ℕ). n < k) (sym many) low) in
-        ap (λ o. map (λ f. f.info) (files_of o table)) at_n ∙ is.listed n x at_n table t (in_memory table t there);
-    loaded = λ c reads bytes n table t low there.
-        let (x, at_n) = there_at s.shards n (subst (λ (k : ℕ). n < k) (sym many) low) in
-        subst (λ (fs : List (File Held)). (e : Image) × found.may_leave e × AreLoaded t n e (part_of (said_by is.entries) table n).listed fs)
-        (ap (λ o. files_of o table) (sym at_n)) (is.loaded c reads bytes n x at_n table t (in_memory table t there));
-  }
-    where
-      in_memory : (table : ℕ) (t : TableSchema) → slice_get (said_by is.entries).tables table ≡ Some t → slice_get s.tables table ≡ Some t
-      in_memory table t there = ap (λ (ts : List TableSchema). slice_get ts table) is.tables_are ∙ there
-
--- the store stands for the history that begins with whatever its shards may have been
-pub begins : (given : Limits) (s : State) (found d : Disk) (is : IsRecovered given s.limits s.tables s.shards s.journal found d) (openings : ℕ → ShardOpening)
-    → AreOpenings is.entries is.mutations found openings → s.clock ≡ pos 0 → s.list ≡ [] → s.calls ≡ 0 → s.committed ≡ 0
-    → BeginsAs given is.entries is.mutations openings found d s
-begins given s found d is openings were clock list calls committed = record {
-  stands = first_stands given s found d is openings were clock list calls;
-  files = its_files given s found d is openings were clock list calls;
-  lasts = λ t told lasts. first_lasts given s found d is openings were clock list calls t told lasts committed;
+-- the store stands for the history that begins with whatever its shards were
+pub begins : (given : Limits) (entries : List ManifestEntry) (mutations : List Mutation) (openings : ℕ → ShardOpening) (s : State) (d : Disk)
+    → IsInMemory given entries mutations openings s.limits s.tables s.shards → s.clock ≡ pos 0 → s.list ≡ [] → s.calls ≡ 0 → s.committed ≡ 0
+    → BeginsAs given entries mutations openings d s
+begins given entries mutations openings s d memory clock list calls committed = record {
+  stands = first_stands given entries mutations openings s memory clock list calls;
+  lasts = λ t told lasts. first_lasts given entries mutations openings s memory clock list calls d t told lasts committed;
 }
 
 -- ---- what a crash leaves

@@ -1,11 +1,12 @@
 -- How an open store begins (own).
-use Rattle.std.specs.Prelude.{◌≡◌, ◌<◌, ◌≤◌, ℕ, List, pos, false, map, slice_get, Some}
+use Rattle.std.specs.Prelude.{◌≡◌, ◌<◌, ◌≤◌, ◌+◌, ℕ, List, [], ◌∷◌, ◌++◌, length, pos, false, map, slice_get, Some}
 use Rattle.cas_disk.specs.Disk.{Disk, Image}
 use Rattle.cas_types.specs.declared.schema.TableSchema.{TableSchema}
 use Rattle.cas_atoms.specs.declared.atom.Mutation.{Mutation}
 use Rattle.cas_bind.specs.declared.bound.Limits.{Limits}
 use Rattle.cas_changes.specs.Saying.{part_of, said_by}
 use Rattle.cas_changes.specs.declared.entry.Entry.{Entry as ManifestEntry}
+use Rattle.cas_replay.specs.Grammar.{AreInOrder, AscendByOne, numbers_of}
 use Rattle.cas_journal.specs.Stores.{Told}
 use Rattle.cas_journal.specs.Journals.{Lasts}
 use Rattle.cas_journal.specs.declared.journal.Journal.{Journal}
@@ -14,11 +15,13 @@ use Rattle.cas_sstread.specs.Loading.{Held}
 use Rattle.cas_view.specs.Views.{File}
 use Rattle.cas_listed.specs.Listed.{AreLoaded}
 use Rattle.cas_shard.specs.declared.entry.ShardOpening.{ShardOpening}
-use Rattle.cas_shard.specs.Stands.{ShardState}
+use Rattle.cas_shard.specs.Stands.{ShardState, Stands}
 use Rattle.cas_shard.specs.Shards.{found_shard}
-use Rattle.cas_sessions.specs.Nodes.{State, StandsFor, LastsFor, disk_of}
+use Rattle.cas_sessions.specs.Nodes.{State, StandsFor, LastsFor, disk_of, files_in}
 use Rattle.cas_history.specs.Hands.{numbers}
 use Rattle.cas_sessions.specs.History.{History, DiskState}
+use Rattle.cas_recovery.specs.Openings.{AreOpenings}
+use Rattle.cas_recovery.specs.Recovered.{IsRecovered}
 use Rattle.cas_recovery.specs.Restored.{IsTold}
 
 -- The history before the first line: the tables that the manifest tells of, as many shards as it says, and of each shard what it was before the run; the
@@ -44,16 +47,35 @@ pub record AreItsFiles (entries : List ManifestEntry) (folder : Disk) (files : �
       → slice_get (said_by entries).tables table ≡ Some t
       → (d : Image) × folder.may_leave d × AreLoaded t shard d (part_of (said_by entries) table shard).listed (files shard table)
 
--- A run with these limits begins so: nothing is stopped, at most one segment was begun since the entries were written, and the table files are the
--- folder's.
-pub record Begins (l : Limits) (entries : List ManifestEntry) (openings : ℕ → ShardOpening) (folder : Disk) (before : ℕ) (h : History) : Type 0 where
+-- The limits, tables and shards of a store of these entries, with these mutations in its log: each shard stands for what it was, and its next number goes
+-- on behind the log's.
+pub record IsInMemory (given : Limits) (entries : List ManifestEntry) (mutations : List Mutation) (openings : ℕ → ShardOpening) (limits : Limits)
+    (tables : List TableSchema) (shards : List ShardState) : Type 0 where
+  pub same : limits ≡ record given { shards = (said_by entries).shards }
+  pub tables_are : tables ≡ (said_by entries).tables
+  pub count : length shards ≡ limits.shards
+  pub stands : (n : ℕ) (x : ShardState) → slice_get shards n ≡ Some x → Stands tables (found_shard (openings n)) x
+  pub ordered : AreInOrder mutations
+  pub next : (n : ℕ) (x : ShardState) → slice_get shards n ≡ Some x → AscendByOne (numbers_of n mutations ++ (x.number + 1) ∷ [])
+
+-- The store of a folder was opened: it was read back with its files; and whatever its shards may have been before, for all that is known of the folder,
+-- memory has them so.
+pub record IsStarted (given limits : Limits) (tables : List TableSchema) (shards : List ShardState) (journal : Journal) (old new : Disk) : Type 0 where
+  pub back : IsRecovered given limits tables shards journal old new
+  pub memory : (openings : ℕ → ShardOpening) → AreOpenings back.entries back.mutations old openings
+      → IsInMemory given back.entries back.mutations openings limits tables shards
+  pub files : AreItsFiles back.entries old (files_in shards)
+
+-- A run with these limits and these table files begins so: nothing is stopped, and at most one segment was begun since the entries were written.
+pub record Begins (l : Limits) (entries : List ManifestEntry) (openings : ℕ → ShardOpening) (files : ℕ → ℕ → List (File Held)) (before : ℕ)
+    (h : History) : Type 0 where
   pub session : ℕ
   pub disk : DiskState
   pub history : h ≡ start l entries openings session disk
   pub going : disk.stopped ≡ false
   pub faults : before ≤ disk.faults
   pub segment : disk.reach.segment ≤ next_segment entries
-  pub files : AreItsFiles entries folder disk.files
+  pub files_are : disk.files ≡ files
 
 -- The store is as it was opened, in a new history: it accepted nothing.
 pub record IsOpenedAs (l : Limits) (tables : List TableSchema) (shards : List ShardState) (journal : Journal) (faults reads : ℕ) (s : State) : Type 0 where
@@ -65,11 +87,9 @@ pub record IsOpenedAs (l : Limits) (tables : List TableSchema) (shards : List Sh
   pub reads_are : s.reads ≡ reads
   pub accepted : s.accepted ≡ 0
 
--- The store stands for the history that begins with these entries and openings, its table files are those of the folder as it was found, and its disk
--- keeps what was told of the entries and the log's mutations.
-pub record BeginsAs (given : Limits) (entries : List ManifestEntry) (mutations : List Mutation) (openings : ℕ → ShardOpening) (found disk : Disk)
+-- The store stands for the history that begins with these entries and openings, and its disk keeps what was told of the entries and the log's mutations.
+pub record BeginsAs (given : Limits) (entries : List ManifestEntry) (mutations : List Mutation) (openings : ℕ → ShardOpening) (disk : Disk)
     (s : State) : Type 0 where
   pub stands : StandsFor (start given entries openings s.session (disk_of s)) s
-  pub files : AreItsFiles entries found (disk_of s).files
   pub lasts : (t : Told) → IsTold entries mutations t → Lasts s.journal disk t
       → LastsFor (start given entries openings s.session (disk_of s)) mutations s disk t

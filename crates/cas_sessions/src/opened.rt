@@ -4,7 +4,7 @@ ghost use Rattle.std.specs.Prelude.{◌≡◌, ◌<◌, ◌≤◌, ℕ, ℤ, Lis
 ghost use Rattle.cas_types.specs.Limits.{IsShardCount};
 ghost use Rattle.cas_disk.specs.Counts.{Counted};
 ghost use Rattle.cas_io.specs.Causes.{Rose};
-ghost use Rattle.cas_disk.specs.Disk.{Disk, Image, During, Same};
+ghost use Rattle.cas_disk.specs.Disk.{Image, During, Same};
 ghost use Rattle.cas_atoms.specs.declared.atom.Mutation.{Mutation as MutationOf};
 ghost use Rattle.cas_changes.specs.declared.entry.Entry.{Entry as EntryOf};
 ghost use Rattle.cas_log.specs.Segment.{IsSize};
@@ -16,10 +16,9 @@ ghost use Rattle.cas_history.specs.Items.{listed, log_list};
 ghost use Rattle.cas_bind.specs.Tables.{AreTables};
 ghost use Rattle.cas_opening.specs.Opening.{IsOfBytes, MayBeMadeNew, MayBeOpened};
 ghost use Rattle.cas_shard.specs.declared.entry.ShardOpening.{ShardOpening};
-ghost use Rattle.cas_recovery.specs.Openings.{AreOpenings};
-ghost use Rattle.cas_recovery.specs.Recovered.{IsRecovered, IsUnreadable};
+ghost use Rattle.cas_recovery.specs.Recovered.{IsUnreadable};
 ghost use Rattle.cas_recovery.specs.Restored.{HaveNoMore, MayBeRead};
-ghost use Rattle.cas_sessions.specs.Starts.{BeginsAs, IsOpenedAs};
+ghost use Rattle.cas_sessions.specs.Starts.{BeginsAs, IsInMemory, IsOpenedAs, IsStarted};
 ghost use Rattle.cas_sessions.specs.Inner.Sound.{read_props, sound_props};
 
 use crate::node::{Closed, Node, Stored};
@@ -70,7 +69,7 @@ pub fn start<F: Folder>(
 ) -> Result<Opened<F>, (RecoveryFault, Closed<F>)>
     requires shards { IsShardCount limits.now.shards }
     requires size { IsSize limits.now.segment }
-    ensures started { IfOk result (λ o. IsRecovered limits.now o.started.limits o.started.tables.items o.started.shards.items o.started.journal
+    ensures started { IfOk result (λ o. IsStarted limits.now o.started.limits o.started.tables.items o.started.shards.items o.started.journal
         (F.disk folder) (F.disk o.folder)) }
     ensures refused { IfErr result (λ r. (name : _) (at : ℕ) → r.0 ≡ RecoveryFault.Bad name at → (c : Image) → (F.disk folder).reads c → IsOfBytes c
         → IsUnreadable limits.now.shards (F.disk folder) name at c) }
@@ -123,10 +122,9 @@ fn assembled<F: Folder, J: Store>(
     ensures made { (session : ℕ) (clock : ℤ)
         → IsOpenedAs started.limits started.tables.items started.shards.items started.journal (F.faults_of folder)
         (⟦<F::Tally as Count>⟧.number tally) (⟦<Node<F, J> as Stored>⟧.state result session 0 clock) }
-    ensures begins { (given : Limits) (found : Disk)
-        → (is : IsRecovered given started.limits started.tables.items started.shards.items started.journal found (F.disk folder))
-        → (openings : ℕ → ShardOpening) → AreOpenings is.entries is.mutations found openings → (session : ℕ)
-        → BeginsAs given is.entries is.mutations openings found (F.disk folder) (⟦<Node<F, J> as Stored>⟧.state result session 0 (pos 0)) }
+    ensures begins { (given : Limits) (entries : List EntryOf) (mutations : List MutationOf) (openings : ℕ → ShardOpening)
+        → IsInMemory given entries mutations openings started.limits started.tables.items started.shards.items → (session : ℕ)
+        → BeginsAs given entries mutations openings (F.disk folder) (⟦<Node<F, J> as Stored>⟧.state result session 0 (pos 0)) }
     ensures folder { result.room.folder ≡ folder }
     ensures sessions { ⟦<Node<F, J> as Stored>⟧.sessions result ≡ seats.maker.out }
 {
@@ -155,11 +153,9 @@ impl<F: Folder> Opened<F> {
         ensures made { IfOk result (λ n. (session : ℕ) (clock : ℤ) → IsOpenedAs self.started.limits self.started.tables.items self.started.shards.items
             self.started.journal (F.faults_of self.folder) (⟦<F::Tally as Count>⟧.number self.tally)
             (⟦<Node<F, J> as Stored>⟧.state n session 0 clock)) }
-        // Whatever the shards may have been before, for all that is known of the folder as it was found.
-        ensures begins { IfOk result (λ n. (given : Limits) (found : Disk) → (is : IsRecovered given self.started.limits self.started.tables.items
-            self.started.shards.items self.started.journal found (F.disk self.folder)) → (openings : ℕ → ShardOpening)
-            → AreOpenings is.entries is.mutations found openings → (session : ℕ)
-            → BeginsAs given is.entries is.mutations openings found (F.disk self.folder) (⟦<Node<F, J> as Stored>⟧.state n session 0 (pos 0))) }
+        ensures begins { IfOk result (λ n. (given : Limits) (entries : List EntryOf) (mutations : List MutationOf) (openings : ℕ → ShardOpening)
+            → IsInMemory given entries mutations openings self.started.limits self.started.tables.items self.started.shards.items → (session : ℕ)
+            → BeginsAs given entries mutations openings (F.disk self.folder) (⟦<Node<F, J> as Stored>⟧.state n session 0 (pos 0))) }
         ensures folder { IfOk result (λ n. n.room.folder ≡ self.folder) }
         ensures sessions { IfOk result (λ n. ⟦<Node<F, J> as Stored>⟧.sessions n ≡ 0) }
         ensures kept { IfErr result (λ c. (c.folder ≡ self.folder) × (c.pass ≡ None) × (c.first ≡ None) × (c.tally ≡ self.tally)) }

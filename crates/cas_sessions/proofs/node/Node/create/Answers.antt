@@ -10,7 +10,7 @@ use Rattle.cas_sessions.specs.Calls.{reply_of}
 use Rattle.cas_sessions.specs.declared.answer.Fault.{Fault}
 use Rattle.cas_recovery.specs.Restored.{HaveNoMore, MayBeRead}
 use Rattle.cas_sessions.proofs.Filing.{readable_created, unmade_created}
-use Rattle.cas_sessions.proofs.Sounding.{sound_told}
+use Rattle.cas_sessions.proofs.Sounding.{sound_reserved, sound_told}
 use Rattle.cas_sessions.proofs.Telling.{true_of_end}
 use Rattle.cas_sessions.proofs.Crashing.{amid_defined, amid_nothing, fits_told}
 use Rattle.cas_sessions.proofs.node.Node.create.Goals as goal
@@ -96,3 +96,24 @@ pub returns-clause-crash : goal.returns-clause-crash
 returns-clause-crash g c = λ clock h found told stands lasts.
     amid_defined h found _ _ told stands lasts _ (Schema c.args.table) _ (ap (λ log. listed log_list log.pass.saw) c.define.ensures.log)
     (c.define.ensures.crash told lasts.keeps.lasts (fits_told h found _ _ told (bounds.Create c.args.table) (Schema c.args.table) c.requires.told c.args.self.now.sound.some lasts))
+
+-- the list of its tables got a place more, and they are the same
+pub invariant_of-self : goal.invariant_of-self
+invariant_of-self g c =
+    let n = c.args.self.now in
+    let same = c.reserve.ensures.items in
+    record {
+      sound = sound_reserved _ _ _ _ _ _ _ n.sound same;
+      readable = subst (λ (us : List TableSchema). MayBeRead us n.shards.items) (sym same) n.readable;
+      unmade = subst (λ (us : List TableSchema). HaveNoMore us n.shards.items) (sym same) n.unmade;
+    }
+
+pub invariant_of-self-in-Err-define : goal.invariant_of-self-in-Err-define
+invariant_of-self-in-Err-define g c =
+    let n = c.args.self.now in
+    let same = c.reserve.ensures.items in
+    record {
+      sound = sound_told _ _ _ _ _ _ _ _ n.sound c.define.ensures.size (subst AreTables (sym same) n.sound.tables);
+      readable = subst (λ (us : List TableSchema). MayBeRead us n.shards.items) (sym same) n.readable;
+      unmade = subst (λ (us : List TableSchema). HaveNoMore us n.shards.items) (sym same) n.unmade;
+    }

@@ -6,7 +6,7 @@ use Rattle.cas_render.specs.declared.reply.Reply.TheVariants.{Rows}
 use Rattle.cas_shard.specs.Shards.{look_at, raised}
 use Rattle.cas_shard.specs.Stands.{Stands, files_at}
 use Rattle.cas_sessions.proofs.Filing.{query_reads, still_readable, still_unmade}
-use Rattle.cas_sessions.proofs.Moving.{moves_look, shows_fault, shows_rows}
+use Rattle.cas_sessions.proofs.Moving.{moves_look, rose_by, shows_fault, shows_rows}
 use Rattle.cas_sessions.proofs.Sounding.{sound_looked}
 use Rattle.cas_sessions.specs.Calls.{reply_of}
 use Rattle.cas_sessions.proofs.Telling.{true_of_read}
@@ -34,7 +34,8 @@ returns-in-Err-clause-shows g c = λ session calls clock.
     (slice_get_read n.shards.items n.limits.shards c.args.read.shard x (sym c.args.self.now.sound.count) c.requires.within.0 c.index_mut.ensures.value) c.look.ensures.number
     c.look.ensures.files c.look.ensures.count.kept (λ ts z stands. subst (λ (k : ℤ). Stands ts (raised k z) c.look.new.self) at (c.look.ensures.stands ts z stands))
     (λ z stands.
-    shows_fault (files_at (slice_get x.stores c.args.read.query.table)) _ _ z c.args.reading c.args.read c.in-Err.fault c.fault_of_table.result c.fault_of_table.ensures c.in-Err.ensures.why c.look.ensures.count.rose c.in-Err.ensures.memory)
+    shows_fault (files_at (slice_get x.stores c.args.read.query.table)) _ _ z c.args.reading c.args.read c.in-Err.fault c.fault_of_table.result c.fault_of_table.ensures c.in-Err.ensures.why
+    (rose_by c.look.result c.in-Err.fault _ _ c.in-Err.is c.look.ensures.count.rose) c.in-Err.ensures.memory)
 
 pub returns-in-Err-clause-told : goal.returns-in-Err-clause-told
 returns-in-Err-clause-told g c = λ s t. true_of_read c.in-Err.fault c.fault_of_table.result s t c.fault_of_table.ensures

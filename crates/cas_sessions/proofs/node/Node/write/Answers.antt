@@ -52,7 +52,7 @@ accept-requires-clause-of g c =
       committed = c.args.self.now.room.faults.committed;
       journal = c.args.self.now.room.journal;
       faults = g.F.Folder.faults_of c.args.self.now.room.folder;
-      reads = g.F.Folder.Tally.Count.number c.args.self.now.tally;
+      reads = g.F.Tally.Count.number c.args.self.now.tally;
     }) c.args.write c.args.reading c.index_mut.result.now c.prepare.new.self c.prepare.result
     (record { sound = c.args.self.now.sound; within = c.requires.within.0; fits = c.requires.fits; seat = c.index_mut.ensures.value; files = c.prepare.ensures.files; answered = λ ts q stands quiet. c.prepare.ensures.answered ts q stands quiet ∙ ap (λ (k : ℤ). prepare_answer c.args.self.now.limits.segment k q c.args.write) at; stands = λ ts n q stands suits. subst (λ (k : ℤ). Stands ts (raised k q) c.prepare.new.self) at (c.prepare.ensures.stands ts n q stands suits); number = c.prepare.ensures.number })
     c.in-Ok.mutation c.in-Ok.is c.in-Ok.ensures.prepared c.in-Ok.ensures.ready
