@@ -151,7 +151,7 @@ not_want e = cc
 -- why the tally rose, by what was answered
 pub rose_by : {T : Type 0} (r : Result T TableFault) (f : TableFault) (before now : ℕ) → r ≡ Err f → (IsErrOf r table_fault.Read → Rose before now) → f ≡ table_fault.Read
     → Rose before now
-rose_by {T = T} r f before now is rose e = rose (subst (λ (q : Result T TableFault). IsErrOf q table_fault.Read) (sym is) e)
+rose_by r f before now is rose e = rose (is ∙ ap Err e)
 
 shows_why : (files : List (File Held)) (before now : ℕ) (s : ShardHistory) (reading : ℤ) (q : BoundRead) (fault : TableFault) → IsWhyNotShown files q.query.key q.query.slice fault
     → (fault ≡ table_fault.Read → Rose before now) → (length files ≡ 0 → fault ≡ table_fault.Mem) → Shows files before now s reading q (reply_of (Err (fault_of_table fault)))
