@@ -460,7 +460,7 @@ module _ (s : State) (w : BoundWrite) (reading : ℤ) (x y : ShardState) (result
   same_files : SameFiles (disk_of s) (disk_of t)
   same_files = (
     ap files_in shards_now
-    ∙ files_still s.shards w.shard x z at_x (λ table. left.files table ∙ ap (λ (q : ShardState). files_at (slice_get q.stores table)) (sym same_shard) ∙ asked.files table),
+        ∙ files_still s.shards w.shard x z at_x (λ table. left.files table ∙ ap (λ (q : ShardState). files_at (slice_get q.stores table)) (sym same_shard) ∙ asked.files table),
     left.reads,
   )
 

@@ -1,5 +1,5 @@
 -- The table files of a store, where its shards and its tables change.
-use Rattle.std.proofs.Common.{◌≡◌, ◌≢◌, ◌⊎◌, inl, inr, ◌≤◌, ◌+◌, ℕ, zero, suc, List, [], ◌∷◌, ◌++◌, length, map, Some, sym, ap, ◌∙◌, subst, arith, length-append}
+use Rattle.std.proofs.Common.{◌≡◌, ◌≢◌, ◌⊎◌, inl, inr, ◌≤◌, ℕ, zero, suc, List, [], ◌∷◌, ◌++◌, length, map, Some, sym, ap, ◌∙◌, subst, arith, length-append}
 use Rattle.std.specs.Prelude.{slice_get, slice_set}
 use Rattle.cas_types.specs.declared.schema.TableSchema.{TableSchema}
 use Rattle.cas_bounds.specs.ClusteringOrder.{clustering_order}
@@ -58,8 +58,10 @@ get_more (x ∷ xs) y z (suc n) is = elim (get_more xs y z n is) [ inl old ↦ i
 module _ (ts : List TableSchema) (xs : List ShardState) (none : HaveNoMore ts xs) (are : MayBeRead ts xs) where
   pub readable_created : (t : TableSchema) → MayBeRead (ts ++ t ∷ []) xs
   readable_created t n x there table u is s slice =
-      elim (get_more ts t u table is) [ inl old ↦ are n x there table u old s slice
-      | inr past ↦ read_in_none s (files_at (slice_get x.stores table)) (none n x there table past) ]
+      elim (get_more ts t u table is) [
+        | inl old ↦ are n x there table u old s slice
+        | inr past ↦ read_in_none s (files_at (slice_get x.stores table)) (none n x there table past)
+      ]
 
   pub unmade_created : (t : TableSchema) → HaveNoMore (ts ++ t ∷ []) xs
   unmade_created t n x there table high = none n x there table (omega (arith, high, length-append ts (t ∷ [])))
