@@ -91,8 +91,17 @@ module _ (given limits : Limits) (tables : List TableSchema) (shards : List Shar
         let (x, at_n) = there_at shards n (subst (λ (k : ℕ). n < k) (sym many_read) low) in
         subst (λ (fs : List (File Held)). (e : Image) × old.may_leave e × AreLoaded t n e (part_of (said_by is.entries) table n).listed fs)
         (ap (λ o. files_of o table) (sym at_n)) (is.loaded c reads bytes n x at_n table t (in_memory table t there));
+    no_more = λ n table high. unmade n table high (slice_get shards n) refl;
   }
     where
+      none_of : (fs : List (File Held)) → length fs ≡ 0 → fs ≡ []
+      none_of [] e = refl
+      none_of (f ∷ fs) e = cc
+
+      unmade : (n table : ℕ) → length (said_by is.entries).tables ≤ table → (o : Option ShardState) → slice_get shards n ≡ o → files_of o table ≡ []
+      unmade n table high None there = refl
+      unmade n table high (Some x) there = none_of _ (is.no_more n x there table (subst (λ (ts : List TableSchema). length ts ≤ table) (sym is.tables_are) high))
+
       in_memory : (table : ℕ) (t : TableSchema) → slice_get (said_by is.entries).tables table ≡ Some t → slice_get tables table ≡ Some t
       in_memory table t there = ap (λ (ts : List TableSchema). slice_get ts table) is.tables_are ∙ there
 
