@@ -1,5 +1,5 @@
 -- Where no mutation stands in a table file, what the log has of a shard it may have been.
-use Rattle.std.proofs.Common.{◌≡◌, ◌<◌, ◌≤◌, ◌≤ℤ◌, inl, inr, ◌==◌, max, pos, ℕ, ℤ, zero, suc, Bool, true, false, List, [], ◌∷◌, ◌++◌, length, refl, sym, ap, ◌∙◌, subst, arith}
+use Rattle.std.proofs.Common.{◌≡◌, ◌<◌, ◌≤◌, ◌≤ℤ◌, ◌+◌, inl, inr, ◌==◌, max, pos, ℕ, ℤ, zero, suc, Bool, true, false, List, [], ◌∷◌, ◌++◌, length, refl, sym, ap, ◌∙◌, subst, arith}
 use Rattle.std.proofs.lemmas.Grind.{flat_map-append}
 use Rattle.std.proofs.lemmas.Int.{clamps, ints}
 use Rattle.std.specs.Prelude.{if◌then◌else◌}
@@ -14,11 +14,12 @@ use Rattle.cas_changes.specs.declared.said.Part.{Part}
 use Rattle.cas_changes.specs.declared.said.ShardTimes.{ShardTimes}
 use Rattle.cas_changes.specs.declared.said.TheConstants.{FIRST_DRAWN}
 use Rattle.cas_changes.specs.Saying.{Saying, said_by, part_of, no_part, no_times}
-use Rattle.cas_replay.specs.Grammar.{AreOfALog}
+use Rattle.cas_replay.specs.Grammar.{AreOfALog, AscendByOne, numbers_of}
 use Rattle.cas_shard.specs.declared.entry.Entry.TheVariants.{Wrote}
 use Rattle.cas_shard.specs.declared.entry.ShardOpening.{ShardOpening}
-use Rattle.cas_shard.specs.Shards.{empty_shard, restored}
-use Rattle.cas_shard.specs.Stands.{mutations_of, of_table}
+use Rattle.cas_shard.specs.Entries.{last_number}
+use Rattle.cas_shard.specs.Shards.{empty_shard, found_shard, restored}
+use Rattle.cas_shard.specs.Stands.{ShardState, Stands, mutations_of, of_table}
 use Rattle.cas_shard.proofs.Memory.{say_alike}
 use Rattle.cas_recovery.specs.Found.{IsUnflushed, found_in}
 use Rattle.cas_recovery.specs.Laws.{LogExplains}
@@ -132,3 +133,12 @@ as_opening entries mutations log folder n o low (inr (none, e)) =
 
 pub log_explains : (folder : Disk) → LogExplains folder
 log_explains folder entries mutations log none n low = explained entries mutations log none n low folder
+
+-- where a shard stands for what it may have been, the log's numbers go on behind its own
+pub opened_goes_on : (entries : List ManifestEntry) (mutations : List Mutation) → AreOfALog (said_by entries).tables (said_by entries).shards mutations → (folder : Disk) (n : ℕ) (o : ShardOpening)
+    → n < (said_by entries).shards → MayHaveBeen (said_by entries) mutations folder n o → (tables : List TableSchema) (x : ShardState) → Stands tables (found_shard o) x
+    → AscendByOne (numbers_of n mutations ++ (x.number + 1) ∷ [])
+unfolding last_number
+opened_goes_on entries mutations log folder n o low may tables x stands =
+    let number : x.number ≡ o.number = stands.number in
+    subst (λ (k : ℕ). AscendByOne (numbers_of n mutations ++ (k + 1) ∷ [])) (sym number) (as_opening entries mutations log folder n o low may).goes_on

@@ -5,15 +5,16 @@ use Rattle.std.specs.List.{AllByRecursion}
 use Rattle.cas_types.specs.declared.schema.TableSchema.{TableSchema}
 use Rattle.cas_atoms.specs.declared.atom.Mutation.{Mutation}
 use Rattle.cas_mutations.specs.Allowed.{FitsRecord}
-use Rattle.cas_replay.specs.Grammar.{AreOfALog, AscendByOne, numbers_of}
+use Rattle.cas_replay.specs.Grammar.{numbers_of}
 use Rattle.cas_shard.specs.Entries.{last_number}
 use Rattle.cas_shard.specs.declared.entry.ShardOpening.{ShardOpening}
 use Rattle.cas_shard.specs.Shards.{empty_shard, found_shard, restored}
-use Rattle.cas_shard.specs.Stands.{Belongs, HasNoFiles, KeepsFiles, ShardState, Stands}
+use Rattle.cas_shard.specs.Stands.{Belongs, HasNoFiles, KeepsFiles, ShardState, Stands, files_at}
+use Rattle.cas_sstread.specs.Loading.{Held}
+use Rattle.cas_view.specs.Views.{File}
 use Rattle.cas_recovery.specs.Found.{found_in}
-use Rattle.cas_recovery.specs.Restored.{AreRestored, HaveNoFiles}
-use Rattle.cas_recovery.specs.Inner.Restoring.{MayBeGiven, Rise}
-use Rattle.cas_recovery.proofs.Founding.{found_reads, front_rises, given_reads, goes_on, is_above, log_given, numbers_more, one_more}
+use Rattle.cas_recovery.specs.Inner.Restoring.{AreRestored, HaveNoFiles, MayBeGiven, Rise}
+use Rattle.cas_recovery.proofs.Founding.{found_reads, front_rises, is_above, numbers_more, one_more}
 use Rattle.cas_recovery.proofs.Places.{get_here, get_other, is_other, is_same, same_place}
 
 -- ---- shards without a mutation
@@ -93,16 +94,25 @@ more_restored tables done m shards old new are there stands n x is = at (same_pl
         subst (λ (o : ShardOpening). Stands tables (found_shard o) x) (sym (found_other n done m other))
         (are n x (sym (get_other shards m.shard n new other) ∙ is))
 
--- a shard that keeps its files has none where it had none, and the others stay
-pub one_keeps_none : (shards : List ShardState) (place : ℕ) (old new : ShardState) → HaveNoFiles shards → slice_get shards place ≡ Some old → KeepsFiles old new
-    → HaveNoFiles (slice_set shards place new)
-one_keeps_none shards place old new are there keeps n x is = at (same_place n place)
+-- what holds of the files of each table in each shard
+abbrev pub OfFiles : (ℕ → List (File Held) → Type 0) → List ShardState → Type 0
+OfFiles P shards = (n : ℕ) (x : ShardState) → slice_get shards n ≡ Some x → (table : ℕ) → P table (files_at (slice_get x.stores table))
+
+-- where a shard keeps its files, and the others stay, it holds of them again
+pub one_keeps : (P : ℕ → List (File Held) → Type 0) (shards : List ShardState) (place : ℕ) (old new : ShardState) → OfFiles P shards → slice_get shards place ≡ Some old
+    → KeepsFiles old new → OfFiles P (slice_set shards place new)
+one_keeps P shards place old new are there keeps n x is = at (same_place n place)
   where
-    at : (n ≡ place) ⊎ (n ≢ place) → HasNoFiles x
+    at : (n ≡ place) ⊎ (n ≢ place) → (table : ℕ) → P table (files_at (slice_get x.stores table))
     at (inl here) =
         let same : new ≡ x = (let set = get_here shards place old new there in let its = ap (slice_get (slice_set shards place new)) here in cc) in
-        subst HasNoFiles same (λ table. ap length (keeps table) ∙ are place old there table)
+        subst (λ (y : ShardState). (table : ℕ) → P table (files_at (slice_get y.stores table))) same
+        (λ table. subst (P table) (sym (keeps table)) (are place old there table))
     at (inr other) = are n x (sym (get_other shards place n new other) ∙ is)
+
+pub one_keeps_none : (shards : List ShardState) (place : ℕ) (old new : ShardState) → HaveNoFiles shards → slice_get shards place ≡ Some old → KeepsFiles old new
+    → HaveNoFiles (slice_set shards place new)
+one_keeps_none shards place old new are there keeps = one_keeps (λ table fs. length fs ≡ 0) shards place old new are there keeps
 
 -- ---- the first shards
 
@@ -118,13 +128,3 @@ first_restored tables mutations n shards are k x is = are k x (get_front n shard
 
 pub first_no_files : (n : ℕ) (shards : List ShardState) → HaveNoFiles shards → HaveNoFiles (take n shards)
 first_no_files n shards are k x is = are k x (get_front n shards k x is)
-
--- ---- where the numbers go on
-
-pub next_numbers : (tables : List TableSchema) (count : ℕ) (mutations : List Mutation) (shards : List ShardState) → AreOfALog tables count mutations
-    → AreRestored tables mutations shards → (n : ℕ) (x : ShardState) → slice_get shards n ≡ Some x → AscendByOne (numbers_of n mutations ++ (x.number + 1) ∷ [])
-unfolding last_number
-next_numbers tables count mutations shards log are n x is =
-    let number : x.number ≡ (found_in n mutations).number = (are n x is).number in
-    subst (λ (k : ℕ). AscendByOne (numbers_of n mutations ++ (k + 1) ∷ [])) (sym number)
-    (goes_on (numbers_of n mutations) (found_in n mutations) (log.ordered n) (given_reads tables count n mutations (log_given tables count mutations log)))

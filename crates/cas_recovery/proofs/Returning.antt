@@ -163,11 +163,7 @@ module _ (entries : List Entry) (mutations handed : List Mutation) (o : OpenStor
   recovered given limits tables shards journal old mid new back opens stays same lasts loading = record {
     entries = entries;
     mutations = mutations;
-    made = read.made;
-    follow = read.follow;
-    some = read.shards;
-    log = read.log;
-    told = opens;
+    found = record { of_a_store = record { made = read.made; follow = read.follow; shards = read.shards; log = read.log }; told = opens };
     same = back.same ∙ ap (λ (n : ℕ). record given { shards = n }) shards_said;
     tables_are = back.tables_are ∙ tables_said;
     good = subst AreTables (sym (back.tables_are ∙ tables_said)) (told_tables_are_tables entries read.follow);

@@ -1,6 +1,5 @@
 -- What a store is that was read back into memory, with its table files (own).
-use Rattle.std.specs.Prelude.{◌≡◌, ◌≢◌, ◌⊎◌, ◌<◌, ◌≤◌, ℕ, List, [], length, slice_get, Some, Ok}
-use Rattle.cas_types.specs.Limits.{IsShardCount}
+use Rattle.std.specs.Prelude.{◌≡◌, ◌⊎◌, ◌<◌, ◌≤◌, ℕ, List, length, slice_get, Some, Ok}
 use Rattle.cas_types.specs.declared.schema.TableSchema.{TableSchema}
 use Rattle.cas_bounds.specs.ClusteringOrder.{clustering_order}
 use Rattle.cas_disk.specs.Disk.{Disk, Image}
@@ -11,10 +10,8 @@ use Rattle.cas_laws.specs.Given.{Has}
 use Rattle.cas_info.specs.declared.info.TableInfo.{TableInfo}
 use Rattle.cas_bind.specs.Tables.{AreTables}
 use Rattle.cas_bind.specs.declared.bound.Limits.{Limits}
-use Rattle.cas_changes.specs.Saying.{nothing, part_of, said_by}
+use Rattle.cas_changes.specs.Saying.{part_of, said_by}
 use Rattle.cas_changes.specs.declared.entry.Entry.{Entry as ManifestEntry}
-use Rattle.cas_manifest.specs.File.{MayFollow}
-use Rattle.cas_replay.specs.Grammar.{AreOfALog}
 use Rattle.cas_journal.specs.Stores.{Told}
 use Rattle.cas_journal.specs.Journals.{Lasts}
 use Rattle.cas_journal.specs.declared.journal.Journal.{Journal}
@@ -25,6 +22,7 @@ use Rattle.cas_listed.specs.Listed.{AreLoaded, IsBadFile}
 use Rattle.cas_shard.specs.declared.entry.ShardOpening.{ShardOpening}
 use Rattle.cas_shard.specs.Shards.{found_shard}
 use Rattle.cas_shard.specs.Stands.{ShardState, Stands, files_at}
+use Rattle.cas_recovery.specs.Found.{IsFound}
 use Rattle.cas_recovery.specs.Openings.{MayHaveBeen}
 use Rattle.cas_recovery.specs.Restored.{AreListed, HaveNoMore, IsTold}
 use Rattle.cas_recovery.specs.declared.filling.TheConstants.{VERSION_PLACE}
@@ -34,11 +32,7 @@ use Rattle.cas_recovery.specs.declared.filling.TheConstants.{VERSION_PLACE}
 pub record IsRecovered (given limits : Limits) (tables : List TableSchema) (shards : List ShardState) (journal : Journal) (old new : Disk) : Type 0 where
   pub entries : List ManifestEntry
   pub mutations : List Mutation
-  pub made : entries ≢ []
-  pub follow : MayFollow nothing entries
-  pub some : IsShardCount (said_by entries).shards
-  pub log : AreOfALog (said_by entries).tables (said_by entries).shards mutations
-  pub told : (c : Image) → old.reads c → IsOfBytes c → OpensAs given.shards entries mutations c
+  pub found : IsFound given.shards old entries mutations
   pub same : limits ≡ record given { shards = (said_by entries).shards }
   pub tables_are : tables ≡ (said_by entries).tables
   pub good : AreTables tables

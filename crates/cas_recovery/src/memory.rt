@@ -1,31 +1,16 @@
-//! Opens the store of a folder: its tables, its shards with what the log has of them, and its journal.
+//! What a store has in memory: its tables, its shards with what the log has of them, and its journal.
 
-ghost use Rattle.std.specs.Prelude.{◌≡◌, ◌<◌, ◌↔◌, ℕ, List, [], ◌∷◌, ◌++◌, length, IfOk, IsErrOf, None, OnOk, IsTrue};
-ghost use Rattle.std.specs.List.{AllByRecursion};
-ghost use Rattle.cas_types.specs.Limits.{IsShardCount};
+ghost use Rattle.std.specs.Prelude.{◌≡◌, List, [], ◌∷◌, ◌++◌, length, IfOk, OnOk};
 ghost use Rattle.cas_types.specs.declared.schema.TableSchema.{TableSchema as Schema};
-ghost use Rattle.cas_disk.specs.Counts.{Counted};
-ghost use Rattle.cas_disk.specs.Disk.{Disk, Image, During, Same};
 ghost use Rattle.cas_atoms.specs.declared.atom.Mutation.{Mutation as MutationOf};
-ghost use Rattle.cas_changes.specs.Saying.{IsSaid, part_of, no_part, no_times};
-ghost use Rattle.cas_changes.specs.declared.entry.Entry.{Entry as EntryOf};
-ghost use Rattle.cas_log.specs.Segment.{IsSize};
-ghost use Rattle.cas_manifest.specs.Loading.{IsNew};
 ghost use Rattle.cas_replay.specs.Grammar.{IsWithinLimits};
-ghost use Rattle.cas_journal.specs.Journals.{AreFree};
-ghost use Rattle.cas_journal.specs.Stores.{IsStore};
-ghost use Rattle.cas_opening.specs.Opening.{IsOfBytes, IsReadWith, MayBeMadeNew, MayBeOpened};
-ghost use Rattle.cas_recovery.specs.Found.{IsUnfit, IsUnflushed};
-ghost use Rattle.cas_recovery.specs.Inner.Restoring.{HaveRestored, HasRestored};
-ghost use Rattle.cas_recovery.specs.Restored.{AreRestored, HaveNoFiles, IsInMemory, IsStarted};
+ghost use Rattle.cas_recovery.specs.Inner.Restoring.{AreRestored, HaveNoFiles, HaveRestored, HasRestored};
 
 use crate::all_shards::{AllShards, Restoring};
 use cas_atoms::Mutation;
 use cas_bind::Limits;
-use cas_changes::Said;
-use cas_disk::{Folder, Name, Sealed};
+use cas_disk::Sealed;
 use cas_journal::Journal;
-use cas_opening::{OpenFault, OpenStore, open_to};
 use cas_replay::TakesMutations;
 use cas_shard::Shard;
 use cas_types::{Mem, TableSchema};
@@ -44,51 +29,6 @@ pub struct Started<S: Sealed> {
     pub tables: Vec<TableSchema>,
     pub shards: Vec<Shard<S>>,
     pub journal: Journal,
-}
-
-// Whether no mutation of a table stands in a file of it, in this shard.
-fn is_unflushed_part(said: &Said, table: u16, shard: u8) -> bool
-    ensures { IsTrue result ↔ (part_of said.now table shard ≡ no_part) }
-{
-    said.frontier(table, shard) == 0 && said.listed(table, shard).is_empty()
-}
-
-// The same in any shard.
-fn is_unflushed_table(said: &Said, table: u16) -> bool
-    ensures { IsTrue result ↔ ((shard : ℕ) → shard < said.now.shards → part_of said.now table shard ≡ no_part) }
-{
-    for shard in 0..said.shards() {
-        if !is_unflushed_part(said, table, shard) {
-            return false;
-        }
-    }
-    true
-}
-
-// Whether no moment and no drawn timestamp of a shard was told, as each change of table files tells one.
-fn is_untimed(said: &Said) -> bool
-    ensures { IsTrue result ↔ AllByRecursion (λ t. t ≡ no_times) said.now.times }
-{
-    let shards = said.times();
-    for times in shards {
-        if times.moment != 0 || times.drawn != NONE_DRAWN {
-            return false;
-        }
-    }
-    true
-}
-
-// Whether no mutation stands in a table file.
-fn is_unflushed(said: &Said) -> bool
-    requires { IsSaid said.now }
-    ensures { IsTrue result ↔ IsUnflushed said.now }
-{
-    for table in 0..said.tables().len() as u16 {
-        if !is_unflushed_table(said, table) {
-            return false;
-        }
-    }
-    is_untimed(said)
 }
 
 // So many shards without a mutation.
@@ -183,73 +123,5 @@ pub(crate) fn with_shards(limits: &Limits, count: u8) -> Limits
         segment: limits.segment,
         memtable: limits.memtable,
         compactors: limits.compactors,
-    }
-}
-
-// The store with its shards in memory, of an opening that has no table files.
-fn in_memory<S: Sealed>(
-    alloc: Global,
-    limits: &Limits,
-    opened: OpenStore,
-    restoring: Restoring<S>,
-) -> Result<Started<S>, Mem>
-    requires { IsUnflushed opened.said }
-    ensures started { (entries : List EntryOf) (mutations given : List MutationOf) → IsReadWith entries mutations given opened.journal opened.said
-        → HasRestored given restoring.shards
-        → IfOk result (λ s. IsInMemory limits.now entries mutations s.limits s.tables.items s.shards.items) }
-    ensures journal { IfOk result (λ s. s.journal ≡ opened.journal) }
-{
-    let OpenStore { journal, said } = opened;
-    let tables = copied(alloc, said.tables())?;
-    let shards = restored(restoring, said.shards())?;
-    Ok(Started {
-        limits: with_shards(limits, said.shards()),
-        tables,
-        shards,
-        journal,
-    })
-}
-
-/// Opens the store of a folder in memory, or makes one. A store that has table files isn't opened yet.
-pub fn open_store<F: Folder>(
-    alloc: Global,
-    folder: &mut F,
-    limits: &Limits,
-) -> Result<Started<F::Sealed>, OpenFault>
-    requires shards { IsShardCount limits.now.shards }
-    requires size { IsSize limits.now.segment }
-    ensures started { IfOk result (λ s. IsStarted limits.now s.limits s.tables.items s.shards.items s.journal (F.disk folder.old) (F.disk folder.new)) }
-    ensures runs { IfOk result (λ s. (s.journal.first ≡ None) × (s.journal.size ≡ limits.now.segment) × AreFree s.journal (F.disk folder.new)) }
-    ensures refused { (name : _) (at : ℕ) → IsErrOf result (OpenFault.Bad name at) → (c : Image) → (F.disk folder.old).reads c → IsOfBytes c
-        → IsUnfit limits.now.shards name at c }
-    ensures stays { (c : Image) → (F.disk folder.old).reads c → IsOfBytes c → (entries : List EntryOf) (mutations : List MutationOf)
-        → IsStore entries mutations c → During (MayBeOpened entries mutations) (F.disk folder.old) (F.disk folder.new) }
-    ensures made { (c : Image) → (F.disk folder.old).reads c → IsOfBytes c → IsNew c
-        → During (MayBeMadeNew limits.now.shards) (F.disk folder.old) (F.disk folder.new) }
-    ensures untouched { (c : Image) → (F.disk folder.old).reads c → IsOfBytes c → (IsNew c → ⊥)
-        → ((entries : List EntryOf) (mutations : List MutationOf) → IsStore entries mutations c → ⊥) → During Same (F.disk folder.old) (F.disk folder.new) }
-    ensures count { Counted (F.faults_of folder.old) (F.faults_of folder.new) (IsErrOf result OpenFault.Failed) }
-{
-    let all = match AllShards::new(alloc) {
-        Ok(all) => all,
-        Err(Mem) => return Err(OpenFault::Mem),
-    };
-    let mut restoring = Restoring {
-        alloc,
-        shards: Some(all),
-    };
-    let opened = match open_to(alloc, folder, limits.shards, limits.segment, &mut restoring) {
-        Ok(opened) => opened,
-        Err(fault) => return Err(fault),
-    };
-    if !is_unflushed(&opened.said) {
-        return Err(OpenFault::Bad {
-            name: Name::Manifest,
-            at: 0,
-        });
-    }
-    match in_memory(alloc, limits, opened, restoring) {
-        Ok(started) => Ok(started),
-        Err(Mem) => Err(OpenFault::Mem),
     }
 }

@@ -93,7 +93,7 @@ failure_text failure.Memory = codes "failed memory\n"
 failure_text failure.Stopped = codes "failed stopped\n"
 failure_text failure.Disk = codes "failed disk\n"
 failure_text failure.Read = codes "failed read\n"
-failure_text failure.Block = codes "failed block\n"
+failure_text (failure.Block number at) = codes "failed block\n"
 
 -- what is printed of the answer to a line of the script
 unfoldable pub reply_text : Reply → List ℕ

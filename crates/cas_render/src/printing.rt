@@ -79,7 +79,7 @@ fn append_failure(out: &mut Vec<u8>, failure: Failure) -> Result<(), Mem>
         Failure::Stopped => append(out, b"failed stopped\n"),
         Failure::Disk => append(out, b"failed disk\n"),
         Failure::Read => append(out, b"failed read\n"),
-        Failure::Block => append(out, b"failed block\n"),
+        Failure::Block { .. } => append(out, b"failed block\n"),
     }
 }
 

@@ -12,10 +12,10 @@ pub enum Failure {
     Stopped,
     /// A write to the disk failed.
     Disk,
-    /// A read of a file failed.
+    /// A read of a table file failed.
     Read,
-    /// A file's bytes aren't as they must be.
-    Block,
+    /// The bytes at that place of the table file of that number aren't as they must be.
+    Block { number: u64, at: u64 },
 }
 
 /// What a line is answered.

@@ -20,7 +20,7 @@ use Rattle.cas_words.specs.declared.words.ClockKind.{ClockKind}
 use Rattle.cas_words.specs.declared.words.ClockKind.TheVariants as clock
 use Rattle.cql_parse.specs.declared.syntax.Statement.{Statement}
 use Rattle.define_laws.proofs.Telling.{defined_tables_may_be_told, defined_columns_may_be_told}
-use Rattle.cas_sessions.specs.History.{History, Changes, Does, IsReading, Shows, WritesAt, after_read, shard_at}
+use Rattle.cas_sessions.specs.History.{History, Changes, Does, IsReading, ReadsAt, WritesAt}
 use Rattle.cas_sessions.specs.Calls.{StandsAt, IsSpelled}
 use Rattle.cas_sessions.specs.Inner.Definitions.{IsTold}
 use Rattle.cas_sessions.specs.Nodes.{State, StandsFor, Moves, OrWant}
@@ -60,11 +60,11 @@ module _ (kind : ClockKind) (Gives : ℤ → Type 0) where
       (reading_at kind Gives seconds s.clock reading there (subst (λ c. IsReading kind Gives c reading) same given)))
 
   pub does_read : (s t : State) (d e : Disk) (seconds at reading n : ℤ) (b : Bound) (q : BoundRead) (r : Reply)
-      → Moves (λ h after. Shows (shard_at h q.shard) n q r × (after ≡ after_read h q.shard n)) s t d e → b ≡ bound.Read q
+      → Moves (λ h after. ReadsAt h n q r after) s t d e → b ≡ bound.Read q
       → StandsAt kind seconds s.clock → at ≡ seconds → IsReading kind Gives at reading → n ≡ reading → Moves (λ h after. Does kind Gives h (Ok b) r after) s t d e
   does_read s t d e seconds at reading n b q r moves of there same given is h stands =
       let (after, so, goes) = moves h stands in
-      (after, subst (λ x. Does kind Gives h (Ok x) r after) (sym of) (n, at_clock s seconds at reading n h stands there same given is, so.0, so.1), goes)
+      (after, subst (λ x. Does kind Gives h (Ok x) r after) (sym of) (n, at_clock s seconds at reading n h stands there same given is, so), goes)
 
   pub does_write : (s t : State) (d e : Disk) (seconds at reading n : ℤ) (b : Bound) (w : BoundWrite) (r : Reply) → Moves (λ h after. WritesAt h n w r after) s t d e
       → b ≡ bound.Write w → StandsAt kind seconds s.clock → at ≡ seconds → IsReading kind Gives at reading → n ≡ reading

@@ -30,15 +30,18 @@ use Rattle.cas_room.specs.declared.event.Event.TheVariants as event
 use Rattle.cas_room.specs.Keeping.{Keeps}
 use Rattle.cas_shard.specs.Shards.{ShardHistory, Prepares, mutation_at, take_refusal, taken_unless, prepare_answer, raised, wants}
 use Rattle.cas_shard.specs.Shards.{entered as with_entered}
-use Rattle.cas_shard.specs.Stands.{Belongs, IsPrepared, IsReady, ShardState, Stands, Suits}
+use Rattle.cas_shard.specs.Stands.{Belongs, IsPrepared, IsReady, KeepsFiles, ShardState, Stands, Suits, files_at}
+use Rattle.cas_sstread.specs.Loading.{Held}
+use Rattle.cas_view.specs.Views.{File}
 use Rattle.cas_shard.specs.declared.answers.TakeFault.{TakeFault}
 use Rattle.cas_shard.specs.declared.answers.TakeFault.TheVariants as fault
-use Rattle.cas_sessions.specs.History.{History, DiskState, Takes, WritesAt, Stays, acknowledges, after_entries, after_write, entry_of, shard_at}
+use Rattle.cas_sessions.specs.History.{History, DiskState, SameFiles, Takes, WritesAt, Stays, acknowledges, after_entries, after_write, entry_of, shard_at}
 use Rattle.cas_sessions.specs.Entered.{entries_in}
-use Rattle.cas_sessions.specs.Nodes.{State, StandsFor, LastsFor, disk_of, Moves}
+use Rattle.cas_sessions.specs.Nodes.{State, StandsFor, LastsFor, disk_of, files_in, Moves}
 use Rattle.cas_sessions.specs.Inner.Sound.{IsSoundState}
 use Rattle.cas_sessions.specs.Inner.Faults.{reply_for}
 use Rattle.cas_recovery.proofs.Places.{get_within, get_map, index_here}
+use Rattle.cas_sessions.proofs.Filing.{files_still}
 use Rattle.cas_sessions.proofs.Moving.{none_more, one_more, with_entries, raised_is, stands_write}
 use Rattle.cas_sessions.proofs.Lasting.{lasts_still, may_be_taken, lasts_with_room, lasts_taken}
 
@@ -99,6 +102,7 @@ pub record Asked (s : State) (w : BoundWrite) (reading : ℤ) (x y : ShardState)
   pub within : w.shard < s.limits.shards
   pub fits : BoundFits s.limits.shards s.tables (bound.Write w)
   pub seat : x ≡ slice_index_or s.shards w.shard x
+  pub files : KeepsFiles x y
   pub answered : (tables : List TableSchema) (q : ShardHistory) → Stands tables q x → Prepares s.limits.segment q reading w result
   pub stands : (tables : List TableSchema) (shards : ℕ) (q : ShardHistory) → Stands tables q x → Suits tables shards w → Stands tables (raised reading q) y
   pub number : y.number ≡ x.number
@@ -138,28 +142,31 @@ module _ (s : State) (w : BoundWrite) (reading : ℤ) (x y : ShardState) (result
         (sym is ∙ asked.answered h.tables (shard_at h w.shard) stood (ap wants is)) in
         (subst (λ l. take_refusal l.segment (mutation_in h reading w) ≡ None) (sym stands.limits) both.0, both.1)
 
--- ---- a disk that nothing was written to
-
-pub stays_same : (d : DiskState) → Stays d d
-stays_same d = record {
-  stopped = refl;
-  faults = omega arith;
-  reach = record { segment = omega arith; segment_next = omega arith; manifest = omega arith; manifest_next = omega arith };
-}
-
 -- ---- a write that wasn't taken
 
 abbrev pub prepared_only : State → ℕ → ShardState → State
 prepared_only s n y = record s { shards = slice_set s.shards n y }
 
 module _ (s : State) (w : BoundWrite) (reading : ℤ) (x y : ShardState) (result : Result Mutation TakeFault) (asked : Asked s w reading x y result) (d : Disk) where
+  abbrev disk_now : DiskState
+  disk_now = disk_of (prepared_only s w.shard y)
+
+  -- nothing was written to the disk
+  stays_same : Stays (disk_of s) disk_now
+  stays_same = record {
+    stopped = refl;
+    faults = omega arith;
+    reach = record { segment = omega arith; segment_next = omega arith; manifest = omega arith; manifest_next = omega arith };
+    files = (files_still s.shards w.shard x y (there s w reading x y result asked) asked.files, refl);
+  }
+
   at_once : (r : Reply) → acknowledges r ≡ 0
-      → ((h : History) → StandsFor h s → Takes h.limits.segment (mutation_in h reading w) (entry_of h (mutation_in h reading w)) h.disk r [] (disk_of s))
+      → ((h : History) → StandsFor h s → Takes h.limits.segment (mutation_in h reading w) (entry_of h (mutation_in h reading w)) h.disk r [] disk_now)
       → Moves (λ h after. WritesAt h reading w r after) s (prepared_only s w.shard y) d d
   at_once r quiet takes h stands =
-      let after : History = after_write h w.shard reading r [] (disk_of s) in (
+      let after : History = after_write h w.shard reading r [] disk_now in (
         after,
-        ([], disk_of s, takes h stands, refl),
+        ([], disk_now, takes h stands, refl),
         record {
           stands = stands_write h s (prepared_only s w.shard y) w.shard x y reading [] stands (there s w reading x y result asked) refl (stands_raised s w reading x y result asked h stands)
               (λ k. none_more w.shard k (entries_in k s.list)) r refl refl refl refl (omega arith);
@@ -179,18 +186,23 @@ module _ (s : State) (w : BoundWrite) (reading : ℤ) (x y : ShardState) (result
       (λ h stands. (
         inl (refused_for s w reading x y result asked h stands why (is ∙ ap (λ k. Err (fault.Refused k)) (sym same))),
         refl,
-        subst (λ e. Stays e (disk_of s)) (sym stands.disk) (stays_same (disk_of s)),
+        subst (λ e. Stays e disk_now) (sym stands.disk) stays_same,
       ))
 
   pub starved_at_once : Moves (λ h after. WritesAt h reading w (reply.Failed failure.Memory) after) s (prepared_only s w.shard y) d d
   starved_at_once =
-      at_once (reply.Failed failure.Memory) refl (λ h stands. (refl, subst (λ e. Stays e (disk_of s)) (sym stands.disk) (stays_same (disk_of s))))
+      at_once (reply.Failed failure.Memory) refl (λ h stands. (refl, subst (λ e. Stays e disk_now) (sym stands.disk) stays_same))
 
 -- ---- a write that the room didn't take
 
--- how a disk stands: what fault is kept, the folder's count of faults, and how far the files have come
-abbrev standing : Option First → ℕ → Reach → DiskState
-standing first faults reach = record { stopped = is_some first; faults = faults; reach = reach }
+-- the table files, by shard and table
+abbrev Files : Type 0
+Files = ℕ → ℕ → List (File Held)
+
+-- how a disk stands: what fault is kept, the folder's count of faults, and how far the files have come; what table files there are, and how often a read
+-- of one failed
+abbrev standing : Option First → ℕ → Reach → Files → ℕ → DiskState
+standing first faults reach files reads = record { stopped = is_some first; faults = faults; reach = reach; files = files; reads = reads }
 
 abbrev failed : {T : Type 0} → JournalFault → Result T JournalFault
 failed f = Err f
@@ -213,37 +225,38 @@ ended : (first kept : Option First) (before now : ℕ) (f : JournalFault) → En
 ended None kept before now f p = inl (refl, p)
 ended (Some g) kept before now f p = inr (g, err_is f (Stopped g) p.0, refl, p.1)
 
-fault_takes : (f : JournalFault) (first kept : Option First) (before now : ℕ) (a b : Reach) (segment long most : ℕ) (m : Mutation) (x : Entry)
-    → JournalPrepares {T = ℕ} long most first kept before now (Err f) → long ≤ most → take_refusal segment m ≡ None → GoesOn a b → before ≤ now
-    → ((what : Counted) (n : ℕ) → f ≡ TooMany what n → IsFull b)
-    → Takes segment m x (standing first before a) (reply_for f) [] (standing kept now b)
-fault_takes (TooLarge length limit) first kept before now a b segment long most m x p short none goes rises full = absurd (omega (arith, p.0, short))
-fault_takes (TooMany what n) first kept before now a b segment long most m x p short none goes rises full = by (ended first kept before now (TooMany what n) p.1)
-  where
-    by : ((first ≡ None) × EndsBy (TooMany what n) kept before now) ⊎ ((g : First) × (TooMany what n ≡ Stopped g) × (first ≡ Some g) × (kept ≡ Some g))
-        → Takes segment m x (standing first before a) (reply_for (TooMany what n)) [] (standing kept now b)
-    by (inl c) =
-        (inr (none, ap is_some c.0, refl, full what n refl), refl, record { stopped = ap is_some c.1 ∙ sym (ap is_some c.0); faults = rises; reach = goes })
-    by (inr c) = absurd (many_not what n c.0 c.1)
-fault_takes (Stopped g) first kept before now a b segment long most m x p short none goes rises full = by (ended first kept before now (Stopped g) p.1)
-  where
-    by : ((first ≡ None) × EndsBy (Stopped g) kept before now) ⊎ ((h : First) × (Stopped g ≡ Stopped h) × (first ≡ Some h) × (kept ≡ Some h))
-        → Takes segment m x (standing first before a) (reply.Failed failure.Stopped) [] (standing kept now b)
-    by (inl c) = absurd c.1
-    by (inr c) = (none, refl, (ap is_some c.2, record { stopped = ap is_some c.3 ∙ sym (ap is_some c.2); faults = rises; reach = goes }))
-fault_takes Failed first kept before now a b segment long most m x p short none goes rises full = by (ended first kept before now Failed p.1)
-  where
-    by : ((first ≡ None) × EndsBy Failed kept before now) ⊎ ((g : First) × (Failed ≡ Stopped g) × (first ≡ Some g) × (kept ≡ Some g))
-        → Takes segment m x (standing first before a) (reply.Failed failure.Disk) [] (standing kept now b)
-    by (inl c) =
-        (none, inl refl, record { before = ap is_some c.0; stopped = ap is_some c.1.1; faults = rises; rose = c.1.0; reach = goes })
-    by (inr c) = absurd (failed_not c.0 c.1)
-fault_takes Mem first kept before now a b segment long most m x p short none goes rises full = by (ended first kept before now Mem p.1)
-  where
-    by : ((first ≡ None) × EndsBy Mem kept before now) ⊎ ((g : First) × (Mem ≡ Stopped g) × (first ≡ Some g) × (kept ≡ Some g))
-        → Takes segment m x (standing first before a) (reply.Failed failure.Memory) [] (standing kept now b)
-    by (inl c) = (refl, record { stopped = ap is_some c.1 ∙ sym (ap is_some c.0); faults = rises; reach = goes })
-    by (inr c) = absurd (mem_not c.0 c.1)
+module _ (old new : Files) (reads reads_now : ℕ) (same : (new ≡ old) × (reads_now ≡ reads)) where
+  fault_takes : (f : JournalFault) (first kept : Option First) (before now : ℕ) (a b : Reach) (segment long most : ℕ) (m : Mutation) (x : Entry)
+      → JournalPrepares {T = ℕ} long most first kept before now (Err f) → long ≤ most → take_refusal segment m ≡ None → GoesOn a b → before ≤ now
+      → ((what : Counted) (n : ℕ) → f ≡ TooMany what n → IsFull b)
+      → Takes segment m x (standing first before a old reads) (reply_for f) [] (standing kept now b new reads_now)
+  fault_takes (TooLarge length limit) first kept before now a b segment long most m x p short none goes rises full = absurd (omega (arith, p.0, short))
+  fault_takes (TooMany what n) first kept before now a b segment long most m x p short none goes rises full = by (ended first kept before now (TooMany what n) p.1)
+    where
+      by : ((first ≡ None) × EndsBy (TooMany what n) kept before now) ⊎ ((g : First) × (TooMany what n ≡ Stopped g) × (first ≡ Some g) × (kept ≡ Some g))
+          → Takes segment m x (standing first before a old reads) (reply_for (TooMany what n)) [] (standing kept now b new reads_now)
+      by (inl c) =
+          (inr (none, ap is_some c.0, refl, full what n refl), refl, record { stopped = ap is_some c.1 ∙ sym (ap is_some c.0); faults = rises; reach = goes; files = same })
+      by (inr c) = absurd (many_not what n c.0 c.1)
+  fault_takes (Stopped g) first kept before now a b segment long most m x p short none goes rises full = by (ended first kept before now (Stopped g) p.1)
+    where
+      by : ((first ≡ None) × EndsBy (Stopped g) kept before now) ⊎ ((h : First) × (Stopped g ≡ Stopped h) × (first ≡ Some h) × (kept ≡ Some h))
+          → Takes segment m x (standing first before a old reads) (reply.Failed failure.Stopped) [] (standing kept now b new reads_now)
+      by (inl c) = absurd c.1
+      by (inr c) = (none, refl, (ap is_some c.2, record { stopped = ap is_some c.3 ∙ sym (ap is_some c.2); faults = rises; reach = goes; files = same }))
+  fault_takes Failed first kept before now a b segment long most m x p short none goes rises full = by (ended first kept before now Failed p.1)
+    where
+      by : ((first ≡ None) × EndsBy Failed kept before now) ⊎ ((g : First) × (Failed ≡ Stopped g) × (first ≡ Some g) × (kept ≡ Some g))
+          → Takes segment m x (standing first before a old reads) (reply.Failed failure.Disk) [] (standing kept now b new reads_now)
+      by (inl c) =
+          (none, inl refl, record { before = ap is_some c.0; stopped = ap is_some c.1.1; faults = rises; rose = c.1.0; reach = goes; files = same })
+      by (inr c) = absurd (failed_not c.0 c.1)
+  fault_takes Mem first kept before now a b segment long most m x p short none goes rises full = by (ended first kept before now Mem p.1)
+    where
+      by : ((first ≡ None) × EndsBy Mem kept before now) ⊎ ((g : First) × (Mem ≡ Stopped g) × (first ≡ Some g) × (kept ≡ Some g))
+          → Takes segment m x (standing first before a old reads) (reply.Failed failure.Memory) [] (standing kept now b new reads_now)
+      by (inl c) = (refl, record { stopped = ap is_some c.1 ∙ sym (ap is_some c.0); faults = rises; reach = goes; files = same })
+      by (inr c) = absurd (mem_not c.0 c.1)
 
 quiet : (f : JournalFault) → acknowledges (reply_for f) ≡ 0
 quiet (TooLarge length limit) = refl
@@ -269,6 +282,7 @@ pub record NotTaken (s t : State) (d e : Disk) (n : ℕ) (y : ShardState) (m : M
   pub reach : GoesOn (reach_of s.journal) (reach_of t.journal)
   pub full : (what : Counted) (n : ℕ) → f ≡ TooMany what n → IsFull (reach_of t.journal)
   pub count : s.faults ≤ t.faults
+  pub reads : t.reads ≡ s.reads
 
 -- nothing was kept before, where nothing is kept now
 kept_since : (first kept : Option First) (before now : ℕ) (f : JournalFault) → Ends {T = Unit {0}} first kept before now (Err f)
@@ -324,7 +338,8 @@ module _ (s : State) (w : BoundWrite) (reading : ℤ) (x y : ShardState) (result
           let after : History = after_write h w.shard reading (reply_for f) [] (disk_of t) in
           let both = prepared_for s w reading x y result asked h stands m is in
           let takes : Takes h.limits.segment (mutation_in h reading w) (entry_of h (mutation_in h reading w)) (disk_of s) (reply_for f) [] (disk_of t) =
-          fault_takes f s.journal.first t.journal.first s.faults t.faults (reach_of s.journal) (reach_of t.journal) h.limits.segment (record_length m) (s.journal.size / 2)
+          fault_takes (files_in s.shards) (files_in t.shards) s.reads t.reads
+          (ap files_in left.shards ∙ files_still s.shards w.shard x y at asked.files, left.reads) f s.journal.first t.journal.first s.faults t.faults (reach_of s.journal) (reach_of t.journal) h.limits.segment (record_length m) (s.journal.size / 2)
           (mutation_in h reading w) (entry_of h (mutation_in h reading w)) left.ends short_for both.0 left.reach left.count left.full in (
             after,
             (
@@ -415,6 +430,8 @@ pub record Took (s t : State) (d e : Disk) (w : BoundWrite) (y yy z : ShardState
   pub ended : Ends {T = Unit {0}} s.journal.first first s.faults faults (Ok tt)
   pub reach : (r : Reach) × GoesOn (reach_of s.journal) r × (reach_of t.journal ≡ r)
   pub rises : (s.faults ≤ faults) × (faults ≤ t.faults)
+  pub files : KeepsFiles yy z
+  pub reads : t.reads ≡ s.reads
 
 module _ (s : State) (w : BoundWrite) (reading : ℤ) (x y : ShardState) (result : Result Mutation TakeFault) (asked : Asked s w reading x y result) (m : Mutation)
     (is : result ≡ Ok m) (prepared : IsPrepared y m) (ready : IsReady s.limits.segment w m)
@@ -439,6 +456,13 @@ module _ (s : State) (w : BoundWrite) (reading : ℤ) (x y : ShardState) (result
 
   shards_now : t.shards ≡ slice_set s.shards w.shard z
   shards_now = left.shards ∙ set_twice s.shards w.shard y z
+
+  same_files : SameFiles (disk_of s) (disk_of t)
+  same_files = (
+    ap files_in shards_now
+        ∙ files_still s.shards w.shard x z at_x (λ table. left.files table ∙ ap (λ (q : ShardState). files_at (slice_get q.stores table)) (sym same_shard) ∙ asked.files table),
+    left.reads,
+  )
 
   lists : (k : ℕ) → entries_in k t.list ≡ with_entries w.shard k new (entries_in k s.list)
   lists k =
@@ -507,6 +531,7 @@ module _ (s : State) (w : BoundWrite) (reading : ℤ) (x y : ShardState) (result
             stopped = ap is_some none ∙ sym (ap is_some begun.0);
             faults = rises;
             reach = goes;
+            files = same_files;
           },
         ),
       )) (inr all) (λ on. all)
@@ -525,5 +550,6 @@ module _ (s : State) (w : BoundWrite) (reading : ℤ) (x y : ShardState) (result
           faults = rises;
           rose = rose_since s.faults left.faults t.faults left.rises.0 off.0;
           reach = goes;
+          files = same_files;
         },
       )) (inl (refl, more)) (λ on. absurd (on_and_off t.journal.first off.1 on))

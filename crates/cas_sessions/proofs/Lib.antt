@@ -1,6 +1,7 @@
 mod Sounding
 mod Telling
 mod Idling
+mod Filing
 mod Moving
 pub mod Answering
 mod Performing

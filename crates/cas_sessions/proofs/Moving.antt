@@ -1,8 +1,7 @@
 -- A store's memory stands for the history after a step.
-use Rattle.std.proofs.Common.{◌≡◌, ◌≢◌, ◌<◌, ◌+◌, ⊎_elim, ◌==◌, ℕ, ℤ, Bool, true, false, List, [], ◌∷◌, ◌++◌, length, Some, refl, sym, ap, ◌∙◌, subst, append-nil}
-use Rattle.std.specs.Prelude.{slice_set, slice_get, if◌then◌else◌}
+use Rattle.std.proofs.Common.{◌≡◌, ◌≢◌, ◌<◌, ◌+◌, ⊎_elim, ◌==◌, ◌≤◌, ℕ, ℤ, Bool, true, false, List, [], ◌∷◌, ◌++◌, length, Some, Err, refl, sym, ap, ◌∙◌, subst, append-nil, arith}
+use Rattle.std.specs.Prelude.{slice_set, slice_get, if◌then◌else◌, Result, IsErrOf}
 use Rattle.std.proofs.lemmas.List.{flat_map_more}
-use Rattle.std.proofs.lemmas.Bool.{true≢false}
 use Rattle.std.proofs.lemmas.Option.{same_Some}
 use Rattle.cas_atoms.specs.declared.atom.Mutation.{Mutation}
 use Rattle.cas_history.specs.declared.item.Item.{Item}
@@ -13,21 +12,26 @@ use Rattle.cas_shard.specs.declared.entry.Entry.{Entry}
 use Rattle.cas_shard.specs.declared.entry.Entry.TheVariants as entry
 use Rattle.cas_bind.specs.declared.bound.BoundRead.{BoundRead}
 use Rattle.cas_disk.specs.Disk.{Disk}
-use Rattle.cas_render.specs.declared.reply.Failure.TheVariants as failure
 use Rattle.cas_render.specs.declared.reply.Reply.{Reply}
 use Rattle.cas_render.specs.declared.reply.Reply.TheVariants as reply
 use Rattle.cas_room.specs.Keeping.{Keeps}
-use Rattle.cas_bounds.specs.declared.cuts.Slice.{Slice}
+use Rattle.cas_io.specs.Causes.{Rose}
+use Rattle.cas_blocks.specs.declared.fault.TableFault.{TableFault}
+use Rattle.cas_blocks.specs.declared.fault.TableFault.TheVariants as table_fault
 use Rattle.cas_sstread.specs.Loading.{Held}
-use Rattle.cas_stored.specs.Reading.{AreReadIn}
+use Rattle.cas_stored.specs.Reading.{IsWhyNotShown}
 use Rattle.cas_view.specs.Views.{File}
 use Rattle.cas_types.specs.declared.schema.TableSchema.{TableSchema}
 use Rattle.cas_shard.specs.Shards.{ShardHistory, found_shard, empty_shard, look_at, raised}
 use Rattle.cas_shard.specs.declared.answers.Look.{Look}
-use Rattle.cas_shard.specs.Stands.{ShardState, Stands}
-use Rattle.cas_sessions.specs.History.{History, Shows, after_entries, after_read, after_write, rows_reply, shard_at, with_shard}
+use Rattle.cas_shard.specs.Stands.{KeepsFiles, ShardState, Stands, files_at}
+use Rattle.cas_sessions.specs.declared.answer.Fault.{Fault}
+use Rattle.cas_sessions.specs.Calls.{reply_of}
+use Rattle.cas_sessions.specs.History.{DiskState, History, ReadsAt, Shows, after_entries, after_read, after_write, rows_reply, shard_at, with_shard}
 use Rattle.cas_sessions.specs.Entered.{entries_in, entry_in}
-use Rattle.cas_sessions.specs.Nodes.{State, StandsFor, disk_of, Moves}
+use Rattle.cas_sessions.specs.Nodes.{State, StandsFor, disk_of, files_of, Moves}
+use Rattle.cas_sessions.specs.Inner.Faults.{fault_of_table}
+use Rattle.cas_sessions.proofs.Filing.{files_still}
 use Rattle.cas_sessions.proofs.Lasting.{lasts_still}
 use Rattle.cas_recovery.proofs.Places.{same_place, length_set, get_here, get_other, get_within, index_here, index_other, is_same, is_other}
 
@@ -51,11 +55,6 @@ one_more list m session call k = sym (flat_map_more (entry_in k) [] list (Wrote 
 -- a look and a write that entered nothing
 pub raised_is : (reading : ℤ) (s : ShardHistory) → raised reading s ≡ after_entries reading [] s
 raised_is reading s = ap (λ es. record (raised reading s) { entries = es }) (sym (append-nil s.entries))
-
--- of a shard without files every slice may be read
-pub read_in_none : (s : Slice) (fs : List (File Held)) → length fs ≡ 0 → AreReadIn s fs
-read_in_none s [] e = tt
-read_in_none s (f ∷ fs) e = cc
 
 -- ---- a step in one shard
 
@@ -126,15 +125,15 @@ module _ (h : History) (s t : State) (n : ℕ) (x y : ShardState) (reading : ℤ
     entered = are_entered;
   }
 
-  pub stands_read : t.limits ≡ s.limits → t.tables ≡ s.tables → t.clock ≡ s.clock → t.session ≡ s.session → t.calls ≡ s.calls → disk_of t ≡ disk_of s
-      → StandsFor after t
+  pub stands_read : t.limits ≡ s.limits → t.tables ≡ s.tables → t.clock ≡ s.clock → t.session ≡ s.session → t.calls ≡ s.calls
+      → disk_of t ≡ record (disk_of s) { reads = t.reads } → StandsFor (record after { disk = record h.disk { reads = t.reads } }) t
   stands_read limits tables clock session calls disk = record {
     limits = stands.limits ∙ sym limits;
     tables = stands.tables ∙ sym tables;
     clock = stands.clock ∙ sym clock;
     session = stands.session ∙ sym session;
     calls = stands.calls ∙ sym calls;
-    disk = stands.disk ∙ sym disk;
+    disk = ap (λ (d : DiskState). record d { reads = t.reads }) stands.disk ∙ sym disk;
     count = still_many;
     shards = shards_stand;
     entered = are_entered;
@@ -142,32 +141,63 @@ module _ (h : History) (s t : State) (n : ℕ) (x y : ShardState) (reading : ℤ
 
 -- ---- a SELECT
 
-pub shows_rows : (s : ShardHistory) (reading now : ℤ) (q : BoundRead) (l : Look) → now ≡ l.now → l ≡ look_at reading s q.query
-    → Shows s reading q (reply.Rows l.rows q.shard l.front now)
-shows_rows s reading now q l same is told = ap (λ (n : ℤ). reply.Rows l.rows q.shard l.front n) same ∙ ap (rows_reply q.shard) is
+pub shows_rows : (s : ShardHistory) (reading at : ℤ) (q : BoundRead) (l : Look) → at ≡ l.now → l ≡ look_at reading s q.query
+    → reply.Rows l.rows q.shard l.front at ≡ rows_reply q.shard (look_at reading s q.query)
+shows_rows s reading at q l same is = ap (λ (n : ℤ). reply.Rows l.rows q.shard l.front n) same ∙ ap (rows_reply q.shard) is
 
-pub shows_none : (s : ShardHistory) (reading : ℤ) (q : BoundRead) → Shows s reading q (reply.Failed failure.Memory)
-shows_none s reading q told = absurd (true≢false told)
+not_want : table_fault.Read ≡ table_fault.Mem → ⊥
+not_want e = cc
 
--- the store whose shard of that number is now this
-abbrev pub with_looked : State → ℕ → ShardState → State
-with_looked s n y = record s { shards = slice_set s.shards n y }
+-- why the tally rose, by what was answered
+pub rose_by : {T : Type 0} (r : Result T TableFault) (f : TableFault) (before now : ℕ) → r ≡ Err f → (IsErrOf r table_fault.Read → Rose before now) → f ≡ table_fault.Read
+    → Rose before now
+rose_by r f before now is rose e = rose (is ∙ ap Err e)
 
-pub moves_look : (s : State) (d : Disk) (q : BoundRead) (x y : ShardState) (reading : ℤ) (r : Reply) → slice_get s.shards q.shard ≡ Some x → y.number ≡ x.number
-    → ((ts : List TableSchema) (z : ShardHistory) → Stands ts z x → Stands ts (raised reading z) y)
-    → ((z : ShardHistory) → Stands s.tables z x → Shows z reading q r)
-    → Moves (λ h after. Shows (shard_at h q.shard) reading q r × (after ≡ after_read h q.shard reading)) s (with_looked s q.shard y) d d
-moves_look s d q x y reading r there number raises shows h stands =
+shows_why : (files : List (File Held)) (before now : ℕ) (s : ShardHistory) (reading : ℤ) (q : BoundRead) (fault : TableFault) → IsWhyNotShown files q.query.key q.query.slice fault
+    → (fault ≡ table_fault.Read → Rose before now) → (length files ≡ 0 → fault ≡ table_fault.Mem) → Shows files before now s reading q (reply_of (Err (fault_of_table fault)))
+shows_why files before now s reading q table_fault.Read why rose memory = (λ none. not_want (memory (ap length none)), rose refl)
+shows_why files before now s reading q (table_fault.BadBlock n at) why rose memory = why
+shows_why files before now s reading q table_fault.Mem why rose memory = tt
+
+-- the same of the fault that it is answered as
+pub shows_fault : (files : List (File Held)) (before now : ℕ) (s : ShardHistory) (reading : ℤ) (q : BoundRead) (fault : TableFault) (f : Fault) → f ≡ fault_of_table fault
+    → IsWhyNotShown files q.query.key q.query.slice fault → (fault ≡ table_fault.Read → Rose before now) → (length files ≡ 0 → fault ≡ table_fault.Mem)
+    → Shows files before now s reading q (reply_of (Err f))
+shows_fault files before now s reading q fault f is why rose memory =
+    subst (λ (g : Fault). Shows files before now s reading q (reply_of (Err g))) (sym is) (shows_why files before now s reading q fault why rose memory)
+
+-- the store whose shard of that number is now this, and of whose table files so many reads had failed
+abbrev pub with_looked : State → ℕ → ShardState → ℕ → State
+with_looked s n y reads = record s { shards = slice_set s.shards n y; reads = reads }
+
+pub moves_look : (s : State) (d : Disk) (q : BoundRead) (x y : ShardState) (reading : ℤ) (reads : ℕ) (r : Reply) → slice_get s.shards q.shard ≡ Some x → y.number ≡ x.number
+    → KeepsFiles x y → s.reads ≤ reads → ((ts : List TableSchema) (z : ShardHistory) → Stands ts z x → Stands ts (raised reading z) y)
+    → ((z : ShardHistory) → Stands s.tables z x → Shows (files_at (slice_get x.stores q.query.table)) s.reads reads z reading q r)
+    → Moves (λ h after. ReadsAt h reading q r after) s (with_looked s q.shard y reads) d d
+moves_look s d q x y reading reads r there number keeps more raises shows h stands =
     let one : Stands h.tables (shard_at h q.shard) x = stands.shards q.shard x there in
     let still : Stands h.tables (after_entries reading [] (shard_at h q.shard)) y =
-    subst (λ (z : ShardHistory). Stands h.tables z y) (raised_is reading (shard_at h q.shard)) (raises h.tables (shard_at h q.shard) one) in (
-      after_read h q.shard reading,
-      (shows (shard_at h q.shard) (subst (λ (ts : List TableSchema). Stands ts (shard_at h q.shard) x) stands.tables one), refl),
+    subst (λ (z : ShardHistory). Stands h.tables z y) (raised_is reading (shard_at h q.shard)) (raises h.tables (shard_at h q.shard) one) in
+    let files : h.disk.files q.shard q.query.table ≡ files_at (slice_get x.stores q.query.table) =
+    ap (λ (e : DiskState). e.files q.shard q.query.table) stands.disk ∙ ap (λ o. files_of o q.query.table) there in
+    let before : h.disk.reads ≡ s.reads = ap (λ (e : DiskState). e.reads) stands.disk in
+    let shown : Shows (files_at (slice_get x.stores q.query.table)) s.reads reads (shard_at h q.shard) reading q r =
+    shows (shard_at h q.shard) (subst (λ (ts : List TableSchema). Stands ts (shard_at h q.shard) x) stands.tables one) in
+    let disk : disk_of (with_looked s q.shard y reads) ≡ record (disk_of s) { reads = reads } =
+    ap (λ fs. record (disk_of s) { files = fs; reads = reads }) (files_still s.shards q.shard x y there keeps) in (
+      after_read h q.shard reading reads,
+      (
+        reads,
+        omega (arith, before, more),
+        subst (λ (fs : List (File Held)). Shows fs h.disk.reads reads (shard_at h q.shard) reading q r) (sym files)
+            (subst (λ (k : ℕ). Shows (files_at (slice_get x.stores q.query.table)) k reads (shard_at h q.shard) reading q r) (sym before) shown),
+        refl,
+      ),
       record {
-        stands = stands_read h s (with_looked s q.shard y) q.shard x y reading [] stands there refl still (λ k. none_more q.shard k (entries_in k s.list)) refl refl refl refl refl refl;
+        stands = stands_read h s (with_looked s q.shard y reads) q.shard x y reading [] stands there refl still (λ k. none_more q.shard k (entries_in k s.list)) refl refl refl refl refl disk;
         lasts = λ found told lasts. (
           told,
-          lasts_still h (after_read h q.shard reading) found s (with_looked s q.shard y) d d told q.shard x y refl there refl number
+          lasts_still h (after_read h q.shard reading reads) found s (with_looked s q.shard y reads) d d told q.shard x y refl there refl number
               (λ l same c count keeps.
               subst (λ (ls : List (Item Event)). Keeps s.journal d ls c found told) (sym same) (subst (λ (k : ℕ). Keeps s.journal d s.list k found told) (sym count) keeps))
               refl refl refl refl refl (λ on. on) lasts,

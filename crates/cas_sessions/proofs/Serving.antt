@@ -6,23 +6,31 @@ use Rattle.cas_gates.specs.declared.first.First.{First}
 use Rattle.cas_history.specs.Hands.{numbers}
 use Rattle.cas_atoms.specs.declared.atom.Mutation.{Mutation}
 use Rattle.cas_bind.specs.declared.bound.Limits.{Limits}
-use Rattle.cas_changes.specs.Saying.{said_by}
+use Rattle.cas_types.specs.declared.schema.TableSchema.{TableSchema}
+use Rattle.cas_changes.specs.Saying.{part_of, said_by}
 use Rattle.cas_changes.specs.declared.entry.Entry.{Entry as ManifestEntry}
 use Rattle.cas_history.specs.declared.item.Item.{Item}
 use Rattle.cas_journal.specs.Journals.{Lasts}
 use Rattle.cas_journal.specs.Stores.{Told, MayList}
+use Rattle.cas_journal.specs.declared.journal.Journal.{Journal}
 use Rattle.cas_replay.specs.Grammar.{AreInOrder, AscendByOne, numbers_of}
 use Rattle.cas_room.specs.Keeping.{StandsFor as ImageStands}
 use Rattle.cas_room.specs.Rooms.{accepted_in}
 use Rattle.cas_room.specs.declared.event.Event.{Event}
+use Rattle.cas_sstread.specs.Loading.{Held}
+use Rattle.cas_view.specs.Views.{File}
+use Rattle.cas_listed.specs.Listed.{AreLoaded}
+use Rattle.cas_shard.specs.declared.entry.ShardOpening.{ShardOpening}
 use Rattle.cas_shard.specs.Shards.{ShardHistory, found_shard, empty_shard}
 use Rattle.cas_shard.specs.Stands.{ShardState, Stands}
 use Rattle.cas_sessions.specs.History.{History, shard_at}
-use Rattle.cas_recovery.specs.Found.{found_in}
-use Rattle.cas_sessions.specs.Starts.{start, BeginsAs}
+use Rattle.cas_sessions.specs.Starts.{start, AreItsFiles, BeginsAs, IsInMemory, IsStarted}
 use Rattle.cas_sessions.specs.Entered.{HasTables, IsLeft, entries_in}
-use Rattle.cas_recovery.specs.Restored.{IsInMemory, IsTold}
-use Rattle.cas_sessions.specs.Nodes.{State, StandsFor, LastsFor, disk_of}
+use Rattle.cas_recovery.specs.Openings.{AreOpenings, MayHaveBeen}
+use Rattle.cas_recovery.specs.Recovered.{IsRecovered}
+use Rattle.cas_recovery.specs.Restored.{IsTold}
+use Rattle.cas_sessions.specs.Nodes.{State, StandsFor, LastsFor, disk_of, files_in, files_of}
+use Rattle.cas_recovery.proofs.Explained.{opened_goes_on}
 use Rattle.cas_recovery.proofs.Places.{get_within}
 
 -- ---- numbers
@@ -45,20 +53,74 @@ from_none n = omega arith
 
 -- ---- the beginning
 
-module _ (given : Limits) (entries : List ManifestEntry) (mutations : List Mutation) (s : State) (memory : IsInMemory given entries mutations s.limits s.tables s.shards)
-    (clock : s.clock ≡ pos 0) (list : s.list ≡ []) (calls : s.calls ≡ 0) where
+-- what is in a place that there is
+there_at : {X : Type 0} (xs : List X) (n : ℕ) → n < length xs → (x : X) × (slice_get xs n ≡ Some x)
+there_at [] n lt = absurd (omega (arith, lt))
+there_at (x ∷ xs) zero lt = (x, refl)
+there_at (x ∷ xs) (suc n) lt = there_at xs n (omega (arith, lt))
+
+-- what was read back is in memory, whatever the shards may have been
+module _ (given limits : Limits) (tables : List TableSchema) (shards : List ShardState) (journal : Journal) (old new : Disk)
+    (is : IsRecovered given limits tables shards journal old new) where
+  many_read : length shards ≡ (said_by is.entries).shards
+  many_read = is.count ∙ ap (λ (l : Limits). l.shards) is.same
+
+  read_back : (openings : ℕ → ShardOpening) → AreOpenings is.entries is.mutations old openings → IsInMemory given is.entries is.mutations openings limits tables shards
+  read_back openings were = record {
+    same = is.same;
+    tables_are = is.tables_are;
+    count = is.count;
+    stands = λ n x there. is.stands n x (openings n) there (may n x there);
+    ordered = is.found.of_a_store.log.ordered;
+    next = λ n x there.
+        opened_goes_on is.entries is.mutations is.found.of_a_store.log old n (openings n) (low n x there) (may n x there) tables x (is.stands n x (openings n) there (may n x there));
+  }
+    where
+      low : (n : ℕ) (x : ShardState) → slice_get shards n ≡ Some x → n < (said_by is.entries).shards
+      low n x there = subst (λ (k : ℕ). n < k) many_read (get_within shards n x there)
+
+      may : (n : ℕ) (x : ShardState) → slice_get shards n ≡ Some x → MayHaveBeen (said_by is.entries) is.mutations old n (openings n)
+      may n x there = were n (low n x there)
+
+  its_files : AreItsFiles is.entries old (files_in shards)
+  its_files = record {
+    listed = λ n table t low there.
+        let (x, at_n) = there_at shards n (subst (λ (k : ℕ). n < k) (sym many_read) low) in
+        ap (λ o. map (λ f. f.info) (files_of o table)) at_n ∙ is.listed n x at_n table t (in_memory table t there);
+    loaded = λ c reads bytes n table t low there.
+        let (x, at_n) = there_at shards n (subst (λ (k : ℕ). n < k) (sym many_read) low) in
+        subst (λ (fs : List (File Held)). (e : Image) × old.may_leave e × AreLoaded t n e (part_of (said_by is.entries) table n).listed fs)
+        (ap (λ o. files_of o table) (sym at_n)) (is.loaded c reads bytes n x at_n table t (in_memory table t there));
+    no_more = λ n table high. unmade n table high (slice_get shards n) refl;
+  }
+    where
+      none_of : (fs : List (File Held)) → length fs ≡ 0 → fs ≡ []
+      none_of [] e = refl
+      none_of (f ∷ fs) e = cc
+
+      unmade : (n table : ℕ) → length (said_by is.entries).tables ≤ table → (o : Option ShardState) → slice_get shards n ≡ o → files_of o table ≡ []
+      unmade n table high None there = refl
+      unmade n table high (Some x) there = none_of _ (is.no_more n x there table (subst (λ (ts : List TableSchema). length ts ≤ table) (sym is.tables_are) high))
+
+      in_memory : (table : ℕ) (t : TableSchema) → slice_get (said_by is.entries).tables table ≡ Some t → slice_get tables table ≡ Some t
+      in_memory table t there = ap (λ (ts : List TableSchema). slice_get ts table) is.tables_are ∙ there
+
+  pub started : IsStarted given limits tables shards journal old new
+  started = record { back = is; memory = read_back; files = its_files }
+
+module _ (given : Limits) (entries : List ManifestEntry) (mutations : List Mutation) (openings : ℕ → ShardOpening) (s : State)
+    (memory : IsInMemory given entries mutations openings s.limits s.tables s.shards) (clock : s.clock ≡ pos 0) (list : s.list ≡ []) (calls : s.calls ≡ 0) where
   abbrev count : ℕ
   count = (said_by entries).shards
 
   many : length s.shards ≡ count
   many = memory.count ∙ ap (λ (l : Limits). l.shards) memory.same
 
-  at : (n : ℕ) → n < count → shard_at (start given entries mutations s.session (disk_of s)) n ≡ found_shard (found_in n mutations)
+  at : (n : ℕ) → n < count → shard_at (start given entries openings s.session (disk_of s)) n ≡ found_shard (openings n)
   unfolding start
-  at n lt =
-      numbered (λ (k : ℕ). found_shard (found_in k mutations)) (found_shard empty_shard) 0 count n lt ∙ ap (λ (k : ℕ). found_shard (found_in k mutations)) (from_none n)
+  at n lt = numbered (λ (k : ℕ). found_shard (openings k)) (found_shard empty_shard) 0 count n lt ∙ ap (λ (k : ℕ). found_shard (openings k)) (from_none n)
 
-  first_stands : StandsFor (start given entries mutations s.session (disk_of s)) s
+  first_stands : StandsFor (start given entries openings s.session (disk_of s)) s
   unfolding start
   first_stands = record {
     limits = sym memory.same;
@@ -71,14 +133,14 @@ module _ (given : Limits) (entries : List ManifestEntry) (mutations : List Mutat
     shards = λ n x there.
         let lt : n < count = subst (λ (k : ℕ). n < k) many (get_within s.shards n x there) in
         subst (λ (q : ShardHistory). Stands (said_by entries).tables q x) (sym (at n lt))
-        (subst (λ ts. Stands ts (found_shard (found_in n mutations)) x) memory.tables_are (memory.restored n x there));
+        (subst (λ ts. Stands ts (found_shard (openings n)) x) memory.tables_are (memory.stands n x there));
     entered = λ n lt.
         ap (λ (q : ShardHistory). q.entries) (at n (subst (λ (k : ℕ). n < k) (many_mapped _ (numbers 0 count) ∙ many_numbers 0 count) lt))
         ∙ ap (entries_in n) (sym list);
   }
 
   first_lasts : (d : Disk) (t : Told) → IsTold entries mutations t → Lasts s.journal d t → s.committed ≡ 0
-      → LastsFor (start given entries mutations s.session (disk_of s)) mutations s d t
+      → LastsFor (start given entries openings s.session (disk_of s)) mutations s d t
   unfolding start
   first_lasts d t told lasts committed = record {
     keeps = record {
@@ -102,12 +164,13 @@ module _ (given : Limits) (entries : List ManifestEntry) (mutations : List Mutat
       none : (n : ℕ) → length (accepted_in s.list) ≤ n
       none n = subst (λ (l : List (Item Event)). length (accepted_in l) ≤ n) (sym list) (omega arith)
 
--- the store stands for the history that begins with what was found
-pub begins : (given : Limits) (entries : List ManifestEntry) (mutations : List Mutation) (s : State) (d : Disk) → IsInMemory given entries mutations s.limits s.tables s.shards
-    → s.clock ≡ pos 0 → s.list ≡ [] → s.calls ≡ 0 → s.committed ≡ 0 → BeginsAs given entries mutations d s
-begins given entries mutations s d memory clock list calls committed = record {
-  stands = first_stands given entries mutations s memory clock list calls;
-  lasts = λ t told lasts. first_lasts given entries mutations s memory clock list calls d t told lasts committed;
+-- the store stands for the history that begins with whatever its shards were
+pub begins : (given : Limits) (entries : List ManifestEntry) (mutations : List Mutation) (openings : ℕ → ShardOpening) (s : State) (d : Disk)
+    → IsInMemory given entries mutations openings s.limits s.tables s.shards → s.clock ≡ pos 0 → s.list ≡ [] → s.calls ≡ 0 → s.committed ≡ 0
+    → BeginsAs given entries mutations openings d s
+begins given entries mutations openings s d memory clock list calls committed = record {
+  stands = first_stands given entries mutations openings s memory clock list calls;
+  lasts = λ t told lasts. first_lasts given entries mutations openings s memory clock list calls d t told lasts committed;
 }
 
 -- ---- what a crash leaves

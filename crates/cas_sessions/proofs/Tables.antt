@@ -39,11 +39,13 @@ use Rattle.cas_room.specs.declared.event.Event.{Event}
 use Rattle.cas_room.specs.Keeping.{Keeps}
 use Rattle.cas_room.specs.Rooms.{accepted_in}
 use Rattle.cas_shard.specs.Shards.{ShardHistory}
+use Rattle.cas_sstread.specs.Loading.{Held}
+use Rattle.cas_view.specs.Views.{File}
 use Rattle.cas_shard.specs.Stands.{ShardState, Stands, order_at, order_of}
 use Rattle.cas_shard.proofs.Standing.{stands_under}
 use Rattle.cas_sessions.specs.History.{Changes, Defines, History, DiskState, shard_at}
 use Rattle.cas_sessions.specs.Inner.Definitions.{MayBeTold}
-use Rattle.cas_sessions.specs.Nodes.{State, StandsFor, LastsFor, disk_of, Moves}
+use Rattle.cas_sessions.specs.Nodes.{State, StandsFor, LastsFor, disk_of, files_in, Moves}
 use Rattle.cas_sessions.specs.Inner.Faults.{reply_for}
 
 -- ---- a shard under more tables
@@ -62,12 +64,12 @@ module _ (a : Addition) (bare : NoKeys a.columns) where
   one_order t true = same_order t.columns a.columns bare
   one_order t false = refl
 
-  each_order : (ts : List TableSchema) (n : ℕ) → order_at (map (with_added a) ts) n ≡ order_at ts n
+  pub each_order : (ts : List TableSchema) (n : ℕ) → order_at (map (with_added a) ts) n ≡ order_at ts n
   each_order [] n = refl
   each_order (t ∷ ts) zero = one_order t (t.number == a.table)
   each_order (t ∷ ts) (suc n) = each_order ts n
 
-  many : (ts : List TableSchema) → length (map (with_added a) ts) ≡ length ts
+  pub many : (ts : List TableSchema) → length (map (with_added a) ts) ≡ length ts
   many [] = refl
   many (t ∷ ts) = ap suc (many ts)
 
@@ -184,6 +186,10 @@ lasts_defined h k found s t d e told now lasts acks keeps taken few tables said 
 
 -- ---- how a definition ends
 
+-- the table files, by shard and table
+abbrev Files : Type 0
+Files = ℕ → ℕ → List (File Held)
+
 goes_nowhere : (r q : Reach) → q ≡ r → GoesOn r q
 goes_nowhere r q same =
     subst (GoesOn r) (sym same) (record { segment = omega arith; segment_next = omega arith; manifest = omega arith; manifest_next = omega arith })
@@ -198,13 +204,13 @@ goes_before (Some first) kept before now result ends on = absurd (not_on (ap is_
     not_on e = cc
 
 module _ (x : ManifestEntry) (old new tables : List TableSchema) (kept : Option First) (before now : ℕ) (r q : Reach) (are : tables ≡ old)
-    (short : length (entry_bytes x) < 2 ^ 32) (le : before ≤ now) (same : q ≡ r) where
+    (short : length (entry_bytes x) < 2 ^ 32) (le : before ≤ now) (same : q ≡ r) (fs gs : Files) (reads reads_now : ℕ) (files : (gs ≡ fs) × (reads_now ≡ reads)) where
   -- how the disk stands before and after it
   abbrev stood : Option First → DiskState
-  stood first = record { stopped = is_some first; faults = before; reach = r }
+  stood first = record { stopped = is_some first; faults = before; reach = r; files = fs; reads = reads }
 
   abbrev stands_now : DiskState
-  stands_now = record { stopped = is_some kept; faults = now; reach = q }
+  stands_now = record { stopped = is_some kept; faults = now; reach = q; files = gs; reads = reads_now }
 
   pub defines_not : (first : Option First) (fault : JournalFault) → Ends {T = Unit {0}} first kept before now (Err fault)
       → ((what : Counted) (most : ℕ) → fault ≡ TooMany what most → HasNoPlace x r)
@@ -215,28 +221,31 @@ module _ (x : ManifestEntry) (old new tables : List TableSchema) (kept : Option 
     refl,
     short,
     full what most refl,
-    (refl, record { stopped = ap is_some ends; faults = le; reach = goes_nowhere r q same }),
+    (refl, record { stopped = ap is_some ends; faults = le; reach = goes_nowhere r q same; files = files }),
   )
   defines_not None (Stopped first) ends full = absurd ends
   defines_not None Failed ends full = (
     are,
-    record { before = refl; stopped = ap is_some ends.1; faults = le; rose = ends.0; reach = goes_nowhere r q same },
+    record { before = refl; stopped = ap is_some ends.1; faults = le; rose = ends.0; reach = goes_nowhere r q same; files = files },
   )
-  defines_not None Mem ends full = (are, record { stopped = ap is_some ends; faults = le; reach = goes_nowhere r q same })
+  defines_not None Mem ends full = (are, record { stopped = ap is_some ends; faults = le; reach = goes_nowhere r q same; files = files })
   defines_not (Some f) (TooLarge size most) ends full = absurd (cc ends.0)
   defines_not (Some f) (TooMany what most) ends full = absurd (cc ends.0)
   defines_not (Some f) (Stopped first) ends full = (
     are,
-    (refl, record { stopped = ap is_some ends.1; faults = le; reach = goes_nowhere r q same }),
+    (refl, record { stopped = ap is_some ends.1; faults = le; reach = goes_nowhere r q same; files = files }),
   )
   defines_not (Some f) Failed ends full = absurd (cc ends.0)
   defines_not (Some f) Mem ends full = absurd (cc ends.0)
 
-pub defines_done : {T : Type 0} (x : ManifestEntry) (old new tables : List TableSchema) (first kept : Option First) (before now : ℕ) (r q : Reach) (given : T)
-    → tables ≡ new → Ends first kept before now (Ok given) → before ≤ now → q ≡ record { segment = r.segment; manifest = r.manifest + room_of x }
-    → Defines x old new (record { stopped = is_some first; faults = before; reach = r }) reply.Done tables (record { stopped = is_some kept; faults = now; reach = q })
-defines_done x old new tables None kept before now r q given are ends le same = (are, refl, record { stopped = ap is_some ends; faults = le; reach = same })
-defines_done x old new tables (Some f) kept before now r q given are ends le same = absurd (cc ends.0)
+pub defines_done : {T : Type 0} (x : ManifestEntry) (old new tables : List TableSchema) (first kept : Option First) (before now : ℕ) (r q : Reach) (fs gs : Files) (reads reads_now : ℕ)
+    (given : T) → tables ≡ new → Ends first kept before now (Ok given) → before ≤ now → q ≡ record { segment = r.segment; manifest = r.manifest + room_of x }
+    → (gs ≡ fs) × (reads_now ≡ reads)
+    → Defines x old new (record { stopped = is_some first; faults = before; reach = r; files = fs; reads = reads }) reply.Done tables
+    (record { stopped = is_some kept; faults = now; reach = q; files = gs; reads = reads_now })
+defines_done x old new tables None kept before now r q fs gs reads reads_now given are ends le same files =
+    (are, refl, record { stopped = ap is_some ends; faults = le; reach = same; files = files })
+defines_done x old new tables (Some f) kept before now r q fs gs reads reads_now given are ends le same files = absurd (cc ends.0)
 
 -- ---- what is said after it
 
@@ -275,12 +284,13 @@ pub record IsRest (s t : State) : Type 0 where
   pub calls : t.calls ≡ s.calls
   pub accepted : t.accepted ≡ s.accepted
   pub committed : t.committed ≡ s.committed
+  pub reads : t.reads ≡ s.reads
 
 -- where memory runs out before the room is asked nothing changes
 pub moves_nowhere : (s : State) (d : Disk) (x : ManifestEntry) (b : Bound) → Moves (λ h after. Changes h x b (reply.Failed failure.Memory) after) s s d d
 moves_nowhere s d x b h stands = (
   h,
-  (h.tables, h.disk, (refl, record { stopped = refl; faults = omega arith; reach = goes_nowhere h.disk.reach h.disk.reach refl }), refl),
+  (h.tables, h.disk, (refl, record { stopped = refl; faults = omega arith; reach = goes_nowhere h.disk.reach h.disk.reach refl; files = (refl, refl) }), refl),
   record { stands = stands; lasts = λ found told lasts. (told, lasts) },
 )
 
@@ -308,7 +318,7 @@ module _ (s t : State) (d e : Disk) (x : ManifestEntry) (b : Bound) (may : MayBe
       subst (λ (k : DiskState). Defines x h.tables (tables_after h.tables b) k answer t.tables (disk_of t)) (sym stands.disk)
           (subst (λ (k : Reply). Defines x h.tables (tables_after h.tables b) (disk_of s) k t.tables (disk_of t)) (sym is)
           (defines_not x h.tables (tables_after h.tables b) t.tables t.journal.first s.faults t.faults (reach_of s.journal) (reach_of t.journal) (same ∙ sym stands.tables) short count reach
-          s.journal.first fault ends full)),
+          (files_in s.shards) (files_in t.shards) s.reads t.reads (ap files_in rest.shards, rest.reads) s.journal.first fault ends full)),
       refl,
     ),
     record {
@@ -338,8 +348,9 @@ module _ (s t : State) (d e : Disk) (x : ManifestEntry) (b : Bound) (may : MayBe
       t.tables,
       disk_of t,
       subst (λ (k : DiskState). Defines x h.tables (tables_after h.tables b) k reply.Done t.tables (disk_of t)) (sym stands.disk)
-          (defines_done x h.tables (tables_after h.tables b) t.tables s.journal.first t.journal.first s.faults t.faults (reach_of s.journal) (reach_of t.journal) tt
-          (new ∙ ap (λ (ts : List TableSchema). tables_after ts b) (sym stands.tables)) ends count reach),
+          (defines_done x h.tables (tables_after h.tables b) t.tables s.journal.first t.journal.first s.faults t.faults (reach_of s.journal) (reach_of t.journal)
+          (files_in s.shards) (files_in t.shards) s.reads t.reads tt (new ∙ ap (λ (ts : List TableSchema). tables_after ts b) (sym stands.tables)) ends count reach
+          (ap files_in rest.shards, rest.reads)),
       refl,
     ),
     record {

@@ -1,6 +1,8 @@
 -- What the fault of a call tells beside its reply.
 use Rattle.std.proofs.Common.{◌≡◌, ◌+◌, ℕ, List, [], ◌∷◌, ◌++◌, Option, None, Some, Err, sym, ap, ◌∙◌, subst}
 use Rattle.cas_atoms.specs.declared.atom.Mutation.{Mutation}
+use Rattle.cas_blocks.specs.declared.fault.TableFault.{TableFault}
+use Rattle.cas_blocks.specs.declared.fault.TableFault.TheVariants as table_fault
 use Rattle.cas_gates.specs.declared.first.First.{First}
 use Rattle.cas_history.specs.declared.item.Item.{Item}
 use Rattle.cas_history.specs.declared.item.Item.TheVariants.{Wrote}
@@ -12,7 +14,7 @@ use Rattle.cas_room.specs.declared.event.Event.TheVariants as event
 use Rattle.cas_sessions.specs.declared.answer.Fault.{Fault}
 use Rattle.cas_sessions.specs.Calls.{IsTrueOf}
 use Rattle.cas_sessions.specs.Nodes.{State}
-use Rattle.cas_sessions.specs.Inner.Faults.{fault_for}
+use Rattle.cas_sessions.specs.Inner.Faults.{fault_for, fault_of_table}
 
 stopped_by : (T : Type 0) (first kept : Option First) (before now : ℕ) (g : First) → Ends {T = T} first kept before now (Err (Stopped g)) → first ≡ Some g
 stopped_by T None kept before now g p = absurd p
@@ -51,3 +53,12 @@ true_of_accepted list new m session calls now number is counted same = (
   is ∙ ap (λ (k : ℕ). list ++ Wrote m.shard session k m.number (event.Accepted m) ∷ []) (sym counted)
       ∙ ap (λ (k : ℕ). list ++ Wrote m.shard session now k (event.Accepted m) ∷ []) (sym same),
 )
+
+-- a SELECT of which nothing is shown
+pub true_of_read : (f : TableFault) (x : Fault) (s t : State) → x ≡ fault_of_table f → IsTrueOf (Err x) s t
+true_of_read f x s t is = subst (λ (y : Fault). IsTrueOf (Err y) s t) (sym is) (by f)
+  where
+    by : (f : TableFault) → IsTrueOf (Err (fault_of_table f)) s t
+    by table_fault.Read = tt
+    by (table_fault.BadBlock n at) = tt
+    by table_fault.Mem = tt

@@ -17,7 +17,7 @@ use Rattle.cql_parse.specs.declared.syntax.Statement.TheVariants as statement
 use Rattle.cas_sessions.specs.declared.answer.Answer.{Answer}
 use Rattle.cas_sessions.specs.declared.answer.Answer.TheVariants.{Done, Wrote, Rows}
 use Rattle.cas_sessions.specs.declared.answer.Fault.{Fault}
-use Rattle.cas_sessions.specs.declared.answer.Fault.TheVariants.{Refused, Stopped, Disk, Mem}
+use Rattle.cas_sessions.specs.declared.answer.Fault.TheVariants.{Refused, Stopped, Disk, Read, BadBlock, Mem}
 use Rattle.cas_sessions.specs.History.{History, Does}
 use Rattle.cas_sessions.specs.Nodes.{State, OrWant}
 use Rattle.cql_lex.specs.declared.token.Token.{Token}
@@ -32,6 +32,8 @@ reply_of (Ok (Rows rows shard front now)) = reply.Rows rows shard front now
 reply_of (Err (Refused number)) = reply.Refused number
 reply_of (Err (Stopped first)) = reply.Failed failure.Stopped
 reply_of (Err (Disk number)) = reply.Failed failure.Disk
+reply_of (Err Read) = reply.Failed failure.Read
+reply_of (Err (BadBlock number at)) = reply.Failed (failure.Block number at)
 reply_of (Err Mem) = reply.Failed failure.Memory
 
 -- What a fault tells beside that: the fault that stopped the store before; of a mutation for which the disk failed whether it was accepted, and as which

@@ -1,12 +1,13 @@
 -- What each line answers, and what it enters into the history of the store.
 -- CQL documentation, "Data definition" and "Data manipulation"; numbers, timestamps, moments, what a failed write stops, and the command are own.
-use Rattle.std.specs.Prelude.{◌≡◌, ◌⊎◌, ℕ, ◌+◌, ◌^◌, ◌<◌, ◌≤◌, ℤ, pos, ◌*ℤ◌, Bool, true, false, None, Some, Result, Ok, Err}
+use Rattle.std.specs.Prelude.{◌≡◌, ◌≢◌, ◌⊎◌, ℕ, ◌+◌, ◌^◌, ◌<◌, ◌≤◌, ℤ, pos, ◌*ℤ◌, Bool, true, false, None, Some, Result, Ok, Err}
 use Rattle.std.specs.Prelude.{List, [], ◌∷◌, ◌++◌, length, slice_index_or, slice_set}
 use Rattle.std.specs.Int.{int_max, int_min}
 use Rattle.cas_types.specs.declared.limits.TheConstants.{LAST_MICROSECOND}
 use Rattle.cas_types.specs.declared.schema.TableSchema.{TableSchema}
 use Rattle.cas_io.specs.Causes.{Rose}
 use Rattle.cas_atoms.specs.declared.atom.Mutation.{Mutation}
+use Rattle.cas_atoms.specs.declared.query.Query.{Query}
 use Rattle.cas_changes.specs.declared.entry.Entry.{Entry as ManifestEntry}
 use Rattle.cas_changes.specs.declared.entry.Entry.TheVariants.{Schema, AddColumns}
 use Rattle.cas_changes.specs.Spelling.{entry_bytes}
@@ -25,6 +26,9 @@ use Rattle.cas_render.specs.declared.reply.Failure.{Failure}
 use Rattle.cas_render.specs.declared.reply.Failure.TheVariants as failure
 use Rattle.cas_render.specs.declared.reply.Reply.{Reply}
 use Rattle.cas_render.specs.declared.reply.Reply.TheVariants as reply
+use Rattle.cas_sstread.specs.Loading.{Held}
+use Rattle.cas_stored.specs.Reading.{IsBadFile}
+use Rattle.cas_view.specs.Views.{File}
 use Rattle.cas_words.specs.declared.words.ClockKind.{ClockKind}
 use Rattle.cas_words.specs.declared.words.ClockKind.TheVariants as clock
 use Rattle.cas_shard.specs.declared.entry.Entry.{Entry}
@@ -35,11 +39,13 @@ use Rattle.cas_shard.specs.Shards.{ShardHistory, found_shard, empty_shard, momen
 -- ---- what the lines so far came to
 
 -- How a store's disk stands: whether a failed write stopped all further ones, how often the folder failed, and how far the numbers of segments and
--- the bytes of the manifest have come.
+-- the bytes of the manifest have come; which table files there are, by the shard's number and the table's, and how often a read of one failed.
 pub record DiskState : Type 0 where
   pub stopped : Bool
   pub faults : ℕ
   pub reach : Reach
+  pub files : ℕ → ℕ → List (File Held)
+  pub reads : ℕ
 
 -- The limits of the store, its tables, its shards, and the seconds that the last `\clock` set; the number of the session that runs the lines, how
 -- many mutations were accepted of it, and how many of these were acknowledged by an `ok`; and how the disk stands.
@@ -74,11 +80,16 @@ IsReading clock.System Gives seconds reading = (raw : ℤ) × Gives raw × (read
 
 -- ---- the disk
 
+-- the table files are the same, and none was read
+abbrev pub SameFiles : DiskState → DiskState → Type 0
+SameFiles d e = (e.files ≡ d.files) × (e.reads ≡ d.reads)
+
 -- nothing is stopped by it: the folder's count of faults doesn't fall, and at most one segment is begun and named
 pub record Stays (d e : DiskState) : Type 0 where
   pub stopped : e.stopped ≡ d.stopped
   pub faults : d.faults ≤ e.faults
   pub reach : GoesOn d.reach e.reach
+  pub files : SameFiles d e
 
 -- something was written, which no earlier fault had stopped
 abbrev pub Writes : DiskState → DiskState → Type 0
@@ -91,6 +102,7 @@ pub record Stops (d e : DiskState) : Type 0 where
   pub faults : d.faults ≤ e.faults
   pub rose : Rose d.faults e.faults
   pub reach : GoesOn d.reach e.reach
+  pub files : SameFiles d e
 
 -- how far the files have come with one entry more in the manifest
 abbrev pub reach_with : ManifestEntry → Reach → Reach
@@ -101,6 +113,7 @@ pub record Told (x : ManifestEntry) (d e : DiskState) : Type 0 where
   pub stopped : e.stopped ≡ d.stopped
   pub faults : d.faults ≤ e.faults
   pub reach : e.reach ≡ reach_with x d.reach
+  pub files : SameFiles d e
 
 -- nothing was written, since an earlier fault had stopped it
 abbrev pub IsStopped : DiskState → DiskState → Type 0
@@ -168,14 +181,28 @@ tells_want _ = false
 abbrev pub rows_reply : ℕ → Look → Reply
 rows_reply shard l = reply.Rows l.rows shard l.front l.now
 
--- What a SELECT shows, or memory runs out: at the moment, the live view of its partition's mutations up to the front, which is the number of the
--- shard's last one. A fault of the disk is no reason not to show it.
-abbrev pub Shows : ShardHistory → ℤ → BoundRead → Reply → Type 0
-Shows s reading q r = tells_want r ≡ false → r ≡ rows_reply q.shard (look_at reading s q.query)
+-- Why a query of these files and of memory shows no rows: memory ran out; a read of one of the files failed, which is counted; or in one of them that
+-- place is bad for the query, as its partition's head or as a later block. No fault of a write is a reason.
+abbrev pub IsWhyNoRows : List (File Held) → Query → ℕ → ℕ → Failure → Type 0
+IsWhyNoRows files q before now failure.Memory = Unit {0}
+IsWhyNoRows files q before now failure.Read = (files ≢ []) × Rose before now
+IsWhyNoRows files q before now (failure.Block number at) = ∥ IsBadFile files q.key q.slice number at ∥₁
+IsWhyNoRows files q before now _ = ⊥
 
--- the history after a SELECT, which raises the moment of its shard
-abbrev pub after_read : History → ℕ → ℤ → History
-after_read h n reading = with_shard h n (after_entries reading [] (shard_at h n))
+-- What a SELECT shows: at the moment, the live view of its partition's mutations up to the front, which is the number of the shard's last one; or why not.
+abbrev pub Shows : List (File Held) → ℕ → ℕ → ShardHistory → ℤ → BoundRead → Reply → Type 0
+Shows files before now s reading q (reply.Failed f) = IsWhyNoRows files q.query before now f
+Shows files before now s reading q r = r ≡ rows_reply q.shard (look_at reading s q.query)
+
+-- the history after a SELECT, which raises the moment of its shard, and by which so many reads of table files had failed
+abbrev pub after_read : History → ℕ → ℤ → ℕ → History
+after_read h n reading reads = record (with_shard h n (after_entries reading [] (shard_at h n))) { disk = record h.disk { reads = reads } }
+
+-- a SELECT, at this reading of the clock
+abbrev pub ReadsAt : History → ℤ → BoundRead → Reply → History → Type 0
+ReadsAt h reading q r after =
+    (reads : ℕ) × (h.disk.reads ≤ reads) × Shows (h.disk.files q.shard q.query.table) h.disk.reads reads (shard_at h q.shard) reading q r
+    × (after ≡ after_read h q.shard reading reads)
 
 -- ---- a definition
 
@@ -204,5 +231,4 @@ Does kind Gives h (Err x) r after = (r ≡ reply.Refused (refusal_number x)) × 
 Does kind Gives h (Ok (bound.Create t)) r after = Changes h (Schema t) (bound.Create t) r after
 Does kind Gives h (Ok (bound.Alter a)) r after = Changes h (AddColumns a.table a.columns) (bound.Alter a) r after
 Does kind Gives h (Ok (bound.Write w)) r after = (reading : ℤ) × IsReading kind Gives h.clock reading × WritesAt h reading w r after
-Does kind Gives h (Ok (bound.Read q)) r after =
-    (reading : ℤ) × IsReading kind Gives h.clock reading × Shows (shard_at h q.shard) reading q r × (after ≡ after_read h q.shard reading)
+Does kind Gives h (Ok (bound.Read q)) r after = (reading : ℤ) × IsReading kind Gives h.clock reading × ReadsAt h reading q r after

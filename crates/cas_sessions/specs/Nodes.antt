@@ -1,5 +1,5 @@
 -- What a store that is open stands for, and how it goes on (own).
-use Rattle.std.specs.Prelude.{◌≡◌, ◌⊎◌, ◌≤◌, ◌<◌, ◌+◌, ◌^◌, ℕ, ℤ, List, [], ◌∷◌, ◌++◌, length, false, is_some, slice_get, Some}
+use Rattle.std.specs.Prelude.{◌≡◌, ◌⊎◌, ◌≤◌, ◌<◌, ◌+◌, ◌^◌, ℕ, ℤ, List, [], ◌∷◌, ◌++◌, length, false, Option, None, Some, is_some, slice_get}
 use Rattle.cas_types.specs.declared.schema.TableSchema.{TableSchema}
 use Rattle.cas_disk.specs.Disk.{Disk, Leaves}
 use Rattle.cas_atoms.specs.declared.atom.Mutation.{Mutation}
@@ -16,13 +16,15 @@ use Rattle.cas_render.specs.declared.reply.Reply.TheVariants as reply
 use Rattle.cas_room.specs.declared.event.Event.{Event}
 use Rattle.cas_room.specs.Keeping.{Keeps}
 use Rattle.cas_room.specs.Rooms.{accepted_in}
-use Rattle.cas_shard.specs.Stands.{ShardState, Stands}
+use Rattle.cas_shard.specs.Stands.{ShardState, Stands, files_at}
+use Rattle.cas_sstread.specs.Loading.{Held}
+use Rattle.cas_view.specs.Views.{File}
 use Rattle.cas_sessions.specs.History.{History, DiskState, shard_at}
 use Rattle.cas_sessions.specs.Entered.{AreEntered, IsLeftAmid}
 
 -- What an open store is made of, as one of its sessions has it: its limits, its tables, its shards; the shards of their seats and the last number of
 -- each; the clock; the list of all that was accepted; the session, and how often it wrote; how many mutations the room accepted, and how many of them
--- it said are committed; its journal, and how often its folder failed.
+-- it said are committed; its journal, how often its folder failed, and how often a read of a table file.
 pub record State : Type 0 where
   pub limits : Limits
   pub tables : List TableSchema
@@ -37,6 +39,7 @@ pub record State : Type 0 where
   pub committed : ℕ
   pub journal : Journal
   pub faults : ℕ
+  pub reads : ℕ
 
 -- how often the session wrote, and the room accepted, can be counted once more
 abbrev pub IsFew : State → Type 0
@@ -46,9 +49,19 @@ IsFew s = (s.calls + 1 < 2 ^ 64) × (s.accepted + 1 < 2 ^ 64)
 abbrev pub CountsOn : State → State → Type 0
 CountsOn s t = (t.calls ≤ s.calls + 1) × (t.accepted ≤ s.accepted + 1)
 
+-- the files of a table in a shard, if it is there
+abbrev pub files_of : Option ShardState → ℕ → List (File Held)
+files_of None table = []
+files_of (Some x) table = files_at (slice_get x.stores table)
+
+-- the files of each table in each shard
+abbrev pub files_in : List ShardState → ℕ → ℕ → List (File Held)
+files_in shards n table = files_of (slice_get shards n) table
+
 -- how its disk stands
 abbrev pub disk_of : State → DiskState
-disk_of s = record { stopped = is_some s.journal.first; faults = s.faults; reach = reach_of s.journal }
+disk_of s =
+    record { stopped = is_some s.journal.first; faults = s.faults; reach = reach_of s.journal; files = files_in s.shards; reads = s.reads }
 
 -- a store's memory stands for a history: each shard's state does, and the entries are those of the list
 pub record StandsFor (h : History) (s : State) : Type 0 where

@@ -1,30 +1,36 @@
 -- How an open store begins (own).
-use Rattle.std.specs.Prelude.{◌≡◌, ◌≤◌, ℕ, List, pos, false, map}
-use Rattle.cas_disk.specs.Disk.{Disk}
+use Rattle.std.specs.Prelude.{◌≡◌, ◌<◌, ◌≤◌, ◌+◌, ℕ, List, [], ◌∷◌, ◌++◌, length, pos, false, map, slice_get, Some}
+use Rattle.cas_disk.specs.Disk.{Disk, Image}
 use Rattle.cas_types.specs.declared.schema.TableSchema.{TableSchema}
 use Rattle.cas_atoms.specs.declared.atom.Mutation.{Mutation}
 use Rattle.cas_bind.specs.declared.bound.Limits.{Limits}
-use Rattle.cas_changes.specs.Saying.{said_by}
+use Rattle.cas_changes.specs.Saying.{part_of, said_by}
 use Rattle.cas_changes.specs.declared.entry.Entry.{Entry as ManifestEntry}
+use Rattle.cas_replay.specs.Grammar.{AreInOrder, AscendByOne, numbers_of}
 use Rattle.cas_journal.specs.Stores.{Told}
 use Rattle.cas_journal.specs.Journals.{Lasts}
 use Rattle.cas_journal.specs.declared.journal.Journal.{Journal}
-use Rattle.cas_opening.specs.Opening.{next_segment}
-use Rattle.cas_shard.specs.Stands.{ShardState}
+use Rattle.cas_opening.specs.Opening.{IsOfBytes, next_segment}
+use Rattle.cas_sstread.specs.Loading.{Held}
+use Rattle.cas_view.specs.Views.{File}
+use Rattle.cas_listed.specs.Listed.{AreLoaded}
+use Rattle.cas_shard.specs.declared.entry.ShardOpening.{ShardOpening}
+use Rattle.cas_shard.specs.Stands.{ShardState, Stands}
 use Rattle.cas_shard.specs.Shards.{found_shard}
-use Rattle.cas_recovery.specs.Found.{found_in}
-use Rattle.cas_sessions.specs.Nodes.{State, StandsFor, LastsFor, disk_of}
+use Rattle.cas_sessions.specs.Nodes.{State, StandsFor, LastsFor, disk_of, files_in}
 use Rattle.cas_history.specs.Hands.{numbers}
 use Rattle.cas_sessions.specs.History.{History, DiskState}
+use Rattle.cas_recovery.specs.Openings.{AreOpenings}
+use Rattle.cas_recovery.specs.Recovered.{IsRecovered}
 use Rattle.cas_recovery.specs.Restored.{IsTold}
 
--- The history before the first line: the tables that the manifest tells of, as many shards as it says, and of each shard what the log has of it;
--- the clock at 0.
-unfoldable pub start : Limits → List ManifestEntry → List Mutation → ℕ → DiskState → History
-start l entries mutations session disk = record {
+-- The history before the first line: the tables that the manifest tells of, as many shards as it says, and of each shard what it was before the run; the
+-- clock at 0.
+unfoldable pub start : Limits → List ManifestEntry → (ℕ → ShardOpening) → ℕ → DiskState → History
+start l entries openings session disk = record {
   limits = record l { shards = (said_by entries).shards };
   tables = (said_by entries).tables;
-  shards = map (λ n. found_shard (found_in n mutations)) (numbers 0 (said_by entries).shards);
+  shards = map (λ n. found_shard (openings n)) (numbers 0 (said_by entries).shards);
   clock = pos 0;
   session = session;
   calls = 0;
@@ -32,26 +38,59 @@ start l entries mutations session disk = record {
   disk = disk;
 }
 
--- A run with these limits begins so: nothing is stopped, and at most one segment was begun since the entries were written.
-pub record Begins (l : Limits) (entries : List ManifestEntry) (mutations : List Mutation) (before : ℕ) (h : History) : Type 0 where
+-- The table files, by shard and table, are those that the entries list, in their order; and where the folder tells what it reads, as what some image has
+-- of them that a crash may leave. A table that isn't there has none.
+pub record AreItsFiles (entries : List ManifestEntry) (folder : Disk) (files : ℕ → ℕ → List (File Held)) : Type 0 where
+  pub listed : (shard table : ℕ) (t : TableSchema) → shard < (said_by entries).shards → slice_get (said_by entries).tables table ≡ Some t
+      → map (λ f. f.info) (files shard table) ≡ (part_of (said_by entries) table shard).listed
+  pub loaded : (c : Image) → folder.reads c → IsOfBytes c → (shard table : ℕ) (t : TableSchema) → shard < (said_by entries).shards
+      → slice_get (said_by entries).tables table ≡ Some t
+      → (d : Image) × folder.may_leave d × AreLoaded t shard d (part_of (said_by entries) table shard).listed (files shard table)
+  pub no_more : (shard table : ℕ) → length (said_by entries).tables ≤ table → files shard table ≡ []
+
+-- The limits, tables and shards of a store of these entries, with these mutations in its log: each shard stands for what it was, and its next number goes
+-- on behind the log's.
+pub record IsInMemory (given : Limits) (entries : List ManifestEntry) (mutations : List Mutation) (openings : ℕ → ShardOpening) (limits : Limits)
+    (tables : List TableSchema) (shards : List ShardState) : Type 0 where
+  pub same : limits ≡ record given { shards = (said_by entries).shards }
+  pub tables_are : tables ≡ (said_by entries).tables
+  pub count : length shards ≡ limits.shards
+  pub stands : (n : ℕ) (x : ShardState) → slice_get shards n ≡ Some x → Stands tables (found_shard (openings n)) x
+  pub ordered : AreInOrder mutations
+  pub next : (n : ℕ) (x : ShardState) → slice_get shards n ≡ Some x → AscendByOne (numbers_of n mutations ++ (x.number + 1) ∷ [])
+
+-- The store of a folder was opened: it was read back with its files; and whatever its shards may have been before, for all that is known of the folder,
+-- memory has them so.
+pub record IsStarted (given limits : Limits) (tables : List TableSchema) (shards : List ShardState) (journal : Journal) (old new : Disk) : Type 0 where
+  pub back : IsRecovered given limits tables shards journal old new
+  pub memory : (openings : ℕ → ShardOpening) → AreOpenings back.entries back.mutations old openings
+      → IsInMemory given back.entries back.mutations openings limits tables shards
+  pub files : AreItsFiles back.entries old (files_in shards)
+
+-- A run with these limits and these table files begins so: nothing is stopped, and at most one segment was begun since the entries were written.
+pub record Begins (l : Limits) (entries : List ManifestEntry) (openings : ℕ → ShardOpening) (files : ℕ → ℕ → List (File Held)) (before : ℕ)
+    (h : History) : Type 0 where
   pub session : ℕ
   pub disk : DiskState
-  pub history : h ≡ start l entries mutations session disk
+  pub history : h ≡ start l entries openings session disk
   pub going : disk.stopped ≡ false
   pub faults : before ≤ disk.faults
   pub segment : disk.reach.segment ≤ next_segment entries
+  pub files_are : disk.files ≡ files
 
 -- The store is as it was opened, in a new history: it accepted nothing.
-pub record IsOpenedAs (l : Limits) (tables : List TableSchema) (shards : List ShardState) (journal : Journal) (faults : ℕ) (s : State) : Type 0 where
+pub record IsOpenedAs (l : Limits) (tables : List TableSchema) (shards : List ShardState) (journal : Journal) (faults reads : ℕ) (s : State) : Type 0 where
   pub limits_are : s.limits ≡ l
   pub tables_are : s.tables ≡ tables
   pub shards_are : s.shards ≡ shards
   pub journal_is : s.journal ≡ journal
   pub faults_are : s.faults ≡ faults
+  pub reads_are : s.reads ≡ reads
   pub accepted : s.accepted ≡ 0
 
--- The store stands for the history that begins with these entries and mutations, and its disk keeps what was told of them.
-pub record BeginsAs (given : Limits) (entries : List ManifestEntry) (mutations : List Mutation) (disk : Disk) (s : State) : Type 0 where
-  pub stands : StandsFor (start given entries mutations s.session (disk_of s)) s
+-- The store stands for the history that begins with these entries and openings, and its disk keeps what was told of the entries and the log's mutations.
+pub record BeginsAs (given : Limits) (entries : List ManifestEntry) (mutations : List Mutation) (openings : ℕ → ShardOpening) (disk : Disk)
+    (s : State) : Type 0 where
+  pub stands : StandsFor (start given entries openings s.session (disk_of s)) s
   pub lasts : (t : Told) → IsTold entries mutations t → Lasts s.journal disk t
-      → LastsFor (start given entries mutations s.session (disk_of s)) mutations s disk t
+      → LastsFor (start given entries openings s.session (disk_of s)) mutations s disk t

@@ -37,6 +37,10 @@ pub enum Fault {
     /// The folder failed; its count of faults rose. A mutation that was accepted has its number here: it
     /// may last or not.
     Disk { number: Option<u64> },
+    /// A read of a table file failed; the tally of such faults rose.
+    Read,
+    /// The bytes at that place of the table file of that number aren't as they must be.
+    BadBlock { number: u64, at: u64 },
     Mem,
 }
 
@@ -63,6 +67,8 @@ pub fn reply_of(answer: Result<Answer, Fault>) -> Reply
         Err(Fault::Refused(number)) => Reply::Refused(number),
         Err(Fault::Stopped(_)) => Reply::Failed(Failure::Stopped),
         Err(Fault::Disk { number: _ }) => Reply::Failed(Failure::Disk),
+        Err(Fault::Read) => Reply::Failed(Failure::Read),
+        Err(Fault::BadBlock { number, at }) => Reply::Failed(Failure::Block { number, at }),
         Err(Fault::Mem) => Reply::Failed(Failure::Memory),
     }
 }

@@ -6,14 +6,14 @@ ghost use Rattle.cas_atoms.specs.declared.atom.Mutation.{Mutation};
 ghost use Rattle.cas_journal.specs.Stores.{Told};
 ghost use Rattle.cas_history.specs.Items.{listed};
 ghost use Rattle.cas_history.specs.Last.{Idle};
-ghost use Rattle.cas_recovery.specs.Restored.{HaveNoFiles};
+ghost use Rattle.cas_recovery.specs.Restored.{HaveNoMore, MayBeRead};
 ghost use Rattle.cas_sessions.specs.Entered.{IsLeft};
 ghost use Rattle.cas_sessions.specs.History.{History};
 ghost use Rattle.cas_sessions.specs.Nodes.{State, StandsFor, LastsFor};
-ghost use Rattle.cas_sessions.specs.Inner.Sound.{IsSound, sound_props};
+ghost use Rattle.cas_sessions.specs.Inner.Sound.{IsSound, read_props, sound_props};
 
 use cas_bind::Limits;
-use cas_disk::{Count, Folder};
+use cas_disk::Folder;
 use cas_gates::First;
 use cas_history::{Front, Item, Kept, Session as Seat, Store};
 use cas_lifecycle::Maker;
@@ -98,18 +98,20 @@ impl<F: Folder> Closed<F> {
 }
 
 /// A store that is open, which its sessions share: the limits, the tables, the shards with their seats in
-/// the history, the room, and the right to make sessions. `close` ends it; it can't be dropped. `J` names its
-/// history.
+/// the history, the room, the count of the faults of what was read in table files, and the right to make
+/// sessions. `close` ends it; it can't be dropped. `J` names its history.
 pub struct Node<F: Folder, J: Store> {
     pub(crate) limits: Limits,
     pub(crate) tables: Vec<TableSchema>,
     pub(crate) shards: Vec<Shard<F::Sealed>>,
     pub(crate) fronts: Vec<Front<Event, J>>,
     pub(crate) room: Room<F, J>,
+    pub(crate) tally: F::Tally,
     pub(crate) maker: Maker<Event, J>,
     ghost sound: { IsSound limits tables.items shards.items (map (λ f. f.shard) fronts.items) (map (λ f. f.number) fronts.items)
         room.journal.size } by { Prim.hlevel sound_props },
-    ghost no_files: { HaveNoFiles shards.items },
+    ghost readable: { MayBeRead tables.items shards.items } by { Prim.hlevel read_props },
+    ghost unmade: { HaveNoMore tables.items shards.items },
 }
 
 impl<F: Folder, J: Store> Stored for Node<F, J> {
@@ -129,6 +131,7 @@ impl<F: Folder, J: Store> Stored for Node<F, J> {
       committed = n.room.faults.committed;
       journal = n.room.journal;
       faults = F.faults_of n.room.folder;
+      reads = F.Tally.number n.tally;
     } };
 
     ghost disk = { λ n. F.disk n.room.folder };
@@ -182,7 +185,7 @@ impl<F: Folder, J: Store> Node<F, J> {
             → LastsFor h found (⟦<Node<F, J> as Stored>⟧.state self session calls clock) (⟦<Node<F, J> as Stored>⟧.disk self) told
             → (c : Image) → (F.disk result.folder).may_leave c
             → IsLeft found (⟦<Node<F, J> as Stored>⟧.state self session calls clock).list h c }
-        ensures tally { ⟦<F::Tally as Count>⟧.number result.tally ≡ 0 }
+        ensures tally { result.tally ≡ self.tally }
     {
         self.room.images_stand();
         let Node {
@@ -191,6 +194,7 @@ impl<F: Folder, J: Store> Node<F, J> {
             shards: _shards,
             fronts: _fronts,
             room,
+            tally,
             maker: _maker,
         } = self;
         let (folder, first, log) = room.close();
@@ -199,7 +203,7 @@ impl<F: Folder, J: Store> Node<F, J> {
             pass: Some(Pass {
                 kept: log.pass.kept(),
             }),
-            tally: F::Tally::fresh(),
+            tally,
             first,
         }
     }

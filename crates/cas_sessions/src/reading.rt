@@ -1,34 +1,37 @@
 //! SELECTs: a shard's rows at a moment.
 
-ghost use Rattle.std.specs.Prelude.{◌≡◌, ℕ, ℤ, IfErr};
-ghost use Rattle.cas_blocks.specs.declared.fault.TableFault.TheVariants as table_fault;
+ghost use Rattle.std.specs.Prelude.{◌≡◌, ℕ, ℤ};
 ghost use Rattle.cas_bind.specs.Fitting.{BoundFits};
 ghost use Rattle.cas_bind.specs.Tables.{IsWithin};
 ghost use Rattle.cas_bind.specs.declared.bound.Bound.TheVariants as bounds;
 ghost use Rattle.cas_shard.specs.Shards.{IsTime};
-ghost use Rattle.cas_sessions.specs.History.{Shows, after_read, shard_at};
-ghost use Rattle.cas_sessions.specs.Calls.{reply_of};
-ghost use Rattle.cas_sessions.specs.Nodes.{Moves};
+ghost use Rattle.cas_sessions.specs.History.{ReadsAt};
+ghost use Rattle.cas_sessions.specs.Calls.{IsTrueOf, reply_of};
+ghost use Rattle.cas_sessions.specs.Nodes.{Moves, State};
+ghost use Rattle.cas_sessions.specs.Inner.Faults.{fault_of_table};
 
 use crate::answer::{Answer, Fault};
 use crate::node::{Node, Stored};
 use cas_bind::BoundRead;
 use cas_blocks::TableFault;
-use cas_disk::{Count, Folder};
+use cas_disk::Folder;
 use cas_history::Store;
 use std::alloc::Global;
 
-// Why a read of memory alone isn't answered: memory ran out.
-fn want_of(_fault: TableFault) -> Fault
-    requires { _fault ≡ table_fault.Mem }
-    ensures { result ≡ Fault.Mem }
+// Why nothing of a SELECT is shown.
+fn fault_of_table(fault: TableFault) -> Fault
+    ensures { result ≡ fault_of_table fault }
 {
-    Fault::Mem
+    match fault {
+        TableFault::Read => Fault::Read,
+        TableFault::BadBlock { number, at } => Fault::BadBlock { number, at },
+        TableFault::Mem => Fault::Mem,
+    }
 }
 
 impl<F: Folder, J: Store> Node<F, J> {
-    /// Shows the rows of a SELECT. The shard's moment rises also where memory runs out. It reads what the
-    /// slice needs of its partition, whatever else the shard holds, and nothing of the disk.
+    /// Shows the rows of a SELECT. The shard's moment rises also where a read of a table file fails, a file isn't as it
+    /// must be, or memory runs out. It reads what the slice needs of its partition, whatever else the shard holds.
     pub(crate) fn read(
         &mut self,
         alloc: Global,
@@ -38,25 +41,23 @@ impl<F: Folder, J: Store> Node<F, J> {
         requires time { IsTime reading }
         requires within { IsWithin self.old.limits.shards (bounds.Read read) }
         requires fits { BoundFits self.old.limits.shards self.old.tables.items (bounds.Read read) }
-        ensures shows { (session calls : ℕ) (clock : ℤ)
-            → Moves (λ h after. Shows (shard_at h read.shard) reading read (reply_of result) × (after ≡ after_read h read.shard reading))
+        ensures shows { (session calls : ℕ) (clock : ℤ) → Moves (λ h after. ReadsAt h reading read (reply_of result) after)
             (⟦<Node<F, J> as Stored>⟧.state self.old session calls clock) (⟦<Node<F, J> as Stored>⟧.state self.new session calls clock)
             (⟦<Node<F, J> as Stored>⟧.disk self.old) (⟦<Node<F, J> as Stored>⟧.disk self.new) }
-        ensures want { IfErr result (λ f. f ≡ Fault.Mem) }
+        ensures told { (s t : State) → IsTrueOf result s t }
         ensures room { self.new.room ≡ self.old.room }
         ensures limits { self.new.limits ≡ self.old.limits }
         ensures sessions { ⟦<Node<F, J> as Stored>⟧.sessions self.new ≡ ⟦<Node<F, J> as Stored>⟧.sessions self.old }
     {
         let BoundRead { shard, query } = read;
-        let mut tally = F::Tally::fresh();
-        match self.shards[shard as usize].look(alloc, reading, query, &mut tally) {
+        match self.shards[shard as usize].look(alloc, reading, query, &mut self.tally) {
             Ok(look) => Ok(Answer::Rows {
                 rows: look.rows,
                 shard,
                 front: look.front,
                 now: look.now,
             }),
-            Err(fault) => Err(want_of(fault)),
+            Err(fault) => Err(fault_of_table(fault)),
         }
     }
 }

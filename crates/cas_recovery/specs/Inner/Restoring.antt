@@ -1,12 +1,13 @@
 -- Shards in memory that take the mutations of a log. Own.
-use Rattle.std.specs.Prelude.{ℕ, ◌<◌, List, [], ◌∷◌, Option, None, Some}
+use Rattle.std.specs.Prelude.{◌≡◌, ℕ, ◌<◌, List, [], ◌∷◌, slice_get, Option, None, Some}
 use Rattle.std.specs.List.{AllByRecursion}
 use Rattle.cas_types.specs.declared.schema.TableSchema.{TableSchema}
 use Rattle.cas_atoms.specs.declared.atom.Mutation.{Mutation}
 use Rattle.cas_mutations.specs.Allowed.{FitsRecord}
 use Rattle.cas_replay.specs.Grammar.{numbers_of}
-use Rattle.cas_shard.specs.Stands.{ShardState}
-use Rattle.cas_recovery.specs.Restored.{AreRestored, HaveNoFiles}
+use Rattle.cas_shard.specs.Shards.{found_shard}
+use Rattle.cas_shard.specs.Stands.{HasNoFiles, ShardState, Stands}
+use Rattle.cas_recovery.specs.Found.{found_in}
 
 -- the numbers rise, from above n
 abbrev pub Rise : ℕ → List ℕ → Type 0
@@ -17,6 +18,14 @@ Rise n (m ∷ ms) = (n < m) × Rise m ms
 pub record MayBeGiven (tables : List TableSchema) (count : ℕ) (mutations : List Mutation) : Type 0 where
   pub fit : AllByRecursion (FitsRecord tables count) mutations
   pub rise : (n : ℕ) → Rise 0 (numbers_of n mutations)
+
+-- each shard has what the log has of it
+abbrev pub AreRestored : List TableSchema → List Mutation → List ShardState → Type 0
+AreRestored tables mutations shards = (n : ℕ) (x : ShardState) → slice_get shards n ≡ Some x → Stands tables (found_shard (found_in n mutations)) x
+
+-- no shard has a table file
+abbrev pub HaveNoFiles : List ShardState → Type 0
+HaveNoFiles shards = (n : ℕ) (x : ShardState) → slice_get shards n ≡ Some x → HasNoFiles x
 
 -- of whatever tables these mutations may be, each shard has what they have of it, and no table file
 abbrev pub HaveRestored : List Mutation → List ShardState → Type 0

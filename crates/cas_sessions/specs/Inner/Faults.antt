@@ -1,5 +1,7 @@
--- What is answered that the room didn't take (own).
+-- What is answered that the room didn't take, or of which nothing is shown (own).
 use Rattle.std.specs.Prelude.{None, Err}
+use Rattle.cas_blocks.specs.declared.fault.TableFault.{TableFault}
+use Rattle.cas_blocks.specs.declared.fault.TableFault.TheVariants as table_fault
 use Rattle.cas_effects.specs.declared.refusal.TheConstants.{TOO_LARGE, TOO_MANY}
 use Rattle.cas_journal.specs.declared.fault.JournalFault.{JournalFault}
 use Rattle.cas_journal.specs.declared.fault.JournalFault.TheVariants.{TooLarge, TooMany, Stopped, Failed, Mem}
@@ -19,3 +21,9 @@ fault_for Mem = fault_of.Mem
 -- and what is printed then
 abbrev pub reply_for : JournalFault → Reply
 reply_for f = reply_of (Err (fault_for f))
+
+-- what a SELECT is answered of which nothing is shown
+abbrev pub fault_of_table : TableFault → Fault
+fault_of_table table_fault.Read = fault_of.Read
+fault_of_table (table_fault.BadBlock number at) = fault_of.BadBlock number at
+fault_of_table table_fault.Mem = fault_of.Mem

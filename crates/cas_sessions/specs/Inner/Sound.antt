@@ -2,6 +2,7 @@
 use Rattle.std.specs.Prelude.{◌≡◌, ◌+◌, ℕ, List, [], ◌∷◌, length, map}
 use mathlib.Core.HLevel.{Unit-prop, ×_prop}
 use Rattle.std.proofs.Props.{props}
+use Rattle.std.specs.List.{AllByRecursion-prop}
 use Rattle.cas_types.specs.Limits.{IsShardCount}
 use Rattle.cas_types.specs.declared.schema.TableSchema.{TableSchema}
 use Rattle.cas_bind.specs.declared.bound.Limits.{Limits}
@@ -17,6 +18,9 @@ AreInPlace-prop n [] = Unit-prop
 AreInPlace-prop n (t ∷ ts) = ×_prop (hlevel props) (AreInPlace-prop (n + 1) ts)
 
 pub ruleset sound_props = (props, AreInPlace-prop)
+
+-- and that of each of some files something is so
+pub ruleset read_props = (props, AllByRecursion-prop)
 
 -- its tables are tables, it has as many shards as its limits say, of each a seat with its last number, and segments of that size
 pub record IsSound (l : Limits) (ts : List TableSchema) (xs : List ShardState) (seats counts : List ℕ) (segment : ℕ) : Type 0 where

@@ -42,7 +42,7 @@ const FAILURES: [Failure; 5] = [
     Failure::Stopped,
     Failure::Disk,
     Failure::Read,
-    Failure::Block,
+    Failure::Block { number: 1, at: 32 },
 ];
 
 const FAILED: &str = "\

@@ -1,6 +1,6 @@
 use Rattle.std.proofs.Common.{arith, sym, subst, []}
 use Rattle.std.proofs.lemmas.Grind.{common_steps}
-use Rattle.cas_recovery.specs.Restored.{AreRestored, HaveNoFiles}
+use Rattle.cas_recovery.specs.Inner.Restoring.{AreRestored, HaveNoFiles}
 use Rattle.cas_recovery.proofs.Restoring.{no_files_new, one_new}
 use Rattle.cas_recovery.proofs.memory.new_shards.Goals as goal
 

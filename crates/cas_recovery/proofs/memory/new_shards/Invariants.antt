@@ -1,6 +1,6 @@
 use Rattle.std.proofs.Common.{◌≡◌, List, [], length}
 use Rattle.cas_types.specs.declared.schema.TableSchema.{TableSchema}
-use Rattle.cas_recovery.specs.Restored.{AreRestored, HaveNoFiles}
+use Rattle.cas_recovery.specs.Inner.Restoring.{AreRestored, HaveNoFiles}
 use Rattle.cas_recovery.proofs.memory.new_shards.Given as goal
 
 abbrev pub invariant-loop-shard : goal.invariant-loop-shard

@@ -1,7 +1,6 @@
 use Rattle.std.proofs.Common.{◌≡◌, ◌∙◌, List, Option, Some, sym, subst}
 use Rattle.cas_shard.specs.Stands.{ShardState}
-use Rattle.cas_recovery.specs.Inner.Restoring.{HasRestored, HaveRestored}
-use Rattle.cas_recovery.specs.Restored.{AreRestored, HaveNoFiles}
+use Rattle.cas_recovery.specs.Inner.Restoring.{AreRestored, HasRestored, HaveNoFiles, HaveRestored}
 use Rattle.cas_recovery.proofs.Restoring.{first_no_files, first_restored}
 use Rattle.cas_recovery.proofs.memory.restored.Goals as goal
 

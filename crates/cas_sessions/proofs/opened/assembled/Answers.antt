@@ -4,6 +4,6 @@ use Rattle.cas_sessions.proofs.Serving.{begins}
 use Rattle.cas_sessions.proofs.opened.assembled.Goals as goal
 
 pub returns-clause-begins : goal.returns-clause-begins
-returns-clause-begins g c = λ given entries mutations memory session.
-    begins given entries mutations _ _ memory refl (ap (λ l. listed log_list l.pass.saw) c.new.ensures.log ∙ c.requires.log) refl
+returns-clause-begins g c = λ given entries mutations openings memory session.
+    begins given entries mutations openings _ _ memory refl (ap (λ l. listed log_list l.pass.saw) c.new.ensures.log ∙ c.requires.log) refl
     (ap (λ f. f.committed) c.new.ensures.faults ∙ c.requires.new.1)

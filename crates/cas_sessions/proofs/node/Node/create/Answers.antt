@@ -8,7 +8,9 @@ use Rattle.cas_shard.specs.Stands.{Stands}
 use Rattle.cas_sessions.proofs.Tables.{created, has_spelling, is_short, moves_done, moves_not, moves_reserved, pushed, under_created}
 use Rattle.cas_sessions.specs.Calls.{reply_of}
 use Rattle.cas_sessions.specs.declared.answer.Fault.{Fault}
-use Rattle.cas_sessions.proofs.Sounding.{sound_told}
+use Rattle.cas_recovery.specs.Restored.{HaveNoMore, MayBeRead}
+use Rattle.cas_sessions.proofs.Filing.{readable_created, unmade_created}
+use Rattle.cas_sessions.proofs.Sounding.{sound_reserved, sound_told}
 use Rattle.cas_sessions.proofs.Telling.{true_of_end}
 use Rattle.cas_sessions.proofs.Crashing.{amid_defined, amid_nothing, fits_told}
 use Rattle.cas_sessions.proofs.node.Node.create.Goals as goal
@@ -37,6 +39,7 @@ returns-in-Err-define-clause-changes g c = λ clock.
       calls = c.define.ensures.session.1;
       accepted = c.define.ensures.accepted;
       committed = c.define.ensures.committed;
+      reads = refl;
     })
     c.define.ensures.count (reply_of (Err c.fault_for.result)) c.in-Err-define.fault (ap (λ (x : Fault). reply_of (Err x)) c.fault_for.ensures) c.reserve.ensures.items short c.in-Err-define.ensures.outcome c.in-Err-define.ensures.reach
     (λ what most e. c.in-Err-define.ensures.full what most (ap Err e)) c.in-Err-define.ensures.kept
@@ -58,6 +61,7 @@ returns-clause-changes g c = λ clock.
       calls = c.define.ensures.session.1;
       accepted = c.define.ensures.accepted;
       committed = c.define.ensures.committed;
+      reads = refl;
     })
     c.define.ensures.count tt (new ∙ sym (created ts c.args.table))
     (λ z y so. subst (λ (us : List TableSchema). Stands us z y) (sym new) (under_created ts c.args.table z y so))
@@ -68,7 +72,12 @@ invariant_of-self-2 g c =
     let ts = c.args.self.now.tables.items in
     let new =
     pushed ts c.reserve.new.self.items c.push_reserved.new.self.items c.args.table c.table_of.result c.reserve.ensures.items c.push_reserved.ensures.items c.table_of.ensures in
-    record { sound = sound_told _ _ _ _ _ _ _ _ c.args.self.now.sound c.define.ensures.size (subst AreTables (sym (new ∙ sym (created ts c.args.table))) c.requires.told.kept); no_files = c.args.self.now.no_files }
+    let n = c.args.self.now in
+    record {
+      sound = sound_told _ _ _ _ _ _ _ _ n.sound c.define.ensures.size (subst AreTables (sym (new ∙ sym (created ts c.args.table))) c.requires.told.kept);
+      readable = subst (λ (us : List TableSchema). MayBeRead us n.shards.items) (sym new) (readable_created ts n.shards.items n.unmade n.readable c.args.table);
+      unmade = subst (λ (us : List TableSchema). HaveNoMore us n.shards.items) (sym new) (unmade_created ts n.shards.items n.unmade n.readable c.args.table);
+    }
 
 pub returns-in-Err-define-clause-told : goal.returns-in-Err-define-clause-told
 returns-in-Err-define-clause-told g c =
@@ -87,3 +96,24 @@ pub returns-clause-crash : goal.returns-clause-crash
 returns-clause-crash g c = λ clock h found told stands lasts.
     amid_defined h found _ _ told stands lasts _ (Schema c.args.table) _ (ap (λ log. listed log_list log.pass.saw) c.define.ensures.log)
     (c.define.ensures.crash told lasts.keeps.lasts (fits_told h found _ _ told (bounds.Create c.args.table) (Schema c.args.table) c.requires.told c.args.self.now.sound.some lasts))
+
+-- the list of its tables got a place more, and they are the same
+pub invariant_of-self : goal.invariant_of-self
+invariant_of-self g c =
+    let n = c.args.self.now in
+    let same = c.reserve.ensures.items in
+    record {
+      sound = sound_reserved _ _ _ _ _ _ _ n.sound same;
+      readable = subst (λ (us : List TableSchema). MayBeRead us n.shards.items) (sym same) n.readable;
+      unmade = subst (λ (us : List TableSchema). HaveNoMore us n.shards.items) (sym same) n.unmade;
+    }
+
+pub invariant_of-self-in-Err-define : goal.invariant_of-self-in-Err-define
+invariant_of-self-in-Err-define g c =
+    let n = c.args.self.now in
+    let same = c.reserve.ensures.items in
+    record {
+      sound = sound_told _ _ _ _ _ _ _ _ n.sound c.define.ensures.size (subst AreTables (sym same) n.sound.tables);
+      readable = subst (λ (us : List TableSchema). MayBeRead us n.shards.items) (sym same) n.readable;
+      unmade = subst (λ (us : List TableSchema). HaveNoMore us n.shards.items) (sym same) n.unmade;
+    }

@@ -1,14 +1,15 @@
 use Rattle.std.proofs.Common.{◌≡◌, ◌∙◌, ℤ, Err, rules, of_z, to_z, w64, sym, ap, subst}
 use Rattle.std.proofs.lemmas.Int.{to_z-of_z}
 use Rattle.std.proofs.lemmas.Option.{slice_get_read}
+use Rattle.std.specs.Prelude.{slice_get}
+use Rattle.cas_render.specs.declared.reply.Reply.TheVariants.{Rows}
 use Rattle.cas_shard.specs.Shards.{look_at, raised}
-use Rattle.cas_shard.specs.Stands.{Stands}
-use Rattle.cas_sessions.specs.Calls.{reply_of}
-use Rattle.cas_sessions.specs.History.{Shows}
-use Rattle.cas_sessions.specs.declared.answer.Fault.{Fault}
-use Rattle.cas_recovery.proofs.Restoring.{one_keeps_none}
-use Rattle.cas_sessions.proofs.Moving.{moves_look, read_in_none, shows_none, shows_rows}
+use Rattle.cas_shard.specs.Stands.{Stands, files_at}
+use Rattle.cas_sessions.proofs.Filing.{query_reads, still_readable, still_unmade}
+use Rattle.cas_sessions.proofs.Moving.{moves_look, rose_by, shows_fault, shows_rows}
 use Rattle.cas_sessions.proofs.Sounding.{sound_looked}
+use Rattle.cas_sessions.specs.Calls.{reply_of}
+use Rattle.cas_sessions.proofs.Telling.{true_of_read}
 use Rattle.cas_sessions.proofs.node.Node.read.Goals as goal
 
 pub returns-in-Ok-clause-shows : goal.returns-in-Ok-clause-shows
@@ -17,36 +18,35 @@ returns-in-Ok-clause-shows g c = λ session calls clock.
     let x = c.index_mut.result.now in
     let at = to_z-of_z w64 c.args.reading c.ranges.reading in
     let now : to_z w64 (of_z w64 c.in-Ok.look.now) ≡ c.in-Ok.look.now = search rules in
-    moves_look _ _ c.args.read x c.look.new.self c.args.reading _
+    moves_look _ _ c.args.read x c.look.new.self c.args.reading _ (Rows c.in-Ok.look.rows c.args.read.shard c.in-Ok.look.front (to_z w64 (of_z w64 c.in-Ok.look.now)))
     (slice_get_read n.shards.items n.limits.shards c.args.read.shard x (sym c.args.self.now.sound.count) c.requires.within.0 c.index_mut.ensures.value) c.look.ensures.number
-    (λ ts z stands. subst (λ (k : ℤ). Stands ts (raised k z) c.look.new.self) at (c.look.ensures.stands ts z stands))
+    c.look.ensures.files c.look.ensures.count.kept (λ ts z stands. subst (λ (k : ℤ). Stands ts (raised k z) c.look.new.self) at (c.look.ensures.stands ts z stands))
     (λ z stands.
     shows_rows z c.args.reading (to_z w64 (of_z w64 c.in-Ok.look.now)) c.args.read c.in-Ok.look now
     (c.in-Ok.ensures.shows n.tables.items z stands c.requires.fits ∙ ap (λ (k : ℤ). look_at k z c.args.read.query) at))
 
-pub returns-clause-shows : goal.returns-clause-shows
-returns-clause-shows g c = λ session calls clock.
+pub returns-in-Err-clause-shows : goal.returns-in-Err-clause-shows
+returns-in-Err-clause-shows g c = λ session calls clock.
     let n = c.args.self.now in
     let x = c.index_mut.result.now in
     let at = to_z-of_z w64 c.args.reading c.ranges.reading in
-    moves_look _ _ c.args.read x c.look.new.self c.args.reading _
+    moves_look _ _ c.args.read x c.look.new.self c.args.reading _ (reply_of (Err c.fault_of_table.result))
     (slice_get_read n.shards.items n.limits.shards c.args.read.shard x (sym c.args.self.now.sound.count) c.requires.within.0 c.index_mut.ensures.value) c.look.ensures.number
-    (λ ts z stands. subst (λ (k : ℤ). Stands ts (raised k z) c.look.new.self) at (c.look.ensures.stands ts z stands))
-    (λ z stands. subst (λ (f : Fault). Shows z c.args.reading c.args.read (reply_of (Err f))) (sym c.want_of.ensures) (shows_none z c.args.reading c.args.read))
+    c.look.ensures.files c.look.ensures.count.kept (λ ts z stands. subst (λ (k : ℤ). Stands ts (raised k z) c.look.new.self) at (c.look.ensures.stands ts z stands))
+    (λ z stands.
+    shows_fault (files_at (slice_get x.stores c.args.read.query.table)) _ _ z c.args.reading c.args.read c.in-Err.fault c.fault_of_table.result c.fault_of_table.ensures c.in-Err.ensures.why
+    (rose_by c.look.result c.in-Err.fault _ _ c.in-Err.is c.look.ensures.count.rose) c.in-Err.ensures.memory)
 
--- a shard without files is asked, so that every slice may be read there
+pub returns-in-Err-clause-told : goal.returns-in-Err-clause-told
+returns-in-Err-clause-told g c = λ s t. true_of_read c.in-Err.fault c.fault_of_table.result s t c.fault_of_table.ensures
+
+-- each slice of its table may be read in the shard's files
 pub look-requires-clause-reads : goal.look-requires-clause-reads
 look-requires-clause-reads g c =
     let n = c.args.self.now in
     let x = c.index_mut.result.now in
-    read_in_none _ _ (n.no_files c.args.read.shard x (slice_get_read n.shards.items n.limits.shards c.args.read.shard x (sym c.args.self.now.sound.count) c.requires.within.0 c.index_mut.ensures.value) c.args.read.query.table)
-
-pub want_of-requires : goal.want_of-requires
-want_of-requires g c =
-    let n = c.args.self.now in
-    let x = c.index_mut.result.now in
-    c.in-Err.ensures.memory
-    (n.no_files c.args.read.shard x (slice_get_read n.shards.items n.limits.shards c.args.read.shard x (sym c.args.self.now.sound.count) c.requires.within.0 c.index_mut.ensures.value) c.args.read.query.table)
+    query_reads n.tables.items n.shards.items c.args.read.shard x c.args.read.query n.readable
+    (slice_get_read n.shards.items n.limits.shards c.args.read.shard x (sym c.args.self.now.sound.count) c.requires.within.0 c.index_mut.ensures.value) c.requires.fits
 
 pub invariant_of-self : goal.invariant_of-self
 invariant_of-self g c =
@@ -55,5 +55,6 @@ invariant_of-self g c =
     let there = slice_get_read n.shards.items n.limits.shards c.args.read.shard x (sym c.args.self.now.sound.count) c.requires.within.0 c.index_mut.ensures.value in
     record {
       sound = sound_looked _ _ _ _ _ _ c.args.read.shard x c.look.new.self c.args.self.now.sound there c.look.ensures.number;
-      no_files = one_keeps_none n.shards.items c.args.read.shard x c.look.new.self n.no_files there c.look.ensures.files;
+      readable = still_readable _ n.shards.items c.args.read.shard x c.look.new.self n.readable there c.look.ensures.files;
+      unmade = still_unmade _ n.shards.items c.args.read.shard x c.look.new.self n.unmade there c.look.ensures.files;
     }

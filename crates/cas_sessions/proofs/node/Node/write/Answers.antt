@@ -9,10 +9,10 @@ use Rattle.std.proofs.lemmas.Option.{slice_get_read}
 use Rattle.cas_history.specs.Items.{listed, log_list}
 use Rattle.cas_journal.specs.Stores.{took, committed_all}
 use Rattle.cas_recovery.proofs.Places.{length_set}
-use Rattle.cas_recovery.proofs.Restoring.{one_keeps_none}
 use Rattle.cas_sessions.specs.Calls.{reply_of}
 use Rattle.cas_sessions.specs.declared.answer.Fault.{Fault}
 use Rattle.cas_sessions.proofs.Entering.{may_take, refused_at_once, starved_at_once, of_a_table, seated, place_is, number_is, not_taken, taken_and_committed, taken_and_failed, set_twice}
+use Rattle.cas_sessions.proofs.Filing.{still_readable, still_unmade}
 use Rattle.cas_sessions.proofs.Sounding.{sound_looked, sound_with}
 use Rattle.cas_sessions.proofs.Telling.{true_of_accepted, true_of_prepare}
 use Rattle.cas_sessions.proofs.Idling.{idle_taken}
@@ -24,14 +24,14 @@ pub returns-in-Err-Refused-clause-writes : goal.returns-in-Err-Refused-clause-wr
 returns-in-Err-Refused-clause-writes g c = λ clock.
     let at = to_z-of_z w64 c.args.reading c.ranges.reading in
     refused_at_once _ c.args.write c.args.reading _ c.prepare.new.self c.prepare.result
-    (record { sound = c.args.self.now.sound; within = c.requires.within.0; fits = c.requires.fits; seat = c.index_mut.ensures.value; answered = λ ts q stands quiet. c.prepare.ensures.answered ts q stands quiet ∙ ap (λ (k : ℤ). prepare_answer c.args.self.now.limits.segment k q c.args.write) at; stands = λ ts n q stands suits. subst (λ (k : ℤ). Stands ts (raised k q) c.prepare.new.self) at (c.prepare.ensures.stands ts n q stands suits); number = c.prepare.ensures.number })
+    (record { sound = c.args.self.now.sound; within = c.requires.within.0; fits = c.requires.fits; seat = c.index_mut.ensures.value; files = c.prepare.ensures.files; answered = λ ts q stands quiet. c.prepare.ensures.answered ts q stands quiet ∙ ap (λ (k : ℤ). prepare_answer c.args.self.now.limits.segment k q c.args.write) at; stands = λ ts n q stands suits. subst (λ (k : ℤ). Stands ts (raised k q) c.prepare.new.self) at (c.prepare.ensures.stands ts n q stands suits); number = c.prepare.ensures.number })
     _ _ _ c.in-Err-Refused.refused-is (c.in-Err-Refused.is ∙ ap Err c.in-Err-Refused.field-0-is)
 
 pub returns-in-Err-Mem-clause-writes : goal.returns-in-Err-Mem-clause-writes
 returns-in-Err-Mem-clause-writes g c = λ clock.
     let at = to_z-of_z w64 c.args.reading c.ranges.reading in
     starved_at_once _ c.args.write c.args.reading _ c.prepare.new.self c.prepare.result
-    (record { sound = c.args.self.now.sound; within = c.requires.within.0; fits = c.requires.fits; seat = c.index_mut.ensures.value; answered = λ ts q stands quiet. c.prepare.ensures.answered ts q stands quiet ∙ ap (λ (k : ℤ). prepare_answer c.args.self.now.limits.segment k q c.args.write) at; stands = λ ts n q stands suits. subst (λ (k : ℤ). Stands ts (raised k q) c.prepare.new.self) at (c.prepare.ensures.stands ts n q stands suits); number = c.prepare.ensures.number }) _
+    (record { sound = c.args.self.now.sound; within = c.requires.within.0; fits = c.requires.fits; seat = c.index_mut.ensures.value; files = c.prepare.ensures.files; answered = λ ts q stands quiet. c.prepare.ensures.answered ts q stands quiet ∙ ap (λ (k : ℤ). prepare_answer c.args.self.now.limits.segment k q c.args.write) at; stands = λ ts n q stands suits. subst (λ (k : ℤ). Stands ts (raised k q) c.prepare.new.self) at (c.prepare.ensures.stands ts n q stands suits); number = c.prepare.ensures.number }) _
 
 -- src/writing.rt:60:28
 pub accept-requires-clause-of : goal.accept-requires-clause-of
@@ -52,8 +52,9 @@ accept-requires-clause-of g c =
       committed = c.args.self.now.room.faults.committed;
       journal = c.args.self.now.room.journal;
       faults = g.F.Folder.faults_of c.args.self.now.room.folder;
+      reads = g.F.Tally.Count.number c.args.self.now.tally;
     }) c.args.write c.args.reading c.index_mut.result.now c.prepare.new.self c.prepare.result
-    (record { sound = c.args.self.now.sound; within = c.requires.within.0; fits = c.requires.fits; seat = c.index_mut.ensures.value; answered = λ ts q stands quiet. c.prepare.ensures.answered ts q stands quiet ∙ ap (λ (k : ℤ). prepare_answer c.args.self.now.limits.segment k q c.args.write) at; stands = λ ts n q stands suits. subst (λ (k : ℤ). Stands ts (raised k q) c.prepare.new.self) at (c.prepare.ensures.stands ts n q stands suits); number = c.prepare.ensures.number })
+    (record { sound = c.args.self.now.sound; within = c.requires.within.0; fits = c.requires.fits; seat = c.index_mut.ensures.value; files = c.prepare.ensures.files; answered = λ ts q stands quiet. c.prepare.ensures.answered ts q stands quiet ∙ ap (λ (k : ℤ). prepare_answer c.args.self.now.limits.segment k q c.args.write) at; stands = λ ts n q stands suits. subst (λ (k : ℤ). Stands ts (raised k q) c.prepare.new.self) at (c.prepare.ensures.stands ts n q stands suits); number = c.prepare.ensures.number })
     c.in-Ok.mutation c.in-Ok.is c.in-Ok.ensures.prepared c.in-Ok.ensures.ready
 
 -- src/writing.rt:60:28
@@ -83,7 +84,7 @@ pub returns-in-Err-clause-writes : goal.returns-in-Err-clause-writes
 returns-in-Err-clause-writes g c = λ clock.
     let at = to_z-of_z w64 c.args.reading c.ranges.reading in
     not_taken _ c.args.write c.args.reading c.index_mut.result.now c.prepare.new.self c.prepare.result
-    (record { sound = c.args.self.now.sound; within = c.requires.within.0; fits = c.requires.fits; seat = c.index_mut.ensures.value; answered = λ ts q stands quiet. c.prepare.ensures.answered ts q stands quiet ∙ ap (λ (k : ℤ). prepare_answer c.args.self.now.limits.segment k q c.args.write) at; stands = λ ts n q stands suits. subst (λ (k : ℤ). Stands ts (raised k q) c.prepare.new.self) at (c.prepare.ensures.stands ts n q stands suits); number = c.prepare.ensures.number })
+    (record { sound = c.args.self.now.sound; within = c.requires.within.0; fits = c.requires.fits; seat = c.index_mut.ensures.value; files = c.prepare.ensures.files; answered = λ ts q stands quiet. c.prepare.ensures.answered ts q stands quiet ∙ ap (λ (k : ℤ). prepare_answer c.args.self.now.limits.segment k q c.args.write) at; stands = λ ts n q stands suits. subst (λ (k : ℤ). Stands ts (raised k q) c.prepare.new.self) at (c.prepare.ensures.stands ts n q stands suits); number = c.prepare.ensures.number })
     c.in-Ok.mutation c.in-Ok.is c.in-Ok.ensures.prepared c.in-Ok.ensures.ready
     _ _ _ c.in-Err.fault (reply_of (Err c.fault_for.result)) (ap (λ (x : Fault). reply_of (Err x)) c.fault_for.ensures)
     (record {
@@ -101,6 +102,7 @@ returns-in-Err-clause-writes g c = λ clock.
       reach = c.accept.ensures.reach;
       full = λ what most is. c.accept.ensures.full what most (c.in-Err.is ∙ ap Err is);
       count = c.accept.ensures.count;
+      reads = refl;
     })
 
 -- src/writing.rt:39:5
@@ -108,7 +110,7 @@ pub returns-in-Ok-commit-clause-writes : goal.returns-in-Ok-commit-clause-writes
 returns-in-Ok-commit-clause-writes g c = λ clock.
     let at = to_z-of_z w64 c.args.reading c.ranges.reading in
     taken_and_committed _ c.args.write c.args.reading c.index_mut.result.now c.prepare.new.self c.prepare.result
-    (record { sound = c.args.self.now.sound; within = c.requires.within.0; fits = c.requires.fits; seat = c.index_mut.ensures.value; answered = λ ts q stands quiet. c.prepare.ensures.answered ts q stands quiet ∙ ap (λ (k : ℤ). prepare_answer c.args.self.now.limits.segment k q c.args.write) at; stands = λ ts n q stands suits. subst (λ (k : ℤ). Stands ts (raised k q) c.prepare.new.self) at (c.prepare.ensures.stands ts n q stands suits); number = c.prepare.ensures.number })
+    (record { sound = c.args.self.now.sound; within = c.requires.within.0; fits = c.requires.fits; seat = c.index_mut.ensures.value; files = c.prepare.ensures.files; answered = λ ts q stands quiet. c.prepare.ensures.answered ts q stands quiet ∙ ap (λ (k : ℤ). prepare_answer c.args.self.now.limits.segment k q c.args.write) at; stands = λ ts n q stands suits. subst (λ (k : ℤ). Stands ts (raised k q) c.prepare.new.self) at (c.prepare.ensures.stands ts n q stands suits); number = c.prepare.ensures.number })
     c.in-Ok.mutation c.in-Ok.is c.in-Ok.ensures.prepared c.in-Ok.ensures.ready
     _ _ _ c.index_mut-2.result.now c.enter.new.self
     (record {
@@ -130,6 +132,8 @@ returns-in-Ok-commit-clause-writes g c = λ clock.
       ended = c.in-Ok-accept.ensures.outcome.1;
       reach = (_, c.accept.ensures.reach, c.commit.ensures.reach);
       rises = (c.accept.ensures.count, c.commit.ensures.count);
+      files = c.enter.ensures.files;
+      reads = refl;
     })
     _ c.in-Ok-accept.ensures.number
     c.in-Ok-commit.field-0 c.in-Ok-commit.ensures.outcome (c.in-Ok-commit.ensures.all ∙ sym c.commit.ensures.accepted)
@@ -139,7 +143,7 @@ pub returns-in-Err-commit-clause-writes : goal.returns-in-Err-commit-clause-writ
 returns-in-Err-commit-clause-writes g c = λ clock.
     let at = to_z-of_z w64 c.args.reading c.ranges.reading in
     taken_and_failed _ c.args.write c.args.reading c.index_mut.result.now c.prepare.new.self c.prepare.result
-    (record { sound = c.args.self.now.sound; within = c.requires.within.0; fits = c.requires.fits; seat = c.index_mut.ensures.value; answered = λ ts q stands quiet. c.prepare.ensures.answered ts q stands quiet ∙ ap (λ (k : ℤ). prepare_answer c.args.self.now.limits.segment k q c.args.write) at; stands = λ ts n q stands suits. subst (λ (k : ℤ). Stands ts (raised k q) c.prepare.new.self) at (c.prepare.ensures.stands ts n q stands suits); number = c.prepare.ensures.number })
+    (record { sound = c.args.self.now.sound; within = c.requires.within.0; fits = c.requires.fits; seat = c.index_mut.ensures.value; files = c.prepare.ensures.files; answered = λ ts q stands quiet. c.prepare.ensures.answered ts q stands quiet ∙ ap (λ (k : ℤ). prepare_answer c.args.self.now.limits.segment k q c.args.write) at; stands = λ ts n q stands suits. subst (λ (k : ℤ). Stands ts (raised k q) c.prepare.new.self) at (c.prepare.ensures.stands ts n q stands suits); number = c.prepare.ensures.number })
     c.in-Ok.mutation c.in-Ok.is c.in-Ok.ensures.prepared c.in-Ok.ensures.ready
     _ _ _ c.index_mut-2.result.now c.enter.new.self
     (record {
@@ -161,6 +165,8 @@ returns-in-Err-commit-clause-writes g c = λ clock.
       ended = c.in-Ok-accept.ensures.outcome.1;
       reach = (_, c.accept.ensures.reach, c.commit.ensures.reach);
       rises = (c.accept.ensures.count, c.commit.ensures.count);
+      files = c.enter.ensures.files;
+      reads = refl;
     })
     (Unit {0}) c.in-Err-commit.field-0 c.in-Err-commit.ensures.outcome c.in-Err-commit.ensures.why (omega (arith, c.accept.ensures.committed, c.commit.ensures.rises))
 
@@ -189,7 +195,7 @@ returns-in-Ok-commit-clause-crash g c = λ clock h found told stands lasts.
     let at = to_z-of_z w64 c.args.reading c.ranges.reading in
     let got = c.in-Ok-accept.ensures.kept found told lasts.keeps
     (may_take _ c.args.write c.args.reading c.index_mut.result.now c.prepare.new.self c.prepare.result
-    (record { sound = c.args.self.now.sound; within = c.requires.within.0; fits = c.requires.fits; seat = c.index_mut.ensures.value; answered = λ ts q stands quiet. c.prepare.ensures.answered ts q stands quiet ∙ ap (λ (k : ℤ). prepare_answer c.args.self.now.limits.segment k q c.args.write) at; stands = λ ts n q stands suits. subst (λ (k : ℤ). Stands ts (raised k q) c.prepare.new.self) at (c.prepare.ensures.stands ts n q stands suits); number = c.prepare.ensures.number })
+    (record { sound = c.args.self.now.sound; within = c.requires.within.0; fits = c.requires.fits; seat = c.index_mut.ensures.value; files = c.prepare.ensures.files; answered = λ ts q stands quiet. c.prepare.ensures.answered ts q stands quiet ∙ ap (λ (k : ℤ). prepare_answer c.args.self.now.limits.segment k q c.args.write) at; stands = λ ts n q stands suits. subst (λ (k : ℤ). Stands ts (raised k q) c.prepare.new.self) at (c.prepare.ensures.stands ts n q stands suits); number = c.prepare.ensures.number })
     c.in-Ok.mutation c.in-Ok.is c.in-Ok.ensures.prepared c.in-Ok.ensures.ready h found _ told lasts) in
     amid_taken h found _ _ told stands lasts _ c.in-Ok.mutation _ _ got.0 _ _
     (ap (λ l. listed log_list l.pass.saw) c.commit.ensures.log ∙ c.in-Ok-accept.ensures.entered.0) got.1
@@ -200,7 +206,7 @@ returns-in-Err-commit-clause-crash g c = λ clock h found told stands lasts.
     let at = to_z-of_z w64 c.args.reading c.ranges.reading in
     let got = c.in-Ok-accept.ensures.kept found told lasts.keeps
     (may_take _ c.args.write c.args.reading c.index_mut.result.now c.prepare.new.self c.prepare.result
-    (record { sound = c.args.self.now.sound; within = c.requires.within.0; fits = c.requires.fits; seat = c.index_mut.ensures.value; answered = λ ts q stands quiet. c.prepare.ensures.answered ts q stands quiet ∙ ap (λ (k : ℤ). prepare_answer c.args.self.now.limits.segment k q c.args.write) at; stands = λ ts n q stands suits. subst (λ (k : ℤ). Stands ts (raised k q) c.prepare.new.self) at (c.prepare.ensures.stands ts n q stands suits); number = c.prepare.ensures.number })
+    (record { sound = c.args.self.now.sound; within = c.requires.within.0; fits = c.requires.fits; seat = c.index_mut.ensures.value; files = c.prepare.ensures.files; answered = λ ts q stands quiet. c.prepare.ensures.answered ts q stands quiet ∙ ap (λ (k : ℤ). prepare_answer c.args.self.now.limits.segment k q c.args.write) at; stands = λ ts n q stands suits. subst (λ (k : ℤ). Stands ts (raised k q) c.prepare.new.self) at (c.prepare.ensures.stands ts n q stands suits); number = c.prepare.ensures.number })
     c.in-Ok.mutation c.in-Ok.is c.in-Ok.ensures.prepared c.in-Ok.ensures.ready h found _ told lasts) in
     amid_taken h found _ _ told stands lasts _ c.in-Ok.mutation _ _ got.0 _ _
     (ap (λ l. listed log_list l.pass.saw) c.commit.ensures.log ∙ c.in-Ok-accept.ensures.entered.0) got.1
@@ -212,7 +218,8 @@ invariant_of-self g c =
     record {
       sound =
           sound_looked _ _ _ _ _ _ c.args.write.shard c.index_mut.result.now c.prepare.new.self c.args.self.now.sound at_x c.prepare.ensures.number;
-      no_files = one_keeps_none c.args.self.now.shards.items c.args.write.shard c.index_mut.result.now c.prepare.new.self c.args.self.now.no_files at_x c.prepare.ensures.files;
+      readable = still_readable _ c.args.self.now.shards.items c.args.write.shard c.index_mut.result.now c.prepare.new.self c.args.self.now.readable at_x c.prepare.ensures.files;
+      unmade = still_unmade _ c.args.self.now.shards.items c.args.write.shard c.index_mut.result.now c.prepare.new.self c.args.self.now.unmade at_x c.prepare.ensures.files;
     }
 
 pub invariant_of-self-in-Err-accept : goal.invariant_of-self-in-Err-accept
@@ -226,7 +233,8 @@ invariant_of-self-in-Err-accept g c =
       sound =
           sound_with (λ q. q.shard) (λ q. q.number) _ _ _ _ _ _ c.args.write.shard fs f c.accept.new.front c.prepare.new.self c.args.self.now.sound at_f c.accept.ensures.seats.1
           (ap (λ q. q.number) c.in-Err.ensures.unentered.1 ∙ same ∙ sym c.prepare.ensures.number) refl c.accept.ensures.size;
-      no_files = one_keeps_none c.args.self.now.shards.items c.args.write.shard c.index_mut.result.now c.prepare.new.self c.args.self.now.no_files at_x c.prepare.ensures.files;
+      readable = still_readable _ c.args.self.now.shards.items c.args.write.shard c.index_mut.result.now c.prepare.new.self c.args.self.now.readable at_x c.prepare.ensures.files;
+      unmade = still_unmade _ c.args.self.now.shards.items c.args.write.shard c.index_mut.result.now c.prepare.new.self c.args.self.now.unmade at_x c.prepare.ensures.files;
     }
 
 pub invariant_of-self-2 : goal.invariant_of-self-2
@@ -234,20 +242,21 @@ invariant_of-self-2 g c =
     let fs = c.args.self.now.fronts.items in
     let f = c.index_mut-front.result.now in
     let at_f : slice_get fs c.args.write.shard ≡ Some f = seated (λ q. q.shard) fs c.args.self.now.limits.shards c.args.write.shard f c.args.self.now.sound.places c.requires.within.0 c.index_mut-front.ensures.value in
+    let xs = c.args.self.now.shards.items in
+    let n = c.args.write.shard in
+    let x = c.index_mut.result.now in
+    let y = c.index_mut-2.result.now in
+    let at_x : slice_get xs n ≡ Some x = slice_get_read xs c.args.self.now.limits.shards n x (sym c.args.self.now.sound.count) c.requires.within.0 c.index_mut.ensures.value in
+    let ys = slice_set xs n c.prepare.new.self in
+    let at_y : slice_get ys n ≡ Some y =
+    slice_get_read ys c.args.self.now.limits.shards n y (sym (length_set xs n c.prepare.new.self ∙ c.args.self.now.sound.count)) c.requires.within.0 c.index_mut-2.ensures.value in
     record {
       sound =
           sound_with (λ q. q.shard) (λ q. q.number) _ _ _ _ _ _ c.args.write.shard fs f c.accept.new.front c.enter.new.self c.args.self.now.sound at_f c.accept.ensures.seats.1
           (c.in-Ok-accept.ensures.front ∙ sym c.enter.ensures.number) (set_twice c.args.self.now.shards.items c.args.write.shard c.prepare.new.self c.enter.new.self)
           (c.commit.ensures.size ∙ c.accept.ensures.size);
-      no_files =
-          let xs = c.args.self.now.shards.items in
-          let n = c.args.write.shard in
-          let at_x : slice_get xs n ≡ Some c.index_mut.result.now = slice_get_read xs c.args.self.now.limits.shards n c.index_mut.result.now (sym c.args.self.now.sound.count) c.requires.within.0 c.index_mut.ensures.value in
-          let ys = slice_set xs n c.prepare.new.self in
-          let at_y : slice_get ys n ≡ Some c.index_mut-2.result.now =
-          slice_get_read ys c.args.self.now.limits.shards n c.index_mut-2.result.now (sym (length_set xs n c.prepare.new.self ∙ c.args.self.now.sound.count)) c.requires.within.0 c.index_mut-2.ensures.value in
-          one_keeps_none ys n c.index_mut-2.result.now c.enter.new.self
-          (one_keeps_none xs n c.index_mut.result.now c.prepare.new.self c.args.self.now.no_files at_x c.prepare.ensures.files) at_y c.enter.ensures.files;
+      readable = still_readable _ ys n y c.enter.new.self (still_readable _ xs n x c.prepare.new.self c.args.self.now.readable at_x c.prepare.ensures.files) at_y c.enter.ensures.files;
+      unmade = still_unmade _ ys n y c.enter.new.self (still_unmade _ xs n x c.prepare.new.self c.args.self.now.unmade at_x c.prepare.ensures.files) at_y c.enter.ensures.files;
     }
 
 pub invariant_of-session-2 : goal.invariant_of-session-2
