@@ -1,6 +1,6 @@
 //! Entries and marks as one stream, without rows of which nothing would be left.
 
-ghost use Rattle.std.specs.Prelude.{◌≡◌, ◌≤◌, ◌++◌, None, IfOk, OnOk, length, take, drop, map};
+ghost use Rattle.std.specs.Prelude.{◌≡◌, ◌≤◌, ◌++◌, None, IfOk, OnOk, length, take, drop, fold, map};
 ghost use Rattle.std.specs.Option.{option_to_list};
 ghost use Rattle.cas_streams.specs.Joined.{joined_fragment};
 ghost use Rattle.cas_streams.specs.Settled.{same_force, left_of, settled_from};
@@ -146,6 +146,22 @@ fn take_in(
     Ok(())
 }
 
+// A row takes in what is said at further spots of it.
+fn take_in_all(
+    alloc: Global,
+    row: &mut Fragment,
+    others: &[(&Spot, &Content)],
+) -> Result<(), AllocError>
+    ensures { OnOk result (row.new ≡ fold joined_fragment row.old (map lent_piece others.now)) }
+{
+    let mut rest = others;
+    while let [(next, more), later @ ..] = rest {
+        take_in(alloc, row, next, more)?;
+        rest = later;
+    }
+    Ok(())
+}
+
 // The row of these entries.
 fn row_of(
     alloc: Global,
@@ -156,11 +172,7 @@ fn row_of(
     ensures { IfOk result (λ f. f ≡ row_of spot.now content.now others.now) }
 {
     let mut row = piece(alloc, spot, content)?;
-    let mut rest = others;
-    while let [(next, more), later @ ..] = rest {
-        take_in(alloc, &mut row, next, more)?;
-        rest = later;
-    }
+    take_in_all(alloc, &mut row, others)?;
     Ok(row)
 }
 
