@@ -17,6 +17,7 @@ use cas_streams::{Fragment, FragmentSource};
 use std::alloc::{AllocError, Global};
 use std::cmp::Ordering;
 use std::mem;
+use std::mem::drop;
 
 /// What was asked of a side, and not yet given on.
 #[derive(Drop)]
@@ -58,7 +59,7 @@ impl Side {
         ensures ahead { self.new.ahead ≡ ahead }
         ensures force { self.new.in_force ≡ self.old.in_force }
     {
-        self.ahead = ahead;
+        drop(mem::replace(&mut self.ahead, ahead));
     }
 
     // The side's fragment goes on alone, where in the other side that is in force.
@@ -141,10 +142,10 @@ impl<I: FragmentSource> Bracket<I> {
     }
 
     // Those sources, in place of what it had.
-    fn put(&mut self, sources: Self)
+    pub(crate) fn put(&mut self, sources: Self)
         ensures { self.new ≡ sources }
     {
-        *self = sources;
+        drop(mem::replace(self, sources));
     }
 
     /// One more source, on the side that has fewer. Nothing was asked yet.
@@ -211,7 +212,7 @@ impl<I: FragmentSource> Bracket<I> {
             _ => return Ok(()),
         }
         let next = self.next(alloc)?;
-        side.ahead = ahead_of(next);
+        side.put(ahead_of(next));
         Ok(())
     }
 }
