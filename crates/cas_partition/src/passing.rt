@@ -24,6 +24,7 @@ use cas_streams::Fragment;
 use cas_types::List;
 use std::alloc::{AllocError, Global};
 use std::mem;
+use std::mem::drop;
 
 // Whether both spots are of one row.
 fn are_of_one(spot: &Spot, other: &Spot) -> bool
@@ -142,7 +143,8 @@ fn take_in(
     let piece = piece(alloc, spot, content)?;
     let nothing = Fragment::Static(List::from_vec(Vec::new(alloc)));
     let before = mem::replace(row, nothing);
-    *row = joined_fragment(alloc, before, piece)?;
+    let joined = joined_fragment(alloc, before, piece)?;
+    drop(mem::replace(row, joined));
     Ok(())
 }
 
@@ -172,8 +174,13 @@ fn row_of(
     ensures { IfOk result (λ f. f ≡ row_of spot.now content.now others.now) }
 {
     let mut row = piece(alloc, spot, content)?;
-    take_in_all(alloc, &mut row, others)?;
-    Ok(row)
+    match take_in_all(alloc, &mut row, others) {
+        Ok(()) => Ok(row),
+        Err(fault) => {
+            drop(row);
+            Err(fault)
+        }
+    }
 }
 
 // The row of these entries behind the others, where something of it would be left.

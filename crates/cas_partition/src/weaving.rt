@@ -59,7 +59,7 @@ impl Side {
         ensures others { self.new.others ≡ self.old.others }
         ensures force { self.new.in_force ≡ self.old.in_force }
     {
-        self.first = first;
+        drop(mem::replace(&mut self.first, first));
     }
 
     // Goes on behind its first fragment.
