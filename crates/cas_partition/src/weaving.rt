@@ -74,11 +74,7 @@ impl Side {
 }
 
 // The next fragment of both, those of one place as one.
-fn next(
-    alloc: Global,
-    left: &mut Side,
-    right: &mut Side,
-) -> Result<Option<Fragment>, AllocError>
+fn next(alloc: Global, left: &mut Side, right: &mut Side) -> Result<Option<Fragment>, AllocError>
     ensures first { IfOk result (λ f. GivesNext (woven_of left.old right.old) f (woven_of left.new right.new)) }
     ensures ends { IfOk result (λ f. GoesDown (room_of left.old right.old) f (room_of left.new right.new)) }
 {
