@@ -32,6 +32,7 @@ use std::alloc::{AllocError, Global};
 use std::collections::BTreeMap;
 use std::collections::btree_map::Range;
 use std::mem;
+use std::mem::drop;
 use std::vec::IntoIter;
 
 // The cell, where there is one and a path.
@@ -168,6 +169,14 @@ fn is_last(rows: &[Fragment], spot: &Spot) -> bool
     }
 }
 
+// One more.
+fn add(rows: &mut Vec<Fragment>, row: Fragment) -> Result<(), AllocError>
+    ensures { OnOk result (rows.new.items ≡ rows.old.items ++ row ∷ []) }
+{
+    rows.push(row)?;
+    Ok(())
+}
+
 // The next piece, put together with the last one where both are of one row; what comes last then.
 fn add_piece(
     alloc: Global,
@@ -183,8 +192,13 @@ fn add_piece(
             if compare_fragments(&f, &piece).is_eq() {
                 joined_fragment(alloc, f, piece)
             } else {
-                done.push(f)?;
-                Ok(piece)
+                match add(done, f) {
+                    Ok(()) => Ok(piece),
+                    Err(fault) => {
+                        drop(piece);
+                        Err(fault)
+                    }
+                }
             }
         }
     }
