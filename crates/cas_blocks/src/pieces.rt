@@ -12,6 +12,8 @@ use crate::file::TableFile;
 use crate::steps::{Onward, next_block};
 use cas_disk::Sealed;
 use cas_streams::Fragment;
+use std::mem;
+use std::mem::drop;
 use std::vec::IntoIter;
 
 /// What is to be read of a partition: the rest of the block at hand, and how it goes on behind that.
@@ -55,12 +57,12 @@ impl Pieces {
         };
         match next_block(file, at, tally) {
             Ok(None) => {
-                self.onward = None;
+                drop(mem::replace(&mut self.onward, None));
                 Ok(None)
             }
             Ok(Some(step)) => {
-                self.onward = Some(step.onward);
-                self.rest = step.fragments.into_iter();
+                drop(mem::replace(&mut self.onward, Some(step.onward)));
+                drop(mem::replace(&mut self.rest, step.fragments.into_iter()));
                 Ok(first_of(&mut self.rest))
             }
             Err(fault) => Err(fault),

@@ -21,6 +21,7 @@ use cas_disk::Sealed;
 use cas_index::BlockAt;
 use cas_streams::{Fragment, FragmentSource};
 use cas_types::List;
+use std::mem::drop;
 
 /// What a table's file has of one partition, block by block, as a stream cut to a slice.
 #[derive(Drop)]
@@ -127,6 +128,8 @@ impl<'a, F: Sealed> Blocks<'a, F> {
     pub fn end(self) -> F::Tally
         ensures { result ≡ self.entry.tally }
     {
+        drop(self.statics);
+        drop(self.window);
         self.tally
     }
 }

@@ -2,11 +2,13 @@
 
 ghost use Rattle.std.specs.Prelude.{◌≡◌, ◌≤◌, ◌≤ℤ◌, List, [], ◌∷◌, ◌++◌, map, Some, unwrap_or, IfOk, OnOk};
 ghost use Rattle.std.specs.List.{enumerate_from, flat_map};
+ghost use Rattle.std.specs.Ordering.{is_lt};
+ghost use Rattle.cas_bounds.specs.Cuts.{cut_cmp};
 ghost use Rattle.cas_types.specs.declared.limits.TheConstants.{LAST_SECOND, LEAST_TIMESTAMP};
 ghost use Rattle.cas_effects.specs.declared.effect.Effect.TheVariants as effects;
 ghost use Rattle.cas_effects.specs.declared.stamped.TheConstants.{NUMBER_LIMIT};
 ghost use Rattle.cas_effects.specs.AtomsOf.{write_at, emptied_at, list_path, placed_at, placed, element_atom, element_atoms, effect_atoms};
-ghost use Rattle.cas_effects.specs.AtomsOf.{stamp_of, mutation_of};
+ghost use Rattle.cas_effects.specs.AtomsOf.{deletion_before, stamp_of, mutation_of};
 
 use crate::effect::{BoundWrite, Effect, Elements};
 use crate::stamped::{Stamp, cell_of, deletion_before, deletion_of, liveness};
@@ -15,6 +17,7 @@ use cas_bounds::{Clustering, Cut, RowOrder, cmp_cut};
 use cas_cell::{Cell, Deletion};
 use cas_types::{Bytes, List, Mem};
 use std::alloc::{AllocError, Global};
+use std::mem::drop;
 
 /// The order number in the middle of a list: values are appended after it, and prepended before it.
 const LIST_MIDDLE: u64 = 1 << 63;
@@ -143,14 +146,32 @@ fn in_order(cut: &Cut, order: &RowOrder) -> Result<Cut, AllocError>
     })
 }
 
+// Whether the second cut is behind the first, in the order of that one's table.
+fn is_range(lo: &Cut, hi: &Cut) -> Result<bool, AllocError>
+    ensures { IfOk result (λ b. b ≡ is_lt (cut_cmp lo.now hi.now)) }
+{
+    let end = in_order(hi, &lo.order)?;
+    let is_range = cmp_cut(lo, &end).is_lt();
+    drop(end);
+    Ok(is_range)
+}
+
 #[tactic(auto, unfolding(crate::specs::AtomsOf::effect_atoms))]
 fn push_range(stamp: Stamp, lo: Cut, hi: Cut, atoms: &mut Vec<Atom>) -> Result<(), AllocError>
     ensures { OnOk result (atoms.new.items ≡ atoms.old.items ++ effect_atoms stamp (effects.Range lo hi)) }
 {
-    if cmp_cut(&lo, &in_order(&hi, &lo.order)?).is_lt() {
-        push(atoms, Atom::RangeDeletion(lo, hi, deletion_of(stamp)))
-    } else {
-        Ok(())
+    match is_range(&lo, &hi) {
+        Ok(true) => push(atoms, Atom::RangeDeletion(lo, hi, deletion_of(stamp))),
+        Ok(false) => {
+            drop(lo);
+            drop(hi);
+            Ok(())
+        }
+        Err(fault) => {
+            drop(lo);
+            drop(hi);
+            Err(fault)
+        }
     }
 }
 
@@ -173,6 +194,22 @@ fn push_parts(
     Ok(())
 }
 
+// What is there before the statement is deleted.
+fn push_emptied(
+    stamp: Stamp,
+    row: &Option<Clustering>,
+    column: ColumnRef,
+    atoms: &mut Vec<Atom>,
+) -> Result<(), AllocError>
+    requires { LEAST_TIMESTAMP ≤ℤ stamp.at }
+    ensures { OnOk result (atoms.new.items ≡ atoms.old.items ++ emptied_at row.now column (deletion_before stamp) ∷ []) }
+{
+    push(
+        atoms,
+        emptied_at(copied_row(row)?, column, deletion_before(stamp)),
+    )
+}
+
 #[tactic(auto, unfolding(crate::specs::AtomsOf::effect_atoms))]
 fn push_whole(
     alloc: Global,
@@ -187,11 +224,18 @@ fn push_whole(
     requires at { LEAST_TIMESTAMP ≤ℤ stamp.at }
     ensures { OnOk result (atoms.new.items ≡ atoms.old.items ++ effect_atoms stamp (effects.Whole row column elements)) }
 {
-    push(
-        atoms,
-        emptied_at(copied_row(&row)?, column, deletion_before(stamp)),
-    )?;
-    push_parts(alloc, stamp, &row, column, elements, atoms)
+    match push_emptied(stamp, &row, column, atoms) {
+        Ok(()) => {
+            let pushed = push_parts(alloc, stamp, &row, column, elements, atoms);
+            drop(row);
+            pushed
+        }
+        Err(fault) => {
+            drop(row);
+            drop(elements);
+            Err(fault)
+        }
+    }
 }
 
 #[tactic(auto, unfolding(crate::specs::AtomsOf::effect_atoms))]

@@ -23,6 +23,7 @@ use cas_sstwrite::{TableWriter, WriteFault};
 use cas_tables::Header;
 use cas_types::{Bytes, Column};
 use std::alloc::{AllocError, Global};
+use std::mem::drop;
 use std::sync::Arc;
 
 // A new table file stands in the first level.
@@ -83,6 +84,7 @@ pub fn flush_parts<D: Draft>(
     let slice = whole(alloc, columns)?;
     let mut writer = TableWriter::begin(alloc, draft, header, FIRST_LEVEL, tally)?;
     write_keys(alloc, &mut writer, memtables, &slice, tally)?;
+    drop(slice);
     match writer.finish(tally) {
         Ok(finished) => Ok(finished),
         Err(fault) => Err(fault_of(fault)),

@@ -18,6 +18,7 @@ use cas_merge::Merger;
 use cas_sstwrite::{PartitionFault, TableWriter, WriteFault};
 use cas_types::{Bytes, Column};
 use std::alloc::{AllocError, Global};
+use std::mem::drop;
 use std::sync::Arc;
 
 // One end of a partition.
@@ -74,7 +75,13 @@ pub(crate) fn write_key<D: Draft>(
     let sources = sources_of(alloc, memtables, key, slice)?;
     let mut merged = Merger::new(sources);
     match writer.partition(key.as_slice(), &mut merged, tally) {
-        Ok(()) => Ok(()),
-        Err(fault) => Err(fault_of(fault)),
+        Ok(()) => {
+            drop(merged);
+            Ok(())
+        }
+        Err(fault) => {
+            drop(merged);
+            Err(fault_of(fault))
+        }
     }
 }

@@ -19,6 +19,7 @@ use cas_codec::{ReadFault, Reader};
 use cas_streams::Fragment;
 use cas_types::{Bytes, Column};
 use std::alloc::Global;
+use std::mem::drop;
 
 /// A block ends with the first fragment that makes it so many bytes long or longer, or with its
 /// partition.
@@ -110,6 +111,7 @@ fn read_next(
     if stands_behind(order, last, &fragment) && is_change(force, &fragment) {
         return Ok(fragment);
     }
+    drop(fragment);
     Err(ReadFault::Bad { at })
 }
 

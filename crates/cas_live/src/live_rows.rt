@@ -21,6 +21,7 @@ use cas_streams::FragmentSource;
 use std::alloc::{AllocError, Global};
 use std::collections::VecDeque;
 use std::mem;
+use std::mem::drop;
 
 /// How far the live rows of a source have come.
 #[derive(Drop)]
@@ -204,6 +205,8 @@ impl<I: FragmentSource> LiveRows<I> {
     pub fn end(self) -> I
         ensures { result ≡ self.source }
     {
+        drop(self.viewer);
+        drop(self.stage);
         self.source
     }
 

@@ -18,6 +18,7 @@ use cas_bounds::{Slice, between};
 use cas_cell::Deletion;
 use cas_streams::Fragment;
 use std::alloc::{AllocError, Global};
+use std::mem::drop;
 
 // What the row shows by these atoms, where it answers.
 fn if_answered(
@@ -128,8 +129,13 @@ impl Viewer {
         ensures in_force { IfOk result (λ v. v.in_force ≡ None) }
     {
         let mut viewer = Viewer::blank(alloc, query, moment);
-        viewer.enter(top)?;
-        Ok(viewer)
+        match viewer.enter(top) {
+            Ok(()) => Ok(viewer),
+            Err(fault) => {
+                drop(viewer);
+                Err(fault)
+            }
+        }
     }
 
     // A viewer that wasn't told yet what the deletion of the whole is.
@@ -179,18 +185,25 @@ impl Viewer {
     {
         match fragment {
             Fragment::Static(columns) => {
-                add_columns(&mut self.shared, None, columns.as_slice())?;
+                let added = add_columns(&mut self.shared, None, columns.as_slice());
+                drop(columns);
+                added?;
                 Ok(None)
             }
-            Fragment::Row(row) => show_row(
-                alloc,
-                &self.query,
-                self.moment,
-                &mut self.shared,
-                self.in_force,
-                &row,
-            ),
-            Fragment::Marker(_cut, deletion) => {
+            Fragment::Row(row) => {
+                let shown = show_row(
+                    alloc,
+                    &self.query,
+                    self.moment,
+                    &mut self.shared,
+                    self.in_force,
+                    &row,
+                );
+                drop(row);
+                shown
+            }
+            Fragment::Marker(cut, deletion) => {
+                drop(cut);
                 self.in_force = deletion;
                 Ok(None)
             }

@@ -17,6 +17,7 @@ use cas_streams::{Fragment, FragmentSource};
 use std::alloc::{AllocError, Global};
 use std::cmp::Ordering;
 use std::mem;
+use std::mem::drop;
 
 /// What was asked of a side, and not yet given on.
 #[derive(Drop)]
@@ -53,6 +54,14 @@ impl Side {
         }
     }
 
+    // What comes next of the side, in place of what came of it.
+    fn put(&mut self, ahead: Ahead)
+        ensures ahead { self.new.ahead ≡ ahead }
+        ensures force { self.new.in_force ≡ self.old.in_force }
+    {
+        drop(mem::replace(&mut self.ahead, ahead));
+    }
+
     // The side's fragment goes on alone, where in the other side that is in force.
     fn pass(&mut self, other: Option<Deletion>, f: Fragment) -> Fragment
         ensures given { result ≡ raised other f }
@@ -75,7 +84,7 @@ fn step(alloc: Global, left: &mut Side, right: &mut Side) -> Result<Option<Fragm
     match (first, second) {
         (Ahead::Next(f), Ahead::Next(g)) => match compare_fragments(&f, &g) {
             Ordering::Less => {
-                right.ahead = Ahead::Next(g);
+                right.put(Ahead::Next(g));
                 Ok(Some(left.pass(right.in_force, f)))
             }
             Ordering::Equal => {
@@ -84,21 +93,21 @@ fn step(alloc: Global, left: &mut Side, right: &mut Side) -> Result<Option<Fragm
                 Ok(Some(joined_fragment(alloc, f, g)?))
             }
             Ordering::Greater => {
-                left.ahead = Ahead::Next(f);
+                left.put(Ahead::Next(f));
                 Ok(Some(right.pass(left.in_force, g)))
             }
         },
         (Ahead::Next(f), _) => {
-            right.ahead = Ahead::Ended;
+            right.put(Ahead::Ended);
             Ok(Some(left.pass(right.in_force, f)))
         }
         (_, Ahead::Next(g)) => {
-            left.ahead = Ahead::Ended;
+            left.put(Ahead::Ended);
             Ok(Some(right.pass(left.in_force, g)))
         }
         (_, _) => {
-            left.ahead = Ahead::Ended;
-            right.ahead = Ahead::Ended;
+            left.put(Ahead::Ended);
+            right.put(Ahead::Ended);
             Ok(None)
         }
     }
@@ -132,6 +141,13 @@ impl<I: FragmentSource> Bracket<I> {
         }
     }
 
+    // Those sources, in place of what it had.
+    pub(crate) fn put(&mut self, sources: Self)
+        ensures { self.new ≡ sources }
+    {
+        drop(mem::replace(self, sources));
+    }
+
     /// One more source, on the side that has fewer. Nothing was asked yet.
     pub fn enter(&mut self, alloc: Global, source: I) -> Result<(), AllocError>
         requires { IsFresh self.now }
@@ -142,13 +158,13 @@ impl<I: FragmentSource> Bracket<I> {
     {
         match self {
             Bracket::Nobody => {
-                *self = Bracket::Source(source);
+                self.put(Bracket::Source(source));
             }
             Bracket::Source(_) => {
                 let first = mem::replace(self, Bracket::Nobody);
                 let first = Box::new(alloc, first)?;
                 let second = Box::new(alloc, Bracket::Source(source))?;
-                *self = Bracket::Pair(first, Side::new(), second, Side::new());
+                self.put(Bracket::Pair(first, Side::new(), second, Side::new()));
             }
             Bracket::Pair(left, _, right, _) => {
                 right.enter(alloc, source)?;
@@ -196,7 +212,7 @@ impl<I: FragmentSource> Bracket<I> {
             _ => return Ok(()),
         }
         let next = self.next(alloc)?;
-        side.ahead = ahead_of(next);
+        side.put(ahead_of(next));
         Ok(())
     }
 }

@@ -14,6 +14,7 @@ use cas_streams::Fragment;
 use cas_types::{List, TypeTag};
 use std::alloc::{AllocError, Global};
 use std::cmp::Ordering;
+use std::mem::drop;
 use std::vec::IntoIter;
 
 // The next element, and the others stay.
@@ -169,10 +170,14 @@ pub fn joined_fragment(alloc: Global, f: Fragment, g: Fragment) -> Result<Fragme
             Ok(Fragment::Static(List::from_vec(joined_columns(alloc, cs, ds)?)))
         }
         (Fragment::Row(r), Fragment::Row(s)) => Ok(Fragment::Row(joined_row(alloc, r, s)?)),
-        (Fragment::Marker(cut, d), Fragment::Marker(_, e)) => {
+        (Fragment::Marker(cut, d), Fragment::Marker(other, e)) => {
+            drop(other);
             Ok(Fragment::Marker(cut, greater_deletion(d, e)))
         }
-        (f, _) => Ok(f),
+        (f, other) => {
+            drop(other);
+            Ok(f)
+        }
     }
 }
 

@@ -19,6 +19,7 @@ use cas_cell::Deletion;
 use cas_streams::{Fragment, FragmentSource};
 use std::alloc::{AllocError, Global};
 use std::mem;
+use std::mem::drop;
 
 // The greatest of the sources' deletions of the whole partition.
 fn greatest_top<I: FragmentSource>(sources: &[I]) -> Option<Deletion>
@@ -39,7 +40,13 @@ fn bracket_of<I: FragmentSource>(alloc: Global, sources: Vec<I>) -> Result<Brack
     let mut bracket = Bracket::Nobody;
     let mut rest = sources.into_iter();
     while let Some(source) = first_of(&mut rest) {
-        bracket.enter(alloc, source)?;
+        match bracket.enter(alloc, source) {
+            Ok(()) => {}
+            Err(fault) => {
+                drop(bracket);
+                return Err(fault);
+            }
+        }
     }
     Ok(bracket)
 }
@@ -100,7 +107,7 @@ impl<I: FragmentSource> Merger<I> {
             let alloc = *self.waiting.allocator();
             let sources = mem::replace(&mut self.waiting, Vec::new(alloc));
             let bracket = bracket_of(alloc, sources)?;
-            self.bracket = bracket;
+            self.bracket.put(bracket);
             self.in_force = None;
         }
         let alloc = *self.waiting.allocator();

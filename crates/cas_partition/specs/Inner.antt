@@ -1,5 +1,6 @@
 pub mod Slots
 pub mod Firsts
+pub mod Sides
 pub mod Entries
 pub mod Passing
 pub mod Sources

@@ -1,6 +1,6 @@
 //! Entries and marks as one stream, without rows of which nothing would be left.
 
-ghost use Rattle.std.specs.Prelude.{◌≡◌, ◌≤◌, ◌++◌, None, IfOk, OnOk, length, take, drop, map};
+ghost use Rattle.std.specs.Prelude.{◌≡◌, ◌≤◌, ◌++◌, None, IfOk, OnOk, length, take, drop, fold, map};
 ghost use Rattle.std.specs.Option.{option_to_list};
 ghost use Rattle.cas_streams.specs.Joined.{joined_fragment};
 ghost use Rattle.cas_streams.specs.Settled.{same_force, left_of, settled_from};
@@ -24,6 +24,7 @@ use cas_streams::Fragment;
 use cas_types::List;
 use std::alloc::{AllocError, Global};
 use std::mem;
+use std::mem::drop;
 
 // Whether both spots are of one row.
 fn are_of_one(spot: &Spot, other: &Spot) -> bool
@@ -142,7 +143,24 @@ fn take_in(
     let piece = piece(alloc, spot, content)?;
     let nothing = Fragment::Static(List::from_vec(Vec::new(alloc)));
     let before = mem::replace(row, nothing);
-    *row = joined_fragment(alloc, before, piece)?;
+    let joined = joined_fragment(alloc, before, piece)?;
+    drop(mem::replace(row, joined));
+    Ok(())
+}
+
+// A row takes in what is said at further spots of it.
+fn take_in_all(
+    alloc: Global,
+    row: &mut Fragment,
+    others: &[(&Spot, &Content)],
+) -> Result<(), AllocError>
+    ensures { OnOk result (row.new ≡ fold joined_fragment row.old (map lent_piece others.now)) }
+{
+    let mut rest = others;
+    while let [(next, more), later @ ..] = rest {
+        take_in(alloc, row, next, more)?;
+        rest = later;
+    }
     Ok(())
 }
 
@@ -156,12 +174,13 @@ fn row_of(
     ensures { IfOk result (λ f. f ≡ row_of spot.now content.now others.now) }
 {
     let mut row = piece(alloc, spot, content)?;
-    let mut rest = others;
-    while let [(next, more), later @ ..] = rest {
-        take_in(alloc, &mut row, next, more)?;
-        rest = later;
+    match take_in_all(alloc, &mut row, others) {
+        Ok(()) => Ok(row),
+        Err(fault) => {
+            drop(row);
+            Err(fault)
+        }
     }
-    Ok(row)
 }
 
 // The row of these entries behind the others, where something of it would be left.

@@ -8,6 +8,7 @@ ghost use Rattle.cas_streams.specs.declared.fragment.Fragment.{Fragment};
 ghost use Rattle.cas_streams.specs.Joined.{joined_fragment};
 ghost use Rattle.cas_partition.specs.Spots.{spot_cmp, column_at, columns_at, cells_at, said, row_piece};
 ghost use Rattle.cas_partition.specs.Slices.{grouped, grouped_from, meet, AreRowsOf, Shows};
+ghost use Rattle.cas_partition.specs.Ranges.{key_of};
 ghost use Rattle.cas_partition.specs.Ranged.{piece_of, spot_at, spots_between, statics_of, rows_between};
 ghost use Rattle.cas_partition.specs.Inner.Entries.{lent_piece, GoesOn, EndsIn, Takes, TakesLast, grouped_on, ends_as, are_below};
 ghost use Rattle.cas_partition.specs.Inner.Passing.{lent_marker};
@@ -22,7 +23,7 @@ use crate::spot::{Content, Spot};
 use crate::spot_key::SpotKey;
 use crate::weaving::{first_of, woven};
 use cas_atoms::{ColumnRef, PathCell, Row, RowColumn};
-use cas_bounds::{Clustering, End, MapKey, RowOrder, Slice, Values, compare_points};
+use cas_bounds::{Clustering, Cut, End, MapKey, RowOrder, Slice, Values, compare_points};
 use cas_cell::{Cell, Deletion};
 use cas_merge::{Merger, compare_fragments, joined_fragment};
 use cas_streams::{Fragment, FragmentSource, Part};
@@ -31,6 +32,7 @@ use std::alloc::{AllocError, Global};
 use std::collections::BTreeMap;
 use std::collections::btree_map::Range;
 use std::mem;
+use std::mem::drop;
 use std::vec::IntoIter;
 
 // The cell, where there is one and a path.
@@ -167,6 +169,14 @@ fn is_last(rows: &[Fragment], spot: &Spot) -> bool
     }
 }
 
+// One more.
+fn add(rows: &mut Vec<Fragment>, row: Fragment) -> Result<(), AllocError>
+    ensures { OnOk result (rows.new.items ≡ rows.old.items ++ row ∷ []) }
+{
+    rows.push(row)?;
+    Ok(())
+}
+
 // The next piece, put together with the last one where both are of one row; what comes last then.
 fn add_piece(
     alloc: Global,
@@ -182,8 +192,13 @@ fn add_piece(
             if compare_fragments(&f, &piece).is_eq() {
                 joined_fragment(alloc, f, piece)
             } else {
-                done.push(f)?;
-                Ok(piece)
+                match add(done, f) {
+                    Ok(()) => Ok(piece),
+                    Err(fault) => {
+                        drop(piece);
+                        Err(fault)
+                    }
+                }
             }
         }
     }
@@ -197,20 +212,6 @@ fn are_below(columns: &[RowColumn], number: u16) -> bool
         [] => true,
         [c, rest @ ..] => c.column.number < number && are_below(rest, number),
     }
-}
-
-// The last piece with what is said at a further spot of its row.
-fn add_to(
-    alloc: Global,
-    last: Fragment,
-    spot: &Spot,
-    content: &Content,
-) -> Result<Fragment, AllocError>
-    requires { IsSome spot.now.row }
-    ensures { IfOk result (λ f. f ≡ joined_fragment last (said spot.now content.now)) }
-{
-    let piece = further(alloc, spot, content)?;
-    joined_fragment(alloc, last, piece)
 }
 
 // Whether the last of the rows and the piece are of one.
@@ -292,8 +293,10 @@ fn add_to_last(
     if push_to_last(alloc, rows, spot, content)? {
         return Ok(());
     }
-    if let Some(last) = rows.pop() {
-        rows.push(add_to(alloc, last, spot, content)?)?;
+    let piece = further(alloc, spot, content)?;
+    match rows.pop() {
+        None => rows.push(piece)?,
+        Some(last) => rows.push(joined_fragment(alloc, last, piece)?)?,
     }
     Ok(())
 }
@@ -306,8 +309,9 @@ fn add_other(alloc: Global, rows: &mut Vec<Fragment>, piece: Fragment) -> Result
         rows.push(piece)?;
         return Ok(());
     }
-    if let Some(last) = rows.pop() {
-        rows.push(joined_fragment(alloc, last, piece)?)?;
+    match rows.pop() {
+        None => rows.push(piece)?,
+        Some(last) => rows.push(joined_fragment(alloc, last, piece)?)?,
     }
     Ok(())
 }
@@ -499,6 +503,44 @@ fn fragments_of(
     woven(alloc, rows, told)
 }
 
+// The key of a cut's copy, as a spot.
+fn edge(cut: &Cut) -> Result<SpotKey, AllocError>
+    ensures { IfOk result (λ k. k ≡ spot_at (key_of cut.now)) }
+{
+    Ok(at(MapKey::of_cut(cut.copied()?)))
+}
+
+// What is said of the rows behind a spot and before a cut.
+fn add_up_to<'a>(
+    entries: &mut Vec<(&'a Spot, &'a Content)>,
+    spots: &'a BTreeMap<SpotKey, Content>,
+    low: &SpotKey,
+    hi: &Cut,
+) -> Result<(), AllocError>
+    ensures { OnOk result (map lent_piece entries.new.items ≡ map lent_piece entries.old.items
+        ++ map piece_of (spots_between low.now (spot_at (key_of hi.now)) spots.now.entries)) }
+{
+    let high = edge(hi)?;
+    let added = add_between(entries, spots, low, &high);
+    drop(high);
+    added
+}
+
+// What is said of the rows of the slice.
+fn add_rows<'a>(
+    entries: &mut Vec<(&'a Spot, &'a Content)>,
+    spots: &'a BTreeMap<SpotKey, Content>,
+    slice: &Slice,
+) -> Result<(), AllocError>
+    ensures { OnOk result (map lent_piece entries.new.items ≡ map lent_piece entries.old.items
+        ++ map piece_of (rows_between slice.now.lo slice.now.hi spots.now.entries)) }
+{
+    let low = edge(&slice.lo)?;
+    let added = add_up_to(entries, spots, &low, &slice.hi);
+    drop(low);
+    added
+}
+
 // What is said of the static row and of the rows of the slice, and the marks among them.
 fn fragments_in(
     alloc: Global,
@@ -511,11 +553,9 @@ fn fragments_in(
         ++ rows_between slice.now.lo slice.now.hi spots.now.entries)) (map lent_marker marks.now) v.items) }
     ensures sorted { OnOk result (IsStrictlySortedBy spot_cmp (keys_of spots.now.entries)) }
 {
-    let low = at(MapKey::of_cut(slice.lo.copied()?));
-    let high = at(MapKey::of_cut(slice.hi.copied()?));
     let mut entries = Vec::new(alloc);
     add_static(&mut entries, spots)?;
-    add_between(&mut entries, spots, &low, &high)?;
+    add_rows(&mut entries, spots, slice)?;
     fragments_of(alloc, top, &entries, marks)
 }
 
@@ -540,8 +580,42 @@ impl Partition {
             × Shows slice.now self.now (⟦<Merger<Part> as FragmentSource>⟧.over_all m) fs) }
     {
         let low = CutKey::of(slice.lo.copied()?);
+        let shown = self.slice_from(alloc, slice, &low);
+        drop(low);
+        shown
+    }
+
+    // So from the key of its beginning.
+    fn slice_from(
+        &self,
+        alloc: Global,
+        slice: &Slice,
+        low: &CutKey,
+    ) -> Result<Merger<Part>, AllocError>
+        requires { low.now ≡ key_of slice.now.lo }
+        ensures { IfOk result (λ m. (fs : ListOf Fragment) × (⟦<Merger<Part> as FragmentSource>⟧.to_come m ≡ Some fs)
+            × Shows slice.now self.now (⟦<Merger<Part> as FragmentSource>⟧.over_all m) fs) }
+    {
         let high = CutKey::of(slice.hi.copied()?);
-        let marks = self.ranges.marks(alloc, &low, &high)?;
+        let shown = self.slice_between(alloc, slice, low, &high);
+        drop(high);
+        shown
+    }
+
+    // So between the keys of both its cuts.
+    fn slice_between(
+        &self,
+        alloc: Global,
+        slice: &Slice,
+        low: &CutKey,
+        high: &CutKey,
+    ) -> Result<Merger<Part>, AllocError>
+        requires low { low.now ≡ key_of slice.now.lo }
+        requires high { high.now ≡ key_of slice.now.hi }
+        ensures { IfOk result (λ m. (fs : ListOf Fragment) × (⟦<Merger<Part> as FragmentSource>⟧.to_come m ≡ Some fs)
+            × Shows slice.now self.now (⟦<Merger<Part> as FragmentSource>⟧.over_all m) fs) }
+    {
+        let marks = self.ranges.marks(alloc, low, high)?;
         let fragments = fragments_in(alloc, self.top, &self.spots, slice, &marks)?;
         Ok(Merger::new(source(alloc, self.top, fragments)?))
     }

@@ -21,6 +21,7 @@ use cas_merge::{Bracket, Merger};
 use cas_streams::FragmentSource;
 use std::alloc::{AllocError, Global};
 use std::marker::Brand;
+use std::mem::drop;
 
 // What a query shows of memtables alone.
 fn rows_in_memory(
@@ -33,8 +34,13 @@ fn rows_in_memory(
     requires columns { IsNarrow query.columns }
     ensures { IfOk result (λ v. AreRowsOf [] (memtables_of parts.now) query now v.items) }
 {
-    let merger = Merger::new(parts.sources(alloc, &query.key, &query.slice)?);
-    all_rows_of(alloc, merger, query, now)
+    match parts.sources(alloc, &query.key, &query.slice) {
+        Ok(sources) => all_rows_of(alloc, Merger::new(sources), query, now),
+        Err(fault) => {
+            drop(query);
+            Err(fault)
+        }
+    }
 }
 
 // Adds the tallies of all sources; where one was broken by a read that failed, the sum rises.
@@ -50,7 +56,9 @@ fn add_tallies<'a, S: Sealed, B: BadPlaces>(
     match bracket {
         Bracket::Nobody => {}
         Bracket::Source(source) => add_tally(source, tally),
-        Bracket::Pair(left, _, right, _) => {
+        Bracket::Pair(left, one, right, other) => {
+            drop(one);
+            drop(other);
             add_tallies(Box::into_inner(left), tally);
             add_tallies(Box::into_inner(right), tally);
         }
@@ -73,10 +81,18 @@ fn rows_in_files<S: Sealed, B: BadPlaces>(
     ensures count { Counted (S.Tally.number tally.old) (S.Tally.number tally.new) (IsErrOf result TableFault.Read) }
     ensures why { IfErr result (IsFaultOf (λ n at. ∥ B.told n at ∥₁)) }
 {
-    let merger = Merger::new(store.sources::<B>(alloc, &query.key, &query.slice, tally)?);
-    let (shown, merger) = all_rows_and_source(alloc, merger, query, now);
-    add_tallies(merger.end(), tally);
-    shown
+    match store.sources::<B>(alloc, &query.key, &query.slice, tally) {
+        Ok(sources) => {
+            let merger = Merger::new(sources);
+            let (shown, merger) = all_rows_and_source(alloc, merger, query, now);
+            add_tallies(merger.end(), tally);
+            shown
+        }
+        Err(fault) => {
+            drop(query);
+            Err(fault)
+        }
+    }
 }
 
 impl<S: Sealed> TableStore<S> {

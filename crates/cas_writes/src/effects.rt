@@ -4,6 +4,8 @@ ghost use Rattle.std.specs.Prelude.{◌≡◌, ◌++◌, map, IfOk, OnOk};
 ghost use Rattle.std.specs.List.{flat_map, zip};
 ghost use Rattle.cas_types.specs.Limits.{IsNarrow};
 ghost use Rattle.cas_keys.specs.Inner.Sources.{terms_of};
+ghost use Rattle.cas_effects.specs.declared.effect.Effect.TheVariants as effects;
+ghost use Rattle.cas_terms.specs.Columns.{column_ref};
 ghost use Rattle.cas_writes.specs.Changes.{row_for, whole_effect, assigned_effect, deleted_effect, column_effect, change_effects};
 ghost use Rattle.cas_writes.specs.Changes.{clustered_row, deletion_effect, live_effect, deletion_effects, row_effects, effects_of};
 ghost use Rattle.cas_mentions.specs.Inner.Borrowed.{change_in};
@@ -11,7 +13,7 @@ ghost use Rattle.cas_mentions.specs.Mentions.{assigns, deletes, inserted, change
 ghost use Rattle.cas_reasons.specs.Statements.{key_terms_of};
 
 use cas_bounds::{Clustering, Values, clustering_order};
-use cas_effects::Effect;
+use cas_effects::{Effect, Elements};
 use cas_reasons::{RowChange, inserts_static, key_terms_of};
 use cas_terms::{
     column_ref, constant_bytes, entry_elements, given_elements, located, prepended_elements,
@@ -21,6 +23,7 @@ use cas_types::{Column, List, Text};
 use cas_where::{KeyTerms, is_clustering_fixed, is_clustering_free, prefix_values, slice_of};
 use cql_parse::{Assigned, Assignment, Constant, Relation, Statement, Target, Term};
 use std::alloc::{AllocError, Global};
+use std::mem::drop;
 
 /// Room for the effects of most statements.
 const USUAL: usize = 4;
@@ -70,6 +73,24 @@ fn whole_effect(
     }
 }
 
+// These elements are written beside those that are there.
+fn parts_effect(
+    row: &Clustering,
+    number: u16,
+    column: &Column,
+    elements: Elements,
+) -> Result<Effect, AllocError>
+    ensures { IfOk result (λ e. e ≡ effects.Parts (row_for row.now column.now) (column_ref number column.now) elements) }
+{
+    match row_for(row, column) {
+        Ok(place) => Ok(Effect::Parts(place, column_ref(number, column), elements)),
+        Err(fault) => {
+            drop(elements);
+            Err(fault)
+        }
+    }
+}
+
 #[tactic(auto, unfolding(crate::specs::Changes::assigned_effect))]
 fn assigned_effect(
     alloc: Global,
@@ -80,26 +101,25 @@ fn assigned_effect(
 ) -> Result<Effect, AllocError>
     ensures { IfOk result (λ e. e ≡ assigned_effect row.now number column.now value.now) }
 {
-    let named = column_ref(number, column);
     match value {
         Assigned::Whole(term) => whole_effect(alloc, row, number, column, term),
         Assigned::Append(_, literal) => {
             let elements = given_elements(alloc, column, literal)?;
-            Ok(Effect::Parts(row_for(row, column)?, named, elements))
+            parts_effect(row, number, column, elements)
         }
         Assigned::Prepend(literal, _) => {
             let elements = prepended_elements(alloc, column.tag, literal)?;
-            Ok(Effect::Parts(row_for(row, column)?, named, elements))
+            parts_effect(row, number, column, elements)
         }
         Assigned::Remove(_, literal) => {
             let elements = removed_elements(alloc, column.tag, literal)?;
-            Ok(Effect::Parts(row_for(row, column)?, named, elements))
+            parts_effect(row, number, column, elements)
         }
         Assigned::Entry(key, term) => {
             let key = constant_bytes(alloc, column.tag, key)?;
             let value = term_value(alloc, column.value_type(), term)?;
             let elements = entry_elements(alloc, key, value)?;
-            Ok(Effect::Parts(row_for(row, column)?, named, elements))
+            parts_effect(row, number, column, elements)
         }
     }
 }

@@ -15,6 +15,7 @@ use cql_phrases::lexemes::lexemes;
 use cql_phrases::{Keyword, Lexeme, ParseFault};
 use cql_tables::define::{alter, create};
 use std::alloc::Global;
+use std::mem::drop;
 
 #[tactic(auto, unfolding(crate::specs::Inner::StatementReading::definition_at))]
 fn definition(alloc: Global, input: &[Lexeme]) -> Result<(Statement, &[Lexeme]), ParseFault>
@@ -81,7 +82,10 @@ fn whole_statement(alloc: Global, input: &[Lexeme]) -> Result<Statement, ParseFa
     let (statement, rest) = any(alloc, input)?;
     match after_semicolon(rest) {
         [] => Ok(statement),
-        [_first, _rest @ ..] => Err(ParseFault::Syntax),
+        [_first, _rest @ ..] => {
+            drop(statement);
+            Err(ParseFault::Syntax)
+        }
     }
 }
 

@@ -65,12 +65,12 @@ pub returns-in-Ok-clause-nothing : goal.returns-in-Ok-clause-nothing
 returns-in-Ok-clause-nothing g c none =
     absurd (first_held (map arc_value c.args.memtables.now) c.next_key.result c.next_key.ensures (c.is_none.ensures ∙ ap not c.if-is_none.false) none)
 
-pub returns-clause-nothing : goal.returns-clause-nothing
-returns-clause-nothing g c none =
+pub returns-in-Err-clause-nothing : goal.returns-in-Err-clause-nothing
+returns-in-Err-clause-nothing g c none =
     absurd (first_held (map arc_value c.args.memtables.now) c.next_key.result c.next_key.ensures (c.is_none.ensures ∙ ap not c.if-is_none.false) none)
 
-pub returns-clause-why : goal.returns-clause-why
-returns-clause-why g c number empty wss hold =
+pub returns-in-Err-clause-why : goal.returns-in-Err-clause-why
+returns-in-Err-clause-why g c number empty wss hold =
     let columns = c.args.columns.now in
     let (ps, are, w) = c.in_ok-write_keys.ensures.written columns wss hold c.in_ok-slice.ensures (c.in_ok-writer.ensures.begun number empty columns) in
     subst (FlushFault c.args.header (all_of wss)) (sym c.fault_of.ensures)

@@ -17,8 +17,8 @@ returns-in-Ok-clause-written g c columns wss ps hold whole w =
     _ _ c.args.writer.now c.partition.new.self ps c.as_slice.ensures c.requires.there (c.new-merged.ensures.fragments shows.streams shows.told)
     (c.new-merged.ensures.top shows.streams shows.told) w c.in-Ok.ensures.held c.in-Ok.ensures.written
 
-pub returns-clause-why : goal.returns-clause-why
-returns-clause-why g c columns wss ps hold whole w =
+pub returns-in-Err-clause-why : goal.returns-in-Err-clause-why
+returns-in-Err-clause-why g c columns wss ps hold whole w =
     let s = c.args.slice.now in
     let shows = c.in_ok-sources.ensures (clustering_order columns) wss hold.stand (low columns s whole) (high columns s whole) in
     subst (KeyFault (contents_of c.args.writer.now ps) c.args.key.now (all_of wss)) (sym c.fault_of.ensures)

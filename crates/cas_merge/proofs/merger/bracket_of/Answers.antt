@@ -15,10 +15,10 @@ loop-source-init g c = (
 pub loop-source-preserved : goal.loop-source-preserved
 loop-source-preserved g c =
     let e = sym c.in-Some.ensures in (
-      c.in_ok-enter.ensures.fresh,
-      omega (arith, c.loop-source.invariant.1, c.in_ok-enter.ensures.room, ap (rooms g.I.FragmentSource.at_most) e),
+      c.in-Ok.ensures.fresh,
+      omega (arith, c.loop-source.invariant.1, c.in-Ok.ensures.room, ap (rooms g.I.FragmentSource.at_most) e),
       λ ss told. one_more g.I.FragmentSource.to_come g.I.FragmentSource.over_all c.loop-source.bracket c.enter.new.self c.in-Some.source (into_iter_items c.loop-source.rest) (into_iter_items c.first_of.new.rest) ss e
-          c.in_ok-enter.ensures.told (c.loop-source.invariant.2 ss told),
+          c.in-Ok.ensures.told (c.loop-source.invariant.2 ss told),
     )
 
 pub returns-clause-told : goal.returns-clause-told

@@ -8,10 +8,10 @@ returns-then-not-is_same c gs =
     ap (λ l. grouped_on l gs) c.in_ok-push.ensures.items
     ∙ other_behind c.args.rows.now.items c.args.piece gs (ap (λ l. ends_as l c.args.piece) (sym c.deref.ensures.value) ∙ sym c.is_same.ensures ∙ c.if-not-is_same.true)
 
-pub returns-in_ok-push-2 : goal.returns-in_ok-push-2
-returns-in_ok-push-2 c gs =
+pub returns-in_ok-push-in-Some : goal.returns-in_ok-push-in-Some
+returns-in_ok-push-in-Some c gs =
     let front = c.pop.new.self.items in
-    ap (λ l. grouped_on l gs) (c.in_ok-push-2.ensures.items ∙ ap (λ f. front ++ f ∷ []) c.in_ok-joined_fragment.ensures)
+    ap (λ l. grouped_on l gs) (c.in_ok-push-in-Some.ensures.items ∙ ap (λ f. front ++ f ∷ []) c.in_ok-joined_fragment-in-Some.ensures)
     ∙ last_takes front c.in-Some.last c.args.piece gs
     (sym (ends_as_last front c.in-Some.last c.args.piece) ∙ ap (λ l. ends_as l c.args.piece) (sym c.in-Some.ensures.items ∙ sym c.deref.ensures.value) ∙ sym c.is_same.ensures ∙ c.if-not-is_same.false)
     ∙ ap (λ l. grouped_on l (c.args.piece ∷ gs)) (sym c.in-Some.ensures.items)

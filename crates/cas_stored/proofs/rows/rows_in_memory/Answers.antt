@@ -6,12 +6,12 @@ use Rattle.cas_stored.proofs.Looking.{rows_shown}
 use Rattle.cas_stored.proofs.Showing.{memory_alone}
 use Rattle.cas_stored.proofs.rows.rows_in_memory.Goals as goal
 
-pub returns : goal.returns
-returns c =
+pub returns-in-Ok : goal.returns-in-Ok
+returns-in-Ok c =
     let ms = memtables_of c.args.parts.now in
     let q = c.args.query in
-    let xs = c.in_ok-sources.field-0.items in
+    let xs = c.in-Ok.sources.items in
     if_ok_too c.all_rows_of.result _ _
-    (λ v rows. rows_shown [] ms q c.args.now (to_z w64 (of_z w64 c.args.now)) _ _ xs c.new-merger.result.top _ v.items (omega (arith, ints))
-    (λ order wss holds low high. memory_alone _ _ order q.slice q.key ms (all_of wss) xs (c.in_ok-sources.ensures order wss holds low high))
-    c.new-merger.ensures.fragments c.new-merger.ensures.top rows) c.all_rows_of.ensures.rows
+    (λ v rows. rows_shown [] ms q c.args.now (to_z w64 (of_z w64 c.args.now)) _ _ xs c.new.result.top _ v.items (omega (arith, ints))
+    (λ order wss holds low high. memory_alone _ _ order q.slice q.key ms (all_of wss) xs (c.in-Ok.ensures order wss holds low high))
+    c.new.ensures.fragments c.new.ensures.top rows) c.all_rows_of.ensures.rows

@@ -1,7 +1,8 @@
-use Rattle.std.proofs.Common.{◌≡◌, ℕ, List, Option, Some, Result, Err, sym, ap, subst, ◌∙◌}
+use Rattle.std.proofs.Common.{◌≡◌, ℕ, List, Option, Some, Result, Ok, Err, sym, ap, subst, ◌∙◌}
 use Rattle.std.specs.Vec.Iter.{into_iter_items}
+use Rattle.cas_streams.specs.Sources.{TakesFirst}
 use Rattle.cas_streams.specs.declared.fragment.Fragment.{Fragment}
-use Rattle.cas_blocks.specs.Inner.Pieces.{IfBad, IsBadBlock, FindsNoMore}
+use Rattle.cas_blocks.specs.Inner.Pieces.{pieces_left, IfBad, IsBadBlock, FindsNoMore}
 use Rattle.cas_blocks.specs.declared.fault.TableFault.{TableFault}
 use Rattle.cas_blocks.specs.declared.steps.Onward.{Onward}
 use Rattle.cas_blocks.proofs.Breaks.{before_block}
@@ -15,7 +16,9 @@ returns-in-Ok-None-clause-first g c = λ fs told.
     c.args.self.now.onward c.in-Some.at (into_iter_items c.args.self.now.rest) fs c.in-Some.is c.requires told in (
       piece_end c.args.file.now.order.now c.args.file.now.columns.now c.args.file.now.number c.args.file.now.end
           (g.F.Sealed.contents c.args.file.now.sealed.now) c.in-Some.at fs on answers,
-      ap (λ (xs : List Fragment). Some xs) c.requires,
+      ap (λ (o : Option Onward). pieces_left c.args.file.now.order.now c.args.file.now.columns.now c.args.file.now.end
+          (g.F.Sealed.contents c.args.file.now.sealed.now) o (into_iter_items c.args.self.now.rest)) c.replace.ensures.after
+          ∙ ap (λ (xs : List Fragment). Some xs) c.requires,
     )
 
 pub returns-in-Ok-Some-clause-first : goal.returns-in-Ok-Some-clause-first
@@ -26,9 +29,12 @@ returns-in-Ok-Some-clause-first g c = λ fs told.
     c.args.self.now.onward c.in-Some.at (into_iter_items c.args.self.now.rest) fs c.in-Some.is c.requires told in
     let there = piece_block c.args.file.now.order.now c.args.file.now.columns.now c.args.file.now.number c.args.file.now.end
     (g.F.Sealed.contents c.args.file.now.sealed.now) c.in-Some.at fs c.in-Ok-Some.step on answers in
-    taken c.args.file.now.order.now c.args.file.now.columns.now c.args.file.now.number c.args.file.now.end
+    let given : Result (Option Fragment) TableFault = Ok c.first_of.result in
+    subst (λ (o : Option Onward). TakesFirst fs (pieces_left c.args.file.now.order.now c.args.file.now.columns.now c.args.file.now.end
+    (g.F.Sealed.contents c.args.file.now.sealed.now) o (into_iter_items c.first_of.new.rest)) given) (sym c.replace-in-Ok-Some.ensures.after)
+    (taken c.args.file.now.order.now c.args.file.now.columns.now c.args.file.now.number c.args.file.now.end
     (g.F.Sealed.contents c.args.file.now.sealed.now) c.in-Ok-Some.step.onward fs c.in-Ok-Some.step.fragments.items (into_iter_items c.first_of.new.rest)
-    c.first_of.result there (c.first_of.ensures.split ∙ c.into_iter.ensures.rest) shorter.some
+    c.first_of.result there (c.first_of.ensures.split ∙ ap into_iter_items c.replace-in-Ok-Some-2.ensures.after ∙ c.into_iter.ensures.rest) shorter.some)
 
 pub returns-in-Err-clause-bad : goal.returns-in-Err-clause-bad
 returns-in-Err-clause-bad g c =
@@ -52,5 +58,7 @@ returns-in-Ok-Some-clause-narrows g c =
     let contents : Option (List ℕ) = g.F.Sealed.contents file.sealed.now in
     let is : c.args.self.now.onward ≡ Some c.in-Some.at = c.in-Some.is in
     let answers = rw c.in-Ok-Some.field-0-is at c.in-Ok-Some.ensures.told in
-    subst (λ (o : Option Onward). FindsNoMore file.order.now file.columns.now file.number file.end contents o (Some c.in-Ok-Some.step.onward)) (sym is)
-    (before_block file.order.now file.columns.now file.number file.end contents c.in-Some.at c.in-Ok-Some.step answers)
+    subst (λ (o : Option Onward). FindsNoMore file.order.now file.columns.now file.number file.end contents c.args.self.now.onward o)
+    (sym c.replace-in-Ok-Some.ensures.after)
+    (subst (λ (o : Option Onward). FindsNoMore file.order.now file.columns.now file.number file.end contents o (Some c.in-Ok-Some.step.onward)) (sym is)
+    (before_block file.order.now file.columns.now file.number file.end contents c.in-Some.at c.in-Ok-Some.step answers))

@@ -7,7 +7,7 @@ use Rattle.cas_partition.specs.Slices.{slice_streams}
 use Rattle.cas_partition.specs.Inner.Passing.{lent_marker}
 use Rattle.cas_partition.specs.Inner.Sources.{SettleAlike}
 use Rattle.cas_partition.proofs.Shown.{shows}
-use Rattle.cas_partition.proofs.partition.Partition.slice.Goals as goal
+use Rattle.cas_partition.proofs.partition.Partition.slice_between.Goals as goal
 
 pub returns : goal.returns
 returns c =
@@ -16,7 +16,7 @@ returns c =
     let (rows, are, alike) = c.in_ok-fragments.ensures.rows in
     let marks : map lent_marker c.deref.result.now ≡ map marker (clipped s p.ranges) =
     ap (map lent_marker) c.deref.ensures.value
-    ∙ c.in_ok-marks.ensures s (c.of-low.ensures ∙ ap key_of c.in_ok-copied.ensures) (c.of-high.ensures ∙ ap key_of c.in_ok-copied-2.ensures) in
+    ∙ c.in_ok-marks.ensures s c.requires.low c.requires.high in
     let told = c.in_ok-source.ensures rows (map marker (clipped s p.ranges)) (subst (λ ms. SettleAlike p.top rows ms c.in_ok-fragments.fragments.items) marks alike) in
     let ss : List Stream = told.0 in
     let whole : merged ss ≡ merged (slice_streams s p rows) = told.2 in (
