@@ -11,7 +11,7 @@ use Rattle.cas_changes.specs.declared.entry.Entry.TheVariants.{DropSegment}
 use Rattle.cas_replay.specs.Tops.{AreNoted, IsCovered, place_in, number_at}
 use Rattle.cas_replay.specs.Reading.{frontier_of}
 use Rattle.cas_replay.specs.declared.tops.Tops.{Tops}
-use Rattle.cas_journal.specs.Inner.Noting.{IsFirstCovered, IsFirstAbove, IsFirstNoted}
+use Rattle.cas_journal.specs.Inner.Noting.{IsFirstCovered, IsFirstNoted}
 use Rattle.cas_journal.specs.Stores.{Found, Told, Dropped, HoldsDropped, without}
 use Rattle.cas_journal.specs.Journals.{Lasts}
 use Rattle.cas_gates.specs.declared.first.First.{First}

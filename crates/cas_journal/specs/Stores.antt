@@ -29,9 +29,9 @@ pub record Found : Type 0 where
 abbrev pub found_in : List ℕ → List Mutation → Found
 found_in segments mutations = record { segments = segments; mutations = mutations }
 
--- What a journal was told: what the store was found with; the entries that the manifest has; one that failed, which may be there or not; the mutations of the segments that are
--- listed, those that it was opened with and those that it took; how many of them are committed; and how many at their front are gone where that entry
--- is there, as it may drop their segment.
+-- What a journal was told: what the store was found with; the entries that the manifest has; one that failed, which may be there or not; the mutations
+-- of the segments that are listed, those that it was opened with and those that it took; how many of them are committed; and how many at their front
+-- are gone where that entry is there, as it may drop their segment.
 pub record Told : Type 0 where
   pub found : Found
   pub entries : List Entry

@@ -2,7 +2,7 @@
 
 ghost use Rattle.std.specs.Prelude.{◌≡◌, ℕ, List, ◌∷◌, [], ◌++◌, length, drop, IfOk, OnOk, IfSome};
 ghost use Rattle.cas_atoms.specs.declared.atom.Mutation.{Mutation as MutationOf};
-ghost use Rattle.cas_replay.specs.Tops.{top_at, AreNotesOf};
+ghost use Rattle.cas_replay.specs.Tops.{AreNotesOf};
 ghost use Rattle.cas_log.specs.Segment.{joined};
 ghost use Rattle.cas_journal.specs.Stores.{Found, found_in};
 ghost use Rattle.cas_journal.specs.Notes.{Know, HasPlace, HasSpace};

@@ -1,5 +1,5 @@
 -- What is noted of the segments that were found.
-use Rattle.std.proofs.Common.{◌≡◌, ◌≤◌, ℕ, List, [], ◌∷◌, ◌++◌, length, ap, sym, subst, ◌∙◌}
+use Rattle.std.proofs.Common.{◌≡◌, ℕ, List, length, ap, sym, subst, ◌∙◌}
 use Rattle.cas_types.specs.declared.schema.TableSchema.{TableSchema}
 use Rattle.cas_disk.specs.Disk.{Disk}
 use Rattle.cas_atoms.specs.declared.atom.Mutation.{Mutation}

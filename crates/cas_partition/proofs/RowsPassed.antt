@@ -1,5 +1,5 @@
 -- Rows and marks one after another, and what is left of them.
-use Rattle.std.proofs.Common.{◌≡◌, ℕ, suc, ◌≤◌, Bool, true, false, cond, not, is_some, is_none, ◌&&◌, Option, None, Some, List, [], ◌∷◌, ◌++◌, map, fold, length, take, drop, get_or, ◌<◌, ◌-◌, refl, sym, ap, ◌∙◌, subst, append_assoc, arith}
+use Rattle.std.proofs.Common.{◌≡◌, ℕ, suc, ◌+◌, ◌≤◌, Bool, true, false, cond, not, is_some, is_none, ◌&&◌, Option, None, Some, List, [], ◌∷◌, ◌++◌, map, fold, length, take, drop, get_or, ◌<◌, ◌-◌, refl, sym, ap, ◌∙◌, subst, append_assoc, arith}
 use Rattle.std.proofs.lemmas.Bool.{true≢false}
 use Rattle.std.proofs.Math.Seq.{take-length}
 use Rattle.std.proofs.lemmas.List.{append-nil}
@@ -128,7 +128,7 @@ pub count_below : (k : Option MapKey) (es : List Lent) → count_of k es ≤ len
 count_below k [] = omega arith
 count_below k (e ∷ es) =
     let n : count_of k es ≤ length es = count_below k es in
-    elim (are_of_one k e.0.now.row) as (λ b. cond b (suc (count_of k es)) 0 ≤ suc (length es)) [ true ↦ omega (arith, n) | false ↦ omega arith ]
+    elim (are_of_one k e.0.now.row) as (λ b. cond b (1 + count_of k es) 0 ≤ suc (length es)) [ true ↦ omega (arith, n) | false ↦ omega arith ]
 
 are_one : (k l : Option MapKey) (m n : Option ℕ) (p q : Option (List ℕ)) (c d : Content) → is_eq (fragment_cmp (piece k m p c) (piece l n q d)) ≡ are_of_one k l
 are_one None None m n p q c d = refl
@@ -146,8 +146,11 @@ group s c f (e ∷ es) same =
     ap is_eq (same p) ∙ are_one s.row e.0.now.row s.column e.0.now.column s.path e.0.now.path c e.1.now in
     ap (λ b. cond b (grouped_from (joined_fragment f p) (map lent_piece es)) (f ∷ grouped_from p (map lent_piece es))) one
     ∙ elim (are_of_one s.row e.0.now.row) as (λ b. cond b (grouped_from (joined_fragment f p) (map lent_piece es)) (f ∷ grouped_from p (map lent_piece es))
-    ≡ fold joined_fragment f (map lent_piece (take (cond b (suc n) 0) (e ∷ es))) ∷ grouped None (map lent_piece (drop (cond b (suc n) 0) (e ∷ es)))) [
-      | true ↦ group s c (joined_fragment f p) es (λ h. keeps_place f p h ∙ same h)
+    ≡ fold joined_fragment f (map lent_piece (take (cond b (1 + n) 0) (e ∷ es))) ∷ grouped None (map lent_piece (drop (cond b (1 + n) 0) (e ∷ es)))) [
+      | true ↦
+          let next : suc n ≡ 1 + n = omega arith in
+          group s c (joined_fragment f p) es (λ h. keeps_place f p h ∙ same h)
+          ∙ ap (λ (k : ℕ). fold joined_fragment f (map lent_piece (take k (e ∷ es))) ∷ grouped None (map lent_piece (drop k (e ∷ es)))) next
       | false ↦ refl
     ]
 

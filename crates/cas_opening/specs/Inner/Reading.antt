@@ -37,7 +37,8 @@ ReplaysSaid took s c (Err Mem) = TookFront took (above s c)
 
 -- where the listed segments have these mutations together, each is noted with its segment, and nothing is noted of others
 abbrev pub AreNotedIn : Notes → Saying → List Mutation → Type 0
-AreNotedIn notes s mutations = (parts : List (List Mutation)) → length parts ≡ length s.segments → joined parts ≡ mutations → Noted notes (found_in s.segments mutations) s parts
+AreNotedIn notes s mutations =
+    (parts : List (List Mutation)) → length parts ≡ length s.segments → joined parts ≡ mutations → Noted notes (found_in s.segments mutations) s parts
 
 -- where the folder failed or memory ran out, a front was given of the mutations above their frontiers
 abbrev pub FaultGave : List Entry → List Mutation → List Mutation → OpenFault → Type 0

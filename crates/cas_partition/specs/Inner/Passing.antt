@@ -1,5 +1,6 @@
 -- Entries and marks on their way into one stream: which entries are of one row, and where nothing would be left of it (own).
-use Rattle.std.specs.Prelude.{ℕ, suc, Bool, true, false, not, is_some, is_none, ◌&&◌, Option, None, Some, List, [], ◌∷◌, map, fold, if◌then◌else◌}
+use Rattle.std.specs.Prelude.{ℕ, Bool, true, false, not, is_some, is_none, ◌&&◌, Option, None, Some, List, [], ◌∷◌, map, fold, if◌then◌else◌}
+use Rattle.std.specs.List.{list_all, prefix_len}
 use Rattle.std.specs.Ordering.{is_eq, is_gt}
 use denote.Ref.{Bor}
 use Rattle.cas_cell.specs.Lives.{live_at}
@@ -39,8 +40,7 @@ are_of_one (Some k) (Some l) = is_eq (point_cmp k.order (row_point k.values) (ro
 
 -- so many of these come first that are of the row
 abbrev pub count_of : Option MapKey → List Lent → ℕ
-count_of k [] = 0
-count_of k (e ∷ es) = if are_of_one k e.0.now.row then suc (count_of k es) else 0
+count_of k es = prefix_len (λ e. are_of_one k e.0.now.row) es
 
 -- the cut stands before the row; nothing does before the static row
 abbrev pub is_first : MapKey → Option MapKey → Bool
@@ -74,8 +74,7 @@ is_hidden over c = is_none c.deletion && (is_none (standing live_at over c.live)
 
 -- at none of these
 abbrev pub all_hidden : Option Deletion → List Lent → Bool
-all_hidden over [] = true
-all_hidden over (e ∷ es) = is_hidden over e.1.now && all_hidden over es
+all_hidden over es = list_all (λ e. is_hidden over e.1.now) es
 
 -- nothing would be left of a row of which this is said; the static row stays in any case
 abbrev pub is_row_hidden : Option Deletion → Option MapKey → Content → List Lent → Bool

@@ -22,7 +22,8 @@ number_of (Some m) = Some m.number
 abbrev pub AreLast : List (Option ℕ) → List Mutation → Type 0
 AreLast numbers read = (shard : ℕ) → shard < 256 → slice_index_or numbers shard None ≡ number_of (last_of shard read)
 
--- So far a log was read: the last numbers are those of these mutations, which are noted, and no others; and those of them that are above their frontiers were taken.
+-- So far a log was read: the last numbers are those of these mutations, which are noted, and no others; and those of them that are above their
+-- frontiers were taken.
 pub record Stands (shards : ℕ) (frontiers : List ℕ) (took : List Mutation → Type 0) (lasts : Lasts) (read : List Mutation) : Type 0 where
   pub last : AreLast lasts.numbers read
   pub noted : AreNotesOf shards lasts.tops read

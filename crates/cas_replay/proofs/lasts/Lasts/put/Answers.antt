@@ -1,6 +1,3 @@
-use Rattle.std.proofs.Common.{◌≡◌, ◌==◌, max, ◌∙◌, ℕ, sym, subst}
-use Rattle.std.specs.Prelude.{if◌then◌else◌}
-use Rattle.cas_replay.specs.Tops.{top_at}
 use Rattle.cas_replay.proofs.Noted.{one_more_notes}
 use Rattle.cas_replay.proofs.lasts.Lasts.put.Goals as goal
 
