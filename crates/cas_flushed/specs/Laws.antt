@@ -26,9 +26,11 @@ ContentsStand = (f : File Held) (c : Contents) (facts : Facts) → IsOf f.table 
 
 -- and in the one that stands in an image, as it is listed
 abbrev pub ListedContentsStand : Type 0
-ListedContentsStand = (t : TableSchema) (shard : ℕ) (d : Image) (i : TableInfo) (c : Contents) → IsFileIn t shard d i c → StandIn t shard d i (written_in c.partitions)
+ListedContentsStand =
+    (t : TableSchema) (shard : ℕ) (d : Image) (i : TableInfo) (c : Contents) → IsFileIn t shard d i c → StandIn t shard d i (written_in c.partitions)
 
 -- where partitions are those of mutations, as a flush writes them, what they tell says the same under each key as the mutations did, and no more
 pub record FlushedSayTheSame : Type 0 where
   pub same : (ws : List Mutation) (ps : List Partition) → AreOf any ws ps → (key : List ℕ) → Same (atoms_under key (written_in ps)) (atoms_under key ws)
-  pub no_more : (ws : List Mutation) (ps : List Partition) → AreOf any ws ps → (key : List ℕ) → SaysNoMore (atoms_under key (written_in ps)) (atoms_under key ws)
+  pub no_more : (ws : List Mutation) (ps : List Partition) → AreOf any ws ps
+      → (key : List ℕ) → SaysNoMore (atoms_under key (written_in ps)) (atoms_under key ws)
