@@ -34,6 +34,7 @@ use cas_streams::Fragment;
 use cas_tables::HEADER_LENGTH;
 use cas_types::List;
 use std::alloc::Global;
+use std::mem::drop;
 
 /// How far a file was read: the place of its next partition, what the index is to tell of those so far,
 /// and what was seen of their atoms.
@@ -109,7 +110,15 @@ impl Scan {
         let (head, behind) = read_head_at(alloc, table, self.place, before, tally)?;
         let mut walk = behind_head(alloc, &head, behind, self.seen);
         see_head(&mut walk.seen, head.top, head.columns);
-        walk.read_blocks(alloc, table, tally)?;
+        match walk.read_blocks(alloc, table, tally) {
+            Ok(()) => {}
+            Err(fault) => {
+                drop(walk);
+                drop(head.key);
+                return Err(fault);
+            }
+        }
+        drop(walk.last);
         self.entries.push(PartitionEntry {
             key: head.key,
             place: self.place,

@@ -28,8 +28,8 @@ returns-in_err-head-clause-told g c = λ b is.
     rw (p.1, p.2) (head_refused (clustering_order cols) cols c.args.table.now.kept.end b c.args.table.now.info.number s (option_copied c.last_key-before.result)
     c.in_err-head.field-0.0 same (c.in_err-head.ensures.told b is))
 
-pub returns-in_err-read_blocks-clause-told : goal.returns-in_err-read_blocks-clause-told
-returns-in_err-read_blocks-clause-told g c = λ b is.
+pub returns-in-Err-clause-told : goal.returns-in-Err-clause-told
+returns-in-Err-clause-told g c = λ b is.
     let cols = c.args.table.now.columns in
     let end = c.args.table.now.kept.end in
     let s = c.args.self.now in
@@ -45,11 +45,9 @@ returns-in_err-read_blocks-clause-told g c = λ b is.
     let t = c.in_ok-head.ensures.told b is in
     let n : ℕ = length (left_at b end behind).bytes in
     let few : length (left_at b end w.place).bytes ≤ n = omega (arith, ap (λ (place : ℕ). length (left_at b end place).bytes) begun.place_is) in
-    let r = c.from_residual-in_err-read_blocks in
-    let p = err_from_is_err_and r.result r.ensures.1 in
-    rw (p.1, p.2) (part_refused (clustering_order cols) cols end b c.args.table.now.info.number s h behind w t.0
-    (ap (λ k. next_head_at cols k (left_at b end s.place)) (sym same) ∙ t.1) t.2 now c.in_err-read_blocks.field-0.0
-    (c.in_err-read_blocks.ensures.told b is n few))
+    part_refused (clustering_order cols) cols end b c.args.table.now.info.number s h behind w t.0
+    (ap (λ k. next_head_at cols k (left_at b end s.place)) (sym same) ∙ t.1) t.2 now c.in-Err.fault
+    (c.in-Err.ensures.told b is n few)
 
 pub returns-clause-told : goal.returns-clause-told
 returns-clause-told g c = λ b is.
@@ -70,7 +68,7 @@ returns-clause-told g c = λ b is.
     let t = c.in_ok-head.ensures.told b is in
     let n : ℕ = length (left_at b end behind).bytes in
     let few : length (left_at b end w.place).bytes ≤ n = omega (arith, ap (λ (place : ℕ). length (left_at b end place).bytes) begun.place_is) in
-    let went = c.in_ok-read_blocks.ensures.told b is n few in
+    let went = c.in-Ok.ensures.told b is n few in
     let sees : Sees s.seen (all_told h.top (static_of h.columns)) w.seen =
     subst (λ (y : Tally). Sees y (all_told h.top (static_of h.columns)) w.seen) begun.seen_is c.see_head.ensures in
     part_read (clustering_order cols) cols end b c.args.table.now.info.number s h behind w t.0
@@ -82,11 +80,11 @@ pub returns-clause-rooms : goal.returns-clause-rooms
 returns-clause-rooms g c =
     let s = c.args.self.now in
     let x = c.read_blocks.new.self in
-    let sound = c.in_ok-read_blocks.ensures.sound in
+    let sound = c.in-Ok.ensures.sound in
     let e : PartitionEntry = record { key = c.in_ok-head.head.key; place = s.place; blocks = c.from_vec.result } in
     let has : HasRooms e = record {
       key = c.in_ok-head.ensures.key;
-      few = omega (arith, sound.few, c.in_ok-read_blocks.ensures.within, ap length c.from_vec.ensures);
+      few = omega (arith, sound.few, c.in-Ok.ensures.within, ap length c.from_vec.ensures);
       blocks = subst (λ (es : List BlockEntry). All HasRoom es) (sym c.from_vec.ensures) sound.rooms;
     } in
     All-same HasRooms c.push.new.self.items (s.entries.items ++ e ∷ []) c.in_ok-push.ensures.items (All-push HasRooms s.entries.items e c.requires.rooms has)
