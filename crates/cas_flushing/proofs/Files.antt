@@ -1,5 +1,5 @@
 -- The file of a flush: what stands in it, as it stands in an image and as it is opened.
-use Rattle.std.proofs.Common.{◌≡◌, ◌⊎◌, inl, inr, ℕ, List, [], ◌∷◌, Some, Ok, Result, refl, sym, ap, ◌∙◌, subst}
+use Rattle.std.proofs.Common.{◌≡◌, inl, inr, ℕ, List, [], ◌∷◌, Some, Ok, refl, sym, ap, ◌∙◌, subst}
 use Rattle.std.specs.Prelude.{slice_get}
 use Rattle.std.proofs.lemmas.Option.{same_Some}
 use Rattle.cas_types.specs.declared.schema.TableSchema.{TableSchema}
@@ -30,7 +30,7 @@ use Rattle.cas_listed.proofs.Holding.{files_are_never_bad, listed_files_hold}
 use Rattle.cas_flushed.specs.Written.{written_in}
 use Rattle.cas_flushed.proofs.Standing.{flushed_say_the_same, listed_contents_stand}
 use Rattle.cas_shard.specs.Flushing.{SaysWhatTheyDo}
-use Rattle.cas_shard.specs.Stands.{SaySame, order_at, order_of}
+use Rattle.cas_shard.specs.Stands.{order_at, order_of}
 use Rattle.cas_flushing.specs.Flushed.{IsFlushed, IsOldAt, IsOpened, IsUnfitAt, WhyUnopened, head_of}
 use Rattle.cas_flushing.specs.Laws.{FlushStands, SayTheSame, StandsForThem}
 use Rattle.cas_flushing.proofs.Frozen.{in_memory}

@@ -1,5 +1,5 @@
 -- What frozen memtables hold, of what a shard has in memory of a table.
-use Rattle.std.proofs.Common.{◌≡◌, ◌≤◌, ◌+◌, ◌-◌, ◌^◌, min, ℕ, zero, suc, Bool, true, false, if◌then◌else◌, Option, None, Some, Result, Ok, Err, IfOk, IfSome, List, [], ◌∷◌, ◌++◌, length, take, drop, map, refl, sym, ap, ◌∙◌, subst, arith, append-nil, append_assoc}
+use Rattle.std.proofs.Common.{◌≡◌, ◌≤◌, ℕ, zero, suc, Bool, true, false, if◌then◌else◌, Option, None, Some, List, [], ◌∷◌, ◌++◌, length, take, drop, map, refl, sym, ap, ◌∙◌, subst, arith, append-nil, append_assoc}
 use Rattle.std.specs.Arc.{arc_value}
 use Rattle.std.specs.List.{AllByRecursion}
 use Rattle.cas_types.specs.declared.schema.Column.{Column}
@@ -10,7 +10,7 @@ use Rattle.cas_atoms.specs.LogLength.{record_length}
 use Rattle.cas_atoms.specs.Winners.{Same}
 use Rattle.cas_atoms.specs.declared.atom.Atom.{Atom}
 use Rattle.cas_atoms.specs.declared.atom.Mutation.{Mutation}
-use Rattle.cas_memtable.specs.Kept.{HoldJust, HoldMutations, MayHold, StandInEach, all_of, atoms_under, bytes_of, has_key}
+use Rattle.cas_memtable.specs.Kept.{HoldJust, HoldMutations, MayHold, StandInEach, all_of, atoms_under, bytes_of}
 use Rattle.cas_memtable.specs.Memtables.{IsOfColumns, added, bytes_with}
 use Rattle.cas_memtable.specs.declared.memtable.MemPart.{MemPart}
 use Rattle.cas_memtable.proofs.Keeping.{more_under}
@@ -63,14 +63,6 @@ first_held columns ms ns ws just =
 pub frozen_held : (columns : List Column) (o : Option StoredTable) (ws : List Mutation) → HoldJust columns (memtables_at o) ws → HoldFirst columns (frozen_at o) ws
 frozen_held columns None ws just = record { places = []; others = ws; held = record { stand = tt; of = tt; may = tt }; all = refl }
 frozen_held columns (Some p) ws just = first_held columns (map arc_value p.parts.frozen.items) (p.parts.active ∷ []) ws just
-
--- where none is frozen no file is answered
-pub some_frozen : {P F : Type 0} (ms : List MemPart) (r : Result (Option P) F) → (((key : List ℕ) → has_key ms key ≡ false) → r ≡ Ok None)
-    → IfOk r (λ o. IfSome o (λ p. 1 ≤ length ms))
-some_frozen [] r none = subst (λ q. IfOk q (λ o. IfSome o (λ p. 1 ≤ 0))) (sym (none (λ key. refl))) tt
-some_frozen (m ∷ ms) (Ok None) none = tt
-some_frozen (m ∷ ms) (Ok (Some p)) none = omega arith
-some_frozen (m ∷ ms) (Err e) none = tt
 
 -- ---- a memtable without bytes
 

@@ -9,7 +9,7 @@ ghost use Rattle.cas_view.specs.Views.{File, file_of};
 ghost use Rattle.cas_shard.specs.Stands.{files_at};
 ghost use Rattle.cas_flushing.specs.Flushed.{IsOpened, WhyUnopened};
 
-use cas_disk::{Count, Sealed};
+use cas_disk::Sealed;
 use cas_info::TableInfo;
 use cas_shard::Shard;
 use cas_sstread::{Table, TableFault};
