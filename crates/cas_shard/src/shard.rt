@@ -353,6 +353,7 @@ impl<S: Sealed> Shard<S> {
         ensures files { KeepsFiles self.old self.new }
         ensures memory { (tables : ListOf Schema) (n : ℕ) (ws : ListOf MutationOf) → HasInMemory tables n ws self.old → HasInMemory tables n ws self.new }
         ensures begun { OnOk result (bytes_at (slice_get self.new.stores table) ≡ 0) }
+        ensures others { (n : ℕ) → (n ≡ table → ⊥) → slice_get self.new.stores n ≡ slice_get self.old.stores n }
     {
         freeze(&mut self.stores, alloc, table)
     }

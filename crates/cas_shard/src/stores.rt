@@ -5,7 +5,7 @@ ghost use Rattle.std.specs.Arc.{arc_value};
 ghost use Rattle.cas_view.specs.Views.{file_of};
 ghost use Rattle.cas_shard.specs.Flushing.{bytes_at, frozen_at};
 ghost use Rattle.cas_shard.specs.Stands.{HasRoom, TakesFiles, files_at};
-ghost use Rattle.cas_shard.specs.Inner.Stores.{AllStay, JoinsRoom, KeepFiles, MakesRoom, MemoryStays, StayFew, Swaps};
+ghost use Rattle.cas_shard.specs.Inner.Stores.{AllStay, JoinsRoom, KeepFiles, MakesRoom, MemoryStays, OthersStay, StayFew, Swaps};
 
 use cas_atoms::Mutation;
 use cas_disk::Sealed;
@@ -65,6 +65,7 @@ pub(crate) fn freeze<S: Sealed>(
     ensures files { KeepFiles stores.old.items stores.new.items }
     ensures memory { MemoryStays stores.old.items stores.new.items }
     ensures begun { OnOk result (bytes_at (slice_get stores.new.items table) ≡ 0) }
+    ensures others { OthersStay table stores.old.items stores.new.items }
 {
     if stores.len() <= table as usize {
         return Ok(());

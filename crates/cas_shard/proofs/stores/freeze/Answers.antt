@@ -1,7 +1,7 @@
 use Rattle.std.proofs.Common.{refl, rules, is_ok, not, ◌&&◌, ◌==◌}
 use Rattle.std.proofs.lemmas.Option.{slice_get_read}
 use Rattle.cas_shard.proofs.InMemory.{bytes_of_it, stays_too}
-use Rattle.cas_shard.proofs.Memory.{frozen_files, frozen_unless, on_ok_too}
+use Rattle.cas_shard.proofs.Memory.{at_apart, frozen_files, frozen_unless, on_ok_too}
 use Rattle.cas_shard.proofs.stores.freeze.Goals as goal
 
 pub returns-clause-kept : goal.returns-clause-kept
@@ -24,3 +24,6 @@ returns-clause-begun g c =
     on_ok_too c.freeze.result _ _
     (bytes_of_it c.args.stores.now.items c.args.stores.now.items _ c.args.table c.index_mut-store.result.now c.freeze.new.self (λ t columns ws just. just) (search rules)
     (slice_get_read c.args.stores.now.items _ c.args.table c.index_mut-store.result.now refl (search rules) c.index_mut-store.ensures.value) refl) c.freeze.ensures.begun
+
+pub returns-clause-others : goal.returns-clause-others
+returns-clause-others g c = λ t apart. at_apart c.args.stores.now.items c.args.table c.freeze.new.self t apart
