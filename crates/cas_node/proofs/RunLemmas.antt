@@ -1,6 +1,6 @@
 -- What a run did with its folder and its script, and how it ends.
 use Rattle.std.proofs.Common.{◌≡◌, ◌≤◌, ℕ, ℤ, pos, Bool, true, false, Option, None, Some, is_some, List, [], ◌∷◌, ◌++◌, length, refl, sym, ap, ◌∙◌, subst, append-nil, inl, inr, arith}
-use Rattle.std.specs.Prelude.{if◌then◌else◌, IfSome, IsSome}
+use Rattle.std.specs.Prelude.{if◌then◌else◌, ◌⊎◌, ◌||◌, nat_le, IfSome, IsSome, IsTrue}
 use Rattle.std.specs.List.{fold}
 use Rattle.std.specs.Str.Lines.{lines}
 use Rattle.std.specs.Io.KnownBytes.{Keeps as KeepsBytes}
@@ -14,17 +14,21 @@ use Rattle.cas_disk.specs.Disk.{Disk, Image}
 use Rattle.cas_gates.specs.declared.first.First.{First}
 use Rattle.cas_atoms.specs.declared.atom.Mutation.{Mutation}
 use Rattle.cas_bind.specs.declared.bound.Limits.{Limits}
-use Rattle.cas_changes.specs.Saying.{said_by}
 use Rattle.cas_changes.specs.declared.entry.Entry.{Entry as ManifestEntry}
 use Rattle.cas_history.specs.declared.item.Item.{Item}
 use Rattle.cas_journal.specs.Journals.{Lasts}
 use Rattle.cas_journal.specs.Stores.{Told}
 use Rattle.cas_journal.specs.declared.journal.Journal.{Journal}
 use Rattle.cas_opening.specs.Opening.{IsOfBytes, OpensAs, next_segment}
-use Rattle.cas_opening.specs.declared.fault.OpenFault.{OpenFault}
-use Rattle.cas_opening.specs.declared.fault.OpenFault.TheVariants as open_fault
 use Rattle.cas_opening.proofs.Readings.{one_store, opens_not_bad}
+use Rattle.cas_recovery.specs.declared.fault.RecoveryFault.{RecoveryFault}
+use Rattle.cas_recovery.specs.declared.fault.RecoveryFault.TheVariants as recovery
+use Rattle.cas_recovery.specs.Openings.{AreOpenings}
+use Rattle.cas_recovery.specs.Recovered.{IsBadTable, IsRecovered, IsUnreadable}
+use Rattle.cas_recovery.specs.Restored.{IsTold}
+use Rattle.cas_recovery.proofs.Refusing.{never_bad}
 use Rattle.cas_room.specs.declared.event.Event.{Event}
+use Rattle.cas_shard.specs.declared.entry.ShardOpening.{ShardOpening}
 use Rattle.cas_shard.specs.Stands.{ShardState}
 use Rattle.cas_render.specs.declared.reply.Reply.{Reply}
 use Rattle.cas_render.specs.declared.reply.Reply.TheVariants as reply
@@ -38,32 +42,31 @@ use Rattle.cas_node.specs.declared.program.TheConstants.{SCRIPT_LIMIT}
 use Rattle.cas_sessions.specs.History.{History, DiskState}
 use Rattle.cas_node.specs.Lines.{Runs}
 use Rattle.cas_sessions.specs.Starts.{Begins, start, BeginsAs, IsOpenedAs}
-use Rattle.cas_recovery.specs.Found.{IsUnfit, IsUnflushed}
-use Rattle.cas_node.specs.Ran.{AllWell, Ended, GoodOrMem, IfBad, IsGranted, IsNotRun, Outside, Ran, RanAll, RanFrom, Stop, WriteRose, at_the_end, at_the_sink, for_memory, has_risen, reply_cause, with_faults, worse, worst}
-use Rattle.cas_node.specs.Inner.Serving.{Served, Serves}
+use Rattle.cas_node.specs.Ran.{AllWell, Ended, GoodOrMem, IfBad, IsGranted, IsNotRun, Outside, Ran, RanAll, RanFrom, RanOn, Stop, WriteRose}
+use Rattle.cas_node.specs.Ran.{at_the_end, at_the_sink, for_memory, has_risen, reply_cause, weight, with_faults, worse, worst}
+use Rattle.cas_node.specs.Inner.Serving.{EndsServed, Served, Serves}
 use Rattle.cas_sessions.specs.Entered.{IsLeft}
-use Rattle.cas_recovery.specs.Restored.{IsInMemory, IsStarted}
 use Rattle.cas_node.specs.Inner.Turns.{cause_of_opening, IsEnd}
 use Rattle.cas_sessions.specs.Nodes.{State, StandsFor, LastsFor, disk_of, Moves}
+use Rattle.cas_node.proofs.Blaming.{blamed, of_both}
 use Rattle.cas_node.proofs.Stopping.{stop_is_counted}
 
 -- ---- what was served
 
 module _ (kind : ClockKind) (Gives : ℤ → Type 0) (script : List ℕ) (old new : Option (List ℕ)) (s t : State) (d e : Disk) (faults_before : ℕ) (told why : Cause)
     (moves : Moves (λ h after. RanFrom h kind Gives script old new after told) s t d e) (l : Limits) (tables : List TableSchema) (shards : List ShardState) (journal : Journal)
-    (faults : ℕ) (opened : IsOpenedAs l tables shards journal faults s)
-    (begins : (given : Limits) (entries : List ManifestEntry) (mutations : List Mutation) → IsInMemory given entries mutations l tables shards
-    → BeginsAs given entries mutations d s)
-    (going : journal.first ≡ None) (ended : why ≡ with_faults faults_before t.faults told)
+    (faults reads : ℕ) (opened : IsOpenedAs l tables shards journal faults reads s)
+    (begins : (given : Limits) (found : Disk) (is : IsRecovered given l tables shards journal found d) (openings : ℕ → ShardOpening)
+    → AreOpenings is.entries is.mutations found openings → BeginsAs given is.entries is.mutations openings found d s)
+    (going : journal.first ≡ None) (ended : why ≡ with_faults faults_before t.faults t.reads told)
     (left : (h : History) (found : List Mutation) (u : Told) → StandsFor h t → LastsFor h found t e u → (i : Image) → e.may_leave i → IsLeft found t.list h i) where
-  of_store : (given : Limits) (entries : List ManifestEntry) (mutations : List Mutation) → IsInMemory given entries mutations l tables shards
-      → journal.last_segment ≤ next_segment entries
-      → Served kind Gives script old new given entries mutations journal d e faults_before faults t.faults t.list why
-  of_store given entries mutations memory segment =
-      let first = begins given entries mutations memory in
-      let (after, ran, goes) = moves (start given entries mutations s.session (disk_of s)) first.stands in
+  of_store : (given : Limits) (found : Disk) (entries : List ManifestEntry) (mutations : List Mutation) (openings : ℕ → ShardOpening)
+      → BeginsAs given entries mutations openings found d s → journal.last_segment ≤ next_segment entries
+      → Served kind Gives script old new given entries mutations openings journal found d e faults_before faults t.faults t.reads t.list why
+  of_store given found entries mutations openings first segment =
+      let (after, ran, goes) = moves (start given entries openings s.session (disk_of s)) first.stands in
       record {
-        first = start given entries mutations s.session (disk_of s);
+        first = start given entries openings s.session (disk_of s);
         begins = record {
           session = s.session;
           disk = disk_of s;
@@ -71,6 +74,7 @@ module _ (kind : ClockKind) (Gives : ℤ → Type 0) (script : List ℕ) (old ne
           going = ap (λ (j : Journal). is_some j.first) opened.journal_is ∙ ap (λ (f : Option First). is_some f) going;
           faults = omega (arith, opened.faults_are);
           segment = subst (λ (j : Journal). j.last_segment ≤ next_segment entries) (sym opened.journal_is) segment;
+          files = first.files;
         };
         final = after;
         told = told;
@@ -80,37 +84,57 @@ module _ (kind : ClockKind) (Gives : ℤ → Type 0) (script : List ℕ) (old ne
             let (now, still) = goes.lasts mutations u (first.lasts u is (subst (λ (j : Journal). Lasts j d u) (sym opened.journal_is) lasts)) in
             left after mutations now goes.stands still i leaves;
         faults = ap (λ disk. disk.faults) goes.stands.disk;
+        reads_are = ap (λ disk. disk.reads) goes.stands.disk;
         ended = ended;
       }
 
   serves : (pass : Option (List (Item Event))) → IsSome pass → IfSome pass (λ p. p ≡ t.list)
-      → Serves kind Gives script old new l tables shards journal d faults faults_before e t.faults pass why
+      → Serves kind Gives script old new l tables shards journal d faults faults_before e t.faults t.reads pass why
   serves None some is = absurd cc
-  serves (Some items) some is = λ given entries mutations memory segment.
-      subst (λ (xs : List (Item Event)). Served kind Gives script old new given entries mutations journal d e faults_before faults t.faults xs why) (sym is)
-      (of_store given entries mutations memory segment)
+  serves (Some items) some is = λ given found recovered openings are.
+      subst (λ (xs : List (Item Event)). Served kind Gives script old new given recovered.entries recovered.mutations openings journal found d e faults_before faults t.faults t.reads xs why)
+      (sym is) (of_store given found recovered.entries recovered.mutations openings (begins given found recovered openings are) recovered.segment)
 
-  -- also where the disks and the count of faults are called otherwise
-  pub serves_as : (before after : Disk) (now : ℕ) (pass : Option (List (Item Event))) → d ≡ before → e ≡ after → t.faults ≡ now → IsSome pass → IfSome pass (λ p. p ≡ t.list)
-      → Serves kind Gives script old new l tables shards journal before faults faults_before after now pass why
-  serves_as before after now pass at_first at_last count some is =
-      subst (λ x. Serves kind Gives script old new l tables shards journal x faults faults_before after now pass why) at_first
-      (subst (λ x. Serves kind Gives script old new l tables shards journal d faults faults_before x now pass why) at_last
-      (subst (λ n. Serves kind Gives script old new l tables shards journal d faults faults_before e n pass why) count (serves pass some is)))
+  -- also where the disks and the counts of faults are called otherwise
+  pub serves_as : (before after : Disk) (now read : ℕ) (pass : Option (List (Item Event))) → d ≡ before → e ≡ after → t.faults ≡ now → t.reads ≡ read → IsSome pass
+      → IfSome pass (λ p. p ≡ t.list) → Serves kind Gives script old new l tables shards journal before faults faults_before after now read pass why
+  serves_as before after now read pass at_first at_last count reading some is =
+      subst (λ x. Serves kind Gives script old new l tables shards journal x faults faults_before after now read pass why) at_first
+      (subst (λ x. Serves kind Gives script old new l tables shards journal d faults faults_before x now read pass why) at_last
+      (subst (λ n. Serves kind Gives script old new l tables shards journal d faults faults_before e n read pass why) count
+      (subst (λ n. Serves kind Gives script old new l tables shards journal d faults faults_before e t.faults n pass why) reading (serves pass some is))))
 
 -- a store that was opened is the same in the eyes of a session that wrote nothing
-pub opened_as : (l : Limits) (tables : List TableSchema) (shards : List ShardState) (journal : Journal) (faults : ℕ) (f g : ℕ → ℕ → ℤ → State) (session calls : ℕ) (clock : ℤ)
-    → f ≡ g → calls ≡ 0 → ((session : ℕ) (clock : ℤ) → IsOpenedAs l tables shards journal faults (g session 0 clock)) → IsOpenedAs l tables shards journal faults (f session calls clock)
-opened_as l tables shards journal faults f g session calls clock same none opened =
-    subst (λ (k : ℕ → ℕ → ℤ → State). IsOpenedAs l tables shards journal faults (k session calls clock)) (sym same)
-    (subst (λ (n : ℕ). IsOpenedAs l tables shards journal faults (g session n clock)) (sym none) (opened session clock))
+pub opened_as : (l : Limits) (tables : List TableSchema) (shards : List ShardState) (journal : Journal) (faults reads : ℕ) (f g : ℕ → ℕ → ℤ → State) (session calls : ℕ) (clock : ℤ)
+    → f ≡ g → calls ≡ 0 → ((session : ℕ) (clock : ℤ) → IsOpenedAs l tables shards journal faults reads (g session 0 clock))
+    → IsOpenedAs l tables shards journal faults reads (f session calls clock)
+opened_as l tables shards journal faults reads f g session calls clock same none opened =
+    subst (λ (k : ℕ → ℕ → ℤ → State). IsOpenedAs l tables shards journal faults reads (k session calls clock)) (sym same)
+    (subst (λ (n : ℕ). IsOpenedAs l tables shards journal faults reads (g session n clock)) (sym none) (opened session clock))
 
-pub begins_as : (given : Limits) (entries : List ManifestEntry) (mutations : List Mutation) (f g : ℕ → ℕ → ℤ → State) (session calls : ℕ) (d e : Disk)
-    → f ≡ g → calls ≡ 0 → d ≡ e → BeginsAs given entries mutations e (g session 0 (pos 0)) → BeginsAs given entries mutations d (f session calls (pos 0))
-begins_as given entries mutations f g session calls d e same none disk begins =
-    subst (λ (k : ℕ → ℕ → ℤ → State). BeginsAs given entries mutations d (k session calls (pos 0))) (sym same)
-    (subst (λ (n : ℕ). BeginsAs given entries mutations d (g session n (pos 0))) (sym none)
-    (subst (λ (x : Disk). BeginsAs given entries mutations x (g session 0 (pos 0))) (sym disk) begins))
+begins_as : (given : Limits) (entries : List ManifestEntry) (mutations : List Mutation) (openings : ℕ → ShardOpening) (found : Disk) (f g : ℕ → ℕ → ℤ → State) (session calls : ℕ)
+    (d e : Disk) → f ≡ g → calls ≡ 0 → d ≡ e → BeginsAs given entries mutations openings found e (g session 0 (pos 0))
+    → BeginsAs given entries mutations openings found d (f session calls (pos 0))
+begins_as given entries mutations openings found f g session calls d e same none disk begins =
+    subst (λ (k : ℕ → ℕ → ℤ → State). BeginsAs given entries mutations openings found d (k session calls (pos 0))) (sym same)
+    (subst (λ (n : ℕ). BeginsAs given entries mutations openings found d (g session n (pos 0))) (sym none)
+    (subst (λ (x : Disk). BeginsAs given entries mutations openings found x (g session 0 (pos 0))) (sym disk) begins))
+
+-- whatever the store was read back from
+abbrev pub AllBegin : Limits → List TableSchema → List ShardState → Journal → Disk → State → Type 0
+AllBegin l tables shards journal d s =
+    (given : Limits) (found : Disk) (is : IsRecovered given l tables shards journal found d) (openings : ℕ → ShardOpening) → AreOpenings is.entries is.mutations found openings
+    → BeginsAs given is.entries is.mutations openings found d s
+
+pub all_begin_as : (l : Limits) (tables : List TableSchema) (shards : List ShardState) (journal : Journal) (f g : ℕ → ℕ → ℤ → State) (session calls : ℕ) (d e : Disk)
+    → f ≡ g → calls ≡ 0 → d ≡ e
+    → ((given : Limits) (found : Disk) (is : IsRecovered given l tables shards journal found e) (openings : ℕ → ShardOpening) → AreOpenings is.entries is.mutations found openings
+    → (session : ℕ) → BeginsAs given is.entries is.mutations openings found e (g session 0 (pos 0)))
+    → AllBegin l tables shards journal d (f session calls (pos 0))
+all_begin_as l tables shards journal f g session calls d e same none disk all =
+    subst (λ (x : Disk). AllBegin l tables shards journal x (f session calls (pos 0))) (sym disk)
+    (λ given found is openings are.
+    begins_as given is.entries is.mutations openings found f g session calls e e same none refl (all given found is openings are session))
 
 -- the same of a store that was closed, once its session had ended
 pub left_by : (f g : ℕ → ℕ → ℤ → State) (session calls : ℕ) (clock : ℤ) (d e k : Disk) → f ≡ g → d ≡ e → k ≡ e
@@ -132,9 +156,9 @@ pass_by f g session calls clock p q same is of =
     (subst (λ (x : ℕ → ℕ → ℤ → State). IfSome p (λ l. l ≡ (x session calls clock).list)) same of)
 
 -- how the disk stands at the beginning
-first_disk : (l : Limits) (entries : List ManifestEntry) (mutations : List Mutation) (session : ℕ) (disk : DiskState) → (start l entries mutations session disk).disk ≡ disk
+first_disk : (l : Limits) (entries : List ManifestEntry) (openings : ℕ → ShardOpening) (session : ℕ) (disk : DiskState) → (start l entries openings session disk).disk ≡ disk
 unfolding start
-first_disk l entries mutations session disk = refl
+first_disk l entries openings session disk = refl
 
 -- ---- the script ran
 
@@ -144,50 +168,184 @@ keeps (Some xs) None same = absurd cc
 keeps (Some xs) (Some ys) same = same_Some ys xs same
 
 module _ (words : List (List ℕ)) (Gives : ℤ → Type 0) (before after : Outside) (c : Command) (script : List ℕ) (limits : Limits) (tables : List TableSchema) (shards : List ShardState)
-    (journal : Journal) (mid : Disk) (faults : ℕ) (why : Cause) (said : command_of words ≡ Some c) (read : ReadToEnd before.left after.left script)
-    (started : IsStarted c.limits limits tables shards journal before.folder mid) (kept : before.folder_faults ≤ faults) (n : ℕ) (counted : n ≡ before.folder_faults) where
-  earlier : (h : History) → Begins c.limits started.entries started.mutations faults h → Begins c.limits started.entries started.mutations before.folder_faults h
-  earlier h begins = record {
-    session = begins.session;
-    disk = begins.disk;
-    history = begins.history;
-    going = begins.going;
-    faults = omega (arith, kept, begins.faults);
-    segment = begins.segment;
-  }
+    (journal : Journal) (mid : Disk) (faults reads : ℕ) (why : Cause) (said : command_of words ≡ Some c) (read : ReadToEnd before.left after.left script)
+    (recovered : IsRecovered c.limits limits tables shards journal before.folder mid) (kept : before.folder_faults ≤ faults) (n : ℕ) (counted : n ≡ before.folder_faults) where
+  module _ (entries : List ManifestEntry) (openings : ℕ → ShardOpening) (h : History) (begins : Begins c.limits entries openings before.folder faults h) where
+    earlier : Begins c.limits entries openings before.folder before.folder_faults h
+    earlier = record {
+      session = begins.session;
+      disk = begins.disk;
+      history = begins.history;
+      going = begins.going;
+      faults = omega (arith, kept, begins.faults);
+      segment = begins.segment;
+      files = begins.files;
+    }
 
-  at_first : (h : History) (begins : Begins c.limits started.entries started.mutations faults h) → h.disk ≡ begins.disk
-  at_first h begins = ap (λ (k : History). k.disk) begins.history ∙ first_disk c.limits started.entries started.mutations begins.session begins.disk
+    at_first : h.disk ≡ begins.disk
+    at_first = ap (λ (k : History). k.disk) begins.history ∙ first_disk c.limits entries openings begins.session begins.disk
 
-  of_served : (list : List (Item Event))
-      → Served c.clock Gives script before.taken after.taken c.limits started.entries started.mutations journal mid after.folder n faults after.folder_faults list why
-      → Ran c Gives script before after list why
-  of_served list served = record {
-    entries = started.entries;
-    mutations = started.mutations;
-    found = started.found;
-    first = served.first;
-    begins = earlier served.first served.begins;
-    final = served.final;
-    told = served.told;
-    ran = served.ran;
-    entered = served.entered;
-    crash = λ image reads bytes i left. let (t, told, lasts) = started.lasts image reads bytes in served.crash t told lasts i left;
-    faults = served.faults;
-    counted = λ off.
-        stop_is_counted c.clock Gives served.first served.ran.run served.ran.replies served.final before.folder_faults after.folder_faults served.ran.steps
-        (ap (λ (d : DiskState). d.stopped) (at_first served.first served.begins) ∙ served.begins.going)
-        (omega (arith, kept, served.begins.faults, ap (λ (d : DiskState). d.faults) (at_first served.first served.begins))) served.faults off;
-    ended = served.ended ∙ ap (λ (k : ℕ). with_faults k after.folder_faults served.told) counted;
+  of_served : (list : List (Item Event)) (entries : List ManifestEntry) (mutations : List Mutation) (openings : ℕ → ShardOpening)
+      → ((image : Image) → before.folder.reads image → IsOfBytes image → (t : Told) × IsTold entries mutations t × Lasts journal mid t)
+      → Served c.clock Gives script before.taken after.taken c.limits entries mutations openings journal before.folder mid after.folder n faults after.folder_faults reads list why
+      → RanOn c Gives script before after reads list why entries mutations openings
+  of_served list entries mutations openings lasts served =
+      let ended : why ≡ with_faults before.folder_faults after.folder_faults reads served.told =
+      served.ended ∙ ap (λ (k : ℕ). with_faults k after.folder_faults reads served.told) counted in
+      record {
+        first = served.first;
+        begins = earlier entries openings served.first served.begins;
+        final = served.final;
+        told = served.told;
+        ran = served.ran;
+        entered = served.entered;
+        crash = λ image reads bytes i left. let (t, told, still) = lasts image reads bytes in served.crash t told still i left;
+        faults = served.faults;
+        reads_are = served.reads_are;
+        counted = λ off.
+            stop_is_counted c.clock Gives served.first served.ran.run served.ran.replies served.final before.folder_faults after.folder_faults served.ran.steps
+            (ap (λ (d : DiskState). d.stopped) (at_first entries openings served.first served.begins) ∙ served.begins.going)
+            (omega (arith, kept, served.begins.faults, ap (λ (d : DiskState). d.faults) (at_first entries openings served.first served.begins))) served.faults off;
+        bad = blamed c.clock Gives served.first script before.taken after.taken served.final served.told why before.folder_faults after.folder_faults reads served.ran ended;
+        ended = ended;
+      }
+
+  ran_over : (list : List (Item Event))
+      → Serves c.clock Gives script before.taken after.taken limits tables shards journal mid faults n after.folder after.folder_faults reads (Some list) why
+      → Ran c Gives script before after reads list why
+  ran_over list serves = record {
+    entries = recovered.entries;
+    mutations = recovered.mutations;
+    found = recovered.found;
+    on = λ openings are.
+        of_served list recovered.entries recovered.mutations openings recovered.lasts (serves c.limits before.folder recovered openings are);
   }
 
   pub ran_all : (pass : Option (List (Item Event))) → length script ≤ SCRIPT_LIMIT
-      → Serves c.clock Gives script before.taken after.taken limits tables shards journal mid faults n after.folder after.folder_faults pass why
-      → (pass ≡ None → after.taken ≡ before.taken) → RanAll words Gives before after pass why
+      → Serves c.clock Gives script before.taken after.taken limits tables shards journal mid faults n after.folder after.folder_faults reads pass why
+      → (pass ≡ None → after.taken ≡ before.taken) → RanAll words Gives before after reads pass why
   ran_all None short serves unwritten = (keeps before.taken after.taken (unwritten refl), subst IsNotRun (sym serves) tt)
-  ran_all (Some list) short serves unwritten =
-      (c, said, (script, read, short, of_served list (serves c.limits started.entries started.mutations started.memory started.segment)))
+  ran_all (Some list) short serves unwritten = (c, said, (script, read, short, ran_over list serves))
 
+-- ---- what ends a run
+
+-- without a fault it ends as its lines did
+calm_by : (before now reads : ℕ) (b d : Bool) → has_risen before now ≡ b → has_risen 0 reads ≡ d → (told : Cause) → (Rose before now → ⊥) → (Rose 0 reads → ⊥)
+    → (if b || d then worse told cause.Disk else told) ≡ told
+calm_by before now reads true d test other told none quiet = absurd (none (leb-true _ now test))
+calm_by before now reads false true test other told none quiet = absurd (quiet (leb-true _ reads other))
+calm_by before now reads false false test other told none quiet = refl
+
+calm : (before now reads : ℕ) (told : Cause) → (Rose before now → ⊥) → (Rose 0 reads → ⊥) → with_faults before now reads told ≡ told
+calm before now reads told none quiet = calm_by before now reads (has_risen before now) (has_risen 0 reads) refl refl told none quiet
+
+-- where it is told that the disk failed, a count rose
+told_by : (before now reads : ℕ) (b d : Bool) → has_risen before now ≡ b → has_risen 0 reads ≡ d → (told : Cause) → IsEnd told
+    → (if b || d then worse told cause.Disk else told) ≡ cause.Disk → Rose before now ⊎ Rose 0 reads
+told_by before now reads true d test other told end is = inl (leb-true _ now test)
+told_by before now reads false true test other told end is = inr (leb-true _ reads other)
+told_by before now reads false false test other told end is = absurd (subst IsEnd is end)
+
+mem_is_not : cause.Mem ≡ cause.Disk → ⊥
+mem_is_not same = cc
+
+pub disk_told : (before now reads : ℕ) (why : Cause) → EndsServed before now reads why → why ≡ cause.Disk → Rose before now ⊎ Rose 0 reads
+disk_told before now reads why (inl mem) is = absurd (mem_is_not (sym mem ∙ is))
+disk_told before now reads why (inr (told, end, ended)) is = told_by before now reads (has_risen before now) (has_risen 0 reads) refl refl told end (sym ended ∙ is)
+
+-- and where one did, that is told, or what comes before it
+abbrev IsGrave : Cause → Type 0
+IsGrave why = IsTrue (nat_le (weight cause.Disk) (weight why))
+
+grave : (told : Cause) → IsEnd told → IsGrave (worse told cause.Disk)
+grave cause.Good end = refl
+grave cause.Refused end = refl
+grave cause.Write end = refl
+grave (cause.Bad name at) end = refl
+grave cause.Mem end = refl
+grave cause.Disk end = absurd end
+grave cause.Words end = absurd end
+grave cause.Read end = absurd end
+grave (cause.TooLong taken) end = absurd end
+
+grave_by : (b d : Bool) (told : Cause) → IsEnd told → (b ≡ true) ⊎ (d ≡ true) → IsGrave (if b || d then worse told cause.Disk else told)
+grave_by true d told end rose = grave told end
+grave_by false true told end rose = grave told end
+grave_by false false told end (inl rose) = absurd cc
+grave_by false false told end (inr rose) = absurd cc
+
+pub not_disk_told : (before now reads : ℕ) (why : Cause) → EndsServed before now reads why → Rose before now ⊎ Rose 0 reads → IsGrave why
+not_disk_told before now reads why (inl mem) rose = subst IsGrave (sym mem) refl
+not_disk_told before now reads why (inr (told, end, ended)) rose =
+    subst IsGrave (sym ended) (grave_by (has_risen before now) (has_risen 0 reads) told end (tested rose))
+  where
+    tested : Rose before now ⊎ Rose 0 reads → (has_risen before now ≡ true) ⊎ (has_risen 0 reads ≡ true)
+    tested (inl one) = inl (leb-of _ now one)
+    tested (inr other) = inr (leb-of _ reads other)
+
+-- where no line was run, no file is blamed by a run
+pub none_bad : (kind : ClockKind) (Gives : ℤ → Type 0) (script : List ℕ) (old new : Option (List ℕ)) (limits : Limits) (tables : List TableSchema) (shards : List ShardState)
+    (journal : Journal) (before : Disk) (faults faults_before : ℕ) (after : Disk) (faults_now reads : ℕ) (pass : Option (List (Item Event))) (why : Cause) (P : Name → ℕ → Type 0)
+    → Serves kind Gives script old new limits tables shards journal before faults faults_before after faults_now reads pass why → pass ≡ None → IfBad why P
+none_bad kind Gives script old new limits tables shards journal before faults faults_before after faults_now reads None why P serves none = subst (λ (w : Cause). IfBad w P) (sym serves) tt
+none_bad kind Gives script old new limits tables shards journal before faults faults_before after faults_now reads (Some list) why P serves none = absurd cc
+
+-- ---- an opening that ends a run
+
+if_bad : (fault : RecoveryFault) (P : Name → ℕ → Type 0) → ((name : Name) (at : ℕ) → fault ≡ recovery.Bad name at → P name at) → IfBad (cause_of_opening fault) P
+if_bad (recovery.Bad name at) P bad = bad name at refl
+if_bad recovery.Failed P bad = tt
+if_bad recovery.Read P bad = tt
+if_bad recovery.Mem P bad = tt
+
+-- the folder is refused for bytes that aren't as they must be
+pub bad_opening : (words : List (List ℕ)) (folder : Disk) (c : Command) (fault : RecoveryFault) (why : Cause) → command_of words ≡ Some c → why ≡ cause_of_opening fault
+    → ((name : Name) (at : ℕ) → fault ≡ recovery.Bad name at → (d : Image) → folder.reads d → IsOfBytes d → IsUnreadable c.limits.shards folder name at d)
+    → IfBad why (λ name at. (k : Command) → command_of words ≡ Some k → (d : Image) → folder.reads d → IsOfBytes d → IsUnreadable k.limits.shards folder name at d)
+bad_opening words folder c fault why said is refused =
+    subst (λ (w : Cause). IfBad w (λ name at. (k : Command) → command_of words ≡ Some k → (d : Image) → folder.reads d → IsOfBytes d → IsUnreadable k.limits.shards folder name at d)) (sym is)
+    (if_bad fault _
+    (λ name at e k too d reads bytes. subst (λ (j : Command). IsUnreadable j.limits.shards folder name at d) (same_Some c k (sym said ∙ too)) (refused name at e d reads bytes)))
+
+-- it is told that the disk failed only where a count rose
+pub disk_opening : (before now reads : ℕ) (fault : RecoveryFault) → (fault ≡ recovery.Failed → Rose before now) → (fault ≡ recovery.Read → Rose 0 reads)
+    → cause_of_opening fault ≡ cause.Disk → Rose before now ⊎ Rose 0 reads
+disk_opening before now reads (recovery.Bad name at) failed read is = absurd cc
+disk_opening before now reads recovery.Failed failed read is = inl (failed refl)
+disk_opening before now reads recovery.Read failed read is = inr (read refl)
+disk_opening before now reads recovery.Mem failed read is = absurd cc
+
+-- and it is told, or what comes before it
+pub grave_opening : (fault : RecoveryFault) → IsGrave (cause_of_opening fault)
+grave_opening (recovery.Bad name at) = refl
+grave_opening recovery.Failed = refl
+grave_opening recovery.Read = refl
+grave_opening recovery.Mem = refl
+
+-- ---- where all is well
+
+-- what the replies say
+of_reply : (r : Option Reply) → IsEnd (reply_cause r)
+of_reply None = tt
+of_reply (Some reply.Done) = tt
+of_reply (Some (reply.Wrote n)) = tt
+of_reply (Some (reply.Rows rows shard front now)) = tt
+of_reply (Some (reply.Refused n)) = tt
+of_reply (Some (reply.Failed failure.Memory)) = tt
+of_reply (Some (reply.Failed failure.Stopped)) = tt
+of_reply (Some (reply.Failed failure.Disk)) = tt
+of_reply (Some (reply.Failed failure.Read)) = tt
+of_reply (Some (reply.Failed (failure.Block n at))) = tt
+
+of_replies : (c : Cause) (rs : List (Option Reply)) → IsEnd c → IsEnd (fold (λ c r. worse c (reply_cause r)) c rs)
+of_replies c [] h = h
+of_replies c (r ∷ rs) h = of_replies (worse c (reply_cause r)) rs (of_both IsEnd _ c (reply_cause r) h (of_reply r))
+
+-- a failed write is told, or memory ran out
+cut : (c : Cause) → GoodOrMem c ⊎ ⊥ → ⊥ → GoodOrMem c
+cut c one none = absurd none
+
+@@REST@@
 -- ---- what ends a run
 
 of_both : (P : Cause → Type 0) (b : Bool) (x y : Cause) → P x → P y → P (if b then y else x)
