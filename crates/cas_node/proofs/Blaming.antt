@@ -120,11 +120,9 @@ module _ (kind : ClockKind) (Gives : ℤ → Type 0) where
   ended files for_memory rest old new replies why e so = subst (IsSo files) (sym e.told) tt
 
   -- where the run ends for a file, that is bad as it stood at the beginning
-  pub blamed : (first : History) (script : List ℕ) (old new : Option (List ℕ)) (final : History) (by why : Cause) (before now reads : ℕ)
-      → RanFrom first kind Gives script old new final by → why ≡ with_faults before now reads by → IfBad why (IsBadForOne first.disk.files)
-  blamed first script old new final by why before now reads ran is =
-      let at_end : IsSo first.disk.files by =
-      ended first.disk.files ran.stop ran.rest old new ran.replies by ran.ended (all_told first.disk.files first ran.run ran.replies final cause.Good refl ran.steps tt) in
-      subst (IsSo first.disk.files) (sym is)
-      (of_both (IsSo first.disk.files) (has_risen before now || has_risen 0 reads) by (worse by cause.Disk) at_end
-      (of_both (IsSo first.disk.files) _ by cause.Disk at_end tt))
+  pub blamed : (files : ℕ → ℕ → List (File Held)) (first : History) (script : List ℕ) (old new : Option (List ℕ)) (final : History) (by why : Cause) (before now reads : ℕ)
+      → first.disk.files ≡ files → RanFrom first kind Gives script old new final by → why ≡ with_faults before now reads by → IfBad why (IsBadForOne files)
+  blamed files first script old new final by why before now reads same ran is =
+      let at_end : IsSo files by = ended files ran.stop ran.rest old new ran.replies by ran.ended (all_told files first ran.run ran.replies final cause.Good same ran.steps tt) in
+      subst (IsSo files) (sym is)
+      (of_both (IsSo files) (has_risen before now || has_risen 0 reads) by (worse by cause.Disk) at_end (of_both (IsSo files) _ by cause.Disk at_end tt))

@@ -34,7 +34,8 @@ use Rattle.cas_view.specs.Views.{File}
 use Rattle.cas_words.specs.declared.words.ClockKind.TheVariants as clock
 use Rattle.cas_sessions.specs.History.{History, DiskState, Takes, Shows, Stays, Stops, SameFiles, Defines, Changes, Does, ReadsAt, WritesAt, after_read, after_write, entry_of, rows_reply, shard_at, tells_want}
 use Rattle.cas_node.specs.Lines.{Answered, Answers, Runs, is_starved}
-use Rattle.cas_node.specs.Laws.{AreGood, OneOutcome, SameStore, IsRoomy, StaysWell}
+use Rattle.cas_node.specs.Ran.{AreGood}
+use Rattle.cas_node.specs.Laws.{OneOutcome, SameStore, IsRoomy, StaysWell}
 
 -- ---- the disk along a run
 

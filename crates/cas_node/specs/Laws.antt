@@ -4,7 +4,6 @@ use Rattle.std.specs.List.{list_any}
 use Rattle.cas_io.specs.Causes.{Rose}
 use Rattle.cas_disk.specs.Disk.{Disk}
 use Rattle.cas_atoms.specs.declared.atom.Mutation.{Mutation}
-use Rattle.cas_atoms.specs.declared.query.Query.{Query}
 use Rattle.cas_bind.specs.declared.bound.Limits.{Limits}
 use Rattle.cas_changes.specs.declared.entry.Entry.{Entry as ManifestEntry}
 use Rattle.cas_changes.specs.declared.said.TheConstants.{SEGMENT_LIMIT, FILE_LIMIT}
@@ -16,10 +15,8 @@ use Rattle.cas_words.specs.declared.words.ClockKind.{ClockKind}
 use Rattle.cas_words.specs.declared.words.ClockKind.TheVariants as clock
 use Rattle.cas_sessions.specs.History.{History, DiskState, shard_at}
 use Rattle.cas_shard.specs.declared.entry.ShardOpening.{ShardOpening}
-use Rattle.cas_sstread.specs.Loading.{Held}
-use Rattle.cas_stored.specs.Reading.{IsBadFile}
-use Rattle.cas_view.specs.Views.{File}
 use Rattle.cas_node.specs.Lines.{Runs, is_starved}
+use Rattle.cas_node.specs.Ran.{AreGood}
 use Rattle.cas_recovery.specs.Found.{AreOfAStore}
 use Rattle.cas_recovery.specs.Openings.{AreOpenings}
 use Rattle.cas_sessions.specs.Starts.{start}
@@ -27,10 +24,6 @@ use Rattle.cas_sessions.specs.Starts.{start}
 -- a segment's number is left, and place for the longest entry in the manifest
 abbrev pub IsRoomy : Reach → Type 0
 IsRoomy r = (r.segment < SEGMENT_LIMIT) × (r.manifest + 2 ^ 32 + 10 ≤ FILE_LIMIT)
-
--- of these files, by shard and table, no place is bad for a query
-abbrev pub AreGood : (ℕ → ℕ → List (File Held)) → Type 0
-AreGood files = (shard number at : ℕ) (q : Query) → IsBadFile (files shard q.table) q.key q.slice number at → ⊥
 
 -- along a run the disk is well: no write was stopped, neither the folder nor a read of a table file fails, there is room in its files, and no table file
 -- is bad

@@ -7,7 +7,7 @@ use Rattle.std.specs.Io.KnownBytes.{Appends, Keeps}
 use Rattle.cas_io.specs.Streams.{ReadToEnd}
 use Rattle.cas_io.specs.Causes.{Rose}
 use Rattle.cas_disk.specs.declared.name.Name.{Name}
-use Rattle.cas_disk.specs.declared.name.Name.TheVariants as name
+use Rattle.cas_disk.specs.declared.name.Name.TheVariants as file
 use Rattle.cas_disk.specs.Disk.{Disk, Image}
 use Rattle.cas_atoms.specs.declared.atom.Mutation.{Mutation}
 use Rattle.cas_atoms.specs.declared.query.Query.{Query}
@@ -34,7 +34,7 @@ use Rattle.cas_sessions.specs.History.{History, tells_want}
 use Rattle.cas_node.specs.Lines.{Runs}
 use Rattle.cas_recovery.specs.Found.{IsFound}
 use Rattle.cas_recovery.specs.Openings.{AreOpenings}
-use Rattle.cas_sessions.specs.Starts.{Begins}
+use Rattle.cas_sessions.specs.Starts.{AreItsFiles, Begins}
 use Rattle.cas_sessions.specs.Entered.{AreEntered, IsLeft}
 use Rattle.cas_node.specs.Text.{output}
 
@@ -73,7 +73,7 @@ worse a b = if nat_lt (weight a) (weight b) then b else a
 -- counts of faults, of which one rose then.
 abbrev pub failure_cause : Failure → Cause
 failure_cause failure.Memory = cause.Mem
-failure_cause (failure.Block number at) = cause.Bad (name.Table number) at
+failure_cause (failure.Block number at) = cause.Bad (file.Table number) at
 failure_cause _ = cause.Good
 
 -- what a reply says of the run's end: a refusal, a failure, or nothing
@@ -183,18 +183,22 @@ abbrev pub IfBad : Cause → (Name → ℕ → Type 0) → Type 0
 IfBad (cause.Bad name at) P = P name at
 IfBad _ P = Unit {0}
 
+-- of these files, by shard and table, no place is bad for a query
+abbrev pub AreGood : (ℕ → ℕ → List (File Held)) → Type 0
+AreGood files = (shard number at : ℕ) (q : Query) → IsBadFile (files shard q.table) q.key q.slice number at → ⊥
+
 -- of these files, by shard and table, that place of the one of that name is bad for a query
 abbrev pub IsBadForOne : (ℕ → ℕ → List (File Held)) → Name → ℕ → Type 0
-IsBadForOne files (name.Table number) at = (shard : ℕ) × (q : Query) × ∥ IsBadFile (files shard q.table) q.key q.slice number at ∥₁
+IsBadForOne files (file.Table number) at = (shard : ℕ) × (q : Query) × ∥ IsBadFile (files shard q.table) q.key q.slice number at ∥₁
 IsBadForOne files _ at = ⊥
 
--- A run of the command over a script, by what the shards of its store were before: from there the script's lines were run; what they entered is the list
--- that is handed back; and whatever a crash leaves of the folder handed back has all that was acknowledged. A write was stopped only where the folder's
--- count of faults rose, so that otherwise all that was accepted is left; and a file is called bad only where it is.
+-- A run of the command over a script, by what the shards of its store were before, and by its table files: from there the script's lines were run; what
+-- they entered is the list that is handed back; and whatever a crash leaves of the folder handed back has all that was acknowledged. A write was stopped
+-- only where the folder's count of faults rose, so that otherwise all that was accepted is left; and a file is called bad only where it is.
 pub record RanOn (c : Command) (Gives : ℤ → Type 0) (script : List ℕ) (before after : Outside) (reads : ℕ) (list : List (Item Event)) (why : Cause)
-    (entries : List ManifestEntry) (mutations : List Mutation) (openings : ℕ → ShardOpening) : Type 0 where
+    (entries : List ManifestEntry) (mutations : List Mutation) (openings : ℕ → ShardOpening) (files : ℕ → ℕ → List (File Held)) : Type 0 where
   pub first : History
-  pub begins : Begins c.limits entries openings before.folder before.folder_faults first
+  pub begins : Begins c.limits entries openings files before.folder_faults first
   pub final : History
   pub told : Cause
   pub ran : RanFrom first c.clock Gives script before.taken after.taken final told
@@ -203,18 +207,20 @@ pub record RanOn (c : Command) (Gives : ℤ → Type 0) (script : List ℕ) (bef
   pub faults : final.disk.faults ≡ after.folder_faults
   pub reads_are : final.disk.reads ≡ reads
   pub counted : final.disk.stopped ≡ true → Rose before.folder_faults after.folder_faults
-  pub bad : IfBad why (IsBadForOne first.disk.files)
+  pub bad : IfBad why (IsBadForOne files)
   pub ended : why ≡ with_faults before.folder_faults after.folder_faults reads told
 
--- A run of the command over a script: its folder had a store of these entries and mutations, or got one; and whatever its shards may have been before,
--- for all that the folder tells, the script was run over that.
+-- A run of the command over a script: its folder had a store of these entries and mutations, or got one, with these table files; and whatever its shards
+-- may have been before, for all that the folder tells, the script was run over that.
 pub record Ran (c : Command) (Gives : ℤ → Type 0) (script : List ℕ) (before after : Outside) (reads : ℕ) (list : List (Item Event)) (why : Cause)
     : Type 0 where
   pub entries : List ManifestEntry
   pub mutations : List Mutation
   pub found : IsFound c.limits.shards before.folder entries mutations
+  pub files : ℕ → ℕ → List (File Held)
+  pub its_files : AreItsFiles entries before.folder files
   pub on : (openings : ℕ → ShardOpening) → AreOpenings entries mutations before.folder openings
-      → RanOn c Gives script before after reads list why entries mutations openings
+      → RanOn c Gives script before after reads list why entries mutations openings files
 
 -- a run may end so without having run a line
 abbrev pub IsNotRun : Cause → Type 0
@@ -236,7 +242,7 @@ RanAll words Gives before after reads (Some list) why =
 abbrev pub GoodOrMem : Cause → Type 0
 GoodOrMem why = (why ≡ cause.Good) ⊎ (why ≡ cause.Mem)
 
--- no line of the script is refused, or told that a file is bad, whatever the clock reads, unless memory runs out
+-- no line of the script is refused, whatever the clock reads, unless memory runs out
 abbrev pub IsGranted : History → ClockKind → (ℤ → Type 0) → List ℕ → Type 0
 IsGranted first kind Gives script =
     (replies : List (Option Reply)) (final : History) → Runs kind Gives first (lines script) replies final → GoodOrMem (worst replies)
@@ -264,8 +270,8 @@ count_taken None new = None
 count_taken (Some xs) None = None
 count_taken (Some xs) (Some ys) = Some (length xs - length ys)
 
--- All is well: the words are the command's; the folder tells a store, with what its shards may have been before; the source tells a script within the
--- limit of which no line is refused from there; and no count rises, the one of reads from 0.
+-- All is well: the words are the command's; the folder tells a store, with what its shards may have been before, whose table files are good; the source
+-- tells a script within the limit of which no line is refused from there; and no count rises, the one of reads from 0.
 pub record AllWell (words : List (List ℕ)) (Gives : ℤ → Type 0) (before after : Outside) (table_reads : ℕ) : Type 0 where
   pub command : Command
   pub words_are : command_of words ≡ Some command
@@ -280,8 +286,9 @@ pub record AllWell (words : List (List ℕ)) (Gives : ℤ → Type 0) (before af
   pub opens : OpensAs command.limits.shards entries mutations image
   pub openings : ℕ → ShardOpening
   pub explained : AreOpenings entries mutations before.folder openings
-  pub granted : (first : History) → Begins command.limits entries openings before.folder before.folder_faults first
-      → IsGranted first command.clock Gives script
+  pub good : (files : ℕ → ℕ → List (File Held)) → AreItsFiles entries before.folder files → AreGood files
+  pub granted : (files : ℕ → ℕ → List (File Held)) → AreItsFiles entries before.folder files → (first : History)
+      → Begins command.limits entries openings files before.folder_faults first → IsGranted first command.clock Gives script
   pub no_read_fault : ReadRose before after → ⊥
   pub no_write_fault : WriteRose before after → ⊥
   pub no_folder_fault : Rose before.folder_faults after.folder_faults → ⊥
