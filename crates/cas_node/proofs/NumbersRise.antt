@@ -157,9 +157,9 @@ first_rise entries mutations folder openings store are n = ⊎_elim here beyond 
         many_mapped (λ (k : ℕ). found_shard (openings k)) (numbers 0 (said_by entries).shards) ∙ many_numbers 0 (said_by entries).shards in
         subst NumbersRise (sym (past (first_shards entries openings) n (found_shard empty_shard) (omega (arith, many, le)))) none_read.rises
 
-pub found_rise : FoundRise
+pub found_rise : (folder : Disk) → FoundRise folder
 unfolding start
-found_rise l entries mutations folder openings session disk store are n = first_rise entries mutations folder openings store are n
+found_rise folder l entries mutations openings session disk store are n = first_rise entries mutations folder openings store are n
 
 pub all_are_read : AllAreRead
 all_are_read s h table key = all_stand s table key h

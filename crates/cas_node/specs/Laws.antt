@@ -45,10 +45,10 @@ OneOutcome Gives =
 abbrev pub AllRise : History → Type 0
 AllRise h = (n : ℕ) → NumbersRise (shard_at h n)
 
--- they are before the first line, whatever store the run began with
-abbrev pub FoundRise : Type 0
-FoundRise =
-    (l : Limits) (entries : List ManifestEntry) (mutations : List Mutation) (folder : Disk) (openings : ℕ → ShardOpening) (session : ℕ) (disk : DiskState)
+-- they are before the first line, whatever store of a folder the run began with
+abbrev pub FoundRise : Disk → Type 0
+FoundRise folder =
+    (l : Limits) (entries : List ManifestEntry) (mutations : List Mutation) (openings : ℕ → ShardOpening) (session : ℕ) (disk : DiskState)
     → AreOfAStore entries mutations → AreOpenings entries mutations folder openings → AllRise (start l entries openings session disk)
 
 -- along a run they stay so, under either clock and whatever is answered

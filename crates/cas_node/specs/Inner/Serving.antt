@@ -29,8 +29,8 @@ use Rattle.cas_node.specs.Inner.Turns.{IsEnd}
 -- The lines of the script ran in a store of these entries and mutations, whose shards were so before and whose table files are these, and accepted this
 -- list; where all that was found lasts, so does what was acknowledged.
 pub record Served (kind : ClockKind) (Gives : ℤ → Type 0) (script : List ℕ) (old new : Option (List ℕ)) (limits : Limits)
-    (entries : List ManifestEntry) (mutations : List Mutation) (openings : ℕ → ShardOpening) (files : ℕ → ℕ → List (File Held)) (journal : Journal) (before after : Disk)
-    (faults_before faults_first faults_now reads : ℕ) (list : List (Item Event)) (why : Cause) : Type 0 where
+    (entries : List ManifestEntry) (mutations : List Mutation) (openings : ℕ → ShardOpening) (files : ℕ → ℕ → List (File Held)) (journal : Journal)
+    (before after : Disk) (faults_before faults_first faults_now reads : ℕ) (list : List (Item Event)) (why : Cause) : Type 0 where
   pub first : History
   pub begins : Begins limits entries openings files faults_first first
   pub final : History
