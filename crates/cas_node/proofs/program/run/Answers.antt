@@ -1,4 +1,4 @@
-use Rattle.std.proofs.Common.{◌∙◌, ◌≤◌, refl, sym, ap, subst, length}
+use Rattle.std.proofs.Common.{◌≡◌, ◌∙◌, ◌≤◌, refl, sym, ap, subst, length}
 use Rattle.std.specs.Prelude.{◌⊎◌, nat_le, IsTrue}
 use Rattle.cas_io.specs.Causes.{Rose}
 use Rattle.cas_io.specs.Streams.{ReadToEnd}
@@ -28,7 +28,8 @@ returns-in-Err-start-clause-not_disk g c = λ rose.
 
 pub returns-in-Err-start-clause-unread : goal.returns-in-Err-start-clause-unread
 returns-in-Err-start-clause-unread g c =
-    subst (λ w. IfUnread w _) (sym (c.closed_unrun.ensures.cause ∙ c.cause_of_opening.ensures)) (opening_read c.in-Err-start.fault _)
+    subst (λ w. IfUnread w (g.F.Tally.Count.number c.closed_unrun.result.tally ≡ 0)) (sym (c.closed_unrun.ensures.cause ∙ c.cause_of_opening.ensures))
+    (opening_read c.in-Err-start.fault _)
 
 pub returns-in-Err-start-clause-stays : goal.returns-in-Err-start-clause-stays
 returns-in-Err-start-clause-stays g c = λ none d reads bytes entries mutations store.
@@ -65,7 +66,8 @@ pub returns-clause-bad : goal.returns-clause-bad
 returns-clause-bad g c = λ none. none_bad _ _ _ _ _ _ _ _ _ _ _ _ _ _ _ _ _ _ c.serve.ensures.served none
 
 pub returns-clause-unread : goal.returns-clause-unread
-returns-clause-unread g c = served_read _ _ _ _ _ c.serve.ensures.ends
+returns-clause-unread g c =
+    served_read c.faults-faults.result (g.F.Folder.faults_of c.serve.result.folder) (g.F.Tally.Count.number c.serve.result.tally) _ _ c.serve.ensures.ends
 
 pub returns-clause-stays : goal.returns-clause-stays
 returns-clause-stays g c = λ none d reads bytes entries mutations store.
