@@ -57,7 +57,15 @@ fn ended(alloc: Global, folder: MemFolder, output: &str) -> Option<(u8, Cause, b
         folder: _folder,
         pass: _pass,
         tally: _tally,
-    } = run(alloc, &words, &mut source, &mut sink, folder, &clock, &FreeGate);
+    } = run(
+        alloc,
+        &words,
+        &mut source,
+        &mut sink,
+        folder,
+        &clock,
+        &FreeGate,
+    );
     Some((status, cause, sink.taken() == output.as_bytes()))
 }
 
@@ -86,7 +94,9 @@ fn is_bad(alloc: Global, place: u64, byte: u8, output: &str) -> bool {
         return false;
     }
     match ended(alloc, folder, output) {
-        Some((status, Cause::Bad { name, .. }, printed)) => status == 6 && name == Name::Table(1) && printed,
+        Some((status, Cause::Bad { name, .. }, printed)) => status == 6
+            && name == Name::Table(1)
+            && printed,
         _ => false,
     }
 }
