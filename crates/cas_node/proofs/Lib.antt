@@ -1,5 +1,6 @@
 mod Answered
 mod Stopping
+mod Blaming
 mod RunLemmas
 mod NumbersRise
 mod OneOutcome

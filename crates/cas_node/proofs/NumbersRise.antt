@@ -3,6 +3,7 @@ use Rattle.std.proofs.Common.{◌≡◌, ◌≤◌, ◌<◌, ◌+◌, inl, inr, 
 use Rattle.std.specs.Prelude.{slice_set, slice_index_or, ◌⊎◌}
 use Rattle.cas_history.specs.Hands.{numbers}
 use Rattle.cas_atoms.specs.declared.atom.Mutation.{Mutation}
+use Rattle.cas_disk.specs.Disk.{Disk}
 use Rattle.cas_bind.specs.declared.bound.Bound.{Bound}
 use Rattle.cas_bind.specs.declared.bound.Bound.TheVariants as bound
 use Rattle.cas_bind.specs.Meaning.{meaning}
@@ -18,6 +19,7 @@ use Rattle.cas_lines.specs.declared.line.Line.TheVariants as line
 use Rattle.cas_render.specs.declared.reply.Failure.TheVariants as failure
 use Rattle.cas_render.specs.declared.reply.Reply.{Reply}
 use Rattle.cas_render.specs.declared.reply.Reply.TheVariants as reply
+use Rattle.cas_shard.specs.declared.entry.ShardOpening.{ShardOpening}
 use Rattle.cas_shard.specs.Shards.{ShardHistory, empty_shard, found_shard, moment_at, mutation_at, number_of}
 use Rattle.cas_shard.specs.Stands.{NumbersRise}
 use Rattle.cas_shard.proofs.Numbering.{all_stand, one_entered}
@@ -25,10 +27,12 @@ use Rattle.cas_words.specs.declared.words.ClockKind.{ClockKind}
 use Rattle.cas_words.specs.declared.words.ClockKind.TheVariants as clock
 use Rattle.cas_sessions.specs.History.{History, DiskState, Does, Takes, shard_at, after_entries, with_shard}
 use Rattle.cas_node.specs.Lines.{SetsClock, Answered, Answers}
-use Rattle.cas_recovery.specs.Found.{AreOfAStore, found_in}
+use Rattle.cas_recovery.specs.Found.{AreOfAStore}
+use Rattle.cas_recovery.specs.Openings.{AreOpenings}
+use Rattle.cas_recovery.proofs.Explained.{as_opening}
 use Rattle.cas_sessions.specs.Starts.{start}
 use Rattle.cas_node.specs.Laws.{AllRise, FoundRise, NumbersStay, AllAreRead}
-use Rattle.cas_recovery.proofs.Founding.{given_reads, log_given, none_read}
+use Rattle.cas_recovery.proofs.Founding.{none_read}
 use Rattle.cas_sessions.proofs.Serving.{numbered, many_mapped, many_numbers}
 
 -- ---- a shard
@@ -66,7 +70,7 @@ module _ (reading : ℤ) (s : ShardHistory) (session call : ℕ) (m : Mutation) 
   taken segment d (reply.Failed failure.Stopped) entries e t = none entries t.1
   taken segment d (reply.Failed failure.Disk) entries e t = ⊎_elim (none entries) (one entries) t.1
   taken segment d (reply.Failed failure.Read) entries e t = absurd t
-  taken segment d (reply.Failed failure.Block) entries e t = absurd t
+  taken segment d (reply.Failed (failure.Block n at)) entries e t = absurd t
 
 -- ---- a history
 
@@ -95,7 +99,7 @@ does_keeps kind Gives h (Ok (bound.Write w)) r t a all =
     (taken reading (shard_at h w.shard) h.session (h.calls + 1) (mutation_at reading (shard_at h w.shard) w) (next_is reading (shard_at h w.shard) w) (all w.shard)
     h.limits.segment h.disk r entries e takes))
 does_keeps kind Gives h (Ok (bound.Read q)) r t a all =
-    let (reading, is, shows, after) = a in
+    let (reading, is, (reads, more, shows, after)) = a in
     subst AllRise (sym after)
     (shard_keeps h q.shard (after_entries reading [] (shard_at h q.shard)) all (raised_rise (shard_at h q.shard) (moment_at reading (shard_at h q.shard)) (all q.shard)))
 
@@ -132,31 +136,30 @@ past (x ∷ xs) zero d le = absurd (omega (arith, le))
 past (x ∷ xs) (suc n) d le = past xs n d (omega (arith, le))
 
 -- each of the shards that a history begins with
-abbrev first_shards : List ManifestEntry → List Mutation → List ShardHistory
-first_shards entries mutations = map (λ (k : ℕ). found_shard (found_in k mutations)) (numbers 0 (said_by entries).shards)
+abbrev first_shards : List ManifestEntry → (ℕ → ShardOpening) → List ShardHistory
+first_shards entries openings = map (λ (k : ℕ). found_shard (openings k)) (numbers 0 (said_by entries).shards)
 
-first_rise : (entries : List ManifestEntry) (mutations : List Mutation) → AreOfAStore entries mutations → (n : ℕ)
-    → NumbersRise (slice_index_or (first_shards entries mutations) n (found_shard empty_shard))
-first_rise entries mutations store n = ⊎_elim here beyond (below_or_past n (said_by entries).shards)
+first_rise : (entries : List ManifestEntry) (mutations : List Mutation) (folder : Disk) (openings : ℕ → ShardOpening) → AreOfAStore entries mutations
+    → AreOpenings entries mutations folder openings → (n : ℕ) → NumbersRise (slice_index_or (first_shards entries openings) n (found_shard empty_shard))
+first_rise entries mutations folder openings store are n = ⊎_elim here beyond (below_or_past n (said_by entries).shards)
   where
-    here : n < (said_by entries).shards → NumbersRise (slice_index_or (first_shards entries mutations) n (found_shard empty_shard))
+    here : n < (said_by entries).shards → NumbersRise (slice_index_or (first_shards entries openings) n (found_shard empty_shard))
     here lt =
         let same : 0 + n ≡ n = omega arith in
         subst NumbersRise
-        (sym (numbered (λ (k : ℕ). found_shard (found_in k mutations)) (found_shard empty_shard) 0 (said_by entries).shards n lt
-        ∙ ap (λ (k : ℕ). found_shard (found_in k mutations)) same))
-        (given_reads (said_by entries).tables (said_by entries).shards n mutations
-        (log_given (said_by entries).tables (said_by entries).shards mutations store.log)).rises
+        (sym (numbered (λ (k : ℕ). found_shard (openings k)) (found_shard empty_shard) 0 (said_by entries).shards n lt
+        ∙ ap (λ (k : ℕ). found_shard (openings k)) same))
+        (as_opening entries mutations store.log folder n (openings n) lt (are n lt)).rise
 
-    beyond : (said_by entries).shards ≤ n → NumbersRise (slice_index_or (first_shards entries mutations) n (found_shard empty_shard))
+    beyond : (said_by entries).shards ≤ n → NumbersRise (slice_index_or (first_shards entries openings) n (found_shard empty_shard))
     beyond le =
-        let many : length (first_shards entries mutations) ≡ (said_by entries).shards =
-        many_mapped (λ (k : ℕ). found_shard (found_in k mutations)) (numbers 0 (said_by entries).shards) ∙ many_numbers 0 (said_by entries).shards in
-        subst NumbersRise (sym (past (first_shards entries mutations) n (found_shard empty_shard) (omega (arith, many, le)))) none_read.rises
+        let many : length (first_shards entries openings) ≡ (said_by entries).shards =
+        many_mapped (λ (k : ℕ). found_shard (openings k)) (numbers 0 (said_by entries).shards) ∙ many_numbers 0 (said_by entries).shards in
+        subst NumbersRise (sym (past (first_shards entries openings) n (found_shard empty_shard) (omega (arith, many, le)))) none_read.rises
 
-pub found_rise : FoundRise
+pub found_rise : (folder : Disk) → FoundRise folder
 unfolding start
-found_rise l entries mutations session disk store n = first_rise entries mutations store n
+found_rise folder l entries mutations openings session disk store are n = first_rise entries mutations folder openings store are n
 
 pub all_are_read : AllAreRead
 all_are_read s h table key = all_stand s table key h

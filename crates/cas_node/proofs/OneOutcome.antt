@@ -2,7 +2,9 @@
 use Rattle.std.proofs.Common.{◌≡◌, ◌≤◌, ◌+◌, ℕ, ℤ, Bool, true, false, List, [], ◌∷◌, Option, Some, None, Result, Ok, Err, refl, sym, ap, ◌∙◌, subst, inl, inr, arith}
 use Rattle.std.specs.Prelude.{◌⊎◌}
 use Rattle.std.specs.List.{list_any}
+use Rattle.std.proofs.Math.Logic.{∥∥₁_elim}
 use Rattle.std.proofs.lemmas.Bool.{true≢false, or_parts}
+use mathlib.Core.HLevel.{⊥_prop}
 use Rattle.cas_io.specs.Causes.{Rose}
 use Rattle.cas_types.specs.declared.schema.TableSchema.{TableSchema}
 use Rattle.cas_atoms.specs.declared.atom.Mutation.{Mutation}
@@ -26,10 +28,13 @@ use Rattle.cas_lines.specs.declared.line.Line.TheVariants as line
 use Rattle.cas_lines.specs.Lines.{Says}
 use Rattle.cas_lines.proofs.OneLine.{one_line}
 use Rattle.cas_shard.specs.declared.entry.Entry.{Entry}
-use Rattle.cas_shard.specs.Shards.{take_refusal, mutation_at}
+use Rattle.cas_shard.specs.Shards.{ShardHistory, look_at, take_refusal, mutation_at}
+use Rattle.cas_sstread.specs.Loading.{Held}
+use Rattle.cas_view.specs.Views.{File}
 use Rattle.cas_words.specs.declared.words.ClockKind.TheVariants as clock
-use Rattle.cas_sessions.specs.History.{History, DiskState, Takes, Shows, Defines, Changes, Does, WritesAt, after_read, after_write, entry_of, shard_at, tells_want}
+use Rattle.cas_sessions.specs.History.{History, DiskState, Takes, Shows, Stays, Stops, SameFiles, Defines, Changes, Does, ReadsAt, WritesAt, after_read, after_write, entry_of, rows_reply, shard_at, tells_want}
 use Rattle.cas_node.specs.Lines.{Answered, Answers, Runs, is_starved}
+use Rattle.cas_node.specs.Ran.{AreGood}
 use Rattle.cas_node.specs.Laws.{OneOutcome, SameStore, IsRoomy, StaysWell}
 
 -- ---- the disk along a run
@@ -39,41 +44,59 @@ record Grows (d e : DiskState) : Type 0 where
   faults : d.faults ≤ e.faults
   segment : d.reach.segment ≤ e.reach.segment
   manifest : d.reach.manifest ≤ e.reach.manifest
+  reads : d.reads ≤ e.reads
+  files : e.files ≡ d.files
 
 still : (d : DiskState) → Grows d d
-still d = record { faults = omega arith; segment = omega arith; manifest = omega arith }
+still d = record { faults = omega arith; segment = omega arith; manifest = omega arith; reads = omega arith; files = refl }
+
+read_on : (d : DiskState) (n : ℕ) → d.reads ≤ n → Grows d (record d { reads = n })
+read_on d n le = record { faults = omega arith; segment = omega arith; manifest = omega arith; reads = le; files = refl }
 
 then_on : (d e f : DiskState) → Grows d e → Grows e f → Grows d f
-then_on d e f a b = record { faults = omega (arith, a.faults, b.faults); segment = omega (arith, a.segment, b.segment); manifest = omega (arith, a.manifest, b.manifest) }
+then_on d e f a b = record {
+  faults = omega (arith, a.faults, b.faults);
+  segment = omega (arith, a.segment, b.segment);
+  manifest = omega (arith, a.manifest, b.manifest);
+  reads = omega (arith, a.reads, b.reads);
+  files = b.files ∙ a.files;
+}
 
 rose_on : (a b c d : ℕ) → a ≤ b → Rose b c → c ≤ d → Rose a d
 rose_on a b c d le rose more = omega (arith, le, rose, more)
 
 -- what becomes of the disk in a step, of any kind
+of_stays : (d e : DiskState) → Stays d e → Grows d e
+of_stays d e s = record { faults = s.faults; segment = s.reach.segment; manifest = s.reach.manifest; reads = omega (arith, s.files.1); files = s.files.0 }
+
+of_stops : (d e : DiskState) → Stops d e → Grows d e
+of_stops d e s = record { faults = s.faults; segment = s.reach.segment; manifest = s.reach.manifest; reads = omega (arith, s.files.1); files = s.files.0 }
+
 taken_grows : (segment : ℕ) (m : Mutation) (x : Entry) (d : DiskState) (r : Reply) (entries : List Entry) (e : DiskState) → Takes segment m x d r entries e → Grows d e
 taken_grows segment m x d reply.Done entries e t = absurd t
-taken_grows segment m x d (reply.Wrote number) entries e t = record { faults = t.3.1.faults; segment = t.3.1.reach.segment; manifest = t.3.1.reach.manifest }
+taken_grows segment m x d (reply.Wrote number) entries e t = of_stays d e t.3.1
 taken_grows segment m x d (reply.Rows rows shard front now) entries e t = absurd t
-taken_grows segment m x d (reply.Refused why) entries e t = record { faults = t.2.faults; segment = t.2.reach.segment; manifest = t.2.reach.manifest }
-taken_grows segment m x d (reply.Failed failure.Memory) entries e t = record { faults = t.1.faults; segment = t.1.reach.segment; manifest = t.1.reach.manifest }
-taken_grows segment m x d (reply.Failed failure.Stopped) entries e t = record { faults = t.2.1.faults; segment = t.2.1.reach.segment; manifest = t.2.1.reach.manifest }
-taken_grows segment m x d (reply.Failed failure.Disk) entries e t = record { faults = t.2.faults; segment = t.2.reach.segment; manifest = t.2.reach.manifest }
+taken_grows segment m x d (reply.Refused why) entries e t = of_stays d e t.2
+taken_grows segment m x d (reply.Failed failure.Memory) entries e t = of_stays d e t.1
+taken_grows segment m x d (reply.Failed failure.Stopped) entries e t = of_stays d e t.2.1
+taken_grows segment m x d (reply.Failed failure.Disk) entries e t = of_stops d e t.2
 taken_grows segment m x d (reply.Failed failure.Read) entries e t = absurd t
-taken_grows segment m x d (reply.Failed failure.Block) entries e t = absurd t
+taken_grows segment m x d (reply.Failed (failure.Block n at)) entries e t = absurd t
 
-with_entry : (d e : DiskState) (x : ManifestEntry) → (e.reach.segment ≡ d.reach.segment) × (e.reach.manifest ≡ d.reach.manifest + room_of x) → d.faults ≤ e.faults → Grows d e
-with_entry d e x same le = record { faults = le; segment = omega (arith, same.0); manifest = omega (arith, same.1) }
+with_entry : (d e : DiskState) (x : ManifestEntry) → (e.reach.segment ≡ d.reach.segment) × (e.reach.manifest ≡ d.reach.manifest + room_of x) → d.faults ≤ e.faults → SameFiles d e
+    → Grows d e
+with_entry d e x same le files = record { faults = le; segment = omega (arith, same.0); manifest = omega (arith, same.1); reads = omega (arith, files.1); files = files.0 }
 
 defined_grows : (x : ManifestEntry) (old new : List TableSchema) (d : DiskState) (r : Reply) (tables : List TableSchema) (e : DiskState) → Defines x old new d r tables e → Grows d e
-defined_grows x old new d reply.Done tables e t = with_entry d e x (ap (λ q. q.segment) t.2.reach, ap (λ q. q.manifest) t.2.reach) t.2.faults
+defined_grows x old new d reply.Done tables e t = with_entry d e x (ap (λ q. q.segment) t.2.reach, ap (λ q. q.manifest) t.2.reach) t.2.faults t.2.files
 defined_grows x old new d (reply.Wrote number) tables e t = absurd t
 defined_grows x old new d (reply.Rows rows shard front now) tables e t = absurd t
-defined_grows x old new d (reply.Refused why) tables e t = record { faults = t.4.1.faults; segment = t.4.1.reach.segment; manifest = t.4.1.reach.manifest }
-defined_grows x old new d (reply.Failed failure.Memory) tables e t = record { faults = t.1.faults; segment = t.1.reach.segment; manifest = t.1.reach.manifest }
-defined_grows x old new d (reply.Failed failure.Stopped) tables e t = record { faults = t.1.1.faults; segment = t.1.1.reach.segment; manifest = t.1.1.reach.manifest }
-defined_grows x old new d (reply.Failed failure.Disk) tables e t = record { faults = t.1.faults; segment = t.1.reach.segment; manifest = t.1.reach.manifest }
+defined_grows x old new d (reply.Refused why) tables e t = of_stays d e t.4.1
+defined_grows x old new d (reply.Failed failure.Memory) tables e t = of_stays d e t.1
+defined_grows x old new d (reply.Failed failure.Stopped) tables e t = of_stays d e t.1.1
+defined_grows x old new d (reply.Failed failure.Disk) tables e t = of_stops d e t.1
 defined_grows x old new d (reply.Failed failure.Read) tables e t = absurd t
-defined_grows x old new d (reply.Failed failure.Block) tables e t = absurd t
+defined_grows x old new d (reply.Failed (failure.Block n at)) tables e t = absurd t
 
 at_disk : (h t : History) (e : DiskState) → t.disk ≡ e → Grows h.disk e → Grows h.disk t.disk
 at_disk h t e is grows = subst (Grows h.disk) (sym is) grows
@@ -83,7 +106,7 @@ deed_grows Gives h (Err x) r t a = at_disk h t h.disk (ap (λ (k : History). k.d
 deed_grows Gives h (Ok (bound.Create x)) r t a = at_disk h t a.1 (ap (λ (k : History). k.disk) a.3) (defined_grows _ _ _ _ r a.0 a.1 a.2)
 deed_grows Gives h (Ok (bound.Alter x)) r t a = at_disk h t a.1 (ap (λ (k : History). k.disk) a.3) (defined_grows _ _ _ _ r a.0 a.1 a.2)
 deed_grows Gives h (Ok (bound.Write w)) r t a = at_disk h t a.2.1 (ap (λ (k : History). k.disk) a.2.3) (taken_grows _ _ _ _ r a.2.0 a.2.1 a.2.2)
-deed_grows Gives h (Ok (bound.Read q)) r t a = at_disk h t h.disk (ap (λ (k : History). k.disk) a.3) (still h.disk)
+deed_grows Gives h (Ok (bound.Read q)) r t a = at_disk h t (record h.disk { reads = a.2.0 }) (ap (λ (k : History). k.disk) a.2.3) (read_on h.disk a.2.0 a.2.1)
 
 answered_grows : (Gives : ℤ → Type 0) (h : History) (l : Line) (r : Option Reply) (t : History) → Answered clock.Manual Gives h l r t → Grows h.disk t.disk
 answered_grows Gives h line.Blank r t a = at_disk h t h.disk (ap (λ (k : History). k.disk) a.1) (still h.disk)
@@ -103,7 +126,7 @@ run_grows Gives h (l ∷ ls) (r ∷ rs) t x = then_on h.disk x.0.disk t.disk (li
 
 -- ---- one step, where the disk is well
 
--- from a disk that isn't stopped to one that has room, without a fault
+-- from a disk that isn't stopped, and has no bad file, to one that has room, without a fault
 abbrev Well : DiskState → DiskState → Type 0
 Well d e = StaysWell d e
 
@@ -111,7 +134,23 @@ roomy_before : (e f : DiskState) → Grows e f → IsRoomy f.reach → IsRoomy e
 roomy_before e f grows room = (omega (arith, grows.segment, room.0), omega (arith, grows.manifest, room.1))
 
 first_well : (d e f : DiskState) → Grows d e → Grows e f → Well d f → Well d e
-first_well d e f a b well = (well.0, λ rose. well.1 (rose_on d.faults d.faults e.faults f.faults (omega arith) rose b.faults), roomy_before e f b well.2)
+first_well d e f a b well = (
+  well.0,
+  λ rose. well.1 (rose_on d.faults d.faults e.faults f.faults (omega arith) rose b.faults),
+  roomy_before e f b well.2,
+  λ rose. well.3 (rose_on d.reads d.reads e.reads f.reads (omega arith) rose b.reads),
+  well.4,
+)
+
+-- and from there to the end
+rest_well : (d e f : DiskState) → Grows d e → Grows e f → Well d f → e.stopped ≡ false → Well e f
+rest_well d e f a b well goes = (
+  goes,
+  λ rose. well.1 (rose_on d.faults e.faults f.faults f.faults a.faults rose (omega arith)),
+  well.2,
+  λ rose. well.3 (rose_on d.reads e.reads f.reads f.reads a.reads rose (omega arith)),
+  subst AreGood (sym a.files) well.4,
+)
 
 not_full : (r : Reach) → IsRoomy r → IsFull r → ⊥
 not_full r room (inl segment) = absurd (omega (arith, room.0, segment))
@@ -158,7 +197,7 @@ settled segment m x d (reply.Failed failure.Memory) entries e t v well = absurd 
 settled segment m x d (reply.Failed failure.Stopped) entries e t v well = absurd (no_true d.stopped well.0 t.2.0)
 settled segment m x d (reply.Failed failure.Disk) entries e t v well = absurd (well.1 t.2.rose)
 settled segment m x d (reply.Failed failure.Read) entries e t v well = absurd t
-settled segment m x d (reply.Failed failure.Block) entries e t v well = absurd t
+settled segment m x d (reply.Failed (failure.Block n at)) entries e t v well = absurd t
 
 record Agreed (new tables : List TableSchema) (r : Reply) (e : DiskState) : Type 0 where
   done : r ≡ reply.Done
@@ -175,7 +214,20 @@ agreed x old new d (reply.Failed failure.Memory) tables e t v well = absurd (tru
 agreed x old new d (reply.Failed failure.Stopped) tables e t v well = absurd (no_true d.stopped well.0 t.1.0)
 agreed x old new d (reply.Failed failure.Disk) tables e t v well = absurd (well.1 t.1.rose)
 agreed x old new d (reply.Failed failure.Read) tables e t v well = absurd t
-agreed x old new d (reply.Failed failure.Block) tables e t v well = absurd t
+agreed x old new d (reply.Failed (failure.Block n at)) tables e t v well = absurd t
+
+-- what a SELECT shows then
+is_shown : (files : ℕ → ℕ → List (File Held)) (before now : ℕ) (s : ShardHistory) (a : ℤ) (x : BoundRead) (r : Reply) → Shows (files x.shard x.query.table) before now s a x r
+    → tells_want r ≡ false → (Rose before now → ⊥) → AreGood files → r ≡ rows_reply x.shard (look_at a s x.query)
+is_shown files before now s a x reply.Done t v none good = t
+is_shown files before now s a x (reply.Wrote number) t v none good = t
+is_shown files before now s a x (reply.Rows rows shard front at) t v none good = t
+is_shown files before now s a x (reply.Refused why) t v none good = t
+is_shown files before now s a x (reply.Failed failure.Memory) t v none good = absurd (true≢false v)
+is_shown files before now s a x (reply.Failed failure.Stopped) t v none good = absurd t
+is_shown files before now s a x (reply.Failed failure.Disk) t v none good = absurd t
+is_shown files before now s a x (reply.Failed failure.Read) t v none good = absurd (none t.1)
+is_shown files before now s a x (reply.Failed (failure.Block n at)) t v none good = absurd (∥∥₁_elim t ⊥_prop (λ bad. good x.shard n at x.query bad))
 
 -- ---- two runs
 
@@ -210,11 +262,14 @@ module _ (h : History) (d e : DiskState) where
         other_goes = ap (λ (k : History). k.disk.stopped) g ∙ two.goes;
       }
 
-  one_read : (x : BoundRead) (a : ℤ) (r q : Reply) (t u : History) → Shows (shard_at h x.shard) a x r → Shows (shard_at h x.shard) a x q
-      → t ≡ after_read (on h d) x.shard a → u ≡ after_read (on h e) x.shard a → tells_want r ≡ false → tells_want q ≡ false → Well d t.disk → Well e u.disk → Same r q t u
-  one_read x a r q t u m n f g v z well good = record {
-    replies = m v ∙ sym (n z);
-    stores = ap (λ (k : History). on k u.disk) f ∙ ap (λ (j : DiskState). after_read (on h j) x.shard a) (ap (λ (k : History). k.disk) g) ∙ sym g;
+  one_read : (x : BoundRead) (a : ℤ) (j k : ℕ) (r q : Reply) (t u : History) → Shows (d.files x.shard x.query.table) d.reads j (shard_at h x.shard) a x r
+      → Shows (e.files x.shard x.query.table) e.reads k (shard_at h x.shard) a x q → t ≡ after_read (on h d) x.shard a j → u ≡ after_read (on h e) x.shard a k
+      → tells_want r ≡ false → tells_want q ≡ false → Well d t.disk → Well e u.disk → Same r q t u
+  one_read x a j k r q t u m n f g v z well good = record {
+    replies =
+        is_shown d.files d.reads j (shard_at h x.shard) a x r m v (λ rose. well.3 (subst (Rose d.reads) (sym (ap (λ (i : History). i.disk.reads) f)) rose)) well.4
+        ∙ sym (is_shown e.files e.reads k (shard_at h x.shard) a x q n z (λ rose. good.3 (subst (Rose e.reads) (sym (ap (λ (i : History). i.disk.reads) g)) rose)) good.4);
+    stores = ap (λ (i : History). on i u.disk) f ∙ ap (λ (i : DiskState). on (after_read (on h e) x.shard a k) i) (ap (λ (i : History). i.disk) g) ∙ sym g;
     one_goes = ap (λ (k : History). k.disk.stopped) f ∙ well.0;
     other_goes = ap (λ (k : History). k.disk.stopped) g ∙ good.0;
   }
@@ -255,7 +310,8 @@ module _ (h : History) (d e : DiskState) where
       one_write x a.0 a.2.0 other.0 a.2.1 other.1 r q t u a.2.2 other.2 a.2.3 other.3 v w well good
   one_deed Gives (Ok (bound.Read x)) r q t u a b v w well good =
       let same : b.0 ≡ a.0 = b.1 ∙ sym a.1 in
-      one_read x a.0 r q t u a.2 (subst (λ (k : ℤ). Shows (shard_at h x.shard) k x q) same b.2) a.3 (subst (λ (k : ℤ). u ≡ after_read (on h e) x.shard k) same b.3) v w well good
+      let other = subst (λ (k : ℤ). ReadsAt (on h e) k x q u) same b.2 in
+      one_read x a.0 a.2.0 other.0 r q t u a.2.2 other.2 a.2.3 other.3 v w well good
 
   -- answers that are shown are the same where their replies are
   shown : (a b : Reply) (r q : Option Reply) (t u : History) → r ≡ Some a → q ≡ Some b → Same a b t u → Same r q t u
@@ -310,8 +366,7 @@ runs_agree Gives h d e (l ∷ ls) (r ∷ rs) (s ∷ ss) t u x y v w well good =
     let one = one_answer Gives h d e l r s x.0 y.0 x.1 y.1 left.0 right.0 (first_well d x.0.disk t.disk one_more one_rest well) (first_well e y.0.disk u.disk other_more other_rest good) in
     let rest =
     runs_agree Gives x.0 x.0.disk y.0.disk ls rs ss t u x.2 (subst (λ k. Runs clock.Manual Gives k ls ss u) (sym one.stores) y.2) left.1 right.1
-    (one.one_goes, (λ rose. well.1 (rose_on d.faults x.0.disk.faults t.disk.faults t.disk.faults one_more.faults rose (omega arith))), well.2)
-    (one.other_goes, (λ rose. good.1 (rose_on e.faults y.0.disk.faults u.disk.faults u.disk.faults other_more.faults rose (omega arith))), good.2) in
+    (rest_well d x.0.disk t.disk one_more one_rest well one.one_goes) (rest_well e y.0.disk u.disk other_more other_rest good one.other_goes) in
     (λ i. one.replies i ∷ rest.0 i, rest.1)
 
 pub one_outcome : (Gives : ℤ → Type 0) → OneOutcome Gives

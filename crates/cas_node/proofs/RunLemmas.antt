@@ -1,30 +1,37 @@
 -- What a run did with its folder and its script, and how it ends.
 use Rattle.std.proofs.Common.{◌≡◌, ◌≤◌, ℕ, ℤ, pos, Bool, true, false, Option, None, Some, is_some, List, [], ◌∷◌, ◌++◌, length, refl, sym, ap, ◌∙◌, subst, append-nil, inl, inr, arith}
-use Rattle.std.specs.Prelude.{if◌then◌else◌, IfSome, IsSome}
+use Rattle.std.specs.Prelude.{if◌then◌else◌, ◌⊎◌, ◌||◌, nat_le, IfSome, IsSome, IsTrue}
 use Rattle.std.specs.List.{fold}
 use Rattle.std.specs.Str.Lines.{lines}
 use Rattle.std.specs.Io.KnownBytes.{Keeps as KeepsBytes}
-use Rattle.std.proofs.lemmas.Bool.{leb-true}
+use Rattle.std.proofs.lemmas.Bool.{le-leb, leb-true}
+use Rattle.std.proofs.Math.Logic.{∥∥₁_elim}
+use mathlib.Core.HLevel.{⊥_prop}
 use Rattle.std.proofs.lemmas.Option.{same_Some}
 use Rattle.cas_io.specs.Causes.{Rose}
 use Rattle.cas_io.specs.Streams.{ReadToEnd}
 use Rattle.cas_types.specs.declared.schema.TableSchema.{TableSchema}
 use Rattle.cas_disk.specs.declared.name.Name.{Name}
+use Rattle.cas_disk.specs.declared.name.Name.TheVariants as file
 use Rattle.cas_disk.specs.Disk.{Disk, Image}
 use Rattle.cas_gates.specs.declared.first.First.{First}
 use Rattle.cas_atoms.specs.declared.atom.Mutation.{Mutation}
 use Rattle.cas_bind.specs.declared.bound.Limits.{Limits}
-use Rattle.cas_changes.specs.Saying.{said_by}
 use Rattle.cas_changes.specs.declared.entry.Entry.{Entry as ManifestEntry}
 use Rattle.cas_history.specs.declared.item.Item.{Item}
 use Rattle.cas_journal.specs.Journals.{Lasts}
 use Rattle.cas_journal.specs.Stores.{Told}
 use Rattle.cas_journal.specs.declared.journal.Journal.{Journal}
 use Rattle.cas_opening.specs.Opening.{IsOfBytes, OpensAs, next_segment}
-use Rattle.cas_opening.specs.declared.fault.OpenFault.{OpenFault}
-use Rattle.cas_opening.specs.declared.fault.OpenFault.TheVariants as open_fault
 use Rattle.cas_opening.proofs.Readings.{one_store, opens_not_bad}
+use Rattle.cas_recovery.specs.declared.fault.RecoveryFault.{RecoveryFault}
+use Rattle.cas_recovery.specs.declared.fault.RecoveryFault.TheVariants as recovery
+use Rattle.cas_recovery.specs.Openings.{AreOpenings}
+use Rattle.cas_recovery.specs.Recovered.{IsBadTable, IsUnreadable}
+use Rattle.cas_recovery.specs.Restored.{IsTold}
+use Rattle.cas_recovery.proofs.Refusing.{never_bad}
 use Rattle.cas_room.specs.declared.event.Event.{Event}
+use Rattle.cas_shard.specs.declared.entry.ShardOpening.{ShardOpening}
 use Rattle.cas_shard.specs.Stands.{ShardState}
 use Rattle.cas_render.specs.declared.reply.Reply.{Reply}
 use Rattle.cas_render.specs.declared.reply.Reply.TheVariants as reply
@@ -37,33 +44,34 @@ use Rattle.cas_node.specs.declared.cause.Cause.TheVariants as cause
 use Rattle.cas_node.specs.declared.program.TheConstants.{SCRIPT_LIMIT}
 use Rattle.cas_sessions.specs.History.{History, DiskState}
 use Rattle.cas_node.specs.Lines.{Runs}
-use Rattle.cas_sessions.specs.Starts.{Begins, start, BeginsAs, IsOpenedAs}
-use Rattle.cas_recovery.specs.Found.{IsUnfit, IsUnflushed}
-use Rattle.cas_node.specs.Ran.{AllWell, Ended, GoodOrMem, IfBad, IsGranted, IsNotRun, Outside, Ran, RanAll, RanFrom, Stop, WriteRose, at_the_end, at_the_sink, for_memory, has_risen, reply_cause, with_faults, worse, worst}
-use Rattle.cas_node.specs.Inner.Serving.{Served, Serves}
+use Rattle.cas_sstread.specs.Loading.{Held}
+use Rattle.cas_view.specs.Views.{File}
+use Rattle.cas_sessions.specs.Starts.{AreItsFiles, Begins, start, BeginsAs, IsInMemory, IsOpenedAs, IsStarted}
+use Rattle.cas_node.specs.Ran.{AllWell, AreGood, Ended, GoodOrMem, IfBad, IfUnread, IsBadForOne, IsGranted, IsNotRun, Outside, Ran, RanAll, RanFrom, RanOn, Stop, WriteRose}
+use Rattle.cas_node.specs.Ran.{at_the_end, at_the_sink, for_memory, has_risen, reply_cause, weight, with_faults, worse, worst}
+use Rattle.cas_node.specs.Inner.Serving.{EndsServed, Served, Serves}
 use Rattle.cas_sessions.specs.Entered.{IsLeft}
-use Rattle.cas_recovery.specs.Restored.{IsInMemory, IsStarted}
 use Rattle.cas_node.specs.Inner.Turns.{cause_of_opening, IsEnd}
-use Rattle.cas_sessions.specs.Nodes.{State, StandsFor, LastsFor, disk_of, Moves}
+use Rattle.cas_sessions.specs.Nodes.{State, StandsFor, LastsFor, disk_of, files_in, Moves}
+use Rattle.cas_node.proofs.Blaming.{blamed, of_both}
 use Rattle.cas_node.proofs.Stopping.{stop_is_counted}
 
 -- ---- what was served
 
 module _ (kind : ClockKind) (Gives : ℤ → Type 0) (script : List ℕ) (old new : Option (List ℕ)) (s t : State) (d e : Disk) (faults_before : ℕ) (told why : Cause)
     (moves : Moves (λ h after. RanFrom h kind Gives script old new after told) s t d e) (l : Limits) (tables : List TableSchema) (shards : List ShardState) (journal : Journal)
-    (faults : ℕ) (opened : IsOpenedAs l tables shards journal faults s)
-    (begins : (given : Limits) (entries : List ManifestEntry) (mutations : List Mutation) → IsInMemory given entries mutations l tables shards
-    → BeginsAs given entries mutations d s)
-    (going : journal.first ≡ None) (ended : why ≡ with_faults faults_before t.faults told)
+    (faults reads : ℕ) (opened : IsOpenedAs l tables shards journal faults reads s)
+    (begins : (given : Limits) (entries : List ManifestEntry) (mutations : List Mutation) (openings : ℕ → ShardOpening)
+    → IsInMemory given entries mutations openings l tables shards → BeginsAs given entries mutations openings d s)
+    (going : journal.first ≡ None) (ended : why ≡ with_faults faults_before t.faults t.reads told)
     (left : (h : History) (found : List Mutation) (u : Told) → StandsFor h t → LastsFor h found t e u → (i : Image) → e.may_leave i → IsLeft found t.list h i) where
-  of_store : (given : Limits) (entries : List ManifestEntry) (mutations : List Mutation) → IsInMemory given entries mutations l tables shards
-      → journal.last_segment ≤ next_segment entries
-      → Served kind Gives script old new given entries mutations journal d e faults_before faults t.faults t.list why
-  of_store given entries mutations memory segment =
-      let first = begins given entries mutations memory in
-      let (after, ran, goes) = moves (start given entries mutations s.session (disk_of s)) first.stands in
+  of_store : (given : Limits) (entries : List ManifestEntry) (mutations : List Mutation) (openings : ℕ → ShardOpening)
+      → BeginsAs given entries mutations openings d s → journal.last_segment ≤ next_segment entries
+      → Served kind Gives script old new given entries mutations openings (files_in shards) journal d e faults_before faults t.faults t.reads t.list why
+  of_store given entries mutations openings first segment =
+      let (after, ran, goes) = moves (start given entries openings s.session (disk_of s)) first.stands in
       record {
-        first = start given entries mutations s.session (disk_of s);
+        first = start given entries openings s.session (disk_of s);
         begins = record {
           session = s.session;
           disk = disk_of s;
@@ -71,6 +79,7 @@ module _ (kind : ClockKind) (Gives : ℤ → Type 0) (script : List ℕ) (old ne
           going = ap (λ (j : Journal). is_some j.first) opened.journal_is ∙ ap (λ (f : Option First). is_some f) going;
           faults = omega (arith, opened.faults_are);
           segment = subst (λ (j : Journal). j.last_segment ≤ next_segment entries) (sym opened.journal_is) segment;
+          files_are = ap files_in opened.shards_are;
         };
         final = after;
         told = told;
@@ -80,37 +89,41 @@ module _ (kind : ClockKind) (Gives : ℤ → Type 0) (script : List ℕ) (old ne
             let (now, still) = goes.lasts mutations u (first.lasts u is (subst (λ (j : Journal). Lasts j d u) (sym opened.journal_is) lasts)) in
             left after mutations now goes.stands still i leaves;
         faults = ap (λ disk. disk.faults) goes.stands.disk;
+        reads_are = ap (λ disk. disk.reads) goes.stands.disk;
         ended = ended;
       }
 
   serves : (pass : Option (List (Item Event))) → IsSome pass → IfSome pass (λ p. p ≡ t.list)
-      → Serves kind Gives script old new l tables shards journal d faults faults_before e t.faults pass why
+      → Serves kind Gives script old new l tables shards journal d faults faults_before e t.faults t.reads pass why
   serves None some is = absurd cc
-  serves (Some items) some is = λ given entries mutations memory segment.
-      subst (λ (xs : List (Item Event)). Served kind Gives script old new given entries mutations journal d e faults_before faults t.faults xs why) (sym is)
-      (of_store given entries mutations memory segment)
+  serves (Some items) some is = λ given entries mutations openings memory segment.
+      subst
+      (λ (xs : List (Item Event)). Served kind Gives script old new given entries mutations openings (files_in shards) journal d e faults_before faults t.faults t.reads xs why)
+      (sym is) (of_store given entries mutations openings (begins given entries mutations openings memory) segment)
 
-  -- also where the disks and the count of faults are called otherwise
-  pub serves_as : (before after : Disk) (now : ℕ) (pass : Option (List (Item Event))) → d ≡ before → e ≡ after → t.faults ≡ now → IsSome pass → IfSome pass (λ p. p ≡ t.list)
-      → Serves kind Gives script old new l tables shards journal before faults faults_before after now pass why
-  serves_as before after now pass at_first at_last count some is =
-      subst (λ x. Serves kind Gives script old new l tables shards journal x faults faults_before after now pass why) at_first
-      (subst (λ x. Serves kind Gives script old new l tables shards journal d faults faults_before x now pass why) at_last
-      (subst (λ n. Serves kind Gives script old new l tables shards journal d faults faults_before e n pass why) count (serves pass some is)))
+  -- also where the disks and the counts of faults are called otherwise
+  pub serves_as : (before after : Disk) (now read : ℕ) (pass : Option (List (Item Event))) → d ≡ before → e ≡ after → t.faults ≡ now → t.reads ≡ read → IsSome pass
+      → IfSome pass (λ p. p ≡ t.list) → Serves kind Gives script old new l tables shards journal before faults faults_before after now read pass why
+  serves_as before after now read pass at_first at_last count reading some is =
+      subst (λ x. Serves kind Gives script old new l tables shards journal x faults faults_before after now read pass why) at_first
+      (subst (λ x. Serves kind Gives script old new l tables shards journal d faults faults_before x now read pass why) at_last
+      (subst (λ n. Serves kind Gives script old new l tables shards journal d faults faults_before e n read pass why) count
+      (subst (λ n. Serves kind Gives script old new l tables shards journal d faults faults_before e t.faults n pass why) reading (serves pass some is))))
 
 -- a store that was opened is the same in the eyes of a session that wrote nothing
-pub opened_as : (l : Limits) (tables : List TableSchema) (shards : List ShardState) (journal : Journal) (faults : ℕ) (f g : ℕ → ℕ → ℤ → State) (session calls : ℕ) (clock : ℤ)
-    → f ≡ g → calls ≡ 0 → ((session : ℕ) (clock : ℤ) → IsOpenedAs l tables shards journal faults (g session 0 clock)) → IsOpenedAs l tables shards journal faults (f session calls clock)
-opened_as l tables shards journal faults f g session calls clock same none opened =
-    subst (λ (k : ℕ → ℕ → ℤ → State). IsOpenedAs l tables shards journal faults (k session calls clock)) (sym same)
-    (subst (λ (n : ℕ). IsOpenedAs l tables shards journal faults (g session n clock)) (sym none) (opened session clock))
+pub opened_as : (l : Limits) (tables : List TableSchema) (shards : List ShardState) (journal : Journal) (faults reads : ℕ) (f g : ℕ → ℕ → ℤ → State) (session calls : ℕ) (clock : ℤ)
+    → f ≡ g → calls ≡ 0 → ((session : ℕ) (clock : ℤ) → IsOpenedAs l tables shards journal faults reads (g session 0 clock))
+    → IsOpenedAs l tables shards journal faults reads (f session calls clock)
+opened_as l tables shards journal faults reads f g session calls clock same none opened =
+    subst (λ (k : ℕ → ℕ → ℤ → State). IsOpenedAs l tables shards journal faults reads (k session calls clock)) (sym same)
+    (subst (λ (n : ℕ). IsOpenedAs l tables shards journal faults reads (g session n clock)) (sym none) (opened session clock))
 
-pub begins_as : (given : Limits) (entries : List ManifestEntry) (mutations : List Mutation) (f g : ℕ → ℕ → ℤ → State) (session calls : ℕ) (d e : Disk)
-    → f ≡ g → calls ≡ 0 → d ≡ e → BeginsAs given entries mutations e (g session 0 (pos 0)) → BeginsAs given entries mutations d (f session calls (pos 0))
-begins_as given entries mutations f g session calls d e same none disk begins =
-    subst (λ (k : ℕ → ℕ → ℤ → State). BeginsAs given entries mutations d (k session calls (pos 0))) (sym same)
-    (subst (λ (n : ℕ). BeginsAs given entries mutations d (g session n (pos 0))) (sym none)
-    (subst (λ (x : Disk). BeginsAs given entries mutations x (g session 0 (pos 0))) (sym disk) begins))
+pub begins_as : (given : Limits) (entries : List ManifestEntry) (mutations : List Mutation) (openings : ℕ → ShardOpening) (f g : ℕ → ℕ → ℤ → State) (session calls : ℕ) (d e : Disk)
+    → f ≡ g → calls ≡ 0 → d ≡ e → BeginsAs given entries mutations openings e (g session 0 (pos 0)) → BeginsAs given entries mutations openings d (f session calls (pos 0))
+begins_as given entries mutations openings f g session calls d e same none disk begins =
+    subst (λ (k : ℕ → ℕ → ℤ → State). BeginsAs given entries mutations openings d (k session calls (pos 0))) (sym same)
+    (subst (λ (n : ℕ). BeginsAs given entries mutations openings d (g session n (pos 0))) (sym none)
+    (subst (λ (x : Disk). BeginsAs given entries mutations openings x (g session 0 (pos 0))) (sym disk) begins))
 
 -- the same of a store that was closed, once its session had ended
 pub left_by : (f g : ℕ → ℕ → ℤ → State) (session calls : ℕ) (clock : ℤ) (d e k : Disk) → f ≡ g → d ≡ e → k ≡ e
@@ -132,9 +145,9 @@ pass_by f g session calls clock p q same is of =
     (subst (λ (x : ℕ → ℕ → ℤ → State). IfSome p (λ l. l ≡ (x session calls clock).list)) same of)
 
 -- how the disk stands at the beginning
-first_disk : (l : Limits) (entries : List ManifestEntry) (mutations : List Mutation) (session : ℕ) (disk : DiskState) → (start l entries mutations session disk).disk ≡ disk
+first_disk : (l : Limits) (entries : List ManifestEntry) (openings : ℕ → ShardOpening) (session : ℕ) (disk : DiskState) → (start l entries openings session disk).disk ≡ disk
 unfolding start
-first_disk l entries mutations session disk = refl
+first_disk l entries openings session disk = refl
 
 -- ---- the script ran
 
@@ -144,79 +157,197 @@ keeps (Some xs) None same = absurd cc
 keeps (Some xs) (Some ys) same = same_Some ys xs same
 
 module _ (words : List (List ℕ)) (Gives : ℤ → Type 0) (before after : Outside) (c : Command) (script : List ℕ) (limits : Limits) (tables : List TableSchema) (shards : List ShardState)
-    (journal : Journal) (mid : Disk) (faults : ℕ) (why : Cause) (said : command_of words ≡ Some c) (read : ReadToEnd before.left after.left script)
+    (journal : Journal) (mid : Disk) (faults reads : ℕ) (why : Cause) (said : command_of words ≡ Some c) (read : ReadToEnd before.left after.left script)
     (started : IsStarted c.limits limits tables shards journal before.folder mid) (kept : before.folder_faults ≤ faults) (n : ℕ) (counted : n ≡ before.folder_faults) where
-  earlier : (h : History) → Begins c.limits started.entries started.mutations faults h → Begins c.limits started.entries started.mutations before.folder_faults h
-  earlier h begins = record {
-    session = begins.session;
-    disk = begins.disk;
-    history = begins.history;
-    going = begins.going;
-    faults = omega (arith, kept, begins.faults);
-    segment = begins.segment;
-  }
+  module _ (entries : List ManifestEntry) (openings : ℕ → ShardOpening) (files : ℕ → ℕ → List (File Held)) (h : History) (begins : Begins c.limits entries openings files faults h) where
+    earlier : Begins c.limits entries openings files before.folder_faults h
+    earlier = record {
+      session = begins.session;
+      disk = begins.disk;
+      history = begins.history;
+      going = begins.going;
+      faults = omega (arith, kept, begins.faults);
+      segment = begins.segment;
+      files_are = begins.files_are;
+    }
 
-  at_first : (h : History) (begins : Begins c.limits started.entries started.mutations faults h) → h.disk ≡ begins.disk
-  at_first h begins = ap (λ (k : History). k.disk) begins.history ∙ first_disk c.limits started.entries started.mutations begins.session begins.disk
+    at_first : h.disk ≡ begins.disk
+    at_first = ap (λ (k : History). k.disk) begins.history ∙ first_disk c.limits entries openings begins.session begins.disk
 
-  of_served : (list : List (Item Event))
-      → Served c.clock Gives script before.taken after.taken c.limits started.entries started.mutations journal mid after.folder n faults after.folder_faults list why
-      → Ran c Gives script before after list why
-  of_served list served = record {
-    entries = started.entries;
-    mutations = started.mutations;
-    found = started.found;
-    first = served.first;
-    begins = earlier served.first served.begins;
-    final = served.final;
-    told = served.told;
-    ran = served.ran;
-    entered = served.entered;
-    crash = λ image reads bytes i left. let (t, told, lasts) = started.lasts image reads bytes in served.crash t told lasts i left;
-    faults = served.faults;
-    counted = λ off.
-        stop_is_counted c.clock Gives served.first served.ran.run served.ran.replies served.final before.folder_faults after.folder_faults served.ran.steps
-        (ap (λ (d : DiskState). d.stopped) (at_first served.first served.begins) ∙ served.begins.going)
-        (omega (arith, kept, served.begins.faults, ap (λ (d : DiskState). d.faults) (at_first served.first served.begins))) served.faults off;
-    ended = served.ended ∙ ap (λ (k : ℕ). with_faults k after.folder_faults served.told) counted;
+    not_stopped : h.disk.stopped ≡ false
+    not_stopped = ap (λ (d : DiskState). d.stopped) at_first ∙ begins.going
+
+    counted_from : before.folder_faults ≤ h.disk.faults
+    counted_from = omega (arith, kept, begins.faults, ap (λ (d : DiskState). d.faults) at_first)
+
+    its : h.disk.files ≡ files
+    its = ap (λ (d : DiskState). d.files) at_first ∙ begins.files_are
+
+  of_served : (list : List (Item Event)) (entries : List ManifestEntry) (mutations : List Mutation) (openings : ℕ → ShardOpening) (files : ℕ → ℕ → List (File Held))
+      → ((image : Image) → before.folder.reads image → IsOfBytes image → (t : Told) × IsTold entries mutations t × Lasts journal mid t)
+      → Served c.clock Gives script before.taken after.taken c.limits entries mutations openings files journal mid after.folder n faults after.folder_faults reads list why
+      → RanOn c Gives script before after reads list why entries mutations openings files
+  of_served list entries mutations openings files lasts served =
+      let ended : why ≡ with_faults before.folder_faults after.folder_faults reads served.told =
+      served.ended ∙ ap (λ (k : ℕ). with_faults k after.folder_faults reads served.told) counted in
+      record {
+        first = served.first;
+        begins = earlier entries openings files served.first served.begins;
+        final = served.final;
+        told = served.told;
+        ran = served.ran;
+        entered = served.entered;
+        crash = λ image reads bytes i left. let (t, told, still) = lasts image reads bytes in served.crash t told still i left;
+        faults = served.faults;
+        reads_are = served.reads_are;
+        counted =
+            stop_is_counted c.clock Gives served.first served.ran.run served.ran.replies served.final before.folder_faults after.folder_faults served.ran.steps
+            (not_stopped entries openings files served.first served.begins) (counted_from entries openings files served.first served.begins) served.faults;
+        bad =
+            blamed c.clock Gives files served.first script before.taken after.taken served.final served.told why before.folder_faults after.folder_faults reads
+            (its entries openings files served.first served.begins) served.ran ended;
+        ended = ended;
+      }
+
+  ran_over : (list : List (Item Event))
+      → Serves c.clock Gives script before.taken after.taken limits tables shards journal mid faults n after.folder after.folder_faults reads (Some list) why
+      → Ran c Gives script before after reads list why
+  ran_over list serves = record {
+    entries = started.back.entries;
+    mutations = started.back.mutations;
+    found = started.back.found;
+    files = files_in shards;
+    its_files = started.files;
+    on = λ openings are.
+        of_served list started.back.entries started.back.mutations openings (files_in shards) started.back.lasts
+        (serves c.limits started.back.entries started.back.mutations openings (started.memory openings are) started.back.segment);
   }
 
   pub ran_all : (pass : Option (List (Item Event))) → length script ≤ SCRIPT_LIMIT
-      → Serves c.clock Gives script before.taken after.taken limits tables shards journal mid faults n after.folder after.folder_faults pass why
-      → (pass ≡ None → after.taken ≡ before.taken) → RanAll words Gives before after pass why
+      → Serves c.clock Gives script before.taken after.taken limits tables shards journal mid faults n after.folder after.folder_faults reads pass why
+      → (pass ≡ None → after.taken ≡ before.taken) → RanAll words Gives before after reads pass why
   ran_all None short serves unwritten = (keeps before.taken after.taken (unwritten refl), subst IsNotRun (sym serves) tt)
-  ran_all (Some list) short serves unwritten =
-      (c, said, (script, read, short, of_served list (serves c.limits started.entries started.mutations started.memory started.segment)))
+  ran_all (Some list) short serves unwritten = (c, said, (script, read, short, ran_over list serves))
 
 -- ---- what ends a run
 
-of_both : (P : Cause → Type 0) (b : Bool) (x y : Cause) → P x → P y → P (if b then y else x)
-of_both P true x y p q = q
-of_both P false x y p q = p
+-- without a fault it ends as its lines did
+calm_by : (before now reads : ℕ) (b d : Bool) → has_risen before now ≡ b → has_risen 0 reads ≡ d → (told : Cause) → (Rose before now → ⊥) → (Rose 0 reads → ⊥)
+    → (if b || d then worse told cause.Disk else told) ≡ told
+calm_by before now reads true d test other told none quiet = absurd (none (leb-true _ now test))
+calm_by before now reads false true test other told none quiet = absurd (quiet (leb-true _ reads other))
+calm_by before now reads false false test other told none quiet = refl
 
--- without a fault of the folder it ends as its lines did
-calm_by : (before now : ℕ) (b : Bool) → has_risen before now ≡ b → (told : Cause) → (Rose before now → ⊥) → (if b then worse told cause.Disk else told) ≡ told
-calm_by before now true test told none = absurd (none (leb-true _ now test))
-calm_by before now false test told none = refl
+calm : (before now reads : ℕ) (told : Cause) → (Rose before now → ⊥) → (Rose 0 reads → ⊥) → with_faults before now reads told ≡ told
+calm before now reads told none quiet = calm_by before now reads (has_risen before now) (has_risen 0 reads) refl refl told none quiet
 
-calm : (before now : ℕ) (told : Cause) → (Rose before now → ⊥) → with_faults before now told ≡ told
-calm before now told none = calm_by before now (has_risen before now) refl told none
+-- where it is told that the disk failed, a count rose
+told_by : (before now reads : ℕ) (b d : Bool) → has_risen before now ≡ b → has_risen 0 reads ≡ d → (told : Cause) → IsEnd told
+    → (if b || d then worse told cause.Disk else told) ≡ cause.Disk → Rose before now ⊎ Rose 0 reads
+told_by before now reads true d test other told end is = inl (leb-true _ now test)
+told_by before now reads false true test other told end is = inr (leb-true _ reads other)
+told_by before now reads false false test other told end is = absurd (subst IsEnd is end)
+
+mem_is_not : cause.Mem ≡ cause.Disk → ⊥
+mem_is_not same = cc
+
+pub disk_told : (before now reads : ℕ) (why : Cause) → EndsServed before now reads why → why ≡ cause.Disk → Rose before now ⊎ Rose 0 reads
+disk_told before now reads why (inl mem) is = absurd (mem_is_not (sym mem ∙ is))
+disk_told before now reads why (inr (told, end, ended)) is = told_by before now reads (has_risen before now) (has_risen 0 reads) refl refl told end (sym ended ∙ is)
+
+-- and where one did, that is told, or what comes before it
+abbrev IsGrave : Cause → Type 0
+IsGrave why = IsTrue (nat_le (weight cause.Disk) (weight why))
+
+grave : (told : Cause) → IsEnd told → IsGrave (worse told cause.Disk)
+grave cause.Good end = refl
+grave cause.Refused end = refl
+grave cause.Write end = refl
+grave (cause.Bad name at) end = refl
+grave cause.Mem end = refl
+grave cause.Disk end = absurd end
+grave cause.Words end = absurd end
+grave cause.Read end = absurd end
+grave (cause.TooLong taken) end = absurd end
+
+grave_by : (b d : Bool) (told : Cause) → IsEnd told → (b ≡ true) ⊎ (d ≡ true) → IsGrave (if b || d then worse told cause.Disk else told)
+grave_by true d told end rose = grave told end
+grave_by false true told end rose = grave told end
+grave_by false false told end (inl rose) = absurd cc
+grave_by false false told end (inr rose) = absurd cc
+
+pub not_disk_told : (before now reads : ℕ) (why : Cause) → EndsServed before now reads why → Rose before now ⊎ Rose 0 reads → IsGrave why
+not_disk_told before now reads why (inl mem) rose = subst IsGrave (sym mem) refl
+not_disk_told before now reads why (inr (told, end, ended)) rose =
+    subst IsGrave (sym ended) (grave_by (has_risen before now) (has_risen 0 reads) told end (tested rose))
+  where
+    tested : Rose before now ⊎ Rose 0 reads → (has_risen before now ≡ true) ⊎ (has_risen 0 reads ≡ true)
+    tested (inl one) = inl (le-leb _ now one)
+    tested (inr other) = inr (le-leb _ reads other)
+
+-- the words or the script don't end it
+ended_read : (told : Cause) (P : Type 0) → IsEnd told → IfUnread told P
+ended_read cause.Good P end = tt
+ended_read cause.Refused P end = tt
+ended_read cause.Write P end = tt
+ended_read (cause.Bad name at) P end = tt
+ended_read cause.Mem P end = tt
+ended_read cause.Disk P end = tt
+ended_read cause.Words P end = absurd end
+ended_read cause.Read P end = absurd end
+ended_read (cause.TooLong taken) P end = absurd end
+
+pub served_read : (before now reads : ℕ) (why : Cause) (P : Type 0) → EndsServed before now reads why → IfUnread why P
+served_read before now reads why P (inl mem) = subst (λ w. IfUnread w P) (sym mem) tt
+served_read before now reads why P (inr (told, end, ended)) =
+    subst (λ w. IfUnread w P) (sym ended)
+    (of_both (λ w. IfUnread w P) (has_risen before now || has_risen 0 reads) told (worse told cause.Disk) (ended_read told P end)
+    (of_both (λ w. IfUnread w P) _ told cause.Disk (ended_read told P end) tt))
+
+-- where no line was run, no file is blamed by a run
+pub none_bad : (kind : ClockKind) (Gives : ℤ → Type 0) (script : List ℕ) (old new : Option (List ℕ)) (limits : Limits) (tables : List TableSchema) (shards : List ShardState)
+    (journal : Journal) (before : Disk) (faults faults_before : ℕ) (after : Disk) (faults_now reads : ℕ) (pass : Option (List (Item Event))) (why : Cause) (P : Name → ℕ → Type 0)
+    → Serves kind Gives script old new limits tables shards journal before faults faults_before after faults_now reads pass why → pass ≡ None → IfBad why P
+none_bad kind Gives script old new limits tables shards journal before faults faults_before after faults_now reads None why P serves none = subst (λ (w : Cause). IfBad w P) (sym serves) tt
+none_bad kind Gives script old new limits tables shards journal before faults faults_before after faults_now reads (Some list) why P serves none = absurd cc
 
 -- ---- an opening that ends a run
 
-if_bad : (fault : OpenFault) (P : Name → ℕ → Type 0) → ((name : Name) (at : ℕ) → fault ≡ open_fault.Bad name at → P name at) → IfBad (cause_of_opening fault) P
-if_bad (open_fault.Bad name at) P bad = bad name at refl
-if_bad open_fault.Failed P bad = tt
-if_bad open_fault.Mem P bad = tt
+if_bad : (fault : RecoveryFault) (P : Name → ℕ → Type 0) → ((name : Name) (at : ℕ) → fault ≡ recovery.Bad name at → P name at) → IfBad (cause_of_opening fault) P
+if_bad (recovery.Bad name at) P bad = bad name at refl
+if_bad recovery.Failed P bad = tt
+if_bad recovery.Read P bad = tt
+if_bad recovery.Mem P bad = tt
 
 -- the folder is refused for bytes that aren't as they must be
-pub bad_opening : (words : List (List ℕ)) (folder : Disk) (c : Command) (fault : OpenFault) (why : Cause) → command_of words ≡ Some c → why ≡ cause_of_opening fault
-    → ((name : Name) (at : ℕ) → fault ≡ open_fault.Bad name at → (d : Image) → folder.reads d → IsOfBytes d → IsUnfit c.limits.shards name at d)
-    → IfBad why (λ name at. (k : Command) → command_of words ≡ Some k → (d : Image) → folder.reads d → IsOfBytes d → IsUnfit k.limits.shards name at d)
+pub bad_opening : (words : List (List ℕ)) (folder : Disk) (c : Command) (fault : RecoveryFault) (why : Cause) → command_of words ≡ Some c → why ≡ cause_of_opening fault
+    → ((name : Name) (at : ℕ) → fault ≡ recovery.Bad name at → (d : Image) → folder.reads d → IsOfBytes d → IsUnreadable c.limits.shards folder name at d)
+    → IfBad why (λ name at. (k : Command) → command_of words ≡ Some k → (d : Image) → folder.reads d → IsOfBytes d → IsUnreadable k.limits.shards folder name at d)
 bad_opening words folder c fault why said is refused =
-    subst (λ (w : Cause). IfBad w (λ name at. (k : Command) → command_of words ≡ Some k → (d : Image) → folder.reads d → IsOfBytes d → IsUnfit k.limits.shards name at d)) (sym is)
+    subst (λ (w : Cause). IfBad w (λ name at. (k : Command) → command_of words ≡ Some k → (d : Image) → folder.reads d → IsOfBytes d → IsUnreadable k.limits.shards folder name at d)) (sym is)
     (if_bad fault _
-    (λ name at e k too d reads bytes. subst (λ (j : Command). IsUnfit j.limits.shards name at d) (same_Some c k (sym said ∙ too)) (refused name at e d reads bytes)))
+    (λ name at e k too d reads bytes. subst (λ (j : Command). IsUnreadable j.limits.shards folder name at d) (same_Some c k (sym said ∙ too)) (refused name at e d reads bytes)))
+
+-- it is told that the disk failed only where a count rose
+pub disk_opening : (before now reads : ℕ) (fault : RecoveryFault) → (fault ≡ recovery.Failed → Rose before now) → (fault ≡ recovery.Read → Rose 0 reads)
+    → cause_of_opening fault ≡ cause.Disk → Rose before now ⊎ Rose 0 reads
+disk_opening before now reads (recovery.Bad name at) failed read is = absurd cc
+disk_opening before now reads recovery.Failed failed read is = inl (failed refl)
+disk_opening before now reads recovery.Read failed read is = inr (read refl)
+disk_opening before now reads recovery.Mem failed read is = absurd cc
+
+-- and it is told, or what comes before it
+pub grave_opening : (fault : RecoveryFault) → IsGrave (cause_of_opening fault)
+grave_opening (recovery.Bad name at) = refl
+grave_opening recovery.Failed = refl
+grave_opening recovery.Read = refl
+grave_opening recovery.Mem = refl
+
+pub opening_read : (fault : RecoveryFault) (P : Type 0) → IfUnread (cause_of_opening fault) P
+opening_read (recovery.Bad name at) P = tt
+opening_read recovery.Failed P = tt
+opening_read recovery.Read P = tt
+opening_read recovery.Mem P = tt
 
 -- ---- where all is well
 
@@ -231,33 +362,46 @@ of_reply (Some (reply.Failed failure.Memory)) = tt
 of_reply (Some (reply.Failed failure.Stopped)) = tt
 of_reply (Some (reply.Failed failure.Disk)) = tt
 of_reply (Some (reply.Failed failure.Read)) = tt
-of_reply (Some (reply.Failed failure.Block)) = tt
+of_reply (Some (reply.Failed (failure.Block n at))) = tt
 
 of_replies : (c : Cause) (rs : List (Option Reply)) → IsEnd c → IsEnd (fold (λ c r. worse c (reply_cause r)) c rs)
 of_replies c [] h = h
 of_replies c (r ∷ rs) h = of_replies (worse c (reply_cause r)) rs (of_both IsEnd _ c (reply_cause r) h (of_reply r))
 
--- a failed write is told, or memory ran out
-cut : (c : Cause) → IsEnd c → (worse c cause.Write ≡ cause.Write → ⊥) → GoodOrMem (worse c cause.Write)
-cut cause.Good i h = absurd (h refl)
-cut cause.Refused i h = absurd (h refl)
-cut cause.Write i h = absurd (h refl)
-cut cause.Mem i h = inr refl
-cut cause.Disk i h = absurd i
-cut cause.Words i h = absurd i
-cut cause.Read i h = absurd i
-cut (cause.Bad name at) i h = absurd i
-cut (cause.TooLong taken) i h = absurd i
+-- a failed write is told, or memory ran out, or a file is bad
+cut : (c : Cause) → IsEnd c → (worse c cause.Write ≡ cause.Write → ⊥) → IfBad c (λ name at. ⊥) → GoodOrMem (worse c cause.Write)
+cut cause.Good i h b = absurd (h refl)
+cut cause.Refused i h b = absurd (h refl)
+cut cause.Write i h b = absurd (h refl)
+cut cause.Mem i h b = inr refl
+cut cause.Disk i h b = absurd i
+cut cause.Words i h b = absurd i
+cut cause.Read i h b = absurd i
+cut (cause.Bad name at) i h b = absurd b
+cut (cause.TooLong taken) i h b = absurd i
+
+-- where a file that is bad wouldn't be told as less than a failed write
+uncut : (c : Cause) → IfBad (worse c cause.Write) (λ name at. ⊥) → IfBad c (λ name at. ⊥)
+uncut cause.Good b = tt
+uncut cause.Refused b = tt
+uncut cause.Write b = tt
+uncut cause.Mem b = tt
+uncut cause.Disk b = tt
+uncut cause.Words b = tt
+uncut cause.Read b = tt
+uncut (cause.Bad name at) b = b
+uncut (cause.TooLong taken) b = tt
 
 stops_well : (first : History) (kind : ClockKind) (Gives : ℤ → Type 0) (script : List ℕ) (old new : Option (List ℕ)) (final : History) (why : Cause)
-    → IsGranted first kind Gives script → (why ≡ cause.Write → ⊥) → (s : Stop) (run rest : List (List ℕ)) (replies : List (Option Reply)) → run ++ rest ≡ lines script
-    → Runs kind Gives first run replies final → Ended s rest old new replies why → GoodOrMem why
-stops_well first kind Gives script old new final why granted fine at_the_end run rest replies parts steps e =
+    → IsGranted first kind Gives script → (why ≡ cause.Write → ⊥) → IfBad why (λ name at. ⊥) → (s : Stop) (run rest : List (List ℕ)) (replies : List (Option Reply))
+    → run ++ rest ≡ lines script → Runs kind Gives first run replies final → Ended s rest old new replies why → GoodOrMem why
+stops_well first kind Gives script old new final why granted fine sound at_the_end run rest replies parts steps e =
     let all : run ≡ lines script = sym (append-nil run) ∙ ap (λ r. run ++ r) (sym e.all) ∙ parts in
     subst GoodOrMem (sym e.told) (granted replies final (subst (λ ls. Runs kind Gives first ls replies final) all steps))
-stops_well first kind Gives script old new final why granted fine at_the_sink run rest replies parts steps e =
-    subst GoodOrMem (sym e.told) (cut (worst replies) (of_replies cause.Good replies tt) (λ x. fine (e.told ∙ x)))
-stops_well first kind Gives script old new final why granted fine for_memory run rest replies parts steps e = inr e.told
+stops_well first kind Gives script old new final why granted fine sound at_the_sink run rest replies parts steps e =
+    subst GoodOrMem (sym e.told)
+    (cut (worst replies) (of_replies cause.Good replies tt) (λ x. fine (e.told ∙ x)) (uncut (worst replies) (subst (λ w. IfBad w (λ name at. ⊥)) e.told sound)))
+stops_well first kind Gives script old new final why granted fine sound for_memory run rest replies parts steps e = inr e.told
 
 -- what was read is all that was left
 all_read : (left new : Option (List ℕ)) (s bytes : List ℕ) → left ≡ Some s → ReadToEnd left new bytes → bytes ≡ s
@@ -265,52 +409,79 @@ all_read None new s bytes e r = cc
 all_read (Some xs) None s bytes e r = absurd r.taken
 all_read (Some xs) (Some ys) s bytes e r = sym (append-nil bytes) ∙ ap (λ z. bytes ++ z) (sym r.at_end) ∙ sym r.taken ∙ same_Some xs s e
 
-module _ (words : List (List ℕ)) (Gives : ℤ → Type 0) (before after : Outside) (c : Command) (said : command_of words ≡ Some c) (well : AllWell words Gives before after) where
+-- of good files none is blamed
+none_blamed : (files : ℕ → ℕ → List (File Held)) (why : Cause) → AreGood files → IfBad why (IsBadForOne files) → IfBad why (λ name at. ⊥)
+none_blamed files cause.Good good bad = tt
+none_blamed files cause.Refused good bad = tt
+none_blamed files cause.Write good bad = tt
+none_blamed files cause.Mem good bad = tt
+none_blamed files cause.Disk good bad = tt
+none_blamed files cause.Words good bad = tt
+none_blamed files cause.Read good bad = tt
+none_blamed files (cause.TooLong taken) good bad = tt
+none_blamed files (cause.Bad (file.Table number) at) good bad = ∥∥₁_elim bad.2 ⊥_prop (λ is. good bad.0 number at bad.1 is)
+none_blamed files (cause.Bad file.Manifest at) good bad = bad
+none_blamed files (cause.Bad (file.Log number) at) good bad = bad
+none_blamed files (cause.Bad (file.Import number) at) good bad = bad
+
+module _ (words : List (List ℕ)) (Gives : ℤ → Type 0) (before after : Outside) (reads : ℕ) (c : Command) (said : command_of words ≡ Some c)
+    (well : AllWell words Gives before after reads) where
   same : well.command ≡ c
   same = same_Some _ _ (sym well.words_are ∙ said)
 
   opens : OpensAs c.limits.shards well.entries well.mutations well.image
   opens = subst (λ (k : Command). OpensAs k.limits.shards well.entries well.mutations well.image) same well.opens
 
-  ran_well : (script : List ℕ) (list : List (Item Event)) (why : Cause) → ReadToEnd before.left after.left script → Ran c Gives script before after list why
-      → (why ≡ cause.Write → WriteRose before after) → GoodOrMem why
-  ran_well script list why read ran write =
-      let text : script ≡ well.script = all_read before.left after.left well.script script well.told read in
-      let one = one_store well.image well.of_bytes c.limits.shards ran.entries well.entries ran.mutations well.mutations (ran.found.told well.image well.reads well.of_bytes) opens in
-      let begun : Begins well.command.limits well.entries well.mutations before.folder_faults ran.first =
-      subst (λ (k : Command). Begins k.limits well.entries well.mutations before.folder_faults ran.first) (sym same)
-      (subst (λ (es : List ManifestEntry). Begins c.limits es well.mutations before.folder_faults ran.first) one.0
-      (subst (λ (ms : List Mutation). Begins c.limits ran.entries ms before.folder_faults ran.first) one.1 ran.begins)) in
+  ran_on_well : (script : List ℕ) (list : List (Item Event)) (why : Cause) (entries : List ManifestEntry) (mutations : List Mutation) (files : ℕ → ℕ → List (File Held))
+      → entries ≡ well.entries → script ≡ well.script → AreItsFiles entries before.folder files
+      → RanOn c Gives script before after reads list why entries mutations well.openings files → (why ≡ cause.Write → WriteRose before after) → GoodOrMem why
+  ran_on_well script list why entries mutations files one text its ran write =
+      let its_own : AreItsFiles well.entries before.folder files = subst (λ (es : List ManifestEntry). AreItsFiles es before.folder files) one its in
+      let begun : Begins well.command.limits well.entries well.openings files before.folder_faults ran.first =
+      subst (λ (k : Command). Begins k.limits well.entries well.openings files before.folder_faults ran.first) (sym same)
+      (subst (λ (es : List ManifestEntry). Begins c.limits es well.openings files before.folder_faults ran.first) one ran.begins) in
       let granted : IsGranted ran.first c.clock Gives script =
       subst (λ (k : Command). IsGranted ran.first k.clock Gives script) same
-      (subst (λ (l : List ℕ). IsGranted ran.first well.command.clock Gives l) (sym text) (well.granted ran.first begun)) in
-      let is : why ≡ ran.told = ran.ended ∙ calm before.folder_faults after.folder_faults ran.told well.no_folder_fault in
+      (subst (λ (l : List ℕ). IsGranted ran.first well.command.clock Gives l) (sym text) (well.granted files its_own ran.first begun)) in
+      let is : why ≡ ran.told = ran.ended ∙ calm before.folder_faults after.folder_faults reads ran.told well.no_folder_fault well.no_table_fault in
+      let sound : IfBad ran.told (λ name at. ⊥) = subst (λ (w : Cause). IfBad w (λ name at. ⊥)) is (none_blamed files why (well.good files its_own) ran.bad) in
       let r = ran.ran in
       subst GoodOrMem (sym is)
-      (stops_well ran.first c.clock Gives script before.taken after.taken ran.final ran.told granted (λ e. well.no_write_fault (write (is ∙ e))) r.stop r.run r.rest r.replies r.cut
+      (stops_well ran.first c.clock Gives script before.taken after.taken ran.final ran.told granted (λ e. well.no_write_fault (write (is ∙ e))) sound r.stop r.run r.rest r.replies r.cut
       r.steps r.ended)
+
+  ran_well : (script : List ℕ) (list : List (Item Event)) (why : Cause) → ReadToEnd before.left after.left script → Ran c Gives script before after reads list why
+      → (why ≡ cause.Write → WriteRose before after) → GoodOrMem why
+  ran_well script list why read ran write =
+      let one = one_store well.image well.of_bytes c.limits.shards ran.entries well.entries ran.mutations well.mutations (ran.found.told well.image well.reads well.of_bytes) opens in
+      let explained : AreOpenings ran.entries ran.mutations before.folder well.openings =
+      subst (λ (es : List ManifestEntry). AreOpenings es ran.mutations before.folder well.openings) (sym one.0)
+      (subst (λ (ms : List Mutation). AreOpenings well.entries ms before.folder well.openings) (sym one.1) well.explained) in
+      ran_on_well script list why ran.entries ran.mutations ran.files one.0 (all_read before.left after.left well.script script well.told read) ran.its_files
+      (ran.on well.openings explained) write
 
   pub ends_well : (script : List ℕ) (limits : Limits) (tables : List TableSchema) (shards : List ShardState) (journal : Journal) (mid : Disk) (faults : ℕ)
       (pass : Option (List (Item Event))) (why : Cause) → ReadToEnd before.left after.left script
       → IsStarted c.limits limits tables shards journal before.folder mid → before.folder_faults ≤ faults
       → (n : ℕ) → n ≡ before.folder_faults
-      → Serves c.clock Gives script before.taken after.taken limits tables shards journal mid faults n after.folder after.folder_faults pass why
+      → Serves c.clock Gives script before.taken after.taken limits tables shards journal mid faults n after.folder after.folder_faults reads pass why
       → (why ≡ cause.Write → WriteRose before after) → GoodOrMem why
   ends_well script limits tables shards journal mid faults None why read started kept n counted serves write = inr serves
   ends_well script limits tables shards journal mid faults (Some list) why read started kept n counted serves write =
       ran_well script list why read
-      (of_served words Gives before after c script limits tables shards journal mid faults why said read started kept n counted list
-      (serves c.limits started.entries started.mutations started.memory started.segment)) write
+      (ran_over words Gives before after c script limits tables shards journal mid faults reads why said read started kept n counted list serves) write
 
-  unfit : (name : Name) (at : ℕ) → IsUnfit c.limits.shards name at well.image → ⊥
-  unfit name at (inl refused) = opens_not_bad well.image well.of_bytes c.limits.shards well.entries well.mutations opens name at refused
-  unfit name at (inr (is_manifest, first, (es, ns, other, flushed))) =
+  readable : (name : Name) (at : ℕ) → IsUnreadable c.limits.shards before.folder name at well.image → ⊥
+  readable name at (inl refused) = opens_not_bad well.image well.of_bytes c.limits.shards well.entries well.mutations opens name at refused
+  readable name at (inr (es, ns, other, bad)) =
       let one = one_store well.image well.of_bytes c.limits.shards es well.entries ns well.mutations other opens in
-      flushed (subst (λ (l : List ManifestEntry). IsUnflushed (said_by l)) (sym one.0) well.unflushed)
+      never_bad well.entries well.mutations before.folder well.openings name at well.explained
+      (subst (λ (l : List ManifestEntry). IsBadTable l before.folder name at) one.0 bad)
 
-  pub opens_well : (fault : OpenFault)
-      → ((name : Name) (at : ℕ) → fault ≡ open_fault.Bad name at → (i : Image) → before.folder.reads i → IsOfBytes i → IsUnfit c.limits.shards name at i)
-      → (fault ≡ open_fault.Failed → Rose before.folder_faults after.folder_faults) → GoodOrMem (cause_of_opening fault)
-  opens_well (open_fault.Bad name at) refused rose = absurd (unfit name at (refused name at refl well.image well.reads well.of_bytes))
-  opens_well open_fault.Failed refused rose = absurd (well.no_folder_fault (rose refl))
-  opens_well open_fault.Mem refused rose = inr refl
+  pub opens_well : (fault : RecoveryFault)
+      → ((name : Name) (at : ℕ) → fault ≡ recovery.Bad name at → (i : Image) → before.folder.reads i → IsOfBytes i → IsUnreadable c.limits.shards before.folder name at i)
+      → (fault ≡ recovery.Failed → Rose before.folder_faults after.folder_faults) → (fault ≡ recovery.Read → Rose 0 reads) → GoodOrMem (cause_of_opening fault)
+  opens_well (recovery.Bad name at) refused failed read = absurd (readable name at (refused name at refl well.image well.reads well.of_bytes))
+  opens_well recovery.Failed refused failed read = absurd (well.no_folder_fault (failed refl))
+  opens_well recovery.Read refused failed read = absurd (well.no_table_fault (read refl))
+  opens_well recovery.Mem refused failed read = inr refl

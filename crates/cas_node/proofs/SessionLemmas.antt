@@ -52,7 +52,7 @@ reply_told (Some (reply.Failed failure.Memory)) = tt
 reply_told (Some (reply.Failed failure.Stopped)) = tt
 reply_told (Some (reply.Failed failure.Disk)) = tt
 reply_told (Some (reply.Failed failure.Read)) = tt
-reply_told (Some (reply.Failed failure.Block)) = tt
+reply_told (Some (reply.Failed (failure.Block n at))) = tt
 
 either : (t : Bool) (a b : Cause) → IsToldSo a → IsToldSo b → IsToldSo (if t then b else a)
 either true a b x y = y
@@ -69,7 +69,7 @@ told_ends cause.Write x = absurd x
 told_ends cause.Words x = absurd x
 told_ends cause.Read x = absurd x
 told_ends cause.Disk x = absurd x
-told_ends (cause.Bad name at) x = absurd x
+told_ends (cause.Bad name at) x = tt
 told_ends (cause.TooLong taken) x = absurd x
 
 pub told_no_write : (a : Cause) → IsToldSo a → a ≡ cause.Write → ⊥
@@ -83,7 +83,7 @@ cut_ends cause.Write x = absurd x
 cut_ends cause.Words x = absurd x
 cut_ends cause.Read x = absurd x
 cut_ends cause.Disk x = absurd x
-cut_ends (cause.Bad name at) x = absurd x
+cut_ends (cause.Bad name at) x = tt
 cut_ends (cause.TooLong taken) x = absurd x
 
 pub stop_ends : (fault : PrintFault) (a why : Cause) → IsToldSo a → StopsFor fault a why → IsEnd why

@@ -2,6 +2,7 @@
 use Rattle.std.specs.Prelude.{◌≡◌, ◌<◌, ◌≤◌, ◌+◌, ◌^◌, ℕ, ℤ, false, List, Option}
 use Rattle.std.specs.List.{list_any}
 use Rattle.cas_io.specs.Causes.{Rose}
+use Rattle.cas_disk.specs.Disk.{Disk}
 use Rattle.cas_atoms.specs.declared.atom.Mutation.{Mutation}
 use Rattle.cas_bind.specs.declared.bound.Limits.{Limits}
 use Rattle.cas_changes.specs.declared.entry.Entry.{Entry as ManifestEntry}
@@ -13,17 +14,21 @@ use Rattle.cas_shard.specs.Stands.{NumbersRise, AreShown}
 use Rattle.cas_words.specs.declared.words.ClockKind.{ClockKind}
 use Rattle.cas_words.specs.declared.words.ClockKind.TheVariants as clock
 use Rattle.cas_sessions.specs.History.{History, DiskState, shard_at}
+use Rattle.cas_shard.specs.declared.entry.ShardOpening.{ShardOpening}
 use Rattle.cas_node.specs.Lines.{Runs, is_starved}
+use Rattle.cas_node.specs.Ran.{AreGood}
 use Rattle.cas_recovery.specs.Found.{AreOfAStore}
+use Rattle.cas_recovery.specs.Openings.{AreOpenings}
 use Rattle.cas_sessions.specs.Starts.{start}
 
 -- a segment's number is left, and place for the longest entry in the manifest
 abbrev pub IsRoomy : Reach → Type 0
 IsRoomy r = (r.segment < SEGMENT_LIMIT) × (r.manifest + 2 ^ 32 + 10 ≤ FILE_LIMIT)
 
--- along a run the disk is well: no write was stopped, the folder doesn't fail, and there is room in its files
+-- along a run the disk is well: no write was stopped, neither the folder nor a read of a table file fails, there is room in its files, and no table file
+-- is bad
 abbrev pub StaysWell : DiskState → DiskState → Type 0
-StaysWell d e = (d.stopped ≡ false) × (Rose d.faults e.faults → ⊥) × IsRoomy e.reach
+StaysWell d e = (d.stopped ≡ false) × (Rose d.faults e.faults → ⊥) × IsRoomy e.reach × (Rose d.reads e.reads → ⊥) × AreGood d.files
 
 -- how the disk stands aside, one store is the other
 abbrev pub SameStore : History → History → Type 0
@@ -40,11 +45,11 @@ OneOutcome Gives =
 abbrev pub AllRise : History → Type 0
 AllRise h = (n : ℕ) → NumbersRise (shard_at h n)
 
--- they are before the first line, whatever store the run began with
-abbrev pub FoundRise : Type 0
-FoundRise =
-    (l : Limits) (entries : List ManifestEntry) (mutations : List Mutation) (session : ℕ) (disk : DiskState) → AreOfAStore entries mutations
-    → AllRise (start l entries mutations session disk)
+-- they are before the first line, whatever store of a folder the run began with
+abbrev pub FoundRise : Disk → Type 0
+FoundRise folder =
+    (l : Limits) (entries : List ManifestEntry) (mutations : List Mutation) (openings : ℕ → ShardOpening) (session : ℕ) (disk : DiskState)
+    → AreOfAStore entries mutations → AreOpenings entries mutations folder openings → AllRise (start l entries openings session disk)
 
 -- along a run they stay so, under either clock and whatever is answered
 abbrev pub NumbersStay : (ℤ → Type 0) → Type 0

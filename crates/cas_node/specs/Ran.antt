@@ -1,5 +1,5 @@
 -- What a run did with its words, its script and its output (own).
-use Rattle.std.specs.Prelude.{◌≡◌, ◌≤◌, ◌⊎◌, ⊤, ℕ, ◌+◌, ◌-◌, ◌^◌, min, nat_lt, nat_le, ℤ, Bool, true, false, Option, None, Some, if◌then◌else◌}
+use Rattle.std.specs.Prelude.{◌≡◌, ◌≤◌, ◌⊎◌, ⊤, ℕ, ◌+◌, ◌-◌, ◌^◌, min, nat_lt, nat_le, ℤ, Bool, true, false, ◌||◌, Option, None, Some, if◌then◌else◌}
 use Rattle.std.specs.Prelude.{List, [], ◌∷◌, ◌++◌, length}
 use Rattle.std.specs.List.{fold}
 use Rattle.std.specs.Str.Lines.{lines}
@@ -7,10 +7,11 @@ use Rattle.std.specs.Io.KnownBytes.{Appends, Keeps}
 use Rattle.cas_io.specs.Streams.{ReadToEnd}
 use Rattle.cas_io.specs.Causes.{Rose}
 use Rattle.cas_disk.specs.declared.name.Name.{Name}
+use Rattle.cas_disk.specs.declared.name.Name.TheVariants as file
 use Rattle.cas_disk.specs.Disk.{Disk, Image}
 use Rattle.cas_atoms.specs.declared.atom.Mutation.{Mutation}
+use Rattle.cas_atoms.specs.declared.query.Query.{Query}
 use Rattle.cas_changes.specs.declared.entry.Entry.{Entry as ManifestEntry}
-use Rattle.cas_changes.specs.Saying.{said_by}
 use Rattle.cas_opening.specs.Opening.{IsOfBytes, OpensAs}
 use Rattle.cas_history.specs.declared.item.Item.{Item}
 use Rattle.cas_room.specs.declared.event.Event.{Event}
@@ -19,6 +20,10 @@ use Rattle.cas_render.specs.declared.reply.Failure.TheVariants as failure
 use Rattle.cas_render.specs.declared.reply.Reply.{Reply}
 use Rattle.cas_render.specs.declared.reply.Reply.TheVariants as reply
 use Rattle.cas_render.specs.Text.{reply_text}
+use Rattle.cas_shard.specs.declared.entry.ShardOpening.{ShardOpening}
+use Rattle.cas_sstread.specs.Loading.{Held}
+use Rattle.cas_stored.specs.Reading.{IsBadFile}
+use Rattle.cas_view.specs.Views.{File}
 use Rattle.cas_words.specs.Words.{command_of}
 use Rattle.cas_words.specs.declared.words.ClockKind.{ClockKind}
 use Rattle.cas_words.specs.declared.words.Command.{Command}
@@ -27,8 +32,9 @@ use Rattle.cas_node.specs.declared.cause.Cause.TheVariants as cause
 use Rattle.cas_node.specs.declared.program.TheConstants.{SCRIPT_LIMIT}
 use Rattle.cas_sessions.specs.History.{History, tells_want}
 use Rattle.cas_node.specs.Lines.{Runs}
-use Rattle.cas_recovery.specs.Found.{IsFound, IsUnflushed}
-use Rattle.cas_sessions.specs.Starts.{Begins}
+use Rattle.cas_recovery.specs.Found.{IsFound}
+use Rattle.cas_recovery.specs.Openings.{AreOpenings}
+use Rattle.cas_sessions.specs.Starts.{AreItsFiles, Begins}
 use Rattle.cas_sessions.specs.Entered.{AreEntered, IsLeft}
 use Rattle.cas_node.specs.Text.{output}
 
@@ -63,9 +69,11 @@ weight cause.Words = 8
 abbrev pub worse : Cause → Cause → Cause
 worse a b = if nat_lt (weight a) (weight b) then b else a
 
--- Why a statement came to nothing: memory ran out. That the disk failed is told by the folder's count of faults, which rose then.
+-- Why a statement came to nothing: memory ran out, or the bytes of a table file aren't as they must be. That the disk failed, or a read, is told by the
+-- counts of faults, of which one rose then.
 abbrev pub failure_cause : Failure → Cause
 failure_cause failure.Memory = cause.Mem
+failure_cause (failure.Block number at) = cause.Bad (file.Table number) at
 failure_cause _ = cause.Good
 
 -- what a reply says of the run's end: a refusal, a failure, or nothing
@@ -166,27 +174,53 @@ WriteRose before after = Rose before.write_faults after.write_faults ⊎ Rose be
 abbrev pub has_risen : ℕ → ℕ → Bool
 has_risen before now = nat_le (min (before + 1) (2 ^ 64 - 1)) now
 
--- why a run ended, with the faults of its folder
-abbrev pub with_faults : ℕ → ℕ → Cause → Cause
-with_faults before now why = if has_risen before now then worse why cause.Disk else why
+-- why a run ended, with the faults of its folder and with those of the reads of table files, which are counted from 0
+abbrev pub with_faults : ℕ → ℕ → ℕ → Cause → Cause
+with_faults before now reads why = if has_risen before now || has_risen 0 reads then worse why cause.Disk else why
 
--- A run of the command over a script: its folder had a store of these entries and mutations, or got one; from there the script's lines were run;
--- what they entered is the list that is handed back; and whatever a crash leaves of the folder handed back has all that was acknowledged. A write was
--- stopped only where the folder's count of faults rose, so that otherwise all that was accepted is left.
-pub record Ran (c : Command) (Gives : ℤ → Type 0) (script : List ℕ) (before after : Outside) (list : List (Item Event)) (why : Cause) : Type 0 where
-  pub entries : List ManifestEntry
-  pub mutations : List Mutation
-  pub found : IsFound c.limits.shards before.folder entries mutations
+-- this holds of the file and the place where it isn't as it must be, if that ended the run
+abbrev pub IfBad : Cause → (Name → ℕ → Type 0) → Type 0
+IfBad (cause.Bad name at) P = P name at
+IfBad _ P = Unit {0}
+
+-- of these files, by shard and table, no place is bad for a query
+abbrev pub AreGood : (ℕ → ℕ → List (File Held)) → Type 0
+AreGood files = (shard number at : ℕ) (q : Query) → IsBadFile (files shard q.table) q.key q.slice number at → ⊥
+
+-- of these files, by shard and table, that place of the one of that name is bad for a query
+abbrev pub IsBadForOne : (ℕ → ℕ → List (File Held)) → Name → ℕ → Type 0
+IsBadForOne files (file.Table number) at = (shard : ℕ) × (q : Query) × ∥ IsBadFile (files shard q.table) q.key q.slice number at ∥₁
+IsBadForOne files _ at = ⊥
+
+-- A run of the command over a script, by what the shards of its store were before, and by its table files: from there the script's lines were run; what
+-- they entered is the list that is handed back; and whatever a crash leaves of the folder handed back has all that was acknowledged. A write was stopped
+-- only where the folder's count of faults rose, so that otherwise all that was accepted is left; and a file is called bad only where it is.
+pub record RanOn (c : Command) (Gives : ℤ → Type 0) (script : List ℕ) (before after : Outside) (reads : ℕ) (list : List (Item Event)) (why : Cause)
+    (entries : List ManifestEntry) (mutations : List Mutation) (openings : ℕ → ShardOpening) (files : ℕ → ℕ → List (File Held)) : Type 0 where
   pub first : History
-  pub begins : Begins c.limits entries mutations before.folder_faults first
+  pub begins : Begins c.limits entries openings files before.folder_faults first
   pub final : History
   pub told : Cause
   pub ran : RanFrom first c.clock Gives script before.taken after.taken final told
   pub entered : AreEntered list final
   pub crash : (d : Image) → before.folder.reads d → IsOfBytes d → (i : Image) → after.folder.may_leave i → IsLeft mutations list final i
   pub faults : final.disk.faults ≡ after.folder_faults
+  pub reads_are : final.disk.reads ≡ reads
   pub counted : final.disk.stopped ≡ true → Rose before.folder_faults after.folder_faults
-  pub ended : why ≡ with_faults before.folder_faults after.folder_faults told
+  pub bad : IfBad why (IsBadForOne files)
+  pub ended : why ≡ with_faults before.folder_faults after.folder_faults reads told
+
+-- A run of the command over a script: its folder had a store of these entries and mutations, or got one, with these table files; and whatever its shards
+-- may have been before, for all that the folder tells, the script was run over that.
+pub record Ran (c : Command) (Gives : ℤ → Type 0) (script : List ℕ) (before after : Outside) (reads : ℕ) (list : List (Item Event)) (why : Cause)
+    : Type 0 where
+  pub entries : List ManifestEntry
+  pub mutations : List Mutation
+  pub found : IsFound c.limits.shards before.folder entries mutations
+  pub files : ℕ → ℕ → List (File Held)
+  pub its_files : AreItsFiles entries before.folder files
+  pub on : (openings : ℕ → ShardOpening) → AreOpenings entries mutations before.folder openings
+      → RanOn c Gives script before after reads list why entries mutations openings files
 
 -- a run may end so without having run a line
 abbrev pub IsNotRun : Cause → Type 0
@@ -196,11 +230,11 @@ IsNotRun cause.Write = ⊥
 IsNotRun _ = ⊤
 
 -- the words are the command's, and the script is all that the source had, and ran; or no line was run, and nothing was written
-abbrev pub RanAll : List (List ℕ) → (ℤ → Type 0) → Outside → Outside → Option (List (Item Event)) → Cause → Type 0
-RanAll words Gives before after None why = Keeps before.taken after.taken × IsNotRun why
-RanAll words Gives before after (Some list) why =
+abbrev pub RanAll : List (List ℕ) → (ℤ → Type 0) → Outside → Outside → ℕ → Option (List (Item Event)) → Cause → Type 0
+RanAll words Gives before after reads None why = Keeps before.taken after.taken × IsNotRun why
+RanAll words Gives before after reads (Some list) why =
     (c : Command) × (command_of words ≡ Some c)
-    × ((script : List ℕ) × ReadToEnd before.left after.left script × (length script ≤ SCRIPT_LIMIT) × Ran c Gives script before after list why)
+    × ((script : List ℕ) × ReadToEnd before.left after.left script × (length script ≤ SCRIPT_LIMIT) × Ran c Gives script before after reads list why)
 
 -- ---- words of the other clauses
 
@@ -218,10 +252,12 @@ abbrev pub IfTooLong : Cause → (ℕ → Type 0) → Type 0
 IfTooLong (cause.TooLong taken) P = P taken
 IfTooLong _ P = ⊤
 
--- this holds of the file and the place where it isn't as it must be, if that ended the run
-abbrev pub IfBad : Cause → (Name → ℕ → Type 0) → Type 0
-IfBad (cause.Bad name at) P = P name at
-IfBad _ P = Unit {0}
+-- this holds, if the words or the script ended the run, so that its folder wasn't opened
+abbrev pub IfUnread : Cause → Type 0 → Type 0
+IfUnread cause.Words P = P
+IfUnread cause.Read P = P
+IfUnread (cause.TooLong taken) P = P
+IfUnread _ P = Unit {0}
 
 -- the script is too long
 abbrev pub is_too_long : Cause → Bool
@@ -234,9 +270,9 @@ count_taken None new = None
 count_taken (Some xs) None = None
 count_taken (Some xs) (Some ys) = Some (length xs - length ys)
 
--- All is well: the words are the command's, the source tells a script within the limit of which no line is refused, whichever store the folder has;
--- the folder isn't refused, and no count rises.
-pub record AllWell (words : List (List ℕ)) (Gives : ℤ → Type 0) (before after : Outside) : Type 0 where
+-- All is well: the words are the command's; the folder tells a store, with what its shards may have been before, whose table files are good; the source
+-- tells a script within the limit of which no line is refused from there; and no count rises, the one of reads from 0.
+pub record AllWell (words : List (List ℕ)) (Gives : ℤ → Type 0) (before after : Outside) (table_reads : ℕ) : Type 0 where
   pub command : Command
   pub words_are : command_of words ≡ Some command
   pub script : List ℕ
@@ -248,8 +284,12 @@ pub record AllWell (words : List (List ℕ)) (Gives : ℤ → Type 0) (before af
   pub entries : List ManifestEntry
   pub mutations : List Mutation
   pub opens : OpensAs command.limits.shards entries mutations image
-  pub unflushed : IsUnflushed (said_by entries)
-  pub granted : (first : History) → Begins command.limits entries mutations before.folder_faults first → IsGranted first command.clock Gives script
+  pub openings : ℕ → ShardOpening
+  pub explained : AreOpenings entries mutations before.folder openings
+  pub good : (files : ℕ → ℕ → List (File Held)) → AreItsFiles entries before.folder files → AreGood files
+  pub granted : (files : ℕ → ℕ → List (File Held)) → AreItsFiles entries before.folder files → (first : History)
+      → Begins command.limits entries openings files before.folder_faults first → IsGranted first command.clock Gives script
   pub no_read_fault : ReadRose before after → ⊥
   pub no_write_fault : WriteRose before after → ⊥
   pub no_folder_fault : Rose before.folder_faults after.folder_faults → ⊥
+  pub no_table_fault : Rose 0 table_reads → ⊥

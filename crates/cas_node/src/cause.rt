@@ -18,9 +18,10 @@ pub enum Cause {
     Read,
     /// The output couldn't be written. No further line was run.
     Write,
-    /// The folder failed.
+    /// The folder failed, or a read of a table file did.
     Disk,
-    /// The bytes of this file aren't allowed at this place. No line was run.
+    /// The bytes of this file aren't allowed at this place. No line was run; or the file is a table, and a line was
+    /// answered so.
     Bad { name: Name, at: u64 },
     /// Memory ran out.
     Mem,

@@ -2,6 +2,7 @@
 
 ghost use Rattle.cas_node.specs.Laws.{AllAreRead, FoundRise, NumbersStay, OneOutcome};
 
+use cas_disk::Folder;
 use cas_io::Clock;
 
 /// Under the manual clock a script prints one output, as long as memory doesn't run out and the disk is
@@ -12,8 +13,10 @@ pub fn one_outcome<C: Clock>()
 
 /// Along a run the mutations of each shard are numbered upwards, those of the run by one, so that a SELECT
 /// reads all of its partition that its shard has accepted, before the run or in it.
-pub fn numbers_rise<C: Clock>()
-    ensures begin { FoundRise }
+pub fn numbers_rise<C: Clock, F: Folder>(folder: &F)
+    ensures begin { FoundRise (F.disk folder.now) }
     ensures stay { (clock : C) → NumbersStay (C.may_give clock) }
     ensures read { AllAreRead }
-{}
+{
+    let _folder = folder;
+}

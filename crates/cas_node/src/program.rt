@@ -10,8 +10,8 @@ ghost use Rattle.cas_atoms.specs.declared.atom.Mutation.{Mutation as MutationOf}
 ghost use Rattle.cas_changes.specs.declared.entry.Entry.{Entry as EntryOf};
 ghost use Rattle.cas_journal.specs.Stores.{IsStore};
 ghost use Rattle.cas_opening.specs.Opening.{IsOfBytes, MayBeOpened};
-ghost use Rattle.cas_recovery.specs.Found.{IsUnfit};
-ghost use Rattle.cas_node.specs.Ran.{RanAll, IfBad, IfTooLong, AllWell, GoodOrMem, count_taken, has_risen, is_too_long, outside, status_of};
+ghost use Rattle.cas_recovery.specs.Recovered.{IsUnreadable};
+ghost use Rattle.cas_node.specs.Ran.{RanAll, IfBad, IfTooLong, IfUnread, AllWell, GoodOrMem, count_taken, has_risen, is_too_long, outside, status_of};
 ghost use Rattle.cas_node.specs.Ran.{weight, with_faults};
 ghost use Rattle.cas_node.specs.Inner.Serving.{EndsServed, Serves};
 ghost use Rattle.cas_node.specs.Inner.Turns.{cause_of_fault, cause_of_opening};
@@ -22,7 +22,7 @@ use crate::script::{run_lines, worse};
 use cas_disk::{Count, Folder};
 use cas_history::Store;
 use cas_io::{Clock, Gate, ScriptFault, Sink, Source, read_script};
-use cas_opening::OpenFault;
+use cas_recovery::RecoveryFault;
 use cas_sessions::{Ask, Closed, Opened, Pass, start};
 use cas_words::{Command, read_words};
 use std::alloc::{AllocError, Global};
@@ -52,20 +52,37 @@ fn unread(fault: ScriptFault) -> Cause
 }
 
 // What a run comes to in which no line was run.
-fn not_run<F: Folder>(cause: Cause, folder: F) -> Outcome<F>
+fn not_run<F: Folder>(cause: Cause, folder: F, tally: F::Tally) -> Outcome<F>
     ensures status { result.status ≡ status_of cause }
     ensures cause { result.cause ≡ cause }
     ensures folder { result.folder ≡ folder }
     ensures pass { result.pass ≡ None }
-    ensures tally { ⟦<F::Tally as Count>⟧.number result.tally ≡ 0 }
+    ensures tally { result.tally ≡ tally }
 {
     Outcome {
         status: cause.status(),
         cause,
         folder,
         pass: None,
-        tally: F::Tally::fresh(),
+        tally,
     }
+}
+
+// What a run comes to whose store was closed, or wasn't opened, before a line was run.
+fn closed_unrun<F: Folder>(cause: Cause, closed: Closed<F>) -> Outcome<F>
+    ensures status { result.status ≡ status_of cause }
+    ensures cause { result.cause ≡ cause }
+    ensures folder { result.folder ≡ closed.folder }
+    ensures pass { result.pass ≡ None }
+    ensures tally { result.tally ≡ closed.tally }
+{
+    let Closed {
+        folder,
+        pass: _pass,
+        tally,
+        first: _first,
+    } = closed;
+    not_run(cause, folder, tally)
 }
 
 // Whether a count of faults rose between these two, or stood at its end already.
@@ -75,31 +92,31 @@ fn has_risen(before: u64, now: u64) -> bool
     before.saturating_add(1) <= now
 }
 
-// Why a run ended, with the faults of its folder.
-fn with_faults(before: u64, now: u64, why: Cause) -> Cause
-    ensures { result ≡ with_faults before now why }
+// Why a run ended, with the faults of its folder and of the reads of table files.
+fn with_faults(before: u64, now: u64, reads: u64, why: Cause) -> Cause
+    ensures { result ≡ with_faults before now reads why }
 {
-    if has_risen(before, now) {
+    if has_risen(before, now) || has_risen(0, reads) {
         return worse(why, Cause::Disk);
     }
     why
 }
 
 // Why an opening ends the run.
-fn cause_of_opening(fault: OpenFault) -> Cause
+fn cause_of_opening(fault: RecoveryFault) -> Cause
     ensures { result ≡ cause_of_opening fault }
 {
     match fault {
-        OpenFault::Bad { name, at } => Cause::Bad { name, at },
-        OpenFault::Failed => Cause::Disk,
-        OpenFault::Mem => Cause::Mem,
+        RecoveryFault::Bad { name, at } => Cause::Bad { name, at },
+        RecoveryFault::Failed | RecoveryFault::Read => Cause::Disk,
+        RecoveryFault::Mem => Cause::Mem,
     }
 }
 
 // Ends a run: the folder is handed back, and the history.
 fn finished<F: Folder>(closed: Closed<F>, told: Cause, faults: u64) -> Outcome<F>
     ensures status { result.status ≡ status_of result.cause }
-    ensures cause { result.cause ≡ with_faults faults (F.faults_of result.folder) told }
+    ensures cause { result.cause ≡ with_faults faults (F.faults_of result.folder) (⟦<F::Tally as Count>⟧.number result.tally) told }
     ensures folder { result.folder ≡ closed.folder }
     ensures pass { result.pass ≡ closed.pass }
     ensures tally { result.tally ≡ closed.tally }
@@ -110,7 +127,7 @@ fn finished<F: Folder>(closed: Closed<F>, told: Cause, faults: u64) -> Outcome<F
         tally,
         first: _first,
     } = closed;
-    let cause = with_faults(faults, folder.faults(), told);
+    let cause = with_faults(faults, folder.faults(), tally.faults(), told);
     Outcome {
         status: cause.status(),
         cause,
@@ -132,22 +149,22 @@ fn serve<K: Sink, F: Folder, J: Store, C: Clock>(
     requires table { opened.table.seat.table_id ≡ J.table }
     ensures served { Serves ask.now.kind (C.may_give ask.now.clock.now) script.now (K.took sink.old) (K.took sink.new)
         opened.started.limits opened.started.tables.items opened.started.shards.items opened.started.journal (F.disk opened.folder)
-        (F.faults_of opened.folder) faults (F.disk result.folder) (F.faults_of result.folder) result.pass result.cause }
+        (F.faults_of opened.folder) faults (F.disk result.folder) (F.faults_of result.folder) (⟦<F::Tally as Count>⟧.number result.tally)
+        result.pass result.cause }
     ensures status { result.status ≡ status_of result.cause }
-    ensures tally { ⟦<F::Tally as Count>⟧.number result.tally ≡ 0 }
     ensures unwritten { result.pass ≡ None → sink.new ≡ sink.old }
     ensures kept { result.pass ≡ None → result.folder ≡ opened.folder }
     ensures write { result.cause ≡ Cause.Write
         → Rose (K.faults sink.old) (K.faults sink.new) ⊎ Rose (K.stalls sink.old) (K.stalls sink.new) }
-    ensures ends { EndsServed faults (F.faults_of result.folder) result.cause }
+    ensures ends { EndsServed faults (F.faults_of result.folder) (⟦<F::Tally as Count>⟧.number result.tally) result.cause }
 {
     let mut node = match opened.named::<J>(alloc) {
         Ok(node) => node,
-        Err(closed) => return not_run(Cause::Mem, closed.into_folder()),
+        Err(closed) => return closed_unrun(Cause::Mem, closed),
     };
     let session = match node.session() {
         Ok(session) => session,
-        Err(_) => return not_run(Cause::Mem, node.close().into_folder()),
+        Err(_) => return closed_unrun(Cause::Mem, node.close()),
     };
     let mut runner = Runner {
         node,
@@ -186,7 +203,7 @@ pub fn run<S: Source, K: Sink, F: Folder, C: Clock, G: Gate>(
         (F.disk folder) (F.faults_of folder))
         (outside (S.left source.new) (S.faults source.new) (K.took sink.new) (K.faults sink.new) (K.stalls sink.new)
         (F.disk result.folder) (F.faults_of result.folder))
-        result.pass result.cause }
+        (⟦<F::Tally as Count>⟧.number result.tally) result.pass result.cause }
     ensures status { result.status ≡ status_of result.cause }
     ensures words { result.cause ≡ Cause.Words → command_of (map string_bytes words.now) ≡ None }
     ensures no_words { command_of (map string_bytes words.now) ≡ None → (result.cause ≡ Cause.Words) ⊎ (result.cause ≡ Cause.Mem) }
@@ -195,11 +212,13 @@ pub fn run<S: Source, K: Sink, F: Folder, C: Clock, G: Gate>(
     ensures read { result.cause ≡ Cause.Read → Rose (S.faults source.old) (S.faults source.new) }
     ensures write { result.cause ≡ Cause.Write
         → Rose (K.faults sink.old) (K.faults sink.new) ⊎ Rose (K.stalls sink.old) (K.stalls sink.new) }
-    ensures disk { result.cause ≡ Cause.Disk → Rose (F.faults_of folder) (F.faults_of result.folder) }
-    ensures not_disk { Rose (F.faults_of folder) (F.faults_of result.folder) → IsTrue (nat_le (weight Cause.Disk) (weight result.cause)) }
-    // A store is never refused whose bytes are as they must be.
-    ensures bad { IfBad result.cause (λ name at. (c : Command) → command_of (map string_bytes words.now) ≡ Some c
-        → (d : Image) → (F.disk folder).reads d → IsOfBytes d → IsUnfit c.limits.shards name at d) }
+    ensures disk { result.cause ≡ Cause.Disk
+        → Rose (F.faults_of folder) (F.faults_of result.folder) ⊎ Rose 0 (⟦<F::Tally as Count>⟧.number result.tally) }
+    ensures not_disk { Rose (F.faults_of folder) (F.faults_of result.folder) ⊎ Rose 0 (⟦<F::Tally as Count>⟧.number result.tally)
+        → IsTrue (nat_le (weight Cause.Disk) (weight result.cause)) }
+    // A store is never refused whose bytes are as they must be. Where lines were run, the headline tells of the table file.
+    ensures bad { result.pass ≡ None → IfBad result.cause (λ name at. (c : Command) → command_of (map string_bytes words.now) ≡ Some c
+        → (d : Image) → (F.disk folder).reads d → IsOfBytes d → IsUnreadable c.limits.shards (F.disk folder) name at d) }
     // Where no line was run, a crash leaves what was there before, or the store that was there.
     ensures stays { result.pass ≡ None → (d : Image) → (F.disk folder).reads d → IsOfBytes d → (entries : List EntryOf) (mutations : List MutationOf)
         → IsStore entries mutations d → During (MayBeOpened entries mutations) (F.disk folder) (F.disk result.folder) }
@@ -212,8 +231,8 @@ pub fn run<S: Source, K: Sink, F: Folder, C: Clock, G: Gate>(
         (F.disk folder) (F.faults_of folder))
         (outside (S.left source.new) (S.faults source.new) (K.took sink.new) (K.faults sink.new) (K.stalls sink.new)
         (F.disk result.folder) (F.faults_of result.folder))
-        → GoodOrMem result.cause }
-    ensures tally { ⟦<F::Tally as Count>⟧.number result.tally ≡ 0 }
+        (⟦<F::Tally as Count>⟧.number result.tally) → GoodOrMem result.cause }
+    ensures unread { IfUnread result.cause (⟦<F::Tally as Count>⟧.number result.tally ≡ 0) }
 {
     let Command {
         limits,
@@ -221,17 +240,17 @@ pub fn run<S: Source, K: Sink, F: Folder, C: Clock, G: Gate>(
         ..
     } = match read_words(alloc, words) {
         Ok(Some(command)) => command,
-        Ok(None) => return not_run(Cause::Words, folder),
-        Err(AllocError) => return not_run(Cause::Mem, folder),
+        Ok(None) => return not_run(Cause::Words, folder, F::Tally::fresh()),
+        Err(AllocError) => return not_run(Cause::Mem, folder, F::Tally::fresh()),
     };
     let script = match read_script(alloc, source, SCRIPT_LIMIT) {
         Ok(script) => script,
-        Err(fault) => return not_run(unread(fault), folder),
+        Err(fault) => return not_run(unread(fault), folder, F::Tally::fresh()),
     };
     let faults = folder.faults();
     let opened = match start(alloc, folder, &limits) {
         Ok(opened) => opened,
-        Err((fault, closed)) => return not_run(cause_of_opening(fault), closed.into_folder()),
+        Err((fault, closed)) => return closed_unrun(cause_of_opening(fault), closed),
     };
     let ask = Ask { kind, clock };
     serve::<K, F, Brand, C>(alloc, &ask, opened, &script, sink, faults)

@@ -9,7 +9,7 @@ ghost use Rattle.cas_node.specs.Ran.{RanFrom, reply_cause, weight, worse};
 
 use crate::cause::Cause;
 use crate::runner::{Runner, Running};
-use cas_disk::Folder;
+use cas_disk::{Folder, Name};
 use cas_history::Store;
 use cas_io::{Clock, Sink, write_all};
 use cas_lines::next_line;
@@ -32,6 +32,10 @@ fn reply_cause(reply: &Option<Reply>) -> Cause
     match reply {
         Some(Reply::Refused(_)) => Cause::Refused,
         Some(Reply::Failed(Failure::Memory)) => Cause::Mem,
+        Some(Reply::Failed(Failure::Block { number, at })) => Cause::Bad {
+            name: Name::Table(*number),
+            at: *at,
+        },
         _ => Cause::Good,
     }
 }

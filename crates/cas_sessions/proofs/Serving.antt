@@ -1,6 +1,6 @@
 -- A run over a store that was opened, from its beginning to what a crash leaves of it.
 use Rattle.std.proofs.Common.{◌≡◌, ◌<◌, ◌≤◌, ◌+◌, ℕ, zero, suc, pos, inl, inr, false, List, [], ◌∷◌, ◌++◌, length, map, Option, Some, None, is_some, refl, sym, ap, ◌∙◌, subst, arith, append-nil}
-use Rattle.std.specs.Prelude.{slice_get, slice_index_or}
+use Rattle.std.specs.Prelude.{◌⊎◌, slice_get, slice_index_or}
 use Rattle.cas_disk.specs.Disk.{Disk, Image}
 use Rattle.cas_gates.specs.declared.first.First.{First}
 use Rattle.cas_history.specs.Hands.{numbers}
@@ -22,7 +22,7 @@ use Rattle.cas_view.specs.Views.{File}
 use Rattle.cas_listed.specs.Listed.{AreLoaded}
 use Rattle.cas_shard.specs.declared.entry.ShardOpening.{ShardOpening}
 use Rattle.cas_shard.specs.Shards.{ShardHistory, found_shard, empty_shard}
-use Rattle.cas_shard.specs.Stands.{ShardState, Stands}
+use Rattle.cas_shard.specs.Stands.{ShardState, Stands, files_at}
 use Rattle.cas_sessions.specs.History.{History, shard_at}
 use Rattle.cas_sessions.specs.Starts.{start, AreItsFiles, BeginsAs, IsInMemory, IsStarted}
 use Rattle.cas_sessions.specs.Entered.{HasTables, IsLeft, entries_in}
@@ -59,6 +59,10 @@ there_at [] n lt = absurd (omega (arith, lt))
 there_at (x ∷ xs) zero lt = (x, refl)
 there_at (x ∷ xs) (suc n) lt = there_at xs n (omega (arith, lt))
 
+empty_of : {X : Type 0} (xs : List X) → length xs ≡ 0 → xs ≡ []
+empty_of [] e = refl
+empty_of (x ∷ xs) e = cc
+
 -- what was read back is in memory, whatever the shards may have been
 module _ (given limits : Limits) (tables : List TableSchema) (shards : List ShardState) (journal : Journal) (old new : Disk)
     (is : IsRecovered given limits tables shards journal old new) where
@@ -82,6 +86,13 @@ module _ (given limits : Limits) (tables : List TableSchema) (shards : List Shar
       may : (n : ℕ) (x : ShardState) → slice_get shards n ≡ Some x → MayHaveBeen (said_by is.entries) is.mutations old n (openings n)
       may n x there = were n (low n x there)
 
+  -- where no shard or no table is, no file is
+  none_there : (n table : ℕ) → ((said_by is.entries).shards ≤ n) ⊎ (length (said_by is.entries).tables ≤ table) → (o : Option ShardState) → slice_get shards n ≡ o → files_of o table ≡ []
+  none_there n table beyond None at_n = refl
+  none_there n table (inl past) (Some x) at_n = absurd (omega (arith, past, many_read, get_within shards n x at_n))
+  none_there n table (inr high) (Some x) at_n =
+      empty_of (files_at (slice_get x.stores table)) (is.no_more n x at_n table (subst (λ (ts : List TableSchema). length ts ≤ table) (sym is.tables_are) high))
+
   its_files : AreItsFiles is.entries old (files_in shards)
   its_files = record {
     listed = λ n table t low there.
@@ -91,17 +102,9 @@ module _ (given limits : Limits) (tables : List TableSchema) (shards : List Shar
         let (x, at_n) = there_at shards n (subst (λ (k : ℕ). n < k) (sym many_read) low) in
         subst (λ (fs : List (File Held)). (e : Image) × old.may_leave e × AreLoaded t n e (part_of (said_by is.entries) table n).listed fs)
         (ap (λ o. files_of o table) (sym at_n)) (is.loaded c reads bytes n x at_n table t (in_memory table t there));
-    no_more = λ n table high. unmade n table high (slice_get shards n) refl;
+    no_more = λ n table beyond. none_there n table beyond (slice_get shards n) refl;
   }
     where
-      none_of : (fs : List (File Held)) → length fs ≡ 0 → fs ≡ []
-      none_of [] e = refl
-      none_of (f ∷ fs) e = cc
-
-      unmade : (n table : ℕ) → length (said_by is.entries).tables ≤ table → (o : Option ShardState) → slice_get shards n ≡ o → files_of o table ≡ []
-      unmade n table high None there = refl
-      unmade n table high (Some x) there = none_of _ (is.no_more n x there table (subst (λ (ts : List TableSchema). length ts ≤ table) (sym is.tables_are) high))
-
       in_memory : (table : ℕ) (t : TableSchema) → slice_get (said_by is.entries).tables table ≡ Some t → slice_get tables table ≡ Some t
       in_memory table t there = ap (λ (ts : List TableSchema). slice_get ts table) is.tables_are ∙ there
 

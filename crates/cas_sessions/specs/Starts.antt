@@ -1,5 +1,5 @@
 -- How an open store begins (own).
-use Rattle.std.specs.Prelude.{◌≡◌, ◌<◌, ◌≤◌, ◌+◌, ℕ, List, [], ◌∷◌, ◌++◌, length, pos, false, map, slice_get, Some}
+use Rattle.std.specs.Prelude.{◌≡◌, ◌⊎◌, ◌<◌, ◌≤◌, ◌+◌, ℕ, List, [], ◌∷◌, ◌++◌, length, pos, false, map, slice_get, Some}
 use Rattle.cas_disk.specs.Disk.{Disk, Image}
 use Rattle.cas_types.specs.declared.schema.TableSchema.{TableSchema}
 use Rattle.cas_atoms.specs.declared.atom.Mutation.{Mutation}
@@ -39,14 +39,14 @@ start l entries openings session disk = record {
 }
 
 -- The table files, by shard and table, are those that the entries list, in their order; and where the folder tells what it reads, as what some image has
--- of them that a crash may leave. A table that isn't there has none.
+-- of them that a crash may leave. Where no shard or no table is, no file is.
 pub record AreItsFiles (entries : List ManifestEntry) (folder : Disk) (files : ℕ → ℕ → List (File Held)) : Type 0 where
   pub listed : (shard table : ℕ) (t : TableSchema) → shard < (said_by entries).shards → slice_get (said_by entries).tables table ≡ Some t
       → map (λ f. f.info) (files shard table) ≡ (part_of (said_by entries) table shard).listed
   pub loaded : (c : Image) → folder.reads c → IsOfBytes c → (shard table : ℕ) (t : TableSchema) → shard < (said_by entries).shards
       → slice_get (said_by entries).tables table ≡ Some t
       → (d : Image) × folder.may_leave d × AreLoaded t shard d (part_of (said_by entries) table shard).listed (files shard table)
-  pub no_more : (shard table : ℕ) → length (said_by entries).tables ≤ table → files shard table ≡ []
+  pub no_more : (shard table : ℕ) → ((said_by entries).shards ≤ shard) ⊎ (length (said_by entries).tables ≤ table) → files shard table ≡ []
 
 -- The limits, tables and shards of a store of these entries, with these mutations in its log: each shard stands for what it was, and its next number goes
 -- on behind the log's.

@@ -156,8 +156,8 @@ pub(crate) fn put(folder: &mut MemFolder, name: Name, bytes: &[u8]) -> bool {
     !folder.has(name) && folder.create(name).is_ok() && folder.write_at(name, 0, bytes).is_ok()
 }
 
-/// The folder, whose calls fail by this plan.
-pub(crate) fn flushed(alloc: Global, plan: FaultPlan) -> Option<MemFolder> {
+// The folder, whose calls fail by this plan.
+fn flushed(alloc: Global, plan: FaultPlan) -> Option<MemFolder> {
     let mut folder = MemFolder::new(alloc, plan);
     let store = frozen(alloc)?;
     if put(&mut folder, Name::Manifest, &MANIFEST) && is_flushed(alloc, &mut folder, &store) {
@@ -165,4 +165,20 @@ pub(crate) fn flushed(alloc: Global, plan: FaultPlan) -> Option<MemFolder> {
     } else {
         None
     }
+}
+
+/// The folder, whose table file fails at the read of this number.
+pub(crate) fn failing(alloc: Global, read: u64) -> Option<MemFolder> {
+    let reads = vec![in alloc; (1, read)].ok()?;
+    let plan = FaultPlan {
+        calls: Vec::new(alloc),
+        drafts: Vec::new(alloc),
+        reads,
+    };
+    flushed(alloc, plan)
+}
+
+/// The same without such a read.
+pub(crate) fn found(alloc: Global) -> Option<MemFolder> {
+    flushed(alloc, FaultPlan::none(alloc))
 }

@@ -1,8 +1,8 @@
 //! What an opening answers of a store with a table file, and of the same one with files that aren't as they must be.
 
-use crate::flushed::{flushed, put};
+use crate::flushed::{failing, found, put};
 use cas_bind::Limits;
-use cas_disk::{Count, FaultCount, FaultPlan, Folder, MemFolder, MemSealed, Name};
+use cas_disk::{Count, FaultCount, Folder, MemFolder, MemSealed, Name};
 use cas_recovery::{RecoveryFault, Started, recover};
 use std::alloc::Global;
 
@@ -35,22 +35,6 @@ fn answer(alloc: Global, folder: &mut MemFolder) -> Answer {
         Err(fault) => Err(fault),
     };
     (found, folder.faults(), tally.faults())
-}
-
-// The folder, whose table file fails at the read of this number.
-fn failing(alloc: Global, read: u64) -> Option<MemFolder> {
-    let reads = vec![in alloc; (1, read)].ok()?;
-    let plan = FaultPlan {
-        calls: Vec::new(alloc),
-        drafts: Vec::new(alloc),
-        reads,
-    };
-    flushed(alloc, plan)
-}
-
-// The same without such a read.
-fn found(alloc: Global) -> Option<MemFolder> {
-    flushed(alloc, FaultPlan::none(alloc))
 }
 
 // A block of the commit log by hand: of shard 1 the mutation up to which the table file has them, and the next one.

@@ -11,41 +11,46 @@ use Rattle.cas_journal.specs.Stores.{Told}
 use Rattle.cas_journal.specs.declared.journal.Journal.{Journal}
 use Rattle.cas_opening.specs.Opening.{next_segment}
 use Rattle.cas_room.specs.declared.event.Event.{Event}
+use Rattle.cas_shard.specs.declared.entry.ShardOpening.{ShardOpening}
 use Rattle.cas_shard.specs.Stands.{ShardState}
+use Rattle.cas_sstread.specs.Loading.{Held}
+use Rattle.cas_view.specs.Views.{File}
 use Rattle.cas_words.specs.declared.words.ClockKind.{ClockKind}
 use Rattle.cas_node.specs.declared.cause.Cause.{Cause}
 use Rattle.cas_node.specs.declared.cause.Cause.TheVariants as cause
 use Rattle.cas_sessions.specs.History.{History}
-use Rattle.cas_sessions.specs.Starts.{Begins}
+use Rattle.cas_sessions.specs.Nodes.{files_in}
+use Rattle.cas_sessions.specs.Starts.{Begins, IsInMemory}
 use Rattle.cas_sessions.specs.Entered.{AreEntered, IsLeft}
 use Rattle.cas_node.specs.Ran.{RanFrom, with_faults}
-use Rattle.cas_recovery.specs.Restored.{IsInMemory, IsTold}
+use Rattle.cas_recovery.specs.Restored.{IsTold}
 use Rattle.cas_node.specs.Inner.Turns.{IsEnd}
 
--- The lines of the script ran in a store of these entries and mutations, and accepted this list; where all that was found lasts, so does what was
--- acknowledged.
+-- The lines of the script ran in a store of these entries and mutations, whose shards were so before and whose table files are these, and accepted this
+-- list; where all that was found lasts, so does what was acknowledged.
 pub record Served (kind : ClockKind) (Gives : ℤ → Type 0) (script : List ℕ) (old new : Option (List ℕ)) (limits : Limits)
-    (entries : List ManifestEntry) (mutations : List Mutation) (journal : Journal) (before after : Disk) (faults_before faults_first faults_now : ℕ)
-    (list : List (Item Event)) (why : Cause) : Type 0 where
+    (entries : List ManifestEntry) (mutations : List Mutation) (openings : ℕ → ShardOpening) (files : ℕ → ℕ → List (File Held)) (journal : Journal)
+    (before after : Disk) (faults_before faults_first faults_now reads : ℕ) (list : List (Item Event)) (why : Cause) : Type 0 where
   pub first : History
-  pub begins : Begins limits entries mutations faults_first first
+  pub begins : Begins limits entries openings files faults_first first
   pub final : History
   pub told : Cause
   pub ran : RanFrom first kind Gives script old new final told
   pub entered : AreEntered list final
   pub crash : (t : Told) → IsTold entries mutations t → Lasts journal before t → (i : Image) → after.may_leave i → IsLeft mutations list final i
   pub faults : final.disk.faults ≡ faults_now
-  pub ended : why ≡ with_faults faults_before faults_now told
+  pub reads_are : final.disk.reads ≡ reads
+  pub ended : why ≡ with_faults faults_before faults_now reads told
 
--- whichever entries and mutations the store has, a run over it is such; or memory ran out before a line was run
+-- whichever entries and mutations the store has, and whatever its shards were before, a run over it is such; or memory ran out before a line was run
 abbrev pub Serves : ClockKind → (ℤ → Type 0) → List ℕ → Option (List ℕ) → Option (List ℕ) → Limits → List TableSchema → List ShardState → Journal → Disk → ℕ → ℕ
-    → Disk → ℕ → Option (List (Item Event)) → Cause → Type 0
-Serves kind Gives script old new limits tables shards journal before faults faults_before after faults_now None why = why ≡ cause.Mem
-Serves kind Gives script old new limits tables shards journal before faults faults_before after faults_now (Some list) why =
-    (given : Limits) (entries : List ManifestEntry) (mutations : List Mutation) → IsInMemory given entries mutations limits tables shards
-    → journal.last_segment ≤ next_segment entries
-    → Served kind Gives script old new given entries mutations journal before after faults_before faults faults_now list why
+    → Disk → ℕ → ℕ → Option (List (Item Event)) → Cause → Type 0
+Serves kind Gives script old new limits tables shards journal before faults faults_before after faults_now reads None why = why ≡ cause.Mem
+Serves kind Gives script old new limits tables shards journal before faults faults_before after faults_now reads (Some list) why =
+    (given : Limits) (entries : List ManifestEntry) (mutations : List Mutation) (openings : ℕ → ShardOpening)
+    → IsInMemory given entries mutations openings limits tables shards → journal.last_segment ≤ next_segment entries
+    → Served kind Gives script old new given entries mutations openings (files_in shards) journal before after faults_before faults faults_now reads list why
 
--- why such a run ends: as its lines did, with the faults of its folder; or memory ran out before a line was run
-abbrev pub EndsServed : ℕ → ℕ → Cause → Type 0
-EndsServed before now why = (why ≡ cause.Mem) ⊎ ((told : Cause) × IsEnd told × (why ≡ with_faults before now told))
+-- why such a run ends: as its lines did, with the faults of its folder and of its reads; or memory ran out before a line was run
+abbrev pub EndsServed : ℕ → ℕ → ℕ → Cause → Type 0
+EndsServed before now reads why = (why ≡ cause.Mem) ⊎ ((told : Cause) × IsEnd told × (why ≡ with_faults before now reads told))

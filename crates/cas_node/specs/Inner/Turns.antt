@@ -4,8 +4,8 @@ use Rattle.std.specs.Io.KnownBytes.{Appends, Keeps}
 use Rattle.cas_io.specs.Streams.{AppendsFront}
 use Rattle.cas_io.specs.declared.script.ScriptFault.{ScriptFault}
 use Rattle.cas_io.specs.declared.script.ScriptFault.TheVariants as fault
-use Rattle.cas_opening.specs.declared.fault.OpenFault.{OpenFault}
-use Rattle.cas_opening.specs.declared.fault.OpenFault.TheVariants as open_fault
+use Rattle.cas_recovery.specs.declared.fault.RecoveryFault.{RecoveryFault}
+use Rattle.cas_recovery.specs.declared.fault.RecoveryFault.TheVariants as recovery
 use Rattle.cas_render.specs.declared.reply.Reply.{Reply}
 use Rattle.cas_render.specs.Text.{reply_text}
 use Rattle.cas_words.specs.declared.words.ClockKind.{ClockKind}
@@ -40,6 +40,7 @@ pub record Turned (kind : ClockKind) (Gives : ℤ → Type 0) (before : History)
 abbrev pub IsToldSo : Cause → Type 0
 IsToldSo cause.Good = Unit {0}
 IsToldSo cause.Refused = Unit {0}
+IsToldSo (cause.Bad name at) = Unit {0}
 IsToldSo cause.Mem = Unit {0}
 IsToldSo _ = ⊥
 
@@ -48,6 +49,7 @@ abbrev pub IsEnd : Cause → Type 0
 IsEnd cause.Good = Unit {0}
 IsEnd cause.Refused = Unit {0}
 IsEnd cause.Write = Unit {0}
+IsEnd (cause.Bad name at) = Unit {0}
 IsEnd cause.Mem = Unit {0}
 IsEnd _ = ⊥
 
@@ -63,7 +65,8 @@ cause_of_fault (fault.TooLong taken) = cause.TooLong taken
 cause_of_fault fault.Mem = cause.Mem
 
 -- why an opening ends the run
-abbrev pub cause_of_opening : OpenFault → Cause
-cause_of_opening (open_fault.Bad name at) = cause.Bad name at
-cause_of_opening open_fault.Failed = cause.Disk
-cause_of_opening open_fault.Mem = cause.Mem
+abbrev pub cause_of_opening : RecoveryFault → Cause
+cause_of_opening (recovery.Bad name at) = cause.Bad name at
+cause_of_opening recovery.Failed = cause.Disk
+cause_of_opening recovery.Read = cause.Disk
+cause_of_opening recovery.Mem = cause.Mem

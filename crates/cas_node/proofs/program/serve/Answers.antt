@@ -11,21 +11,25 @@ returns-clause-served g c =
     let last = c.run_lines-told.new.runner in
     let ended = ap (λ r. r.folder) c.end.ensures.room in
     let closed = c.finished.ensures.folder ∙ c.close-2.ensures.folder ∙ ended in
+    let counted = ap (λ t. g.F.Tally.Count.number t) (c.finished.ensures.tally ∙ c.close-2.ensures.tally) ∙ ap (λ f. (f 0 0 (pos 0)).reads) c.end.ensures.same in
     serves_as c.args.ask.now.kind (g.C.Clock.may_give c.args.ask.now.clock.now) c.args.script.now _ _ _ _ _ _ c.args.faults c.run_lines-told.result c.finished.result.cause
-    c.run_lines-told.ensures.ran o.started.limits o.started.tables.items o.started.shards.items o.started.journal (g.F.Folder.faults_of o.folder)
-    (opened_as _ _ _ _ _ _ _ seat.list seat.calls (pos 0) c.session.ensures.same c.in-Ok-session.ensures.begun.0 c.in-Ok.ensures.made)
-    (λ given entries mutations memory.
-    begins_as given entries mutations _ _ seat.list seat.calls _ _ c.session.ensures.same c.in-Ok-session.ensures.begun.0
+    c.run_lines-told.ensures.ran o.started.limits o.started.tables.items o.started.shards.items o.started.journal (g.F.Folder.faults_of o.folder) (g.F.Tally.Count.number o.tally)
+    (opened_as _ _ _ _ _ _ _ _ seat.list seat.calls (pos 0) c.session.ensures.same c.in-Ok-session.ensures.begun.0 c.in-Ok.ensures.made)
+    (λ given entries mutations openings memory.
+    begins_as given entries mutations openings _ _ seat.list seat.calls _ _ c.session.ensures.same c.in-Ok-session.ensures.begun.0
     (ap (λ r. g.F.Folder.disk r.folder) c.session.ensures.room ∙ ap (λ x. g.F.Folder.disk x) c.in-Ok.ensures.folder)
-    (c.in-Ok.ensures.begins given entries mutations memory seat.list))
+    (c.in-Ok.ensures.begins given entries mutations openings memory seat.list))
     o.runs.0
-    (c.finished.ensures.cause ∙ ap (λ x. with_faults c.args.faults (g.F.Folder.faults_of x) c.run_lines-told.result) closed)
+    (c.finished.ensures.cause
+    ∙ ap (λ x. with_faults c.args.faults (g.F.Folder.faults_of x) (g.F.Tally.Count.number c.finished.result.tally) c.run_lines-told.result) closed
+    ∙ ap (λ n. with_faults c.args.faults (g.F.Folder.faults_of last.node.room.folder) n c.run_lines-told.result) counted)
     (left_by _ _ last.session.seat.list last.session.seat.calls last.seconds _ _ _ c.end.ensures.same (ap (λ x. g.F.Folder.disk x) ended)
     (ap (λ x. g.F.Folder.disk x) (c.close-2.ensures.folder ∙ ended)) c.close-2.ensures.left)
-    _ _ _ c.finished.result.pass
+    _ _ _ _ c.finished.result.pass
     (ap (λ r. g.F.Folder.disk r.folder) c.session.ensures.room ∙ ap (λ x. g.F.Folder.disk x) c.in-Ok.ensures.folder)
     (sym (ap (λ x. g.F.Folder.disk x) closed))
     (sym (ap (λ x. g.F.Folder.faults_of x) closed))
+    (sym counted)
     (subst (λ p. IsSome p) (sym c.finished.ensures.pass) c.close-2.ensures.some)
     (pass_by _ _ last.session.seat.list last.session.seat.calls last.seconds _ _ c.end.ensures.same c.finished.ensures.pass
     (c.close-2.ensures.pass last.session.seat.list last.session.seat.calls last.seconds))
@@ -34,6 +38,6 @@ pub run_lines-told-requires : goal.run_lines-told-requires
 run_lines-told-requires g c =
     let o = c.args.opened in
     let seat = c.in-Ok-session.session.seat in
-    let opened = opened_as o.started.limits o.started.tables.items o.started.shards.items o.started.journal (g.F.Folder.faults_of o.folder) _ _ seat.list seat.calls (pos 0)
-    c.session.ensures.same c.in-Ok-session.ensures.begun.0 c.in-Ok.ensures.made in
+    let opened = opened_as o.started.limits o.started.tables.items o.started.shards.items o.started.journal (g.F.Folder.faults_of o.folder) (g.F.Tally.Count.number o.tally) _ _ seat.list
+    seat.calls (pos 0) c.session.ensures.same c.in-Ok-session.ensures.begun.0 c.in-Ok.ensures.made in
     record { begun = (c.in-Ok-session.ensures.begun.0, opened.accepted) }

@@ -21,6 +21,7 @@ invariant-loop-rest g l = record {
         committed = l.initial.runner.node.room.faults.committed;
         journal = l.initial.runner.node.room.journal;
         faults = g.F.Folder.faults_of l.initial.runner.node.room.folder;
+        reads = g.F.Tally.Count.number l.initial.runner.node.tally;
       })
       (record {
         limits = l.runner.node.limits;
@@ -36,6 +37,7 @@ invariant-loop-rest g l = record {
         committed = l.runner.node.room.faults.committed;
         journal = l.runner.node.room.journal;
         faults = g.F.Folder.faults_of l.runner.node.room.folder;
+        reads = g.F.Tally.Count.number l.runner.node.tally;
       })
       (g.F.Folder.disk l.initial.runner.node.room.folder) (g.F.Folder.disk l.runner.node.room.folder)
       l.fn.script l.rest (g.K.Sink.took l.initial.sink) (g.K.Sink.took l.sink) l.cause;

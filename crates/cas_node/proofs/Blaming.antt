@@ -1,0 +1,128 @@
+-- A run calls a table file bad only where it is bad for a query.
+use Rattle.std.proofs.Common.{◌≡◌, inl, inr, ℕ, ℤ, List, [], ◌∷◌, Bool, true, false, Option, Some, Result, Ok, Err, sym, ap, ◌∙◌, subst}
+use Rattle.std.specs.Prelude.{if◌then◌else◌, ◌||◌}
+use Rattle.std.specs.List.{fold}
+use Rattle.cas_types.specs.declared.schema.TableSchema.{TableSchema}
+use Rattle.cas_disk.specs.declared.name.Name.{Name}
+use Rattle.cas_atoms.specs.declared.atom.Mutation.{Mutation}
+use Rattle.cas_bind.specs.Meaning.{meaning}
+use Rattle.cas_bind.specs.declared.bound.Bound.{Bound}
+use Rattle.cas_bind.specs.declared.bound.Bound.TheVariants as bound
+use Rattle.cas_bind.specs.declared.bound.BoundRead.{BoundRead}
+use Rattle.cas_changes.specs.declared.entry.Entry.{Entry as ManifestEntry}
+use Rattle.cas_effects.specs.declared.refusal.Refusal.{Refusal}
+use Rattle.cas_lines.specs.declared.line.Line.{Line}
+use Rattle.cas_lines.specs.declared.line.Line.TheVariants as line
+use Rattle.cas_render.specs.declared.reply.Failure.TheVariants as failure
+use Rattle.cas_render.specs.declared.reply.Reply.{Reply}
+use Rattle.cas_render.specs.declared.reply.Reply.TheVariants as reply
+use Rattle.cas_shard.specs.declared.entry.Entry.{Entry}
+use Rattle.cas_shard.specs.Shards.{ShardHistory}
+use Rattle.cas_sstread.specs.Loading.{Held}
+use Rattle.cas_view.specs.Views.{File}
+use Rattle.cas_words.specs.declared.words.ClockKind.{ClockKind}
+use Rattle.cas_words.specs.declared.words.ClockKind.TheVariants as clock
+use Rattle.cas_sessions.specs.History.{History, DiskState, Takes, Defines, Shows, Does}
+use Rattle.cas_node.specs.declared.cause.Cause.{Cause}
+use Rattle.cas_node.specs.declared.cause.Cause.TheVariants as cause
+use Rattle.cas_node.specs.Lines.{Answered, Answers, Runs, SetsClock}
+use Rattle.cas_node.specs.Ran.{Ended, IfBad, IsBadForOne, RanFrom, Stop, at_the_end, at_the_sink, for_memory, has_risen, reply_cause, with_faults, worse, worst}
+use Rattle.cas_node.proofs.Stopping.{one_line}
+
+pub of_both : (P : Cause → Type 0) (b : Bool) (x y : Cause) → P x → P y → P (if b then y else x)
+of_both P true x y p q = q
+of_both P false x y p q = p
+
+abbrev IsSo : (ℕ → ℕ → List (File Held)) → Cause → Type 0
+IsSo files why = IfBad why (IsBadForOne files)
+
+-- ---- a reply
+
+module _ (P : Name → ℕ → Type 0) where
+  taken : (segment : ℕ) (m : Mutation) (x : Entry) (d : DiskState) (r : Reply) (entries : List Entry) (e : DiskState) → Takes segment m x d r entries e → IfBad (reply_cause (Some r)) P
+  taken segment m x d reply.Done entries e t = absurd t
+  taken segment m x d (reply.Wrote number) entries e t = tt
+  taken segment m x d (reply.Rows rows shard front now) entries e t = absurd t
+  taken segment m x d (reply.Refused why) entries e t = tt
+  taken segment m x d (reply.Failed failure.Memory) entries e t = tt
+  taken segment m x d (reply.Failed failure.Stopped) entries e t = tt
+  taken segment m x d (reply.Failed failure.Disk) entries e t = tt
+  taken segment m x d (reply.Failed failure.Read) entries e t = absurd t
+  taken segment m x d (reply.Failed (failure.Block n at)) entries e t = absurd t
+
+  defined : (x : ManifestEntry) (old new : List TableSchema) (d : DiskState) (r : Reply) (tables : List TableSchema) (e : DiskState) → Defines x old new d r tables e
+      → IfBad (reply_cause (Some r)) P
+  defined x old new d reply.Done tables e t = tt
+  defined x old new d (reply.Wrote number) tables e t = absurd t
+  defined x old new d (reply.Rows rows shard front now) tables e t = absurd t
+  defined x old new d (reply.Refused why) tables e t = tt
+  defined x old new d (reply.Failed failure.Memory) tables e t = tt
+  defined x old new d (reply.Failed failure.Stopped) tables e t = tt
+  defined x old new d (reply.Failed failure.Disk) tables e t = tt
+  defined x old new d (reply.Failed failure.Read) tables e t = absurd t
+  defined x old new d (reply.Failed (failure.Block n at)) tables e t = absurd t
+
+shown : (files : ℕ → ℕ → List (File Held)) (before now : ℕ) (s : ShardHistory) (reading : ℤ) (q : BoundRead) (r : Reply)
+    → Shows (files q.shard q.query.table) before now s reading q r → IsSo files (reply_cause (Some r))
+shown files before now s reading q reply.Done t = tt
+shown files before now s reading q (reply.Wrote number) t = tt
+shown files before now s reading q (reply.Rows rows shard front at) t = tt
+shown files before now s reading q (reply.Refused why) t = tt
+shown files before now s reading q (reply.Failed failure.Memory) t = tt
+shown files before now s reading q (reply.Failed failure.Stopped) t = absurd t
+shown files before now s reading q (reply.Failed failure.Disk) t = absurd t
+shown files before now s reading q (reply.Failed failure.Read) t = tt
+shown files before now s reading q (reply.Failed (failure.Block n at)) t = (q.shard, q.query, t)
+
+-- ---- a line
+
+-- a reply that tells nothing of a file
+quiet : (files : ℕ → ℕ → List (File Held)) (r q : Option Reply) → r ≡ q → IsSo files (reply_cause q) → IsSo files (reply_cause r)
+quiet files r q is so = subst (λ (x : Option Reply). IsSo files (reply_cause x)) (sym is) so
+
+module _ (kind : ClockKind) (Gives : ℤ → Type 0) where
+  deed : (h : History) (m : Result Bound Refusal) (r : Reply) (t : History) → Does kind Gives h m r t → IsSo h.disk.files (reply_cause (Some r))
+  deed h (Err x) r t a = quiet h.disk.files (Some r) _ (ap (λ (k : Reply). Some k) a.0) tt
+  deed h (Ok (bound.Create x)) r t a = defined (IsBadForOne h.disk.files) _ _ _ _ r a.0 a.1 a.2
+  deed h (Ok (bound.Alter x)) r t a = defined (IsBadForOne h.disk.files) _ _ _ _ r a.0 a.1 a.2
+  deed h (Ok (bound.Write w)) r t a = taken (IsBadForOne h.disk.files) _ _ _ _ r a.2.0 a.2.1 a.2.2
+  deed h (Ok (bound.Read q)) r t a = shown h.disk.files _ _ _ _ q r a.2.2
+
+  clock_set : (k : ClockKind) (h : History) (n : ℤ) (r : Reply) (t : History) → SetsClock k h n r t → IsSo h.disk.files (reply_cause (Some r))
+  clock_set clock.Manual h n r t s = quiet h.disk.files (Some r) _ (ap (λ (k : Reply). Some k) s.0) tt
+  clock_set clock.System h n r t s = quiet h.disk.files (Some r) _ (ap (λ (k : Reply). Some k) s.0) tt
+
+  answered : (h : History) (l : Line) (r : Option Reply) (t : History) → Answered kind Gives h l r t → IsSo h.disk.files (reply_cause r)
+  answered h line.Blank r t a = quiet h.disk.files r _ a.0 tt
+  answered h line.Syntax r t a = quiet h.disk.files r _ a.0 tt
+  answered h (line.Clock n) r t a = quiet h.disk.files r _ a.1 (clock_set kind h n a.0 t a.2)
+  answered h (line.Statement s) r t a = quiet h.disk.files r _ a.1 (deed h (meaning h.limits.shards h.tables s) a.0 t a.2)
+
+  told : (h : History) (text : List ℕ) (r : Option Reply) (t : History) → Answers kind Gives h text r t → IsSo h.disk.files (reply_cause r)
+  told h text r t (inl x) = quiet h.disk.files r _ x.0 tt
+  told h text r t (inr x) = answered h x.0 r t x.2
+
+  -- ---- a run
+
+  all_told : (files : ℕ → ℕ → List (File Held)) (h : History) (ls : List (List ℕ)) (rs : List (Option Reply)) (t : History) (why : Cause) → h.disk.files ≡ files
+      → Runs kind Gives h ls rs t → IsSo files why → IsSo files (fold (λ c r. worse c (reply_cause r)) why rs)
+  all_told files h [] [] t why same x so = so
+  all_told files h [] (r ∷ rs) t why same x so = absurd x
+  all_told files h (l ∷ ls) [] t why same x so = absurd x
+  all_told files h (l ∷ ls) (r ∷ rs) t why same x so =
+      all_told files x.0 ls rs t (worse why (reply_cause r)) ((one_line kind Gives h l r x.0 x.1).files ∙ same) x.2
+      (of_both (IsSo files) _ why (reply_cause r) so (subst (λ fs. IsSo fs (reply_cause r)) same (told h l r x.0 x.1)))
+
+  ended : (files : ℕ → ℕ → List (File Held)) (s : Stop) (rest : List (List ℕ)) (old new : Option (List ℕ)) (replies : List (Option Reply)) (why : Cause)
+      → Ended s rest old new replies why → IsSo files (worst replies) → IsSo files why
+  ended files at_the_end rest old new replies why e so = subst (IsSo files) (sym e.told) so
+  ended files at_the_sink rest old new replies why e so = subst (IsSo files) (sym e.told) (of_both (IsSo files) _ (worst replies) cause.Write so tt)
+  ended files for_memory rest old new replies why e so = subst (IsSo files) (sym e.told) tt
+
+  -- where the run ends for a file, that is bad as it stood at the beginning
+  pub blamed : (files : ℕ → ℕ → List (File Held)) (first : History) (script : List ℕ) (old new : Option (List ℕ)) (final : History) (by why : Cause) (before now reads : ℕ)
+      → first.disk.files ≡ files → RanFrom first kind Gives script old new final by → why ≡ with_faults before now reads by → IfBad why (IsBadForOne files)
+  blamed files first script old new final by why before now reads same ran is =
+      let at_end : IsSo files by = ended files ran.stop ran.rest old new ran.replies by ran.ended (all_told files first ran.run ran.replies final cause.Good same ran.steps tt) in
+      subst (IsSo files) (sym is)
+      (of_both (IsSo files) (has_risen before now || has_risen 0 reads) by (worse by cause.Disk) at_end (of_both (IsSo files) _ by cause.Disk at_end tt))
