@@ -42,6 +42,7 @@ pub(crate) fn seek<F: Sealed>(
             return Ok(Some(fragment));
         }
         *force = opened(*force, &fragment);
+        drop(fragment);
     }
     Ok(None)
 }
@@ -100,5 +101,6 @@ pub(crate) fn next_inside<F: Sealed>(
         *force = opened(*force, &fragment);
         return Ok(Some(fragment));
     }
+    drop(fragment);
     Ok(None)
 }
