@@ -18,6 +18,7 @@ use cas_types::{Mem, TableSchema};
 use cas_words::{ClockKind, Command};
 use cql_parse::Statement;
 use std::alloc::Global;
+use std::mem::drop;
 
 /// The store: its tables and what it accepted; and of a run its limits, its clock, and the seconds that this
 /// was set to.
@@ -172,7 +173,16 @@ impl Reference {
             Line::Syntax => Ok(Some(Reply::Refused(SYNTAX))),
             Line::Clock(seconds) => Ok(Some(self.set_clock(seconds))),
             Line::Statement(statement) => {
-                Ok(Some(self.answer_statement(alloc, clock, &statement)?))
+                match self.answer_statement(alloc, clock, &statement) {
+                    Ok(reply) => {
+                        drop(statement);
+                        Ok(Some(reply))
+                    }
+                    Err(fault) => {
+                        drop(statement);
+                        Err(fault)
+                    }
+                }
             }
         }
     }

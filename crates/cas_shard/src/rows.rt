@@ -13,6 +13,7 @@ use cas_blocks::TableFault;
 use cas_disk::{Count, Sealed};
 use cas_stored::TableStore;
 use std::alloc::Global;
+use std::mem::drop;
 
 /// The rows that a query shows of its table at a moment.
 pub(crate) fn rows_of<S: Sealed>(
@@ -31,7 +32,10 @@ pub(crate) fn rows_of<S: Sealed>(
     ensures memory { length (files_at (slice_get stores.now query.table)) ≡ 0 → IfErr result (λ e. e ≡ table_fault.Mem) }
 {
     match stores.get(query.table as usize) {
-        None => Ok(Vec::new(alloc)),
+        None => {
+            drop(query);
+            Ok(Vec::new(alloc))
+        }
         Some(store) => store.rows_of(alloc, query, now, tally),
     }
 }

@@ -9,7 +9,7 @@ set_clock-requires g c = record {
   moment = says_moment c.args.text.now c.args.line c.in-Clock.seconds _ (omega (arith, ints)) c.requires.says c.in-Clock.is;
 }
 
-pub returns-in_ok-answer_statement-in-Statement : goal.returns-in_ok-answer_statement-in-Statement
-returns-in_ok-answer_statement-in-Statement g c =
+pub returns-in-Ok : goal.returns-in-Ok
+returns-in-Ok g c =
     answers_statement (g.C.Clock.may_give c.args.clock.now) (held c.args.self.now) (held c.answer_statement.new.self) c.args.text.now c.args.line
-    c.in-Statement.statement c.in_ok-answer_statement-in-Statement.field-0 c.in_ok-answer_statement-in-Statement.ensures c.requires.says c.in-Statement.is
+    c.in-Statement.statement c.in-Ok.reply c.in-Ok.ensures c.requires.says c.in-Statement.is
