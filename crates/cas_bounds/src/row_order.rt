@@ -83,9 +83,15 @@ enum Kept {
 }
 
 /// How a table orders its rows, which contracts see as the list of its clustering columns.
-#[derive(Drop)]
 pub struct RowOrder {
     kept: Kept,
+}
+
+impl Drop for RowOrder {
+    #[inline]
+    fn drop(self) {
+        let RowOrder { kept: _kept } = self;
+    }
 }
 
 impl Model for RowOrder {

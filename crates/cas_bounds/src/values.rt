@@ -17,9 +17,15 @@ enum Kept {
 
 /// The values of a row's clustering columns, or of the first of them, which contracts see as their
 /// list. A sole one stands in place, so that it takes no memory of its own, and neither do none.
-#[derive(Drop)]
 pub struct Values {
     kept: Kept,
+}
+
+impl Drop for Values {
+    #[inline]
+    fn drop(self) {
+        let Values { kept: _kept } = self;
+    }
 }
 
 impl Model for Values {

@@ -38,9 +38,15 @@ enum Kept {
 }
 
 /// A byte string, which contracts see as the list of its bytes.
-#[derive(Drop)]
 pub struct Bytes {
     kept: Kept,
+}
+
+impl Drop for Bytes {
+    #[inline]
+    fn drop(self) {
+        let Bytes { kept: _kept } = self;
+    }
 }
 
 impl Model for Bytes {

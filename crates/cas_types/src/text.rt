@@ -8,9 +8,15 @@ use std::marker::Model;
 use std::str::from_utf8_unchecked;
 
 /// A text, which contracts see as the list of its UTF-8 bytes. A short one stands in place.
-#[derive(Drop)]
 pub struct Text {
     bytes: Bytes,
+}
+
+impl Drop for Text {
+    #[inline]
+    fn drop(self) {
+        let Text { bytes: _bytes } = self;
+    }
 }
 
 impl Model for Text {
