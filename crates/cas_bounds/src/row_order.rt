@@ -87,6 +87,7 @@ pub struct RowOrder {
     kept: Kept,
 }
 
+// Written out, since a derived one is proved again in each crate and wherever a value is dropped.
 impl Drop for RowOrder {
     #[inline]
     fn drop(self) {

@@ -21,6 +21,7 @@ pub struct Values {
     kept: Kept,
 }
 
+// Written out, since a derived one is proved again in each crate and wherever a value is dropped.
 impl Drop for Values {
     #[inline]
     fn drop(self) {

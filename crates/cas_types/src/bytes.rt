@@ -42,6 +42,7 @@ pub struct Bytes {
     kept: Kept,
 }
 
+// Written out, since a derived one is proved again in each crate and wherever a value is dropped.
 impl Drop for Bytes {
     #[inline]
     fn drop(self) {

@@ -12,6 +12,7 @@ pub struct Text {
     bytes: Bytes,
 }
 
+// Written out, since a derived one is proved again in each crate and wherever a value is dropped.
 impl Drop for Text {
     #[inline]
     fn drop(self) {
