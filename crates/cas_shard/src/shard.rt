@@ -200,8 +200,25 @@ impl<S: Sealed> Shard<S> {
     pub fn number(&self) -> u64
         ensures value { result ≡ self.now.number }
         ensures stands { (tables : ListOf Schema) (s : ShardHistory) → Stands tables s self.now → result ≡ number_of s }
+        ensures few { result ≤ MUTATION_LIMIT }
     {
         self.number
+    }
+
+    /// The last timestamp that it drew; before the first it is -2.
+    pub fn drawn(&self) -> i64
+        ensures value { result ≡ self.now.drawn }
+        ensures low { result ≤ℤ LAST_DRAWN }
+    {
+        self.drawn
+    }
+
+    /// Its last moment in seconds.
+    pub fn moment(&self) -> i64
+        ensures value { result ≡ self.now.moment }
+        ensures begun { IsMoment result }
+    {
+        self.moment
     }
 
     // The greater of the reading's whole seconds and the last moment.
