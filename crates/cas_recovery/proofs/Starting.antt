@@ -16,6 +16,7 @@ opened_lasts entries mutations handed o new is = (
   told entries mutations is.numbers,
   record {
     found = refl;
+    begun = (is.numbers, refl);
     tables = (named_segments_define_nothing entries is.numbers).0;
     shards = (named_segments_define_nothing entries is.numbers).1;
     failed = refl;

@@ -1,5 +1,5 @@
 -- What a store is in memory when it was opened (own).
-use Rattle.std.specs.Prelude.{◌≡◌, ◌≤◌, ℕ, List, [], length, map, slice_get, Some}
+use Rattle.std.specs.Prelude.{◌≡◌, ◌≤◌, ℕ, List, [], ◌++◌, length, map, slice_get, Some}
 use Rattle.cas_types.specs.declared.schema.TableSchema.{TableSchema}
 use Rattle.cas_bounds.specs.ClusteringOrder.{clustering_order}
 use Rattle.cas_bounds.specs.declared.cuts.Slice.{Slice}
@@ -7,7 +7,7 @@ use Rattle.cas_atoms.specs.declared.atom.Mutation.{Mutation}
 use Rattle.cas_index.specs.Searches.{IsSliceOf}
 use Rattle.cas_changes.specs.Saying.{part_of, said_by}
 use Rattle.cas_changes.specs.declared.entry.Entry.{Entry as ManifestEntry}
-use Rattle.cas_journal.specs.Stores.{Told}
+use Rattle.cas_journal.specs.Stores.{Told, named}
 use Rattle.cas_opening.specs.Opening.{found_with}
 use Rattle.cas_shard.specs.Stands.{ShardState, files_at}
 use Rattle.cas_stored.specs.Reading.{AreReadIn}
@@ -28,9 +28,11 @@ abbrev pub AreListed : List ManifestEntry → List TableSchema → List ShardSta
 AreListed entries tables shards = (n : ℕ) (x : ShardState) → slice_get shards n ≡ Some x → (table : ℕ) (t : TableSchema) → slice_get tables table ≡ Some t
     → map (λ f. f.info) (files_at (slice_get x.stores table)) ≡ (part_of (said_by entries) table n).listed
 
--- what the journal was told of a store of these entries and mutations, which are all there
+-- What the journal was told of a store of these entries and mutations, which are all there: the manifest has the entries, and behind them names of segments
+-- that were begun.
 pub record IsTold (entries : List ManifestEntry) (mutations : List Mutation) (t : Told) : Type 0 where
   pub found : t.found ≡ found_with entries mutations
+  pub begun : (numbers : List ℕ) × (t.entries ≡ entries ++ named numbers)
   pub tables : (said_by t.entries).tables ≡ (said_by entries).tables
   pub shards : (said_by t.entries).shards ≡ (said_by entries).shards
   pub failed : t.failed ≡ []

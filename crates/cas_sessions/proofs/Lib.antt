@@ -11,3 +11,5 @@ mod Entering
 mod Tables
 pub mod Serving
 mod Seating
+mod Alone
+pub mod Listing

@@ -15,6 +15,9 @@ use Rattle.cas_sessions.proofs.Filing.{readable_altered, unmade_altered}
 use Rattle.cas_sessions.proofs.Sounding.{sound_told}
 use Rattle.cas_sessions.proofs.Telling.{true_of_end}
 use Rattle.cas_sessions.proofs.Crashing.{amid_defined, amid_nothing, fits_told}
+use Rattle.cas_disk.proofs.Moments.{no_call}
+use Rattle.cas_journal.specs.Stores.{SameTables}
+use Rattle.cas_sessions.proofs.Listing.{going_on, lists_nothing, lists_told, lists_untold}
 use Rattle.cas_sessions.proofs.node.Node.alter.Goals as goal
 
 pub returns-in-Err-clause-changes : goal.returns-in-Err-clause-changes
@@ -113,4 +116,26 @@ returns-in-Err-define-clause-crash g c = λ clock h found told stands lasts.
 pub returns-clause-crash : goal.returns-clause-crash
 returns-clause-crash g c = λ clock h found told stands lasts.
     amid_defined h found _ _ told stands lasts _ (AddColumns c.args.addition.table c.args.addition.columns) _ (ap (λ log. listed log_list log.pass.saw) c.define.ensures.log)
+    (c.define.ensures.crash told lasts.keeps.lasts (fits_told h found _ _ told (bounds.Alter c.args.addition) (AddColumns c.args.addition.table c.args.addition.columns) c.requires.told c.args.self.now.sound.some lasts))
+
+pub returns-in-Err-clause-tables : goal.returns-in-Err-clause-tables
+returns-in-Err-clause-tables g c = no_call SameTables _
+
+pub returns-in-Err-define-clause-tables : goal.returns-in-Err-define-clause-tables
+returns-in-Err-define-clause-tables g c = c.define.ensures.tables
+
+pub returns-clause-tables : goal.returns-clause-tables
+returns-clause-tables g c = c.define.ensures.tables
+
+pub returns-in-Err-clause-lists : goal.returns-in-Err-clause-lists
+returns-in-Err-clause-lists g c = λ clock. lists_nothing _ _
+
+pub returns-in-Err-define-clause-lists : goal.returns-in-Err-define-clause-lists
+returns-in-Err-define-clause-lists g c = λ clock h found told stands lasts.
+    lists_untold _ _ _ told lasts.keeps.lasts (Unit {0}) (AddColumns c.args.addition.table c.args.addition.columns) _ _ _ c.in-Err-define.fault tt c.in-Err-define.ensures.outcome c.in-Err-define.ensures.untouched
+    (c.define.ensures.crash told lasts.keeps.lasts (fits_told h found _ _ told (bounds.Alter c.args.addition) (AddColumns c.args.addition.table c.args.addition.columns) c.requires.told c.args.self.now.sound.some lasts))
+
+pub returns-clause-lists : goal.returns-clause-lists
+returns-clause-lists g c = λ clock h found told stands lasts.
+    lists_told _ _ _ told lasts.keeps.lasts (AddColumns c.args.addition.table c.args.addition.columns) tt (going_on _ _ _ _ _ c.in_default.ensures.outcome).0
     (c.define.ensures.crash told lasts.keeps.lasts (fits_told h found _ _ told (bounds.Alter c.args.addition) (AddColumns c.args.addition.table c.args.addition.columns) c.requires.told c.args.self.now.sound.some lasts))

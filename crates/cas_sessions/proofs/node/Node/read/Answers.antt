@@ -10,6 +10,9 @@ use Rattle.cas_sessions.proofs.Moving.{moves_look, rose_by, shows_fault, shows_r
 use Rattle.cas_sessions.proofs.Sounding.{sound_looked}
 use Rattle.cas_sessions.specs.Calls.{reply_of}
 use Rattle.cas_sessions.proofs.Telling.{true_of_read}
+use Rattle.cas_disk.proofs.Moments.{no_call}
+use Rattle.cas_journal.specs.Stores.{SameTables}
+use Rattle.cas_sessions.proofs.Listing.{lists_nothing}
 use Rattle.cas_sessions.proofs.node.Node.read.Goals as goal
 
 pub returns-in-Ok-clause-shows : goal.returns-in-Ok-clause-shows
@@ -58,3 +61,15 @@ invariant_of-self g c =
       readable = still_readable _ n.shards.items c.args.read.shard x c.look.new.self n.readable there c.look.ensures.files;
       unmade = still_unmade _ n.shards.items c.args.read.shard x c.look.new.self n.unmade there c.look.ensures.files;
     }
+
+pub returns-in-Ok-clause-tables : goal.returns-in-Ok-clause-tables
+returns-in-Ok-clause-tables g c = no_call SameTables _
+
+pub returns-in-Err-clause-tables : goal.returns-in-Err-clause-tables
+returns-in-Err-clause-tables g c = no_call SameTables _
+
+pub returns-in-Ok-clause-lists : goal.returns-in-Ok-clause-lists
+returns-in-Ok-clause-lists g c = λ session calls clock. lists_nothing _ _
+
+pub returns-in-Err-clause-lists : goal.returns-in-Err-clause-lists
+returns-in-Err-clause-lists g c = λ session calls clock. lists_nothing _ _

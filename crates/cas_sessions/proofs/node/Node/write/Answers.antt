@@ -17,6 +17,10 @@ use Rattle.cas_sessions.proofs.Sounding.{sound_looked, sound_with}
 use Rattle.cas_sessions.proofs.Telling.{true_of_accepted, true_of_prepare}
 use Rattle.cas_sessions.proofs.Idling.{idle_taken}
 use Rattle.cas_sessions.proofs.Crashing.{amid_nothing, amid_room, amid_taken}
+use Rattle.cas_disk.proofs.Moments.{no_call}
+use Rattle.cas_journal.specs.Stores.{SameTables}
+use Rattle.cas_room.proofs.Settling.{tables_twice}
+use Rattle.cas_sessions.proofs.Listing.{going_on, lists_held, lists_nothing, lists_room, lists_untaken, listing_twice}
 use Rattle.cas_sessions.proofs.node.Node.write.Goals as goal
 
 -- src/writing.rt:56:49
@@ -265,3 +269,50 @@ invariant_of-session-2 g c = record {
       (ap (λ (k : ℕ). listed k c.commit.new.session.pass.saw) c.commit.ensures.session.0 ∙ c.commit.ensures.session.2
       ∙ ap (λ (k : ℕ). listed k c.accept.new.session.pass.saw) c.accept.ensures.seats.0 ∙ c.in-Ok-accept.ensures.entered.2);
 }
+
+pub returns-in-Err-Refused-clause-tables : goal.returns-in-Err-Refused-clause-tables
+returns-in-Err-Refused-clause-tables g c = no_call SameTables _
+
+pub returns-in-Err-Mem-clause-tables : goal.returns-in-Err-Mem-clause-tables
+returns-in-Err-Mem-clause-tables g c = no_call SameTables _
+
+pub returns-in-Err-clause-tables : goal.returns-in-Err-clause-tables
+returns-in-Err-clause-tables g c = c.accept.ensures.tables
+
+pub returns-in-Ok-commit-clause-tables : goal.returns-in-Ok-commit-clause-tables
+returns-in-Ok-commit-clause-tables g c = tables_twice _ _ _ c.accept.ensures.tables c.commit.ensures.tables
+
+pub returns-in-Err-commit-clause-tables : goal.returns-in-Err-commit-clause-tables
+returns-in-Err-commit-clause-tables g c = tables_twice _ _ _ c.accept.ensures.tables c.commit.ensures.tables
+
+pub returns-in-Err-Refused-clause-lists : goal.returns-in-Err-Refused-clause-lists
+returns-in-Err-Refused-clause-lists g c = λ clock. lists_nothing _ _
+
+pub returns-in-Err-Mem-clause-lists : goal.returns-in-Err-Mem-clause-lists
+returns-in-Err-Mem-clause-lists g c = λ clock. lists_nothing _ _
+
+pub returns-in-Err-clause-lists : goal.returns-in-Err-clause-lists
+returns-in-Err-clause-lists g c = λ clock h found told stands lasts.
+    lists_untaken _ _ _ told lasts.keeps.lasts _ _ _ _ _ c.in-Err.fault c.in-Err.ensures.outcome c.in-Err.ensures.untouched (c.accept.ensures.crash told lasts.keeps.lasts)
+
+pub returns-in-Ok-commit-clause-lists : goal.returns-in-Ok-commit-clause-lists
+returns-in-Ok-commit-clause-lists g c = λ clock h found told stands lasts.
+    let at = to_z-of_z w64 c.args.reading c.ranges.reading in
+    let got = c.in-Ok-accept.ensures.kept found told lasts.keeps
+    (may_take _ c.args.write c.args.reading c.index_mut.result.now c.prepare.new.self c.prepare.result
+    (record { sound = c.args.self.now.sound; within = c.requires.within.0; fits = c.requires.fits; seat = c.index_mut.ensures.value; files = c.prepare.ensures.files; answered = λ ts q stands quiet. c.prepare.ensures.answered ts q stands quiet ∙ ap (λ (k : ℤ). prepare_answer c.args.self.now.limits.segment k q c.args.write) at; stands = λ ts n q stands suits. subst (λ (k : ℤ). Stands ts (raised k q) c.prepare.new.self) at (c.prepare.ensures.stands ts n q stands suits); number = c.prepare.ensures.number })
+    c.in-Ok.mutation c.in-Ok.is c.in-Ok.ensures.prepared c.in-Ok.ensures.ready h found _ told lasts) in
+    let going = going_on _ _ _ _ _ c.in-Ok-accept.ensures.outcome.1 in
+    listing_twice _ _ _ (lists_room _ _ _ told lasts.keeps.lasts going.0 (c.accept.ensures.crash told lasts.keeps.lasts))
+    (lists_held _ _ _ (took c.in-Ok.mutation got.0) got.2.lasts going.1 (c.commit.ensures.crash _ got.2.lasts))
+
+pub returns-in-Err-commit-clause-lists : goal.returns-in-Err-commit-clause-lists
+returns-in-Err-commit-clause-lists g c = λ clock h found told stands lasts.
+    let at = to_z-of_z w64 c.args.reading c.ranges.reading in
+    let got = c.in-Ok-accept.ensures.kept found told lasts.keeps
+    (may_take _ c.args.write c.args.reading c.index_mut.result.now c.prepare.new.self c.prepare.result
+    (record { sound = c.args.self.now.sound; within = c.requires.within.0; fits = c.requires.fits; seat = c.index_mut.ensures.value; files = c.prepare.ensures.files; answered = λ ts q stands quiet. c.prepare.ensures.answered ts q stands quiet ∙ ap (λ (k : ℤ). prepare_answer c.args.self.now.limits.segment k q c.args.write) at; stands = λ ts n q stands suits. subst (λ (k : ℤ). Stands ts (raised k q) c.prepare.new.self) at (c.prepare.ensures.stands ts n q stands suits); number = c.prepare.ensures.number })
+    c.in-Ok.mutation c.in-Ok.is c.in-Ok.ensures.prepared c.in-Ok.ensures.ready h found _ told lasts) in
+    let going = going_on _ _ _ _ _ c.in-Ok-accept.ensures.outcome.1 in
+    listing_twice _ _ _ (lists_room _ _ _ told lasts.keeps.lasts going.0 (c.accept.ensures.crash told lasts.keeps.lasts))
+    (lists_held _ _ _ (took c.in-Ok.mutation got.0) got.2.lasts going.1 (c.commit.ensures.crash _ got.2.lasts))
