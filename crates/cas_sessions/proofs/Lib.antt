@@ -13,3 +13,4 @@ pub mod Serving
 mod Seating
 mod Alone
 pub mod Listing
+mod Next

@@ -3,6 +3,7 @@ pub mod Entered
 pub mod Nodes
 pub mod Starts
 pub mod Listing
+pub mod Next
 pub mod Calls
 pub mod Laws
 pub mod Inner

@@ -1,6 +1,6 @@
 -- A run over a store that was opened (own).
 use Rattle.std.specs.Prelude.{◌≡◌, ◌⊎◌, ◌≤◌, ℕ, ℤ, List, Option, None, Some}
-use Rattle.cas_disk.specs.Disk.{Disk, Image}
+use Rattle.cas_disk.specs.Disk.{Disk, During, Image}
 use Rattle.cas_types.specs.declared.schema.TableSchema.{TableSchema}
 use Rattle.cas_atoms.specs.declared.atom.Mutation.{Mutation}
 use Rattle.cas_bind.specs.declared.bound.Limits.{Limits}
@@ -22,12 +22,13 @@ use Rattle.cas_sessions.specs.History.{History}
 use Rattle.cas_sessions.specs.Nodes.{files_in}
 use Rattle.cas_sessions.specs.Starts.{Begins, IsInMemory}
 use Rattle.cas_sessions.specs.Entered.{AreEntered, IsLeft}
+use Rattle.cas_sessions.specs.Listing.{SameListing}
 use Rattle.cas_node.specs.Ran.{RanFrom, with_faults}
 use Rattle.cas_recovery.specs.Restored.{IsTold}
 use Rattle.cas_node.specs.Inner.Turns.{IsEnd}
 
 -- The lines of the script ran in a store of these entries and mutations, whose shards were so before and whose table files are these, and accepted this
--- list; where all that was found lasts, so does what was acknowledged.
+-- list; where all that was found lasts, so does what was acknowledged, and the manifest lists the table files that it listed.
 pub record Served (kind : ClockKind) (Gives : ℤ → Type 0) (script : List ℕ) (old new : Option (List ℕ)) (limits : Limits)
     (entries : List ManifestEntry) (mutations : List Mutation) (openings : ℕ → ShardOpening) (files : ℕ → ℕ → List (File Held)) (journal : Journal)
     (before after : Disk) (faults_before faults_first faults_now reads : ℕ) (list : List (Item Event)) (why : Cause) : Type 0 where
@@ -38,6 +39,7 @@ pub record Served (kind : ClockKind) (Gives : ℤ → Type 0) (script : List ℕ
   pub ran : RanFrom first kind Gives script old new final told
   pub entered : AreEntered list final
   pub crash : (t : Told) → IsTold entries mutations t → Lasts journal before t → (i : Image) → after.may_leave i → IsLeft mutations list final i
+  pub lists : (t : Told) → IsTold entries mutations t → Lasts journal before t → During SameListing before after
   pub faults : final.disk.faults ≡ faults_now
   pub reads_are : final.disk.reads ≡ reads
   pub ended : why ≡ with_faults faults_before faults_now reads told
