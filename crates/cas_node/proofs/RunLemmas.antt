@@ -26,11 +26,13 @@ use Rattle.cas_opening.specs.Opening.{IsOfBytes, OpensAs, next_segment}
 use Rattle.cas_opening.proofs.Readings.{one_store, opens_not_bad}
 use Rattle.cas_recovery.specs.declared.fault.RecoveryFault.{RecoveryFault}
 use Rattle.cas_recovery.specs.declared.fault.RecoveryFault.TheVariants as recovery
+use Rattle.cas_recovery.specs.Found.{AreOfAStore}
 use Rattle.cas_recovery.specs.Openings.{AreOpenings}
 use Rattle.cas_recovery.specs.Recovered.{IsBadTable, IsUnreadable}
 use Rattle.cas_recovery.specs.Restored.{IsTold}
 use Rattle.cas_recovery.proofs.Refusing.{never_bad}
 use Rattle.cas_room.specs.declared.event.Event.{Event}
+use Rattle.cas_room.specs.Rooms.{accepted_in}
 use Rattle.cas_shard.specs.declared.entry.ShardOpening.{ShardOpening}
 use Rattle.cas_shard.specs.Stands.{ShardState}
 use Rattle.cas_render.specs.declared.reply.Reply.{Reply}
@@ -52,10 +54,13 @@ use Rattle.cas_node.specs.Ran.{at_the_end, at_the_sink, for_memory, has_risen, r
 use Rattle.cas_node.specs.Inner.Serving.{EndsServed, Served, Serves}
 use Rattle.cas_sessions.specs.Entered.{IsLeft}
 use Rattle.cas_sessions.specs.Listing.{KeepsListing, SameListed}
+use Rattle.cas_sessions.specs.Numbering.{NumbersOn}
 use Rattle.cas_sessions.proofs.Listing.{lists_since}
+use Rattle.cas_sessions.proofs.Next.{left_explains}
 use Rattle.cas_node.specs.Inner.Turns.{cause_of_opening, IsEnd}
 use Rattle.cas_sessions.specs.Nodes.{State, StandsFor, LastsFor, disk_of, files_in, Moves}
 use Rattle.cas_node.proofs.Blaming.{blamed, of_both}
+use Rattle.cas_node.proofs.Staying.{from_before, front_numbers, nothing_accepted, numbered}
 use Rattle.cas_node.proofs.Stopping.{stop_is_counted}
 
 -- ---- what was served
@@ -67,11 +72,11 @@ module _ (kind : ClockKind) (Gives : ℤ → Type 0) (script : List ℕ) (old ne
     → IsInMemory given entries mutations openings l tables shards → BeginsAs given entries mutations openings d s)
     (going : journal.first ≡ None) (ended : why ≡ with_faults faults_before t.faults t.reads told)
     (left : (h : History) (found : List Mutation) (u : Told) → StandsFor h t → LastsFor h found t e u → (i : Image) → e.may_leave i → IsLeft found t.list h i)
-    (lists : KeepsListing s d e) where
+    (lists : KeepsListing s d e) (numbers : NumbersOn s t) where
   of_store : (given : Limits) (entries : List ManifestEntry) (mutations : List Mutation) (openings : ℕ → ShardOpening)
-      → BeginsAs given entries mutations openings d s → journal.last_segment ≤ next_segment entries
+      → IsInMemory given entries mutations openings l tables shards → BeginsAs given entries mutations openings d s → journal.last_segment ≤ next_segment entries
       → Served kind Gives script old new given entries mutations openings (files_in shards) journal d e faults_before faults t.faults t.reads t.list why
-  of_store given entries mutations openings first segment =
+  of_store given entries mutations openings memory first segment =
       let (after, ran, goes) = moves (start given entries openings s.session (disk_of s)) first.stands in
       record {
         first = start given entries openings s.session (disk_of s);
@@ -94,6 +99,10 @@ module _ (kind : ClockKind) (Gives : ℤ → Type 0) (script : List ℕ) (old ne
         lists = λ u is lasts.
             lists (start given entries openings s.session (disk_of s)) mutations u first.stands
             (first.lasts u is (subst (λ (j : Journal). Lasts j d u) (sym opened.journal_is) lasts));
+        numbers = λ u is lasts n low.
+            let began = first.lasts u is (subst (λ (j : Journal). Lasts j d u) (sym opened.journal_is) lasts) in
+            numbered given entries mutations openings l tables shards memory s t opened.shards_are
+            (nothing_accepted mutations u.taken (accepted_in s.list) is.taken began.keeps.all) numbers n low;
         faults = ap (λ disk. disk.faults) goes.stands.disk;
         reads_are = ap (λ disk. disk.reads) goes.stands.disk;
         ended = ended;
@@ -105,7 +114,7 @@ module _ (kind : ClockKind) (Gives : ℤ → Type 0) (script : List ℕ) (old ne
   serves (Some items) some is = λ given entries mutations openings memory segment.
       subst
       (λ (xs : List (Item Event)). Served kind Gives script old new given entries mutations openings (files_in shards) journal d e faults_before faults t.faults t.reads xs why)
-      (sym is) (of_store given entries mutations openings (begins given entries mutations openings memory) segment)
+      (sym is) (of_store given entries mutations openings memory (begins given entries mutations openings memory) segment)
 
   -- also where the disks and the counts of faults are called otherwise
   pub serves_as : (before after : Disk) (now read : ℕ) (pass : Option (List (Item Event))) → d ≡ before → e ≡ after → t.faults ≡ now → t.reads ≡ read → IsSome pass
@@ -193,9 +202,11 @@ module _ (words : List (List ℕ)) (Gives : ℤ → Type 0) (before after : Outs
 
   of_served : (list : List (Item Event)) (entries : List ManifestEntry) (mutations : List Mutation) (openings : ℕ → ShardOpening) (files : ℕ → ℕ → List (File Held))
       → ((image : Image) → before.folder.reads image → IsOfBytes image → (t : Told) × IsTold entries mutations t × Lasts journal mid t)
+      → AreOfAStore entries mutations → AreOpenings entries mutations before.folder openings
+      → ((image : Image) → before.folder.reads image → IsOfBytes image → During (SameListed entries) before.folder after.folder)
       → Served c.clock Gives script before.taken after.taken c.limits entries mutations openings files journal mid after.folder n faults after.folder_faults reads list why
       → RanOn c Gives script before after reads list why entries mutations openings files
-  of_served list entries mutations openings files lasts served =
+  of_served list entries mutations openings files lasts store are same served =
       let ended : why ≡ with_faults before.folder_faults after.folder_faults reads served.told =
       served.ended ∙ ap (λ (k : ℕ). with_faults k after.folder_faults reads served.told) counted in
       record {
@@ -209,6 +220,17 @@ module _ (words : List (List ℕ)) (Gives : ℤ → Type 0) (before after : Outs
         lists = λ image reads bytes i left.
             let (t, told, still) = lasts image reads bytes in
             lists_since journal mid after.folder t entries mutations told still (served.lists t told still) i left;
+        next = λ image reads bytes i left its_bytes.
+            let (t, told, still) = lasts image reads bytes in
+            let crash = served.crash t told still i left in
+            let (b, was, alike) = from_before entries before.folder after.folder (same image reads bytes) i left in
+            record {
+              left = crash;
+              next =
+                  left_explains before.folder entries mutations openings list served.final b i store are was alike
+                  (lists_since journal mid after.folder t entries mutations told still (served.lists t told still) i left) crash its_bytes
+                  (λ n low nil. front_numbers n (openings n).number (accepted_in list) crash.count (served.numbers t told still n low));
+            };
         faults = served.faults;
         reads_are = served.reads_are;
         counted =
@@ -231,7 +253,8 @@ module _ (words : List (List ℕ)) (Gives : ℤ → Type 0) (before after : Outs
     its_files = started.files;
     tables = λ d reads bytes. stay d reads bytes started.back.entries started.back.mutations (started.back.found.told d reads bytes);
     on = λ openings are.
-        of_served list started.back.entries started.back.mutations openings (files_in shards) started.back.lasts
+        of_served list started.back.entries started.back.mutations openings (files_in shards) started.back.lasts started.back.found.of_a_store are
+        (λ d reads bytes. stay d reads bytes started.back.entries started.back.mutations (started.back.found.told d reads bytes))
         (serves c.limits started.back.entries started.back.mutations openings (started.memory openings are) started.back.segment);
   }
 

@@ -24,6 +24,8 @@ use Rattle.cas_node.specs.Text.{output, line_text}
 use Rattle.cas_node.specs.Ran.{RanFrom, reply_cause, worse, worst, at_the_end, at_the_sink, for_memory}
 use Rattle.cas_sessions.specs.Listing.{KeepsListing}
 use Rattle.cas_sessions.specs.Nodes.{State, GoesOnTo, Moves}
+use Rattle.cas_sessions.specs.Numbering.{NumbersOn}
+use Rattle.cas_sessions.proofs.Going.{numbers_more, numbers_none}
 use Rattle.cas_sessions.proofs.Listing.{listing_twice, lists_nothing}
 use Rattle.cas_node.specs.Inner.Turns.{IsEnd, IsToldSo, Turned, Printed, PrintedReply, StopsFor}
 
@@ -218,9 +220,11 @@ module _ (kind : ClockKind) (Gives : ℤ → Type 0) where
 
   -- ---- of a store
 
-  -- from whichever history the store stood for, the lines so far were run, and the manifest lists the table files that it listed
+  -- from whichever history the store stood for, the lines so far were run, the manifest lists the table files that it listed, and the
+  -- mutations are numbered on
   abbrev pub AllSoFar : State → State → Disk → Disk → List ℕ → List ℕ → Option (List ℕ) → Option (List ℕ) → Cause → Type 0
-  AllSoFar s t old new script rest out now why = Moves (λ h after. SoFar kind Gives h script rest out now after why) s t old new × KeepsListing s old new
+  AllSoFar s t old new script rest out now why =
+      Moves (λ h after. SoFar kind Gives h script rest out now after why) s t old new × KeepsListing s old new × NumbersOn s t
 
   pub all_so_far_none : (s : State) (d : Disk) (script : List ℕ) (out : Option (List ℕ)) → AllSoFar s s d d script script out out cause.Good
   all_so_far_none s d script out = (
@@ -230,6 +234,7 @@ module _ (kind : ClockKind) (Gives : ℤ → Type 0) where
       record { stands = stands; lasts = λ found told lasts. (told, lasts) },
     ),
     lists_nothing s d,
+    numbers_none s s refl refl,
   )
 
   on_from : (h k l : History) (s t u : State) (d e f : Disk) → GoesOnTo h k s t d e → GoesOnTo k l t u e f → GoesOnTo h l s u d f
@@ -251,13 +256,14 @@ module _ (kind : ClockKind) (Gives : ℤ → Type 0) where
   pub all_so_far_more : (s t u : State) (d e f : Disk) (script rest after line : List ℕ) (out mid now : Option (List ℕ)) (before x why : Cause) (fault : Option PrintFault)
       → AllSoFar s t d e script rest out mid before → lines rest ≡ line ∷ lines after
       → Moves (λ h after. Turned kind Gives h line after mid now x fault) t u e f
-      → KeepsListing t e f → fault ≡ None → why ≡ worse before x → AllSoFar s u d f script after out now why
-  all_so_far_more s t u d e f script rest after line out mid now before x why fault so cut turn lists none told = (
+      → KeepsListing t e f → NumbersOn t u → fault ≡ None → why ≡ worse before x → AllSoFar s u d f script after out now why
+  all_so_far_more s t u d e f script rest after line out mid now before x why fault so cut turn lists numbers none told = (
     λ h stands.
         let (k, far, one) = so.0 h stands in
         let (l, turned, two) = turn k one.stands in
         (l, so_far_more h script rest after line out mid now k l before x why fault far cut turned none told, on_from h k l s t u d e f one two),
     lists_more s t d e f script rest out mid before so lists,
+    numbers_more s t u so.2 numbers,
   )
 
   pub all_ran_cut : (s t u : State) (d e f : Disk) (script rest after line : List ℕ) (out mid now : Option (List ℕ)) (before x sofar why : Cause) (whole : Option PrintFault)

@@ -37,6 +37,7 @@ use Rattle.cas_recovery.specs.Openings.{AreOpenings}
 use Rattle.cas_sessions.specs.Starts.{AreItsFiles, Begins}
 use Rattle.cas_sessions.specs.Entered.{AreEntered, IsLeft}
 use Rattle.cas_sessions.specs.Listing.{HasBehind, SameListed}
+use Rattle.cas_sessions.specs.Next.{IsExplained}
 use Rattle.cas_node.specs.Text.{output}
 
 -- ---- how a run ends
@@ -195,8 +196,9 @@ IsBadForOne files _ at = ⊥
 
 -- A run of the command over a script, by what the shards of its store were before, and by its table files: from there the script's lines were run; what
 -- they entered is the list that is handed back; and whatever a crash leaves of the folder handed back has all that was acknowledged, and its manifest lists
--- the table files that were found and no others. A write was stopped only where the folder's count of faults rose, so that otherwise all that was accepted
--- is left; and a file is called bad only where it is.
+-- the table files that were found and no others; so the next run, which finds just that, begins with what the shards were and the front of what was accepted
+-- that is left. A write was stopped only where the folder's count of faults rose, so that otherwise all that was accepted is left; and a file is called bad
+-- only where it is.
 pub record RanOn (c : Command) (Gives : ℤ → Type 0) (script : List ℕ) (before after : Outside) (reads : ℕ) (list : List (Item Event)) (why : Cause)
     (entries : List ManifestEntry) (mutations : List Mutation) (openings : ℕ → ShardOpening) (files : ℕ → ℕ → List (File Held)) : Type 0 where
   pub first : History
@@ -207,6 +209,8 @@ pub record RanOn (c : Command) (Gives : ℤ → Type 0) (script : List ℕ) (bef
   pub entered : AreEntered list final
   pub crash : (d : Image) → before.folder.reads d → IsOfBytes d → (i : Image) → after.folder.may_leave i → IsLeft mutations list final i
   pub lists : (d : Image) → before.folder.reads d → IsOfBytes d → (i : Image) → after.folder.may_leave i → HasBehind entries i
+  pub next : (d : Image) → before.folder.reads d → IsOfBytes d → (i : Image) → after.folder.may_leave i → IsOfBytes i
+      → IsExplained mutations list final openings i
   pub faults : final.disk.faults ≡ after.folder_faults
   pub reads_are : final.disk.reads ≡ reads
   pub counted : final.disk.stopped ≡ true → Rose before.folder_faults after.folder_faults

@@ -7,6 +7,7 @@ ghost use Rattle.cas_journal.specs.Stores.{SameTables};
 ghost use Rattle.cas_lines.specs.Lines.{Says};
 ghost use Rattle.cas_node.specs.Lines.{Answers, SetsClock};
 ghost use Rattle.cas_sessions.specs.Listing.{KeepsListing};
+ghost use Rattle.cas_sessions.specs.Numbering.{NumbersOn};
 ghost use Rattle.cas_sessions.specs.Nodes.{CountsOn, IsFew, Moves, State};
 
 use cas_disk::Folder;
@@ -52,6 +53,7 @@ impl<F: Folder, J: Store> Runner<F, J> {
         ensures tables { During SameTables (⟦<Runner<F, J> as Running>⟧.disk self.old) (⟦<Runner<F, J> as Running>⟧.disk self.new) }
         ensures lists { KeepsListing (⟦<Runner<F, J> as Running>⟧.state self.old)
             (⟦<Runner<F, J> as Running>⟧.disk self.old) (⟦<Runner<F, J> as Running>⟧.disk self.new) }
+        ensures numbers { NumbersOn (⟦<Runner<F, J> as Running>⟧.state self.old) (⟦<Runner<F, J> as Running>⟧.state self.new) }
         ensures counts { CountsOn (⟦<Runner<F, J> as Running>⟧.state self.old) (⟦<Runner<F, J> as Running>⟧.state self.new) }
     {
         match kind {
@@ -78,6 +80,7 @@ impl<F: Folder, J: Store> Runner<F, J> {
         ensures tables { During SameTables (⟦<Runner<F, J> as Running>⟧.disk self.old) (⟦<Runner<F, J> as Running>⟧.disk self.new) }
         ensures lists { KeepsListing (⟦<Runner<F, J> as Running>⟧.state self.old)
             (⟦<Runner<F, J> as Running>⟧.disk self.old) (⟦<Runner<F, J> as Running>⟧.disk self.new) }
+        ensures numbers { NumbersOn (⟦<Runner<F, J> as Running>⟧.state self.old) (⟦<Runner<F, J> as Running>⟧.state self.new) }
         ensures counts { CountsOn (⟦<Runner<F, J> as Running>⟧.state self.old) (⟦<Runner<F, J> as Running>⟧.state self.new) }
     {
         match line {
@@ -107,6 +110,7 @@ impl<F: Folder, J: Store> Runner<F, J> {
         ensures tables { During SameTables (⟦<Runner<F, J> as Running>⟧.disk self.old) (⟦<Runner<F, J> as Running>⟧.disk self.new) }
         ensures lists { KeepsListing (⟦<Runner<F, J> as Running>⟧.state self.old)
             (⟦<Runner<F, J> as Running>⟧.disk self.old) (⟦<Runner<F, J> as Running>⟧.disk self.new) }
+        ensures numbers { NumbersOn (⟦<Runner<F, J> as Running>⟧.state self.old) (⟦<Runner<F, J> as Running>⟧.state self.new) }
         ensures counts { CountsOn (⟦<Runner<F, J> as Running>⟧.state self.old) (⟦<Runner<F, J> as Running>⟧.state self.new) }
     {
         match read_line(alloc, line) {

@@ -6,6 +6,7 @@ ghost use Rattle.cas_disk.specs.Disk.{During};
 ghost use Rattle.cas_journal.specs.Stores.{SameTables};
 ghost use Rattle.cas_render.specs.Text.{reply_text};
 ghost use Rattle.cas_sessions.specs.Listing.{KeepsListing};
+ghost use Rattle.cas_sessions.specs.Numbering.{NumbersOn};
 ghost use Rattle.cas_sessions.specs.Nodes.{CountsOn, IsFew, Moves};
 ghost use Rattle.cas_node.specs.Inner.Turns.{IsEnd, IsToldSo, Printed, PrintedReply, StopsFor, Turned};
 ghost use Rattle.cas_node.specs.Ran.{RanFrom, reply_cause, weight, worse};
@@ -145,6 +146,7 @@ fn take_turn<K: Sink, F: Folder, J: Store, C: Clock>(
     ensures tables { During SameTables (⟦<Runner<F, J> as Running>⟧.disk runner.old) (⟦<Runner<F, J> as Running>⟧.disk runner.new) }
     ensures lists { KeepsListing (⟦<Runner<F, J> as Running>⟧.state runner.old)
         (⟦<Runner<F, J> as Running>⟧.disk runner.old) (⟦<Runner<F, J> as Running>⟧.disk runner.new) }
+    ensures numbers { NumbersOn (⟦<Runner<F, J> as Running>⟧.state runner.old) (⟦<Runner<F, J> as Running>⟧.state runner.new) }
     ensures counts { CountsOn (⟦<Runner<F, J> as Running>⟧.state runner.old) (⟦<Runner<F, J> as Running>⟧.state runner.new) }
     ensures faults { K.faults sink.old ≤ K.faults sink.new }
     ensures stalls { K.stalls sink.old ≤ K.stalls sink.new }
@@ -188,6 +190,7 @@ pub(crate) fn run_lines<K: Sink, F: Folder, J: Store, C: Clock>(
     ensures tables { During SameTables (⟦<Runner<F, J> as Running>⟧.disk runner.old) (⟦<Runner<F, J> as Running>⟧.disk runner.new) }
     ensures lists { KeepsListing (⟦<Runner<F, J> as Running>⟧.state runner.old)
         (⟦<Runner<F, J> as Running>⟧.disk runner.old) (⟦<Runner<F, J> as Running>⟧.disk runner.new) }
+    ensures numbers { NumbersOn (⟦<Runner<F, J> as Running>⟧.state runner.old) (⟦<Runner<F, J> as Running>⟧.state runner.new) }
     ensures faults { K.faults sink.old ≤ K.faults sink.new }
     ensures stalls { K.stalls sink.old ≤ K.stalls sink.new }
     ensures write { result ≡ Cause.Write

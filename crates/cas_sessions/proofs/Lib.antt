@@ -13,4 +13,5 @@ pub mod Serving
 mod Seating
 mod Alone
 pub mod Listing
-mod Next
+pub mod Going
+pub mod Next

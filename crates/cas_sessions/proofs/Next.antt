@@ -489,7 +489,7 @@ goes_from (x ∷ y ∷ xs) ys k goes order first = goes_from (y ∷ xs) ys k goe
 module _ (before : Disk) (entries behind : List Entry) (mutations more : List Mutation) (openings : ℕ → ShardOpening) (b i : Image) (store : AreOfAStore entries mutations)
     (are : AreOpenings entries mutations before openings) (left : before.may_leave b) (same : SameListed entries b i) (none : AllByRecursion ListsNone behind)
     (is : IsStore (entries ++ behind) (mutations ++ more) i) (bytes : IsOfBytes i)
-    (goes : (n : ℕ) → numbers_of n mutations ≡ [] → AscendByOne ((openings n).number ∷ numbers_of n more)) where
+    (goes : (n : ℕ) → n < (said_by entries).shards → numbers_of n mutations ≡ [] → AscendByOne ((openings n).number ∷ numbers_of n more)) where
   explains : AreOpenings (entries ++ behind) (mutations ++ more) (only i) (λ n. with_more n more (openings n))
   explains n low =
       let grows = said_behind entries behind none is.manifest.follow in
@@ -500,7 +500,7 @@ module _ (before : Disk) (entries behind : List Entry) (mutations more : List Mu
       let wider = opening_wider (said_by entries) (said_by (entries ++ behind)) grows (said_few entries store.follow) mutations store.log.fit before n within (openings n) b i left same first in
       let ordered : AscendByOne (numbers_of n mutations ++ numbers_of n more) =
       subst (λ l. AscendByOne l) (flat_map-append (λ (m : Mutation). if m.shard == n then m.number ∷ [] else []) mutations more) (is.log.ordered n) in
-      let on = goes_from (numbers_of n mutations) (numbers_of n more) (openings n).number first.goes_on ordered (goes n) in
+      let on = goes_from (numbers_of n mutations) (numbers_of n more) (openings n).number first.goes_on ordered (goes n within) in
       inl (
         (i, (λ k. refl), bytes),
         opening_all (said_by (entries ++ behind)) (only i) n mutations more (openings n) (behind_fit _ mutations more fit) on wider,

@@ -2,6 +2,7 @@ pub mod History
 pub mod Entered
 pub mod Nodes
 pub mod Starts
+pub mod Numbering
 pub mod Listing
 pub mod Next
 pub mod Calls

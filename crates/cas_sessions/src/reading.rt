@@ -10,6 +10,7 @@ ghost use Rattle.cas_shard.specs.Shards.{IsTime};
 ghost use Rattle.cas_sessions.specs.History.{ReadsAt};
 ghost use Rattle.cas_sessions.specs.Calls.{IsTrueOf, reply_of};
 ghost use Rattle.cas_sessions.specs.Listing.{KeepsListing};
+ghost use Rattle.cas_sessions.specs.Numbering.{NumbersOn};
 ghost use Rattle.cas_sessions.specs.Nodes.{Moves, State};
 ghost use Rattle.cas_sessions.specs.Inner.Faults.{fault_of_table};
 
@@ -50,6 +51,8 @@ impl<F: Folder, J: Store> Node<F, J> {
         ensures tables { During SameTables (⟦<Node<F, J> as Stored>⟧.disk self.old) (⟦<Node<F, J> as Stored>⟧.disk self.new) }
         ensures lists { (session calls : ℕ) (clock : ℤ) → KeepsListing (⟦<Node<F, J> as Stored>⟧.state self.old session calls clock)
             (⟦<Node<F, J> as Stored>⟧.disk self.old) (⟦<Node<F, J> as Stored>⟧.disk self.new) }
+        ensures numbers { (session calls : ℕ) (clock : ℤ) → NumbersOn (⟦<Node<F, J> as Stored>⟧.state self.old session calls clock)
+            (⟦<Node<F, J> as Stored>⟧.state self.new session calls clock) }
         ensures told { (s t : State) → IsTrueOf result s t }
         ensures room { self.new.room ≡ self.old.room }
         ensures limits { self.new.limits ≡ self.old.limits }

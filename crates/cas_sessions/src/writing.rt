@@ -10,6 +10,7 @@ ghost use Rattle.cas_shard.specs.Shards.{IsTime};
 ghost use Rattle.cas_sessions.specs.History.{WritesAt};
 ghost use Rattle.cas_sessions.specs.Calls.{IsTrueOf, reply_of};
 ghost use Rattle.cas_sessions.specs.Listing.{KeepsListing};
+ghost use Rattle.cas_sessions.specs.Numbering.{NumbersOn};
 ghost use Rattle.cas_sessions.specs.Nodes.{Moves, IsFew, CountsOn, KeepsAll};
 ghost use Rattle.cas_sessions.specs.Inner.Faults.{fault_for};
 
@@ -61,6 +62,8 @@ impl<F: Folder, J: Store> Node<F, J> {
         ensures tables { During SameTables (⟦<Node<F, J> as Stored>⟧.disk self.old) (⟦<Node<F, J> as Stored>⟧.disk self.new) }
         ensures lists { (clock : ℤ) → KeepsListing (⟦<Node<F, J> as Stored>⟧.state self.old session.old.seat.list session.old.seat.calls clock)
             (⟦<Node<F, J> as Stored>⟧.disk self.old) (⟦<Node<F, J> as Stored>⟧.disk self.new) }
+        ensures numbers { (clock : ℤ) → NumbersOn (⟦<Node<F, J> as Stored>⟧.state self.old session.old.seat.list session.old.seat.calls clock)
+            (⟦<Node<F, J> as Stored>⟧.state self.new session.new.seat.list session.new.seat.calls clock) }
         ensures told { IsTrueOf result (⟦<Node<F, J> as Stored>⟧.state self.old session.old.seat.list session.old.seat.calls (pos 0))
             (⟦<Node<F, J> as Stored>⟧.state self.new session.new.seat.list session.new.seat.calls (pos 0)) }
         ensures counts { CountsOn (⟦<Node<F, J> as Stored>⟧.state self.old session.old.seat.list session.old.seat.calls (pos 0))

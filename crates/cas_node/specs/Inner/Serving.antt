@@ -1,16 +1,19 @@
 -- A run over a store that was opened (own).
-use Rattle.std.specs.Prelude.{◌≡◌, ◌⊎◌, ◌≤◌, ℕ, ℤ, List, Option, None, Some}
+use Rattle.std.specs.Prelude.{◌≡◌, ◌⊎◌, ◌<◌, ◌≤◌, ℕ, ℤ, List, ◌∷◌, Option, None, Some}
 use Rattle.cas_disk.specs.Disk.{Disk, During, Image}
 use Rattle.cas_types.specs.declared.schema.TableSchema.{TableSchema}
 use Rattle.cas_atoms.specs.declared.atom.Mutation.{Mutation}
 use Rattle.cas_bind.specs.declared.bound.Limits.{Limits}
+use Rattle.cas_changes.specs.Saying.{said_by}
 use Rattle.cas_changes.specs.declared.entry.Entry.{Entry as ManifestEntry}
 use Rattle.cas_history.specs.declared.item.Item.{Item}
 use Rattle.cas_journal.specs.Journals.{Lasts}
 use Rattle.cas_journal.specs.Stores.{Told}
 use Rattle.cas_journal.specs.declared.journal.Journal.{Journal}
 use Rattle.cas_opening.specs.Opening.{next_segment}
+use Rattle.cas_replay.specs.Grammar.{AscendByOne, numbers_of}
 use Rattle.cas_room.specs.declared.event.Event.{Event}
+use Rattle.cas_room.specs.Rooms.{accepted_in}
 use Rattle.cas_shard.specs.declared.entry.ShardOpening.{ShardOpening}
 use Rattle.cas_shard.specs.Stands.{ShardState}
 use Rattle.cas_sstread.specs.Loading.{Held}
@@ -28,7 +31,8 @@ use Rattle.cas_recovery.specs.Restored.{IsTold}
 use Rattle.cas_node.specs.Inner.Turns.{IsEnd}
 
 -- The lines of the script ran in a store of these entries and mutations, whose shards were so before and whose table files are these, and accepted this
--- list; where all that was found lasts, so does what was acknowledged, and the manifest lists the table files that it listed.
+-- list; where all that was found lasts, so does what was acknowledged, and the manifest lists the table files that it listed; and each
+-- shard numbered on what was accepted.
 pub record Served (kind : ClockKind) (Gives : ℤ → Type 0) (script : List ℕ) (old new : Option (List ℕ)) (limits : Limits)
     (entries : List ManifestEntry) (mutations : List Mutation) (openings : ℕ → ShardOpening) (files : ℕ → ℕ → List (File Held)) (journal : Journal)
     (before after : Disk) (faults_before faults_first faults_now reads : ℕ) (list : List (Item Event)) (why : Cause) : Type 0 where
@@ -40,6 +44,8 @@ pub record Served (kind : ClockKind) (Gives : ℤ → Type 0) (script : List ℕ
   pub entered : AreEntered list final
   pub crash : (t : Told) → IsTold entries mutations t → Lasts journal before t → (i : Image) → after.may_leave i → IsLeft mutations list final i
   pub lists : (t : Told) → IsTold entries mutations t → Lasts journal before t → During SameListing before after
+  pub numbers : (t : Told) → IsTold entries mutations t → Lasts journal before t → (n : ℕ) → n < (said_by entries).shards
+      → AscendByOne ((openings n).number ∷ numbers_of n (accepted_in list))
   pub faults : final.disk.faults ≡ faults_now
   pub reads_are : final.disk.reads ≡ reads
   pub ended : why ≡ with_faults faults_before faults_now reads told

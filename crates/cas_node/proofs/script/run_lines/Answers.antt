@@ -4,6 +4,7 @@ use Rattle.cas_journal.specs.Stores.{SameTables}
 use Rattle.cas_room.proofs.Settling.{tables_twice}
 use Rattle.cas_node.specs.Inner.Turns.{IsToldSo}
 use Rattle.cas_node.proofs.SessionLemmas.{all_so_far_none, all_so_far_more, all_ran_cut, lists_more, worse_told}
+use Rattle.cas_sessions.proofs.Going.{numbers_more}
 use Rattle.cas_node.proofs.script.run_lines.Goals as goal
 
 pub loop-rest-init : goal.loop-rest-init
@@ -33,11 +34,18 @@ returns-in-Some-clause-lists g c =
 pub returns-clause-lists : goal.returns-clause-lists
 returns-clause-lists g c = c.loop-rest.invariant.so_far.1
 
+pub returns-in-Some-clause-numbers : goal.returns-in-Some-clause-numbers
+returns-in-Some-clause-numbers g c = numbers_more _ _ _ c.loop-rest.invariant.so_far.2 c.take_turn-turn.ensures.numbers
+
+pub returns-clause-numbers : goal.returns-clause-numbers
+returns-clause-numbers g c = c.loop-rest.invariant.so_far.2
+
 pub loop-rest-preserved : goal.loop-rest-preserved
 loop-rest-preserved g c = record {
   so_far =
       all_so_far_more c.args.ask.now.kind (g.C.Clock.may_give c.args.ask.now.clock.now) _ _ _ _ _ _ _ _ _ _ _ _ _ _ _ _ _
-      c.loop-rest.invariant.so_far c.next_line.ensures.lines c.take_turn-turn.ensures.turned c.take_turn-turn.ensures.lists c.in_default.is c.worse-cause.ensures;
+      c.loop-rest.invariant.so_far c.next_line.ensures.lines c.take_turn-turn.ensures.turned c.take_turn-turn.ensures.lists c.take_turn-turn.ensures.numbers c.in_default.is
+      c.worse-cause.ensures;
   tables = tables_twice _ _ _ c.loop-rest.invariant.tables c.take_turn-turn.ensures.tables;
   told = subst IsToldSo (sym c.worse-cause.ensures) (worse_told _ _ c.loop-rest.invariant.told c.take_turn-turn.ensures.told);
   few = omega (arith, c.loop-rest.invariant.few, c.next_line.ensures.shorter, c.take_turn-turn.ensures.counts.0);

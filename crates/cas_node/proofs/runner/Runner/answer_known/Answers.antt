@@ -1,10 +1,11 @@
-use Rattle.std.proofs.Common.{arith}
+use Rattle.std.proofs.Common.{refl, arith}
 use Rattle.std.proofs.lemmas.Int.{ints}
 use Rattle.cas_node.proofs.Answered.{answers_clock, answers_statement, says_moment}
 use Rattle.cas_sessions.proofs.Answering.{says_spelled, stands_at}
 use Rattle.cas_disk.proofs.Moments.{no_call}
 use Rattle.cas_journal.specs.Stores.{SameTables}
 use Rattle.cas_sessions.proofs.Listing.{lists_nothing}
+use Rattle.cas_sessions.proofs.Going.{numbers_none}
 use Rattle.cas_node.proofs.runner.Runner.answer_known.Goals as goal
 
 pub set_clock-requires : goal.set_clock-requires
@@ -40,3 +41,12 @@ returns-in-Syntax-clause-lists g c = lists_nothing _ _
 
 pub returns-in-Statement-clause-lists : goal.returns-in-Statement-clause-lists
 returns-in-Statement-clause-lists g c = c.answer-answer.ensures.lists c.args.self.now.seconds
+
+pub returns-in-Blank-clause-numbers : goal.returns-in-Blank-clause-numbers
+returns-in-Blank-clause-numbers g c = numbers_none _ _ refl refl
+
+pub returns-in-Syntax-clause-numbers : goal.returns-in-Syntax-clause-numbers
+returns-in-Syntax-clause-numbers g c = numbers_none _ _ refl refl
+
+pub returns-in-Statement-clause-numbers : goal.returns-in-Statement-clause-numbers
+returns-in-Statement-clause-numbers g c = c.answer-answer.ensures.numbers c.args.self.now.seconds

@@ -1,9 +1,10 @@
-use Rattle.std.proofs.Common.{arith}
+use Rattle.std.proofs.Common.{refl, arith}
 use Rattle.cas_sessions.proofs.Crashing.{amid_nothing}
 use Rattle.cas_sessions.proofs.Performing.{found_spelled, performs_nothing, performs_statement, tells_nothing}
 use Rattle.cas_disk.proofs.Moments.{no_call}
 use Rattle.cas_journal.specs.Stores.{SameTables}
 use Rattle.cas_sessions.proofs.Listing.{lists_nothing}
+use Rattle.cas_sessions.proofs.Going.{numbers_none}
 use Rattle.cas_sessions.proofs.node.Node.answer_text.Goals as goal
 
 pub answer-requires-clause-spelled : goal.answer-requires-clause-spelled
@@ -31,3 +32,6 @@ returns-in-Err-clause-tables g c = no_call SameTables _
 
 pub returns-in-Err-clause-lists : goal.returns-in-Err-clause-lists
 returns-in-Err-clause-lists g c = λ at. lists_nothing _ _
+
+pub returns-in-Err-clause-numbers : goal.returns-in-Err-clause-numbers
+returns-in-Err-clause-numbers g c = λ at. numbers_none _ _ refl refl

@@ -16,6 +16,7 @@ use Rattle.cas_sessions.proofs.Crashing.{amid_defined, amid_nothing, fits_told}
 use Rattle.cas_disk.proofs.Moments.{no_call}
 use Rattle.cas_journal.specs.Stores.{SameTables}
 use Rattle.cas_sessions.proofs.Listing.{going_on, lists_nothing, lists_told, lists_untold}
+use Rattle.cas_sessions.proofs.Going.{numbers_none}
 use Rattle.cas_sessions.proofs.node.Node.create.Goals as goal
 
 pub returns-in-Err-clause-changes : goal.returns-in-Err-clause-changes
@@ -142,3 +143,12 @@ pub returns-clause-lists : goal.returns-clause-lists
 returns-clause-lists g c = λ clock h found told stands lasts.
     lists_told _ _ _ told lasts.keeps.lasts (Schema c.args.table) tt (going_on _ _ _ _ _ c.in_default-define.ensures.outcome).0
     (c.define.ensures.crash told lasts.keeps.lasts (fits_told h found _ _ told (bounds.Create c.args.table) (Schema c.args.table) c.requires.told c.args.self.now.sound.some lasts))
+
+pub returns-in-Err-clause-numbers : goal.returns-in-Err-clause-numbers
+returns-in-Err-clause-numbers g c = λ clock. numbers_none _ _ refl refl
+
+pub returns-in-Err-define-clause-numbers : goal.returns-in-Err-define-clause-numbers
+returns-in-Err-define-clause-numbers g c = λ clock. numbers_none _ _ (ap (λ log. listed log_list log.pass.saw) c.define.ensures.log) refl
+
+pub returns-clause-numbers : goal.returns-clause-numbers
+returns-clause-numbers g c = λ clock. numbers_none _ _ (ap (λ log. listed log_list log.pass.saw) c.define.ensures.log) refl

@@ -28,3 +28,6 @@ returns-in-Read-clause-crash g c = λ at h found told stands lasts.
 
 pub returns-in-Read-clause-lists : goal.returns-in-Read-clause-lists
 returns-in-Read-clause-lists g c = λ at. c.read.ensures.lists c.args.session.now.seat.list c.args.session.now.seat.calls at
+
+pub returns-in-Read-clause-numbers : goal.returns-in-Read-clause-numbers
+returns-in-Read-clause-numbers g c = λ at. c.read.ensures.numbers c.args.session.now.seat.list c.args.session.now.seat.calls at

@@ -1,4 +1,4 @@
-use Rattle.std.proofs.Common.{◌≡◌, ◌∙◌, ℤ, Err, rules, of_z, to_z, w64, sym, ap, subst}
+use Rattle.std.proofs.Common.{◌≡◌, ◌∙◌, ℤ, Err, rules, of_z, to_z, w64, refl, sym, ap, subst}
 use Rattle.std.proofs.lemmas.Int.{to_z-of_z}
 use Rattle.std.proofs.lemmas.Option.{slice_get_read}
 use Rattle.std.specs.Prelude.{slice_get}
@@ -13,6 +13,7 @@ use Rattle.cas_sessions.proofs.Telling.{true_of_read}
 use Rattle.cas_disk.proofs.Moments.{no_call}
 use Rattle.cas_journal.specs.Stores.{SameTables}
 use Rattle.cas_sessions.proofs.Listing.{lists_nothing}
+use Rattle.cas_sessions.proofs.Going.{numbers_raised}
 use Rattle.cas_sessions.proofs.node.Node.read.Goals as goal
 
 pub returns-in-Ok-clause-shows : goal.returns-in-Ok-clause-shows
@@ -73,3 +74,15 @@ returns-in-Ok-clause-lists g c = λ session calls clock. lists_nothing _ _
 
 pub returns-in-Err-clause-lists : goal.returns-in-Err-clause-lists
 returns-in-Err-clause-lists g c = λ session calls clock. lists_nothing _ _
+
+pub returns-in-Ok-clause-numbers : goal.returns-in-Ok-clause-numbers
+returns-in-Ok-clause-numbers g c = λ session calls clock.
+    numbers_raised _ _ c.args.read.shard c.index_mut.result.now c.look.new.self
+    (slice_get_read c.args.self.now.shards.items c.args.self.now.limits.shards c.args.read.shard c.index_mut.result.now (sym c.args.self.now.sound.count) c.requires.within.0 c.index_mut.ensures.value)
+    refl refl c.look.ensures.number
+
+pub returns-in-Err-clause-numbers : goal.returns-in-Err-clause-numbers
+returns-in-Err-clause-numbers g c = λ session calls clock.
+    numbers_raised _ _ c.args.read.shard c.index_mut.result.now c.look.new.self
+    (slice_get_read c.args.self.now.shards.items c.args.self.now.limits.shards c.args.read.shard c.index_mut.result.now (sym c.args.self.now.sound.count) c.requires.within.0 c.index_mut.ensures.value)
+    refl refl c.look.ensures.number

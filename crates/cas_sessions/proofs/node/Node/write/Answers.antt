@@ -21,6 +21,7 @@ use Rattle.cas_disk.proofs.Moments.{no_call}
 use Rattle.cas_journal.specs.Stores.{SameTables}
 use Rattle.cas_room.proofs.Settling.{tables_twice}
 use Rattle.cas_sessions.proofs.Listing.{going_on, lists_held, lists_nothing, lists_room, lists_untaken, listing_twice}
+use Rattle.cas_sessions.proofs.Going.{numbers_raised, numbers_taken}
 use Rattle.cas_sessions.proofs.node.Node.write.Goals as goal
 
 -- src/writing.rt:56:49
@@ -316,3 +317,37 @@ returns-in-Err-commit-clause-lists g c = λ clock h found told stands lasts.
     let going = going_on _ _ _ _ _ c.in-Ok-accept.ensures.outcome.1 in
     listing_twice _ _ _ (lists_room _ _ _ told lasts.keeps.lasts going.0 (c.accept.ensures.crash told lasts.keeps.lasts))
     (lists_held _ _ _ (took c.in-Ok.mutation got.0) got.2.lasts going.1 (c.commit.ensures.crash _ got.2.lasts))
+
+pub returns-in-Err-Refused-clause-numbers : goal.returns-in-Err-Refused-clause-numbers
+returns-in-Err-Refused-clause-numbers g c = λ clock.
+    numbers_raised _ _ c.args.write.shard c.index_mut.result.now c.prepare.new.self
+    (slice_get_read c.args.self.now.shards.items c.args.self.now.limits.shards c.args.write.shard c.index_mut.result.now (sym c.args.self.now.sound.count) c.requires.within.0 c.index_mut.ensures.value)
+    refl refl c.prepare.ensures.number
+
+pub returns-in-Err-Mem-clause-numbers : goal.returns-in-Err-Mem-clause-numbers
+returns-in-Err-Mem-clause-numbers g c = λ clock.
+    numbers_raised _ _ c.args.write.shard c.index_mut.result.now c.prepare.new.self
+    (slice_get_read c.args.self.now.shards.items c.args.self.now.limits.shards c.args.write.shard c.index_mut.result.now (sym c.args.self.now.sound.count) c.requires.within.0 c.index_mut.ensures.value)
+    refl refl c.prepare.ensures.number
+
+pub returns-in-Err-clause-numbers : goal.returns-in-Err-clause-numbers
+returns-in-Err-clause-numbers g c = λ clock.
+    numbers_raised _ _ c.args.write.shard c.index_mut.result.now c.prepare.new.self
+    (slice_get_read c.args.self.now.shards.items c.args.self.now.limits.shards c.args.write.shard c.index_mut.result.now (sym c.args.self.now.sound.count) c.requires.within.0 c.index_mut.ensures.value)
+    refl c.in-Err.ensures.unentered.0 c.prepare.ensures.number
+
+pub returns-in-Ok-commit-clause-numbers : goal.returns-in-Ok-commit-clause-numbers
+returns-in-Ok-commit-clause-numbers g c = λ clock.
+    numbers_taken _ _ c.args.write.shard c.index_mut.result.now c.enter.new.self
+    (slice_get_read c.args.self.now.shards.items c.args.self.now.limits.shards c.args.write.shard c.index_mut.result.now (sym c.args.self.now.sound.count) c.requires.within.0 c.index_mut.ensures.value)
+    (set_twice c.args.self.now.shards.items c.args.write.shard c.prepare.new.self c.enter.new.self) c.in-Ok.mutation _ _
+    (ap (λ l. listed log_list l.pass.saw) c.commit.ensures.log ∙ c.in-Ok-accept.ensures.entered.0) c.in-Ok.ensures.ready.shard
+    (c.in-Ok.ensures.prepared.next ∙ ap (λ k. k + 1) c.prepare.ensures.number) c.enter.ensures.number
+
+pub returns-in-Err-commit-clause-numbers : goal.returns-in-Err-commit-clause-numbers
+returns-in-Err-commit-clause-numbers g c = λ clock.
+    numbers_taken _ _ c.args.write.shard c.index_mut.result.now c.enter.new.self
+    (slice_get_read c.args.self.now.shards.items c.args.self.now.limits.shards c.args.write.shard c.index_mut.result.now (sym c.args.self.now.sound.count) c.requires.within.0 c.index_mut.ensures.value)
+    (set_twice c.args.self.now.shards.items c.args.write.shard c.prepare.new.self c.enter.new.self) c.in-Ok.mutation _ _
+    (ap (λ l. listed log_list l.pass.saw) c.commit.ensures.log ∙ c.in-Ok-accept.ensures.entered.0) c.in-Ok.ensures.ready.shard
+    (c.in-Ok.ensures.prepared.next ∙ ap (λ k. k + 1) c.prepare.ensures.number) c.enter.ensures.number
