@@ -1,12 +1,9 @@
 -- A manifest has one list of entries.
-use Rattle.std.proofs.Common.{◌≡◌, ◌≢◌, ◌∙◌, ℕ, ◌+◌, ◌<◌, ◌^◌, List, [], ◌∷◌, ◌++◌, length, Some, Result, Ok, refl, sym, ap, subst, append_assoc, arith}
+use Rattle.std.proofs.Common.{◌≡◌, ◌≢◌, ◌∙◌, ℕ, ◌+◌, List, [], ◌∷◌, ◌++◌, length, Result, Ok, refl, sym, ap, subst, append_assoc, arith}
 use Rattle.std.proofs.lemmas.List.{append_cancel_left}
-use Rattle.std.proofs.lemmas.Option.{same_Some}
 use Rattle.cas_codec.specs.Fields.{u32}
 use Rattle.cas_codec.specs.Reading.{Left}
 use Rattle.cas_codec.proofs.FieldLaws.{u32_field}
-use Rattle.cas_disk.specs.declared.name.Name.TheVariants.{Manifest as manifest_name}
-use Rattle.cas_disk.specs.Disk.{Image}
 use Rattle.cas_changes.specs.declared.entry.Entry.{Entry}
 use Rattle.cas_changes.specs.Saying.{Saying, IsSaid, after, nothing}
 use Rattle.cas_changes.specs.Allowed.{FitsNext}
@@ -14,7 +11,7 @@ use Rattle.cas_changes.specs.Spelling.{entry_bytes}
 use Rattle.cas_changes.specs.Reading.{entry_at}
 use Rattle.cas_changes.proofs.EntryLaws.{entry_exact}
 use Rattle.cas_changes.proofs.EntryLengths.{entry_short}
-use Rattle.cas_manifest.specs.File.{IsManifest, MayFollow, block, front, lengths, opened}
+use Rattle.cas_manifest.specs.File.{IsManifest, MayFollow, block, lengths, opened}
 use Rattle.cas_manifest.proofs.ManifestLaws.{is_said_after, magic, none_said}
 
 ok_same : {A E : Type 0} (x y : A) (r : Result A E) → r ≡ Ok x → r ≡ Ok y → x ≡ y

@@ -1,5 +1,5 @@
 -- What a crash left explains the history.
-use Rattle.std.proofs.Common.{◌≡◌, ◌≢◌, ◌⊎◌, inl, inr, ⊎_elim, ◌∙◌, ◌≤◌, ◌<◌, ◌+◌, ◌*◌, ◌==◌, max, ℕ, ℤ, zero, suc, Bool, true, false, cond, Option, None, Some, List, [], ◌∷◌, ◌++◌, length, filter, map, refl, sym, ap, subst, append-nil, append_assoc, length-append, take, arith}
+use Rattle.std.proofs.Common.{◌≡◌, ◌⊎◌, inl, inr, ⊎_elim, ◌∙◌, ◌≤◌, ◌<◌, ◌+◌, ◌*◌, ◌==◌, max, ℕ, zero, suc, Bool, true, false, cond, Option, Some, List, [], ◌∷◌, ◌++◌, length, filter, map, refl, sym, ap, subst, append-nil, append_assoc, length-append, take, arith}
 use Rattle.std.specs.Prelude.{if◌then◌else◌, nat_lt, replicate, slice_get, unwrap_or}
 use Rattle.std.specs.Int.{int_max}
 use Rattle.std.specs.List.{AllByRecursion, fold}
@@ -26,17 +26,16 @@ use Rattle.cas_changes.specs.declared.entry.Entry.{Entry}
 use Rattle.cas_changes.specs.declared.entry.Entry.TheVariants as entry
 use Rattle.cas_changes.specs.declared.said.Part.{Part}
 use Rattle.cas_changes.specs.Allowed.{FitsEntry}
-use Rattle.cas_changes.specs.Saying.{Saying, after, has_file, no_part, no_times, nothing, part_after, part_of, place_in, said_by, with_columns}
+use Rattle.cas_changes.specs.Saying.{Saying, after, no_part, no_times, nothing, part_after, part_of, place_in, said_by, with_columns}
 use Rattle.cas_manifest.specs.File.{MayFollow}
 use Rattle.cas_log.specs.Segment.{joined}
-use Rattle.cas_replay.specs.Grammar.{AreOfALog, AreSegments, AscendByOne, numbers_of}
+use Rattle.cas_replay.specs.Grammar.{AreSegments, AscendByOne, numbers_of}
 use Rattle.cas_journal.specs.Stores.{IsStore}
 use Rattle.cas_journal.proofs.Fitting.{no_keys}
 use Rattle.cas_opening.specs.Opening.{IsListedTable, IsOfBytes, is_above}
 use Rattle.cas_listed.specs.Listed.{StandInFiles}
 use Rattle.cas_shard.specs.declared.entry.Entry.TheVariants.{Wrote}
 use Rattle.cas_shard.specs.declared.entry.ShardOpening.{ShardOpening}
-use Rattle.cas_shard.specs.Entries.{last_number}
 use Rattle.cas_shard.specs.Shards.{empty_shard, restored}
 use Rattle.cas_shard.specs.Stands.{SaySame, mutations_of, of_table}
 use Rattle.cas_shard.proofs.Memory.{say_alike, say_before}
@@ -45,7 +44,7 @@ use Rattle.cas_recovery.specs.Found.{AreOfAStore, found_in}
 use Rattle.cas_recovery.specs.Openings.{AreOpenings, IsOpening, SayAll, greatest_frontier, times_of, unflushed_of}
 use Rattle.cas_recovery.proofs.Explained.{as_opening}
 use Rattle.cas_recovery.proofs.Founding.{numbers_more, one_more, step}
-use Rattle.cas_recovery.proofs.Places.{get_within, is_other, is_same, length_set, same_place}
+use Rattle.cas_recovery.proofs.Places.{get_within, is_other, is_same, length_set}
 use Rattle.cas_recovery.proofs.Standing.{AreAlike, all_listed, own_file}
 use Rattle.cas_recovery.proofs.Within.{all_filtered}
 use Rattle.cas_room.specs.Rooms.{accepted_in}
