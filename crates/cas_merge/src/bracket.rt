@@ -1,6 +1,6 @@
 //! Sources joined in pairs, and pairs in pairs.
 
-ghost use Rattle.std.specs.Prelude.{◌≡◌, ◌⊎◌, List, Option, Some, OnOk, IfErr, alloc_error, ◌≤◌, ◌+◌, ◌∷◌};
+ghost use Rattle.std.specs.Prelude.{◌≡◌, ◌⊎◌, List, Option, Some, OnOk, IfErr, alloc_error, ◌≤◌, ◌+◌, ◌∷◌, ℕ};
 ghost use Rattle.cas_streams.specs.Sources.{TakesFirst, Shrinks};
 ghost use Rattle.cas_streams.specs.Merged.{Draw, entered};
 ghost use Rattle.cas_streams.specs.Joined.{Stream};
@@ -9,6 +9,7 @@ ghost use Rattle.cas_streams.specs.Joined.{raised, opened};
 ghost use Rattle.cas_streams.specs.Settled.{settled_from};
 ghost use Rattle.cas_merge.specs.Told.{IsBrokenBy};
 ghost use Rattle.cas_merge.specs.Inner.Brackets.{coming, room, with_next, side_room, ahead_of, IsAsked, Steps, Lessens, fresh, left_to_come, IsFresh, Tells};
+ghost use Rattle.cas_merge.specs.Inner.Said.{opened_by};
 
 use crate::joining::{joined_fragment, opened, opened_by, raised};
 use crate::places::compare_fragments;
@@ -236,9 +237,58 @@ impl<I: FragmentSource> Bracket<I> {
         self.search_left(alloc, top, now)
     }
 
+    // What is left of what came next, in its place: of a fragment, or else of the next one of which something is.
+    #[inline(never)]
+    fn leave(
+        &mut self,
+        alloc: Global,
+        top: Option<Deletion>,
+        before: Option<Deletion>,
+        next: &mut Result<Option<Fragment>, I::Fault>,
+        now: &mut Option<Deletion>,
+    )
+        requires { now.old ≡ opened_by before next.old }
+        ensures first { (told : Option (List Fragment)) → ((gs : List Fragment) → told ≡ Some gs → TakesFirst gs (coming I.to_come self.old) next.old)
+            → (fs : List Fragment) → left_to_come top before told ≡ Some fs → TakesFirst fs (left_to_come top now.new (coming I.to_come self.new)) next.new }
+        ensures ends { (n : ℕ) → Shrinks n (room I.at_most self.old) next.old → Shrinks n (room I.at_most self.new) next.new }
+        ensures causes { IfErr next.old (λ e. IsBrokenBy I.broken_by e self.old ⊎ I.Fault.from_gives alloc_error e)
+            → IfErr next.new (λ e. IsBrokenBy I.broken_by e self.new ⊎ I.Fault.from_gives alloc_error e) }
+    {
+        match mem::replace(next, Ok(None)) {
+            Ok(Some(f)) => {
+                let found = self.left_from(alloc, top, before, f, now);
+                drop(mem::replace(next, found));
+            }
+            Ok(None) => {}
+            Err(fault) => drop(mem::replace(next, Err(fault))),
+        }
+    }
+
+    // The same, where what goes on as it is stays where it stands.
+    #[inline]
+    fn settle(
+        &mut self,
+        alloc: Global,
+        top: Option<Deletion>,
+        before: Option<Deletion>,
+        next: &mut Result<Option<Fragment>, I::Fault>,
+        now: &mut Option<Deletion>,
+    )
+        requires { now.old ≡ opened_by before next.old }
+        ensures first { (told : Option (List Fragment)) → ((gs : List Fragment) → told ≡ Some gs → TakesFirst gs (coming I.to_come self.old) next.old)
+            → (fs : List Fragment) → left_to_come top before told ≡ Some fs → TakesFirst fs (left_to_come top now.new (coming I.to_come self.new)) next.new }
+        ensures ends { (n : ℕ) → Shrinks n (room I.at_most self.old) next.old → Shrinks n (room I.at_most self.new) next.new }
+        ensures causes { IfErr next.old (λ e. IsBrokenBy I.broken_by e self.old ⊎ I.Fault.from_gives alloc_error e)
+            → IfErr next.new (λ e. IsBrokenBy I.broken_by e self.new ⊎ I.Fault.from_gives alloc_error e) }
+    {
+        if goes_whole(top, before, next) {
+            return;
+        }
+        self.leave(alloc, top, before, next, now);
+    }
+
     /// The next fragment of the merge: the next of which, under the top and what is in force, something
     /// is left.
-    // One of which all is left is given on where it stands: it is moved as seldom as can be.
     #[inline]
     pub fn next_left(
         &mut self,
@@ -251,17 +301,11 @@ impl<I: FragmentSource> Bracket<I> {
         ensures ends { Shrinks (room I.at_most self.old) (room I.at_most self.new) result }
         ensures causes { IfErr result (λ e. IsBrokenBy I.broken_by e self.new ⊎ I.Fault.from_gives alloc_error e) }
     {
-        let next = self.first(alloc);
+        let mut next = self.first(alloc);
         let before = *now;
         *now = opened_by(before, &next);
-        if goes_whole(top, before, &next) {
-            return next;
-        }
-        match next {
-            Ok(Some(f)) => self.left_from(alloc, top, before, f, now),
-            Ok(None) => Ok(None),
-            Err(fault) => Err(fault),
-        }
+        self.settle(alloc, top, before, &mut next, now);
+        next
     }
 
     // Asks for the side's next fragment, if it wasn't asked for.
