@@ -94,7 +94,7 @@ impl<I: FragmentSource> Merger<I> {
 
     // Lets the sources that wait enter the pairs.
     #[inline(never)]
-    fn begin(&mut self) -> Result<(), AllocError>
+    fn begin(&mut self) -> Result<(), I::Fault>
         requires { self.old.broken ≡ None }
         ensures top { self.new.top ≡ self.old.top }
         ensures broken { self.new.broken ≡ self.old.broken }
@@ -102,6 +102,7 @@ impl<I: FragmentSource> Merger<I> {
         ensures told { OnOk result ((ss : List Stream) → streams_told I.to_come I.over_all self.old.waiting.items ≡ Some ss
             → coming I.to_come self.new.bracket ≡ Some (joined_all (draw ss)).fragments) }
         ensures room { OnOk result (room I.at_most self.new.bracket ≡ rooms I.at_most self.old.waiting.items) }
+        ensures causes { IfErr result (λ e. I.Fault.from_gives alloc_error e) }
     {
         let alloc = *self.waiting.allocator();
         let sources = mem::replace(&mut self.waiting, Vec::new(alloc));
@@ -111,10 +112,37 @@ impl<I: FragmentSource> Merger<I> {
         Ok(())
     }
 
-    // The next fragment, of a merger that isn't broken.
+    // The same, where any wait. A fault breaks the merger.
+    #[inline]
+    fn start(&mut self) -> Result<(), I::Fault>
+        requires { self.old.broken ≡ None }
+        ensures top { self.new.top ≡ self.old.top }
+        ensures begun { OnOk result (self.new.waiting.items ≡ []) }
+        ensures told { OnOk result ((fs : List Fragment) → merger_to_come I.to_come I.over_all self.old.top self.old.in_force self.old.waiting.items
+            self.old.bracket ≡ Some fs → merger_to_come I.to_come I.over_all self.new.top self.new.in_force self.new.waiting.items
+            self.new.bracket ≡ Some fs) }
+        ensures room { OnOk result (merger_room I.at_most self.new.waiting.items self.new.bracket
+            ≡ merger_room I.at_most self.old.waiting.items self.old.bracket) }
+        ensures sound { OnOk result (self.new.broken ≡ None) }
+        ensures broken { IfErr result (λ e. self.new.broken ≡ Some e) }
+    {
+        if self.waiting.is_empty() {
+            return Ok(());
+        }
+        match self.begin() {
+            Ok(()) => Ok(()),
+            Err(fault) => {
+                self.broken = Some(fault);
+                Err(fault)
+            }
+        }
+    }
+
+    // The next fragment, of a merger that isn't broken and of which no source waits.
     #[inline]
     fn advance(&mut self) -> Result<Option<Fragment>, I::Fault>
-        requires { self.old.broken ≡ None }
+        requires sound { self.old.broken ≡ None }
+        requires begun { self.old.waiting.items ≡ [] }
         ensures top { self.new.top ≡ self.old.top }
         ensures broken { self.new.broken ≡ self.old.broken }
         ensures first { (fs : List Fragment) → merger_to_come I.to_come I.over_all self.old.top self.old.in_force self.old.waiting.items
@@ -124,9 +152,6 @@ impl<I: FragmentSource> Merger<I> {
             (merger_room I.at_most self.new.waiting.items self.new.bracket) result }
         ensures causes { IfErr result (λ e. IsBrokenBy I.broken_by e self.new.bracket ⊎ I.Fault.from_gives alloc_error e) }
     {
-        if !self.waiting.is_empty() {
-            self.begin()?;
-        }
         let alloc = *self.waiting.allocator();
         self.bracket.next_left(alloc, self.top, &mut self.in_force)
     }
@@ -166,6 +191,9 @@ impl<I: FragmentSource> FragmentSource for Merger<I> {
             self.new.bracket)) }
     {
         if let Some(fault) = self.broken {
+            return Err(fault);
+        }
+        if let Err(fault) = self.start() {
             return Err(fault);
         }
         let answer = self.advance();
