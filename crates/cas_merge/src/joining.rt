@@ -203,7 +203,7 @@ pub fn opened(now: Option<Deletion>, f: &Fragment) -> Option<Deletion>
 }
 
 /// What is in force after what came next.
-#[inline(never)]
+#[inline]
 pub(crate) fn opened_by<E>(
     now: Option<Deletion>,
     next: &Result<Option<Fragment>, E>,

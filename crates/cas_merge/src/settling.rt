@@ -210,7 +210,7 @@ fn is_left_whole(top: Option<Deletion>, now: Option<Deletion>, f: &Fragment) -> 
 }
 
 /// Whether what came next goes on as it is.
-#[inline(never)]
+#[inline]
 pub(crate) fn goes_whole<E>(
     top: Option<Deletion>,
     now: Option<Deletion>,
