@@ -69,7 +69,8 @@ pub fn recover<F: Folder>(
 ) -> Result<Started<F::Sealed>, RecoveryFault>
     requires shards { IsShardCount limits.now.shards }
     requires size { IsSize limits.now.segment }
-    ensures recovered { IfOk result (λ s. IsRecovered limits.now s.limits s.tables.items s.shards.items s.journal (F.disk folder.old) (F.disk folder.new)) }
+    ensures recovered { IfOk result (λ s. IsRecovered limits.now s.limits s.tables.items s.shards.items s.last_file s.live s.journal
+        (F.disk folder.old) (F.disk folder.new)) }
     ensures readable { IfOk result (λ s. MayBeRead s.tables.items s.shards.items) }
     ensures runs { IfOk result (λ s. (s.journal.first ≡ None) × (s.journal.size ≡ limits.now.segment) × AreFree s.journal (F.disk folder.new)) }
     ensures refused { (name : _) (at : ℕ) → IsErrOf result (RecoveryFault.Bad name at) → (c : Image) → (F.disk folder.old).reads c → IsOfBytes c
