@@ -30,7 +30,8 @@ use Rattle.cas_recovery.specs.declared.filling.TheConstants.{VERSION_PLACE}
 -- The store of a folder was read back: its limits and tables are what the manifest's entries say, each shard stands for whatever it may have been before,
 -- its tables have the files that are listed, and its journal goes on behind the log's mutations, which last. The last number of a table file is the greatest
 -- under which one was ever listed, and so many are live as are listed.
-pub record IsRecovered (given limits : Limits) (tables : List TableSchema) (shards : List ShardState) (last live : ℕ) (journal : Journal) (old new : Disk) : Type 0 where
+pub record IsRecovered (given limits : Limits) (tables : List TableSchema) (shards : List ShardState) (last live : ℕ) (journal : Journal)
+    (old new : Disk) : Type 0 where
   pub entries : List ManifestEntry
   pub mutations : List Mutation
   pub found : IsFound given.shards old entries mutations
