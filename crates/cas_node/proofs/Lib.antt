@@ -1,6 +1,7 @@
 mod Answered
 mod Stopping
 mod Blaming
+mod Staying
 mod RunLemmas
 mod NumbersRise
 mod OneOutcome

@@ -22,7 +22,9 @@ use Rattle.cas_sessions.specs.History.{History}
 use Rattle.cas_node.specs.Lines.{Answers, Runs}
 use Rattle.cas_node.specs.Text.{output, line_text}
 use Rattle.cas_node.specs.Ran.{RanFrom, reply_cause, worse, worst, at_the_end, at_the_sink, for_memory}
+use Rattle.cas_sessions.specs.Listing.{KeepsListing}
 use Rattle.cas_sessions.specs.Nodes.{State, GoesOnTo, Moves}
+use Rattle.cas_sessions.proofs.Listing.{listing_twice, lists_nothing}
 use Rattle.cas_node.specs.Inner.Turns.{IsEnd, IsToldSo, Turned, Printed, PrintedReply, StopsFor}
 
 -- ---- text
@@ -216,15 +218,18 @@ module _ (kind : ClockKind) (Gives : ℤ → Type 0) where
 
   -- ---- of a store
 
-  -- from whichever history the store stood for, the lines so far were run
+  -- from whichever history the store stood for, the lines so far were run, and the manifest lists the table files that it listed
   abbrev pub AllSoFar : State → State → Disk → Disk → List ℕ → List ℕ → Option (List ℕ) → Option (List ℕ) → Cause → Type 0
-  AllSoFar s t old new script rest out now why = Moves (λ h after. SoFar kind Gives h script rest out now after why) s t old new
+  AllSoFar s t old new script rest out now why = Moves (λ h after. SoFar kind Gives h script rest out now after why) s t old new × KeepsListing s old new
 
   pub all_so_far_none : (s : State) (d : Disk) (script : List ℕ) (out : Option (List ℕ)) → AllSoFar s s d d script script out out cause.Good
-  all_so_far_none s d script out h stands = (
-    h,
-    record { run = []; replies = []; cut = refl; steps = refl; written = Appends-nil out; told = refl },
-    record { stands = stands; lasts = λ found told lasts. (told, lasts) },
+  all_so_far_none s d script out = (
+    λ h stands. (
+      h,
+      record { run = []; replies = []; cut = refl; steps = refl; written = Appends-nil out; told = refl },
+      record { stands = stands; lasts = λ found told lasts. (told, lasts) },
+    ),
+    lists_nothing s d,
   )
 
   on_from : (h k l : History) (s t u : State) (d e f : Disk) → GoesOnTo h k s t d e → GoesOnTo k l t u e f → GoesOnTo h l s u d f
@@ -235,26 +240,37 @@ module _ (kind : ClockKind) (Gives : ℤ → Type 0) where
         two.lasts found now so;
   }
 
+  -- so far the manifest lists the same table files, and so it does through one turn more
+  pub lists_more : (s t : State) (d e f : Disk) (script rest : List ℕ) (out now : Option (List ℕ)) (why : Cause) → AllSoFar s t d e script rest out now why
+      → KeepsListing t e f → KeepsListing s d f
+  lists_more s t d e f script rest out now why so more h found told stands lasts =
+      let (k, ran, goes) = so.0 h stands in
+      let (later, still) = goes.lasts found told lasts in
+      listing_twice d e f (so.1 h found told stands lasts) (more k found later goes.stands still)
+
   pub all_so_far_more : (s t u : State) (d e f : Disk) (script rest after line : List ℕ) (out mid now : Option (List ℕ)) (before x why : Cause) (fault : Option PrintFault)
       → AllSoFar s t d e script rest out mid before → lines rest ≡ line ∷ lines after
       → Moves (λ h after. Turned kind Gives h line after mid now x fault) t u e f
-      → fault ≡ None → why ≡ worse before x → AllSoFar s u d f script after out now why
-  all_so_far_more s t u d e f script rest after line out mid now before x why fault so cut turn none told h stands =
-      let (k, far, one) = so h stands in
-      let (l, turned, two) = turn k one.stands in
-      (l, so_far_more h script rest after line out mid now k l before x why fault far cut turned none told, on_from h k l s t u d e f one two)
+      → KeepsListing t e f → fault ≡ None → why ≡ worse before x → AllSoFar s u d f script after out now why
+  all_so_far_more s t u d e f script rest after line out mid now before x why fault so cut turn lists none told = (
+    λ h stands.
+        let (k, far, one) = so.0 h stands in
+        let (l, turned, two) = turn k one.stands in
+        (l, so_far_more h script rest after line out mid now k l before x why fault far cut turned none told, on_from h k l s t u d e f one two),
+    lists_more s t d e f script rest out mid before so lists,
+  )
 
   pub all_ran_cut : (s t u : State) (d e f : Disk) (script rest after line : List ℕ) (out mid now : Option (List ℕ)) (before x sofar why : Cause) (whole : Option PrintFault)
       (fault : PrintFault) → AllSoFar s t d e script rest out mid before → lines rest ≡ line ∷ lines after
       → Moves (λ h after. Turned kind Gives h line after mid now x whole) t u e f
       → whole ≡ Some fault → sofar ≡ worse before x → StopsFor fault sofar why → Moves (λ h after. RanFrom h kind Gives script out now after why) s u d f
   all_ran_cut s t u d e f script rest after line out mid now before x sofar why whole fault so cut turn some told ends h stands =
-      let (k, far, one) = so h stands in
+      let (k, far, one) = so.0 h stands in
       let (l, turned, two) = turn k one.stands in
       (l, ran_cut h script rest after line out mid now k l before x sofar why whole fault far cut turned some told ends, on_from h k l s t u d e f one two)
 
   pub all_ran_whole : (s t : State) (d e : Disk) (script rest : List ℕ) (out now : Option (List ℕ)) (why : Cause)
       → AllSoFar s t d e script rest out now why → rest ≡ [] → Moves (λ h after. RanFrom h kind Gives script out now after why) s t d e
   all_ran_whole s t d e script rest out now why so none h stands =
-      let (k, far, one) = so h stands in
+      let (k, far, one) = so.0 h stands in
       (k, ran_whole h script rest out now k why far none, one)

@@ -8,7 +8,7 @@ use Rattle.cas_io.specs.Streams.{ReadToEnd}
 use Rattle.cas_io.specs.Causes.{Rose}
 use Rattle.cas_disk.specs.declared.name.Name.{Name}
 use Rattle.cas_disk.specs.declared.name.Name.TheVariants as file
-use Rattle.cas_disk.specs.Disk.{Disk, Image}
+use Rattle.cas_disk.specs.Disk.{Disk, Image, During}
 use Rattle.cas_atoms.specs.declared.atom.Mutation.{Mutation}
 use Rattle.cas_atoms.specs.declared.query.Query.{Query}
 use Rattle.cas_changes.specs.declared.entry.Entry.{Entry as ManifestEntry}
@@ -36,6 +36,7 @@ use Rattle.cas_recovery.specs.Found.{IsFound}
 use Rattle.cas_recovery.specs.Openings.{AreOpenings}
 use Rattle.cas_sessions.specs.Starts.{AreItsFiles, Begins}
 use Rattle.cas_sessions.specs.Entered.{AreEntered, IsLeft}
+use Rattle.cas_sessions.specs.Listing.{HasBehind, SameListed}
 use Rattle.cas_node.specs.Text.{output}
 
 -- ---- how a run ends
@@ -193,8 +194,9 @@ IsBadForOne files (file.Table number) at = (shard : ℕ) × (q : Query) × ∥ I
 IsBadForOne files _ at = ⊥
 
 -- A run of the command over a script, by what the shards of its store were before, and by its table files: from there the script's lines were run; what
--- they entered is the list that is handed back; and whatever a crash leaves of the folder handed back has all that was acknowledged. A write was stopped
--- only where the folder's count of faults rose, so that otherwise all that was accepted is left; and a file is called bad only where it is.
+-- they entered is the list that is handed back; and whatever a crash leaves of the folder handed back has all that was acknowledged, and its manifest lists
+-- the table files that were found and no others. A write was stopped only where the folder's count of faults rose, so that otherwise all that was accepted
+-- is left; and a file is called bad only where it is.
 pub record RanOn (c : Command) (Gives : ℤ → Type 0) (script : List ℕ) (before after : Outside) (reads : ℕ) (list : List (Item Event)) (why : Cause)
     (entries : List ManifestEntry) (mutations : List Mutation) (openings : ℕ → ShardOpening) (files : ℕ → ℕ → List (File Held)) : Type 0 where
   pub first : History
@@ -204,14 +206,16 @@ pub record RanOn (c : Command) (Gives : ℤ → Type 0) (script : List ℕ) (bef
   pub ran : RanFrom first c.clock Gives script before.taken after.taken final told
   pub entered : AreEntered list final
   pub crash : (d : Image) → before.folder.reads d → IsOfBytes d → (i : Image) → after.folder.may_leave i → IsLeft mutations list final i
+  pub lists : (d : Image) → before.folder.reads d → IsOfBytes d → (i : Image) → after.folder.may_leave i → HasBehind entries i
   pub faults : final.disk.faults ≡ after.folder_faults
   pub reads_are : final.disk.reads ≡ reads
   pub counted : final.disk.stopped ≡ true → Rose before.folder_faults after.folder_faults
   pub bad : IfBad why (IsBadForOne files)
   pub ended : why ≡ with_faults before.folder_faults after.folder_faults reads told
 
--- A run of the command over a script: its folder had a store of these entries and mutations, or got one, with these table files; and whatever its shards
--- may have been before, for all that the folder tells, the script was run over that.
+-- A run of the command over a script: its folder had a store of these entries and mutations, or got one, with these table files; whatever a crash leaves
+-- at any moment of the run has each of these files, all of its bytes, as it would have been left before the run; and whatever its shards may have been
+-- before, for all that the folder tells, the script was run over that.
 pub record Ran (c : Command) (Gives : ℤ → Type 0) (script : List ℕ) (before after : Outside) (reads : ℕ) (list : List (Item Event)) (why : Cause)
     : Type 0 where
   pub entries : List ManifestEntry
@@ -219,6 +223,7 @@ pub record Ran (c : Command) (Gives : ℤ → Type 0) (script : List ℕ) (befor
   pub found : IsFound c.limits.shards before.folder entries mutations
   pub files : ℕ → ℕ → List (File Held)
   pub its_files : AreItsFiles entries before.folder files
+  pub tables : (d : Image) → before.folder.reads d → IsOfBytes d → During (SameListed entries) before.folder after.folder
   pub on : (openings : ℕ → ShardOpening) → AreOpenings entries mutations before.folder openings
       → RanOn c Gives script before after reads list why entries mutations openings files
 

@@ -8,7 +8,7 @@ ghost use Rattle.cas_words.specs.Words.{command_of};
 ghost use Rattle.cas_words.specs.declared.words.Command.{Command};
 ghost use Rattle.cas_atoms.specs.declared.atom.Mutation.{Mutation as MutationOf};
 ghost use Rattle.cas_changes.specs.declared.entry.Entry.{Entry as EntryOf};
-ghost use Rattle.cas_journal.specs.Stores.{IsStore};
+ghost use Rattle.cas_journal.specs.Stores.{IsStore, SameTables};
 ghost use Rattle.cas_opening.specs.Opening.{IsOfBytes, MayBeOpened};
 ghost use Rattle.cas_recovery.specs.Recovered.{IsUnreadable};
 ghost use Rattle.cas_node.specs.Ran.{RanAll, IfBad, IfTooLong, IfUnread, AllWell, GoodOrMem, count_taken, has_risen, is_too_long, outside, status_of};
@@ -148,9 +148,10 @@ fn serve<K: Sink, F: Folder, J: Store, C: Clock>(
 ) -> Outcome<F>
     requires table { opened.table.seat.table_id ≡ J.table }
     ensures served { Serves ask.now.kind (C.may_give ask.now.clock.now) script.now (K.took sink.old) (K.took sink.new)
-        opened.started.limits opened.started.tables.items opened.started.shards.items opened.started.journal (F.disk opened.folder)
-        (F.faults_of opened.folder) faults (F.disk result.folder) (F.faults_of result.folder) (⟦<F::Tally as Count>⟧.number result.tally)
-        result.pass result.cause }
+        opened.started.limits opened.started.tables.items opened.started.shards.items opened.started.last_file
+        opened.started.live opened.started.journal (F.disk opened.folder) (F.faults_of opened.folder) faults (F.disk result.folder)
+        (F.faults_of result.folder) (⟦<F::Tally as Count>⟧.number result.tally) result.pass result.cause }
+    ensures tables { During SameTables (F.disk opened.folder) (F.disk result.folder) }
     ensures status { result.status ≡ status_of result.cause }
     ensures unwritten { result.pass ≡ None → sink.new ≡ sink.old }
     ensures kept { result.pass ≡ None → result.folder ≡ opened.folder }

@@ -2,9 +2,11 @@
 
 ghost use Rattle.std.specs.Prelude.{◌≡◌};
 ghost use Rattle.cas_types.specs.Limits.{IsMoment};
-ghost use Rattle.cas_disk.specs.Disk.{Disk};
+ghost use Rattle.cas_disk.specs.Disk.{Disk, During};
+ghost use Rattle.cas_journal.specs.Stores.{SameTables};
 ghost use Rattle.cas_lines.specs.Lines.{Says};
 ghost use Rattle.cas_node.specs.Lines.{Answers, SetsClock};
+ghost use Rattle.cas_sessions.specs.Listing.{KeepsListing};
 ghost use Rattle.cas_sessions.specs.Nodes.{CountsOn, IsFew, Moves, State};
 
 use cas_disk::Folder;
@@ -47,6 +49,9 @@ impl<F: Folder, J: Store> Runner<F, J> {
         ensures sets { Moves (λ h after. SetsClock kind h seconds result after)
             (⟦<Runner<F, J> as Running>⟧.state self.old) (⟦<Runner<F, J> as Running>⟧.state self.new)
             (⟦<Runner<F, J> as Running>⟧.disk self.old) (⟦<Runner<F, J> as Running>⟧.disk self.new) }
+        ensures tables { During SameTables (⟦<Runner<F, J> as Running>⟧.disk self.old) (⟦<Runner<F, J> as Running>⟧.disk self.new) }
+        ensures lists { KeepsListing (⟦<Runner<F, J> as Running>⟧.state self.old)
+            (⟦<Runner<F, J> as Running>⟧.disk self.old) (⟦<Runner<F, J> as Running>⟧.disk self.new) }
         ensures counts { CountsOn (⟦<Runner<F, J> as Running>⟧.state self.old) (⟦<Runner<F, J> as Running>⟧.state self.new) }
     {
         match kind {
@@ -69,6 +74,9 @@ impl<F: Folder, J: Store> Runner<F, J> {
         requires says { Says text.now line }
         ensures answers { Moves (λ h after. Answers ask.now.kind (C.may_give ask.now.clock.now) h text.now result after)
             (⟦<Runner<F, J> as Running>⟧.state self.old) (⟦<Runner<F, J> as Running>⟧.state self.new)
+            (⟦<Runner<F, J> as Running>⟧.disk self.old) (⟦<Runner<F, J> as Running>⟧.disk self.new) }
+        ensures tables { During SameTables (⟦<Runner<F, J> as Running>⟧.disk self.old) (⟦<Runner<F, J> as Running>⟧.disk self.new) }
+        ensures lists { KeepsListing (⟦<Runner<F, J> as Running>⟧.state self.old)
             (⟦<Runner<F, J> as Running>⟧.disk self.old) (⟦<Runner<F, J> as Running>⟧.disk self.new) }
         ensures counts { CountsOn (⟦<Runner<F, J> as Running>⟧.state self.old) (⟦<Runner<F, J> as Running>⟧.state self.new) }
     {
@@ -95,6 +103,9 @@ impl<F: Folder, J: Store> Runner<F, J> {
         requires few { IsFew (⟦<Runner<F, J> as Running>⟧.state self.old) }
         ensures answers { Moves (λ h after. Answers ask.now.kind (C.may_give ask.now.clock.now) h line.now result after)
             (⟦<Runner<F, J> as Running>⟧.state self.old) (⟦<Runner<F, J> as Running>⟧.state self.new)
+            (⟦<Runner<F, J> as Running>⟧.disk self.old) (⟦<Runner<F, J> as Running>⟧.disk self.new) }
+        ensures tables { During SameTables (⟦<Runner<F, J> as Running>⟧.disk self.old) (⟦<Runner<F, J> as Running>⟧.disk self.new) }
+        ensures lists { KeepsListing (⟦<Runner<F, J> as Running>⟧.state self.old)
             (⟦<Runner<F, J> as Running>⟧.disk self.old) (⟦<Runner<F, J> as Running>⟧.disk self.new) }
         ensures counts { CountsOn (⟦<Runner<F, J> as Running>⟧.state self.old) (⟦<Runner<F, J> as Running>⟧.state self.new) }
     {

@@ -2,7 +2,10 @@
 
 ghost use Rattle.std.specs.Prelude.{◌≡◌, ◌≤◌, ◌⊎◌, Some};
 ghost use Rattle.cas_io.specs.Causes.{Rose};
+ghost use Rattle.cas_disk.specs.Disk.{During};
+ghost use Rattle.cas_journal.specs.Stores.{SameTables};
 ghost use Rattle.cas_render.specs.Text.{reply_text};
+ghost use Rattle.cas_sessions.specs.Listing.{KeepsListing};
 ghost use Rattle.cas_sessions.specs.Nodes.{CountsOn, IsFew, Moves};
 ghost use Rattle.cas_node.specs.Inner.Turns.{IsEnd, IsToldSo, Printed, PrintedReply, StopsFor, Turned};
 ghost use Rattle.cas_node.specs.Ran.{RanFrom, reply_cause, weight, worse};
@@ -139,6 +142,9 @@ fn take_turn<K: Sink, F: Folder, J: Store, C: Clock>(
         (K.took sink.old) (K.took sink.new) result.cause result.fault)
         (⟦<Runner<F, J> as Running>⟧.state runner.old) (⟦<Runner<F, J> as Running>⟧.state runner.new)
         (⟦<Runner<F, J> as Running>⟧.disk runner.old) (⟦<Runner<F, J> as Running>⟧.disk runner.new) }
+    ensures tables { During SameTables (⟦<Runner<F, J> as Running>⟧.disk runner.old) (⟦<Runner<F, J> as Running>⟧.disk runner.new) }
+    ensures lists { KeepsListing (⟦<Runner<F, J> as Running>⟧.state runner.old)
+        (⟦<Runner<F, J> as Running>⟧.disk runner.old) (⟦<Runner<F, J> as Running>⟧.disk runner.new) }
     ensures counts { CountsOn (⟦<Runner<F, J> as Running>⟧.state runner.old) (⟦<Runner<F, J> as Running>⟧.state runner.new) }
     ensures faults { K.faults sink.old ≤ K.faults sink.new }
     ensures stalls { K.stalls sink.old ≤ K.stalls sink.new }
@@ -178,6 +184,9 @@ pub(crate) fn run_lines<K: Sink, F: Folder, J: Store, C: Clock>(
     ensures ran { Moves (λ h after. RanFrom h ask.now.kind (C.may_give ask.now.clock.now) script.now
         (K.took sink.old) (K.took sink.new) after result)
         (⟦<Runner<F, J> as Running>⟧.state runner.old) (⟦<Runner<F, J> as Running>⟧.state runner.new)
+        (⟦<Runner<F, J> as Running>⟧.disk runner.old) (⟦<Runner<F, J> as Running>⟧.disk runner.new) }
+    ensures tables { During SameTables (⟦<Runner<F, J> as Running>⟧.disk runner.old) (⟦<Runner<F, J> as Running>⟧.disk runner.new) }
+    ensures lists { KeepsListing (⟦<Runner<F, J> as Running>⟧.state runner.old)
         (⟦<Runner<F, J> as Running>⟧.disk runner.old) (⟦<Runner<F, J> as Running>⟧.disk runner.new) }
     ensures faults { K.faults sink.old ≤ K.faults sink.new }
     ensures stalls { K.stalls sink.old ≤ K.stalls sink.new }

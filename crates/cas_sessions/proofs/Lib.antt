@@ -2,6 +2,8 @@ mod Sounding
 mod Telling
 mod Idling
 mod Filing
+mod Behind
+mod Remembering
 mod Moving
 pub mod Answering
 mod Performing
@@ -11,3 +13,6 @@ mod Entering
 mod Tables
 pub mod Serving
 mod Seating
+mod Alone
+pub mod Listing
+mod Next

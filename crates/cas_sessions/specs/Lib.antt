@@ -2,6 +2,8 @@ pub mod History
 pub mod Entered
 pub mod Nodes
 pub mod Starts
+pub mod Listing
+pub mod Next
 pub mod Calls
 pub mod Laws
 pub mod Inner

@@ -1,6 +1,7 @@
 //! What holds of every open store.
 
 ghost use Rattle.cas_sessions.specs.Laws.{AllShare};
+ghost use Rattle.cas_sessions.specs.Next.{LeftExplains};
 
 use cas_disk::Folder;
 
@@ -10,4 +11,12 @@ pub fn sessions_share<F: Folder>(folder: &F)
     ensures { AllShare (F.disk folder.now) }
 {
     let _folder = folder;
+}
+
+/// What a crash leaves of a store explains its history: for the next run, which finds just that, each shard may have been what it was before, with the front
+/// of what was accepted behind; so the next run begins with that, its table files among it.
+pub fn left_explains<F: Folder>(before: &F)
+    ensures { LeftExplains (F.disk before.now) }
+{
+    let _before = before;
 }

@@ -13,7 +13,7 @@ mod texts;
 mod writing;
 
 pub use answer::{Answer, Fault, reply_of};
-pub use laws::sessions_share;
+pub use laws::{left_explains, sessions_share};
 pub use node::{Closed, Node, Pass, SESSION_LIMIT, Session, SessionFault, Stored};
 pub use opened::{Opened, start};
 pub use statements::Ask;

@@ -1,12 +1,15 @@
 //! SELECTs: a shard's rows at a moment.
 
 ghost use Rattle.std.specs.Prelude.{◌≡◌, ℕ, ℤ};
+ghost use Rattle.cas_disk.specs.Disk.{During};
 ghost use Rattle.cas_bind.specs.Fitting.{BoundFits};
 ghost use Rattle.cas_bind.specs.Tables.{IsWithin};
 ghost use Rattle.cas_bind.specs.declared.bound.Bound.TheVariants as bounds;
+ghost use Rattle.cas_journal.specs.Stores.{SameTables};
 ghost use Rattle.cas_shard.specs.Shards.{IsTime};
 ghost use Rattle.cas_sessions.specs.History.{ReadsAt};
 ghost use Rattle.cas_sessions.specs.Calls.{IsTrueOf, reply_of};
+ghost use Rattle.cas_sessions.specs.Listing.{KeepsListing};
 ghost use Rattle.cas_sessions.specs.Nodes.{Moves, State};
 ghost use Rattle.cas_sessions.specs.Inner.Faults.{fault_of_table};
 
@@ -43,6 +46,9 @@ impl<F: Folder, J: Store> Node<F, J> {
         requires fits { BoundFits self.old.limits.shards self.old.tables.items (bounds.Read read) }
         ensures shows { (session calls : ℕ) (clock : ℤ) → Moves (λ h after. ReadsAt h reading read (reply_of result) after)
             (⟦<Node<F, J> as Stored>⟧.state self.old session calls clock) (⟦<Node<F, J> as Stored>⟧.state self.new session calls clock)
+            (⟦<Node<F, J> as Stored>⟧.disk self.old) (⟦<Node<F, J> as Stored>⟧.disk self.new) }
+        ensures tables { During SameTables (⟦<Node<F, J> as Stored>⟧.disk self.old) (⟦<Node<F, J> as Stored>⟧.disk self.new) }
+        ensures lists { (session calls : ℕ) (clock : ℤ) → KeepsListing (⟦<Node<F, J> as Stored>⟧.state self.old session calls clock)
             (⟦<Node<F, J> as Stored>⟧.disk self.old) (⟦<Node<F, J> as Stored>⟧.disk self.new) }
         ensures told { (s t : State) → IsTrueOf result s t }
         ensures room { self.new.room ≡ self.old.room }

@@ -2,13 +2,16 @@
 
 ghost use Rattle.std.specs.Prelude.{◌≡◌, ℤ, pos, true, false, Ok as OkOf};
 ghost use Rattle.cas_types.specs.Limits.{IsMoment};
+ghost use Rattle.cas_disk.specs.Disk.{During};
 ghost use Rattle.cas_bind.specs.Fitting.{BoundFits};
 ghost use Rattle.cas_bind.specs.Meaning.{meaning};
 ghost use Rattle.cas_bind.specs.Tables.{IsWithin};
+ghost use Rattle.cas_journal.specs.Stores.{SameTables};
 ghost use Rattle.cas_shard.specs.Shards.{IsTime};
 ghost use Rattle.cas_words.specs.declared.words.ClockKind.TheVariants as clocks;
 ghost use Rattle.cas_sessions.specs.Calls.{IsSpelled, IsTrueOf, Performs, StandsAt, reply_of};
 ghost use Rattle.cas_sessions.specs.History.{Does, IsReading, clamped};
+ghost use Rattle.cas_sessions.specs.Listing.{KeepsListing};
 ghost use Rattle.cas_sessions.specs.Nodes.{CountsOn, IsFew, KeepsAll, Moves, OrWant};
 ghost use Rattle.cas_sessions.specs.Inner.Definitions.{IsTold};
 
@@ -73,6 +76,9 @@ impl<F: Folder, J: Store> Node<F, J> {
         ensures crash { (at : ℤ) → KeepsAll (⟦<Node<F, J> as Stored>⟧.state self.old session.old.seat.list session.old.seat.calls at)
             (⟦<Node<F, J> as Stored>⟧.state self.new session.new.seat.list session.new.seat.calls at)
             (⟦<Node<F, J> as Stored>⟧.disk self.old) (⟦<Node<F, J> as Stored>⟧.disk self.new) }
+        ensures tables { During SameTables (⟦<Node<F, J> as Stored>⟧.disk self.old) (⟦<Node<F, J> as Stored>⟧.disk self.new) }
+        ensures lists { (at : ℤ) → KeepsListing (⟦<Node<F, J> as Stored>⟧.state self.old session.old.seat.list session.old.seat.calls at)
+            (⟦<Node<F, J> as Stored>⟧.disk self.old) (⟦<Node<F, J> as Stored>⟧.disk self.new) }
         ensures told { IsTrueOf result (⟦<Node<F, J> as Stored>⟧.state self.old session.old.seat.list session.old.seat.calls (pos 0))
             (⟦<Node<F, J> as Stored>⟧.state self.new session.new.seat.list session.new.seat.calls (pos 0)) }
         ensures counts { CountsOn (⟦<Node<F, J> as Stored>⟧.state self.old session.old.seat.list session.old.seat.calls (pos 0))
@@ -115,6 +121,9 @@ impl<F: Folder, J: Store> Node<F, J> {
         ensures crash { (at : ℤ) → KeepsAll (⟦<Node<F, J> as Stored>⟧.state self.old session.old.seat.list session.old.seat.calls at)
             (⟦<Node<F, J> as Stored>⟧.state self.new session.new.seat.list session.new.seat.calls at)
             (⟦<Node<F, J> as Stored>⟧.disk self.old) (⟦<Node<F, J> as Stored>⟧.disk self.new) }
+        ensures tables { During SameTables (⟦<Node<F, J> as Stored>⟧.disk self.old) (⟦<Node<F, J> as Stored>⟧.disk self.new) }
+        ensures lists { (at : ℤ) → KeepsListing (⟦<Node<F, J> as Stored>⟧.state self.old session.old.seat.list session.old.seat.calls at)
+            (⟦<Node<F, J> as Stored>⟧.disk self.old) (⟦<Node<F, J> as Stored>⟧.disk self.new) }
         ensures told { IsTrueOf result (⟦<Node<F, J> as Stored>⟧.state self.old session.old.seat.list session.old.seat.calls (pos 0))
             (⟦<Node<F, J> as Stored>⟧.state self.new session.new.seat.list session.new.seat.calls (pos 0)) }
         ensures counts { CountsOn (⟦<Node<F, J> as Stored>⟧.state self.old session.old.seat.list session.old.seat.calls (pos 0))
@@ -145,6 +154,9 @@ impl<F: Folder, J: Store> Node<F, J> {
             (⟦<Node<F, J> as Stored>⟧.disk self.old) (⟦<Node<F, J> as Stored>⟧.disk self.new) }
         ensures crash { (at : ℤ) → KeepsAll (⟦<Node<F, J> as Stored>⟧.state self.old session.old.seat.list session.old.seat.calls at)
             (⟦<Node<F, J> as Stored>⟧.state self.new session.new.seat.list session.new.seat.calls at)
+            (⟦<Node<F, J> as Stored>⟧.disk self.old) (⟦<Node<F, J> as Stored>⟧.disk self.new) }
+        ensures tables { During SameTables (⟦<Node<F, J> as Stored>⟧.disk self.old) (⟦<Node<F, J> as Stored>⟧.disk self.new) }
+        ensures lists { (at : ℤ) → KeepsListing (⟦<Node<F, J> as Stored>⟧.state self.old session.old.seat.list session.old.seat.calls at)
             (⟦<Node<F, J> as Stored>⟧.disk self.old) (⟦<Node<F, J> as Stored>⟧.disk self.new) }
         ensures told { IsTrueOf result (⟦<Node<F, J> as Stored>⟧.state self.old session.old.seat.list session.old.seat.calls (pos 0))
             (⟦<Node<F, J> as Stored>⟧.state self.new session.new.seat.list session.new.seat.calls (pos 0)) }
@@ -182,6 +194,9 @@ impl<F: Folder, J: Store> Node<F, J> {
         ensures crash { (at : ℤ) → KeepsAll (⟦<Node<F, J> as Stored>⟧.state self.old session.old.seat.list session.old.seat.calls at)
             (⟦<Node<F, J> as Stored>⟧.state self.new session.new.seat.list session.new.seat.calls at)
             (⟦<Node<F, J> as Stored>⟧.disk self.old) (⟦<Node<F, J> as Stored>⟧.disk self.new) }
+        ensures tables { During SameTables (⟦<Node<F, J> as Stored>⟧.disk self.old) (⟦<Node<F, J> as Stored>⟧.disk self.new) }
+        ensures lists { (at : ℤ) → KeepsListing (⟦<Node<F, J> as Stored>⟧.state self.old session.old.seat.list session.old.seat.calls at)
+            (⟦<Node<F, J> as Stored>⟧.disk self.old) (⟦<Node<F, J> as Stored>⟧.disk self.new) }
         ensures told { IsTrueOf result (⟦<Node<F, J> as Stored>⟧.state self.old session.old.seat.list session.old.seat.calls (pos 0))
             (⟦<Node<F, J> as Stored>⟧.state self.new session.new.seat.list session.new.seat.calls (pos 0)) }
         ensures counts { CountsOn (⟦<Node<F, J> as Stored>⟧.state self.old session.old.seat.list session.old.seat.calls (pos 0))
@@ -205,6 +220,9 @@ impl<F: Folder, J: Store> Node<F, J> {
             (⟦<Node<F, J> as Stored>⟧.disk self.old) (⟦<Node<F, J> as Stored>⟧.disk self.new) }
         ensures crash { (at : ℤ) → KeepsAll (⟦<Node<F, J> as Stored>⟧.state self.old session.old.seat.list session.old.seat.calls at)
             (⟦<Node<F, J> as Stored>⟧.state self.new session.new.seat.list session.new.seat.calls at)
+            (⟦<Node<F, J> as Stored>⟧.disk self.old) (⟦<Node<F, J> as Stored>⟧.disk self.new) }
+        ensures tables { During SameTables (⟦<Node<F, J> as Stored>⟧.disk self.old) (⟦<Node<F, J> as Stored>⟧.disk self.new) }
+        ensures lists { (at : ℤ) → KeepsListing (⟦<Node<F, J> as Stored>⟧.state self.old session.old.seat.list session.old.seat.calls at)
             (⟦<Node<F, J> as Stored>⟧.disk self.old) (⟦<Node<F, J> as Stored>⟧.disk self.new) }
         ensures told { IsTrueOf result (⟦<Node<F, J> as Stored>⟧.state self.old session.old.seat.list session.old.seat.calls (pos 0))
             (⟦<Node<F, J> as Stored>⟧.state self.new session.new.seat.list session.new.seat.calls (pos 0)) }

@@ -1,11 +1,15 @@
 use Rattle.std.proofs.Common.{rules, arith, subst, sym}
+use Rattle.cas_disk.proofs.Moments.{no_call}
+use Rattle.cas_journal.specs.Stores.{SameTables}
+use Rattle.cas_room.proofs.Settling.{tables_twice}
 use Rattle.cas_node.specs.Inner.Turns.{IsToldSo}
-use Rattle.cas_node.proofs.SessionLemmas.{all_so_far_none, all_so_far_more, all_ran_cut, worse_told}
+use Rattle.cas_node.proofs.SessionLemmas.{all_so_far_none, all_so_far_more, all_ran_cut, lists_more, worse_told}
 use Rattle.cas_node.proofs.script.run_lines.Goals as goal
 
 pub loop-rest-init : goal.loop-rest-init
 loop-rest-init g c = record {
   so_far = all_so_far_none c.args.ask.now.kind (g.C.Clock.may_give c.args.ask.now.clock.now) _ _ _ _;
+  tables = no_call SameTables _;
   told = tt;
   few = omega (arith, c.requires.begun.0);
   accepted = omega (arith, c.requires.begun.1);
@@ -19,11 +23,22 @@ returns-in-Some-clause-ran g c =
     all_ran_cut c.args.ask.now.kind (g.C.Clock.may_give c.args.ask.now.clock.now) _ _ _ _ _ _ _ _ c.next_line.result.1.now _ _ _ _ _ _ _ _ _ _
     c.loop-rest.invariant.so_far c.next_line.ensures.lines c.take_turn-turn.ensures.turned c.in-Some.is c.worse-cause.ensures c.cut_short.ensures.cause
 
+pub returns-in-Some-clause-tables : goal.returns-in-Some-clause-tables
+returns-in-Some-clause-tables g c = tables_twice _ _ _ c.loop-rest.invariant.tables c.take_turn-turn.ensures.tables
+
+pub returns-in-Some-clause-lists : goal.returns-in-Some-clause-lists
+returns-in-Some-clause-lists g c =
+    lists_more c.args.ask.now.kind (g.C.Clock.may_give c.args.ask.now.clock.now) _ _ _ _ _ _ _ _ _ _ c.loop-rest.invariant.so_far c.take_turn-turn.ensures.lists
+
+pub returns-clause-lists : goal.returns-clause-lists
+returns-clause-lists g c = c.loop-rest.invariant.so_far.1
+
 pub loop-rest-preserved : goal.loop-rest-preserved
 loop-rest-preserved g c = record {
   so_far =
       all_so_far_more c.args.ask.now.kind (g.C.Clock.may_give c.args.ask.now.clock.now) _ _ _ _ _ _ _ _ _ _ _ _ _ _ _ _ _
-      c.loop-rest.invariant.so_far c.next_line.ensures.lines c.take_turn-turn.ensures.turned c.in_default.is c.worse-cause.ensures;
+      c.loop-rest.invariant.so_far c.next_line.ensures.lines c.take_turn-turn.ensures.turned c.take_turn-turn.ensures.lists c.in_default.is c.worse-cause.ensures;
+  tables = tables_twice _ _ _ c.loop-rest.invariant.tables c.take_turn-turn.ensures.tables;
   told = subst IsToldSo (sym c.worse-cause.ensures) (worse_told _ _ c.loop-rest.invariant.told c.take_turn-turn.ensures.told);
   few = omega (arith, c.loop-rest.invariant.few, c.next_line.ensures.shorter, c.take_turn-turn.ensures.counts.0);
   accepted = omega (arith, c.loop-rest.invariant.accepted, c.next_line.ensures.shorter, c.take_turn-turn.ensures.counts.1);

@@ -1,5 +1,7 @@
 use Rattle.std.proofs.Common.{◌≤◌, ◌<◌, ◌+◌, ◌^◌, length, map}
+use Rattle.cas_disk.specs.Disk.{During}
 use Rattle.cas_history.specs.Items.{listed, log_list}
+use Rattle.cas_journal.specs.Stores.{SameTables}
 use Rattle.cas_node.specs.Inner.Turns.{IsToldSo}
 use Rattle.cas_node.proofs.SessionLemmas.{AllSoFar}
 use Rattle.cas_node.proofs.script.run_lines.Given as goal
@@ -22,6 +24,8 @@ invariant-loop-rest g l = record {
         journal = l.initial.runner.node.room.journal;
         faults = g.F.Folder.faults_of l.initial.runner.node.room.folder;
         reads = g.F.Tally.Count.number l.initial.runner.node.tally;
+        last_file = l.initial.runner.node.room.numbers.last;
+        live = l.initial.runner.node.live;
       })
       (record {
         limits = l.runner.node.limits;
@@ -38,9 +42,12 @@ invariant-loop-rest g l = record {
         journal = l.runner.node.room.journal;
         faults = g.F.Folder.faults_of l.runner.node.room.folder;
         reads = g.F.Tally.Count.number l.runner.node.tally;
+        last_file = l.runner.node.room.numbers.last;
+        live = l.runner.node.live;
       })
       (g.F.Folder.disk l.initial.runner.node.room.folder) (g.F.Folder.disk l.runner.node.room.folder)
       l.fn.script l.rest (g.K.Sink.took l.initial.sink) (g.K.Sink.took l.sink) l.cause;
+  tables : During SameTables (g.F.Folder.disk l.initial.runner.node.room.folder) (g.F.Folder.disk l.runner.node.room.folder);
   told : IsToldSo l.cause;
   few : l.runner.session.seat.calls + length l.rest ≤ length l.fn.script;
   accepted : l.runner.node.room.accepted + length l.rest ≤ length l.fn.script;

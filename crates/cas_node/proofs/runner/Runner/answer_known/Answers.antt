@@ -2,6 +2,9 @@ use Rattle.std.proofs.Common.{arith}
 use Rattle.std.proofs.lemmas.Int.{ints}
 use Rattle.cas_node.proofs.Answered.{answers_clock, answers_statement, says_moment}
 use Rattle.cas_sessions.proofs.Answering.{says_spelled, stands_at}
+use Rattle.cas_disk.proofs.Moments.{no_call}
+use Rattle.cas_journal.specs.Stores.{SameTables}
+use Rattle.cas_sessions.proofs.Listing.{lists_nothing}
 use Rattle.cas_node.proofs.runner.Runner.answer_known.Goals as goal
 
 pub set_clock-requires : goal.set_clock-requires
@@ -22,3 +25,18 @@ returns-in-Statement-clause-answers g c =
     answers_statement c.args.ask.now.kind (g.C.Clock.may_give c.args.ask.now.clock.now) _ _ _ _ c.args.text.now c.args.line c.in-Statement.statement _ _ c.reply_of.ensures
     c.requires.says c.in-Statement.is
     (c.answer-answer.ensures.does c.args.self.now.seconds (stands_at c.args.ask.now.kind _ c.args.self.now.seconds (omega (arith, ints))))
+
+pub returns-in-Blank-clause-tables : goal.returns-in-Blank-clause-tables
+returns-in-Blank-clause-tables g c = no_call SameTables _
+
+pub returns-in-Syntax-clause-tables : goal.returns-in-Syntax-clause-tables
+returns-in-Syntax-clause-tables g c = no_call SameTables _
+
+pub returns-in-Blank-clause-lists : goal.returns-in-Blank-clause-lists
+returns-in-Blank-clause-lists g c = lists_nothing _ _
+
+pub returns-in-Syntax-clause-lists : goal.returns-in-Syntax-clause-lists
+returns-in-Syntax-clause-lists g c = lists_nothing _ _
+
+pub returns-in-Statement-clause-lists : goal.returns-in-Statement-clause-lists
+returns-in-Statement-clause-lists g c = c.answer-answer.ensures.lists c.args.self.now.seconds

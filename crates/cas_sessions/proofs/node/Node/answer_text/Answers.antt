@@ -1,6 +1,9 @@
 use Rattle.std.proofs.Common.{arith}
 use Rattle.cas_sessions.proofs.Crashing.{amid_nothing}
 use Rattle.cas_sessions.proofs.Performing.{found_spelled, performs_nothing, performs_statement, tells_nothing}
+use Rattle.cas_disk.proofs.Moments.{no_call}
+use Rattle.cas_journal.specs.Stores.{SameTables}
+use Rattle.cas_sessions.proofs.Listing.{lists_nothing}
 use Rattle.cas_sessions.proofs.node.Node.answer_text.Goals as goal
 
 pub answer-requires-clause-spelled : goal.answer-requires-clause-spelled
@@ -22,3 +25,9 @@ returns-in-Err-clause-told g c = tells_nothing c.args.defines c.args.text.now c.
 
 pub returns-in-Err-clause-counts : goal.returns-in-Err-clause-counts
 returns-in-Err-clause-counts g c = (omega arith, omega arith)
+
+pub returns-in-Err-clause-tables : goal.returns-in-Err-clause-tables
+returns-in-Err-clause-tables g c = no_call SameTables _
+
+pub returns-in-Err-clause-lists : goal.returns-in-Err-clause-lists
+returns-in-Err-clause-lists g c = λ at. lists_nothing _ _

@@ -25,3 +25,6 @@ returns-in-Read-clause-does g c = λ at stands.
 pub returns-in-Read-clause-crash : goal.returns-in-Read-clause-crash
 returns-in-Read-clause-crash g c = λ at h found told stands lasts.
     amid_still h found _ c.args.self.now.room.folder c.read.new.self.room.folder told (λ x. g.F.Folder.disk x) stands lasts _ (ap (λ r. r.folder) c.read.ensures.room)
+
+pub returns-in-Read-clause-lists : goal.returns-in-Read-clause-lists
+returns-in-Read-clause-lists g c = λ at. c.read.ensures.lists c.args.session.now.seat.list c.args.session.now.seat.calls at

@@ -6,10 +6,14 @@ use Rattle.cas_render.specs.declared.reply.Reply.TheVariants.{Rows}
 use Rattle.cas_shard.specs.Shards.{look_at, raised}
 use Rattle.cas_shard.specs.Stands.{Stands, files_at}
 use Rattle.cas_sessions.proofs.Filing.{query_reads, still_readable, still_unmade}
+use Rattle.cas_sessions.proofs.Remembering.{same_stores}
 use Rattle.cas_sessions.proofs.Moving.{moves_look, rose_by, shows_fault, shows_rows}
 use Rattle.cas_sessions.proofs.Sounding.{sound_looked}
 use Rattle.cas_sessions.specs.Calls.{reply_of}
 use Rattle.cas_sessions.proofs.Telling.{true_of_read}
+use Rattle.cas_disk.proofs.Moments.{no_call}
+use Rattle.cas_journal.specs.Stores.{SameTables}
+use Rattle.cas_sessions.proofs.Listing.{lists_nothing}
 use Rattle.cas_sessions.proofs.node.Node.read.Goals as goal
 
 pub returns-in-Ok-clause-shows : goal.returns-in-Ok-clause-shows
@@ -57,4 +61,19 @@ invariant_of-self g c =
       sound = sound_looked _ _ _ _ _ _ c.args.read.shard x c.look.new.self c.args.self.now.sound there c.look.ensures.number;
       readable = still_readable _ n.shards.items c.args.read.shard x c.look.new.self n.readable there c.look.ensures.files;
       unmade = still_unmade _ n.shards.items c.args.read.shard x c.look.new.self n.unmade there c.look.ensures.files;
+      kept = same_stores _ n.shards.items c.args.read.shard x c.look.new.self n.kept there c.look.ensures.stores;
+      seated = n.seated;
+      unlisted = n.unlisted;
     }
+
+pub returns-in-Ok-clause-tables : goal.returns-in-Ok-clause-tables
+returns-in-Ok-clause-tables g c = no_call SameTables _
+
+pub returns-in-Err-clause-tables : goal.returns-in-Err-clause-tables
+returns-in-Err-clause-tables g c = no_call SameTables _
+
+pub returns-in-Ok-clause-lists : goal.returns-in-Ok-clause-lists
+returns-in-Ok-clause-lists g c = λ session calls clock. lists_nothing _ _
+
+pub returns-in-Err-clause-lists : goal.returns-in-Err-clause-lists
+returns-in-Err-clause-lists g c = λ session calls clock. lists_nothing _ _
