@@ -1,13 +1,16 @@
 -- What is left of a row, by whether something is said of its columns.
 use Rattle.std.proofs.Common.{◌≡◌, Bool, true, false, cond, ◌&&◌, ◌||◌, filter, Option, None, Some, is_some, List, [], ◌∷◌, ◌++◌, map, refl, sym, ap, ◌∙◌, append_assoc}
-use Rattle.std.proofs.lemmas.Bool.{true≢false}
+use Rattle.std.proofs.lemmas.Bool.{true≢false, not-true}
 use Rattle.std.specs.List.{flat_map, cons_option}
 use Rattle.cas_cell.specs.Cells.{cell_at}
-use Rattle.cas_cell.specs.Deletions.{deletion_cmp}
+use Rattle.cas_cell.specs.Deletions.{deletion_cmp, covered}
+use Rattle.cas_cell.specs.Lives.{live_at}
+use Rattle.cas_cell.specs.declared.liveness.Liveness.{Liveness}
 use Rattle.cas_cell.specs.declared.deletion.Deletion.{Deletion}
 use Rattle.cas_cell.proofs.OrderLaws.{deletion_laws}
 use Rattle.cas_bounds.specs.declared.cuts.Clustering.{Clustering}
 use Rattle.cas_atoms.specs.Greatest.{greater}
+use Rattle.cas_atoms.specs.Winners.{standing}
 use Rattle.cas_atoms.specs.declared.atom.Atom.{Atom}
 use Rattle.cas_atoms.specs.declared.atom.Atom.TheVariants.{RowDeletion, Live}
 use Rattle.cas_atoms.specs.declared.atom.ColumnRef.{ColumnRef}
@@ -16,9 +19,10 @@ use Rattle.cas_atoms.specs.declared.row.RowColumn.{RowColumn}
 use Rattle.cas_atoms.specs.declared.row.PathCell.{PathCell}
 use Rattle.cas_atoms.proofs.GreatestLemmas.{greater_none}
 use Rattle.cas_streams.specs.Flat.{atom_of, writes, empties, of_column, own}
-use Rattle.cas_streams.specs.Settled.{is_bare, if_said, bare_column, bare_columns}
+use Rattle.cas_streams.specs.Settled.{is_bare, if_said, bare_column, bare_columns, bare_row, same_force, left_of}
+use Rattle.cas_streams.specs.declared.fragment.Fragment.{Fragment}
 use Rattle.cas_streams.specs.declared.fragment.Fragment.TheVariants as fragment
-use Rattle.cas_merge.specs.Inner.Said.{says, any_says, all_bare, stays, all_stay}
+use Rattle.cas_merge.specs.Inner.Said.{says, any_says, all_bare, stays, all_stay, live_stays, row_says, row_stays, is_left_whole}
 
 -- whether atoms are there
 there : List Atom → Bool
@@ -106,3 +110,28 @@ columns_stay at over [] e = refl
 columns_stay at over (c ∷ cs) e =
     let (first, others) = both_true (stays over c.deletion c.cells) (all_stay over cs) e in
     sym (λ i. cons_option (column_stays at over c.column c.deletion c.cells first i) (sym (columns_stay at over cs others) i))
+
+-- ---- a row that nothing covers
+
+live_stands : (over : Option Deletion) (l : Option Liveness) → live_stays over l ≡ true → standing live_at over l ≡ l
+live_stands None l e = refl
+live_stands (Some d) None e = refl
+live_stands (Some d) (Some l) e = ap (λ b. cond b None (Some l)) (not-true (covered d (live_at l)) e)
+
+row_stands : (over : Option Deletion) (r : Row) → row_stays over r ≡ true → if_said (own (fragment.Row (bare_row over r))) (fragment.Row (bare_row over r)) ≡ Some (fragment.Row r)
+row_stands over r e =
+    let all : Option Deletion = greater deletion_cmp over r.deletion in
+    let (stays, said) = both_true (live_stays all r.live && all_stay all r.columns) (row_says r) e in
+    let (live, columns) = both_true (live_stays all r.live) (all_stay all r.columns) stays in
+    let same : bare_row over r ≡ r = λ i. record {
+      clustering = r.clustering;
+      deletion = r.deletion;
+      live = live_stands all r.live live i;
+      columns = sym (columns_stay (Some r.clustering) all r.columns columns) i;
+    } in
+    ap (λ s. if_said (own (fragment.Row s)) (fragment.Row s)) same ∙ row_left r true said
+
+pub left_whole : (top now : Option Deletion) (f : Fragment) → is_left_whole top now f ≡ true → Some f ≡ left_of top now f
+left_whole top now (fragment.Static cs) e = absurd (true≢false (sym e))
+left_whole top now (fragment.Row r) e = sym (row_stands (greater deletion_cmp top now) r e)
+left_whole top now (fragment.Marker cut d) e = sym (ap (λ b. cond b None (Some (fragment.Marker cut d))) (not-true (same_force now d) e))

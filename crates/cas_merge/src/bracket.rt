@@ -1,17 +1,19 @@
 //! Sources joined in pairs, and pairs in pairs.
 
-ghost use Rattle.std.specs.Prelude.{◌≡◌, ◌⊎◌, List, Option, Some, OnOk, IfErr, alloc_error, ◌≤◌, ◌+◌};
+ghost use Rattle.std.specs.Prelude.{◌≡◌, ◌⊎◌, List, Option, Some, OnOk, IfErr, alloc_error, ◌≤◌, ◌+◌, ◌∷◌, ℕ};
 ghost use Rattle.cas_streams.specs.Sources.{TakesFirst, Shrinks};
 ghost use Rattle.cas_streams.specs.Merged.{Draw, entered};
 ghost use Rattle.cas_streams.specs.Joined.{Stream};
 ghost use Rattle.cas_streams.specs.declared.fragment.Fragment.{Fragment};
 ghost use Rattle.cas_streams.specs.Joined.{raised, opened};
+ghost use Rattle.cas_streams.specs.Settled.{settled_from};
 ghost use Rattle.cas_merge.specs.Told.{IsBrokenBy};
 ghost use Rattle.cas_merge.specs.Inner.Brackets.{coming, room, with_next, side_room, ahead_of, IsAsked, Steps, Lessens, fresh, left_to_come, IsFresh, Tells};
+ghost use Rattle.cas_merge.specs.Inner.Said.{opened_by};
 
-use crate::joining::{joined_fragment, opened, raised};
+use crate::joining::{joined_fragment, opened, opened_by, raised};
 use crate::places::compare_fragments;
-use crate::settling::left_of;
+use crate::settling::{goes_whole, left_of};
 use cas_cell::Deletion;
 use cas_streams::{Fragment, FragmentSource};
 use std::alloc::{AllocError, Global};
@@ -124,6 +126,7 @@ fn ahead_of(next: Option<Fragment>) -> Ahead
 
 impl<I: FragmentSource> Bracket<I> {
     /// The next fragment of all sources, with nothing left out.
+    #[inline(never)]
     #[cycle(asking)]
     pub fn next(&mut self, alloc: Global) -> Result<Option<Fragment>, I::Fault>
         ensures first { (fs : List Fragment) → coming I.to_come self.old ≡ Some fs → TakesFirst fs (coming I.to_come self.new) result }
@@ -141,7 +144,21 @@ impl<I: FragmentSource> Bracket<I> {
         }
     }
 
+    // The same, with no way through the pairs where there is one source alone.
+    #[inline]
+    fn first(&mut self, alloc: Global) -> Result<Option<Fragment>, I::Fault>
+        ensures first { (fs : List Fragment) → coming I.to_come self.old ≡ Some fs → TakesFirst fs (coming I.to_come self.new) result }
+        ensures ends { Shrinks (room I.at_most self.old) (room I.at_most self.new) result }
+        ensures causes { IfErr result (λ e. IsBrokenBy I.broken_by e self.new ⊎ I.Fault.from_gives alloc_error e) }
+    {
+        match self {
+            Bracket::Source(source) => source.next(),
+            _ => self.next(alloc),
+        }
+    }
+
     // Those sources, in place of what it had.
+    #[inline(never)]
     pub(crate) fn put(&mut self, sources: Self)
         ensures { self.new ≡ sources }
     {
@@ -174,9 +191,9 @@ impl<I: FragmentSource> Bracket<I> {
         Ok(())
     }
 
-    /// The next fragment of the merge: the next of which, under the top and what is in force, something
-    /// is left.
-    pub fn next_left(
+    // The next fragment of which, under the top and what is in force, something is left.
+    #[inline(never)]
+    fn search_left(
         &mut self,
         alloc: Global,
         top: Option<Deletion>,
@@ -195,6 +212,100 @@ impl<I: FragmentSource> Bracket<I> {
             }
         }
         Ok(None)
+    }
+
+    // What is left of the fragment that came next, where that was in force before it, or else the next one of
+    // which something is.
+    #[inline(never)]
+    fn left_from(
+        &mut self,
+        alloc: Global,
+        top: Option<Deletion>,
+        before: Option<Deletion>,
+        f: Fragment,
+        now: &mut Option<Deletion>,
+    ) -> Result<Option<Fragment>, I::Fault>
+        requires { now.old ≡ opened before f }
+        ensures first { (fs : List Fragment) → coming I.to_come self.old ≡ Some fs
+            → TakesFirst (settled_from top before (f ∷ fs)) (left_to_come top now.new (coming I.to_come self.new)) result }
+        ensures ends { Shrinks (room I.at_most self.old + 1) (room I.at_most self.new) result }
+        ensures causes { IfErr result (λ e. IsBrokenBy I.broken_by e self.new ⊎ I.Fault.from_gives alloc_error e) }
+    {
+        if let Some(g) = left_of(alloc, top, before, f)? {
+            return Ok(Some(g));
+        }
+        self.search_left(alloc, top, now)
+    }
+
+    // What is left of what came next, in its place: of a fragment, or else of the next one of which something is.
+    #[inline(never)]
+    fn leave(
+        &mut self,
+        alloc: Global,
+        top: Option<Deletion>,
+        before: Option<Deletion>,
+        next: &mut Result<Option<Fragment>, I::Fault>,
+        now: &mut Option<Deletion>,
+    )
+        requires { now.old ≡ opened_by before next.old }
+        ensures first { (told : Option (List Fragment)) → ((gs : List Fragment) → told ≡ Some gs → TakesFirst gs (coming I.to_come self.old) next.old)
+            → (fs : List Fragment) → left_to_come top before told ≡ Some fs → TakesFirst fs (left_to_come top now.new (coming I.to_come self.new)) next.new }
+        ensures ends { (n : ℕ) → Shrinks n (room I.at_most self.old) next.old → Shrinks n (room I.at_most self.new) next.new }
+        ensures causes { IfErr next.old (λ e. IsBrokenBy I.broken_by e self.old ⊎ I.Fault.from_gives alloc_error e)
+            → IfErr next.new (λ e. IsBrokenBy I.broken_by e self.new ⊎ I.Fault.from_gives alloc_error e) }
+    {
+        match mem::replace(next, Ok(None)) {
+            Ok(Some(f)) => {
+                let found = self.left_from(alloc, top, before, f, now);
+                drop(mem::replace(next, found));
+            }
+            Ok(None) => {}
+            Err(fault) => drop(mem::replace(next, Err(fault))),
+        }
+    }
+
+    // The same, where what goes on as it is stays where it stands.
+    #[inline]
+    fn settle(
+        &mut self,
+        alloc: Global,
+        top: Option<Deletion>,
+        before: Option<Deletion>,
+        next: &mut Result<Option<Fragment>, I::Fault>,
+        now: &mut Option<Deletion>,
+    )
+        requires { now.old ≡ opened_by before next.old }
+        ensures first { (told : Option (List Fragment)) → ((gs : List Fragment) → told ≡ Some gs → TakesFirst gs (coming I.to_come self.old) next.old)
+            → (fs : List Fragment) → left_to_come top before told ≡ Some fs → TakesFirst fs (left_to_come top now.new (coming I.to_come self.new)) next.new }
+        ensures ends { (n : ℕ) → Shrinks n (room I.at_most self.old) next.old → Shrinks n (room I.at_most self.new) next.new }
+        ensures causes { IfErr next.old (λ e. IsBrokenBy I.broken_by e self.old ⊎ I.Fault.from_gives alloc_error e)
+            → IfErr next.new (λ e. IsBrokenBy I.broken_by e self.new ⊎ I.Fault.from_gives alloc_error e) }
+    {
+        if goes_whole(top, before, next) {
+            return;
+        }
+        self.leave(alloc, top, before, next, now);
+    }
+
+    /// The next fragment of the merge: the next of which, under the top and what is in force, something
+    /// is left.
+    #[inline]
+    pub fn next_left(
+        &mut self,
+        alloc: Global,
+        top: Option<Deletion>,
+        now: &mut Option<Deletion>,
+    ) -> Result<Option<Fragment>, I::Fault>
+        ensures first { (fs : List Fragment) → left_to_come top now.old (coming I.to_come self.old) ≡ Some fs
+            → TakesFirst fs (left_to_come top now.new (coming I.to_come self.new)) result }
+        ensures ends { Shrinks (room I.at_most self.old) (room I.at_most self.new) result }
+        ensures causes { IfErr result (λ e. IsBrokenBy I.broken_by e self.new ⊎ I.Fault.from_gives alloc_error e) }
+    {
+        let mut next = self.first(alloc);
+        let before = *now;
+        *now = opened_by(before, &next);
+        self.settle(alloc, top, before, &mut next, now);
+        next
     }
 
     // Asks for the side's next fragment, if it wasn't asked for.

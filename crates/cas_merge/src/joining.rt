@@ -7,6 +7,7 @@ ghost use Rattle.cas_atoms.specs.RowsAndPaths.{path_cmp};
 ghost use Rattle.cas_streams.specs.Joined.{joined_cell, joined_cells, joined_column, joined_columns, joined_row, joined_fragment, raised, opened};
 ghost use Rattle.std.specs.Vec.Iter.{into_iter_items};
 ghost use Rattle.cas_merge.specs.Inner.Begun.{begun};
+ghost use Rattle.cas_merge.specs.Inner.Said.{opened_by};
 
 use cas_atoms::{PathCell, Row, RowColumn, compare_paths, greater_deletion, greater_live};
 use cas_cell::{Cell, Deletion, wins};
@@ -198,5 +199,20 @@ pub fn opened(now: Option<Deletion>, f: &Fragment) -> Option<Deletion>
     match f {
         Fragment::Marker(_, d) => *d,
         _ => now,
+    }
+}
+
+/// What is in force after what came next.
+#[inline]
+pub(crate) fn opened_by<E>(
+    now: Option<Deletion>,
+    next: &Result<Option<Fragment>, E>,
+) -> Option<Deletion>
+    ensures { result ≡ opened_by now next.now }
+{
+    match next {
+        Ok(Some(f)) => opened(now, f),
+        Ok(None) => now,
+        Err(_) => now,
     }
 }

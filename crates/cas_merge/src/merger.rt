@@ -1,6 +1,6 @@
 //! The merge of sources, itself a source.
 
-ghost use Rattle.std.specs.Prelude.{◌≡◌, ◌⊎◌, List, [], ◌++◌, Option, None, Some, IfOk, IfErr, IfSome, alloc_error};
+ghost use Rattle.std.specs.Prelude.{◌≡◌, ◌⊎◌, List, [], ◌++◌, Option, None, Some, IfOk, OnOk, IfErr, IfSome, alloc_error};
 ghost use Rattle.std.specs.Option.{option_to_list};
 ghost use Rattle.cas_cell.specs.Deletions.{deletion_cmp};
 ghost use Rattle.cas_atoms.specs.Greatest.{greatest};
@@ -32,6 +32,7 @@ fn greatest_top<I: FragmentSource>(sources: &[I]) -> Option<Deletion>
 }
 
 // The sources in pairs.
+#[inline(never)]
 fn bracket_of<I: FragmentSource>(alloc: Global, sources: Vec<I>) -> Result<Bracket<I>, AllocError>
     ensures told { IfOk result (λ b. (ss : List Stream) → streams_told I.to_come I.over_all sources.items ≡ Some ss
         → coming I.to_come b ≡ Some (joined_all (draw ss)).fragments) }
@@ -91,9 +92,57 @@ impl<I: FragmentSource> Merger<I> {
         self.bracket
     }
 
-    // The next fragment, of a merger that isn't broken.
-    fn advance(&mut self) -> Result<Option<Fragment>, I::Fault>
+    // Lets the sources that wait enter the pairs.
+    #[inline(never)]
+    fn begin(&mut self) -> Result<(), I::Fault>
         requires { self.old.broken ≡ None }
+        ensures top { self.new.top ≡ self.old.top }
+        ensures broken { self.new.broken ≡ self.old.broken }
+        ensures begun { OnOk result ((self.new.waiting.items ≡ []) × (self.new.in_force ≡ None)) }
+        ensures told { OnOk result ((ss : List Stream) → streams_told I.to_come I.over_all self.old.waiting.items ≡ Some ss
+            → coming I.to_come self.new.bracket ≡ Some (joined_all (draw ss)).fragments) }
+        ensures room { OnOk result (room I.at_most self.new.bracket ≡ rooms I.at_most self.old.waiting.items) }
+        ensures causes { IfErr result (λ e. I.Fault.from_gives alloc_error e) }
+    {
+        let alloc = *self.waiting.allocator();
+        let sources = mem::replace(&mut self.waiting, Vec::new(alloc));
+        let bracket = bracket_of(alloc, sources)?;
+        self.bracket.put(bracket);
+        self.in_force = None;
+        Ok(())
+    }
+
+    // The same, where any wait. A fault breaks the merger.
+    #[inline]
+    fn start(&mut self) -> Result<(), I::Fault>
+        requires { self.old.broken ≡ None }
+        ensures top { self.new.top ≡ self.old.top }
+        ensures begun { OnOk result (self.new.waiting.items ≡ []) }
+        ensures told { OnOk result ((fs : List Fragment) → merger_to_come I.to_come I.over_all self.old.top self.old.in_force self.old.waiting.items
+            self.old.bracket ≡ Some fs → merger_to_come I.to_come I.over_all self.new.top self.new.in_force self.new.waiting.items
+            self.new.bracket ≡ Some fs) }
+        ensures room { OnOk result (merger_room I.at_most self.new.waiting.items self.new.bracket
+            ≡ merger_room I.at_most self.old.waiting.items self.old.bracket) }
+        ensures sound { OnOk result (self.new.broken ≡ None) }
+        ensures broken { IfErr result (λ e. self.new.broken ≡ Some e) }
+    {
+        if self.waiting.is_empty() {
+            return Ok(());
+        }
+        match self.begin() {
+            Ok(()) => Ok(()),
+            Err(fault) => {
+                self.broken = Some(fault);
+                Err(fault)
+            }
+        }
+    }
+
+    // The next fragment, of a merger that isn't broken and of which no source waits.
+    #[inline]
+    fn advance(&mut self) -> Result<Option<Fragment>, I::Fault>
+        requires sound { self.old.broken ≡ None }
+        requires begun { self.old.waiting.items ≡ [] }
         ensures top { self.new.top ≡ self.old.top }
         ensures broken { self.new.broken ≡ self.old.broken }
         ensures first { (fs : List Fragment) → merger_to_come I.to_come I.over_all self.old.top self.old.in_force self.old.waiting.items
@@ -103,13 +152,6 @@ impl<I: FragmentSource> Merger<I> {
             (merger_room I.at_most self.new.waiting.items self.new.bracket) result }
         ensures causes { IfErr result (λ e. IsBrokenBy I.broken_by e self.new.bracket ⊎ I.Fault.from_gives alloc_error e) }
     {
-        if !self.waiting.is_empty() {
-            let alloc = *self.waiting.allocator();
-            let sources = mem::replace(&mut self.waiting, Vec::new(alloc));
-            let bracket = bracket_of(alloc, sources)?;
-            self.bracket.put(bracket);
-            self.in_force = None;
-        }
         let alloc = *self.waiting.allocator();
         self.bracket.next_left(alloc, self.top, &mut self.in_force)
     }
@@ -134,6 +176,7 @@ impl<I: FragmentSource> FragmentSource for Merger<I> {
 
     /// At each call of a merger that tells its fragments, those given so far and those to come are the
     /// merge, which is the join by places.
+    #[inline]
     fn next(&mut self) -> Result<Option<Fragment>, I::Fault>
         ensures same_top { self.new.top ≡ self.old.top }
         ensures first { (fs : List Fragment) → merger_to_come I.to_come I.over_all self.old.top self.old.in_force self.old.waiting.items
@@ -150,12 +193,14 @@ impl<I: FragmentSource> FragmentSource for Merger<I> {
         if let Some(fault) = self.broken {
             return Err(fault);
         }
-        match self.advance() {
-            Ok(fragment) => Ok(fragment),
-            Err(fault) => {
-                self.broken = Some(fault);
-                Err(fault)
-            }
+        if let Err(fault) = self.start() {
+            return Err(fault);
         }
+        let answer = self.advance();
+        if let Err(fault) = &answer {
+            self.broken = Some(*fault);
+            return answer;
+        }
+        answer
     }
 }

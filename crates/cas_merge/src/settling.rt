@@ -1,16 +1,15 @@
 //! What is left of a fragment under what covers it.
 
-ghost use Rattle.std.specs.Prelude.{◌≡◌, filter, IfOk, Option, None, ◌||◌};
-ghost use Rattle.std.specs.Option.{is_some};
+ghost use Rattle.std.specs.Prelude.{◌≡◌, filter, IfOk, Option, None};
 ghost use Rattle.cas_bounds.specs.declared.cuts.Clustering.{Clustering};
 ghost use Rattle.cas_cell.specs.Cells.{cell_at};
 ghost use Rattle.cas_streams.specs.Flat.{own};
 ghost use Rattle.cas_streams.specs.Settled.{is_bare, if_said, bare_column, bare_columns, bare_row, bare, same_force, left_of};
 ghost use Rattle.cas_streams.specs.declared.fragment.Fragment.TheVariants as fragment;
-ghost use Rattle.cas_merge.specs.Inner.Said.{says, any_says, all_bare, stays, all_stay};
+ghost use Rattle.cas_merge.specs.Inner.Said.{says, any_says, all_bare, stays, all_stay, live_stays, row_says, row_stays, is_left_whole, goes_whole};
 
 use cas_atoms::{PathCell, Row, RowColumn, greater_deletion, standing_live};
-use cas_cell::{Cell, Deletion, covers};
+use cas_cell::{Cell, Deletion, Liveness, covers};
 use cas_streams::Fragment;
 use cas_types::List;
 use std::alloc::{AllocError, Global};
@@ -141,7 +140,7 @@ fn same_force(a: Option<Deletion>, b: Option<Deletion>) -> bool
 }
 
 fn row_says(r: &Row) -> bool
-    ensures { result ≡ (is_some r.now.deletion || (is_some r.now.live || any_says r.now.columns)) }
+    ensures { result ≡ row_says r.now }
 {
     r.deletion.is_some() || r.live.is_some() || any_says(r.columns.as_slice())
 }
@@ -181,8 +180,55 @@ fn bare_static(
     Ok(List::from_vec(left_columns(alloc, top, columns)?))
 }
 
-/// What is left of a fragment under the top, where that is in force before it.
-pub fn left_of(
+// Whether there is no liveness that is covered.
+fn live_stays(over: Option<Deletion>, live: Option<Liveness>) -> bool
+    ensures { result ≡ live_stays over live }
+{
+    match (over, live) {
+        (Some(d), Some(l)) => !covers(&d, l.at()),
+        _ => true,
+    }
+}
+
+// Whether what is said of the row all stays under a deletion.
+fn row_stays(over: Option<Deletion>, r: &Row) -> bool
+    ensures { result ≡ row_stays over r.now }
+{
+    let all = greater_deletion(over, r.deletion);
+    live_stays(all, r.live) && all_stay(all, r.columns.as_slice()) && row_says(r)
+}
+
+// Whether the fragment is a row that stays as it is, or a marker that changes what is in force.
+fn is_left_whole(top: Option<Deletion>, now: Option<Deletion>, f: &Fragment) -> bool
+    ensures { result ≡ is_left_whole top now f.now }
+{
+    match f {
+        Fragment::Static(_) => false,
+        Fragment::Row(r) => row_stays(greater_deletion(top, now), r),
+        Fragment::Marker(_, d) => !same_force(now, *d),
+    }
+}
+
+/// Whether what came next goes on as it is.
+#[inline]
+pub(crate) fn goes_whole<E>(
+    top: Option<Deletion>,
+    now: Option<Deletion>,
+    next: &Result<Option<Fragment>, E>,
+) -> bool
+    ensures { result ≡ goes_whole top now next.now }
+{
+    match next {
+        Ok(Some(f)) => is_left_whole(top, now, f),
+        Ok(None) => true,
+        Err(_) => true,
+    }
+}
+
+// What is left of any fragment. It stands apart, so that one that goes on as it is doesn't pay for
+// what this holds.
+#[inline(never)]
+fn left_of_any(
     alloc: Global,
     top: Option<Deletion>,
     now: Option<Deletion>,
@@ -201,4 +247,20 @@ pub fn left_of(
             }
         }
     }
+}
+
+/// What is left of a fragment under the top, where that is in force before it.
+#[inline]
+pub fn left_of(
+    alloc: Global,
+    top: Option<Deletion>,
+    now: Option<Deletion>,
+    f: Fragment,
+) -> Result<Option<Fragment>, AllocError>
+    ensures { IfOk result (λ g. g ≡ left_of top now f) }
+{
+    if is_left_whole(top, now, &f) {
+        return Ok(Some(f));
+    }
+    left_of_any(alloc, top, now, f)
 }

@@ -81,9 +81,9 @@ nothing_accepted mutations taken accepted is all = sym (append_cancel_left mutat
 
 -- each shard of a store that was opened numbers on from what it was
 pub numbered : (given : Limits) (entries : List ManifestEntry) (mutations : List Mutation) (openings : ℕ → ShardOpening) (l : Limits) (tables : List TableSchema)
-    (shards : List ShardState) → IsInMemory given entries mutations openings l tables shards → (s t : State) → s.shards ≡ shards → accepted_in s.list ≡ [] → NumbersOn s t
+    (shards : List ShardState) (last live : ℕ) → IsInMemory given entries mutations openings l tables shards last live → (s t : State) → s.shards ≡ shards → accepted_in s.list ≡ [] → NumbersOn s t
     → (n : ℕ) → n < (said_by entries).shards → AscendByOne ((openings n).number ∷ numbers_of n (accepted_in t.list))
-numbered given entries mutations openings l tables shards memory s t shards_are none on n low =
+numbered given entries mutations openings l tables shards last live memory s t shards_are none on n low =
     let many : length shards ≡ (said_by entries).shards = memory.count ∙ ap (λ (k : Limits). k.shards) memory.same in
     let (x, there) = got s.shards n (subst (λ xs. n < length xs) (sym shards_are) (subst (λ k. n < k) (sym many) low)) in
     let (y, here) = got t.shards n (subst (λ k. n < k) (sym on.count) (get_within s.shards n x there)) in

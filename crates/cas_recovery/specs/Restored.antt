@@ -1,14 +1,16 @@
 -- What a store is in memory when it was opened (own).
-use Rattle.std.specs.Prelude.{◌≡◌, ◌≤◌, ℕ, List, [], ◌++◌, length, map, slice_get, Some}
+use Rattle.std.specs.Prelude.{◌≡◌, ◌≤◌, ℕ, max, List, [], ◌++◌, length, map, slice_get, Some}
+use Rattle.std.specs.List.{AllByRecursion, fold}
 use Rattle.cas_types.specs.declared.schema.TableSchema.{TableSchema}
 use Rattle.cas_bounds.specs.ClusteringOrder.{clustering_order}
 use Rattle.cas_bounds.specs.declared.cuts.Slice.{Slice}
 use Rattle.cas_atoms.specs.declared.atom.Mutation.{Mutation}
 use Rattle.cas_index.specs.Searches.{IsSliceOf}
-use Rattle.cas_changes.specs.Saying.{part_of, said_by}
+use Rattle.cas_changes.specs.Saying.{Saying, part_of, said_by}
 use Rattle.cas_changes.specs.declared.entry.Entry.{Entry as ManifestEntry}
 use Rattle.cas_journal.specs.Stores.{Told, named}
 use Rattle.cas_opening.specs.Opening.{found_with}
+use Rattle.cas_shard.specs.Flushing.{HasInMemory}
 use Rattle.cas_shard.specs.Stands.{ShardState, files_at}
 use Rattle.cas_stored.specs.Reading.{AreReadIn}
 
@@ -28,6 +30,22 @@ abbrev pub AreListed : List ManifestEntry → List TableSchema → List ShardSta
 AreListed entries tables shards = (n : ℕ) (x : ShardState) → slice_get shards n ≡ Some x → (table : ℕ) (t : TableSchema) → slice_get tables table ≡ Some t
     → map (λ f. f.info) (files_at (slice_get x.stores table)) ≡ (part_of (said_by entries) table n).listed
 
+-- In memory each shard has just some mutations of each table, each of which the table may hold; and so it is with whatever tables come behind these.
+abbrev pub HaveMemory : List TableSchema → List ShardState → Type 0
+HaveMemory tables shards = (n table : ℕ) (x : ShardState) → slice_get shards n ≡ Some x
+    → ∥ ((ws : List Mutation) × ((more : List TableSchema) → HasInMemory (tables ++ more) table ws x)) ∥₁
+
+-- the greatest of these numbers, 0 where there is none
+abbrev pub greatest_of : List ℕ → ℕ
+greatest_of numbers = fold max 0 numbers
+
+-- What the manifest says of table files is not ahead of the store: no frontier is above the shard's number; no file that it ever listed has a number
+-- above the last; and it lists as many as are live.
+pub record IsBehind (said : Saying) (shards : List ShardState) (last live : ℕ) : Type 0 where
+  pub frontiers : (n table : ℕ) (x : ShardState) → slice_get shards n ≡ Some x → (part_of said table n).frontier ≤ x.number
+  pub numbers : AllByRecursion (λ k. k ≤ last) said.numbers
+  pub listed : said.listed ≡ live
+
 -- What the journal was told of a store of these entries and mutations, which are all there: the manifest has the entries, and behind them names of segments
 -- that were begun.
 pub record IsTold (entries : List ManifestEntry) (mutations : List Mutation) (t : Told) : Type 0 where
@@ -35,6 +53,9 @@ pub record IsTold (entries : List ManifestEntry) (mutations : List Mutation) (t 
   pub begun : (numbers : List ℕ) × (t.entries ≡ entries ++ named numbers)
   pub tables : (said_by t.entries).tables ≡ (said_by entries).tables
   pub shards : (said_by t.entries).shards ≡ (said_by entries).shards
+  pub parts : (said_by t.entries).parts ≡ (said_by entries).parts
+  pub numbers : (said_by t.entries).numbers ≡ (said_by entries).numbers
+  pub listed : (said_by t.entries).listed ≡ (said_by entries).listed
   pub failed : t.failed ≡ []
   pub taken : t.taken ≡ mutations
   pub committed : length mutations ≤ t.committed

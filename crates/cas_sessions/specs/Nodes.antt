@@ -10,6 +10,7 @@ use Rattle.cas_journal.specs.declared.journal.Journal.{Journal}
 use Rattle.cas_journal.specs.Stores.{Told}
 use Rattle.cas_journal.specs.Reach.{reach_of}
 use Rattle.cas_history.specs.declared.item.Item.{Item}
+use Rattle.cas_recovery.specs.Restored.{IsBehind}
 use Rattle.cas_render.specs.declared.reply.Failure.TheVariants as failure
 use Rattle.cas_render.specs.declared.reply.Reply.{Reply}
 use Rattle.cas_render.specs.declared.reply.Reply.TheVariants as reply
@@ -24,7 +25,8 @@ use Rattle.cas_sessions.specs.Entered.{AreEntered, IsLeftAmid}
 
 -- What an open store is made of, as one of its sessions has it: its limits, its tables, its shards; the shards of their seats and the last number of
 -- each; the clock; the list of all that was accepted; the session, and how often it wrote; how many mutations the room accepted, and how many of them
--- it said are committed; its journal, how often its folder failed, and how often a read of a table file.
+-- it said are committed; its journal, how often its folder failed, and how often a read of a table file; the last number of a table file that was drawn or
+-- listed, and how many the manifest lists.
 pub record State : Type 0 where
   pub limits : Limits
   pub tables : List TableSchema
@@ -40,6 +42,8 @@ pub record State : Type 0 where
   pub journal : Journal
   pub faults : ℕ
   pub reads : ℕ
+  pub last_file : ℕ
+  pub live : ℕ
 
 -- how often the session wrote, and the room accepted, can be counted once more
 abbrev pub IsFew : State → Type 0
@@ -76,8 +80,8 @@ pub record StandsFor (h : History) (s : State) : Type 0 where
   pub entered : AreEntered s.list h
 
 -- A store's disk keeps what its history says. What the journal was told are the mutations that were found and then all that was accepted, by which
--- each shard's next number goes on; the manifest tells of the tables. Each mutation that was acknowledged was said to be committed, and where no
--- write failed all were.
+-- each shard's next number goes on; the manifest tells of the tables, and of table files it is not ahead of memory. Each mutation that was acknowledged
+-- was said to be committed, and where no write failed all were.
 pub record LastsFor (h : History) (found : List Mutation) (s : State) (disk : Disk) (t : Told) : Type 0 where
   pub keeps : Keeps s.journal disk s.list s.committed found t
   pub tables : (said_by t.entries).tables ≡ s.tables
@@ -88,6 +92,7 @@ pub record LastsFor (h : History) (found : List Mutation) (s : State) (disk : Di
   pub counted : length (accepted_in s.list) ≤ s.accepted
   pub acknowledged : (h.acknowledged ≤ s.committed) × (h.acknowledged ≤ length (accepted_in s.list))
   pub whole : is_some s.journal.first ≡ false → length (accepted_in s.list) ≤ s.committed
+  pub behind : IsBehind (said_by t.entries) s.shards s.last_file s.live
 
 -- from one history to another the store went on: its memory stands for the other, and its disk keeps what that says
 pub record GoesOnTo (h after : History) (s t : State) (old new : Disk) : Type 0 where

@@ -22,7 +22,7 @@ use Rattle.cas_history.specs.Hands.{numbers}
 use Rattle.cas_sessions.specs.History.{History, DiskState}
 use Rattle.cas_recovery.specs.Openings.{AreOpenings}
 use Rattle.cas_recovery.specs.Recovered.{IsRecovered}
-use Rattle.cas_recovery.specs.Restored.{IsTold}
+use Rattle.cas_recovery.specs.Restored.{IsBehind, IsTold}
 
 -- The history before the first line: the tables that the manifest tells of, as many shards as it says, and of each shard what it was before the run; the
 -- clock at 0.
@@ -49,22 +49,24 @@ pub record AreItsFiles (entries : List ManifestEntry) (folder : Disk) (files : �
   pub no_more : (shard table : ℕ) → ((said_by entries).shards ≤ shard) ⊎ (length (said_by entries).tables ≤ table) → files shard table ≡ []
 
 -- The limits, tables and shards of a store of these entries, with these mutations in its log: each shard stands for what it was, and its next number goes
--- on behind the log's.
+-- on behind the log's. Of table files the entries are not ahead of it.
 pub record IsInMemory (given : Limits) (entries : List ManifestEntry) (mutations : List Mutation) (openings : ℕ → ShardOpening) (limits : Limits)
-    (tables : List TableSchema) (shards : List ShardState) : Type 0 where
+    (tables : List TableSchema) (shards : List ShardState) (last live : ℕ) : Type 0 where
   pub same : limits ≡ record given { shards = (said_by entries).shards }
   pub tables_are : tables ≡ (said_by entries).tables
   pub count : length shards ≡ limits.shards
   pub stands : (n : ℕ) (x : ShardState) → slice_get shards n ≡ Some x → Stands tables (found_shard (openings n)) x
   pub ordered : AreInOrder mutations
   pub next : (n : ℕ) (x : ShardState) → slice_get shards n ≡ Some x → AscendByOne (numbers_of n mutations ++ (x.number + 1) ∷ [])
+  pub behind : IsBehind (said_by entries) shards last live
 
 -- The store of a folder was opened: it was read back with its files; and whatever its shards may have been before, for all that is known of the folder,
 -- memory has them so.
-pub record IsStarted (given limits : Limits) (tables : List TableSchema) (shards : List ShardState) (journal : Journal) (old new : Disk) : Type 0 where
-  pub back : IsRecovered given limits tables shards journal old new
+pub record IsStarted (given limits : Limits) (tables : List TableSchema) (shards : List ShardState) (last live : ℕ) (journal : Journal)
+    (old new : Disk) : Type 0 where
+  pub back : IsRecovered given limits tables shards last live journal old new
   pub memory : (openings : ℕ → ShardOpening) → AreOpenings back.entries back.mutations old openings
-      → IsInMemory given back.entries back.mutations openings limits tables shards
+      → IsInMemory given back.entries back.mutations openings limits tables shards last live
   pub files : AreItsFiles back.entries old (files_in shards)
 
 -- A run with these limits and these table files begins so: nothing is stopped, and at most one segment was begun since the entries were written.

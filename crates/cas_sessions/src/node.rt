@@ -1,22 +1,23 @@
 //! A store that is open: its tables and shards in memory, its room on the disk, and the sessions that share it.
 
-ghost use Rattle.std.specs.Prelude.{◌≡◌, ◌≢◌, ◌+◌, ◌≤◌, ◌<◌, ℕ, ℤ, List, [], map, Err, IfOk, OnErr, IfSome, IsSome};
+ghost use Rattle.std.specs.Prelude.{◌≡◌, ◌≢◌, ◌+◌, ◌≤◌, ◌<◌, ℕ, ℤ, List, [], map, Err, IfOk, None, OnErr, IfSome, IsSome};
 ghost use Rattle.cas_disk.specs.Disk.{Disk, Image};
 ghost use Rattle.cas_atoms.specs.declared.atom.Mutation.{Mutation};
 ghost use Rattle.cas_journal.specs.Stores.{Told};
 ghost use Rattle.cas_history.specs.Items.{listed};
 ghost use Rattle.cas_history.specs.Last.{Idle};
-ghost use Rattle.cas_recovery.specs.Restored.{HaveNoMore, MayBeRead};
+ghost use Rattle.cas_recovery.specs.Restored.{HaveMemory, HaveNoMore, MayBeRead};
+ghost use Rattle.cas_refs.specs.Counts.{at};
 ghost use Rattle.cas_sessions.specs.Entered.{IsLeft};
 ghost use Rattle.cas_sessions.specs.History.{History};
 ghost use Rattle.cas_sessions.specs.Nodes.{State, StandsFor, LastsFor};
-ghost use Rattle.cas_sessions.specs.Inner.Sound.{IsSound, read_props, sound_props};
+ghost use Rattle.cas_sessions.specs.Inner.Sound.{AreSeated, IsSound, read_props, sound_props};
 
 use cas_bind::Limits;
 use cas_disk::Folder;
 use cas_gates::First;
-use cas_history::{Front, Item, Kept, Session as Seat, Store};
-use cas_lifecycle::Maker;
+use cas_history::{Files, Front, Item, Kept, Session as Seat, Store};
+use cas_lifecycle::{Book, Changes, Maker, RoomCopy};
 use cas_room::{Event, Room};
 use cas_shard::Shard;
 use cas_types::TableSchema;
@@ -99,7 +100,9 @@ impl<F: Folder> Closed<F> {
 
 /// A store that is open, which its sessions share: the limits, the tables, the shards with their seats in
 /// the history, the room, the count of the faults of what was read in table files, and the right to make
-/// sessions. `close` ends it; it can't be dropped. `J` names its history.
+/// sessions; each shard's changes of table files, with the room's copies of them, the book of the files that
+/// this run wrote, who draws the numbers of files, and how many files the manifest lists. `close` ends it; it
+/// can't be dropped. `J` names its history.
 pub struct Node<F: Folder, J: Store> {
     pub(crate) limits: Limits,
     pub(crate) tables: Vec<TableSchema>,
@@ -108,10 +111,18 @@ pub struct Node<F: Folder, J: Store> {
     pub(crate) room: Room<F, J>,
     pub(crate) tally: F::Tally,
     pub(crate) maker: Maker<Event, J>,
+    pub(crate) changes: Vec<Changes<Event, J>>,
+    pub(crate) copies: Vec<RoomCopy<Event, J>>,
+    pub(crate) book: Book<Event, J>,
+    pub(crate) files: Files<Event, J>,
+    pub(crate) live: u64,
     ghost sound: { IsSound limits tables.items shards.items (map (λ f. f.shard) fronts.items) (map (λ f. f.number) fronts.items)
         room.journal.size } by { Prim.hlevel sound_props },
     ghost readable: { MayBeRead tables.items shards.items } by { Prim.hlevel read_props },
     ghost unmade: { HaveNoMore tables.items shards.items },
+    ghost kept: { HaveMemory tables.items shards.items },
+    ghost seated: { AreSeated limits (map (λ c. c.shard) changes.items) (map (λ c. c.shard) copies.items) } by { Prim.hlevel sound_props },
+    ghost unlisted: { (k : ℕ) → room.numbers.last < k → at book.refs k ≡ None },
 }
 
 impl<F: Folder, J: Store> Stored for Node<F, J> {
@@ -132,6 +143,8 @@ impl<F: Folder, J: Store> Stored for Node<F, J> {
       journal = n.room.journal;
       faults = F.faults_of n.room.folder;
       reads = F.Tally.number n.tally;
+      last_file = n.room.numbers.last;
+      live = n.live;
     } };
 
     ghost disk = { λ n. F.disk n.room.folder };
@@ -196,6 +209,11 @@ impl<F: Folder, J: Store> Node<F, J> {
             room,
             tally,
             maker: _maker,
+            changes: _changes,
+            copies: _copies,
+            book: _book,
+            files: _files,
+            live: _live,
         } = self;
         let (folder, first, log) = room.close();
         Closed {

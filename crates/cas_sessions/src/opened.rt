@@ -17,7 +17,8 @@ ghost use Rattle.cas_bind.specs.Tables.{AreTables};
 ghost use Rattle.cas_opening.specs.Opening.{IsOfBytes, MayBeMadeNew, MayBeOpened};
 ghost use Rattle.cas_shard.specs.declared.entry.ShardOpening.{ShardOpening};
 ghost use Rattle.cas_recovery.specs.Recovered.{IsUnreadable};
-ghost use Rattle.cas_recovery.specs.Restored.{HaveNoMore, MayBeRead};
+ghost use Rattle.cas_recovery.specs.Restored.{HaveMemory, HaveNoMore, MayBeRead};
+ghost use Rattle.cas_refs.specs.Counts.{at};
 ghost use Rattle.cas_sessions.specs.Starts.{BeginsAs, IsInMemory, IsOpenedAs, IsStarted};
 ghost use Rattle.cas_sessions.specs.Inner.Sound.{read_props, sound_props};
 
@@ -44,6 +45,7 @@ pub struct Opened<F: Folder> {
         × IsShardCount started.limits.shards } by { Prim.hlevel sound_props },
     ghost readable: { MayBeRead started.tables.items started.shards.items } by { Prim.hlevel read_props },
     ghost unmade: { HaveNoMore started.tables.items started.shards.items },
+    ghost kept: { HaveMemory started.tables.items started.shards.items },
 }
 
 // A folder whose store wasn't opened, with the count of the faults of what was read in table files.
@@ -69,8 +71,8 @@ pub fn start<F: Folder>(
 ) -> Result<Opened<F>, (RecoveryFault, Closed<F>)>
     requires shards { IsShardCount limits.now.shards }
     requires size { IsSize limits.now.segment }
-    ensures started { IfOk result (λ o. IsStarted limits.now o.started.limits o.started.tables.items o.started.shards.items o.started.journal
-        (F.disk folder) (F.disk o.folder)) }
+    ensures started { IfOk result (λ o. IsStarted limits.now o.started.limits o.started.tables.items o.started.shards.items
+        o.started.last_file o.started.live o.started.journal (F.disk folder) (F.disk o.folder)) }
     ensures refused { IfErr result (λ r. (name : _) (at : ℕ) → r.0 ≡ RecoveryFault.Bad name at → (c : Image) → (F.disk folder).reads c → IsOfBytes c
         → IsUnreadable limits.now.shards (F.disk folder) name at c) }
     ensures unopened { IfErr result (λ r. (r.1.pass ≡ None) × (r.1.first ≡ None)) }
@@ -115,16 +117,21 @@ fn assembled<F: Folder, J: Store>(
     requires good { AreTables started.tables.items × (length started.shards.items ≡ started.limits.shards) × IsShardCount started.limits.shards }
     requires readable { MayBeRead started.tables.items started.shards.items }
     requires unmade { HaveNoMore started.tables.items started.shards.items }
+    requires kept { HaveMemory started.tables.items started.shards.items }
     requires new { (seats.faults.number ≡ 0) × (seats.faults.committed ≡ 0) × (seats.faults.first ≡ 0) }
     requires log { listed log_list seats.log.pass.saw ≡ [] }
     requires places { map (λ f. f.shard) seats.fronts.items ≡ numbers 0 (length started.shards.items) }
     requires numbers { map (λ f. f.number) seats.fronts.items ≡ map (λ x. x.number) started.shards.items }
+    requires changes { map (λ c. c.shard) seats.changes.items ≡ numbers 0 (length started.shards.items) }
+    requires copies { map (λ c. c.shard) seats.copies.items ≡ numbers 0 (length started.shards.items) }
+    requires last { seats.numbers.last ≡ started.last_file }
+    requires book { (k : ℕ) → at seats.book.refs k ≡ None }
     ensures made { (session : ℕ) (clock : ℤ)
         → IsOpenedAs started.limits started.tables.items started.shards.items started.journal (F.faults_of folder)
         (⟦<F::Tally as Count>⟧.number tally) (⟦<Node<F, J> as Stored>⟧.state result session 0 clock) }
     ensures begins { (given : Limits) (entries : List EntryOf) (mutations : List MutationOf) (openings : ℕ → ShardOpening)
-        → IsInMemory given entries mutations openings started.limits started.tables.items started.shards.items → (session : ℕ)
-        → BeginsAs given entries mutations openings (F.disk folder) (⟦<Node<F, J> as Stored>⟧.state result session 0 (pos 0)) }
+        → IsInMemory given entries mutations openings started.limits started.tables.items started.shards.items started.last_file started.live
+        → (session : ℕ) → BeginsAs given entries mutations openings (F.disk folder) (⟦<Node<F, J> as Stored>⟧.state result session 0 (pos 0)) }
     ensures folder { result.room.folder ≡ folder }
     ensures sessions { ⟦<Node<F, J> as Stored>⟧.sessions result ≡ seats.maker.out }
 {
@@ -142,6 +149,11 @@ fn assembled<F: Folder, J: Store>(
         ),
         tally,
         maker: seats.maker,
+        changes: seats.changes,
+        copies: seats.copies,
+        book: seats.book,
+        files: seats.files,
+        live: started.live,
     }
 }
 
@@ -154,7 +166,8 @@ impl<F: Folder> Opened<F> {
             self.started.journal (F.faults_of self.folder) (⟦<F::Tally as Count>⟧.number self.tally)
             (⟦<Node<F, J> as Stored>⟧.state n session 0 clock)) }
         ensures begins { IfOk result (λ n. (given : Limits) (entries : List EntryOf) (mutations : List MutationOf) (openings : ℕ → ShardOpening)
-            → IsInMemory given entries mutations openings self.started.limits self.started.tables.items self.started.shards.items → (session : ℕ)
+            → IsInMemory given entries mutations openings self.started.limits self.started.tables.items self.started.shards.items self.started.last_file
+            self.started.live → (session : ℕ)
             → BeginsAs given entries mutations openings (F.disk self.folder) (⟦<Node<F, J> as Stored>⟧.state n session 0 (pos 0))) }
         ensures folder { IfOk result (λ n. n.room.folder ≡ self.folder) }
         ensures sessions { IfOk result (λ n. ⟦<Node<F, J> as Stored>⟧.sessions n ≡ 0) }
@@ -166,7 +179,7 @@ impl<F: Folder> Opened<F> {
             tally,
             table,
         } = self;
-        match make_seats::<J, F::Sealed>(alloc, table, &started.shards) {
+        match make_seats::<J, F::Sealed>(alloc, table, &started.shards, started.last_file) {
             Ok(seats) => Ok(assembled(started, seats, folder, tally)),
             Err(Mem) => Err(not_opened(folder, tally)),
         }

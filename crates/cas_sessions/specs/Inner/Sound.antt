@@ -31,6 +31,10 @@ pub record IsSound (l : Limits) (ts : List TableSchema) (xs : List ShardState) (
   pub places : seats ≡ numbers 0 l.shards
   pub numbers : counts ≡ map (λ x. x.number) xs
 
+-- the seats for the changes of table files are the shards', and the room's
+abbrev pub AreSeated : Limits → List ℕ → List ℕ → Type 0
+AreSeated l changed copied = (changed ≡ numbers 0 l.shards) × (copied ≡ numbers 0 l.shards)
+
 -- the same of what contracts see of it
 abbrev pub IsSoundState : State → Type 0
 IsSoundState s = IsSound s.limits s.tables s.shards s.places s.numbers s.journal.size

@@ -1,7 +1,7 @@
 use Rattle.std.proofs.Common.{◌≡◌, ◌≤◌, List, Some}
 use Rattle.cas_streams.specs.declared.fragment.Fragment.{Fragment}
 use Rattle.cas_merge.specs.Inner.Brackets.{coming, room, left_to_come}
-use Rattle.cas_merge.proofs.bracket.Bracket.next_left.Given as goal
+use Rattle.cas_merge.proofs.bracket.Bracket.search_left.Given as goal
 
 abbrev pub invariant-loop-f : goal.invariant-loop-f
 invariant-loop-f g l =
