@@ -1,10 +1,11 @@
 //! What a run prints over a folder with a table file, and how it ends.
 
 use crate::flushed::{failing, found};
+use crate::runs::run_in;
 use cas_disk::{Folder, MemFolder, Name};
-use cas_io::{FreeGate, ManualClock, MemSink, MemSource};
-use cas_node::{Cause, Outcome, run};
-use std::alloc::{AllocError, Global};
+use cas_io::{MemSink, MemSource};
+use cas_node::Cause;
+use std::alloc::Global;
 
 // Two rows of the file, and one that is written.
 const SCRIPT: &str = "SELECT c, v FROM t WHERE k = 1
@@ -37,36 +38,12 @@ ok 6
 failed block
 ";
 
-fn words(alloc: Global) -> Result<Vec<String>, AllocError> {
-    Ok(vec![in alloc;
-        String::from_str(alloc, "--clock")?,
-        String::from_str(alloc, "manual")?,
-        String::from_str(alloc, "d")?,
-    ]?)
-}
-
 // Whether the script prints this over the folder; and how the run ended.
 fn ended(alloc: Global, folder: MemFolder, output: &str) -> Option<(u8, Cause, bool)> {
-    let words = words(alloc).ok()?;
     let mut source = MemSource::new(SCRIPT.as_bytes().to_vec(alloc).ok()?);
-    let mut sink = MemSink::new(alloc);
-    let clock = ManualClock { reading: 7 };
-    let Outcome {
-        status,
-        cause,
-        folder: _folder,
-        pass: _pass,
-        tally: _tally,
-    } = run(
-        alloc,
-        &words,
-        &mut source,
-        &mut sink,
-        folder,
-        &clock,
-        &FreeGate,
-    );
-    Some((status, cause, sink.taken() == output.as_bytes()))
+    let ended = run_in(alloc, &mut source, MemSink::new(alloc), folder).ok()?;
+    let printed = ended.output.as_slice() == output.as_bytes();
+    Some((ended.status, ended.cause, printed))
 }
 
 // Whether the rows of the file are shown, with the one that is written.

@@ -11,10 +11,10 @@ const INSERT: &str = "INSERT INTO t (k, c, v) VALUES (1, 1, 'a');\n";
 
 /// What a run came to: how it ended, what it wrote, and whether lines were run.
 #[derive(Drop)]
-struct Ended {
-    status: u8,
-    cause: Cause,
-    output: Vec<u8>,
+pub(crate) struct Ended {
+    pub(crate) status: u8,
+    pub(crate) cause: Cause,
+    pub(crate) output: Vec<u8>,
     has_run: bool,
 }
 
@@ -27,8 +27,13 @@ pub(crate) fn words_of(alloc: Global, text: &str) -> Result<Vec<String>, Fail> {
     Ok(list)
 }
 
-// Runs with the manual clock and one shard.
-fn run_over<S: Source>(alloc: Global, source: &mut S, mut sink: MemSink) -> Result<Ended, Fail> {
+/// Runs over a folder with the manual clock, and one shard where the store is made.
+pub(crate) fn run_in<S: Source>(
+    alloc: Global,
+    source: &mut S,
+    mut sink: MemSink,
+    folder: MemFolder,
+) -> Result<Ended, Fail> {
     let words = words_of(alloc, "--clock manual --shards 1 d")?;
     let clock = ManualClock { reading: 7 };
     let Outcome {
@@ -37,15 +42,7 @@ fn run_over<S: Source>(alloc: Global, source: &mut S, mut sink: MemSink) -> Resu
         pass,
         folder: _folder,
         tally: _tally,
-    } = run(
-        alloc,
-        &words,
-        source,
-        &mut sink,
-        MemFolder::new(alloc, FaultPlan::none(alloc)),
-        &clock,
-        &FreeGate,
-    );
+    } = run(alloc, &words, source, &mut sink, folder, &clock, &FreeGate);
     let has_run = pass.is_some();
     let output = sink.taken().to_vec(alloc)?;
     Ok(Ended {
@@ -54,6 +51,16 @@ fn run_over<S: Source>(alloc: Global, source: &mut S, mut sink: MemSink) -> Resu
         output,
         has_run,
     })
+}
+
+// The same over an empty folder.
+fn run_over<S: Source>(alloc: Global, source: &mut S, sink: MemSink) -> Result<Ended, Fail> {
+    run_in(
+        alloc,
+        source,
+        sink,
+        MemFolder::new(alloc, FaultPlan::none(alloc)),
+    )
 }
 
 fn source_of(alloc: Global, text: &str) -> Result<MemSource, Fail> {
