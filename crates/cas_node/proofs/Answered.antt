@@ -73,6 +73,7 @@ with_clock h s n d stands = record {
       counted = lasts.counted;
       acknowledged = lasts.acknowledged;
       whole = lasts.whole;
+      behind = lasts.behind;
     },
   );
 }

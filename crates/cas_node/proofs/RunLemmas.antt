@@ -59,10 +59,10 @@ use Rattle.cas_node.proofs.Stopping.{stop_is_counted}
 -- ---- what was served
 
 module _ (kind : ClockKind) (Gives : ℤ → Type 0) (script : List ℕ) (old new : Option (List ℕ)) (s t : State) (d e : Disk) (faults_before : ℕ) (told why : Cause)
-    (moves : Moves (λ h after. RanFrom h kind Gives script old new after told) s t d e) (l : Limits) (tables : List TableSchema) (shards : List ShardState) (journal : Journal)
+    (moves : Moves (λ h after. RanFrom h kind Gives script old new after told) s t d e) (l : Limits) (tables : List TableSchema) (shards : List ShardState) (last live : ℕ) (journal : Journal)
     (faults reads : ℕ) (opened : IsOpenedAs l tables shards journal faults reads s)
     (begins : (given : Limits) (entries : List ManifestEntry) (mutations : List Mutation) (openings : ℕ → ShardOpening)
-    → IsInMemory given entries mutations openings l tables shards → BeginsAs given entries mutations openings d s)
+    → IsInMemory given entries mutations openings l tables shards last live → BeginsAs given entries mutations openings d s)
     (going : journal.first ≡ None) (ended : why ≡ with_faults faults_before t.faults t.reads told)
     (left : (h : History) (found : List Mutation) (u : Told) → StandsFor h t → LastsFor h found t e u → (i : Image) → e.may_leave i → IsLeft found t.list h i) where
   of_store : (given : Limits) (entries : List ManifestEntry) (mutations : List Mutation) (openings : ℕ → ShardOpening)
@@ -94,7 +94,7 @@ module _ (kind : ClockKind) (Gives : ℤ → Type 0) (script : List ℕ) (old ne
       }
 
   serves : (pass : Option (List (Item Event))) → IsSome pass → IfSome pass (λ p. p ≡ t.list)
-      → Serves kind Gives script old new l tables shards journal d faults faults_before e t.faults t.reads pass why
+      → Serves kind Gives script old new l tables shards last live journal d faults faults_before e t.faults t.reads pass why
   serves None some is = absurd cc
   serves (Some items) some is = λ given entries mutations openings memory segment.
       subst
@@ -103,12 +103,12 @@ module _ (kind : ClockKind) (Gives : ℤ → Type 0) (script : List ℕ) (old ne
 
   -- also where the disks and the counts of faults are called otherwise
   pub serves_as : (before after : Disk) (now read : ℕ) (pass : Option (List (Item Event))) → d ≡ before → e ≡ after → t.faults ≡ now → t.reads ≡ read → IsSome pass
-      → IfSome pass (λ p. p ≡ t.list) → Serves kind Gives script old new l tables shards journal before faults faults_before after now read pass why
+      → IfSome pass (λ p. p ≡ t.list) → Serves kind Gives script old new l tables shards last live journal before faults faults_before after now read pass why
   serves_as before after now read pass at_first at_last count reading some is =
-      subst (λ x. Serves kind Gives script old new l tables shards journal x faults faults_before after now read pass why) at_first
-      (subst (λ x. Serves kind Gives script old new l tables shards journal d faults faults_before x now read pass why) at_last
-      (subst (λ n. Serves kind Gives script old new l tables shards journal d faults faults_before e n read pass why) count
-      (subst (λ n. Serves kind Gives script old new l tables shards journal d faults faults_before e t.faults n pass why) reading (serves pass some is))))
+      subst (λ x. Serves kind Gives script old new l tables shards last live journal x faults faults_before after now read pass why) at_first
+      (subst (λ x. Serves kind Gives script old new l tables shards last live journal d faults faults_before x now read pass why) at_last
+      (subst (λ n. Serves kind Gives script old new l tables shards last live journal d faults faults_before e n read pass why) count
+      (subst (λ n. Serves kind Gives script old new l tables shards last live journal d faults faults_before e t.faults n pass why) reading (serves pass some is))))
 
 -- a store that was opened is the same in the eyes of a session that wrote nothing
 pub opened_as : (l : Limits) (tables : List TableSchema) (shards : List ShardState) (journal : Journal) (faults reads : ℕ) (f g : ℕ → ℕ → ℤ → State) (session calls : ℕ) (clock : ℤ)
@@ -157,8 +157,8 @@ keeps (Some xs) None same = absurd cc
 keeps (Some xs) (Some ys) same = same_Some ys xs same
 
 module _ (words : List (List ℕ)) (Gives : ℤ → Type 0) (before after : Outside) (c : Command) (script : List ℕ) (limits : Limits) (tables : List TableSchema) (shards : List ShardState)
-    (journal : Journal) (mid : Disk) (faults reads : ℕ) (why : Cause) (said : command_of words ≡ Some c) (read : ReadToEnd before.left after.left script)
-    (started : IsStarted c.limits limits tables shards journal before.folder mid) (kept : before.folder_faults ≤ faults) (n : ℕ) (counted : n ≡ before.folder_faults) where
+    (last live : ℕ) (journal : Journal) (mid : Disk) (faults reads : ℕ) (why : Cause) (said : command_of words ≡ Some c) (read : ReadToEnd before.left after.left script)
+    (started : IsStarted c.limits limits tables shards last live journal before.folder mid) (kept : before.folder_faults ≤ faults) (n : ℕ) (counted : n ≡ before.folder_faults) where
   module _ (entries : List ManifestEntry) (openings : ℕ → ShardOpening) (files : ℕ → ℕ → List (File Held)) (h : History) (begins : Begins c.limits entries openings files faults h) where
     earlier : Begins c.limits entries openings files before.folder_faults h
     earlier = record {
@@ -210,7 +210,7 @@ module _ (words : List (List ℕ)) (Gives : ℤ → Type 0) (before after : Outs
       }
 
   ran_over : (list : List (Item Event))
-      → Serves c.clock Gives script before.taken after.taken limits tables shards journal mid faults n after.folder after.folder_faults reads (Some list) why
+      → Serves c.clock Gives script before.taken after.taken limits tables shards last live journal mid faults n after.folder after.folder_faults reads (Some list) why
       → Ran c Gives script before after reads list why
   ran_over list serves = record {
     entries = started.back.entries;
@@ -224,7 +224,7 @@ module _ (words : List (List ℕ)) (Gives : ℤ → Type 0) (before after : Outs
   }
 
   pub ran_all : (pass : Option (List (Item Event))) → length script ≤ SCRIPT_LIMIT
-      → Serves c.clock Gives script before.taken after.taken limits tables shards journal mid faults n after.folder after.folder_faults reads pass why
+      → Serves c.clock Gives script before.taken after.taken limits tables shards last live journal mid faults n after.folder after.folder_faults reads pass why
       → (pass ≡ None → after.taken ≡ before.taken) → RanAll words Gives before after reads pass why
   ran_all None short serves unwritten = (keeps before.taken after.taken (unwritten refl), subst IsNotRun (sym serves) tt)
   ran_all (Some list) short serves unwritten = (c, said, (script, read, short, ran_over list serves))
@@ -306,10 +306,10 @@ served_read before now reads why P (inr (told, end, ended)) =
 
 -- where no line was run, no file is blamed by a run
 pub none_bad : (kind : ClockKind) (Gives : ℤ → Type 0) (script : List ℕ) (old new : Option (List ℕ)) (limits : Limits) (tables : List TableSchema) (shards : List ShardState)
-    (journal : Journal) (before : Disk) (faults faults_before : ℕ) (after : Disk) (faults_now reads : ℕ) (pass : Option (List (Item Event))) (why : Cause) (P : Name → ℕ → Type 0)
-    → Serves kind Gives script old new limits tables shards journal before faults faults_before after faults_now reads pass why → pass ≡ None → IfBad why P
-none_bad kind Gives script old new limits tables shards journal before faults faults_before after faults_now reads None why P serves none = subst (λ (w : Cause). IfBad w P) (sym serves) tt
-none_bad kind Gives script old new limits tables shards journal before faults faults_before after faults_now reads (Some list) why P serves none = absurd cc
+    (last live : ℕ) (journal : Journal) (before : Disk) (faults faults_before : ℕ) (after : Disk) (faults_now reads : ℕ) (pass : Option (List (Item Event))) (why : Cause) (P : Name → ℕ → Type 0)
+    → Serves kind Gives script old new limits tables shards last live journal before faults faults_before after faults_now reads pass why → pass ≡ None → IfBad why P
+none_bad kind Gives script old new limits tables shards last live journal before faults faults_before after faults_now reads None why P serves none = subst (λ (w : Cause). IfBad w P) (sym serves) tt
+none_bad kind Gives script old new limits tables shards last live journal before faults faults_before after faults_now reads (Some list) why P serves none = absurd cc
 
 -- ---- an opening that ends a run
 
@@ -460,16 +460,16 @@ module _ (words : List (List ℕ)) (Gives : ℤ → Type 0) (before after : Outs
       ran_on_well script list why ran.entries ran.mutations ran.files one.0 (all_read before.left after.left well.script script well.told read) ran.its_files
       (ran.on well.openings explained) write
 
-  pub ends_well : (script : List ℕ) (limits : Limits) (tables : List TableSchema) (shards : List ShardState) (journal : Journal) (mid : Disk) (faults : ℕ)
-      (pass : Option (List (Item Event))) (why : Cause) → ReadToEnd before.left after.left script
-      → IsStarted c.limits limits tables shards journal before.folder mid → before.folder_faults ≤ faults
+  pub ends_well : (script : List ℕ) (limits : Limits) (tables : List TableSchema) (shards : List ShardState) (last live : ℕ) (journal : Journal) (mid : Disk)
+      (faults : ℕ) (pass : Option (List (Item Event))) (why : Cause) → ReadToEnd before.left after.left script
+      → IsStarted c.limits limits tables shards last live journal before.folder mid → before.folder_faults ≤ faults
       → (n : ℕ) → n ≡ before.folder_faults
-      → Serves c.clock Gives script before.taken after.taken limits tables shards journal mid faults n after.folder after.folder_faults reads pass why
+      → Serves c.clock Gives script before.taken after.taken limits tables shards last live journal mid faults n after.folder after.folder_faults reads pass why
       → (why ≡ cause.Write → WriteRose before after) → GoodOrMem why
-  ends_well script limits tables shards journal mid faults None why read started kept n counted serves write = inr serves
-  ends_well script limits tables shards journal mid faults (Some list) why read started kept n counted serves write =
+  ends_well script limits tables shards last live journal mid faults None why read started kept n counted serves write = inr serves
+  ends_well script limits tables shards last live journal mid faults (Some list) why read started kept n counted serves write =
       ran_well script list why read
-      (ran_over words Gives before after c script limits tables shards journal mid faults reads why said read started kept n counted list serves) write
+      (ran_over words Gives before after c script limits tables shards last live journal mid faults reads why said read started kept n counted list serves) write
 
   readable : (name : Name) (at : ℕ) → IsUnreadable c.limits.shards before.folder name at well.image → ⊥
   readable name at (inl refused) = opens_not_bad well.image well.of_bytes c.limits.shards well.entries well.mutations opens name at refused

@@ -10,7 +10,7 @@ use Rattle.cas_info.specs.declared.info.TableInfo.{TableInfo}
 use Rattle.cas_disk.specs.Disk.{Disk, During, Follows, Image, Same}
 use Rattle.cas_disk.specs.declared.name.Name.TheVariants.{Import as import_name, Log as log_name, Manifest as manifest_name, Table as table_name}
 use Rattle.cas_disk.proofs.Moments.{reads_on}
-use Rattle.cas_memtable.specs.Kept.{all_of}
+use Rattle.cas_memtable.specs.Kept.{HoldJust, all_of}
 use Rattle.cas_changes.specs.Saying.{Saying, part_of}
 use Rattle.cas_laws.specs.Given.{Has}
 use Rattle.cas_tables.specs.declared.header.Version.TheVariants.{Second}
@@ -21,12 +21,13 @@ use Rattle.cas_stored.specs.Stored.{HoldEach, IsFileOf, StoredTable}
 use Rattle.cas_listed.specs.Listed.{AreLoaded, IsBadFile, Loads}
 use Rattle.cas_listed.specs.declared.fault.ListedFault.{ListedFault}
 use Rattle.cas_listed.specs.declared.fault.ListedFault.TheVariants as listed
+use Rattle.cas_shard.specs.Flushing.{memtables_at}
 use Rattle.cas_shard.specs.Stands.{ShardState, TakesFiles, files_at}
 use Rattle.cas_shard.proofs.Memory.{same_number}
 use Rattle.cas_recovery.specs.Openings.{greatest_frontier, times_of}
 use Rattle.cas_recovery.specs.Recovered.{IsOldFile, IsUnfitFile}
 use Rattle.cas_recovery.specs.declared.filling.TheConstants.{VERSION_PLACE}
-use Rattle.cas_recovery.specs.Inner.Filling.{AreFilled, AreGiven, HasOld, HasStayed, HasTaken, IsOwn, IsBadIn, IsBadOf, IsBadOfShard, IsFilled, IsGiven}
+use Rattle.cas_recovery.specs.Inner.Filling.{AreFilled, AreGiven, HasOld, HasStayed, HasTaken, IsOwn, IsBadIn, IsBadOf, IsBadOfShard, IsFilled, IsGiven, KeepsMemory}
 use Rattle.cas_recovery.specs.Inner.Faults.{of_listed}
 use Rattle.cas_recovery.specs.declared.fault.RecoveryFault.{RecoveryFault}
 use Rattle.cas_recovery.specs.declared.fault.RecoveryFault.TheVariants as fault
@@ -63,11 +64,17 @@ module _ (t : TableSchema) (shard : ℕ) (infos : List TableInfo) (start disk : 
   pub taken_before : (old new : Option StoredTable) → HasTaken t disk shard infos old new → HasTaken t start shard infos old new
   taken_before old new has = record { loaded = loaded_before (files_at new) has.loaded; infos = has.infos; own = has.own; holds = has.holds }
 
+-- by what it has stored a shard has in memory what another has
+pub remembers : (x m y : ShardState) → m.stores ≡ x.stores → KeepsMemory m y → KeepsMemory x y
+remembers x m y same keeps tables table ws has =
+    keeps tables table ws (λ t at. subst (λ ps. HoldJust t.columns (memtables_at (slice_get ps table)) ws) (sym same) (has t at))
+
 -- from what a shard's call says
 pub is_given : (s : Saying) (disk : Disk) (shard : ℕ) (t : TableSchema) (files : List (File Held)) (x m y : ShardState) → m.stores ≡ x.stores
     → TakesFiles t.number files m.stores y.stores → ((c : Image) → disk.reads c → AreLoaded t shard c (part_of s t.number shard).listed files)
-    → map (λ f. f.info) files ≡ (part_of s t.number shard).listed → AllByRecursion (IsOwn t.columns) files → y.number ≡ max x.number (part_of s t.number shard).frontier → y.drawn ≡ x.drawn → y.moment ≡ x.moment → IsGiven s disk shard t x y
-is_given s disk shard t files x m y same takes loaded infos own number drawn moment =
+    → map (λ f. f.info) files ≡ (part_of s t.number shard).listed → AllByRecursion (IsOwn t.columns) files → y.number ≡ max x.number (part_of s t.number shard).frontier → y.drawn ≡ x.drawn → y.moment ≡ x.moment → KeepsMemory m y
+    → IsGiven s disk shard t x y
+is_given s disk shard t files x m y same takes loaded infos own number drawn moment memory =
     let took : TakesFiles t.number files x.stores y.stores = subst (λ ps. TakesFiles t.number files ps y.stores) same takes in
     record {
       taken = record {
@@ -81,6 +88,7 @@ is_given s disk shard t files x m y same takes loaded infos own number drawn mom
       number = number;
       drawn = drawn;
       moment = moment;
+      memory = remembers x m y same memory;
     }
 
 -- ---- table by table
@@ -114,6 +122,7 @@ none_given s disk shard x = record {
   number = omega arith;
   drawn = refl;
   moment = refl;
+  memory = λ tables table ws has. has;
 }
 
 pub one_given : (s : Saying) (start disk : Disk) (shard count : ℕ) (t : TableSchema) (x y z : ShardState) → During Same start disk → Follows Same start.reads disk.reads
@@ -129,6 +138,7 @@ one_given s start disk shard count t x y z during reads there own before more = 
       omega (arith, more.number, before.number, ap (λ (k : ℕ). (part_of s k shard).frontier) own, further);
   drawn = more.drawn ∙ before.drawn;
   moment = more.moment ∙ before.moment;
+  memory = λ tables table ws has. more.memory tables table ws (before.memory tables table ws has);
 }
   where
     some_same : (a b : TableSchema) → Some a ≡ Some b → a ≡ b
@@ -164,6 +174,7 @@ is_filled s disk shard x m y same number drawn moment given = record {
   number = given.number ∙ ap (λ (k : ℕ). max k (greatest_frontier s shard (length s.tables))) number;
   drawn = given.drawn ∙ drawn;
   moment = given.moment ∙ moment;
+  memory = remembers x m y same given.memory;
 }
   where
     within : (ts : List TableSchema) (n : ℕ) (t : TableSchema) → slice_get ts n ≡ Some t → n < length ts
@@ -180,6 +191,7 @@ filled_before s start disk shard x y during reads is = record {
   number = is.number;
   drawn = is.drawn;
   moment = is.moment;
+  memory = is.memory;
 }
 
 -- ---- shard by shard

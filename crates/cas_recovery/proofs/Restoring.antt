@@ -1,5 +1,6 @@
 -- The shards of a store with the mutations of its log, one after another.
 use Rattle.std.proofs.Common.{◌≡◌, ◌≢◌, ◌⊎◌, inl, inr, ◌<◌, ◌+◌, ◌==◌, ℕ, zero, suc, Bool, List, [], ◌∷◌, ◌++◌, take, length, Some, sym, ap, ◌∙◌, subst}
+use Rattle.std.proofs.Math.Logic.{∥∥₁_map}
 use Rattle.std.specs.Prelude.{slice_get, slice_set, if◌then◌else◌}
 use Rattle.std.specs.List.{AllByRecursion}
 use Rattle.cas_types.specs.declared.schema.TableSchema.{TableSchema}
@@ -9,10 +10,12 @@ use Rattle.cas_replay.specs.Grammar.{numbers_of}
 use Rattle.cas_shard.specs.Entries.{last_number}
 use Rattle.cas_shard.specs.declared.entry.ShardOpening.{ShardOpening}
 use Rattle.cas_shard.specs.Shards.{empty_shard, found_shard, restored}
+use Rattle.cas_shard.specs.Flushing.{HasInMemory}
 use Rattle.cas_shard.specs.Stands.{Belongs, HasNoFiles, KeepsFiles, ShardState, Stands, files_at}
 use Rattle.cas_sstread.specs.Loading.{Held}
 use Rattle.cas_view.specs.Views.{File}
 use Rattle.cas_recovery.specs.Found.{found_in}
+use Rattle.cas_recovery.specs.Restored.{HaveMemory}
 use Rattle.cas_recovery.specs.Inner.Restoring.{AreRestored, HaveNoFiles, MayBeGiven, Rise}
 use Rattle.cas_recovery.proofs.Founding.{found_reads, front_rises, is_above, numbers_more, one_more}
 use Rattle.cas_recovery.proofs.Places.{get_here, get_other, is_other, is_same, same_place}
@@ -33,6 +36,15 @@ one_new tables shards x are stands n y is =
 pub no_files_new : (shards : List ShardState) (x : ShardState) → HaveNoFiles shards → HasNoFiles x → HaveNoFiles (shards ++ x ∷ [])
 no_files_new shards x are none n y is =
     elim (get_pushed shards x y n is) [ inl before ↦ are n y before | inr same ↦ subst HasNoFiles same none ]
+
+pub memory_new : (tables : List TableSchema) (shards : List ShardState) (x : ShardState) → HaveMemory tables shards
+    → ((ts : List TableSchema) (table : ℕ) → HasInMemory ts table [] x) → HaveMemory tables (shards ++ x ∷ [])
+memory_new tables shards x have none n table y is =
+    elim (get_pushed shards x y n is) [
+      | inl before ↦ have n table y before
+      | inr same ↦ subst (λ (z : ShardState). ∥ (ws : List Mutation) × ((more : List TableSchema) → HasInMemory (tables ++ more) table ws z) ∥₁) same
+          ∣ ([], λ more. none (tables ++ more) table) ∣₁
+    ]
 
 -- ---- a mutation more
 
@@ -114,6 +126,29 @@ pub one_keeps_none : (shards : List ShardState) (place : ℕ) (old new : ShardSt
     → HaveNoFiles (slice_set shards place new)
 one_keeps_none shards place old new are there keeps = one_keeps (λ table fs. length fs ≡ 0) shards place old new are there keeps
 
+-- what is in memory of the shards, where one of them has more
+pub one_remembers : (tables : List TableSchema) (shards : List ShardState) (place : ℕ) (old new : ShardState) (grows : ℕ → List Mutation → List Mutation)
+    → HaveMemory tables shards → slice_get shards place ≡ Some old
+    → ((more : List TableSchema) (table : ℕ) (ws : List Mutation) → HasInMemory (tables ++ more) table ws old → HasInMemory (tables ++ more) table (grows table ws) new)
+    → HaveMemory tables (slice_set shards place new)
+one_remembers tables shards place old new grows have there step n table x is = at (same_place n place)
+  where
+    at : (n ≡ place) ⊎ (n ≢ place) → ∥ (ws : List Mutation) × ((more : List TableSchema) → HasInMemory (tables ++ more) table ws x) ∥₁
+    at (inl here) =
+        let same : new ≡ x = (let set = get_here shards place old new there in let its = ap (slice_get (slice_set shards place new)) here in cc) in
+        subst (λ (y : ShardState). ∥ (ws : List Mutation) × ((more : List TableSchema) → HasInMemory (tables ++ more) table ws y) ∥₁) same
+        (∥∥₁_map (have place table old there) (λ k. (grows table k.0, λ more. step more table k.0 (k.1 more))))
+    at (inr other) = have n table x (sym (get_other shards place n new other) ∙ is)
+
+-- a table is the same where there are tables more
+pub get_first : {X : Type 0} (xs ys : List X) (n : ℕ) (x : X) → slice_get xs n ≡ Some x → slice_get (xs ++ ys) n ≡ Some x
+get_first [] ys n x is = absurd cc
+get_first (z ∷ xs) ys zero x is = is
+get_first (z ∷ xs) ys (suc n) x is = get_first xs ys n x is
+
+pub belongs_too : (tables more : List TableSchema) (count : ℕ) (m : Mutation) → Belongs tables count m → Belongs (tables ++ more) count m
+belongs_too tables more count m belongs = (belongs.0, get_first tables more m.table belongs.0 belongs.1, belongs.2)
+
 -- ---- the first shards
 
 get_front : {X : Type 0} (n : ℕ) (xs : List X) (k : ℕ) (x : X) → slice_get (take n xs) k ≡ Some x → slice_get xs k ≡ Some x
@@ -128,3 +163,6 @@ first_restored tables mutations n shards are k x is = are k x (get_front n shard
 
 pub first_no_files : (n : ℕ) (shards : List ShardState) → HaveNoFiles shards → HaveNoFiles (take n shards)
 first_no_files n shards are k x is = are k x (get_front n shards k x is)
+
+pub first_memory : (tables : List TableSchema) (n : ℕ) (shards : List ShardState) → HaveMemory tables shards → HaveMemory tables (take n shards)
+first_memory tables n shards have k table x is = have k table x (get_front n shards k x is)

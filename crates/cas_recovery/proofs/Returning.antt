@@ -1,9 +1,10 @@
 -- A store that was read back into memory: each shard stands for whatever it may have been before.
-use Rattle.std.proofs.Common.{◌≡◌, inl, inr, ◌<◌, ◌≤◌, ℕ, List, [], ◌∷◌, length, map, Option, Some, refl, sym, ap, ◌∙◌, subst, arith}
+use Rattle.std.proofs.Common.{◌≡◌, ◌⊎◌, inl, inr, ◌<◌, ◌≤◌, max, ℕ, zero, suc, List, [], ◌∷◌, ◌++◌, length, map, Option, Some, refl, sym, ap, ◌∙◌, subst, arith}
+use Rattle.std.proofs.Math.Logic.{∥∥₁_map}
 use Rattle.std.proofs.lemmas.Option.{get_or_from_slice_get, slice_get_past}
 use Rattle.std.proofs.lemmas.List.Elements.{All-get_or}
 use Rattle.std.specs.Prelude.{slice_get}
-use Rattle.std.specs.List.{AllByRecursion}
+use Rattle.std.specs.List.{AllByRecursion, fold}
 use Rattle.cas_types.specs.Limits.{IsNarrow}
 use Rattle.cas_types.specs.declared.schema.TableSchema.{TableSchema}
 use Rattle.cas_bounds.specs.ClusteringOrder.{clustering_order}
@@ -33,14 +34,14 @@ use Rattle.cas_shard.specs.Shards.{found_shard}
 use Rattle.cas_shard.specs.Stands.{HasNoFiles, Holds, ShardState, Stands, files_at, mutations_of}
 use Rattle.define_laws.proofs.Told.{told_tables_are_tables}
 use Rattle.cas_recovery.specs.Found.{IsUnflushed, found_in}
-use Rattle.cas_recovery.specs.Openings.{MayHaveBeen, SayAll, unflushed_of}
+use Rattle.cas_recovery.specs.Openings.{MayHaveBeen, SayAll, greatest_frontier, unflushed_of}
 use Rattle.cas_recovery.specs.Recovered.{IsRecovered}
-use Rattle.cas_recovery.specs.Restored.{HaveNoMore, IsTold, MayBeRead}
+use Rattle.cas_recovery.specs.Restored.{HaveMemory, HaveNoMore, IsBehind, IsTold, MayBeRead, greatest_of}
 use Rattle.cas_recovery.specs.Inner.Filling.{HasTaken, IsBroughtBack, IsFilled, IsOwn, IsWithin}
 use Rattle.cas_recovery.specs.Inner.Restoring.{MayBeGiven}
 use Rattle.cas_recovery.proofs.Afterwards.{still_lasts}
 use Rattle.cas_recovery.proofs.Founding.{log_given, some_given}
-use Rattle.cas_recovery.proofs.Places.{get_within}
+use Rattle.cas_recovery.proofs.Places.{get_within, same_place}
 use Rattle.cas_recovery.proofs.Standing.{loaded_left, opening_stands, table_holds}
 use Rattle.cas_recovery.proofs.Explained.{all_unflushed, explained}
 use Rattle.cas_recovery.proofs.Within.{named_alone, within}
@@ -83,6 +84,22 @@ none_mapped : {X Y : Type 0} (f : X → Y) (xs : List X) → map f xs ≡ [] →
 none_mapped f [] is = refl
 none_mapped f (x ∷ xs) is = cc
 
+-- ---- numbers
+
+low_or_high : (n m : ℕ) → (n < m) ⊎ (m ≤ n)
+low_or_high n zero = inr (omega arith)
+low_or_high zero (suc m) = inl (omega arith)
+low_or_high (suc n) (suc m) = elim (low_or_high n m) [ inl low ↦ inl (omega (arith, low)) | inr high ↦ inr (omega (arith, high)) ]
+
+-- the greatest so far is none of these above
+it_rises : (n : ℕ) (ms : List ℕ) → n ≤ fold max n ms
+it_rises n [] = omega arith
+it_rises n (m ∷ ms) = let more = it_rises (max n m) ms in omega (arith, more)
+
+all_below : (n : ℕ) (ms : List ℕ) → AllByRecursion (λ k. k ≤ fold max n ms) ms
+all_below n [] = tt
+all_below n (m ∷ ms) = (let more = it_rises (max n m) ms in omega (arith, more), all_below (max n m) ms)
+
 -- ---- what was read
 
 module _ (entries : List Entry) (mutations handed : List Mutation) (o : OpenStore) (read : IsReadWith entries mutations handed o.journal o.said) where
@@ -97,6 +114,7 @@ module _ (entries : List Entry) (mutations handed : List Mutation) (o : OpenStor
   read_within = let (segments, last, is) = said_is in subst IsWithin (sym is) (record {
     numbers = (within entries read.follow).numbers;
     frontiers = (within entries read.follow).frontiers;
+    no_more = (within entries read.follow).no_more;
     listed = (within entries read.follow).listed;
     moments = (within entries read.follow).moments;
     drawn = (within entries read.follow).drawn;
@@ -106,13 +124,19 @@ module _ (entries : List Entry) (mutations handed : List Mutation) (o : OpenStor
   as_told disk n x y filled =
       let (segments, last, is) = said_is in
       let same : IsFilled (record s { segments = segments; last_segment = last }) disk n x y = subst (λ (q : Saying). IsFilled q disk n x y) is filled in
-      record { tables = same.tables; few = same.few; number = same.number; drawn = same.drawn; moment = same.moment }
+      record { tables = same.tables; few = same.few; number = same.number; drawn = same.drawn; moment = same.moment; memory = same.memory }
 
   pub tables_said : o.said.tables ≡ s.tables
   tables_said = let (segments, last, is) = said_is in ap (λ (q : Saying). q.tables) is
 
   shards_said : o.said.shards ≡ s.shards
   shards_said = let (segments, last, is) = said_is in ap (λ (q : Saying). q.shards) is
+
+  numbers_said : o.said.numbers ≡ s.numbers
+  numbers_said = let (segments, last, is) = said_is in ap (λ (q : Saying). q.numbers) is
+
+  listed_said : o.said.listed ≡ s.listed
+  listed_said = let (segments, last, is) = said_is in ap (λ (q : Saying). q.listed) is
 
   given_all : MayBeGiven s.tables s.shards handed
   given_all = subst (MayBeGiven s.tables s.shards) (sym read.above) (some_given (is_above s) s.tables s.shards mutations (log_given s.tables s.shards mutations read.log))
@@ -137,6 +161,38 @@ module _ (entries : List Entry) (mutations handed : List Mutation) (o : OpenStor
       let few : length x.stores ≤ length s.tables = (as_told mid n was x filled).few stood.few in
       ap (λ q. length (files_at q)) (slice_get_past x.stores table (omega (arith, few, high, ap length (back.tables_are ∙ tables_said))))
 
+  -- in memory is what was restored
+  remembered : (given limits : Limits) (tables : List TableSchema) (shards : List ShardState) (mid : Disk) → IsBroughtBack given handed o.said mid limits tables shards
+      → HaveMemory tables shards
+  remembered given limits tables shards mid back = subst (λ (ts : List TableSchema). HaveMemory ts shards) (sym (back.tables_are ∙ tables_said)) (λ n table x there.
+      let (was, before, filled) = back.filled.filled n x (omega (arith, get_within shards n x there, back.count)) there in
+      ∥∥₁_map (back.restored.2 s.tables s.shards given_all n table was before) (λ k. (k.0, λ more. filled.memory (s.tables ++ more) table k.0 (k.1 more))))
+
+  -- no table's frontier is above the greatest
+  is_below : (n count table : ℕ) → table < count → (part_of s table n).frontier ≤ greatest_frontier s n count
+  is_below n zero table low = absurd (omega (arith, low))
+  is_below n (suc count) table low = elim (same_place table count) [
+    | inl here ↦ let is = ap (λ (k : ℕ). (part_of s k n).frontier) here in omega (arith, is)
+    | inr other ↦ let before = is_below n count table (omega (arith, low, other)) in omega (arith, before)
+  ]
+
+  -- nor above a shard's number
+  frontiers_below : (mid : Disk) (n : ℕ) (was x : ShardState) → IsFilled s mid n was x → (table : ℕ) → (part_of s table n).frontier ≤ x.number
+  frontiers_below mid n was x filled table = elim (low_or_high table (length s.tables)) [
+    | inl low ↦ let below = is_below n (length s.tables) table low in omega (arith, below, filled.number)
+    | inr high ↦ let none = (within entries read.follow).no_more table n high in omega (arith, none)
+  ]
+
+  behind_all : (given limits : Limits) (tables : List TableSchema) (shards : List ShardState) (mid : Disk) (last live : ℕ)
+      → IsBroughtBack given handed o.said mid limits tables shards → last ≡ greatest_of s.numbers → live ≡ s.listed → IsBehind s shards last live
+  behind_all given limits tables shards mid last live back last_is live_is = record {
+    frontiers = λ n table x there.
+        let (was, before, filled) = back.filled.filled n x (omega (arith, get_within shards n x there, back.count)) there in
+        frontiers_below mid n was x (as_told mid n was x filled) table;
+    numbers = subst (λ (k : ℕ). AllByRecursion (λ m. m ≤ k) s.numbers) (sym last_is) (all_below 0 s.numbers);
+    listed = sym live_is;
+  }
+
   -- as what a table's files are loaded
   files_left : (shards : ℕ) (old mid : Disk) (c : Image) → old.reads c → OpensAs shards entries mutations c
       → (IsStore entries mutations c → During (MayBeOpened entries mutations) old mid) → (n : ℕ) → n < s.shards → (table : ℕ) (t : TableSchema)
@@ -155,12 +211,12 @@ module _ (entries : List Entry) (mutations handed : List Mutation) (o : OpenStor
       let free : files_at b ≡ [] = none_mapped (λ f. f.info) (files_at b) (taken.infos ∙ ap (λ (p : Part). p.listed) part) in
       taken.holds (clustering_order t.columns) [] log empty (subst (λ fs. HoldEach (clustering_order t.columns) fs [] []) (sym free) tt) holds
 
-  pub recovered : (given limits : Limits) (tables : List TableSchema) (shards : List ShardState) (journal : Journal) (old mid new : Disk)
+  pub recovered : (given limits : Limits) (tables : List TableSchema) (shards : List ShardState) (last live : ℕ) (journal : Journal) (old mid new : Disk)
       → IsBroughtBack given handed o.said mid limits tables shards → ((c : Image) → old.reads c → IsOfBytes c → OpensAs given.shards entries mutations c)
       → ((c : Image) → old.reads c → IsOfBytes c → IsStore entries mutations c → During (MayBeOpened entries mutations) old mid) → journal ≡ o.journal
       → ((c : Image) → old.reads c → IsOfBytes c → (t : Told) × IsTold entries mutations t × Lasts o.journal mid t) → During Same mid new
-      → IsRecovered given limits tables shards journal old new
-  recovered given limits tables shards journal old mid new back opens stays same lasts loading = record {
+      → last ≡ greatest_of o.said.numbers → live ≡ o.said.listed → IsRecovered given limits tables shards last live journal old new
+  recovered given limits tables shards last live journal old mid new back opens stays same lasts loading last_is live_is = record {
     entries = entries;
     mutations = mutations;
     found = record { of_a_store = record { made = read.made; follow = read.follow; shards = read.shards; log = read.log }; told = opens };
@@ -174,6 +230,9 @@ module _ (entries : List Entry) (mutations handed : List Mutation) (o : OpenStor
         files_left given.shards old mid c reads (opens c reads bytes) (stays c reads bytes) n
         (omega (arith, get_within shards n x there, back.count, shards_said)) table t (said_there table t is) (files_at (slice_get x.stores table)) (one_taken n x there table t is).loaded;
     no_more = no_more given limits tables shards mid back;
+    memory = remembered given limits tables shards mid back;
+    last_is = last_is ∙ ap greatest_of numbers_said;
+    behind = behind_all given limits tables shards mid last live back (last_is ∙ ap greatest_of numbers_said) (live_is ∙ listed_said);
     segment = subst (λ (j : Journal). j.last_segment ≤ next_segment entries) (sym same) read.last;
     lasts = λ c reads bytes.
         let (t, told, holds) = lasts c reads bytes in

@@ -1,6 +1,9 @@
 -- What entries that may follow one another say of table files and of shards is within limits.
-use Rattle.std.proofs.Common.{◌≡◌, ◌≤◌, ◌≤ℤ◌, ℕ, zero, suc, Bool, true, false, not, cond, List, [], ◌∷◌, ◌++◌, filter, sym, ap, ◌∙◌, arith, append-nil, append_assoc}
+use Rattle.std.proofs.Common.{◌≡◌, ◌≤◌, ◌≤ℤ◌, ◌+◌, ◌*◌, ℕ, zero, suc, Bool, true, false, not, cond, Option, List, [], ◌∷◌, ◌++◌, length, filter, sym, ap, ◌∙◌, subst, arith, append-nil, append_assoc, length-append}
+use Rattle.std.proofs.Math.Nat.{mul-le-mul_right, suc-mul}
 use Rattle.std.proofs.lemmas.Int.{ints}
+use Rattle.std.proofs.lemmas.List.{length-map, length-replicate}
+use Rattle.std.proofs.lemmas.Option.{slice_get_past}
 use Rattle.std.specs.Prelude.{replicate, slice_get, slice_set, unwrap_or}
 use Rattle.std.specs.List.{AllByRecursion, fold}
 use Rattle.cas_types.specs.Limits.{IsMoment}
@@ -13,7 +16,7 @@ use Rattle.cas_changes.specs.declared.entry.Entry.TheVariants as entry
 use Rattle.cas_changes.specs.declared.said.Part.{Part}
 use Rattle.cas_changes.specs.declared.said.ShardTimes.{ShardTimes}
 use Rattle.cas_changes.specs.Allowed.{FitsEntry}
-use Rattle.cas_changes.specs.Saying.{Saying, after, is_listed, no_part, no_times, nothing, part_after, part_of, place_in, said_by, times_after}
+use Rattle.cas_changes.specs.Saying.{Saying, after, is_listed, no_part, no_times, nothing, part_after, part_of, place_in, said_by, times_after, with_columns}
 use Rattle.cas_manifest.specs.File.{MayFollow}
 use Rattle.cas_manifest.proofs.Appends.{said_more}
 use Rattle.cas_journal.specs.Stores.{named}
@@ -21,6 +24,7 @@ use Rattle.cas_opening.proofs.Saids.{sound}
 use Rattle.cas_shard.proofs.Preparing.{later_begun, later_low}
 use Rattle.cas_recovery.specs.Openings.{times_of}
 use Rattle.cas_recovery.specs.Inner.Filling.{IsWithin}
+use Rattle.cas_recovery.proofs.Places.{length_set}
 
 -- ---- lists
 
@@ -61,6 +65,7 @@ record TimesFit (t : ShardTimes) : Type 0 where
 record Fit (s : Saying) : Type 0 where
   parts : AllByRecursion PartFits s.parts
   times : AllByRecursion TimesFit s.times
+  few : length s.parts ≤ length s.tables * s.shards
 
 no_part_fits : PartFits no_part
 no_part_fits = record { frontier = omega arith; listed = tt }
@@ -75,13 +80,24 @@ infos_fit P before [] each = tt
 infos_fit P before (i ∷ is) each = (each.0.0, infos_fit P (before ++ i ∷ []) is each.1)
 
 fit_after : (s : Saying) (e : Entry) → Fit s → FitsEntry s e → Fit (after s e)
-fit_after s (entry.Store shards) is fit = record { parts = is.parts; times = all_same TimesFit no_times no_times_fit shards }
+fit_after s (entry.Store shards) is fit = record {
+  parts = is.parts;
+  times = all_same TimesFit no_times no_times_fit shards;
+  few = let none : length s.parts ≤ length s.tables * 0 = subst (λ (k : ℕ). length s.parts ≤ length s.tables * k) fit.0 is.few in omega (arith, none);
+}
 fit_after s (entry.Schema t) is fit = record {
   parts = all_both PartFits s.parts (replicate s.shards no_part) is.parts (all_same PartFits no_part no_part_fits s.shards);
   times = is.times;
+  few =
+      let parts : length (s.parts ++ replicate s.shards no_part) ≡ length s.parts + s.shards =
+      length-append s.parts (replicate s.shards no_part) ∙ ap (λ (k : ℕ). length s.parts + k) (length-replicate s.shards no_part) in
+      let tables : length (s.tables ++ t ∷ []) ≡ suc (length s.tables) = omega (arith, length-append s.tables (t ∷ [])) in
+      let places : length (s.tables ++ t ∷ []) * s.shards ≡ length s.tables * s.shards + s.shards =
+      ap (λ (k : ℕ). k * s.shards) tables ∙ suc-mul (length s.tables) s.shards in
+      omega (arith, parts, places, is.few);
 }
-fit_after s (entry.NewSegment n) is fit = record { parts = is.parts; times = is.times }
-fit_after s (entry.DropSegment n) is fit = record { parts = is.parts; times = is.times }
+fit_after s (entry.NewSegment n) is fit = record { parts = is.parts; times = is.times; few = is.few }
+fit_after s (entry.DropSegment n) is fit = record { parts = is.parts; times = is.times; few = is.few }
 fit_after s (entry.Change c) is fit =
     let part : Part = part_of s c.table c.shard in
     let times : ShardTimes = unwrap_or (slice_get s.times c.shard) no_times in
@@ -97,8 +113,13 @@ fit_after s (entry.Change c) is fit =
         moment = later_begun times.moment c.moment was.moment fit.1.moment;
         drawn = later_low times.drawn c.drawn was.drawn fit.1.drawn.1;
       });
+      few = subst (λ (k : ℕ). k ≤ length s.tables * s.shards) (sym (length_set s.parts (place_in s c.table c.shard) (part_after part c))) is.few;
     }
-fit_after s (entry.AddColumns table columns) is fit = record { parts = is.parts; times = is.times }
+fit_after s (entry.AddColumns table columns) is fit = record {
+  parts = is.parts;
+  times = is.times;
+  few = subst (λ (k : ℕ). length s.parts ≤ k * s.shards) (sym (length-map s.tables (with_columns table columns))) is.few;
+}
 
 fit_all : (s : Saying) (entries : List Entry) → Fit s → MayFollow s entries → Fit (fold after s entries)
 fit_all s [] is follow = is
@@ -106,7 +127,7 @@ fit_all s (e ∷ entries) is follow = fit_all (after s e) entries (fit_after s e
 
 said_fits : (entries : List Entry) → MayFollow nothing entries → Fit (said_by entries)
 unfolding said_by
-said_fits entries follow = fit_all nothing entries (record { parts = tt; times = tt }) follow
+said_fits entries follow = fit_all nothing entries (record { parts = tt; times = tt; few = omega arith }) follow
 
 pub within : (entries : List Entry) → MayFollow nothing entries → IsWithin (said_by entries)
 within entries follow =
@@ -117,6 +138,9 @@ within entries follow =
     record {
       numbers = λ i t there. ((sound entries follow).tables i t there).0;
       frontiers = λ table shard. (part table shard).frontier;
+      no_more = λ table shard high.
+          let past : length (said_by entries).tables * (said_by entries).shards ≤ table * (said_by entries).shards = mul-le-mul_right (said_by entries).shards high in
+          ap (λ (o : Option Part). (unwrap_or o no_part).frontier) (slice_get_past (said_by entries).parts (place_in (said_by entries) table shard) (omega (arith, fit.few, past)));
       listed = λ table shard. (part table shard).listed;
       moments = λ shard. (times shard).moment;
       drawn = λ shard. (times shard).drawn;

@@ -24,13 +24,14 @@ use Rattle.cas_shard.specs.Shards.{found_shard}
 use Rattle.cas_shard.specs.Stands.{ShardState, Stands, files_at}
 use Rattle.cas_recovery.specs.Found.{IsFound}
 use Rattle.cas_recovery.specs.Openings.{MayHaveBeen}
-use Rattle.cas_recovery.specs.Restored.{AreListed, HaveMemory, HaveNoMore, IsBehind, IsTold}
+use Rattle.cas_recovery.specs.Restored.{AreListed, HaveMemory, HaveNoMore, IsBehind, IsTold, greatest_of}
 use Rattle.cas_recovery.specs.declared.filling.TheConstants.{VERSION_PLACE}
 
 -- The store of a folder was read back: its limits and tables are what the manifest's entries say, each shard stands for whatever it may have been before,
--- its tables have the files that are listed, and its journal goes on behind the log's mutations, which last. Of table files the manifest is not ahead of it,
--- by the last number of one and how many are live.
-pub record IsRecovered (given limits : Limits) (tables : List TableSchema) (shards : List ShardState) (last live : ℕ) (journal : Journal) (old new : Disk) : Type 0 where
+-- its tables have the files that are listed, and its journal goes on behind the log's mutations, which last. The last number of a table file is the greatest
+-- under which one was ever listed, and so many are live as are listed.
+pub record IsRecovered (given limits : Limits) (tables : List TableSchema) (shards : List ShardState) (last live : ℕ) (journal : Journal)
+    (old new : Disk) : Type 0 where
   pub entries : List ManifestEntry
   pub mutations : List Mutation
   pub found : IsFound given.shards old entries mutations
@@ -46,6 +47,7 @@ pub record IsRecovered (given limits : Limits) (tables : List TableSchema) (shar
       → (d : Image) × old.may_leave d × AreLoaded t n d (part_of (said_by entries) table n).listed (files_at (slice_get x.stores table))
   pub no_more : HaveNoMore tables shards
   pub memory : HaveMemory tables shards
+  pub last_is : last ≡ greatest_of (said_by entries).numbers
   pub behind : IsBehind (said_by entries) shards last live
   pub segment : journal.last_segment ≤ next_segment entries
   pub lasts : (c : Image) → old.reads c → IsOfBytes c → (t : Told) × IsTold entries mutations t × Lasts journal new t

@@ -1,6 +1,6 @@
 -- What a store is in memory when it was opened (own).
-use Rattle.std.specs.Prelude.{◌≡◌, ◌≤◌, ℕ, List, [], ◌++◌, length, map, slice_get, Some}
-use Rattle.std.specs.List.{AllByRecursion}
+use Rattle.std.specs.Prelude.{◌≡◌, ◌≤◌, ℕ, max, List, [], ◌++◌, length, map, slice_get, Some}
+use Rattle.std.specs.List.{AllByRecursion, fold}
 use Rattle.cas_types.specs.declared.schema.TableSchema.{TableSchema}
 use Rattle.cas_bounds.specs.ClusteringOrder.{clustering_order}
 use Rattle.cas_bounds.specs.declared.cuts.Slice.{Slice}
@@ -35,6 +35,10 @@ abbrev pub HaveMemory : List TableSchema → List ShardState → Type 0
 HaveMemory tables shards = (n table : ℕ) (x : ShardState) → slice_get shards n ≡ Some x
     → ∥ (ws : List Mutation) × ((more : List TableSchema) → HasInMemory (tables ++ more) table ws x) ∥₁
 
+-- the greatest of these numbers, 0 where there is none
+abbrev pub greatest_of : List ℕ → ℕ
+greatest_of numbers = fold max 0 numbers
+
 -- What the manifest says of table files is not ahead of the store: no frontier is above the shard's number; no file that it ever listed has a number
 -- above the last; and it lists as many as are live.
 pub record IsBehind (said : Saying) (shards : List ShardState) (last live : ℕ) : Type 0 where
@@ -47,6 +51,9 @@ pub record IsTold (entries : List ManifestEntry) (mutations : List Mutation) (t 
   pub found : t.found ≡ found_with entries mutations
   pub tables : (said_by t.entries).tables ≡ (said_by entries).tables
   pub shards : (said_by t.entries).shards ≡ (said_by entries).shards
+  pub parts : (said_by t.entries).parts ≡ (said_by entries).parts
+  pub numbers : (said_by t.entries).numbers ≡ (said_by entries).numbers
+  pub listed : (said_by t.entries).listed ≡ (said_by entries).listed
   pub failed : t.failed ≡ []
   pub taken : t.taken ≡ mutations
   pub committed : length mutations ≤ t.committed

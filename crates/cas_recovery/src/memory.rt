@@ -4,6 +4,7 @@ ghost use Rattle.std.specs.Prelude.{◌≡◌, List, [], ◌∷◌, ◌++◌, le
 ghost use Rattle.cas_types.specs.declared.schema.TableSchema.{TableSchema as Schema};
 ghost use Rattle.cas_atoms.specs.declared.atom.Mutation.{Mutation as MutationOf};
 ghost use Rattle.cas_replay.specs.Grammar.{IsWithinLimits};
+ghost use Rattle.cas_recovery.specs.Restored.{HaveMemory, greatest_of};
 ghost use Rattle.cas_recovery.specs.Inner.Restoring.{AreRestored, HaveNoFiles, HaveRestored, HasRestored};
 
 use crate::all_shards::{AllShards, Restoring};
@@ -39,6 +40,7 @@ fn new_shards<S: Sealed>(alloc: Global, count: usize) -> Result<Vec<Shard<S>>, M
     ensures count { IfOk result (λ v. length v.items ≡ count) }
     ensures no_files { IfOk result (λ v. HaveNoFiles v.items) }
     ensures new { IfOk result (λ v. (tables : List Schema) → AreRestored tables [] v.items) }
+    ensures memory { IfOk result (λ v. (tables : List Schema) → HaveMemory tables v.items) }
 {
     let mut shards = Vec::new(alloc);
     for _shard in 0..count {
@@ -127,4 +129,15 @@ pub(crate) fn with_shards(limits: &Limits, count: u8) -> Limits
         memtable: limits.memtable,
         compactors: limits.compactors,
     }
+}
+
+// The greatest of the numbers, 0 where there is none.
+pub(crate) fn greatest_of(numbers: &[u64]) -> u64
+    ensures { result ≡ greatest_of numbers.now }
+{
+    let mut greatest = 0;
+    for number in numbers {
+        greatest = greatest.max(*number);
+    }
+    greatest
 }

@@ -13,14 +13,14 @@ ghost use Rattle.cas_journal.specs.Journals.{AreFree};
 ghost use Rattle.cas_journal.specs.Stores.{IsStore};
 ghost use Rattle.cas_opening.specs.Opening.{IsOfBytes, IsReadWith, MayBeMadeNew, MayBeOpened};
 ghost use Rattle.cas_recovery.specs.Recovered.{IsRecovered, IsUnreadable};
-ghost use Rattle.cas_recovery.specs.Restored.{MayBeRead};
+ghost use Rattle.cas_recovery.specs.Restored.{MayBeRead, greatest_of};
 ghost use Rattle.cas_recovery.specs.Inner.Filling.{IsBadOfShard, IsBroughtBack, IsWithin};
 ghost use Rattle.cas_recovery.specs.Inner.Restoring.{HasRestored};
 
 use crate::all_shards::{AllShards, Restoring};
 use crate::fault::{RecoveryFault, of_opening};
 use crate::filling::fill_shards;
-use crate::memory::{Started, copied, restored, with_shards};
+use crate::memory::{Started, copied, greatest_of, restored, with_shards};
 use cas_bind::Limits;
 use cas_disk::{Count, Folder};
 use cas_opening::{OpenStore, open_to};
@@ -40,6 +40,7 @@ fn brought_back<F: Folder>(
     ensures back { (given : List MutationOf) → HasRestored given restoring.shards
         → IfOk result (λ s. IsBroughtBack limits.now given opened.said (F.disk folder.old) s.limits s.tables.items s.shards.items) }
     ensures journal { IfOk result (λ s. s.journal ≡ opened.journal) }
+    ensures files { IfOk result (λ s. (s.last_file ≡ greatest_of opened.said.numbers) × (s.live ≡ opened.said.listed)) }
     ensures bad { IfErr result (λ f. (c : Image) → (F.disk folder.old).reads c → IsBadOfShard opened.said c f) }
     ensures during { During Same (F.disk folder.old) (F.disk folder.new) }
     ensures count { Counted (F.faults_of folder.old) (F.faults_of folder.new) (IsErrOf result RecoveryFault.Failed) }
@@ -55,6 +56,8 @@ fn brought_back<F: Folder>(
         limits: with_shards(limits, said.shards()),
         tables,
         shards,
+        last_file: greatest_of(said.numbers()),
+        live: said.listed_count(),
         journal,
     })
 }

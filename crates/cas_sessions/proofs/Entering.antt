@@ -174,7 +174,7 @@ module _ (s : State) (w : BoundWrite) (reading : ℤ) (x y : ShardState) (result
             told,
             lasts_still h after found s (prepared_only s w.shard y) d d told w.shard x y (omega (arith, quiet)) (there s w reading x y result asked) refl asked.number
                 (λ l el c ec keeps. subst (λ j. Keeps s.journal d l j found told) (sym ec) (subst (λ j. Keeps s.journal d j s.committed found told) (sym el) keeps))
-                refl refl refl refl refl (λ on. on) lasts,
+                refl refl refl refl refl (λ on. on) refl refl lasts,
           );
         },
       )
@@ -283,6 +283,8 @@ pub record NotTaken (s t : State) (d e : Disk) (n : ℕ) (y : ShardState) (m : M
   pub full : (what : Counted) (n : ℕ) → f ≡ TooMany what n → IsFull (reach_of t.journal)
   pub count : s.faults ≤ t.faults
   pub reads : t.reads ≡ s.reads
+  pub last_file : t.last_file ≡ s.last_file
+  pub live : t.live ≡ s.live
 
 -- nothing was kept before, where nothing is kept now
 kept_since : (first kept : Option First) (before now : ℕ) (f : JournalFault) → Ends {T = Unit {0}} first kept before now (Err f)
@@ -358,7 +360,7 @@ module _ (s : State) (w : BoundWrite) (reading : ℤ) (x y : ShardState) (result
                     got.0,
                     lasts_with_room h after found s t d e was got.0 w.shard x y (omega (arith, quiet f)) at left.shards asked.number got.1 got.2 left.list left.committed
                         left.tables left.limits left.accepted
-                        (going_since f s.journal.first t.journal.first s.faults t.faults (record_length m) (s.journal.size / 2) left.ends short_for) lasts,
+                        (going_since f s.journal.first t.journal.first s.faults t.faults (record_length m) (s.journal.size / 2) left.ends short_for) left.last_file left.live lasts,
                   );
             },
           )
@@ -432,6 +434,8 @@ pub record Took (s t : State) (d e : Disk) (w : BoundWrite) (y yy z : ShardState
   pub rises : (s.faults ≤ faults) × (faults ≤ t.faults)
   pub files : KeepsFiles yy z
   pub reads : t.reads ≡ s.reads
+  pub last_file : t.last_file ≡ s.last_file
+  pub live : t.live ≡ s.live
 
 module _ (s : State) (w : BoundWrite) (reading : ℤ) (x y : ShardState) (result : Result Mutation TakeFault) (asked : Asked s w reading x y result) (m : Mutation)
     (is : result ≡ Ok m) (prepared : IsPrepared y m) (ready : IsReady s.limits.segment w m)
@@ -506,7 +510,7 @@ module _ (s : State) (w : BoundWrite) (reading : ℤ) (x y : ShardState) (result
                 lasts_taken h after found s t d e was got.0 got.1 m x z (subst (λ (k : ℕ). slice_get s.shards k ≡ Some x) (sym ready.shard) at_x)
                     (subst (λ (k : ℕ). t.shards ≡ slice_set s.shards k z) (sym ready.shard) shards_now) (next s w reading x y result asked m is prepared ready) left.number
                     got.2 got.3 got.4 got.5 lasts s.session (s.calls + 1) left.list left.tables left.limits left.accepted left.few got.6
-                    (omega (arith, one)) (acked h after either refl) going,
+                    (omega (arith, one)) (acked h after either refl) going left.last_file left.live,
               );
         },
       )

@@ -26,6 +26,8 @@ use Rattle.cas_shard.specs.Stands.{ShardState}
 use Rattle.define_laws.proofs.Telling.{named_segments_define_nothing}
 use Rattle.cas_sessions.specs.History.{History}
 use Rattle.cas_sessions.specs.Nodes.{State, LastsFor}
+use Rattle.cas_sessions.proofs.Behind.{behind_named, behind_with}
+use Rattle.cas_recovery.specs.Restored.{IsBehind}
 use Rattle.cas_recovery.proofs.Places.{same_place, get_here, get_other}
 
 -- ---- lists
@@ -61,9 +63,9 @@ pub lasts_still : (h k : History) (found : List Mutation) (s t : State) (d e : D
     → slice_get s.shards n ≡ Some x → t.shards ≡ slice_set s.shards n y → y.number ≡ x.number
     → ((l : List (Item Event)) → l ≡ s.list → (c : ℕ) → c ≡ s.committed → Keeps s.journal d s.list s.committed found told → Keeps t.journal e l c found told)
     → t.list ≡ s.list → t.committed ≡ s.committed → t.tables ≡ s.tables → t.limits ≡ s.limits → t.accepted ≡ s.accepted
-    → (is_some t.journal.first ≡ false → is_some s.journal.first ≡ false)
+    → (is_some t.journal.first ≡ false → is_some s.journal.first ≡ false) → t.last_file ≡ s.last_file → t.live ≡ s.live
     → LastsFor h found s d told → LastsFor k found t e told
-lasts_still h k found s t d e told n x y acks there shards same keeps list committed tables limits accepted going lasts = record {
+lasts_still h k found s t d e told n x y acks there shards same keeps list committed tables limits accepted going last live lasts = record {
   keeps = keeps t.list list t.committed committed lasts.keeps;
   tables = lasts.tables ∙ sym tables;
   shards = lasts.shards ∙ ap (λ l. l.shards) (sym limits);
@@ -73,6 +75,7 @@ lasts_still h k found s t d e told n x y acks there shards same keeps list commi
   counted = omega (arith, lasts.counted, accepted, ap (λ l. length (accepted_in l)) list);
   acknowledged = (omega (arith, lasts.acknowledged.0, acks, committed), omega (arith, lasts.acknowledged.1, acks, ap (λ l. length (accepted_in l)) list));
   whole = λ on. let all = lasts.whole (going on) in omega (arith, all, committed, ap (λ l. length (accepted_in l)) list);
+  behind = behind_with (said_by told.entries) s t n x y there shards (omega (arith, same)) last live lasts.behind;
 }
 
 -- ---- a mutation that may be taken
@@ -100,9 +103,9 @@ few_failed before now (inr named) few = subst (λ (es : List ManifestEntry). len
 pub lasts_with_room : (h k : History) (found : List Mutation) (s t : State) (d e : Disk) (told u : Told) (n : ℕ) (x y : ShardState) → k.acknowledged ≡ h.acknowledged
     → slice_get s.shards n ≡ Some x → t.shards ≡ slice_set s.shards n y → y.number ≡ x.number → MadeRoom told u → Keeps t.journal e t.list t.committed found u
     → t.list ≡ s.list → t.committed ≡ s.committed → t.tables ≡ s.tables → t.limits ≡ s.limits → t.accepted ≡ s.accepted
-    → (is_some t.journal.first ≡ false → is_some s.journal.first ≡ false)
+    → (is_some t.journal.first ≡ false → is_some s.journal.first ≡ false) → t.last_file ≡ s.last_file → t.live ≡ s.live
     → LastsFor h found s d told → LastsFor k found t e u
-lasts_with_room h k found s t d e told u n x y acks there shards same made keeps list committed tables limits accepted going lasts =
+lasts_with_room h k found s t d e told u n x y acks there shards same made keeps list committed tables limits accepted going last live lasts =
     let defined = named_segments_define_nothing told.entries made.numbers in
     record {
       keeps = keeps;
@@ -116,6 +119,9 @@ lasts_with_room h k found s t d e told u n x y acks there shards same made keeps
       counted = omega (arith, lasts.counted, accepted, ap (λ l. length (accepted_in l)) list);
       acknowledged = (omega (arith, lasts.acknowledged.0, acks, committed), omega (arith, lasts.acknowledged.1, acks, ap (λ l. length (accepted_in l)) list));
       whole = λ on. let all = lasts.whole (going on) in omega (arith, all, committed, ap (λ l. length (accepted_in l)) list);
+      behind =
+          subst (λ es. IsBehind (said_by es) t.shards t.last_file t.live) (sym made.entries)
+          (behind_named told.entries made.numbers t.shards t.last_file t.live (behind_with (said_by told.entries) s t n x y there shards (omega (arith, same)) last live lasts.behind));
     }
 
 -- ---- a mutation that was taken
@@ -155,8 +161,8 @@ module _ (h k : History) (found : List Mutation) (s t : State) (d e : Disk) (tol
   pub lasts_taken : (session call : ℕ) → t.list ≡ s.list ++ Wrote m.shard session call m.number (event.Accepted m) ∷ [] → t.tables ≡ s.tables → t.limits ≡ s.limits
       → t.accepted ≡ min (s.accepted + 1) (2 ^ 64 - 1) → s.accepted + 1 < 2 ^ 64 → Keeps t.journal e t.list t.committed found v
       → k.acknowledged ≤ h.acknowledged + 1 → (k.acknowledged ≤ h.acknowledged) × (s.committed ≤ t.committed) ⊎ (t.committed ≡ t.accepted)
-      → (is_some t.journal.first ≡ false → t.committed ≡ t.accepted) → LastsFor k found t e v
-  lasts_taken session call list tables limits accepted room keeps acks either going =
+      → (is_some t.journal.first ≡ false → t.committed ≡ t.accepted) → t.last_file ≡ s.last_file → t.live ≡ s.live → LastsFor k found t e v
+  lasts_taken session call list tables limits accepted room keeps acks either going last live =
       let defined = named_segments_define_nothing told.entries made.numbers in
       let longer : length (accepted_in t.list) ≡ length (accepted_in s.list) + 1 = ap (λ l. length (accepted_in l)) list ∙ one_accepted s.list m session call in
       let counted : length (accepted_in s.list) + 1 ≤ t.accepted = counts (length (accepted_in s.list)) s.accepted t.accepted lasts.counted (omega (arith, lasts.counted, room)) accepted in
@@ -171,6 +177,10 @@ module _ (h k : History) (found : List Mutation) (s t : State) (d e : Disk) (tol
         counted = omega (arith, longer, counted);
         acknowledged = (acks_by either longer counted, omega (arith, longer, acks, lasts.acknowledged.1));
         whole = λ on. let same = going on in omega (arith, same, longer, counted);
+        behind =
+            subst (λ es. IsBehind (said_by es) t.shards t.last_file t.live) (sym (entries ∙ made.entries))
+            (behind_named told.entries made.numbers t.shards t.last_file t.live
+            (behind_with (said_by told.entries) s t m.shard x y there shards (omega (arith, number, new)) last live lasts.behind));
       }
     where
       acks_by : (k.acknowledged ≤ h.acknowledged) × (s.committed ≤ t.committed) ⊎ (t.committed ≡ t.accepted)

@@ -2,6 +2,8 @@ mod Sounding
 mod Telling
 mod Idling
 mod Filing
+mod Behind
+mod Remembering
 mod Moving
 pub mod Answering
 mod Performing

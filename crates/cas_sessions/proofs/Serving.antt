@@ -32,6 +32,7 @@ use Rattle.cas_recovery.specs.Restored.{IsTold}
 use Rattle.cas_sessions.specs.Nodes.{State, StandsFor, LastsFor, disk_of, files_in, files_of}
 use Rattle.cas_recovery.proofs.Explained.{opened_goes_on}
 use Rattle.cas_recovery.proofs.Places.{get_within}
+use Rattle.cas_sessions.proofs.Behind.{behind_said}
 
 -- ---- numbers
 
@@ -64,12 +65,12 @@ empty_of [] e = refl
 empty_of (x ∷ xs) e = cc
 
 -- what was read back is in memory, whatever the shards may have been
-module _ (given limits : Limits) (tables : List TableSchema) (shards : List ShardState) (journal : Journal) (old new : Disk)
-    (is : IsRecovered given limits tables shards journal old new) where
+module _ (given limits : Limits) (tables : List TableSchema) (shards : List ShardState) (last live : ℕ) (journal : Journal) (old new : Disk)
+    (is : IsRecovered given limits tables shards last live journal old new) where
   many_read : length shards ≡ (said_by is.entries).shards
   many_read = is.count ∙ ap (λ (l : Limits). l.shards) is.same
 
-  read_back : (openings : ℕ → ShardOpening) → AreOpenings is.entries is.mutations old openings → IsInMemory given is.entries is.mutations openings limits tables shards
+  read_back : (openings : ℕ → ShardOpening) → AreOpenings is.entries is.mutations old openings → IsInMemory given is.entries is.mutations openings limits tables shards last live
   read_back openings were = record {
     same = is.same;
     tables_are = is.tables_are;
@@ -78,6 +79,7 @@ module _ (given limits : Limits) (tables : List TableSchema) (shards : List Shar
     ordered = is.found.of_a_store.log.ordered;
     next = λ n x there.
         opened_goes_on is.entries is.mutations is.found.of_a_store.log old n (openings n) (low n x there) (may n x there) tables x (is.stands n x (openings n) there (may n x there));
+    behind = is.behind;
   }
     where
       low : (n : ℕ) (x : ShardState) → slice_get shards n ≡ Some x → n < (said_by is.entries).shards
@@ -108,11 +110,11 @@ module _ (given limits : Limits) (tables : List TableSchema) (shards : List Shar
       in_memory : (table : ℕ) (t : TableSchema) → slice_get (said_by is.entries).tables table ≡ Some t → slice_get tables table ≡ Some t
       in_memory table t there = ap (λ (ts : List TableSchema). slice_get ts table) is.tables_are ∙ there
 
-  pub started : IsStarted given limits tables shards journal old new
+  pub started : IsStarted given limits tables shards last live journal old new
   started = record { back = is; memory = read_back; files = its_files }
 
 module _ (given : Limits) (entries : List ManifestEntry) (mutations : List Mutation) (openings : ℕ → ShardOpening) (s : State)
-    (memory : IsInMemory given entries mutations openings s.limits s.tables s.shards) (clock : s.clock ≡ pos 0) (list : s.list ≡ []) (calls : s.calls ≡ 0) where
+    (memory : IsInMemory given entries mutations openings s.limits s.tables s.shards s.last_file s.live) (clock : s.clock ≡ pos 0) (list : s.list ≡ []) (calls : s.calls ≡ 0) where
   abbrev count : ℕ
   count = (said_by entries).shards
 
@@ -162,6 +164,7 @@ module _ (given : Limits) (entries : List ManifestEntry) (mutations : List Mutat
     counted = none s.accepted;
     acknowledged = (omega arith, omega arith);
     whole = λ on. none s.committed;
+    behind = behind_said (said_by entries) (said_by t.entries) s.shards s.last_file s.live told.shards told.parts told.numbers told.listed memory.behind;
   }
     where
       none : (n : ℕ) → length (accepted_in s.list) ≤ n
@@ -169,7 +172,7 @@ module _ (given : Limits) (entries : List ManifestEntry) (mutations : List Mutat
 
 -- the store stands for the history that begins with whatever its shards were
 pub begins : (given : Limits) (entries : List ManifestEntry) (mutations : List Mutation) (openings : ℕ → ShardOpening) (s : State) (d : Disk)
-    → IsInMemory given entries mutations openings s.limits s.tables s.shards → s.clock ≡ pos 0 → s.list ≡ [] → s.calls ≡ 0 → s.committed ≡ 0
+    → IsInMemory given entries mutations openings s.limits s.tables s.shards s.last_file s.live → s.clock ≡ pos 0 → s.list ≡ [] → s.calls ≡ 0 → s.committed ≡ 0
     → BeginsAs given entries mutations openings d s
 begins given entries mutations openings s d memory clock list calls committed = record {
   stands = first_stands given entries mutations openings s memory clock list calls;

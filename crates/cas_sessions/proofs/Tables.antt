@@ -47,6 +47,8 @@ use Rattle.cas_sessions.specs.History.{Changes, Defines, History, DiskState, sha
 use Rattle.cas_sessions.specs.Inner.Definitions.{MayBeTold}
 use Rattle.cas_sessions.specs.Nodes.{State, StandsFor, LastsFor, disk_of, files_in, Moves}
 use Rattle.cas_sessions.specs.Inner.Faults.{reply_for}
+use Rattle.cas_recovery.specs.Restored.{IsBehind}
+use Rattle.cas_sessions.proofs.Behind.{behind_defined, still_behind}
 
 -- ---- a shard under more tables
 
@@ -170,8 +172,8 @@ pub lasts_defined : (h k : History) (found : List Mutation) (s t : State) (d e :
     → Keeps t.journal e t.list t.committed found now → now.taken ≡ told.taken → length now.failed ≤ 1 → (said_by now.entries).tables ≡ t.tables
     → (said_by now.entries).shards ≡ (said_by told.entries).shards
     → t.limits ≡ s.limits → t.list ≡ s.list → t.shards ≡ s.shards → t.accepted ≡ s.accepted → t.committed ≡ s.committed
-    → (is_some t.journal.first ≡ false → is_some s.journal.first ≡ false) → LastsFor k found t e now
-lasts_defined h k found s t d e told now lasts acks keeps taken few tables said limits list shards accepted committed going = record {
+    → (is_some t.journal.first ≡ false → is_some s.journal.first ≡ false) → IsBehind (said_by now.entries) t.shards t.last_file t.live → LastsFor k found t e now
+lasts_defined h k found s t d e told now lasts acks keeps taken few tables said limits list shards accepted committed going behind = record {
   keeps = keeps;
   tables = tables;
   shards = said ∙ lasts.shards ∙ ap (λ l. l.shards) (sym limits);
@@ -182,6 +184,7 @@ lasts_defined h k found s t d e told now lasts acks keeps taken few tables said 
   counted = omega (arith, lasts.counted, accepted, ap (λ (l : List (Item Event)). length (accepted_in l)) list);
   acknowledged = (omega (arith, lasts.acknowledged.0, acks, committed), omega (arith, lasts.acknowledged.1, acks, ap (λ (l : List (Item Event)). length (accepted_in l)) list));
   whole = λ on. let all = lasts.whole (going on) in omega (arith, all, committed, ap (λ (l : List (Item Event)). length (accepted_in l)) list);
+  behind = behind;
 }
 
 -- ---- how a definition ends
@@ -285,6 +288,8 @@ pub record IsRest (s t : State) : Type 0 where
   pub accepted : t.accepted ≡ s.accepted
   pub committed : t.committed ≡ s.committed
   pub reads : t.reads ≡ s.reads
+  pub last_file : t.last_file ≡ s.last_file
+  pub live : t.live ≡ s.live
 
 -- where memory runs out before the room is asked nothing changes
 pub moves_nowhere : (s : State) (d : Disk) (x : ManifestEntry) (b : Bound) → Moves (λ h after. Changes h x b (reply.Failed failure.Memory) after) s s d d
@@ -304,6 +309,10 @@ module _ (s t : State) (d e : Disk) (x : ManifestEntry) (b : Bound) (may : MayBe
     (count : s.faults ≤ t.faults) where
   tells : (h : History) (found : List Mutation) (told : Told) → LastsFor h found s d told → MayTell (said_by told.entries) x (tables_after s.tables b)
   tells h found told lasts = may.tells (said_by told.entries) lasts.tables (omega (arith, lasts.shards, some.0))
+
+  -- what the manifest said isn't ahead of the store
+  stays : (told : Told) → IsBehind (said_by told.entries) s.shards s.last_file s.live → IsBehind (said_by told.entries) t.shards t.last_file t.live
+  stays told behind = still_behind (said_by told.entries) s t rest.shards rest.last_file rest.live behind
 
   pub moves_not : (answer : Reply) (fault : JournalFault) → answer ≡ reply_for fault → t.tables ≡ s.tables → length (entry_bytes x) < 2 ^ 32 → Ends {T = Unit {0}} s.journal.first t.journal.first s.faults t.faults (Err fault)
       → reach_of t.journal ≡ reach_of s.journal → ((what : Counted) (most : ℕ) → fault ≡ TooMany what most → HasNoPlace x (reach_of s.journal))
@@ -331,7 +340,8 @@ module _ (s t : State) (d e : Disk) (x : ManifestEntry) (b : Bound) (may : MayBe
             lasts_defined h (record h { tables = t.tables; disk = disk_of t }) found s t d e told (told_after fault x told) lasts refl
                 (kept found told lasts.keeps (tells h found told lasts).fits) still.taken still.few (ap (λ es. (said_by es).tables) still.entries ∙ lasts.tables ∙ sym same)
                 (ap (λ es. (said_by es).shards) still.entries) rest.limits rest.list rest.shards rest.accepted rest.committed
-                (goes_before {T = Unit {0}} s.journal.first t.journal.first s.faults t.faults (Err fault) ends),
+                (goes_before {T = Unit {0}} s.journal.first t.journal.first s.faults t.faults (Err fault) ends)
+                (subst (λ es. IsBehind (said_by es) t.shards t.last_file t.live) (sym still.entries) (stays told lasts.behind)),
           );
     },
   )
@@ -364,7 +374,9 @@ module _ (s t : State) (d e : Disk) (x : ManifestEntry) (b : Bound) (may : MayBe
             lasts_defined h (record h { tables = t.tables; disk = disk_of t }) found s t d e told (appended x told) lasts refl
                 (kept found told lasts.keeps more.fits) refl lasts.few (ap (λ (sy : Saying). sy.tables) said ∙ more.tells ∙ sym new)
                 (ap (λ (sy : Saying). sy.shards) said ∙ same_shards (said_by told.entries) x is) rest.limits rest.list rest.shards rest.accepted rest.committed
-                (goes_before s.journal.first t.journal.first s.faults t.faults (Ok tt) ends),
+                (goes_before s.journal.first t.journal.first s.faults t.faults (Ok tt) ends)
+                (subst (λ (sy : Saying). IsBehind sy t.shards t.last_file t.live) (sym said)
+                (behind_defined (said_by told.entries) x t.shards t.last_file t.live is (stays told lasts.behind))),
           );
     },
   )

@@ -62,7 +62,8 @@ pub record IsInMemory (given : Limits) (entries : List ManifestEntry) (mutations
 
 -- The store of a folder was opened: it was read back with its files; and whatever its shards may have been before, for all that is known of the folder,
 -- memory has them so.
-pub record IsStarted (given limits : Limits) (tables : List TableSchema) (shards : List ShardState) (last live : ℕ) (journal : Journal) (old new : Disk) : Type 0 where
+pub record IsStarted (given limits : Limits) (tables : List TableSchema) (shards : List ShardState) (last live : ℕ) (journal : Journal)
+    (old new : Disk) : Type 0 where
   pub back : IsRecovered given limits tables shards last live journal old new
   pub memory : (openings : ℕ → ShardOpening) → AreOpenings back.entries back.mutations old openings
       → IsInMemory given back.entries back.mutations openings limits tables shards last live

@@ -167,7 +167,8 @@ impl<F: Folder> Opened<F> {
             (⟦<Node<F, J> as Stored>⟧.state n session 0 clock)) }
         ensures begins { IfOk result (λ n. (given : Limits) (entries : List EntryOf) (mutations : List MutationOf) (openings : ℕ → ShardOpening)
             → IsInMemory given entries mutations openings self.started.limits self.started.tables.items self.started.shards.items self.started.last_file
-            self.started.live → (session : ℕ) → BeginsAs given entries mutations openings (F.disk self.folder) (⟦<Node<F, J> as Stored>⟧.state n session 0 (pos 0))) }
+            self.started.live → (session : ℕ)
+            → BeginsAs given entries mutations openings (F.disk self.folder) (⟦<Node<F, J> as Stored>⟧.state n session 0 (pos 0))) }
         ensures folder { IfOk result (λ n. n.room.folder ≡ self.folder) }
         ensures sessions { IfOk result (λ n. ⟦<Node<F, J> as Stored>⟧.sessions n ≡ 0) }
         ensures kept { IfErr result (λ c. (c.folder ≡ self.folder) × (c.pass ≡ None) × (c.first ≡ None) × (c.tally ≡ self.tally)) }

@@ -65,6 +65,30 @@ fn fronts<J: Store, S: Sealed>(
     Ok(fronts)
 }
 
+// The seat of the shard of this number for its changes of table files.
+fn change<J: Store>(maker: &mut Maker<Event, J>, place: u64) -> Result<Changes<Event, J>, Mem>
+    requires next { maker.old.next ≤ 48 + place }
+    requires few { place < 16 }
+    ensures seat { IfOk result (λ c. c.shard ≡ place) }
+    ensures next { maker.new.next ≤ 49 + place }
+    ensures out { maker.new.out ≡ maker.old.out }
+{
+    let fresh = maker.fresh(48 + place)?;
+    Ok(Changes::new(fresh, place))
+}
+
+// The room's seat for the same.
+fn copy<J: Store>(maker: &mut Maker<Event, J>, place: u64) -> Result<RoomCopy<Event, J>, Mem>
+    requires next { maker.old.next ≤ 64 + place }
+    requires few { place < 16 }
+    ensures seat { IfOk result (λ c. c.shard ≡ place) }
+    ensures next { maker.new.next ≤ 65 + place }
+    ensures out { maker.new.out ≡ maker.old.out }
+{
+    let fresh = maker.fresh(64 + place)?;
+    Ok(RoomCopy::new(fresh, place))
+}
+
 // The shards' seats for their changes of table files, so many.
 fn changes<J: Store>(
     alloc: Global,
@@ -79,13 +103,12 @@ fn changes<J: Store>(
 {
     let mut changes = Vec::new(alloc);
     for place in 0..count {
-        let fresh = maker.fresh(48 + place)?;
-        changes.push(Changes::new(fresh, place))?;
+        changes.push(change(maker, place)?)?;
     }
     Ok(changes)
 }
 
-// The room's seats for the same.
+// The room's seats for these.
 fn copies<J: Store>(
     alloc: Global,
     maker: &mut Maker<Event, J>,
@@ -99,8 +122,7 @@ fn copies<J: Store>(
 {
     let mut copies = Vec::new(alloc);
     for place in 0..count {
-        let fresh = maker.fresh(64 + place)?;
-        copies.push(RoomCopy::new(fresh, place))?;
+        copies.push(copy(maker, place)?)?;
     }
     Ok(copies)
 }

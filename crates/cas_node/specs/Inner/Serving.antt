@@ -43,12 +43,12 @@ pub record Served (kind : ClockKind) (Gives : ℤ → Type 0) (script : List ℕ
   pub ended : why ≡ with_faults faults_before faults_now reads told
 
 -- whichever entries and mutations the store has, and whatever its shards were before, a run over it is such; or memory ran out before a line was run
-abbrev pub Serves : ClockKind → (ℤ → Type 0) → List ℕ → Option (List ℕ) → Option (List ℕ) → Limits → List TableSchema → List ShardState → Journal → Disk → ℕ → ℕ
-    → Disk → ℕ → ℕ → Option (List (Item Event)) → Cause → Type 0
-Serves kind Gives script old new limits tables shards journal before faults faults_before after faults_now reads None why = why ≡ cause.Mem
-Serves kind Gives script old new limits tables shards journal before faults faults_before after faults_now reads (Some list) why =
+abbrev pub Serves : ClockKind → (ℤ → Type 0) → List ℕ → Option (List ℕ) → Option (List ℕ) → Limits → List TableSchema → List ShardState → ℕ → ℕ
+    → Journal → Disk → ℕ → ℕ → Disk → ℕ → ℕ → Option (List (Item Event)) → Cause → Type 0
+Serves kind Gives script old new limits tables shards last live journal before faults faults_before after faults_now reads None why = why ≡ cause.Mem
+Serves kind Gives script old new limits tables shards last live journal before faults faults_before after faults_now reads (Some list) why =
     (given : Limits) (entries : List ManifestEntry) (mutations : List Mutation) (openings : ℕ → ShardOpening)
-    → IsInMemory given entries mutations openings limits tables shards → journal.last_segment ≤ next_segment entries
+    → IsInMemory given entries mutations openings limits tables shards last live → journal.last_segment ≤ next_segment entries
     → Served kind Gives script old new given entries mutations openings (files_in shards) journal before after faults_before faults faults_now reads list why
 
 -- why such a run ends: as its lines did, with the faults of its folder and of its reads; or memory ran out before a line was run

@@ -20,6 +20,7 @@ use Rattle.cas_sstread.specs.Loading.{Held}
 use Rattle.cas_view.specs.Views.{File}
 use Rattle.cas_stored.specs.Stored.{HoldEach, IsFileOf, StoredTable}
 use Rattle.cas_listed.specs.Listed.{AreLoaded}
+use Rattle.cas_shard.specs.Flushing.{HasInMemory}
 use Rattle.cas_shard.specs.Stands.{Holds, ShardState, files_at}
 use Rattle.cas_recovery.specs.declared.fault.RecoveryFault.{RecoveryFault}
 use Rattle.cas_recovery.specs.declared.fault.RecoveryFault.TheVariants as fault
@@ -32,6 +33,7 @@ use Rattle.cas_bind.specs.declared.bound.Limits.{Limits}
 pub record IsWithin (s : Saying) : Type 0 where
   pub numbers : (i : ℕ) (t : TableSchema) → slice_get s.tables i ≡ Some t → t.number ≡ i
   pub frontiers : (table shard : ℕ) → (part_of s table shard).frontier ≤ MUTATION_LIMIT
+  pub no_more : (table shard : ℕ) → length s.tables ≤ table → (part_of s table shard).frontier ≡ 0
   pub listed : (table shard : ℕ) → AllByRecursion FitsInfo (part_of s table shard).listed
   pub moments : (shard : ℕ) → IsMoment (times_of s shard).moment
   pub drawn : (shard : ℕ) → (times_of s shard).drawn ≤ℤ LAST_DRAWN
@@ -57,6 +59,10 @@ pub record HasStayed (old new : Option StoredTable) : Type 0 where
   pub holds : (order : List Ordered) (ws : List Mutation) → Holds order old ws → Holds order new ws
   pub files : files_at new ≡ files_at old
 
+-- a shard has in memory what it had
+abbrev pub KeepsMemory : ShardState → ShardState → Type 0
+KeepsMemory x y = (tables : List TableSchema) (table : ℕ) (ws : List Mutation) → HasInMemory tables table ws x → HasInMemory tables table ws y
+
 -- a table of a shard was given what the store has of it, and the others stayed
 pub record IsGiven (s : Saying) (disk : Disk) (shard : ℕ) (t : TableSchema) (x y : ShardState) : Type 0 where
   pub taken : HasTaken t disk shard (part_of s t.number shard).listed (slice_get x.stores t.number) (slice_get y.stores t.number)
@@ -65,6 +71,7 @@ pub record IsGiven (s : Saying) (disk : Disk) (shard : ℕ) (t : TableSchema) (x
   pub number : y.number ≡ max x.number (part_of s t.number shard).frontier
   pub drawn : y.drawn ≡ x.drawn
   pub moment : y.moment ≡ x.moment
+  pub memory : KeepsMemory x y
 
 -- the first tables of a shard, so many, were given what the store has of them, and the others stayed
 pub record AreGiven (s : Saying) (disk : Disk) (shard count : ℕ) (x y : ShardState) : Type 0 where
@@ -75,6 +82,7 @@ pub record AreGiven (s : Saying) (disk : Disk) (shard count : ℕ) (x y : ShardS
   pub number : y.number ≡ max x.number (greatest_frontier s shard count)
   pub drawn : y.drawn ≡ x.drawn
   pub moment : y.moment ≡ x.moment
+  pub memory : KeepsMemory x y
 
 -- a shard was given all that the store has of it
 pub record IsFilled (s : Saying) (disk : Disk) (shard : ℕ) (x y : ShardState) : Type 0 where
@@ -84,6 +92,7 @@ pub record IsFilled (s : Saying) (disk : Disk) (shard : ℕ) (x y : ShardState) 
   pub number : y.number ≡ max x.number (greatest_frontier s shard (length s.tables))
   pub drawn : y.drawn ≡ int_max x.drawn (times_of s shard).drawn
   pub moment : y.moment ≡ int_max x.moment (times_of s shard).moment
+  pub memory : KeepsMemory x y
 
 -- so were the first shards, so many
 pub record AreFilled (s : Saying) (disk : Disk) (count : ℕ) (xs ys : List ShardState) : Type 0 where

@@ -8,6 +8,7 @@ use Rattle.cas_replay.specs.Grammar.{numbers_of}
 use Rattle.cas_shard.specs.Shards.{found_shard}
 use Rattle.cas_shard.specs.Stands.{HasNoFiles, ShardState, Stands}
 use Rattle.cas_recovery.specs.Found.{found_in}
+use Rattle.cas_recovery.specs.Restored.{HaveMemory}
 
 -- the numbers rise, from above n
 abbrev pub Rise : ℕ → List ℕ → Type 0
@@ -27,10 +28,11 @@ AreRestored tables mutations shards = (n : ℕ) (x : ShardState) → slice_get s
 abbrev pub HaveNoFiles : List ShardState → Type 0
 HaveNoFiles shards = (n : ℕ) (x : ShardState) → slice_get shards n ≡ Some x → HasNoFiles x
 
--- of whatever tables these mutations may be, each shard has what they have of it, and no table file
+-- of whatever tables these mutations may be, each shard has what they have of it, in memory and in no table file
 abbrev pub HaveRestored : List Mutation → List ShardState → Type 0
 HaveRestored mutations shards =
     HaveNoFiles shards × ((tables : List TableSchema) (count : ℕ) → MayBeGiven tables count mutations → AreRestored tables mutations shards)
+    × ((tables : List TableSchema) (count : ℕ) → MayBeGiven tables count mutations → HaveMemory tables shards)
 
 -- the same of those that are there, unless memory ran out
 abbrev pub HasRestored : List Mutation → Option (List ShardState) → Type 0

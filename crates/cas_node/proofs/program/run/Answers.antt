@@ -46,7 +46,7 @@ returns-in-Err-start-clause-complete g c = λ well.
 
 pub returns-clause-headline : goal.returns-clause-headline
 returns-clause-headline g c =
-    ran_all _ _ _ _ c.in-Ok-Some.command c.deref.result.now _ _ _ _ _ _ _ _ (sym c.in-Ok-Some.ensures.exact ∙ c.in-Ok-Some.field-0-is)
+    ran_all _ _ _ _ c.in-Ok-Some.command c.deref.result.now _ _ _ _ _ _ _ _ _ _ (sym c.in-Ok-Some.ensures.exact ∙ c.in-Ok-Some.field-0-is)
     (subst (λ l. ReadToEnd (g.S.Source.left c.args.source.now) (g.S.Source.left c.read_script.new.source) l) (sym c.deref.ensures.value) c.in-Ok.ensures.script)
     c.in-Ok-start.ensures.started c.in-Ok-start.ensures.count _ c.faults-faults.ensures.number _
     (subst (λ l. length l ≤ SCRIPT_LIMIT) (sym c.deref.ensures.value) c.in-Ok.ensures.short) c.serve.ensures.served
@@ -63,7 +63,7 @@ returns-clause-not_disk g c = λ rose.
     (subst (λ n. Rose n (g.F.Folder.faults_of c.serve.result.folder) ⊎ Rose 0 (g.F.Tally.Count.number c.serve.result.tally)) (sym c.faults-faults.ensures.number) rose)
 
 pub returns-clause-bad : goal.returns-clause-bad
-returns-clause-bad g c = λ none. none_bad _ _ _ _ _ _ _ _ _ _ _ _ _ _ _ _ _ _ c.serve.ensures.served none
+returns-clause-bad g c = λ none. none_bad _ _ _ _ _ _ _ _ _ _ _ _ _ _ _ _ _ _ _ _ c.serve.ensures.served none
 
 pub returns-clause-unread : goal.returns-clause-unread
 returns-clause-unread g c =
@@ -76,6 +76,6 @@ returns-clause-stays g c = λ none d reads bytes entries mutations store.
 
 pub returns-clause-complete : goal.returns-clause-complete
 returns-clause-complete g c = λ well.
-    ends_well _ _ _ _ _ c.in-Ok-Some.command (sym c.in-Ok-Some.ensures.exact ∙ c.in-Ok-Some.field-0-is) well c.deref.result.now _ _ _ _ _ _ _ _
+    ends_well _ _ _ _ _ c.in-Ok-Some.command (sym c.in-Ok-Some.ensures.exact ∙ c.in-Ok-Some.field-0-is) well c.deref.result.now _ _ _ _ _ _ _ _ _ _
     (subst (λ l. ReadToEnd (g.S.Source.left c.args.source.now) (g.S.Source.left c.read_script.new.source) l) (sym c.deref.ensures.value) c.in-Ok.ensures.script)
     c.in-Ok-start.ensures.started c.in-Ok-start.ensures.count _ c.faults-faults.ensures.number c.serve.ensures.served c.serve.ensures.write

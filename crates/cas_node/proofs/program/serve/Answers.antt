@@ -13,7 +13,7 @@ returns-clause-served g c =
     let closed = c.finished.ensures.folder ∙ c.close-2.ensures.folder ∙ ended in
     let counted = ap (λ t. g.F.Tally.Count.number t) (c.finished.ensures.tally ∙ c.close-2.ensures.tally) ∙ ap (λ f. (f 0 0 (pos 0)).reads) c.end.ensures.same in
     serves_as c.args.ask.now.kind (g.C.Clock.may_give c.args.ask.now.clock.now) c.args.script.now _ _ _ _ _ _ c.args.faults c.run_lines-told.result c.finished.result.cause
-    c.run_lines-told.ensures.ran o.started.limits o.started.tables.items o.started.shards.items o.started.journal (g.F.Folder.faults_of o.folder) (g.F.Tally.Count.number o.tally)
+    c.run_lines-told.ensures.ran o.started.limits o.started.tables.items o.started.shards.items o.started.last_file o.started.live o.started.journal (g.F.Folder.faults_of o.folder) (g.F.Tally.Count.number o.tally)
     (opened_as _ _ _ _ _ _ _ _ seat.list seat.calls (pos 0) c.session.ensures.same c.in-Ok-session.ensures.begun.0 c.in-Ok.ensures.made)
     (λ given entries mutations openings memory.
     begins_as given entries mutations openings _ _ seat.list seat.calls _ _ c.session.ensures.same c.in-Ok-session.ensures.begun.0

@@ -1,7 +1,8 @@
 use Rattle.std.proofs.Common.{◌≡◌, ◌∙◌, List, Option, Some, sym, subst}
 use Rattle.cas_shard.specs.Stands.{ShardState}
+use Rattle.cas_recovery.specs.Restored.{HaveMemory}
 use Rattle.cas_recovery.specs.Inner.Restoring.{AreRestored, HasRestored, HaveNoFiles, HaveRestored}
-use Rattle.cas_recovery.proofs.Restoring.{first_no_files, first_restored}
+use Rattle.cas_recovery.proofs.Restoring.{first_memory, first_no_files, first_restored}
 use Rattle.cas_recovery.proofs.memory.restored.Goals as goal
 
 pub returns-clause-restored : goal.returns-clause-restored
@@ -14,4 +15,7 @@ returns-clause-restored g c mutations has =
       λ tables count log.
           subst (λ (l : List ShardState). AreRestored tables mutations l) (sym c.truncate.ensures.items)
           (first_restored tables mutations c.args.count _ (subst (λ (a : List ShardState). AreRestored tables mutations a) (sym same) (were.1 tables count log))),
+      λ tables count log.
+          subst (HaveMemory tables) (sym c.truncate.ensures.items)
+          (first_memory tables c.args.count _ (subst (HaveMemory tables) (sym same) (were.2 tables count log))),
     )

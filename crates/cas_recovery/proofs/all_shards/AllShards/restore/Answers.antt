@@ -3,7 +3,8 @@ use Rattle.std.proofs.lemmas.Option.{slice_get-get_or}
 use Rattle.std.specs.Prelude.{slice_get}
 use Rattle.cas_recovery.specs.Found.{found_in}
 use Rattle.cas_recovery.specs.Inner.Restoring.{HaveRestored}
-use Rattle.cas_recovery.proofs.Restoring.{above_here, belongs_here, front_given, more_restored, one_keeps_none}
+use Rattle.cas_shard.specs.Flushing.{one_of}
+use Rattle.cas_recovery.proofs.Restoring.{above_here, belongs_here, belongs_too, front_given, more_restored, one_keeps_none, one_remembers}
 use Rattle.cas_recovery.proofs.all_shards.AllShards.restore.Goals as goal
 
 pub returns : goal.returns
@@ -20,4 +21,8 @@ returns g c before has =
           more_restored tables before m xs x c.restore.new.self were there
           (c.in_ok-restore.ensures.stands tables count (found_in m.shard before) (were m.shard x there) (belongs_here tables count before m [] (before ++ m ∷ []) refl given)
           (above_here tables count before m [] (before ++ m ∷ []) refl given)),
+      λ tables count given.
+          one_remembers tables xs m.shard x c.restore.new.self (λ table ws. ws ++ one_of table m) (had.2 tables count (front_given tables count before m [] (before ++ m ∷ []) refl given)) there
+          (λ more table ws. c.in_ok-restore.ensures.memory (tables ++ more) count table ws
+          (belongs_too tables more count m (belongs_here tables count before m [] (before ++ m ∷ []) refl given))),
     )

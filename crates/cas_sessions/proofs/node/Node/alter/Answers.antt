@@ -10,8 +10,9 @@ use Rattle.cas_recovery.proofs.Places.{get_within}
 use Rattle.cas_sessions.proofs.Tables.{adds_no_keys, altered_by, has_spelling, is_short, mapped, moves_done, moves_not, moves_nowhere, under_altered}
 use Rattle.cas_sessions.specs.Calls.{reply_of}
 use Rattle.cas_sessions.specs.declared.answer.Fault.{Fault}
-use Rattle.cas_recovery.specs.Restored.{HaveNoMore, MayBeRead}
+use Rattle.cas_recovery.specs.Restored.{HaveMemory, HaveNoMore, MayBeRead}
 use Rattle.cas_sessions.proofs.Filing.{readable_altered, unmade_altered}
+use Rattle.cas_sessions.proofs.Remembering.{memory_altered}
 use Rattle.cas_sessions.proofs.Sounding.{sound_told}
 use Rattle.cas_sessions.proofs.Telling.{true_of_end}
 use Rattle.cas_sessions.proofs.Crashing.{amid_defined, amid_nothing, fits_told}
@@ -44,6 +45,8 @@ returns-in-Err-define-clause-changes g c = λ clock.
       accepted = c.define.ensures.accepted;
       committed = c.define.ensures.committed;
       reads = refl;
+      last_file = ap (λ q. q.last) c.define.ensures.numbers;
+      live = refl;
     })
     c.define.ensures.count (reply_of (Err c.fault_for.result)) c.in-Err-define.fault (ap (λ (x : Fault). reply_of (Err x)) c.fault_for.ensures) refl short c.in-Err-define.ensures.outcome c.in-Err-define.ensures.reach
     (λ what most e. c.in-Err-define.ensures.full what most (ap Err e)) c.in-Err-define.ensures.kept
@@ -75,6 +78,8 @@ returns-clause-changes g c = λ clock.
       accepted = c.define.ensures.accepted;
       committed = c.define.ensures.committed;
       reads = refl;
+      last_file = ap (λ q. q.last) c.define.ensures.numbers;
+      live = refl;
     })
     c.define.ensures.count tt (new ∙ sym (mapped ts a))
     (λ z y so. subst (λ (us : List TableSchema). Stands us z y) (sym new) (under_altered a (adds_no_keys ts a c.requires.told) ts z y so))
@@ -95,6 +100,9 @@ invariant_of-self-2 g c =
       sound = sound_told _ _ _ _ _ _ _ _ n.sound c.define.ensures.size (subst AreTables (sym (new ∙ sym (mapped ts a))) c.requires.told.kept);
       readable = subst (λ (us : List TableSchema). MayBeRead us n.shards.items) (sym new) (readable_altered ts n.shards.items n.unmade n.readable a bare);
       unmade = subst (λ (us : List TableSchema). HaveNoMore us n.shards.items) (sym new) (unmade_altered ts n.shards.items n.unmade n.readable a bare);
+      kept = subst (λ (us : List TableSchema). HaveMemory us n.shards.items) (sym new) (memory_altered a bare ts n.shards.items n.kept);
+      seated = n.seated;
+      unlisted = λ k past. n.unlisted k (omega (arith, past, ap (λ q. q.last) c.define.ensures.numbers));
     }
 
 pub returns-in-Err-define-clause-told : goal.returns-in-Err-define-clause-told

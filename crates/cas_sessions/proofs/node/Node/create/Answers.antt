@@ -8,8 +8,9 @@ use Rattle.cas_shard.specs.Stands.{Stands}
 use Rattle.cas_sessions.proofs.Tables.{created, has_spelling, is_short, moves_done, moves_not, moves_reserved, pushed, under_created}
 use Rattle.cas_sessions.specs.Calls.{reply_of}
 use Rattle.cas_sessions.specs.declared.answer.Fault.{Fault}
-use Rattle.cas_recovery.specs.Restored.{HaveNoMore, MayBeRead}
+use Rattle.cas_recovery.specs.Restored.{HaveMemory, HaveNoMore, MayBeRead}
 use Rattle.cas_sessions.proofs.Filing.{readable_created, unmade_created}
+use Rattle.cas_sessions.proofs.Remembering.{memory_created}
 use Rattle.cas_sessions.proofs.Sounding.{sound_reserved, sound_told}
 use Rattle.cas_sessions.proofs.Telling.{true_of_end}
 use Rattle.cas_sessions.proofs.Crashing.{amid_defined, amid_nothing, fits_told}
@@ -40,6 +41,8 @@ returns-in-Err-define-clause-changes g c = λ clock.
       accepted = c.define.ensures.accepted;
       committed = c.define.ensures.committed;
       reads = refl;
+      last_file = ap (λ q. q.last) c.define.ensures.numbers;
+      live = refl;
     })
     c.define.ensures.count (reply_of (Err c.fault_for.result)) c.in-Err-define.fault (ap (λ (x : Fault). reply_of (Err x)) c.fault_for.ensures) c.reserve.ensures.items short c.in-Err-define.ensures.outcome c.in-Err-define.ensures.reach
     (λ what most e. c.in-Err-define.ensures.full what most (ap Err e)) c.in-Err-define.ensures.kept
@@ -62,6 +65,8 @@ returns-clause-changes g c = λ clock.
       accepted = c.define.ensures.accepted;
       committed = c.define.ensures.committed;
       reads = refl;
+      last_file = ap (λ q. q.last) c.define.ensures.numbers;
+      live = refl;
     })
     c.define.ensures.count tt (new ∙ sym (created ts c.args.table))
     (λ z y so. subst (λ (us : List TableSchema). Stands us z y) (sym new) (under_created ts c.args.table z y so))
@@ -77,6 +82,9 @@ invariant_of-self-2 g c =
       sound = sound_told _ _ _ _ _ _ _ _ n.sound c.define.ensures.size (subst AreTables (sym (new ∙ sym (created ts c.args.table))) c.requires.told.kept);
       readable = subst (λ (us : List TableSchema). MayBeRead us n.shards.items) (sym new) (readable_created ts n.shards.items n.unmade n.readable c.args.table);
       unmade = subst (λ (us : List TableSchema). HaveNoMore us n.shards.items) (sym new) (unmade_created ts n.shards.items n.unmade n.readable c.args.table);
+      kept = subst (λ (us : List TableSchema). HaveMemory us n.shards.items) (sym new) (memory_created ts n.shards.items c.args.table n.kept);
+      seated = n.seated;
+      unlisted = λ k past. n.unlisted k (omega (arith, past, ap (λ q. q.last) c.define.ensures.numbers));
     }
 
 pub returns-in-Err-define-clause-told : goal.returns-in-Err-define-clause-told
@@ -106,6 +114,9 @@ invariant_of-self g c =
       sound = sound_reserved _ _ _ _ _ _ _ n.sound same;
       readable = subst (λ (us : List TableSchema). MayBeRead us n.shards.items) (sym same) n.readable;
       unmade = subst (λ (us : List TableSchema). HaveNoMore us n.shards.items) (sym same) n.unmade;
+      kept = subst (λ (us : List TableSchema). HaveMemory us n.shards.items) (sym same) n.kept;
+      seated = n.seated;
+      unlisted = n.unlisted;
     }
 
 pub invariant_of-self-in-Err-define : goal.invariant_of-self-in-Err-define
@@ -116,4 +127,7 @@ invariant_of-self-in-Err-define g c =
       sound = sound_told _ _ _ _ _ _ _ _ n.sound c.define.ensures.size (subst AreTables (sym same) n.sound.tables);
       readable = subst (λ (us : List TableSchema). MayBeRead us n.shards.items) (sym same) n.readable;
       unmade = subst (λ (us : List TableSchema). HaveNoMore us n.shards.items) (sym same) n.unmade;
+      kept = subst (λ (us : List TableSchema). HaveMemory us n.shards.items) (sym same) n.kept;
+      seated = n.seated;
+      unlisted = λ k past. n.unlisted k (omega (arith, past, ap (λ q. q.last) c.define.ensures.numbers));
     }

@@ -6,6 +6,7 @@ use Rattle.cas_render.specs.declared.reply.Reply.TheVariants.{Rows}
 use Rattle.cas_shard.specs.Shards.{look_at, raised}
 use Rattle.cas_shard.specs.Stands.{Stands, files_at}
 use Rattle.cas_sessions.proofs.Filing.{query_reads, still_readable, still_unmade}
+use Rattle.cas_sessions.proofs.Remembering.{same_stores}
 use Rattle.cas_sessions.proofs.Moving.{moves_look, rose_by, shows_fault, shows_rows}
 use Rattle.cas_sessions.proofs.Sounding.{sound_looked}
 use Rattle.cas_sessions.specs.Calls.{reply_of}
@@ -57,4 +58,7 @@ invariant_of-self g c =
       sound = sound_looked _ _ _ _ _ _ c.args.read.shard x c.look.new.self c.args.self.now.sound there c.look.ensures.number;
       readable = still_readable _ n.shards.items c.args.read.shard x c.look.new.self n.readable there c.look.ensures.files;
       unmade = still_unmade _ n.shards.items c.args.read.shard x c.look.new.self n.unmade there c.look.ensures.files;
+      kept = same_stores _ n.shards.items c.args.read.shard x c.look.new.self n.kept there c.look.ensures.stores;
+      seated = n.seated;
+      unlisted = n.unlisted;
     }

@@ -13,6 +13,7 @@ use Rattle.cas_sessions.specs.Calls.{reply_of}
 use Rattle.cas_sessions.specs.declared.answer.Fault.{Fault}
 use Rattle.cas_sessions.proofs.Entering.{may_take, refused_at_once, starved_at_once, of_a_table, seated, place_is, number_is, not_taken, taken_and_committed, taken_and_failed, set_twice}
 use Rattle.cas_sessions.proofs.Filing.{still_readable, still_unmade}
+use Rattle.cas_sessions.proofs.Remembering.{memory_entered, memory_prepared}
 use Rattle.cas_sessions.proofs.Sounding.{sound_looked, sound_with}
 use Rattle.cas_sessions.proofs.Telling.{true_of_accepted, true_of_prepare}
 use Rattle.cas_sessions.proofs.Idling.{idle_taken}
@@ -53,6 +54,8 @@ accept-requires-clause-of g c =
       journal = c.args.self.now.room.journal;
       faults = g.F.Folder.faults_of c.args.self.now.room.folder;
       reads = g.F.Tally.Count.number c.args.self.now.tally;
+      last_file = c.args.self.now.room.numbers.last;
+      live = c.args.self.now.live;
     }) c.args.write c.args.reading c.index_mut.result.now c.prepare.new.self c.prepare.result
     (record { sound = c.args.self.now.sound; within = c.requires.within.0; fits = c.requires.fits; seat = c.index_mut.ensures.value; files = c.prepare.ensures.files; answered = λ ts q stands quiet. c.prepare.ensures.answered ts q stands quiet ∙ ap (λ (k : ℤ). prepare_answer c.args.self.now.limits.segment k q c.args.write) at; stands = λ ts n q stands suits. subst (λ (k : ℤ). Stands ts (raised k q) c.prepare.new.self) at (c.prepare.ensures.stands ts n q stands suits); number = c.prepare.ensures.number })
     c.in-Ok.mutation c.in-Ok.is c.in-Ok.ensures.prepared c.in-Ok.ensures.ready
@@ -103,6 +106,8 @@ returns-in-Err-clause-writes g c = λ clock.
       full = λ what most is. c.accept.ensures.full what most (c.in-Err.is ∙ ap Err is);
       count = c.accept.ensures.count;
       reads = refl;
+      last_file = ap (λ q. q.last) c.accept.ensures.numbers;
+      live = refl;
     })
 
 -- src/writing.rt:39:5
@@ -134,6 +139,8 @@ returns-in-Ok-commit-clause-writes g c = λ clock.
       rises = (c.accept.ensures.count, c.commit.ensures.count);
       files = c.enter.ensures.files;
       reads = refl;
+      last_file = ap (λ q. q.last) (c.commit.ensures.numbers ∙ c.accept.ensures.numbers);
+      live = refl;
     })
     _ c.in-Ok-accept.ensures.number
     c.in-Ok-commit.field-0 c.in-Ok-commit.ensures.outcome (c.in-Ok-commit.ensures.all ∙ sym c.commit.ensures.accepted)
@@ -167,6 +174,8 @@ returns-in-Err-commit-clause-writes g c = λ clock.
       rises = (c.accept.ensures.count, c.commit.ensures.count);
       files = c.enter.ensures.files;
       reads = refl;
+      last_file = ap (λ q. q.last) (c.commit.ensures.numbers ∙ c.accept.ensures.numbers);
+      live = refl;
     })
     (Unit {0}) c.in-Err-commit.field-0 c.in-Err-commit.ensures.outcome c.in-Err-commit.ensures.why (omega (arith, c.accept.ensures.committed, c.commit.ensures.rises))
 
@@ -220,6 +229,9 @@ invariant_of-self g c =
           sound_looked _ _ _ _ _ _ c.args.write.shard c.index_mut.result.now c.prepare.new.self c.args.self.now.sound at_x c.prepare.ensures.number;
       readable = still_readable _ c.args.self.now.shards.items c.args.write.shard c.index_mut.result.now c.prepare.new.self c.args.self.now.readable at_x c.prepare.ensures.files;
       unmade = still_unmade _ c.args.self.now.shards.items c.args.write.shard c.index_mut.result.now c.prepare.new.self c.args.self.now.unmade at_x c.prepare.ensures.files;
+      kept = memory_prepared _ c.args.self.now.shards.items c.args.write.shard c.index_mut.result.now c.prepare.new.self c.args.self.now.kept at_x c.args.write c.args.self.now.limits.shards c.requires.fits c.prepare.ensures.memory;
+      seated = c.args.self.now.seated;
+      unlisted = c.args.self.now.unlisted;
     }
 
 pub invariant_of-self-in-Err-accept : goal.invariant_of-self-in-Err-accept
@@ -235,6 +247,9 @@ invariant_of-self-in-Err-accept g c =
           (ap (λ q. q.number) c.in-Err.ensures.unentered.1 ∙ same ∙ sym c.prepare.ensures.number) refl c.accept.ensures.size;
       readable = still_readable _ c.args.self.now.shards.items c.args.write.shard c.index_mut.result.now c.prepare.new.self c.args.self.now.readable at_x c.prepare.ensures.files;
       unmade = still_unmade _ c.args.self.now.shards.items c.args.write.shard c.index_mut.result.now c.prepare.new.self c.args.self.now.unmade at_x c.prepare.ensures.files;
+      kept = memory_prepared _ c.args.self.now.shards.items c.args.write.shard c.index_mut.result.now c.prepare.new.self c.args.self.now.kept at_x c.args.write c.args.self.now.limits.shards c.requires.fits c.prepare.ensures.memory;
+      seated = c.args.self.now.seated;
+      unlisted = λ k past. c.args.self.now.unlisted k (omega (arith, past, ap (λ q. q.last) c.accept.ensures.numbers));
     }
 
 pub invariant_of-self-2 : goal.invariant_of-self-2
@@ -257,6 +272,11 @@ invariant_of-self-2 g c =
           (c.commit.ensures.size ∙ c.accept.ensures.size);
       readable = still_readable _ ys n y c.enter.new.self (still_readable _ xs n x c.prepare.new.self c.args.self.now.readable at_x c.prepare.ensures.files) at_y c.enter.ensures.files;
       unmade = still_unmade _ ys n y c.enter.new.self (still_unmade _ xs n x c.prepare.new.self c.args.self.now.unmade at_x c.prepare.ensures.files) at_y c.enter.ensures.files;
+      kept = memory_entered _ ys n y c.enter.new.self
+          (memory_prepared _ xs n x c.prepare.new.self c.args.self.now.kept at_x c.args.write c.args.self.now.limits.shards c.requires.fits c.prepare.ensures.memory)
+          at_y c.args.write c.in-Ok.mutation c.args.self.now.limits.segment c.args.self.now.limits.shards c.requires.fits c.in-Ok.ensures.ready c.enter.ensures.memory;
+      seated = c.args.self.now.seated;
+      unlisted = λ k past. c.args.self.now.unlisted k (omega (arith, past, ap (λ q. q.last) (c.commit.ensures.numbers ∙ c.accept.ensures.numbers)));
     }
 
 pub invariant_of-session-2 : goal.invariant_of-session-2
