@@ -13,3 +13,9 @@ mod Entering
 mod Tables
 pub mod Serving
 mod Seating
+mod FlushSteps
+mod FlushFiles
+mod FlushChange
+mod FlushShard
+mod FlushAll
+mod FlushMaking

@@ -21,7 +21,7 @@ ghost use Rattle.cas_shard.specs.Stands.{ShardState, files_at};
 ghost use Rattle.cas_sessions.specs.Calls.{IsTrueOf};
 ghost use Rattle.cas_sessions.specs.Flushes.{Flushes, Remember};
 ghost use Rattle.cas_sessions.specs.Nodes.{CountsOn, KeepsAll, Moves};
-ghost use Rattle.cas_sessions.specs.Inner.Flushing.{AddsFile, FlushesFirst, FlushesNoFurther, FlushesOne, HasOneMore, IsChangeFor, Lists};
+ghost use Rattle.cas_sessions.specs.Inner.Flushing.{AddsFile, FlushesFirst, FlushesNoFurther, FlushesOne, HasOneMore, IsChangeFor, IsOwn, Lists};
 ghost use Rattle.cas_sessions.specs.Inner.Flushing.{Makes, NewFile, Quiet, SaysSo, TakesFile, WhyNoneMore, WhyNotMade, listed_of};
 ghost use Rattle.cas_sessions.specs.Inner.Flushing.{fault_of_folder, fault_of_fresh, fault_of_load, fault_of_write};
 
@@ -159,7 +159,8 @@ impl<F: Folder, J: Store> Node<F, J> {
             (⟦<Node<F, J> as Stored>⟧.state self.new session calls clock)
             (⟦<Node<F, J> as Stored>⟧.disk self.old) (⟦<Node<F, J> as Stored>⟧.disk self.new) }
         ensures outcome { Begins self.old.live self.old.room.numbers.last (F.faults_of self.old.room.folder) (F.faults_of self.new.room.folder) result }
-        ensures number { IfOk result (λ r. (self.old.room.numbers.last < r.0) × (r.0 ≤ FILE_NUMBER_LIMIT) × (F.Draft.number r.1 ≡ r.0)) }
+        ensures number { IfOk result (λ r. (self.old.room.numbers.last < r.0) × (r.0 ≤ self.new.room.numbers.last) × (r.0 ≤ FILE_NUMBER_LIMIT)
+            × (F.Draft.number r.1 ≡ r.0)) }
         ensures empty { IfOk result (λ r. (b : ListOf ℕ) → F.Draft.written r.1 b → b ≡ []) }
         ensures held { IfOk result (λ r. holds r.0 (listed self.new.files.list self.new.files.pass.saw) ≡ true) }
         ensures booked { IfOk result (λ r. is_live (at self.new.book.refs r.0) ≡ true) }
@@ -204,9 +205,11 @@ impl<F: Folder, J: Store> Node<F, J> {
         ensures why { (session calls : ℕ) (clock : ℤ) → IfErr result (λ f. (t : _) → slice_get self.old.tables.items table ≡ Some t
             → WhyNoneMore t place info.now (F.Draft.written draft) ((c : Image) × (⟦<Node<F, J> as Stored>⟧.disk self.old).reads c)
             (⟦<Node<F, J> as Stored>⟧.state self.old session calls clock) (⟦<Node<F, J> as Stored>⟧.state self.new session calls clock) f) }
+        ensures own { IfErr result IsOwn }
         ensures held { listed self.new.files.list self.new.files.pass.saw ≡ listed self.old.files.list self.old.files.pass.saw }
         ensures same { (self.new.shards ≡ self.old.shards) × (self.new.limits ≡ self.old.limits) × (self.new.tables ≡ self.old.tables)
-            × (self.new.book ≡ self.old.book) × (self.new.live ≡ self.old.live) }
+            × (self.new.book ≡ self.old.book) × (self.new.live ≡ self.old.live) × (self.new.room.numbers ≡ self.old.room.numbers)
+            × (self.new.files.list ≡ self.old.files.list) }
         ensures sessions { ⟦<Node<F, J> as Stored>⟧.sessions self.new ≡ ⟦<Node<F, J> as Stored>⟧.sessions self.old }
     {
         let file = match self.room.admit(&mut self.files, draft) {
@@ -237,10 +240,11 @@ impl<F: Folder, J: Store> Node<F, J> {
             → Makes t (slice_get x.stores table) ((c : Image) × (⟦<Node<F, J> as Stored>⟧.disk self.old).reads c) self.old.room.numbers.last o) }
         ensures stands { IfOk result (λ o. IfSome o (λ m. Stand (m.0.number ∷ []) (⟦<Node<F, J> as Stored>⟧.disk self.new))) }
         ensures held { IfOk result (λ o. IfSome o (λ m. (holds m.0.number (listed self.new.files.list self.new.files.pass.saw) ≡ true)
-            × (is_live (at self.new.book.refs m.0.number) ≡ true) × (self.new.live < LIVE_LIMIT))) }
+            × (is_live (at self.new.book.refs m.0.number) ≡ true) × (self.new.live < LIVE_LIMIT) × (m.0.number ≤ self.new.room.numbers.last))) }
         ensures why { (session calls : ℕ) (clock : ℤ) → IfErr result (λ f. (c : Image) → (⟦<Node<F, J> as Stored>⟧.disk self.old).reads c
             → Remember self.old.tables.items self.old.shards.items
             → WhyNotMade (⟦<Node<F, J> as Stored>⟧.state self.old session calls clock) (⟦<Node<F, J> as Stored>⟧.state self.new session calls clock) f) }
+        ensures own { IfErr result IsOwn }
         ensures same { (self.new.shards ≡ self.old.shards) × (self.new.limits ≡ self.old.limits) × (self.new.tables ≡ self.old.tables) }
         ensures sessions { ⟦<Node<F, J> as Stored>⟧.sessions self.new ≡ ⟦<Node<F, J> as Stored>⟧.sessions self.old }
     {
@@ -329,7 +333,7 @@ impl<F: Folder, J: Store> Node<F, J> {
             × (bytes_at (slice_get x.stores table) ≡ 0) }
         requires stand { Stand (info.number ∷ []) (⟦<Node<F, J> as Stored>⟧.disk self.old) }
         requires held { (holds info.number (listed self.old.files.list self.old.files.pass.saw) ≡ true) × (is_live (at self.old.book.refs info.number) ≡ true) }
-        requires room { self.old.live < LIVE_LIMIT }
+        requires room { (self.old.live < LIVE_LIMIT) × (info.number ≤ self.old.room.numbers.last) }
         ensures takes { (clock : ℤ) (t : _) (x : ShardState) → slice_get self.old.tables.items table ≡ Some t → slice_get self.old.shards.items place ≡ Some x
             → (new : NewFile t (slice_get x.stores table) info (arc_value view))
             → TakesFile t place info.number (SaysSo t (slice_get x.stores table) new.file) result

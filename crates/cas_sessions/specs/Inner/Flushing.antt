@@ -1,5 +1,5 @@
 -- The steps of a flush of a table in a shard (own).
-use Rattle.std.specs.Prelude.{◌≡◌, ◌⊎◌, ℕ, ◌+◌, ◌≤◌, ◌<◌, false, Option, None, Some, Result, Ok, Err, MatchResult, List, [], ◌∷◌, ◌++◌, length, slice_get}
+use Rattle.std.specs.Prelude.{◌≡◌, ◌⊎◌, ℕ, ◌+◌, ◌≤◌, ◌<◌, false, Option, None, Some, Result, Ok, Err, IfErr, MatchResult, List, [], ◌∷◌, ◌++◌, length, slice_get}
 use Rattle.std.specs.List.{AllByRecursion}
 use Rattle.cas_types.specs.Limits.{IsMoment}
 use Rattle.cas_types.specs.declared.limits.TheConstants.{MUTATION_LIMIT}
@@ -20,7 +20,6 @@ use Rattle.cas_flushing.specs.Flushed.{IsOpened, WhyUnopened}
 use Rattle.cas_info.specs.Allowed.{FitsInfo}
 use Rattle.cas_info.specs.declared.info.TableInfo.{TableInfo}
 use Rattle.cas_journal.specs.Ends.{Ends}
-use Rattle.cas_journal.specs.Journals.{Lasts}
 use Rattle.cas_journal.specs.Reach.{reach_of, reach_after}
 use Rattle.cas_journal.specs.Stores.{Told, Holds, appended, committed_all}
 use Rattle.cas_journal.specs.declared.fault.JournalFault.{JournalFault}
@@ -81,7 +80,7 @@ pub record Quiet (s t : State) (d e : Disk) : Type 0 where
   pub faults : s.faults ≤ t.faults
   pub reads : s.reads ≤ t.reads
   pub keeps : (found : List Mutation) (told : Told) → Keeps s.journal d s.list s.committed found told → Keeps t.journal e t.list t.committed found told
-  pub crash : (told : Told) → Lasts s.journal d told → Leaves (λ c. Holds told c) d e
+  pub crash : (found : List Mutation) (told : Told) → Keeps s.journal d s.list s.committed found told → Leaves (λ c. Holds told c) d e
   pub tells : (c : Image) → d.reads c → (b : Image) × e.reads b
 
 -- ---- the manifest gets the change
@@ -155,6 +154,16 @@ pub record IsMade (t : TableSchema) (o : Option StoredTable) (Tells : Type 0) (l
 abbrev pub Makes : TableSchema → Option StoredTable → Type 0 → ℕ → Option (TableInfo × List (File Held)) → Type 0
 Makes t o Tells last None = (ws : List Mutation) → HoldJust t.columns (memtables_at o) ws → SayWhatIsHeld t.columns (frozen_at o) any []
 Makes t o Tells last (Some m) = IsMade t o Tells last m.0 m.1
+
+-- a fault of this flush: not an earlier one that stopped the store, nor of a mutation
+abbrev pub IsOwn : Fault → Type 0
+IsOwn (Refused why) = Unit {0}
+IsOwn (Stopped first) = ⊥
+IsOwn (Failed None) = Unit {0}
+IsOwn (Failed (Some number)) = ⊥
+IsOwn Read = Unit {0}
+IsOwn (BadBlock number at) = Unit {0}
+IsOwn Mem = Unit {0}
 
 -- why there is neither
 abbrev pub WhyNotMade : State → State → Fault → Type 0
@@ -240,12 +249,14 @@ pub record TakesFile (t : TableSchema) (n number : ℕ) (Says : Type 0) (result 
   pub lasts : (h : History) (found : List Mutation) (told : Told) → h.tables ≡ s.tables → LastsFor h found s d told
       → AllByRecursion (λ k. k < number) (said_by told.entries).numbers → GoesOn h found s u d e
   pub moves : Says → Moved (λ h. EndsIn t n (shard_at h n) result) s u
+  pub own : IfErr result IsOwn
 
 -- a flush of a table in a shard
 pub record FlushesOne (t : TableSchema) (n : ℕ) (result : Result (Option ℕ) Fault) (s u : State) (d e : Disk) : Type 0 where
   pub beside : IsBeside s u d e
   pub lasts : (h : History) (found : List Mutation) (told : Told) → h.tables ≡ s.tables → LastsFor h found s d told → GoesOn h found s u d e
   pub moves : (c : Image) → d.reads c → Moved (λ h. EndsIn t n (shard_at h n) result) s u
+  pub own : IfErr result IsOwn
 
 -- so many shards were flushed, with these numbers of files
 abbrev pub IsFirst : TableSchema → ℕ → List ℕ → History → DiskState → DiskState → Type 0
@@ -264,6 +275,7 @@ pub record FlushesNoFurther (t : TableSchema) (f : Fault) (s u : State) (d e : D
   pub beside : IsBeside s u d e
   pub lasts : (h : History) (found : List Mutation) (told : Told) → h.tables ≡ s.tables → LastsFor h found s d told → GoesOn h found s u d e
   pub moves : (c : Image) → d.reads c → Moved (IsNoFurther t f) s u
+  pub own : IsOwn f
 
 -- ---- faults
 
