@@ -77,7 +77,7 @@ module _ (place number : ℕ) (tables : List TableSchema) (shards : List ShardSt
   one_added : EachFits (λ before i. FitsInfo i × (may_come said before i.number ≡ true)) [] c.added
   one_added =
       subst (λ is. EachFits (λ before i. FitsInfo i × (may_come said before i.number ≡ true)) [] is) (sym adds.is.added) (
-        (adds.fits, ap (λ (k : ℕ). may_come said [] k) adds.number ∙ may_come_new said number new),
+        (adds.fits, ap (λ (k : ℕ). may_come said [] k) adds.numbered ∙ may_come_new said number new),
         tt,
       )
 
@@ -173,7 +173,7 @@ module _ (place number : ℕ) (tables : List TableSchema) (shards : List ShardSt
   behind_listed now new low more = record {
     frontiers = frontiers_after;
     numbers =
-        subst (λ (ks : List ℕ). AllByRecursion (λ k. k ≤ last) (said.numbers ++ ks)) (sym (ap (λ (is : List TableInfo). map (λ i. i.number) is) adds.is.added ∙ ap (λ (k : ℕ). k ∷ []) adds.number))
+        subst (λ (ks : List ℕ). AllByRecursion (λ k. k ≤ last) (said.numbers ++ ks)) (sym (ap (λ (is : List TableInfo). map (λ i. i.number) is) adds.is.added ∙ ap (λ (k : ℕ). k ∷ []) adds.numbered))
         (all_more (λ k. k ≤ last) said.numbers number is.numbers low);
     listed =
         let one = ap (λ (is : List TableInfo). length is) adds.is.added in
@@ -204,8 +204,8 @@ module _ {T : Type 0} (s t : State) (d e : Disk) (place number : ℕ) (c : Chang
   left : (i : Image) → h.tables ≡ s.tables → StandsAmid told (change_entry c) found (accepted_in s.list) s.committed i → IsLeftAmid found s.list h i
   left i tables (inl image) = listed image.may
     where
-      with : (more : List ManifestEntry) → image.entries ≡ told.entries ++ more → length more ≤ 1 → IsLeftAmid found s.list h i
-      with more are few = record {
+      listed_with : (more : List ManifestEntry) → image.entries ≡ told.entries ++ more → length more ≤ 1 → IsLeftAmid found s.list h i
+      listed_with more are few = record {
         entries = image.entries;
         told = told.entries;
         more = more;
@@ -219,12 +219,12 @@ module _ {T : Type 0} (s t : State) (d e : Disk) (place number : ℕ) (c : Chang
       }
 
       listed : MayList told image.entries → IsLeftAmid found s.list h i
-      listed (inl same) = with [] (same ∙ sym (append-nil told.entries)) (omega arith)
-      listed (inr more) = with told.failed more lasts.few
+      listed (inl same) = listed_with [] (same ∙ sym (append-nil told.entries)) (omega arith)
+      listed (inr more) = listed_with told.failed more lasts.few
   left i tables (inr image) = listed image.may
     where
-      with : (more : List ManifestEntry) → image.entries ≡ told.entries ++ more → length more ≤ 1 → IsLeftAmid found s.list h i
-      with more are few = record {
+      listed_with : (more : List ManifestEntry) → image.entries ≡ told.entries ++ more → length more ≤ 1 → IsLeftAmid found s.list h i
+      listed_with more are few = record {
         entries = image.entries;
         told = told.entries;
         more = more;
@@ -238,8 +238,8 @@ module _ {T : Type 0} (s t : State) (d e : Disk) (place number : ℕ) (c : Chang
       }
 
       listed : MayList (failed_at (change_entry c) told) image.entries → IsLeftAmid found s.list h i
-      listed (inl same) = with [] (same ∙ sym (append-nil told.entries)) (omega arith)
-      listed (inr more) = with (change_entry c ∷ []) more (omega arith)
+      listed (inl same) = listed_with [] (same ∙ sym (append-nil told.entries)) (omega arith)
+      listed (inr more) = listed_with (change_entry c ∷ []) more (omega arith)
 
   lists_amid : (r : Result T JournalFault) → Lists c r s t d e → h.tables ≡ s.tables → Leaves (IsLeftAmid found s.list h) d e
   lists_amid r lists tables =

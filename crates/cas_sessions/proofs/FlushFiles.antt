@@ -44,8 +44,8 @@ nothing_says : (ws : List Mutation) → ((key : List ℕ) → atoms_under key ws
 nothing_says ws none =
     let itself : SaySame [] [] = say_alike [] [] refl in
     record {
-      same = λ key. subst (λ (as : List Atom). Same [] as) (sym (none key)) (itself.same key);
-      no_more = λ key. subst (λ (as : List Atom). SaysNoMore [] as) (sym (none key)) (itself.no_more key);
+      same = λ key. subst (λ (atoms : List Atom). Same [] atoms) (sym (none key)) (itself.same key);
+      no_more = λ key. subst (λ (atoms : List Atom). SaysNoMore [] atoms) (sym (none key)) (itself.no_more key);
     }
 
 -- ---- a memtable without bytes, behind others that say nothing
@@ -109,7 +109,7 @@ all_but_last : {X : Type 0} (xs : List X) (x : X) → drop (length xs) (xs ++ x 
 all_but_last [] x = refl
 all_but_last (y ∷ xs) x = all_but_last xs x
 
-none_dropped : {X : Type 0} (n : ℕ) → drop n ([] : List X) ≡ []
+none_dropped : (n : ℕ) → drop n (memtables_at None) ≡ memtables_at None
 none_dropped zero = refl
 none_dropped (suc n) = refl
 

@@ -290,7 +290,7 @@ module _ {T : Type 0} (t : TableSchema) (n number count : ℕ) (s m : State) (d 
     ends : EndsIn t n (shard_at h n) (Ok (Some number)) (disk_of s) (disk_of u)
     ends = (
       Some c,
-      ap (λ (is : List TableInfo). map (λ i. i.number) is) adds.is.added ∙ ap (λ (k : ℕ). k ∷ []) adds.number,
+      ap (λ (is : List TableInfo). map (λ i. i.number) is) adds.is.added ∙ ap (λ (k : ℕ). k ∷ []) adds.numbered,
       flushed,
     )
 

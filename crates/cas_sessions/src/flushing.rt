@@ -28,7 +28,7 @@ ghost use Rattle.cas_sessions.specs.Inner.Flushing.{fault_of_folder, fault_of_fr
 use crate::answer::Fault;
 use crate::node::{Node, Session, Stored};
 use crate::writing::fault_for;
-use cas_changes::{Change, Entry, FIRST_DRAWN};
+use cas_changes::{Change, Entry};
 use cas_disk::{Draft, Folder, FolderFault, Sealed};
 use cas_effects::{Refusal, TOO_MANY};
 use cas_flushing::{view_of_flush, write_frozen};
@@ -46,6 +46,9 @@ use cas_view::View;
 use cql_parse::TableName;
 use std::alloc::{AllocError, Global};
 use std::sync::Arc;
+
+/// The last timestamp of a shard that drew none.
+const NONE_DRAWN: i64 = -2;
 
 // What a flush is answered where no file was begun.
 fn fault_of_fresh(fault: FreshFault) -> Fault
@@ -107,7 +110,7 @@ fn change_for<S: Sealed>(
         shard: place,
         moment: shard.moment(),
         frontier: shard.number(),
-        drawn: shard.drawn().max(FIRST_DRAWN),
+        drawn: shard.drawn().max(NONE_DRAWN),
         removed: List::from_vec(Vec::new(alloc)),
         added: List::from_vec(added),
     })

@@ -221,7 +221,7 @@ pub record AddsFile (tables : List TableSchema) (shards : List ShardState) (plac
   pub is : IsChangeFor c.table place told x c
   pub table : c.table < length tables
   pub fits : FitsInfo told
-  pub number : told.number ≡ number
+  pub numbered : told.number ≡ number
 
 -- all but the disk is as it was, its counts don't fall, and a folder that tells what it reads goes on telling it
 pub record IsBeside (s u : State) (d e : Disk) : Type 0 where
