@@ -64,9 +64,9 @@ module _ (old new : Disk) (loading : During Same old new) where
 
 -- ---- what is answered
 
-pub if_both : {A E : Type 0} (r : Result A E) (P Q R : A → Type 0) → IfOk r P → IfOk r Q → ((x : A) → P x → Q x → R x) → IfOk r R
-if_both (Ok x) P Q R p q then = then x p q
-if_both (Err e) P Q R p q then = tt
+pub if_all : {A E : Type 0} (r : Result A E) (P Q S R : A → Type 0) → IfOk r P → IfOk r Q → IfOk r S → ((x : A) → P x → Q x → S x → R x) → IfOk r R
+if_all (Ok x) P Q S R p q s then = then x p q s
+if_all (Err e) P Q S R p q s then = tt
 
 pub if_one : {A E : Type 0} (r : Result A E) (P R : A → Type 0) → IfOk r P → ((x : A) → P x → R x) → IfOk r R
 if_one (Ok x) P R p then = then x p

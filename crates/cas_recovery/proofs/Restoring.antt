@@ -1,5 +1,5 @@
 -- The shards of a store with the mutations of its log, one after another.
-use Rattle.std.proofs.Common.{◌≡◌, ◌≢◌, ◌⊎◌, inl, inr, ◌<◌, ◌+◌, ◌==◌, ℕ, zero, suc, Bool, List, [], ◌∷◌, ◌++◌, take, length, Some, sym, ap, ◌∙◌, subst}
+use Rattle.std.proofs.Common.{◌≡◌, ◌≢◌, ◌⊎◌, inl, inr, ◌<◌, ◌==◌, ℕ, zero, suc, Bool, List, [], ◌∷◌, ◌++◌, take, length, Some, sym, ap, ◌∙◌, subst}
 use Rattle.std.proofs.Math.Logic.{∥∥₁_map}
 use Rattle.std.specs.Prelude.{slice_get, slice_set, if◌then◌else◌}
 use Rattle.std.specs.List.{AllByRecursion}
@@ -42,7 +42,7 @@ pub memory_new : (tables : List TableSchema) (shards : List ShardState) (x : Sha
 memory_new tables shards x have none n table y is =
     elim (get_pushed shards x y n is) [
       | inl before ↦ have n table y before
-      | inr same ↦ subst (λ (z : ShardState). ∥ (ws : List Mutation) × ((more : List TableSchema) → HasInMemory (tables ++ more) table ws z) ∥₁) same
+      | inr same ↦ subst (λ (z : ShardState). ∥ ((ws : List Mutation) × ((more : List TableSchema) → HasInMemory (tables ++ more) table ws z)) ∥₁) same
           ∣ ([], λ more. none (tables ++ more) table) ∣₁
     ]
 
@@ -133,10 +133,10 @@ pub one_remembers : (tables : List TableSchema) (shards : List ShardState) (plac
     → HaveMemory tables (slice_set shards place new)
 one_remembers tables shards place old new grows have there step n table x is = at (same_place n place)
   where
-    at : (n ≡ place) ⊎ (n ≢ place) → ∥ (ws : List Mutation) × ((more : List TableSchema) → HasInMemory (tables ++ more) table ws x) ∥₁
+    at : (n ≡ place) ⊎ (n ≢ place) → ∥ ((ws : List Mutation) × ((more : List TableSchema) → HasInMemory (tables ++ more) table ws x)) ∥₁
     at (inl here) =
         let same : new ≡ x = (let set = get_here shards place old new there in let its = ap (slice_get (slice_set shards place new)) here in cc) in
-        subst (λ (y : ShardState). ∥ (ws : List Mutation) × ((more : List TableSchema) → HasInMemory (tables ++ more) table ws y) ∥₁) same
+        subst (λ (y : ShardState). ∥ ((ws : List Mutation) × ((more : List TableSchema) → HasInMemory (tables ++ more) table ws y)) ∥₁) same
         (∥∥₁_map (have place table old there) (λ k. (grows table k.0, λ more. step more table k.0 (k.1 more))))
     at (inr other) = have n table x (sym (get_other shards place n new other) ∙ is)
 

@@ -171,10 +171,12 @@ module _ (entries : List Entry) (mutations handed : List Mutation) (o : OpenStor
   -- no table's frontier is above the greatest
   is_below : (n count table : ℕ) → table < count → (part_of s table n).frontier ≤ greatest_frontier s n count
   is_below n zero table low = absurd (omega (arith, low))
-  is_below n (suc count) table low = elim (same_place table count) [
-    | inl here ↦ let is = ap (λ (k : ℕ). (part_of s k n).frontier) here in omega (arith, is)
-    | inr other ↦ let before = is_below n count table (omega (arith, low, other)) in omega (arith, before)
-  ]
+  is_below n (suc count) table low =
+      let further : greatest_frontier s n (suc count) ≡ max (greatest_frontier s n count) (part_of s count n).frontier = refl in
+      elim (same_place table count) [
+        | inl here ↦ let is = ap (λ (k : ℕ). (part_of s k n).frontier) here in omega (arith, is, further)
+        | inr other ↦ let before = is_below n count table (omega (arith, low, other)) in omega (arith, before, further)
+      ]
 
   -- nor above a shard's number
   frontiers_below : (mid : Disk) (n : ℕ) (was x : ShardState) → IsFilled s mid n was x → (table : ℕ) → (part_of s table n).frontier ≤ x.number

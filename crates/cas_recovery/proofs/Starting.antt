@@ -1,5 +1,5 @@
 -- What the journal was told of a store that was opened.
-use Rattle.std.proofs.Common.{ℕ, List, refl, ap, arith}
+use Rattle.std.proofs.Common.{List, refl, ap, arith}
 use Rattle.cas_disk.specs.Disk.{Disk}
 use Rattle.cas_atoms.specs.declared.atom.Mutation.{Mutation}
 use Rattle.cas_changes.specs.Saying.{Saying}

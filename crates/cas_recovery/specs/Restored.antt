@@ -33,7 +33,7 @@ AreListed entries tables shards = (n : ℕ) (x : ShardState) → slice_get shard
 -- In memory each shard has just some mutations of each table, each of which the table may hold; and so it is with whatever tables come behind these.
 abbrev pub HaveMemory : List TableSchema → List ShardState → Type 0
 HaveMemory tables shards = (n table : ℕ) (x : ShardState) → slice_get shards n ≡ Some x
-    → ∥ (ws : List Mutation) × ((more : List TableSchema) → HasInMemory (tables ++ more) table ws x) ∥₁
+    → ∥ ((ws : List Mutation) × ((more : List TableSchema) → HasInMemory (tables ++ more) table ws x)) ∥₁
 
 -- the greatest of these numbers, 0 where there is none
 abbrev pub greatest_of : List ℕ → ℕ

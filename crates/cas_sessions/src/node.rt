@@ -120,7 +120,7 @@ pub struct Node<F: Folder, J: Store> {
         room.journal.size } by { Prim.hlevel sound_props },
     ghost readable: { MayBeRead tables.items shards.items } by { Prim.hlevel read_props },
     ghost unmade: { HaveNoMore tables.items shards.items },
-    ghost kept: { HaveMemory tables.items shards.items } by { Prim.hlevel read_props },
+    ghost kept: { HaveMemory tables.items shards.items },
     ghost seated: { AreSeated limits (map (λ c. c.shard) changes.items) (map (λ c. c.shard) copies.items) } by { Prim.hlevel sound_props },
     ghost unlisted: { (k : ℕ) → room.numbers.last < k → at book.refs k ≡ None },
 }

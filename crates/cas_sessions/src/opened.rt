@@ -45,7 +45,7 @@ pub struct Opened<F: Folder> {
         × IsShardCount started.limits.shards } by { Prim.hlevel sound_props },
     ghost readable: { MayBeRead started.tables.items started.shards.items } by { Prim.hlevel read_props },
     ghost unmade: { HaveNoMore started.tables.items started.shards.items },
-    ghost kept: { HaveMemory started.tables.items started.shards.items } by { Prim.hlevel read_props },
+    ghost kept: { HaveMemory started.tables.items started.shards.items },
 }
 
 // A folder whose store wasn't opened, with the count of the faults of what was read in table files.

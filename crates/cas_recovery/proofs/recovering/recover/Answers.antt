@@ -6,7 +6,7 @@ use Rattle.cas_journal.specs.declared.journal.Journal.{Journal}
 use Rattle.cas_recovery.specs.Inner.Filling.{IsBadOfShard}
 use Rattle.cas_recovery.specs.declared.fault.RecoveryFault.TheVariants as fault
 use Rattle.define_laws.proofs.Told.{told_tables_are_tables}
-use Rattle.cas_recovery.proofs.Afterwards.{if_both, if_one, made_then, of_err, opened_then, same_then, stays_free}
+use Rattle.cas_recovery.proofs.Afterwards.{if_all, if_one, made_then, of_err, opened_then, same_then, stays_free}
 use Rattle.cas_recovery.proofs.Refusing.{bad_table}
 use Rattle.cas_recovery.proofs.Returning.{may_be_read, read_within, recovered, tables_said}
 use Rattle.cas_recovery.proofs.Starting.{opened_lasts}
@@ -22,15 +22,14 @@ returns-clause-recovered g c =
     let (entries, ms, handed, has, reads, tells) = c.in-Ok-open_to.ensures.read [] c.in-Ok.ensures in
     let old = g.F.Folder.disk c.args.folder.now in
     let mid = g.F.Folder.disk c.open_to.new.folder in
-    if_both c.brought_back.result _ _ _ (c.brought_back.ensures.back handed has)
-    (if_both c.brought_back.result _ _ _ c.brought_back.ensures.journal c.brought_back.ensures.files (λ s same files. (same, files.0, files.1)))
-    (λ s back same.
+    if_all c.brought_back.result _ _ _ _ (c.brought_back.ensures.back handed has) c.brought_back.ensures.journal c.brought_back.ensures.files
+    (λ s back same files.
     recovered entries ms handed c.in-Ok-open_to.opened reads c.args.limits.now s.limits s.tables.items s.shards.items s.last_file s.live s.journal old mid (g.F.Folder.disk c.brought_back.new.folder) back tells
-    (λ d read bytes store. c.open_to.ensures.stays d read bytes entries ms store) same.0
+    (λ d read bytes store. c.open_to.ensures.stays d read bytes entries ms store) same
     (λ d read bytes.
     let (given, took, ends) = c.in-Ok-open_to.ensures.opens [] c.in-Ok.ensures d read bytes entries ms (tells d read bytes) in
     opened_lasts entries ms given c.in-Ok-open_to.opened mid ends)
-    c.brought_back.ensures.during same.1 same.2)
+    c.brought_back.ensures.during files.0 files.1)
 
 pub returns-clause-readable : goal.returns-clause-readable
 returns-clause-readable g c =
