@@ -39,7 +39,7 @@ use Rattle.cas_sessions.specs.declared.answer.Fault.{Fault}
 use Rattle.cas_sessions.specs.declared.answer.Fault.TheVariants.{Refused, Stopped, Disk as Failed, Read, BadBlock, Mem}
 use Rattle.cas_sessions.specs.Flushes.{Remember}
 use Rattle.cas_sessions.specs.Nodes.{State}
-use Rattle.cas_sessions.specs.Inner.Flushing.{HasOneMore, IsMade, IsOwn, Makes, NewFile, Quiet, SaysSo, WhyNoneMore, WhyNotMade, fault_of_folder, fault_of_fresh, fault_of_load, fault_of_write}
+use Rattle.cas_sessions.specs.Inner.Flushing.{HasOneMore, IsMade, IsOwn, NewFile, Quiet, SaysSo, WhyNoneMore, WhyNotMade, fault_of_folder, fault_of_fresh, fault_of_load, fault_of_write}
 use Rattle.cas_sessions.proofs.FlushShard.{not_made_since, quiet_still}
 
 -- ---- faults

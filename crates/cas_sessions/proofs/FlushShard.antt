@@ -37,10 +37,10 @@ use Rattle.cas_sessions.specs.Flushes.{AreInFiles, Grows, ListsOne, Remember, Wh
 use Rattle.cas_sessions.specs.History.{History, DiskState, shard_at}
 use Rattle.cas_sessions.specs.Nodes.{State, StandsFor, LastsFor, disk_of, files_in, files_of}
 use Rattle.cas_sessions.specs.Inner.Faults.{fault_for}
-use Rattle.cas_sessions.specs.Inner.Flushing.{AddsFile, EndsIn, FlushedOne, FlushesOne, GoesOn, IsBeside, IsOwn, Lists, Moved, NewFile, NotFlushed, Quiet, SaysSo, TakesFile, WhyNotMade, listed_of}
+use Rattle.cas_sessions.specs.Inner.Flushing.{AddsFile, EndsIn, FlushedOne, FlushesOne, GoesOn, GoesOnAs, IsBeside, IsOwn, Lists, Moved, NewFile, NotFlushed, Quiet, SaysSo, TakesFile, WhyNotMade, listed_of}
 use Rattle.cas_sessions.proofs.FlushChange.{below_next, lists_done, lists_failed}
 use Rattle.cas_sessions.proofs.FlushFiles.{SayNothing, in_files, memory_says_nothing, rest_says_nothing}
-use Rattle.cas_sessions.proofs.FlushSteps.{amid_then, beside_then, files_again, lasts_again, quiet_amid, quiet_beside, quiet_goes, quiet_lasts, quiet_remembers, quiet_stands, same_numbers, same_shards, stands_again, with_disk}
+use Rattle.cas_sessions.proofs.FlushSteps.{amid_then, beside_then, files_again, lasts_again, one_goes_on, quiet_amid, quiet_beside, quiet_goes, quiet_lasts, quiet_remembers, quiet_stands, same_numbers, same_shards, stands_again, with_disk}
 
 -- ---- nothing is done
 
@@ -64,6 +64,30 @@ quiet_still s d = record {
   crash = λ found told keeps. no_call (λ _ c. HoldsTold told c) d;
   tells = λ c reads. (c, reads);
 }
+
+-- one shard goes on as what it was
+pub quiet_one : (s : State) (d : Disk) (n : ℕ) (x y : ShardState) → slice_get s.shards n ≡ Some x → GoesOnAs x y → Quiet s (record s { shards = slice_set s.shards n y }) d d
+quiet_one s d n x y there goes =
+    let still = quiet_still s d in
+    record {
+      limits = refl;
+      tables = refl;
+      clock = refl;
+      list = refl;
+      session = refl;
+      calls = refl;
+      accepted = refl;
+      committed = refl;
+      journal = refl;
+      live = refl;
+      shards = one_goes_on s.shards n x y there goes;
+      last = still.last;
+      faults = still.faults;
+      reads = still.reads;
+      keeps = still.keeps;
+      crash = still.crash;
+      tells = still.tells;
+    }
 
 -- ---- a table in a shard
 

@@ -19,3 +19,4 @@ mod FlushChange
 mod FlushShard
 mod FlushAll
 mod FlushMaking
+mod FlushSound

@@ -1,12 +1,11 @@
 //! A flush: what the shards have of a table in memory comes into table files, which the manifest then lists.
 
-ghost use Rattle.std.specs.Prelude.{◌≡◌, ◌≤◌, ◌<◌, ◌∷◌, ◌++◌, ℕ, ℤ, List as ListOf, [], true, None, Some, Ok as OkOf, Err, pos, length, map, slice_get, IfOk, IfErr, IfSome, OnOk, OnErr};
+ghost use Rattle.std.specs.Prelude.{◌≡◌, ◌≤◌, ◌<◌, ◌∷◌, ◌++◌, ℕ, ℤ, List as ListOf, [], true, None, Some, Ok as OkOf, Err, pos, length, map, slice_get, IfOk, IfErr, IfSome, IfNone, OnOk, OnErr, vec_capacity, vec_len};
 ghost use Rattle.std.specs.Option.{option_copied};
 ghost use Rattle.std.specs.Arc.{arc_value};
 ghost use Rattle.cas_disk.specs.Disk.{Image};
 ghost use Rattle.cas_changes.specs.declared.entry.Change.{Change as Wrote};
 ghost use Rattle.cas_changes.specs.declared.entry.Entry.TheVariants as entry_of;
-ghost use Rattle.cas_flush.specs.Flushed.{SayWhatIsHeld, any};
 ghost use Rattle.cas_history.specs.Items.{listed};
 ghost use Rattle.cas_history.specs.Last.{holds};
 ghost use Rattle.cas_info.specs.Allowed.{FitsInfo};
@@ -22,7 +21,7 @@ ghost use Rattle.cas_sessions.specs.Calls.{IsTrueOf};
 ghost use Rattle.cas_sessions.specs.Flushes.{Flushes, Remember};
 ghost use Rattle.cas_sessions.specs.Nodes.{CountsOn, KeepsAll, Moves};
 ghost use Rattle.cas_sessions.specs.Inner.Flushing.{AddsFile, FlushesFirst, FlushesNoFurther, FlushesOne, HasOneMore, IsChangeFor, IsOwn, Lists};
-ghost use Rattle.cas_sessions.specs.Inner.Flushing.{Makes, NewFile, Quiet, SaysSo, TakesFile, WhyNoneMore, WhyNotMade, listed_of};
+ghost use Rattle.cas_sessions.specs.Inner.Flushing.{HoldsNothing, IsMade, NewFile, Quiet, SaysSo, TakesFile, WhyNoneMore, WhyNotMade, listed_of};
 ghost use Rattle.cas_sessions.specs.Inner.Flushing.{fault_of_folder, fault_of_fresh, fault_of_load, fault_of_write};
 
 use crate::answer::Fault;
@@ -239,8 +238,11 @@ impl<F: Folder, J: Store> Node<F, J> {
         ensures quiet { (session calls : ℕ) (clock : ℤ) → Quiet (⟦<Node<F, J> as Stored>⟧.state self.old session calls clock)
             (⟦<Node<F, J> as Stored>⟧.state self.new session calls clock)
             (⟦<Node<F, J> as Stored>⟧.disk self.old) (⟦<Node<F, J> as Stored>⟧.disk self.new) }
-        ensures made { IfOk result (λ o. (t : _) (x : ShardState) → slice_get self.old.tables.items table ≡ Some t → slice_get self.old.shards.items place ≡ Some x
-            → Makes t (slice_get x.stores table) ((c : Image) × (⟦<Node<F, J> as Stored>⟧.disk self.old).reads c) self.old.room.numbers.last o) }
+        ensures made { IfOk result (λ o. IfSome o (λ m. (t : _) (x : ShardState) → slice_get self.old.tables.items table ≡ Some t
+            → slice_get self.old.shards.items place ≡ Some x → IsMade t (slice_get x.stores table)
+            ((c : Image) × (⟦<Node<F, J> as Stored>⟧.disk self.old).reads c) self.old.room.numbers.last m.0 (arc_value m.1))) }
+        ensures nothing { IfOk result (λ o. IfNone o ((t : _) (x : ShardState) → slice_get self.old.tables.items table ≡ Some t
+            → slice_get self.old.shards.items place ≡ Some x → HoldsNothing t (slice_get x.stores table))) }
         ensures stands { IfOk result (λ o. IfSome o (λ m. Stand (m.0.number ∷ []) (⟦<Node<F, J> as Stored>⟧.disk self.new))) }
         ensures held { IfOk result (λ o. IfSome o (λ m. (holds m.0.number (listed self.new.files.list self.new.files.pass.saw) ≡ true)
             × (is_live (at self.new.book.refs m.0.number) ≡ true) × (self.new.live < LIVE_LIMIT) × (m.0.number ≤ self.new.room.numbers.last))) }

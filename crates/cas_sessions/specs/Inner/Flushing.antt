@@ -150,10 +150,9 @@ pub record IsMade (t : TableSchema) (o : Option StoredTable) (Tells : Type 0) (l
   pub above : last < told.number
   pub says : Tells → (ws : List Mutation) → HoldJust t.columns (memtables_at o) ws → SaysSo t o new.file
 
--- what comes of writing them: a file; or none, where they hold nothing
-abbrev pub Makes : TableSchema → Option StoredTable → Type 0 → ℕ → Option (TableInfo × List (File Held)) → Type 0
-Makes t o Tells last None = (ws : List Mutation) → HoldJust t.columns (memtables_at o) ws → SayWhatIsHeld t.columns (frozen_at o) any []
-Makes t o Tells last (Some m) = IsMade t o Tells last m.0 m.1
+-- they hold nothing: a file without partitions would say what they do
+abbrev pub HoldsNothing : TableSchema → Option StoredTable → Type 0
+HoldsNothing t o = (ws : List Mutation) → HoldJust t.columns (memtables_at o) ws → SayWhatIsHeld t.columns (frozen_at o) any []
 
 -- a fault of this flush: not an earlier one that stopped the store, nor of a mutation
 abbrev pub IsOwn : Fault → Type 0
