@@ -103,16 +103,18 @@ first_more t k told o s u v d e f first one = record {
       let (later, more) = one.lasts h found now.0 (tables ∙ sym first.beside.tables) now.1 in
       (later, amid_then h found s u d e f first.beside.list amid more);
   moves = λ c reads have h stands.
-      let (now, kept, changes, count, numbers, flushed) = first.moves c reads have h stands in
+      let (now, kept, so) = first.moves c reads have h stands in
+      let changes : List (Option Change) = so.0 in
       let (b, read) = first.beside.tells c reads in
-      let (later, still, change, number, more) = one.moves b read kept (with_disk h u) now in (
+      let (later, still, ends) = one.moves b read kept (with_disk h u) now in
+      let change : Option Change = ends.0 in (
         later,
         still,
         (
           changes ++ change ∷ [],
-          length-append changes (change ∷ []) ∙ ap (λ (n : ℕ). n + 1) count,
-          (λ i. numbers i ++ number (~ i)) ∙ flat_map_more numbers_in [] changes change,
-          flushed_more h t changes change k (disk_of u) (disk_of v) count flushed more one.beside.faults one.beside.reads,
+          length-append changes (change ∷ []) ∙ ap (λ (n : ℕ). n + 1) so.1,
+          (λ i. so.2 i ++ sym ends.1 i) ∙ flat_map_more numbers_in [] changes change,
+          flushed_more h t changes change k (disk_of u) (disk_of v) so.1 so.3 ends.2 one.beside.faults one.beside.reads,
         ),
       );
 }
@@ -175,15 +177,15 @@ no_further t k told x s u v d e f first one few = record {
       let (later, more) = one.lasts h found now.0 (tables ∙ sym first.beside.tables) now.1 in
       (later, amid_then h found s u d e f first.beside.list amid more);
   moves = λ c reads have h stands.
-      let (now, kept, changes, count, numbers, flushed) = first.moves c reads have h stands in
+      let (now, kept, so) = first.moves c reads have h stands in
       let (b, read) = first.beside.tells c reads in
       let (later, still, none) = one.moves b read kept (with_disk h u) now in (
         later,
         still,
         (
-          changes,
-          omega (arith, count, few, stands.count),
-          still_flushed h t changes (disk_of u) (disk_of v) flushed none.files none.reach one.beside.faults one.beside.reads,
+          so.0,
+          omega (arith, so.1, few, stands.count),
+          still_flushed h t so.0 (disk_of u) (disk_of v) so.3 none.files none.reach one.beside.faults one.beside.reads,
           why_since (disk_of s) (disk_of u) (disk_of v) x first.beside.faults first.beside.reads none.why,
         ),
       );
@@ -197,8 +199,8 @@ none_of_memory t k told s u d e first few going = record {
   beside = first.beside;
   lasts = first.lasts;
   moves = λ c reads have h stands.
-      let (now, kept, changes, count, numbers, flushed) = first.moves c reads have h stands in
-      (now, kept, (changes, omega (arith, count, few, stands.count), flushed, ap is_some going));
+      let (now, kept, so) = first.moves c reads have h stands in
+      (now, kept, (so.0, omega (arith, so.1, few, stands.count), so.3, ap is_some going));
   own = tt;
 }
 
@@ -227,14 +229,14 @@ named h tables name o r after same is flushes =
 pub flushes_all : (name : TableName) (t : TableSchema) (told : List ℕ) (s u : State) (d e : Disk) → table_named s.tables name ≡ Some t → s.journal.first ≡ None → u.journal.first ≡ None
     → FlushesFirst t (length s.shards) told s u d e → (c : Image) → d.reads c → Remember s.tables s.shards → Moves (λ h after. Flushes h name (Ok told) after) s u d e
 flushes_all name t told s u d e is going on first c reads have h stands =
-    let (now, kept, changes, count, numbers, flushed) = first.moves c reads have h stands in (
+    let (now, kept, so) = first.moves c reads have h stands in (
       with_disk h u,
       named h s.tables name (Some t) (Ok told) (with_disk h u) stands.tables is (
-        changes,
+        so.0,
         disk_of u,
         ap (λ (x : DiskState). x.stopped) stands.disk ∙ ap is_some going,
-        flushed,
-        (count ∙ sym stands.count, numbers, ap is_some on),
+        so.3,
+        (so.1 ∙ sym stands.count, so.2, ap is_some on),
         refl,
       ),
       record {
@@ -258,11 +260,11 @@ fails_by h t Mem changes e going flushed few is = (changes, e, going, flushed, (
 pub flushes_some : (name : TableName) (t : TableSchema) (f : Fault) (s u : State) (d e : Disk) → table_named s.tables name ≡ Some t → s.journal.first ≡ None
     → FlushesNoFurther t f s u d e → (c : Image) → d.reads c → Remember s.tables s.shards → Moves (λ h after. Flushes h name (Err f) after) s u d e
 flushes_some name t f s u d e is going none c reads have h stands =
-    let (now, kept, changes, few, flushed, why) = none.moves c reads have h stands in (
+    let (now, kept, so) = none.moves c reads have h stands in (
       with_disk h u,
       named h s.tables name (Some t) (Err f) (with_disk h u) stands.tables is
-          (fails_by h t f changes (disk_of u) (ap (λ (x : DiskState). x.stopped) stands.disk ∙ ap is_some going) flushed few
-          (subst (λ (x : DiskState). WhyNoFurther x (disk_of u) f) (sym stands.disk) why)),
+          (fails_by h t f so.0 (disk_of u) (ap (λ (x : DiskState). x.stopped) stands.disk ∙ ap is_some going) so.2 so.1
+          (subst (λ (x : DiskState). WhyNoFurther x (disk_of u) f) (sym stands.disk) so.3)),
       record {
         stands = now;
         lasts = λ found was lasts.

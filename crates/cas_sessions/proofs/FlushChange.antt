@@ -38,7 +38,6 @@ use Rattle.cas_sessions.specs.History.{History}
 use Rattle.cas_sessions.specs.Entered.{IsLeftAmid}
 use Rattle.cas_sessions.specs.Nodes.{State, LastsFor}
 use Rattle.cas_sessions.specs.Inner.Flushing.{AddsFile, GoesOn, IsChangeFor, Lists}
-use Rattle.cas_sessions.proofs.FlushSteps.{all_below, lasts_again}
 use Rattle.cas_sessions.proofs.Tables.{goes_before, said_still}
 
 -- ---- numbers
@@ -194,7 +193,7 @@ may_follow h found s d told place number c count adds lasts new =
     fits_entry place number s.tables s.shards c adds (said_by told.entries) lasts.tables (no_shard_more h found s d told count lasts place adds.x adds.there)
     (lasts.behind.frontiers place c.table adds.x adds.there) new
 
-module _ {T : Type 0} (s t : State) (d e : Disk) (place number : ℕ) (c : Change) (count : length s.shards ≡ s.limits.shards) (adds : AddsFile s.tables s.shards place number c)
+module _ (s t : State) (d e : Disk) (place number : ℕ) (c : Change) (count : length s.shards ≡ s.limits.shards) (adds : AddsFile s.tables s.shards place number c)
     (low : number ≤ s.last_file) (h : History) (found : List Mutation) (told : Told) (lasts : LastsFor h found s d told)
     (new : AllByRecursion (λ k. k < number) (said_by told.entries).numbers) where
   fits : FitsEntry (said_by told.entries) (change_entry c)
@@ -241,13 +240,13 @@ module _ {T : Type 0} (s t : State) (d e : Disk) (place number : ℕ) (c : Chang
       listed (inl same) = listed_with [] (same ∙ sym (append-nil told.entries)) (omega arith)
       listed (inr more) = listed_with (change_entry c ∷ []) more (omega arith)
 
-  lists_amid : (r : Result T JournalFault) → Lists c r s t d e → h.tables ≡ s.tables → Leaves (IsLeftAmid found s.list h) d e
+  lists_amid : {T : Type 0} (r : Result T JournalFault) → Lists c r s t d e → h.tables ≡ s.tables → Leaves (IsLeftAmid found s.list h) d e
   lists_amid r lists tables =
       reworded (λ _ i. StandsAmid told (change_entry c) found (accepted_in s.list) s.committed i) (λ _ i. IsLeftAmid found s.list h i) d e (lists.front found told lasts.keeps fits)
       (λ b i was image. left i tables image)
 
   -- it has the change
-  pub lists_done : (x : T) → Lists c (Ok x) s t d e → h.tables ≡ s.tables → GoesOn h found s t d e
+  pub lists_done : {T : Type 0} (x : T) → Lists c (Ok x) s t d e → h.tables ≡ s.tables → GoesOn h found s t d e
   lists_done x lists tables = ((appended (change_entry c) (committed_all told), keeps_on), lists_amid (Ok x) lists tables)
     where
       said : said_by (told.entries ++ change_entry c ∷ []) ≡ change_after (said_by told.entries) c
@@ -278,12 +277,12 @@ module _ {T : Type 0} (s t : State) (d e : Disk) (place number : ℕ) (c : Chang
   -- it failed
   same_told : (f : JournalFault) (u : Told) → MayBeTold f (change_entry c) told u → (u.entries ≡ told.entries) × (u.taken ≡ told.taken) × (length u.failed ≤ 1)
   same_told f u (inl same) = (ap (λ (v : Told). v.entries) same, ap (λ (v : Told). v.taken) same, subst (λ (v : Told). length v.failed ≤ 1) (sym same) lasts.few)
-  same_told f u (inr after) =
+  same_told f u (inr since) =
       let still = said_still f (change_entry c) (committed_all told) lasts.few in
-      (ap (λ (v : Told). v.entries) after ∙ still.entries, ap (λ (v : Told). v.taken) after ∙ still.taken, subst (λ (v : Told). length v.failed ≤ 1) (sym after) still.few)
+      (ap (λ (v : Told). v.entries) since ∙ still.entries, ap (λ (v : Told). v.taken) since ∙ still.taken, subst (λ (v : Told). length v.failed ≤ 1) (sym since) still.few)
 
-  pub lists_failed : (f : JournalFault) → Lists c (Err f) s t d e → h.tables ≡ s.tables → GoesOn h found s t d e
-  lists_failed f lists tables =
+  pub lists_failed : (T : Type 0) (f : JournalFault) → Lists {T = T} c (Err f) s t d e → h.tables ≡ s.tables → GoesOn h found s t d e
+  lists_failed T f lists tables =
       let (u, may, keeps) = lists.keeps found told lasts.keeps fits in
       let (entries, taken, few) = same_told f u may in (
         (
@@ -302,7 +301,7 @@ module _ {T : Type 0} (s t : State) (d e : Disk) (place number : ℕ) (c : Chang
               omega (arith, lasts.acknowledged.1, ap (λ l. length (accepted_in l)) lists.list),
             );
             whole = λ on.
-                let all = lasts.whole (goes_before s.journal.first t.journal.first s.faults t.faults (Err f) lists.outcome on) in
+                let all = lasts.whole (goes_before {T = T} s.journal.first t.journal.first s.faults t.faults (Err f) lists.outcome on) in
                 omega (arith, all, lists.rises, ap (λ l. length (accepted_in l)) lists.list);
             behind =
                 subst (λ es. IsBehind (said_by es) t.shards t.last_file t.live) (sym entries)
@@ -311,5 +310,5 @@ module _ {T : Type 0} (s t : State) (d e : Disk) (place number : ℕ) (c : Chang
                 (subst (λ (k : ℕ). IsBehind (said_by told.entries) s.shards s.last_file k) (sym lists.live) lasts.behind)));
           },
         ),
-        lists_amid (Err f) lists tables,
+        lists_amid {T = T} (Err f) lists tables,
       )

@@ -139,7 +139,7 @@ module _ (t : TableSchema) (n : ℕ) (s u : State) (d e : Disk) (quiet : Quiet s
       )
 
   -- a fault came between
-  pub quiet_fails : (f : Fault) → WhyNotMade s u f → Moved (λ h. EndsIn t n (shard_at h n) (Err f)) s u
+  pub quiet_fails : (f : Fault) → WhyNotMade s.faults u.faults s.reads u.reads f → Moved (λ h. EndsIn t n (shard_at h n) (Err f)) s u
   quiet_fails f why have h stands = (
     quiet_stands s u d e quiet h stands,
     quiet_remembers s u d e quiet have,
@@ -149,7 +149,7 @@ module _ (t : TableSchema) (n : ℕ) (s u : State) (d e : Disk) (quiet : Quiet s
       off : is_some u.journal.first ≡ false
       off = ap is_some still_going
 
-      by : (f : Fault) → WhyNotMade s u f → WhyNoFurther (disk_of s) (disk_of u) f
+      by : (f : Fault) → WhyNotMade s.faults u.faults s.reads u.reads f → WhyNoFurther (disk_of s) (disk_of u) f
       by (Refused why) is = (is, off)
       by (Stopped first) is = absurd is
       by (Failed None) (inl rose) = inl rose
@@ -163,15 +163,15 @@ rose_since : (a b c : ℕ) → a ≤ b → Rose b c → Rose a c
 rose_since a b c le rose = omega (arith, le, rose)
 
 -- the same fault, since an earlier moment
-pub not_made_since : (s m u : State) (f : Fault) → s.faults ≤ m.faults → s.reads ≤ m.reads → WhyNotMade m u f → WhyNotMade s u f
-not_made_since s m u (Refused why) faults reads is = is
-not_made_since s m u (Stopped first) faults reads is = is
-not_made_since s m u (Failed None) faults reads (inl rose) = inl (rose_since s.faults m.faults u.faults faults rose)
-not_made_since s m u (Failed None) faults reads (inr rose) = inr (rose_since s.reads m.reads u.reads reads rose)
-not_made_since s m u (Failed (Some number)) faults reads is = is
-not_made_since s m u Read faults reads rose = rose_since s.reads m.reads u.reads reads rose
-not_made_since s m u (BadBlock number at) faults reads is = is
-not_made_since s m u Mem faults reads is = is
+pub not_made_since : (a b c p q r : ℕ) (f : Fault) → a ≤ b → p ≤ q → WhyNotMade b c q r f → WhyNotMade a c p r f
+not_made_since a b c p q r (Refused why) faults reads is = is
+not_made_since a b c p q r (Stopped first) faults reads is = is
+not_made_since a b c p q r (Failed None) faults reads (inl rose) = inl (rose_since a b c faults rose)
+not_made_since a b c p q r (Failed None) faults reads (inr rose) = inr (rose_since p q r reads rose)
+not_made_since a b c p q r (Failed (Some number)) faults reads is = is
+not_made_since a b c p q r Read faults reads rose = rose_since p q r reads rose
+not_made_since a b c p q r (BadBlock number at) faults reads is = is
+not_made_since a b c p q r Mem faults reads is = is
 
 -- ---- the file is listed, and takes the place of memtables
 
@@ -234,10 +234,10 @@ module _ {T : Type 0} (t : TableSchema) (n number count : ℕ) (s m : State) (d 
           (x, ap (λ (j : ℕ). slice_get m.shards j) here ∙ at_m, ap (λ (q : ShardState). q.number) (sym same) ∙ swapped.number)
       by (inr (other, at)) = (z, ap (λ (xs : List ShardState). slice_get xs k) lists.shards ∙ at, refl)
 
-  lasts : (h : History) (found : List Mutation) (was : Told) → h.tables ≡ s.tables → LastsFor h found s d was → AllByRecursion (λ k. k < number) (said_by was.entries).numbers
+  keeps_on : (h : History) (found : List Mutation) (was : Told) → h.tables ≡ s.tables → LastsFor h found s d was → AllByRecursion (λ k. k < number) (said_by was.entries).numbers
       → GoesOn h found s u d e
-  lasts h found was tables lasts below =
-      let (now, amid) = lists_done s m d e n number c many adds low h found was lasts below answer lists tables in (
+  keeps_on h found was tables so below =
+      let (now, amid) = lists_done s m d e n number c many adds low h found was so below answer lists tables in (
         (
           now.0,
           lasts_again h found m u e e now.0 now.1 now.1.keeps refl refl refl refl refl (λ on. on) numbers (omega arith) refl,
@@ -330,7 +330,7 @@ module _ {T : Type 0} (t : TableSchema) (n number count : ℕ) (s m : State) (d 
       reads = omega (arith, lists.reads);
       tells = lists.tells;
     };
-    lasts = lasts;
+    lasts = keeps_on;
     moves = λ says have h stands. (now_stands says h stands, remembers have, ends says h stands);
     own = tt;
   }
@@ -368,7 +368,7 @@ module _ (t : TableSchema) (n number : ℕ) (s m : State) (d e : Disk) (c : Chan
       reads = omega (arith, lists.reads);
       tells = lists.tells;
     };
-    lasts = λ h found was tables lasts below. lists_failed s m d e n number c many adds low h found was lasts below f lists tables;
+    lasts = λ h found was tables lasts below. lists_failed s m d e n number c many adds low h found was lasts below (Unit {0}) f lists tables;
     moves = λ says have h stands. (
       stands_again h s m stands lists.limits lists.tables lists.clock lists.list lists.session lists.calls (ap length lists.shards)
           (λ k z got. (z, ap (λ (xs : List ShardState). slice_get xs k) (sym lists.shards) ∙ got, λ q so. so)),
@@ -381,6 +381,12 @@ module _ (t : TableSchema) (n number : ℕ) (s m : State) (d e : Disk) (c : Chan
     );
     own = own_fault f s.journal.first going lists.outcome;
   }
+
+pub takes_none_as : (t : TableSchema) (n number : ℕ) (s m : State) (d e : Disk) (c : Change) (Says : Type 0) (f : JournalFault) (r : Fault) → length s.shards ≡ s.limits.shards
+    → s.journal.first ≡ None → AddsFile s.tables s.shards n number c → number ≤ s.last_file → Lists {T = Unit {0}} c (Err f) s m d e → r ≡ fault_for f
+    → TakesFile t n number Says (Err r) s m d e
+takes_none_as t n number s m d e c Says f r many going adds low lists is =
+    subst (λ (x : Fault). TakesFile t n number Says (Err x) s m d e) (sym is) (takes_none t n number s m d e c many going adds low Says f lists)
 
 -- memory ran out before
 pub takes_nothing : (t : TableSchema) (n number : ℕ) (Says : Type 0) (s : State) (d : Disk) → s.journal.first ≡ None → TakesFile t n number Says (Err Mem) s s d d

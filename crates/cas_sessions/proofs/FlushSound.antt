@@ -10,6 +10,9 @@ use Rattle.cas_bounds.specs.ClusteringOrder.{clustering_order}
 use Rattle.cas_bounds.specs.declared.cuts.Slice.{Slice}
 use Rattle.cas_atoms.specs.declared.atom.Mutation.{Mutation}
 use Rattle.cas_bind.specs.Tables.{AreInPlace}
+use Rattle.cas_bind.specs.declared.bound.Limits.{Limits}
+use Rattle.cas_changes.specs.declared.entry.Change.{Change}
+use Rattle.cas_changes.specs.declared.entry.Entry.TheVariants as entry
 use Rattle.cas_index.specs.Searches.{IsSliceOf}
 use Rattle.cas_info.specs.declared.info.TableInfo.{TableInfo}
 use Rattle.cas_shard.specs.Flushing.{HasInMemory}
@@ -18,8 +21,9 @@ use Rattle.cas_sstread.specs.Loading.{Held}
 use Rattle.cas_stored.specs.Reading.{AreReadIn, IsReadIn}
 use Rattle.cas_view.specs.Views.{File}
 use Rattle.cas_recovery.specs.Restored.{HaveMemory, HaveNoMore, MayBeRead}
-use Rattle.cas_recovery.proofs.Places.{get_here, get_other, same_place}
+use Rattle.cas_recovery.proofs.Places.{get_here, get_other, map_set_same, same_place}
 use Rattle.cas_sessions.specs.Inner.Flushing.{NewFile}
+use Rattle.cas_sessions.specs.Inner.Sound.{IsSound}
 use Rattle.cas_sessions.proofs.FlushShard.{Swapped}
 
 -- ---- a shard in another state
@@ -87,3 +91,31 @@ module _ (ts : List TableSchema) (xs : List ShardState) (n count : ℕ) (x y : S
   unmade_flushed low none k z got =
       one_so (λ j w. (i : ℕ) → length ts ≤ i → length (files_at (slice_get w.stores i)) ≡ 0) xs n x y none there
       (λ i high. ap length (other_files i (λ same. absurd (omega (arith, same, low, high)))) ∙ none n x there i high) k z got
+
+-- ---- seats
+
+-- a seat got an entry more, and has its shard and its number
+pub sound_listed : {X : Type 0} (place count : X → ℕ) (l : Limits) (ts : List TableSchema) (xs : List ShardState) (a b n : ℕ) (fs : List X) (f g : X)
+    → IsSound l ts xs (map place fs) (map count fs) a → slice_get fs n ≡ Some f → place g ≡ place f → count g ≡ count f → b ≡ a
+    → IsSound l ts xs (map place (slice_set fs n g)) (map count (slice_set fs n g)) b
+sound_listed place count l ts xs a b n fs f g sound at same_place same_number size = record {
+  tables = sound.tables;
+  count = sound.count;
+  some = sound.some;
+  size = (size ∙ sound.size.0, sound.size.1);
+  places = map_set_same place fs n f g at same_place ∙ sound.places;
+  numbers = map_set_same count fs n f g at same_number ∙ sound.numbers;
+}
+
+pub seated_again : {X : Type 0} (place : X → ℕ) (fs : List X) (n : ℕ) (f g : X) (ns : List ℕ) → slice_get fs n ≡ Some f → place g ≡ place f → map place fs ≡ ns
+    → map place (slice_set fs n g) ≡ ns
+seated_again place fs n f g ns at same are = map_set_same place fs n f g at same ∙ are
+
+-- what stands in a place that there is
+pub there_at : {X : Type 0} (xs : List X) (n : ℕ) → n < length xs → (x : X) × (slice_get xs n ≡ Some x)
+there_at [] n lt = absurd (omega (arith, lt))
+there_at (x ∷ xs) zero lt = (x, refl)
+there_at (x ∷ xs) (suc n) lt = there_at xs n (omega (arith, lt))
+
+pub same_change : (a b : Change) → entry.Change a ≡ entry.Change b → a ≡ b
+same_change a b is = cc

@@ -204,9 +204,9 @@ impl<F: Folder, J: Store> Node<F, J> {
             → HasOneMore t place info.now (F.Draft.written draft) ((c : Image) × (⟦<Node<F, J> as Stored>⟧.disk self.old).reads c)
             (files_at (slice_get x.stores table)) (arc_value v)) }
         ensures stands { OnOk result (Stand (info.now.number ∷ []) (⟦<Node<F, J> as Stored>⟧.disk self.new)) }
-        ensures why { (session calls : ℕ) (clock : ℤ) → IfErr result (λ f. (t : _) → slice_get self.old.tables.items table ≡ Some t
+        ensures why { IfErr result (λ f. (t : _) → slice_get self.old.tables.items table ≡ Some t
             → WhyNoneMore t place info.now (F.Draft.written draft) ((c : Image) × (⟦<Node<F, J> as Stored>⟧.disk self.old).reads c)
-            (⟦<Node<F, J> as Stored>⟧.state self.old session calls clock) (⟦<Node<F, J> as Stored>⟧.state self.new session calls clock) f) }
+            (F.faults_of self.old.room.folder) (F.faults_of self.new.room.folder) (F.Tally.number self.old.tally) (F.Tally.number self.new.tally) f) }
         ensures own { IfErr result IsOwn }
         ensures held { listed self.new.files.list self.new.files.pass.saw ≡ listed self.old.files.list self.old.files.pass.saw }
         ensures same { (self.new.shards ≡ self.old.shards) × (self.new.limits ≡ self.old.limits) × (self.new.tables ≡ self.old.tables)
@@ -246,9 +246,9 @@ impl<F: Folder, J: Store> Node<F, J> {
         ensures stands { IfOk result (λ o. IfSome o (λ m. Stand (m.0.number ∷ []) (⟦<Node<F, J> as Stored>⟧.disk self.new))) }
         ensures held { IfOk result (λ o. IfSome o (λ m. (holds m.0.number (listed self.new.files.list self.new.files.pass.saw) ≡ true)
             × (is_live (at self.new.book.refs m.0.number) ≡ true) × (self.new.live < LIVE_LIMIT) × (m.0.number ≤ self.new.room.numbers.last))) }
-        ensures why { (session calls : ℕ) (clock : ℤ) → IfErr result (λ f. (c : Image) → (⟦<Node<F, J> as Stored>⟧.disk self.old).reads c
+        ensures why { IfErr result (λ f. (c : Image) → (⟦<Node<F, J> as Stored>⟧.disk self.old).reads c
             → Remember self.old.tables.items self.old.shards.items
-            → WhyNotMade (⟦<Node<F, J> as Stored>⟧.state self.old session calls clock) (⟦<Node<F, J> as Stored>⟧.state self.new session calls clock) f) }
+            → WhyNotMade (F.faults_of self.old.room.folder) (F.faults_of self.new.room.folder) (F.Tally.number self.old.tally) (F.Tally.number self.new.tally) f) }
         ensures own { IfErr result IsOwn }
         ensures same { (self.new.shards ≡ self.old.shards) × (self.new.limits ≡ self.old.limits) × (self.new.tables ≡ self.old.tables) }
         ensures sessions { ⟦<Node<F, J> as Stored>⟧.sessions self.new ≡ ⟦<Node<F, J> as Stored>⟧.sessions self.old }

@@ -121,15 +121,15 @@ pub record HasOneMore (t : TableSchema) (shard : ℕ) (told : TableInfo) (Bytes 
   pub written : (b : List ℕ) → bytes ≡ Some b → Bytes b
   pub is_told : Tells → (b : List ℕ) × (bytes ≡ Some b)
 
--- why it isn't: the folder failed, a read did, memory ran out; or that place of it is bad
-abbrev pub WhyNoneMore : TableSchema → ℕ → TableInfo → (List ℕ → Type 0) → Type 0 → State → State → Fault → Type 0
-WhyNoneMore t shard told Bytes Tells s u (Refused why) = ⊥
-WhyNoneMore t shard told Bytes Tells s u (Stopped first) = ⊥
-WhyNoneMore t shard told Bytes Tells s u (Failed None) = Rose s.faults u.faults
-WhyNoneMore t shard told Bytes Tells s u (Failed (Some number)) = ⊥
-WhyNoneMore t shard told Bytes Tells s u Read = Rose s.reads u.reads
-WhyNoneMore t shard told Bytes Tells s u (BadBlock number at) = Tells → (b : List ℕ) × Bytes b × WhyUnopened t shard told (Some b) (load.BadBlock number at)
-WhyNoneMore t shard told Bytes Tells s u Mem = Unit {0}
+-- why it isn't, by the folder's count of faults before and now, and that of reads: the folder failed, a read did, memory ran out; or that place of it is bad
+abbrev pub WhyNoneMore : TableSchema → ℕ → TableInfo → (List ℕ → Type 0) → Type 0 → ℕ → ℕ → ℕ → ℕ → Fault → Type 0
+WhyNoneMore t shard told Bytes Tells faults now reads reads_now (Refused why) = ⊥
+WhyNoneMore t shard told Bytes Tells faults now reads reads_now (Stopped first) = ⊥
+WhyNoneMore t shard told Bytes Tells faults now reads reads_now (Failed None) = Rose faults now
+WhyNoneMore t shard told Bytes Tells faults now reads reads_now (Failed (Some number)) = ⊥
+WhyNoneMore t shard told Bytes Tells faults now reads reads_now Read = Rose reads reads_now
+WhyNoneMore t shard told Bytes Tells faults now reads reads_now (BadBlock number at) = Tells → (b : List ℕ) × Bytes b × WhyUnopened t shard told (Some b) (load.BadBlock number at)
+WhyNoneMore t shard told Bytes Tells faults now reads reads_now Mem = Unit {0}
 
 -- These files are those that a table has stored in a shard, and behind them a new one, of which that is told, open to be read in slices.
 pub record NewFile (t : TableSchema) (o : Option StoredTable) (told : TableInfo) (files : List (File Held)) : Type 0 where
@@ -164,15 +164,15 @@ IsOwn Read = Unit {0}
 IsOwn (BadBlock number at) = Unit {0}
 IsOwn Mem = Unit {0}
 
--- why there is neither
-abbrev pub WhyNotMade : State → State → Fault → Type 0
-WhyNotMade s u (Refused why) = why ≡ TOO_MANY
-WhyNotMade s u (Stopped first) = ⊥
-WhyNotMade s u (Failed None) = Rose s.faults u.faults ⊎ Rose s.reads u.reads
-WhyNotMade s u (Failed (Some number)) = ⊥
-WhyNotMade s u Read = Rose s.reads u.reads
-WhyNotMade s u (BadBlock number at) = ⊥
-WhyNotMade s u Mem = Unit {0}
+-- why there is neither, by the same counts
+abbrev pub WhyNotMade : ℕ → ℕ → ℕ → ℕ → Fault → Type 0
+WhyNotMade faults now reads reads_now (Refused why) = why ≡ TOO_MANY
+WhyNotMade faults now reads reads_now (Stopped first) = ⊥
+WhyNotMade faults now reads reads_now (Failed None) = Rose faults now ⊎ Rose reads reads_now
+WhyNotMade faults now reads reads_now (Failed (Some number)) = ⊥
+WhyNotMade faults now reads reads_now Read = Rose reads reads_now
+WhyNotMade faults now reads reads_now (BadBlock number at) = ⊥
+WhyNotMade faults now reads reads_now Mem = Unit {0}
 
 -- ---- a shard, and all of them
 
