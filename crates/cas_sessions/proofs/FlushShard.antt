@@ -138,6 +138,15 @@ module _ (t : TableSchema) (n : ℕ) (s u : State) (d e : Disk) (quiet : Quiet s
         ),
       )
 
+  -- the same, where the table is looked at by its place
+  pub quiet_none_at : (y : ShardState) (k : ℕ) → t.number ≡ k → slice_get s.tables k ≡ Some t → slice_get u.shards n ≡ Some y → bytes_at (slice_get y.stores k) ≡ 0
+      → (Remember u.tables u.shards → SayNothing (clustering_order t.columns) (frozen_at (slice_get y.stores k))) → Moved (λ h. EndsIn t n (shard_at h n) (Ok None)) s u
+  quiet_none_at y k same table there none says =
+      quiet_none y (subst (λ (j : ℕ). slice_get s.tables j ≡ Some t) (sym same) table) there
+      (λ have.
+      memory_says_nothing (clustering_order t.columns) (slice_get y.stores t.number) (subst (λ (j : ℕ). bytes_at (slice_get y.stores j) ≡ 0) (sym same) none)
+      (subst (λ (j : ℕ). SayNothing (clustering_order t.columns) (frozen_at (slice_get y.stores j))) (sym same) (says have)))
+
   -- a fault came between
   pub quiet_fails : (f : Fault) → WhyNotMade s.faults u.faults s.reads u.reads f → Moved (λ h. EndsIn t n (shard_at h n) (Err f)) s u
   quiet_fails f why have h stands = (
@@ -334,6 +343,19 @@ module _ {T : Type 0} (t : TableSchema) (n number count : ℕ) (s m : State) (d 
     moves = λ says have h stands. (now_stands says h stands, remembers have, ends says h stands);
     own = tt;
   }
+
+-- the same, where the table is looked at by its place
+pub takes_file_at : {T : Type 0} (t : TableSchema) (n number count k : ℕ) (s m : State) (d e : Disk) (c : Change) (x y : ShardState) (told : TableInfo) (files : List (File Held))
+    (answer : T) → t.number ≡ k → slice_get s.tables k ≡ Some t → length s.shards ≡ s.limits.shards → slice_get s.shards n ≡ Some x → s.journal.first ≡ None
+    → (adds : AddsFile s.tables s.shards n number c) → adds.x ≡ x → adds.told ≡ told → c.table ≡ k → number ≤ s.last_file → (new : NewFile t (slice_get x.stores k) told files)
+    → Lists c (Ok answer) s m d e → Swapped k count files x y → count ≡ length (frozen_at (slice_get x.stores k)) → bytes_at (slice_get x.stores k) ≡ 0
+    → TakesFile t n number (SaysSo t (slice_get x.stores k) new.file) (Ok (Some number)) s (record m { shards = slice_set m.shards n y }) d e
+takes_file_at t n number count k s m d e c x y told files answer same table many there going adds is_x is_told of_table low new lists swapped all none =
+    subst (λ (j : ℕ). slice_get s.tables j ≡ Some t → c.table ≡ j → (new : NewFile t (slice_get x.stores j) told files) → Swapped j count files x y
+    → count ≡ length (frozen_at (slice_get x.stores j)) → bytes_at (slice_get x.stores j) ≡ 0
+    → TakesFile t n number (SaysSo t (slice_get x.stores j) new.file) (Ok (Some number)) s (record m { shards = slice_set m.shards n y }) d e) same
+    (λ table of_table new swapped all none.
+    takes_file t n number count s m d e c x y told files table many there going adds is_x is_told of_table low new answer lists swapped all none) table of_table new swapped all none
 
 -- ---- it isn't listed
 
