@@ -1,7 +1,8 @@
 -- A flush of a table in all shards, one after another.
-use Rattle.std.proofs.Common.{◌≡◌, ◌≢◌, ◌⊎◌, inl, inr, ◌<◌, ◌≤◌, ◌+◌, ℕ, zero, suc, false, List, [], ◌∷◌, ◌++◌, length, Option, None, Some, Result, Ok, Err, is_some, refl, sym, ap, ◌∙◌, subst, arith, append-nil, length-append}
+use Rattle.std.proofs.Common.{◌≡◌, ◌≢◌, ◌⊎◌, inl, inr, ◌<◌, ◌≤◌, ◌+◌, ℕ, zero, suc, Bool, true, false, cond, List, [], ◌∷◌, ◌++◌, length, Option, None, Some, Result, Ok, Err, is_some, refl, sym, ap, ◌∙◌, subst, arith, append-nil, length-append}
 use Rattle.std.specs.Prelude.{slice_get, slice_index_or}
-use Rattle.std.specs.List.{flat_map, fold}
+use Rattle.std.specs.List.{find, flat_map, fold}
+use Rattle.std.specs.Str.{bytes_eq}
 use Rattle.std.proofs.lemmas.List.{flat_map_more}
 use Rattle.std.proofs.lemmas.List.Sums.{fold_push}
 use Rattle.cas_types.specs.declared.schema.TableSchema.{TableSchema}
@@ -15,7 +16,8 @@ use Rattle.cas_journal.specs.Stores.{Told}
 use Rattle.cas_shard.specs.Shards.{all_entries, number_of}
 use Rattle.cas_shard.specs.Stands.{mutations_of}
 use Rattle.cas_sstread.specs.Loading.{Held}
-use Rattle.cas_terms.specs.Columns.{table_named}
+use Rattle.cas_bind.specs.Tables.{AreInPlace}
+use Rattle.cas_terms.specs.Columns.{is_local, table_named}
 use Rattle.cas_view.specs.Views.{File}
 use Rattle.cql_parse.specs.declared.syntax.TableName.{TableName}
 use Rattle.cas_recovery.proofs.Places.{same_place}
@@ -141,6 +143,51 @@ first_none t s d = record {
     ),
   );
 }
+
+-- the same in other words
+pub first_none_as : (t : TableSchema) (told : List ℕ) (s : State) (d : Disk) → told ≡ [] → FlushesFirst t 0 told s s d d
+first_none_as t told s d none = subst (λ (ns : List ℕ). FlushesFirst t 0 ns s s d d) (sym none) (first_none t s d)
+
+pub first_more_as : (t : TableSchema) (k : ℕ) (told now : List ℕ) (o : Option ℕ) (s u v : State) (d e f : Disk) → now ≡ told ++ listed_of o → FlushesFirst t k told s u d e
+    → FlushesOne t k (Ok o) u v e f → FlushesFirst t (k + 1) now s v d f
+first_more_as t k told now o s u v d e f is first one =
+    subst (λ (ns : List ℕ). FlushesFirst t (k + 1) ns s v d f) (sym is) (first_more t k told o s u v d e f first one)
+
+pub all_first : (t : TableSchema) (k many : ℕ) (told : List ℕ) (s u : State) (d e : Disk) → k ≡ many → FlushesFirst t k told s u d e → FlushesFirst t many told s u d e
+all_first t k many told s u d e is first = subst (λ (n : ℕ). FlushesFirst t n told s u d e) is first
+
+-- ---- the table that is named
+
+found_at : (test : TableSchema → Bool) (n : ℕ) (ts : List TableSchema) (t : TableSchema) → AreInPlace n ts → find test ts ≡ Some t
+    → (i : ℕ) × (t.number ≡ n + i) × (slice_get ts i ≡ Some t)
+found_at test n [] t numbered e = cc
+found_at test n (u ∷ us) t numbered e =
+    elim (test u) as (λ b. cond b (Some u) (find test us) ≡ Some t → (i : ℕ) × (t.number ≡ n + i) × (slice_get (u ∷ us) i ≡ Some t)) [
+      | true ↦ λ f.
+          let same : u ≡ t = cc in
+          let its : u.number ≡ n = numbered.0 in
+          let number : t.number ≡ n = ap (λ v. v.number) (sym same) ∙ its in
+          (0, omega (arith, number), ap (λ v. Some v) same)
+      | false ↦ λ f.
+          let later = found_at test (n + 1) us t numbered.1 f in
+          let number : t.number ≡ n + 1 + later.0 = later.1 in
+          (suc later.0, omega (arith, number), later.2)
+    ] e
+
+named_found : (tables : List TableSchema) (n : TableName) (t : TableSchema) → table_named tables n ≡ Some t → find (λ u. bytes_eq u.name n.name) tables ≡ Some t
+unfolding table_named
+named_found tables n t e = of (is_local n.keyspace) e
+  where
+    of : (b : Bool) → cond b (find (λ u. bytes_eq u.name n.name) tables) None ≡ Some t → find (λ u. bytes_eq u.name n.name) tables ≡ Some t
+    of true f = f
+    of false f = cc
+
+-- it stands at its number
+pub named_there : (tables : List TableSchema) (n : TableName) (t : TableSchema) → AreInPlace 0 tables → table_named tables n ≡ Some t → slice_get tables t.number ≡ Some t
+named_there tables n t places e =
+    let place = found_at (λ u. bytes_eq u.name n.name) 0 tables t places (named_found tables n t e) in
+    let number : place.0 ≡ t.number = (let its : t.number ≡ 0 + place.0 = place.1 in omega (arith, its)) in
+    subst (λ i. slice_get tables i ≡ Some t) number place.2
 
 -- ---- no shard more
 

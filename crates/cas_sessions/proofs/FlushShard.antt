@@ -209,7 +209,7 @@ swapped_has tables table count files x y swapped all none k has = by (same_place
     )
     by (inr other) = (has.0, λ more t at. subst (λ o. HoldJust t.columns (memtables_at o) has.0) (sym (swapped.others k other)) (has.1 more t at))
 
-ok_goes : {T : Type 0} (first kept : Option First) (before now : ℕ) (x : T) → Ends {T = T} first kept before now (Ok x) → first ≡ None → kept ≡ None
+pub ok_goes : {T : Type 0} (first kept : Option First) (before now : ℕ) (x : T) → Ends {T = T} first kept before now (Ok x) → first ≡ None → kept ≡ None
 ok_goes None kept before now x ends none = ends
 ok_goes (Some f) kept before now x ends none = absurd cc
 

@@ -472,6 +472,9 @@ impl<F: Folder, J: Store> Node<F, J> {
         if let Some(first) = self.room.stopped() {
             return Err(Fault::Stopped(first));
         }
-        self.flush_table(alloc, session, table)
+        match self.flush_table(alloc, session, table) {
+            Ok(numbers) => Ok(numbers),
+            Err(fault) => Err(fault),
+        }
     }
 }

@@ -27,7 +27,7 @@ returns-in-Ok-eq0-clause-flushes g c = λ clock t at_t.
     flushes_quietly t c.args.place _ _ _ _ _ (c.freeze.ensures.quiet _ _ clock)
     (λ image reads have.
     quiet_none_at t c.args.place _ _ _ _ (c.freeze.ensures.quiet _ _ clock) c.requires.going y c.args.table number at_t here.1 frozen.1
-    (λ kept. no_frozen (clustering_order t.columns) (frozen_at (slice_get y.stores c.args.table)) (sym frozen.0 ∙ c.in-Ok-eq0.field-0-is))) tt
+    (λ kept. no_frozen (clustering_order t.columns) (frozen_at (slice_get y.stores c.args.table)) (omega (arith, frozen.0)))) tt
 
 pub returns-in-Err-clause-flushes : goal.returns-in-Err-clause-flushes
 returns-in-Err-clause-flushes g c = λ clock t at_t.
