@@ -22,6 +22,8 @@ invariant-loop-rest g l = record {
         journal = l.initial.runner.node.room.journal;
         faults = g.F.Folder.faults_of l.initial.runner.node.room.folder;
         reads = g.F.Tally.Count.number l.initial.runner.node.tally;
+        last_file = l.initial.runner.node.room.numbers.last;
+        live = l.initial.runner.node.live;
       })
       (record {
         limits = l.runner.node.limits;
@@ -38,6 +40,8 @@ invariant-loop-rest g l = record {
         journal = l.runner.node.room.journal;
         faults = g.F.Folder.faults_of l.runner.node.room.folder;
         reads = g.F.Tally.Count.number l.runner.node.tally;
+        last_file = l.runner.node.room.numbers.last;
+        live = l.runner.node.live;
       })
       (g.F.Folder.disk l.initial.runner.node.room.folder) (g.F.Folder.disk l.runner.node.room.folder)
       l.fn.script l.rest (g.K.Sink.took l.initial.sink) (g.K.Sink.took l.sink) l.cause;

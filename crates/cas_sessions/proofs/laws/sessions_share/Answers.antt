@@ -24,5 +24,6 @@ returns g c h s session calls stands = (
     counted = lasts.counted;
     acknowledged = lasts.acknowledged;
     whole = lasts.whole;
+    behind = lasts.behind;
   },
 )

@@ -1,4 +1,4 @@
-use Rattle.std.proofs.Common.{◌∙◌, List, Err, refl, sym, ap, subst}
+use Rattle.std.proofs.Common.{◌∙◌, List, Err, refl, sym, ap, subst, arith}
 use Rattle.cas_types.specs.declared.schema.TableSchema.{TableSchema}
 use Rattle.cas_bind.specs.Tables.{AreTables}
 use Rattle.cas_bind.specs.declared.bound.Bound.TheVariants as bounds
