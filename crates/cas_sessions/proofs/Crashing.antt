@@ -32,7 +32,7 @@ front_is found accepted taken rest n all more fewer =
     sym (take-append-le n taken rest fewer) ∙ ap (take n) all ∙ ap (λ (k : ℕ). take k (found ++ accepted)) sum ∙ take-append-add found accepted (n - length found)
 
 -- an image that holds what the journal was told, of which all was accepted by the end of the call
-holds_amid : (t : Told) (h : History) (found rest : List Mutation) (list : List (Item Event)) (c : Image) → t.taken ++ rest ≡ found ++ accepted_in list
+pub holds_amid : (t : Told) (h : History) (found rest : List Mutation) (list : List (Item Event)) (c : Image) → t.taken ++ rest ≡ found ++ accepted_in list
     → length found + h.acknowledged ≤ t.committed → t.leaving ≡ 0 → (said_by t.entries).tables ≡ h.tables → length t.failed ≤ 1 → Holds t c → IsLeftAmid found list h c
 holds_amid t h found rest list c all committed whole tables few holds = listed holds.listed
   where

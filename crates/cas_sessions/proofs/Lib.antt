@@ -17,3 +17,10 @@ mod Alone
 pub mod Listing
 pub mod Going
 pub mod Next
+mod FlushSteps
+mod FlushFiles
+mod FlushChange
+mod FlushShard
+mod FlushAll
+mod FlushMaking
+mod FlushSound

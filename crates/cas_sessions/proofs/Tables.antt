@@ -261,12 +261,12 @@ same_shards said (entry.DropSegment n) is = absurd is
 same_shards said (entry.Change c) is = absurd is
 
 -- an entry that wasn't written changes nothing of what is said, and at most one may be there or not
-record SaidStill (told now : Told) : Type 0 where
-  entries : now.entries ≡ told.entries
-  taken : now.taken ≡ told.taken
-  few : length now.failed ≤ 1
+pub record SaidStill (told now : Told) : Type 0 where
+  pub entries : now.entries ≡ told.entries
+  pub taken : now.taken ≡ told.taken
+  pub few : length now.failed ≤ 1
 
-said_still : (fault : JournalFault) (x : ManifestEntry) (told : Told) → length told.failed ≤ 1 → SaidStill told (told_after fault x told)
+pub said_still : (fault : JournalFault) (x : ManifestEntry) (told : Told) → length told.failed ≤ 1 → SaidStill told (told_after fault x told)
 said_still (TooLarge size most) x told few = record { entries = refl; taken = refl; few = few }
 said_still (TooMany what most) x told few = record { entries = refl; taken = refl; few = few }
 said_still (Stopped first) x told few = record { entries = refl; taken = refl; few = few }

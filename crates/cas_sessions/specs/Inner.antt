@@ -2,3 +2,4 @@ pub mod Sound
 pub mod Definitions
 pub mod Faults
 pub mod Texts
+pub mod Flushing

@@ -6,5 +6,6 @@ pub mod Numbering
 pub mod Listing
 pub mod Next
 pub mod Calls
+pub mod Flushes
 pub mod Laws
 pub mod Inner

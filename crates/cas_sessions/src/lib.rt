@@ -3,6 +3,7 @@
 
 mod answer;
 mod defining;
+mod flushing;
 mod laws;
 mod node;
 mod opened;

@@ -1,0 +1,352 @@
+-- A flush of a table in all shards, one after another.
+use Rattle.std.proofs.Common.{◌≡◌, ◌≢◌, ◌⊎◌, inl, inr, ◌<◌, ◌≤◌, ◌+◌, ℕ, zero, suc, Bool, true, false, cond, List, [], ◌∷◌, ◌++◌, length, Option, None, Some, Result, Ok, Err, is_some, refl, sym, ap, ◌∙◌, subst, arith, append-nil, length-append}
+use Rattle.std.specs.Prelude.{slice_get, slice_index_or}
+use Rattle.std.specs.List.{find, flat_map, fold}
+use Rattle.std.specs.Str.{bytes_eq}
+use Rattle.std.proofs.lemmas.List.{flat_map_more}
+use Rattle.std.proofs.lemmas.List.Sums.{fold_push}
+use Rattle.cas_types.specs.declared.schema.TableSchema.{TableSchema}
+use Rattle.cas_bounds.specs.ClusteringOrder.{clustering_order}
+use Rattle.cas_disk.specs.Disk.{Disk, Image, Leaves}
+use Rattle.cas_gates.specs.declared.first.First.{First}
+use Rattle.cas_atoms.specs.declared.atom.Mutation.{Mutation}
+use Rattle.cas_changes.specs.declared.entry.Change.{Change}
+use Rattle.cas_journal.specs.Reach.{Reach}
+use Rattle.cas_journal.specs.Stores.{Told}
+use Rattle.cas_shard.specs.Shards.{all_entries, number_of}
+use Rattle.cas_shard.specs.Stands.{mutations_of}
+use Rattle.cas_sstread.specs.Loading.{Held}
+use Rattle.cas_bind.specs.Tables.{AreInPlace}
+use Rattle.cas_terms.specs.Columns.{is_local, table_named}
+use Rattle.cas_view.specs.Views.{File}
+use Rattle.cql_parse.specs.declared.syntax.TableName.{TableName}
+use Rattle.cas_recovery.proofs.Places.{same_place}
+use Rattle.cas_effects.specs.declared.refusal.Refusal.TheVariants.{NoTable}
+use Rattle.cas_effects.specs.Refusals.{refusal_number}
+use Rattle.cas_sessions.specs.declared.answer.Fault.{Fault}
+use Rattle.cas_sessions.specs.declared.answer.Fault.TheVariants.{Refused, Stopped, Disk as Failed, Read, BadBlock, Mem}
+use Rattle.cas_sessions.specs.Calls.{IsTrueOf}
+use Rattle.cas_sessions.specs.Entered.{IsLeftAmid}
+use Rattle.cas_sessions.specs.Flushes.{AreInFiles, EndsSo, Flushed, Flushes, FlushesNamed, FlushesTable, Grows, Remember, WhyNoFurther, change_of, numbers_added, numbers_in, reach_by}
+use Rattle.cas_sessions.specs.History.{History, DiskState, shard_at}
+use Rattle.cas_sessions.specs.Nodes.{State, StandsFor, LastsFor, KeepsAll, Moves, disk_of}
+use Rattle.cas_sessions.specs.Inner.Flushing.{EndsIn, FlushedOne, FlushesFirst, FlushesNoFurther, FlushesOne, GoesOn, IsFirst, IsOwn, listed_of}
+use Rattle.cas_sessions.proofs.FlushShard.{quiet_still}
+use Rattle.cas_sessions.proofs.FlushSteps.{amid_then, beside_then, quiet_beside, quiet_goes, quiet_stands, with_disk}
+
+-- ---- lists with one more
+
+change_last : (changes : List (Option Change)) (c : Option Change) (n : ℕ) → n ≡ length changes → change_of (changes ++ c ∷ []) n ≡ c
+change_last [] c zero same = refl
+change_last [] c (suc n) same = absurd (omega (arith, same))
+change_last (x ∷ changes) c zero same = absurd (omega (arith, same))
+change_last (x ∷ changes) c (suc n) same = change_last changes c n (omega (arith, same))
+
+change_past : (changes : List (Option Change)) (n : ℕ) → length changes ≤ n → change_of changes n ≡ None
+change_past [] n past = refl
+change_past (x ∷ changes) zero past = absurd (omega (arith, past))
+change_past (x ∷ changes) (suc n) past = change_past changes n (omega (arith, past))
+
+change_before : (changes : List (Option Change)) (c : Option Change) (n : ℕ) → n ≢ length changes → change_of (changes ++ c ∷ []) n ≡ change_of changes n
+change_before [] c zero other = absurd (other refl)
+change_before [] c (suc n) other = refl
+change_before (x ∷ changes) c zero other = refl
+change_before (x ∷ changes) c (suc n) other = change_before changes c n (λ same. other (ap suc same))
+
+-- ---- a shard more
+
+module _ (h : History) (t : TableSchema) (changes : List (Option Change)) (c : Option Change) (k : ℕ) (u v : DiskState) (at : length changes ≡ k) (first : Flushed h t changes u)
+    (one : FlushedOne t k (shard_at h k) c u v) (faults : u.faults ≤ v.faults) (reads : u.reads ≤ v.reads) where
+  apart : (n j : ℕ) → n ≢ k → v.files n j ≡ u.files n j
+  apart n j other = one.others n j (λ both. other both.0)
+
+  untouched : u.files k t.number ≡ h.disk.files k t.number
+  untouched =
+      subst (λ (x : Option Change). Grows t.number k (number_of (shard_at h k)) x (h.disk.files k t.number) (u.files k t.number))
+      (change_past changes k (omega (arith, at))) (first.files k)
+
+  grows : (n : ℕ) → (n ≡ k) ⊎ (n ≢ k) → Grows t.number n (number_of (shard_at h n)) (change_of (changes ++ c ∷ []) n) (h.disk.files n t.number) (v.files n t.number)
+  grows n (inl here) =
+      subst (λ (i : ℕ). Grows t.number i (number_of (shard_at h i)) (change_of (changes ++ c ∷ []) i) (h.disk.files i t.number) (v.files i t.number)) (sym here)
+      (subst (λ (x : Option Change). Grows t.number k (number_of (shard_at h k)) x (h.disk.files k t.number) (v.files k t.number)) (sym (change_last changes c k (sym at)))
+      (subst (λ (fs : List (File Held)). Grows t.number k (number_of (shard_at h k)) c fs (v.files k t.number)) untouched one.files))
+  grows n (inr other) =
+      subst (λ (x : Option Change). Grows t.number n (number_of (shard_at h n)) x (h.disk.files n t.number) (v.files n t.number))
+      (sym (change_before changes c n (λ same. other (same ∙ at))))
+      (subst (λ (fs : List (File Held)). Grows t.number n (number_of (shard_at h n)) (change_of changes n) (h.disk.files n t.number) fs) (sym (apart n t.number other)) (first.files n))
+
+  stand : (n : ℕ) → n < length (changes ++ c ∷ []) → (n ≡ k) ⊎ (n ≢ k)
+      → AreInFiles (clustering_order t.columns) (v.files n t.number) (mutations_of t.number (all_entries (shard_at h n)))
+  stand n lt (inl here) =
+      subst (λ (i : ℕ). AreInFiles (clustering_order t.columns) (v.files i t.number) (mutations_of t.number (all_entries (shard_at h i)))) (sym here) one.all
+  stand n lt (inr other) =
+      subst (λ (fs : List (File Held)). AreInFiles (clustering_order t.columns) fs (mutations_of t.number (all_entries (shard_at h n)))) (sym (apart n t.number other))
+      (first.all n (below n lt other))
+    where
+      below : (n : ℕ) → n < length (changes ++ c ∷ []) → n ≢ k → n < length changes
+      below n lt other = omega (arith, lt, length-append changes (c ∷ []), other, at)
+
+  pub flushed_more : Flushed h t (changes ++ c ∷ []) v
+  flushed_more = record {
+    files = λ n. grows n (same_place n k);
+    others = λ n j other. one.others n j (λ both. other both.1) ∙ first.others n j other;
+    all = λ n lt. stand n lt (same_place n k);
+    reach = one.reach ∙ ap (λ (r : Reach). reach_by r c) first.reach ∙ sym (fold_push reach_by h.disk.reach changes c);
+    faults = omega (arith, first.faults, faults);
+    reads = omega (arith, first.reads, reads);
+  }
+
+pub first_more : (t : TableSchema) (k : ℕ) (told : List ℕ) (o : Option ℕ) (s u v : State) (d e f : Disk) → FlushesFirst t k told s u d e → FlushesOne t k (Ok o) u v e f
+    → FlushesFirst t (k + 1) (told ++ listed_of o) s v d f
+first_more t k told o s u v d e f first one = record {
+  beside = beside_then s u v d e f first.beside one.beside;
+  lasts = λ h found was tables lasts.
+      let (now, amid) = first.lasts h found was tables lasts in
+      let (later, more) = one.lasts h found now.0 (tables ∙ sym first.beside.tables) now.1 in
+      (later, amid_then h found s u d e f first.beside.list amid more);
+  moves = λ c reads have h stands.
+      let (now, kept, so) = first.moves c reads have h stands in
+      let changes : List (Option Change) = so.0 in
+      let (b, read) = first.beside.tells c reads in
+      let (later, still, ends) = one.moves b read kept (with_disk h u) now in
+      let change : Option Change = ends.0 in (
+        later,
+        still,
+        (
+          changes ++ change ∷ [],
+          length-append changes (change ∷ []) ∙ ap (λ (n : ℕ). n + 1) so.1,
+          (λ i. so.2 i ++ sym ends.1 i) ∙ flat_map_more numbers_in [] changes change,
+          flushed_more h t changes change k (disk_of u) (disk_of v) so.1 so.3 ends.2 one.beside.faults one.beside.reads,
+        ),
+      );
+}
+
+pub first_none : (t : TableSchema) (s : State) (d : Disk) → FlushesFirst t 0 [] s s d d
+first_none t s d = record {
+  beside = quiet_beside s s d d (quiet_still s d);
+  lasts = λ h found was tables lasts. quiet_goes s s d d (quiet_still s d) h found was tables lasts;
+  moves = λ c reads have h stands. (
+    quiet_stands s s d d (quiet_still s d) h stands,
+    have,
+    (
+      [],
+      refl,
+      refl,
+      record {
+        files = λ n. ap (λ (e : DiskState). e.files n t.number) (sym stands.disk);
+        others = λ n k other. ap (λ (e : DiskState). e.files n k) (sym stands.disk);
+        all = λ n lt. absurd (omega (arith, lt));
+        reach = ap (λ (e : DiskState). e.reach) (sym stands.disk);
+        faults = omega (arith, ap (λ (e : DiskState). e.faults) stands.disk);
+        reads = omega (arith, ap (λ (e : DiskState). e.reads) stands.disk);
+      },
+    ),
+  );
+}
+
+-- the same in other words
+pub first_none_as : (t : TableSchema) (told : List ℕ) (s : State) (d : Disk) → told ≡ [] → FlushesFirst t 0 told s s d d
+first_none_as t told s d none = subst (λ (ns : List ℕ). FlushesFirst t 0 ns s s d d) (sym none) (first_none t s d)
+
+pub first_more_as : (t : TableSchema) (k : ℕ) (told now : List ℕ) (o : Option ℕ) (s u v : State) (d e f : Disk) → now ≡ told ++ listed_of o → FlushesFirst t k told s u d e
+    → FlushesOne t k (Ok o) u v e f → FlushesFirst t (k + 1) now s v d f
+first_more_as t k told now o s u v d e f is first one =
+    subst (λ (ns : List ℕ). FlushesFirst t (k + 1) ns s v d f) (sym is) (first_more t k told o s u v d e f first one)
+
+pub all_first : (t : TableSchema) (k many : ℕ) (told : List ℕ) (s u : State) (d e : Disk) → k ≡ many → FlushesFirst t k told s u d e → FlushesFirst t many told s u d e
+all_first t k many told s u d e is first = subst (λ (n : ℕ). FlushesFirst t n told s u d e) is first
+
+-- ---- the table that is named
+
+found_at : (test : TableSchema → Bool) (n : ℕ) (ts : List TableSchema) (t : TableSchema) → AreInPlace n ts → find test ts ≡ Some t
+    → (i : ℕ) × (t.number ≡ n + i) × (slice_get ts i ≡ Some t)
+found_at test n [] t numbered e = cc
+found_at test n (u ∷ us) t numbered e =
+    elim (test u) as (λ b. cond b (Some u) (find test us) ≡ Some t → (i : ℕ) × (t.number ≡ n + i) × (slice_get (u ∷ us) i ≡ Some t)) [
+      | true ↦ λ f.
+          let same : u ≡ t = cc in
+          let its : u.number ≡ n = numbered.0 in
+          let number : t.number ≡ n = ap (λ v. v.number) (sym same) ∙ its in
+          (0, omega (arith, number), ap (λ v. Some v) same)
+      | false ↦ λ f.
+          let later = found_at test (n + 1) us t numbered.1 f in
+          let number : t.number ≡ n + 1 + later.0 = later.1 in
+          (suc later.0, omega (arith, number), later.2)
+    ] e
+
+named_found : (tables : List TableSchema) (n : TableName) (t : TableSchema) → table_named tables n ≡ Some t → find (λ u. bytes_eq u.name n.name) tables ≡ Some t
+unfolding table_named
+named_found tables n t e = of (is_local n.keyspace) e
+  where
+    of : (b : Bool) → cond b (find (λ u. bytes_eq u.name n.name) tables) None ≡ Some t → find (λ u. bytes_eq u.name n.name) tables ≡ Some t
+    of true f = f
+    of false f = cc
+
+-- it stands at its number
+pub named_there : (tables : List TableSchema) (n : TableName) (t : TableSchema) → AreInPlace 0 tables → table_named tables n ≡ Some t → slice_get tables t.number ≡ Some t
+named_there tables n t places e =
+    let place = found_at (λ u. bytes_eq u.name n.name) 0 tables t places (named_found tables n t e) in
+    let number : place.0 ≡ t.number = (let its : t.number ≡ 0 + place.0 = place.1 in omega (arith, its)) in
+    subst (λ i. slice_get tables i ≡ Some t) number place.2
+
+-- ---- no shard more
+
+why_since : (d m e : DiskState) (f : Fault) → d.faults ≤ m.faults → d.reads ≤ m.reads → WhyNoFurther m e f → WhyNoFurther d e f
+why_since d m e (Refused why) faults reads is = is
+why_since d m e (Stopped first) faults reads is = is
+why_since d m e (Failed None) faults reads (inl rose) = inl (omega (arith, faults, rose))
+why_since d m e (Failed None) faults reads (inr rose) = inr (rose.0, omega (arith, reads, rose.1))
+why_since d m e (Failed (Some number)) faults reads is = is
+why_since d m e Read faults reads rose = (rose.0, omega (arith, reads, rose.1))
+why_since d m e (BadBlock number at) faults reads is = is
+why_since d m e Mem faults reads is = is
+
+-- nothing of it is another
+still_flushed : (h : History) (t : TableSchema) (changes : List (Option Change)) (u v : DiskState) → Flushed h t changes u → ((k j : ℕ) → v.files k j ≡ u.files k j)
+    → v.reach ≡ u.reach → u.faults ≤ v.faults → u.reads ≤ v.reads → Flushed h t changes v
+still_flushed h t changes u v first files reach faults reads = record {
+  files = λ n.
+      subst (λ (fs : List (File Held)). Grows t.number n (number_of (shard_at h n)) (change_of changes n) (h.disk.files n t.number) fs) (sym (files n t.number)) (first.files n);
+  others = λ n k other. files n k ∙ first.others n k other;
+  all = λ n lt.
+      subst (λ (fs : List (File Held)). AreInFiles (clustering_order t.columns) fs (mutations_of t.number (all_entries (shard_at h n)))) (sym (files n t.number)) (first.all n lt);
+  reach = reach ∙ first.reach;
+  faults = omega (arith, first.faults, faults);
+  reads = omega (arith, first.reads, reads);
+}
+
+pub no_further : (t : TableSchema) (k : ℕ) (told : List ℕ) (x : Fault) (s u v : State) (d e f : Disk) → FlushesFirst t k told s u d e → FlushesOne t k (Err x) u v e f
+    → k < length s.shards → FlushesNoFurther t x s v d f
+no_further t k told x s u v d e f first one few = record {
+  beside = beside_then s u v d e f first.beside one.beside;
+  lasts = λ h found was tables lasts.
+      let (now, amid) = first.lasts h found was tables lasts in
+      let (later, more) = one.lasts h found now.0 (tables ∙ sym first.beside.tables) now.1 in
+      (later, amid_then h found s u d e f first.beside.list amid more);
+  moves = λ c reads have h stands.
+      let (now, kept, so) = first.moves c reads have h stands in
+      let (b, read) = first.beside.tells c reads in
+      let (later, still, none) = one.moves b read kept (with_disk h u) now in (
+        later,
+        still,
+        (
+          so.0,
+          omega (arith, so.1, few, stands.count),
+          still_flushed h t so.0 (disk_of u) (disk_of v) so.3 none.files none.reach one.beside.faults one.beside.reads,
+          why_since (disk_of s) (disk_of u) (disk_of v) x first.beside.faults first.beside.reads none.why,
+        ),
+      );
+  own = one.own;
+}
+
+-- memory ran out between two shards
+pub none_of_memory : (t : TableSchema) (k : ℕ) (told : List ℕ) (s u : State) (d e : Disk) → FlushesFirst t k told s u d e → k < length s.shards → u.journal.first ≡ None
+    → FlushesNoFurther t Mem s u d e
+none_of_memory t k told s u d e first few going = record {
+  beside = first.beside;
+  lasts = first.lasts;
+  moves = λ c reads have h stands.
+      let (now, kept, so) = first.moves c reads have h stands in
+      (now, kept, (so.0, omega (arith, so.1, few, stands.count), so.3, ap is_some going));
+  own = tt;
+}
+
+-- ---- the call
+
+-- the history goes on so
+lasts_under : (h : History) (e : DiskState) (found : List Mutation) (s : State) (d : Disk) (told : Told) → LastsFor h found s d told → LastsFor (record h { disk = e }) found s d told
+lasts_under h e found s d told lasts = record {
+  keeps = lasts.keeps;
+  tables = lasts.tables;
+  shards = lasts.shards;
+  few = lasts.few;
+  ordered = lasts.ordered;
+  next = lasts.next;
+  counted = lasts.counted;
+  acknowledged = lasts.acknowledged;
+  whole = lasts.whole;
+  behind = lasts.behind;
+}
+
+named : (h : History) (tables : List TableSchema) (name : TableName) (o : Option TableSchema) (r : Result (List ℕ) Fault) (after : History) → h.tables ≡ tables
+    → table_named tables name ≡ o → FlushesNamed h o r after → Flushes h name r after
+named h tables name o r after same is flushes =
+    subst (λ (x : Option TableSchema). FlushesNamed h x r after) (sym (ap (λ (ts : List TableSchema). table_named ts name) same ∙ is)) flushes
+
+pub flushes_all : (name : TableName) (t : TableSchema) (told : List ℕ) (s u : State) (d e : Disk) → table_named s.tables name ≡ Some t → s.journal.first ≡ None → u.journal.first ≡ None
+    → FlushesFirst t (length s.shards) told s u d e → (c : Image) → d.reads c → Remember s.tables s.shards → Moves (λ h after. Flushes h name (Ok told) after) s u d e
+flushes_all name t told s u d e is going on first c reads have h stands =
+    let (now, kept, so) = first.moves c reads have h stands in (
+      with_disk h u,
+      named h s.tables name (Some t) (Ok told) (with_disk h u) stands.tables is (
+        so.0,
+        disk_of u,
+        ap (λ (x : DiskState). x.stopped) stands.disk ∙ ap is_some going,
+        so.3,
+        (so.1 ∙ sym stands.count, so.2, ap is_some on),
+        refl,
+      ),
+      record {
+        stands = now;
+        lasts = λ found was lasts.
+            let (later, amid) = first.lasts h found was stands.tables lasts in
+            (later.0, lasts_under h (disk_of u) found u e later.0 later.1);
+      },
+    )
+
+-- a fault that isn't of an earlier one
+fails_by : (h : History) (t : TableSchema) (f : Fault) (changes : List (Option Change)) (e : DiskState) → h.disk.stopped ≡ false → Flushed h t changes e → length changes < length h.shards
+    → WhyNoFurther h.disk e f → FlushesTable h t (Err f) (record h { disk = e })
+fails_by h t (Refused why) changes e going flushed few is = (changes, e, going, flushed, (few, is), refl)
+fails_by h t (Stopped first) changes e going flushed few is = absurd is
+fails_by h t (Failed number) changes e going flushed few is = (changes, e, going, flushed, (few, is), refl)
+fails_by h t Read changes e going flushed few is = (changes, e, going, flushed, (few, is), refl)
+fails_by h t (BadBlock number at) changes e going flushed few is = absurd is
+fails_by h t Mem changes e going flushed few is = (changes, e, going, flushed, (few, is), refl)
+
+pub flushes_some : (name : TableName) (t : TableSchema) (f : Fault) (s u : State) (d e : Disk) → table_named s.tables name ≡ Some t → s.journal.first ≡ None
+    → FlushesNoFurther t f s u d e → (c : Image) → d.reads c → Remember s.tables s.shards → Moves (λ h after. Flushes h name (Err f) after) s u d e
+flushes_some name t f s u d e is going none c reads have h stands =
+    let (now, kept, so) = none.moves c reads have h stands in (
+      with_disk h u,
+      named h s.tables name (Some t) (Err f) (with_disk h u) stands.tables is
+          (fails_by h t f so.0 (disk_of u) (ap (λ (x : DiskState). x.stopped) stands.disk ∙ ap is_some going) so.2 so.1
+          (subst (λ (x : DiskState). WhyNoFurther x (disk_of u) f) (sym stands.disk) so.3)),
+      record {
+        stands = now;
+        lasts = λ found was lasts.
+            let (later, amid) = none.lasts h found was stands.tables lasts in
+            (later.0, lasts_under h (disk_of u) found u e later.0 later.1);
+      },
+    )
+
+pub flushes_no_table : (name : TableName) (f : Fault) (s : State) (d : Disk) → table_named s.tables name ≡ None → f ≡ Refused (refusal_number NoTable)
+    → Moves (λ h after. Flushes h name (Err f) after) s s d d
+flushes_no_table name f s d is same h stands = (
+  h,
+  named h s.tables name None (Err f) h stands.tables is (ap Err same, refl),
+  record { stands = stands; lasts = λ found told lasts. (told, lasts) },
+)
+
+pub flushes_stopped : (name : TableName) (t : TableSchema) (first : First) (s : State) (d : Disk) → table_named s.tables name ≡ Some t → s.journal.first ≡ Some first
+    → Moves (λ h after. Flushes h name (Err (Stopped first)) after) s s d d
+flushes_stopped name t first s d is stopped h stands = (
+  h,
+  named h s.tables name (Some t) (Err (Stopped first)) h stands.tables is (ap (λ (x : DiskState). x.stopped) stands.disk ∙ ap is_some stopped, refl),
+  record { stands = stands; lasts = λ found told lasts. (told, lasts) },
+)
+
+pub keeps_all : (s u : State) (d e : Disk) → u.list ≡ s.list
+    → ((h : History) (found : List Mutation) (told : Told) → h.tables ≡ s.tables → LastsFor h found s d told → GoesOn h found s u d e) → KeepsAll s u d e
+keeps_all s u d e list lasts h found told stands was =
+    subst (λ l. Leaves (IsLeftAmid found l h) d e) (sym list) (lasts h found told stands.tables was).1
+
+-- what a fault tells beside that
+pub true_of_flush : (f : Fault) (s u : State) → IsOwn f → u.list ≡ s.list → IsTrueOf (Err f) s u
+true_of_flush (Refused why) s u own list = tt
+true_of_flush (Stopped first) s u own list = absurd own
+true_of_flush (Failed None) s u own list = list
+true_of_flush (Failed (Some number)) s u own list = absurd own
+true_of_flush Read s u own list = tt
+true_of_flush (BadBlock number at) s u own list = tt
+true_of_flush Mem s u own list = tt

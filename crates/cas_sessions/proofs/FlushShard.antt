@@ -1,0 +1,478 @@
+-- A flush of a table in a shard.
+use Rattle.std.proofs.Common.{◌≡◌, ◌≢◌, ◌⊎◌, inl, inr, ⊎_elim, ◌<◌, ◌≤◌, ◌+◌, ℕ, zero, suc, Bool, true, false, List, [], ◌∷◌, ◌++◌, length, map, take, drop, Option, None, Some, Result, Ok, Err, is_some, refl, sym, ap, ◌∙◌, subst, arith, append-nil}
+use Rattle.std.proofs.lemmas.List.{take_all}
+use Rattle.std.proofs.lemmas.Option.{same_Some}
+use Rattle.std.specs.Prelude.{slice_get, slice_set, IfErr}
+use Rattle.std.specs.List.{AllByRecursion}
+use Rattle.cas_types.specs.declared.schema.TableSchema.{TableSchema}
+use Rattle.cas_bounds.specs.ClusteringOrder.{clustering_order}
+use Rattle.cas_bounds.specs.declared.order.Ordered.{Ordered}
+use Rattle.cas_io.specs.Causes.{Rose}
+use Rattle.cas_disk.specs.Disk.{Disk, Image, Leaves}
+use Rattle.cas_disk.proofs.Moments.{no_call}
+use Rattle.cas_gates.specs.declared.first.First.{First}
+use Rattle.cas_atoms.specs.declared.atom.Mutation.{Mutation}
+use Rattle.cas_changes.specs.Saying.{said_by}
+use Rattle.cas_changes.specs.declared.entry.Change.{Change}
+use Rattle.cas_changes.specs.declared.entry.Entry.TheVariants.{Change as change_entry}
+use Rattle.cas_info.specs.declared.info.TableInfo.{TableInfo}
+use Rattle.cas_journal.specs.Ends.{Ends, EndsBy}
+use Rattle.cas_journal.specs.Reach.{Reach, reach_of}
+use Rattle.cas_journal.specs.Stores.{Told, Holds as HoldsTold}
+use Rattle.cas_journal.specs.declared.fault.Counted.{Counted}
+use Rattle.cas_journal.specs.declared.fault.JournalFault.{JournalFault}
+use Rattle.cas_journal.specs.declared.fault.JournalFault.TheVariants as journal
+use Rattle.cas_memtable.specs.Kept.{HoldJust}
+use Rattle.cas_memtable.specs.declared.memtable.MemPart.{MemPart}
+use Rattle.cas_shard.specs.Flushing.{HasInMemory, SaysWhatTheyDo, bytes_at, frozen_at, memtables_at}
+use Rattle.cas_shard.specs.Shards.{ShardHistory, all_entries, number_of}
+use Rattle.cas_shard.specs.Stands.{Holds, ShardState, Stands, files_at, mutations_of, order_at, order_of}
+use Rattle.cas_sstread.specs.Loading.{Held}
+use Rattle.cas_stored.specs.Stored.{StoredTable}
+use Rattle.cas_view.specs.Views.{File}
+use Rattle.cas_recovery.proofs.Places.{get_here, get_other, get_within, length_set, same_place}
+use Rattle.cas_sessions.specs.declared.answer.Fault.{Fault}
+use Rattle.cas_sessions.specs.declared.answer.Fault.TheVariants.{Refused, Stopped, Disk as Failed, Read, BadBlock, Mem}
+use Rattle.cas_sessions.specs.Flushes.{AreInFiles, Grows, ListsOne, Remember, WhyNoFurther, numbers_in, reach_by}
+use Rattle.cas_sessions.specs.History.{History, DiskState, shard_at}
+use Rattle.cas_sessions.specs.Nodes.{State, StandsFor, LastsFor, disk_of, files_in, files_of}
+use Rattle.cas_sessions.specs.Inner.Faults.{fault_for}
+use Rattle.cas_sessions.specs.Inner.Flushing.{AddsFile, EndsIn, FlushedOne, FlushesOne, GoesOn, GoesOnAs, IsBeside, IsOwn, Lists, Moved, NewFile, NotFlushed, Quiet, SaysSo, TakesFile, WhyNotMade, listed_of}
+use Rattle.cas_sessions.proofs.FlushChange.{below_next, lists_done, lists_failed}
+use Rattle.cas_sessions.proofs.FlushFiles.{SayNothing, in_files, memory_says_nothing, rest_says_nothing}
+use Rattle.cas_sessions.proofs.FlushSteps.{amid_then, beside_then, files_again, lasts_again, one_goes_on, quiet_amid, quiet_beside, quiet_goes, quiet_lasts, quiet_remembers, quiet_stands, same_numbers, same_shards, stands_again, with_disk}
+
+-- ---- nothing is done
+
+pub quiet_still : (s : State) (d : Disk) → Quiet s s d d
+quiet_still s d = record {
+  limits = refl;
+  tables = refl;
+  clock = refl;
+  list = refl;
+  session = refl;
+  calls = refl;
+  accepted = refl;
+  committed = refl;
+  journal = refl;
+  live = refl;
+  shards = same_shards s.shards;
+  last = omega arith;
+  faults = omega arith;
+  reads = omega arith;
+  keeps = λ found told keeps. keeps;
+  crash = λ found told keeps. no_call (λ _ c. HoldsTold told c) d;
+  tells = λ c reads. (c, reads);
+}
+
+-- one shard goes on as what it was
+pub quiet_one : (s : State) (d : Disk) (n : ℕ) (x y : ShardState) → slice_get s.shards n ≡ Some x → GoesOnAs x y → Quiet s (record s { shards = slice_set s.shards n y }) d d
+quiet_one s d n x y there goes =
+    let still = quiet_still s d in
+    record {
+      limits = refl;
+      tables = refl;
+      clock = refl;
+      list = refl;
+      session = refl;
+      calls = refl;
+      accepted = refl;
+      committed = refl;
+      journal = refl;
+      live = refl;
+      shards = one_goes_on s.shards n x y there goes;
+      last = still.last;
+      faults = still.faults;
+      reads = still.reads;
+      keeps = still.keeps;
+      crash = still.crash;
+      tells = still.tells;
+    }
+
+-- ---- a table in a shard
+
+-- how it orders its rows
+order_is : (tables : List TableSchema) (t : TableSchema) → slice_get tables t.number ≡ Some t → order_at tables t.number ≡ clustering_order t.columns
+order_is tables t there = ap order_of there
+
+-- the files of a table in the shard of that number
+files_there : (xs : List ShardState) (n table : ℕ) (x : ShardState) → slice_get xs n ≡ Some x → files_in xs n table ≡ files_at (slice_get x.stores table)
+files_there xs n table x there = ap (λ o. files_of o table) there
+
+-- all that was written to it stands in its files, where memory says nothing
+all_in_files : (h : History) (u : State) (t : TableSchema) (n : ℕ) (y : ShardState) → StandsFor (with_disk h u) u → slice_get u.tables t.number ≡ Some t → slice_get u.shards n ≡ Some y
+    → SayNothing (clustering_order t.columns) (memtables_at (slice_get y.stores t.number))
+    → AreInFiles (clustering_order t.columns) (files_in u.shards n t.number) (mutations_of t.number (all_entries (shard_at h n)))
+all_in_files h u t n y stands table there nothing =
+    let one : Stands u.tables (shard_at h n) y = subst (λ (ts : List TableSchema). Stands ts (shard_at h n) y) stands.tables (stands.shards n y there) in
+    let holds : Holds (clustering_order t.columns) (slice_get y.stores t.number) (mutations_of t.number (all_entries (shard_at h n))) =
+    subst (λ (order : List Ordered). Holds order (slice_get y.stores t.number) (mutations_of t.number (all_entries (shard_at h n)))) (order_is u.tables t table) (one.kept t.number) in
+    subst (λ (fs : List (File Held)). AreInFiles (clustering_order t.columns) fs (mutations_of t.number (all_entries (shard_at h n)))) (sym (files_there u.shards n t.number y there))
+    (in_files (clustering_order t.columns) (slice_get y.stores t.number) (mutations_of t.number (all_entries (shard_at h n))) holds nothing)
+
+-- ---- no file is listed
+
+module _ (t : TableSchema) (n : ℕ) (s u : State) (d e : Disk) (quiet : Quiet s u d e) (going : s.journal.first ≡ None) where
+  still_going : u.journal.first ≡ None
+  still_going = ap (λ j. j.first) quiet.journal ∙ going
+
+  -- memory had nothing that says more
+  pub quiet_none : (y : ShardState) → slice_get s.tables t.number ≡ Some t → slice_get u.shards n ≡ Some y
+      → (Remember u.tables u.shards → SayNothing (clustering_order t.columns) (memtables_at (slice_get y.stores t.number)))
+      → Moved (λ h. EndsIn t n (shard_at h n) (Ok None)) s u
+  quiet_none y table there nothing have h stands =
+      let now : StandsFor (with_disk h u) u = quiet_stands s u d e quiet h stands in
+      let kept : Remember u.tables u.shards = quiet_remembers s u d e quiet have in (
+        now,
+        kept,
+        (
+          None,
+          refl,
+          record {
+            files = files_again s.shards u.shards quiet.shards n t.number;
+            others = λ k table other. files_again s.shards u.shards quiet.shards k table;
+            all = all_in_files h u t n y now (ap (λ (ts : List TableSchema). slice_get ts t.number) quiet.tables ∙ table) there (nothing kept);
+            reach = ap reach_of quiet.journal;
+            stopped = ap is_some still_going;
+          },
+        ),
+      )
+
+  -- the same, where the table is looked at by its place
+  pub quiet_none_at : (y : ShardState) (k : ℕ) → t.number ≡ k → slice_get s.tables k ≡ Some t → slice_get u.shards n ≡ Some y → bytes_at (slice_get y.stores k) ≡ 0
+      → (Remember u.tables u.shards → SayNothing (clustering_order t.columns) (frozen_at (slice_get y.stores k))) → Moved (λ h. EndsIn t n (shard_at h n) (Ok None)) s u
+  quiet_none_at y k same table there none says =
+      quiet_none y (subst (λ (j : ℕ). slice_get s.tables j ≡ Some t) (sym same) table) there
+      (λ have.
+      memory_says_nothing (clustering_order t.columns) (slice_get y.stores t.number) (subst (λ (j : ℕ). bytes_at (slice_get y.stores j) ≡ 0) (sym same) none)
+      (subst (λ (j : ℕ). SayNothing (clustering_order t.columns) (frozen_at (slice_get y.stores j))) (sym same) (says have)))
+
+  -- a fault came between
+  pub quiet_fails : (f : Fault) → WhyNotMade s.faults u.faults s.reads u.reads f → Moved (λ h. EndsIn t n (shard_at h n) (Err f)) s u
+  quiet_fails f why have h stands = (
+    quiet_stands s u d e quiet h stands,
+    quiet_remembers s u d e quiet have,
+    record { files = λ k table. files_again s.shards u.shards quiet.shards k table; reach = ap reach_of quiet.journal; why = by f why },
+  )
+    where
+      off : is_some u.journal.first ≡ false
+      off = ap is_some still_going
+
+      by : (f : Fault) → WhyNotMade s.faults u.faults s.reads u.reads f → WhyNoFurther (disk_of s) (disk_of u) f
+      by (Refused why) is = (is, off)
+      by (Stopped first) is = absurd is
+      by (Failed None) (inl rose) = inl rose
+      by (Failed None) (inr rose) = inr (off, rose)
+      by (Failed (Some number)) is = absurd is
+      by Read rose = (off, rose)
+      by (BadBlock number at) is = absurd is
+      by Mem is = off
+
+rose_since : (a b c : ℕ) → a ≤ b → Rose b c → Rose a c
+rose_since a b c le rose = omega (arith, le, rose)
+
+-- the same fault, since an earlier moment
+pub not_made_since : (a b c p q r : ℕ) (f : Fault) → a ≤ b → p ≤ q → WhyNotMade b c q r f → WhyNotMade a c p r f
+not_made_since a b c p q r (Refused why) faults reads is = is
+not_made_since a b c p q r (Stopped first) faults reads is = is
+not_made_since a b c p q r (Failed None) faults reads (inl rose) = inl (rose_since a b c faults rose)
+not_made_since a b c p q r (Failed None) faults reads (inr rose) = inr (rose_since p q r reads rose)
+not_made_since a b c p q r (Failed (Some number)) faults reads is = is
+not_made_since a b c p q r Read faults reads rose = rose_since p q r reads rose
+not_made_since a b c p q r (BadBlock number at) faults reads is = is
+not_made_since a b c p q r Mem faults reads is = is
+
+-- ---- the file is listed, and takes the place of memtables
+
+-- a shard's table took these files in the place of so many frozen memtables
+pub record Swapped (table count : ℕ) (files : List (File Held)) (x y : ShardState) : Type 0 where
+  pub stands : (tables : List TableSchema) (s : ShardHistory) (f : File Held) → files ≡ files_at (slice_get x.stores table) ++ f ∷ []
+      → SaysWhatTheyDo (order_at tables table) (take count (frozen_at (slice_get x.stores table))) f → Stands tables s x → Stands tables s y
+  pub files_are : files_at (slice_get y.stores table) ≡ files
+  pub memory : memtables_at (slice_get y.stores table) ≡ drop count (memtables_at (slice_get x.stores table))
+  pub emptied : (tables : List TableSchema) (ws : List Mutation) → count ≡ length (frozen_at (slice_get x.stores table)) → bytes_at (slice_get x.stores table) ≡ 0
+      → HasInMemory tables table ws x → HasInMemory tables table [] y
+  pub others : (k : ℕ) → (k ≡ table → ⊥) → slice_get y.stores k ≡ slice_get x.stores k
+  pub number : y.number ≡ x.number
+
+-- what it has in memory then
+pub swapped_has : (tables : List TableSchema) (table count : ℕ) (files : List (File Held)) (x y : ShardState) → Swapped table count files x y
+    → count ≡ length (frozen_at (slice_get x.stores table)) → bytes_at (slice_get x.stores table) ≡ 0 → (k : ℕ)
+    → (ws : List Mutation) × ((more : List TableSchema) → HasInMemory (tables ++ more) k ws x) → (ws : List Mutation) × ((more : List TableSchema) → HasInMemory (tables ++ more) k ws y)
+swapped_has tables table count files x y swapped all none k has = by (same_place k table)
+  where
+    by : (k ≡ table) ⊎ (k ≢ table) → (ws : List Mutation) × ((more : List TableSchema) → HasInMemory (tables ++ more) k ws y)
+    by (inl here) = (
+      [],
+      λ more. subst (λ (j : ℕ). HasInMemory (tables ++ more) j [] y) (sym here)
+          (swapped.emptied (tables ++ more) has.0 all none (subst (λ (j : ℕ). HasInMemory (tables ++ more) j has.0 x) here (has.1 more))),
+    )
+    by (inr other) = (has.0, λ more t at. subst (λ o. HoldJust t.columns (memtables_at o) has.0) (sym (swapped.others k other)) (has.1 more t at))
+
+pub ok_goes : {T : Type 0} (first kept : Option First) (before now : ℕ) (x : T) → Ends {T = T} first kept before now (Ok x) → first ≡ None → kept ≡ None
+ok_goes None kept before now x ends none = ends
+ok_goes (Some f) kept before now x ends none = absurd cc
+
+module _ {T : Type 0} (t : TableSchema) (n number count : ℕ) (s m : State) (d e : Disk) (c : Change) (x y : ShardState) (told : TableInfo) (files : List (File Held))
+    (table : slice_get s.tables t.number ≡ Some t) (many : length s.shards ≡ s.limits.shards) (there : slice_get s.shards n ≡ Some x) (going : s.journal.first ≡ None)
+    (adds : AddsFile s.tables s.shards n number c) (is_x : adds.x ≡ x) (is_told : adds.told ≡ told) (of_table : c.table ≡ t.number) (low : number ≤ s.last_file)
+    (new : NewFile t (slice_get x.stores t.number) told files) (answer : T) (lists : Lists c (Ok answer) s m d e) (swapped : Swapped t.number count files x y)
+    (all : count ≡ length (frozen_at (slice_get x.stores t.number))) (none : bytes_at (slice_get x.stores t.number) ≡ 0) where
+  abbrev u : State
+  u = record m { shards = slice_set m.shards n y }
+
+  at_m : slice_get m.shards n ≡ Some x
+  at_m = ap (λ (xs : List ShardState). slice_get xs n) lists.shards ∙ there
+
+  at_u : slice_get (slice_set m.shards n y) n ≡ Some y
+  at_u = get_here m.shards n x y at_m
+
+  -- each shard is as it was but for this one
+  each : (k : ℕ) (z : ShardState) → slice_get (slice_set m.shards n y) k ≡ Some z → ((k ≡ n) × (y ≡ z)) ⊎ ((k ≢ n) × (slice_get s.shards k ≡ Some z))
+  each k z got = by (same_place k n)
+    where
+      by : (k ≡ n) ⊎ (k ≢ n) → ((k ≡ n) × (y ≡ z)) ⊎ ((k ≢ n) × (slice_get s.shards k ≡ Some z))
+      by (inl here) = inl (here, same_Some y z (sym at_u ∙ ap (λ (j : ℕ). slice_get (slice_set m.shards n y) j) (sym here) ∙ got))
+      by (inr other) = inr (other, ap (λ (xs : List ShardState). slice_get xs k) (sym lists.shards) ∙ sym (get_other m.shards n k y other) ∙ got)
+
+  numbers : (k : ℕ) (z : ShardState) → slice_get (slice_set m.shards n y) k ≡ Some z → (w : ShardState) × (slice_get m.shards k ≡ Some w) × (z.number ≡ w.number)
+  numbers k z got = by (each k z got)
+    where
+      by : ((k ≡ n) × (y ≡ z)) ⊎ ((k ≢ n) × (slice_get s.shards k ≡ Some z)) → (w : ShardState) × (slice_get m.shards k ≡ Some w) × (z.number ≡ w.number)
+      by (inl (here, same)) =
+          (x, ap (λ (j : ℕ). slice_get m.shards j) here ∙ at_m, ap (λ (q : ShardState). q.number) (sym same) ∙ swapped.number)
+      by (inr (other, at)) = (z, ap (λ (xs : List ShardState). slice_get xs k) lists.shards ∙ at, refl)
+
+  keeps_on : (h : History) (found : List Mutation) (was : Told) → h.tables ≡ s.tables → LastsFor h found s d was → AllByRecursion (λ k. k < number) (said_by was.entries).numbers
+      → GoesOn h found s u d e
+  keeps_on h found was tables so below =
+      let (now, amid) = lists_done s m d e n number c many adds low h found was so below answer lists tables in (
+        (
+          now.0,
+          lasts_again h found m u e e now.0 now.1 now.1.keeps refl refl refl refl refl (λ on. on) numbers (omega arith) refl,
+        ),
+        amid,
+      )
+
+  remembers : Remember s.tables s.shards → Remember m.tables (slice_set m.shards n y)
+  remembers have k j z got = by (each k z got)
+    where
+      by : ((k ≡ n) × (y ≡ z)) ⊎ ((k ≢ n) × (slice_get s.shards k ≡ Some z))
+          → (ws : List Mutation) × ((more : List TableSchema) → HasInMemory (m.tables ++ more) j ws z)
+      by (inl (here, same)) =
+          subst (λ (ts : List TableSchema). (ws : List Mutation) × ((more : List TableSchema) → HasInMemory (ts ++ more) j ws z)) (sym lists.tables)
+          (subst (λ (q : ShardState). (ws : List Mutation) × ((more : List TableSchema) → HasInMemory (s.tables ++ more) j ws q)) same
+          (swapped_has s.tables t.number count files x y swapped all none j (have n j x there)))
+      by (inr (other, at)) =
+          subst (λ (ts : List TableSchema). (ws : List Mutation) × ((more : List TableSchema) → HasInMemory (ts ++ more) j ws z)) (sym lists.tables) (have k j z at)
+
+  module _ (says : SaysSo t (slice_get x.stores t.number) new.file) (h : History) (stands : StandsFor h s) where
+    one_stands : (q : ShardHistory) → Stands s.tables q x → Stands s.tables q y
+    one_stands q so =
+        swapped.stands s.tables q new.file new.are
+        (subst (λ (ms : List MemPart). SaysWhatTheyDo (order_at s.tables t.number) ms new.file)
+        (sym (take_all count (frozen_at (slice_get x.stores t.number)) (omega (arith, all)))) (says s.tables table)) so
+
+    now_stands : StandsFor (with_disk h u) u
+    now_stands =
+        stands_again h s u stands lists.limits lists.tables lists.clock lists.list lists.session lists.calls (length_set m.shards n y ∙ ap length lists.shards) by
+      where
+        by : (k : ℕ) (z : ShardState) → slice_get (slice_set m.shards n y) k ≡ Some z
+            → (w : ShardState) × (slice_get s.shards k ≡ Some w) × ((q : ShardHistory) → Stands s.tables q w → Stands s.tables q z)
+        by k z got = at (each k z got)
+          where
+            at : ((k ≡ n) × (y ≡ z)) ⊎ ((k ≢ n) × (slice_get s.shards k ≡ Some z))
+                → (w : ShardState) × (slice_get s.shards k ≡ Some w) × ((q : ShardHistory) → Stands s.tables q w → Stands s.tables q z)
+            at (inl (here, same)) =
+                (x, ap (λ (j : ℕ). slice_get s.shards j) here ∙ there, λ q so. subst (λ (v : ShardState). Stands s.tables q v) same (one_stands q so))
+            at (inr (other, got)) = (z, got, λ q so. so)
+
+    frontier_is : c.frontier ≡ number_of (shard_at h n)
+    frontier_is =
+        let one : Stands h.tables (shard_at h n) x = stands.shards n x there in
+        adds.is.frontier.0 ∙ ap (λ (q : ShardState). q.number) is_x ∙ one.number
+
+    flushed : FlushedOne t n (shard_at h n) (Some c) (disk_of s) (disk_of u)
+    flushed = record {
+      files = (
+        new.file,
+        files_there (slice_set m.shards n y) n t.number y at_u ∙ swapped.files_are ∙ new.are ∙ ap (λ (fs : List (File Held)). fs ++ new.file ∷ []) (sym (files_there s.shards n t.number x there)),
+        record {
+          of_table = of_table;
+          of_shard = adds.is.of_shard;
+          frontier = frontier_is;
+          removed = adds.is.removed;
+          added = adds.is.added ∙ ap (λ (i : TableInfo). i ∷ []) (is_told ∙ sym new.info);
+        },
+      );
+      others = λ k j other. by k j other (same_place k n);
+      all =
+          all_in_files h u t n y now_stands (ap (λ (ts : List TableSchema). slice_get ts t.number) lists.tables ∙ table) at_u
+          (subst (SayNothing (clustering_order t.columns)) (sym swapped.memory) (rest_says_nothing (clustering_order t.columns) (slice_get x.stores t.number) count none all));
+      reach = lists.reach;
+      stopped = ap is_some (ok_goes s.journal.first m.journal.first s.faults m.faults answer lists.outcome going);
+    }
+      where
+        by : (k j : ℕ) → ((k ≡ n) × (j ≡ t.number) → ⊥) → (k ≡ n) ⊎ (k ≢ n) → files_in (slice_set m.shards n y) k j ≡ files_in s.shards k j
+        by k j other (inl here) =
+            ap (λ (i : ℕ). files_in (slice_set m.shards n y) i j) here ∙ files_there (slice_set m.shards n y) n j y at_u
+            ∙ ap files_at (swapped.others j (λ same. other (here, same))) ∙ sym (files_there s.shards n j x there) ∙ ap (λ (i : ℕ). files_in s.shards i j) (sym here)
+        by k j other (inr apart) =
+            ap (λ o. files_of o j) (get_other m.shards n k y apart ∙ ap (λ (xs : List ShardState). slice_get xs k) lists.shards)
+
+    ends : EndsIn t n (shard_at h n) (Ok (Some number)) (disk_of s) (disk_of u)
+    ends = (
+      Some c,
+      ap (λ (is : List TableInfo). map (λ i. i.number) is) adds.is.added ∙ ap (λ (k : ℕ). k ∷ []) adds.numbered,
+      flushed,
+    )
+
+  pub takes_file : TakesFile t n number (SaysSo t (slice_get x.stores t.number) new.file) (Ok (Some number)) s u d e
+  takes_file = record {
+    beside = record {
+      limits = lists.limits;
+      tables = lists.tables;
+      list = lists.list;
+      calls = lists.calls;
+      accepted = lists.accepted;
+      faults = lists.faults;
+      reads = omega (arith, lists.reads);
+      tells = lists.tells;
+    };
+    lasts = keeps_on;
+    moves = λ says have h stands. (now_stands says h stands, remembers have, ends says h stands);
+    own = tt;
+  }
+
+-- the same, where the table is looked at by its place
+pub takes_file_at : {T : Type 0} (t : TableSchema) (n number count k : ℕ) (s m : State) (d e : Disk) (c : Change) (x y : ShardState) (told : TableInfo) (files : List (File Held))
+    (answer : T) → t.number ≡ k → slice_get s.tables k ≡ Some t → length s.shards ≡ s.limits.shards → slice_get s.shards n ≡ Some x → s.journal.first ≡ None
+    → (adds : AddsFile s.tables s.shards n number c) → adds.x ≡ x → adds.told ≡ told → c.table ≡ k → number ≤ s.last_file → (new : NewFile t (slice_get x.stores k) told files)
+    → Lists c (Ok answer) s m d e → Swapped k count files x y → count ≡ length (frozen_at (slice_get x.stores k)) → bytes_at (slice_get x.stores k) ≡ 0
+    → TakesFile t n number (SaysSo t (slice_get x.stores k) new.file) (Ok (Some number)) s (record m { shards = slice_set m.shards n y }) d e
+takes_file_at t n number count k s m d e c x y told files answer same table many there going adds is_x is_told of_table low new lists swapped all none =
+    subst (λ (j : ℕ). slice_get s.tables j ≡ Some t → c.table ≡ j → (new : NewFile t (slice_get x.stores j) told files) → Swapped j count files x y
+    → count ≡ length (frozen_at (slice_get x.stores j)) → bytes_at (slice_get x.stores j) ≡ 0
+    → TakesFile t n number (SaysSo t (slice_get x.stores j) new.file) (Ok (Some number)) s (record m { shards = slice_set m.shards n y }) d e) same
+    (λ table of_table new swapped all none.
+    takes_file t n number count s m d e c x y told files table many there going adds is_x is_told of_table low new answer lists swapped all none) table of_table new swapped all none
+
+-- ---- it isn't listed
+
+module _ (t : TableSchema) (n number : ℕ) (s m : State) (d e : Disk) (c : Change) (many : length s.shards ≡ s.limits.shards) (going : s.journal.first ≡ None)
+    (adds : AddsFile s.tables s.shards n number c) (low : number ≤ s.last_file) where
+  why_unlisted : (f : JournalFault) (first : Option First) → first ≡ None → Ends {T = Unit {0}} first m.journal.first s.faults m.faults (Err f)
+      → WhyNoFurther (disk_of s) (disk_of m) (fault_for f)
+  why_unlisted (journal.TooLarge long most) None none ends = absurd ends
+  why_unlisted (journal.TooMany what most) None none ends = (refl, ap is_some ends)
+  why_unlisted (journal.Stopped first) None none ends = absurd ends
+  why_unlisted journal.Failed None none ends = inl ends.0
+  why_unlisted journal.Mem None none ends = ap is_some ends
+  why_unlisted f (Some first) none ends = absurd cc
+
+  own_fault : (f : JournalFault) (first : Option First) → first ≡ None → Ends {T = Unit {0}} first m.journal.first s.faults m.faults (Err f) → IsOwn (fault_for f)
+  own_fault (journal.TooLarge long most) first none ends = tt
+  own_fault (journal.TooMany what most) first none ends = tt
+  own_fault (journal.Stopped kept) None none ends = absurd ends
+  own_fault (journal.Stopped kept) (Some first) none ends = absurd cc
+  own_fault journal.Failed first none ends = tt
+  own_fault journal.Mem first none ends = tt
+
+  pub takes_none : (Says : Type 0) (f : JournalFault) → Lists {T = Unit {0}} c (Err f) s m d e → TakesFile t n number Says (Err (fault_for f)) s m d e
+  takes_none Says f lists = record {
+    beside = record {
+      limits = lists.limits;
+      tables = lists.tables;
+      list = lists.list;
+      calls = lists.calls;
+      accepted = lists.accepted;
+      faults = lists.faults;
+      reads = omega (arith, lists.reads);
+      tells = lists.tells;
+    };
+    lasts = λ h found was tables lasts below. lists_failed s m d e n number c many adds low h found was lasts below (Unit {0}) f lists tables;
+    moves = λ says have h stands. (
+      stands_again h s m stands lists.limits lists.tables lists.clock lists.list lists.session lists.calls (ap length lists.shards)
+          (λ k z got. (z, ap (λ (xs : List ShardState). slice_get xs k) (sym lists.shards) ∙ got, λ q so. so)),
+      subst (λ (xs : List ShardState). Remember m.tables xs) (sym lists.shards) (subst (λ (ts : List TableSchema). Remember ts s.shards) (sym lists.tables) have),
+      record {
+        files = λ k table. ap (λ (xs : List ShardState). files_in xs k table) lists.shards;
+        reach = lists.reach;
+        why = why_unlisted f s.journal.first going lists.outcome;
+      },
+    );
+    own = own_fault f s.journal.first going lists.outcome;
+  }
+
+pub takes_none_as : (t : TableSchema) (n number : ℕ) (s m : State) (d e : Disk) (c : Change) (Says : Type 0) (f : JournalFault) (r : Fault) → length s.shards ≡ s.limits.shards
+    → s.journal.first ≡ None → AddsFile s.tables s.shards n number c → number ≤ s.last_file → Lists {T = Unit {0}} c (Err f) s m d e → r ≡ fault_for f
+    → TakesFile t n number Says (Err r) s m d e
+takes_none_as t n number s m d e c Says f r many going adds low lists is =
+    subst (λ (x : Fault). TakesFile t n number Says (Err x) s m d e) (sym is) (takes_none t n number s m d e c many going adds low Says f lists)
+
+-- memory ran out before
+pub takes_nothing : (t : TableSchema) (n number : ℕ) (Says : Type 0) (s : State) (d : Disk) → s.journal.first ≡ None → TakesFile t n number Says (Err Mem) s s d d
+takes_nothing t n number Says s d going = record {
+  beside = quiet_beside s s d d (quiet_still s d);
+  lasts = λ h found was tables lasts below. quiet_goes s s d d (quiet_still s d) h found was tables lasts;
+  moves = λ says. quiet_fails t n s s d d (quiet_still s d) going Mem tt;
+  own = tt;
+}
+
+-- ---- all steps
+
+-- how it ends, since an earlier moment with the same files
+ends_since : (t : TableSchema) (n : ℕ) (q : ShardHistory) (r : Result (Option ℕ) Fault) (d m e : DiskState) → ((k j : ℕ) → m.files k j ≡ d.files k j) → m.reach ≡ d.reach
+    → d.faults ≤ m.faults → d.reads ≤ m.reads → EndsIn t n q r m e → EndsIn t n q r d e
+ends_since t n q (Ok told) d m e files reach faults reads (c, numbers, one) = (
+  c,
+  numbers,
+  record {
+    files = subst (λ (fs : List (File Held)). Grows t.number n (number_of q) c fs (e.files n t.number)) (files n t.number) one.files;
+    others = λ k j other. one.others k j other ∙ files k j;
+    all = one.all;
+    reach = one.reach ∙ ap (λ (r : Reach). reach_by r c) reach;
+    stopped = one.stopped;
+  },
+)
+ends_since t n q (Err f) d m e files reach faults reads none =
+    record { files = λ k j. none.files k j ∙ files k j; reach = none.reach ∙ reach; why = by f none.why }
+  where
+    by : (f : Fault) → WhyNoFurther m e f → WhyNoFurther d e f
+    by (Refused why) is = is
+    by (Stopped first) is = is
+    by (Failed None) (inl rose) = inl (rose_since d.faults m.faults e.faults faults rose)
+    by (Failed None) (inr rose) = inr (rose.0, rose_since d.reads m.reads e.reads reads rose.1)
+    by (Failed (Some number)) is = is
+    by Read rose = (rose.0, rose_since d.reads m.reads e.reads reads rose.1)
+    by (BadBlock number at) is = is
+    by Mem is = is
+
+-- quiet steps, and then the file is listed or not
+pub flushes_then : (t : TableSchema) (n number last : ℕ) (Says : Type 0) (r : Result (Option ℕ) Fault) (s m u : State) (d e f : Disk) → Quiet s m d e
+    → TakesFile t n number Says r m u e f → s.last_file ≤ last → last < number → ((c : Image) → d.reads c → Remember s.tables s.shards → Says) → FlushesOne t n r s u d f
+flushes_then t n number last Says r s m u d e f quiet takes low above says = record {
+  beside = beside_then s m u d e f (quiet_beside s m d e quiet) takes.beside;
+  lasts = λ h found told tables lasts.
+      let (now, amid) = takes.lasts h found told (tables ∙ sym quiet.tables) (quiet_lasts s m d e quiet h found told lasts)
+      (below_next s.last_file number (said_by told.entries).numbers (omega (arith, low, above)) lasts.behind.numbers) in
+      (now, amid_then h found s m d e f quiet.list (quiet_amid s m d e quiet h found told tables lasts) amid);
+  moves = λ c reads have h stands.
+      let (now, kept, ends) = takes.moves (says c reads have) (quiet_remembers s m d e quiet have) (with_disk h m) (quiet_stands s m d e quiet h stands) in (
+        now,
+        kept,
+        ends_since t n (shard_at h n) r (disk_of s) (disk_of m) (disk_of u) (λ k j. files_again s.shards m.shards quiet.shards k j) (ap reach_of quiet.journal) quiet.faults quiet.reads
+            ends,
+      );
+  own = takes.own;
+}
+
+-- quiet steps alone
+pub flushes_quietly : (t : TableSchema) (n : ℕ) (r : Result (Option ℕ) Fault) (s u : State) (d e : Disk) → Quiet s u d e
+    → ((c : Image) → d.reads c → Remember s.tables s.shards → Moved (λ h. EndsIn t n (shard_at h n) r) s u) → IfErr r IsOwn → FlushesOne t n r s u d e
+flushes_quietly t n r s u d e quiet moves own = record {
+  beside = quiet_beside s u d e quiet;
+  lasts = λ h found told tables lasts. quiet_goes s u d e quiet h found told tables lasts;
+  moves = λ c reads have h stands. moves c reads have have h stands;
+  own = own;
+}

@@ -1,0 +1,115 @@
+-- What a flush of a table does, in the words of the history: what each shard has of it in memory comes into one table file more. No SELECT shows more or less.
+-- Cassandra documentation, "nodetool flush"; "Storage engine: memtables, SSTables"; the numbers of files and of faults are own.
+use Rattle.std.specs.Prelude.{◌≡◌, ◌⊎◌, ℕ, ◌≤◌, ◌<◌, true, false, Option, None, Some, Result, Ok, Err, List, [], ◌∷◌, ◌++◌, length, slice_get, slice_index_or}
+use Rattle.std.specs.List.{flat_map, fold}
+use Rattle.cas_types.specs.declared.schema.TableSchema.{TableSchema}
+use Rattle.cas_bounds.specs.ClusteringOrder.{clustering_order}
+use Rattle.cas_bounds.specs.declared.order.Ordered.{Ordered}
+use Rattle.cas_io.specs.Causes.{Rose}
+use Rattle.cas_atoms.specs.declared.atom.Mutation.{Mutation}
+use Rattle.cas_changes.specs.declared.entry.Change.{Change}
+use Rattle.cas_changes.specs.declared.entry.Entry.TheVariants.{Change as change_entry}
+use Rattle.cas_journal.specs.Reach.{Reach}
+use Rattle.cas_memtable.specs.Kept.{all_of}
+use Rattle.cas_room.specs.Changing.{added_by}
+use Rattle.cas_shard.specs.Flushing.{HasInMemory}
+use Rattle.cas_shard.specs.Shards.{all_entries, number_of}
+use Rattle.cas_shard.specs.Stands.{SaySame, ShardState, mutations_of}
+use Rattle.cas_sstread.specs.Loading.{Held}
+use Rattle.cas_stored.specs.Stored.{HoldEach}
+use Rattle.cas_view.specs.Views.{File}
+use Rattle.cas_effects.specs.declared.refusal.Refusal.TheVariants.{NoTable}
+use Rattle.cas_effects.specs.declared.refusal.TheConstants.{TOO_MANY}
+use Rattle.cas_effects.specs.Refusals.{refusal_number}
+use Rattle.cas_terms.specs.Columns.{table_named}
+use Rattle.cql_parse.specs.declared.syntax.TableName.{TableName}
+use Rattle.cas_sessions.specs.declared.answer.Fault.{Fault}
+use Rattle.cas_sessions.specs.declared.answer.Fault.TheVariants.{Refused, Stopped, Disk, Read, BadBlock, Mem}
+use Rattle.cas_sessions.specs.History.{History, DiskState, reach_with, shard_at}
+
+-- in memory each shard has just some mutations of each table, each of which the table may hold; and so it is with whatever tables come behind these
+abbrev pub Remember : List TableSchema → List ShardState → Type 0
+Remember tables shards = (n table : ℕ) (x : ShardState) → slice_get shards n ≡ Some x
+    → (ws : List Mutation) × ((more : List TableSchema) → HasInMemory (tables ++ more) table ws x)
+
+-- ---- one shard
+
+-- The change by which the manifest lists the file of a flush, of a table in a shard: it takes no file away, adds this one, and tells that the table's files hold
+-- the shard's mutations up to that number.
+pub record ListsOne (table shard number : ℕ) (f : File Held) (c : Change) : Type 0 where
+  pub of_table : c.table ≡ table
+  pub of_shard : c.shard ≡ shard
+  pub frontier : c.frontier ≡ number
+  pub removed : c.removed ≡ []
+  pub added : c.added ≡ f.info ∷ []
+
+-- a table's files in a shard are those that it had, where nothing was listed; or, by such a change, those and one more behind them
+abbrev pub Grows : ℕ → ℕ → ℕ → Option Change → List (File Held) → List (File Held) → Type 0
+Grows table shard number None before after = after ≡ before
+Grows table shard number (Some c) before after = (f : File Held) × (after ≡ before ++ f ∷ []) × ListsOne table shard number f c
+
+-- in the files stand, file by file, mutations that say the same as these, and no more
+pub record AreInFiles (order : List Ordered) (files : List (File Held)) (ws : List Mutation) : Type 0 where
+  pub places : List (List Mutation)
+  pub stand : HoldEach order files [] places
+  pub says : SaySame (all_of places) ws
+
+-- ---- the shards, one after another
+
+-- the numbers of the files that changes add, in the order of the shards
+abbrev pub numbers_in : Option Change → List ℕ
+numbers_in None = []
+numbers_in (Some c) = added_by c
+
+abbrev pub numbers_added : List (Option Change) → List ℕ
+numbers_added changes = flat_map numbers_in changes
+
+-- the change of the shard of that number, if there is one
+abbrev pub change_of : List (Option Change) → ℕ → Option Change
+change_of changes n = slice_index_or changes n None
+
+-- how far the files have come with a change, if there is one
+abbrev pub reach_by : Reach → Option Change → Reach
+reach_by r None = r
+reach_by r (Some c) = reach_with (change_entry c) r
+
+-- The first shards were flushed, with these changes, one of each: all that was written to the table in them stands in its files. No other file is touched.
+pub record Flushed (h : History) (t : TableSchema) (changes : List (Option Change)) (e : DiskState) : Type 0 where
+  pub files : (n : ℕ) → Grows t.number n (number_of (shard_at h n)) (change_of changes n) (h.disk.files n t.number) (e.files n t.number)
+  pub others : (n k : ℕ) → (k ≡ t.number → ⊥) → e.files n k ≡ h.disk.files n k
+  pub all : (n : ℕ) → n < length changes
+      → AreInFiles (clustering_order t.columns) (e.files n t.number) (mutations_of t.number (all_entries (shard_at h n)))
+  pub reach : e.reach ≡ fold reach_by h.disk.reach changes
+  pub faults : h.disk.faults ≤ e.faults
+  pub reads : h.disk.reads ≤ e.reads
+
+-- Why a flush goes no further: there is too much of something; the folder failed, or writing a file, which is counted with the reads; or a read of the new file.
+-- Only a failed write stops all further ones. No file that was just written is bad.
+abbrev pub WhyNoFurther : DiskState → DiskState → Fault → Type 0
+WhyNoFurther d e (Refused why) = (why ≡ TOO_MANY) × (e.stopped ≡ false)
+WhyNoFurther d e (Stopped first) = ⊥
+WhyNoFurther d e (Disk None) = Rose d.faults e.faults ⊎ ((e.stopped ≡ false) × Rose d.reads e.reads)
+WhyNoFurther d e (Disk (Some number)) = ⊥
+WhyNoFurther d e Read = (e.stopped ≡ false) × Rose d.reads e.reads
+WhyNoFurther d e (BadBlock number at) = ⊥
+WhyNoFurther d e Mem = e.stopped ≡ false
+
+-- how a flush ends that no earlier fault stopped: all shards are flushed, and the new files' numbers are told; or only the first ones are, and why
+abbrev pub EndsSo : History → List (Option Change) → Result (List ℕ) Fault → DiskState → Type 0
+EndsSo h changes (Ok told) e = (length changes ≡ length h.shards) × (told ≡ numbers_added changes) × (e.stopped ≡ false)
+EndsSo h changes (Err f) e = (length changes < length h.shards) × WhyNoFurther h.disk e f
+
+-- A flush of the table: an earlier fault stopped it, and nothing is done; or shards are flushed, from the first on, and all but the disk is as it was.
+abbrev pub FlushesTable : History → TableSchema → Result (List ℕ) Fault → History → Type 0
+FlushesTable h t (Err (Stopped first)) after = (h.disk.stopped ≡ true) × (after ≡ h)
+FlushesTable h t r after = (changes : List (Option Change)) × (e : DiskState) × (h.disk.stopped ≡ false) × Flushed h t changes e × EndsSo h changes r e
+    × (after ≡ record h { disk = e })
+
+-- of the table that is named so, if there is one
+abbrev pub FlushesNamed : History → Option TableSchema → Result (List ℕ) Fault → History → Type 0
+FlushesNamed h None r after = (r ≡ Err (Refused (refusal_number NoTable))) × (after ≡ h)
+FlushesNamed h (Some t) r after = FlushesTable h t r after
+
+-- what a flush of the table of that name is answered, and what becomes of the store
+abbrev pub Flushes : History → TableName → Result (List ℕ) Fault → History → Type 0
+Flushes h name r after = FlushesNamed h (table_named h.tables name) r after

@@ -1,0 +1,304 @@
+-- The steps of a flush of a table in a shard (own).
+use Rattle.std.specs.Prelude.{◌≡◌, ◌⊎◌, ℕ, ◌+◌, ◌≤◌, ◌<◌, false, Option, None, Some, Result, Ok, Err, IfErr, MatchResult, List, [], ◌∷◌, ◌++◌, length, slice_get}
+use Rattle.std.specs.List.{AllByRecursion}
+use Rattle.cas_types.specs.Limits.{IsMoment}
+use Rattle.cas_types.specs.declared.limits.TheConstants.{MUTATION_LIMIT}
+use Rattle.cas_types.specs.declared.schema.TableSchema.{TableSchema}
+use Rattle.cas_bounds.specs.ClusteringOrder.{clustering_order}
+use Rattle.cas_io.specs.Causes.{Rose}
+use Rattle.cas_disk.specs.Disk.{Disk, Image, Leaves}
+use Rattle.cas_disk.specs.declared.fault.FolderFault.{FolderFault}
+use Rattle.cas_disk.specs.declared.fault.FolderFault.TheVariants as folder
+use Rattle.cas_atoms.specs.declared.atom.Mutation.{Mutation}
+use Rattle.cas_changes.specs.Allowed.{FitsEntry, IsDrawn}
+use Rattle.cas_changes.specs.Saying.{said_by}
+use Rattle.cas_changes.specs.declared.entry.Change.{Change}
+use Rattle.cas_changes.specs.declared.entry.Entry.TheVariants.{Change as change_entry}
+use Rattle.cas_effects.specs.declared.refusal.TheConstants.{TOO_MANY}
+use Rattle.cas_flush.specs.Flushed.{SayWhatIsHeld, any}
+use Rattle.cas_flushing.specs.Flushed.{IsOpened, WhyUnopened}
+use Rattle.cas_info.specs.Allowed.{FitsInfo}
+use Rattle.cas_info.specs.declared.info.TableInfo.{TableInfo}
+use Rattle.cas_journal.specs.Ends.{Ends}
+use Rattle.cas_journal.specs.Reach.{reach_of, reach_after}
+use Rattle.cas_journal.specs.Stores.{Told, Holds, appended, committed_all}
+use Rattle.cas_journal.specs.declared.fault.JournalFault.{JournalFault}
+use Rattle.cas_memtable.specs.Kept.{HoldJust}
+use Rattle.cas_room.specs.Changing.{MayBeTold, StandsAmid}
+use Rattle.cas_room.specs.declared.fault.FreshFault.{FreshFault}
+use Rattle.cas_room.specs.declared.fault.FreshFault.TheVariants as fresh
+use Rattle.cas_room.specs.Keeping.{Keeps}
+use Rattle.cas_room.specs.Rooms.{accepted_in}
+use Rattle.cas_shard.specs.Flushing.{HasInMemory, SaysWhatTheyDo, frozen_at, memtables_at}
+use Rattle.cas_shard.specs.Shards.{ShardHistory, all_entries, number_of}
+use Rattle.cas_shard.specs.Stands.{KeepsFiles, ShardState, Stands, files_at, mutations_of, order_at}
+use Rattle.cas_sstread.specs.Loading.{Held}
+use Rattle.cas_sstread.specs.declared.fault.TableFault.{TableFault}
+use Rattle.cas_sstread.specs.declared.fault.TableFault.TheVariants as load
+use Rattle.cas_sstwrite.specs.declared.fault.WriteFault.{WriteFault}
+use Rattle.cas_sstwrite.specs.declared.fault.WriteFault.TheVariants as write
+use Rattle.cas_stored.specs.Stored.{StoredTable}
+use Rattle.cas_tables.specs.declared.header.Version.TheVariants.{Second}
+use Rattle.cas_view.specs.Views.{File}
+use Rattle.cas_sessions.specs.declared.answer.Fault.{Fault}
+use Rattle.cas_sessions.specs.declared.answer.Fault.TheVariants.{Refused, Stopped, Disk as Failed, Read, BadBlock, Mem}
+use Rattle.cas_sessions.specs.Flushes.{AreInFiles, Flushed, Grows, Remember, WhyNoFurther, numbers_added, numbers_in, reach_by}
+use Rattle.cas_sessions.specs.History.{History, DiskState, shard_at}
+use Rattle.cas_sessions.specs.Entered.{IsLeftAmid}
+use Rattle.cas_sessions.specs.Nodes.{State, StandsFor, LastsFor, disk_of}
+
+-- ---- shards
+
+-- a shard goes on as what it was: it has its number and its files, stands for what it stood for, and has in memory what it had
+pub record GoesOnAs (x y : ShardState) : Type 0 where
+  pub number : y.number ≡ x.number
+  pub files : KeepsFiles x y
+  pub stands : (tables : List TableSchema) (s : ShardHistory) → Stands tables s x → Stands tables s y
+  pub memory : (tables : List TableSchema) (n : ℕ) (ws : List Mutation) → HasInMemory tables n ws x → HasInMemory tables n ws y
+
+-- so does each shard
+pub record AllGoOn (xs ys : List ShardState) : Type 0 where
+  pub count : length ys ≡ length xs
+  pub each : (n : ℕ) (y : ShardState) → slice_get ys n ≡ Some y → (x : ShardState) × (slice_get xs n ≡ Some x) × GoesOnAs x y
+
+-- ---- steps before the manifest gets the change
+
+-- Nothing is told to the journal, and no memtable is let go of: what else changes is of table files that no manifest lists.
+pub record Quiet (s t : State) (d e : Disk) : Type 0 where
+  pub limits : t.limits ≡ s.limits
+  pub tables : t.tables ≡ s.tables
+  pub clock : t.clock ≡ s.clock
+  pub list : t.list ≡ s.list
+  pub session : t.session ≡ s.session
+  pub calls : t.calls ≡ s.calls
+  pub accepted : t.accepted ≡ s.accepted
+  pub committed : t.committed ≡ s.committed
+  pub journal : t.journal ≡ s.journal
+  pub live : t.live ≡ s.live
+  pub shards : AllGoOn s.shards t.shards
+  pub last : s.last_file ≤ t.last_file
+  pub faults : s.faults ≤ t.faults
+  pub reads : s.reads ≤ t.reads
+  pub keeps : (found : List Mutation) (told : Told) → Keeps s.journal d s.list s.committed found told → Keeps t.journal e t.list t.committed found told
+  pub crash : (found : List Mutation) (told : Told) → Keeps s.journal d s.list s.committed found told → Leaves (λ c. Holds told c) d e
+  pub tells : (c : Image) → d.reads c → (b : Image) × e.reads b
+
+-- ---- the manifest gets the change
+
+-- The manifest gets the entry of a change, once all is committed, or it fails.
+pub record Lists {T : Type 0} (c : Change) (result : Result T JournalFault) (s t : State) (d e : Disk) : Type 0 where
+  pub limits : t.limits ≡ s.limits
+  pub tables : t.tables ≡ s.tables
+  pub shards : t.shards ≡ s.shards
+  pub clock : t.clock ≡ s.clock
+  pub list : t.list ≡ s.list
+  pub session : t.session ≡ s.session
+  pub calls : t.calls ≡ s.calls
+  pub accepted : t.accepted ≡ s.accepted
+  pub rises : s.committed ≤ t.committed
+  pub last : t.last_file ≡ s.last_file
+  pub reads : t.reads ≡ s.reads
+  pub faults : s.faults ≤ t.faults
+  pub live : MatchResult result (λ x. t.live ≡ s.live + 1) (λ f. t.live ≡ s.live)
+  pub all : MatchResult result (λ x. t.committed ≡ s.accepted) (λ f. Unit {0})
+  pub keeps : (found : List Mutation) (told : Told) → Keeps s.journal d s.list s.committed found told → FitsEntry (said_by told.entries) (change_entry c)
+      → MatchResult result (λ x. Keeps t.journal e t.list t.committed found (appended (change_entry c) (committed_all told)))
+      (λ f. (u : Told) × MayBeTold f (change_entry c) told u × Keeps t.journal e t.list t.committed found u)
+  pub front : (found : List Mutation) (told : Told) → Keeps s.journal d s.list s.committed found told → FitsEntry (said_by told.entries) (change_entry c)
+      → Leaves (λ i. StandsAmid told (change_entry c) found (accepted_in s.list) s.committed i) d e
+  pub outcome : Ends s.journal.first t.journal.first s.faults t.faults result
+  pub reach : reach_of t.journal ≡ reach_after result (change_entry c) (reach_of s.journal)
+  pub tells : (i : Image) → d.reads i → (b : Image) × e.reads b
+
+-- ---- the new file
+
+-- Files are those that a table has in a shard, and behind them one more, of which that is told: it is open, and has one of these bytes, where the folder tells any.
+pub record HasOneMore (t : TableSchema) (shard : ℕ) (told : TableInfo) (Bytes : List ℕ → Type 0) (Tells : Type 0) (before files : List (File Held)) : Type 0 where
+  pub file : File Held
+  pub are : files ≡ before ++ file ∷ []
+  pub bytes : Option (List ℕ)
+  pub opened : IsOpened t shard told bytes file
+  pub written : (b : List ℕ) → bytes ≡ Some b → Bytes b
+  pub is_told : Tells → (b : List ℕ) × (bytes ≡ Some b)
+
+-- why it isn't, by the folder's count of faults before and now, and that of reads: the folder failed, a read did, memory ran out; or that place of it is bad
+abbrev pub WhyNoneMore : TableSchema → ℕ → TableInfo → (List ℕ → Type 0) → Type 0 → ℕ → ℕ → ℕ → ℕ → Fault → Type 0
+WhyNoneMore t shard told Bytes Tells faults now reads reads_now (Refused why) = ⊥
+WhyNoneMore t shard told Bytes Tells faults now reads reads_now (Stopped first) = ⊥
+WhyNoneMore t shard told Bytes Tells faults now reads reads_now (Failed None) = Rose faults now
+WhyNoneMore t shard told Bytes Tells faults now reads reads_now (Failed (Some number)) = ⊥
+WhyNoneMore t shard told Bytes Tells faults now reads reads_now Read = Rose reads reads_now
+WhyNoneMore t shard told Bytes Tells faults now reads reads_now (BadBlock number at) = Tells → (b : List ℕ) × Bytes b × WhyUnopened t shard told (Some b) (load.BadBlock number at)
+WhyNoneMore t shard told Bytes Tells faults now reads reads_now Mem = Unit {0}
+
+-- These files are those that a table has stored in a shard, and behind them a new one, of which that is told, open to be read in slices.
+pub record NewFile (t : TableSchema) (o : Option StoredTable) (told : TableInfo) (files : List (File Held)) : Type 0 where
+  pub fits : FitsInfo told
+  pub file : File Held
+  pub are : files ≡ files_at o ++ file ∷ []
+  pub info : file.info ≡ told
+  pub columns : file.table.columns ≡ t.columns
+  pub version : file.table.kept.version ≡ Second
+
+-- the file says what the frozen memtables do
+abbrev pub SaysSo : TableSchema → Option StoredTable → File Held → Type 0
+SaysSo t o f = (tables : List TableSchema) → slice_get tables t.number ≡ Some t → SaysWhatTheyDo (order_at tables t.number) (frozen_at o) f
+
+-- The frozen memtables were written to it, under a number above the last; and where the folder tells what it reads, it says what they do.
+pub record IsMade (t : TableSchema) (o : Option StoredTable) (Tells : Type 0) (last : ℕ) (told : TableInfo) (files : List (File Held)) : Type 0 where
+  pub new : NewFile t o told files
+  pub above : last < told.number
+  pub says : Tells → (ws : List Mutation) → HoldJust t.columns (memtables_at o) ws → SaysSo t o new.file
+
+-- they hold nothing: a file without partitions would say what they do
+abbrev pub HoldsNothing : TableSchema → Option StoredTable → Type 0
+HoldsNothing t o = (ws : List Mutation) → HoldJust t.columns (memtables_at o) ws → SayWhatIsHeld t.columns (frozen_at o) any []
+
+-- a fault of this flush: not an earlier one that stopped the store, nor of a mutation
+abbrev pub IsOwn : Fault → Type 0
+IsOwn (Refused why) = Unit {0}
+IsOwn (Stopped first) = ⊥
+IsOwn (Failed None) = Unit {0}
+IsOwn (Failed (Some number)) = ⊥
+IsOwn Read = Unit {0}
+IsOwn (BadBlock number at) = Unit {0}
+IsOwn Mem = Unit {0}
+
+-- why there is neither, by the same counts
+abbrev pub WhyNotMade : ℕ → ℕ → ℕ → ℕ → Fault → Type 0
+WhyNotMade faults now reads reads_now (Refused why) = why ≡ TOO_MANY
+WhyNotMade faults now reads reads_now (Stopped first) = ⊥
+WhyNotMade faults now reads reads_now (Failed None) = Rose faults now ⊎ Rose reads reads_now
+WhyNotMade faults now reads reads_now (Failed (Some number)) = ⊥
+WhyNotMade faults now reads reads_now Read = Rose reads reads_now
+WhyNotMade faults now reads reads_now (BadBlock number at) = ⊥
+WhyNotMade faults now reads reads_now Mem = Unit {0}
+
+-- ---- a shard, and all of them
+
+-- A table was flushed in a shard, with this change, if there was anything: between how the disk stood and stands.
+pub record FlushedOne (t : TableSchema) (n : ℕ) (q : ShardHistory) (c : Option Change) (d e : DiskState) : Type 0 where
+  pub files : Grows t.number n (number_of q) c (d.files n t.number) (e.files n t.number)
+  pub others : (k table : ℕ) → ((k ≡ n) × (table ≡ t.number) → ⊥) → e.files k table ≡ d.files k table
+  pub all : AreInFiles (clustering_order t.columns) (e.files n t.number) (mutations_of t.number (all_entries q))
+  pub reach : e.reach ≡ reach_by d.reach c
+  pub stopped : e.stopped ≡ false
+
+-- it wasn't: no file is another
+pub record NotFlushed (d e : DiskState) (f : Fault) : Type 0 where
+  pub files : (k table : ℕ) → e.files k table ≡ d.files k table
+  pub reach : e.reach ≡ d.reach
+  pub why : WhyNoFurther d e f
+
+-- a number, if there is one
+abbrev pub listed_of : Option ℕ → List ℕ
+listed_of None = []
+listed_of (Some n) = n ∷ []
+
+-- how a flush in a shard ends: with the number of its file, if there is one
+abbrev pub EndsIn : TableSchema → ℕ → ShardHistory → Result (Option ℕ) Fault → DiskState → DiskState → Type 0
+EndsIn t n q (Ok told) d e = (c : Option Change) × (numbers_in c ≡ listed_of told) × FlushedOne t n q c d e
+EndsIn t n q (Err f) d e = NotFlushed d e f
+
+-- ---- the change
+
+-- the change that lists the file of a flush, of which this is told, of a table in that shard
+pub record IsChangeFor (table place : ℕ) (told : TableInfo) (x : ShardState) (c : Change) : Type 0 where
+  pub of_table : c.table ≡ table
+  pub of_shard : c.shard ≡ place
+  pub moment : IsMoment c.moment
+  pub frontier : (c.frontier ≡ x.number) × (c.frontier ≤ MUTATION_LIMIT)
+  pub drawn : IsDrawn c.drawn
+  pub removed : c.removed ≡ []
+  pub added : c.added ≡ told ∷ []
+
+-- the change adds the file of that number, which may be told, to a table of the store in that shard
+pub record AddsFile (tables : List TableSchema) (shards : List ShardState) (place number : ℕ) (c : Change) : Type 0 where
+  pub told : TableInfo
+  pub x : ShardState
+  pub there : slice_get shards place ≡ Some x
+  pub is : IsChangeFor c.table place told x c
+  pub table : c.table < length tables
+  pub fits : FitsInfo told
+  pub numbered : told.number ≡ number
+
+-- all but the disk is as it was, its counts don't fall, and a folder that tells what it reads goes on telling it
+pub record IsBeside (s u : State) (d e : Disk) : Type 0 where
+  pub limits : u.limits ≡ s.limits
+  pub tables : u.tables ≡ s.tables
+  pub list : u.list ≡ s.list
+  pub calls : u.calls ≡ s.calls
+  pub accepted : u.accepted ≡ s.accepted
+  pub faults : s.faults ≤ u.faults
+  pub reads : s.reads ≤ u.reads
+  pub tells : (c : Image) → d.reads c → (b : Image) × e.reads b
+
+-- its disk keeps what it kept, and a crash in between leaves what it must
+abbrev pub GoesOn : History → List Mutation → State → State → Disk → Disk → Type 0
+GoesOn h found s u d e = ((now : Told) × LastsFor h found u e now) × Leaves (IsLeftAmid found s.list h) d e
+
+-- memory stands for the same but for the disk, and this becomes of it
+abbrev pub Moved : (History → DiskState → DiskState → Type 0) → State → State → Type 0
+Moved Ends s u = Remember s.tables s.shards → (h : History) → StandsFor h s
+    → StandsFor (record h { disk = disk_of u }) u × Remember u.tables u.shards × Ends h (disk_of s) (disk_of u)
+
+-- The file of that number took the place of the frozen memtables, where the manifest listed none of that number or above.
+pub record TakesFile (t : TableSchema) (n number : ℕ) (Says : Type 0) (result : Result (Option ℕ) Fault) (s u : State) (d e : Disk) : Type 0 where
+  pub beside : IsBeside s u d e
+  pub lasts : (h : History) (found : List Mutation) (told : Told) → h.tables ≡ s.tables → LastsFor h found s d told
+      → AllByRecursion (λ k. k < number) (said_by told.entries).numbers → GoesOn h found s u d e
+  pub moves : Says → Moved (λ h. EndsIn t n (shard_at h n) result) s u
+  pub own : IfErr result IsOwn
+
+-- a flush of a table in a shard
+pub record FlushesOne (t : TableSchema) (n : ℕ) (result : Result (Option ℕ) Fault) (s u : State) (d e : Disk) : Type 0 where
+  pub beside : IsBeside s u d e
+  pub lasts : (h : History) (found : List Mutation) (told : Told) → h.tables ≡ s.tables → LastsFor h found s d told → GoesOn h found s u d e
+  pub moves : (c : Image) → d.reads c → Moved (λ h. EndsIn t n (shard_at h n) result) s u
+  pub own : IfErr result IsOwn
+
+-- so many shards were flushed, with these numbers of files
+abbrev pub IsFirst : TableSchema → ℕ → List ℕ → History → DiskState → DiskState → Type 0
+IsFirst t count told h d e = (changes : List (Option Change)) × (length changes ≡ count) × (told ≡ numbers_added changes) × Flushed h t changes e
+
+pub record FlushesFirst (t : TableSchema) (count : ℕ) (told : List ℕ) (s u : State) (d e : Disk) : Type 0 where
+  pub beside : IsBeside s u d e
+  pub lasts : (h : History) (found : List Mutation) (told : Told) → h.tables ≡ s.tables → LastsFor h found s d told → GoesOn h found s u d e
+  pub moves : (c : Image) → d.reads c → Moved (IsFirst t count told) s u
+
+-- the first ones were, and then one wasn't
+abbrev pub IsNoFurther : TableSchema → Fault → History → DiskState → DiskState → Type 0
+IsNoFurther t f h d e = (changes : List (Option Change)) × (length changes < length h.shards) × Flushed h t changes e × WhyNoFurther d e f
+
+pub record FlushesNoFurther (t : TableSchema) (f : Fault) (s u : State) (d e : Disk) : Type 0 where
+  pub beside : IsBeside s u d e
+  pub lasts : (h : History) (found : List Mutation) (told : Told) → h.tables ≡ s.tables → LastsFor h found s d told → GoesOn h found s u d e
+  pub moves : (c : Image) → d.reads c → Moved (IsNoFurther t f) s u
+  pub own : IsOwn f
+
+-- ---- faults
+
+-- what a flush is answered where no file was begun
+abbrev pub fault_of_fresh : FreshFault → Fault
+fault_of_fresh (fresh.Full files) = Refused TOO_MANY
+fault_of_fresh fresh.Failed = Failed None
+fault_of_fresh fresh.Mem = Mem
+
+-- where it wasn't written
+abbrev pub fault_of_write : WriteFault → Fault
+fault_of_write write.Failed = Failed None
+fault_of_write write.Order = Refused TOO_MANY
+fault_of_write (write.TooMany what limit) = Refused TOO_MANY
+fault_of_write write.Unfit = Refused TOO_MANY
+fault_of_write write.Mem = Mem
+
+-- where the folder didn't get it
+abbrev pub fault_of_folder : FolderFault → Fault
+fault_of_folder folder.Failed = Failed None
+fault_of_folder folder.Mem = Mem
+
+-- where it wasn't opened
+abbrev pub fault_of_load : TableFault → Fault
+fault_of_load load.ReadFault = Read
+fault_of_load (load.BadBlock number at) = BadBlock number at
+fault_of_load load.Mem = Mem
