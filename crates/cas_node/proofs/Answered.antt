@@ -60,6 +60,7 @@ with_clock h s n d stands = record {
     count = stands.count;
     shards = stands.shards;
     entered = stands.entered;
+    memory = stands.memory;
   };
   lasts = λ found told lasts. (
     told,

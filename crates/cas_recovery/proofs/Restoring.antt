@@ -15,7 +15,7 @@ use Rattle.cas_shard.specs.Stands.{Belongs, HasNoFiles, KeepsFiles, ShardState, 
 use Rattle.cas_sstread.specs.Loading.{Held}
 use Rattle.cas_view.specs.Views.{File}
 use Rattle.cas_recovery.specs.Found.{found_in}
-use Rattle.cas_recovery.specs.Restored.{HaveMemory}
+use Rattle.cas_recovery.specs.Restored.{HaveMemory, Remember, Remembers}
 use Rattle.cas_recovery.specs.Inner.Restoring.{AreRestored, HaveNoFiles, MayBeGiven, Rise}
 use Rattle.cas_recovery.proofs.Founding.{found_reads, front_rises, is_above, numbers_more, one_more}
 use Rattle.cas_recovery.proofs.Places.{get_here, get_other, is_other, is_same, same_place}
@@ -37,13 +37,12 @@ pub no_files_new : (shards : List ShardState) (x : ShardState) → HaveNoFiles s
 no_files_new shards x are none n y is =
     elim (get_pushed shards x y n is) [ inl before ↦ are n y before | inr same ↦ subst HasNoFiles same none ]
 
-pub memory_new : (tables : List TableSchema) (shards : List ShardState) (x : ShardState) → HaveMemory tables shards
-    → ((ts : List TableSchema) (table : ℕ) → HasInMemory ts table [] x) → HaveMemory tables (shards ++ x ∷ [])
+pub memory_new : (tables : List TableSchema) (shards : List ShardState) (x : ShardState) → Remember tables shards
+    → ((ts : List TableSchema) (table : ℕ) → HasInMemory ts table [] x) → Remember tables (shards ++ x ∷ [])
 memory_new tables shards x have none n table y is =
     elim (get_pushed shards x y n is) [
       | inl before ↦ have n table y before
-      | inr same ↦ subst (λ (z : ShardState). ∥ ((ws : List Mutation) × ((more : List TableSchema) → HasInMemory (tables ++ more) table ws z)) ∥₁) same
-          ∣ ([], λ more. none (tables ++ more) table) ∣₁
+      | inr same ↦ subst (Remembers tables table) same ([], λ more. none (tables ++ more) table)
     ]
 
 -- ---- a mutation more
@@ -126,18 +125,26 @@ pub one_keeps_none : (shards : List ShardState) (place : ℕ) (old new : ShardSt
     → HaveNoFiles (slice_set shards place new)
 one_keeps_none shards place old new are there keeps = one_keeps (λ table fs. length fs ≡ 0) shards place old new are there keeps
 
--- what is in memory of the shards, where one of them has more
-pub one_remembers : (tables : List TableSchema) (shards : List ShardState) (place : ℕ) (old new : ShardState) (grows : ℕ → List Mutation → List Mutation)
-    → HaveMemory tables shards → slice_get shards place ≡ Some old
-    → ((more : List TableSchema) (table : ℕ) (ws : List Mutation) → HasInMemory (tables ++ more) table ws old → HasInMemory (tables ++ more) table (grows table ws) new)
-    → HaveMemory tables (slice_set shards place new)
-one_remembers tables shards place old new grows have there step n table x is = at (same_place n place)
+-- what is in memory of the shards, where one of them is in another state
+pub one_remembers : (tables : List TableSchema) (shards : List ShardState) (place : ℕ) (old new : ShardState) → Remember tables shards
+    → slice_get shards place ≡ Some old → ((table : ℕ) → Remembers tables table old → Remembers tables table new) → Remember tables (slice_set shards place new)
+one_remembers tables shards place old new have there step n table x is = at (same_place n place)
   where
-    at : (n ≡ place) ⊎ (n ≢ place) → ∥ ((ws : List Mutation) × ((more : List TableSchema) → HasInMemory (tables ++ more) table ws x)) ∥₁
+    at : (n ≡ place) ⊎ (n ≢ place) → Remembers tables table x
     at (inl here) =
         let same : new ≡ x = (let set = get_here shards place old new there in let its = ap (slice_get (slice_set shards place new)) here in cc) in
-        subst (λ (y : ShardState). ∥ ((ws : List Mutation) × ((more : List TableSchema) → HasInMemory (tables ++ more) table ws y)) ∥₁) same
-        (∥∥₁_map (have place table old there) (λ k. (grows table k.0, λ more. step more table k.0 (k.1 more))))
+        subst (Remembers tables table) same (step table (have place table old there))
+    at (inr other) = have n table x (sym (get_other shards place n new other) ∙ is)
+
+-- the same, whichever mutations these are
+pub one_has_memory : (tables : List TableSchema) (shards : List ShardState) (place : ℕ) (old new : ShardState) → HaveMemory tables shards
+    → slice_get shards place ≡ Some old → ((table : ℕ) → Remembers tables table old → Remembers tables table new) → HaveMemory tables (slice_set shards place new)
+one_has_memory tables shards place old new have there step n table x is = at (same_place n place)
+  where
+    at : (n ≡ place) ⊎ (n ≢ place) → ∥ Remembers tables table x ∥₁
+    at (inl here) =
+        let same : new ≡ x = (let set = get_here shards place old new there in let its = ap (slice_get (slice_set shards place new)) here in cc) in
+        subst (λ (y : ShardState). ∥ Remembers tables table y ∥₁) same (∥∥₁_map (have place table old there) (step table))
     at (inr other) = have n table x (sym (get_other shards place n new other) ∙ is)
 
 -- a table is the same where there are tables more
@@ -164,5 +171,5 @@ first_restored tables mutations n shards are k x is = are k x (get_front n shard
 pub first_no_files : (n : ℕ) (shards : List ShardState) → HaveNoFiles shards → HaveNoFiles (take n shards)
 first_no_files n shards are k x is = are k x (get_front n shards k x is)
 
-pub first_memory : (tables : List TableSchema) (n : ℕ) (shards : List ShardState) → HaveMemory tables shards → HaveMemory tables (take n shards)
+pub first_memory : (tables : List TableSchema) (n : ℕ) (shards : List ShardState) → Remember tables shards → Remember tables (take n shards)
 first_memory tables n shards have k table x is = have k table x (get_front n shards k x is)

@@ -1,6 +1,5 @@
 -- A store that was read back into memory: each shard stands for whatever it may have been before.
 use Rattle.std.proofs.Common.{◌≡◌, ◌⊎◌, inl, inr, ◌<◌, ◌≤◌, max, ℕ, zero, suc, List, [], ◌∷◌, ◌++◌, length, map, Option, Some, refl, sym, ap, ◌∙◌, subst, arith}
-use Rattle.std.proofs.Math.Logic.{∥∥₁_map}
 use Rattle.std.proofs.lemmas.Option.{get_or_from_slice_get, slice_get_past}
 use Rattle.std.proofs.lemmas.List.Elements.{All-get_or}
 use Rattle.std.specs.Prelude.{slice_get}
@@ -36,7 +35,7 @@ use Rattle.define_laws.proofs.Told.{told_tables_are_tables}
 use Rattle.cas_recovery.specs.Found.{IsUnflushed, found_in}
 use Rattle.cas_recovery.specs.Openings.{MayHaveBeen, SayAll, greatest_frontier, unflushed_of}
 use Rattle.cas_recovery.specs.Recovered.{IsRecovered}
-use Rattle.cas_recovery.specs.Restored.{HaveMemory, HaveNoMore, IsBehind, IsTold, MayBeRead, greatest_of}
+use Rattle.cas_recovery.specs.Restored.{Remember, HaveNoMore, IsBehind, IsTold, MayBeRead, greatest_of}
 use Rattle.cas_recovery.specs.Inner.Filling.{HasTaken, IsBroughtBack, IsFilled, IsOwn, IsWithin}
 use Rattle.cas_recovery.specs.Inner.Restoring.{MayBeGiven}
 use Rattle.cas_recovery.proofs.Afterwards.{still_lasts}
@@ -163,10 +162,11 @@ module _ (entries : List Entry) (mutations handed : List Mutation) (o : OpenStor
 
   -- in memory is what was restored
   remembered : (given limits : Limits) (tables : List TableSchema) (shards : List ShardState) (mid : Disk) → IsBroughtBack given handed o.said mid limits tables shards
-      → HaveMemory tables shards
-  remembered given limits tables shards mid back = subst (λ (ts : List TableSchema). HaveMemory ts shards) (sym (back.tables_are ∙ tables_said)) (λ n table x there.
+      → Remember tables shards
+  remembered given limits tables shards mid back = subst (λ (ts : List TableSchema). Remember ts shards) (sym (back.tables_are ∙ tables_said)) (λ n table x there.
       let (was, before, filled) = back.filled.filled n x (omega (arith, get_within shards n x there, back.count)) there in
-      ∥∥₁_map (back.restored.2 s.tables s.shards given_all n table was before) (λ k. (k.0, λ more. filled.memory (s.tables ++ more) table k.0 (k.1 more))))
+      let k = back.restored.2 s.tables s.shards given_all n table was before in
+      (k.0, λ more. filled.memory (s.tables ++ more) table k.0 (k.1 more)))
 
   -- no table's frontier is above the greatest
   is_below : (n count table : ℕ) → table < count → (part_of s table n).frontier ≤ greatest_frontier s n count

@@ -24,7 +24,7 @@ use Rattle.cas_shard.specs.Shards.{found_shard}
 use Rattle.cas_shard.specs.Stands.{ShardState, Stands, files_at}
 use Rattle.cas_recovery.specs.Found.{IsFound}
 use Rattle.cas_recovery.specs.Openings.{MayHaveBeen}
-use Rattle.cas_recovery.specs.Restored.{AreListed, HaveMemory, HaveNoMore, IsBehind, IsTold, greatest_of}
+use Rattle.cas_recovery.specs.Restored.{AreListed, Remember, HaveNoMore, IsBehind, IsTold, greatest_of}
 use Rattle.cas_recovery.specs.declared.filling.TheConstants.{VERSION_PLACE}
 
 -- The store of a folder was read back: its limits and tables are what the manifest's entries say, each shard stands for whatever it may have been before,
@@ -46,7 +46,7 @@ pub record IsRecovered (given limits : Limits) (tables : List TableSchema) (shar
       → slice_get tables table ≡ Some t
       → (d : Image) × old.may_leave d × AreLoaded t n d (part_of (said_by entries) table n).listed (files_at (slice_get x.stores table))
   pub no_more : HaveNoMore tables shards
-  pub memory : HaveMemory tables shards
+  pub memory : Remember tables shards
   pub last_is : last ≡ greatest_of (said_by entries).numbers
   pub behind : IsBehind (said_by entries) shards last live
   pub segment : journal.last_segment ≤ next_segment entries

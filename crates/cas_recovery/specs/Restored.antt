@@ -30,10 +30,17 @@ abbrev pub AreListed : List ManifestEntry → List TableSchema → List ShardSta
 AreListed entries tables shards = (n : ℕ) (x : ShardState) → slice_get shards n ≡ Some x → (table : ℕ) (t : TableSchema) → slice_get tables table ≡ Some t
     → map (λ f. f.info) (files_at (slice_get x.stores table)) ≡ (part_of (said_by entries) table n).listed
 
--- In memory each shard has just some mutations of each table, each of which the table may hold; and so it is with whatever tables come behind these.
+-- In memory a shard has just some mutations of a table, each of which the table may hold; and so it is with whatever tables come behind these.
+abbrev pub Remembers : List TableSchema → ℕ → ShardState → Type 0
+Remembers tables table x = (ws : List Mutation) × ((more : List TableSchema) → HasInMemory (tables ++ more) table ws x)
+
+-- each shard has some of each table
+abbrev pub Remember : List TableSchema → List ShardState → Type 0
+Remember tables shards = (n table : ℕ) (x : ShardState) → slice_get shards n ≡ Some x → Remembers tables table x
+
+-- the same, whichever these are
 abbrev pub HaveMemory : List TableSchema → List ShardState → Type 0
-HaveMemory tables shards = (n table : ℕ) (x : ShardState) → slice_get shards n ≡ Some x
-    → ∥ ((ws : List Mutation) × ((more : List TableSchema) → HasInMemory (tables ++ more) table ws x)) ∥₁
+HaveMemory tables shards = (n table : ℕ) (x : ShardState) → slice_get shards n ≡ Some x → ∥ Remembers tables table x ∥₁
 
 -- the greatest of these numbers, 0 where there is none
 abbrev pub greatest_of : List ℕ → ℕ

@@ -35,6 +35,7 @@ use Rattle.cas_sstread.specs.Loading.{Held}
 use Rattle.cas_view.specs.Views.{File}
 use Rattle.cas_shard.specs.declared.answers.TakeFault.{TakeFault}
 use Rattle.cas_shard.specs.declared.answers.TakeFault.TheVariants as fault
+use Rattle.cas_recovery.specs.Restored.{Remembers}
 use Rattle.cas_sessions.specs.History.{History, DiskState, SameFiles, Takes, WritesAt, Stays, acknowledges, after_entries, after_write, entry_of, shard_at}
 use Rattle.cas_sessions.specs.Entered.{entries_in}
 use Rattle.cas_sessions.specs.Nodes.{State, StandsFor, LastsFor, disk_of, files_in, Moves}
@@ -106,6 +107,7 @@ pub record Asked (s : State) (w : BoundWrite) (reading : ℤ) (x y : ShardState)
   pub answered : (tables : List TableSchema) (q : ShardHistory) → Stands tables q x → Prepares s.limits.segment q reading w result
   pub stands : (tables : List TableSchema) (shards : ℕ) (q : ShardHistory) → Stands tables q x → Suits tables shards w → Stands tables (raised reading q) y
   pub number : y.number ≡ x.number
+  pub memory : (table : ℕ) → Remembers s.tables table x → Remembers s.tables table y
 
 -- the mutation of a write, in a history
 abbrev pub mutation_in : History → ℤ → BoundWrite → Mutation
@@ -169,7 +171,7 @@ module _ (s : State) (w : BoundWrite) (reading : ℤ) (x y : ShardState) (result
         ([], disk_now, takes h stands, refl),
         record {
           stands = stands_write h s (prepared_only s w.shard y) w.shard x y reading [] stands (there s w reading x y result asked) refl (stands_raised s w reading x y result asked h stands)
-              (λ k. none_more w.shard k (entries_in k s.list)) r refl refl refl refl (omega arith);
+              (λ k. none_more w.shard k (entries_in k s.list)) asked.memory r refl refl refl refl (omega arith);
           lasts = λ found told lasts. (
             told,
             lasts_still h after found s (prepared_only s w.shard y) d d told w.shard x y (omega (arith, quiet)) (there s w reading x y result asked) refl asked.number
@@ -353,7 +355,7 @@ module _ (s : State) (w : BoundWrite) (reading : ℤ) (x y : ShardState) (result
             ),
             record {
               stands = stands_write h s t w.shard x y reading [] stands at left.shards (stands_raised s w reading x y result asked h stands)
-                  (λ k. ap (entries_in k) left.list ∙ none_more w.shard k (entries_in k s.list)) (reply_for f) left.limits left.tables left.clock left.session
+                  (λ k. ap (entries_in k) left.list ∙ none_more w.shard k (entries_in k s.list)) asked.memory (reply_for f) left.limits left.tables left.clock left.session
                   (omega (arith, left.calls));
               lasts = λ found was lasts.
                   let got = left.keeps found was lasts.keeps (may_take h found d was lasts) in (
@@ -424,6 +426,7 @@ pub record Took (s t : State) (d e : Disk) (w : BoundWrite) (y yy z : ShardState
   pub stands : (tables : List TableSchema) (shards : ℕ) (q : ShardHistory) (session call : ℕ) → Stands tables q yy → Belongs tables shards m
       → Stands tables (with_entered (entry.Wrote session call m ∷ []) q) z
   pub number : z.number ≡ m.number
+  pub memory : (table : ℕ) → Remembers s.tables table yy → Remembers s.tables table z
   pub keeps : (found : List Mutation) (told : Told) → Keeps s.journal d s.list s.committed found told → MayTake told m
       → (u : Told) × (v : Told) × MadeRoom told u × (v.entries ≡ u.entries) × (v.failed ≡ u.failed) × (v.taken ≡ u.taken ++ m ∷ [])
       × Keeps t.journal e t.list t.committed found v
@@ -503,7 +506,8 @@ module _ (s : State) (w : BoundWrite) (reading : ℤ) (x y : ShardState) (result
           refl,
         ),
         record {
-          stands = stands_write h s t w.shard x z reading new stands at_x shards_now stands_new lists r left.limits left.tables left.clock left.session left.calls;
+          stands = stands_write h s t w.shard x z reading new stands at_x shards_now stands_new lists
+              (λ table k. left.memory table (subst (Remembers s.tables table) same_shard (asked.memory table k))) r left.limits left.tables left.clock left.session left.calls;
           lasts = λ found was lasts.
               let got = left.keeps found was lasts.keeps (may_take s w reading x y result asked m is prepared ready h found d was lasts) in (
                 got.1,

@@ -27,7 +27,8 @@ use Rattle.cas_sessions.specs.declared.answer.Fault.{Fault}
 use Rattle.cas_sessions.specs.declared.answer.Fault.TheVariants.{Refused, Stopped, Disk as Failed, Read, BadBlock, Mem}
 use Rattle.cas_sessions.specs.Calls.{IsTrueOf}
 use Rattle.cas_sessions.specs.Entered.{IsLeftAmid}
-use Rattle.cas_sessions.specs.Flushes.{AreInFiles, EndsSo, Flushed, Flushes, FlushesNamed, FlushesTable, Grows, Remember, WhyNoFurther, change_of, numbers_added, numbers_in, reach_by}
+use Rattle.cas_sessions.specs.Flushes.{AreInFiles, EndsSo, Flushed, Flushes, FlushesNamed, FlushesTable, Grows, WhyNoFurther, change_of, numbers_added, numbers_in, reach_by}
+use Rattle.cas_recovery.specs.Restored.{Remember}
 use Rattle.cas_sessions.specs.History.{History, DiskState, shard_at}
 use Rattle.cas_sessions.specs.Nodes.{State, StandsFor, LastsFor, KeepsAll, Moves, disk_of}
 use Rattle.cas_sessions.specs.Inner.Flushing.{EndsIn, FlushedOne, FlushesFirst, FlushesNoFurther, FlushesOne, GoesOn, IsFirst, IsOwn, listed_of}
@@ -105,7 +106,7 @@ first_more t k told o s u v d e f first one = record {
       let (later, more) = one.lasts h found now.0 (tables ∙ sym first.beside.tables) now.1 in
       (later, amid_then h found s u d e f first.beside.list amid more);
   moves = λ c reads have h stands.
-      let (now, kept, so) = first.moves c reads have h stands in
+      let (now, kept, so) = first.moves c reads stands.memory h stands in
       let changes : List (Option Change) = so.0 in
       let (b, read) = first.beside.tells c reads in
       let (later, still, ends) = one.moves b read kept (with_disk h u) now in
@@ -224,7 +225,7 @@ no_further t k told x s u v d e f first one few = record {
       let (later, more) = one.lasts h found now.0 (tables ∙ sym first.beside.tables) now.1 in
       (later, amid_then h found s u d e f first.beside.list amid more);
   moves = λ c reads have h stands.
-      let (now, kept, so) = first.moves c reads have h stands in
+      let (now, kept, so) = first.moves c reads stands.memory h stands in
       let (b, read) = first.beside.tells c reads in
       let (later, still, none) = one.moves b read kept (with_disk h u) now in (
         later,
@@ -246,7 +247,7 @@ none_of_memory t k told s u d e first few going = record {
   beside = first.beside;
   lasts = first.lasts;
   moves = λ c reads have h stands.
-      let (now, kept, so) = first.moves c reads have h stands in
+      let (now, kept, so) = first.moves c reads stands.memory h stands in
       (now, kept, (so.0, omega (arith, so.1, few, stands.count), so.3, ap is_some going));
   own = tt;
 }
@@ -274,9 +275,9 @@ named h tables name o r after same is flushes =
     subst (λ (x : Option TableSchema). FlushesNamed h x r after) (sym (ap (λ (ts : List TableSchema). table_named ts name) same ∙ is)) flushes
 
 pub flushes_all : (name : TableName) (t : TableSchema) (told : List ℕ) (s u : State) (d e : Disk) → table_named s.tables name ≡ Some t → s.journal.first ≡ None → u.journal.first ≡ None
-    → FlushesFirst t (length s.shards) told s u d e → (c : Image) → d.reads c → Remember s.tables s.shards → Moves (λ h after. Flushes h name (Ok told) after) s u d e
-flushes_all name t told s u d e is going on first c reads have h stands =
-    let (now, kept, so) = first.moves c reads have h stands in (
+    → FlushesFirst t (length s.shards) told s u d e → (c : Image) → d.reads c → Moves (λ h after. Flushes h name (Ok told) after) s u d e
+flushes_all name t told s u d e is going on first c reads h stands =
+    let (now, kept, so) = first.moves c reads stands.memory h stands in (
       with_disk h u,
       named h s.tables name (Some t) (Ok told) (with_disk h u) stands.tables is (
         so.0,
@@ -305,9 +306,9 @@ fails_by h t (BadBlock number at) changes e going flushed few is = absurd is
 fails_by h t Mem changes e going flushed few is = (changes, e, going, flushed, (few, is), refl)
 
 pub flushes_some : (name : TableName) (t : TableSchema) (f : Fault) (s u : State) (d e : Disk) → table_named s.tables name ≡ Some t → s.journal.first ≡ None
-    → FlushesNoFurther t f s u d e → (c : Image) → d.reads c → Remember s.tables s.shards → Moves (λ h after. Flushes h name (Err f) after) s u d e
-flushes_some name t f s u d e is going none c reads have h stands =
-    let (now, kept, so) = none.moves c reads have h stands in (
+    → FlushesNoFurther t f s u d e → (c : Image) → d.reads c → Moves (λ h after. Flushes h name (Err f) after) s u d e
+flushes_some name t f s u d e is going none c reads h stands =
+    let (now, kept, so) = none.moves c reads stands.memory h stands in (
       with_disk h u,
       named h s.tables name (Some t) (Err f) (with_disk h u) stands.tables is
           (fails_by h t f so.0 (disk_of u) (ap (λ (x : DiskState). x.stopped) stands.disk ∙ ap is_some going) so.2 so.1

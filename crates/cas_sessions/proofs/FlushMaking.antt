@@ -35,10 +35,9 @@ use Rattle.cas_sstwrite.specs.declared.fault.WriteFault.{WriteFault}
 use Rattle.cas_sstwrite.specs.declared.fault.WriteFault.TheVariants as write
 use Rattle.cas_stored.specs.Stored.{StoredTable}
 use Rattle.cas_view.specs.Views.{File}
-use Rattle.cas_recovery.specs.Restored.{HaveMemory}
 use Rattle.cas_sessions.specs.declared.answer.Fault.{Fault}
 use Rattle.cas_sessions.specs.declared.answer.Fault.TheVariants.{Refused, Stopped, Disk as Failed, Read, BadBlock, Mem}
-use Rattle.cas_sessions.specs.Flushes.{Remember}
+use Rattle.cas_recovery.specs.Restored.{HaveMemory, Remember}
 use Rattle.cas_sessions.specs.Nodes.{State}
 use Rattle.cas_sessions.specs.Inner.Flushing.{HasOneMore, IsMade, IsOwn, NewFile, Quiet, SaysSo, WhyNoneMore, WhyNotMade, fault_of_folder, fault_of_fresh, fault_of_load, fault_of_write}
 use Rattle.cas_sessions.proofs.FlushShard.{not_made_since, quiet_still}

@@ -33,7 +33,8 @@ use Rattle.cas_view.specs.Views.{File}
 use Rattle.cas_recovery.proofs.Places.{get_here, get_other, get_within, length_set, same_place}
 use Rattle.cas_sessions.specs.declared.answer.Fault.{Fault}
 use Rattle.cas_sessions.specs.declared.answer.Fault.TheVariants.{Refused, Stopped, Disk as Failed, Read, BadBlock, Mem}
-use Rattle.cas_sessions.specs.Flushes.{AreInFiles, Grows, ListsOne, Remember, WhyNoFurther, numbers_in, reach_by}
+use Rattle.cas_sessions.specs.Flushes.{AreInFiles, Grows, ListsOne, WhyNoFurther, numbers_in, reach_by}
+use Rattle.cas_recovery.specs.Restored.{Remember}
 use Rattle.cas_sessions.specs.History.{History, DiskState, shard_at}
 use Rattle.cas_sessions.specs.Nodes.{State, StandsFor, LastsFor, disk_of, files_in, files_of}
 use Rattle.cas_sessions.specs.Inner.Faults.{fault_for}
@@ -276,6 +277,7 @@ module _ {T : Type 0} (t : TableSchema) (n number count : ℕ) (s m : State) (d 
     now_stands : StandsFor (with_disk h u) u
     now_stands =
         stands_again h s u stands lists.limits lists.tables lists.clock lists.list lists.session lists.calls (length_set m.shards n y ∙ ap length lists.shards) by
+        (remembers stands.memory)
       where
         by : (k : ℕ) (z : ShardState) → slice_get (slice_set m.shards n y) k ≡ Some z
             → (w : ShardState) × (slice_get s.shards k ≡ Some w) × ((q : ShardHistory) → Stands s.tables q w → Stands s.tables q z)
@@ -391,10 +393,12 @@ module _ (t : TableSchema) (n number : ℕ) (s m : State) (d e : Disk) (c : Chan
       tells = lists.tells;
     };
     lasts = λ h found was tables lasts below. lists_failed s m d e n number c many adds low h found was lasts below (Unit {0}) f lists tables;
-    moves = λ says have h stands. (
+    moves = λ says have h stands.
+        let still : Remember s.tables s.shards → Remember m.tables m.shards =
+        λ kept. subst (λ (xs : List ShardState). Remember m.tables xs) (sym lists.shards) (subst (λ (ts : List TableSchema). Remember ts s.shards) (sym lists.tables) kept) in (
       stands_again h s m stands lists.limits lists.tables lists.clock lists.list lists.session lists.calls (ap length lists.shards)
-          (λ k z got. (z, ap (λ (xs : List ShardState). slice_get xs k) (sym lists.shards) ∙ got, λ q so. so)),
-      subst (λ (xs : List ShardState). Remember m.tables xs) (sym lists.shards) (subst (λ (ts : List TableSchema). Remember ts s.shards) (sym lists.tables) have),
+          (λ k z got. (z, ap (λ (xs : List ShardState). slice_get xs k) (sym lists.shards) ∙ got, λ q so. so)) (still stands.memory),
+      still have,
       record {
         files = λ k table. ap (λ (xs : List ShardState). files_in xs k table) lists.shards;
         reach = lists.reach;

@@ -21,7 +21,7 @@ use Rattle.cas_recovery.specs.Restored.{IsBehind}
 use Rattle.cas_recovery.proofs.Places.{get_here, get_other, get_within, length_set, same_place}
 use Rattle.cas_sessions.specs.History.{History, DiskState, shard_at}
 use Rattle.cas_sessions.specs.Entered.{IsLeftAmid, entries_in}
-use Rattle.cas_sessions.specs.Flushes.{Remember}
+use Rattle.cas_recovery.specs.Restored.{Remember}
 use Rattle.cas_sessions.specs.Nodes.{State, StandsFor, LastsFor, disk_of, files_in, files_of}
 use Rattle.cas_sessions.specs.Inner.Flushing.{AllGoOn, GoesOn, GoesOnAs, IsBeside, Moved, Quiet}
 use Rattle.cas_sessions.proofs.Crashing.{holds_amid}
@@ -131,8 +131,8 @@ with_disk h t = record h { disk = disk_of t }
 pub stands_again : (h : History) (s t : State) → StandsFor h s → t.limits ≡ s.limits → t.tables ≡ s.tables → t.clock ≡ s.clock → t.list ≡ s.list → t.session ≡ s.session
     → t.calls ≡ s.calls → length t.shards ≡ length s.shards
     → ((n : ℕ) (y : ShardState) → slice_get t.shards n ≡ Some y → (x : ShardState) × (slice_get s.shards n ≡ Some x) × ((q : ShardHistory) → Stands s.tables q x → Stands s.tables q y))
-    → StandsFor (with_disk h t) t
-stands_again h s t stands limits tables clock list session calls count shards = record {
+    → Remember t.tables t.shards → StandsFor (with_disk h t) t
+stands_again h s t stands limits tables clock list session calls count shards remembers = record {
   limits = stands.limits ∙ sym limits;
   tables = stands.tables ∙ sym tables;
   clock = stands.clock ∙ sym clock;
@@ -145,6 +145,7 @@ stands_again h s t stands limits tables clock list session calls count shards = 
       subst (λ (ts : List TableSchema). Stands ts (shard_at h n) y) (sym stands.tables)
       (so (shard_at h n) (subst (λ (ts : List TableSchema). Stands ts (shard_at h n) x) stands.tables (stands.shards n x at)));
   entered = λ n lt. stands.entered n lt ∙ ap (entries_in n) (sym list);
+  memory = remembers;
 }
 
 -- ---- what such a step comes to
@@ -186,16 +187,16 @@ module _ (s t : State) (d e : Disk) (quiet : Quiet s t d e) where
   pub quiet_goes : (h : History) (found : List Mutation) (told : Told) → h.tables ≡ s.tables → LastsFor h found s d told → GoesOn h found s t d e
   quiet_goes h found told tables lasts = ((told, quiet_lasts h found told lasts), quiet_amid h found told tables lasts)
 
-  pub quiet_stands : (h : History) → StandsFor h s → StandsFor (with_disk h t) t
-  quiet_stands h stands =
-      stands_again h s t stands quiet.limits quiet.tables quiet.clock quiet.list quiet.session quiet.calls quiet.shards.count
-      (λ n y there. let (x, at, goes) = quiet.shards.each n y there in (x, at, λ q. goes.stands s.tables q))
-
   pub quiet_remembers : Remember s.tables s.shards → Remember t.tables t.shards
   quiet_remembers have n table y there =
       let (x, at, goes) = quiet.shards.each n y there in
       let (ws, has) = have n table x at in
       (ws, λ more. subst (λ (ts : List TableSchema). HasInMemory (ts ++ more) table ws y) (sym quiet.tables) (goes.memory (s.tables ++ more) table ws (has more)))
+
+  pub quiet_stands : (h : History) → StandsFor h s → StandsFor (with_disk h t) t
+  quiet_stands h stands =
+      stands_again h s t stands quiet.limits quiet.tables quiet.clock quiet.list quiet.session quiet.calls quiet.shards.count
+      (λ n y there. let (x, at, goes) = quiet.shards.each n y there in (x, at, λ q. goes.stands s.tables q)) (quiet_remembers stands.memory)
 
   pub quiet_beside : IsBeside s t d e
   quiet_beside = record {

@@ -27,6 +27,9 @@ use Rattle.cas_shard.specs.declared.answers.Look.{Look}
 use Rattle.cas_shard.specs.Stands.{KeepsFiles, ShardState, Stands, files_at}
 use Rattle.cas_sessions.specs.declared.answer.Fault.{Fault}
 use Rattle.cas_sessions.specs.Calls.{reply_of}
+use Rattle.cas_recovery.specs.Restored.{Remember, Remembers}
+use Rattle.cas_recovery.proofs.Restoring.{one_remembers}
+use Rattle.cas_sessions.proofs.Remembering.{same_remembers}
 use Rattle.cas_sessions.specs.History.{DiskState, History, ReadsAt, Shows, after_entries, after_read, after_write, rows_reply, shard_at, with_shard}
 use Rattle.cas_sessions.specs.Entered.{entries_in, entry_in}
 use Rattle.cas_sessions.specs.Nodes.{State, StandsFor, disk_of, files_of, Moves}
@@ -60,7 +63,8 @@ raised_is reading s = ap (λ es. record (raised reading s) { entries = es }) (sy
 
 module _ (h : History) (s t : State) (n : ℕ) (x y : ShardState) (reading : ℤ) (new : List Entry) (stands : StandsFor h s) (there : slice_get s.shards n ≡ Some x)
     (shards : t.shards ≡ slice_set s.shards n y) (stands_new : Stands h.tables (after_entries reading new (shard_at h n)) y)
-    (entered : (k : ℕ) → entries_in k t.list ≡ with_entries n k new (entries_in k s.list)) where
+    (entered : (k : ℕ) → entries_in k t.list ≡ with_entries n k new (entries_in k s.list))
+    (remembers : (table : ℕ) → Remembers s.tables table x → Remembers s.tables table y) where
   abbrev after : History
   after = with_shard h n (after_entries reading new (shard_at h n))
 
@@ -123,6 +127,9 @@ module _ (h : History) (s t : State) (n : ℕ) (x y : ShardState) (reading : ℤ
     count = still_many;
     shards = shards_stand;
     entered = are_entered;
+    memory =
+        subst (λ (ts : List TableSchema). Remember ts t.shards) (sym tables)
+        (subst (Remember s.tables) (sym shards) (one_remembers s.tables s.shards n x y stands.memory there remembers));
   }
 
   pub stands_read : t.limits ≡ s.limits → t.tables ≡ s.tables → t.clock ≡ s.clock → t.session ≡ s.session → t.calls ≡ s.calls
@@ -137,6 +144,9 @@ module _ (h : History) (s t : State) (n : ℕ) (x y : ShardState) (reading : ℤ
     count = still_many;
     shards = shards_stand;
     entered = are_entered;
+    memory =
+        subst (λ (ts : List TableSchema). Remember ts t.shards) (sym tables)
+        (subst (Remember s.tables) (sym shards) (one_remembers s.tables s.shards n x y stands.memory there remembers));
   }
 
 -- ---- a SELECT
@@ -173,8 +183,8 @@ with_looked s n y reads = record s { shards = slice_set s.shards n y; reads = re
 pub moves_look : (s : State) (d : Disk) (q : BoundRead) (x y : ShardState) (reading : ℤ) (reads : ℕ) (r : Reply) → slice_get s.shards q.shard ≡ Some x → y.number ≡ x.number
     → KeepsFiles x y → s.reads ≤ reads → ((ts : List TableSchema) (z : ShardHistory) → Stands ts z x → Stands ts (raised reading z) y)
     → ((z : ShardHistory) → Stands s.tables z x → Shows (files_at (slice_get x.stores q.query.table)) s.reads reads z reading q r)
-    → Moves (λ h after. ReadsAt h reading q r after) s (with_looked s q.shard y reads) d d
-moves_look s d q x y reading reads r there number keeps more raises shows h stands =
+    → y.stores ≡ x.stores → Moves (λ h after. ReadsAt h reading q r after) s (with_looked s q.shard y reads) d d
+moves_look s d q x y reading reads r there number keeps more raises shows stores h stands =
     let one : Stands h.tables (shard_at h q.shard) x = stands.shards q.shard x there in
     let still : Stands h.tables (after_entries reading [] (shard_at h q.shard)) y =
     subst (λ (z : ShardHistory). Stands h.tables z y) (raised_is reading (shard_at h q.shard)) (raises h.tables (shard_at h q.shard) one) in
@@ -194,7 +204,7 @@ moves_look s d q x y reading reads r there number keeps more raises shows h stan
         refl,
       ),
       record {
-        stands = stands_read h s (with_looked s q.shard y reads) q.shard x y reading [] stands there refl still (λ k. none_more q.shard k (entries_in k s.list)) refl refl refl refl refl disk;
+        stands = stands_read h s (with_looked s q.shard y reads) q.shard x y reading [] stands there refl still (λ k. none_more q.shard k (entries_in k s.list)) (same_remembers s.tables x y stores) refl refl refl refl refl disk;
         lasts = λ found told lasts. (
           told,
           lasts_still h (after_read h q.shard reading reads) found s (with_looked s q.shard y reads) d d told q.shard x y refl there refl number

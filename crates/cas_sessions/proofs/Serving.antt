@@ -80,6 +80,7 @@ module _ (given limits : Limits) (tables : List TableSchema) (shards : List Shar
     next = λ n x there.
         opened_goes_on is.entries is.mutations is.found.of_a_store.log old n (openings n) (low n x there) (may n x there) tables x (is.stands n x (openings n) there (may n x there));
     behind = is.behind;
+    memory = is.memory;
   }
     where
       low : (n : ℕ) (x : ShardState) → slice_get shards n ≡ Some x → n < (said_by is.entries).shards
@@ -142,6 +143,7 @@ module _ (given : Limits) (entries : List ManifestEntry) (mutations : List Mutat
     entered = λ n lt.
         ap (λ (q : ShardHistory). q.entries) (at n (subst (λ (k : ℕ). n < k) (many_mapped _ (numbers 0 count) ∙ many_numbers 0 count) lt))
         ∙ ap (entries_in n) (sym list);
+    memory = memory.memory;
   }
 
   first_lasts : (d : Disk) (t : Told) → IsTold entries mutations t → Lasts s.journal d t → s.committed ≡ 0

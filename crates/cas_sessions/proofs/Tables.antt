@@ -47,7 +47,7 @@ use Rattle.cas_sessions.specs.History.{Changes, Defines, History, DiskState, sha
 use Rattle.cas_sessions.specs.Inner.Definitions.{MayBeTold}
 use Rattle.cas_sessions.specs.Nodes.{State, StandsFor, LastsFor, disk_of, files_in, Moves}
 use Rattle.cas_sessions.specs.Inner.Faults.{reply_for}
-use Rattle.cas_recovery.specs.Restored.{IsBehind}
+use Rattle.cas_recovery.specs.Restored.{IsBehind, Remember}
 use Rattle.cas_sessions.proofs.Behind.{behind_defined, still_behind}
 
 -- ---- a shard under more tables
@@ -154,8 +154,8 @@ adds_no_keys ts a may =
 -- its memory stands for the history with these tables
 pub stands_defined : (h : History) (s t : State) → StandsFor h s → t.limits ≡ s.limits → t.clock ≡ s.clock → t.session ≡ s.session → t.calls ≡ s.calls
     → t.list ≡ s.list → t.shards ≡ s.shards → ((q : ShardHistory) (x : ShardState) → Stands h.tables q x → Stands t.tables q x)
-    → StandsFor (record h { tables = t.tables; disk = disk_of t }) t
-stands_defined h s t stands limits clock session calls list shards under = record {
+    → Remember t.tables s.shards → StandsFor (record h { tables = t.tables; disk = disk_of t }) t
+stands_defined h s t stands limits clock session calls list shards under remembers = record {
   limits = stands.limits ∙ sym limits;
   tables = refl;
   clock = stands.clock ∙ sym clock;
@@ -165,6 +165,7 @@ stands_defined h s t stands limits clock session calls list shards under = recor
   count = stands.count ∙ ap length (sym shards);
   shards = λ n x got. under (shard_at h n) x (stands.shards n x (subst (λ (xs : List ShardState). slice_get xs n ≡ Some x) shards got));
   entered = λ n lt. stands.entered n lt ∙ ap (entries_in n) (sym list);
+  memory = subst (Remember t.tables) (sym shards) remembers;
 }
 
 -- its disk keeps that, by what the journal is told then
@@ -333,7 +334,8 @@ module _ (s t : State) (d e : Disk) (x : ManifestEntry) (b : Bound) (may : MayBe
     record {
       stands =
           stands_defined h s t stands rest.limits rest.clock rest.session rest.calls rest.list rest.shards
-          (λ z y. subst (λ (ts : List TableSchema). Stands ts z y) (stands.tables ∙ sym same));
+          (λ z y. subst (λ (ts : List TableSchema). Stands ts z y) (stands.tables ∙ sym same))
+          (subst (λ (ts : List TableSchema). Remember ts s.shards) (sym same) stands.memory);
       lasts = λ found told lasts.
           let still = said_still fault x told lasts.few in (
             told_after fault x told,
@@ -347,12 +349,13 @@ module _ (s t : State) (d e : Disk) (x : ManifestEntry) (b : Bound) (may : MayBe
   )
 
   pub moves_done : IsDefinition x → t.tables ≡ tables_after s.tables b → ((z : ShardHistory) (y : ShardState) → Stands s.tables z y → Stands t.tables z y)
+      → (Remember s.tables s.shards → Remember t.tables s.shards)
       → Ends {T = Unit {0}} s.journal.first t.journal.first s.faults t.faults (Ok tt)
       → reach_of t.journal ≡ record { segment = (reach_of s.journal).segment; manifest = (reach_of s.journal).manifest + room_of x }
       → ((found : List Mutation) (told : Told) → Keeps s.journal d s.list s.committed found told → FitsEntry (said_by told.entries) x
       → Keeps t.journal e t.list t.committed found (appended x told))
       → Moves (λ h after. Changes h x b reply.Done after) s t d e
-  moves_done is new under ends reach kept h stands = (
+  moves_done is new under remembers ends reach kept h stands = (
     record h { tables = t.tables; disk = disk_of t },
     (
       t.tables,
@@ -366,7 +369,7 @@ module _ (s t : State) (d e : Disk) (x : ManifestEntry) (b : Bound) (may : MayBe
     record {
       stands =
           stands_defined h s t stands rest.limits rest.clock rest.session rest.calls rest.list rest.shards
-          (λ z y so. under z y (subst (λ (ts : List TableSchema). Stands ts z y) stands.tables so));
+          (λ z y so. under z y (subst (λ (ts : List TableSchema). Stands ts z y) stands.tables so)) (remembers stands.memory);
       lasts = λ found told lasts.
           let more = tells h found told lasts in
           let said = said_more told.entries x in (

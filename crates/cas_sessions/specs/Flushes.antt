@@ -27,11 +27,6 @@ use Rattle.cas_sessions.specs.declared.answer.Fault.{Fault}
 use Rattle.cas_sessions.specs.declared.answer.Fault.TheVariants.{Refused, Stopped, Disk, Read, BadBlock, Mem}
 use Rattle.cas_sessions.specs.History.{History, DiskState, reach_with, shard_at}
 
--- in memory each shard has just some mutations of each table, each of which the table may hold; and so it is with whatever tables come behind these
-abbrev pub Remember : List TableSchema → List ShardState → Type 0
-Remember tables shards = (n table : ℕ) (x : ShardState) → slice_get shards n ≡ Some x
-    → (ws : List Mutation) × ((more : List TableSchema) → HasInMemory (tables ++ more) table ws x)
-
 -- ---- one shard
 
 -- The change by which the manifest lists the file of a flush, of a table in a shard: it takes no file away, adds this one, and tells that the table's files hold

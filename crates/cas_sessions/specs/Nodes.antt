@@ -10,7 +10,7 @@ use Rattle.cas_journal.specs.declared.journal.Journal.{Journal}
 use Rattle.cas_journal.specs.Stores.{Told}
 use Rattle.cas_journal.specs.Reach.{reach_of}
 use Rattle.cas_history.specs.declared.item.Item.{Item}
-use Rattle.cas_recovery.specs.Restored.{IsBehind}
+use Rattle.cas_recovery.specs.Restored.{IsBehind, Remember}
 use Rattle.cas_render.specs.declared.reply.Failure.TheVariants as failure
 use Rattle.cas_render.specs.declared.reply.Reply.{Reply}
 use Rattle.cas_render.specs.declared.reply.Reply.TheVariants as reply
@@ -67,7 +67,8 @@ abbrev pub disk_of : State → DiskState
 disk_of s =
     record { stopped = is_some s.journal.first; faults = s.faults; reach = reach_of s.journal; files = files_in s.shards; reads = s.reads }
 
--- a store's memory stands for a history: each shard's state does, and the entries are those of the list
+-- A store's memory stands for a history: each shard's state does, and the entries are those of the list; and in memory are some mutations, each of which
+-- its table may hold.
 pub record StandsFor (h : History) (s : State) : Type 0 where
   pub limits : h.limits ≡ s.limits
   pub tables : h.tables ≡ s.tables
@@ -78,6 +79,7 @@ pub record StandsFor (h : History) (s : State) : Type 0 where
   pub count : length h.shards ≡ length s.shards
   pub shards : (n : ℕ) (x : ShardState) → slice_get s.shards n ≡ Some x → Stands h.tables (shard_at h n) x
   pub entered : AreEntered s.list h
+  pub memory : Remember s.tables s.shards
 
 -- A store's disk keeps what its history says. What the journal was told are the mutations that were found and then all that was accepted, by which
 -- each shard's next number goes on; the manifest tells of the tables, and of table files it is not ahead of memory. Each mutation that was acknowledged

@@ -22,7 +22,7 @@ use Rattle.cas_history.specs.Hands.{numbers}
 use Rattle.cas_sessions.specs.History.{History, DiskState}
 use Rattle.cas_recovery.specs.Openings.{AreOpenings}
 use Rattle.cas_recovery.specs.Recovered.{IsRecovered}
-use Rattle.cas_recovery.specs.Restored.{IsBehind, IsTold}
+use Rattle.cas_recovery.specs.Restored.{IsBehind, IsTold, Remember}
 
 -- The history before the first line: the tables that the manifest tells of, as many shards as it says, and of each shard what it was before the run; the
 -- clock at 0.
@@ -59,6 +59,7 @@ pub record IsInMemory (given : Limits) (entries : List ManifestEntry) (mutations
   pub ordered : AreInOrder mutations
   pub next : (n : ℕ) (x : ShardState) → slice_get shards n ≡ Some x → AscendByOne (numbers_of n mutations ++ (x.number + 1) ∷ [])
   pub behind : IsBehind (said_by entries) shards last live
+  pub memory : Remember tables shards
 
 -- The store of a folder was opened: it was read back with its files; and whatever its shards may have been before, for all that is known of the folder,
 -- memory has them so.

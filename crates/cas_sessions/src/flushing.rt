@@ -18,7 +18,8 @@ ghost use Rattle.cas_room.specs.declared.table_files.TheConstants.{LIVE_LIMIT};
 ghost use Rattle.cas_shard.specs.Flushing.{bytes_at, frozen_at};
 ghost use Rattle.cas_shard.specs.Stands.{ShardState, files_at};
 ghost use Rattle.cas_sessions.specs.Calls.{IsTrueOf};
-ghost use Rattle.cas_sessions.specs.Flushes.{Flushes, Remember};
+ghost use Rattle.cas_sessions.specs.Flushes.{Flushes};
+ghost use Rattle.cas_recovery.specs.Restored.{Remember};
 ghost use Rattle.cas_sessions.specs.Nodes.{CountsOn, KeepsAll, Moves};
 ghost use Rattle.cas_sessions.specs.Inner.Flushing.{AddsFile, FlushesFirst, FlushesNoFurther, FlushesOne, HasOneMore, IsChangeFor, IsOwn, Lists};
 ghost use Rattle.cas_sessions.specs.Inner.Flushing.{HoldsNothing, IsMade, NewFile, Quiet, SaysSo, TakesFile, WhyNoneMore, WhyNotMade, listed_of};
@@ -66,7 +67,9 @@ fn fault_of_write(fault: WriteFault) -> Fault
 {
     match fault {
         WriteFault::Failed => Fault::Disk { number: None },
-        WriteFault::Order | WriteFault::TooMany { .. } | WriteFault::Unfit => Fault::Refused(TOO_MANY),
+        WriteFault::Order | WriteFault::TooMany { .. } | WriteFault::Unfit => Fault::Refused(
+            TOO_MANY,
+        ),
         WriteFault::Mem => Fault::Mem,
     }
 }
@@ -259,7 +262,15 @@ impl<F: Folder, J: Store> Node<F, J> {
         };
         let shard = &self.shards[place as usize];
         let schema = &self.tables[table as usize];
-        let (info, draft) = match write_frozen(alloc, shard, schema, place, number, draft, &mut self.tally) {
+        let (info, draft) = match write_frozen(
+            alloc,
+            shard,
+            schema,
+            place,
+            number,
+            draft,
+            &mut self.tally,
+        ) {
             Ok(Some(written)) => written,
             Ok(None) => return Ok(None),
             Err(fault) => return Err(fault_of_write(fault)),
@@ -447,12 +458,12 @@ impl<F: Folder, J: Store> Node<F, J> {
         name: &TableName,
     ) -> Result<Vec<u64>, Fault>
         ensures flushes { IfOk result (λ v. (clock : ℤ) (c : Image) → (⟦<Node<F, J> as Stored>⟧.disk self.old).reads c
-            → Remember self.old.tables.items self.old.shards.items → Moves (λ h after. Flushes h name.now (OkOf v.items) after)
+            → Moves (λ h after. Flushes h name.now (OkOf v.items) after)
             (⟦<Node<F, J> as Stored>⟧.state self.old session.old.seat.list session.old.seat.calls clock)
             (⟦<Node<F, J> as Stored>⟧.state self.new session.new.seat.list session.new.seat.calls clock)
             (⟦<Node<F, J> as Stored>⟧.disk self.old) (⟦<Node<F, J> as Stored>⟧.disk self.new)) }
         ensures faults { IfErr result (λ f. (clock : ℤ) (c : Image) → (⟦<Node<F, J> as Stored>⟧.disk self.old).reads c
-            → Remember self.old.tables.items self.old.shards.items → Moves (λ h after. Flushes h name.now (Err f) after)
+            → Moves (λ h after. Flushes h name.now (Err f) after)
             (⟦<Node<F, J> as Stored>⟧.state self.old session.old.seat.list session.old.seat.calls clock)
             (⟦<Node<F, J> as Stored>⟧.state self.new session.new.seat.list session.new.seat.calls clock)
             (⟦<Node<F, J> as Stored>⟧.disk self.old) (⟦<Node<F, J> as Stored>⟧.disk self.new)) }

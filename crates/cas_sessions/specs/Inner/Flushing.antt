@@ -42,7 +42,8 @@ use Rattle.cas_tables.specs.declared.header.Version.TheVariants.{Second}
 use Rattle.cas_view.specs.Views.{File}
 use Rattle.cas_sessions.specs.declared.answer.Fault.{Fault}
 use Rattle.cas_sessions.specs.declared.answer.Fault.TheVariants.{Refused, Stopped, Disk as Failed, Read, BadBlock, Mem}
-use Rattle.cas_sessions.specs.Flushes.{AreInFiles, Flushed, Grows, Remember, WhyNoFurther, numbers_added, numbers_in, reach_by}
+use Rattle.cas_sessions.specs.Flushes.{AreInFiles, Flushed, Grows, WhyNoFurther, numbers_added, numbers_in, reach_by}
+use Rattle.cas_recovery.specs.Restored.{Remember}
 use Rattle.cas_sessions.specs.History.{History, DiskState, shard_at}
 use Rattle.cas_sessions.specs.Entered.{IsLeftAmid}
 use Rattle.cas_sessions.specs.Nodes.{State, StandsFor, LastsFor, disk_of}

@@ -13,6 +13,7 @@ returns g c h s session calls stands = (
     count = stands.count;
     shards = stands.shards;
     entered = stands.entered;
+    memory = stands.memory;
   },
   λ found told lasts. record {
     keeps = lasts.keeps;

@@ -1,6 +1,7 @@
 use Rattle.std.proofs.Common.{◌∙◌, sym, subst}
 use Rattle.cas_disk.specs.Disk.{During, Same}
 use Rattle.cas_opening.specs.Opening.{MayBeMadeNew, MayBeOpened}
+use Rattle.cas_sessions.proofs.Remembering.{have_memory}
 use Rattle.cas_sessions.proofs.Serving.{started}
 use Rattle.cas_sessions.proofs.opened.start.Goals as goal
 
@@ -42,3 +43,6 @@ returns-in-Err-new-clause-made g c = λ after ok err d reads bytes new.
 pub returns-in-Err-new-clause-untouched : goal.returns-in-Err-new-clause-untouched
 returns-in-Err-new-clause-untouched g c = λ after ok err d reads bytes fresh store.
     subst (λ x. During Same (g.F.Folder.disk c.args.folder) (g.F.Folder.disk x)) (sym (err ∙ c.not_opened-in-Err-new.ensures.folder)) (c.recover.ensures.untouched d reads bytes fresh store)
+
+pub invariant_of-result-clause-kept : goal.invariant_of-result-clause-kept
+invariant_of-result-clause-kept g c = have_memory _ _ c.in-Ok.ensures.recovered.memory

@@ -22,7 +22,7 @@ returns g c before has =
           (c.in_ok-restore.ensures.stands tables count (found_in m.shard before) (were m.shard x there) (belongs_here tables count before m [] (before ++ m ∷ []) refl given)
           (above_here tables count before m [] (before ++ m ∷ []) refl given)),
       λ tables count given.
-          one_remembers tables xs m.shard x c.restore.new.self (λ table ws. ws ++ one_of table m) (had.2 tables count (front_given tables count before m [] (before ++ m ∷ []) refl given)) there
-          (λ more table ws. c.in_ok-restore.ensures.memory (tables ++ more) count table ws
-          (belongs_too tables more count m (belongs_here tables count before m [] (before ++ m ∷ []) refl given))),
+          one_remembers tables xs m.shard x c.restore.new.self (had.2 tables count (front_given tables count before m [] (before ++ m ∷ []) refl given)) there
+          (λ table k. (k.0 ++ one_of table m, λ more. c.in_ok-restore.ensures.memory (tables ++ more) count table k.0
+          (belongs_too tables more count m (belongs_here tables count before m [] (before ++ m ∷ []) refl given)) (k.1 more))),
     )

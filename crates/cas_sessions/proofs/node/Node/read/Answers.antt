@@ -29,6 +29,7 @@ returns-in-Ok-clause-shows g c = λ session calls clock.
     (λ z stands.
     shows_rows z c.args.reading (to_z w64 (of_z w64 c.in-Ok.look.now)) c.args.read c.in-Ok.look now
     (c.in-Ok.ensures.shows n.tables.items z stands c.requires.fits ∙ ap (λ (k : ℤ). look_at k z c.args.read.query) at))
+    c.look.ensures.stores
 
 pub returns-in-Err-clause-shows : goal.returns-in-Err-clause-shows
 returns-in-Err-clause-shows g c = λ session calls clock.
@@ -41,6 +42,7 @@ returns-in-Err-clause-shows g c = λ session calls clock.
     (λ z stands.
     shows_fault (files_at (slice_get x.stores c.args.read.query.table)) _ _ z c.args.reading c.args.read c.in-Err.fault c.fault_of_table.result c.fault_of_table.ensures c.in-Err.ensures.why
     (rose_by c.look.result c.in-Err.fault _ _ c.in-Err.is c.look.ensures.count.rose) c.in-Err.ensures.memory)
+    c.look.ensures.stores
 
 pub returns-in-Err-clause-told : goal.returns-in-Err-clause-told
 returns-in-Err-clause-told g c = λ s t. true_of_read c.in-Err.fault c.fault_of_table.result s t c.fault_of_table.ensures
