@@ -6,6 +6,7 @@ use cas_disk::{Folder, MemFolder, Name};
 use cas_io::{MemSink, MemSource};
 use cas_node::Cause;
 use std::alloc::Global;
+use std::test::Fail;
 
 // Two rows of the file, and one that is written.
 const SCRIPT: &str = "SELECT c, v FROM t WHERE k = 1
@@ -38,55 +39,72 @@ ok 6
 failed block
 ";
 
-// Whether the script prints this over the folder; and how the run ended.
-fn ended(alloc: Global, folder: MemFolder, output: &str) -> Option<(u8, Cause, bool)> {
-    let mut source = MemSource::new(SCRIPT.as_bytes().to_vec(alloc).ok()?);
-    let ended = run_in(alloc, &mut source, MemSink::new(alloc), folder).ok()?;
+// How the run of the script over the folder ended, and whether it printed this.
+fn ended(alloc: Global, folder: MemFolder, output: &str) -> Result<(u8, Cause, bool), Fail> {
+    let mut source = MemSource::new(SCRIPT.as_bytes().to_vec(alloc)?);
+    let ended = run_in(alloc, &mut source, MemSink::new(alloc), folder)?;
     let printed = ended.output.as_slice() == output.as_bytes();
-    Some((ended.status, ended.cause, printed))
+    Ok((ended.status, ended.cause, printed))
 }
 
 // Whether the rows of the file are shown, with the one that is written.
-fn are_shown(alloc: Global) -> bool {
+fn are_shown(alloc: Global) -> Result<bool, Fail> {
     match found(alloc) {
-        Some(folder) => ended(alloc, folder, ROWS) == Some((0, Cause::Good, true)),
-        None => false,
+        Some(folder) => Ok(ended(alloc, folder, ROWS)? == (0, Cause::Good, true)),
+        None => Ok(false),
     }
 }
 
 // Whether a run prints this and ends so, where the read of this number fails.
-fn is_unread(alloc: Global, read: u64, output: &str) -> bool {
+fn is_unread(alloc: Global, read: u64, output: &str) -> Result<bool, Fail> {
     match failing(alloc, read) {
-        Some(folder) => ended(alloc, folder, output) == Some((5, Cause::Disk, true)),
-        None => false,
+        Some(folder) => Ok(ended(alloc, folder, output)? == (5, Cause::Disk, true)),
+        None => Ok(false),
     }
 }
 
-// Whether a run prints this and ends for the file, where another byte stands at that place of it.
-fn is_bad(alloc: Global, place: u64, byte: u8, output: &str) -> bool {
-    let Some(mut folder) = found(alloc) else {
-        return false;
-    };
-    if folder.write_at(Name::Table(1), place, &[byte]).is_err() {
-        return false;
+// The folder, where another byte stands at that place of its table file.
+fn altered(alloc: Global, place: u64, byte: u8) -> Option<MemFolder> {
+    let mut folder = found(alloc)?;
+    match folder.write_at(Name::Table(1), place, &[byte]) {
+        Ok(()) => Some(folder),
+        Err(_) => None,
     }
-    match ended(alloc, folder, output) {
-        Some((status, Cause::Bad { name, .. }, printed)) => status == 6
-            && name == Name::Table(1)
-            && printed,
+}
+
+fn is_of_file(ended: (u8, Cause, bool)) -> bool {
+    match ended {
+        (6, Cause::Bad { name, .. }, printed) => printed && name == Name::Table(1),
         _ => false,
     }
 }
 
-#[test]
-fn a_run_begins_with_the_flushed_file(rt: HostRuntime) {
-    assert!(rt; are_shown(rt.alloc()));
+// Whether a run prints this and ends for the file, where another byte stands at that place of it.
+fn is_bad(alloc: Global, place: u64, byte: u8, output: &str) -> Result<bool, Fail> {
+    match altered(alloc, place, byte) {
+        Some(folder) => Ok(is_of_file(ended(alloc, folder, output)?)),
+        None => Ok(false),
+    }
 }
 
-// The sixth read is the last of the opening, the seventh the first of the SELECT. No such version stands at 9; at 31 no
-// fragment, in a partition.
 #[test]
-fn what_fails_is_told_by_a_run(rt: HostRuntime) {
-    assert!(rt; is_unread(rt.alloc(), 6, "") && is_unread(rt.alloc(), 7, UNREAD));
-    assert!(rt; is_bad(rt.alloc(), 9, 3, "") && is_bad(rt.alloc(), 31, 3, BLOCKED));
+fn a_run_begins_with_the_flushed_file(rt: HostRuntime) -> Result<(), Fail> {
+    assert!(rt; are_shown(rt.alloc())?);
+    Ok(())
+}
+
+// The sixth read is the last of the opening, the seventh the first of the SELECT.
+#[test]
+fn a_failed_read_is_told_by_a_run(rt: HostRuntime) -> Result<(), Fail> {
+    assert!(rt; is_unread(rt.alloc(), 6, "")?);
+    assert!(rt; is_unread(rt.alloc(), 7, UNREAD)?);
+    Ok(())
+}
+
+// No such version stands at 9; at 31 no fragment, in a partition.
+#[test]
+fn a_bad_file_is_told_by_a_run(rt: HostRuntime) -> Result<(), Fail> {
+    assert!(rt; is_bad(rt.alloc(), 9, 3, "")?);
+    assert!(rt; is_bad(rt.alloc(), 31, 3, BLOCKED)?);
+    Ok(())
 }

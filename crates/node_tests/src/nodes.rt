@@ -36,14 +36,14 @@ fn fault_of(answer: Result<Answer, Fault>) -> Option<Fault> {
     }
 }
 
-fn number_of(answer: Result<Answer, Fault>) -> u64 {
+pub(crate) fn number_of(answer: Result<Answer, Fault>) -> u64 {
     match answer {
         Ok(Answer::Wrote { number }) => number,
         _ => 0,
     }
 }
 
-fn rows_of(answer: Result<Answer, Fault>) -> (usize, u64) {
+pub(crate) fn rows_of(answer: Result<Answer, Fault>) -> (usize, u64) {
     match answer {
         Ok(Answer::Rows { rows, front, .. }) => (rows.len(), front),
         _ => (0, 0),
@@ -102,8 +102,8 @@ fn used<J: Store>(alloc: Global, opened: Opened<MemFolder>) -> (Option<Answered>
     (Some(answered), node.close().into_folder())
 }
 
-// The store of the folder, or the folder alone.
-fn opened(alloc: Global, folder: MemFolder) -> Result<Opened<MemFolder>, MemFolder> {
+/// The store of the folder, or the folder alone.
+pub(crate) fn opened(alloc: Global, folder: MemFolder) -> Result<Opened<MemFolder>, MemFolder> {
     let limits = Limits {
         shards: 1,
         segment: 4_096,
