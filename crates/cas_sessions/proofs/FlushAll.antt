@@ -1,7 +1,7 @@
 -- A flush of a table in all shards, one after another.
-use Rattle.std.proofs.Common.{◌≡◌, ◌≢◌, ◌⊎◌, inl, inr, ◌<◌, ◌≤◌, ◌+◌, ℕ, zero, suc, Bool, true, false, cond, List, [], ◌∷◌, ◌++◌, length, Option, None, Some, Result, Ok, Err, is_some, refl, sym, ap, ◌∙◌, subst, arith, append-nil, length-append}
-use Rattle.std.specs.Prelude.{slice_get, slice_index_or}
-use Rattle.std.specs.List.{find, flat_map, fold}
+use Rattle.std.proofs.Common.{◌≡◌, ◌≢◌, ◌⊎◌, inl, inr, ◌<◌, ◌≤◌, ◌+◌, ℕ, zero, suc, Bool, true, false, cond, List, [], ◌∷◌, ◌++◌, length, Option, None, Some, Result, Ok, Err, is_some, refl, sym, ap, ◌∙◌, subst, arith, length-append}
+use Rattle.std.specs.Prelude.{slice_get}
+use Rattle.std.specs.List.{find}
 use Rattle.std.specs.Str.{bytes_eq}
 use Rattle.std.proofs.lemmas.List.{flat_map_more}
 use Rattle.std.proofs.lemmas.List.Sums.{fold_push}
@@ -27,11 +27,11 @@ use Rattle.cas_sessions.specs.declared.answer.Fault.{Fault}
 use Rattle.cas_sessions.specs.declared.answer.Fault.TheVariants.{Refused, Stopped, Disk as Failed, Read, BadBlock, Mem}
 use Rattle.cas_sessions.specs.Calls.{IsTrueOf}
 use Rattle.cas_sessions.specs.Entered.{IsLeftAmid}
-use Rattle.cas_sessions.specs.Flushes.{AreInFiles, EndsSo, Flushed, Flushes, FlushesNamed, FlushesTable, Grows, WhyNoFurther, change_of, numbers_added, numbers_in, reach_by}
+use Rattle.cas_sessions.specs.Flushes.{AreInFiles, Flushed, Flushes, FlushesNamed, FlushesTable, Grows, WhyNoFurther, change_of, numbers_in, reach_by}
 use Rattle.cas_recovery.specs.Restored.{Remember}
 use Rattle.cas_sessions.specs.History.{History, DiskState, shard_at}
-use Rattle.cas_sessions.specs.Nodes.{State, StandsFor, LastsFor, KeepsAll, Moves, disk_of}
-use Rattle.cas_sessions.specs.Inner.Flushing.{EndsIn, FlushedOne, FlushesFirst, FlushesNoFurther, FlushesOne, GoesOn, IsFirst, IsOwn, listed_of}
+use Rattle.cas_sessions.specs.Nodes.{State, LastsFor, KeepsAll, Moves, disk_of}
+use Rattle.cas_sessions.specs.Inner.Flushing.{FlushedOne, FlushesFirst, FlushesNoFurther, FlushesOne, GoesOn, IsOwn, listed_of}
 use Rattle.cas_sessions.proofs.FlushShard.{quiet_still}
 use Rattle.cas_sessions.proofs.FlushSteps.{amid_then, beside_then, quiet_beside, quiet_goes, quiet_stands, with_disk}
 

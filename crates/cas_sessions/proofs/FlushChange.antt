@@ -1,21 +1,19 @@
 -- The manifest gets the change that lists the file of a flush.
-use Rattle.std.proofs.Common.{◌≡◌, ◌≢◌, ◌⊎◌, inl, inr, ⊎_elim, ◌<◌, ◌≤◌, ◌+◌, ◌-◌, ◌*◌, ◌%◌, ◌^◌, ◌==◌, ◌&&◌, ◌||◌, not, ℕ, zero, suc, Bool, true, false, List, [], ◌∷◌, ◌++◌, length, map, Option, None, Some, Result, Ok, Err, is_some, refl, sym, ap, ◌∙◌, subst, arith, append-nil}
-use Rattle.std.specs.Prelude.{slice_get, slice_set, unwrap_or, MatchResult}
-use Rattle.std.specs.List.{AllByRecursion, list_any}
+use Rattle.std.proofs.Common.{◌≡◌, ◌≢◌, ◌⊎◌, inl, inr, ⊎_elim, ◌<◌, ◌≤◌, ◌+◌, ◌-◌, ◌*◌, ◌%◌, ◌^◌, ◌==◌, ◌&&◌, ◌||◌, not, ℕ, zero, suc, Bool, true, false, List, [], ◌∷◌, ◌++◌, length, map, Option, None, Some, Result, Ok, Err, refl, sym, ap, ◌∙◌, subst, arith, append-nil}
+use Rattle.std.specs.Prelude.{slice_get, slice_set, unwrap_or}
+use Rattle.std.specs.List.{AllByRecursion}
 use Rattle.std.proofs.lemmas.Bool.Decides.{nat_tests}
 use Rattle.std.proofs.lemmas.Nat.{mod-mul-add}
 use Rattle.std.proofs.lemmas.Option.{same_Some}
-use Rattle.cas_types.specs.Limits.{IsShardCount}
 use Rattle.cas_types.specs.declared.schema.TableSchema.{TableSchema}
 use Rattle.cas_disk.specs.Disk.{Disk, Image, Leaves}
 use Rattle.cas_disk.proofs.Moments.{reworded}
-use Rattle.cas_gates.specs.declared.first.First.{First}
 use Rattle.cas_atoms.specs.declared.atom.Mutation.{Mutation}
 use Rattle.cas_info.specs.Allowed.{FitsInfo}
 use Rattle.cas_info.specs.declared.info.TableInfo.{TableInfo}
 use Rattle.cas_schemas.specs.Each.{EachFits}
-use Rattle.cas_changes.specs.Allowed.{FitsChange, FitsEntry, FitsNext, HasSpelling, IsListable, may_come, may_go}
-use Rattle.cas_changes.specs.Saying.{Saying, after, change_after, has_file, is_listed, no_part, nothing, part_after, part_of, place_in, said_by}
+use Rattle.cas_changes.specs.Allowed.{FitsChange, FitsEntry, HasSpelling, may_come, may_go}
+use Rattle.cas_changes.specs.Saying.{Saying, change_after, has_file, is_listed, no_part, nothing, part_after, part_of, place_in, said_by}
 use Rattle.cas_changes.specs.Spelling.{entry_bytes}
 use Rattle.cas_changes.specs.declared.entry.Change.{Change}
 use Rattle.cas_changes.specs.declared.entry.Entry.{Entry as ManifestEntry}
@@ -25,11 +23,9 @@ use Rattle.cas_changes.proofs.EntryLaws.{spelled}
 use Rattle.cas_changes.proofs.EntryLengths.{entry_short}
 use Rattle.cas_manifest.proofs.Appends.{said_more}
 use Rattle.cas_replay.specs.Grammar.{AreInOrder, AscendByOne, numbers_of}
-use Rattle.cas_journal.specs.Ends.{Ends, told_after}
 use Rattle.cas_journal.specs.Stores.{Told, MayList, appended, committed_all, failed_at}
 use Rattle.cas_journal.specs.declared.fault.JournalFault.{JournalFault}
 use Rattle.cas_room.specs.Changing.{MayBeTold, StandsAmid}
-use Rattle.cas_room.specs.Keeping.{Keeps, StandsFor as ImageStands}
 use Rattle.cas_room.specs.Rooms.{accepted_in}
 use Rattle.cas_shard.specs.Stands.{ShardState}
 use Rattle.cas_recovery.specs.Restored.{IsBehind}
@@ -37,7 +33,7 @@ use Rattle.cas_recovery.proofs.Places.{get_here, get_other, get_within, same_pla
 use Rattle.cas_sessions.specs.History.{History}
 use Rattle.cas_sessions.specs.Entered.{IsLeftAmid}
 use Rattle.cas_sessions.specs.Nodes.{State, LastsFor}
-use Rattle.cas_sessions.specs.Inner.Flushing.{AddsFile, GoesOn, IsChangeFor, Lists}
+use Rattle.cas_sessions.specs.Inner.Flushing.{AddsFile, GoesOn, Lists}
 use Rattle.cas_sessions.proofs.Tables.{goes_before, said_still}
 
 -- ---- numbers

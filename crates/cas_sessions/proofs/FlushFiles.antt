@@ -1,7 +1,6 @@
 -- What stands in a table's files once memory has nothing of it that says more.
-use Rattle.std.proofs.Common.{◌≡◌, ◌≢◌, ◌⊎◌, inl, inr, ◌<◌, ◌≤◌, ◌+◌, ◌-◌, ◌^◌, min, ℕ, zero, suc, Bool, true, false, if◌then◌else◌, List, [], ◌∷◌, ◌++◌, length, map, take, drop, Option, None, Some, refl, sym, ap, ◌∙◌, subst, arith, append-nil, append_assoc}
+use Rattle.std.proofs.Common.{◌≡◌, ◌≤◌, ℕ, zero, suc, Bool, true, false, if◌then◌else◌, List, [], ◌∷◌, ◌++◌, length, map, drop, Option, None, Some, refl, sym, ap, ◌∙◌, subst, arith, append-nil, append_assoc}
 use Rattle.std.specs.Arc.{arc_value}
-use Rattle.std.specs.Prelude.{slice_get}
 use Rattle.cas_types.specs.declared.schema.Column.{Column}
 use Rattle.cas_bounds.specs.ClusteringOrder.{clustering_order}
 use Rattle.cas_bounds.specs.declared.order.Ordered.{Ordered}
@@ -15,7 +14,7 @@ use Rattle.cas_memtable.specs.Kept.{StandIn, StandInEach, all_of, atoms_under, b
 use Rattle.cas_memtable.specs.Memtables.{added, bytes_with}
 use Rattle.cas_memtable.specs.declared.memtable.MemPart.{MemPart}
 use Rattle.cas_shard.specs.Flushing.{bytes_at, frozen_at, memtables_at}
-use Rattle.cas_shard.specs.Stands.{Holds, HoldsIn, SaySame, files_at}
+use Rattle.cas_shard.specs.Stands.{Holds, SaySame, files_at}
 use Rattle.cas_shard.proofs.Memory.{say_alike, say_behind, say_then}
 use Rattle.cas_sstread.specs.Loading.{Held}
 use Rattle.cas_stored.specs.Stored.{HoldEach, StoredTable}

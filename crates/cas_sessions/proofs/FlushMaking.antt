@@ -1,33 +1,28 @@
 -- The new file of a flush: it is written, the folder gets it, and it is opened.
-use Rattle.std.proofs.Common.{◌≡◌, ◌⊎◌, inl, inr, ◌<◌, ◌≤◌, ◌+◌, ℕ, List, [], ◌∷◌, ◌++◌, Option, None, Some, Ok, Err, refl, sym, ap, ◌∙◌, subst, arith, append-nil}
+use Rattle.std.proofs.Common.{◌≡◌, inl, ◌<◌, ◌≤◌, ℕ, List, [], ◌∷◌, ◌++◌, Option, None, Some, refl, sym, ap, ◌∙◌, subst, arith, append-nil}
 use Rattle.std.proofs.Math.Logic.{∥∥₁_elim}
 use Rattle.std.proofs.Props.{props}
 use Rattle.std.specs.Prelude.{slice_get}
 use Rattle.std.proofs.lemmas.Option.{same_Some}
-use mathlib.Core.HLevel.{Unit-prop, ×_prop}
-use Rattle.std.specs.Prelude.{IfSome, FitsSigned}
-use Rattle.std.specs.Int.{w64}
+use mathlib.Core.HLevel.{Unit-prop}
+use Rattle.std.specs.Prelude.{IfSome}
 use Rattle.cas_types.specs.declared.schema.TableSchema.{TableSchema}
 use Rattle.cas_io.specs.Causes.{Rose}
 use Rattle.cas_bind.specs.Tables.{AreInPlace}
-use Rattle.cas_disk.specs.Counts.{Counted}
-use Rattle.cas_disk.specs.Disk.{Disk, Image}
+use Rattle.cas_disk.specs.Disk.{Disk}
 use Rattle.cas_disk.specs.declared.fault.FolderFault.{FolderFault}
 use Rattle.cas_disk.specs.declared.fault.FolderFault.TheVariants as folder
 use Rattle.cas_atoms.specs.declared.atom.Mutation.{Mutation}
-use Rattle.cas_flush.specs.Flushed.{SayWhatIsHeld, any}
 use Rattle.cas_flushing.specs.Flushed.{Flushes, IsFlushed, IsOpened, WhyUnopened}
 use Rattle.cas_flushing.specs.Laws.{StandsForThem}
 use Rattle.cas_flushing.proofs.Files.{flush_stands}
 use Rattle.cas_info.specs.Allowed.{FitsInfo}
 use Rattle.cas_info.specs.declared.info.TableInfo.{TableInfo}
 use Rattle.cas_memtable.specs.Kept.{HoldJust}
-use Rattle.cas_memtable.specs.declared.memtable.MemPart.{MemPart}
-use Rattle.cas_room.specs.Tables.{Begins}
 use Rattle.cas_room.specs.declared.fault.FreshFault.{FreshFault}
 use Rattle.cas_room.specs.declared.fault.FreshFault.TheVariants as fresh
-use Rattle.cas_shard.specs.Flushing.{HasInMemory, SaysWhatTheyDo, frozen_at, memtables_at}
-use Rattle.cas_shard.specs.Stands.{ShardState, files_at, order_at}
+use Rattle.cas_shard.specs.Flushing.{HasInMemory, frozen_at, memtables_at}
+use Rattle.cas_shard.specs.Stands.{ShardState, files_at}
 use Rattle.cas_sstread.specs.Loading.{Held, IsNoBlock}
 use Rattle.cas_sstread.specs.declared.fault.TableFault.{TableFault}
 use Rattle.cas_sstread.specs.declared.fault.TableFault.TheVariants as load
@@ -39,8 +34,8 @@ use Rattle.cas_sessions.specs.declared.answer.Fault.{Fault}
 use Rattle.cas_sessions.specs.declared.answer.Fault.TheVariants.{Refused, Stopped, Disk as Failed, Read, BadBlock, Mem}
 use Rattle.cas_recovery.specs.Restored.{HaveMemory, Remember}
 use Rattle.cas_sessions.specs.Nodes.{State}
-use Rattle.cas_sessions.specs.Inner.Flushing.{HasOneMore, IsMade, IsOwn, NewFile, Quiet, SaysSo, WhyNoneMore, WhyNotMade, fault_of_folder, fault_of_fresh, fault_of_load, fault_of_write}
-use Rattle.cas_sessions.proofs.FlushShard.{not_made_since, quiet_still}
+use Rattle.cas_sessions.specs.Inner.Flushing.{HasOneMore, IsMade, IsOwn, Quiet, WhyNoneMore, WhyNotMade, fault_of_folder, fault_of_fresh, fault_of_load, fault_of_write}
+use Rattle.cas_sessions.proofs.FlushShard.{quiet_still}
 use Rattle.cas_sessions.proofs.FlushSound.{numbered}
 
 -- ---- faults

@@ -1,5 +1,5 @@
 -- A flush of a table in a shard.
-use Rattle.std.proofs.Common.{◌≡◌, ◌≢◌, ◌⊎◌, inl, inr, ⊎_elim, ◌<◌, ◌≤◌, ◌+◌, ℕ, zero, suc, Bool, true, false, List, [], ◌∷◌, ◌++◌, length, map, take, drop, Option, None, Some, Result, Ok, Err, is_some, refl, sym, ap, ◌∙◌, subst, arith, append-nil}
+use Rattle.std.proofs.Common.{◌≡◌, ◌≢◌, ◌⊎◌, inl, inr, ◌<◌, ◌≤◌, ℕ, false, List, [], ◌∷◌, ◌++◌, length, map, take, drop, Option, None, Some, Result, Ok, Err, is_some, refl, sym, ap, ◌∙◌, subst, arith}
 use Rattle.std.proofs.lemmas.List.{take_all}
 use Rattle.std.proofs.lemmas.Option.{same_Some}
 use Rattle.std.specs.Prelude.{slice_get, slice_set, IfErr}
@@ -8,18 +8,16 @@ use Rattle.cas_types.specs.declared.schema.TableSchema.{TableSchema}
 use Rattle.cas_bounds.specs.ClusteringOrder.{clustering_order}
 use Rattle.cas_bounds.specs.declared.order.Ordered.{Ordered}
 use Rattle.cas_io.specs.Causes.{Rose}
-use Rattle.cas_disk.specs.Disk.{Disk, Image, Leaves}
+use Rattle.cas_disk.specs.Disk.{Disk, Image}
 use Rattle.cas_disk.proofs.Moments.{no_call}
 use Rattle.cas_gates.specs.declared.first.First.{First}
 use Rattle.cas_atoms.specs.declared.atom.Mutation.{Mutation}
 use Rattle.cas_changes.specs.Saying.{said_by}
 use Rattle.cas_changes.specs.declared.entry.Change.{Change}
-use Rattle.cas_changes.specs.declared.entry.Entry.TheVariants.{Change as change_entry}
 use Rattle.cas_info.specs.declared.info.TableInfo.{TableInfo}
-use Rattle.cas_journal.specs.Ends.{Ends, EndsBy}
+use Rattle.cas_journal.specs.Ends.{Ends}
 use Rattle.cas_journal.specs.Reach.{Reach, reach_of}
 use Rattle.cas_journal.specs.Stores.{Told, Holds as HoldsTold}
-use Rattle.cas_journal.specs.declared.fault.Counted.{Counted}
 use Rattle.cas_journal.specs.declared.fault.JournalFault.{JournalFault}
 use Rattle.cas_journal.specs.declared.fault.JournalFault.TheVariants as journal
 use Rattle.cas_memtable.specs.Kept.{HoldJust}
@@ -28,20 +26,19 @@ use Rattle.cas_shard.specs.Flushing.{HasInMemory, SaysWhatTheyDo, bytes_at, froz
 use Rattle.cas_shard.specs.Shards.{ShardHistory, all_entries, number_of}
 use Rattle.cas_shard.specs.Stands.{Holds, ShardState, Stands, files_at, mutations_of, order_at, order_of}
 use Rattle.cas_sstread.specs.Loading.{Held}
-use Rattle.cas_stored.specs.Stored.{StoredTable}
 use Rattle.cas_view.specs.Views.{File}
-use Rattle.cas_recovery.proofs.Places.{get_here, get_other, get_within, length_set, same_place}
+use Rattle.cas_recovery.proofs.Places.{get_here, get_other, length_set, same_place}
 use Rattle.cas_sessions.specs.declared.answer.Fault.{Fault}
 use Rattle.cas_sessions.specs.declared.answer.Fault.TheVariants.{Refused, Stopped, Disk as Failed, Read, BadBlock, Mem}
-use Rattle.cas_sessions.specs.Flushes.{AreInFiles, Grows, ListsOne, WhyNoFurther, numbers_in, reach_by}
+use Rattle.cas_sessions.specs.Flushes.{AreInFiles, Grows, WhyNoFurther, reach_by}
 use Rattle.cas_recovery.specs.Restored.{Remember}
 use Rattle.cas_sessions.specs.History.{History, DiskState, shard_at}
 use Rattle.cas_sessions.specs.Nodes.{State, StandsFor, LastsFor, disk_of, files_in, files_of}
 use Rattle.cas_sessions.specs.Inner.Faults.{fault_for}
-use Rattle.cas_sessions.specs.Inner.Flushing.{AddsFile, EndsIn, FlushedOne, FlushesOne, GoesOn, GoesOnAs, IsBeside, IsOwn, Lists, Moved, NewFile, NotFlushed, Quiet, SaysSo, TakesFile, WhyNotMade, listed_of}
+use Rattle.cas_sessions.specs.Inner.Flushing.{AddsFile, EndsIn, FlushedOne, FlushesOne, GoesOn, GoesOnAs, IsOwn, Lists, Moved, NewFile, Quiet, SaysSo, TakesFile, WhyNotMade}
 use Rattle.cas_sessions.proofs.FlushChange.{below_next, lists_done, lists_failed}
 use Rattle.cas_sessions.proofs.FlushFiles.{SayNothing, in_files, memory_says_nothing, rest_says_nothing}
-use Rattle.cas_sessions.proofs.FlushSteps.{amid_then, beside_then, files_again, lasts_again, one_goes_on, quiet_amid, quiet_beside, quiet_goes, quiet_lasts, quiet_remembers, quiet_stands, same_numbers, same_shards, stands_again, with_disk}
+use Rattle.cas_sessions.proofs.FlushSteps.{amid_then, beside_then, files_again, lasts_again, one_goes_on, quiet_amid, quiet_beside, quiet_goes, quiet_lasts, quiet_remembers, quiet_stands, same_shards, stands_again, with_disk}
 
 -- ---- nothing is done
 
@@ -396,15 +393,15 @@ module _ (t : TableSchema) (n number : ℕ) (s m : State) (d e : Disk) (c : Chan
     moves = λ says have h stands.
         let still : Remember s.tables s.shards → Remember m.tables m.shards =
         λ kept. subst (λ (xs : List ShardState). Remember m.tables xs) (sym lists.shards) (subst (λ (ts : List TableSchema). Remember ts s.shards) (sym lists.tables) kept) in (
-      stands_again h s m stands lists.limits lists.tables lists.clock lists.list lists.session lists.calls (ap length lists.shards)
-          (λ k z got. (z, ap (λ (xs : List ShardState). slice_get xs k) (sym lists.shards) ∙ got, λ q so. so)) (still stands.memory),
-      still have,
-      record {
-        files = λ k table. ap (λ (xs : List ShardState). files_in xs k table) lists.shards;
-        reach = lists.reach;
-        why = why_unlisted f s.journal.first going lists.outcome;
-      },
-    );
+          stands_again h s m stands lists.limits lists.tables lists.clock lists.list lists.session lists.calls (ap length lists.shards)
+              (λ k z got. (z, ap (λ (xs : List ShardState). slice_get xs k) (sym lists.shards) ∙ got, λ q so. so)) (still stands.memory),
+          still have,
+          record {
+            files = λ k table. ap (λ (xs : List ShardState). files_in xs k table) lists.shards;
+            reach = lists.reach;
+            why = why_unlisted f s.journal.first going lists.outcome;
+          },
+        );
     own = own_fault f s.journal.first going lists.outcome;
   }
 

@@ -1,11 +1,11 @@
 -- The steps of a flush before the manifest gets the change.
-use Rattle.std.proofs.Common.{◌≡◌, ◌≢◌, ◌⊎◌, inl, inr, ◌<◌, ◌≤◌, ◌+◌, ℕ, zero, suc, false, List, [], ◌∷◌, ◌++◌, length, Option, None, Some, is_some, refl, sym, ap, ◌∙◌, subst, arith, append-nil}
+use Rattle.std.proofs.Common.{◌≡◌, ◌≢◌, ◌⊎◌, inl, inr, ◌≤◌, ◌+◌, ℕ, zero, suc, false, List, [], ◌∷◌, ◌++◌, length, Option, None, Some, is_some, refl, sym, ap, ◌∙◌, subst, arith, append-nil}
 use Rattle.std.specs.Prelude.{slice_get, slice_set}
 use Rattle.std.specs.List.{AllByRecursion}
-use Rattle.std.proofs.lemmas.Option.{same_Some, slice_get_past, slice_get_within}
+use Rattle.std.proofs.lemmas.Option.{same_Some}
 use Rattle.cas_types.specs.declared.schema.TableSchema.{TableSchema}
-use Rattle.cas_disk.specs.Disk.{Disk, Image, Leaves}
-use Rattle.cas_disk.proofs.Moments.{leaves_either, no_call, reworded}
+use Rattle.cas_disk.specs.Disk.{Disk, Leaves}
+use Rattle.cas_disk.proofs.Moments.{leaves_either, reworded}
 use Rattle.cas_atoms.specs.declared.atom.Mutation.{Mutation}
 use Rattle.cas_changes.specs.Saying.{said_by}
 use Rattle.cas_replay.specs.Grammar.{AscendByOne, numbers_of}
@@ -14,16 +14,13 @@ use Rattle.cas_room.specs.Keeping.{Keeps}
 use Rattle.cas_room.specs.Rooms.{accepted_in}
 use Rattle.cas_shard.specs.Flushing.{HasInMemory}
 use Rattle.cas_shard.specs.Shards.{ShardHistory}
-use Rattle.cas_shard.specs.Stands.{ShardState, Stands, files_at}
-use Rattle.cas_sstread.specs.Loading.{Held}
-use Rattle.cas_view.specs.Views.{File}
-use Rattle.cas_recovery.specs.Restored.{IsBehind}
-use Rattle.cas_recovery.proofs.Places.{get_here, get_other, get_within, length_set, same_place}
-use Rattle.cas_sessions.specs.History.{History, DiskState, shard_at}
+use Rattle.cas_shard.specs.Stands.{ShardState, Stands}
+use Rattle.cas_recovery.proofs.Places.{get_here, get_other, length_set, same_place}
+use Rattle.cas_sessions.specs.History.{History, shard_at}
 use Rattle.cas_sessions.specs.Entered.{IsLeftAmid, entries_in}
 use Rattle.cas_recovery.specs.Restored.{Remember}
 use Rattle.cas_sessions.specs.Nodes.{State, StandsFor, LastsFor, disk_of, files_in, files_of}
-use Rattle.cas_sessions.specs.Inner.Flushing.{AllGoOn, GoesOn, GoesOnAs, IsBeside, Moved, Quiet}
+use Rattle.cas_sessions.specs.Inner.Flushing.{AllGoOn, GoesOn, GoesOnAs, IsBeside, Quiet}
 use Rattle.cas_sessions.proofs.Crashing.{holds_amid}
 
 -- ---- shards

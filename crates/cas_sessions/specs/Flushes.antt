@@ -29,8 +29,8 @@ use Rattle.cas_sessions.specs.History.{History, DiskState, reach_with, shard_at}
 
 -- ---- one shard
 
--- The change by which the manifest lists the file of a flush, of a table in a shard: it takes no file away, adds this one, and tells that the table's files hold
--- the shard's mutations up to that number.
+-- The change by which the manifest lists the file of a flush, of a table in a shard: it takes no file away, adds this one, and tells that the table's files
+-- hold the shard's mutations up to that number.
 pub record ListsOne (table shard number : ℕ) (f : File Held) (c : Change) : Type 0 where
   pub of_table : c.table ≡ table
   pub of_shard : c.shard ≡ shard
@@ -78,8 +78,8 @@ pub record Flushed (h : History) (t : TableSchema) (changes : List (Option Chang
   pub faults : h.disk.faults ≤ e.faults
   pub reads : h.disk.reads ≤ e.reads
 
--- Why a flush goes no further: there is too much of something; the folder failed, or writing a file, which is counted with the reads; or a read of the new file.
--- Only a failed write stops all further ones. No file that was just written is bad.
+-- Why a flush goes no further: there is too much of something; the folder failed, or writing a file, which is counted with the reads; or a read of the new
+-- file. Only a failed write stops all further ones. No file that was just written is bad.
 abbrev pub WhyNoFurther : DiskState → DiskState → Fault → Type 0
 WhyNoFurther d e (Refused why) = (why ≡ TOO_MANY) × (e.stopped ≡ false)
 WhyNoFurther d e (Stopped first) = ⊥

@@ -1,6 +1,7 @@
 //! A flush: what the shards have of a table in memory comes into table files, which the manifest then lists.
 
-ghost use Rattle.std.specs.Prelude.{◌≡◌, ◌≤◌, ◌<◌, ◌∷◌, ◌++◌, ℕ, ℤ, List as ListOf, [], true, None, Some, Ok as OkOf, Err, pos, length, map, slice_get, IfOk, IfErr, IfSome, IfNone, OnOk, OnErr, vec_capacity, vec_len};
+ghost use Rattle.std.specs.Prelude.{◌≡◌, ◌≤◌, ◌<◌, ◌∷◌, ◌++◌, ℕ, ℤ, List as ListOf, [], true, None, Some, Ok as OkOf, Err, pos};
+ghost use Rattle.std.specs.Prelude.{length, slice_get, IfOk, IfErr, IfSome, IfNone, OnOk, vec_capacity, vec_len};
 ghost use Rattle.std.specs.Option.{option_copied};
 ghost use Rattle.std.specs.Arc.{arc_value};
 ghost use Rattle.cas_disk.specs.Disk.{Image};
@@ -203,13 +204,14 @@ impl<F: Folder, J: Store> Node<F, J> {
         ensures quiet { (session calls : ℕ) (clock : ℤ) → Quiet (⟦<Node<F, J> as Stored>⟧.state self.old session calls clock)
             (⟦<Node<F, J> as Stored>⟧.state self.new session calls clock)
             (⟦<Node<F, J> as Stored>⟧.disk self.old) (⟦<Node<F, J> as Stored>⟧.disk self.new) }
-        ensures view { IfOk result (λ v. (t : _) (x : ShardState) → slice_get self.old.tables.items table ≡ Some t → slice_get self.old.shards.items place ≡ Some x
-            → HasOneMore t place info.now (F.Draft.written draft) ((c : Image) × (⟦<Node<F, J> as Stored>⟧.disk self.old).reads c)
-            (files_at (slice_get x.stores table)) (arc_value v)) }
+        ensures view { IfOk result (λ v. (t : _) (x : ShardState) → slice_get self.old.tables.items table ≡ Some t
+            → slice_get self.old.shards.items place ≡ Some x → HasOneMore t place info.now (F.Draft.written draft)
+            ((c : Image) × (⟦<Node<F, J> as Stored>⟧.disk self.old).reads c) (files_at (slice_get x.stores table)) (arc_value v)) }
         ensures stands { OnOk result (Stand (info.now.number ∷ []) (⟦<Node<F, J> as Stored>⟧.disk self.new)) }
         ensures why { IfErr result (λ f. (t : _) → slice_get self.old.tables.items table ≡ Some t
             → WhyNoneMore t place info.now (F.Draft.written draft) ((c : Image) × (⟦<Node<F, J> as Stored>⟧.disk self.old).reads c)
-            (F.faults_of self.old.room.folder) (F.faults_of self.new.room.folder) (F.Tally.number self.old.tally) (F.Tally.number self.new.tally) f) }
+            (F.faults_of self.old.room.folder) (F.faults_of self.new.room.folder) (F.Tally.number self.old.tally)
+            (F.Tally.number self.new.tally) f) }
         ensures own { IfErr result IsOwn }
         ensures held { listed self.new.files.list self.new.files.pass.saw ≡ listed self.old.files.list self.old.files.pass.saw }
         ensures same { (self.new.shards ≡ self.old.shards) × (self.new.limits ≡ self.old.limits) × (self.new.tables ≡ self.old.tables)
@@ -248,10 +250,12 @@ impl<F: Folder, J: Store> Node<F, J> {
             → slice_get self.old.shards.items place ≡ Some x → HoldsNothing t (slice_get x.stores table))) }
         ensures stands { IfOk result (λ o. IfSome o (λ m. Stand (m.0.number ∷ []) (⟦<Node<F, J> as Stored>⟧.disk self.new))) }
         ensures held { IfOk result (λ o. IfSome o (λ m. (holds m.0.number (listed self.new.files.list self.new.files.pass.saw) ≡ true)
-            × (is_live (at self.new.book.refs m.0.number) ≡ true) × (self.new.live < LIVE_LIMIT) × (m.0.number ≤ self.new.room.numbers.last))) }
+            × (is_live (at self.new.book.refs m.0.number) ≡ true) × (self.new.live < LIVE_LIMIT)
+            × (m.0.number ≤ self.new.room.numbers.last))) }
         ensures why { IfErr result (λ f. (c : Image) → (⟦<Node<F, J> as Stored>⟧.disk self.old).reads c
             → Remember self.old.tables.items self.old.shards.items
-            → WhyNotMade (F.faults_of self.old.room.folder) (F.faults_of self.new.room.folder) (F.Tally.number self.old.tally) (F.Tally.number self.new.tally) f) }
+            → WhyNotMade (F.faults_of self.old.room.folder) (F.faults_of self.new.room.folder) (F.Tally.number self.old.tally)
+            (F.Tally.number self.new.tally) f) }
         ensures own { IfErr result IsOwn }
         ensures same { (self.new.shards ≡ self.old.shards) × (self.new.limits ≡ self.old.limits) × (self.new.tables ≡ self.old.tables) }
         ensures sessions { ⟦<Node<F, J> as Stored>⟧.sessions self.new ≡ ⟦<Node<F, J> as Stored>⟧.sessions self.old }
@@ -296,7 +300,8 @@ impl<F: Folder, J: Store> Node<F, J> {
         requires within { place < self.old.limits.shards }
         requires adds { (c : Wrote) × (entry.now ≡ entry_of.Change c) × AddsFile self.old.tables.items self.old.shards.items place number c }
         requires stand { Stand (number ∷ []) (⟦<Node<F, J> as Stored>⟧.disk self.old) }
-        requires held { (holds number (listed self.old.files.list self.old.files.pass.saw) ≡ true) × (is_live (at self.old.book.refs number) ≡ true) }
+        requires held { (holds number (listed self.old.files.list self.old.files.pass.saw) ≡ true)
+            × (is_live (at self.old.book.refs number) ≡ true) }
         requires room { self.old.live < LIVE_LIMIT }
         ensures lists { (clock : ℤ) (c : Wrote) → entry.now ≡ entry_of.Change c
             → Lists c result (⟦<Node<F, J> as Stored>⟧.state self.old session.old.seat.list session.old.seat.calls clock)
@@ -343,15 +348,16 @@ impl<F: Folder, J: Store> Node<F, J> {
     ) -> Result<Option<u64>, Fault>
         requires within { (table < length self.old.tables.items) × (place < self.old.limits.shards) }
         requires going { self.old.room.journal.first ≡ None }
-        requires new { (t : _) (x : ShardState) → slice_get self.old.tables.items table ≡ Some t → slice_get self.old.shards.items place ≡ Some x
-            → NewFile t (slice_get x.stores table) info (arc_value view) }
-        requires frozen { (x : ShardState) → slice_get self.old.shards.items place ≡ Some x → (1 ≤ count) × (count ≡ length (frozen_at (slice_get x.stores table)))
-            × (bytes_at (slice_get x.stores table) ≡ 0) }
+        requires new { (t : _) (x : ShardState) → slice_get self.old.tables.items table ≡ Some t
+            → slice_get self.old.shards.items place ≡ Some x → NewFile t (slice_get x.stores table) info (arc_value view) }
+        requires frozen { (x : ShardState) → slice_get self.old.shards.items place ≡ Some x → (1 ≤ count)
+            × (count ≡ length (frozen_at (slice_get x.stores table))) × (bytes_at (slice_get x.stores table) ≡ 0) }
         requires stand { Stand (info.number ∷ []) (⟦<Node<F, J> as Stored>⟧.disk self.old) }
-        requires held { (holds info.number (listed self.old.files.list self.old.files.pass.saw) ≡ true) × (is_live (at self.old.book.refs info.number) ≡ true) }
+        requires held { (holds info.number (listed self.old.files.list self.old.files.pass.saw) ≡ true)
+            × (is_live (at self.old.book.refs info.number) ≡ true) }
         requires room { (self.old.live < LIVE_LIMIT) × (info.number ≤ self.old.room.numbers.last) }
-        ensures takes { (clock : ℤ) (t : _) (x : ShardState) → slice_get self.old.tables.items table ≡ Some t → slice_get self.old.shards.items place ≡ Some x
-            → (new : NewFile t (slice_get x.stores table) info (arc_value view))
+        ensures takes { (clock : ℤ) (t : _) (x : ShardState) → slice_get self.old.tables.items table ≡ Some t
+            → slice_get self.old.shards.items place ≡ Some x → (new : NewFile t (slice_get x.stores table) info (arc_value view))
             → TakesFile t place info.number (SaysSo t (slice_get x.stores table) new.file) result
             (⟦<Node<F, J> as Stored>⟧.state self.old session.old.seat.list session.old.seat.calls clock)
             (⟦<Node<F, J> as Stored>⟧.state self.new session.new.seat.list session.new.seat.calls clock)

@@ -1,5 +1,6 @@
 -- The steps of a flush of a table in a shard (own).
-use Rattle.std.specs.Prelude.{◌≡◌, ◌⊎◌, ℕ, ◌+◌, ◌≤◌, ◌<◌, false, Option, None, Some, Result, Ok, Err, IfErr, MatchResult, List, [], ◌∷◌, ◌++◌, length, slice_get}
+use Rattle.std.specs.Prelude.{◌≡◌, ◌⊎◌, ℕ, ◌+◌, ◌≤◌, ◌<◌, false, Option, None, Some, Result, Ok, Err, IfErr, MatchResult}
+use Rattle.std.specs.Prelude.{List, [], ◌∷◌, ◌++◌, length, slice_get}
 use Rattle.std.specs.List.{AllByRecursion}
 use Rattle.cas_types.specs.Limits.{IsMoment}
 use Rattle.cas_types.specs.declared.limits.TheConstants.{MUTATION_LIMIT}
@@ -113,8 +114,10 @@ pub record Lists {T : Type 0} (c : Change) (result : Result T JournalFault) (s t
 
 -- ---- the new file
 
--- Files are those that a table has in a shard, and behind them one more, of which that is told: it is open, and has one of these bytes, where the folder tells any.
-pub record HasOneMore (t : TableSchema) (shard : ℕ) (told : TableInfo) (Bytes : List ℕ → Type 0) (Tells : Type 0) (before files : List (File Held)) : Type 0 where
+-- Files are those that a table has in a shard, and behind them one more, of which that is told: it is open, and has one of these bytes, where the folder
+-- tells any.
+pub record HasOneMore (t : TableSchema) (shard : ℕ) (told : TableInfo) (Bytes : List ℕ → Type 0) (Tells : Type 0)
+    (before files : List (File Held)) : Type 0 where
   pub file : File Held
   pub are : files ≡ before ++ file ∷ []
   pub bytes : Option (List ℕ)
@@ -129,7 +132,8 @@ WhyNoneMore t shard told Bytes Tells faults now reads reads_now (Stopped first) 
 WhyNoneMore t shard told Bytes Tells faults now reads reads_now (Failed None) = Rose faults now
 WhyNoneMore t shard told Bytes Tells faults now reads reads_now (Failed (Some number)) = ⊥
 WhyNoneMore t shard told Bytes Tells faults now reads reads_now Read = Rose reads reads_now
-WhyNoneMore t shard told Bytes Tells faults now reads reads_now (BadBlock number at) = Tells → (b : List ℕ) × Bytes b × WhyUnopened t shard told (Some b) (load.BadBlock number at)
+WhyNoneMore t shard told Bytes Tells faults now reads reads_now (BadBlock number at) =
+    Tells → (b : List ℕ) × Bytes b × WhyUnopened t shard told (Some b) (load.BadBlock number at)
 WhyNoneMore t shard told Bytes Tells faults now reads reads_now Mem = Unit {0}
 
 -- These files are those that a table has stored in a shard, and behind them a new one, of which that is told, open to be read in slices.

@@ -23,6 +23,9 @@ returns g c before has =
           (above_here tables count before m [] (before ++ m ∷ []) refl given)),
       λ tables count given.
           one_remembers tables xs m.shard x c.restore.new.self (had.2 tables count (front_given tables count before m [] (before ++ m ∷ []) refl given)) there
-          (λ table k. (k.0 ++ one_of table m, λ more. c.in_ok-restore.ensures.memory (tables ++ more) count table k.0
-          (belongs_too tables more count m (belongs_here tables count before m [] (before ++ m ∷ []) refl given)) (k.1 more))),
+          (λ table k. (
+            k.0 ++ one_of table m,
+            λ more. c.in_ok-restore.ensures.memory (tables ++ more) count table k.0
+                (belongs_too tables more count m (belongs_here tables count before m [] (before ++ m ∷ []) refl given)) (k.1 more),
+          )),
     )

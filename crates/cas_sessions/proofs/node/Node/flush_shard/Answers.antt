@@ -1,12 +1,10 @@
-use Rattle.std.proofs.Common.{◌≡◌, ◌<◌, ◌∙◌, ℕ, pos, length, None, Some, sym, ap, subst, arith}
-use Rattle.std.specs.Arc.{arc_value}
-use Rattle.std.specs.Prelude.{IfNone, IfSome, slice_get}
-use Rattle.std.proofs.lemmas.Option.{same_Some}
+use Rattle.std.proofs.Common.{◌≡◌, ◌<◌, ◌∙◌, ℕ, pos, length, Some, sym, ap, subst, arith}
+use Rattle.std.specs.Prelude.{IfNone, slice_get}
 use Rattle.cas_bounds.specs.ClusteringOrder.{clustering_order}
 use Rattle.cas_memtable.specs.Kept.{HoldJust}
 use Rattle.cas_shard.specs.Flushing.{frozen_at, memtables_at}
 use Rattle.cas_sessions.specs.declared.answer.Fault.TheVariants.{Mem}
-use Rattle.cas_sessions.specs.Inner.Flushing.{HoldsNothing, IsMade}
+use Rattle.cas_sessions.specs.Inner.Flushing.{HoldsNothing}
 use Rattle.cas_sessions.proofs.FlushFiles.{holds_nothing, no_frozen}
 use Rattle.cas_sessions.proofs.FlushMaking.{one_in_memory}
 use Rattle.cas_sessions.proofs.FlushShard.{flushes_quietly, flushes_then, not_made_since, quiet_fails, quiet_none_at}

@@ -1,4 +1,4 @@
-use Rattle.std.proofs.Common.{◌≡◌, ℕ, ℤ, map, None, Some}
+use Rattle.std.proofs.Common.{◌≡◌, ℤ, map, None, Some}
 use Rattle.std.specs.Prelude.{slice_get}
 use Rattle.cas_history.specs.Items.{listed, log_list}
 use Rattle.cas_types.specs.declared.schema.TableSchema.{TableSchema}

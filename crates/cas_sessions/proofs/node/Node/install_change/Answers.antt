@@ -1,12 +1,10 @@
-use Rattle.std.proofs.Common.{◌≡◌, ◌≤◌, ◌<◌, ◌+◌, ◌∙◌, ℕ, length, map, Some, refl, sym, ap, subst, arith}
-use Rattle.std.specs.Prelude.{slice_get, slice_set}
-use Rattle.std.proofs.lemmas.Option.{slice_get_read}
+use Rattle.std.proofs.Common.{◌≡◌, ◌<◌, ◌∙◌, ℕ, length, Some, refl, sym, ap, subst, arith}
+use Rattle.std.specs.Prelude.{slice_get}
 use Rattle.cas_disk.specs.Disk.{Leaves}
 use Rattle.cas_changes.specs.Allowed.{FitsEntry}
 use Rattle.cas_changes.specs.Saying.{said_by}
 use Rattle.cas_changes.specs.Spelling.{entry_bytes}
 use Rattle.cas_changes.specs.declared.entry.Change.{Change}
-use Rattle.cas_changes.specs.declared.entry.Entry.TheVariants as entry
 use Rattle.cas_history.specs.Items.{changes_list, listed, log_list}
 use Rattle.cas_history.specs.Last.{frontier_of}
 use Rattle.cas_journal.specs.Reach.{reach_of}

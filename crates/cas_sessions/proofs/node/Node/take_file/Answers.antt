@@ -1,9 +1,8 @@
-use Rattle.std.proofs.Common.{◌≡◌, ◌<◌, ◌≤◌, ◌∙◌, ℕ, pos, length, Some, Ok, refl, sym, ap, subst, arith}
+use Rattle.std.proofs.Common.{◌≡◌, ◌<◌, ◌∙◌, ℕ, pos, length, Some, refl, sym, ap, subst, arith}
 use Rattle.std.specs.Arc.{arc_value}
-use Rattle.std.specs.Prelude.{slice_get, slice_set}
+use Rattle.std.specs.Prelude.{slice_get}
 use Rattle.std.proofs.lemmas.Option.{same_Some, slice_get_read}
 use Rattle.cas_types.specs.Limits.{IsNarrow}
-use Rattle.cas_shard.specs.Flushing.{frozen_at}
 use Rattle.cas_shard.specs.Stands.{ShardState}
 use Rattle.cas_sessions.specs.Inner.Flushing.{AddsFile, NewFile}
 use Rattle.cas_sessions.proofs.FlushShard.{Swapped, ok_goes, swapped_has, takes_file_at, takes_none_as}
