@@ -4,21 +4,24 @@ use Rattle.std.proofs.lemmas.Option.{none-some}
 use Rattle.std.proofs.Math.IntN.{ -ℤ_one}
 use Rattle.std.specs.Option.{option_cmp}
 use Rattle.std.specs.FinMap.{int_cmp-IsAntisymmetric}
-use Rattle.std.specs.Ordering.{int_cmp, nat_cmp, ordering_then}
+use Rattle.std.specs.Ordering.{int_cmp, nat_cmp, ordering_then, is_eq, is_gt}
 use Rattle.std.specs.declared.cmp.Ordering.{Ordering}
 use Rattle.std.specs.declared.cmp.Ordering.TheVariants.{Less, Equal, Greater}
 use Rattle.cas_types.specs.Values.{bytes_cmp, value_cmp}
 use Rattle.cas_types.specs.declared.tag.TypeTag.{TypeTag}
 use Rattle.cas_types.specs.declared.tag.TypeTag.TheVariants.{Ascii, BigInt, Blob, Boolean, Date, Int, SmallInt, Text, Time, Timestamp, TimeUuid, TinyInt, Uuid}
 use Rattle.cas_bounds.specs.Orders.{column_cmp}
-use Rattle.cas_bounds.specs.Points.{ends_cmp}
+use Rattle.cas_bounds.specs.Points.{ends_cmp, side}
 use Rattle.cas_bounds.specs.Keys.{key_cmp}
 use Rattle.cas_bounds.specs.Inner.KeyLaws.{keys_are_points}
 use Rattle.cas_bounds.specs.declared.map_key.End.{End}
+use Rattle.cas_bounds.specs.declared.map_key.End.TheVariants.{Row}
 use Rattle.cas_bounds.specs.declared.map_key.MapKey.{MapKey}
 use Rattle.cas_bounds.specs.declared.order.Ordered.{Ordered}
 use Rattle.cas_partition.specs.Spots.{spot_cmp}
 use Rattle.cas_partition.specs.Inner.Fronts.{plain_number, kind_of, turned, no_front, front_by, front_at, front_of}
+use Rattle.cas_partition.specs.Inner.Passing.{are_of_one, is_first}
+use Rattle.cas_partition.specs.Inner.Slots.{is_after}
 use Rattle.cas_partition.specs.declared.front.Front.{Front}
 use Rattle.cas_partition.specs.declared.spot.Spot.{Spot}
 
@@ -204,3 +207,76 @@ pub keys_decide : (k q : MapKey) (a b : Front) → a ≡ front_at k.order k.valu
 keys_decide k q a b e f same n =
     sym (fronts_decide (Some k) (Some q) a b (subst (λ g. (g ≡ no_front) ⊎ HasFront (Some k) g) (sym e) (row_front (Some k)))
     (subst (λ g. (g ≡ no_front) ⊎ HasFront (Some q) g) (sym f) (row_front (Some q))) same n)
+
+-- ---- rows beside rows and cuts
+
+-- both have one value of one column, and their numbers decide
+record Beside (s t : Option MapKey) (a b : Front) : Type 0 where
+  order : Ordered
+  left : List ℕ
+  right : List ℕ
+  left_end : End
+  right_end : End
+  first : s ≡ Some (key order left left_end)
+  second : t ≡ Some (key order right right_end)
+  decides : column_cmp order left right ≡ int_cmp a.number b.number
+
+both_beside : (s t : Option MapKey) (a b : Front) → HasFront s a → HasFront t b → a.kind ≡ b.kind → (a.number ≡ b.number → ⊥) → Beside s t a b
+both_beside s t a b f g k n =
+    let kinds : kind_of f.order ≡ kind_of g.order = sym (ap (λ z. z.kind) f.front) ∙ k ∙ ap (λ z. z.kind) g.front in
+    let one : g.order ≡ f.order = sym (one_column f.order g.order f.value g.value f.number g.number f.has g.has kinds) in
+    let has : plain_number f.order.tag g.value ≡ Some g.number = ap (λ o. plain_number o.tag g.value) (sym one) ∙ g.has in
+    let first : a.number ≡ toward f.order.descending f.number = ap (λ z. z.number) f.front in
+    let second : b.number ≡ toward f.order.descending g.number = ap (λ z. z.number) g.front ∙ ap (λ o. toward o.descending g.number) one in
+    record {
+      order = f.order;
+      left = f.value;
+      right = g.value;
+      left_end = f.end;
+      right_end = g.end;
+      first = f.is;
+      second = g.is ∙ ap (λ o. Some (key o g.value g.end)) one;
+      decides = column_decides f.order.tag f.order.descending f.value g.value f.number g.number f.has has (λ e. n (first ∙ e ∙ sym second))
+          ∙ (λ i. int_cmp (sym first i) (sym second i));
+    }
+
+are_beside : (s t : Option MapKey) (a b : Front) → (a ≡ no_front) ⊎ HasFront s a → (b ≡ no_front) ⊎ HasFront t b
+    → a.kind ≡ b.kind → (a.number ≡ b.number → ⊥) → Beside s t a b
+are_beside s t a b (inl p) (inl q) k n = absurd (n (ap (λ z. z.number) (p ∙ sym q)))
+are_beside s t a b (inl p) (inr g) k n =
+    absurd (no_kind g.order g.value g.number g.has (sym (ap (λ z. z.kind) g.front) ∙ sym k ∙ ap (λ z. z.kind) p))
+are_beside s t a b (inr f) (inl q) k n =
+    absurd (no_kind f.order f.value f.number f.has (sym (ap (λ z. z.kind) f.front) ∙ k ∙ ap (λ z. z.kind) q))
+are_beside s t a b (inr f) (inr g) k n = both_beside s t a b f g k n
+
+beside : (s t : Option MapKey) (a b : Front) → a ≡ front_of s → b ≡ front_of t → a.kind ≡ b.kind → (a.number ≡ b.number → ⊥) → Beside s t a b
+beside s t a b p q k n =
+    are_beside s t a b (subst (λ f. (f ≡ no_front) ⊎ HasFront s f) (sym p) (row_front s)) (subst (λ f. (f ≡ no_front) ⊎ HasFront t f) (sym q) (row_front t)) k n
+
+not_equal : (r : Ordering) → (r ≡ Equal → ⊥) → is_eq r ≡ false
+not_equal Less n = refl
+not_equal Equal n = absurd (n refl)
+not_equal Greater n = refl
+
+pub rows_differ : (s t : Option MapKey) (a b : Front) → a ≡ front_of s → b ≡ front_of t → a.kind ≡ b.kind → (a.number ≡ b.number → ⊥) → false ≡ are_of_one s t
+rows_differ s t a b p q k n =
+    let w : Beside s t a b = beside s t a b p q k n in
+    let end = ends_cmp [] Row [] Row [] in
+    sym ((λ i. are_of_one (w.first i) (w.second i))
+    ∙ ap (λ c. is_eq (ordering_then c end)) w.decides
+    ∙ ap is_eq (differ a.number b.number end n)
+    ∙ not_equal (int_cmp a.number b.number) (λ e. n (int_cmp-IsAntisymmetric a.number b.number e)))
+
+-- the same for a cut that may be none
+abbrev first_at : Option MapKey → Option MapKey → Bool
+first_at None row = false
+first_at (Some m) row = is_first m row
+
+pub cut_is_first : (m : MapKey) (row : Option MapKey) (a b : Front) → a ≡ front_of row → b ≡ front_at m.order m.values → a.kind ≡ b.kind
+    → (a.number ≡ b.number → ⊥) → is_gt (int_cmp a.number b.number) ≡ is_first m row
+cut_is_first m row a b p q k n =
+    let w : Beside row (Some m) a b = beside row (Some m) a b p q k n in
+    let end = ends_cmp [] Row [] (side (is_after w.right_end)) [] in
+    sym ((λ i. first_at (w.second i) (w.first i))
+    ∙ ap (λ c. is_gt (ordering_then c end)) w.decides
+    ∙ ap is_gt (differ a.number b.number end n))

@@ -1,5 +1,5 @@
 -- A row of which nothing is left.
-use Rattle.std.proofs.Common.{◌≡◌, ℕ, Bool, true, false, cond, not, is_some, is_none, ◌&&◌, Option, None, Some, List, [], ◌∷◌, ◌++◌, map, filter, fold, refl, sym, ap, ◌∙◌}
+use Rattle.std.proofs.Common.{◌≡◌, ℕ, Bool, true, false, cond, not, is_none, ◌&&◌, Option, None, Some, List, [], ◌∷◌, ◌++◌, map, filter, fold, refl, sym, ap, ◌∙◌}
 use Rattle.std.proofs.lemmas.Bool.{true≢false}
 use Rattle.std.specs.List.{AllByRecursion, cons_option, flat_map}
 use Rattle.std.specs.Ordering.{nat_cmp, is_lt}
@@ -26,7 +26,7 @@ use Rattle.cas_streams.specs.Settled.{is_bare, if_said, bare_column, bare_column
 use Rattle.cas_streams.specs.declared.fragment.Fragment.{Fragment}
 use Rattle.cas_streams.specs.declared.fragment.Fragment.TheVariants as fragment
 use Rattle.cas_streams.proofs.Weaves.{woven_all}
-use Rattle.cas_partition.specs.Spots.{cells_at, columns_at, piece, said}
+use Rattle.cas_partition.specs.Spots.{cells_at, piece}
 use Rattle.cas_partition.specs.Inner.Entries.{lent_piece}
 use Rattle.cas_partition.specs.Inner.Passing.{Lent, is_cell_hidden, is_hidden, all_hidden, is_row_hidden, row_of}
 use Rattle.cas_partition.specs.declared.spot.Spot.{Spot}

@@ -1,26 +1,20 @@
 -- Rows and marks one after another, and what is left of them.
-use Rattle.std.proofs.Common.{◌≡◌, ℕ, suc, ◌+◌, ◌≤◌, Bool, true, false, cond, not, is_some, is_none, ◌&&◌, Option, None, Some, List, [], ◌∷◌, ◌++◌, map, fold, length, take, drop, get_or, ◌<◌, ◌-◌, refl, sym, ap, ◌∙◌, subst, append_assoc, arith}
+use Rattle.std.proofs.Common.{◌≡◌, ℕ, suc, ◌+◌, ◌≤◌, Bool, true, false, cond, Option, None, Some, List, [], ◌∷◌, ◌++◌, map, fold, length, take, drop, get_or, ◌<◌, ◌-◌, refl, sym, ap, ◌∙◌, subst, append_assoc, arith}
 use Rattle.std.proofs.lemmas.Bool.{true≢false}
 use Rattle.std.proofs.Math.Seq.{take-length}
-use Rattle.std.proofs.lemmas.List.{append-nil}
-use Rattle.std.specs.Option.{option_to_list}
-use Rattle.std.specs.List.{AllByRecursion, cons_option, flat_map}
+use Rattle.std.specs.List.{cons_option}
 use Rattle.std.specs.FinMap.Entries.{by_order}
-use Rattle.std.specs.Ordering.{is_eq, is_gt, is_lt, nat_cmp, ordering_then}
+use Rattle.std.specs.Ordering.{is_eq, is_gt, is_lt, ordering_then}
 use Rattle.std.specs.declared.cmp.Ordering.{Ordering}
 use Rattle.std.specs.declared.cmp.Ordering.TheVariants.{Less, Equal, Greater}
 use Rattle.cas_cell.specs.Deletions.{deletion_cmp}
-use Rattle.cas_cell.specs.Lives.{live_at, live_cmp}
-use Rattle.cas_cell.specs.Cells.{cell_at, cell_cmp}
 use Rattle.cas_cell.specs.declared.deletion.Deletion.{Deletion}
-use Rattle.cas_cell.proofs.OrderLaws.{deletion_laws, live_laws}
 use Rattle.cas_bounds.specs.Orders.{first_cmp}
-use Rattle.cas_bounds.specs.Points.{ends_cmp, side, point_cmp, row_point, cut_point}
+use Rattle.cas_bounds.specs.Points.{ends_cmp, side}
 use Rattle.cas_bounds.specs.declared.order.Ordered.{Ordered}
-use Rattle.cas_bounds.specs.declared.map_key.End.{End}
 use Rattle.cas_bounds.specs.declared.map_key.End.TheVariants.{Row}
 use Rattle.cas_bounds.specs.declared.map_key.MapKey.{MapKey}
-use Rattle.cas_streams.specs.Weaving.{woven, among}
+use Rattle.cas_streams.specs.Weaving.{woven}
 use Rattle.cas_streams.specs.Joined.{by_place, joined_fragment, fragment_cmp, raised, opened}
 use Rattle.cas_streams.specs.Settled.{same_force, left_of, settled_from}
 use Rattle.cas_streams.specs.declared.fragment.Fragment.{Fragment}
@@ -29,7 +23,7 @@ use Rattle.cas_streams.proofs.Settling.{same_force_is}
 use Rattle.cas_partition.specs.Spots.{piece, said}
 use Rattle.cas_partition.specs.Slices.{grouped, grouped_from}
 use Rattle.cas_partition.specs.Inner.Entries.{lent_piece}
-use Rattle.cas_partition.specs.Inner.Slots.{cut_of, is_after}
+use Rattle.cas_partition.specs.Inner.Slots.{is_after}
 use Rattle.cas_partition.specs.Inner.Passing.{Lent, LentMark, lent_marker, are_of_one, count_of, is_first, marks_before, marks_behind, force_after, is_row_hidden, row_of, row_left}
 use Rattle.cas_partition.specs.declared.spot.Spot.{Spot}
 use Rattle.cas_partition.specs.declared.spot.Content.{Content}

@@ -393,6 +393,10 @@ pub on_ok_as_ever : {A E : Type 0} (r : Result A E) (P : Type 0) → P → OnOk 
 on_ok_as_ever (Ok x) P p = p
 on_ok_as_ever (Err e) P p = tt
 
+pub on_ok_too : {A E : Type 0} (r : Result A E) (P Q : Type 0) → (P → Q) → OnOk r P → OnOk r Q
+on_ok_too (Ok x) P Q h p = h p
+on_ok_too (Err e) P Q h p = tt
+
 pub two_told : {I : Type 0} (tells : I → Option (List Fragment)) (tops : I → Option Deletion) (a b : I) (parts : List I) (x y : List Fragment) (t u : Option Deletion) → parts ≡ a ∷ b ∷ []
     → tells a ≡ Some x → tells b ≡ Some y → tops a ≡ t → tops b ≡ u → streams_told tells tops parts ≡ Some (record { top = t; fragments = x } ∷ record { top = u; fragments = y } ∷ [])
 two_told tells tops a b parts x y t u e f g h i =

@@ -5,6 +5,7 @@ ghost use Rattle.std.specs.Ordering.{eq_by_cmp};
 ghost use Rattle.std.specs.Cmp.{eq_by_cmp_equiv, partial_equiv_from_equiv, partial_order_from_agreeing_total};
 ghost use Rattle.cas_bounds.specs.Keys.{key_cmp};
 ghost use Rattle.cas_bounds.specs.Inner.KeyLaws.{key_total};
+ghost use Rattle.cas_partition.specs.Inner.Fronts.{front_at};
 ghost use Rattle.cas_partition.specs.Ranges.{key_of};
 
 use crate::front::{Front, front_at};
@@ -49,6 +50,14 @@ impl CutKey {
         ensures { result.now ≡ self.now }
     {
         &self.key
+    }
+
+    /// The number of its prefix.
+    #[inline]
+    pub(crate) fn front(&self) -> Front
+        ensures { result ≡ front_at self.now.order self.now.values }
+    {
+        self.front
     }
 }
 

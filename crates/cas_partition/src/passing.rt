@@ -1,21 +1,24 @@
 //! Entries and marks as one stream, without rows of which nothing would be left.
 
-ghost use Rattle.std.specs.Prelude.{◌≡◌, ◌≤◌, ◌++◌, None, IfOk, OnOk, length, take, drop, fold, map};
+ghost use Rattle.std.specs.Prelude.{◌≡◌, ◌≤◌, ◌++◌, ◌∷◌, [], List as ListOf, None, IfOk, OnOk, length, take, drop, fold, map};
 ghost use Rattle.std.specs.Option.{option_to_list};
 ghost use Rattle.cas_streams.specs.Joined.{joined_fragment};
 ghost use Rattle.cas_streams.specs.Settled.{same_force, left_of, settled_from};
 ghost use Rattle.cas_partition.specs.Spots.{said};
 ghost use Rattle.cas_partition.specs.Slices.{grouped};
 ghost use Rattle.cas_partition.specs.Inner.Entries.{lent_piece};
-ghost use Rattle.cas_partition.specs.Inner.Passing.{lent_marker, are_of_one, count_of, is_first, is_cell_hidden, is_hidden, all_hidden, row_of, row_left};
+ghost use Rattle.cas_partition.specs.Inner.Passing.{lent_marker, are_of_one, count_of, is_first, is_cell_hidden, is_hidden, all_hidden, row_left};
 ghost use Rattle.cas_partition.specs.Inner.Passing.{marks_before, force_after};
 ghost use Rattle.cas_partition.specs.Inner.Slots.{cut_of};
 ghost use Rattle.cas_partition.specs.Inner.Sources.{SettleAlike};
+ghost use Rattle.cas_streams.specs.declared.fragment.Fragment.{Fragment};
 ghost use Rattle.cas_streams.specs.declared.fragment.Fragment.TheVariants as fragment;
 
+use crate::cut_key::CutKey;
 use crate::ranges::{Mark, cut_of};
 use crate::slice::{piece, push_to};
 use crate::spot::{Content, Spot};
+use crate::spot_key::SpotKey;
 use cas_atoms::{greater_deletion, standing_live};
 use cas_bounds::{End, MapKey, compare_points};
 use cas_cell::{Cell, Deletion, covers};
@@ -27,7 +30,19 @@ use std::mem;
 use std::mem::drop;
 
 // Whether both spots are of one row.
-fn are_of_one(spot: &Spot, other: &Spot) -> bool
+fn are_of_one(spot: &SpotKey, other: &SpotKey) -> bool
+    ensures { result ≡ are_of_one spot.now.row other.now.row }
+{
+    let mine = spot.front();
+    let next = other.front();
+    if mine.kind == next.kind && mine.number != next.number {
+        return false;
+    }
+    have_one_row(spot.spot(), other.spot())
+}
+
+// The same by the values of their rows.
+fn have_one_row(spot: &Spot, other: &Spot) -> bool
     ensures { result ≡ are_of_one spot.now.row other.now.row }
 {
     match (&spot.row, &other.row) {
@@ -45,7 +60,7 @@ fn are_of_one(spot: &Spot, other: &Spot) -> bool
 }
 
 // How many of these come first that are of the row of the spot.
-fn count_of(spot: &Spot, entries: &[(&Spot, &Content)]) -> usize
+fn count_of(spot: &SpotKey, entries: &[(&SpotKey, &Content)]) -> usize
     ensures count { result ≡ count_of spot.now.row entries.now }
     ensures most { result ≤ length entries.now }
 {
@@ -78,7 +93,19 @@ fn behind<X>(all: &[X], count: usize) -> &[X]
 }
 
 // Whether the mark stands before the row of the spot.
-fn is_first(mark: &MapKey, spot: &Spot) -> bool
+fn is_first(mark: &CutKey, spot: &SpotKey) -> bool
+    ensures { result ≡ is_first mark.now spot.now.row }
+{
+    let row = spot.front();
+    let at = mark.front();
+    if row.kind == at.kind && row.number != at.number {
+        return row.number.cmp(&at.number).is_gt();
+    }
+    stands_before(mark.key(), spot.spot())
+}
+
+// The same by the values of both.
+fn stands_before(mark: &MapKey, spot: &Spot) -> bool
     ensures { result ≡ is_first mark.now spot.now.row }
 {
     let end = match mark.end {
@@ -119,7 +146,7 @@ fn is_hidden(over: Option<Deletion>, content: &Content) -> bool
 }
 
 // Whether that is so at all of these.
-fn all_hidden(over: Option<Deletion>, entries: &[(&Spot, &Content)]) -> bool
+fn all_hidden(over: Option<Deletion>, entries: &[(&SpotKey, &Content)]) -> bool
     ensures { result ≡ all_hidden over entries.now }
 {
     match entries {
@@ -140,7 +167,7 @@ fn take_in(
     if spot.row.is_some() && push_to(alloc, row, spot, content)? {
         return Ok(());
     }
-    let piece = piece(alloc, spot, content)?;
+    let piece = piece(alloc, 1, spot, content)?;
     let nothing = Fragment::Static(List::from_vec(Vec::new(alloc)));
     let before = mem::replace(row, nothing);
     let joined = joined_fragment(alloc, before, piece)?;
@@ -152,34 +179,30 @@ fn take_in(
 fn take_in_all(
     alloc: Global,
     row: &mut Fragment,
-    others: &[(&Spot, &Content)],
+    others: &[(&SpotKey, &Content)],
 ) -> Result<(), AllocError>
     ensures { OnOk result (row.new ≡ fold joined_fragment row.old (map lent_piece others.now)) }
 {
     let mut rest = others;
     while let [(next, more), later @ ..] = rest {
-        take_in(alloc, row, next, more)?;
+        take_in(alloc, row, next.spot(), more)?;
         rest = later;
     }
     Ok(())
 }
 
-// The row of these entries.
-fn row_of(
+// So does the last of the rows, where it stands.
+fn take_in_last(
     alloc: Global,
-    spot: &Spot,
-    content: &Content,
-    others: &[(&Spot, &Content)],
-) -> Result<Fragment, AllocError>
-    ensures { IfOk result (λ f. f ≡ row_of spot.now content.now others.now) }
+    rows: &mut Vec<Fragment>,
+    others: &[(&SpotKey, &Content)],
+) -> Result<(), AllocError>
+    ensures { OnOk result ((front : ListOf Fragment) (f : Fragment) → rows.old.items ≡ front ++ f ∷ []
+        → rows.new.items ≡ front ++ fold joined_fragment f (map lent_piece others.now) ∷ []) }
 {
-    let mut row = piece(alloc, spot, content)?;
-    match take_in_all(alloc, &mut row, others) {
-        Ok(()) => Ok(row),
-        Err(fault) => {
-            drop(row);
-            Err(fault)
-        }
+    match rows.last_mut() {
+        Some(last) => take_in_all(alloc, last, others),
+        None => Ok(()),
     }
 }
 
@@ -190,14 +213,15 @@ fn add_row(
     over: Option<Deletion>,
     spot: &Spot,
     content: &Content,
-    others: &[(&Spot, &Content)],
+    others: &[(&SpotKey, &Content)],
 ) -> Result<(), AllocError>
     ensures { OnOk result (out.new.items ≡ out.old.items ++ row_left over spot.now content.now others.now) }
 {
     if spot.row.is_some() && is_hidden(over, content) && all_hidden(over, others) {
         return Ok(());
     }
-    out.push(row_of(alloc, spot, content, others)?)?;
+    out.push(piece(alloc, others.len() + 1, spot, content)?)?;
+    take_in_last(alloc, out, others)?;
     Ok(())
 }
 
@@ -215,13 +239,13 @@ fn same_force(a: Option<Deletion>, b: Option<Deletion>) -> bool
 fn add_mark(
     out: &mut Vec<Fragment>,
     now: Option<Deletion>,
-    key: &MapKey,
+    key: &CutKey,
     then: Option<Deletion>,
 ) -> Result<(), AllocError>
     ensures { OnOk result (out.new.items ≡ out.old.items ++ option_to_list (left_of None now (fragment.Marker (cut_of key.now) then))) }
 {
     if !same_force(now, then) {
-        out.push(Fragment::Marker(cut_of(key)?, then))?;
+        out.push(Fragment::Marker(cut_of(key.key())?, then))?;
     }
     Ok(())
 }
@@ -252,14 +276,14 @@ pub(crate) fn markers(alloc: Global, marks: &[Mark<'_>]) -> Result<Vec<Fragment>
     let mut out = Vec::with_capacity(alloc, marks.len())?;
     let mut rest = marks;
     while let [(key, then), others @ ..] = rest {
-        out.push(Fragment::Marker(cut_of(key)?, *then))?;
+        out.push(Fragment::Marker(cut_of(key.key())?, *then))?;
         rest = others;
     }
     Ok(out)
 }
 
 // How many marks come first that stand before the row of the spot.
-fn count_before(marks: &[Mark<'_>], spot: &Spot) -> usize
+fn count_before(marks: &[Mark<'_>], spot: &SpotKey) -> usize
     ensures count { result ≡ length (marks_before marks.now spot.now.row) }
     ensures most { result ≤ length marks.now }
 {
@@ -280,7 +304,7 @@ fn count_before(marks: &[Mark<'_>], spot: &Spot) -> usize
 pub(crate) fn passed(
     alloc: Global,
     top: Option<Deletion>,
-    entries: &[(&Spot, &Content)],
+    entries: &[(&SpotKey, &Content)],
     marks: &[Mark<'_>],
 ) -> Result<Vec<Fragment>, AllocError>
     ensures { IfOk result (λ v. SettleAlike top (grouped None (map lent_piece entries.now)) (map lent_marker marks.now) v.items) }
@@ -298,7 +322,7 @@ pub(crate) fn passed(
             alloc,
             &mut out,
             greater_deletion(top, now),
-            spot,
+            spot.spot(),
             content,
             first(others, count),
         )?;

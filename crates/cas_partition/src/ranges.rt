@@ -30,7 +30,7 @@ pub struct Ranges {
 }
 
 /// The key of a cut, and what is in force from it on.
-pub(crate) type Mark<'a> = (&'a MapKey, Option<Deletion>);
+pub(crate) type Mark<'a> = (&'a CutKey, Option<Deletion>);
 
 impl Model for Ranges {
     ghost use Rattle.std.specs.Prelude.{List};
@@ -139,7 +139,7 @@ fn add_change<'a>(
     ensures { OnOk result (map lent_marker marks.new.items ≡ map lent_marker marks.old.items ++ map marker (change_at (cut_of key.now) in_force to)) }
 {
     if in_force.is_some() {
-        marks.push((key.key(), to))?;
+        marks.push((key, to))?;
     }
     Ok(())
 }
@@ -158,7 +158,7 @@ fn add_changes<'a>(
     let mut rest = cuts;
     while let Some((key, slot)) = rest.next() {
         last = force_at(forces, *slot);
-        marks.push((key.key(), last))?;
+        marks.push((key, last))?;
     }
     Ok(last)
 }

@@ -76,16 +76,17 @@ fn column_at(
     })
 }
 
-// The column, where there is one.
+// The column, where there is one. The list has room for so many.
 fn columns_at(
     alloc: Global,
+    room: usize,
     column: Option<u16>,
     path: &Option<Bytes>,
     content: &Content,
 ) -> Result<Vec<RowColumn>, AllocError>
     ensures { IfOk result (λ v. v.items ≡ columns_at column path.now content.now) }
 {
-    let mut columns = Vec::new(alloc);
+    let mut columns = Vec::with_capacity(alloc, room)?;
     if let Some(number) = column {
         columns.push(column_at(alloc, number, path, content)?)?;
     }
@@ -96,28 +97,34 @@ fn columns_at(
 fn piece_at(
     alloc: Global,
     clustering: Clustering,
+    room: usize,
     spot: &Spot,
     content: &Content,
-) -> Result<Row, AllocError>
-    ensures { IfOk result (λ r. r ≡ row_piece clustering spot.now.column spot.now.path content.now) }
+) -> Result<Fragment, AllocError>
+    ensures { IfOk result (λ f. f ≡ fragment.Row (row_piece clustering spot.now.column spot.now.path content.now)) }
 {
     let whole = spot.column.is_none();
-    let columns = columns_at(alloc, spot.column, &spot.path, content)?;
-    Ok(Row {
+    let columns = columns_at(alloc, room, spot.column, &spot.path, content)?;
+    Ok(Fragment::Row(Row {
         clustering,
         deletion: if whole { content.deletion } else { None },
         live: if whole { content.live } else { None },
         columns: List::from_vec(columns),
-    })
+    }))
 }
 
-// What is said at a spot, as a piece of its row.
-pub(crate) fn piece(alloc: Global, spot: &Spot, content: &Content) -> Result<Fragment, AllocError>
+// What is said at a spot, as a piece of its row, with room for so many columns.
+pub(crate) fn piece(
+    alloc: Global,
+    room: usize,
+    spot: &Spot,
+    content: &Content,
+) -> Result<Fragment, AllocError>
     ensures { IfOk result (λ f. f ≡ said spot.now content.now) }
 {
     match &spot.row {
         None => {
-            let columns = columns_at(alloc, spot.column, &spot.path, content)?;
+            let columns = columns_at(alloc, room, spot.column, &spot.path, content)?;
             Ok(Fragment::Static(List::from_vec(columns)))
         }
         Some(key) => {
@@ -125,7 +132,7 @@ pub(crate) fn piece(alloc: Global, spot: &Spot, content: &Content) -> Result<Fra
                 values: key.values.clone()?,
                 order: key.order.clone()?,
             };
-            Ok(Fragment::Row(piece_at(alloc, clustering, spot, content)?))
+            piece_at(alloc, clustering, room, spot, content)
         }
     }
 }
@@ -139,7 +146,7 @@ fn further(alloc: Global, spot: &Spot, content: &Content) -> Result<Fragment, Al
         values: Values::from_vec(Vec::new(alloc)),
         order: RowOrder::from_vec(Vec::new(alloc)),
     };
-    Ok(Fragment::Row(piece_at(alloc, nowhere, spot, content)?))
+    piece_at(alloc, nowhere, 1, spot, content)
 }
 
 // Whether the piece is of the row of the spot.
@@ -328,21 +335,21 @@ fn add_entry(
     if is_last(rows, spot) {
         add_to_last(alloc, rows, spot, content)
     } else {
-        let piece = piece(alloc, spot, content)?;
+        let piece = piece(alloc, 1, spot, content)?;
         add_other(alloc, rows, piece)
     }
 }
 
 // The entries of a range, lent.
 fn add_range<'a>(
-    entries: &mut Vec<(&'a Spot, &'a Content)>,
+    entries: &mut Vec<(&'a SpotKey, &'a Content)>,
     spots: Range<'a, SpotKey, Content>,
 ) -> Result<(), AllocError>
     ensures { OnOk result (map lent_piece entries.new.items ≡ map lent_piece entries.old.items ++ map piece_of spots.entry) }
 {
     let mut rest = spots;
     while let Some((key, content)) = rest.next() {
-        entries.push((key.spot(), content))?;
+        entries.push((key, content))?;
     }
     Ok(())
 }
@@ -360,7 +367,7 @@ fn at(row: MapKey) -> SpotKey
 
 // What is said of the static row, which stands before all rows.
 fn add_static<'a>(
-    entries: &mut Vec<(&'a Spot, &'a Content)>,
+    entries: &mut Vec<(&'a SpotKey, &'a Content)>,
     spots: &'a BTreeMap<SpotKey, Content>,
 ) -> Result<(), AllocError>
     ensures added { OnOk result (map lent_piece entries.new.items ≡ map lent_piece entries.old.items ++ map piece_of (statics_of spots.now.entries)) }
@@ -371,14 +378,14 @@ fn add_static<'a>(
         if key.spot().row.is_some() {
             return Ok(());
         }
-        entries.push((key.spot(), content))?;
+        entries.push((key, content))?;
     }
     Ok(())
 }
 
 // What is said at the spots between two.
 fn add_between<'a>(
-    entries: &mut Vec<(&'a Spot, &'a Content)>,
+    entries: &mut Vec<(&'a SpotKey, &'a Content)>,
     spots: &'a BTreeMap<SpotKey, Content>,
     low: &SpotKey,
     high: &SpotKey,
@@ -394,13 +401,13 @@ fn add_between<'a>(
 }
 
 // The pieces of entries put together one after another.
-fn few_rows(alloc: Global, entries: &[(&Spot, &Content)]) -> Result<Vec<Fragment>, AllocError>
+fn few_rows(alloc: Global, entries: &[(&SpotKey, &Content)]) -> Result<Vec<Fragment>, AllocError>
     ensures { IfOk result (λ v. v.items ≡ grouped None (map lent_piece entries.now)) }
 {
     let mut rows = Vec::with_capacity(alloc, entries.len() / 2)?;
     let mut rest = entries;
     while let [(spot, content), others @ ..] = rest {
-        add_entry(alloc, &mut rows, spot, content)?;
+        add_entry(alloc, &mut rows, spot.spot(), content)?;
         rest = others;
     }
     Ok(rows)
@@ -458,10 +465,10 @@ fn meet(
 }
 
 // Whether no entry is an element of a collection.
-fn are_plain(entries: &[(&Spot, &Content)]) -> bool {
+fn are_plain(entries: &[(&SpotKey, &Content)]) -> bool {
     let mut rest = entries;
     while let [(spot, _), others @ ..] = rest {
-        if let Some(path) = &spot.path {
+        if let Some(path) = &spot.spot().path {
             if !path.as_slice().is_empty() {
                 return false;
             }
@@ -473,7 +480,7 @@ fn are_plain(entries: &[(&Spot, &Content)]) -> bool {
 
 // The pieces of entries put together: few one after another, and as many as there are where no row is wide. Else in
 // halves, so that each is moved a few times.
-fn rows_of(alloc: Global, entries: &[(&Spot, &Content)]) -> Result<Vec<Fragment>, AllocError>
+fn rows_of(alloc: Global, entries: &[(&SpotKey, &Content)]) -> Result<Vec<Fragment>, AllocError>
     ensures { IfOk result (λ v. AreRowsOf (map lent_piece entries.now) v.items) }
 {
     let half = entries.len() / 2;
@@ -490,7 +497,7 @@ fn rows_of(alloc: Global, entries: &[(&Spot, &Content)]) -> Result<Vec<Fragment>
 fn fragments_of(
     alloc: Global,
     top: Option<Deletion>,
-    entries: &[(&Spot, &Content)],
+    entries: &[(&SpotKey, &Content)],
     marks: &[Mark<'_>],
 ) -> Result<Vec<Fragment>, AllocError>
     ensures { IfOk result (λ v. Settles top (map lent_piece entries.now) (map lent_marker marks.now) v.items) }
@@ -512,7 +519,7 @@ fn edge(cut: &Cut) -> Result<SpotKey, AllocError>
 
 // What is said of the rows behind a spot and before a cut.
 fn add_up_to<'a>(
-    entries: &mut Vec<(&'a Spot, &'a Content)>,
+    entries: &mut Vec<(&'a SpotKey, &'a Content)>,
     spots: &'a BTreeMap<SpotKey, Content>,
     low: &SpotKey,
     hi: &Cut,
@@ -528,7 +535,7 @@ fn add_up_to<'a>(
 
 // What is said of the rows of the slice.
 fn add_rows<'a>(
-    entries: &mut Vec<(&'a Spot, &'a Content)>,
+    entries: &mut Vec<(&'a SpotKey, &'a Content)>,
     spots: &'a BTreeMap<SpotKey, Content>,
     slice: &Slice,
 ) -> Result<(), AllocError>

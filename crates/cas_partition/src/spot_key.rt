@@ -4,7 +4,7 @@ ghost use Rattle.std.specs.Prelude.{◌≡◌, Some, refl};
 ghost use Rattle.std.specs.Ordering.{eq_by_cmp};
 ghost use Rattle.std.specs.Cmp.{eq_by_cmp_equiv, partial_equiv_from_equiv, partial_order_from_agreeing_total};
 ghost use Rattle.cas_partition.specs.Spots.{spot_cmp};
-ghost use Rattle.cas_partition.specs.Inner.Fronts.{spot_total};
+ghost use Rattle.cas_partition.specs.Inner.Fronts.{front_of, spot_total};
 
 use crate::front::{Front, front_of};
 use crate::spot::Spot;
@@ -46,6 +46,14 @@ impl SpotKey {
         ensures { result.now ≡ self.now }
     {
         &self.spot
+    }
+
+    /// The number of its row.
+    #[inline]
+    pub(crate) fn front(&self) -> Front
+        ensures { result ≡ front_of self.now.row }
+    {
+        self.front
     }
 }
 

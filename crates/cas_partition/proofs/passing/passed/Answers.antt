@@ -1,4 +1,4 @@
-use Rattle.std.proofs.Common.{◌≡◌, ◌++◌, None, List, map, length, take, drop, ◌-◌, get_or, refl, ap, ◌∙◌, subst}
+use Rattle.std.proofs.Common.{◌++◌, None, List, map, length, take, drop, ◌-◌, get_or, refl, ◌∙◌, subst}
 use Rattle.cas_streams.specs.Settled.{settled_from}
 use Rattle.cas_streams.specs.declared.fragment.Fragment.{Fragment}
 use Rattle.cas_partition.specs.Inner.Entries.{lent_piece}
@@ -18,7 +18,7 @@ loop-rest-preserved c =
     c.in-len1-up.len_at_least (tail_is rest c.in-len1-up.len_at_least) refl refl c.loop-rest.invariant
     c.count_before-passed.ensures.count c.first.ensures c.in_ok-now.ensures.added c.in_ok-now.ensures.force c.behind-later.ensures
     c.count_of-count.ensures.count c.first-in-len1-up.ensures c.behind-rest.ensures
-    (c.in_ok-add_row.ensures ∙ ap (λ o. c.add_marks.new.out.items ++ row_left o a.0.now b.1.now c.first-in-len1-up.result.now) c.greater_deletion.ensures)
+    (c.in_ok-add_row.ensures ∙ (λ i. c.add_marks.new.out.items ++ row_left (c.greater_deletion.ensures i) (c.spot.ensures i) b.1.now c.first-in-len1-up.result.now))
 
 pub returns : goal.returns
 returns c =

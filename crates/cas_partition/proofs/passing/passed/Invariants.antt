@@ -1,4 +1,4 @@
-use Rattle.std.proofs.Common.{◌≡◌, None, map, length}
+use Rattle.std.proofs.Common.{None, map, length}
 use Rattle.cas_streams.specs.Weaving.{woven}
 use Rattle.cas_streams.specs.Joined.{by_place}
 use Rattle.cas_streams.specs.Settled.{settled_from}

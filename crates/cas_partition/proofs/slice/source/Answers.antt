@@ -1,4 +1,4 @@
-use Rattle.std.proofs.Common.{[], ◌∷◌, ◌++◌, ap, ◌∙◌, IfOk}
+use Rattle.std.proofs.Common.{[], ◌∷◌, ◌++◌, ap, ◌∙◌}
 use Rattle.cas_streams.specs.contracts.part.PartFragmentSource.TheImpl.{ghosts}
 use Rattle.cas_partition.proofs.Alone.{one_tells}
 use Rattle.cas_partition.proofs.slice.source.Goals as goal

@@ -1,7 +1,7 @@
-use Rattle.std.proofs.Common.{◌≡◌, None, List, [], ◌∷◌, map, ap, sym, ◌∙◌, subst}
+use Rattle.std.proofs.Common.{◌≡◌, List, map, ap, ◌∙◌, subst}
 use Rattle.cas_streams.specs.Joined.{Stream}
 use Rattle.cas_streams.specs.Merged.{merged}
-use Rattle.cas_partition.specs.Ranges.{key_of, clipped}
+use Rattle.cas_partition.specs.Ranges.{clipped}
 use Rattle.cas_partition.specs.Partitions.{marker}
 use Rattle.cas_partition.specs.Slices.{slice_streams}
 use Rattle.cas_partition.specs.Inner.Passing.{lent_marker}

@@ -1,8 +1,7 @@
 use Rattle.std.proofs.Common.{◌≡◌, ◌++◌, true, None, map, sym, ap, ◌∙◌}
 use Rattle.std.specs.Ordering.{is_lt}
 use Rattle.cas_bounds.specs.Keys.{key_cmp}
-use Rattle.cas_bounds.specs.declared.cuts.Cut.{Cut}
-use Rattle.cas_partition.specs.Ranges.{key_of, change_at, clipped}
+use Rattle.cas_partition.specs.Ranges.{change_at, clipped}
 use Rattle.cas_partition.specs.Partitions.{marker}
 use Rattle.cas_partition.specs.Inner.Passing.{lent_marker}
 use Rattle.cas_partition.specs.Inner.Slots.{cut_of, changes_of, force_below, force_behind, last_force, amid}
