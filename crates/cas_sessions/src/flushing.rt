@@ -455,8 +455,8 @@ impl<F: Folder, J: Store> Node<F, J> {
 
     /// Flushes a table: what each shard has of it in memory comes into one table file more, if that is anything. Gives
     /// the numbers of the new files, in the order of the shards. Where a fault comes between, the shards before it
-    /// are flushed. It takes the time of what is in memory, and of each file twice its bytes: they are written, and
-    /// its index is read back.
+    /// are flushed. It takes the time of what is in memory: each file's bytes are written once, and its index and
+    /// filter are read back.
     pub fn flush(
         &mut self,
         alloc: Global,
