@@ -167,7 +167,7 @@ fn take_in(
     if spot.row.is_some() && push_to(alloc, row, spot, content)? {
         return Ok(());
     }
-    let piece = piece(alloc, 1, spot, content)?;
+    let piece = piece(alloc, spot, content)?;
     let nothing = Fragment::Static(List::from_vec(Vec::new(alloc)));
     let before = mem::replace(row, nothing);
     let joined = joined_fragment(alloc, before, piece)?;
@@ -220,7 +220,7 @@ fn add_row(
     if spot.row.is_some() && is_hidden(over, content) && all_hidden(over, others) {
         return Ok(());
     }
-    out.push(piece(alloc, others.len() + 1, spot, content)?)?;
+    out.push(piece(alloc, spot, content)?)?;
     take_in_last(alloc, out, others)?;
     Ok(())
 }

@@ -76,17 +76,16 @@ fn column_at(
     })
 }
 
-// The column, where there is one. The list has room for so many.
+// The column, where there is one.
 fn columns_at(
     alloc: Global,
-    room: usize,
     column: Option<u16>,
     path: &Option<Bytes>,
     content: &Content,
 ) -> Result<Vec<RowColumn>, AllocError>
     ensures { IfOk result (λ v. v.items ≡ columns_at column path.now content.now) }
 {
-    let mut columns = Vec::with_capacity(alloc, room)?;
+    let mut columns = Vec::new(alloc);
     if let Some(number) = column {
         columns.push(column_at(alloc, number, path, content)?)?;
     }
@@ -97,14 +96,13 @@ fn columns_at(
 fn piece_at(
     alloc: Global,
     clustering: Clustering,
-    room: usize,
     spot: &Spot,
     content: &Content,
 ) -> Result<Fragment, AllocError>
     ensures { IfOk result (λ f. f ≡ fragment.Row (row_piece clustering spot.now.column spot.now.path content.now)) }
 {
     let whole = spot.column.is_none();
-    let columns = columns_at(alloc, room, spot.column, &spot.path, content)?;
+    let columns = columns_at(alloc, spot.column, &spot.path, content)?;
     Ok(Fragment::Row(Row {
         clustering,
         deletion: if whole { content.deletion } else { None },
@@ -113,18 +111,13 @@ fn piece_at(
     }))
 }
 
-// What is said at a spot, as a piece of its row, with room for so many columns.
-pub(crate) fn piece(
-    alloc: Global,
-    room: usize,
-    spot: &Spot,
-    content: &Content,
-) -> Result<Fragment, AllocError>
+// What is said at a spot, as a piece of its row.
+pub(crate) fn piece(alloc: Global, spot: &Spot, content: &Content) -> Result<Fragment, AllocError>
     ensures { IfOk result (λ f. f ≡ said spot.now content.now) }
 {
     match &spot.row {
         None => {
-            let columns = columns_at(alloc, room, spot.column, &spot.path, content)?;
+            let columns = columns_at(alloc, spot.column, &spot.path, content)?;
             Ok(Fragment::Static(List::from_vec(columns)))
         }
         Some(key) => {
@@ -132,7 +125,7 @@ pub(crate) fn piece(
                 values: key.values.clone()?,
                 order: key.order.clone()?,
             };
-            piece_at(alloc, clustering, room, spot, content)
+            piece_at(alloc, clustering, spot, content)
         }
     }
 }
@@ -146,7 +139,7 @@ fn further(alloc: Global, spot: &Spot, content: &Content) -> Result<Fragment, Al
         values: Values::from_vec(Vec::new(alloc)),
         order: RowOrder::from_vec(Vec::new(alloc)),
     };
-    piece_at(alloc, nowhere, 1, spot, content)
+    piece_at(alloc, nowhere, spot, content)
 }
 
 // Whether the piece is of the row of the spot.
@@ -335,7 +328,7 @@ fn add_entry(
     if is_last(rows, spot) {
         add_to_last(alloc, rows, spot, content)
     } else {
-        let piece = piece(alloc, 1, spot, content)?;
+        let piece = piece(alloc, spot, content)?;
         add_other(alloc, rows, piece)
     }
 }
