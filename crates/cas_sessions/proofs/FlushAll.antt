@@ -28,7 +28,6 @@ use Rattle.cas_sessions.specs.declared.answer.Fault.TheVariants.{Refused, Stoppe
 use Rattle.cas_sessions.specs.Calls.{IsTrueOf}
 use Rattle.cas_sessions.specs.Entered.{IsLeftAmid}
 use Rattle.cas_sessions.specs.Flushes.{AreInFiles, Flushed, Flushes, FlushesNamed, FlushesTable, Grows, WhyNoFurther, change_of, numbers_in, reach_by}
-use Rattle.cas_recovery.specs.Restored.{Remember}
 use Rattle.cas_sessions.specs.History.{History, DiskState, shard_at}
 use Rattle.cas_sessions.specs.Nodes.{State, LastsFor, KeepsAll, Moves, disk_of}
 use Rattle.cas_sessions.specs.Inner.Flushing.{FlushedOne, FlushesFirst, FlushesNoFurther, FlushesOne, GoesOn, IsOwn, listed_of}

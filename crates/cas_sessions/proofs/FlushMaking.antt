@@ -32,7 +32,6 @@ use Rattle.cas_stored.specs.Stored.{StoredTable}
 use Rattle.cas_view.specs.Views.{File}
 use Rattle.cas_sessions.specs.declared.answer.Fault.{Fault}
 use Rattle.cas_sessions.specs.declared.answer.Fault.TheVariants.{Refused, Stopped, Disk as Failed, Read, BadBlock, Mem}
-use Rattle.cas_recovery.specs.Restored.{HaveMemory, Remember}
 use Rattle.cas_sessions.specs.Nodes.{State}
 use Rattle.cas_sessions.specs.Inner.Flushing.{HasOneMore, IsMade, IsOwn, Quiet, WhyNoneMore, WhyNotMade, fault_of_folder, fault_of_fresh, fault_of_load, fault_of_write}
 use Rattle.cas_sessions.proofs.FlushShard.{quiet_still}

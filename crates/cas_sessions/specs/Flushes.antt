@@ -1,6 +1,6 @@
 -- What a flush of a table does, in the words of the history: what each shard has of it in memory comes into one table file more. No SELECT shows more or less.
 -- Cassandra documentation, "nodetool flush"; "Storage engine: memtables, SSTables"; the numbers of files and of faults are own.
-use Rattle.std.specs.Prelude.{◌≡◌, ◌⊎◌, ℕ, ◌≤◌, ◌<◌, true, false, Option, None, Some, Result, Ok, Err, List, [], ◌∷◌, ◌++◌, length, slice_get, slice_index_or}
+use Rattle.std.specs.Prelude.{◌≡◌, ◌⊎◌, ℕ, ◌≤◌, ◌<◌, true, false, Option, None, Some, Result, Ok, Err, List, [], ◌∷◌, ◌++◌, length, slice_index_or}
 use Rattle.std.specs.List.{flat_map, fold}
 use Rattle.cas_types.specs.declared.schema.TableSchema.{TableSchema}
 use Rattle.cas_bounds.specs.ClusteringOrder.{clustering_order}
@@ -12,9 +12,8 @@ use Rattle.cas_changes.specs.declared.entry.Entry.TheVariants.{Change as change_
 use Rattle.cas_journal.specs.Reach.{Reach}
 use Rattle.cas_memtable.specs.Kept.{all_of}
 use Rattle.cas_room.specs.Changing.{added_by}
-use Rattle.cas_shard.specs.Flushing.{HasInMemory}
 use Rattle.cas_shard.specs.Shards.{all_entries, number_of}
-use Rattle.cas_shard.specs.Stands.{SaySame, ShardState, mutations_of}
+use Rattle.cas_shard.specs.Stands.{SaySame, mutations_of}
 use Rattle.cas_sstread.specs.Loading.{Held}
 use Rattle.cas_stored.specs.Stored.{HoldEach}
 use Rattle.cas_view.specs.Views.{File}
