@@ -6,7 +6,10 @@ use Rattle.std.proofs.lemmas.Int.{ints}
 use Rattle.cas_types.specs.Limits.{IsMoment}
 use Rattle.cql_lex.specs.Numbers.{number_value}
 use Rattle.std.proofs.lemmas.Bool.Decides.{nat_tests}
-use Rattle.std.proofs.lemmas.Option.{none-some}
+use Rattle.std.proofs.lemmas.Option.{none-some, same_Some}
+use Rattle.std.proofs.lemmas.Slice.Eq.{bytes_eq-Decides}
+use Rattle.std.specs.Prelude.{codes}
+use Rattle.std.specs.Str.{bytes_eq, str_eq_ignore_ascii_case, str_to_ascii_lowercase}
 use Rattle.cql_lex.specs.declared.token.Token.{Token}
 use Rattle.cql_lex.specs.Lexes.{Lexes, IsRefused}
 use Rattle.cql_lex.proofs.Backslash.{refused}
@@ -15,7 +18,8 @@ use Rattle.cql_parse.specs.declared.syntax.Statement.{Statement}
 use Rattle.cql_parse.specs.Means.{Means}
 use Rattle.cas_lines.specs.declared.line.Line.{Line}
 use Rattle.cas_lines.specs.declared.line.Line.TheVariants as line
-use Rattle.cas_lines.specs.Lines.{Spells, clock_of, clock_in, is_command, seconds_in, words_of}
+use Rattle.cql_parse.specs.declared.syntax.TableName.{TableName}
+use Rattle.cas_lines.specs.Lines.{Flushes, IsTable, Spells, clock_of, clock_in, flushed_in, flushed_word, is_command, seconds_in, words_of}
 
 -- ---- a command begins with `\`
 
@@ -36,34 +40,91 @@ pub sets_by_command : (text : List ℕ) (n : ℤ) → clock_of text ≡ Some n �
 unfolding clock_of
 sets_by_command text n e = tested (is_command text) _ n e
 
--- a command that sets no clock says nothing that is known
-pub no_command : (text : List ℕ) → is_command text ≡ true → clock_in (words_of text) ≡ None → (l : Line) → Spells text l → ⊥
+by_test : (b : Bool) (o : Option (List ℕ)) (w : List ℕ) → cond b o None ≡ Some w → b ≡ true
+by_test true o w e = refl
+by_test false o w e = absurd (none-some w e)
+
+-- a line that flushes a table is a command
+pub flushes_by_command : (text : List ℕ) (t : TableName) → Flushes text t → is_command text ≡ true
+unfolding flushed_word
+flushes_by_command text t f = by_test (is_command text) _ f.0 f.1
+
+-- the word that a command flushes
+pub flush_is : (text : List ℕ) (o : Option (List ℕ)) → is_command text ≡ true → o ≡ flushed_in (words_of text) → flushed_word text ≡ o
+unfolding flushed_word
+flush_is text o e is = ap (λ b. cond b (flushed_in (words_of text)) None) e ∙ sym is
+
+-- ---- a command is one
+
+named_alike : (name a b : List ℕ) → str_eq_ignore_ascii_case name a ≡ true → str_eq_ignore_ascii_case name b ≡ true
+    → str_to_ascii_lowercase a ≡ str_to_ascii_lowercase b
+named_alike name a b x y = sym ((bytes_eq-Decides _ _).0 x) ∙ (bytes_eq-Decides _ _).0 y
+
+two_names : (name : List ℕ) → str_eq_ignore_ascii_case name (codes "\\clock") ≡ true → str_eq_ignore_ascii_case name (codes "\\flush") ≡ true → ⊥
+two_names name x y =
+    let alike = named_alike name (codes "\\clock") (codes "\\flush") x y in
+    let same : bytes_eq (str_to_ascii_lowercase (codes "\\clock")) (str_to_ascii_lowercase (codes "\\flush")) ≡ true = (bytes_eq-Decides _ _).1 alike in
+    true≢false (sym same)
+
+no_two : (words : List (List ℕ)) (n : ℤ) (word : List ℕ) → clock_in words ≡ Some n → flushed_in words ≡ Some word → ⊥
+no_two [] n w e f = none-some n e
+no_two (a ∷ []) n w e f = none-some n e
+no_two (name ∷ word ∷ []) n w e f = two_names name (tested _ (seconds_in (number_value word)) n e) (by_test _ (Some word) w f)
+no_two (a ∷ b ∷ d ∷ words) n w e f = none-some n e
+
+-- one that flushes sets no clock
+pub flushes_no_clock : (text word : List ℕ) (n : ℤ) → flushed_word text ≡ Some word → clock_of text ≡ Some n → ⊥
+unfolding clock_of flushed_word
+flushes_no_clock text word n f e =
+    let is : is_command text ≡ true = tested (is_command text) _ n e in
+    no_two (words_of text) n word (ap (λ b. cond b (clock_in (words_of text)) None) (sym is) ∙ e)
+    (ap (λ b. cond b (flushed_in (words_of text)) None) (sym is) ∙ f)
+
+-- a command that sets no clock and flushes nothing says nothing that is known
+pub no_command : (text : List ℕ) → is_command text ≡ true → clock_in (words_of text) ≡ None → flushed_word text ≡ None → (l : Line) → Spells text l → ⊥
 unfolding clock_of
-no_command text e h line.Blank s = no_token text [] e s.1
-no_command text e h (line.Statement st) s = no_token text s.1.0 e s.1.1
-no_command text e h (line.Clock n) s = none-some n (sym h ∙ (ap (λ b. cond b (clock_in (words_of text)) None) (sym e) ∙ s))
-no_command text e h line.Syntax s = s
+no_command text e h f line.Blank s = no_token text [] e s.1
+no_command text e h f (line.Statement st) s = no_token text s.1.0 e s.1.1
+no_command text e h f (line.Clock n) s = none-some n (sym h ∙ (ap (λ b. cond b (clock_in (words_of text)) None) (sym e) ∙ s))
+no_command text e h f (line.Flush t) s = none-some s.0 (sym f ∙ s.1)
+no_command text e h f line.Syntax s = s
+
+-- nor does one whose word names no table
+pub no_table : (text word : List ℕ) → is_command text ≡ true → flushed_word text ≡ Some word → ((t : TableName) → IsTable word t → ⊥)
+    → (l : Line) → Spells text l → ⊥
+no_table text word e f h line.Blank s = no_token text [] e s.1
+no_table text word e f h (line.Statement st) s = no_token text s.1.0 e s.1.1
+no_table text word e f h (line.Clock n) s = flushes_no_clock text word n f s
+no_table text word e f h (line.Flush t) s = h t (subst (λ w. IsTable w t) (sym (same_Some word s.0 (sym f ∙ s.1))) s.2)
+no_table text word e f h line.Syntax s = s
 
 -- a line that is no command sets no clock
 not_set : (text : List ℕ) (n : ℤ) → is_command text ≡ false → clock_of text ≡ Some n → ⊥
 not_set text n e s = true≢false (sym (sets_by_command text n s) ∙ e)
 
+-- and flushes no table
+no_flush : (text : List ℕ) (t : TableName) → is_command text ≡ false → Flushes text t → ⊥
+no_flush text t e s = true≢false (sym (flushes_by_command text t s) ∙ e)
+
 pub no_tokens : (text : List ℕ) → is_command text ≡ false → IsRefused text → (l : Line) → Spells text l → ⊥
 no_tokens text c h line.Blank s = h [] s.1
 no_tokens text c h (line.Statement st) s = h s.1.0 s.1.1
 no_tokens text c h (line.Clock n) s = not_set text n c s
+no_tokens text c h (line.Flush t) s = no_flush text t c s
 no_tokens text c h line.Syntax s = s
 
 pub no_statement : (text : List ℕ) (tokens : List Token) → is_command text ≡ false → Lexes text tokens → (tokens ≡ [] → ⊥) → ((s : Statement) → Means text tokens s → ⊥) → (l : Line) → Spells text l → ⊥
 no_statement text tokens c lexed some h line.Blank s = some (one_reading text tokens [] lexed s.1)
 no_statement text tokens c lexed some h (line.Statement st) s = h st (subst (λ ts. Means text ts st) (one_reading text s.1.0 tokens s.1.1 lexed) s.1.2)
 no_statement text tokens c lexed some h (line.Clock n) s = not_set text n c s
+no_statement text tokens c lexed some h (line.Flush t) s = no_flush text t c s
 no_statement text tokens c lexed some h line.Syntax s = s
 
 pub not_utf8 : (text : List ℕ) → is_command text ≡ false → (IsUtf8 text → ⊥) → (l : Line) → Spells text l → ⊥
 not_utf8 text c h line.Blank s = h s.0
 not_utf8 text c h (line.Statement st) s = h s.0
 not_utf8 text c h (line.Clock n) s = not_set text n c s
+not_utf8 text c h (line.Flush t) s = no_flush text t c s
 not_utf8 text c h line.Syntax s = s
 
 -- ---- what the clock is set to

@@ -11,10 +11,13 @@ use Rattle.cql_parse.specs.Grammar.{Of}
 use Rattle.cql_parse.specs.Lexemes.{lexemes_of}
 use Rattle.cql_parse.specs.Means.{Means}
 use Rattle.cql_parse.proofs.StatementAgree.{at_most_one}
+use Rattle.cql_tables.proofs.WordAgree.{at_most_one as one_table}
 use Rattle.cas_lines.specs.declared.line.Line.{Line}
 use Rattle.cas_lines.specs.declared.line.Line.TheVariants as line
-use Rattle.cas_lines.specs.Lines.{Says, Spells, clock_of}
-use Rattle.cas_lines.proofs.LineReading.{no_token, sets_by_command}
+use Rattle.cql_parse.specs.declared.syntax.TableName.{TableName}
+use Rattle.cql_parse.specs.TableNames.{SpellsTable}
+use Rattle.cas_lines.specs.Lines.{Flushes, Says, Spells, clock_of}
+use Rattle.cas_lines.proofs.LineReading.{flushes_by_command, flushes_no_clock, no_token, sets_by_command}
 
 -- ---- no statement is spelled by nothing
 
@@ -52,20 +55,34 @@ no_blank text s x y = nothing_means text s (one_meaning text [] y.1.0 s x.1 y.1.
 one_statement : (text : List ℕ) (s t : Statement) → Spells text (line.Statement s) → Spells text (line.Statement t) → s ≡ t
 one_statement text s t x y = at_most_one text x.1.0 s t x.1.2 (one_meaning text x.1.0 y.1.0 t x.1.1 y.1.1 y.1.2)
 
+-- ---- a command is one
+
+one_flush : (text : List ℕ) (t u : TableName) → Flushes text t → Flushes text u → t ≡ u
+one_flush text t u x y = one_table x.0 t u x.2.1 (subst (λ w. SpellsTable w u) (same_Some y.0 x.0 (sym y.1 ∙ x.1)) y.2.1)
+
 pub one_line : (text : List ℕ) (l m : Line) → Says text l → Says text m → l ≡ m
 one_line text line.Blank line.Blank x y = refl
 one_line text line.Blank (line.Statement t) x y = absurd (no_blank text t x y)
 one_line text line.Blank (line.Clock k) x y = absurd (no_command text k [] x.1 y)
+one_line text line.Blank (line.Flush u) x y = absurd (no_token text [] (flushes_by_command text u y) x.1)
 one_line text line.Blank line.Syntax x y = absurd (y line.Blank x)
 one_line text (line.Statement s) line.Blank x y = absurd (no_blank text s y x)
 one_line text (line.Statement s) (line.Statement t) x y = ap line.Statement (one_statement text s t x y)
 one_line text (line.Statement s) (line.Clock k) x y = absurd (no_command text k x.1.0 x.1.1 y)
+one_line text (line.Statement s) (line.Flush u) x y = absurd (no_token text x.1.0 (flushes_by_command text u y) x.1.1)
 one_line text (line.Statement s) line.Syntax x y = absurd (y (line.Statement s) x)
 one_line text (line.Clock n) line.Blank x y = absurd (no_command text n [] y.1 x)
 one_line text (line.Clock n) (line.Statement t) x y = absurd (no_command text n y.1.0 y.1.1 x)
 one_line text (line.Clock n) (line.Clock k) x y = ap line.Clock (same_Some n k (sym x ∙ y))
+one_line text (line.Clock n) (line.Flush u) x y = absurd (flushes_no_clock text y.0 n y.1 x)
 one_line text (line.Clock n) line.Syntax x y = absurd (y (line.Clock n) x)
+one_line text (line.Flush t) line.Blank x y = absurd (no_token text [] (flushes_by_command text t x) y.1)
+one_line text (line.Flush t) (line.Statement s) x y = absurd (no_token text y.1.0 (flushes_by_command text t x) y.1.1)
+one_line text (line.Flush t) (line.Clock k) x y = absurd (flushes_no_clock text x.0 k x.1 y)
+one_line text (line.Flush t) (line.Flush u) x y = ap line.Flush (one_flush text t u x y)
+one_line text (line.Flush t) line.Syntax x y = absurd (y (line.Flush t) x)
 one_line text line.Syntax line.Blank x y = absurd (x line.Blank y)
 one_line text line.Syntax (line.Statement t) x y = absurd (x (line.Statement t) y)
 one_line text line.Syntax (line.Clock k) x y = absurd (x (line.Clock k) y)
+one_line text line.Syntax (line.Flush u) x y = absurd (x (line.Flush u) y)
 one_line text line.Syntax line.Syntax x y = refl

@@ -1,5 +1,5 @@
--- What a line of a script says: nothing, a statement, `\clock n`, or nothing that is known.
--- CQL documentation, "Definitions: comments"; the command is own.
+-- What a line of a script says: nothing, a statement, `\clock n`, `\flush t`, or nothing that is known.
+-- CQL documentation, "Definitions: comments"; the commands are own, `\flush` after the tool "nodetool flush".
 use Rattle.std.specs.Prelude.{◌≡◌, ℕ, ◌==◌, ℤ, pos, int_le, Bool, true, false, ◌&&◌, if◌then◌else◌}
 use Rattle.std.specs.Prelude.{List, [], ◌∷◌, codes, Option, None, Some, IsUtf8}
 use Rattle.std.specs.List.{filter, slice_split}
@@ -10,6 +10,8 @@ use Rattle.cql_lex.specs.Gaps.{is_blank}
 use Rattle.cql_lex.specs.Lexes.{Lexes}
 use Rattle.cql_lex.specs.Numbers.{number_value}
 use Rattle.cql_parse.specs.Means.{Means}
+use Rattle.cql_parse.specs.TableNames.{SpellsTable}
+use Rattle.cql_parse.specs.declared.syntax.TableName.{TableName}
 use Rattle.cas_lines.specs.declared.line.Line.{Line}
 use Rattle.cas_lines.specs.declared.line.Line.TheVariants as line
 
@@ -45,11 +47,33 @@ clock_in _ = None
 unfoldable pub clock_of : List ℕ → Option ℤ
 clock_of text = if is_command text then clock_in (words_of text) else None
 
--- the line says this: nothing but blanks and comments, a statement, or the command
+-- the table that a word names, as CQL spells it: `t`, `local.t`, `"My Table"`
+abbrev pub IsTable : List ℕ → TableName → Type 0
+IsTable word t = IsUtf8 word × SpellsTable word t
+
+-- the word behind the name `\flush`, which stands in small letters or large ones
+abbrev pub flushed_by : List ℕ → List ℕ → Option (List ℕ)
+flushed_by name word = if str_eq_ignore_ascii_case name (codes "\\flush") then Some word else None
+
+-- the word behind it, where it is the only one
+abbrev pub flushed_in : List (List ℕ) → Option (List ℕ)
+flushed_in (name ∷ word ∷ []) = flushed_by name word
+flushed_in _ = None
+
+-- the word of the command `\flush t`: of `\Flush  local.t` it is `local.t`; `\flush` and `\flush t u` have none
+unfoldable pub flushed_word : List ℕ → Option (List ℕ)
+flushed_word text = if is_command text then flushed_in (words_of text) else None
+
+-- the line tells to flush this table: `\flush t` does, and `\flush t;` doesn't
+abbrev pub Flushes : List ℕ → TableName → Type 0
+Flushes text t = (word : List ℕ) × (flushed_word text ≡ Some word) × IsTable word t
+
+-- the line says this: nothing but blanks and comments, a statement, or a command
 abbrev pub Spells : List ℕ → Line → Type 0
 Spells text line.Blank = IsUtf8 text × Lexes text []
 Spells text (line.Statement s) = IsUtf8 text × ((tokens : List Token) × Lexes text tokens × Means text tokens s)
 Spells text (line.Clock n) = clock_of text ≡ Some n
+Spells text (line.Flush t) = Flushes text t
 Spells text line.Syntax = ⊥
 
 -- the line says this; one that says none of those is bad syntax
@@ -57,4 +81,5 @@ abbrev pub Says : List ℕ → Line → Type 0
 Says text line.Blank = Spells text line.Blank
 Says text (line.Statement s) = Spells text (line.Statement s)
 Says text (line.Clock n) = Spells text (line.Clock n)
+Says text (line.Flush t) = Spells text (line.Flush t)
 Says text line.Syntax = (l : Line) → Spells text l → ⊥

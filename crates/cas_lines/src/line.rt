@@ -1,13 +1,15 @@
 //! What a line of a script says.
 
-ghost use Rattle.std.specs.Prelude.{◌≡◌, [], false, map, IfOk, IsTrue, IsUtf8};
+ghost use Rattle.std.specs.Prelude.{◌≡◌, [], false, true, map, option_map, IfOk, IsTrue, IsUtf8, Some};
 ghost use Rattle.cql_lex.specs.Lexes.{Lexes};
 ghost use Rattle.cql_lex.specs.Gaps.{is_blank};
 ghost use Rattle.cas_lines.specs.Lines.{Says, clock_by, clock_in, has_bytes, is_command, seconds_in, words_of};
+ghost use Rattle.cas_lines.specs.Lines.{flushed_by, flushed_in, flushed_word};
+ghost use Rattle.cas_lines.specs.Inner.Flushing.{NamesTable};
 
 use cas_types::{LAST_SECOND, Mem};
 use cql_lex::{LexFault, Token, number_of, tokens};
-use cql_parse::{ParseFault, Statement, statement};
+use cql_parse::{ParseFault, Statement, TableName, statement, table_name};
 use std::alloc::{AllocError, Global};
 use std::str::from_utf8;
 
@@ -19,6 +21,8 @@ pub enum Line {
     Statement(Statement),
     /// `\clock n`, with the seconds.
     Clock(i64),
+    /// `\flush t`, with the table's name.
+    Flush(TableName),
     /// It is none of these.
     Syntax,
 }
@@ -80,15 +84,64 @@ fn is_command(text: &[u8]) -> bool
     }
 }
 
+// The table that the word names, if it names one.
+fn table_in(alloc: Global, word: &[u8]) -> Result<Option<TableName>, Mem>
+    ensures { IfOk result (NamesTable word.now) }
+{
+    let Ok(text) = from_utf8(word) else {
+        return Ok(None);
+    };
+    match table_name(alloc, text) {
+        Ok(table) => Ok(Some(table)),
+        Err(ParseFault::Syntax) => Ok(None),
+        Err(ParseFault::Mem) => Err(Mem),
+    }
+}
+
+fn flushed_by<'a>(name: &[u8], word: &'a [u8]) -> Option<&'a [u8]>
+    ensures { option_map (λ w. w.now) result ≡ flushed_by name.now word.now }
+{
+    if name.eq_ignore_ascii_case(b"\\flush") {
+        Some(word)
+    } else {
+        None
+    }
+}
+
+fn flushed_in<'a>(words: &[&'a [u8]]) -> Option<&'a [u8]>
+    ensures { option_map (λ w. w.now) result ≡ flushed_in (map (λ w. w.now) words.now) }
+{
+    match words {
+        [name, word] => flushed_by(name, word),
+        _ => None,
+    }
+}
+
+// What the command says that tells to flush what the word names.
+#[tactic(auto, using(crate::proofs::LineReading::no_table))]
+fn read_flush(alloc: Global, text: &[u8], word: &[u8]) -> Result<Line, Mem>
+    requires command { is_command text.now ≡ true }
+    requires word { flushed_word text.now ≡ Some word.now }
+    ensures { IfOk result (λ l. Says text.now l) }
+{
+    match table_in(alloc, word)? {
+        Some(table) => Ok(Line::Flush(table)),
+        None => Ok(Line::Syntax),
+    }
+}
+
 // What a line says that begins as a command does.
-#[tactic(auto, using(crate::proofs::LineReading::no_command), unfolding(crate::specs::Lines::clock_of))]
+#[tactic(auto, using(crate::proofs::LineReading::no_command, crate::proofs::LineReading::flush_is), unfolding(crate::specs::Lines::clock_of))]
 fn read_command(alloc: Global, text: &[u8]) -> Result<Line, Mem>
     requires { IsTrue (is_command text.now) }
     ensures { IfOk result (λ l. Says text.now l) }
 {
     let words = words_of(alloc, text)?;
-    match clock_in(&words) {
-        Some(seconds) => Ok(Line::Clock(seconds)),
+    if let Some(seconds) = clock_in(&words) {
+        return Ok(Line::Clock(seconds));
+    }
+    match flushed_in(&words) {
+        Some(word) => read_flush(alloc, text, word),
         None => Ok(Line::Syntax),
     }
 }

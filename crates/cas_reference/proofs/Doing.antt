@@ -1,5 +1,5 @@
 -- From what the parts of an answer come to, to what the line is answered.
-use Rattle.std.proofs.Common.{◌≡◌, ℕ, ℤ, List, None, Some, Ok, refl, subst, sym}
+use Rattle.std.proofs.Common.{◌≡◌, ℕ, ℤ, List, None, Some, Ok, ap, refl, subst, sym}
 use Rattle.cas_types.specs.Limits.{IsMoment}
 use Rattle.cas_effects.specs.declared.effect.BoundWrite.{BoundWrite}
 use Rattle.cas_effects.specs.declared.refusal.TheConstants.{SYNTAX}
@@ -14,7 +14,9 @@ use Rattle.cas_lines.specs.declared.line.Line.TheVariants as line
 use Rattle.cas_lines.specs.Lines.{Says}
 use Rattle.cas_lines.proofs.LineReading.{clock_is_moment}
 use Rattle.cas_reference.specs.Kept.{Reads, Writes}
-use Rattle.cas_reference.specs.Replies.{Answers, Does, Keeps, Reading, SetsClock, Store}
+use Rattle.cas_terms.specs.Columns.{table_named}
+use Rattle.cql_parse.specs.declared.syntax.TableName.{TableName}
+use Rattle.cas_reference.specs.Replies.{Answers, Does, Keeps, Reading, SetsClock, Store, flushed}
 
 -- the seconds that a line sets are a moment
 pub says_moment : (text : List ℕ) (l : Line) (n m : ℤ) → m ≡ n → Says text l → l ≡ line.Clock n → IsMoment m
@@ -48,5 +50,10 @@ pub answers_statement : (Gives : ℤ → Type 0) (s after : Store) (text : List 
 unfolding Answers
 answers_statement Gives s after text l x r does says is = (line.Statement x, subst (λ l. Says text l) is says, (r, refl, does))
 
+pub answers_flush : (Gives : ℤ → Type 0) (s : Store) (text : List ℕ) (l : Line) (name : TableName) (r : Reply) → r ≡ flushed (table_named s.tables name)
+    → Says text l → l ≡ line.Flush name → Answers Gives s text (Some r) s
+unfolding Answers
+answers_flush Gives s text l name r is says of = (line.Flush name, subst (λ l. Says text l) of says, (ap (λ q. Some q) is, refl))
+
 -- what a line that was read is answered
-pub ruleset answers_known = (says_moment, answers_blank, answers_syntax, answers_clock, answers_statement)
+pub ruleset answers_known = (says_moment, answers_blank, answers_syntax, answers_clock, answers_flush, answers_statement)

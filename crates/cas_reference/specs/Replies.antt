@@ -1,10 +1,12 @@
 -- What each line answers, and what is held after it, in a store whose disk can't fail and that no other session writes to.
--- CQL documentation, "Data definition" and "Data manipulation"; the command is own.
+-- CQL documentation, "Data definition" and "Data manipulation"; the commands are own.
 use Rattle.std.specs.Prelude.{◌≡◌, ℕ, ℤ, pos, ◌*ℤ◌, List, [], Option, None, Some, Result, Ok, Err}
 use Rattle.std.specs.Int.{int_max, int_min}
 use Rattle.cas_types.specs.declared.limits.TheConstants.{LAST_MICROSECOND}
 use Rattle.cas_types.specs.declared.schema.TableSchema.{TableSchema}
 use Rattle.cas_effects.specs.declared.refusal.Refusal.{Refusal}
+use Rattle.cas_effects.specs.declared.refusal.Refusal.TheVariants.{NoTable}
+use Rattle.cas_terms.specs.Columns.{table_named}
 use Rattle.cas_effects.specs.declared.refusal.TheConstants.{NOT_HERE, SYNTAX}
 use Rattle.cas_effects.specs.Refusals.{refusal_number}
 use Rattle.cas_bind.specs.declared.bound.Bound.{Bound}
@@ -83,11 +85,17 @@ abbrev pub SetsClock : ClockKind → Store → ℤ → Reply → Store → Type 
 SetsClock clock.Manual s seconds r after = (r ≡ reply.Done) × (after ≡ set_to seconds s)
 SetsClock clock.System s seconds r after = (r ≡ reply.Refused NOT_HERE) × (after ≡ s)
 
+-- `\flush` of a table that is there finds nothing in memory, since all is in one list: no file is written
+abbrev pub flushed : Option TableSchema → Reply
+flushed None = reply.Refused (refusal_number NoTable)
+flushed (Some t) = reply.Flushed []
+
 -- a line that says this is answered so, and this is the store then; one that says nothing isn't answered
 abbrev pub Answered : (ℤ → Type 0) → Store → Line → Option Reply → Store → Type 0
 Answered Gives s line.Blank r after = (r ≡ None) × (after ≡ s)
 Answered Gives s line.Syntax r after = (r ≡ Some (reply.Refused SYNTAX)) × (after ≡ s)
 Answered Gives s (line.Clock n) r after = (answer : Reply) × (r ≡ Some answer) × SetsClock s.kind s n answer after
+Answered Gives s (line.Flush t) r after = (r ≡ Some (flushed (table_named s.tables t))) × (after ≡ s)
 Answered Gives s (line.Statement x) r after = (answer : Reply) × (r ≡ Some answer) × Does Gives s (meaning s.limits.shards s.tables x) answer after
 
 -- the line is answered so, by what it says

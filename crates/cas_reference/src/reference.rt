@@ -10,13 +10,14 @@ use crate::altered::altered;
 use crate::reading::reading;
 use cas_bind::{Bound, BoundRead, Limits, bind};
 use cas_define::Addition;
-use cas_effects::{BindFault, BoundWrite, NOT_HERE, SYNTAX};
+use cas_effects::{BindFault, BoundWrite, NOT_HERE, Refusal, SYNTAX};
 use cas_io::Clock;
 use cas_lines::{Line, read_line};
 use cas_render::Reply;
-use cas_types::{Mem, TableSchema};
+use cas_terms::table_named;
+use cas_types::{List, Mem, TableSchema};
 use cas_words::{ClockKind, Command};
-use cql_parse::Statement;
+use cql_parse::{Statement, TableName};
 use std::alloc::Global;
 
 /// The store: its tables and what it accepted; and of a run its limits, its clock, and the seconds that this
@@ -42,7 +43,8 @@ impl Reference {
     ghost use Rattle.cas_bind.specs.declared.bound.Bound.TheVariants as bounds;
     ghost use Rattle.cas_lines.specs.Lines.{Says};
     ghost use Rattle.cas_render.specs.declared.reply.Reply.TheVariants as replies;
-    ghost use Rattle.cas_reference.specs.Replies.{Answers, Does, SetsClock, begun, new_store, with_tables};
+    ghost use Rattle.cas_terms.specs.Columns.{table_named};
+    ghost use Rattle.cas_reference.specs.Replies.{Answers, Does, SetsClock, begun, flushed, new_store, with_tables};
     ghost use Rattle.cas_reference.specs.Held.{held};
 
     /// A store that this command makes.
@@ -155,6 +157,18 @@ impl Reference {
         }
     }
 
+    // No file is written, since all is in one list.
+    fn flush(&self, alloc: Global, name: &TableName) -> Reply
+        ensures { result ≡ flushed (table_named self.now.tables.items name.now) }
+    {
+        match table_named(&self.tables, name) {
+            Some(_) => Reply::Flushed {
+                files: List::from_vec(Vec::new(alloc)),
+            },
+            None => Reply::Refused(Refusal::NoTable.number()),
+        }
+    }
+
     // Answers a line that says this.
     #[tactic(auto, using(crate::proofs::Doing::answers_known))]
     fn answer_known<C: Clock>(
@@ -171,6 +185,7 @@ impl Reference {
             Line::Blank => Ok(None),
             Line::Syntax => Ok(Some(Reply::Refused(SYNTAX))),
             Line::Clock(seconds) => Ok(Some(self.set_clock(seconds))),
+            Line::Flush(name) => Ok(Some(self.flush(alloc, &name))),
             Line::Statement(statement) => {
                 Ok(Some(self.answer_statement(alloc, clock, &statement)?))
             }

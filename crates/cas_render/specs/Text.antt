@@ -95,10 +95,15 @@ failure_text failure.Disk = codes "failed disk\n"
 failure_text failure.Read = codes "failed read\n"
 failure_text (failure.Block number at) = codes "failed block\n"
 
+-- a number behind a blank
+abbrev pub further_number : ℕ → List ℕ
+further_number n = codes " " ++ decimal n
+
 -- what is printed of the answer to a line of the script
 unfoldable pub reply_text : Reply → List ℕ
 reply_text reply.Done = codes "ok\n"
 reply_text (reply.Wrote number) = codes "ok " ++ decimal number ++ codes "\n"
 reply_text (reply.Rows rows shard front now) = flat_map row_text rows ++ trailer (length rows) shard front now
+reply_text (reply.Flushed files) = codes "flushed" ++ flat_map further_number files ++ codes "\n"
 reply_text (reply.Refused number) = codes "refused S" ++ decimal number ++ codes "\n"
 reply_text (reply.Failed failure) = failure_text failure

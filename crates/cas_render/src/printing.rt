@@ -2,7 +2,7 @@
 
 ghost use Rattle.std.specs.Prelude.{◌≡◌, ◌++◌, [], codes, OnOk, OnErr};
 ghost use Rattle.std.specs.List.{flat_map, join_by};
-ghost use Rattle.cas_render.specs.Text.{datum_text, row_text, trailer, failure_text, reply_text};
+ghost use Rattle.cas_render.specs.Text.{datum_text, further_number, row_text, trailer, failure_text, reply_text};
 
 use crate::collections::append_datum;
 use crate::pieces::{append, append_number, append_signed};
@@ -71,6 +71,30 @@ fn append_trailer(out: &mut Vec<u8>, rows: u64, shard: u8, front: u64, now: i64)
     append(out, b"\n")
 }
 
+fn append_further_number(out: &mut Vec<u8>, number: u64) -> Result<(), Mem>
+    ensures { OnOk result (out.new.items ≡ out.old.items ++ further_number number) }
+{
+    append(out, b" ")?;
+    append_number(out, number)
+}
+
+fn append_further_numbers(out: &mut Vec<u8>, numbers: &[u64]) -> Result<(), Mem>
+    ensures { OnOk result (out.new.items ≡ out.old.items ++ flat_map further_number numbers.now) }
+{
+    for number in numbers {
+        append_further_number(out, *number)?;
+    }
+    Ok(())
+}
+
+fn append_flushed(out: &mut Vec<u8>, files: &[u64]) -> Result<(), Mem>
+    ensures { OnOk result (out.new.items ≡ out.old.items ++ (codes "flushed" ++ flat_map further_number files.now ++ codes "\n")) }
+{
+    append(out, b"flushed")?;
+    append_further_numbers(out, files)?;
+    append(out, b"\n")
+}
+
 fn append_failure(out: &mut Vec<u8>, failure: Failure) -> Result<(), Mem>
     ensures { OnOk result (out.new.items ≡ out.old.items ++ failure_text failure) }
 {
@@ -103,6 +127,7 @@ fn append_reply(alloc: Global, out: &mut Vec<u8>, reply: &Reply) -> Result<(), M
             append_rows(alloc, out, rows.as_slice())?;
             append_trailer(out, rows.len() as u64, *shard, *front, *now)
         }
+        Reply::Flushed { files } => append_flushed(out, files.as_slice()),
         Reply::Refused(number) => {
             append(out, b"refused S")?;
             append_number(out, u64::from(*number))?;

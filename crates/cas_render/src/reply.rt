@@ -35,6 +35,10 @@ pub enum Reply {
         front: u64,
         now: i64,
     },
+    /// A table was flushed, to the table files of these numbers.
+    Flushed {
+        files: List<u64>,
+    },
     /// Refused, with the refusal's number.
     Refused(u8),
     /// Neither done nor refused.
