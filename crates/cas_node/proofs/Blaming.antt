@@ -6,7 +6,7 @@ use Rattle.cas_types.specs.declared.schema.TableSchema.{TableSchema}
 use Rattle.std.proofs.Math.Logic.{∥∥₁_map}
 use Rattle.cas_disk.specs.declared.name.Name.{Name}
 use Rattle.cas_disk.specs.declared.name.Name.TheVariants as file
-use Rattle.cas_atoms.specs.declared.slice.Slice.{Slice}
+use Rattle.cas_bounds.specs.declared.cuts.Slice.{Slice}
 use Rattle.cas_laws.specs.Given.{Has}
 use Rattle.cas_atoms.specs.declared.atom.Mutation.{Mutation}
 use Rattle.cas_bind.specs.Meaning.{meaning}

@@ -30,7 +30,7 @@ returns-in-Some-clause-tables g c = up_to_twice _ _ _ _ _ c.loop-rest.invariant.
 
 pub returns-in-Some-clause-lists : goal.returns-in-Some-clause-lists
 returns-in-Some-clause-lists g c =
-    lists_more c.args.ask.now.kind (g.C.Clock.may_give c.args.ask.now.clock.now) _ _ _ _ _ _ _ _ _ _ _ _ c.loop-rest.invariant.so_far c.next_line.ensures.lines
+    lists_more c.args.ask.now.kind (g.C.Clock.may_give c.args.ask.now.clock.now) _ _ _ _ _ _ _ c.next_line.result.1.now _ _ _ _ c.loop-rest.invariant.so_far c.next_line.ensures.lines
     c.take_turn-turn.ensures.lists
 
 pub returns-clause-lists : goal.returns-clause-lists
