@@ -234,7 +234,6 @@ module _ (kind : ClockKind) (Gives : ℤ → Type 0) where
       let (after, so, goes) = moves h stands in
       (after, record { reply = r; answers = so; told = told; printed = printed }, goes)
 
-
   -- From whichever history the store stood for, the lines so far were run, where what the script's flushes write is known; the mutations are numbered on;
   -- and of lines that flush no table none is left that does, and the manifest lists the table files that it listed.
   pub record AllSoFar (s t : State) (old new : Disk) (script rest : List ℕ) (out now : Option (List ℕ)) (why : Cause) : Type 0 where

@@ -1,7 +1,7 @@
 use Rattle.std.proofs.Common.{rules, arith, subst, sym}
 use Rattle.cas_disk.proofs.Moments.{no_call}
 use Rattle.cas_node.specs.Inner.Turns.{IsToldSo}
-use Rattle.cas_node.proofs.SessionLemmas.{all_so_far_none, all_so_far_more, all_ran_cut, all_ran_whole, lists_more, tells_on, worse_told}
+use Rattle.cas_node.proofs.SessionLemmas.{all_so_far_none, all_so_far_more, all_ran_cut, lists_more, tells_on, worse_told}
 use Rattle.cas_sessions.proofs.Going.{numbers_more}
 use Rattle.cas_sessions.proofs.Listing.{up_to_twice}
 use Rattle.cas_sessions.specs.Listing.{SameUpTo}
