@@ -1,5 +1,6 @@
 -- What a line does with a store, from what its parts do.
-use Rattle.std.proofs.Common.{◌≡◌, inl, inr, ℕ, ℤ, List, Some, refl, sym, ap, subst}
+use Rattle.std.proofs.Common.{◌≡◌, inl, inr, ℕ, ℤ, List, Result, Some, refl, sym, ap, subst}
+use Rattle.std.specs.Prelude.{◌⊎◌}
 use Rattle.cas_types.specs.Limits.{IsMoment}
 use Rattle.cas_disk.specs.Disk.{Disk}
 use Rattle.cas_bind.specs.Meaning.{meaning}
@@ -13,8 +14,11 @@ use Rattle.cas_render.specs.declared.reply.Reply.TheVariants as reply
 use Rattle.cas_words.specs.declared.words.ClockKind.{ClockKind}
 use Rattle.cas_words.specs.declared.words.ClockKind.TheVariants as clock
 use Rattle.cql_parse.specs.declared.syntax.Statement.{Statement}
+use Rattle.cql_parse.specs.declared.syntax.TableName.{TableName}
+use Rattle.cas_sessions.specs.declared.answer.Fault.{Fault}
+use Rattle.cas_sessions.specs.Flushes.{Flushes}
 use Rattle.cas_sessions.specs.History.{History, Does}
-use Rattle.cas_node.specs.Lines.{Answers, SetsClock}
+use Rattle.cas_node.specs.Lines.{Answers, FlushesNone, SetsClock, Tells, reply_of_flush}
 use Rattle.cas_sessions.specs.Nodes.{State, StandsFor, GoesOnTo, Moves, OrWant}
 use Rattle.cas_sessions.proofs.Answering.{moves_as}
 
@@ -42,6 +46,22 @@ module _ (kind : ClockKind) (Gives : ℤ → Type 0) where
           subst (λ l. Does kind Gives h (meaning l.shards h.tables x) r after) (sym stands.limits)
           (subst (λ ts. Does kind Gives h (meaning s.limits.shards ts x) r after) (sym stands.tables) does) in
           inr (line.Statement x, subst (λ l. Says text l) is says, (r, refl, of))
+
+-- what a flush answers, and becomes of the store
+abbrev pub Flushed : TableName → Reply → History → History → Type 0
+Flushed name r h after = (told : Result (List ℕ) Fault) × (r ≡ reply_of_flush told) × Flushes h name told after
+
+-- a line that flushes a table isn't one that doesn't
+pub says_flush : (text : List ℕ) (l : Line) (name : TableName) → Says text l → l ≡ line.Flush name → FlushesNone text → ⊥
+says_flush text l name says is none = none name (subst (λ l. Says text l) is says)
+
+module _ (kind : ClockKind) (Gives : ℤ → Type 0) where
+  pub answers_flush : (s t : State) (d e : Disk) (text : List ℕ) (l : Line) (name : TableName) (r : Reply) → (Tells d → Moves (λ h after. Flushed name r h after) s t d e)
+      → Says text l → l ≡ line.Flush name → Tells d ⊎ FlushesNone text → Moves (λ h after. Answers kind Gives h text (Some r) after) s t d e
+  answers_flush s t d e text l name r moves says is (inl tells) =
+      moves_as s t d e (Flushed name r) (λ h after. Answers kind Gives h text (Some r) after) (moves tells)
+      (λ h after stands so. inr (line.Flush name, subst (λ l. Says text l) is says, (so.0, ap (λ q. Some q) so.1, so.2)))
+  answers_flush s t d e text l name r moves says is (inr none) = absurd (says_flush text l name says is none)
 
 -- ---- the clock
 

@@ -1,9 +1,13 @@
 -- A run calls a table file bad only where it is bad for a query.
-use Rattle.std.proofs.Common.{◌≡◌, inl, inr, ℕ, ℤ, List, [], ◌∷◌, Bool, true, false, Option, Some, Result, Ok, Err, sym, ap, ◌∙◌, subst}
+use Rattle.std.proofs.Common.{◌≡◌, inl, inr, ℕ, ℤ, List, [], ◌∷◌, ◌++◌, Bool, None, true, false, Option, Some, Result, Ok, Err, sym, ap, ◌∙◌, subst}
 use Rattle.std.specs.Prelude.{if◌then◌else◌, ◌||◌}
 use Rattle.std.specs.List.{fold}
 use Rattle.cas_types.specs.declared.schema.TableSchema.{TableSchema}
+use Rattle.std.proofs.Math.Logic.{∥∥₁_map}
 use Rattle.cas_disk.specs.declared.name.Name.{Name}
+use Rattle.cas_disk.specs.declared.name.Name.TheVariants as file
+use Rattle.cas_atoms.specs.declared.slice.Slice.{Slice}
+use Rattle.cas_laws.specs.Given.{Has}
 use Rattle.cas_atoms.specs.declared.atom.Mutation.{Mutation}
 use Rattle.cas_bind.specs.Meaning.{meaning}
 use Rattle.cas_bind.specs.declared.bound.Bound.{Bound}
@@ -19,15 +23,20 @@ use Rattle.cas_render.specs.declared.reply.Reply.TheVariants as reply
 use Rattle.cas_shard.specs.declared.entry.Entry.{Entry}
 use Rattle.cas_shard.specs.Shards.{ShardHistory}
 use Rattle.cas_sstread.specs.Loading.{Held}
+use Rattle.cas_stored.specs.Reading.{IsBadFile}
+use Rattle.cas_terms.specs.Columns.{table_named}
 use Rattle.cas_view.specs.Views.{File}
 use Rattle.cas_words.specs.declared.words.ClockKind.{ClockKind}
 use Rattle.cas_words.specs.declared.words.ClockKind.TheVariants as clock
+use Rattle.cas_sessions.specs.declared.answer.Fault.{Fault}
+use Rattle.cas_sessions.specs.declared.answer.Fault.TheVariants as fault
+use Rattle.cas_sessions.specs.Flushes.{FlushesNamed, FlushesTable}
 use Rattle.cas_sessions.specs.History.{History, DiskState, Takes, Defines, Shows, Does}
 use Rattle.cas_node.specs.declared.cause.Cause.{Cause}
 use Rattle.cas_node.specs.declared.cause.Cause.TheVariants as cause
-use Rattle.cas_node.specs.Lines.{Answered, Answers, Runs, SetsClock}
+use Rattle.cas_node.specs.Lines.{Answered, Answers, Runs, SetsClock, reply_of_flush}
 use Rattle.cas_node.specs.Ran.{Ended, IfBad, IsBadForOne, RanFrom, Stop, at_the_end, at_the_sink, for_memory, has_risen, reply_cause, with_faults, worse, worst}
-use Rattle.cas_node.proofs.Stopping.{one_line}
+use Rattle.cas_node.proofs.Stopping.{AreMore, one_line}
 
 pub of_both : (P : Cause → Type 0) (b : Bool) (x y : Cause) → P x → P y → P (if b then y else x)
 of_both P true x y p q = q
@@ -43,6 +52,7 @@ module _ (P : Name → ℕ → Type 0) where
   taken segment m x d reply.Done entries e t = absurd t
   taken segment m x d (reply.Wrote number) entries e t = tt
   taken segment m x d (reply.Rows rows shard front now) entries e t = absurd t
+  taken segment m x d (reply.Flushed files) entries e t = absurd t
   taken segment m x d (reply.Refused why) entries e t = tt
   taken segment m x d (reply.Failed failure.Memory) entries e t = tt
   taken segment m x d (reply.Failed failure.Stopped) entries e t = tt
@@ -55,6 +65,7 @@ module _ (P : Name → ℕ → Type 0) where
   defined x old new d reply.Done tables e t = tt
   defined x old new d (reply.Wrote number) tables e t = absurd t
   defined x old new d (reply.Rows rows shard front now) tables e t = absurd t
+  defined x old new d (reply.Flushed files) tables e t = absurd t
   defined x old new d (reply.Refused why) tables e t = tt
   defined x old new d (reply.Failed failure.Memory) tables e t = tt
   defined x old new d (reply.Failed failure.Stopped) tables e t = tt
@@ -62,17 +73,60 @@ module _ (P : Name → ℕ → Type 0) where
   defined x old new d (reply.Failed failure.Read) tables e t = absurd t
   defined x old new d (reply.Failed (failure.Block n at)) tables e t = absurd t
 
+-- a flush blames no file
+flushed : (P : Name → ℕ → Type 0) (h : History) (t : TableSchema) (r : Result (List ℕ) Fault) (after : History) → FlushesTable h t r after
+    → IfBad (reply_cause (Some (reply_of_flush r))) P
+flushed P h t (Ok told) after a = tt
+flushed P h t (Err (fault.Stopped first)) after a = tt
+flushed P h t (Err (fault.Refused why)) after a = tt
+flushed P h t (Err (fault.Disk number)) after a = tt
+flushed P h t (Err fault.Read) after a = tt
+flushed P h t (Err (fault.BadBlock number at)) after a = absurd a.4.1
+flushed P h t (Err fault.Mem) after a = tt
+
+named : (P : Name → ℕ → Type 0) (h : History) (o : Option TableSchema) (r : Result (List ℕ) Fault) (after : History) → FlushesNamed h o r after
+    → IfBad (reply_cause (Some (reply_of_flush r))) P
+named P h None r after a = subst (λ (x : Result (List ℕ) Fault). IfBad (reply_cause (Some (reply_of_flush x))) P) (sym a.0) tt
+named P h (Some t) r after a = flushed P h t r after a
+
 shown : (files : ℕ → ℕ → List (File Held)) (before now : ℕ) (s : ShardHistory) (reading : ℤ) (q : BoundRead) (r : Reply)
     → Shows (files q.shard q.query.table) before now s reading q r → IsSo files (reply_cause (Some r))
 shown files before now s reading q reply.Done t = tt
 shown files before now s reading q (reply.Wrote number) t = tt
 shown files before now s reading q (reply.Rows rows shard front at) t = tt
+shown files before now s reading q (reply.Flushed numbers) t = tt
 shown files before now s reading q (reply.Refused why) t = tt
 shown files before now s reading q (reply.Failed failure.Memory) t = tt
 shown files before now s reading q (reply.Failed failure.Stopped) t = absurd t
 shown files before now s reading q (reply.Failed failure.Disk) t = absurd t
 shown files before now s reading q (reply.Failed failure.Read) t = tt
 shown files before now s reading q (reply.Failed (failure.Block n at)) t = (q.shard, q.query, t)
+
+-- ---- more files
+
+has_front : {X : Type 0} (xs ys : List X) (x : X) → Has xs x → Has (xs ++ ys) x
+has_front [] ys x has = absurd has
+has_front (y ∷ xs) ys x (inl same) = inl same
+has_front (y ∷ xs) ys x (inr more) = inr (has_front xs ys x more)
+
+still_bad : (fs gs : List (File Held)) (key : List ℕ) (s : Slice) (n at : ℕ) → (more : List (File Held)) × (gs ≡ fs ++ more) → IsBadFile fs key s n at → IsBadFile gs key s n at
+still_bad fs gs key s n at (more, are) bad = (bad.0, subst (λ hs. Has hs bad.0) (sym are) (has_front fs more bad.0 bad.1), bad.2)
+
+-- a file that is bad is bad also where there are more
+with_more : (fs gs : ℕ → ℕ → List (File Held)) → AreMore fs gs → (why : Cause) → IsSo fs why → IsSo gs why
+with_more fs gs more cause.Good so = tt
+with_more fs gs more cause.Words so = tt
+with_more fs gs more cause.Refused so = tt
+with_more fs gs more cause.Read so = tt
+with_more fs gs more cause.Write so = tt
+with_more fs gs more cause.Disk so = tt
+with_more fs gs more cause.Mem so = tt
+with_more fs gs more (cause.TooLong taken) so = tt
+with_more fs gs more (cause.Bad (file.Table number) at) so =
+    (so.0, so.1, ∥∥₁_map so.2 (still_bad (fs so.0 so.1.table) (gs so.0 so.1.table) so.1.key so.1.slice number at (more so.0 so.1.table)))
+with_more fs gs more (cause.Bad file.Manifest at) so = so
+with_more fs gs more (cause.Bad (file.Log number) at) so = so
+with_more fs gs more (cause.Bad (file.Import number) at) so = so
 
 -- ---- a line
 
@@ -96,6 +150,7 @@ module _ (kind : ClockKind) (Gives : ℤ → Type 0) where
   answered h line.Blank r t a = quiet h.disk.files r _ a.0 tt
   answered h line.Syntax r t a = quiet h.disk.files r _ a.0 tt
   answered h (line.Clock n) r t a = quiet h.disk.files r _ a.1 (clock_set kind h n a.0 t a.2)
+  answered h (line.Flush name) r t a = quiet h.disk.files r _ a.1 (named (IsBadForOne h.disk.files) h (table_named h.tables name) a.0 t a.2)
   answered h (line.Statement s) r t a = quiet h.disk.files r _ a.1 (deed h (meaning h.limits.shards h.tables s) a.0 t a.2)
 
   told : (h : History) (text : List ℕ) (r : Option Reply) (t : History) → Answers kind Gives h text r t → IsSo h.disk.files (reply_cause r)
@@ -104,14 +159,15 @@ module _ (kind : ClockKind) (Gives : ℤ → Type 0) where
 
   -- ---- a run
 
-  all_told : (files : ℕ → ℕ → List (File Held)) (h : History) (ls : List (List ℕ)) (rs : List (Option Reply)) (t : History) (why : Cause) → h.disk.files ≡ files
-      → Runs kind Gives h ls rs t → IsSo files why → IsSo files (fold (λ c r. worse c (reply_cause r)) why rs)
-  all_told files h [] [] t why same x so = so
-  all_told files h [] (r ∷ rs) t why same x so = absurd x
-  all_told files h (l ∷ ls) [] t why same x so = absurd x
-  all_told files h (l ∷ ls) (r ∷ rs) t why same x so =
-      all_told files x.0 ls rs t (worse why (reply_cause r)) ((one_line kind Gives h l r x.0 x.1).files ∙ same) x.2
-      (of_both (IsSo files) _ why (reply_cause r) so (subst (λ fs. IsSo fs (reply_cause r)) same (told h l r x.0 x.1)))
+  all_told : (h : History) (ls : List (List ℕ)) (rs : List (Option Reply)) (t : History) (why : Cause) → Runs kind Gives h ls rs t → IsSo h.disk.files why
+      → IsSo t.disk.files (fold (λ c r. worse c (reply_cause r)) why rs)
+  all_told h [] [] t why x so = subst (λ (k : History). IsSo k.disk.files why) (sym x) so
+  all_told h [] (r ∷ rs) t why x so = absurd x
+  all_told h (l ∷ ls) [] t why x so = absurd x
+  all_told h (l ∷ ls) (r ∷ rs) t why x so =
+      all_told x.0 ls rs t (worse why (reply_cause r)) x.2
+      (with_more h.disk.files x.0.disk.files (one_line kind Gives h l r x.0 x.1).files (worse why (reply_cause r))
+      (of_both (IsSo h.disk.files) _ why (reply_cause r) so (told h l r x.0 x.1)))
 
   ended : (files : ℕ → ℕ → List (File Held)) (s : Stop) (rest : List (List ℕ)) (old new : Option (List ℕ)) (replies : List (Option Reply)) (why : Cause)
       → Ended s rest old new replies why → IsSo files (worst replies) → IsSo files why
@@ -119,10 +175,11 @@ module _ (kind : ClockKind) (Gives : ℤ → Type 0) where
   ended files at_the_sink rest old new replies why e so = subst (IsSo files) (sym e.told) (of_both (IsSo files) _ (worst replies) cause.Write so tt)
   ended files for_memory rest old new replies why e so = subst (IsSo files) (sym e.told) tt
 
-  -- where the run ends for a file, that is bad as it stood at the beginning
-  pub blamed : (files : ℕ → ℕ → List (File Held)) (first : History) (script : List ℕ) (old new : Option (List ℕ)) (final : History) (by why : Cause) (before now reads : ℕ)
-      → first.disk.files ≡ files → RanFrom first kind Gives script old new final by → why ≡ with_faults before now reads by → IfBad why (IsBadForOne files)
-  blamed files first script old new final by why before now reads same ran is =
-      let at_end : IsSo files by = ended files ran.stop ran.rest old new ran.replies by ran.ended (all_told files first ran.run ran.replies final cause.Good same ran.steps tt) in
+  -- where the run ends for a file, that is bad, of those that there were at its end
+  pub blamed : (first : History) (script : List ℕ) (old new : Option (List ℕ)) (final : History) (by why : Cause) (before now reads : ℕ)
+      → RanFrom first kind Gives script old new final by → why ≡ with_faults before now reads by → IfBad why (IsBadForOne final.disk.files)
+  blamed first script old new final by why before now reads ran is =
+      let files = final.disk.files in
+      let at_end : IsSo files by = ended files ran.stop ran.rest old new ran.replies by ran.ended (all_told first ran.run ran.replies final cause.Good ran.steps tt) in
       subst (IsSo files) (sym is)
       (of_both (IsSo files) (has_risen before now || has_risen 0 reads) by (worse by cause.Disk) at_end (of_both (IsSo files) _ by cause.Disk at_end tt))

@@ -1,6 +1,7 @@
 mod Answered
 mod Stopping
 mod Blaming
+mod Numbered
 mod Staying
 mod RunLemmas
 mod NumbersRise

@@ -1,5 +1,5 @@
 -- Along a run the mutations of each shard are numbered upwards.
-use Rattle.std.proofs.Common.{◌≡◌, ◌≤◌, ◌<◌, ◌+◌, inl, inr, ⊎_elim, ℕ, zero, suc, ℤ, List, [], ◌∷◌, ◌++◌, length, map, refl, sym, ap, ◌∙◌, subst, arith, append-nil, Option, Result, Ok, Err}
+use Rattle.std.proofs.Common.{◌≡◌, ◌≤◌, ◌<◌, ◌+◌, inl, inr, ⊎_elim, ℕ, zero, suc, ℤ, List, [], ◌∷◌, ◌++◌, length, map, refl, sym, ap, ◌∙◌, subst, arith, append-nil, Option, None, Some, Result, Ok, Err}
 use Rattle.std.specs.Prelude.{slice_set, slice_index_or, ◌⊎◌}
 use Rattle.cas_history.specs.Hands.{numbers}
 use Rattle.cas_atoms.specs.declared.atom.Mutation.{Mutation}
@@ -25,6 +25,11 @@ use Rattle.cas_shard.specs.Stands.{NumbersRise}
 use Rattle.cas_shard.proofs.Numbering.{all_stand, one_entered}
 use Rattle.cas_words.specs.declared.words.ClockKind.{ClockKind}
 use Rattle.cas_words.specs.declared.words.ClockKind.TheVariants as clock
+use Rattle.cas_terms.specs.Columns.{table_named}
+use Rattle.cas_types.specs.declared.schema.TableSchema.{TableSchema}
+use Rattle.cas_sessions.specs.declared.answer.Fault.{Fault}
+use Rattle.cas_sessions.specs.declared.answer.Fault.TheVariants as fault
+use Rattle.cas_sessions.specs.Flushes.{FlushesNamed, FlushesTable}
 use Rattle.cas_sessions.specs.History.{History, DiskState, Does, Takes, shard_at, after_entries, with_shard}
 use Rattle.cas_node.specs.Lines.{SetsClock, Answered, Answers}
 use Rattle.cas_recovery.specs.Found.{AreOfAStore}
@@ -65,6 +70,7 @@ module _ (reading : ℤ) (s : ShardHistory) (session call : ℕ) (m : Mutation) 
   taken segment d reply.Done entries e t = absurd t
   taken segment d (reply.Wrote number) entries e t = one entries t.2
   taken segment d (reply.Rows rows shard front now) entries e t = absurd t
+  taken segment d (reply.Flushed files) entries e t = absurd t
   taken segment d (reply.Refused why) entries e t = none entries t.1
   taken segment d (reply.Failed failure.Memory) entries e t = none entries t.0
   taken segment d (reply.Failed failure.Stopped) entries e t = none entries t.1
@@ -103,10 +109,28 @@ does_keeps kind Gives h (Ok (bound.Read q)) r t a all =
     subst AllRise (sym after)
     (shard_keeps h q.shard (after_entries reading [] (shard_at h q.shard)) all (raised_rise (shard_at h q.shard) (moment_at reading (shard_at h q.shard)) (all q.shard)))
 
+-- a flush enters nothing
+begun_keeps : (h t : History) (e : DiskState) → t ≡ record h { disk = e } → AllRise h → AllRise t
+begun_keeps h t e same all = subst AllRise (sym same) all
+
+flush_keeps : (h : History) (x : TableSchema) (r : Result (List ℕ) Fault) (t : History) → FlushesTable h x r t → AllRise h → AllRise t
+flush_keeps h x (Ok told) t a all = begun_keeps h t a.1 a.5 all
+flush_keeps h x (Err (fault.Stopped first)) t a all = subst AllRise (sym a.1) all
+flush_keeps h x (Err (fault.Refused why)) t a all = begun_keeps h t a.1 a.5 all
+flush_keeps h x (Err (fault.Disk number)) t a all = begun_keeps h t a.1 a.5 all
+flush_keeps h x (Err fault.Read) t a all = begun_keeps h t a.1 a.5 all
+flush_keeps h x (Err (fault.BadBlock number at)) t a all = begun_keeps h t a.1 a.5 all
+flush_keeps h x (Err fault.Mem) t a all = begun_keeps h t a.1 a.5 all
+
+named_keeps : (h : History) (o : Option TableSchema) (r : Result (List ℕ) Fault) (t : History) → FlushesNamed h o r t → AllRise h → AllRise t
+named_keeps h None r t a all = subst AllRise (sym a.1) all
+named_keeps h (Some x) r t a all = flush_keeps h x r t a all
+
 answered_keeps : (kind : ClockKind) (Gives : ℤ → Type 0) (h : History) (l : Line) (r : Option Reply) (t : History) → Answered kind Gives h l r t → AllRise h → AllRise t
 answered_keeps kind Gives h line.Blank r t a all = subst AllRise (sym a.1) all
 answered_keeps kind Gives h line.Syntax r t a all = subst AllRise (sym a.1) all
 answered_keeps kind Gives h (line.Clock n) r t a all = sets_keeps kind h n a.0 t a.2 all
+answered_keeps kind Gives h (line.Flush name) r t a all = named_keeps h (table_named h.tables name) a.0 t a.2 all
 answered_keeps kind Gives h (line.Statement s) r t a all = does_keeps kind Gives h (meaning h.limits.shards h.tables s) a.0 t a.2 all
 
 answer_keeps : (kind : ClockKind) (Gives : ℤ → Type 0) (h : History) (text : List ℕ) (r : Option Reply) (t : History) → Answers kind Gives h text r t → AllRise h → AllRise t

@@ -45,13 +45,14 @@ use Rattle.cas_node.specs.declared.cause.Cause.{Cause}
 use Rattle.cas_node.specs.declared.cause.Cause.TheVariants as cause
 use Rattle.cas_node.specs.declared.program.TheConstants.{SCRIPT_LIMIT}
 use Rattle.cas_sessions.specs.History.{History, DiskState}
-use Rattle.cas_node.specs.Lines.{Runs}
+use Rattle.cas_node.specs.Lines.{NoneFlushes, Runs, Tells}
 use Rattle.cas_sstread.specs.Loading.{Held}
 use Rattle.cas_view.specs.Views.{File}
 use Rattle.cas_sessions.specs.Starts.{AreItsFiles, Begins, start, BeginsAs, IsInMemory, IsOpenedAs, IsStarted}
-use Rattle.cas_node.specs.Ran.{AllWell, AreGood, Ended, GoodOrMem, IfBad, IfUnread, IsBadForOne, IsGranted, IsNotRun, Outside, Ran, RanAll, RanFrom, RanOn, Stop, WriteRose}
+use Rattle.cas_node.specs.Ran.{AllWell, AreGood, Ended, GoodOrMem, IfBad, IfUnread, IsBadForOne, IsGranted, IsKnown, IsNotRun, Outside, Ran, RanAll, RanFrom, RanOn, StaysGood}
+use Rattle.cas_node.specs.Ran.{Stop, WriteRose}
 use Rattle.cas_node.specs.Ran.{at_the_end, at_the_sink, for_memory, has_risen, reply_cause, weight, with_faults, worse, worst}
-use Rattle.cas_node.specs.Inner.Serving.{EndsServed, Served, Serves}
+use Rattle.cas_node.specs.Inner.Serving.{EndsServed, IsKnownIn, Served, Serves}
 use Rattle.cas_sessions.specs.Entered.{IsLeft}
 use Rattle.cas_sessions.specs.Listing.{KeepsListing, SameListed}
 use Rattle.cas_sessions.specs.Numbering.{NumbersOn}
@@ -60,24 +61,24 @@ use Rattle.cas_sessions.proofs.Next.{left_explains}
 use Rattle.cas_node.specs.Inner.Turns.{cause_of_opening, IsEnd}
 use Rattle.cas_sessions.specs.Nodes.{State, StandsFor, LastsFor, disk_of, files_in, Moves}
 use Rattle.cas_node.proofs.Blaming.{blamed, of_both}
-use Rattle.cas_node.proofs.Staying.{from_before, front_numbers, nothing_accepted, numbered}
+use Rattle.cas_node.proofs.Staying.{AreUpTo, from_before, front_numbers, nothing_accepted, numbered}
 use Rattle.cas_node.proofs.Stopping.{stop_is_counted}
 
 -- ---- what was served
 
 module _ (kind : ClockKind) (Gives : ℤ → Type 0) (script : List ℕ) (old new : Option (List ℕ)) (s t : State) (d e : Disk) (faults_before : ℕ) (told why : Cause)
-    (moves : Moves (λ h after. RanFrom h kind Gives script old new after told) s t d e) (l : Limits) (tables : List TableSchema) (shards : List ShardState) (last live : ℕ) (journal : Journal)
+    (moves : IsKnownIn d script → Moves (λ h after. RanFrom h kind Gives script old new after told) s t d e) (l : Limits) (tables : List TableSchema) (shards : List ShardState) (last live : ℕ) (journal : Journal)
     (faults reads : ℕ) (opened : IsOpenedAs l tables shards journal faults reads s)
     (begins : (given : Limits) (entries : List ManifestEntry) (mutations : List Mutation) (openings : ℕ → ShardOpening)
     → IsInMemory given entries mutations openings l tables shards last live → BeginsAs given entries mutations openings d s)
     (going : journal.first ≡ None) (ended : why ≡ with_faults faults_before t.faults t.reads told)
     (left : (h : History) (found : List Mutation) (u : Told) → StandsFor h t → LastsFor h found t e u → (i : Image) → e.may_leave i → IsLeft found t.list h i)
-    (lists : KeepsListing s d e) (numbers : NumbersOn s t) where
+    (lists : NoneFlushes (lines script) → KeepsListing s d e) (numbers : NumbersOn s t) where
   of_store : (given : Limits) (entries : List ManifestEntry) (mutations : List Mutation) (openings : ℕ → ShardOpening)
       → IsInMemory given entries mutations openings l tables shards last live → BeginsAs given entries mutations openings d s → journal.last_segment ≤ next_segment entries
-      → Served kind Gives script old new given entries mutations openings (files_in shards) journal d e faults_before faults t.faults t.reads t.list why
-  of_store given entries mutations openings memory first segment =
-      let (after, ran, goes) = moves (start given entries openings s.session (disk_of s)) first.stands in
+      → IsKnownIn d script → Served kind Gives script old new given entries mutations openings (files_in shards) journal d e faults_before faults t.faults t.reads t.list why
+  of_store given entries mutations openings memory first segment known =
+      let (after, ran, goes) = moves known (start given entries openings s.session (disk_of s)) first.stands in
       record {
         first = start given entries openings s.session (disk_of s);
         begins = record {
@@ -96,8 +97,8 @@ module _ (kind : ClockKind) (Gives : ℤ → Type 0) (script : List ℕ) (old ne
         crash = λ u is lasts i leaves.
             let (now, still) = goes.lasts mutations u (first.lasts u is (subst (λ (j : Journal). Lasts j d u) (sym opened.journal_is) lasts)) in
             left after mutations now goes.stands still i leaves;
-        lists = λ u is lasts.
-            lists (start given entries openings s.session (disk_of s)) mutations u first.stands
+        lists = λ none u is lasts.
+            lists none (start given entries openings s.session (disk_of s)) mutations u first.stands
             (first.lasts u is (subst (λ (j : Journal). Lasts j d u) (sym opened.journal_is) lasts));
         numbers = λ u is lasts n low.
             let began = first.lasts u is (subst (λ (j : Journal). Lasts j d u) (sym opened.journal_is) lasts) in
@@ -111,10 +112,10 @@ module _ (kind : ClockKind) (Gives : ℤ → Type 0) (script : List ℕ) (old ne
   serves : (pass : Option (List (Item Event))) → IsSome pass → IfSome pass (λ p. p ≡ t.list)
       → Serves kind Gives script old new l tables shards last live journal d faults faults_before e t.faults t.reads pass why
   serves None some is = absurd cc
-  serves (Some items) some is = λ given entries mutations openings memory segment.
+  serves (Some items) some is = λ given entries mutations openings memory segment known.
       subst
       (λ (xs : List (Item Event)). Served kind Gives script old new given entries mutations openings (files_in shards) journal d e faults_before faults t.faults t.reads xs why)
-      (sym is) (of_store given entries mutations openings memory (begins given entries mutations openings memory) segment)
+      (sym is) (of_store given entries mutations openings memory (begins given entries mutations openings memory) segment known)
 
   -- also where the disks and the counts of faults are called otherwise
   pub serves_as : (before after : Disk) (now read : ℕ) (pass : Option (List (Item Event))) → d ≡ before → e ≡ after → t.faults ≡ now → t.reads ≡ read → IsSome pass
@@ -175,7 +176,9 @@ module _ (words : List (List ℕ)) (Gives : ℤ → Type 0) (before after : Outs
     (last live : ℕ) (journal : Journal) (mid : Disk) (faults reads : ℕ) (why : Cause) (said : command_of words ≡ Some c) (read : ReadToEnd before.left after.left script)
     (started : IsStarted c.limits limits tables shards last live journal before.folder mid) (kept : before.folder_faults ≤ faults) (n : ℕ) (counted : n ≡ before.folder_faults)
     (stay : (d : Image) → before.folder.reads d → IsOfBytes d → (entries : List ManifestEntry) (mutations : List Mutation) → OpensAs c.limits.shards entries mutations d
-    → During (SameListed entries) before.folder after.folder) where
+    → AreUpTo last entries → During (SameListed entries) before.folder after.folder)
+    (telling : (d : Image) → before.folder.reads d → IsOfBytes d → (entries : List ManifestEntry) (mutations : List Mutation) → OpensAs c.limits.shards entries mutations d
+    → Tells mid) where
   module _ (entries : List ManifestEntry) (openings : ℕ → ShardOpening) (files : ℕ → ℕ → List (File Held)) (h : History) (begins : Begins c.limits entries openings files faults h) where
     earlier : Begins c.limits entries openings files before.folder_faults h
     earlier = record {
@@ -197,9 +200,6 @@ module _ (words : List (List ℕ)) (Gives : ℤ → Type 0) (before after : Outs
     counted_from : before.folder_faults ≤ h.disk.faults
     counted_from = omega (arith, kept, begins.faults, ap (λ (d : DiskState). d.faults) at_first)
 
-    its : h.disk.files ≡ files
-    its = ap (λ (d : DiskState). d.files) at_first ∙ begins.files_are
-
   of_served : (list : List (Item Event)) (entries : List ManifestEntry) (mutations : List Mutation) (openings : ℕ → ShardOpening) (files : ℕ → ℕ → List (File Held))
       → ((image : Image) → before.folder.reads image → IsOfBytes image → (t : Told) × IsTold entries mutations t × Lasts journal mid t)
       → AreOfAStore entries mutations → AreOpenings entries mutations before.folder openings
@@ -217,10 +217,10 @@ module _ (words : List (List ℕ)) (Gives : ℤ → Type 0) (before after : Outs
         ran = served.ran;
         entered = served.entered;
         crash = λ image reads bytes i left. let (t, told, still) = lasts image reads bytes in served.crash t told still i left;
-        lists = λ image reads bytes i left.
+        lists = λ none image reads bytes i left.
             let (t, told, still) = lasts image reads bytes in
-            lists_since journal mid after.folder t entries mutations told still (served.lists t told still) i left;
-        next = λ image reads bytes i left its_bytes.
+            lists_since journal mid after.folder t entries mutations told still (served.lists none t told still) i left;
+        next = λ none image reads bytes i left its_bytes.
             let (t, told, still) = lasts image reads bytes in
             let crash = served.crash t told still i left in
             let (b, was, alike) = from_before entries before.folder after.folder (same image reads bytes) i left in
@@ -228,7 +228,7 @@ module _ (words : List (List ℕ)) (Gives : ℤ → Type 0) (before after : Outs
               left = crash;
               next =
                   left_explains before.folder entries mutations openings list served.final b i store are was alike
-                  (lists_since journal mid after.folder t entries mutations told still (served.lists t told still) i left) crash its_bytes
+                  (lists_since journal mid after.folder t entries mutations told still (served.lists none t told still) i left) crash its_bytes
                   (λ n low nil. front_numbers n (openings n).number (accepted_in list) crash.count (served.numbers t told still n low));
             };
         faults = served.faults;
@@ -237,10 +237,18 @@ module _ (words : List (List ℕ)) (Gives : ℤ → Type 0) (before after : Outs
             stop_is_counted c.clock Gives served.first served.ran.run served.ran.replies served.final before.folder_faults after.folder_faults served.ran.steps
             (not_stopped entries openings files served.first served.begins) (counted_from entries openings files served.first served.begins) served.faults;
         bad =
-            blamed c.clock Gives files served.first script before.taken after.taken served.final served.told why before.folder_faults after.folder_faults reads
-            (its entries openings files served.first served.begins) served.ran ended;
+            blamed c.clock Gives served.first script before.taken after.taken served.final served.told why before.folder_faults after.folder_faults reads served.ran ended;
         ended = ended;
       }
+
+  -- what the folder tells as it was found, it tells of the store that was opened
+  known_in : IsKnown before.folder script → IsKnownIn mid script
+  known_in (inl (d, reads, bytes)) = inl (telling d reads bytes started.back.entries started.back.mutations (started.back.found.told d reads bytes))
+  known_in (inr none) = inr none
+
+  listed_on : (d : Image) → before.folder.reads d → IsOfBytes d → During (SameListed started.back.entries) before.folder after.folder
+  listed_on d reads bytes =
+      stay d reads bytes started.back.entries started.back.mutations (started.back.found.told d reads bytes) started.back.behind.numbers
 
   ran_over : (list : List (Item Event))
       → Serves c.clock Gives script before.taken after.taken limits tables shards last live journal mid faults n after.folder after.folder_faults reads (Some list) why
@@ -251,11 +259,10 @@ module _ (words : List (List ℕ)) (Gives : ℤ → Type 0) (before after : Outs
     found = started.back.found;
     files = files_in shards;
     its_files = started.files;
-    tables = λ d reads bytes. stay d reads bytes started.back.entries started.back.mutations (started.back.found.told d reads bytes);
-    on = λ openings are.
+    tables = listed_on;
+    on = λ openings are known.
         of_served list started.back.entries started.back.mutations openings (files_in shards) started.back.lasts started.back.found.of_a_store are
-        (λ d reads bytes. stay d reads bytes started.back.entries started.back.mutations (started.back.found.told d reads bytes))
-        (serves c.limits started.back.entries started.back.mutations openings (started.memory openings are) started.back.segment);
+        listed_on (serves c.limits started.back.entries started.back.mutations openings (started.memory openings are) started.back.segment (known_in known));
   }
 
   pub ran_all : (pass : Option (List (Item Event))) → length script ≤ SCRIPT_LIMIT
@@ -392,6 +399,7 @@ of_reply None = tt
 of_reply (Some reply.Done) = tt
 of_reply (Some (reply.Wrote n)) = tt
 of_reply (Some (reply.Rows rows shard front now)) = tt
+of_reply (Some (reply.Flushed files)) = tt
 of_reply (Some (reply.Refused n)) = tt
 of_reply (Some (reply.Failed failure.Memory)) = tt
 of_reply (Some (reply.Failed failure.Stopped)) = tt
@@ -479,8 +487,12 @@ module _ (words : List (List ℕ)) (Gives : ℤ → Type 0) (before after : Outs
       subst (λ (k : Command). IsGranted ran.first k.clock Gives script) same
       (subst (λ (l : List ℕ). IsGranted ran.first well.command.clock Gives l) (sym text) (well.granted files its_own ran.first begun)) in
       let is : why ≡ ran.told = ran.ended ∙ calm before.folder_faults after.folder_faults reads ran.told well.no_folder_fault well.no_table_fault in
-      let sound : IfBad ran.told (λ name at. ⊥) = subst (λ (w : Cause). IfBad w (λ name at. ⊥)) is (none_blamed files why (well.good files its_own) ran.bad) in
       let r = ran.ran in
+      let stays : StaysGood ran.first c.clock Gives script =
+      subst (λ (k : Command). StaysGood ran.first k.clock Gives script) same
+      (subst (λ (l : List ℕ). StaysGood ran.first well.command.clock Gives l) (sym text) (well.good files its_own ran.first begun)) in
+      let good : AreGood ran.final.disk.files = stays r.run r.rest r.replies ran.final r.cut r.steps in
+      let sound : IfBad ran.told (λ name at. ⊥) = subst (λ (w : Cause). IfBad w (λ name at. ⊥)) is (none_blamed ran.final.disk.files why good ran.bad) in
       subst GoodOrMem (sym is)
       (stops_well ran.first c.clock Gives script before.taken after.taken ran.final ran.told granted (λ e. well.no_write_fault (write (is ∙ e))) sound r.stop r.run r.rest r.replies r.cut
       r.steps r.ended)
@@ -493,20 +505,22 @@ module _ (words : List (List ℕ)) (Gives : ℤ → Type 0) (before after : Outs
       subst (λ (es : List ManifestEntry). AreOpenings es ran.mutations before.folder well.openings) (sym one.0)
       (subst (λ (ms : List Mutation). AreOpenings well.entries ms before.folder well.openings) (sym one.1) well.explained) in
       ran_on_well script list why ran.entries ran.mutations ran.files one.0 (all_read before.left after.left well.script script well.told read) ran.its_files
-      (ran.on well.openings explained) write
+      (ran.on well.openings explained (inl (well.image, well.reads, well.of_bytes))) write
 
   pub ends_well : (script : List ℕ) (limits : Limits) (tables : List TableSchema) (shards : List ShardState) (last live : ℕ) (journal : Journal) (mid : Disk)
       (faults : ℕ) (pass : Option (List (Item Event))) (why : Cause) → ReadToEnd before.left after.left script
       → IsStarted c.limits limits tables shards last live journal before.folder mid → before.folder_faults ≤ faults
       → (n : ℕ) → n ≡ before.folder_faults
       → ((d : Image) → before.folder.reads d → IsOfBytes d → (entries : List ManifestEntry) (mutations : List Mutation) → OpensAs c.limits.shards entries mutations d
-      → During (SameListed entries) before.folder after.folder)
+      → AreUpTo last entries → During (SameListed entries) before.folder after.folder)
+      → ((d : Image) → before.folder.reads d → IsOfBytes d → (entries : List ManifestEntry) (mutations : List Mutation) → OpensAs c.limits.shards entries mutations d
+      → Tells mid)
       → Serves c.clock Gives script before.taken after.taken limits tables shards last live journal mid faults n after.folder after.folder_faults reads pass why
       → (why ≡ cause.Write → WriteRose before after) → GoodOrMem why
-  ends_well script limits tables shards last live journal mid faults None why read started kept n counted stay serves write = inr serves
-  ends_well script limits tables shards last live journal mid faults (Some list) why read started kept n counted stay serves write =
+  ends_well script limits tables shards last live journal mid faults None why read started kept n counted stay telling serves write = inr serves
+  ends_well script limits tables shards last live journal mid faults (Some list) why read started kept n counted stay telling serves write =
       ran_well script list why read
-      (ran_over words Gives before after c script limits tables shards last live journal mid faults reads why said read started kept n counted stay list serves) write
+      (ran_over words Gives before after c script limits tables shards last live journal mid faults reads why said read started kept n counted stay telling list serves) write
 
   readable : (name : Name) (at : ℕ) → IsUnreadable c.limits.shards before.folder name at well.image → ⊥
   readable name at (inl refused) = opens_not_bad well.image well.of_bytes c.limits.shards well.entries well.mutations opens name at refused

@@ -1,7 +1,7 @@
 -- A session up to some line.
-use Rattle.std.proofs.Common.{◌≡◌, ℕ, ℤ, length, Bool, true, false, Option, None, Some, List, [], ◌∷◌, ◌++◌, codes, refl, sym, ap, ◌∙◌, subst, append_assoc, append-nil, arith}
+use Rattle.std.proofs.Common.{◌≡◌, inl, inr, ℕ, ℤ, length, Bool, true, false, Option, None, Some, List, [], ◌∷◌, ◌++◌, codes, refl, sym, ap, ◌∙◌, subst, append_assoc, append-nil, arith}
 use Rattle.std.proofs.lemmas.Bool.Decides.{nat_tests}
-use Rattle.std.specs.Prelude.{◌==◌, if◌then◌else◌}
+use Rattle.std.specs.Prelude.{◌==◌, ◌⊎◌, if◌then◌else◌}
 use Rattle.std.specs.Str.Lines.{lines}
 use Rattle.std.specs.Io.KnownBytes.{Appends, Keeps}
 use Rattle.std.proofs.KnownBytes.{Appends-trans, Appends-nil}
@@ -17,9 +17,9 @@ use Rattle.cas_node.specs.declared.cause.Cause.{Cause}
 use Rattle.cas_node.specs.declared.cause.Cause.TheVariants as cause
 use Rattle.cas_node.specs.declared.script.PrintFault.{PrintFault}
 use Rattle.cas_node.specs.declared.script.PrintFault.TheVariants as print
-use Rattle.cas_disk.specs.Disk.{Disk}
+use Rattle.cas_disk.specs.Disk.{Disk, During, Image}
 use Rattle.cas_sessions.specs.History.{History}
-use Rattle.cas_node.specs.Lines.{Answers, Runs}
+use Rattle.cas_node.specs.Lines.{Answers, FlushesNone, NoneFlushes, Runs, Tells}
 use Rattle.cas_node.specs.Text.{output, line_text}
 use Rattle.cas_node.specs.Ran.{RanFrom, reply_cause, worse, worst, at_the_end, at_the_sink, for_memory}
 use Rattle.cas_sessions.specs.Listing.{KeepsListing}
@@ -27,6 +27,7 @@ use Rattle.cas_sessions.specs.Nodes.{State, GoesOnTo, Moves}
 use Rattle.cas_sessions.specs.Numbering.{NumbersOn}
 use Rattle.cas_sessions.proofs.Going.{numbers_more, numbers_none}
 use Rattle.cas_sessions.proofs.Listing.{listing_twice, lists_nothing}
+use Rattle.cas_node.specs.Inner.Serving.{IsKnownIn}
 use Rattle.cas_node.specs.Inner.Turns.{IsEnd, IsToldSo, Turned, Printed, PrintedReply, StopsFor}
 
 -- ---- text
@@ -51,6 +52,7 @@ reply_told None = tt
 reply_told (Some reply.Done) = tt
 reply_told (Some (reply.Wrote n)) = tt
 reply_told (Some (reply.Rows rows shard front now)) = tt
+reply_told (Some (reply.Flushed files)) = tt
 reply_told (Some (reply.Refused n)) = tt
 reply_told (Some (reply.Failed failure.Memory)) = tt
 reply_told (Some (reply.Failed failure.Stopped)) = tt
@@ -100,6 +102,10 @@ kept None mid new bytes a k = tt
 kept (Some xs) None new bytes a k = absurd a
 kept (Some xs) (Some ys) None bytes a k = absurd k
 kept (Some xs) (Some ys) (Some zs) bytes a k = k ∙ a
+
+-- a folder that told what is read of it tells it still
+pub tells_on : (step : Image → Image → Type 0) (d e : Disk) → During step d e → Tells d → Tells e
+tells_on step d e call (c, reads) = call.tells c reads
 
 -- the lines up to a place were run one after another, and their replies are written
 pub record SoFar (kind : ClockKind) (Gives : ℤ → Type 0) (first : History) (script rest : List ℕ) (old new : Option (List ℕ)) (now : History) (why : Cause) : Type 0 where
@@ -220,22 +226,35 @@ module _ (kind : ClockKind) (Gives : ℤ → Type 0) where
 
   -- ---- of a store
 
-  -- from whichever history the store stood for, the lines so far were run, the manifest lists the table files that it listed, and the
-  -- mutations are numbered on
-  abbrev pub AllSoFar : State → State → Disk → Disk → List ℕ → List ℕ → Option (List ℕ) → Option (List ℕ) → Cause → Type 0
-  AllSoFar s t old new script rest out now why =
-      Moves (λ h after. SoFar kind Gives h script rest out now after why) s t old new × KeepsListing s old new × NumbersOn s t
+  -- From whichever history the store stood for, the lines so far were run, where what the script's flushes write is known; the mutations are numbered on;
+  -- and of lines that flush no table none is left that does, and the manifest lists the table files that it listed.
+  pub record AllSoFar (s t : State) (old new : Disk) (script rest : List ℕ) (out now : Option (List ℕ)) (why : Cause) : Type 0 where
+    pub ran : IsKnownIn old script → Moves (λ h after. SoFar kind Gives h script rest out now after why) s t old new
+    pub lists : NoneFlushes (lines script) → KeepsListing s old new
+    pub numbers : NumbersOn s t
+    pub left : NoneFlushes (lines script) → NoneFlushes (lines rest)
 
   pub all_so_far_none : (s : State) (d : Disk) (script : List ℕ) (out : Option (List ℕ)) → AllSoFar s s d d script script out out cause.Good
-  all_so_far_none s d script out = (
-    λ h stands. (
+  all_so_far_none s d script out = record {
+    ran = λ known h stands. (
       h,
       record { run = []; replies = []; cut = refl; steps = refl; written = Appends-nil out; told = refl },
       record { stands = stands; lasts = λ found told lasts. (told, lasts) },
-    ),
-    lists_nothing s d,
-    numbers_none s s refl refl,
-  )
+    );
+    lists = λ none. lists_nothing s d;
+    numbers = numbers_none s s refl refl;
+    left = λ none. none;
+  }
+
+  -- the next line flushes no table, and neither do those behind it
+  none_next : (rest after line : List ℕ) → lines rest ≡ line ∷ lines after → NoneFlushes (lines rest) → FlushesNone line × NoneFlushes (lines after)
+  none_next rest after line cut none = subst NoneFlushes cut none
+
+  -- what it writes is known, if it does
+  pub known_next : (s t : State) (d e : Disk) (script rest after line : List ℕ) (out now : Option (List ℕ)) (why : Cause) → AllSoFar s t d e script rest out now why
+      → lines rest ≡ line ∷ lines after → (Tells d → Tells e) → IsKnownIn d script → Tells e ⊎ FlushesNone line
+  known_next s t d e script rest after line out now why so cut tells (inl known) = inl (tells known)
+  known_next s t d e script rest after line out now why so cut tells (inr none) = inr (none_next rest after line cut (so.left none)).0
 
   on_from : (h k l : History) (s t u : State) (d e f : Disk) → GoesOnTo h k s t d e → GoesOnTo k l t u e f → GoesOnTo h l s u d f
   on_from h k l s t u d e f one two = record {
@@ -246,37 +265,39 @@ module _ (kind : ClockKind) (Gives : ℤ → Type 0) where
   }
 
   -- so far the manifest lists the same table files, and so it does through one turn more
-  pub lists_more : (s t : State) (d e f : Disk) (script rest : List ℕ) (out now : Option (List ℕ)) (why : Cause) → AllSoFar s t d e script rest out now why
-      → KeepsListing t e f → KeepsListing s d f
-  lists_more s t d e f script rest out now why so more h found told stands lasts =
-      let (k, ran, goes) = so.0 h stands in
+  pub lists_more : (s t : State) (d e f : Disk) (script rest after line : List ℕ) (out now : Option (List ℕ)) (why : Cause) → AllSoFar s t d e script rest out now why
+      → lines rest ≡ line ∷ lines after → (FlushesNone line → KeepsListing t e f) → NoneFlushes (lines script) → KeepsListing s d f
+  lists_more s t d e f script rest after line out now why so cut more none h found told stands lasts =
+      let (k, ran, goes) = so.ran (inr none) h stands in
       let (later, still) = goes.lasts found told lasts in
-      listing_twice d e f (so.1 h found told stands lasts) (more k found later goes.stands still)
+      listing_twice d e f (so.lists none h found told stands lasts) (more (none_next rest after line cut (so.left none)).0 k found later goes.stands still)
 
   pub all_so_far_more : (s t u : State) (d e f : Disk) (script rest after line : List ℕ) (out mid now : Option (List ℕ)) (before x why : Cause) (fault : Option PrintFault)
-      → AllSoFar s t d e script rest out mid before → lines rest ≡ line ∷ lines after
-      → Moves (λ h after. Turned kind Gives h line after mid now x fault) t u e f
-      → KeepsListing t e f → NumbersOn t u → fault ≡ None → why ≡ worse before x → AllSoFar s u d f script after out now why
-  all_so_far_more s t u d e f script rest after line out mid now before x why fault so cut turn lists numbers none told = (
-    λ h stands.
-        let (k, far, one) = so.0 h stands in
-        let (l, turned, two) = turn k one.stands in
-        (l, so_far_more h script rest after line out mid now k l before x why fault far cut turned none told, on_from h k l s t u d e f one two),
-    lists_more s t d e f script rest out mid before so lists,
-    numbers_more s t u so.2 numbers,
-  )
+      → AllSoFar s t d e script rest out mid before → lines rest ≡ line ∷ lines after → (Tells d → Tells e)
+      → (Tells e ⊎ FlushesNone line → Moves (λ h after. Turned kind Gives h line after mid now x fault) t u e f)
+      → (FlushesNone line → KeepsListing t e f) → NumbersOn t u → fault ≡ None → why ≡ worse before x → AllSoFar s u d f script after out now why
+  all_so_far_more s t u d e f script rest after line out mid now before x why fault so cut tells turn lists numbers none told = record {
+    ran = λ known h stands.
+        let (k, far, one) = so.ran known h stands in
+        let (l, turned, two) = turn (known_next s t d e script rest after line out mid before so cut tells known) k one.stands in
+        (l, so_far_more h script rest after line out mid now k l before x why fault far cut turned none told, on_from h k l s t u d e f one two);
+    lists = lists_more s t d e f script rest after line out mid before so cut lists;
+    numbers = numbers_more s t u so.numbers numbers;
+    left = λ quiet. (none_next rest after line cut (so.left quiet)).1;
+  }
 
   pub all_ran_cut : (s t u : State) (d e f : Disk) (script rest after line : List ℕ) (out mid now : Option (List ℕ)) (before x sofar why : Cause) (whole : Option PrintFault)
-      (fault : PrintFault) → AllSoFar s t d e script rest out mid before → lines rest ≡ line ∷ lines after
-      → Moves (λ h after. Turned kind Gives h line after mid now x whole) t u e f
-      → whole ≡ Some fault → sofar ≡ worse before x → StopsFor fault sofar why → Moves (λ h after. RanFrom h kind Gives script out now after why) s u d f
-  all_ran_cut s t u d e f script rest after line out mid now before x sofar why whole fault so cut turn some told ends h stands =
-      let (k, far, one) = so.0 h stands in
-      let (l, turned, two) = turn k one.stands in
+      (fault : PrintFault) → AllSoFar s t d e script rest out mid before → lines rest ≡ line ∷ lines after → (Tells d → Tells e)
+      → (Tells e ⊎ FlushesNone line → Moves (λ h after. Turned kind Gives h line after mid now x whole) t u e f)
+      → whole ≡ Some fault → sofar ≡ worse before x → StopsFor fault sofar why → IsKnownIn d script
+      → Moves (λ h after. RanFrom h kind Gives script out now after why) s u d f
+  all_ran_cut s t u d e f script rest after line out mid now before x sofar why whole fault so cut tells turn some told ends known h stands =
+      let (k, far, one) = so.ran known h stands in
+      let (l, turned, two) = turn (known_next s t d e script rest after line out mid before so cut tells known) k one.stands in
       (l, ran_cut h script rest after line out mid now k l before x sofar why whole fault far cut turned some told ends, on_from h k l s t u d e f one two)
 
   pub all_ran_whole : (s t : State) (d e : Disk) (script rest : List ℕ) (out now : Option (List ℕ)) (why : Cause)
-      → AllSoFar s t d e script rest out now why → rest ≡ [] → Moves (λ h after. RanFrom h kind Gives script out now after why) s t d e
-  all_ran_whole s t d e script rest out now why so none h stands =
-      let (k, far, one) = so.0 h stands in
+      → AllSoFar s t d e script rest out now why → rest ≡ [] → IsKnownIn d script → Moves (λ h after. RanFrom h kind Gives script out now after why) s t d e
+  all_ran_whole s t d e script rest out now why so none known h stands =
+      let (k, far, one) = so.ran known h stands in
       (k, ran_whole h script rest out now k why far none, one)

@@ -1,6 +1,7 @@
 -- The listed table files, and the mutations' numbers, through a run: while the store is opened, and while its lines run.
 use Rattle.std.proofs.Common.{◌≡◌, ◌≢◌, inl, inr, ⊎_elim, ◌∙◌, ◌<◌, ◌+◌, ℕ, Some, List, [], ◌∷◌, ◌++◌, length, take, refl, sym, ap, subst, append-nil}
-use Rattle.std.specs.Prelude.{drop, slice_get}
+use Rattle.std.specs.Prelude.{drop, slice_get, ◌≤◌}
+use Rattle.std.specs.List.{AllByRecursion}
 use Rattle.std.proofs.lemmas.List.{append_cancel_left, take-append-drop}
 use Rattle.cas_disk.specs.declared.name.Name.TheVariants.{Manifest as manifest_name, Table as table_name}
 use Rattle.cas_disk.specs.Disk.{Disk, During, Image}
@@ -11,7 +12,7 @@ use Rattle.cas_bind.specs.declared.bound.Limits.{Limits}
 use Rattle.cas_changes.specs.Saying.{said_by}
 use Rattle.cas_changes.specs.declared.entry.Entry.{Entry as ManifestEntry}
 use Rattle.cas_manifest.specs.Loading.{IsNew, first_entries}
-use Rattle.cas_journal.specs.Stores.{IsStore, SameTables}
+use Rattle.cas_journal.specs.Stores.{IsStore}
 use Rattle.cas_opening.specs.Opening.{HasStayed, MayBeMadeNew, MayBeOpened, OpensAs}
 use Rattle.cas_replay.specs.Grammar.{AscendByOne, numbers_of}
 use Rattle.cas_room.specs.Rooms.{accepted_in}
@@ -19,7 +20,9 @@ use Rattle.cas_shard.specs.declared.entry.ShardOpening.{ShardOpening}
 use Rattle.cas_shard.specs.Stands.{ShardState}
 use Rattle.cas_shard.proofs.Numbers.{last_of_none}
 use Rattle.cas_recovery.proofs.Places.{get_within}
-use Rattle.cas_sessions.specs.Listing.{SameListed}
+use Rattle.cas_sessions.specs.Listing.{SameListed, SameUpTo}
+use Rattle.cas_node.specs.Lines.{Tells}
+use Rattle.cas_node.proofs.Numbered.{listed_low}
 use Rattle.cas_sessions.specs.Nodes.{State}
 use Rattle.cas_sessions.specs.Numbering.{NumbersOn}
 use Rattle.cas_sessions.specs.Starts.{IsInMemory}
@@ -27,12 +30,12 @@ use Rattle.cas_sessions.proofs.Going.{ascend_front, got, numbers_both}
 
 -- ---- the same folder
 
-pub same_folder : {X : Type 0} (disk : X → Disk) (a b : X) → b ≡ a → During SameTables (disk a) (disk b)
-same_folder disk a b same = subst (λ x. During SameTables (disk a) (disk x)) (sym same) (no_call SameTables (disk a))
+pub same_folder : {X : Type 0} (step : Image → Image → Type 0) (disk : X → Disk) (a b : X) → b ≡ a → During step (disk a) (disk b)
+same_folder step disk a b same = subst (λ x. During step (disk a) (disk x)) (sym same) (no_call step (disk a))
 
-pub tables_as : {X : Type 0} (disk : X → Disk) (a b y z : X) → b ≡ a → z ≡ y → During SameTables (disk b) (disk y) → During SameTables (disk a) (disk z)
-tables_as disk a b y z first last call =
-    subst (λ x. During SameTables (disk x) (disk z)) first (subst (λ x. During SameTables (disk b) (disk x)) (sym last) call)
+pub tables_as : {X : Type 0} (step : Image → Image → Type 0) (disk : X → Disk) (a b y z : X) → b ≡ a → z ≡ y → During step (disk b) (disk y)
+    → During step (disk a) (disk z)
+tables_as step disk a b y z first last call = subst (λ x. During step (disk x) (disk z)) first (subst (λ x. During step (disk b) (disk x)) (sym last) call)
 
 -- ---- while a store is opened
 
@@ -52,22 +55,33 @@ made_listed shards d c (inr stayed) = stayed_listed (first_entries shards) [] d 
 
 -- ---- and then
 
-then_listed : (entries : List ManifestEntry) (a b z : Disk) → During (SameListed entries) a b → During SameTables b z → During (SameListed entries) a z
-then_listed entries a b z first second =
-    one_call_more (SameListed entries) SameTables a b z first second (λ d c was mid same number is. same number)
-    (λ e d c was so_far mid same number is. same number ∙ so_far number is)
+-- the numbers of table files that the entries tell of go up to this one
+abbrev pub AreUpTo : ℕ → List ManifestEntry → Type 0
+AreUpTo last entries = AllByRecursion (λ k. k ≤ last) (said_by entries).numbers
+
+then_listed : (entries : List ManifestEntry) (last : ℕ) (a b z : Disk) → AreUpTo last entries → During (SameListed entries) a b → During (SameUpTo last) b z
+    → During (SameListed entries) a z
+then_listed entries last a b z low first second =
+    one_call_more (SameListed entries) (SameUpTo last) a b z first second (λ d c was mid same number is. same number (listed_low entries last low number is))
+    (λ e d c was so_far mid same number is. same number (listed_low entries last low number is) ∙ so_far number is)
 
 -- from the folder as it was found to the one that is handed back
-pub listed_through : (shards : ℕ) (entries : List ManifestEntry) (mutations : List Mutation) (d : Image) (a b z : Disk) → OpensAs shards entries mutations d
-    → (IsStore entries mutations d → During (MayBeOpened entries mutations) a b) → (IsNew d → During (MayBeMadeNew shards) a b) → During SameTables b z
-    → During (SameListed entries) a z
-listed_through shards entries mutations d a b z (inl store) stays made runs =
-    then_listed entries a b z
+pub listed_through : (shards : ℕ) (entries : List ManifestEntry) (mutations : List Mutation) (d : Image) (last : ℕ) (a b z : Disk) → OpensAs shards entries mutations d
+    → AreUpTo last entries → (IsStore entries mutations d → During (MayBeOpened entries mutations) a b) → (IsNew d → During (MayBeMadeNew shards) a b)
+    → During (SameUpTo last) b z → During (SameListed entries) a z
+listed_through shards entries mutations d last a b z (inl store) low stays made runs =
+    then_listed entries last a b z low
     (reworded (MayBeOpened entries mutations) (SameListed entries) a b (stays store) (λ e c was opened. opened_listed entries mutations e c opened)) runs
-listed_through shards entries mutations d a b z (inr (new, are, none)) stays made runs =
+listed_through shards entries mutations d last a b z (inr (new, are, none)) low stays made runs =
     subst (λ es. During (SameListed es) a z) (sym are)
-    (then_listed (first_entries shards) a b z
+    (then_listed (first_entries shards) last a b z (subst (λ es. AreUpTo last es) are low)
     (reworded (MayBeMadeNew shards) (SameListed (first_entries shards)) a b (made new) (λ e c was opened. made_listed shards e c opened)) runs)
+
+-- a folder that tells what is read of it, as it was found, tells it of the store that was opened
+pub tells_through : (shards : ℕ) (entries : List ManifestEntry) (mutations : List Mutation) (d : Image) (a b : Disk) → OpensAs shards entries mutations d → a.reads d
+    → (IsStore entries mutations d → During (MayBeOpened entries mutations) a b) → (IsNew d → During (MayBeMadeNew shards) a b) → Tells b
+tells_through shards entries mutations d a b (inl store) reads stays made = (stays store).tells d reads
+tells_through shards entries mutations d a b (inr (new, are, none)) reads stays made = (made new).tells d reads
 
 -- what is left has the files that some image had before
 pub from_before : (entries : List ManifestEntry) (a z : Disk) → During (SameListed entries) a z → (i : Image) → z.may_leave i

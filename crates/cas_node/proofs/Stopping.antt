@@ -1,5 +1,5 @@
--- Along a run the disk is stopped only where the folder failed, which its count tells; its table files stay.
-use Rattle.std.proofs.Common.{◌≡◌, ◌≤◌, ◌⊎◌, inl, inr, ⊎_elim, ℕ, ℤ, List, [], ◌∷◌, true, false, Option, Result, Ok, Err, refl, sym, ap, ◌∙◌, subst, arith}
+-- Along a run the disk is stopped only where the folder failed, which its count tells; its table files stay, and others come behind them.
+use Rattle.std.proofs.Common.{◌≡◌, ◌≤◌, ◌⊎◌, inl, inr, ⊎_elim, ℕ, zero, suc, ℤ, List, [], ◌∷◌, ◌++◌, append-nil, append_assoc, true, false, Option, None, Some, Result, Ok, Err, refl, sym, ap, ◌∙◌, subst, arith}
 use Rattle.std.proofs.lemmas.Bool.{true≢false}
 use Rattle.cas_types.specs.declared.schema.TableSchema.{TableSchema}
 use Rattle.cas_io.specs.Causes.{Rose}
@@ -7,6 +7,7 @@ use Rattle.cas_atoms.specs.declared.atom.Mutation.{Mutation}
 use Rattle.cas_bind.specs.Meaning.{meaning}
 use Rattle.cas_bind.specs.declared.bound.Bound.{Bound}
 use Rattle.cas_bind.specs.declared.bound.Bound.TheVariants as bound
+use Rattle.cas_changes.specs.declared.entry.Change.{Change}
 use Rattle.cas_changes.specs.declared.entry.Entry.{Entry as ManifestEntry}
 use Rattle.cas_effects.specs.declared.refusal.Refusal.{Refusal}
 use Rattle.cas_shard.specs.declared.entry.Entry.{Entry}
@@ -17,21 +18,44 @@ use Rattle.cas_render.specs.declared.reply.Reply.{Reply}
 use Rattle.cas_render.specs.declared.reply.Reply.TheVariants as reply
 use Rattle.cas_words.specs.declared.words.ClockKind.{ClockKind}
 use Rattle.cas_words.specs.declared.words.ClockKind.TheVariants as clock
+use Rattle.cas_sstread.specs.Loading.{Held}
+use Rattle.cas_terms.specs.Columns.{table_named}
+use Rattle.cas_view.specs.Views.{File}
+use Rattle.cas_sessions.specs.declared.answer.Fault.{Fault}
+use Rattle.cas_sessions.specs.declared.answer.Fault.TheVariants as fault
+use Rattle.cas_sessions.specs.Flushes.{EndsSo, Flushed, FlushesNamed, FlushesTable, Grows, WhyNoFurther, change_of}
 use Rattle.cas_sessions.specs.History.{History, DiskState, Takes, Defines, Does, Stays, Stops}
 use Rattle.cas_node.specs.Lines.{Answered, Answers, Runs, SetsClock}
 
--- its count doesn't fall, and rises where the disk is stopped; and its table files are the same
+-- ---- table files
+
+-- each table has in each shard the files that it had, and maybe more behind them
+abbrev pub AreMore : (ℕ → ℕ → List (File Held)) → (ℕ → ℕ → List (File Held)) → Type 0
+AreMore before after = (n table : ℕ) → (more : List (File Held)) × (after n table ≡ before n table ++ more)
+
+no_more : (before after : ℕ → ℕ → List (File Held)) → after ≡ before → AreMore before after
+no_more before after same n table = ([], ap (λ (k : ℕ → ℕ → List (File Held)). k n table) same ∙ sym (append-nil (before n table)))
+
+more_twice : (a b c : ℕ → ℕ → List (File Held)) → AreMore a b → AreMore b c → AreMore a c
+more_twice a b c one two n table =
+    let first = one n table in
+    let second = two n table in
+    (first.0 ++ second.0, second.1 ∙ ap (λ (l : List (File Held)). l ++ second.0) first.1 ∙ append_assoc (a n table) first.0 second.0)
+
+-- ---- a disk
+
+-- its count doesn't fall, and rises where the disk is stopped; and its table files stay
 pub record Counts (d e : DiskState) : Type 0 where
   pub faults : d.faults ≤ e.faults
   pub stops : d.stopped ≡ false → (e.stopped ≡ false) ⊎ Rose d.faults e.faults
-  pub files : e.files ≡ d.files
+  pub files : AreMore d.files e.files
 
 still : (d : DiskState) → Counts d d
-still d = record { faults = omega arith; stops = λ on. inl on; files = refl }
+still d = record { faults = omega arith; stops = λ on. inl on; files = no_more d.files d.files refl }
 
 -- some reads of its table files failed
 read_on : (d : DiskState) (n : ℕ) → Counts d (record d { reads = n })
-read_on d n = record { faults = omega arith; stops = λ on. inl on; files = refl }
+read_on d n = record { faults = omega arith; stops = λ on. inl on; files = no_more d.files d.files refl }
 
 rose_before : (a b c : ℕ) → Rose a b → b ≤ c → Rose a c
 rose_before a b c rose le = omega (arith, rose, le)
@@ -45,21 +69,22 @@ then_on d e f a b = record {
   stops = λ on.
       ⊎_elim (λ still_on. ⊎_elim (λ goes. inl goes) (λ rose. inr (rose_after d.faults e.faults f.faults a.faults rose)) (b.stops still_on))
       (λ rose. inr (rose_before d.faults e.faults f.faults rose b.faults)) (a.stops on);
-  files = b.files ∙ a.files;
+  files = more_twice d.files e.files f.files a.files b.files;
 }
 
 -- ---- a step, of any kind
 
 of_stays : (d e : DiskState) → Stays d e → Counts d e
-of_stays d e s = record { faults = s.faults; stops = λ on. inl (s.stopped ∙ on); files = s.files.0 }
+of_stays d e s = record { faults = s.faults; stops = λ on. inl (s.stopped ∙ on); files = no_more d.files e.files s.files.0 }
 
 of_stops : (d e : DiskState) → Stops d e → Counts d e
-of_stops d e s = record { faults = s.faults; stops = λ on. inr s.rose; files = s.files.0 }
+of_stops d e s = record { faults = s.faults; stops = λ on. inr s.rose; files = no_more d.files e.files s.files.0 }
 
 taken : (segment : ℕ) (m : Mutation) (x : Entry) (d : DiskState) (r : Reply) (entries : List Entry) (e : DiskState) → Takes segment m x d r entries e → Counts d e
 taken segment m x d reply.Done entries e t = absurd t
 taken segment m x d (reply.Wrote number) entries e t = of_stays d e t.3.1
 taken segment m x d (reply.Rows rows shard front now) entries e t = absurd t
+taken segment m x d (reply.Flushed files) entries e t = absurd t
 taken segment m x d (reply.Refused why) entries e t = of_stays d e t.2
 taken segment m x d (reply.Failed failure.Memory) entries e t = of_stays d e t.1
 taken segment m x d (reply.Failed failure.Stopped) entries e t = of_stays d e t.2.1
@@ -68,9 +93,11 @@ taken segment m x d (reply.Failed failure.Read) entries e t = absurd t
 taken segment m x d (reply.Failed (failure.Block n at)) entries e t = absurd t
 
 defined : (x : ManifestEntry) (old new : List TableSchema) (d : DiskState) (r : Reply) (tables : List TableSchema) (e : DiskState) → Defines x old new d r tables e → Counts d e
-defined x old new d reply.Done tables e t = record { faults = t.2.faults; stops = λ on. inl (t.2.stopped ∙ on); files = t.2.files.0 }
+defined x old new d reply.Done tables e t =
+    record { faults = t.2.faults; stops = λ on. inl (t.2.stopped ∙ on); files = no_more d.files e.files t.2.files.0 }
 defined x old new d (reply.Wrote number) tables e t = absurd t
 defined x old new d (reply.Rows rows shard front now) tables e t = absurd t
+defined x old new d (reply.Flushed files) tables e t = absurd t
 defined x old new d (reply.Refused why) tables e t = of_stays d e t.4.1
 defined x old new d (reply.Failed failure.Memory) tables e t = of_stays d e t.1
 defined x old new d (reply.Failed failure.Stopped) tables e t = of_stays d e t.1.1
@@ -83,6 +110,69 @@ at_disk h t e is counts = subst (Counts h.disk) (sym is) counts
 
 unchanged : (h t : History) → t ≡ h → Counts h.disk t.disk
 unchanged h t same = at_disk h t h.disk (ap (λ (k : History). k.disk) same) (still h.disk)
+
+-- ---- a flush
+
+same_or_not : (n m : ℕ) → (n ≡ m) ⊎ (n ≡ m → ⊥)
+same_or_not zero zero = inl refl
+same_or_not zero (suc m) = inr (λ e. absurd (omega (arith, e)))
+same_or_not (suc n) zero = inr (λ e. absurd (omega (arith, e)))
+same_or_not (suc n) (suc m) = next (same_or_not n m)
+  where
+    next : (n ≡ m) ⊎ (n ≡ m → ⊥) → (suc n ≡ suc m) ⊎ (suc n ≡ suc m → ⊥)
+    next (inl same) = inl (omega (arith, same))
+    next (inr other) = inr (λ e. other (omega (arith, e)))
+
+grown : (table shard number : ℕ) (c : Option Change) (before after : List (File Held)) → Grows table shard number c before after
+    → (more : List (File Held)) × (after ≡ before ++ more)
+grown table shard number None before after g = ([], g ∙ sym (append-nil before))
+grown table shard number (Some c) before after g = (g.0 ∷ [], g.1)
+
+module _ (h : History) (t : TableSchema) (changes : List (Option Change)) (e : DiskState) (so : Flushed h t changes e) where
+  flushed_more : AreMore h.disk.files e.files
+  flushed_more n table = ⊎_elim here (λ other. ([], so.others n table other ∙ sym (append-nil (h.disk.files n table)))) (same_or_not table t.number)
+    where
+      here : table ≡ t.number → (more : List (File Held)) × (e.files n table ≡ h.disk.files n table ++ more)
+      here same =
+          subst (λ k. (more : List (File Held)) × (e.files n k ≡ h.disk.files n k ++ more)) (sym same)
+          (grown t.number n _ (change_of changes n) (h.disk.files n t.number) (e.files n t.number) (so.files n))
+
+  further : (f : Fault) → WhyNoFurther h.disk e f → (e.stopped ≡ false) ⊎ Rose h.disk.faults e.faults
+  further (fault.Refused why) w = inl w.1
+  further (fault.Stopped first) w = absurd w
+  further (fault.Disk None) w = ⊎_elim (λ rose. inr rose) (λ other. inl other.0) w
+  further (fault.Disk (Some number)) w = absurd w
+  further fault.Read w = inl w.0
+  further (fault.BadBlock number at) w = absurd w
+  further fault.Mem w = inl w
+
+  ended : (r : Result (List ℕ) Fault) → EndsSo h changes r e → (e.stopped ≡ false) ⊎ Rose h.disk.faults e.faults
+  ended (Ok told) ends = inl ends.2
+  ended (Err f) ends = further f ends.1
+
+  pub flushed_counts : (r : Result (List ℕ) Fault) → EndsSo h changes r e → Counts h.disk e
+  flushed_counts r ends = record { faults = so.faults; stops = λ on. ended r ends; files = flushed_more }
+
+-- a flush that an earlier fault didn't stop
+abbrev IsBegun : History → TableSchema → Result (List ℕ) Fault → History → Type 0
+IsBegun h t r after =
+    (changes : List (Option Change)) × (e : DiskState) × (h.disk.stopped ≡ false) × Flushed h t changes e × EndsSo h changes r e × (after ≡ record h { disk = e })
+
+begun_counts : (h : History) (t : TableSchema) (r : Result (List ℕ) Fault) (after : History) → IsBegun h t r after → Counts h.disk after.disk
+begun_counts h t r after a = at_disk h after a.1 (ap (λ (k : History). k.disk) a.5) (flushed_counts h t a.0 a.1 a.3 r a.4)
+
+flush_counts : (h : History) (t : TableSchema) (r : Result (List ℕ) Fault) (after : History) → FlushesTable h t r after → Counts h.disk after.disk
+flush_counts h t (Ok told) after a = begun_counts h t (Ok told) after a
+flush_counts h t (Err (fault.Stopped first)) after a = unchanged h after a.1
+flush_counts h t (Err (fault.Refused why)) after a = begun_counts h t (Err (fault.Refused why)) after a
+flush_counts h t (Err (fault.Disk number)) after a = begun_counts h t (Err (fault.Disk number)) after a
+flush_counts h t (Err fault.Read) after a = begun_counts h t (Err fault.Read) after a
+flush_counts h t (Err (fault.BadBlock number at)) after a = begun_counts h t (Err (fault.BadBlock number at)) after a
+flush_counts h t (Err fault.Mem) after a = begun_counts h t (Err fault.Mem) after a
+
+named_counts : (h : History) (o : Option TableSchema) (r : Result (List ℕ) Fault) (after : History) → FlushesNamed h o r after → Counts h.disk after.disk
+named_counts h None r after a = unchanged h after a.1
+named_counts h (Some t) r after a = flush_counts h t r after a
 
 -- ---- a line
 
@@ -102,6 +192,7 @@ module _ (kind : ClockKind) (Gives : ℤ → Type 0) where
       clock_set : (k : ClockKind) (h : History) (n : ℤ) (r : Reply) (t : History) → SetsClock k h n r t → Counts h.disk t.disk
       clock_set clock.Manual h n r t s = at_disk h t h.disk (ap (λ (k : History). k.disk) s.1) (still h.disk)
       clock_set clock.System h n r t s = unchanged h t s.1
+  answered h (line.Flush name) r t a = named_counts h (table_named h.tables name) a.0 t a.2
   answered h (line.Statement s) r t a = deed h (meaning h.limits.shards h.tables s) a.0 t a.2
 
   pub one_line : (h : History) (text : List ℕ) (r : Option Reply) (t : History) → Answers kind Gives h text r t → Counts h.disk t.disk

@@ -15,7 +15,7 @@ use Rattle.cas_words.specs.declared.words.ClockKind.{ClockKind}
 use Rattle.cas_words.specs.declared.words.ClockKind.TheVariants as clock
 use Rattle.cas_sessions.specs.History.{History, DiskState, shard_at}
 use Rattle.cas_shard.specs.declared.entry.ShardOpening.{ShardOpening}
-use Rattle.cas_node.specs.Lines.{Runs, is_starved}
+use Rattle.cas_node.specs.Lines.{NoneFlushes, Runs, is_starved}
 use Rattle.cas_node.specs.Ran.{AreGood}
 use Rattle.cas_recovery.specs.Found.{AreOfAStore}
 use Rattle.cas_recovery.specs.Openings.{AreOpenings}
@@ -34,12 +34,12 @@ StaysWell d e = (d.stopped ≡ false) × (Rose d.faults e.faults → ⊥) × IsR
 abbrev pub SameStore : History → History → Type 0
 SameStore t u = record t { disk = u.disk } ≡ u
 
--- under the manual clock the lines are answered in one way and leave one store, as long as memory doesn't run out and the disk is well
+-- under the manual clock lines that flush no table are answered in one way and leave one store, as long as memory doesn't run out and the disk is well
 abbrev pub OneOutcome : (ℤ → Type 0) → Type 0
 OneOutcome Gives =
     (h : History) (lines : List (List ℕ)) (rs ss : List (Option Reply)) (t u : History)
     → Runs clock.Manual Gives h lines rs t → Runs clock.Manual Gives h lines ss u
-    → list_any is_starved rs ≡ false → list_any is_starved ss ≡ false → StaysWell h.disk t.disk → StaysWell h.disk u.disk → (rs ≡ ss) × SameStore t u
+    → NoneFlushes lines → list_any is_starved rs ≡ false → list_any is_starved ss ≡ false → StaysWell h.disk t.disk → StaysWell h.disk u.disk → (rs ≡ ss) × SameStore t u
 
 -- each shard's mutations are numbered upwards, those since the run began by one
 abbrev pub AllRise : History → Type 0

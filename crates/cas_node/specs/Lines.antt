@@ -1,6 +1,8 @@
 -- What each line of a script is answered, one after another.
--- Statements by CQL documentation, "Data definition" and "Data manipulation"; the command is own.
-use Rattle.std.specs.Prelude.{◌≡◌, ◌⊎◌, ℕ, ℤ, Bool, false, Option, None, Some, List, [], ◌∷◌}
+-- Statements by CQL documentation, "Data definition" and "Data manipulation"; a flush by Cassandra documentation, "nodetool flush"; the commands are own.
+use Rattle.std.specs.Prelude.{◌≡◌, ◌⊎◌, ℕ, ℤ, Bool, false, Option, None, Some, Result, Ok, Err, List, [], ◌∷◌}
+use Rattle.std.specs.List.{AllByRecursion}
+use Rattle.cas_disk.specs.Disk.{Disk, Image}
 use Rattle.cas_bind.specs.Meaning.{meaning}
 use Rattle.cas_effects.specs.declared.refusal.TheConstants.{NOT_HERE, SYNTAX}
 use Rattle.cas_render.specs.declared.reply.Failure.TheVariants as failure
@@ -11,6 +13,10 @@ use Rattle.cas_lines.specs.declared.line.Line.TheVariants as line
 use Rattle.cas_lines.specs.Lines.{Says}
 use Rattle.cas_words.specs.declared.words.ClockKind.{ClockKind}
 use Rattle.cas_words.specs.declared.words.ClockKind.TheVariants as clock
+use Rattle.cql_parse.specs.declared.syntax.TableName.{TableName}
+use Rattle.cas_sessions.specs.declared.answer.Fault.{Fault}
+use Rattle.cas_sessions.specs.Calls.{reply_of}
+use Rattle.cas_sessions.specs.Flushes.{Flushes}
 use Rattle.cas_sessions.specs.History.{History, Does, tells_want}
 
 -- the line was answered that memory ran out
@@ -23,11 +29,17 @@ abbrev pub SetsClock : ClockKind → History → ℤ → Reply → History → T
 SetsClock clock.Manual h n r after = (r ≡ reply.Done) × (after ≡ record h { clock = n })
 SetsClock clock.System h n r after = (r ≡ reply.Refused NOT_HERE) × (after ≡ h)
 
+-- what the answer of a flush is printed as: the numbers of its files; a fault as that of any other call
+abbrev pub reply_of_flush : Result (List ℕ) Fault → Reply
+reply_of_flush (Ok numbers) = reply.Flushed numbers
+reply_of_flush (Err f) = reply_of (Err f)
+
 -- a line that says this is answered so; one that says nothing isn't answered
 abbrev pub Answered : ClockKind → (ℤ → Type 0) → History → Line → Option Reply → History → Type 0
 Answered kind Gives h line.Blank r after = (r ≡ None) × (after ≡ h)
 Answered kind Gives h line.Syntax r after = (r ≡ Some (reply.Refused SYNTAX)) × (after ≡ h)
 Answered kind Gives h (line.Clock n) r after = (answer : Reply) × (r ≡ Some answer) × SetsClock kind h n answer after
+Answered kind Gives h (line.Flush t) r after = (result : Result (List ℕ) Fault) × (r ≡ Some (reply_of_flush result)) × Flushes h t result after
 Answered kind Gives h (line.Statement s) r after = (answer : Reply) × (r ≡ Some answer) × Does kind Gives h (meaning h.limits.shards h.tables s) answer after
 
 -- the line is answered; or memory ran out before it changed anything
@@ -40,3 +52,15 @@ abbrev pub Runs : ClockKind → (ℤ → Type 0) → History → List (List ℕ)
 Runs kind Gives h [] [] after = after ≡ h
 Runs kind Gives h (l ∷ ls) (r ∷ rs) after = (between : History) × Answers kind Gives h l r between × Runs kind Gives between ls rs after
 Runs kind Gives h _ _ after = ⊥
+
+-- the line doesn't tell to flush a table
+abbrev pub FlushesNone : List ℕ → Type 0
+FlushesNone text = (t : TableName) → Says text (line.Flush t) → ⊥
+
+-- none of these lines does
+abbrev pub NoneFlushes : List (List ℕ) → Type 0
+NoneFlushes lines = AllByRecursion FlushesNone lines
+
+-- the folder tells what is read of it, as those do that keep what they are given; of others nothing that was written is known once it is read
+abbrev pub Tells : Disk → Type 0
+Tells folder = (c : Image) × folder.reads c

@@ -31,7 +31,7 @@ use Rattle.cas_node.specs.declared.cause.Cause.{Cause}
 use Rattle.cas_node.specs.declared.cause.Cause.TheVariants as cause
 use Rattle.cas_node.specs.declared.program.TheConstants.{SCRIPT_LIMIT}
 use Rattle.cas_sessions.specs.History.{History, tells_want}
-use Rattle.cas_node.specs.Lines.{Runs}
+use Rattle.cas_node.specs.Lines.{NoneFlushes, Runs}
 use Rattle.cas_recovery.specs.Found.{IsFound}
 use Rattle.cas_recovery.specs.Openings.{AreOpenings}
 use Rattle.cas_sessions.specs.Starts.{AreItsFiles, Begins}
@@ -195,10 +195,10 @@ IsBadForOne files (file.Table number) at = (shard : ℕ) × (q : Query) × ∥ I
 IsBadForOne files _ at = ⊥
 
 -- A run of the command over a script, by what the shards of its store were before, and by its table files: from there the script's lines were run; what
--- they entered is the list that is handed back; and whatever a crash leaves of the folder handed back has all that was acknowledged, and its manifest lists
--- the table files that were found and no others; so the next run, which finds just that, begins with what the shards were and the front of what was accepted
--- that is left. A write was stopped only where the folder's count of faults rose, so that otherwise all that was accepted is left; and a file is called bad
--- only where it is.
+-- they entered is the list that is handed back; and whatever a crash leaves of the folder handed back has all that was acknowledged. Where no line flushes a
+-- table, its manifest lists the table files that were found and no others; so the next run, which finds just that, begins with what the shards were and the
+-- front of what was accepted that is left. A write was stopped only where the folder's count of faults rose, so that otherwise all that was accepted is left;
+-- and a file is called bad only where it is, of those that were found or flushed.
 pub record RanOn (c : Command) (Gives : ℤ → Type 0) (script : List ℕ) (before after : Outside) (reads : ℕ) (list : List (Item Event)) (why : Cause)
     (entries : List ManifestEntry) (mutations : List Mutation) (openings : ℕ → ShardOpening) (files : ℕ → ℕ → List (File Held)) : Type 0 where
   pub first : History
@@ -208,18 +208,22 @@ pub record RanOn (c : Command) (Gives : ℤ → Type 0) (script : List ℕ) (bef
   pub ran : RanFrom first c.clock Gives script before.taken after.taken final told
   pub entered : AreEntered list final
   pub crash : (d : Image) → before.folder.reads d → IsOfBytes d → (i : Image) → after.folder.may_leave i → IsLeft mutations list final i
-  pub lists : (d : Image) → before.folder.reads d → IsOfBytes d → (i : Image) → after.folder.may_leave i → HasBehind entries i
-  pub next : (d : Image) → before.folder.reads d → IsOfBytes d → (i : Image) → after.folder.may_leave i → IsOfBytes i
+  pub lists : NoneFlushes (lines script) → (d : Image) → before.folder.reads d → IsOfBytes d → (i : Image) → after.folder.may_leave i → HasBehind entries i
+  pub next : NoneFlushes (lines script) → (d : Image) → before.folder.reads d → IsOfBytes d → (i : Image) → after.folder.may_leave i → IsOfBytes i
       → IsExplained mutations list final openings i
   pub faults : final.disk.faults ≡ after.folder_faults
   pub reads_are : final.disk.reads ≡ reads
   pub counted : final.disk.stopped ≡ true → Rose before.folder_faults after.folder_faults
-  pub bad : IfBad why (IsBadForOne files)
+  pub bad : IfBad why (IsBadForOne final.disk.files)
   pub ended : why ≡ with_faults before.folder_faults after.folder_faults reads told
+
+-- What the script's flushes write is known: the folder tells what is read of it, or no line flushes a table.
+abbrev pub IsKnown : Disk → List ℕ → Type 0
+IsKnown folder script = ((d : Image) × folder.reads d × IsOfBytes d) ⊎ NoneFlushes (lines script)
 
 -- A run of the command over a script: its folder had a store of these entries and mutations, or got one, with these table files; whatever a crash leaves
 -- at any moment of the run has each of these files, all of its bytes, as it would have been left before the run; and whatever its shards may have been
--- before, for all that the folder tells, the script was run over that.
+-- before, for all that the folder tells, the script was run over that, where what its flushes write is known.
 pub record Ran (c : Command) (Gives : ℤ → Type 0) (script : List ℕ) (before after : Outside) (reads : ℕ) (list : List (Item Event)) (why : Cause)
     : Type 0 where
   pub entries : List ManifestEntry
@@ -228,7 +232,7 @@ pub record Ran (c : Command) (Gives : ℤ → Type 0) (script : List ℕ) (befor
   pub files : ℕ → ℕ → List (File Held)
   pub its_files : AreItsFiles entries before.folder files
   pub tables : (d : Image) → before.folder.reads d → IsOfBytes d → During (SameListed entries) before.folder after.folder
-  pub on : (openings : ℕ → ShardOpening) → AreOpenings entries mutations before.folder openings
+  pub on : (openings : ℕ → ShardOpening) → AreOpenings entries mutations before.folder openings → IsKnown before.folder script
       → RanOn c Gives script before after reads list why entries mutations openings files
 
 -- a run may end so without having run a line
@@ -279,8 +283,14 @@ count_taken None new = None
 count_taken (Some xs) None = None
 count_taken (Some xs) (Some ys) = Some (length xs - length ys)
 
--- All is well: the words are the command's; the folder tells a store, with what its shards may have been before, whose table files are good; the source
--- tells a script within the limit of which no line is refused from there; and no count rises, the one of reads from 0.
+-- Along each run of some of the script's lines, from the first on, no table file is bad: none of those that were found, and none that was flushed.
+abbrev pub StaysGood : History → ClockKind → (ℤ → Type 0) → List ℕ → Type 0
+StaysGood first kind Gives script =
+    (run rest : List (List ℕ)) (replies : List (Option Reply)) (final : History) → run ++ rest ≡ lines script → Runs kind Gives first run replies final
+    → AreGood final.disk.files
+
+-- All is well: the words are the command's; the folder tells a store, with what its shards may have been before, whose table files are good and stay so; the
+-- source tells a script within the limit of which no line is refused from there; and no count rises, the one of reads from 0.
 pub record AllWell (words : List (List ℕ)) (Gives : ℤ → Type 0) (before after : Outside) (table_reads : ℕ) : Type 0 where
   pub command : Command
   pub words_are : command_of words ≡ Some command
@@ -295,7 +305,8 @@ pub record AllWell (words : List (List ℕ)) (Gives : ℤ → Type 0) (before af
   pub opens : OpensAs command.limits.shards entries mutations image
   pub openings : ℕ → ShardOpening
   pub explained : AreOpenings entries mutations before.folder openings
-  pub good : (files : ℕ → ℕ → List (File Held)) → AreItsFiles entries before.folder files → AreGood files
+  pub good : (files : ℕ → ℕ → List (File Held)) → AreItsFiles entries before.folder files → (first : History)
+      → Begins command.limits entries openings files before.folder_faults first → StaysGood first command.clock Gives script
   pub granted : (files : ℕ → ℕ → List (File Held)) → AreItsFiles entries before.folder files → (first : History)
       → Begins command.limits entries openings files before.folder_faults first → IsGranted first command.clock Gives script
   pub no_read_fault : ReadRose before after → ⊥

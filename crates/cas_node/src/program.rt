@@ -8,11 +8,12 @@ ghost use Rattle.cas_words.specs.Words.{command_of};
 ghost use Rattle.cas_words.specs.declared.words.Command.{Command};
 ghost use Rattle.cas_atoms.specs.declared.atom.Mutation.{Mutation as MutationOf};
 ghost use Rattle.cas_changes.specs.declared.entry.Entry.{Entry as EntryOf};
-ghost use Rattle.cas_journal.specs.Stores.{IsStore, SameTables};
+ghost use Rattle.cas_journal.specs.Stores.{IsStore};
 ghost use Rattle.cas_opening.specs.Opening.{IsOfBytes, MayBeOpened};
 ghost use Rattle.cas_recovery.specs.Recovered.{IsUnreadable};
 ghost use Rattle.cas_node.specs.Ran.{RanAll, IfBad, IfTooLong, IfUnread, AllWell, GoodOrMem, count_taken, has_risen, is_too_long, outside, status_of};
 ghost use Rattle.cas_node.specs.Ran.{weight, with_faults};
+ghost use Rattle.cas_sessions.specs.Listing.{SameUpTo};
 ghost use Rattle.cas_node.specs.Inner.Serving.{EndsServed, Serves};
 ghost use Rattle.cas_node.specs.Inner.Turns.{cause_of_fault, cause_of_opening};
 
@@ -151,7 +152,7 @@ fn serve<K: Sink, F: Folder, J: Store, C: Clock>(
         opened.started.limits opened.started.tables.items opened.started.shards.items opened.started.last_file
         opened.started.live opened.started.journal (F.disk opened.folder) (F.faults_of opened.folder) faults (F.disk result.folder)
         (F.faults_of result.folder) (⟦<F::Tally as Count>⟧.number result.tally) result.pass result.cause }
-    ensures tables { During SameTables (F.disk opened.folder) (F.disk result.folder) }
+    ensures tables { During (SameUpTo opened.started.last_file) (F.disk opened.folder) (F.disk result.folder) }
     ensures status { result.status ≡ status_of result.cause }
     ensures unwritten { result.pass ≡ None → sink.new ≡ sink.old }
     ensures kept { result.pass ≡ None → result.folder ≡ opened.folder }
@@ -196,7 +197,8 @@ pub fn run<S: Source, K: Sink, F: Folder, C: Clock, G: Gate>(
     _gate: &G,
 ) -> Outcome<F>
     // The script ran: its lines' replies are the definition's, each slice the live view at its moment
-    // of all mutations up to its front, those that the folder had and those of the run; what was written
+    // of all mutations up to its front, those that the folder had and those of the run, whatever is flushed
+    // between, where the folder tells what is read of it; what was written
     // is the replies' text up to where the run ended; whatever a crash leaves of the folder has all that
     // was answered `ok`. Or no line was run.
     ensures headline { RanAll (map string_bytes words.now) (C.may_give clock.now)

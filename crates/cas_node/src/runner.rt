@@ -1,12 +1,13 @@
 //! What each line of a script does with an open store.
 
-ghost use Rattle.std.specs.Prelude.{◌≡◌};
+ghost use Rattle.std.specs.Prelude.{◌≡◌, ◌⊎◌, ℕ, List as ListOf, Result as ResultOf};
 ghost use Rattle.cas_types.specs.Limits.{IsMoment};
 ghost use Rattle.cas_disk.specs.Disk.{Disk, During};
-ghost use Rattle.cas_journal.specs.Stores.{SameTables};
 ghost use Rattle.cas_lines.specs.Lines.{Says};
-ghost use Rattle.cas_node.specs.Lines.{Answers, SetsClock};
-ghost use Rattle.cas_sessions.specs.Listing.{KeepsListing};
+ghost use Rattle.cas_node.specs.Lines.{Answers, FlushesNone, SetsClock, Tells, reply_of_flush};
+ghost use Rattle.cas_sessions.specs.Flushes.{Flushes};
+ghost use Rattle.cas_sessions.specs.declared.answer.Fault.{Fault};
+ghost use Rattle.cas_sessions.specs.Listing.{KeepsListing, SameUpTo};
 ghost use Rattle.cas_sessions.specs.Numbering.{NumbersOn};
 ghost use Rattle.cas_sessions.specs.Nodes.{CountsOn, IsFew, Moves, State};
 
@@ -17,8 +18,9 @@ use cas_io::Clock;
 use cas_lines::{Line, read_line};
 use cas_render::{Failure, Reply};
 use cas_sessions::{Ask, Node, Session, Stored, reply_of};
-use cas_types::Mem;
+use cas_types::{List, Mem};
 use cas_words::ClockKind;
+use cql_parse::TableName;
 use std::alloc::Global;
 
 /// What contracts see of a runner.
@@ -50,7 +52,8 @@ impl<F: Folder, J: Store> Runner<F, J> {
         ensures sets { Moves (λ h after. SetsClock kind h seconds result after)
             (⟦<Runner<F, J> as Running>⟧.state self.old) (⟦<Runner<F, J> as Running>⟧.state self.new)
             (⟦<Runner<F, J> as Running>⟧.disk self.old) (⟦<Runner<F, J> as Running>⟧.disk self.new) }
-        ensures tables { During SameTables (⟦<Runner<F, J> as Running>⟧.disk self.old) (⟦<Runner<F, J> as Running>⟧.disk self.new) }
+        ensures tables { During (SameUpTo (⟦<Runner<F, J> as Running>⟧.state self.old).last_file)
+            (⟦<Runner<F, J> as Running>⟧.disk self.old) (⟦<Runner<F, J> as Running>⟧.disk self.new) }
         ensures lists { KeepsListing (⟦<Runner<F, J> as Running>⟧.state self.old)
             (⟦<Runner<F, J> as Running>⟧.disk self.old) (⟦<Runner<F, J> as Running>⟧.disk self.new) }
         ensures numbers { NumbersOn (⟦<Runner<F, J> as Running>⟧.state self.old) (⟦<Runner<F, J> as Running>⟧.state self.new) }
@@ -65,6 +68,25 @@ impl<F: Folder, J: Store> Runner<F, J> {
         }
     }
 
+    // Flushes a table, and says which files that made.
+    fn flush(&mut self, alloc: Global, name: &TableName) -> Reply
+        ensures flushes { Tells (⟦<Runner<F, J> as Running>⟧.disk self.old)
+            → Moves (λ h after. (told : ResultOf (ListOf ℕ) Fault) × (result ≡ reply_of_flush told) × Flushes h name.now told after)
+            (⟦<Runner<F, J> as Running>⟧.state self.old) (⟦<Runner<F, J> as Running>⟧.state self.new)
+            (⟦<Runner<F, J> as Running>⟧.disk self.old) (⟦<Runner<F, J> as Running>⟧.disk self.new) }
+        ensures tables { During (SameUpTo (⟦<Runner<F, J> as Running>⟧.state self.old).last_file)
+            (⟦<Runner<F, J> as Running>⟧.disk self.old) (⟦<Runner<F, J> as Running>⟧.disk self.new) }
+        ensures numbers { NumbersOn (⟦<Runner<F, J> as Running>⟧.state self.old) (⟦<Runner<F, J> as Running>⟧.state self.new) }
+        ensures counts { CountsOn (⟦<Runner<F, J> as Running>⟧.state self.old) (⟦<Runner<F, J> as Running>⟧.state self.new) }
+    {
+        match self.node.flush(alloc, &mut self.session, name) {
+            Ok(numbers) => Reply::Flushed {
+                files: List::from_vec(numbers),
+            },
+            Err(fault) => reply_of(Err(fault)),
+        }
+    }
+
     fn answer_known<C: Clock>(
         &mut self,
         alloc: Global,
@@ -74,11 +96,13 @@ impl<F: Folder, J: Store> Runner<F, J> {
     ) -> Option<Reply>
         requires few { IsFew (⟦<Runner<F, J> as Running>⟧.state self.old) }
         requires says { Says text.now line }
-        ensures answers { Moves (λ h after. Answers ask.now.kind (C.may_give ask.now.clock.now) h text.now result after)
+        ensures answers { Tells (⟦<Runner<F, J> as Running>⟧.disk self.old) ⊎ FlushesNone text.now
+            → Moves (λ h after. Answers ask.now.kind (C.may_give ask.now.clock.now) h text.now result after)
             (⟦<Runner<F, J> as Running>⟧.state self.old) (⟦<Runner<F, J> as Running>⟧.state self.new)
             (⟦<Runner<F, J> as Running>⟧.disk self.old) (⟦<Runner<F, J> as Running>⟧.disk self.new) }
-        ensures tables { During SameTables (⟦<Runner<F, J> as Running>⟧.disk self.old) (⟦<Runner<F, J> as Running>⟧.disk self.new) }
-        ensures lists { KeepsListing (⟦<Runner<F, J> as Running>⟧.state self.old)
+        ensures tables { During (SameUpTo (⟦<Runner<F, J> as Running>⟧.state self.old).last_file)
+            (⟦<Runner<F, J> as Running>⟧.disk self.old) (⟦<Runner<F, J> as Running>⟧.disk self.new) }
+        ensures lists { FlushesNone text.now → KeepsListing (⟦<Runner<F, J> as Running>⟧.state self.old)
             (⟦<Runner<F, J> as Running>⟧.disk self.old) (⟦<Runner<F, J> as Running>⟧.disk self.new) }
         ensures numbers { NumbersOn (⟦<Runner<F, J> as Running>⟧.state self.old) (⟦<Runner<F, J> as Running>⟧.state self.new) }
         ensures counts { CountsOn (⟦<Runner<F, J> as Running>⟧.state self.old) (⟦<Runner<F, J> as Running>⟧.state self.new) }
@@ -87,6 +111,7 @@ impl<F: Folder, J: Store> Runner<F, J> {
             Line::Blank => None,
             Line::Syntax => Some(Reply::Refused(SYNTAX)),
             Line::Clock(seconds) => Some(self.set_clock(ask.kind, seconds)),
+            Line::Flush(name) => Some(self.flush(alloc, &name)),
             Line::Statement(statement) => {
                 let answer = self
                     .node
@@ -104,11 +129,13 @@ impl<F: Folder, J: Store> Runner<F, J> {
         line: &[u8],
     ) -> Option<Reply>
         requires few { IsFew (⟦<Runner<F, J> as Running>⟧.state self.old) }
-        ensures answers { Moves (λ h after. Answers ask.now.kind (C.may_give ask.now.clock.now) h line.now result after)
+        ensures answers { Tells (⟦<Runner<F, J> as Running>⟧.disk self.old) ⊎ FlushesNone line.now
+            → Moves (λ h after. Answers ask.now.kind (C.may_give ask.now.clock.now) h line.now result after)
             (⟦<Runner<F, J> as Running>⟧.state self.old) (⟦<Runner<F, J> as Running>⟧.state self.new)
             (⟦<Runner<F, J> as Running>⟧.disk self.old) (⟦<Runner<F, J> as Running>⟧.disk self.new) }
-        ensures tables { During SameTables (⟦<Runner<F, J> as Running>⟧.disk self.old) (⟦<Runner<F, J> as Running>⟧.disk self.new) }
-        ensures lists { KeepsListing (⟦<Runner<F, J> as Running>⟧.state self.old)
+        ensures tables { During (SameUpTo (⟦<Runner<F, J> as Running>⟧.state self.old).last_file)
+            (⟦<Runner<F, J> as Running>⟧.disk self.old) (⟦<Runner<F, J> as Running>⟧.disk self.new) }
+        ensures lists { FlushesNone line.now → KeepsListing (⟦<Runner<F, J> as Running>⟧.state self.old)
             (⟦<Runner<F, J> as Running>⟧.disk self.old) (⟦<Runner<F, J> as Running>⟧.disk self.new) }
         ensures numbers { NumbersOn (⟦<Runner<F, J> as Running>⟧.state self.old) (⟦<Runner<F, J> as Running>⟧.state self.new) }
         ensures counts { CountsOn (⟦<Runner<F, J> as Running>⟧.state self.old) (⟦<Runner<F, J> as Running>⟧.state self.new) }

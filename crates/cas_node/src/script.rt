@@ -1,13 +1,15 @@
 //! Runs the lines of a script one after another, and writes what they answer.
 
 ghost use Rattle.std.specs.Prelude.{◌≡◌, ◌≤◌, ◌⊎◌, Some};
+ghost use Rattle.std.specs.Str.Lines.{lines};
 ghost use Rattle.cas_io.specs.Causes.{Rose};
 ghost use Rattle.cas_disk.specs.Disk.{During};
-ghost use Rattle.cas_journal.specs.Stores.{SameTables};
 ghost use Rattle.cas_render.specs.Text.{reply_text};
-ghost use Rattle.cas_sessions.specs.Listing.{KeepsListing};
+ghost use Rattle.cas_sessions.specs.Listing.{KeepsListing, SameUpTo};
 ghost use Rattle.cas_sessions.specs.Numbering.{NumbersOn};
 ghost use Rattle.cas_sessions.specs.Nodes.{CountsOn, IsFew, Moves};
+ghost use Rattle.cas_node.specs.Lines.{FlushesNone, NoneFlushes, Tells};
+ghost use Rattle.cas_node.specs.Inner.Serving.{IsKnownIn};
 ghost use Rattle.cas_node.specs.Inner.Turns.{IsEnd, IsToldSo, Printed, PrintedReply, StopsFor, Turned};
 ghost use Rattle.cas_node.specs.Ran.{RanFrom, reply_cause, weight, worse};
 
@@ -139,12 +141,13 @@ fn take_turn<K: Sink, F: Folder, J: Store, C: Clock>(
     line: &[u8],
 ) -> Turn
     requires few { IsFew (⟦<Runner<F, J> as Running>⟧.state runner.old) }
-    ensures turned { Moves (λ h after. Turned ask.now.kind (C.may_give ask.now.clock.now) h line.now after
+    ensures turned { Tells (⟦<Runner<F, J> as Running>⟧.disk runner.old) ⊎ FlushesNone line.now → Moves (λ h after. Turned ask.now.kind (C.may_give ask.now.clock.now) h line.now after
         (K.took sink.old) (K.took sink.new) result.cause result.fault)
         (⟦<Runner<F, J> as Running>⟧.state runner.old) (⟦<Runner<F, J> as Running>⟧.state runner.new)
         (⟦<Runner<F, J> as Running>⟧.disk runner.old) (⟦<Runner<F, J> as Running>⟧.disk runner.new) }
-    ensures tables { During SameTables (⟦<Runner<F, J> as Running>⟧.disk runner.old) (⟦<Runner<F, J> as Running>⟧.disk runner.new) }
-    ensures lists { KeepsListing (⟦<Runner<F, J> as Running>⟧.state runner.old)
+    ensures tables { During (SameUpTo (⟦<Runner<F, J> as Running>⟧.state runner.old).last_file)
+        (⟦<Runner<F, J> as Running>⟧.disk runner.old) (⟦<Runner<F, J> as Running>⟧.disk runner.new) }
+    ensures lists { FlushesNone line.now → KeepsListing (⟦<Runner<F, J> as Running>⟧.state runner.old)
         (⟦<Runner<F, J> as Running>⟧.disk runner.old) (⟦<Runner<F, J> as Running>⟧.disk runner.new) }
     ensures numbers { NumbersOn (⟦<Runner<F, J> as Running>⟧.state runner.old) (⟦<Runner<F, J> as Running>⟧.state runner.new) }
     ensures counts { CountsOn (⟦<Runner<F, J> as Running>⟧.state runner.old) (⟦<Runner<F, J> as Running>⟧.state runner.new) }
@@ -183,12 +186,13 @@ pub(crate) fn run_lines<K: Sink, F: Folder, J: Store, C: Clock>(
     sink: &mut K,
 ) -> Cause
     requires begun { ((⟦<Runner<F, J> as Running>⟧.state runner.old).calls ≡ 0) × ((⟦<Runner<F, J> as Running>⟧.state runner.old).accepted ≡ 0) }
-    ensures ran { Moves (λ h after. RanFrom h ask.now.kind (C.may_give ask.now.clock.now) script.now
+    ensures ran { IsKnownIn (⟦<Runner<F, J> as Running>⟧.disk runner.old) script.now → Moves (λ h after. RanFrom h ask.now.kind (C.may_give ask.now.clock.now) script.now
         (K.took sink.old) (K.took sink.new) after result)
         (⟦<Runner<F, J> as Running>⟧.state runner.old) (⟦<Runner<F, J> as Running>⟧.state runner.new)
         (⟦<Runner<F, J> as Running>⟧.disk runner.old) (⟦<Runner<F, J> as Running>⟧.disk runner.new) }
-    ensures tables { During SameTables (⟦<Runner<F, J> as Running>⟧.disk runner.old) (⟦<Runner<F, J> as Running>⟧.disk runner.new) }
-    ensures lists { KeepsListing (⟦<Runner<F, J> as Running>⟧.state runner.old)
+    ensures tables { During (SameUpTo (⟦<Runner<F, J> as Running>⟧.state runner.old).last_file)
+        (⟦<Runner<F, J> as Running>⟧.disk runner.old) (⟦<Runner<F, J> as Running>⟧.disk runner.new) }
+    ensures lists { NoneFlushes (lines script.now) → KeepsListing (⟦<Runner<F, J> as Running>⟧.state runner.old)
         (⟦<Runner<F, J> as Running>⟧.disk runner.old) (⟦<Runner<F, J> as Running>⟧.disk runner.new) }
     ensures numbers { NumbersOn (⟦<Runner<F, J> as Running>⟧.state runner.old) (⟦<Runner<F, J> as Running>⟧.state runner.new) }
     ensures faults { K.faults sink.old ≤ K.faults sink.new }

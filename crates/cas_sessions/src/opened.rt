@@ -133,6 +133,7 @@ fn assembled<F: Folder, J: Store>(
         → IsInMemory given entries mutations openings started.limits started.tables.items started.shards.items started.last_file started.live
         → (session : ℕ) → BeginsAs given entries mutations openings (F.disk folder) (⟦<Node<F, J> as Stored>⟧.state result session 0 (pos 0)) }
     ensures folder { result.room.folder ≡ folder }
+    ensures last { result.room.numbers.last ≡ started.last_file }
     ensures sessions { ⟦<Node<F, J> as Stored>⟧.sessions result ≡ seats.maker.out }
 {
     Node {
@@ -170,6 +171,7 @@ impl<F: Folder> Opened<F> {
             self.started.live → (session : ℕ)
             → BeginsAs given entries mutations openings (F.disk self.folder) (⟦<Node<F, J> as Stored>⟧.state n session 0 (pos 0))) }
         ensures folder { IfOk result (λ n. n.room.folder ≡ self.folder) }
+        ensures last { IfOk result (λ n. n.room.numbers.last ≡ self.started.last_file) }
         ensures sessions { IfOk result (λ n. ⟦<Node<F, J> as Stored>⟧.sessions n ≡ 0) }
         ensures kept { IfErr result (λ c. (c.folder ≡ self.folder) × (c.pass ≡ None) × (c.first ≡ None) × (c.tally ≡ self.tally)) }
     {

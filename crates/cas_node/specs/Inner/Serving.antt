@@ -1,5 +1,6 @@
 -- A run over a store that was opened (own).
 use Rattle.std.specs.Prelude.{◌≡◌, ◌⊎◌, ◌<◌, ◌≤◌, ℕ, ℤ, List, ◌∷◌, Option, None, Some}
+use Rattle.std.specs.Str.Lines.{lines}
 use Rattle.cas_disk.specs.Disk.{Disk, During, Image}
 use Rattle.cas_types.specs.declared.schema.TableSchema.{TableSchema}
 use Rattle.cas_atoms.specs.declared.atom.Mutation.{Mutation}
@@ -26,13 +27,14 @@ use Rattle.cas_sessions.specs.Nodes.{files_in}
 use Rattle.cas_sessions.specs.Starts.{Begins, IsInMemory}
 use Rattle.cas_sessions.specs.Entered.{AreEntered, IsLeft}
 use Rattle.cas_sessions.specs.Listing.{SameListing}
+use Rattle.cas_node.specs.Lines.{NoneFlushes, Tells}
 use Rattle.cas_node.specs.Ran.{RanFrom, with_faults}
 use Rattle.cas_recovery.specs.Restored.{IsTold}
 use Rattle.cas_node.specs.Inner.Turns.{IsEnd}
 
 -- The lines of the script ran in a store of these entries and mutations, whose shards were so before and whose table files are these, and accepted this
--- list; where all that was found lasts, so does what was acknowledged, and the manifest lists the table files that it listed; and each
--- shard numbered on what was accepted.
+-- list; where all that was found lasts, so does what was acknowledged, and where no line flushes a table, the manifest lists the table files that it listed;
+-- and each shard numbered on what was accepted.
 pub record Served (kind : ClockKind) (Gives : ℤ → Type 0) (script : List ℕ) (old new : Option (List ℕ)) (limits : Limits)
     (entries : List ManifestEntry) (mutations : List Mutation) (openings : ℕ → ShardOpening) (files : ℕ → ℕ → List (File Held)) (journal : Journal)
     (before after : Disk) (faults_before faults_first faults_now reads : ℕ) (list : List (Item Event)) (why : Cause) : Type 0 where
@@ -43,12 +45,16 @@ pub record Served (kind : ClockKind) (Gives : ℤ → Type 0) (script : List ℕ
   pub ran : RanFrom first kind Gives script old new final told
   pub entered : AreEntered list final
   pub crash : (t : Told) → IsTold entries mutations t → Lasts journal before t → (i : Image) → after.may_leave i → IsLeft mutations list final i
-  pub lists : (t : Told) → IsTold entries mutations t → Lasts journal before t → During SameListing before after
+  pub lists : NoneFlushes (lines script) → (t : Told) → IsTold entries mutations t → Lasts journal before t → During SameListing before after
   pub numbers : (t : Told) → IsTold entries mutations t → Lasts journal before t → (n : ℕ) → n < (said_by entries).shards
       → AscendByOne ((openings n).number ∷ numbers_of n (accepted_in list))
   pub faults : final.disk.faults ≡ faults_now
   pub reads_are : final.disk.reads ≡ reads
   pub ended : why ≡ with_faults faults_before faults_now reads told
+
+-- what the script's flushes write is known
+abbrev pub IsKnownIn : Disk → List ℕ → Type 0
+IsKnownIn folder script = Tells folder ⊎ NoneFlushes (lines script)
 
 -- whichever entries and mutations the store has, and whatever its shards were before, a run over it is such; or memory ran out before a line was run
 abbrev pub Serves : ClockKind → (ℤ → Type 0) → List ℕ → Option (List ℕ) → Option (List ℕ) → Limits → List TableSchema → List ShardState → ℕ → ℕ
@@ -56,7 +62,7 @@ abbrev pub Serves : ClockKind → (ℤ → Type 0) → List ℕ → Option (List
 Serves kind Gives script old new limits tables shards last live journal before faults faults_before after faults_now reads None why = why ≡ cause.Mem
 Serves kind Gives script old new limits tables shards last live journal before faults faults_before after faults_now reads (Some list) why =
     (given : Limits) (entries : List ManifestEntry) (mutations : List Mutation) (openings : ℕ → ShardOpening)
-    → IsInMemory given entries mutations openings limits tables shards last live → journal.last_segment ≤ next_segment entries
+    → IsInMemory given entries mutations openings limits tables shards last live → journal.last_segment ≤ next_segment entries → IsKnownIn before script
     → Served kind Gives script old new given entries mutations openings (files_in shards) journal before after faults_before faults faults_now reads list why
 
 -- why such a run ends: as its lines did, with the faults of its folder and of its reads; or memory ran out before a line was run

@@ -8,7 +8,7 @@ use Rattle.cas_node.specs.Ran.{GoodOrMem, IfUnread, weight}
 use Rattle.cas_node.specs.declared.cause.Cause.TheVariants as cause
 use Rattle.cas_node.specs.declared.program.TheConstants.{SCRIPT_LIMIT}
 use Rattle.cas_node.proofs.RunLemmas.{bad_opening, disk_opening, disk_told, ends_well, grave_opening, none_bad, not_disk_told, opening_read, opens_well, ran_all, served_read}
-use Rattle.cas_node.proofs.Staying.{listed_through}
+use Rattle.cas_node.proofs.Staying.{listed_through, tells_through}
 use Rattle.cas_node.proofs.program.run.Goals as goal
 
 pub returns-in-Err-start-clause-bad : goal.returns-in-Err-start-clause-bad
@@ -50,9 +50,12 @@ returns-clause-headline g c =
     ran_all _ _ _ _ c.in-Ok-Some.command c.deref.result.now _ _ _ _ _ _ _ _ _ _ (sym c.in-Ok-Some.ensures.exact ∙ c.in-Ok-Some.field-0-is)
     (subst (λ l. ReadToEnd (g.S.Source.left c.args.source.now) (g.S.Source.left c.read_script.new.source) l) (sym c.deref.ensures.value) c.in-Ok.ensures.script)
     c.in-Ok-start.ensures.started c.in-Ok-start.ensures.count _ c.faults-faults.ensures.number
-    (λ d reads bytes entries mutations opens.
-    listed_through c.in-Ok-Some.command.limits.shards entries mutations d _ _ _ opens (λ store. c.in-Ok-start.ensures.stays _ refl tt d reads bytes entries mutations store)
+    (λ d reads bytes entries mutations opens low.
+    listed_through c.in-Ok-Some.command.limits.shards entries mutations d _ _ _ _ opens low (λ store. c.in-Ok-start.ensures.stays _ refl tt d reads bytes entries mutations store)
     (λ new. c.in-Ok-start.ensures.made _ refl tt d reads bytes new) c.serve.ensures.tables)
+    (λ d reads bytes entries mutations opens.
+    tells_through c.in-Ok-Some.command.limits.shards entries mutations d _ _ opens reads (λ store. c.in-Ok-start.ensures.stays _ refl tt d reads bytes entries mutations store)
+    (λ new. c.in-Ok-start.ensures.made _ refl tt d reads bytes new))
     _
     (subst (λ l. length l ≤ SCRIPT_LIMIT) (sym c.deref.ensures.value) c.in-Ok.ensures.short) c.serve.ensures.served
     (λ none. ap (λ k. g.K.Sink.took k) (c.serve.ensures.unwritten none))
@@ -84,7 +87,10 @@ returns-clause-complete g c = λ well.
     ends_well _ _ _ _ _ c.in-Ok-Some.command (sym c.in-Ok-Some.ensures.exact ∙ c.in-Ok-Some.field-0-is) well c.deref.result.now _ _ _ _ _ _ _ _ _ _
     (subst (λ l. ReadToEnd (g.S.Source.left c.args.source.now) (g.S.Source.left c.read_script.new.source) l) (sym c.deref.ensures.value) c.in-Ok.ensures.script)
     c.in-Ok-start.ensures.started c.in-Ok-start.ensures.count _ c.faults-faults.ensures.number
-    (λ d reads bytes entries mutations opens.
-    listed_through c.in-Ok-Some.command.limits.shards entries mutations d _ _ _ opens (λ store. c.in-Ok-start.ensures.stays _ refl tt d reads bytes entries mutations store)
+    (λ d reads bytes entries mutations opens low.
+    listed_through c.in-Ok-Some.command.limits.shards entries mutations d _ _ _ _ opens low (λ store. c.in-Ok-start.ensures.stays _ refl tt d reads bytes entries mutations store)
     (λ new. c.in-Ok-start.ensures.made _ refl tt d reads bytes new) c.serve.ensures.tables)
+    (λ d reads bytes entries mutations opens.
+    tells_through c.in-Ok-Some.command.limits.shards entries mutations d _ _ opens reads (λ store. c.in-Ok-start.ensures.stays _ refl tt d reads bytes entries mutations store)
+    (λ new. c.in-Ok-start.ensures.made _ refl tt d reads bytes new))
     c.serve.ensures.served c.serve.ensures.write

@@ -1,5 +1,7 @@
 use Rattle.std.proofs.Common.{◌∙◌, pos, sym, ap, subst}
 use Rattle.std.specs.Prelude.{IsSome}
+use Rattle.cas_disk.specs.Disk.{During}
+use Rattle.cas_sessions.specs.Listing.{SameUpTo}
 use Rattle.cas_node.specs.Ran.{with_faults}
 use Rattle.cas_node.proofs.RunLemmas.{begins_as, left_by, opened_as, pass_by, serves_as}
 use Rattle.cas_node.proofs.Staying.{same_folder, tables_as}
@@ -45,14 +47,15 @@ run_lines-told-requires g c =
     record { begun = (c.in-Ok-session.ensures.begun.0, opened.accepted) }
 
 pub returns-in-Err-clause-tables : goal.returns-in-Err-clause-tables
-returns-in-Err-clause-tables g c = same_folder (λ x. g.F.Folder.disk x) _ _ (c.closed_unrun.ensures.folder ∙ c.in-Err.ensures.kept.0)
+returns-in-Err-clause-tables g c = same_folder (SameUpTo _) (λ x. g.F.Folder.disk x) _ _ (c.closed_unrun.ensures.folder ∙ c.in-Err.ensures.kept.0)
 
 pub returns-in-Err-session-clause-tables : goal.returns-in-Err-session-clause-tables
 returns-in-Err-session-clause-tables g c =
-    same_folder (λ x. g.F.Folder.disk x) _ _
+    same_folder (SameUpTo _) (λ x. g.F.Folder.disk x) _ _
     (c.closed_unrun-in-Err-session.ensures.folder ∙ c.close.ensures.folder ∙ ap (λ r. r.folder) c.session.ensures.room ∙ c.in-Ok.ensures.folder)
 
 pub returns-clause-tables : goal.returns-clause-tables
 returns-clause-tables g c =
-    tables_as (λ x. g.F.Folder.disk x) _ _ _ _ (ap (λ r. r.folder) c.session.ensures.room ∙ c.in-Ok.ensures.folder)
-    (c.finished.ensures.folder ∙ c.close-2.ensures.folder ∙ ap (λ r. r.folder) c.end.ensures.room) c.run_lines-told.ensures.tables
+    tables_as (SameUpTo c.args.opened.started.last_file) (λ x. g.F.Folder.disk x) _ _ _ _ (ap (λ r. r.folder) c.session.ensures.room ∙ c.in-Ok.ensures.folder)
+    (c.finished.ensures.folder ∙ c.close-2.ensures.folder ∙ ap (λ r. r.folder) c.end.ensures.room)
+    (subst (λ k. During (SameUpTo k) _ _) (ap (λ r. r.numbers.last) c.session.ensures.room ∙ c.in-Ok.ensures.last) c.run_lines-told.ensures.tables)

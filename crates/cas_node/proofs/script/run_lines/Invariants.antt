@@ -1,7 +1,7 @@
 use Rattle.std.proofs.Common.{◌≤◌, ◌<◌, ◌+◌, ◌^◌, length, map}
 use Rattle.cas_disk.specs.Disk.{During}
 use Rattle.cas_history.specs.Items.{listed, log_list}
-use Rattle.cas_journal.specs.Stores.{SameTables}
+use Rattle.cas_sessions.specs.Listing.{SameUpTo}
 use Rattle.cas_node.specs.Inner.Turns.{IsToldSo}
 use Rattle.cas_node.proofs.SessionLemmas.{AllSoFar}
 use Rattle.cas_node.proofs.script.run_lines.Given as goal
@@ -47,7 +47,8 @@ invariant-loop-rest g l = record {
       })
       (g.F.Folder.disk l.initial.runner.node.room.folder) (g.F.Folder.disk l.runner.node.room.folder)
       l.fn.script l.rest (g.K.Sink.took l.initial.sink) (g.K.Sink.took l.sink) l.cause;
-  tables : During SameTables (g.F.Folder.disk l.initial.runner.node.room.folder) (g.F.Folder.disk l.runner.node.room.folder);
+  tables : During (SameUpTo l.initial.runner.node.room.numbers.last) (g.F.Folder.disk l.initial.runner.node.room.folder) (g.F.Folder.disk l.runner.node.room.folder);
+  last : l.initial.runner.node.room.numbers.last ≤ l.runner.node.room.numbers.last;
   told : IsToldSo l.cause;
   few : l.runner.session.seat.calls + length l.rest ≤ length l.fn.script;
   accepted : l.runner.node.room.accepted + length l.rest ≤ length l.fn.script;

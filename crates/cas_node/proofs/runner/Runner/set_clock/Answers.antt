@@ -2,7 +2,7 @@ use Rattle.std.proofs.Common.{refl, arith}
 use Rattle.std.proofs.lemmas.Int.{ints}
 use Rattle.cas_node.proofs.Answered.{refuses_clock, sets_clock}
 use Rattle.cas_disk.proofs.Moments.{no_call}
-use Rattle.cas_journal.specs.Stores.{SameTables}
+use Rattle.cas_sessions.specs.Listing.{SameUpTo}
 use Rattle.cas_sessions.proofs.Listing.{lists_nothing}
 use Rattle.cas_sessions.proofs.Going.{numbers_none}
 use Rattle.cas_node.proofs.runner.Runner.set_clock.Goals as goal
@@ -14,10 +14,10 @@ pub returns-in-System-clause-sets : goal.returns-in-System-clause-sets
 returns-in-System-clause-sets g c = refuses_clock c.args.kind _ c.args.seconds _ c.in-System.is
 
 pub returns-in-Manual-clause-tables : goal.returns-in-Manual-clause-tables
-returns-in-Manual-clause-tables g c = no_call SameTables _
+returns-in-Manual-clause-tables g c = no_call (SameUpTo _) _
 
 pub returns-in-System-clause-tables : goal.returns-in-System-clause-tables
-returns-in-System-clause-tables g c = no_call SameTables _
+returns-in-System-clause-tables g c = no_call (SameUpTo _) _
 
 pub returns-in-Manual-clause-lists : goal.returns-in-Manual-clause-lists
 returns-in-Manual-clause-lists g c = lists_nothing _ _
