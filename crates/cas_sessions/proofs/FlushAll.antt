@@ -8,6 +8,7 @@ use Rattle.std.proofs.lemmas.List.Sums.{fold_push}
 use Rattle.cas_types.specs.declared.schema.TableSchema.{TableSchema}
 use Rattle.cas_bounds.specs.ClusteringOrder.{clustering_order}
 use Rattle.cas_disk.specs.Disk.{Disk, Image, Leaves}
+use Rattle.cas_disk.proofs.Moments.{no_call}
 use Rattle.cas_gates.specs.declared.first.First.{First}
 use Rattle.cas_atoms.specs.declared.atom.Mutation.{Mutation}
 use Rattle.cas_changes.specs.declared.entry.Change.{Change}
@@ -27,6 +28,7 @@ use Rattle.cas_sessions.specs.declared.answer.Fault.{Fault}
 use Rattle.cas_sessions.specs.declared.answer.Fault.TheVariants.{Refused, Stopped, Disk as Failed, Read, BadBlock, Mem}
 use Rattle.cas_sessions.specs.Calls.{IsTrueOf}
 use Rattle.cas_sessions.specs.Entered.{IsLeftAmid}
+use Rattle.cas_sessions.specs.Listing.{SameUpTo}
 use Rattle.cas_sessions.specs.Flushes.{AreInFiles, Flushed, Flushes, FlushesNamed, FlushesTable, Grows, WhyNoFurther, change_of, numbers_in, reach_by}
 use Rattle.cas_sessions.specs.History.{History, DiskState, shard_at}
 use Rattle.cas_sessions.specs.Nodes.{State, LastsFor, KeepsAll, Moves, disk_of}
@@ -123,7 +125,7 @@ first_more t k told o s u v d e f first one = record {
 
 pub first_none : (t : TableSchema) (s : State) (d : Disk) → FlushesFirst t 0 [] s s d d
 first_none t s d = record {
-  beside = quiet_beside s s d d (quiet_still s d);
+  beside = quiet_beside s s d d (quiet_still s d) (no_call (SameUpTo s.last_file) d);
   lasts = λ h found was tables lasts. quiet_goes s s d d (quiet_still s d) h found was tables lasts;
   moves = λ c reads have h stands. (
     quiet_stands s s d d (quiet_still s d) h stands,

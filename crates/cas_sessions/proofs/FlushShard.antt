@@ -8,7 +8,7 @@ use Rattle.cas_types.specs.declared.schema.TableSchema.{TableSchema}
 use Rattle.cas_bounds.specs.ClusteringOrder.{clustering_order}
 use Rattle.cas_bounds.specs.declared.order.Ordered.{Ordered}
 use Rattle.cas_io.specs.Causes.{Rose}
-use Rattle.cas_disk.specs.Disk.{Disk, Image}
+use Rattle.cas_disk.specs.Disk.{Disk, During, Image}
 use Rattle.cas_disk.proofs.Moments.{no_call}
 use Rattle.cas_gates.specs.declared.first.First.{First}
 use Rattle.cas_atoms.specs.declared.atom.Mutation.{Mutation}
@@ -32,6 +32,7 @@ use Rattle.cas_sessions.specs.declared.answer.Fault.{Fault}
 use Rattle.cas_sessions.specs.declared.answer.Fault.TheVariants.{Refused, Stopped, Disk as Failed, Read, BadBlock, Mem}
 use Rattle.cas_sessions.specs.Flushes.{AreInFiles, Grows, WhyNoFurther, reach_by}
 use Rattle.cas_recovery.specs.Restored.{Remember}
+use Rattle.cas_sessions.specs.Listing.{SameUpTo}
 use Rattle.cas_sessions.specs.History.{History, DiskState, shard_at}
 use Rattle.cas_sessions.specs.Nodes.{State, StandsFor, LastsFor, disk_of, files_in, files_of}
 use Rattle.cas_sessions.specs.Inner.Faults.{fault_for}
@@ -39,6 +40,7 @@ use Rattle.cas_sessions.specs.Inner.Flushing.{AddsFile, EndsIn, FlushedOne, Flus
 use Rattle.cas_sessions.proofs.FlushChange.{below_next, lists_done, lists_failed}
 use Rattle.cas_sessions.proofs.FlushFiles.{SayNothing, in_files, memory_says_nothing, rest_says_nothing}
 use Rattle.cas_sessions.proofs.FlushSteps.{amid_then, beside_then, files_again, lasts_again, one_goes_on, quiet_amid, quiet_beside, quiet_goes, quiet_lasts, quiet_remembers, quiet_stands, same_shards, stands_again, with_disk}
+use Rattle.cas_sessions.proofs.Listing.{up_to_same}
 
 -- ---- nothing is done
 
@@ -334,8 +336,14 @@ module _ {T : Type 0} (t : TableSchema) (n number count : ℕ) (s m : State) (d 
       list = lists.list;
       calls = lists.calls;
       accepted = lists.accepted;
+      count = length_set m.shards n y ∙ ap length lists.shards;
+      numbers = λ k z got.
+          let (w, at, same) = numbers k z got in
+          (w, ap (λ (xs : List ShardState). slice_get xs k) (sym lists.shards) ∙ at, same);
+      last = omega (arith, lists.last);
       faults = lists.faults;
       reads = omega (arith, lists.reads);
+      during = up_to_same s.last_file d e lists.during;
       tells = lists.tells;
     };
     lasts = keeps_on;
@@ -385,8 +393,12 @@ module _ (t : TableSchema) (n number : ℕ) (s m : State) (d e : Disk) (c : Chan
       list = lists.list;
       calls = lists.calls;
       accepted = lists.accepted;
+      count = ap length lists.shards;
+      numbers = λ k z got. (z, ap (λ (xs : List ShardState). slice_get xs k) (sym lists.shards) ∙ got, refl);
+      last = omega (arith, lists.last);
       faults = lists.faults;
       reads = omega (arith, lists.reads);
+      during = up_to_same s.last_file d e lists.during;
       tells = lists.tells;
     };
     lasts = λ h found was tables lasts below. lists_failed s m d e n number c many adds low h found was lasts below (Unit {0}) f lists tables;
@@ -414,7 +426,7 @@ takes_none_as t n number s m d e c Says f r many going adds low lists is =
 -- memory ran out before
 pub takes_nothing : (t : TableSchema) (n number : ℕ) (Says : Type 0) (s : State) (d : Disk) → s.journal.first ≡ None → TakesFile t n number Says (Err Mem) s s d d
 takes_nothing t n number Says s d going = record {
-  beside = quiet_beside s s d d (quiet_still s d);
+  beside = quiet_beside s s d d (quiet_still s d) (no_call (SameUpTo s.last_file) d);
   lasts = λ h found was tables lasts below. quiet_goes s s d d (quiet_still s d) h found was tables lasts;
   moves = λ says. quiet_fails t n s s d d (quiet_still s d) going Mem tt;
   own = tt;
@@ -451,9 +463,9 @@ ends_since t n q (Err f) d m e files reach faults reads none =
 
 -- quiet steps, and then the file is listed or not
 pub flushes_then : (t : TableSchema) (n number last : ℕ) (Says : Type 0) (r : Result (Option ℕ) Fault) (s m u : State) (d e f : Disk) → Quiet s m d e
-    → TakesFile t n number Says r m u e f → s.last_file ≤ last → last < number → ((c : Image) → d.reads c → Remember s.tables s.shards → Says) → FlushesOne t n r s u d f
-flushes_then t n number last Says r s m u d e f quiet takes low above says = record {
-  beside = beside_then s m u d e f (quiet_beside s m d e quiet) takes.beside;
+    → During (SameUpTo s.last_file) d e → TakesFile t n number Says r m u e f → s.last_file ≤ last → last < number → ((c : Image) → d.reads c → Remember s.tables s.shards → Says) → FlushesOne t n r s u d f
+flushes_then t n number last Says r s m u d e f quiet during takes low above says = record {
+  beside = beside_then s m u d e f (quiet_beside s m d e quiet during) takes.beside;
   lasts = λ h found told tables lasts.
       let (now, amid) = takes.lasts h found told (tables ∙ sym quiet.tables) (quiet_lasts s m d e quiet h found told lasts)
       (below_next s.last_file number (said_by told.entries).numbers (omega (arith, low, above)) lasts.behind.numbers) in
@@ -469,10 +481,10 @@ flushes_then t n number last Says r s m u d e f quiet takes low above says = rec
 }
 
 -- quiet steps alone
-pub flushes_quietly : (t : TableSchema) (n : ℕ) (r : Result (Option ℕ) Fault) (s u : State) (d e : Disk) → Quiet s u d e
+pub flushes_quietly : (t : TableSchema) (n : ℕ) (r : Result (Option ℕ) Fault) (s u : State) (d e : Disk) → Quiet s u d e → During (SameUpTo s.last_file) d e
     → ((c : Image) → d.reads c → Remember s.tables s.shards → Moved (λ h. EndsIn t n (shard_at h n) r) s u) → IfErr r IsOwn → FlushesOne t n r s u d e
-flushes_quietly t n r s u d e quiet moves own = record {
-  beside = quiet_beside s u d e quiet;
+flushes_quietly t n r s u d e quiet during moves own = record {
+  beside = quiet_beside s u d e quiet during;
   lasts = λ h found told tables lasts. quiet_goes s u d e quiet h found told tables lasts;
   moves = λ c reads have h stands. moves c reads have have h stands;
   own = own;

@@ -4,7 +4,7 @@ use Rattle.std.specs.Prelude.{slice_get, slice_set}
 use Rattle.std.specs.List.{AllByRecursion}
 use Rattle.std.proofs.lemmas.Option.{same_Some}
 use Rattle.cas_types.specs.declared.schema.TableSchema.{TableSchema}
-use Rattle.cas_disk.specs.Disk.{Disk, Leaves}
+use Rattle.cas_disk.specs.Disk.{Disk, During, Leaves}
 use Rattle.cas_disk.proofs.Moments.{leaves_either, reworded}
 use Rattle.cas_atoms.specs.declared.atom.Mutation.{Mutation}
 use Rattle.cas_changes.specs.Saying.{said_by}
@@ -18,10 +18,12 @@ use Rattle.cas_shard.specs.Stands.{ShardState, Stands}
 use Rattle.cas_recovery.proofs.Places.{get_here, get_other, length_set, same_place}
 use Rattle.cas_sessions.specs.History.{History, shard_at}
 use Rattle.cas_sessions.specs.Entered.{IsLeftAmid, entries_in}
+use Rattle.cas_sessions.specs.Listing.{SameUpTo}
 use Rattle.cas_recovery.specs.Restored.{Remember}
 use Rattle.cas_sessions.specs.Nodes.{State, StandsFor, LastsFor, disk_of, files_in, files_of}
-use Rattle.cas_sessions.specs.Inner.Flushing.{AllGoOn, GoesOn, GoesOnAs, IsBeside, Quiet}
+use Rattle.cas_sessions.specs.Inner.Flushing.{AllGoOn, GoesOn, GoesOnAs, IsBeside, Quiet, SameNumbers}
 use Rattle.cas_sessions.proofs.Crashing.{holds_amid}
+use Rattle.cas_sessions.proofs.Listing.{up_to_twice}
 
 -- ---- shards
 
@@ -84,10 +86,6 @@ quiet_then s t u d e f first second = record {
 }
 
 -- ---- the disk keeps what it kept
-
--- each shard has the last number that it had
-abbrev pub SameNumbers : List ShardState → List ShardState → Type 0
-SameNumbers xs ys = (n : ℕ) (y : ShardState) → slice_get ys n ≡ Some y → (x : ShardState) × (slice_get xs n ≡ Some x) × (y.number ≡ x.number)
 
 all_below : (a b : ℕ) (ks : List ℕ) → a ≤ b → AllByRecursion (λ k. k ≤ a) ks → AllByRecursion (λ k. k ≤ b) ks
 all_below a b [] le all = tt
@@ -195,15 +193,19 @@ module _ (s t : State) (d e : Disk) (quiet : Quiet s t d e) where
       stands_again h s t stands quiet.limits quiet.tables quiet.clock quiet.list quiet.session quiet.calls quiet.shards.count
       (λ n y there. let (x, at, goes) = quiet.shards.each n y there in (x, at, λ q. goes.stands s.tables q)) (quiet_remembers stands.memory)
 
-  pub quiet_beside : IsBeside s t d e
-  quiet_beside = record {
+  pub quiet_beside : During (SameUpTo s.last_file) d e → IsBeside s t d e
+  quiet_beside during = record {
     limits = quiet.limits;
     tables = quiet.tables;
     list = quiet.list;
     calls = quiet.calls;
     accepted = quiet.accepted;
+    count = quiet.shards.count;
+    numbers = same_numbers;
+    last = quiet.last;
     faults = quiet.faults;
     reads = quiet.reads;
+    during = during;
     tells = quiet.tells;
   }
 
@@ -216,8 +218,15 @@ beside_then s t u d e f first second = record {
   list = second.list ∙ first.list;
   calls = second.calls ∙ first.calls;
   accepted = second.accepted ∙ first.accepted;
+  count = second.count ∙ first.count;
+  numbers = λ n z there.
+      let (y, at_y, later) = second.numbers n z there in
+      let (x, at_x, sooner) = first.numbers n y at_y in
+      (x, at_x, later ∙ sooner);
+  last = omega (arith, first.last, second.last);
   faults = omega (arith, first.faults, second.faults);
   reads = omega (arith, first.reads, second.reads);
+  during = up_to_twice s.last_file t.last_file d e f first.last first.during second.during;
   tells = λ c reads. let (b, now) = first.tells c reads in second.tells b now;
 }
 

@@ -13,6 +13,7 @@ use Rattle.cas_shard.specs.Stands.{ShardState}
 use Rattle.cas_recovery.proofs.Places.{get_here, get_other, get_within, is_other, is_same, length_set, same_place}
 use Rattle.cas_sessions.specs.Nodes.{State}
 use Rattle.cas_sessions.specs.Numbering.{NumbersOn}
+use Rattle.cas_sessions.specs.Inner.Flushing.{SameNumbers}
 
 -- ---- numbers
 
@@ -46,6 +47,17 @@ numbers_none s t list shards = record {
   list = ap accepted_in list ∙ sym (append-nil (accepted_in s.list));
   count = ap length shards;
   shards = λ n x y there here. none_on n x y (same_Some x y (sym there ∙ subst (λ xs. slice_get xs n ≡ Some y) shards here));
+}
+
+-- nothing was accepted, and each shard has its last number
+pub numbers_kept : (s t : State) → t.list ≡ s.list → length t.shards ≡ length s.shards → SameNumbers s.shards t.shards → NumbersOn s t
+numbers_kept s t list count same = record {
+  fresh = [];
+  list = ap accepted_in list ∙ sym (append-nil (accepted_in s.list));
+  count = count;
+  shards = λ n x y there here.
+      let (w, at, number) = same n y here in
+      (ap (λ (k : ℕ). k + 1) (number ∙ ap (λ (q : ShardState). q.number) (same_Some w x (sym at ∙ there))), tt);
 }
 
 -- one call more

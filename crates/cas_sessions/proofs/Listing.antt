@@ -1,10 +1,10 @@
 -- The manifest lists the same table files while a call is under way.
-use Rattle.std.proofs.Common.{◌≡◌, ◌∙◌, inl, inr, ⊎_elim, ℕ, List, [], ◌∷◌, ◌++◌, Option, None, Some, Result, Ok, Err, refl, sym, ap, subst, append-nil, append_assoc}
+use Rattle.std.proofs.Common.{◌≡◌, ◌≢◌, ◌∙◌, ◌≤◌, ◌<◌, inl, inr, ⊎_elim, ℕ, List, [], ◌∷◌, ◌++◌, Option, None, Some, Result, Ok, Err, refl, sym, ap, subst, append-nil, append_assoc, arith}
 use Rattle.std.specs.Prelude.{◌⊎◌}
 use Rattle.std.specs.List.{AllByRecursion}
 use Rattle.std.proofs.lemmas.Option.{same_Some}
-use Rattle.cas_disk.specs.declared.name.Name.TheVariants.{Manifest as manifest_name}
-use Rattle.cas_disk.specs.Disk.{Disk, During, Image, Leaves, Same}
+use Rattle.cas_disk.specs.declared.name.Name.TheVariants.{Manifest as manifest_name, Table as table_name}
+use Rattle.cas_disk.specs.Disk.{Changed, Disk, During, Image, Leaves, Same}
 use Rattle.cas_disk.proofs.Moments.{left_after, no_call, one_call_more, reworded}
 use Rattle.cas_gates.specs.declared.first.First.{First}
 use Rattle.cas_atoms.specs.declared.atom.Mutation.{Mutation}
@@ -12,12 +12,12 @@ use Rattle.cas_changes.specs.declared.entry.Entry.{Entry as ManifestEntry}
 use Rattle.cas_manifest.specs.File.{IsManifest}
 use Rattle.cas_journal.specs.Ends.{Ends, IsToldAtOnce, Prepares, WritesNothing}
 use Rattle.cas_journal.specs.Journals.{Lasts}
-use Rattle.cas_journal.specs.Stores.{FailedToName, Holds, HoldsWithRoom, IsStore, Told, failed_at, named}
+use Rattle.cas_journal.specs.Stores.{FailedToName, Holds, HoldsWithRoom, IsStore, SameTables, Told, failed_at, named}
 use Rattle.cas_journal.specs.declared.fault.JournalFault.{JournalFault}
 use Rattle.cas_journal.specs.declared.fault.JournalFault.TheVariants.{TooLarge, TooMany, Stopped, Failed, Mem}
 use Rattle.cas_journal.specs.declared.journal.Journal.{Journal}
 use Rattle.cas_recovery.specs.Restored.{IsTold}
-use Rattle.cas_sessions.specs.Listing.{HasBehind, HasEntries, KeepsListing, ListsNone, SameListing}
+use Rattle.cas_sessions.specs.Listing.{HasBehind, HasEntries, KeepsListing, ListsNone, SameListing, SameUpTo}
 use Rattle.cas_sessions.specs.Nodes.{State}
 use Rattle.cas_sessions.proofs.Alone.{manifest_alone}
 
@@ -91,6 +91,27 @@ still_lists a z call = reworded Same SameListing a z call (λ d c was same. same
 -- a call that changes nothing
 pub lists_nothing : (s : State) (d : Disk) → KeepsListing s d d
 lists_nothing s d h found told stands lasts = no_call SameListing d
+
+-- ---- table files up to a number
+
+-- all of them are the same
+pub up_to_same : (k : ℕ) (a b : Disk) → During SameTables a b → During (SameUpTo k) a b
+up_to_same k a b call = reworded SameTables (SameUpTo k) a b call (λ d c was same n low. same n)
+
+-- two calls, the first up to no higher a number
+pub up_to_twice : (k l : ℕ) (a b c : Disk) → k ≤ l → During (SameUpTo k) a b → During (SameUpTo l) b c → During (SameUpTo k) a c
+up_to_twice k l a b c le first second =
+    one_call_more (SameUpTo k) (SameUpTo l) a b c first second (λ d i was mid same n low. same n (omega (arith, low, le)))
+    (λ e d i was so_far mid same n low. same n (omega (arith, low, le)) ∙ so_far n low)
+
+apart : (k n : ℕ) → k < n → table_name k ≢ table_name n
+apart k n lt same = let e : k ≡ n = cc in omega (arith, e, lt)
+
+-- only one above is another
+pub up_to_below : (k number : ℕ) (change : Option (List ℕ) → Option (List ℕ) → Type 0) (a b : Disk) → k < number → During (Changed (table_name number) change) a b
+    → During (SameUpTo k) a b
+up_to_below k number change a b lt call =
+    reworded (Changed (table_name number) change) (SameUpTo k) a b call (λ d c was changed n low. changed.others (table_name n) (apart n number (omega (arith, low, lt))))
 
 -- ---- how a call ended
 

@@ -24,6 +24,7 @@ refused_so : (defines : Bool) (Gives : ℤ → Type 0) (h : History) (l : Line) 
 refused_so defines Gives h line.Blank f is = (ap (λ (x : Fault). reply_of (Err x)) is, refl)
 refused_so defines Gives h line.Syntax f is = (ap (λ (x : Fault). reply_of (Err x)) is, refl)
 refused_so defines Gives h (line.Clock n) f is = (ap (λ (x : Fault). reply_of (Err x)) is, refl)
+refused_so defines Gives h (line.Flush t) f is = (ap (λ (x : Fault). reply_of (Err x)) is, refl)
 refused_so defines Gives h (line.Statement x) f (other, is) =
     subst (λ b. IfTaken b (reply_of (Err f)) h h (Does clock.System Gives h (meaning h.limits.shards h.tables x) (reply_of (Err f)) h)) (sym other)
     (ap (λ (y : Fault). reply_of (Err y)) is, refl)
@@ -38,6 +39,7 @@ refused_truly : (defines : Bool) (l : Line) (f : Fault) (s : State) → Refuses 
 refused_truly defines line.Blank f s is = subst (λ (x : Fault). IsTrueOf (Err x) s s) (sym is) tt
 refused_truly defines line.Syntax f s is = subst (λ (x : Fault). IsTrueOf (Err x) s s) (sym is) tt
 refused_truly defines (line.Clock n) f s is = subst (λ (x : Fault). IsTrueOf (Err x) s s) (sym is) tt
+refused_truly defines (line.Flush t) f s is = subst (λ (x : Fault). IsTrueOf (Err x) s s) (sym is) tt
 refused_truly defines (line.Statement x) f s (other, is) = subst (λ (x : Fault). IsTrueOf (Err x) s s) (sym is) tt
 
 pub tells_nothing : (defines : Bool) (text : List ℕ) (f : Fault) (s : State) → Finds defines text (Err f) → IsTrueOf (Err f) s s

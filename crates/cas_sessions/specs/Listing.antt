@@ -1,5 +1,5 @@
 -- Which table files a store's manifest lists, and what they are, in what a crash leaves of its folder (own).
-use Rattle.std.specs.Prelude.{◌≡◌, ℕ, List, ◌++◌, Some}
+use Rattle.std.specs.Prelude.{◌≡◌, ◌≤◌, ℕ, List, ◌++◌, Some}
 use Rattle.std.specs.List.{AllByRecursion}
 use Rattle.cas_disk.specs.declared.name.Name.TheVariants.{Manifest as manifest_name, Table as table_name}
 use Rattle.cas_disk.specs.Disk.{Disk, During, Image}
@@ -18,6 +18,10 @@ use Rattle.cas_sessions.specs.Nodes.{State, StandsFor, LastsFor}
 -- each table file that these entries list of a table in a shard is in the second image what it is in the first: all of its bytes, under its number
 abbrev pub SameListed : List ManifestEntry → Image → Image → Type 0
 SameListed entries d c = (number : ℕ) → IsListedTable (said_by entries) number → c (table_name number) ≡ d (table_name number)
+
+-- each table file of a number up to this one is in the second image what it is in the first
+abbrev pub SameUpTo : ℕ → Image → Image → Type 0
+SameUpTo last d c = (n : ℕ) → n ≤ last → c (table_name n) ≡ d (table_name n)
 
 -- ---- the list of them
 

@@ -49,9 +49,9 @@ pub record State : Type 0 where
 abbrev pub IsFew : State → Type 0
 IsFew s = (s.calls + 1 < 2 ^ 64) × (s.accepted + 1 < 2 ^ 64)
 
--- at most one mutation more was counted
+-- at most one mutation more was counted, and the last number of a table file doesn't fall
 abbrev pub CountsOn : State → State → Type 0
-CountsOn s t = (t.calls ≤ s.calls + 1) × (t.accepted ≤ s.accepted + 1)
+CountsOn s t = (t.calls ≤ s.calls + 1) × (t.accepted ≤ s.accepted + 1) × (s.last_file ≤ t.last_file)
 
 -- the files of a table in a shard, if it is there
 abbrev pub files_of : Option ShardState → ℕ → List (File Held)

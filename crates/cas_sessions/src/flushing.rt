@@ -4,7 +4,7 @@ ghost use Rattle.std.specs.Prelude.{◌≡◌, ◌≤◌, ◌<◌, ◌∷◌, �
 ghost use Rattle.std.specs.Prelude.{length, slice_get, IfOk, IfErr, IfSome, IfNone, OnOk, vec_capacity, vec_len};
 ghost use Rattle.std.specs.Option.{option_copied};
 ghost use Rattle.std.specs.Arc.{arc_value};
-ghost use Rattle.cas_disk.specs.Disk.{Image};
+ghost use Rattle.cas_disk.specs.Disk.{During, Image};
 ghost use Rattle.cas_changes.specs.declared.entry.Change.{Change as Wrote};
 ghost use Rattle.cas_changes.specs.declared.entry.Entry.TheVariants as entry_of;
 ghost use Rattle.cas_history.specs.Items.{listed};
@@ -20,6 +20,8 @@ ghost use Rattle.cas_shard.specs.Flushing.{bytes_at, frozen_at};
 ghost use Rattle.cas_shard.specs.Stands.{ShardState, files_at};
 ghost use Rattle.cas_sessions.specs.Calls.{IsTrueOf};
 ghost use Rattle.cas_sessions.specs.Flushes.{Flushes};
+ghost use Rattle.cas_sessions.specs.Listing.{SameUpTo};
+ghost use Rattle.cas_sessions.specs.Numbering.{NumbersOn};
 ghost use Rattle.cas_recovery.specs.Restored.{Remember};
 ghost use Rattle.cas_sessions.specs.Nodes.{CountsOn, KeepsAll, Moves};
 ghost use Rattle.cas_sessions.specs.Inner.Flushing.{AddsFile, FlushesFirst, FlushesNoFurther, FlushesOne, HasOneMore, IsChangeFor, IsOwn, Lists};
@@ -147,6 +149,7 @@ impl<F: Folder, J: Store> Node<F, J> {
         ensures quiet { (session calls : ℕ) (clock : ℤ) → Quiet (⟦<Node<F, J> as Stored>⟧.state self.old session calls clock)
             (⟦<Node<F, J> as Stored>⟧.state self.new session calls clock)
             (⟦<Node<F, J> as Stored>⟧.disk self.old) (⟦<Node<F, J> as Stored>⟧.disk self.new) }
+        ensures tables { During (SameUpTo self.old.room.numbers.last) (⟦<Node<F, J> as Stored>⟧.disk self.old) (⟦<Node<F, J> as Stored>⟧.disk self.new) }
         ensures room { (self.new.room ≡ self.old.room) × (self.new.limits ≡ self.old.limits) × (self.new.tables ≡ self.old.tables) }
         ensures frozen { IfOk result (λ count. (x : ShardState) → slice_get self.new.shards.items place ≡ Some x
             → (count ≡ length (frozen_at (slice_get x.stores table))) × (bytes_at (slice_get x.stores table) ≡ 0)) }
@@ -164,6 +167,7 @@ impl<F: Folder, J: Store> Node<F, J> {
         ensures quiet { (session calls : ℕ) (clock : ℤ) → Quiet (⟦<Node<F, J> as Stored>⟧.state self.old session calls clock)
             (⟦<Node<F, J> as Stored>⟧.state self.new session calls clock)
             (⟦<Node<F, J> as Stored>⟧.disk self.old) (⟦<Node<F, J> as Stored>⟧.disk self.new) }
+        ensures tables { During (SameUpTo self.old.room.numbers.last) (⟦<Node<F, J> as Stored>⟧.disk self.old) (⟦<Node<F, J> as Stored>⟧.disk self.new) }
         ensures outcome { Begins self.old.live self.old.room.numbers.last (F.faults_of self.old.room.folder) (F.faults_of self.new.room.folder) result }
         ensures number { IfOk result (λ r. (self.old.room.numbers.last < r.0) × (r.0 ≤ self.new.room.numbers.last) × (r.0 ≤ FILE_NUMBER_LIMIT)
             × (F.Draft.number r.1 ≡ r.0)) }
@@ -204,6 +208,8 @@ impl<F: Folder, J: Store> Node<F, J> {
         ensures quiet { (session calls : ℕ) (clock : ℤ) → Quiet (⟦<Node<F, J> as Stored>⟧.state self.old session calls clock)
             (⟦<Node<F, J> as Stored>⟧.state self.new session calls clock)
             (⟦<Node<F, J> as Stored>⟧.disk self.old) (⟦<Node<F, J> as Stored>⟧.disk self.new) }
+        ensures tables { (last : ℕ) → last < info.now.number
+            → During (SameUpTo last) (⟦<Node<F, J> as Stored>⟧.disk self.old) (⟦<Node<F, J> as Stored>⟧.disk self.new) }
         ensures view { IfOk result (λ v. (t : _) (x : ShardState) → slice_get self.old.tables.items table ≡ Some t
             → slice_get self.old.shards.items place ≡ Some x → HasOneMore t place info.now (F.Draft.written draft)
             ((c : Image) × (⟦<Node<F, J> as Stored>⟧.disk self.old).reads c) (files_at (slice_get x.stores table)) (arc_value v)) }
@@ -243,6 +249,7 @@ impl<F: Folder, J: Store> Node<F, J> {
         ensures quiet { (session calls : ℕ) (clock : ℤ) → Quiet (⟦<Node<F, J> as Stored>⟧.state self.old session calls clock)
             (⟦<Node<F, J> as Stored>⟧.state self.new session calls clock)
             (⟦<Node<F, J> as Stored>⟧.disk self.old) (⟦<Node<F, J> as Stored>⟧.disk self.new) }
+        ensures tables { During (SameUpTo self.old.room.numbers.last) (⟦<Node<F, J> as Stored>⟧.disk self.old) (⟦<Node<F, J> as Stored>⟧.disk self.new) }
         ensures made { IfOk result (λ o. IfSome o (λ m. (t : _) (x : ShardState) → slice_get self.old.tables.items table ≡ Some t
             → slice_get self.old.shards.items place ≡ Some x → IsMade t (slice_get x.stores table)
             ((c : Image) × (⟦<Node<F, J> as Stored>⟧.disk self.old).reads c) self.old.room.numbers.last m.0 (arc_value m.1))) }
@@ -476,6 +483,10 @@ impl<F: Folder, J: Store> Node<F, J> {
         ensures crash { (clock : ℤ) → KeepsAll (⟦<Node<F, J> as Stored>⟧.state self.old session.old.seat.list session.old.seat.calls clock)
             (⟦<Node<F, J> as Stored>⟧.state self.new session.new.seat.list session.new.seat.calls clock)
             (⟦<Node<F, J> as Stored>⟧.disk self.old) (⟦<Node<F, J> as Stored>⟧.disk self.new) }
+        ensures tables { During (SameUpTo self.old.room.numbers.last) (⟦<Node<F, J> as Stored>⟧.disk self.old) (⟦<Node<F, J> as Stored>⟧.disk self.new) }
+        ensures last { self.old.room.numbers.last ≤ self.new.room.numbers.last }
+        ensures numbers { (clock : ℤ) → NumbersOn (⟦<Node<F, J> as Stored>⟧.state self.old session.old.seat.list session.old.seat.calls clock)
+            (⟦<Node<F, J> as Stored>⟧.state self.new session.new.seat.list session.new.seat.calls clock) }
         ensures told { IfErr result (λ f. IsTrueOf (Err f) (⟦<Node<F, J> as Stored>⟧.state self.old session.old.seat.list session.old.seat.calls (pos 0))
             (⟦<Node<F, J> as Stored>⟧.state self.new session.new.seat.list session.new.seat.calls (pos 0))) }
         ensures counts { (session.new.seat.calls ≡ session.old.seat.calls) × (self.new.room.accepted ≡ self.old.room.accepted) }

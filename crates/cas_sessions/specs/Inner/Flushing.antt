@@ -7,7 +7,7 @@ use Rattle.cas_types.specs.declared.limits.TheConstants.{MUTATION_LIMIT}
 use Rattle.cas_types.specs.declared.schema.TableSchema.{TableSchema}
 use Rattle.cas_bounds.specs.ClusteringOrder.{clustering_order}
 use Rattle.cas_io.specs.Causes.{Rose}
-use Rattle.cas_disk.specs.Disk.{Disk, Image, Leaves}
+use Rattle.cas_disk.specs.Disk.{Disk, During, Image, Leaves}
 use Rattle.cas_disk.specs.declared.fault.FolderFault.{FolderFault}
 use Rattle.cas_disk.specs.declared.fault.FolderFault.TheVariants as folder
 use Rattle.cas_atoms.specs.declared.atom.Mutation.{Mutation}
@@ -22,7 +22,7 @@ use Rattle.cas_info.specs.Allowed.{FitsInfo}
 use Rattle.cas_info.specs.declared.info.TableInfo.{TableInfo}
 use Rattle.cas_journal.specs.Ends.{Ends}
 use Rattle.cas_journal.specs.Reach.{reach_of, reach_after}
-use Rattle.cas_journal.specs.Stores.{Told, Holds, appended, committed_all}
+use Rattle.cas_journal.specs.Stores.{Told, Holds, SameTables, appended, committed_all}
 use Rattle.cas_journal.specs.declared.fault.JournalFault.{JournalFault}
 use Rattle.cas_memtable.specs.Kept.{HoldJust}
 use Rattle.cas_room.specs.Changing.{MayBeTold, StandsAmid}
@@ -47,6 +47,7 @@ use Rattle.cas_sessions.specs.Flushes.{AreInFiles, Flushed, Grows, WhyNoFurther,
 use Rattle.cas_recovery.specs.Restored.{Remember}
 use Rattle.cas_sessions.specs.History.{History, DiskState, shard_at}
 use Rattle.cas_sessions.specs.Entered.{IsLeftAmid}
+use Rattle.cas_sessions.specs.Listing.{SameUpTo}
 use Rattle.cas_sessions.specs.Nodes.{State, StandsFor, LastsFor, disk_of}
 
 -- ---- shards
@@ -62,6 +63,10 @@ pub record GoesOnAs (x y : ShardState) : Type 0 where
 pub record AllGoOn (xs ys : List ShardState) : Type 0 where
   pub count : length ys ≡ length xs
   pub each : (n : ℕ) (y : ShardState) → slice_get ys n ≡ Some y → (x : ShardState) × (slice_get xs n ≡ Some x) × GoesOnAs x y
+
+-- each shard has the last number that it had
+abbrev pub SameNumbers : List ShardState → List ShardState → Type 0
+SameNumbers xs ys = (n : ℕ) (y : ShardState) → slice_get ys n ≡ Some y → (x : ShardState) × (slice_get xs n ≡ Some x) × (y.number ≡ x.number)
 
 -- ---- steps before the manifest gets the change
 
@@ -108,6 +113,7 @@ pub record Lists {T : Type 0} (c : Change) (result : Result T JournalFault) (s t
       (λ f. (u : Told) × MayBeTold f (change_entry c) told u × Keeps t.journal e t.list t.committed found u)
   pub front : (found : List Mutation) (told : Told) → Keeps s.journal d s.list s.committed found told → FitsEntry (said_by told.entries) (change_entry c)
       → Leaves (λ i. StandsAmid told (change_entry c) found (accepted_in s.list) s.committed i) d e
+  pub during : During SameTables d e
   pub outcome : Ends s.journal.first t.journal.first s.faults t.faults result
   pub reach : reach_of t.journal ≡ reach_after result (change_entry c) (reach_of s.journal)
   pub tells : (i : Image) → d.reads i → (b : Image) × e.reads b
@@ -227,15 +233,20 @@ pub record AddsFile (tables : List TableSchema) (shards : List ShardState) (plac
   pub fits : FitsInfo told
   pub numbered : told.number ≡ number
 
--- all but the disk is as it was, its counts don't fall, and a folder that tells what it reads goes on telling it
+-- All but the disk is as it was, and its counts don't fall; a folder that tells what it reads goes on telling it. Of table files only those above the last
+-- number change, at each moment.
 pub record IsBeside (s u : State) (d e : Disk) : Type 0 where
   pub limits : u.limits ≡ s.limits
   pub tables : u.tables ≡ s.tables
   pub list : u.list ≡ s.list
   pub calls : u.calls ≡ s.calls
   pub accepted : u.accepted ≡ s.accepted
+  pub count : length u.shards ≡ length s.shards
+  pub numbers : SameNumbers s.shards u.shards
+  pub last : s.last_file ≤ u.last_file
   pub faults : s.faults ≤ u.faults
   pub reads : s.reads ≤ u.reads
+  pub during : During (SameUpTo s.last_file) d e
   pub tells : (c : Image) → d.reads c → (b : Image) × e.reads b
 
 -- its disk keeps what it kept, and a crash in between leaves what it must

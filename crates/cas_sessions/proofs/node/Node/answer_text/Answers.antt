@@ -25,7 +25,7 @@ pub returns-in-Err-clause-told : goal.returns-in-Err-clause-told
 returns-in-Err-clause-told g c = tells_nothing c.args.defines c.args.text.now c.in-Err.fault _ c.in-Err.ensures
 
 pub returns-in-Err-clause-counts : goal.returns-in-Err-clause-counts
-returns-in-Err-clause-counts g c = (omega arith, omega arith)
+returns-in-Err-clause-counts g c = (omega arith, omega arith, omega arith)
 
 pub returns-in-Err-clause-tables : goal.returns-in-Err-clause-tables
 returns-in-Err-clause-tables g c = no_call SameTables _

@@ -167,3 +167,17 @@ returns-in-Err-define-clause-numbers g c = λ clock. numbers_none _ _ (ap (λ lo
 
 pub returns-clause-numbers : goal.returns-clause-numbers
 returns-clause-numbers g c = λ clock. numbers_none _ _ (ap (λ log. listed log_list log.pass.saw) c.define.ensures.log) refl
+
+pub returns-in-Err-define-clause-counts : goal.returns-in-Err-define-clause-counts
+returns-in-Err-define-clause-counts g c = (
+  omega (arith, c.define.ensures.session.1),
+  omega (arith, c.define.ensures.accepted),
+  omega (arith, ap (λ q. q.last) c.define.ensures.numbers),
+)
+
+pub returns-clause-counts : goal.returns-clause-counts
+returns-clause-counts g c = (
+  omega (arith, c.define.ensures.session.1),
+  omega (arith, c.define.ensures.accepted),
+  omega (arith, ap (λ q. q.last) c.define.ensures.numbers),
+)

@@ -3,6 +3,7 @@ use Rattle.std.specs.Prelude.{slice_get}
 use Rattle.std.proofs.lemmas.Option.{slice_get_within}
 use Rattle.cas_terms.specs.Columns.{table_named}
 use Rattle.cas_sessions.proofs.FlushAll.{flushes_all, flushes_some, keeps_all, named_there, true_of_flush}
+use Rattle.cas_sessions.proofs.Going.{numbers_kept}
 use Rattle.cas_sessions.proofs.node.Node.flush.Goals as goal
 
 pub flush_table-requires-clause-within : goal.flush_table-requires-clause-within
@@ -73,3 +74,57 @@ returns-in-Err-clause-counts g c =
     let at_t : slice_get n.tables.items t.number ≡ Some t = named_there n.tables.items c.args.name.now t n.sound.tables.numbered is in
     let none = c.in-Err.ensures.failed (pos 0) t at_t in
     (none.beside.calls, none.beside.accepted)
+
+pub returns-in-Ok-clause-tables : goal.returns-in-Ok-clause-tables
+returns-in-Ok-clause-tables g c =
+    let n = c.args.self.now in
+    let t = c.in-Some.table.now in
+    let is : table_named n.tables.items c.args.name.now ≡ Some t = ap (λ ts. table_named ts c.args.name.now) (sym c.deref.ensures.value) ∙ sym c.in-Some.ensures in
+    let at_t : slice_get n.tables.items t.number ≡ Some t = named_there n.tables.items c.args.name.now t n.sound.tables.numbered is in
+    let first = c.in-Ok.ensures.flushed (pos 0) t at_t in
+    first.beside.during
+
+pub returns-in-Ok-clause-last : goal.returns-in-Ok-clause-last
+returns-in-Ok-clause-last g c =
+    let n = c.args.self.now in
+    let t = c.in-Some.table.now in
+    let is : table_named n.tables.items c.args.name.now ≡ Some t = ap (λ ts. table_named ts c.args.name.now) (sym c.deref.ensures.value) ∙ sym c.in-Some.ensures in
+    let at_t : slice_get n.tables.items t.number ≡ Some t = named_there n.tables.items c.args.name.now t n.sound.tables.numbered is in
+    let first = c.in-Ok.ensures.flushed (pos 0) t at_t in
+    first.beside.last
+
+pub returns-in-Ok-clause-numbers : goal.returns-in-Ok-clause-numbers
+returns-in-Ok-clause-numbers g c = λ clock.
+    let n = c.args.self.now in
+    let t = c.in-Some.table.now in
+    let is : table_named n.tables.items c.args.name.now ≡ Some t = ap (λ ts. table_named ts c.args.name.now) (sym c.deref.ensures.value) ∙ sym c.in-Some.ensures in
+    let at_t : slice_get n.tables.items t.number ≡ Some t = named_there n.tables.items c.args.name.now t n.sound.tables.numbered is in
+    let first = c.in-Ok.ensures.flushed clock t at_t in
+    numbers_kept _ _ first.beside.list first.beside.count first.beside.numbers
+
+pub returns-in-Err-clause-tables : goal.returns-in-Err-clause-tables
+returns-in-Err-clause-tables g c =
+    let n = c.args.self.now in
+    let t = c.in-Some.table.now in
+    let is : table_named n.tables.items c.args.name.now ≡ Some t = ap (λ ts. table_named ts c.args.name.now) (sym c.deref.ensures.value) ∙ sym c.in-Some.ensures in
+    let at_t : slice_get n.tables.items t.number ≡ Some t = named_there n.tables.items c.args.name.now t n.sound.tables.numbered is in
+    let none = c.in-Err.ensures.failed (pos 0) t at_t in
+    none.beside.during
+
+pub returns-in-Err-clause-last : goal.returns-in-Err-clause-last
+returns-in-Err-clause-last g c =
+    let n = c.args.self.now in
+    let t = c.in-Some.table.now in
+    let is : table_named n.tables.items c.args.name.now ≡ Some t = ap (λ ts. table_named ts c.args.name.now) (sym c.deref.ensures.value) ∙ sym c.in-Some.ensures in
+    let at_t : slice_get n.tables.items t.number ≡ Some t = named_there n.tables.items c.args.name.now t n.sound.tables.numbered is in
+    let none = c.in-Err.ensures.failed (pos 0) t at_t in
+    none.beside.last
+
+pub returns-in-Err-clause-numbers : goal.returns-in-Err-clause-numbers
+returns-in-Err-clause-numbers g c = λ clock.
+    let n = c.args.self.now in
+    let t = c.in-Some.table.now in
+    let is : table_named n.tables.items c.args.name.now ≡ Some t = ap (λ ts. table_named ts c.args.name.now) (sym c.deref.ensures.value) ∙ sym c.in-Some.ensures in
+    let at_t : slice_get n.tables.items t.number ≡ Some t = named_there n.tables.items c.args.name.now t n.sound.tables.numbered is in
+    let none = c.in-Err.ensures.failed clock t at_t in
+    numbers_kept _ _ none.beside.list none.beside.count none.beside.numbers

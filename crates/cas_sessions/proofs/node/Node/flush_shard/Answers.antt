@@ -10,6 +10,7 @@ use Rattle.cas_sessions.proofs.FlushMaking.{one_in_memory}
 use Rattle.cas_sessions.proofs.FlushShard.{flushes_quietly, flushes_then, not_made_since, quiet_fails, quiet_none_at}
 use Rattle.cas_sessions.proofs.FlushSound.{numbered, there_at}
 use Rattle.cas_sessions.proofs.FlushSteps.{quiet_remembers, quiet_then}
+use Rattle.cas_sessions.proofs.Listing.{up_to_twice}
 use Rattle.cas_sessions.proofs.node.Node.flush_shard.Goals as goal
 
 pub returns-in-Ok-eq0-clause-flushes : goal.returns-in-Ok-eq0-clause-flushes
@@ -22,14 +23,14 @@ returns-in-Ok-eq0-clause-flushes g c = λ clock t at_t.
     let y = here.0 in
     let now_t : slice_get f.tables.items c.args.table ≡ Some t = ap (λ ts. slice_get ts.items c.args.table) c.freeze.ensures.room.2 ∙ at_t in
     let frozen = c.in-Ok-eq0.ensures.frozen y here.1 in
-    flushes_quietly t c.args.place _ _ _ _ _ (c.freeze.ensures.quiet _ _ clock)
+    flushes_quietly t c.args.place _ _ _ _ _ (c.freeze.ensures.quiet _ _ clock) c.freeze.ensures.tables
     (λ image reads have.
     quiet_none_at t c.args.place _ _ _ _ (c.freeze.ensures.quiet _ _ clock) c.requires.going y c.args.table number at_t here.1 frozen.1
     (λ kept. no_frozen (clustering_order t.columns) (frozen_at (slice_get y.stores c.args.table)) (omega (arith, frozen.0)))) tt
 
 pub returns-in-Err-clause-flushes : goal.returns-in-Err-clause-flushes
 returns-in-Err-clause-flushes g c = λ clock t at_t.
-    flushes_quietly t c.args.place _ _ _ _ _ (c.freeze.ensures.quiet _ _ clock)
+    flushes_quietly t c.args.place _ _ _ _ _ (c.freeze.ensures.quiet _ _ clock) c.freeze.ensures.tables
     (λ image reads have. quiet_fails t c.args.place _ _ _ _ (c.freeze.ensures.quiet _ _ clock) c.requires.going Mem tt) tt
 
 pub returns-in-Ok-None-clause-flushes : goal.returns-in-Ok-None-clause-flushes
@@ -50,6 +51,7 @@ returns-in-Ok-None-clause-flushes g c = λ clock t at_t.
     (subst (λ o. IfNone o ((u : _) (x : _) → slice_get f.tables.items c.args.table ≡ Some u → slice_get f.shards.items c.args.place ≡ Some x → HoldsNothing u (slice_get x.stores c.args.table)))
     c.in-Ok-None.field-0-is c.in-Ok-None.ensures.nothing) t y now_t here.1 in
     flushes_quietly t c.args.place _ _ _ _ _ (quiet_then _ _ _ _ _ _ (c.freeze.ensures.quiet _ _ clock) (c.make_file.ensures.quiet _ _ clock))
+    (up_to_twice _ _ _ _ _ (c.freeze.ensures.quiet 0 0 clock).last c.freeze.ensures.tables c.make_file.ensures.tables)
     (λ image reads have.
     quiet_none_at t c.args.place _ _ _ _ (quiet_then _ _ _ _ _ _ (c.freeze.ensures.quiet _ _ clock) (c.make_file.ensures.quiet _ _ clock)) c.requires.going y c.args.table number at_t at_m frozen.1
     (λ kept.
@@ -64,6 +66,7 @@ returns-in-Ok-None-clause-going g c =
 pub returns-in-Err-make_file-clause-flushes : goal.returns-in-Err-make_file-clause-flushes
 returns-in-Err-make_file-clause-flushes g c = λ clock t at_t.
     flushes_quietly t c.args.place _ _ _ _ _ (quiet_then _ _ _ _ _ _ (c.freeze.ensures.quiet _ _ clock) (c.make_file.ensures.quiet _ _ clock))
+    (up_to_twice _ _ _ _ _ (c.freeze.ensures.quiet 0 0 clock).last c.freeze.ensures.tables c.make_file.ensures.tables)
     (λ image reads have.
     let read = (c.freeze.ensures.quiet 0 0 clock).tells image reads in
     quiet_fails t c.args.place _ _ _ _ (quiet_then _ _ _ _ _ _ (c.freeze.ensures.quiet _ _ clock) (c.make_file.ensures.quiet _ _ clock)) c.requires.going c.in-Err-make_file.fault
@@ -95,7 +98,8 @@ returns-clause-flushes g c = λ clock t at_t.
     let m_t : slice_get m.tables.items c.args.table ≡ Some t = ap (λ ts. slice_get ts.items c.args.table) c.make_file.ensures.same.2 ∙ now_t in
     let made = (rw c.in-Ok-Some.field-0-is at c.in-Ok-Some.ensures.made) t y now_t here.1 in
     let f_t : slice_get f.tables.items t.number ≡ Some t = ap (λ (k : ℕ). slice_get f.tables.items k) number ∙ now_t in
-    flushes_then t c.args.place _ _ _ _ _ _ _ _ _ _ (quiet_then _ _ _ _ _ _ (c.freeze.ensures.quiet _ _ clock) (c.make_file.ensures.quiet _ _ clock)) (c.take_file.ensures.takes clock t y m_t at_m made.new) (c.freeze.ensures.quiet 0 0 clock).last made.above
+    flushes_then t c.args.place _ _ _ _ _ _ _ _ _ _ (quiet_then _ _ _ _ _ _ (c.freeze.ensures.quiet _ _ clock) (c.make_file.ensures.quiet _ _ clock))
+    (up_to_twice _ _ _ _ _ (c.freeze.ensures.quiet 0 0 clock).last c.freeze.ensures.tables c.make_file.ensures.tables) (c.take_file.ensures.takes clock t y m_t at_m made.new) (c.freeze.ensures.quiet 0 0 clock).last made.above
     (λ image reads have.
     let read = (c.freeze.ensures.quiet 0 0 clock).tells image reads in
     let ws = quiet_remembers _ _ _ _ (c.freeze.ensures.quiet 0 0 clock) have c.args.place t.number y here.1 in

@@ -3,9 +3,11 @@ use Rattle.std.specs.Prelude.{slice_get}
 use Rattle.std.proofs.lemmas.List.{length-map}
 use Rattle.std.proofs.lemmas.Option.{same_Some, slice_get_read}
 use Rattle.std.specs.Arc.{arc_value}
+use Rattle.cas_disk.proofs.Moments.{no_call}
 use Rattle.cas_shard.specs.Flushing.{bytes_at, frozen_at}
 use Rattle.cas_shard.specs.Stands.{ShardState}
 use Rattle.cas_recovery.proofs.Places.{get_here}
+use Rattle.cas_sessions.specs.Listing.{SameUpTo}
 use Rattle.cas_sessions.proofs.Filing.{still_readable, still_unmade}
 use Rattle.cas_sessions.proofs.FlushShard.{quiet_one}
 use Rattle.cas_sessions.proofs.FlushSound.{still_remembers}
@@ -70,3 +72,9 @@ returns-in-Ok-clause-frozen g c = λ z there.
       sym (length-map c.frozen.result.now arc_value) ∙ ap length c.frozen.ensures ∙ ap (λ (w : ShardState). length (frozen_at (slice_get w.stores c.args.table))) same,
       ap (λ (w : ShardState). bytes_at (slice_get w.stores c.args.table)) (sym same) ∙ c.in-Ok.ensures.begun,
     )
+
+pub returns-in-Ok-clause-tables : goal.returns-in-Ok-clause-tables
+returns-in-Ok-clause-tables g c = no_call (SameUpTo c.args.self.now.room.numbers.last) _
+
+pub returns-in-Err-clause-tables : goal.returns-in-Err-clause-tables
+returns-in-Err-clause-tables g c = no_call (SameUpTo c.args.self.now.room.numbers.last) _

@@ -13,6 +13,7 @@ use Rattle.cas_shard.specs.Flushing.{frozen_at, memtables_at}
 use Rattle.cas_sessions.proofs.FlushMaking.{for_table, is_made, its_number, more_since, never_bad, one_in_memory, quiet_reads, stands_for, told_fits}
 use Rattle.cas_sessions.proofs.FlushShard.{not_made_since}
 use Rattle.cas_sessions.proofs.FlushSteps.{quiet_then}
+use Rattle.cas_sessions.proofs.Listing.{up_to_twice}
 use Rattle.cas_sessions.proofs.node.Node.make_file.Goals as goal
 
 pub returns-in-Ok-None-clause-quiet : goal.returns-in-Ok-None-clause-quiet
@@ -154,3 +155,47 @@ returns-in-Err-open_file-clause-why g c = λ image reads have.
     → ((b : List ℕ) → g.F.Draft.Draft.written c.in-Ok.begun.1 b → b ≡ []) → Flushes g.F.Draft.Draft.number g.F.Draft.Draft.written sch c.args.place c.in-Ok.begun.0 (frozen_at (slice_get sh.stores sch.number)) r)
     c.in-Ok-Some.field-0-is c.in-Ok-Some.ensures.written)) (have c.args.place sch.number sh was_sh).0 just).whole
     (c.in-Err-open_file.ensures.why sch at_sch))
+
+pub returns-in-Ok-open_file-clause-tables : goal.returns-in-Ok-open_file-clause-tables
+returns-in-Ok-open_file-clause-tables g c =
+    let n = c.begin_file.new.self in
+    let sch = c.index-schema.result.now in
+    let sh = c.index-shard.result.now in
+    let low_t : c.args.table < length n.tables.items = subst (λ ts. c.args.table < length ts.items) (sym c.begin_file.ensures.same.2) c.requires.within.0 in
+    let low_n : c.args.place < n.limits.shards = subst (λ l. c.args.place < l.shards) (sym c.begin_file.ensures.same.1) c.requires.within.1 in
+    let at_sch : slice_get n.tables.items c.args.table ≡ Some sch = slice_get_read n.tables.items (length n.tables.items) c.args.table sch refl low_t c.index-schema.ensures in
+    let at_sh : slice_get n.shards.items c.args.place ≡ Some sh = slice_get_read n.shards.items n.limits.shards c.args.place sh (sym n.sound.count) low_n c.index-shard.ensures in
+    let its = its_number n.tables.items n.shards.items sch sch sh sh c.args.table c.args.place at_sch at_sch at_sh at_sh n.sound.tables.numbered in
+    let there : slice_get n.tables.items sch.number ≡ Some sch = ap (λ (k : ℕ). slice_get n.tables.items k) its ∙ at_sch in
+    let has = ∥∥₁_map (n.kept c.args.place sch.number sh at_sh) (λ k. (k.0, subst (λ (j : ℕ). HoldJust sch.columns (memtables_at (slice_get sh.stores j)) k.0) its (one_in_memory n.tables.items sch k.0 sh there k.1))) in
+    let told = told_fits g.F.Draft.Draft.number g.F.Draft.Draft.written sch c.args.place c.in-Ok.begun.0 (slice_get sh.stores c.args.table) c.in-Ok-Some.written.0 c.in-Ok-Some.written.1
+    (for_table n.tables.items n.shards.items sch sch sh sh c.args.table c.args.place at_sch at_sch at_sh at_sh n.sound.tables.numbered g.F.Draft.Draft.number g.F.Draft.Draft.written c.in-Ok.begun.0
+    c.in-Ok.begun.1 (Some c.in-Ok-Some.written) c.in-Ok.ensures.number.3 c.in-Ok.ensures.empty
+    (subst (λ r. (ws : List Mutation) → HoldJust sch.columns (memtables_at (slice_get sh.stores sch.number)) ws → g.F.Draft.Draft.number c.in-Ok.begun.1 ≡ c.in-Ok.begun.0
+    → ((b : List ℕ) → g.F.Draft.Draft.written c.in-Ok.begun.1 b → b ≡ []) → Flushes g.F.Draft.Draft.number g.F.Draft.Draft.written sch c.args.place c.in-Ok.begun.0 (frozen_at (slice_get sh.stores sch.number)) r)
+    c.in-Ok-Some.field-0-is c.in-Ok-Some.ensures.written)) has in
+    let number : c.in-Ok-Some.written.0.number ≡ c.in-Ok.begun.0 = told.1 in
+    let last = c.args.self.now.room.numbers.last in
+    up_to_twice last last _ _ _ (omega arith) c.begin_file.ensures.tables (c.open_file.ensures.tables last (omega (arith, number, c.in-Ok.ensures.number.0)))
+
+pub returns-in-Err-open_file-clause-tables : goal.returns-in-Err-open_file-clause-tables
+returns-in-Err-open_file-clause-tables g c =
+    let n = c.begin_file.new.self in
+    let sch = c.index-schema.result.now in
+    let sh = c.index-shard.result.now in
+    let low_t : c.args.table < length n.tables.items = subst (λ ts. c.args.table < length ts.items) (sym c.begin_file.ensures.same.2) c.requires.within.0 in
+    let low_n : c.args.place < n.limits.shards = subst (λ l. c.args.place < l.shards) (sym c.begin_file.ensures.same.1) c.requires.within.1 in
+    let at_sch : slice_get n.tables.items c.args.table ≡ Some sch = slice_get_read n.tables.items (length n.tables.items) c.args.table sch refl low_t c.index-schema.ensures in
+    let at_sh : slice_get n.shards.items c.args.place ≡ Some sh = slice_get_read n.shards.items n.limits.shards c.args.place sh (sym n.sound.count) low_n c.index-shard.ensures in
+    let its = its_number n.tables.items n.shards.items sch sch sh sh c.args.table c.args.place at_sch at_sch at_sh at_sh n.sound.tables.numbered in
+    let there : slice_get n.tables.items sch.number ≡ Some sch = ap (λ (k : ℕ). slice_get n.tables.items k) its ∙ at_sch in
+    let has = ∥∥₁_map (n.kept c.args.place sch.number sh at_sh) (λ k. (k.0, subst (λ (j : ℕ). HoldJust sch.columns (memtables_at (slice_get sh.stores j)) k.0) its (one_in_memory n.tables.items sch k.0 sh there k.1))) in
+    let told = told_fits g.F.Draft.Draft.number g.F.Draft.Draft.written sch c.args.place c.in-Ok.begun.0 (slice_get sh.stores c.args.table) c.in-Ok-Some.written.0 c.in-Ok-Some.written.1
+    (for_table n.tables.items n.shards.items sch sch sh sh c.args.table c.args.place at_sch at_sch at_sh at_sh n.sound.tables.numbered g.F.Draft.Draft.number g.F.Draft.Draft.written c.in-Ok.begun.0
+    c.in-Ok.begun.1 (Some c.in-Ok-Some.written) c.in-Ok.ensures.number.3 c.in-Ok.ensures.empty
+    (subst (λ r. (ws : List Mutation) → HoldJust sch.columns (memtables_at (slice_get sh.stores sch.number)) ws → g.F.Draft.Draft.number c.in-Ok.begun.1 ≡ c.in-Ok.begun.0
+    → ((b : List ℕ) → g.F.Draft.Draft.written c.in-Ok.begun.1 b → b ≡ []) → Flushes g.F.Draft.Draft.number g.F.Draft.Draft.written sch c.args.place c.in-Ok.begun.0 (frozen_at (slice_get sh.stores sch.number)) r)
+    c.in-Ok-Some.field-0-is c.in-Ok-Some.ensures.written)) has in
+    let number : c.in-Ok-Some.written.0.number ≡ c.in-Ok.begun.0 = told.1 in
+    let last = c.args.self.now.room.numbers.last in
+    up_to_twice last last _ _ _ (omega arith) c.begin_file.ensures.tables (c.open_file.ensures.tables last (omega (arith, number, c.in-Ok.ensures.number.0)))

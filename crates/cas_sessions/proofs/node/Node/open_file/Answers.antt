@@ -1,7 +1,9 @@
-use Rattle.std.proofs.Common.{◌≡◌, ◌∙◌, length, Some, Err, refl, sym, ap}
+use Rattle.std.proofs.Common.{◌≡◌, ◌∙◌, length, Some, Err, refl, sym, ap, arith}
 use Rattle.std.specs.Prelude.{slice_get}
 use Rattle.std.proofs.lemmas.Option.{same_Some, slice_get_read}
+use Rattle.cas_disk.specs.Disk.{MayBeAnything}
 use Rattle.cas_sessions.proofs.FlushMaking.{one_more, why_not_loaded_as}
+use Rattle.cas_sessions.proofs.Listing.{up_to_below}
 use Rattle.cas_sessions.proofs.node.Node.open_file.Goals as goal
 
 pub returns-in-Ok-view_of_flush-clause-view : goal.returns-in-Ok-view_of_flush-clause-view
@@ -25,3 +27,15 @@ returns-in-Err-view_of_flush-clause-why g c = λ t at_t.
     why_not_loaded_as t c.args.place c.args.info.now (g.F.Draft.Draft.written c.args.draft) _ _ _ _ _ c.in-Err-view_of_flush.fault c.fault_of_load.result sch
     (g.F.Sealed.Sealed.contents c.in-Ok.file) c.fault_of_load.ensures (same_Some sch t (sym at_sch ∙ at_t)) c.in-Ok.ensures.holds (λ tells. c.in-Ok.ensures.told tells.0 tells.1)
     c.in-Err-view_of_flush.ensures.why (λ e. c.view_of_flush.ensures.count.rose (c.in-Err-view_of_flush.is ∙ ap Err e))
+
+pub returns-in-Err-clause-tables : goal.returns-in-Err-clause-tables
+returns-in-Err-clause-tables g c = λ last above.
+    up_to_below last (g.F.Draft.Draft.number c.args.draft) MayBeAnything _ _ (omega (arith, above, c.requires.fits.1)) c.admit.ensures.during
+
+pub returns-in-Ok-view_of_flush-clause-tables : goal.returns-in-Ok-view_of_flush-clause-tables
+returns-in-Ok-view_of_flush-clause-tables g c = λ last above.
+    up_to_below last (g.F.Draft.Draft.number c.args.draft) MayBeAnything _ _ (omega (arith, above, c.requires.fits.1)) c.admit.ensures.during
+
+pub returns-in-Err-view_of_flush-clause-tables : goal.returns-in-Err-view_of_flush-clause-tables
+returns-in-Err-view_of_flush-clause-tables g c = λ last above.
+    up_to_below last (g.F.Draft.Draft.number c.args.draft) MayBeAnything _ _ (omega (arith, above, c.requires.fits.1)) c.admit.ensures.during

@@ -373,3 +373,24 @@ returns-in-Err-commit-clause-numbers g c = λ clock.
     (set_twice c.args.self.now.shards.items c.args.write.shard c.prepare.new.self c.enter.new.self) c.in-Ok.mutation _ _
     (ap (λ l. listed log_list l.pass.saw) c.commit.ensures.log ∙ c.in-Ok-accept.ensures.entered.0) c.in-Ok.ensures.ready.shard
     (c.in-Ok.ensures.prepared.next ∙ ap (λ k. k + 1) c.prepare.ensures.number) c.enter.ensures.number
+
+pub returns-in-Err-clause-counts : goal.returns-in-Err-clause-counts
+returns-in-Err-clause-counts g c = (
+  omega (arith, c.in-Err.ensures.unentered.2),
+  omega (arith, c.in-Err.ensures.unaccepted),
+  omega (arith, ap (λ q. q.last) c.accept.ensures.numbers),
+)
+
+pub returns-in-Ok-commit-clause-counts : goal.returns-in-Ok-commit-clause-counts
+returns-in-Ok-commit-clause-counts g c = (
+  omega (arith, c.in-Ok-accept.ensures.calls, c.commit.ensures.session.1),
+  omega (arith, c.in-Ok-accept.ensures.accepted, c.commit.ensures.accepted),
+  omega (arith, ap (λ q. q.last) (c.commit.ensures.numbers ∙ c.accept.ensures.numbers)),
+)
+
+pub returns-in-Err-commit-clause-counts : goal.returns-in-Err-commit-clause-counts
+returns-in-Err-commit-clause-counts g c = (
+  omega (arith, c.in-Ok-accept.ensures.calls, c.commit.ensures.session.1),
+  omega (arith, c.in-Ok-accept.ensures.accepted, c.commit.ensures.accepted),
+  omega (arith, ap (λ q. q.last) (c.commit.ensures.numbers ∙ c.accept.ensures.numbers)),
+)
