@@ -9,10 +9,14 @@ use std::alloc::{AllocError, Global};
 use std::str::from_utf8;
 
 /// How many statements a run has, beside definitions and what sets the clock.
-const STATEMENTS_OF_A_RUN: u32 = 2_500;
+const STATEMENTS_OF_A_RUN: u32 = 2_000;
 
-/// How many of them are made until the clock is set to the next second.
+/// How many of them are made until the clock is set to the next second. It divides those of a run, which so begins by
+/// setting the clock.
 const STATEMENTS_OF_A_SECOND: u32 = 8;
+
+/// Of so many seconds one is drawn.
+const SECONDS: usize = 3;
 
 /// How many of them are made until a key is left behind and a new one comes. It bounds what a partition has.
 const STATEMENTS_OF_A_KEY: u32 = 300;
@@ -136,11 +140,13 @@ impl Maker<'_> {
         }
     }
 
-    // Around the second of the statement of that number.
+    // Around the second of the statement of that number. In a run none is below one of an earlier run: so it doesn't show
+    // whether a run found a moment that only a SELECT gave, which a flush tells the next run.
     fn second(&mut self, number: u32) -> u64
         ensures { result < 2 ^ 32 }
     {
-        u64::from(number / STATEMENTS_OF_A_SECOND) + self.chance.below(3) as u64
+        let begun = u64::from(number / STATEMENTS_OF_A_RUN) * SECONDS as u64;
+        u64::from(number / STATEMENTS_OF_A_SECOND) + begun + self.chance.below(SECONDS) as u64
     }
 
     fn key(&mut self, number: u32) -> u64 {

@@ -5,6 +5,7 @@ ghost use Rattle.cas_types.specs.Limits.{IsShardCount};
 
 use crate::clock::ListedClock;
 use crate::gate::CountedGate;
+use crate::lines::is_feed;
 use crate::row::{RowFault, Trial, trials};
 use crate::running::run_script;
 use cas_chance::generated;
@@ -16,6 +17,9 @@ use cas_types::Mem;
 use cas_words::{Command, read_words};
 use std::alloc::{AllocError, Global};
 use std::{fs, io};
+
+// What the reference answers to a flush: it writes no files that it could number.
+const FLUSHED: &[u8] = b"flushed\n";
 
 /// What a comparison came to.
 #[derive(Drop)]
@@ -70,6 +74,28 @@ fn put_reply(
     }
 }
 
+// Whether the line answers a flush, with the numbers of files or without.
+fn is_flushed(line: &[u8]) -> bool {
+    line == FLUSHED || line.starts_with(b"flushed ".as_slice())
+}
+
+// The output behind what answers a flush; none where it begins with something else.
+fn behind_flush(output: &[u8]) -> Option<&[u8]> {
+    match output.split_inclusive(is_feed).next() {
+        Some(line) if is_flushed(line) => output.strip_prefix(line),
+        _ => None,
+    }
+}
+
+// The output behind the reply; none where it begins with something else. Of a flush the numbers of files may stand there.
+fn behind<'a>(output: &'a [u8], reply: &[u8]) -> Option<&'a [u8]> {
+    if reply == FLUSHED {
+        behind_flush(output)
+    } else {
+        output.strip_prefix(reply)
+    }
+}
+
 // Compares a run, of which this is the output.
 fn compare_run(
     alloc: Global,
@@ -89,7 +115,7 @@ fn compare_run(
             return Ok(Compared::Failed);
         }
         put_reply(alloc, reference, &clock, line, &mut reply)?;
-        match output.strip_prefix(reply.as_slice()) {
+        match behind(output, &reply) {
             Some(more) => output = more,
             None => return Ok(difference(alloc, number, line, output, &reply)?),
         }

@@ -29,6 +29,16 @@ struct Front {
     read: Ended,
 }
 
+// Whether the line answers a flush that wrote files.
+fn is_of_flush(line: &[u8]) -> bool {
+    line.starts_with(b"flushed ".as_slice())
+}
+
+// Whether the line tells that the disk was written to.
+fn is_of_disk(line: &[u8]) -> bool {
+    line.starts_with(b"ok".as_slice()) || is_of_flush(line)
+}
+
 // A run and the next one, and the folder that they begin with.
 #[derive(Clone, Copy)]
 struct Pair<'a> {
@@ -104,7 +114,7 @@ impl Pair<'_> {
     }
 
     // What the first lines are to print where the disk fails for the one after so many. A line that names a table or column
-    // of a lost definition may be refused.
+    // of a lost definition may be refused; and behind a flush that got no file nothing is stopped, so that the disk fails anew.
     fn cut_short(
         &self,
         alloc: Global,
@@ -114,21 +124,23 @@ impl Pair<'_> {
     ) -> Result<Vec<u8>, AllocError> {
         let mut wanted = Vec::new(alloc);
         let mut is_undefined = false;
+        let mut is_unflushed = false;
         let mut answers = found.split_inclusive(is_feed);
         let whole = self.trial.ended.output.split_inclusive(is_feed);
         for (i, line) in whole.take(lines).enumerate() {
             let answer = answers.next().unwrap_or(&[]);
-            let is_lost = i >= answered && line.starts_with(b"ok".as_slice());
+            let is_lost = i >= answered && is_of_disk(line);
             wanted.extend_from_slice(if !is_lost {
                 line
             } else if is_undefined && answer.starts_with(b"refused S".as_slice()) {
                 answer
-            } else if i == answered {
+            } else if i == answered || (is_unflushed && answer == FAILED) {
                 FAILED
             } else {
                 STOPPED
             })?;
             is_undefined = is_undefined || (is_lost && line == b"ok\n".as_slice());
+            is_unflushed = is_unflushed || (is_lost && is_of_flush(line));
         }
         Ok(wanted)
     }

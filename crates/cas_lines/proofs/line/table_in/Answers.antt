@@ -1,4 +1,4 @@
-use Rattle.std.proofs.Common.{◌≡◌, rules, ap, sym, ◌∙◌, subst, Err}
+use Rattle.std.proofs.Common.{◌≡◌, rules, ap, ◌∙◌, subst, Err}
 use Rattle.cql_parse.specs.Means.{IsAnswer}
 use Rattle.cql_parse.specs.TableNames.{SpellsTable}
 use Rattle.cas_lines.proofs.line.table_in.Goals as goal

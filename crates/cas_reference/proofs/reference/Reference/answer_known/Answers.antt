@@ -1,7 +1,7 @@
 use Rattle.std.proofs.Common.{arith}
 use Rattle.std.proofs.lemmas.Int.{ints}
 use Rattle.cas_reference.specs.Held.{held}
-use Rattle.cas_reference.proofs.Doing.{answers_statement, says_moment}
+use Rattle.cas_reference.proofs.Doing.{answers_flush, answers_statement, says_moment}
 use Rattle.cas_reference.proofs.reference.Reference.answer_known.Goals as goal
 
 pub set_clock-requires : goal.set_clock-requires
@@ -13,3 +13,8 @@ pub returns-in_ok-answer_statement-in-Statement : goal.returns-in_ok-answer_stat
 returns-in_ok-answer_statement-in-Statement g c =
     answers_statement (g.C.Clock.may_give c.args.clock.now) (held c.args.self.now) (held c.answer_statement.new.self) c.args.text.now c.args.line
     c.in-Statement.statement c.in_ok-answer_statement-in-Statement.field-0 c.in_ok-answer_statement-in-Statement.ensures c.requires.says c.in-Statement.is
+
+pub returns-in-Flush : goal.returns-in-Flush
+returns-in-Flush g c =
+    answers_flush (g.C.Clock.may_give c.args.clock.now) (held c.args.self.now) c.args.text.now c.args.line c.in-Flush.name c.flush.result c.flush.ensures
+    c.requires.says c.in-Flush.is
