@@ -2,3 +2,4 @@ pub mod LineLemmas
 pub mod LineReading
 pub mod OneLine
 pub mod Feeds
+pub mod FlushLines

@@ -21,7 +21,7 @@ use Rattle.cas_lines.proofs.LineReading.{flushes_by_command, flushes_no_clock, n
 
 -- ---- no statement is spelled by nothing
 
-starts : (x : Lexeme) (l m : List Lexeme) → l ≡ [] → l ≡ x ∷ m → ⊥
+pub starts : (x : Lexeme) (l m : List Lexeme) → l ≡ [] → l ≡ x ∷ m → ⊥
 starts x l m e h = cc
 
 not_empty : (s : Statement) (l r : List Lexeme) → l ≡ [] → Of s l r → ⊥
@@ -32,7 +32,7 @@ not_empty (statement.Update x) l r e h = starts _ l h.0 e h.1
 not_empty (statement.Delete x) l r e h = starts _ l h.0 e h.1
 not_empty (statement.Select x) l r e h = starts _ l h.0 e h.1
 
-no_lexemes : (source : List ℕ) (l : List Lexeme) → lexemes_of source [] ≡ Some l → l ≡ []
+pub no_lexemes : (source : List ℕ) (l : List Lexeme) → lexemes_of source [] ≡ Some l → l ≡ []
 unfolding lexemes_of
 no_lexemes source l e = sym (same_Some [] l e)
 

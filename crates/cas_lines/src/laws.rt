@@ -1,8 +1,13 @@
 //! What holds of every line.
 
-ghost use Rattle.cas_lines.specs.Laws.{OneReading};
+ghost use Rattle.cas_lines.specs.Laws.{FlushesAreRead, OneReading};
 
 /// A line says one thing only.
 pub fn one_reading()
     ensures { OneReading }
+{}
+
+/// Behind `\flush` and a space a word that names a table tells to flush that table.
+pub fn flushes_are_read()
+    ensures { FlushesAreRead }
 {}
