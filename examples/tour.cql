@@ -78,6 +78,13 @@ ALTER TABLE orders ADD paid boolean, marks set<ascii>;
 UPDATE orders SET paid = true, marks = {'gift'} WHERE customer = 7 AND number = 2;
 SELECT * FROM orders WHERE customer = 7;
 
+-- A flush brings what memory has of a table into a table file, and prints that file's number. It changes no answer;
+-- what is written after it lies over the file.
+\flush orders
+SELECT * FROM orders WHERE customer = 7;
+DELETE address FROM orders WHERE customer = 7;
+SELECT * FROM orders WHERE customer = 7;
+
 -- Names in quotes keep their case. A partition key may have several columns. More constants: uuids,
 -- a blob, a date as the number of its day (of which 2147483648 is 1970-01-01), a time in nanoseconds
 -- and a timestamp in milliseconds.
