@@ -1,12 +1,12 @@
 -- A run calls a table file bad only where it is bad for a query.
-use Rattle.std.proofs.Common.{◌≡◌, inl, inr, ℕ, ℤ, List, [], ◌∷◌, ◌++◌, Bool, None, true, false, Option, Some, Result, Ok, Err, sym, ap, ◌∙◌, subst}
+use Rattle.std.proofs.Common.{◌≡◌, inl, inr, ℕ, ℤ, List, [], ◌∷◌, ◌++◌, Bool, None, true, false, Option, Some, Result, Ok, Err, sym, ap, subst}
 use Rattle.std.specs.Prelude.{if◌then◌else◌, ◌||◌}
 use Rattle.std.specs.List.{fold}
 use Rattle.cas_types.specs.declared.schema.TableSchema.{TableSchema}
 use Rattle.std.proofs.Math.Logic.{∥∥₁_map}
 use Rattle.cas_disk.specs.declared.name.Name.{Name}
 use Rattle.cas_disk.specs.declared.name.Name.TheVariants as file
-use Rattle.cas_atoms.specs.declared.slice.Slice.{Slice}
+use Rattle.cas_bounds.specs.declared.cuts.Slice.{Slice}
 use Rattle.cas_laws.specs.Given.{Has}
 use Rattle.cas_atoms.specs.declared.atom.Mutation.{Mutation}
 use Rattle.cas_bind.specs.Meaning.{meaning}

@@ -5,7 +5,6 @@ use Rattle.std.specs.Prelude.{◌==◌, not, slice_set, replicate}
 use Rattle.std.specs.List.{AllByRecursion, fold}
 use Rattle.std.proofs.lemmas.List.Folds.{list_any-append}
 use Rattle.cas_info.specs.declared.info.TableInfo.{TableInfo}
-use Rattle.cas_changes.specs.declared.entry.Change.{Change}
 use Rattle.cas_changes.specs.declared.entry.Entry.{Entry}
 use Rattle.cas_changes.specs.declared.entry.Entry.TheVariants as entry
 use Rattle.cas_changes.specs.declared.said.Part.{Part}
@@ -115,19 +114,19 @@ said_numbered entries = numbered_all nothing entries tt
 
 file_within : (numbers : List ℕ) (infos : List TableInfo) (n : ℕ) → AreOf numbers infos → has_file infos n ≡ true → is_listed numbers n ≡ true
 file_within numbers [] n of has = absurd cc
-file_within numbers (i ∷ infos) n of has = by (i.number == n) refl has
+file_within numbers (i ∷ infos) n of has = by (i.number == n) refl has (file_within numbers infos n of.1)
   where
-    by : (b : Bool) → (i.number == n) ≡ b → (b || has_file infos n) ≡ true → is_listed numbers n ≡ true
-    by true same some = subst (λ k. is_listed numbers k ≡ true) (equal_numbers i.number n same) of.0
-    by false other some = file_within numbers infos n of.1 some
+    by : (b : Bool) → (i.number == n) ≡ b → (b || has_file infos n) ≡ true → (has_file infos n ≡ true → is_listed numbers n ≡ true) → is_listed numbers n ≡ true
+    by true same some more = subst (λ k. is_listed numbers k ≡ true) (equal_numbers i.number n same) of.0
+    by false other some more = more some
 
 low_of : (last : ℕ) (numbers : List ℕ) (n : ℕ) → AllByRecursion (λ k. k ≤ last) numbers → is_listed numbers n ≡ true → n ≤ last
 low_of last [] n low is = absurd cc
-low_of last (m ∷ numbers) n low is = by (m == n) refl is
+low_of last (m ∷ numbers) n low is = by (m == n) refl is (low_of last numbers n low.1)
   where
-    by : (b : Bool) → (m == n) ≡ b → (b || is_listed numbers n) ≡ true → n ≤ last
-    by true same some = subst (λ k. k ≤ last) (equal_numbers m n same) low.0
-    by false other some = low_of last numbers n low.1 some
+    by : (b : Bool) → (m == n) ≡ b → (b || is_listed numbers n) ≡ true → (is_listed numbers n ≡ true → n ≤ last) → n ≤ last
+    by true same some more = subst (λ k. k ≤ last) (equal_numbers m n same) low.0
+    by false other some more = more some
 
 -- where all numbers of table files go up to some last one, that of each listed file does
 pub listed_low : (entries : List Entry) (last : ℕ) → AllByRecursion (λ k. k ≤ last) (said_by entries).numbers → (number : ℕ) → IsListedTable (said_by entries) number

@@ -347,11 +347,8 @@ served_read before now reads why P (inr (told, end, ended)) =
     (of_both (λ w. IfUnread w P) _ told cause.Disk (ended_read told P end) tt))
 
 -- where no line was run, no file is blamed by a run
-pub none_bad : (kind : ClockKind) (Gives : ℤ → Type 0) (script : List ℕ) (old new : Option (List ℕ)) (limits : Limits) (tables : List TableSchema) (shards : List ShardState)
-    (last live : ℕ) (journal : Journal) (before : Disk) (faults faults_before : ℕ) (after : Disk) (faults_now reads : ℕ) (pass : Option (List (Item Event))) (why : Cause) (P : Name → ℕ → Type 0)
-    → Serves kind Gives script old new limits tables shards last live journal before faults faults_before after faults_now reads pass why → pass ≡ None → IfBad why P
-none_bad kind Gives script old new limits tables shards last live journal before faults faults_before after faults_now reads None why P serves none = subst (λ (w : Cause). IfBad w P) (sym serves) tt
-none_bad kind Gives script old new limits tables shards last live journal before faults faults_before after faults_now reads (Some list) why P serves none = absurd cc
+pub none_bad : (why : Cause) (P : Name → ℕ → Type 0) → why ≡ cause.Mem → IfBad why P
+none_bad why P mem = subst (λ (w : Cause). IfBad w P) (sym mem) tt
 
 -- ---- an opening that ends a run
 

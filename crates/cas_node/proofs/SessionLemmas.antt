@@ -226,6 +226,14 @@ module _ (kind : ClockKind) (Gives : ℤ → Type 0) where
 
   -- ---- of a store
 
+  -- a line was answered, and this came of its reply
+  pub turned : (s t : State) (d e : Disk) (line : List ℕ) (old new : Option (List ℕ)) (r : Option Reply) (why : Cause) (fault : Option PrintFault)
+      → Moves (λ h after. Answers kind Gives h line r after) s t d e → why ≡ reply_cause r → Printed fault r old new
+      → Moves (λ h after. Turned kind Gives h line after old new why fault) s t d e
+  turned s t d e line old new r why fault moves told printed h stands =
+      let (after, so, goes) = moves h stands in
+      (after, record { reply = r; answers = so; told = told; printed = printed }, goes)
+
   -- From whichever history the store stood for, the lines so far were run, where what the script's flushes write is known; the mutations are numbered on;
   -- and of lines that flush no table none is left that does, and the manifest lists the table files that it listed.
   pub record AllSoFar (s t : State) (old new : Disk) (script rest : List ℕ) (out now : Option (List ℕ)) (why : Cause) : Type 0 where

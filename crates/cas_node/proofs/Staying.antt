@@ -37,6 +37,10 @@ pub tables_as : {X : Type 0} (step : Image → Image → Type 0) (disk : X → D
     → During step (disk a) (disk z)
 tables_as step disk a b y z first last call = subst (λ x. During step (disk x) (disk z)) first (subst (λ x. During step (disk b) (disk x)) (sym last) call)
 
+-- also where the number is called otherwise
+pub up_to_as : (k l : ℕ) (a b : Disk) → k ≡ l → During (SameUpTo k) a b → During (SameUpTo l) a b
+up_to_as k l a b same call = subst (λ n. During (SameUpTo n) a b) same call
+
 -- ---- while a store is opened
 
 no_manifest : (n : ℕ) → table_name n ≢ manifest_name

@@ -156,6 +156,7 @@ fn serve<K: Sink, F: Folder, J: Store, C: Clock>(
     ensures status { result.status ≡ status_of result.cause }
     ensures unwritten { result.pass ≡ None → sink.new ≡ sink.old }
     ensures kept { result.pass ≡ None → result.folder ≡ opened.folder }
+    ensures unrun { result.pass ≡ None → result.cause ≡ Cause.Mem }
     ensures write { result.cause ≡ Cause.Write
         → Rose (K.faults sink.old) (K.faults sink.new) ⊎ Rose (K.stalls sink.old) (K.stalls sink.new) }
     ensures ends { EndsServed faults (F.faults_of result.folder) (⟦<F::Tally as Count>⟧.number result.tally) result.cause }

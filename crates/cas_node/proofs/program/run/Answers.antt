@@ -71,7 +71,7 @@ returns-clause-not_disk g c = λ rose.
     (subst (λ n. Rose n (g.F.Folder.faults_of c.serve.result.folder) ⊎ Rose 0 (g.F.Tally.Count.number c.serve.result.tally)) (sym c.faults-faults.ensures.number) rose)
 
 pub returns-clause-bad : goal.returns-clause-bad
-returns-clause-bad g c = λ none. none_bad _ _ _ _ _ _ _ _ _ _ _ _ _ _ _ _ _ _ _ _ c.serve.ensures.served none
+returns-clause-bad g c = λ none. none_bad _ _ (c.serve.ensures.unrun none)
 
 pub returns-clause-unread : goal.returns-clause-unread
 returns-clause-unread g c =

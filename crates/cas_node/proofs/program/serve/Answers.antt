@@ -1,10 +1,9 @@
 use Rattle.std.proofs.Common.{◌∙◌, pos, sym, ap, subst}
 use Rattle.std.specs.Prelude.{IsSome}
-use Rattle.cas_disk.specs.Disk.{During}
 use Rattle.cas_sessions.specs.Listing.{SameUpTo}
 use Rattle.cas_node.specs.Ran.{with_faults}
 use Rattle.cas_node.proofs.RunLemmas.{begins_as, left_by, opened_as, pass_by, serves_as}
-use Rattle.cas_node.proofs.Staying.{same_folder, tables_as}
+use Rattle.cas_node.proofs.Staying.{same_folder, tables_as, up_to_as}
 use Rattle.cas_node.proofs.program.serve.Goals as goal
 
 pub returns-clause-served : goal.returns-clause-served
@@ -58,4 +57,4 @@ pub returns-clause-tables : goal.returns-clause-tables
 returns-clause-tables g c =
     tables_as (SameUpTo c.args.opened.started.last_file) (λ x. g.F.Folder.disk x) _ _ _ _ (ap (λ r. r.folder) c.session.ensures.room ∙ c.in-Ok.ensures.folder)
     (c.finished.ensures.folder ∙ c.close-2.ensures.folder ∙ ap (λ r. r.folder) c.end.ensures.room)
-    (subst (λ k. During (SameUpTo k) _ _) (ap (λ r. r.numbers.last) c.session.ensures.room ∙ c.in-Ok.ensures.last) c.run_lines-told.ensures.tables)
+    (up_to_as _ _ _ _ (ap (λ r. r.numbers.last) c.session.ensures.room ∙ c.in-Ok.ensures.last) c.run_lines-told.ensures.tables)

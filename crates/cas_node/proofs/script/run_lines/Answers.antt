@@ -1,7 +1,7 @@
 use Rattle.std.proofs.Common.{rules, arith, subst, sym}
 use Rattle.cas_disk.proofs.Moments.{no_call}
 use Rattle.cas_node.specs.Inner.Turns.{IsToldSo}
-use Rattle.cas_node.proofs.SessionLemmas.{all_so_far_none, all_so_far_more, all_ran_cut, all_ran_whole, lists_more, tells_on, worse_told}
+use Rattle.cas_node.proofs.SessionLemmas.{all_so_far_none, all_so_far_more, all_ran_cut, lists_more, tells_on, worse_told}
 use Rattle.cas_sessions.proofs.Going.{numbers_more}
 use Rattle.cas_sessions.proofs.Listing.{up_to_twice}
 use Rattle.cas_sessions.specs.Listing.{SameUpTo}
@@ -30,7 +30,7 @@ returns-in-Some-clause-tables g c = up_to_twice _ _ _ _ _ c.loop-rest.invariant.
 
 pub returns-in-Some-clause-lists : goal.returns-in-Some-clause-lists
 returns-in-Some-clause-lists g c =
-    lists_more c.args.ask.now.kind (g.C.Clock.may_give c.args.ask.now.clock.now) _ _ _ _ _ _ _ _ _ _ _ _ c.loop-rest.invariant.so_far c.next_line.ensures.lines
+    lists_more c.args.ask.now.kind (g.C.Clock.may_give c.args.ask.now.clock.now) _ _ _ _ _ _ _ c.next_line.result.1.now _ _ _ _ c.loop-rest.invariant.so_far c.next_line.ensures.lines
     c.take_turn-turn.ensures.lists
 
 pub returns-clause-lists : goal.returns-clause-lists

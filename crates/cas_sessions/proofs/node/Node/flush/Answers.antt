@@ -1,9 +1,9 @@
-use Rattle.std.proofs.Common.{◌≡◌, ◌∙◌, pos, Some, sym, ap}
+use Rattle.std.proofs.Common.{◌≡◌, ◌∙◌, pos, Some, refl, sym, ap}
 use Rattle.std.specs.Prelude.{slice_get}
 use Rattle.std.proofs.lemmas.Option.{slice_get_within}
 use Rattle.cas_terms.specs.Columns.{table_named}
 use Rattle.cas_sessions.proofs.FlushAll.{flushes_all, flushes_some, keeps_all, named_there, true_of_flush}
-use Rattle.cas_sessions.proofs.Going.{numbers_kept}
+use Rattle.cas_sessions.proofs.Going.{numbers_kept, numbers_none}
 use Rattle.cas_sessions.proofs.node.Node.flush.Goals as goal
 
 pub flush_table-requires-clause-within : goal.flush_table-requires-clause-within
@@ -128,3 +128,9 @@ returns-in-Err-clause-numbers g c = λ clock.
     let at_t : slice_get n.tables.items t.number ≡ Some t = named_there n.tables.items c.args.name.now t n.sound.tables.numbered is in
     let none = c.in-Err.ensures.failed clock t at_t in
     numbers_kept _ _ none.beside.list none.beside.count none.beside.numbers
+
+pub returns-in-None-clause-numbers : goal.returns-in-None-clause-numbers
+returns-in-None-clause-numbers g c = λ clock. numbers_none _ _ refl refl
+
+pub returns-in-Some-stopped-clause-numbers : goal.returns-in-Some-stopped-clause-numbers
+returns-in-Some-stopped-clause-numbers g c = λ clock. numbers_none _ _ refl refl

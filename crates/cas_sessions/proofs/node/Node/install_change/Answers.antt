@@ -160,6 +160,7 @@ returns-in-Ok-clause-lists g c = λ clock change is. record {
       subst (λ e. Leaves (λ i. StandsAmid told e found (accepted_in (listed log_list c.args.self.now.room.log.pass.saw)) c.args.self.now.room.faults.committed i)
       (g.F.Folder.disk c.args.self.now.room.folder) (g.F.Folder.disk c.install.new.self.folder)) is
       (c.install.ensures.front found told keeps (subst (λ e. FitsEntry (said_by told.entries) e) (sym is) fits));
+  during = c.install.ensures.tables;
   outcome = c.in-Ok.ensures.outcome;
   reach = subst (λ e. reach_of c.install.new.self.journal ≡ reach_with e (reach_of c.args.self.now.room.journal)) is c.in-Ok.ensures.reach;
   tells = c.install.ensures.tables.tells;
