@@ -23,7 +23,7 @@ ghost use Rattle.cas_sessions.specs.Flushes.{Flushes};
 ghost use Rattle.cas_sessions.specs.Listing.{SameUpTo};
 ghost use Rattle.cas_sessions.specs.Numbering.{NumbersOn};
 ghost use Rattle.cas_recovery.specs.Restored.{Remember};
-ghost use Rattle.cas_sessions.specs.Nodes.{CountsOn, KeepsAll, Moves};
+ghost use Rattle.cas_sessions.specs.Nodes.{KeepsAll, Moves};
 ghost use Rattle.cas_sessions.specs.Inner.Flushing.{AddsFile, FlushesFirst, FlushesNoFurther, FlushesOne, HasOneMore, IsChangeFor, IsOwn, Lists};
 ghost use Rattle.cas_sessions.specs.Inner.Flushing.{HoldsNothing, IsMade, NewFile, Quiet, SaysSo, TakesFile, WhyNoneMore, WhyNotMade, listed_of};
 ghost use Rattle.cas_sessions.specs.Inner.Flushing.{fault_of_folder, fault_of_fresh, fault_of_load, fault_of_write};
