@@ -1,6 +1,6 @@
 // Two clients, in a thread each, write to one shard and look at it, through a lock. When both have ended, a
 // lone line has all to itself, and the one history holds.
-ghost use Rattle.std.specs.Prelude.{◌≡◌, ◌+◌, ◌<◌, ◌≤◌, max, IfOk};
+ghost use Rattle.std.specs.Prelude.{◌≡◌, ◌+◌, ◌<◌, ◌≤◌, max};
 ghost use Rattle.cas_history.specs.Items.{listed, log_list, front_list};
 ghost use Rattle.cas_history.specs.Last.{Idle};
 ghost use Rattle.cas_history.specs.Laws.{Stands};
@@ -8,6 +8,7 @@ ghost use Rattle.cas_history.specs.Laws.{Stands};
 use cas_history::{Front, Item, Kept, Log, Opened, Session, Store, Tells, show, write};
 use cas_lifecycle::{Maker, begin_alone, conclude};
 use std::marker::Brand;
+use std::process::Abort;
 use std::sync::{Mutex, Wait};
 use std::test::*;
 use std::thread::{Threads, join};
@@ -61,37 +62,30 @@ fn run_client<J: Store>(rt: &impl Wait, node: &Mutex<Node<J>>, mut client: Clien
     client
 }
 
-fn new_client<J: Store>(maker: &mut Maker<u64, J>) -> Result<Client<J>, Fail>
+fn new_client<J: Store>(rt: &impl Abort, maker: &mut Maker<u64, J>) -> Client<J>
     requires { (maker.old.next < 4294967000) × (maker.old.out < 100) }
-    ensures ok { IfOk result (λ c. maker.new.out ≡ maker.old.out + 1) }
+    ensures out { maker.new.out ≡ maker.old.out + 1 }
     ensures next { maker.new.next ≤ max maker.old.next 96 + 2 }
 {
-    let session = maker.session()?;
-    Ok(Client { session, good: 0 })
+    let session = maker.session().expect(rt, "memory");
+    Client { session, good: 0 }
 }
 
-/// How many rounds of each client were good, and how many mutations the shard has.
-#[derive(PartialEq, Drop)]
-struct Counts {
-    one: u64,
-    two: u64,
-    all: u64,
-}
-
-fn clients<J: Store + Send + Sync, R: Threads + Wait + Sync>(
+// The history, how many rounds of each client were good, and how many mutations the shard has.
+fn clients<J: Store + Send + Sync, R: Threads + Wait + Abort + Sync>(
     rt: &R,
     opened: Opened<Item<u64>>,
-) -> Result<(Kept<Item<u64>>, Counts), Fail>
+) -> (Kept<Item<u64>>, (u64, u64, u64))
     requires { opened.seat.table_id ≡ J.table }
-    ensures law { IfOk result (λ r. Stands (listed log_list r.0.saw) (λ shard. listed (front_list shard) r.0.saw) (λ session. listed session r.0.saw)) }
+    ensures law { Stands (listed log_list result.0.saw) (λ shard. listed (front_list shard) result.0.saw) (λ session. listed session result.0.saw) }
 {
     let mut maker = Maker::<u64, J>::first(opened);
-    let log = Log::new(maker.fresh(0)?);
-    let front = Front::new(maker.fresh(16)?, 0, 0);
-    let mut zero = maker.session()?;
-    let mut works = maker.works()?;
-    let one = new_client(&mut maker)?;
-    let two = new_client(&mut maker)?;
+    let log = Log::new(maker.fresh(0).expect(rt, "memory"));
+    let front = Front::new(maker.fresh(16).expect(rt, "memory"), 0, 0);
+    let mut zero = maker.session().expect(rt, "memory");
+    let mut works = maker.works().expect(rt, "memory");
+    let one = new_client(rt, &mut maker);
+    let two = new_client(rt, &mut maker);
     let node = Mutex::new(Node { log, front });
     let (one, two) = join(
         rt,
@@ -99,30 +93,20 @@ fn clients<J: Store + Send + Sync, R: Threads + Wait + Sync>(
         || run_client(rt, &node, two),
     );
     let Node { log, front } = node.into_inner();
-    let counts = Counts {
-        one: one.good,
-        two: two.good,
-        all: front.number(),
-    };
+    let counts = (one.good, two.good, front.number());
     maker.keep(one.session);
     maker.keep(two.session);
     begin_alone(&mut works, &mut maker, &mut zero, &Value(1));
     works.end(&mut zero);
     maker.keep(zero);
-    Ok((conclude(maker, log), counts))
+    (conclude(maker, log), counts)
 }
 
 /// Ten thousand rounds each: every answer is above what the client had seen, and the shard's last number is
 /// how many mutations there were.
 #[test]
-fn two_clients(rt: HostRuntime) -> Result<(), Fail> {
-    let opened = Opened::<Item<u64>>::new(rt.alloc())?;
-    let (_history, counts) = clients::<Brand, _>(&rt, opened)?;
-    let expected = Counts {
-        one: 10_000,
-        two: 10_000,
-        all: 20_000,
-    };
-    assert!(rt; counts == expected);
-    Ok(())
+fn two_clients(rt: HostRuntime) {
+    let opened = Opened::<Item<u64>>::new(rt.alloc()).expect(&rt, "memory");
+    let (_history, counts) = clients::<Brand, _>(&rt, opened);
+    assert!(rt; counts == (10_000, 10_000, 20_000));
 }
