@@ -1,6 +1,8 @@
 //! The table file that a flush makes, loaded and checked.
 
-use crate::rows::is_narrow;
+ghost use Rattle.std.specs.Prelude.{IsTrue};
+ghost use Rattle.cas_types.specs.Limits.{IsNarrow};
+
 use crate::writes::columns;
 use cas_disk::{Count, Draft, FaultCount, FaultPlan, Folder, MemDraft, MemFolder, MemSealed};
 use cas_flush::flush_parts;
@@ -8,11 +10,9 @@ use cas_info::{FILE_LIMIT, TableInfo};
 use cas_sstread::{Table, TableFault};
 use cas_stored::TableStore;
 use cas_tables::{Header, Version};
-use cas_types::{Options, Strategy, TableSchema, Text, Unit};
+use cas_types::{COLUMN_LIMIT, Column, Options, Strategy, TableSchema, Text, Unit};
 use cas_verify::check;
-use cas_view::OpenFile;
 use std::alloc::{AllocError, Global};
-use std::sync::Arc;
 
 // The file 255 of the table 3 in the shard 1.
 const HEADER: Header = Header {
@@ -82,50 +82,34 @@ pub(crate) fn written(
     }
 }
 
-/// A file of which that is told, loaded.
-pub(crate) fn opened(
-    alloc: Global,
-    info: TableInfo,
-    file: MemSealed,
-) -> Option<OpenFile<Table<MemSealed>>> {
-    let Ok(schema) = schema(alloc) else {
-        return None;
-    };
-    if info.bytes > FILE_LIMIT {
-        return None;
-    }
-    let mut tally = FaultCount::fresh();
-    let Ok(table) = Table::load(alloc, file, &schema, 1, &info, &mut tally) else {
-        return None;
-    };
-    match Arc::new(alloc, table) {
-        Ok(table) => Some(OpenFile { table, info }),
-        Err(_) => None,
-    }
+// Whether the table has few columns.
+fn is_narrow(columns: &[Column]) -> bool
+    ensures { IsTrue result → IsNarrow columns.now }
+{
+    columns.len() as u64 <= COLUMN_LIMIT
 }
 
-/// The place where the check refuses a table file, or nothing.
-pub(crate) fn checked(alloc: Global, table: &Table<MemSealed>) -> Result<(), u64> {
+fn found(alloc: Global, table: &Table<MemSealed>) -> Result<(), u64> {
     if !is_narrow(table.columns()) || table.info().bytes > FILE_LIMIT {
         return Err(1000);
     }
-    let mut tally = FaultCount::fresh();
-    match check(alloc, table, &mut tally) {
+    match check(alloc, table, &mut FaultCount::fresh()) {
         Ok(()) => Ok(()),
         Err(TableFault::BadBlock { at, .. }) => Err(at),
         Err(_) => Err(1000),
     }
 }
 
-/// The file that a flush makes of the store, loaded.
-pub(crate) fn flushed(
-    alloc: Global,
-    plan: FaultPlan,
-    store: &TableStore<MemSealed>,
-) -> Option<OpenFile<Table<MemSealed>>> {
-    let mut folder = MemFolder::new(alloc, plan);
-    match written(alloc, &mut folder, store) {
-        Some((info, file)) => opened(alloc, info, file),
-        None => None,
+/// Where the check refuses the file of which that is told, once it is loaded, or nothing; 1000 where it isn't loaded.
+pub(crate) fn checked(alloc: Global, info: &TableInfo, file: MemSealed) -> Result<(), u64> {
+    let Ok(schema) = schema(alloc) else {
+        return Err(1000);
+    };
+    if info.bytes > FILE_LIMIT {
+        return Err(1000);
+    }
+    match Table::load(alloc, file, &schema, 1, info, &mut FaultCount::fresh()) {
+        Ok(table) => found(alloc, &table),
+        Err(_) => Err(1000),
     }
 }

@@ -41,7 +41,7 @@ pub(crate) fn columns(alloc: Global) -> Result<List<Column>, AllocError> {
 }
 
 /// How the table orders its rows.
-pub(crate) fn order(alloc: Global) -> Result<RowOrder, AllocError> {
+fn order(alloc: Global) -> Result<RowOrder, AllocError> {
     let c = Ordered {
         tag: TypeTag::TinyInt,
         descending: false,
