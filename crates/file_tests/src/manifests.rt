@@ -1,5 +1,6 @@
 //! A manifest, written by hand, and what its altered bytes answer.
 
+use crate::answers::altered_of;
 use cas_manifest::{ManifestFault, read_manifest};
 use std::alloc::Global;
 
@@ -50,49 +51,57 @@ fn count_altered(alloc: Global, bytes: &mut [u8], place: usize, byte: u8) -> Res
     }
 }
 
-// Another byte at a place: how many entries are read, or where the manifest is refused.
-const ALTERED: [(usize, u8, Result<usize, u64>); 31] = [
-    (0, 1, Ok(6)), // as it is
-    (0, 0, Err(0)), // it isn't made
-    (8, 0x32, Err(1)), // another word
-    (9, 0, Ok(0)), // the first gate is closed
-    (13, 3, Err(20)), // a byte is left over
-    (13, 1, Err(19)), // and one too few
-    (17, 2, Err(14)), // a block has one entry
-    (18, 99, Err(18)), // no such kind
-    (18, 3, Err(18)), // the shards come first
-    (19, 0, Err(19)), // a store has a shard
-    (29, 1, Err(29)), // its shards are said once
-    (31, 1, Err(30)), // tables are numbered from 0
-    (34, 0x20, Err(32)), // no letter
-    (40, 3, Err(40)), // the key's columns come first
-    (45, 0x6b, Err(43)), // a name stands twice
-    (47, 1, Err(47)), // no collection is a key
-    (54, 13, Err(54)), // no such type
-    (65, 33, Err(66)), // more at least than at most
-    (108, 0, Err(101)), // segments are numbered from 1
-    (120, 1, Err(119)), // no such table
-    (121, 1, Err(121)), // no such shard
-    (145, 0xfd, Err(138)), // below -2
-    (147, 1, Err(148)), // a removed file that isn't listed
-    (157, 0, Err(150)), // files are numbered from 1
-    (205, 1, Err(204)), // no such table
-    (207, 0, Err(206)), // no column
-    (210, 0x76, Err(208)), // there is a v
-    (211, 1, Err(211)), // no column of the key is added
-    (231, 2, Err(224)), // a segment that isn't listed
-    (232, 1, Err(233)), // open, and no block behind it
-    (232, 9, Ok(6)), // any other byte counts as closed
-];
+// Another byte at each place from one to another: how many entries are read, or after `!` where the manifest is refused; and why.
+const ALTERED: &str = "\
+0 0 1 6 as it is
+0 0 0 !0 it isn't made
+8 8 50 !1 another word
+9 9 0 0 the first gate is closed
+13 13 3 !20 a byte is left over
+13 13 1 !19 and one too few
+17 17 2 !14 a block has one entry
+18 18 99 !18 no such kind
+18 18 3 !18 the shards come first
+19 19 0 !19 a store has a shard
+29 29 1 !29 its shards are said once
+31 31 1 !30 tables are numbered from 0
+34 34 32 !32 no letter
+40 40 3 !40 the key's columns come first
+45 45 107 !43 a name stands twice
+47 47 1 !47 no collection is a key
+54 54 13 !54 no such type
+65 65 33 !66 more at least than at most
+108 108 0 !101 segments are numbered from 1
+120 120 1 !119 no such table
+121 121 1 !121 no such shard
+145 145 253 !138 below -2
+147 147 1 !148 a removed file that isn't listed
+157 157 0 !150 files are numbered from 1
+205 205 1 !204 no such table
+207 207 0 !206 no column
+210 210 118 !208 there is a v
+211 211 1 !211 no column of the key is added
+231 231 2 !224 a segment that isn't listed
+232 232 1 !233 open, and no block behind it
+232 232 9 6 any other byte counts as closed";
+
+// Whether each place of the line is answered as it says.
+fn is_told(alloc: Global, line: &str) -> bool {
+    let Some((first, last, byte, answer)) = altered_of(line) else {
+        return false;
+    };
+    for place in first..=last {
+        let mut bytes = MANIFEST;
+        if count_altered(alloc, &mut bytes, place, byte) != answer {
+            return false;
+        }
+    }
+    true
+}
 
 #[test]
 fn a_manifest_by_hand(rt: HostRuntime) {
-    for i in 0..31 {
-        let (place, byte, answer) = ALTERED[i];
-        let mut bytes = MANIFEST;
-        assert!(rt;
-            count_altered(rt.alloc(), &mut bytes, place, byte) == answer,
-            "{place}"
-        );
+    for line in ALTERED.lines() {
+        assert!(rt; is_told(rt.alloc(), line), "{line}");
     }
 }

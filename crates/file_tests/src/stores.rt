@@ -1,21 +1,12 @@
-//! The manifest of a store: made, loaded and appended to in a folder in memory and a real one, and
-//! what a stop at each call leaves.
+//! The manifest of a store: made and loaded in a folder in memory, and appended to in a real one.
 
+use crate::answers::answer_of;
 use crate::host::{folder_at, is_written, opened};
 use cas_changes::Entry;
-use cas_disk::{Choice, FaultPlan, Folder, MemFolder, Name};
+use cas_disk::{FaultPlan, Folder, MemFolder, Name};
 use cas_manifest::{Manifest, ManifestFault};
 use std::alloc::Global;
 use std::fs;
-
-// What a crash may leave of what isn't synced.
-pub(crate) const CHOICES: [Choice; 5] = [
-    Choice::Old,
-    Choice::New,
-    Choice::Fill(0),
-    Choice::Fill(1),
-    Choice::Fill(255),
-];
 
 // How many entries the store of a folder has, which is made where none is, or where its manifest is bad; 99 where
 // the folder fails, and 100 for any other fault.
@@ -37,69 +28,6 @@ fn add_segment<F: Folder>(alloc: Global, folder: &mut F, number: u64) -> Result<
     let mut first = None;
     let (mut manifest, _said, _entries) = Manifest::load(alloc, folder, 1)?;
     manifest.append(alloc, folder, &mut first, &Entry::NewSegment { number })
-}
-
-// The folder stops after so many calls of an append to a store of two entries.
-fn stopped(alloc: Global, folder: &mut MemFolder, calls: u64) -> Result<(), ManifestFault> {
-    let mut first = None;
-    let (mut manifest, _said, _entries) = Manifest::load(alloc, folder, 1)?;
-    manifest.append(alloc, folder, &mut first, &Entry::NewSegment { number: 1 })?;
-    folder.stop_after(folder.calls().saturating_add(calls));
-    manifest.append(alloc, folder, &mut first, &Entry::NewSegment { number: 2 })
-}
-
-// Whether the image loads with so many entries, and takes another: what a crash left behind the gate is written over.
-fn is_left(alloc: Global, folder: &MemFolder, choice: Choice, found: usize) -> bool {
-    let Ok(mut left) = folder.image(choice) else {
-        return false;
-    };
-    count(alloc, &mut left) == Ok(found)
-        && add_segment(alloc, &mut left, 9).is_ok()
-        && count(alloc, &mut left) == Ok(found.saturating_add(1))
-}
-
-fn leaves(alloc: Global, folder: &MemFolder, entries: [usize; 5]) -> bool {
-    for i in 0..5 {
-        if !is_left(alloc, folder, CHOICES[i], entries[i]) {
-            return false;
-        }
-    }
-    true
-}
-
-// After so many calls of an append the folder stops: whether all was done, and how many entries each image has.
-const STOPS: [(u64, bool, [usize; 5]); 5] = [
-    (0, false, [2, 2, 2, 2, 2]),
-    (1, false, [2, 2, 2, 2, 2]), // the block is written
-    (2, false, [2, 2, 2, 2, 2]), // and synced
-    (3, false, [2, 3, 2, 3, 2]), // its gate is written
-    (4, true, [3, 3, 3, 3, 3]),
-];
-
-#[test]
-fn every_stop_of_an_append(rt: HostRuntime) {
-    for i in 0..5 {
-        let (calls, is_done, entries) = STOPS[i];
-        let mut folder = empty(rt.alloc());
-        assert!(rt;
-            stopped(rt.alloc(), &mut folder, calls).is_ok() == is_done
-                && leaves(rt.alloc(), &folder, entries),
-            "after {calls} calls"
-        );
-    }
-}
-
-#[test]
-fn every_stop_while_a_store_is_made(rt: HostRuntime) {
-    for calls in 0..=12 {
-        let mut folder = empty(rt.alloc());
-        folder.stop_after(calls);
-        let expected = if calls < 12 { Err(99) } else { Ok(1) };
-        assert!(rt;
-            count(rt.alloc(), &mut folder) == expected && leaves(rt.alloc(), &folder, [1; 5]),
-            "after {calls} calls"
-        );
-    }
 }
 
 // How many entries are loaded, or after `!` where the manifest is bad; another file of the folder; the manifest.
@@ -152,13 +80,9 @@ fn folder_of(alloc: Global, other: &str, manifest: &str) -> Option<MemFolder> {
 // Whether the line's folder is loaded as it says.
 fn is_told(alloc: Global, line: &str) -> Option<bool> {
     let mut words = line.split(' ');
-    let answer = words.next()?;
+    let answer = answer_of(words.next()?)?;
     let mut folder = folder_of(alloc, words.next()?, words.next()?)?;
-    let expected = match answer.strip_prefix("!") {
-        Some(at) => Err(at.parse().ok()?),
-        None => Ok(answer.parse().ok()?),
-    };
-    Some(count(alloc, &mut folder) == expected)
+    Some(count(alloc, &mut folder) == answer)
 }
 
 #[test]

@@ -1,36 +1,7 @@
-//! A sink in memory, and the system's streams and clock.
+//! The system's streams and clock.
 
-use cas_io::{Clock, MemSink, StdSink, StdSource, SystemClock, read_script, write_all};
-use std::alloc::Global;
+use cas_io::{Clock, StdSink, StdSource, SystemClock, read_script, write_all};
 use std::fs;
-
-// A sink whose calls of these numbers fail, and which takes so many bytes at most.
-fn sink_of(alloc: Global, failing: &[u64], at_most: u64) -> MemSink {
-    let failing = failing.to_vec(alloc).unwrap_or(Vec::new(alloc));
-    MemSink::with_plan(alloc, failing, at_most)
-}
-
-// Whether the fourth call fails and is counted, and each other one takes a byte.
-fn is_by_plan(sink: &mut MemSink) -> bool {
-    let first = write_all(sink, b"abcdef");
-    let second = write_all(sink, b"def");
-    first.is_err()
-        && second.is_ok()
-        && sink.taken() == b"abcdef".as_slice()
-        && sink.faults() == 1
-        && sink.stalls() == 0
-}
-
-// Whether a sink that takes no byte stalls, and the stall is counted.
-fn is_stalled(sink: &mut MemSink) -> bool {
-    write_all(sink, b"abc").is_err() && sink.stalls() == 1 && sink.faults() == 0
-}
-
-#[test]
-fn sinks_fail_by_plan_and_stall(rt: HostRuntime) {
-    assert!(rt; is_by_plan(&mut sink_of(rt.alloc(), &[4], 1)));
-    assert!(rt; is_stalled(&mut sink_of(rt.alloc(), &[], 0)));
-}
 
 // Whether a file that is only written can't be read, and the fault is counted.
 fn is_read_fault_counted(rt: &HostRuntime) -> Option<bool> {
