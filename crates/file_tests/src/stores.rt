@@ -1,13 +1,16 @@
-//! The manifest of a store: made and loaded in folders in memory.
+//! The manifest of a store: made and loaded in a folder in memory, and appended to in a real one.
 
 use crate::answers::answer_of;
+use crate::host::{folder_at, is_written, opened};
+use cas_changes::Entry;
 use cas_disk::{FaultPlan, Folder, MemFolder, Name};
 use cas_manifest::{Manifest, ManifestFault};
 use std::alloc::Global;
+use std::fs;
 
 // How many entries the store of a folder has, which is made where none is, or where its manifest is bad; 99 where
 // the folder fails, and 100 for any other fault.
-fn count(alloc: Global, folder: &mut MemFolder) -> Result<usize, u64> {
+fn count<F: Folder>(alloc: Global, folder: &mut F) -> Result<usize, u64> {
     match Manifest::load(alloc, folder, 1) {
         Ok((_manifest, _said, entries)) => Ok(entries.len()),
         Err(ManifestFault::Bad { at }) => Err(at),
@@ -18,6 +21,13 @@ fn count(alloc: Global, folder: &mut MemFolder) -> Result<usize, u64> {
 
 fn empty(alloc: Global) -> MemFolder {
     MemFolder::new(alloc, FaultPlan::none(alloc))
+}
+
+// The store of a folder lists a segment more.
+fn add_segment<F: Folder>(alloc: Global, folder: &mut F, number: u64) -> Result<(), ManifestFault> {
+    let mut first = None;
+    let (mut manifest, _said, _entries) = Manifest::load(alloc, folder, 1)?;
+    manifest.append(alloc, folder, &mut first, &Entry::NewSegment { number })
 }
 
 // How many entries are loaded, or after `!` where the manifest is bad; another file of the folder; the manifest.
@@ -80,4 +90,35 @@ fn folders_are_loaded(rt: HostRuntime) {
     for line in FOLDERS.lines() {
         assert!(rt; is_told(rt.alloc(), line) == Some(true), "{line}");
     }
+}
+
+// Whether the store of a real folder is made and lists a segment.
+fn is_added(rt: &HostRuntime) -> bool {
+    match folder_at(rt, "d_folder") {
+        Some(mut folder) => {
+            add_segment(rt.alloc(), &mut folder, 1).is_ok() && folder.faults() == 0
+        }
+        None => false,
+    }
+}
+
+fn is_loaded(rt: &HostRuntime) -> bool {
+    match opened(rt, "d_folder") {
+        Some(mut folder) => count(rt.alloc(), &mut folder) == Ok(2) && folder.faults() == 0,
+        None => false,
+    }
+}
+
+// The manifest of a store of one shard that lists segment 1.
+const LISTING: [u8; 39] =
+    *b"\x01CASSMAN1\x01\0\0\0\x02\0\0\0\x01\x01\x01\x01\0\0\0\x09\0\0\0\x01\x03\0\0\0\0\0\0\0\x01\0";
+
+#[test]
+fn a_store_in_a_real_folder(rt: HostRuntime) {
+    assert!(rt;
+        is_added(&rt)
+            && is_loaded(&rt)
+            && is_written(&rt, "d_folder/manifest", &LISTING)
+            && fs::remove_dir_all(&rt, "d_folder").is_ok()
+    );
 }
