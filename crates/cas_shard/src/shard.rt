@@ -7,7 +7,7 @@ ghost use Rattle.cas_shard.specs.Shards.{drawn_with, take_refusal};
 
 use crate::answers::{Look, TakeFault};
 use crate::rows::rows_of;
-use crate::stores::{adopt, freeze, frozen, join, reserve, swap, view_with};
+use crate::stores::{adopt, files, freeze, frozen, join, reserve, swap, view_with};
 use cas_atoms::{Mutation, Query, length};
 use cas_blocks::TableFault;
 use cas_disk::{Count, Sealed};
@@ -100,7 +100,7 @@ impl<S: Sealed> Shard<S> {
     ghost use Rattle.cas_shard.specs.Flushing.{HasInMemory, SaysWhatTheyDo, bytes_at, frozen_at, memtables_at, one_of};
     ghost use Rattle.cas_atoms.specs.declared.atom.Mutation.{Mutation as MutationOf};
     ghost use Rattle.cas_sstread.specs.Loading.{Held};
-    ghost use Rattle.cas_view.specs.Views.{File, file_of};
+    ghost use Rattle.cas_view.specs.Views.{File, file_of, files_of};
     ghost use Rattle.cas_shard.specs.Inner.Stores.{MakesRoom};
     ghost use Rattle.cas_shard.specs.Inner.Turns.{Answered, Took};
     ghost use Rattle.cas_blocks.specs.declared.fault.TableFault.TheVariants as table_fault;
@@ -380,6 +380,13 @@ impl<S: Sealed> Shard<S> {
         ensures { map arc_value result.now ≡ frozen_at (slice_get self.now.stores table) }
     {
         frozen(&self.stores, table)
+    }
+
+    /// The files that a table has, in the order in which they were listed.
+    pub fn files(&self, table: u16) -> &[OpenFile<Table<S>>]
+        ensures { files_of result.now ≡ files_at (slice_get self.now.stores table) }
+    {
+        files(&self.stores, table)
     }
 
     /// A view of the files that a table has, and of one more behind them.

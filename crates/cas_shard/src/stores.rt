@@ -2,7 +2,7 @@
 
 ghost use Rattle.std.specs.Prelude.{◌≡◌, ◌<◌, ◌≤◌, ◌++◌, ◌∷◌, [], length, map, slice_get, IfOk, OnOk, OnErr};
 ghost use Rattle.std.specs.Arc.{arc_value};
-ghost use Rattle.cas_view.specs.Views.{file_of};
+ghost use Rattle.cas_view.specs.Views.{file_of, files_of};
 ghost use Rattle.cas_shard.specs.Flushing.{bytes_at, frozen_at};
 ghost use Rattle.cas_shard.specs.Stands.{HasRoom, TakesFiles, files_at};
 ghost use Rattle.cas_shard.specs.Inner.Stores.{AllStay, JoinsRoom, KeepFiles, MakesRoom, MemoryStays, OthersStay, StayFew, Swaps};
@@ -101,6 +101,16 @@ pub(crate) fn frozen<S: Sealed>(stores: &[TableStore<S>], table: u16) -> &[Arc<M
     match stores.get(table as usize) {
         None => &[],
         Some(store) => store.parts().frozen(),
+    }
+}
+
+/// A table's files, in the order in which they were listed.
+pub(crate) fn files<S: Sealed>(stores: &[TableStore<S>], table: u16) -> &[OpenFile<Table<S>>]
+    ensures { files_of result.now ≡ files_at (slice_get stores.now table) }
+{
+    match stores.get(table as usize) {
+        None => &[],
+        Some(store) => store.view().files(),
     }
 }
 
