@@ -92,11 +92,11 @@ fn behind_flush(output: &[u8]) -> Option<&[u8]> {
 
 // Whether the line lists the table and the shard that the other does, with the numbers of files or without.
 fn lists_same(line: &[u8], listed: &[u8]) -> bool {
-    let Some(bare) = listed.strip_suffix(b"\n") else {
+    let Some(bare) = listed.strip_suffix(b"\n".as_slice()) else {
         return false;
     };
     match line.strip_prefix(bare) {
-        Some(files) => files == b"\n" || files.starts_with(b" "),
+        Some(files) => files == b"\n".as_slice() || files.starts_with(b" ".as_slice()),
         None => false,
     }
 }
