@@ -15,5 +15,5 @@ loop-place-preserved g c =
     one_more (λ k. listed_of c.args.table.now k (file_numbers (files_in n.shards.items) k c.args.table.now.number)) c.args.listed.now.items c.loop-place.listed.items
     c.push.new.self.items at c.in_ok-listed_of.field-0 c.loop-place.invariant c.in_ok-push.ensures.items
     (listed_there n.shards.items at x c.args.table.now c.in_ok-numbers.numbers.items c.in_ok-listed_of.field-0
-    (slice_get_read n.shards.items n.limits.shards at x (sym n.sound.count) c.loop-place-test.true c.index.ensures.value)
+    (slice_get_read n.shards.items n.limits.shards at x (sym n.sound.count) c.loop-place-test.true c.index.ensures)
     (c.in_ok-numbers.ensures ∙ ap (map (λ f. f.info.number)) c.in_ok-files.ensures) c.in_ok-listed_of.ensures)
