@@ -3,3 +3,4 @@ pub mod LineReading
 pub mod OneLine
 pub mod Feeds
 pub mod FlushLines
+pub mod StatusLines

@@ -1,5 +1,5 @@
 -- What a line can't say where its text has no tokens, or tokens that spell no statement.
-use Rattle.std.proofs.Common.{◌≡◌, List, [], ◌∷◌, ℕ, ℤ, Bool, true, false, cond, Option, None, Some, refl, sym, ap, ◌∙◌, subst, arith}
+use Rattle.std.proofs.Common.{◌≡◌, List, [], ◌∷◌, ℕ, ℤ, Bool, true, false, cond, ◌&&◌, Option, None, Some, refl, sym, ap, ◌∙◌, subst, arith}
 use Rattle.std.specs.Prelude.{IsUtf8}
 use Rattle.std.proofs.lemmas.Bool.{true≢false}
 use Rattle.std.proofs.lemmas.Int.{ints}
@@ -19,7 +19,7 @@ use Rattle.cql_parse.specs.Means.{Means}
 use Rattle.cas_lines.specs.declared.line.Line.{Line}
 use Rattle.cas_lines.specs.declared.line.Line.TheVariants as line
 use Rattle.cql_parse.specs.declared.syntax.TableName.{TableName}
-use Rattle.cas_lines.specs.Lines.{Flushes, IsTable, Spells, clock_of, clock_in, flushed_in, flushed_word, is_command, seconds_in, words_of}
+use Rattle.cas_lines.specs.Lines.{Flushes, IsTable, Spells, asks_status, clock_of, clock_in, flushed_in, flushed_word, is_command, seconds_in, status_in, words_of}
 
 -- ---- a command begins with `\`
 
@@ -54,6 +54,21 @@ pub flush_is : (text : List ℕ) (o : Option (List ℕ)) → is_command text ≡
 unfolding flushed_word
 flush_is text o e is = ap (λ b. cond b (flushed_in (words_of text)) None) e ∙ sym is
 
+both_tests : (a b : Bool) → (a && b) ≡ true → (a ≡ true) × (b ≡ true)
+both_tests true true e = (refl, refl)
+both_tests true false e = absurd (true≢false (sym e))
+both_tests false b e = absurd (true≢false (sym e))
+
+-- a line that asks for the status is a command
+pub asks_by_command : (text : List ℕ) → asks_status text ≡ true → is_command text ≡ true
+unfolding asks_status
+asks_by_command text e = (both_tests (is_command text) (status_in (words_of text)) e).0
+
+-- whether a command asks for it
+pub status_is : (text : List ℕ) (b : Bool) → is_command text ≡ true → b ≡ status_in (words_of text) → asks_status text ≡ b
+unfolding asks_status
+status_is text b e is = ap (λ x. x && status_in (words_of text)) e ∙ sym is
+
 -- ---- a command is one
 
 named_alike : (name a b : List ℕ) → str_eq_ignore_ascii_case name a ≡ true → str_eq_ignore_ascii_case name b ≡ true
@@ -80,14 +95,42 @@ flushes_no_clock text word n f e =
     no_two (words_of text) n word (ap (λ b. cond b (clock_in (words_of text)) None) (sym is) ∙ e)
     (ap (λ b. cond b (flushed_in (words_of text)) None) (sym is) ∙ f)
 
--- a command that sets no clock and flushes nothing says nothing that is known
-pub no_command : (text : List ℕ) → is_command text ≡ true → clock_in (words_of text) ≡ None → flushed_word text ≡ None → (l : Line) → Spells text l → ⊥
+-- ---- one of one word is none of two
+
+one_or_two : (words : List (List ℕ)) (word : List ℕ) → status_in words ≡ true → flushed_in words ≡ Some word → ⊥
+one_or_two [] word s f = none-some word f
+one_or_two (a ∷ []) word s f = none-some word f
+one_or_two (a ∷ b ∷ words) word s f = true≢false (sym s)
+
+one_or_set : (words : List (List ℕ)) (n : ℤ) → status_in words ≡ true → clock_in words ≡ Some n → ⊥
+one_or_set [] n s e = none-some n e
+one_or_set (a ∷ []) n s e = none-some n e
+one_or_set (a ∷ b ∷ words) n s e = true≢false (sym s)
+
+-- one that asks for the status sets no clock
+pub asks_no_clock : (text : List ℕ) (n : ℤ) → asks_status text ≡ true → clock_of text ≡ Some n → ⊥
+unfolding clock_of asks_status
+asks_no_clock text n s e =
+    let is = both_tests (is_command text) (status_in (words_of text)) s in
+    one_or_set (words_of text) n is.1 (ap (λ b. cond b (clock_in (words_of text)) None) (sym is.0) ∙ e)
+
+-- and flushes nothing
+pub asks_no_flush : (text word : List ℕ) → asks_status text ≡ true → flushed_word text ≡ Some word → ⊥
+unfolding flushed_word asks_status
+asks_no_flush text word s f =
+    let is = both_tests (is_command text) (status_in (words_of text)) s in
+    one_or_two (words_of text) word is.1 (ap (λ b. cond b (flushed_in (words_of text)) None) (sym is.0) ∙ f)
+
+-- a command that sets no clock, flushes nothing and doesn't ask for the status says nothing that is known
+pub no_command : (text : List ℕ) → is_command text ≡ true → clock_in (words_of text) ≡ None → flushed_word text ≡ None → asks_status text ≡ false
+    → (l : Line) → Spells text l → ⊥
 unfolding clock_of
-no_command text e h f line.Blank s = no_token text [] e s.1
-no_command text e h f (line.Statement st) s = no_token text s.1.0 e s.1.1
-no_command text e h f (line.Clock n) s = none-some n (sym h ∙ (ap (λ b. cond b (clock_in (words_of text)) None) (sym e) ∙ s))
-no_command text e h f (line.Flush t) s = none-some s.0 (sym f ∙ s.1)
-no_command text e h f line.Syntax s = s
+no_command text e h f n line.Blank s = no_token text [] e s.1
+no_command text e h f n (line.Statement st) s = no_token text s.1.0 e s.1.1
+no_command text e h f n (line.Clock k) s = none-some k (sym h ∙ (ap (λ b. cond b (clock_in (words_of text)) None) (sym e) ∙ s))
+no_command text e h f n (line.Flush t) s = none-some s.0 (sym f ∙ s.1)
+no_command text e h f n line.Status s = true≢false (sym s ∙ n)
+no_command text e h f n line.Syntax s = s
 
 -- nor does one whose word names no table
 pub no_table : (text word : List ℕ) → is_command text ≡ true → flushed_word text ≡ Some word → ((t : TableName) → IsTable word t → ⊥)
@@ -96,6 +139,7 @@ no_table text word e f h line.Blank s = no_token text [] e s.1
 no_table text word e f h (line.Statement st) s = no_token text s.1.0 e s.1.1
 no_table text word e f h (line.Clock n) s = flushes_no_clock text word n f s
 no_table text word e f h (line.Flush t) s = h t (subst (λ w. IsTable w t) (sym (same_Some word s.0 (sym f ∙ s.1))) s.2)
+no_table text word e f h line.Status s = asks_no_flush text word s f
 no_table text word e f h line.Syntax s = s
 
 -- a line that is no command sets no clock
@@ -106,11 +150,16 @@ not_set text n e s = true≢false (sym (sets_by_command text n s) ∙ e)
 no_flush : (text : List ℕ) (t : TableName) → is_command text ≡ false → Flushes text t → ⊥
 no_flush text t e s = true≢false (sym (flushes_by_command text t s) ∙ e)
 
+-- nor does it ask for the status
+no_status : (text : List ℕ) → is_command text ≡ false → asks_status text ≡ true → ⊥
+no_status text e s = true≢false (sym (asks_by_command text s) ∙ e)
+
 pub no_tokens : (text : List ℕ) → is_command text ≡ false → IsRefused text → (l : Line) → Spells text l → ⊥
 no_tokens text c h line.Blank s = h [] s.1
 no_tokens text c h (line.Statement st) s = h s.1.0 s.1.1
 no_tokens text c h (line.Clock n) s = not_set text n c s
 no_tokens text c h (line.Flush t) s = no_flush text t c s
+no_tokens text c h line.Status s = no_status text c s
 no_tokens text c h line.Syntax s = s
 
 pub no_statement : (text : List ℕ) (tokens : List Token) → is_command text ≡ false → Lexes text tokens → (tokens ≡ [] → ⊥) → ((s : Statement) → Means text tokens s → ⊥) → (l : Line) → Spells text l → ⊥
@@ -118,6 +167,7 @@ no_statement text tokens c lexed some h line.Blank s = some (one_reading text to
 no_statement text tokens c lexed some h (line.Statement st) s = h st (subst (λ ts. Means text ts st) (one_reading text s.1.0 tokens s.1.1 lexed) s.1.2)
 no_statement text tokens c lexed some h (line.Clock n) s = not_set text n c s
 no_statement text tokens c lexed some h (line.Flush t) s = no_flush text t c s
+no_statement text tokens c lexed some h line.Status s = no_status text c s
 no_statement text tokens c lexed some h line.Syntax s = s
 
 pub not_utf8 : (text : List ℕ) → is_command text ≡ false → (IsUtf8 text → ⊥) → (l : Line) → Spells text l → ⊥
@@ -125,6 +175,7 @@ not_utf8 text c h line.Blank s = h s.0
 not_utf8 text c h (line.Statement st) s = h s.0
 not_utf8 text c h (line.Clock n) s = not_set text n c s
 not_utf8 text c h (line.Flush t) s = no_flush text t c s
+not_utf8 text c h line.Status s = no_status text c s
 not_utf8 text c h line.Syntax s = s
 
 -- ---- what the clock is set to

@@ -15,3 +15,7 @@ OneReading = (text : List ℕ) (l m : Line) → Says text l → Says text m → 
 abbrev pub FlushesAreRead : Type 0
 FlushesAreRead =
     (word : List ℕ) (t : TableName) → IsTable word t → All (λ b. is_blank b ≡ false) word → Says (codes "\\flush " ++ word) (line.Flush t)
+
+-- `\status` asks which table files there are, also in large letters
+abbrev pub StatusIsRead : Type 0
+StatusIsRead = Says (codes "\\status") line.Status × Says (codes "\\STATUS") line.Status

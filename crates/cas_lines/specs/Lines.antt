@@ -1,5 +1,5 @@
--- What a line of a script says: nothing, a statement, `\clock n`, `\flush t`, or nothing that is known.
--- CQL documentation, "Definitions: comments"; the commands are own, `\flush` after the tool "nodetool flush".
+-- What a line of a script says: nothing, a statement, `\clock n`, `\flush t`, `\status`, or nothing that is known.
+-- CQL documentation, "Definitions: comments"; the commands are own, `\flush` after the tool "nodetool flush", `\status` after "nodetool tablestats".
 use Rattle.std.specs.Prelude.{◌≡◌, ℕ, ◌==◌, ℤ, pos, int_le, Bool, true, false, ◌&&◌, if◌then◌else◌}
 use Rattle.std.specs.Prelude.{List, [], ◌∷◌, codes, Option, None, Some, IsUtf8}
 use Rattle.std.specs.List.{filter, slice_split}
@@ -68,12 +68,26 @@ flushed_word text = if is_command text then flushed_in (words_of text) else None
 abbrev pub Flushes : List ℕ → TableName → Type 0
 Flushes text t = (word : List ℕ) × (flushed_word text ≡ Some word) × IsTable word t
 
+-- the name `\status`, in small letters or large ones
+abbrev pub names_status : List ℕ → Bool
+names_status name = str_eq_ignore_ascii_case name (codes "\\status")
+
+-- the words are that one
+abbrev pub status_in : List (List ℕ) → Bool
+status_in (name ∷ []) = names_status name
+status_in _ = false
+
+-- the line asks which table files there are: `\status` does, and `\status t` doesn't
+unfoldable pub asks_status : List ℕ → Bool
+asks_status text = is_command text && status_in (words_of text)
+
 -- the line says this: nothing but blanks and comments, a statement, or a command
 abbrev pub Spells : List ℕ → Line → Type 0
 Spells text line.Blank = IsUtf8 text × Lexes text []
 Spells text (line.Statement s) = IsUtf8 text × ((tokens : List Token) × Lexes text tokens × Means text tokens s)
 Spells text (line.Clock n) = clock_of text ≡ Some n
 Spells text (line.Flush t) = Flushes text t
+Spells text line.Status = asks_status text ≡ true
 Spells text line.Syntax = ⊥
 
 -- the line says this; one that says none of those is bad syntax
@@ -82,4 +96,5 @@ Says text line.Blank = Spells text line.Blank
 Says text (line.Statement s) = Spells text (line.Statement s)
 Says text (line.Clock n) = Spells text (line.Clock n)
 Says text (line.Flush t) = Spells text (line.Flush t)
+Says text line.Status = Spells text line.Status
 Says text line.Syntax = (l : Line) → Spells text l → ⊥

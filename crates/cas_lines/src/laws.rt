@@ -1,6 +1,6 @@
 //! What holds of every line.
 
-ghost use Rattle.cas_lines.specs.Laws.{FlushesAreRead, OneReading};
+ghost use Rattle.cas_lines.specs.Laws.{FlushesAreRead, OneReading, StatusIsRead};
 
 /// A line says one thing only.
 pub fn one_reading()
@@ -10,4 +10,9 @@ pub fn one_reading()
 /// Behind `\flush` and a space a word that names a table tells to flush that table.
 pub fn flushes_are_read()
     ensures { FlushesAreRead }
+{}
+
+/// `\status` alone asks which table files there are.
+pub fn status_is_read()
+    ensures { StatusIsRead }
 {}

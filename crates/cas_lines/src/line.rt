@@ -4,7 +4,7 @@ ghost use Rattle.std.specs.Prelude.{◌≡◌, [], false, true, map, option_map,
 ghost use Rattle.cql_lex.specs.Lexes.{Lexes};
 ghost use Rattle.cql_lex.specs.Gaps.{is_blank};
 ghost use Rattle.cas_lines.specs.Lines.{Says, clock_by, clock_in, has_bytes, is_command, seconds_in, words_of};
-ghost use Rattle.cas_lines.specs.Lines.{flushed_by, flushed_in, flushed_word};
+ghost use Rattle.cas_lines.specs.Lines.{flushed_by, flushed_in, flushed_word, names_status, status_in};
 ghost use Rattle.cas_lines.specs.Inner.Flushing.{NamesTable};
 
 use cas_types::{LAST_SECOND, Mem};
@@ -23,6 +23,8 @@ pub enum Line {
     Clock(i64),
     /// `\flush t`, with the table's name.
     Flush(TableName),
+    /// `\status`.
+    Status,
     /// It is none of these.
     Syntax,
 }
@@ -117,6 +119,21 @@ fn flushed_in<'a>(words: &[&'a [u8]]) -> Option<&'a [u8]>
     }
 }
 
+fn names_status(name: &[u8]) -> bool
+    ensures { result ≡ names_status name.now }
+{
+    name.eq_ignore_ascii_case(b"\\status")
+}
+
+fn is_status(words: &[&[u8]]) -> bool
+    ensures { result ≡ status_in (map (λ w. w.now) words.now) }
+{
+    match words {
+        [name] => names_status(name),
+        _ => false,
+    }
+}
+
 // What the command says that tells to flush what the word names.
 #[tactic(auto, using(crate::proofs::LineReading::no_table))]
 fn read_flush(alloc: Global, text: &[u8], word: &[u8]) -> Result<Line, Mem>
@@ -131,7 +148,7 @@ fn read_flush(alloc: Global, text: &[u8], word: &[u8]) -> Result<Line, Mem>
 }
 
 // What a line says that begins as a command does.
-#[tactic(auto, using(crate::proofs::LineReading::no_command, crate::proofs::LineReading::flush_is), unfolding(crate::specs::Lines::clock_of))]
+#[tactic(auto, using(crate::proofs::LineReading::no_command, crate::proofs::LineReading::flush_is, crate::proofs::LineReading::status_is), unfolding(crate::specs::Lines::clock_of))]
 fn read_command(alloc: Global, text: &[u8]) -> Result<Line, Mem>
     requires { IsTrue (is_command text.now) }
     ensures { IfOk result (λ l. Says text.now l) }
@@ -139,6 +156,9 @@ fn read_command(alloc: Global, text: &[u8]) -> Result<Line, Mem>
     let words = words_of(alloc, text)?;
     if let Some(seconds) = clock_in(&words) {
         return Ok(Line::Clock(seconds));
+    }
+    if is_status(&words) {
+        return Ok(Line::Status);
     }
     match flushed_in(&words) {
         Some(word) => read_flush(alloc, text, word),

@@ -9,6 +9,7 @@ use Rattle.cas_lines.specs.Lines.{Says}
 use Rattle.cas_lines.specs.declared.line.Line.{Line}
 use Rattle.cas_lines.specs.declared.line.Line.TheVariants as line
 use Rattle.cas_lines.proofs.LineReading.{clock_is_moment}
+use Rattle.cas_render.specs.declared.reply.Failure.TheVariants as failure
 use Rattle.cas_render.specs.declared.reply.Reply.{Reply}
 use Rattle.cas_render.specs.declared.reply.Reply.TheVariants as reply
 use Rattle.cas_words.specs.declared.words.ClockKind.{ClockKind}
@@ -18,6 +19,7 @@ use Rattle.cql_parse.specs.declared.syntax.TableName.{TableName}
 use Rattle.cas_sessions.specs.declared.answer.Fault.{Fault}
 use Rattle.cas_sessions.specs.Flushes.{Flushes}
 use Rattle.cas_sessions.specs.History.{History, Does}
+use Rattle.cas_sessions.specs.Status.{status}
 use Rattle.cas_node.specs.Lines.{Answers, FlushesNone, SetsClock, Tells, reply_of_flush}
 use Rattle.cas_sessions.specs.Nodes.{State, StandsFor, GoesOnTo, Moves, OrWant}
 use Rattle.cas_sessions.proofs.Answering.{moves_as}
@@ -62,6 +64,20 @@ module _ (kind : ClockKind) (Gives : ℤ → Type 0) where
       moves_as s t d e (Flushed name r) (λ h after. Answers kind Gives h text (Some r) after) (moves tells)
       (λ h after stands so. inr (line.Flush name, subst (λ l. Says text l) is says, (so.0, ap (λ q. Some q) so.1, so.2)))
   answers_flush s t d e text l name r moves says is (inr none) = absurd (says_flush text l name says is none)
+
+-- what `\status` answers; it changes nothing
+abbrev pub Listed : Reply → History → History → Type 0
+Listed r h after = (r ≡ reply.Status (status h)) × (after ≡ h)
+
+module _ (kind : ClockKind) (Gives : ℤ → Type 0) where
+  pub answers_status : (s : State) (d : Disk) (text : List ℕ) (l : Line) (r : Reply) → ((h : History) → StandsFor h s → OrWant r (Listed r) h h)
+      → Says text l → l ≡ line.Status → Moves (λ h after. Answers kind Gives h text (Some r) after) s s d d
+  answers_status s d text l r lists says is h stands =
+      (h, answers (lists h stands), record { stands = stands; lasts = λ found told lasts. (told, lasts) })
+    where
+      answers : OrWant r (Listed r) h h → Answers kind Gives h text (Some r) h
+      answers (inl want) = inl (ap (λ q. Some q) want.0, refl)
+      answers (inr listed) = inr (line.Status, subst (λ l. Says text l) is says, (ap (λ q. Some q) listed.0, refl))
 
 -- ---- the clock
 

@@ -53,6 +53,7 @@ module _ (P : Name → ℕ → Type 0) where
   taken segment m x d (reply.Wrote number) entries e t = tt
   taken segment m x d (reply.Rows rows shard front now) entries e t = absurd t
   taken segment m x d (reply.Flushed files) entries e t = absurd t
+  taken segment m x d (reply.Status tables) entries e t = absurd t
   taken segment m x d (reply.Refused why) entries e t = tt
   taken segment m x d (reply.Failed failure.Memory) entries e t = tt
   taken segment m x d (reply.Failed failure.Stopped) entries e t = tt
@@ -66,6 +67,7 @@ module _ (P : Name → ℕ → Type 0) where
   defined x old new d (reply.Wrote number) tables e t = absurd t
   defined x old new d (reply.Rows rows shard front now) tables e t = absurd t
   defined x old new d (reply.Flushed files) tables e t = absurd t
+  defined x old new d (reply.Status listed) tables e t = absurd t
   defined x old new d (reply.Refused why) tables e t = tt
   defined x old new d (reply.Failed failure.Memory) tables e t = tt
   defined x old new d (reply.Failed failure.Stopped) tables e t = tt
@@ -95,6 +97,7 @@ shown files before now s reading q reply.Done t = tt
 shown files before now s reading q (reply.Wrote number) t = tt
 shown files before now s reading q (reply.Rows rows shard front at) t = tt
 shown files before now s reading q (reply.Flushed numbers) t = tt
+shown files before now s reading q (reply.Status tables) t = tt
 shown files before now s reading q (reply.Refused why) t = tt
 shown files before now s reading q (reply.Failed failure.Memory) t = tt
 shown files before now s reading q (reply.Failed failure.Stopped) t = absurd t
@@ -151,6 +154,7 @@ module _ (kind : ClockKind) (Gives : ℤ → Type 0) where
   answered h line.Syntax r t a = quiet h.disk.files r _ a.0 tt
   answered h (line.Clock n) r t a = quiet h.disk.files r _ a.1 (clock_set kind h n a.0 t a.2)
   answered h (line.Flush name) r t a = quiet h.disk.files r _ a.1 (named (IsBadForOne h.disk.files) h (table_named h.tables name) a.0 t a.2)
+  answered h line.Status r t a = quiet h.disk.files r _ a.0 tt
   answered h (line.Statement s) r t a = quiet h.disk.files r _ a.1 (deed h (meaning h.limits.shards h.tables s) a.0 t a.2)
 
   told : (h : History) (text : List ℕ) (r : Option Reply) (t : History) → Answers kind Gives h text r t → IsSo h.disk.files (reply_cause r)

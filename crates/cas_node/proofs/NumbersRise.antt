@@ -71,6 +71,7 @@ module _ (reading : ℤ) (s : ShardHistory) (session call : ℕ) (m : Mutation) 
   taken segment d (reply.Wrote number) entries e t = one entries t.2
   taken segment d (reply.Rows rows shard front now) entries e t = absurd t
   taken segment d (reply.Flushed files) entries e t = absurd t
+  taken segment d (reply.Status tables) entries e t = absurd t
   taken segment d (reply.Refused why) entries e t = none entries t.1
   taken segment d (reply.Failed failure.Memory) entries e t = none entries t.0
   taken segment d (reply.Failed failure.Stopped) entries e t = none entries t.1
@@ -131,6 +132,7 @@ answered_keeps kind Gives h line.Blank r t a all = subst AllRise (sym a.1) all
 answered_keeps kind Gives h line.Syntax r t a all = subst AllRise (sym a.1) all
 answered_keeps kind Gives h (line.Clock n) r t a all = sets_keeps kind h n a.0 t a.2 all
 answered_keeps kind Gives h (line.Flush name) r t a all = named_keeps h (table_named h.tables name) a.0 t a.2 all
+answered_keeps kind Gives h line.Status r t a all = subst AllRise (sym a.1) all
 answered_keeps kind Gives h (line.Statement s) r t a all = does_keeps kind Gives h (meaning h.limits.shards h.tables s) a.0 t a.2 all
 
 answer_keeps : (kind : ClockKind) (Gives : ℤ → Type 0) (h : History) (text : List ℕ) (r : Option Reply) (t : History) → Answers kind Gives h text r t → AllRise h → AllRise t

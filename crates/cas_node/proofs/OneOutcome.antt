@@ -20,6 +20,7 @@ use Rattle.cas_journal.specs.Reach.{Reach, IsFull}
 use Rattle.cas_manifest.specs.Manifests.{room_of}
 use Rattle.cas_bind.specs.declared.bound.BoundRead.{BoundRead}
 use Rattle.cas_effects.specs.declared.effect.BoundWrite.{BoundWrite}
+use Rattle.cas_render.specs.Listing.{status_of}
 use Rattle.cas_render.specs.declared.reply.Failure.TheVariants as failure
 use Rattle.cas_render.specs.declared.reply.Reply.{Reply}
 use Rattle.cas_render.specs.declared.reply.Reply.TheVariants as reply
@@ -33,6 +34,7 @@ use Rattle.cas_sstread.specs.Loading.{Held}
 use Rattle.cas_view.specs.Views.{File}
 use Rattle.cas_words.specs.declared.words.ClockKind.TheVariants as clock
 use Rattle.cas_sessions.specs.History.{History, DiskState, Takes, Shows, Stays, Stops, SameFiles, Defines, Changes, Does, ReadsAt, WritesAt, after_read, after_write, entry_of, rows_reply, shard_at, tells_want}
+use Rattle.cas_sessions.specs.Status.{file_numbers, status}
 use Rattle.cas_node.specs.Lines.{Answered, Answers, FlushesNone, NoneFlushes, Runs, is_starved}
 use Rattle.cas_node.specs.Ran.{AreGood}
 use Rattle.cas_node.specs.Laws.{OneOutcome, SameStore, IsRoomy, StaysWell}
@@ -77,6 +79,7 @@ taken_grows segment m x d reply.Done entries e t = absurd t
 taken_grows segment m x d (reply.Wrote number) entries e t = of_stays d e t.3.1
 taken_grows segment m x d (reply.Rows rows shard front now) entries e t = absurd t
 taken_grows segment m x d (reply.Flushed files) entries e t = absurd t
+taken_grows segment m x d (reply.Status tables) entries e t = absurd t
 taken_grows segment m x d (reply.Refused why) entries e t = of_stays d e t.2
 taken_grows segment m x d (reply.Failed failure.Memory) entries e t = of_stays d e t.1
 taken_grows segment m x d (reply.Failed failure.Stopped) entries e t = of_stays d e t.2.1
@@ -93,6 +96,7 @@ defined_grows x old new d reply.Done tables e t = with_entry d e x (ap (λ q. q.
 defined_grows x old new d (reply.Wrote number) tables e t = absurd t
 defined_grows x old new d (reply.Rows rows shard front now) tables e t = absurd t
 defined_grows x old new d (reply.Flushed files) tables e t = absurd t
+defined_grows x old new d (reply.Status listed) tables e t = absurd t
 defined_grows x old new d (reply.Refused why) tables e t = of_stays d e t.4.1
 defined_grows x old new d (reply.Failed failure.Memory) tables e t = of_stays d e t.1
 defined_grows x old new d (reply.Failed failure.Stopped) tables e t = of_stays d e t.1.1
@@ -120,6 +124,7 @@ no_flush text line.Blank says none = tt
 no_flush text line.Syntax says none = tt
 no_flush text (line.Clock n) says none = tt
 no_flush text (line.Flush name) says none = none name says
+no_flush text line.Status says none = tt
 no_flush text (line.Statement s) says none = tt
 
 answered_grows : (Gives : ℤ → Type 0) (h : History) (l : Line) (r : Option Reply) (t : History) → IsNoFlush l → Answered clock.Manual Gives h l r t → Grows h.disk t.disk
@@ -127,6 +132,7 @@ answered_grows Gives h line.Blank r t none a = at_disk h t h.disk (ap (λ (k : H
 answered_grows Gives h line.Syntax r t none a = at_disk h t h.disk (ap (λ (k : History). k.disk) a.1) (still h.disk)
 answered_grows Gives h (line.Clock n) r t none a = at_disk h t h.disk (ap (λ (k : History). k.disk) a.2.1) (still h.disk)
 answered_grows Gives h (line.Flush name) r t none a = absurd none
+answered_grows Gives h line.Status r t none a = at_disk h t h.disk (ap (λ (k : History). k.disk) a.1) (still h.disk)
 answered_grows Gives h (line.Statement s) r t none a = deed_grows Gives h (meaning h.limits.shards h.tables s) a.0 t a.2
 
 line_grows : (Gives : ℤ → Type 0) (h : History) (text : List ℕ) (r : Option Reply) (t : History) → FlushesNone text → Answers clock.Manual Gives h text r t → Grows h.disk t.disk
@@ -203,6 +209,7 @@ settled segment m x d (reply.Wrote number) entries e t v well =
     by_refusal (take_refusal segment m) None m x _ entries e t.0 (ap (λ n. reply.Wrote n) t.1) t.2 (t.3.1.stopped ∙ t.3.0)
 settled segment m x d (reply.Rows rows shard front now) entries e t v well = absurd t
 settled segment m x d (reply.Flushed files) entries e t v well = absurd t
+settled segment m x d (reply.Status tables) entries e t v well = absurd t
 settled segment m x d (reply.Refused why) entries e t v well = by t.0
   where
     by : (take_refusal segment m ≡ Some why) ⊎ ((take_refusal segment m ≡ None) × (d.stopped ≡ false) × (why ≡ TOO_MANY) × IsFull e.reach)
@@ -226,6 +233,7 @@ agreed x old new d reply.Done tables e t v well = record { done = refl; are = t.
 agreed x old new d (reply.Wrote number) tables e t v well = absurd t
 agreed x old new d (reply.Rows rows shard front now) tables e t v well = absurd t
 agreed x old new d (reply.Flushed files) tables e t v well = absurd t
+agreed x old new d (reply.Status listed) tables e t v well = absurd t
 agreed x old new d (reply.Refused why) tables e t v well = absurd (omega (arith, t.2, t.3, t.4.1.reach.manifest, well.2.1))
 agreed x old new d (reply.Failed failure.Memory) tables e t v well = absurd (true≢false v)
 agreed x old new d (reply.Failed failure.Stopped) tables e t v well = absurd (no_true d.stopped well.0 t.1.0)
@@ -240,6 +248,7 @@ is_shown files before now s a x reply.Done t v none good = t
 is_shown files before now s a x (reply.Wrote number) t v none good = t
 is_shown files before now s a x (reply.Rows rows shard front at) t v none good = t
 is_shown files before now s a x (reply.Flushed numbers) t v none good = t
+is_shown files before now s a x (reply.Status tables) t v none good = t
 is_shown files before now s a x (reply.Refused why) t v none good = t
 is_shown files before now s a x (reply.Failed failure.Memory) t v none good = absurd (true≢false v)
 is_shown files before now s a x (reply.Failed failure.Stopped) t v none good = absurd t
@@ -340,14 +349,17 @@ module _ (h : History) (d e : DiskState) where
     other_goes = same.other_goes;
   }
 
-  one_answered : (Gives : ℤ → Type 0) (l : Line) (r q : Option Reply) (t u : History) → IsNoFlush l → Answered clock.Manual Gives (on h d) l r t → Answered clock.Manual Gives (on h e) l q u
+  one_answered : (Gives : ℤ → Type 0) (l : Line) (r q : Option Reply) (t u : History) → d.files ≡ e.files → IsNoFlush l → Answered clock.Manual Gives (on h d) l r t → Answered clock.Manual Gives (on h e) l q u
       → is_starved r ≡ false → is_starved q ≡ false → Well d t.disk → Well e u.disk → Same r q t u
-  one_answered Gives line.Blank r q t u none a b v w well good = left r q _ h t u a.0 b.0 a.1 b.1 well good
-  one_answered Gives line.Syntax r q t u none a b v w well good = left r q _ h t u a.0 b.0 a.1 b.1 well good
-  one_answered Gives (line.Clock n) r q t u none a b v w well good =
+  one_answered Gives line.Blank r q t u same none a b v w well good = left r q _ h t u a.0 b.0 a.1 b.1 well good
+  one_answered Gives line.Syntax r q t u same none a b v w well good = left r q _ h t u a.0 b.0 a.1 b.1 well good
+  one_answered Gives (line.Clock n) r q t u same none a b v w well good =
       shown a.0 b.0 r q t u a.1 b.1 (left a.0 b.0 reply.Done (record h { clock = n }) t u a.2.0 b.2.0 a.2.1 b.2.1 well good)
-  one_answered Gives (line.Flush name) r q t u none a b v w well good = absurd none
-  one_answered Gives (line.Statement s) r q t u none a b v w well good =
+  one_answered Gives (line.Flush name) r q t u same none a b v w well good = absurd none
+  one_answered Gives line.Status r q t u same none a b v w well good =
+      left r q (Some (reply.Status (status (on h d)))) h t u a.0
+      (b.0 ∙ ap (λ files. Some (reply.Status (status_of h.tables h.limits.shards (file_numbers files)))) (sym same)) a.1 b.1 well good
+  one_answered Gives (line.Statement s) r q t u same none a b v w well good =
       shown a.0 b.0 r q t u a.1 b.1
       (one_deed Gives (meaning h.limits.shards h.tables s) a.0 b.0 t u a.2 b.2 (ap is_starved (sym a.1) ∙ v) (ap is_starved (sym b.1) ∙ w) well good)
 
@@ -357,36 +369,36 @@ of_line : (Gives : ℤ → Type 0) (h : History) (text : List ℕ) (r : Option R
 of_line Gives h text r t (inl x) v = absurd (true≢false (ap is_starved (sym x.0) ∙ v))
 of_line Gives h text r t (inr x) v = x
 
-one_answer : (Gives : ℤ → Type 0) (h : History) (d e : DiskState) (text : List ℕ) (r q : Option Reply) (t u : History) → FlushesNone text
+one_answer : (Gives : ℤ → Type 0) (h : History) (d e : DiskState) (text : List ℕ) (r q : Option Reply) (t u : History) → d.files ≡ e.files → FlushesNone text
     → Answers clock.Manual Gives (on h d) text r t → Answers clock.Manual Gives (on h e) text q u → is_starved r ≡ false → is_starved q ≡ false
     → Well d t.disk → Well e u.disk → Same r q t u
-one_answer Gives h d e text r q t u none x y v w well good =
+one_answer Gives h d e text r q t u files none x y v w well good =
     let a = of_line Gives (on h d) text r t x v in
     let b = of_line Gives (on h e) text q u y w in
     let same = one_line text b.0 a.0 b.1 a.1 in
-    one_answered h d e Gives a.0 r q t u (no_flush text a.0 a.1 none) a.2 (subst (λ l. Answered clock.Manual Gives (on h e) l q u) same b.2) v w well good
+    one_answered h d e Gives a.0 r q t u files (no_flush text a.0 a.1 none) a.2 (subst (λ l. Answered clock.Manual Gives (on h e) l q u) same b.2) v w well good
 
-runs_agree : (Gives : ℤ → Type 0) (h : History) (d e : DiskState) (ls : List (List ℕ)) (rs ss : List (Option Reply)) (t u : History) → NoneFlushes ls
+runs_agree : (Gives : ℤ → Type 0) (h : History) (d e : DiskState) (ls : List (List ℕ)) (rs ss : List (Option Reply)) (t u : History) → d.files ≡ e.files → NoneFlushes ls
     → Runs clock.Manual Gives (on h d) ls rs t → Runs clock.Manual Gives (on h e) ls ss u → list_any is_starved rs ≡ false → list_any is_starved ss ≡ false
     → Well d t.disk → Well e u.disk → (rs ≡ ss) × SameStore t u
-runs_agree Gives h d e [] [] [] t u none x y v w well good =
+runs_agree Gives h d e [] [] [] t u files none x y v w well good =
     (refl, ap (λ (j : History). on j u.disk) x ∙ ap (λ (j : DiskState). on h j) (ap (λ (j : History). j.disk) y) ∙ sym y)
-runs_agree Gives h d e [] [] (s ∷ ss) t u none x y v w well good = absurd y
-runs_agree Gives h d e [] (r ∷ rs) ss t u none x y v w well good = absurd x
-runs_agree Gives h d e (l ∷ ls) [] ss t u none x y v w well good = absurd x
-runs_agree Gives h d e (l ∷ ls) (r ∷ rs) [] t u none x y v w well good = absurd y
-runs_agree Gives h d e (l ∷ ls) (r ∷ rs) (s ∷ ss) t u none x y v w well good =
+runs_agree Gives h d e [] [] (s ∷ ss) t u files none x y v w well good = absurd y
+runs_agree Gives h d e [] (r ∷ rs) ss t u files none x y v w well good = absurd x
+runs_agree Gives h d e (l ∷ ls) [] ss t u files none x y v w well good = absurd x
+runs_agree Gives h d e (l ∷ ls) (r ∷ rs) [] t u files none x y v w well good = absurd y
+runs_agree Gives h d e (l ∷ ls) (r ∷ rs) (s ∷ ss) t u files none x y v w well good =
     let left = or_parts (is_starved r) (list_any is_starved rs) v in
     let right = or_parts (is_starved s) (list_any is_starved ss) w in
     let one_more = line_grows Gives (on h d) l r x.0 none.0 x.1 in
     let other_more = line_grows Gives (on h e) l s y.0 none.0 y.1 in
     let one_rest = run_grows Gives x.0 ls rs t none.1 x.2 in
     let other_rest = run_grows Gives y.0 ls ss u none.1 y.2 in
-    let one = one_answer Gives h d e l r s x.0 y.0 none.0 x.1 y.1 left.0 right.0 (first_well d x.0.disk t.disk one_more one_rest well) (first_well e y.0.disk u.disk other_more other_rest good) in
+    let one = one_answer Gives h d e l r s x.0 y.0 files none.0 x.1 y.1 left.0 right.0 (first_well d x.0.disk t.disk one_more one_rest well) (first_well e y.0.disk u.disk other_more other_rest good) in
     let rest =
-    runs_agree Gives x.0 x.0.disk y.0.disk ls rs ss t u none.1 x.2 (subst (λ k. Runs clock.Manual Gives k ls ss u) (sym one.stores) y.2) left.1 right.1
+    runs_agree Gives x.0 x.0.disk y.0.disk ls rs ss t u (one_more.files ∙ files ∙ sym other_more.files) none.1 x.2 (subst (λ k. Runs clock.Manual Gives k ls ss u) (sym one.stores) y.2) left.1 right.1
     (rest_well d x.0.disk t.disk one_more one_rest well one.one_goes) (rest_well e y.0.disk u.disk other_more other_rest good one.other_goes) in
     (λ i. one.replies i ∷ rest.0 i, rest.1)
 
 pub one_outcome : (Gives : ℤ → Type 0) → OneOutcome Gives
-one_outcome Gives h ls rs ss t u x y none v w well good = runs_agree Gives h h.disk h.disk ls rs ss t u none x y v w well good
+one_outcome Gives h ls rs ss t u x y none v w well good = runs_agree Gives h h.disk h.disk ls rs ss t u refl none x y v w well good

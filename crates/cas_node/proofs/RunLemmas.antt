@@ -397,6 +397,7 @@ of_reply (Some reply.Done) = tt
 of_reply (Some (reply.Wrote n)) = tt
 of_reply (Some (reply.Rows rows shard front now)) = tt
 of_reply (Some (reply.Flushed files)) = tt
+of_reply (Some (reply.Status tables)) = tt
 of_reply (Some (reply.Refused n)) = tt
 of_reply (Some (reply.Failed failure.Memory)) = tt
 of_reply (Some (reply.Failed failure.Stopped)) = tt

@@ -53,6 +53,7 @@ reply_told (Some reply.Done) = tt
 reply_told (Some (reply.Wrote n)) = tt
 reply_told (Some (reply.Rows rows shard front now)) = tt
 reply_told (Some (reply.Flushed files)) = tt
+reply_told (Some (reply.Status tables)) = tt
 reply_told (Some (reply.Refused n)) = tt
 reply_told (Some (reply.Failed failure.Memory)) = tt
 reply_told (Some (reply.Failed failure.Stopped)) = tt

@@ -85,6 +85,7 @@ taken segment m x d reply.Done entries e t = absurd t
 taken segment m x d (reply.Wrote number) entries e t = of_stays d e t.3.1
 taken segment m x d (reply.Rows rows shard front now) entries e t = absurd t
 taken segment m x d (reply.Flushed files) entries e t = absurd t
+taken segment m x d (reply.Status tables) entries e t = absurd t
 taken segment m x d (reply.Refused why) entries e t = of_stays d e t.2
 taken segment m x d (reply.Failed failure.Memory) entries e t = of_stays d e t.1
 taken segment m x d (reply.Failed failure.Stopped) entries e t = of_stays d e t.2.1
@@ -98,6 +99,7 @@ defined x old new d reply.Done tables e t =
 defined x old new d (reply.Wrote number) tables e t = absurd t
 defined x old new d (reply.Rows rows shard front now) tables e t = absurd t
 defined x old new d (reply.Flushed files) tables e t = absurd t
+defined x old new d (reply.Status listed) tables e t = absurd t
 defined x old new d (reply.Refused why) tables e t = of_stays d e t.4.1
 defined x old new d (reply.Failed failure.Memory) tables e t = of_stays d e t.1
 defined x old new d (reply.Failed failure.Stopped) tables e t = of_stays d e t.1.1
@@ -193,6 +195,7 @@ module _ (kind : ClockKind) (Gives : ℤ → Type 0) where
       clock_set clock.Manual h n r t s = at_disk h t h.disk (ap (λ (k : History). k.disk) s.1) (still h.disk)
       clock_set clock.System h n r t s = unchanged h t s.1
   answered h (line.Flush name) r t a = named_counts h (table_named h.tables name) a.0 t a.2
+  answered h line.Status r t a = unchanged h t a.1
   answered h (line.Statement s) r t a = deed h (meaning h.limits.shards h.tables s) a.0 t a.2
 
   pub one_line : (h : History) (text : List ℕ) (r : Option Reply) (t : History) → Answers kind Gives h text r t → Counts h.disk t.disk

@@ -18,6 +18,7 @@ use Rattle.cas_sessions.specs.declared.answer.Fault.{Fault}
 use Rattle.cas_sessions.specs.Calls.{reply_of}
 use Rattle.cas_sessions.specs.Flushes.{Flushes}
 use Rattle.cas_sessions.specs.History.{History, Does, tells_want}
+use Rattle.cas_sessions.specs.Status.{status}
 
 -- the line was answered that memory ran out
 abbrev pub is_starved : Option Reply → Bool
@@ -40,6 +41,7 @@ Answered kind Gives h line.Blank r after = (r ≡ None) × (after ≡ h)
 Answered kind Gives h line.Syntax r after = (r ≡ Some (reply.Refused SYNTAX)) × (after ≡ h)
 Answered kind Gives h (line.Clock n) r after = (answer : Reply) × (r ≡ Some answer) × SetsClock kind h n answer after
 Answered kind Gives h (line.Flush t) r after = (result : Result (List ℕ) Fault) × (r ≡ Some (reply_of_flush result)) × Flushes h t result after
+Answered kind Gives h line.Status r after = (r ≡ Some (reply.Status (status h))) × (after ≡ h)
 Answered kind Gives h (line.Statement s) r after = (answer : Reply) × (r ≡ Some answer) × Does kind Gives h (meaning h.limits.shards h.tables s) answer after
 
 -- the line is answered; or memory ran out before it changed anything

@@ -9,7 +9,10 @@ ghost use Rattle.cas_sessions.specs.Flushes.{Flushes};
 ghost use Rattle.cas_sessions.specs.declared.answer.Fault.{Fault};
 ghost use Rattle.cas_sessions.specs.Listing.{KeepsListing, SameUpTo};
 ghost use Rattle.cas_sessions.specs.Numbering.{NumbersOn};
-ghost use Rattle.cas_sessions.specs.Nodes.{CountsOn, IsFew, Moves, State};
+ghost use Rattle.cas_sessions.specs.Nodes.{CountsOn, IsFew, Moves, OrWant, StandsFor, State};
+ghost use Rattle.cas_sessions.specs.Status.{status};
+ghost use Rattle.cas_sessions.specs.History.{History};
+ghost use Rattle.cas_render.specs.declared.reply.Reply.TheVariants as replies;
 
 use cas_disk::Folder;
 use cas_effects::{NOT_HERE, SYNTAX};
@@ -87,6 +90,17 @@ impl<F: Folder, J: Store> Runner<F, J> {
         }
     }
 
+    // Lists the table files, and changes nothing.
+    fn status(&self, alloc: Global) -> Reply
+        ensures { (h : History) → StandsFor h (⟦<Runner<F, J> as Running>⟧.state self.now)
+            → OrWant result (λ k after. (result ≡ replies.Status (status k)) × (after ≡ k)) h h }
+    {
+        match self.node.status(alloc) {
+            Ok(tables) => Reply::Status { tables },
+            Err(Mem) => Reply::Failed(Failure::Memory),
+        }
+    }
+
     fn answer_known<C: Clock>(
         &mut self,
         alloc: Global,
@@ -112,6 +126,7 @@ impl<F: Folder, J: Store> Runner<F, J> {
             Line::Syntax => Some(Reply::Refused(SYNTAX)),
             Line::Clock(seconds) => Some(self.set_clock(ask.kind, seconds)),
             Line::Flush(name) => Some(self.flush(alloc, &name)),
+            Line::Status => Some(self.status(alloc)),
             Line::Statement(statement) => {
                 let answer = self
                     .node

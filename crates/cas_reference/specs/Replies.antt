@@ -14,6 +14,7 @@ use Rattle.cas_bind.specs.declared.bound.Bound.TheVariants as bound
 use Rattle.cas_bind.specs.declared.bound.Limits.{Limits}
 use Rattle.cas_bind.specs.Meaning.{meaning}
 use Rattle.cas_bind.specs.Tables.{tables_after}
+use Rattle.cas_render.specs.Listing.{status_of}
 use Rattle.cas_render.specs.declared.reply.Reply.{Reply}
 use Rattle.cas_render.specs.declared.reply.Reply.TheVariants as reply
 use Rattle.cas_lines.specs.declared.line.Line.{Line}
@@ -90,12 +91,17 @@ abbrev pub flushed : Option TableSchema → Reply
 flushed None = reply.Refused (refusal_number NoTable)
 flushed (Some t) = reply.Flushed []
 
+-- `\status` lists no file of a table in a shard, since there is none
+abbrev pub no_files : ℕ → ℕ → List ℕ
+no_files shard table = []
+
 -- a line that says this is answered so, and this is the store then; one that says nothing isn't answered
 abbrev pub Answered : (ℤ → Type 0) → Store → Line → Option Reply → Store → Type 0
 Answered Gives s line.Blank r after = (r ≡ None) × (after ≡ s)
 Answered Gives s line.Syntax r after = (r ≡ Some (reply.Refused SYNTAX)) × (after ≡ s)
 Answered Gives s (line.Clock n) r after = (answer : Reply) × (r ≡ Some answer) × SetsClock s.kind s n answer after
 Answered Gives s (line.Flush t) r after = (r ≡ Some (flushed (table_named s.tables t))) × (after ≡ s)
+Answered Gives s line.Status r after = (r ≡ Some (reply.Status (status_of s.tables s.limits.shards no_files))) × (after ≡ s)
 Answered Gives s (line.Statement x) r after = (answer : Reply) × (r ≡ Some answer) × Does Gives s (meaning s.limits.shards s.tables x) answer after
 
 -- the line is answered so, by what it says

@@ -6,6 +6,7 @@ mod accepted;
 mod altered;
 mod reading;
 mod reference;
+mod status;
 mod tail;
 
 pub use reference::Reference;

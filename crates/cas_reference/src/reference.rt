@@ -8,6 +8,7 @@ ghost use Rattle.cas_reference.specs.Inner.Made.{made_props};
 use crate::accepted::Accepted;
 use crate::altered::altered;
 use crate::reading::reading;
+use crate::status::status_of;
 use cas_bind::{Bound, BoundRead, Limits, bind};
 use cas_define::Addition;
 use cas_effects::{BindFault, BoundWrite, NOT_HERE, Refusal, SYNTAX};
@@ -186,6 +187,10 @@ impl Reference {
             Line::Syntax => Ok(Some(Reply::Refused(SYNTAX))),
             Line::Clock(seconds) => Ok(Some(self.set_clock(seconds))),
             Line::Flush(name) => Ok(Some(self.flush(alloc, &name))),
+            Line::Status => {
+                let tables = status_of(alloc, &self.tables, self.limits.shards)?;
+                Ok(Some(Reply::Status { tables }))
+            }
             Line::Statement(statement) => {
                 Ok(Some(self.answer_statement(alloc, clock, &statement)?))
             }

@@ -15,6 +15,7 @@ use Rattle.cas_atoms.specs.declared.query.Datum.TheVariants as datum
 use Rattle.cas_atoms.specs.declared.query.LiveRow.{LiveRow}
 use Rattle.cas_render.specs.declared.reply.Failure.{Failure}
 use Rattle.cas_render.specs.declared.reply.Failure.TheVariants as failure
+use Rattle.cas_render.specs.declared.reply.Listed.{Listed}
 use Rattle.cas_render.specs.declared.reply.Reply.{Reply}
 use Rattle.cas_render.specs.declared.reply.Reply.TheVariants as reply
 
@@ -99,11 +100,16 @@ failure_text (failure.Block number at) = codes "failed block\n"
 abbrev pub further_number : ℕ → List ℕ
 further_number n = codes " " ++ decimal n
 
+-- a table in a shard is a line, with the numbers of its files there: t shard 0: 1 2
+unfoldable pub listed_text : Listed → List ℕ
+listed_text l = l.table ++ codes " shard " ++ decimal l.shard ++ codes ":" ++ flat_map further_number l.files ++ codes "\n"
+
 -- what is printed of the answer to a line of the script
 unfoldable pub reply_text : Reply → List ℕ
 reply_text reply.Done = codes "ok\n"
 reply_text (reply.Wrote number) = codes "ok " ++ decimal number ++ codes "\n"
 reply_text (reply.Rows rows shard front now) = flat_map row_text rows ++ trailer (length rows) shard front now
 reply_text (reply.Flushed files) = codes "flushed" ++ flat_map further_number files ++ codes "\n"
+reply_text (reply.Status tables) = flat_map listed_text tables
 reply_text (reply.Refused number) = codes "refused S" ++ decimal number ++ codes "\n"
 reply_text (reply.Failed failure) = failure_text failure

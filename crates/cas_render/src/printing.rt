@@ -2,11 +2,11 @@
 
 ghost use Rattle.std.specs.Prelude.{◌≡◌, ◌++◌, [], codes, OnOk, OnErr};
 ghost use Rattle.std.specs.List.{flat_map, join_by};
-ghost use Rattle.cas_render.specs.Text.{datum_text, further_number, row_text, trailer, failure_text, reply_text};
+ghost use Rattle.cas_render.specs.Text.{datum_text, further_number, listed_text, row_text, trailer, failure_text, reply_text};
 
 use crate::collections::append_datum;
 use crate::pieces::{append, append_number, append_signed};
-use crate::reply::{Failure, Reply};
+use crate::reply::{Failure, Listed, Reply};
 use cas_atoms::{Datum, LiveRow};
 use cas_types::Mem;
 use std::alloc::Global;
@@ -95,6 +95,27 @@ fn append_flushed(out: &mut Vec<u8>, files: &[u64]) -> Result<(), Mem>
     append(out, b"\n")
 }
 
+#[tactic(auto, unfolding(crate::specs::Text::listed_text))]
+fn append_listed(out: &mut Vec<u8>, listed: &Listed) -> Result<(), Mem>
+    ensures { OnOk result (out.new.items ≡ out.old.items ++ listed_text listed.now) }
+{
+    append(out, listed.table.as_str().as_bytes())?;
+    append(out, b" shard ")?;
+    append_number(out, u64::from(listed.shard))?;
+    append(out, b":")?;
+    append_further_numbers(out, listed.files.as_slice())?;
+    append(out, b"\n")
+}
+
+fn append_status(out: &mut Vec<u8>, tables: &[Listed]) -> Result<(), Mem>
+    ensures { OnOk result (out.new.items ≡ out.old.items ++ flat_map listed_text tables.now) }
+{
+    for listed in tables {
+        append_listed(out, listed)?;
+    }
+    Ok(())
+}
+
 fn append_failure(out: &mut Vec<u8>, failure: Failure) -> Result<(), Mem>
     ensures { OnOk result (out.new.items ≡ out.old.items ++ failure_text failure) }
 {
@@ -128,6 +149,7 @@ fn append_reply(alloc: Global, out: &mut Vec<u8>, reply: &Reply) -> Result<(), M
             append_trailer(out, rows.len() as u64, *shard, *front, *now)
         }
         Reply::Flushed { files } => append_flushed(out, files.as_slice()),
+        Reply::Status { tables } => append_status(out, tables.as_slice()),
         Reply::Refused(number) => {
             append(out, b"refused S")?;
             append_number(out, u64::from(*number))?;

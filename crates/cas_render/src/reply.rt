@@ -1,7 +1,7 @@
 //! What a line of a script is answered. A line that says nothing has no reply.
 
 use cas_atoms::LiveRow;
-use cas_types::List;
+use cas_types::{List, Text};
 
 /// Why a statement that wasn't refused came to nothing, or isn't known to have come to something.
 #[derive(Clone, Copy, Debug, PartialEq, Eq)]
@@ -16,6 +16,14 @@ pub enum Failure {
     Read,
     /// The bytes at that place of the table file of that number aren't as they must be.
     Block { number: u64, at: u64 },
+}
+
+/// The table files that are listed of a table in a shard: the table's name, and their numbers.
+#[derive(Drop)]
+pub struct Listed {
+    pub table: Text,
+    pub shard: u8,
+    pub files: List<u64>,
 }
 
 /// What a line is answered.
@@ -38,6 +46,10 @@ pub enum Reply {
     /// A table was flushed, to the table files of these numbers.
     Flushed {
         files: List<u64>,
+    },
+    /// The table files that are listed, of each table in each shard.
+    Status {
+        tables: List<Listed>,
     },
     /// Refused, with the refusal's number.
     Refused(u8),

@@ -12,7 +12,7 @@ use cas_chance::generated;
 use cas_disk::{FaultPlan, MemFolder};
 use cas_lines::next_line;
 use cas_reference::Reference;
-use cas_render::render;
+use cas_render::{Reply, render};
 use cas_types::Mem;
 use cas_words::{Command, read_words};
 use std::alloc::{AllocError, Global};
@@ -59,18 +59,21 @@ fn difference(
     )?))
 }
 
-// The reply to a line as text; none where it isn't answered.
+// The reply to a line as text; none where it isn't answered. Gives whether it lists tables.
 fn put_reply(
     alloc: Global,
     reference: &mut Reference,
     clock: &ListedClock<'_>,
     line: &[u8],
     text: &mut Vec<u8>,
-) -> Result<(), Mem> {
+) -> Result<bool, Mem> {
     text.clear();
     match reference.answer_line(alloc, clock, line)? {
-        Some(reply) => render(alloc, &reply, text),
-        None => Ok(()),
+        Some(reply) => {
+            render(alloc, &reply, text)?;
+            Ok(matches!(reply, Reply::Status { .. }))
+        }
+        None => Ok(false),
     }
 }
 
@@ -87,9 +90,35 @@ fn behind_flush(output: &[u8]) -> Option<&[u8]> {
     }
 }
 
-// The output behind the reply; none where it begins with something else. Of a flush the numbers of files may stand there.
-fn behind<'a>(output: &'a [u8], reply: &[u8]) -> Option<&'a [u8]> {
-    if reply == FLUSHED {
+// Whether the line lists the table and the shard that the other does, with the numbers of files or without.
+fn lists_same(line: &[u8], listed: &[u8]) -> bool {
+    let Some(bare) = listed.strip_suffix(b"\n".as_slice()) else {
+        return false;
+    };
+    match line.strip_prefix(bare) {
+        Some(files) => files == b"\n".as_slice() || files.starts_with(b" ".as_slice()),
+        None => false,
+    }
+}
+
+// The output behind what lists tables as the reply does; none where it begins with something else.
+fn behind_status<'a>(output: &'a [u8], reply: &[u8]) -> Option<&'a [u8]> {
+    let mut rest = output;
+    for listed in reply.split_inclusive(is_feed) {
+        match rest.split_inclusive(is_feed).next() {
+            Some(line) if lists_same(line, listed) => rest = rest.strip_prefix(line)?,
+            _ => return None,
+        }
+    }
+    Some(rest)
+}
+
+// The output behind the reply; none where it begins with something else. Of a flush, and of what lists tables, the
+// numbers of files may stand there.
+fn behind<'a>(output: &'a [u8], reply: &[u8], lists: bool) -> Option<&'a [u8]> {
+    if lists {
+        behind_status(output, reply)
+    } else if reply == FLUSHED {
         behind_flush(output)
     } else {
         output.strip_prefix(reply)
@@ -114,8 +143,8 @@ fn compare_run(
         if output.starts_with(b"failed ".as_slice()) {
             return Ok(Compared::Failed);
         }
-        put_reply(alloc, reference, &clock, line, &mut reply)?;
-        match behind(output, &reply) {
+        let lists = put_reply(alloc, reference, &clock, line, &mut reply)?;
+        match behind(output, &reply, lists) {
             Some(more) => output = more,
             None => return Ok(difference(alloc, number, line, output, &reply)?),
         }

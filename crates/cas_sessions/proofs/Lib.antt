@@ -24,3 +24,4 @@ mod FlushShard
 mod FlushAll
 mod FlushMaking
 mod FlushSound
+mod Statuses

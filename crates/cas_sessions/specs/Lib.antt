@@ -7,5 +7,6 @@ pub mod Listing
 pub mod Next
 pub mod Calls
 pub mod Flushes
+pub mod Status
 pub mod Laws
 pub mod Inner

@@ -10,6 +10,7 @@ mod opened;
 mod reading;
 mod seats;
 mod statements;
+mod status;
 mod texts;
 mod writing;
 

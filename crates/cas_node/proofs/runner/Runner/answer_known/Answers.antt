@@ -1,6 +1,6 @@
 use Rattle.std.proofs.Common.{refl, arith}
 use Rattle.std.proofs.lemmas.Int.{ints}
-use Rattle.cas_node.proofs.Answered.{answers_clock, answers_flush, answers_statement, says_flush, says_moment}
+use Rattle.cas_node.proofs.Answered.{answers_clock, answers_flush, answers_statement, answers_status, says_flush, says_moment}
 use Rattle.cas_sessions.proofs.Answering.{says_spelled, stands_at}
 use Rattle.cas_disk.proofs.Moments.{no_call}
 use Rattle.cas_sessions.specs.Listing.{SameUpTo}
@@ -60,3 +60,16 @@ returns-in-Flush-clause-lists g c = λ none. absurd (says_flush c.args.text.now 
 
 pub returns-in-Statement-clause-tables : goal.returns-in-Statement-clause-tables
 returns-in-Statement-clause-tables g c = up_to_same _ _ _ c.answer-answer.ensures.tables
+
+pub returns-in-Status-clause-answers : goal.returns-in-Status-clause-answers
+returns-in-Status-clause-answers g c = λ known.
+    answers_status c.args.ask.now.kind (g.C.Clock.may_give c.args.ask.now.clock.now) _ _ c.args.text.now c.args.line _ c.status.ensures c.requires.says c.in-Status.is
+
+pub returns-in-Status-clause-tables : goal.returns-in-Status-clause-tables
+returns-in-Status-clause-tables g c = no_call (SameUpTo _) _
+
+pub returns-in-Status-clause-lists : goal.returns-in-Status-clause-lists
+returns-in-Status-clause-lists g c = λ none. lists_nothing _ _
+
+pub returns-in-Status-clause-numbers : goal.returns-in-Status-clause-numbers
+returns-in-Status-clause-numbers g c = numbers_none _ _ refl refl
