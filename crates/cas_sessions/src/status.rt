@@ -1,31 +1,19 @@
 //! `\status`: the table files of each table in each shard.
 
-ghost use Rattle.std.specs.Prelude.{◌≡◌, ◌++◌, ℕ, ℤ, map, slice_get, IfOk, OnOk};
+ghost use Rattle.std.specs.Prelude.{◌≡◌, ◌++◌, ℕ, ℤ, map, IfOk, OnOk};
 ghost use Rattle.cas_render.specs.Listing.{in_shards};
-ghost use Rattle.cas_shard.specs.Stands.{files_at};
 ghost use Rattle.cas_view.specs.Views.{files_of};
 ghost use Rattle.cas_sessions.specs.History.{History};
 ghost use Rattle.cas_sessions.specs.Nodes.{StandsFor, files_in};
 ghost use Rattle.cas_sessions.specs.Status.{file_numbers, status};
 
 use crate::node::{Node, Stored};
-use cas_disk::{Folder, Sealed};
+use cas_disk::Folder;
 use cas_history::Store;
 use cas_render::{Listed, in_order, listed_of};
-use cas_shard::Shard;
-use cas_sstread::Table;
 use cas_types::{List, Mem, TableSchema};
 use cas_view::OpenFile;
 use std::alloc::Global;
-
-// The files that a table has in a shard.
-fn files_in<S: Sealed>(shard: &Shard<S>, table: u16) -> Result<&[OpenFile<Table<S>>], Mem>
-    ensures { IfOk result (λ v. files_of v.now ≡ files_at (slice_get shard.now.stores table)) }
-{
-    let _shard = shard;
-    let _table = table;
-    Err(Mem)
-}
 
 fn numbers_of<T: Drop>(alloc: Global, files: &[OpenFile<T>]) -> Result<Vec<u64>, Mem>
     ensures { IfOk result (λ v. v.items ≡ map (λ f. f.info.number) (files_of files.now)) }
@@ -49,7 +37,7 @@ impl<F: Folder, J: Store> Node<F, J> {
             ≡ listed.old.items ++ in_shards self.now.limits.shards (file_numbers (files_in self.now.shards.items)) table.now) }
     {
         for place in 0..self.limits.shards {
-            let files = files_in(&self.shards[place as usize], table.number)?;
+            let files = self.shards[place as usize].files(table.number);
             let numbers = numbers_of(alloc, files)?;
             listed.push(listed_of(table, place, numbers)?)?;
         }
