@@ -132,6 +132,9 @@ no_command text e h f n (line.Flush t) s = none-some s.0 (sym f ∙ s.1)
 no_command text e h f n line.Status s = true≢false (sym s ∙ n)
 no_command text e h f n line.Syntax s = s
 
+-- what the words of a command tell
+pub ruleset commands_read = (no_command, flush_is, status_is)
+
 -- nor does one whose word names no table
 pub no_table : (text word : List ℕ) → is_command text ≡ true → flushed_word text ≡ Some word → ((t : TableName) → IsTable word t → ⊥)
     → (l : Line) → Spells text l → ⊥

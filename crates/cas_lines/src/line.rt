@@ -148,7 +148,7 @@ fn read_flush(alloc: Global, text: &[u8], word: &[u8]) -> Result<Line, Mem>
 }
 
 // What a line says that begins as a command does.
-#[tactic(auto, using(crate::proofs::LineReading::no_command, crate::proofs::LineReading::flush_is, crate::proofs::LineReading::status_is), unfolding(crate::specs::Lines::clock_of))]
+#[tactic(auto, using(crate::proofs::LineReading::commands_read), unfolding(crate::specs::Lines::clock_of))]
 fn read_command(alloc: Global, text: &[u8]) -> Result<Line, Mem>
     requires { IsTrue (is_command text.now) }
     ensures { IfOk result (λ l. Says text.now l) }
