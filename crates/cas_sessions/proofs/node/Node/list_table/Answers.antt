@@ -16,4 +16,4 @@ loop-place-preserved g c =
     c.push.new.self.items at c.in_ok-listed_of.field-0 c.loop-place.invariant c.in_ok-push.ensures.items
     (listed_there n.shards.items at x c.args.table.now c.in_ok-numbers.numbers.items c.in_ok-listed_of.field-0
     (slice_get_read n.shards.items n.limits.shards at x (sym n.sound.count) c.loop-place-test.true c.index.ensures)
-    (c.in_ok-numbers.ensures ∙ ap (map (λ f. f.info.number)) c.files.ensures) c.in_ok-listed_of.ensures)
+    (c.in_ok-numbers.ensures ∙ ap (map (λ f. f.info.number)) c.files-files.ensures) c.in_ok-listed_of.ensures)
