@@ -79,8 +79,9 @@ UPDATE orders SET paid = true, marks = {'gift'} WHERE customer = 7 AND number = 
 SELECT * FROM orders WHERE customer = 7;
 
 -- A flush brings what memory has of a table into a table file, and prints that file's number. It changes no answer;
--- what is written after it lies over the file.
+-- what is written after it lies over the file. A status tells which table files each table has in each shard.
 \flush orders
+\status
 SELECT * FROM orders WHERE customer = 7;
 DELETE address FROM orders WHERE customer = 7;
 SELECT * FROM orders WHERE customer = 7;

@@ -111,6 +111,7 @@ with_clock h s n d stands = record {
       acknowledged = lasts.acknowledged;
       whole = lasts.whole;
       behind = lasts.behind;
+      files = lasts.files;
     },
   );
 }

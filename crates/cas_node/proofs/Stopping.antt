@@ -11,6 +11,7 @@ use Rattle.cas_changes.specs.declared.entry.Change.{Change}
 use Rattle.cas_changes.specs.declared.entry.Entry.{Entry as ManifestEntry}
 use Rattle.cas_effects.specs.declared.refusal.Refusal.{Refusal}
 use Rattle.cas_shard.specs.declared.entry.Entry.{Entry}
+use Rattle.cas_shard.specs.Shards.{ShardHistory}
 use Rattle.cas_lines.specs.declared.line.Line.{Line}
 use Rattle.cas_lines.specs.declared.line.Line.TheVariants as line
 use Rattle.cas_render.specs.declared.reply.Failure.TheVariants as failure
@@ -125,10 +126,10 @@ same_or_not (suc n) (suc m) = next (same_or_not n m)
     next (inl same) = inl (omega (arith, same))
     next (inr other) = inr (λ e. other (omega (arith, e)))
 
-grown : (table shard number : ℕ) (c : Option Change) (before after : List (File Held)) → Grows table shard number c before after
+grown : (table shard : ℕ) (s : ShardHistory) (c : Option Change) (before after : List (File Held)) → Grows table shard s c before after
     → (more : List (File Held)) × (after ≡ before ++ more)
-grown table shard number None before after g = ([], g ∙ sym (append-nil before))
-grown table shard number (Some c) before after g = (g.0 ∷ [], g.1)
+grown table shard s None before after g = ([], g ∙ sym (append-nil before))
+grown table shard s (Some c) before after g = (g.0 ∷ [], g.1)
 
 module _ (h : History) (t : TableSchema) (changes : List (Option Change)) (e : DiskState) (so : Flushed h t changes e) where
   flushed_more : AreMore h.disk.files e.files

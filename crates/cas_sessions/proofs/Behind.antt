@@ -69,7 +69,7 @@ behind_named entries numbers shards last live is =
     subst (λ (said : Saying). IsBehind said shards last live) (sym same) still
 
 -- no table's part is another where new tables have none
-part_more : (ps : List Part) (n k : ℕ) → unwrap_or (slice_get (ps ++ replicate n no_part) k) no_part ≡ unwrap_or (slice_get ps k) no_part
+pub part_more : (ps : List Part) (n k : ℕ) → unwrap_or (slice_get (ps ++ replicate n no_part) k) no_part ≡ unwrap_or (slice_get ps k) no_part
 part_more [] zero k = refl
 part_more [] (suc n) zero = refl
 part_more [] (suc n) (suc k) = part_more [] n k

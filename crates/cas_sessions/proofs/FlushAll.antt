@@ -9,12 +9,11 @@ use Rattle.cas_types.specs.declared.schema.TableSchema.{TableSchema}
 use Rattle.cas_bounds.specs.ClusteringOrder.{clustering_order}
 use Rattle.cas_disk.specs.Disk.{Disk, Image, Leaves}
 use Rattle.cas_disk.proofs.Moments.{no_call}
-use Rattle.cas_gates.specs.declared.first.First.{First}
 use Rattle.cas_atoms.specs.declared.atom.Mutation.{Mutation}
 use Rattle.cas_changes.specs.declared.entry.Change.{Change}
 use Rattle.cas_journal.specs.Reach.{Reach}
 use Rattle.cas_journal.specs.Stores.{Told}
-use Rattle.cas_shard.specs.Shards.{all_entries, number_of}
+use Rattle.cas_shard.specs.Shards.{all_entries}
 use Rattle.cas_shard.specs.Stands.{mutations_of}
 use Rattle.cas_sstread.specs.Loading.{Held}
 use Rattle.cas_bind.specs.Tables.{AreInPlace}
@@ -22,8 +21,6 @@ use Rattle.cas_terms.specs.Columns.{is_local, table_named}
 use Rattle.cas_view.specs.Views.{File}
 use Rattle.cql_parse.specs.declared.syntax.TableName.{TableName}
 use Rattle.cas_recovery.proofs.Places.{same_place}
-use Rattle.cas_effects.specs.declared.refusal.Refusal.TheVariants.{NoTable}
-use Rattle.cas_effects.specs.Refusals.{refusal_number}
 use Rattle.cas_sessions.specs.declared.answer.Fault.{Fault}
 use Rattle.cas_sessions.specs.declared.answer.Fault.TheVariants.{Refused, Stopped, Disk as Failed, Read, BadBlock, Mem}
 use Rattle.cas_sessions.specs.Calls.{IsTrueOf}
@@ -64,18 +61,18 @@ module _ (h : History) (t : TableSchema) (changes : List (Option Change)) (c : O
 
   untouched : u.files k t.number ≡ h.disk.files k t.number
   untouched =
-      subst (λ (x : Option Change). Grows t.number k (number_of (shard_at h k)) x (h.disk.files k t.number) (u.files k t.number))
+      subst (λ (x : Option Change). Grows t.number k (shard_at h k) x (h.disk.files k t.number) (u.files k t.number))
       (change_past changes k (omega (arith, at))) (first.files k)
 
-  grows : (n : ℕ) → (n ≡ k) ⊎ (n ≢ k) → Grows t.number n (number_of (shard_at h n)) (change_of (changes ++ c ∷ []) n) (h.disk.files n t.number) (v.files n t.number)
+  grows : (n : ℕ) → (n ≡ k) ⊎ (n ≢ k) → Grows t.number n (shard_at h n) (change_of (changes ++ c ∷ []) n) (h.disk.files n t.number) (v.files n t.number)
   grows n (inl here) =
-      subst (λ (i : ℕ). Grows t.number i (number_of (shard_at h i)) (change_of (changes ++ c ∷ []) i) (h.disk.files i t.number) (v.files i t.number)) (sym here)
-      (subst (λ (x : Option Change). Grows t.number k (number_of (shard_at h k)) x (h.disk.files k t.number) (v.files k t.number)) (sym (change_last changes c k (sym at)))
-      (subst (λ (fs : List (File Held)). Grows t.number k (number_of (shard_at h k)) c fs (v.files k t.number)) untouched one.files))
+      subst (λ (i : ℕ). Grows t.number i (shard_at h i) (change_of (changes ++ c ∷ []) i) (h.disk.files i t.number) (v.files i t.number)) (sym here)
+      (subst (λ (x : Option Change). Grows t.number k (shard_at h k) x (h.disk.files k t.number) (v.files k t.number)) (sym (change_last changes c k (sym at)))
+      (subst (λ (fs : List (File Held)). Grows t.number k (shard_at h k) c fs (v.files k t.number)) untouched one.files))
   grows n (inr other) =
-      subst (λ (x : Option Change). Grows t.number n (number_of (shard_at h n)) x (h.disk.files n t.number) (v.files n t.number))
+      subst (λ (x : Option Change). Grows t.number n (shard_at h n) x (h.disk.files n t.number) (v.files n t.number))
       (sym (change_before changes c n (λ same. other (same ∙ at))))
-      (subst (λ (fs : List (File Held)). Grows t.number n (number_of (shard_at h n)) (change_of changes n) (h.disk.files n t.number) fs) (sym (apart n t.number other)) (first.files n))
+      (subst (λ (fs : List (File Held)). Grows t.number n (shard_at h n) (change_of changes n) (h.disk.files n t.number) fs) (sym (apart n t.number other)) (first.files n))
 
   stand : (n : ℕ) → n < length (changes ++ c ∷ []) → (n ≡ k) ⊎ (n ≢ k)
       → AreInFiles (clustering_order t.columns) (v.files n t.number) (mutations_of t.number (all_entries (shard_at h n)))
@@ -208,7 +205,7 @@ still_flushed : (h : History) (t : TableSchema) (changes : List (Option Change))
     → v.reach ≡ u.reach → u.faults ≤ v.faults → u.reads ≤ v.reads → Flushed h t changes v
 still_flushed h t changes u v first files reach faults reads = record {
   files = λ n.
-      subst (λ (fs : List (File Held)). Grows t.number n (number_of (shard_at h n)) (change_of changes n) (h.disk.files n t.number) fs) (sym (files n t.number)) (first.files n);
+      subst (λ (fs : List (File Held)). Grows t.number n (shard_at h n) (change_of changes n) (h.disk.files n t.number) fs) (sym (files n t.number)) (first.files n);
   others = λ n k other. files n k ∙ first.others n k other;
   all = λ n lt.
       subst (λ (fs : List (File Held)). AreInFiles (clustering_order t.columns) fs (mutations_of t.number (all_entries (shard_at h n)))) (sym (files n t.number)) (first.all n lt);
@@ -268,6 +265,7 @@ lasts_under h e found s d told lasts = record {
   acknowledged = lasts.acknowledged;
   whole = lasts.whole;
   behind = lasts.behind;
+  files = lasts.files;
 }
 
 named : (h : History) (tables : List TableSchema) (name : TableName) (o : Option TableSchema) (r : Result (List ℕ) Fault) (after : History) → h.tables ≡ tables
@@ -321,22 +319,6 @@ flushes_some name t f s u d e is going none c reads h stands =
             (later.0, lasts_under h (disk_of u) found u e later.0 later.1);
       },
     )
-
-pub flushes_no_table : (name : TableName) (f : Fault) (s : State) (d : Disk) → table_named s.tables name ≡ None → f ≡ Refused (refusal_number NoTable)
-    → Moves (λ h after. Flushes h name (Err f) after) s s d d
-flushes_no_table name f s d is same h stands = (
-  h,
-  named h s.tables name None (Err f) h stands.tables is (ap Err same, refl),
-  record { stands = stands; lasts = λ found told lasts. (told, lasts) },
-)
-
-pub flushes_stopped : (name : TableName) (t : TableSchema) (first : First) (s : State) (d : Disk) → table_named s.tables name ≡ Some t → s.journal.first ≡ Some first
-    → Moves (λ h after. Flushes h name (Err (Stopped first)) after) s s d d
-flushes_stopped name t first s d is stopped h stands = (
-  h,
-  named h s.tables name (Some t) (Err (Stopped first)) h stands.tables is (ap (λ (x : DiskState). x.stopped) stands.disk ∙ ap is_some stopped, refl),
-  record { stands = stands; lasts = λ found told lasts. (told, lasts) },
-)
 
 pub keeps_all : (s u : State) (d e : Disk) → u.list ≡ s.list
     → ((h : History) (found : List Mutation) (told : Told) → h.tables ≡ s.tables → LastsFor h found s d told → GoesOn h found s u d e) → KeepsAll s u d e

@@ -1,9 +1,8 @@
 -- The manifest gets the change that lists the file of a flush.
-use Rattle.std.proofs.Common.{◌≡◌, ◌≢◌, ◌⊎◌, inl, inr, ⊎_elim, ◌<◌, ◌≤◌, ◌+◌, ◌-◌, ◌*◌, ◌%◌, ◌^◌, ◌==◌, ◌&&◌, ◌||◌, not, ℕ, zero, suc, Bool, true, false, List, [], ◌∷◌, ◌++◌, length, map, Option, None, Some, Result, Ok, Err, refl, sym, ap, ◌∙◌, subst, arith, append-nil}
+use Rattle.std.proofs.Common.{◌≡◌, ◌≢◌, ◌⊎◌, inl, inr, ⊎_elim, ◌<◌, ◌≤◌, ◌+◌, ◌-◌, ◌*◌, ◌^◌, ◌==◌, ◌&&◌, ◌||◌, not, ℕ, zero, suc, Bool, true, false, List, [], ◌∷◌, ◌++◌, length, map, Option, None, Some, Result, Ok, Err, refl, sym, ap, ◌∙◌, subst, arith, append-nil}
 use Rattle.std.specs.Prelude.{slice_get, slice_set, unwrap_or}
 use Rattle.std.specs.List.{AllByRecursion}
 use Rattle.std.proofs.lemmas.Bool.Decides.{nat_tests}
-use Rattle.std.proofs.lemmas.Nat.{mod-mul-add}
 use Rattle.std.proofs.lemmas.Option.{same_Some}
 use Rattle.cas_types.specs.declared.schema.TableSchema.{TableSchema}
 use Rattle.cas_disk.specs.Disk.{Disk, Image, Leaves}
@@ -31,9 +30,11 @@ use Rattle.cas_shard.specs.Stands.{ShardState}
 use Rattle.cas_recovery.specs.Restored.{IsBehind}
 use Rattle.cas_recovery.proofs.Places.{get_here, get_other, get_within, same_place}
 use Rattle.cas_sessions.specs.History.{History}
-use Rattle.cas_sessions.specs.Entered.{IsLeftAmid}
-use Rattle.cas_sessions.specs.Nodes.{State, LastsFor}
-use Rattle.cas_sessions.specs.Inner.Flushing.{AddsFile, GoesOn, Lists}
+use Rattle.cas_sessions.specs.Entered.{IsLeftAmid, ListFiles}
+use Rattle.cas_sessions.specs.Nodes.{State, LastsFor, files_in}
+use Rattle.cas_sessions.specs.Inner.Flushing.{AddsFile, GoesOn, Lists, SameNumbers}
+use Rattle.cas_sessions.proofs.Files.{list_changed, list_same}
+use Rattle.cas_sessions.proofs.Parts.{has_parts, one_shard}
 use Rattle.cas_sessions.proofs.Tables.{goes_before, said_still}
 
 -- ---- numbers
@@ -80,12 +81,12 @@ module _ (place number : ℕ) (tables : List TableSchema) (shards : List ShardSt
   fits_change = record {
     table = subst (λ (ts : List TableSchema). c.table < length ts) (sym same) adds.table;
     shard = subst (λ (k : ℕ). k < said.shards) (sym adds.is.of_shard) few;
-    moment = adds.is.moment;
+    moment = adds.is.moment.1;
     frontier = (
       subst (λ (k : ℕ). (part_of said c.table k).frontier ≤ c.frontier) (sym adds.is.of_shard) (omega (arith, frontier, adds.is.frontier.0)),
       adds.is.frontier.1,
     );
-    drawn = adds.is.drawn;
+    drawn = adds.is.drawn.1;
     few_removed = subst (λ (ns : List ℕ). length ns < 2 ^ 16) (sym adds.is.removed) (omega arith);
     removed = none_removed;
     few_added = subst (λ (is : List TableInfo). length is < 2 ^ 16) (sym adds.is.added) (omega arith);
@@ -114,10 +115,6 @@ module _ (place number : ℕ) (tables : List TableSchema) (shards : List ShardSt
       entry_short witness (change_entry c) (fits_witness, few)
 
 -- ---- what the manifest says of table files then
-
--- two parts in one place are of one shard
-one_shard : (a b k n many : ℕ) → k < many → n < many → a * many + k ≡ b * many + n → k ≡ n
-one_shard a b k n many few less same = sym (mod-mul-add a many k few) ∙ ap (λ (m : ℕ). m % many) same ∙ mod-mul-add b many n less
 
 set_past : {X : Type 0} (xs : List X) (n : ℕ) (y : X) → slice_get xs n ≡ None → slice_set xs n y ≡ xs
 set_past [] n y none = refl
@@ -241,21 +238,41 @@ module _ (s t : State) (d e : Disk) (place number : ℕ) (c : Change) (count : l
       reworded (λ _ i. StandsAmid told (change_entry c) found (accepted_in s.list) s.committed i) (λ _ i. IsLeftAmid found s.list h i) d e (lists.front found told lasts.keeps fits)
       (λ b i was image. left i tables image)
 
-  -- it has the change
-  pub lists_done : {T : Type 0} (x : T) → Lists c (Ok x) s t d e → h.tables ≡ s.tables → GoesOn h found s t d e
-  lists_done x lists tables = ((appended (change_entry c) (committed_all told), keeps_on), lists_amid (Ok x) lists tables)
+  -- it has the change, and the shards have the file that it adds, and no other
+  pub lists_done : {T : Type 0} (x : T) → Lists c (Ok x) s t d e → h.tables ≡ s.tables → s.journal.first ≡ None → (ys : List ShardState) → SameNumbers t.shards ys
+      → map (λ f. f.info) (files_in ys c.shard c.table) ≡ map (λ f. f.info) (files_in s.shards c.shard c.table) ++ c.added
+      → ((n k : ℕ) → ((n ≡ c.shard) × (k ≡ c.table) → ⊥) → files_in ys n k ≡ files_in s.shards n k) → GoesOn h found s (record t { shards = ys }) d e
+  lists_done x lists tables going ys numbers here others =
+      ((appended (change_entry c) (committed_all told), keeps_on), lists_amid (Ok x) lists tables)
     where
       said : said_by (told.entries ++ change_entry c ∷ []) ≡ change_after (said_by told.entries) c
       said = said_more told.entries (change_entry c)
 
-      keeps_on : LastsFor h found t e (appended (change_entry c) (committed_all told))
+      behind : IsBehind (change_after (said_by told.entries) c) t.shards t.last_file t.live
+      behind =
+          subst (λ (ys : List ShardState). IsBehind (change_after (said_by told.entries) c) ys t.last_file t.live) (sym lists.shards)
+          (subst (λ (k : ℕ). IsBehind (change_after (said_by told.entries) c) s.shards k t.live) (sym lists.last)
+          (behind_listed place number s.tables s.shards c adds (said_by told.entries) (no_shard_more h found s d told count lasts) s.last_file s.live lasts.behind t.live new low
+          lists.live))
+
+      files : ListFiles (change_after (said_by told.entries) c) (files_in ys)
+      files =
+          list_changed (said_by told.entries) c (files_in s.shards) (files_in ys) (has_parts told.entries (lasts.keeps.lasts.goes going).manifest.follow)
+          (subst (λ (ts : List TableSchema). c.table < length ts) (sym lasts.tables) adds.table)
+          (subst (λ (k : ℕ). k < (said_by told.entries).shards) (sym adds.is.of_shard) (no_shard_more h found s d told count lasts place adds.x adds.there))
+          adds.is.removed here others lasts.files
+
+      keeps_on : LastsFor h found (record t { shards = ys }) e (appended (change_entry c) (committed_all told))
       keeps_on = record {
         keeps = lists.keeps found told lasts.keeps fits;
         tables = ap (λ (sy : Saying). sy.tables) said ∙ lasts.tables ∙ sym lists.tables;
         shards = ap (λ (sy : Saying). sy.shards) said ∙ lasts.shards ∙ ap (λ l. l.shards) (sym lists.limits);
         few = lasts.few;
         ordered = lasts.ordered;
-        next = λ n y there. lasts.next n y (subst (λ (ys : List ShardState). slice_get ys n ≡ Some y) lists.shards there);
+        next = λ n z there.
+            let (y, at, same) = numbers n z there in
+            subst (λ (k : ℕ). AscendByOne (numbers_of n told.taken ++ (k + 1) ∷ [])) (sym same)
+            (lasts.next n y (subst (λ (xs : List ShardState). slice_get xs n ≡ Some y) lists.shards at));
         counted = omega (arith, lasts.counted, lists.accepted, ap (λ l. length (accepted_in l)) lists.list);
         acknowledged = (
           omega (arith, lasts.acknowledged.0, lists.rises),
@@ -263,11 +280,15 @@ module _ (s t : State) (d e : Disk) (place number : ℕ) (c : Change) (count : l
         );
         whole = λ on. omega (arith, lasts.counted, lists.all, ap (λ l. length (accepted_in l)) lists.list);
         behind =
-            subst (λ (sy : Saying). IsBehind sy t.shards t.last_file t.live) (sym said)
-            (subst (λ (ys : List ShardState). IsBehind (change_after (said_by told.entries) c) ys t.last_file t.live) (sym lists.shards)
-            (subst (λ (k : ℕ). IsBehind (change_after (said_by told.entries) c) s.shards k t.live) (sym lists.last)
-            (behind_listed place number s.tables s.shards c adds (said_by told.entries) (no_shard_more h found s d told count lasts) s.last_file s.live lasts.behind t.live new low
-            lists.live)));
+            subst (λ (sy : Saying). IsBehind sy ys t.last_file t.live) (sym said) (record {
+              frontiers = λ n table z there.
+                  let (y, at, same) = numbers n z there in
+                  let below = behind.frontiers n table y at in
+                  omega (arith, below, same);
+              numbers = behind.numbers;
+              listed = behind.listed;
+            });
+        files = subst (λ (sy : Saying). ListFiles sy (files_in ys)) (sym said) files;
       }
 
   -- it failed
@@ -304,6 +325,9 @@ module _ (s t : State) (d e : Disk) (place number : ℕ) (c : Change) (count : l
                 (subst (λ (ys : List ShardState). IsBehind (said_by told.entries) ys t.last_file t.live) (sym lists.shards)
                 (subst (λ (k : ℕ). IsBehind (said_by told.entries) s.shards k t.live) (sym lists.last)
                 (subst (λ (k : ℕ). IsBehind (said_by told.entries) s.shards s.last_file k) (sym lists.live) lasts.behind)));
+            files =
+                subst (λ es. ListFiles (said_by es) (files_in t.shards)) (sym entries)
+                (list_same (said_by told.entries) (files_in s.shards) (files_in t.shards) (ap files_in lists.shards) lasts.files);
           },
         ),
         lists_amid {T = T} (Err f) lists tables,

@@ -1,9 +1,10 @@
 -- A flush of a table in a shard.
-use Rattle.std.proofs.Common.{◌≡◌, ◌≢◌, ◌⊎◌, inl, inr, ◌<◌, ◌≤◌, ℕ, false, List, [], ◌∷◌, ◌++◌, length, map, take, drop, Option, None, Some, Result, Ok, Err, is_some, refl, sym, ap, ◌∙◌, subst, arith}
+use Rattle.std.proofs.Common.{◌≡◌, ◌≢◌, ◌⊎◌, inl, inr, ◌<◌, ◌≤◌, ℕ, false, List, [], ◌∷◌, ◌++◌, length, map, take, drop, Option, None, Some, Result, Ok, Err, is_some, ℤ, refl, sym, ap, ◌∙◌, subst, arith}
 use Rattle.std.proofs.lemmas.List.{take_all}
 use Rattle.std.proofs.lemmas.Option.{same_Some}
 use Rattle.std.specs.Prelude.{slice_get, slice_set, IfErr}
 use Rattle.std.specs.List.{AllByRecursion}
+use Rattle.std.specs.Int.{int_max}
 use Rattle.cas_types.specs.declared.schema.TableSchema.{TableSchema}
 use Rattle.cas_bounds.specs.ClusteringOrder.{clustering_order}
 use Rattle.cas_bounds.specs.declared.order.Ordered.{Ordered}
@@ -14,6 +15,7 @@ use Rattle.cas_gates.specs.declared.first.First.{First}
 use Rattle.cas_atoms.specs.declared.atom.Mutation.{Mutation}
 use Rattle.cas_changes.specs.Saying.{said_by}
 use Rattle.cas_changes.specs.declared.entry.Change.{Change}
+use Rattle.cas_changes.specs.declared.said.TheConstants.{FIRST_DRAWN}
 use Rattle.cas_info.specs.declared.info.TableInfo.{TableInfo}
 use Rattle.cas_journal.specs.Ends.{Ends}
 use Rattle.cas_journal.specs.Reach.{Reach, reach_of}
@@ -21,6 +23,7 @@ use Rattle.cas_journal.specs.Stores.{Told, Holds as HoldsTold}
 use Rattle.cas_journal.specs.declared.fault.JournalFault.{JournalFault}
 use Rattle.cas_journal.specs.declared.fault.JournalFault.TheVariants as journal
 use Rattle.cas_memtable.specs.Kept.{HoldJust}
+use Rattle.cas_memtable.proofs.Keeping.{mapped_more}
 use Rattle.cas_memtable.specs.declared.memtable.MemPart.{MemPart}
 use Rattle.cas_shard.specs.Flushing.{HasInMemory, SaysWhatTheyDo, bytes_at, frozen_at, memtables_at}
 use Rattle.cas_shard.specs.Shards.{ShardHistory, all_entries, number_of}
@@ -39,7 +42,7 @@ use Rattle.cas_sessions.specs.Inner.Faults.{fault_for}
 use Rattle.cas_sessions.specs.Inner.Flushing.{AddsFile, EndsIn, FlushedOne, FlushesOne, GoesOn, GoesOnAs, IsOwn, Lists, Moved, NewFile, Quiet, SaysSo, TakesFile, WhyNotMade}
 use Rattle.cas_sessions.proofs.FlushChange.{below_next, lists_done, lists_failed}
 use Rattle.cas_sessions.proofs.FlushFiles.{SayNothing, in_files, memory_says_nothing, rest_says_nothing}
-use Rattle.cas_sessions.proofs.FlushSteps.{amid_then, beside_then, files_again, lasts_again, one_goes_on, quiet_amid, quiet_beside, quiet_goes, quiet_lasts, quiet_remembers, quiet_stands, same_shards, stands_again, with_disk}
+use Rattle.cas_sessions.proofs.FlushSteps.{amid_then, beside_then, files_again, one_goes_on, quiet_amid, quiet_beside, quiet_goes, quiet_lasts, quiet_remembers, quiet_stands, same_shards, stands_again, with_disk}
 use Rattle.cas_sessions.proofs.Listing.{up_to_same}
 
 -- ---- nothing is done
@@ -243,16 +246,38 @@ module _ {T : Type 0} (t : TableSchema) (n number count : ℕ) (s m : State) (d 
           (x, ap (λ (j : ℕ). slice_get m.shards j) here ∙ at_m, ap (λ (q : ShardState). q.number) (sym same) ∙ swapped.number)
       by (inr (other, at)) = (z, ap (λ (xs : List ShardState). slice_get xs k) lists.shards ∙ at, refl)
 
+  -- so are the files of each table but for this one
+  other_files : (k j : ℕ) → ((k ≡ n) × (j ≡ t.number) → ⊥) → files_in (slice_set m.shards n y) k j ≡ files_in s.shards k j
+  other_files k j other = by (same_place k n)
+    where
+      by : (k ≡ n) ⊎ (k ≢ n) → files_in (slice_set m.shards n y) k j ≡ files_in s.shards k j
+      by (inl here) =
+          ap (λ (i : ℕ). files_in (slice_set m.shards n y) i j) here ∙ files_there (slice_set m.shards n y) n j y at_u
+          ∙ ap files_at (swapped.others j (λ same. other (here, same))) ∙ sym (files_there s.shards n j x there) ∙ ap (λ (i : ℕ). files_in s.shards i j) (sym here)
+      by (inr apart) =
+          ap (λ o. files_of o j) (get_other m.shards n k y apart ∙ ap (λ (xs : List ShardState). slice_get xs k) lists.shards)
+
+  -- and this one has the new file behind its own
+  one_more : files_in (slice_set m.shards n y) n t.number ≡ files_in s.shards n t.number ++ new.file ∷ []
+  one_more =
+      files_there (slice_set m.shards n y) n t.number y at_u ∙ swapped.files_are ∙ new.are
+      ∙ ap (λ (fs : List (File Held)). fs ++ new.file ∷ []) (sym (files_there s.shards n t.number x there))
+
+  its_added : new.file.info ∷ [] ≡ c.added
+  its_added = sym (adds.is.added ∙ ap (λ (i : TableInfo). i ∷ []) (is_told ∙ sym new.info))
+
+  its_file : map (λ f. f.info) (files_in (slice_set m.shards n y) c.shard c.table) ≡ map (λ f. f.info) (files_in s.shards c.shard c.table) ++ c.added
+  its_file =
+      subst (λ (k : ℕ). map (λ f. f.info) (files_in (slice_set m.shards n y) k c.table) ≡ map (λ f. f.info) (files_in s.shards k c.table) ++ c.added) (sym adds.is.of_shard)
+      (subst (λ (j : ℕ). map (λ f. f.info) (files_in (slice_set m.shards n y) n j) ≡ map (λ f. f.info) (files_in s.shards n j) ++ c.added) (sym of_table)
+      (ap (λ (fs : List (File Held)). map (λ f. f.info) fs) one_more ∙ mapped_more (λ (f : File Held). f.info) (files_in s.shards n t.number) new.file
+      ∙ ap (λ (is : List TableInfo). map (λ f. f.info) (files_in s.shards n t.number) ++ is) its_added))
+
   keeps_on : (h : History) (found : List Mutation) (was : Told) → h.tables ≡ s.tables → LastsFor h found s d was → AllByRecursion (λ k. k < number) (said_by was.entries).numbers
       → GoesOn h found s u d e
   keeps_on h found was tables so below =
-      let (now, amid) = lists_done s m d e n number c many adds low h found was so below answer lists tables in (
-        (
-          now.0,
-          lasts_again h found m u e e now.0 now.1 now.1.keeps refl refl refl refl refl (λ on. on) numbers (omega arith) refl,
-        ),
-        amid,
-      )
+      lists_done s m d e n number c many adds low h found was so below answer lists tables going (slice_set m.shards n y) numbers its_file
+      (λ k j other. other_files k j (λ both. other (both.0 ∙ sym adds.is.of_shard, both.1 ∙ sym of_table)))
 
   remembers : Remember s.tables s.shards → Remember m.tables (slice_set m.shards n y)
   remembers have k j z got = by (each k z got)
@@ -288,38 +313,34 @@ module _ {T : Type 0} (t : TableSchema) (n number count : ℕ) (s m : State) (d 
                 (x, ap (λ (j : ℕ). slice_get s.shards j) here ∙ there, λ q so. subst (λ (v : ShardState). Stands s.tables q v) same (one_stands q so))
             at (inr (other, got)) = (z, got, λ q so. so)
 
+    one : Stands h.tables (shard_at h n) x
+    one = stands.shards n x there
+
     frontier_is : c.frontier ≡ number_of (shard_at h n)
-    frontier_is =
-        let one : Stands h.tables (shard_at h n) x = stands.shards n x there in
-        adds.is.frontier.0 ∙ ap (λ (q : ShardState). q.number) is_x ∙ one.number
+    frontier_is = adds.is.frontier.0 ∙ ap (λ (q : ShardState). q.number) is_x ∙ one.number
 
     flushed : FlushedOne t n (shard_at h n) (Some c) (disk_of s) (disk_of u)
     flushed = record {
       files = (
         new.file,
-        files_there (slice_set m.shards n y) n t.number y at_u ∙ swapped.files_are ∙ new.are ∙ ap (λ (fs : List (File Held)). fs ++ new.file ∷ []) (sym (files_there s.shards n t.number x there)),
+        one_more,
         record {
           of_table = of_table;
           of_shard = adds.is.of_shard;
           frontier = frontier_is;
+          moment = adds.is.moment.0 ∙ ap (λ (q : ShardState). q.moment) is_x ∙ one.moment;
+          drawn = adds.is.drawn.0 ∙ ap (λ (q : ShardState). int_max q.drawn FIRST_DRAWN) is_x ∙ ap (λ (at : ℤ). int_max at FIRST_DRAWN) one.drawn;
           removed = adds.is.removed;
-          added = adds.is.added ∙ ap (λ (i : TableInfo). i ∷ []) (is_told ∙ sym new.info);
+          added = sym its_added;
         },
       );
-      others = λ k j other. by k j other (same_place k n);
+      others = other_files;
       all =
           all_in_files h u t n y now_stands (ap (λ (ts : List TableSchema). slice_get ts t.number) lists.tables ∙ table) at_u
           (subst (SayNothing (clustering_order t.columns)) (sym swapped.memory) (rest_says_nothing (clustering_order t.columns) (slice_get x.stores t.number) count none all));
       reach = lists.reach;
       stopped = ap is_some (ok_goes s.journal.first m.journal.first s.faults m.faults answer lists.outcome going);
     }
-      where
-        by : (k j : ℕ) → ((k ≡ n) × (j ≡ t.number) → ⊥) → (k ≡ n) ⊎ (k ≢ n) → files_in (slice_set m.shards n y) k j ≡ files_in s.shards k j
-        by k j other (inl here) =
-            ap (λ (i : ℕ). files_in (slice_set m.shards n y) i j) here ∙ files_there (slice_set m.shards n y) n j y at_u
-            ∙ ap files_at (swapped.others j (λ same. other (here, same))) ∙ sym (files_there s.shards n j x there) ∙ ap (λ (i : ℕ). files_in s.shards i j) (sym here)
-        by k j other (inr apart) =
-            ap (λ o. files_of o j) (get_other m.shards n k y apart ∙ ap (λ (xs : List ShardState). slice_get xs k) lists.shards)
 
     ends : EndsIn t n (shard_at h n) (Ok (Some number)) (disk_of s) (disk_of u)
     ends = (
@@ -441,7 +462,7 @@ ends_since t n q (Ok told) d m e files reach faults reads (c, numbers, one) = (
   c,
   numbers,
   record {
-    files = subst (λ (fs : List (File Held)). Grows t.number n (number_of q) c fs (e.files n t.number)) (files n t.number) one.files;
+    files = subst (λ (fs : List (File Held)). Grows t.number n q c fs (e.files n t.number)) (files n t.number) one.files;
     others = λ k j other. one.others k j other ∙ files k j;
     all = one.all;
     reach = one.reach ∙ ap (λ (r : Reach). reach_by r c) reach;

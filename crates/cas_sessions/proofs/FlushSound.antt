@@ -1,5 +1,5 @@
 -- An open store is sound where a shard's table got a file.
-use Rattle.std.proofs.Common.{◌≡◌, ◌≢◌, ◌⊎◌, inl, inr, ◌<◌, ◌≤◌, ◌+◌, ℕ, zero, suc, List, [], ◌∷◌, ◌++◌, length, map, Some, refl, sym, ap, ◌∙◌, subst, arith}
+use Rattle.std.proofs.Common.{◌≡◌, ◌≢◌, ◌⊎◌, inl, inr, ◌<◌, ◌≤◌, ◌+◌, ℕ, zero, suc, List, [], ◌∷◌, ◌++◌, length, map, Some, sym, ap, ◌∙◌, subst, arith}
 use Rattle.std.proofs.Math.Logic.{∥∥₁_map}
 use Rattle.std.specs.Prelude.{slice_get, slice_set}
 use Rattle.std.specs.List.{All}
@@ -111,12 +111,6 @@ sound_listed place count l ts xs a b n fs f g sound at same_place same_number si
 pub seated_again : {X : Type 0} (place : X → ℕ) (fs : List X) (n : ℕ) (f g : X) (ns : List ℕ) → slice_get fs n ≡ Some f → place g ≡ place f → map place fs ≡ ns
     → map place (slice_set fs n g) ≡ ns
 seated_again place fs n f g ns at same are = map_set_same place fs n f g at same ∙ are
-
--- what stands in a place that there is
-pub there_at : {X : Type 0} (xs : List X) (n : ℕ) → n < length xs → (x : X) × (slice_get xs n ≡ Some x)
-there_at [] n lt = absurd (omega (arith, lt))
-there_at (x ∷ xs) zero lt = (x, refl)
-there_at (x ∷ xs) (suc n) lt = there_at xs n (omega (arith, lt))
 
 pub same_change : (a b : Change) → entry.Change a ≡ entry.Change b → a ≡ b
 same_change a b is = cc

@@ -23,6 +23,7 @@ use Rattle.cas_recovery.specs.Restored.{Remember}
 use Rattle.cas_sessions.specs.Nodes.{State, StandsFor, LastsFor, disk_of, files_in, files_of}
 use Rattle.cas_sessions.specs.Inner.Flushing.{AllGoOn, GoesOn, GoesOnAs, IsBeside, Quiet, SameNumbers}
 use Rattle.cas_sessions.proofs.Crashing.{holds_amid}
+use Rattle.cas_sessions.proofs.Files.{list_still}
 use Rattle.cas_sessions.proofs.Listing.{up_to_twice}
 
 -- ---- shards
@@ -94,8 +95,8 @@ all_below a b (k ∷ ks) le all = (omega (arith, le, all.0), all_below a b ks le
 pub lasts_again : (h : History) (found : List Mutation) (s t : State) (d e : Disk) (told : Told) → LastsFor h found s d told → Keeps t.journal e t.list t.committed found told
     → t.tables ≡ s.tables → t.limits ≡ s.limits → t.list ≡ s.list → t.accepted ≡ s.accepted → t.committed ≡ s.committed
     → (is_some t.journal.first ≡ false → is_some s.journal.first ≡ false) → SameNumbers s.shards t.shards → s.last_file ≤ t.last_file → t.live ≡ s.live
-    → LastsFor h found t e told
-lasts_again h found s t d e told lasts keeps tables limits list accepted committed going shards last live = record {
+    → ((n table : ℕ) → files_in t.shards n table ≡ files_in s.shards n table) → LastsFor h found t e told
+lasts_again h found s t d e told lasts keeps tables limits list accepted committed going shards last live files = record {
   keeps = keeps;
   tables = lasts.tables ∙ sym tables;
   shards = lasts.shards ∙ ap (λ l. l.shards) (sym limits);
@@ -115,6 +116,7 @@ lasts_again h found s t d e told lasts keeps tables limits list accepted committ
     numbers = all_below s.last_file t.last_file (said_by told.entries).numbers last lasts.behind.numbers;
     listed = lasts.behind.listed ∙ sym live;
   };
+  files = list_still (said_by told.entries) (files_in s.shards) (files_in t.shards) files lasts.files;
 }
 
 -- ---- memory stands for the same
@@ -171,6 +173,7 @@ module _ (s t : State) (d e : Disk) (quiet : Quiet s t d e) where
   quiet_lasts h found told lasts =
       lasts_again h found s t d e told lasts (quiet.keeps found told lasts.keeps) quiet.tables quiet.limits quiet.list quiet.accepted quiet.committed
       (λ on. ap (λ j. is_some j.first) (sym quiet.journal) ∙ on) same_numbers quiet.last quiet.live
+      (files_again s.shards t.shards quiet.shards)
 
   pub quiet_amid : (h : History) (found : List Mutation) (told : Told) → h.tables ≡ s.tables → LastsFor h found s d told → Leaves (IsLeftAmid found s.list h) d e
   quiet_amid h found told tables lasts =

@@ -25,8 +25,10 @@ use Rattle.cas_room.specs.Rooms.{accepted_in, mutation_of}
 use Rattle.cas_shard.specs.Stands.{ShardState}
 use Rattle.define_laws.proofs.Telling.{named_segments_define_nothing}
 use Rattle.cas_sessions.specs.History.{History}
-use Rattle.cas_sessions.specs.Nodes.{State, LastsFor}
+use Rattle.cas_sessions.specs.Entered.{ListFiles}
+use Rattle.cas_sessions.specs.Nodes.{State, LastsFor, files_in}
 use Rattle.cas_sessions.proofs.Behind.{behind_named, behind_with}
+use Rattle.cas_sessions.proofs.Files.{list_named, list_same}
 use Rattle.cas_recovery.specs.Restored.{IsBehind}
 use Rattle.cas_recovery.proofs.Places.{same_place, get_here, get_other}
 
@@ -64,8 +66,8 @@ pub lasts_still : (h k : History) (found : List Mutation) (s t : State) (d e : D
     → ((l : List (Item Event)) → l ≡ s.list → (c : ℕ) → c ≡ s.committed → Keeps s.journal d s.list s.committed found told → Keeps t.journal e l c found told)
     → t.list ≡ s.list → t.committed ≡ s.committed → t.tables ≡ s.tables → t.limits ≡ s.limits → t.accepted ≡ s.accepted
     → (is_some t.journal.first ≡ false → is_some s.journal.first ≡ false) → t.last_file ≡ s.last_file → t.live ≡ s.live
-    → LastsFor h found s d told → LastsFor k found t e told
-lasts_still h k found s t d e told n x y acks there shards same keeps list committed tables limits accepted going last live lasts = record {
+    → files_in t.shards ≡ files_in s.shards → LastsFor h found s d told → LastsFor k found t e told
+lasts_still h k found s t d e told n x y acks there shards same keeps list committed tables limits accepted going last live files lasts = record {
   keeps = keeps t.list list t.committed committed lasts.keeps;
   tables = lasts.tables ∙ sym tables;
   shards = lasts.shards ∙ ap (λ l. l.shards) (sym limits);
@@ -76,6 +78,7 @@ lasts_still h k found s t d e told n x y acks there shards same keeps list commi
   acknowledged = (omega (arith, lasts.acknowledged.0, acks, committed), omega (arith, lasts.acknowledged.1, acks, ap (λ l. length (accepted_in l)) list));
   whole = λ on. let all = lasts.whole (going on) in omega (arith, all, committed, ap (λ l. length (accepted_in l)) list);
   behind = behind_with (said_by told.entries) s t n x y there shards (omega (arith, same)) last live lasts.behind;
+  files = list_same (said_by told.entries) (files_in s.shards) (files_in t.shards) files lasts.files;
 }
 
 -- ---- a mutation that may be taken
@@ -104,8 +107,8 @@ pub lasts_with_room : (h k : History) (found : List Mutation) (s t : State) (d e
     → slice_get s.shards n ≡ Some x → t.shards ≡ slice_set s.shards n y → y.number ≡ x.number → MadeRoom told u → Keeps t.journal e t.list t.committed found u
     → t.list ≡ s.list → t.committed ≡ s.committed → t.tables ≡ s.tables → t.limits ≡ s.limits → t.accepted ≡ s.accepted
     → (is_some t.journal.first ≡ false → is_some s.journal.first ≡ false) → t.last_file ≡ s.last_file → t.live ≡ s.live
-    → LastsFor h found s d told → LastsFor k found t e u
-lasts_with_room h k found s t d e told u n x y acks there shards same made keeps list committed tables limits accepted going last live lasts =
+    → files_in t.shards ≡ files_in s.shards → LastsFor h found s d told → LastsFor k found t e u
+lasts_with_room h k found s t d e told u n x y acks there shards same made keeps list committed tables limits accepted going last live files lasts =
     let defined = named_segments_define_nothing told.entries made.numbers in
     record {
       keeps = keeps;
@@ -122,6 +125,9 @@ lasts_with_room h k found s t d e told u n x y acks there shards same made keeps
       behind =
           subst (λ es. IsBehind (said_by es) t.shards t.last_file t.live) (sym made.entries)
           (behind_named told.entries made.numbers t.shards t.last_file t.live (behind_with (said_by told.entries) s t n x y there shards (omega (arith, same)) last live lasts.behind));
+      files =
+          subst (λ es. ListFiles (said_by es) (files_in t.shards)) (sym made.entries)
+          (list_named told.entries made.numbers (files_in t.shards) (list_same (said_by told.entries) (files_in s.shards) (files_in t.shards) files lasts.files));
     }
 
 -- ---- a mutation that was taken
@@ -161,8 +167,9 @@ module _ (h k : History) (found : List Mutation) (s t : State) (d e : Disk) (tol
   pub lasts_taken : (session call : ℕ) → t.list ≡ s.list ++ Wrote m.shard session call m.number (event.Accepted m) ∷ [] → t.tables ≡ s.tables → t.limits ≡ s.limits
       → t.accepted ≡ min (s.accepted + 1) (2 ^ 64 - 1) → s.accepted + 1 < 2 ^ 64 → Keeps t.journal e t.list t.committed found v
       → k.acknowledged ≤ h.acknowledged + 1 → (k.acknowledged ≤ h.acknowledged) × (s.committed ≤ t.committed) ⊎ (t.committed ≡ t.accepted)
-      → (is_some t.journal.first ≡ false → t.committed ≡ t.accepted) → t.last_file ≡ s.last_file → t.live ≡ s.live → LastsFor k found t e v
-  lasts_taken session call list tables limits accepted room keeps acks either going last live =
+      → (is_some t.journal.first ≡ false → t.committed ≡ t.accepted) → t.last_file ≡ s.last_file → t.live ≡ s.live
+      → files_in t.shards ≡ files_in s.shards → LastsFor k found t e v
+  lasts_taken session call list tables limits accepted room keeps acks either going last live files =
       let defined = named_segments_define_nothing told.entries made.numbers in
       let longer : length (accepted_in t.list) ≡ length (accepted_in s.list) + 1 = ap (λ l. length (accepted_in l)) list ∙ one_accepted s.list m session call in
       let counted : length (accepted_in s.list) + 1 ≤ t.accepted = counts (length (accepted_in s.list)) s.accepted t.accepted lasts.counted (omega (arith, lasts.counted, room)) accepted in
@@ -181,6 +188,9 @@ module _ (h k : History) (found : List Mutation) (s t : State) (d e : Disk) (tol
             subst (λ es. IsBehind (said_by es) t.shards t.last_file t.live) (sym (entries ∙ made.entries))
             (behind_named told.entries made.numbers t.shards t.last_file t.live
             (behind_with (said_by told.entries) s t m.shard x y there shards (omega (arith, number, new)) last live lasts.behind));
+        files =
+            subst (λ es. ListFiles (said_by es) (files_in t.shards)) (sym (entries ∙ made.entries))
+            (list_named told.entries made.numbers (files_in t.shards) (list_same (said_by told.entries) (files_in s.shards) (files_in t.shards) files lasts.files));
       }
     where
       acks_by : (k.acknowledged ≤ h.acknowledged) × (s.committed ≤ t.committed) ⊎ (t.committed ≡ t.accepted)

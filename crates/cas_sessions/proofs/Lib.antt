@@ -3,6 +3,8 @@ mod Telling
 mod Idling
 mod Filing
 mod Behind
+mod Files
+mod Parts
 mod Remembering
 mod Moving
 pub mod Answering

@@ -1,16 +1,15 @@
 -- What a crash left explains the history.
-use Rattle.std.proofs.Common.{◌≡◌, ◌⊎◌, inl, inr, ⊎_elim, ◌∙◌, ◌≤◌, ◌<◌, ◌+◌, ◌*◌, ◌==◌, max, ℕ, zero, suc, Bool, true, false, cond, Option, Some, List, [], ◌∷◌, ◌++◌, length, filter, map, refl, sym, ap, subst, append-nil, append_assoc, length-append, take, arith}
+use Rattle.std.proofs.Common.{◌≡◌, ◌⊎◌, inl, inr, ⊎_elim, ◌∙◌, ◌≤◌, ◌<◌, ◌+◌, ◌*◌, ◌==◌, max, ℕ, zero, suc, Bool, true, false, cond, Some, List, [], ◌∷◌, ◌++◌, length, filter, map, refl, sym, ap, subst, append-nil, append_assoc, length-append, take, arith}
 use Rattle.std.specs.Prelude.{if◌then◌else◌, nat_lt, replicate, slice_get, unwrap_or}
 use Rattle.std.specs.Int.{int_max}
 use Rattle.std.specs.List.{AllByRecursion, fold}
-use Rattle.std.proofs.Math.Nat.{mul-le-mul_right, suc-mul}
 use Rattle.std.proofs.lemmas.Bool.{eqb-true, lt-ltb}
 use Rattle.std.proofs.lemmas.Grind.{flat_map-append}
 use Rattle.std.proofs.lemmas.Int.{clamps, ints}
-use Rattle.std.proofs.lemmas.List.{length-map, length-replicate}
+use Rattle.std.proofs.lemmas.List.{length-map}
 use Rattle.std.proofs.lemmas.List.Elements.{filter-append}
 use Rattle.std.proofs.lemmas.List.Sums.{fold-append}
-use Rattle.std.proofs.lemmas.Option.{same_Some, slice_get_past}
+use Rattle.std.proofs.lemmas.Option.{same_Some}
 use Rattle.cas_types.specs.declared.schema.Column.{Column}
 use Rattle.cas_types.specs.declared.schema.TableSchema.{TableSchema}
 use Rattle.cas_atoms.specs.declared.atom.Mutation.{Mutation}
@@ -26,7 +25,7 @@ use Rattle.cas_changes.specs.declared.entry.Entry.{Entry}
 use Rattle.cas_changes.specs.declared.entry.Entry.TheVariants as entry
 use Rattle.cas_changes.specs.declared.said.Part.{Part}
 use Rattle.cas_changes.specs.Allowed.{FitsEntry}
-use Rattle.cas_changes.specs.Saying.{Saying, after, no_part, no_times, nothing, part_after, part_of, place_in, said_by, with_columns}
+use Rattle.cas_changes.specs.Saying.{Saying, after, no_part, no_times, nothing, part_of, place_in, said_by, with_columns}
 use Rattle.cas_manifest.specs.File.{MayFollow}
 use Rattle.cas_log.specs.Segment.{joined}
 use Rattle.cas_replay.specs.Grammar.{AreSegments, AscendByOne, numbers_of}
@@ -44,13 +43,14 @@ use Rattle.cas_recovery.specs.Found.{AreOfAStore, found_in}
 use Rattle.cas_recovery.specs.Openings.{AreOpenings, IsOpening, SayAll, greatest_frontier, times_of, unflushed_of}
 use Rattle.cas_recovery.proofs.Explained.{as_opening}
 use Rattle.cas_recovery.proofs.Founding.{numbers_more, one_more, step}
-use Rattle.cas_recovery.proofs.Places.{get_within, is_other, is_same, length_set}
+use Rattle.cas_recovery.proofs.Places.{get_within, is_other, is_same}
 use Rattle.cas_recovery.proofs.Standing.{AreAlike, all_listed, own_file}
 use Rattle.cas_recovery.proofs.Within.{all_filtered}
 use Rattle.cas_room.specs.Rooms.{accepted_in}
 use Rattle.cas_sessions.specs.Listing.{ListsNone, SameListed}
 use Rattle.cas_sessions.specs.Next.{LeftExplains, only, with_more}
 use Rattle.cas_sessions.proofs.Listing.{entries_alone}
+use Rattle.cas_sessions.proofs.Parts.{no_more, said_few}
 
 -- ---- what is said by more entries
 
@@ -165,38 +165,6 @@ grows_all : (s : Saying) (behind : List Entry) → AllByRecursion ListsNone behi
 grows_all s [] none follow = grows_none s
 grows_all s (e ∷ behind) none follow =
     grows_more s (after s e) (fold after (after s e) behind) (grows_after s e none.0 follow.0.0) (grows_all (after s e) behind none.1 follow.1)
-
--- ---- no part of a table that isn't there
-
-fits_after : (s : Saying) (e : Entry) → FitsEntry s e → length s.parts ≤ length s.tables * s.shards → length (after s e).parts ≤ length (after s e).tables * (after s e).shards
-fits_after s (entry.Store shards) fit few =
-    let none : length s.parts ≤ length s.tables * 0 = subst (λ (k : ℕ). length s.parts ≤ length s.tables * k) fit.0 few in omega (arith, none)
-fits_after s (entry.Schema t) fit few =
-    let parts : length (s.parts ++ replicate s.shards no_part) ≡ length s.parts + s.shards =
-    length-append s.parts (replicate s.shards no_part) ∙ ap (λ (k : ℕ). length s.parts + k) (length-replicate s.shards no_part) in
-    let tables : length (s.tables ++ t ∷ []) ≡ suc (length s.tables) = omega (arith, length-append s.tables (t ∷ [])) in
-    let places : length (s.tables ++ t ∷ []) * s.shards ≡ length s.tables * s.shards + s.shards =
-    ap (λ (k : ℕ). k * s.shards) tables ∙ suc-mul (length s.tables) s.shards in
-    omega (arith, parts, places, few)
-fits_after s (entry.NewSegment n) fit few = few
-fits_after s (entry.DropSegment n) fit few = few
-fits_after s (entry.Change c) fit few =
-    subst (λ (k : ℕ). k ≤ length s.tables * s.shards) (sym (length_set s.parts (place_in s c.table c.shard) (part_after (part_of s c.table c.shard) c))) few
-fits_after s (entry.AddColumns table columns) fit few = subst (λ (k : ℕ). length s.parts ≤ k * s.shards) (sym (length-map s.tables (with_columns table columns))) few
-
-fits_all : (s : Saying) (entries : List Entry) → length s.parts ≤ length s.tables * s.shards → MayFollow s entries
-    → length (fold after s entries).parts ≤ length (fold after s entries).tables * (fold after s entries).shards
-fits_all s [] few follow = few
-fits_all s (e ∷ entries) few follow = fits_all (after s e) entries (fits_after s e follow.0.0 few) follow.1
-
-said_few : (entries : List Entry) → MayFollow nothing entries → length (said_by entries).parts ≤ length (said_by entries).tables * (said_by entries).shards
-unfolding said_by
-said_few entries follow = fits_all nothing entries (omega arith) follow
-
-no_more : (s : Saying) (table shard : ℕ) → length s.parts ≤ length s.tables * s.shards → length s.tables ≤ table → part_of s table shard ≡ no_part
-no_more s table shard few high =
-    let past : length s.tables * s.shards ≤ table * s.shards = mul-le-mul_right s.shards high in
-    ap (λ (o : Option Part). unwrap_or o no_part) (slice_get_past s.parts (place_in s table shard) (omega (arith, few, past)))
 
 -- ---- what is asked of a shard, in other words of the same
 

@@ -1,6 +1,7 @@
 -- A run over a store that was opened, from its beginning to what a crash leaves of it.
 use Rattle.std.proofs.Common.{◌≡◌, ◌<◌, ◌≤◌, ◌+◌, ℕ, zero, suc, pos, inl, inr, false, List, [], ◌∷◌, ◌++◌, length, map, Option, Some, None, is_some, refl, sym, ap, ◌∙◌, subst, arith, append-nil}
 use Rattle.std.specs.Prelude.{◌⊎◌, slice_get, slice_index_or}
+use Rattle.std.proofs.lemmas.Bool.{cases_lt}
 use Rattle.cas_disk.specs.Disk.{Disk, Image}
 use Rattle.cas_gates.specs.declared.first.First.{First}
 use Rattle.cas_history.specs.Hands.{numbers}
@@ -9,6 +10,7 @@ use Rattle.cas_bind.specs.declared.bound.Limits.{Limits}
 use Rattle.cas_types.specs.declared.schema.TableSchema.{TableSchema}
 use Rattle.cas_changes.specs.Saying.{part_of, said_by}
 use Rattle.cas_changes.specs.declared.entry.Entry.{Entry as ManifestEntry}
+use Rattle.cas_changes.specs.declared.said.Part.{Part}
 use Rattle.cas_history.specs.declared.item.Item.{Item}
 use Rattle.cas_journal.specs.Journals.{Lasts}
 use Rattle.cas_journal.specs.Stores.{Told, MayList}
@@ -25,7 +27,7 @@ use Rattle.cas_shard.specs.Shards.{ShardHistory, found_shard, empty_shard}
 use Rattle.cas_shard.specs.Stands.{ShardState, Stands, files_at}
 use Rattle.cas_sessions.specs.History.{History, shard_at}
 use Rattle.cas_sessions.specs.Starts.{start, AreItsFiles, BeginsAs, IsInMemory, IsStarted}
-use Rattle.cas_sessions.specs.Entered.{HasTables, IsLeft, entries_in}
+use Rattle.cas_sessions.specs.Entered.{HasTables, IsLeft, ListFiles, entries_in}
 use Rattle.cas_recovery.specs.Openings.{AreOpenings, MayHaveBeen}
 use Rattle.cas_recovery.specs.Recovered.{IsRecovered}
 use Rattle.cas_recovery.specs.Restored.{IsTold}
@@ -33,6 +35,8 @@ use Rattle.cas_sessions.specs.Nodes.{State, StandsFor, LastsFor, disk_of, files_
 use Rattle.cas_recovery.proofs.Explained.{opened_goes_on}
 use Rattle.cas_recovery.proofs.Places.{get_within}
 use Rattle.cas_sessions.proofs.Behind.{behind_said}
+use Rattle.cas_sessions.proofs.Files.{list_said}
+use Rattle.cas_sessions.proofs.Parts.{no_more, said_few, there_at}
 
 -- ---- numbers
 
@@ -54,12 +58,6 @@ from_none n = omega arith
 
 -- ---- the beginning
 
--- what is in a place that there is
-there_at : {X : Type 0} (xs : List X) (n : ℕ) → n < length xs → (x : X) × (slice_get xs n ≡ Some x)
-there_at [] n lt = absurd (omega (arith, lt))
-there_at (x ∷ xs) zero lt = (x, refl)
-there_at (x ∷ xs) (suc n) lt = there_at xs n (omega (arith, lt))
-
 empty_of : {X : Type 0} (xs : List X) → length xs ≡ 0 → xs ≡ []
 empty_of [] e = refl
 empty_of (x ∷ xs) e = cc
@@ -69,25 +67,6 @@ module _ (given limits : Limits) (tables : List TableSchema) (shards : List Shar
     (is : IsRecovered given limits tables shards last live journal old new) where
   many_read : length shards ≡ (said_by is.entries).shards
   many_read = is.count ∙ ap (λ (l : Limits). l.shards) is.same
-
-  read_back : (openings : ℕ → ShardOpening) → AreOpenings is.entries is.mutations old openings → IsInMemory given is.entries is.mutations openings limits tables shards last live
-  read_back openings were = record {
-    same = is.same;
-    tables_are = is.tables_are;
-    count = is.count;
-    stands = λ n x there. is.stands n x (openings n) there (may n x there);
-    ordered = is.found.of_a_store.log.ordered;
-    next = λ n x there.
-        opened_goes_on is.entries is.mutations is.found.of_a_store.log old n (openings n) (low n x there) (may n x there) tables x (is.stands n x (openings n) there (may n x there));
-    behind = is.behind;
-    memory = is.memory;
-  }
-    where
-      low : (n : ℕ) (x : ShardState) → slice_get shards n ≡ Some x → n < (said_by is.entries).shards
-      low n x there = subst (λ (k : ℕ). n < k) many_read (get_within shards n x there)
-
-      may : (n : ℕ) (x : ShardState) → slice_get shards n ≡ Some x → MayHaveBeen (said_by is.entries) is.mutations old n (openings n)
-      may n x there = were n (low n x there)
 
   -- where no shard or no table is, no file is
   none_there : (n table : ℕ) → ((said_by is.entries).shards ≤ n) ⊎ (length (said_by is.entries).tables ≤ table) → (o : Option ShardState) → slice_get shards n ≡ o → files_of o table ≡ []
@@ -110,6 +89,39 @@ module _ (given limits : Limits) (tables : List TableSchema) (shards : List Shar
     where
       in_memory : (table : ℕ) (t : TableSchema) → slice_get (said_by is.entries).tables table ≡ Some t → slice_get tables table ≡ Some t
       in_memory table t there = ap (λ (ts : List TableSchema). slice_get ts table) is.tables_are ∙ there
+
+  -- so the entries list just its files
+  just_listed : ListFiles (said_by is.entries) (files_in shards)
+  just_listed n table low = by (cases_lt table (length (said_by is.entries).tables))
+    where
+      by : (table < length (said_by is.entries).tables) ⊎ (length (said_by is.entries).tables ≤ table)
+          → map (λ f. f.info) (files_in shards n table) ≡ (part_of (said_by is.entries) table n).listed
+      by (inl lt) =
+          let (t, at) = there_at (said_by is.entries).tables table lt in
+          its_files.listed n table t low at
+      by (inr high) =
+          ap (λ (l : List (File Held)). map (λ f. f.info) l) (its_files.no_more n table (inr high))
+          ∙ ap (λ (p : Part). p.listed) (sym (no_more (said_by is.entries) table n (said_few is.entries is.found.of_a_store.follow) high))
+
+  read_back : (openings : ℕ → ShardOpening) → AreOpenings is.entries is.mutations old openings → IsInMemory given is.entries is.mutations openings limits tables shards last live
+  read_back openings were = record {
+    same = is.same;
+    tables_are = is.tables_are;
+    count = is.count;
+    stands = λ n x there. is.stands n x (openings n) there (may n x there);
+    ordered = is.found.of_a_store.log.ordered;
+    next = λ n x there.
+        opened_goes_on is.entries is.mutations is.found.of_a_store.log old n (openings n) (low n x there) (may n x there) tables x (is.stands n x (openings n) there (may n x there));
+    behind = is.behind;
+    files = just_listed;
+    memory = is.memory;
+  }
+    where
+      low : (n : ℕ) (x : ShardState) → slice_get shards n ≡ Some x → n < (said_by is.entries).shards
+      low n x there = subst (λ (k : ℕ). n < k) many_read (get_within shards n x there)
+
+      may : (n : ℕ) (x : ShardState) → slice_get shards n ≡ Some x → MayHaveBeen (said_by is.entries) is.mutations old n (openings n)
+      may n x there = were n (low n x there)
 
   pub started : IsStarted given limits tables shards last live journal old new
   started = record { back = is; memory = read_back; files = its_files }
@@ -167,6 +179,7 @@ module _ (given : Limits) (entries : List ManifestEntry) (mutations : List Mutat
     acknowledged = (omega arith, omega arith);
     whole = λ on. none s.committed;
     behind = behind_said (said_by entries) (said_by t.entries) s.shards s.last_file s.live told.shards told.parts told.numbers told.listed memory.behind;
+    files = list_said (said_by entries) (said_by t.entries) (files_in s.shards) told.shards told.parts memory.files;
   }
     where
       none : (n : ℕ) → length (accepted_in s.list) ≤ n
@@ -191,12 +204,16 @@ module _ (final : History) (mutations : List Mutation) (s : State) (d : Disk) (t
   going : final.disk.stopped ≡ false → s.journal.first ≡ None
   going on = not_first s.journal.first (ap (λ disk. disk.stopped) (sym stands.disk) ∙ on)
 
+  its_listed : ListFiles (said_by t.entries) final.disk.files
+  its_listed = subst (ListFiles (said_by t.entries)) (sym (ap (λ disk. disk.files) stands.disk)) lasts.files
+
   has_tables : (entries : List ManifestEntry) → MayList t entries → HasTables final entries
   has_tables entries (inl same) = record {
     told = t.entries;
     more = [];
     are = same ∙ sym (append-nil t.entries);
     tables = lasts.tables ∙ sym stands.tables;
+    files = its_listed;
     few = omega arith;
     none = λ on. refl;
   }
@@ -205,6 +222,7 @@ module _ (final : History) (mutations : List Mutation) (s : State) (d : Disk) (t
     more = t.failed;
     are = more;
     tables = lasts.tables ∙ sym stands.tables;
+    files = its_listed;
     few = lasts.few;
     none = λ on. (lasts.keeps.lasts.goes (going on)).none_failed;
   }

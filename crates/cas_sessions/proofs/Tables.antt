@@ -8,7 +8,7 @@ use Rattle.cas_types.specs.declared.schema.Column.{Column}
 use Rattle.cas_types.specs.declared.schema.TableSchema.{TableSchema}
 use Rattle.cas_gates.specs.declared.first.First.{First}
 use Rattle.cas_replay.specs.Grammar.{AreInOrder, AscendByOne, numbers_of}
-use Rattle.cas_sessions.specs.Entered.{entries_in}
+use Rattle.cas_sessions.specs.Entered.{ListFiles, entries_in}
 use Rattle.cas_bind.specs.declared.bound.Bound.{Bound}
 use Rattle.cas_bind.specs.declared.bound.Bound.TheVariants as bound
 use Rattle.cas_changes.specs.Allowed.{FitsEntry, HasSpelling}
@@ -39,8 +39,6 @@ use Rattle.cas_room.specs.declared.event.Event.{Event}
 use Rattle.cas_room.specs.Keeping.{Keeps}
 use Rattle.cas_room.specs.Rooms.{accepted_in}
 use Rattle.cas_shard.specs.Shards.{ShardHistory}
-use Rattle.cas_sstread.specs.Loading.{Held}
-use Rattle.cas_view.specs.Views.{File}
 use Rattle.cas_shard.specs.Stands.{ShardState, Stands, order_at, order_of}
 use Rattle.cas_shard.proofs.Standing.{stands_under}
 use Rattle.cas_sessions.specs.History.{Changes, Defines, History, DiskState, shard_at}
@@ -49,6 +47,7 @@ use Rattle.cas_sessions.specs.Nodes.{State, StandsFor, LastsFor, disk_of, files_
 use Rattle.cas_sessions.specs.Inner.Faults.{reply_for}
 use Rattle.cas_recovery.specs.Restored.{IsBehind, Remember}
 use Rattle.cas_sessions.proofs.Behind.{behind_defined, still_behind}
+use Rattle.cas_sessions.proofs.Files.{Files, list_defined, list_same}
 
 -- ---- a shard under more tables
 
@@ -173,8 +172,9 @@ pub lasts_defined : (h k : History) (found : List Mutation) (s t : State) (d e :
     → Keeps t.journal e t.list t.committed found now → now.taken ≡ told.taken → length now.failed ≤ 1 → (said_by now.entries).tables ≡ t.tables
     → (said_by now.entries).shards ≡ (said_by told.entries).shards
     → t.limits ≡ s.limits → t.list ≡ s.list → t.shards ≡ s.shards → t.accepted ≡ s.accepted → t.committed ≡ s.committed
-    → (is_some t.journal.first ≡ false → is_some s.journal.first ≡ false) → IsBehind (said_by now.entries) t.shards t.last_file t.live → LastsFor k found t e now
-lasts_defined h k found s t d e told now lasts acks keeps taken few tables said limits list shards accepted committed going behind = record {
+    → (is_some t.journal.first ≡ false → is_some s.journal.first ≡ false) → IsBehind (said_by now.entries) t.shards t.last_file t.live
+    → ListFiles (said_by now.entries) (files_in t.shards) → LastsFor k found t e now
+lasts_defined h k found s t d e told now lasts acks keeps taken few tables said limits list shards accepted committed going behind files = record {
   keeps = keeps;
   tables = tables;
   shards = said ∙ lasts.shards ∙ ap (λ l. l.shards) (sym limits);
@@ -186,13 +186,10 @@ lasts_defined h k found s t d e told now lasts acks keeps taken few tables said 
   acknowledged = (omega (arith, lasts.acknowledged.0, acks, committed), omega (arith, lasts.acknowledged.1, acks, ap (λ (l : List (Item Event)). length (accepted_in l)) list));
   whole = λ on. let all = lasts.whole (going on) in omega (arith, all, committed, ap (λ (l : List (Item Event)). length (accepted_in l)) list);
   behind = behind;
+  files = files;
 }
 
 -- ---- how a definition ends
-
--- the table files, by shard and table
-abbrev Files : Type 0
-Files = ℕ → ℕ → List (File Held)
 
 goes_nowhere : (r q : Reach) → q ≡ r → GoesOn r q
 goes_nowhere r q same =
@@ -315,6 +312,10 @@ module _ (s t : State) (d e : Disk) (x : ManifestEntry) (b : Bound) (may : MayBe
   stays : (told : Told) → IsBehind (said_by told.entries) s.shards s.last_file s.live → IsBehind (said_by told.entries) t.shards t.last_file t.live
   stays told behind = still_behind (said_by told.entries) s t rest.shards rest.last_file rest.live behind
 
+  -- nor are its files others
+  lists_still : (told : Told) → ListFiles (said_by told.entries) (files_in s.shards) → ListFiles (said_by told.entries) (files_in t.shards)
+  lists_still told are = list_same (said_by told.entries) (files_in s.shards) (files_in t.shards) (ap files_in rest.shards) are
+
   pub moves_not : (answer : Reply) (fault : JournalFault) → answer ≡ reply_for fault → t.tables ≡ s.tables → length (entry_bytes x) < 2 ^ 32 → Ends {T = Unit {0}} s.journal.first t.journal.first s.faults t.faults (Err fault)
       → reach_of t.journal ≡ reach_of s.journal → ((what : Counted) (most : ℕ) → fault ≡ TooMany what most → HasNoPlace x (reach_of s.journal))
       → ((found : List Mutation) (told : Told) → Keeps s.journal d s.list s.committed found told → FitsEntry (said_by told.entries) x
@@ -343,7 +344,8 @@ module _ (s t : State) (d e : Disk) (x : ManifestEntry) (b : Bound) (may : MayBe
                 (kept found told lasts.keeps (tells h found told lasts).fits) still.taken still.few (ap (λ es. (said_by es).tables) still.entries ∙ lasts.tables ∙ sym same)
                 (ap (λ es. (said_by es).shards) still.entries) rest.limits rest.list rest.shards rest.accepted rest.committed
                 (goes_before {T = Unit {0}} s.journal.first t.journal.first s.faults t.faults (Err fault) ends)
-                (subst (λ es. IsBehind (said_by es) t.shards t.last_file t.live) (sym still.entries) (stays told lasts.behind)),
+                (subst (λ es. IsBehind (said_by es) t.shards t.last_file t.live) (sym still.entries) (stays told lasts.behind))
+                (subst (λ es. ListFiles (said_by es) (files_in t.shards)) (sym still.entries) (lists_still told lasts.files)),
           );
     },
   )
@@ -379,7 +381,9 @@ module _ (s t : State) (d e : Disk) (x : ManifestEntry) (b : Bound) (may : MayBe
                 (ap (λ (sy : Saying). sy.shards) said ∙ same_shards (said_by told.entries) x is) rest.limits rest.list rest.shards rest.accepted rest.committed
                 (goes_before s.journal.first t.journal.first s.faults t.faults (Ok tt) ends)
                 (subst (λ (sy : Saying). IsBehind sy t.shards t.last_file t.live) (sym said)
-                (behind_defined (said_by told.entries) x t.shards t.last_file t.live is (stays told lasts.behind))),
+                (behind_defined (said_by told.entries) x t.shards t.last_file t.live is (stays told lasts.behind)))
+                (subst (λ (sy : Saying). ListFiles sy (files_in t.shards)) (sym said)
+                (list_defined (said_by told.entries) x (files_in t.shards) is (lists_still told lasts.files))),
           );
     },
   )

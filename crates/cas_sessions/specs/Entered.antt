@@ -1,10 +1,10 @@
 -- What the history of a run has of each shard, and what a crash leaves of it. Own.
-use Rattle.std.specs.Prelude.{◌≡◌, ℕ, ◌<◌, ◌≤◌, ◌==◌, false, if◌then◌else◌, List, [], ◌∷◌, ◌++◌, length, take}
+use Rattle.std.specs.Prelude.{◌≡◌, ℕ, ◌<◌, ◌≤◌, ◌==◌, false, if◌then◌else◌, List, [], ◌∷◌, ◌++◌, length, map, take}
 use Rattle.std.specs.List.{flat_map}
 use Rattle.cas_disk.specs.Disk.{Image}
 use Rattle.cas_atoms.specs.declared.atom.Mutation.{Mutation}
 use Rattle.cas_changes.specs.declared.entry.Entry.{Entry as ManifestEntry}
-use Rattle.cas_changes.specs.Saying.{said_by}
+use Rattle.cas_changes.specs.Saying.{Saying, part_of, said_by}
 use Rattle.cas_history.specs.declared.item.Item.{Item}
 use Rattle.cas_history.specs.declared.item.Item.TheVariants.{Wrote}
 use Rattle.cas_journal.specs.Stores.{IsStore}
@@ -13,6 +13,8 @@ use Rattle.cas_room.specs.declared.event.Event.TheVariants as event
 use Rattle.cas_room.specs.Rooms.{accepted_in}
 use Rattle.cas_shard.specs.declared.entry.Entry.{Entry}
 use Rattle.cas_shard.specs.declared.entry.Entry.TheVariants as entry
+use Rattle.cas_sstread.specs.Loading.{Held}
+use Rattle.cas_view.specs.Views.{File}
 use Rattle.cas_sessions.specs.History.{History, shard_at}
 
 -- the entry of a mutation, as a shard's history tells it
@@ -33,17 +35,24 @@ entries_in n list = flat_map (entry_in n) list
 abbrev pub AreEntered : List (Item Event) → History → Type 0
 AreEntered list h = (n : ℕ) → n < length h.shards → (shard_at h n).entries ≡ entries_in n list
 
--- the image tells of the tables of a run, in order, as they were defined, and at most of one definition more, for which the disk failed
+-- of each table in each shard the manifest lists just these files, in this order
+abbrev pub ListFiles : Saying → (ℕ → ℕ → List (File Held)) → Type 0
+ListFiles said files = (n table : ℕ) → n < said.shards → map (λ f. f.info) (files n table) ≡ (part_of said table n).listed
+
+-- The image tells of the tables of a run, in order, as they were defined; of each table in each shard it lists just the files that it has, those that were
+-- found and then those that were flushed; and it tells at most of one definition or flush more, for which the disk failed.
 pub record HasTables (h : History) (entries : List ManifestEntry) : Type 0 where
   pub told : List ManifestEntry
   pub more : List ManifestEntry
   pub are : entries ≡ told ++ more
   pub tables : (said_by told).tables ≡ h.tables
+  pub files : ListFiles (said_by told) h.disk.files
   pub few : length more ≤ 1
   pub none : h.disk.stopped ≡ false → more ≡ []
 
 -- What a crash leaves of a run that began with these mutations and accepted those of the list: a store with all that began, and behind it a front
--- of what was accepted, each whole, every one acknowledged by an `ok` among them; and where no write failed all of them.
+-- of what was accepted, each whole, every one acknowledged by an `ok` among them; and where no write failed all of them. Its manifest tells of the run's tables
+-- and lists the run's files.
 pub record IsLeft (found : List Mutation) (list : List (Item Event)) (h : History) (c : Image) : Type 0 where
   pub entries : List ManifestEntry
   pub tables : HasTables h entries

@@ -2,17 +2,19 @@
 -- Cassandra documentation, "nodetool flush"; "Storage engine: memtables, SSTables"; the numbers of files and of faults are own.
 use Rattle.std.specs.Prelude.{◌≡◌, ◌⊎◌, ℕ, ◌≤◌, ◌<◌, true, false, Option, None, Some, Result, Ok, Err, List, [], ◌∷◌, ◌++◌, length, slice_index_or}
 use Rattle.std.specs.List.{flat_map, fold}
+use Rattle.std.specs.Int.{int_max}
 use Rattle.cas_types.specs.declared.schema.TableSchema.{TableSchema}
 use Rattle.cas_bounds.specs.ClusteringOrder.{clustering_order}
 use Rattle.cas_bounds.specs.declared.order.Ordered.{Ordered}
 use Rattle.cas_io.specs.Causes.{Rose}
 use Rattle.cas_atoms.specs.declared.atom.Mutation.{Mutation}
 use Rattle.cas_changes.specs.declared.entry.Change.{Change}
+use Rattle.cas_changes.specs.declared.said.TheConstants.{FIRST_DRAWN}
 use Rattle.cas_changes.specs.declared.entry.Entry.TheVariants.{Change as change_entry}
 use Rattle.cas_journal.specs.Reach.{Reach}
 use Rattle.cas_memtable.specs.Kept.{all_of}
 use Rattle.cas_room.specs.Changing.{added_by}
-use Rattle.cas_shard.specs.Shards.{all_entries, number_of}
+use Rattle.cas_shard.specs.Shards.{ShardHistory, all_entries, drawn_of, number_of}
 use Rattle.cas_shard.specs.Stands.{SaySame, mutations_of}
 use Rattle.cas_sstread.specs.Loading.{Held}
 use Rattle.cas_stored.specs.Stored.{HoldEach}
@@ -28,19 +30,21 @@ use Rattle.cas_sessions.specs.History.{History, DiskState, reach_with, shard_at}
 
 -- ---- one shard
 
--- The change by which the manifest lists the file of a flush, of a table in a shard: it takes no file away, adds this one, and tells that the table's files
--- hold the shard's mutations up to that number.
-pub record ListsOne (table shard number : ℕ) (f : File Held) (c : Change) : Type 0 where
+-- The change by which the manifest lists the file of a flush, of a table in a shard of this number: it takes no file away, adds this one, and tells that the
+-- table's files hold the shard's mutations up to its last; and the shard's moment, and the last timestamp that it drew.
+pub record ListsOne (table shard : ℕ) (s : ShardHistory) (f : File Held) (c : Change) : Type 0 where
   pub of_table : c.table ≡ table
   pub of_shard : c.shard ≡ shard
-  pub frontier : c.frontier ≡ number
+  pub frontier : c.frontier ≡ number_of s
+  pub moment : c.moment ≡ s.moment
+  pub drawn : c.drawn ≡ int_max (drawn_of s) FIRST_DRAWN
   pub removed : c.removed ≡ []
   pub added : c.added ≡ f.info ∷ []
 
 -- a table's files in a shard are those that it had, where nothing was listed; or, by such a change, those and one more behind them
-abbrev pub Grows : ℕ → ℕ → ℕ → Option Change → List (File Held) → List (File Held) → Type 0
-Grows table shard number None before after = after ≡ before
-Grows table shard number (Some c) before after = (f : File Held) × (after ≡ before ++ f ∷ []) × ListsOne table shard number f c
+abbrev pub Grows : ℕ → ℕ → ShardHistory → Option Change → List (File Held) → List (File Held) → Type 0
+Grows table shard s None before after = after ≡ before
+Grows table shard s (Some c) before after = (f : File Held) × (after ≡ before ++ f ∷ []) × ListsOne table shard s f c
 
 -- in the files stand, file by file, mutations that say the same as these, and no more
 pub record AreInFiles (order : List Ordered) (files : List (File Held)) (ws : List Mutation) : Type 0 where
@@ -69,7 +73,7 @@ reach_by r (Some c) = reach_with (change_entry c) r
 
 -- The first shards were flushed, with these changes, one of each: all that was written to the table in them stands in its files. No other file is touched.
 pub record Flushed (h : History) (t : TableSchema) (changes : List (Option Change)) (e : DiskState) : Type 0 where
-  pub files : (n : ℕ) → Grows t.number n (number_of (shard_at h n)) (change_of changes n) (h.disk.files n t.number) (e.files n t.number)
+  pub files : (n : ℕ) → Grows t.number n (shard_at h n) (change_of changes n) (h.disk.files n t.number) (e.files n t.number)
   pub others : (n k : ℕ) → (k ≡ t.number → ⊥) → e.files n k ≡ h.disk.files n k
   pub all : (n : ℕ) → n < length changes
       → AreInFiles (clustering_order t.columns) (e.files n t.number) (mutations_of t.number (all_entries (shard_at h n)))

@@ -17,6 +17,7 @@ use Rattle.cas_listed.specs.Listed.{AreLoaded}
 use Rattle.cas_shard.specs.declared.entry.ShardOpening.{ShardOpening}
 use Rattle.cas_shard.specs.Stands.{ShardState, Stands}
 use Rattle.cas_shard.specs.Shards.{found_shard}
+use Rattle.cas_sessions.specs.Entered.{ListFiles}
 use Rattle.cas_sessions.specs.Nodes.{State, StandsFor, LastsFor, disk_of, files_in}
 use Rattle.cas_history.specs.Hands.{numbers}
 use Rattle.cas_sessions.specs.History.{History, DiskState}
@@ -49,7 +50,7 @@ pub record AreItsFiles (entries : List ManifestEntry) (folder : Disk) (files : �
   pub no_more : (shard table : ℕ) → ((said_by entries).shards ≤ shard) ⊎ (length (said_by entries).tables ≤ table) → files shard table ≡ []
 
 -- The limits, tables and shards of a store of these entries, with these mutations in its log: each shard stands for what it was, and its next number goes
--- on behind the log's. Of table files the entries are not ahead of it.
+-- on behind the log's. The entries list just its table files, and are not ahead of it.
 pub record IsInMemory (given : Limits) (entries : List ManifestEntry) (mutations : List Mutation) (openings : ℕ → ShardOpening) (limits : Limits)
     (tables : List TableSchema) (shards : List ShardState) (last live : ℕ) : Type 0 where
   pub same : limits ≡ record given { shards = (said_by entries).shards }
@@ -59,6 +60,7 @@ pub record IsInMemory (given : Limits) (entries : List ManifestEntry) (mutations
   pub ordered : AreInOrder mutations
   pub next : (n : ℕ) (x : ShardState) → slice_get shards n ≡ Some x → AscendByOne (numbers_of n mutations ++ (x.number + 1) ∷ [])
   pub behind : IsBehind (said_by entries) shards last live
+  pub files : ListFiles (said_by entries) (files_in shards)
   pub memory : Remember tables shards
 
 -- The store of a folder was opened: it was read back with its files; and whatever its shards may have been before, for all that is known of the folder,

@@ -2,6 +2,7 @@
 use Rattle.std.specs.Prelude.{◌≡◌, ◌⊎◌, ℕ, ◌+◌, ◌≤◌, ◌<◌, false, Option, None, Some, Result, Ok, Err, IfErr, MatchResult}
 use Rattle.std.specs.Prelude.{List, [], ◌∷◌, ◌++◌, length, slice_get}
 use Rattle.std.specs.List.{AllByRecursion}
+use Rattle.std.specs.Int.{int_max}
 use Rattle.cas_types.specs.Limits.{IsMoment}
 use Rattle.cas_types.specs.declared.limits.TheConstants.{MUTATION_LIMIT}
 use Rattle.cas_types.specs.declared.schema.TableSchema.{TableSchema}
@@ -15,6 +16,7 @@ use Rattle.cas_changes.specs.Allowed.{FitsEntry, IsDrawn}
 use Rattle.cas_changes.specs.Saying.{said_by}
 use Rattle.cas_changes.specs.declared.entry.Change.{Change}
 use Rattle.cas_changes.specs.declared.entry.Entry.TheVariants.{Change as change_entry}
+use Rattle.cas_changes.specs.declared.said.TheConstants.{FIRST_DRAWN}
 use Rattle.cas_effects.specs.declared.refusal.TheConstants.{TOO_MANY}
 use Rattle.cas_flush.specs.Flushed.{SayWhatIsHeld, any}
 use Rattle.cas_flushing.specs.Flushed.{IsOpened, WhyUnopened}
@@ -31,7 +33,7 @@ use Rattle.cas_room.specs.declared.fault.FreshFault.TheVariants as fresh
 use Rattle.cas_room.specs.Keeping.{Keeps}
 use Rattle.cas_room.specs.Rooms.{accepted_in}
 use Rattle.cas_shard.specs.Flushing.{HasInMemory, SaysWhatTheyDo, frozen_at, memtables_at}
-use Rattle.cas_shard.specs.Shards.{ShardHistory, all_entries, number_of}
+use Rattle.cas_shard.specs.Shards.{ShardHistory, all_entries}
 use Rattle.cas_shard.specs.Stands.{KeepsFiles, ShardState, Stands, files_at, mutations_of, order_at}
 use Rattle.cas_sstread.specs.Loading.{Held}
 use Rattle.cas_sstread.specs.declared.fault.TableFault.{TableFault}
@@ -189,7 +191,7 @@ WhyNotMade faults now reads reads_now Mem = Unit {0}
 
 -- A table was flushed in a shard, with this change, if there was anything: between how the disk stood and stands.
 pub record FlushedOne (t : TableSchema) (n : ℕ) (q : ShardHistory) (c : Option Change) (d e : DiskState) : Type 0 where
-  pub files : Grows t.number n (number_of q) c (d.files n t.number) (e.files n t.number)
+  pub files : Grows t.number n q c (d.files n t.number) (e.files n t.number)
   pub others : (k table : ℕ) → ((k ≡ n) × (table ≡ t.number) → ⊥) → e.files k table ≡ d.files k table
   pub all : AreInFiles (clustering_order t.columns) (e.files n t.number) (mutations_of t.number (all_entries q))
   pub reach : e.reach ≡ reach_by d.reach c
@@ -217,9 +219,9 @@ EndsIn t n q (Err f) d e = NotFlushed d e f
 pub record IsChangeFor (table place : ℕ) (told : TableInfo) (x : ShardState) (c : Change) : Type 0 where
   pub of_table : c.table ≡ table
   pub of_shard : c.shard ≡ place
-  pub moment : IsMoment c.moment
+  pub moment : (c.moment ≡ x.moment) × IsMoment c.moment
   pub frontier : (c.frontier ≡ x.number) × (c.frontier ≤ MUTATION_LIMIT)
-  pub drawn : IsDrawn c.drawn
+  pub drawn : (c.drawn ≡ int_max x.drawn FIRST_DRAWN) × IsDrawn c.drawn
   pub removed : c.removed ≡ []
   pub added : c.added ≡ told ∷ []
 

@@ -26,5 +26,6 @@ returns g c h s session calls stands = (
     acknowledged = lasts.acknowledged;
     whole = lasts.whole;
     behind = lasts.behind;
+    files = lasts.files;
   },
 )

@@ -8,7 +8,8 @@ use Rattle.cas_sessions.specs.Inner.Flushing.{HoldsNothing}
 use Rattle.cas_sessions.proofs.FlushFiles.{holds_nothing, no_frozen}
 use Rattle.cas_sessions.proofs.FlushMaking.{one_in_memory}
 use Rattle.cas_sessions.proofs.FlushShard.{flushes_quietly, flushes_then, not_made_since, quiet_fails, quiet_none_at}
-use Rattle.cas_sessions.proofs.FlushSound.{numbered, there_at}
+use Rattle.cas_sessions.proofs.FlushSound.{numbered}
+use Rattle.cas_sessions.proofs.Parts.{there_at}
 use Rattle.cas_sessions.proofs.FlushSteps.{quiet_remembers, quiet_then}
 use Rattle.cas_sessions.proofs.Listing.{up_to_twice}
 use Rattle.cas_sessions.proofs.node.Node.flush_shard.Goals as goal

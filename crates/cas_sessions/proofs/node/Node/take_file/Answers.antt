@@ -6,7 +6,8 @@ use Rattle.cas_types.specs.Limits.{IsNarrow}
 use Rattle.cas_shard.specs.Stands.{ShardState}
 use Rattle.cas_sessions.specs.Inner.Flushing.{AddsFile, NewFile}
 use Rattle.cas_sessions.proofs.FlushShard.{Swapped, ok_goes, swapped_has, takes_file_at, takes_none_as}
-use Rattle.cas_sessions.proofs.FlushSound.{all_at, numbered, readable_flushed, still_remembers, there_at, unmade_flushed}
+use Rattle.cas_sessions.proofs.FlushSound.{all_at, numbered, readable_flushed, still_remembers, unmade_flushed}
+use Rattle.cas_sessions.proofs.Parts.{there_at}
 use Rattle.cas_sessions.proofs.Sounding.{sound_looked}
 use Rattle.cas_sessions.proofs.node.Node.take_file.Goals as goal
 
