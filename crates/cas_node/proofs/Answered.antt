@@ -9,7 +9,6 @@ use Rattle.cas_lines.specs.Lines.{Says}
 use Rattle.cas_lines.specs.declared.line.Line.{Line}
 use Rattle.cas_lines.specs.declared.line.Line.TheVariants as line
 use Rattle.cas_lines.proofs.LineReading.{clock_is_moment}
-use Rattle.cas_render.specs.declared.reply.Failure.TheVariants as failure
 use Rattle.cas_render.specs.declared.reply.Reply.{Reply}
 use Rattle.cas_render.specs.declared.reply.Reply.TheVariants as reply
 use Rattle.cas_words.specs.declared.words.ClockKind.{ClockKind}
@@ -112,6 +111,7 @@ with_clock h s n d stands = record {
       whole = lasts.whole;
       behind = lasts.behind;
       files = lasts.files;
+      changes = lasts.changes;
     },
   );
 }

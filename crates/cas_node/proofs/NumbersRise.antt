@@ -1,5 +1,6 @@
 -- Along a run the mutations of each shard are numbered upwards.
 use Rattle.std.proofs.Common.{◌≡◌, ◌≤◌, ◌<◌, ◌+◌, inl, inr, ⊎_elim, ℕ, zero, suc, ℤ, List, [], ◌∷◌, ◌++◌, length, map, refl, sym, ap, ◌∙◌, subst, arith, append-nil, Option, None, Some, Result, Ok, Err}
+use Rattle.std.specs.List.{fold}
 use Rattle.std.specs.Prelude.{slice_set, slice_index_or, ◌⊎◌}
 use Rattle.cas_history.specs.Hands.{numbers}
 use Rattle.cas_atoms.specs.declared.atom.Mutation.{Mutation}
@@ -29,7 +30,8 @@ use Rattle.cas_terms.specs.Columns.{table_named}
 use Rattle.cas_types.specs.declared.schema.TableSchema.{TableSchema}
 use Rattle.cas_sessions.specs.declared.answer.Fault.{Fault}
 use Rattle.cas_sessions.specs.declared.answer.Fault.TheVariants as fault
-use Rattle.cas_sessions.specs.Flushes.{FlushesNamed, FlushesTable}
+use Rattle.cas_changes.specs.declared.entry.Change.{Change}
+use Rattle.cas_sessions.specs.Flushes.{FlushesNamed, FlushesTable, changes_by}
 use Rattle.cas_sessions.specs.History.{History, DiskState, Does, Takes, shard_at, after_entries, with_shard}
 use Rattle.cas_node.specs.Lines.{SetsClock, Answered, Answers}
 use Rattle.cas_recovery.specs.Found.{AreOfAStore}
@@ -111,17 +113,17 @@ does_keeps kind Gives h (Ok (bound.Read q)) r t a all =
     (shard_keeps h q.shard (after_entries reading [] (shard_at h q.shard)) all (raised_rise (shard_at h q.shard) (moment_at reading (shard_at h q.shard)) (all q.shard)))
 
 -- a flush enters nothing
-begun_keeps : (h t : History) (e : DiskState) → t ≡ record h { disk = e } → AllRise h → AllRise t
-begun_keeps h t e same all = subst AllRise (sym same) all
+begun_keeps : (h t : History) (changes : List Change) (e : DiskState) → t ≡ record h { changes = changes; disk = e } → AllRise h → AllRise t
+begun_keeps h t changes e same all = subst AllRise (sym same) all
 
 flush_keeps : (h : History) (x : TableSchema) (r : Result (List ℕ) Fault) (t : History) → FlushesTable h x r t → AllRise h → AllRise t
-flush_keeps h x (Ok told) t a all = begun_keeps h t a.1 a.5 all
+flush_keeps h x (Ok told) t a all = begun_keeps h t (fold changes_by h.changes a.0) a.1 a.5 all
 flush_keeps h x (Err (fault.Stopped first)) t a all = subst AllRise (sym a.1) all
-flush_keeps h x (Err (fault.Refused why)) t a all = begun_keeps h t a.1 a.5 all
-flush_keeps h x (Err (fault.Disk number)) t a all = begun_keeps h t a.1 a.5 all
-flush_keeps h x (Err fault.Read) t a all = begun_keeps h t a.1 a.5 all
-flush_keeps h x (Err (fault.BadBlock number at)) t a all = begun_keeps h t a.1 a.5 all
-flush_keeps h x (Err fault.Mem) t a all = begun_keeps h t a.1 a.5 all
+flush_keeps h x (Err (fault.Refused why)) t a all = begun_keeps h t (fold changes_by h.changes a.0) a.1 a.5 all
+flush_keeps h x (Err (fault.Disk number)) t a all = begun_keeps h t (fold changes_by h.changes a.0) a.1 a.5 all
+flush_keeps h x (Err fault.Read) t a all = begun_keeps h t (fold changes_by h.changes a.0) a.1 a.5 all
+flush_keeps h x (Err (fault.BadBlock number at)) t a all = begun_keeps h t (fold changes_by h.changes a.0) a.1 a.5 all
+flush_keeps h x (Err fault.Mem) t a all = begun_keeps h t (fold changes_by h.changes a.0) a.1 a.5 all
 
 named_keeps : (h : History) (o : Option TableSchema) (r : Result (List ℕ) Fault) (t : History) → FlushesNamed h o r t → AllRise h → AllRise t
 named_keeps h None r t a all = subst AllRise (sym a.1) all

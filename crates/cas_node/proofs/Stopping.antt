@@ -1,5 +1,6 @@
 -- Along a run the disk is stopped only where the folder failed, which its count tells; its table files stay, and others come behind them.
 use Rattle.std.proofs.Common.{◌≡◌, ◌≤◌, ◌⊎◌, inl, inr, ⊎_elim, ℕ, zero, suc, ℤ, List, [], ◌∷◌, ◌++◌, append-nil, append_assoc, true, false, Option, None, Some, Result, Ok, Err, refl, sym, ap, ◌∙◌, subst, arith}
+use Rattle.std.specs.List.{fold}
 use Rattle.std.proofs.lemmas.Bool.{true≢false}
 use Rattle.cas_types.specs.declared.schema.TableSchema.{TableSchema}
 use Rattle.cas_io.specs.Causes.{Rose}
@@ -24,7 +25,7 @@ use Rattle.cas_terms.specs.Columns.{table_named}
 use Rattle.cas_view.specs.Views.{File}
 use Rattle.cas_sessions.specs.declared.answer.Fault.{Fault}
 use Rattle.cas_sessions.specs.declared.answer.Fault.TheVariants as fault
-use Rattle.cas_sessions.specs.Flushes.{EndsSo, Flushed, FlushesNamed, FlushesTable, Grows, WhyNoFurther, change_of}
+use Rattle.cas_sessions.specs.Flushes.{EndsSo, Flushed, FlushesNamed, FlushesTable, Grows, WhyNoFurther, change_of, changes_by}
 use Rattle.cas_sessions.specs.History.{History, DiskState, Takes, Defines, Does, Stays, Stops}
 use Rattle.cas_node.specs.Lines.{Answered, Answers, Runs, SetsClock}
 
@@ -159,7 +160,8 @@ module _ (h : History) (t : TableSchema) (changes : List (Option Change)) (e : D
 -- a flush that an earlier fault didn't stop
 abbrev IsBegun : History → TableSchema → Result (List ℕ) Fault → History → Type 0
 IsBegun h t r after =
-    (changes : List (Option Change)) × (e : DiskState) × (h.disk.stopped ≡ false) × Flushed h t changes e × EndsSo h changes r e × (after ≡ record h { disk = e })
+    (changes : List (Option Change)) × (e : DiskState) × (h.disk.stopped ≡ false) × Flushed h t changes e × EndsSo h changes r e
+    × (after ≡ record h { changes = fold changes_by h.changes changes; disk = e })
 
 begun_counts : (h : History) (t : TableSchema) (r : Result (List ℕ) Fault) (after : History) → IsBegun h t r after → Counts h.disk after.disk
 begun_counts h t r after a = at_disk h after a.1 (ap (λ (k : History). k.disk) a.5) (flushed_counts h t a.0 a.1 a.3 r a.4)

@@ -174,7 +174,7 @@ module _ (s : State) (w : BoundWrite) (reading : ℤ) (x y : ShardState) (result
               (λ k. none_more w.shard k (entries_in k s.list)) asked.memory r refl refl refl refl (omega arith);
           lasts = λ found told lasts. (
             told,
-            lasts_still h after found s (prepared_only s w.shard y) d d told w.shard x y (omega (arith, quiet)) (there s w reading x y result asked) refl asked.number
+            lasts_still h after found s (prepared_only s w.shard y) d d told w.shard x y (omega (arith, quiet)) refl (there s w reading x y result asked) refl asked.number
                 (λ l el c ec keeps. subst (λ j. Keeps s.journal d l j found told) (sym ec) (subst (λ j. Keeps s.journal d j s.committed found told) (sym el) keeps))
                 refl refl refl refl refl (λ on. on) refl refl (files_still s.shards w.shard x y (there s w reading x y result asked) asked.files) lasts,
           );
@@ -360,7 +360,7 @@ module _ (s : State) (w : BoundWrite) (reading : ℤ) (x y : ShardState) (result
               lasts = λ found was lasts.
                   let got = left.keeps found was lasts.keeps (may_take h found d was lasts) in (
                     got.0,
-                    lasts_with_room h after found s t d e was got.0 w.shard x y (omega (arith, quiet f)) at left.shards asked.number got.1 got.2 left.list left.committed
+                    lasts_with_room h after found s t d e was got.0 w.shard x y (omega (arith, quiet f)) refl at left.shards asked.number got.1 got.2 left.list left.committed
                         left.tables left.limits left.accepted
                         (going_since f s.journal.first t.journal.first s.faults t.faults (record_length m) (s.journal.size / 2) left.ends short_for) left.last_file left.live
                         (ap files_in left.shards ∙ files_still s.shards w.shard x y at asked.files) lasts,
@@ -515,7 +515,7 @@ module _ (s : State) (w : BoundWrite) (reading : ℤ) (x y : ShardState) (result
                 lasts_taken h after found s t d e was got.0 got.1 m x z (subst (λ (k : ℕ). slice_get s.shards k ≡ Some x) (sym ready.shard) at_x)
                     (subst (λ (k : ℕ). t.shards ≡ slice_set s.shards k z) (sym ready.shard) shards_now) (next s w reading x y result asked m is prepared ready) left.number
                     got.2 got.3 got.4 got.5 lasts s.session (s.calls + 1) left.list left.tables left.limits left.accepted left.few got.6
-                    (omega (arith, one)) (acked h after either refl) going left.last_file left.live same_files.0,
+                    (omega (arith, one)) (acked h after either refl) going left.last_file left.live same_files.0 refl,
               );
         },
       )

@@ -1,5 +1,6 @@
 -- The manifest lists just the files of a store, after a step.
-use Rattle.std.proofs.Common.{◌≡◌, ◌≢◌, ◌⊎◌, inl, inr, ◌<◌, ◌+◌, ◌*◌, ℕ, List, [], ◌∷◌, ◌++◌, length, filter, map, not, Option, refl, sym, ap, ◌∙◌, subst}
+use Rattle.std.proofs.Common.{◌≡◌, ◌≢◌, ◌⊎◌, inl, inr, ◌<◌, ◌+◌, ◌*◌, ℕ, List, [], ◌∷◌, ◌++◌, length, filter, map, not, Option, refl, sym, ap, ◌∙◌, subst, append-nil}
+use Rattle.std.proofs.lemmas.Grind.{flat_map-append}
 use Rattle.std.specs.Prelude.{slice_get, unwrap_or}
 use Rattle.cas_info.specs.declared.info.TableInfo.{TableInfo}
 use Rattle.cas_changes.specs.Saying.{Saying, after, change_after, is_listed, no_part, part_after, part_of, place_in, said_by}
@@ -14,6 +15,7 @@ use Rattle.cas_recovery.proofs.Within.{named_alone}
 use Rattle.cas_sstread.specs.Loading.{Held}
 use Rattle.cas_view.specs.Views.{File}
 use Rattle.cas_sessions.specs.Entered.{ListFiles}
+use Rattle.cas_sessions.specs.History.{change_told, changes_told}
 use Rattle.cas_sessions.proofs.Behind.{part_more}
 use Rattle.cas_sessions.proofs.Parts.{HasParts, is_within, one_shard, one_table, there_at}
 
@@ -53,6 +55,31 @@ list_defined said (entry.Store n) fs defines are = absurd defines
 list_defined said (entry.NewSegment n) fs defines are = absurd defines
 list_defined said (entry.DropSegment n) fs defines are = absurd defines
 list_defined said (entry.Change c) fs defines are = absurd defines
+
+-- ---- the changes that entries tell
+
+none_named : (numbers : List ℕ) → changes_told (named numbers) ≡ []
+none_named [] = refl
+none_named (n ∷ numbers) = none_named numbers
+
+pub told_named : (entries : List ManifestEntry) (numbers : List ℕ) → changes_told (entries ++ named numbers) ≡ changes_told entries
+told_named entries numbers =
+    flat_map-append change_told entries (named numbers) ∙ ap (λ cs. changes_told entries ++ cs) (none_named numbers) ∙ append-nil (changes_told entries)
+
+none_defined : (x : ManifestEntry) → IsDefinition x → changes_told (x ∷ []) ≡ []
+none_defined (entry.Schema t) defines = refl
+none_defined (entry.AddColumns table columns) defines = refl
+none_defined (entry.Store n) defines = absurd defines
+none_defined (entry.NewSegment n) defines = absurd defines
+none_defined (entry.DropSegment n) defines = absurd defines
+none_defined (entry.Change c) defines = absurd defines
+
+pub told_defined : (entries : List ManifestEntry) (x : ManifestEntry) → IsDefinition x → changes_told (entries ++ x ∷ []) ≡ changes_told entries
+told_defined entries x defines =
+    flat_map-append change_told entries (x ∷ []) ∙ ap (λ cs. changes_told entries ++ cs) (none_defined x defines) ∙ append-nil (changes_told entries)
+
+pub told_more : (entries : List ManifestEntry) (c : Change) → changes_told (entries ++ entry.Change c ∷ []) ≡ changes_told entries ++ c ∷ []
+told_more entries c = flat_map-append change_told entries (entry.Change c ∷ [])
 
 -- ---- it tells of one file more
 

@@ -1,7 +1,7 @@
 -- A flush of a table in all shards, one after another.
 use Rattle.std.proofs.Common.{◌≡◌, ◌≢◌, ◌⊎◌, inl, inr, ◌<◌, ◌≤◌, ◌+◌, ℕ, zero, suc, Bool, true, false, cond, List, [], ◌∷◌, ◌++◌, length, Option, None, Some, Result, Ok, Err, is_some, refl, sym, ap, ◌∙◌, subst, arith, length-append}
 use Rattle.std.specs.Prelude.{slice_get}
-use Rattle.std.specs.List.{find}
+use Rattle.std.specs.List.{find, fold}
 use Rattle.std.specs.Str.{bytes_eq}
 use Rattle.std.proofs.lemmas.List.{flat_map_more}
 use Rattle.std.proofs.lemmas.List.Sums.{fold_push}
@@ -26,12 +26,12 @@ use Rattle.cas_sessions.specs.declared.answer.Fault.TheVariants.{Refused, Stoppe
 use Rattle.cas_sessions.specs.Calls.{IsTrueOf}
 use Rattle.cas_sessions.specs.Entered.{IsLeftAmid}
 use Rattle.cas_sessions.specs.Listing.{SameUpTo}
-use Rattle.cas_sessions.specs.Flushes.{AreInFiles, Flushed, Flushes, FlushesNamed, FlushesTable, Grows, WhyNoFurther, change_of, numbers_in, reach_by}
+use Rattle.cas_sessions.specs.Flushes.{AreInFiles, Flushed, Flushes, FlushesNamed, FlushesTable, Grows, WhyNoFurther, change_of, changes_by, numbers_in, reach_by}
 use Rattle.cas_sessions.specs.History.{History, DiskState, shard_at}
-use Rattle.cas_sessions.specs.Nodes.{State, LastsFor, KeepsAll, Moves, disk_of}
+use Rattle.cas_sessions.specs.Nodes.{State, StandsFor, LastsFor, GoesOnTo, KeepsAll, Moves, disk_of}
 use Rattle.cas_sessions.specs.Inner.Flushing.{FlushedOne, FlushesFirst, FlushesNoFurther, FlushesOne, GoesOn, IsOwn, listed_of}
 use Rattle.cas_sessions.proofs.FlushShard.{quiet_still}
-use Rattle.cas_sessions.proofs.FlushSteps.{amid_then, beside_then, quiet_beside, quiet_goes, quiet_stands, with_disk}
+use Rattle.cas_sessions.proofs.FlushSteps.{amid_then, amid_with, beside_then, lasts_as, quiet_beside, quiet_goes, quiet_stands, stands_with, with_disk}
 
 -- ---- lists with one more
 
@@ -99,47 +99,44 @@ pub first_more : (t : TableSchema) (k : ℕ) (told : List ℕ) (o : Option ℕ) 
     → FlushesFirst t (k + 1) (told ++ listed_of o) s v d f
 first_more t k told o s u v d e f first one = record {
   beside = beside_then s u v d e f first.beside one.beside;
+  changes = first.changes ++ one.change ∷ [];
+  many = length-append first.changes (one.change ∷ []) ∙ ap (λ (n : ℕ). n + 1) first.many;
+  added = (λ i. first.added i ++ sym one.answer i) ∙ flat_map_more numbers_in [] first.changes one.change;
   lasts = λ h found was tables lasts.
       let (now, amid) = first.lasts h found was tables lasts in
-      let (later, more) = one.lasts h found now.0 (tables ∙ sym first.beside.tables) now.1 in
-      (later, amid_then h found s u d e f first.beside.list amid more);
+      let so_far : List Change = fold changes_by h.changes first.changes in
+      let (later, more) = one.lasts (record h { changes = so_far }) found now.0 (tables ∙ sym first.beside.tables) now.1 in (
+        (
+          later.0,
+          subst (λ (cs : List Change). LastsFor (record h { changes = cs }) found v f later.0) (sym (fold_push changes_by h.changes first.changes one.change)) later.1,
+        ),
+        amid_then h found s u d e f first.beside.list amid (amid_with h so_far found u.list e f more),
+      );
   moves = λ c reads have h stands.
       let (now, kept, so) = first.moves c reads stands.memory h stands in
-      let changes : List (Option Change) = so.0 in
       let (b, read) = first.beside.tells c reads in
       let (later, still, ends) = one.moves b read kept (with_disk h u) now in
-      let change : Option Change = ends.0 in (
-        later,
-        still,
-        (
-          changes ++ change ∷ [],
-          length-append changes (change ∷ []) ∙ ap (λ (n : ℕ). n + 1) so.1,
-          (λ i. so.2 i ++ sym ends.1 i) ∙ flat_map_more numbers_in [] changes change,
-          flushed_more h t changes change k (disk_of u) (disk_of v) so.1 so.3 ends.2 one.beside.faults one.beside.reads,
-        ),
-      );
+      (later, still, flushed_more h t first.changes one.change k (disk_of u) (disk_of v) first.many so ends one.beside.faults one.beside.reads);
 }
 
 pub first_none : (t : TableSchema) (s : State) (d : Disk) → FlushesFirst t 0 [] s s d d
 first_none t s d = record {
   beside = quiet_beside s s d d (quiet_still s d) (no_call (SameUpTo s.last_file) d);
+  changes = [];
+  many = refl;
+  added = refl;
   lasts = λ h found was tables lasts. quiet_goes s s d d (quiet_still s d) h found was tables lasts;
   moves = λ c reads have h stands. (
     quiet_stands s s d d (quiet_still s d) h stands,
     have,
-    (
-      [],
-      refl,
-      refl,
-      record {
-        files = λ n. ap (λ (e : DiskState). e.files n t.number) (sym stands.disk);
-        others = λ n k other. ap (λ (e : DiskState). e.files n k) (sym stands.disk);
-        all = λ n lt. absurd (omega (arith, lt));
-        reach = ap (λ (e : DiskState). e.reach) (sym stands.disk);
-        faults = omega (arith, ap (λ (e : DiskState). e.faults) stands.disk);
-        reads = omega (arith, ap (λ (e : DiskState). e.reads) stands.disk);
-      },
-    ),
+    record {
+      files = λ n. ap (λ (e : DiskState). e.files n t.number) (sym stands.disk);
+      others = λ n k other. ap (λ (e : DiskState). e.files n k) (sym stands.disk);
+      all = λ n lt. absurd (omega (arith, lt));
+      reach = ap (λ (e : DiskState). e.reach) (sym stands.disk);
+      faults = omega (arith, ap (λ (e : DiskState). e.faults) stands.disk);
+      reads = omega (arith, ap (λ (e : DiskState). e.reads) stands.disk);
+    },
   );
 }
 
@@ -218,10 +215,15 @@ pub no_further : (t : TableSchema) (k : ℕ) (told : List ℕ) (x : Fault) (s u 
     → k < length s.shards → FlushesNoFurther t x s v d f
 no_further t k told x s u v d e f first one few = record {
   beside = beside_then s u v d e f first.beside one.beside;
+  changes = first.changes;
+  few = omega (arith, first.many, few);
   lasts = λ h found was tables lasts.
       let (now, amid) = first.lasts h found was tables lasts in
-      let (later, more) = one.lasts h found now.0 (tables ∙ sym first.beside.tables) now.1 in
-      (later, amid_then h found s u d e f first.beside.list amid more);
+      let so_far : List Change = fold changes_by h.changes first.changes in
+      let (later, more) = one.lasts (record h { changes = so_far }) found now.0 (tables ∙ sym first.beside.tables) now.1 in (
+        (later.0, subst (λ (c : Option Change). LastsFor (record h { changes = changes_by so_far c }) found v f later.0) one.answer later.1),
+        amid_then h found s u d e f first.beside.list amid (amid_with h so_far found u.list e f more),
+      );
   moves = λ c reads have h stands.
       let (now, kept, so) = first.moves c reads stands.memory h stands in
       let (b, read) = first.beside.tells c reads in
@@ -229,9 +231,7 @@ no_further t k told x s u v d e f first one few = record {
         later,
         still,
         (
-          so.0,
-          omega (arith, so.1, few, stands.count),
-          still_flushed h t so.0 (disk_of u) (disk_of v) so.3 none.files none.reach one.beside.faults one.beside.reads,
+          still_flushed h t first.changes (disk_of u) (disk_of v) so none.files none.reach one.beside.faults one.beside.reads,
           why_since (disk_of s) (disk_of u) (disk_of v) x first.beside.faults first.beside.reads none.why,
         ),
       );
@@ -243,29 +243,28 @@ pub none_of_memory : (t : TableSchema) (k : ℕ) (told : List ℕ) (s u : State)
     → FlushesNoFurther t Mem s u d e
 none_of_memory t k told s u d e first few going = record {
   beside = first.beside;
+  changes = first.changes;
+  few = omega (arith, first.many, few);
   lasts = first.lasts;
   moves = λ c reads have h stands.
       let (now, kept, so) = first.moves c reads stands.memory h stands in
-      (now, kept, (so.0, omega (arith, so.1, few, stands.count), so.3, ap is_some going));
+      (now, kept, (so, ap is_some going));
   own = tt;
 }
 
 -- ---- the call
 
 -- the history goes on so
-lasts_under : (h : History) (e : DiskState) (found : List Mutation) (s : State) (d : Disk) (told : Told) → LastsFor h found s d told → LastsFor (record h { disk = e }) found s d told
-lasts_under h e found s d told lasts = record {
-  keeps = lasts.keeps;
-  tables = lasts.tables;
-  shards = lasts.shards;
-  few = lasts.few;
-  ordered = lasts.ordered;
-  next = lasts.next;
-  counted = lasts.counted;
-  acknowledged = lasts.acknowledged;
-  whole = lasts.whole;
-  behind = lasts.behind;
-  files = lasts.files;
+abbrev went_on : History → List (Option Change) → State → History
+went_on h changes u = record h { changes = fold changes_by h.changes changes; disk = disk_of u }
+
+went_to : (h : History) (changes : List (Option Change)) (s u : State) (d e : Disk) → StandsFor (with_disk h u) u
+    → ((found : List Mutation) (told : Told) → LastsFor h found s d told → GoesOn h (fold changes_by h.changes changes) found s u d e) → GoesOnTo h (went_on h changes u) s u d e
+went_to h changes s u d e stands lasts = record {
+  stands = stands_with (with_disk h u) (fold changes_by h.changes changes) u stands;
+  lasts = λ found told was.
+      let (later, amid) = lasts found told was in
+      (later.0, lasts_as (record h { changes = fold changes_by h.changes changes }) (went_on h changes u) found u e later.0 refl refl later.1);
 }
 
 named : (h : History) (tables : List TableSchema) (name : TableName) (o : Option TableSchema) (r : Result (List ℕ) Fault) (after : History) → h.tables ≡ tables
@@ -277,26 +276,21 @@ pub flushes_all : (name : TableName) (t : TableSchema) (told : List ℕ) (s u : 
     → FlushesFirst t (length s.shards) told s u d e → (c : Image) → d.reads c → Moves (λ h after. Flushes h name (Ok told) after) s u d e
 flushes_all name t told s u d e is going on first c reads h stands =
     let (now, kept, so) = first.moves c reads stands.memory h stands in (
-      with_disk h u,
-      named h s.tables name (Some t) (Ok told) (with_disk h u) stands.tables is (
-        so.0,
+      went_on h first.changes u,
+      named h s.tables name (Some t) (Ok told) (went_on h first.changes u) stands.tables is (
+        first.changes,
         disk_of u,
         ap (λ (x : DiskState). x.stopped) stands.disk ∙ ap is_some going,
-        so.3,
-        (so.1 ∙ sym stands.count, so.2, ap is_some on),
+        so,
+        (first.many ∙ sym stands.count, first.added, ap is_some on),
         refl,
       ),
-      record {
-        stands = now;
-        lasts = λ found was lasts.
-            let (later, amid) = first.lasts h found was stands.tables lasts in
-            (later.0, lasts_under h (disk_of u) found u e later.0 later.1);
-      },
+      went_to h first.changes s u d e now (λ found was lasts. first.lasts h found was stands.tables lasts),
     )
 
 -- a fault that isn't of an earlier one
 fails_by : (h : History) (t : TableSchema) (f : Fault) (changes : List (Option Change)) (e : DiskState) → h.disk.stopped ≡ false → Flushed h t changes e → length changes < length h.shards
-    → WhyNoFurther h.disk e f → FlushesTable h t (Err f) (record h { disk = e })
+    → WhyNoFurther h.disk e f → FlushesTable h t (Err f) (record h { changes = fold changes_by h.changes changes; disk = e })
 fails_by h t (Refused why) changes e going flushed few is = (changes, e, going, flushed, (few, is), refl)
 fails_by h t (Stopped first) changes e going flushed few is = absurd is
 fails_by h t (Failed number) changes e going flushed few is = (changes, e, going, flushed, (few, is), refl)
@@ -308,21 +302,17 @@ pub flushes_some : (name : TableName) (t : TableSchema) (f : Fault) (s u : State
     → FlushesNoFurther t f s u d e → (c : Image) → d.reads c → Moves (λ h after. Flushes h name (Err f) after) s u d e
 flushes_some name t f s u d e is going none c reads h stands =
     let (now, kept, so) = none.moves c reads stands.memory h stands in (
-      with_disk h u,
-      named h s.tables name (Some t) (Err f) (with_disk h u) stands.tables is
-          (fails_by h t f so.0 (disk_of u) (ap (λ (x : DiskState). x.stopped) stands.disk ∙ ap is_some going) so.2 so.1
-          (subst (λ (x : DiskState). WhyNoFurther x (disk_of u) f) (sym stands.disk) so.3)),
-      record {
-        stands = now;
-        lasts = λ found was lasts.
-            let (later, amid) = none.lasts h found was stands.tables lasts in
-            (later.0, lasts_under h (disk_of u) found u e later.0 later.1);
-      },
+      went_on h none.changes u,
+      named h s.tables name (Some t) (Err f) (went_on h none.changes u) stands.tables is
+          (fails_by h t f none.changes (disk_of u) (ap (λ (x : DiskState). x.stopped) stands.disk ∙ ap is_some going) so.0 (omega (arith, none.few, stands.count))
+          (subst (λ (x : DiskState). WhyNoFurther x (disk_of u) f) (sym stands.disk) so.1)),
+      went_to h none.changes s u d e now (λ found was lasts. none.lasts h found was stands.tables lasts),
     )
 
-pub keeps_all : (s u : State) (d e : Disk) → u.list ≡ s.list
-    → ((h : History) (found : List Mutation) (told : Told) → h.tables ≡ s.tables → LastsFor h found s d told → GoesOn h found s u d e) → KeepsAll s u d e
-keeps_all s u d e list lasts h found told stands was =
+pub keeps_all : (s u : State) (d e : Disk) (changes : List (Option Change)) → u.list ≡ s.list
+    → ((h : History) (found : List Mutation) (told : Told) → h.tables ≡ s.tables → LastsFor h found s d told → GoesOn h (fold changes_by h.changes changes) found s u d e)
+    → KeepsAll s u d e
+keeps_all s u d e changes list lasts h found told stands was =
     subst (λ l. Leaves (IsLeftAmid found l h) d e) (sym list) (lasts h found told stands.tables was).1
 
 -- what a fault tells beside that

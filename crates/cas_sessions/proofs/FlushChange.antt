@@ -29,11 +29,11 @@ use Rattle.cas_room.specs.Rooms.{accepted_in}
 use Rattle.cas_shard.specs.Stands.{ShardState}
 use Rattle.cas_recovery.specs.Restored.{IsBehind}
 use Rattle.cas_recovery.proofs.Places.{get_here, get_other, get_within, same_place}
-use Rattle.cas_sessions.specs.History.{History}
+use Rattle.cas_sessions.specs.History.{History, changes_told}
 use Rattle.cas_sessions.specs.Entered.{IsLeftAmid, ListFiles}
 use Rattle.cas_sessions.specs.Nodes.{State, LastsFor, files_in}
 use Rattle.cas_sessions.specs.Inner.Flushing.{AddsFile, GoesOn, Lists, SameNumbers}
-use Rattle.cas_sessions.proofs.Files.{list_changed, list_same}
+use Rattle.cas_sessions.proofs.Files.{list_changed, list_same, told_more}
 use Rattle.cas_sessions.proofs.Parts.{has_parts, one_shard}
 use Rattle.cas_sessions.proofs.Tables.{goes_before, said_still}
 
@@ -241,7 +241,7 @@ module _ (s t : State) (d e : Disk) (place number : ℕ) (c : Change) (count : l
   -- it has the change, and the shards have the file that it adds, and no other
   pub lists_done : {T : Type 0} (x : T) → Lists c (Ok x) s t d e → h.tables ≡ s.tables → s.journal.first ≡ None → (ys : List ShardState) → SameNumbers t.shards ys
       → map (λ f. f.info) (files_in ys c.shard c.table) ≡ map (λ f. f.info) (files_in s.shards c.shard c.table) ++ c.added
-      → ((n k : ℕ) → ((n ≡ c.shard) × (k ≡ c.table) → ⊥) → files_in ys n k ≡ files_in s.shards n k) → GoesOn h found s (record t { shards = ys }) d e
+      → ((n k : ℕ) → ((n ≡ c.shard) × (k ≡ c.table) → ⊥) → files_in ys n k ≡ files_in s.shards n k) → GoesOn h (h.changes ++ c ∷ []) found s (record t { shards = ys }) d e
   lists_done x lists tables going ys numbers here others =
       ((appended (change_entry c) (committed_all told), keeps_on), lists_amid (Ok x) lists tables)
     where
@@ -262,7 +262,7 @@ module _ (s t : State) (d e : Disk) (place number : ℕ) (c : Change) (count : l
           (subst (λ (k : ℕ). k < (said_by told.entries).shards) (sym adds.is.of_shard) (no_shard_more h found s d told count lasts place adds.x adds.there))
           adds.is.removed here others lasts.files
 
-      keeps_on : LastsFor h found (record t { shards = ys }) e (appended (change_entry c) (committed_all told))
+      keeps_on : LastsFor (record h { changes = h.changes ++ c ∷ [] }) found (record t { shards = ys }) e (appended (change_entry c) (committed_all told))
       keeps_on = record {
         keeps = lists.keeps found told lasts.keeps fits;
         tables = ap (λ (sy : Saying). sy.tables) said ∙ lasts.tables ∙ sym lists.tables;
@@ -289,6 +289,7 @@ module _ (s t : State) (d e : Disk) (place number : ℕ) (c : Change) (count : l
               listed = behind.listed;
             });
         files = subst (λ (sy : Saying). ListFiles sy (files_in ys)) (sym said) files;
+        changes = told_more told.entries c ∙ ap (λ cs. cs ++ c ∷ []) lasts.changes;
       }
 
   -- it failed
@@ -298,7 +299,7 @@ module _ (s t : State) (d e : Disk) (place number : ℕ) (c : Change) (count : l
       let still = said_still f (change_entry c) (committed_all told) lasts.few in
       (ap (λ (v : Told). v.entries) since ∙ still.entries, ap (λ (v : Told). v.taken) since ∙ still.taken, subst (λ (v : Told). length v.failed ≤ 1) (sym since) still.few)
 
-  pub lists_failed : (T : Type 0) (f : JournalFault) → Lists {T = T} c (Err f) s t d e → h.tables ≡ s.tables → GoesOn h found s t d e
+  pub lists_failed : (T : Type 0) (f : JournalFault) → Lists {T = T} c (Err f) s t d e → h.tables ≡ s.tables → GoesOn h h.changes found s t d e
   lists_failed T f lists tables =
       let (u, may, keeps) = lists.keeps found told lasts.keeps fits in
       let (entries, taken, few) = same_told f u may in (
@@ -328,6 +329,7 @@ module _ (s t : State) (d e : Disk) (place number : ℕ) (c : Change) (count : l
             files =
                 subst (λ es. ListFiles (said_by es) (files_in t.shards)) (sym entries)
                 (list_same (said_by told.entries) (files_in s.shards) (files_in t.shards) (ap files_in lists.shards) lasts.files);
+            changes = ap changes_told entries ∙ lasts.changes;
           },
         ),
         lists_amid {T = T} (Err f) lists tables,

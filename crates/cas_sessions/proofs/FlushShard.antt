@@ -39,7 +39,7 @@ use Rattle.cas_sessions.specs.Listing.{SameUpTo}
 use Rattle.cas_sessions.specs.History.{History, DiskState, shard_at}
 use Rattle.cas_sessions.specs.Nodes.{State, StandsFor, LastsFor, disk_of, files_in, files_of}
 use Rattle.cas_sessions.specs.Inner.Faults.{fault_for}
-use Rattle.cas_sessions.specs.Inner.Flushing.{AddsFile, EndsIn, FlushedOne, FlushesOne, GoesOn, GoesOnAs, IsOwn, Lists, Moved, NewFile, Quiet, SaysSo, TakesFile, WhyNotMade}
+use Rattle.cas_sessions.specs.Inner.Flushing.{AddsFile, EndsIn, FlushedOne, FlushesOne, GoesOn, GoesOnAs, IsOwn, Lists, Moved, NewFile, Quiet, SaysSo, TakesFile, TellsIt, WhyNotMade}
 use Rattle.cas_sessions.proofs.FlushChange.{below_next, lists_done, lists_failed}
 use Rattle.cas_sessions.proofs.FlushFiles.{SayNothing, in_files, memory_says_nothing, rest_says_nothing}
 use Rattle.cas_sessions.proofs.FlushSteps.{amid_then, beside_then, files_again, one_goes_on, quiet_amid, quiet_beside, quiet_goes, quiet_lasts, quiet_remembers, quiet_stands, same_shards, stands_again, with_disk}
@@ -122,28 +122,24 @@ module _ (t : TableSchema) (n : ℕ) (s u : State) (d e : Disk) (quiet : Quiet s
   -- memory had nothing that says more
   pub quiet_none : (y : ShardState) → slice_get s.tables t.number ≡ Some t → slice_get u.shards n ≡ Some y
       → (Remember u.tables u.shards → SayNothing (clustering_order t.columns) (memtables_at (slice_get y.stores t.number)))
-      → Moved (λ h. EndsIn t n (shard_at h n) (Ok None)) s u
+      → Moved (λ h. EndsIn t n (shard_at h n) None (Ok None)) s u
   quiet_none y table there nothing have h stands =
       let now : StandsFor (with_disk h u) u = quiet_stands s u d e quiet h stands in
       let kept : Remember u.tables u.shards = quiet_remembers s u d e quiet have in (
         now,
         kept,
-        (
-          None,
-          refl,
-          record {
-            files = files_again s.shards u.shards quiet.shards n t.number;
-            others = λ k table other. files_again s.shards u.shards quiet.shards k table;
-            all = all_in_files h u t n y now (ap (λ (ts : List TableSchema). slice_get ts t.number) quiet.tables ∙ table) there (nothing kept);
-            reach = ap reach_of quiet.journal;
-            stopped = ap is_some still_going;
-          },
-        ),
+        record {
+          files = files_again s.shards u.shards quiet.shards n t.number;
+          others = λ k table other. files_again s.shards u.shards quiet.shards k table;
+          all = all_in_files h u t n y now (ap (λ (ts : List TableSchema). slice_get ts t.number) quiet.tables ∙ table) there (nothing kept);
+          reach = ap reach_of quiet.journal;
+          stopped = ap is_some still_going;
+        },
       )
 
   -- the same, where the table is looked at by its place
   pub quiet_none_at : (y : ShardState) (k : ℕ) → t.number ≡ k → slice_get s.tables k ≡ Some t → slice_get u.shards n ≡ Some y → bytes_at (slice_get y.stores k) ≡ 0
-      → (Remember u.tables u.shards → SayNothing (clustering_order t.columns) (frozen_at (slice_get y.stores k))) → Moved (λ h. EndsIn t n (shard_at h n) (Ok None)) s u
+      → (Remember u.tables u.shards → SayNothing (clustering_order t.columns) (frozen_at (slice_get y.stores k))) → Moved (λ h. EndsIn t n (shard_at h n) None (Ok None)) s u
   quiet_none_at y k same table there none says =
       quiet_none y (subst (λ (j : ℕ). slice_get s.tables j ≡ Some t) (sym same) table) there
       (λ have.
@@ -151,7 +147,7 @@ module _ (t : TableSchema) (n : ℕ) (s u : State) (d e : Disk) (quiet : Quiet s
       (subst (λ (j : ℕ). SayNothing (clustering_order t.columns) (frozen_at (slice_get y.stores j))) (sym same) (says have)))
 
   -- a fault came between
-  pub quiet_fails : (f : Fault) → WhyNotMade s.faults u.faults s.reads u.reads f → Moved (λ h. EndsIn t n (shard_at h n) (Err f)) s u
+  pub quiet_fails : (f : Fault) → WhyNotMade s.faults u.faults s.reads u.reads f → Moved (λ h. EndsIn t n (shard_at h n) None (Err f)) s u
   quiet_fails f why have h stands = (
     quiet_stands s u d e quiet h stands,
     quiet_remembers s u d e quiet have,
@@ -274,7 +270,7 @@ module _ {T : Type 0} (t : TableSchema) (n number count : ℕ) (s m : State) (d 
       ∙ ap (λ (is : List TableInfo). map (λ f. f.info) (files_in s.shards n t.number) ++ is) its_added))
 
   keeps_on : (h : History) (found : List Mutation) (was : Told) → h.tables ≡ s.tables → LastsFor h found s d was → AllByRecursion (λ k. k < number) (said_by was.entries).numbers
-      → GoesOn h found s u d e
+      → GoesOn h (h.changes ++ c ∷ []) found s u d e
   keeps_on h found was tables so below =
       lists_done s m d e n number c many adds low h found was so below answer lists tables going (slice_set m.shards n y) numbers its_file
       (λ k j other. other_files k j (λ both. other (both.0 ∙ sym adds.is.of_shard, both.1 ∙ sym of_table)))
@@ -342,13 +338,6 @@ module _ {T : Type 0} (t : TableSchema) (n number count : ℕ) (s m : State) (d 
       stopped = ap is_some (ok_goes s.journal.first m.journal.first s.faults m.faults answer lists.outcome going);
     }
 
-    ends : EndsIn t n (shard_at h n) (Ok (Some number)) (disk_of s) (disk_of u)
-    ends = (
-      Some c,
-      ap (λ (is : List TableInfo). map (λ i. i.number) is) adds.is.added ∙ ap (λ (k : ℕ). k ∷ []) adds.numbered,
-      flushed,
-    )
-
   pub takes_file : TakesFile t n number (SaysSo t (slice_get x.stores t.number) new.file) (Ok (Some number)) s u d e
   takes_file = record {
     beside = record {
@@ -367,8 +356,10 @@ module _ {T : Type 0} (t : TableSchema) (n number count : ℕ) (s m : State) (d 
       during = up_to_same s.last_file d e lists.during;
       tells = lists.tells;
     };
+    change = Some c;
+    answer = ap (λ (is : List TableInfo). map (λ i. i.number) is) adds.is.added ∙ ap (λ (k : ℕ). k ∷ []) adds.numbered;
     lasts = keeps_on;
-    moves = λ says have h stands. (now_stands says h stands, remembers have, ends says h stands);
+    moves = λ says have h stands. (now_stands says h stands, remembers have, flushed says h stands);
     own = tt;
   }
 
@@ -422,6 +413,8 @@ module _ (t : TableSchema) (n number : ℕ) (s m : State) (d e : Disk) (c : Chan
       during = up_to_same s.last_file d e lists.during;
       tells = lists.tells;
     };
+    change = None;
+    answer = refl;
     lasts = λ h found was tables lasts below. lists_failed s m d e n number c many adds low h found was lasts below (Unit {0}) f lists tables;
     moves = λ says have h stands.
         let still : Remember s.tables s.shards → Remember m.tables m.shards =
@@ -448,6 +441,8 @@ takes_none_as t n number s m d e c Says f r many going adds low lists is =
 pub takes_nothing : (t : TableSchema) (n number : ℕ) (Says : Type 0) (s : State) (d : Disk) → s.journal.first ≡ None → TakesFile t n number Says (Err Mem) s s d d
 takes_nothing t n number Says s d going = record {
   beside = quiet_beside s s d d (quiet_still s d) (no_call (SameUpTo s.last_file) d);
+  change = None;
+  answer = refl;
   lasts = λ h found was tables lasts below. quiet_goes s s d d (quiet_still s d) h found was tables lasts;
   moves = λ says. quiet_fails t n s s d d (quiet_still s d) going Mem tt;
   own = tt;
@@ -456,20 +451,16 @@ takes_nothing t n number Says s d going = record {
 -- ---- all steps
 
 -- how it ends, since an earlier moment with the same files
-ends_since : (t : TableSchema) (n : ℕ) (q : ShardHistory) (r : Result (Option ℕ) Fault) (d m e : DiskState) → ((k j : ℕ) → m.files k j ≡ d.files k j) → m.reach ≡ d.reach
-    → d.faults ≤ m.faults → d.reads ≤ m.reads → EndsIn t n q r m e → EndsIn t n q r d e
-ends_since t n q (Ok told) d m e files reach faults reads (c, numbers, one) = (
-  c,
-  numbers,
-  record {
-    files = subst (λ (fs : List (File Held)). Grows t.number n q c fs (e.files n t.number)) (files n t.number) one.files;
-    others = λ k j other. one.others k j other ∙ files k j;
-    all = one.all;
-    reach = one.reach ∙ ap (λ (r : Reach). reach_by r c) reach;
-    stopped = one.stopped;
-  },
-)
-ends_since t n q (Err f) d m e files reach faults reads none =
+ends_since : (t : TableSchema) (n : ℕ) (q : ShardHistory) (c : Option Change) (r : Result (Option ℕ) Fault) (d m e : DiskState) → ((k j : ℕ) → m.files k j ≡ d.files k j) → m.reach ≡ d.reach
+    → d.faults ≤ m.faults → d.reads ≤ m.reads → EndsIn t n q c r m e → EndsIn t n q c r d e
+ends_since t n q c (Ok told) d m e files reach faults reads one = record {
+  files = subst (λ (fs : List (File Held)). Grows t.number n q c fs (e.files n t.number)) (files n t.number) one.files;
+  others = λ k j other. one.others k j other ∙ files k j;
+  all = one.all;
+  reach = one.reach ∙ ap (λ (r : Reach). reach_by r c) reach;
+  stopped = one.stopped;
+}
+ends_since t n q c (Err f) d m e files reach faults reads none =
     record { files = λ k j. none.files k j ∙ files k j; reach = none.reach ∙ reach; why = by f none.why }
   where
     by : (f : Fault) → WhyNoFurther m e f → WhyNoFurther d e f
@@ -487,6 +478,8 @@ pub flushes_then : (t : TableSchema) (n number last : ℕ) (Says : Type 0) (r : 
     → During (SameUpTo s.last_file) d e → TakesFile t n number Says r m u e f → s.last_file ≤ last → last < number → ((c : Image) → d.reads c → Remember s.tables s.shards → Says) → FlushesOne t n r s u d f
 flushes_then t n number last Says r s m u d e f quiet during takes low above says = record {
   beside = beside_then s m u d e f (quiet_beside s m d e quiet during) takes.beside;
+  change = takes.change;
+  answer = takes.answer;
   lasts = λ h found told tables lasts.
       let (now, amid) = takes.lasts h found told (tables ∙ sym quiet.tables) (quiet_lasts s m d e quiet h found told lasts)
       (below_next s.last_file number (said_by told.entries).numbers (omega (arith, low, above)) lasts.behind.numbers) in
@@ -495,7 +488,7 @@ flushes_then t n number last Says r s m u d e f quiet during takes low above say
       let (now, kept, ends) = takes.moves (says c reads have) (quiet_remembers s m d e quiet have) (with_disk h m) (quiet_stands s m d e quiet h stands) in (
         now,
         kept,
-        ends_since t n (shard_at h n) r (disk_of s) (disk_of m) (disk_of u) (λ k j. files_again s.shards m.shards quiet.shards k j) (ap reach_of quiet.journal) quiet.faults quiet.reads
+        ends_since t n (shard_at h n) takes.change r (disk_of s) (disk_of m) (disk_of u) (λ k j. files_again s.shards m.shards quiet.shards k j) (ap reach_of quiet.journal) quiet.faults quiet.reads
             ends,
       );
   own = takes.own;
@@ -503,9 +496,11 @@ flushes_then t n number last Says r s m u d e f quiet during takes low above say
 
 -- quiet steps alone
 pub flushes_quietly : (t : TableSchema) (n : ℕ) (r : Result (Option ℕ) Fault) (s u : State) (d e : Disk) → Quiet s u d e → During (SameUpTo s.last_file) d e
-    → ((c : Image) → d.reads c → Remember s.tables s.shards → Moved (λ h. EndsIn t n (shard_at h n) r) s u) → IfErr r IsOwn → FlushesOne t n r s u d e
-flushes_quietly t n r s u d e quiet during moves own = record {
+    → ((c : Image) → d.reads c → Remember s.tables s.shards → Moved (λ h. EndsIn t n (shard_at h n) None r) s u) → IfErr r IsOwn → TellsIt None r → FlushesOne t n r s u d e
+flushes_quietly t n r s u d e quiet during moves own answer = record {
   beside = quiet_beside s u d e quiet during;
+  change = None;
+  answer = answer;
   lasts = λ h found told tables lasts. quiet_goes s u d e quiet h found told tables lasts;
   moves = λ c reads have h stands. moves c reads have have h stands;
   own = own;

@@ -8,7 +8,10 @@ use Rattle.cas_disk.specs.Disk.{Disk, During, Leaves}
 use Rattle.cas_disk.proofs.Moments.{leaves_either, reworded}
 use Rattle.cas_atoms.specs.declared.atom.Mutation.{Mutation}
 use Rattle.cas_changes.specs.Saying.{said_by}
+use Rattle.cas_changes.specs.declared.entry.Change.{Change}
 use Rattle.cas_replay.specs.Grammar.{AscendByOne, numbers_of}
+use Rattle.cas_history.specs.declared.item.Item.{Item}
+use Rattle.cas_room.specs.declared.event.Event.{Event}
 use Rattle.cas_journal.specs.Stores.{Told, Holds}
 use Rattle.cas_room.specs.Keeping.{Keeps}
 use Rattle.cas_room.specs.Rooms.{accepted_in}
@@ -117,6 +120,40 @@ lasts_again h found s t d e told lasts keeps tables limits list accepted committ
     listed = lasts.behind.listed ∙ sym live;
   };
   files = list_still (said_by told.entries) (files_in s.shards) (files_in t.shards) files lasts.files;
+  changes = lasts.changes;
+}
+
+-- another history that tells the same changes, and of as many mutations that they were acknowledged
+pub lasts_as : (h k : History) (found : List Mutation) (s : State) (d : Disk) (told : Told) → k.acknowledged ≡ h.acknowledged → k.changes ≡ h.changes → LastsFor h found s d told
+    → LastsFor k found s d told
+lasts_as h k found s d told acks changes lasts = record {
+  keeps = lasts.keeps;
+  tables = lasts.tables;
+  shards = lasts.shards;
+  few = lasts.few;
+  ordered = lasts.ordered;
+  next = lasts.next;
+  counted = lasts.counted;
+  acknowledged = (omega (arith, lasts.acknowledged.0, acks), omega (arith, lasts.acknowledged.1, acks));
+  whole = lasts.whole;
+  behind = lasts.behind;
+  files = lasts.files;
+  changes = lasts.changes ∙ sym changes;
+}
+
+-- memory says nothing of changes
+pub stands_with : (h : History) (changes : List Change) (s : State) → StandsFor h s → StandsFor (record h { changes = changes }) s
+stands_with h changes s stands = record {
+  limits = stands.limits;
+  tables = stands.tables;
+  clock = stands.clock;
+  session = stands.session;
+  calls = stands.calls;
+  disk = stands.disk;
+  count = stands.count;
+  shards = stands.shards;
+  entered = stands.entered;
+  memory = stands.memory;
 }
 
 -- ---- memory stands for the same
@@ -182,8 +219,9 @@ module _ (s t : State) (d e : Disk) (quiet : Quiet s t d e) where
       holds_amid told h found [] s.list c (append-nil told.taken ∙ lasts.keeps.all) (omega (arith, lasts.keeps.committed, lasts.acknowledged.0)) lasts.keeps.whole
       (lasts.tables ∙ sym tables) lasts.few holds)
 
-  pub quiet_goes : (h : History) (found : List Mutation) (told : Told) → h.tables ≡ s.tables → LastsFor h found s d told → GoesOn h found s t d e
-  quiet_goes h found told tables lasts = ((told, quiet_lasts h found told lasts), quiet_amid h found told tables lasts)
+  pub quiet_goes : (h : History) (found : List Mutation) (told : Told) → h.tables ≡ s.tables → LastsFor h found s d told → GoesOn h h.changes found s t d e
+  quiet_goes h found told tables lasts =
+      ((told, lasts_as h (record h { changes = h.changes }) found t e told refl refl (quiet_lasts h found told lasts)), quiet_amid h found told tables lasts)
 
   pub quiet_remembers : Remember s.tables s.shards → Remember t.tables t.shards
   quiet_remembers have n table y there =
@@ -232,6 +270,24 @@ beside_then s t u d e f first second = record {
   during = up_to_twice s.last_file t.last_file d e f first.last first.during second.during;
   tells = λ c reads. let (b, now) = first.tells c reads in second.tells b now;
 }
+
+-- what a crash leaves, in the words of a history with other changes
+pub amid_with : (h : History) (changes : List Change) (found : List Mutation) (list : List (Item Event)) (d e : Disk)
+    → Leaves (IsLeftAmid found list (record h { changes = changes })) d e → Leaves (IsLeftAmid found list h) d e
+amid_with h changes found list d e leaves =
+    reworded (λ _ c. IsLeftAmid found list (record h { changes = changes }) c) (λ _ c. IsLeftAmid found list h c) d e leaves
+    (λ b c was left. record {
+      entries = left.entries;
+      told = left.told;
+      more = left.more;
+      are = left.are;
+      tables = left.tables;
+      few = left.few;
+      count = left.count;
+      least = left.least;
+      most = left.most;
+      store = left.store;
+    })
 
 -- what a crash leaves in one part of a call and then in the next
 pub amid_then : (h : History) (found : List Mutation) (s t : State) (d e f : Disk) → t.list ≡ s.list → Leaves (IsLeftAmid found s.list h) d e → Leaves (IsLeftAmid found t.list h) e f

@@ -24,11 +24,11 @@ use Rattle.cas_room.specs.Keeping.{Keeps}
 use Rattle.cas_room.specs.Rooms.{accepted_in, mutation_of}
 use Rattle.cas_shard.specs.Stands.{ShardState}
 use Rattle.define_laws.proofs.Telling.{named_segments_define_nothing}
-use Rattle.cas_sessions.specs.History.{History}
+use Rattle.cas_sessions.specs.History.{History, changes_told}
 use Rattle.cas_sessions.specs.Entered.{ListFiles}
 use Rattle.cas_sessions.specs.Nodes.{State, LastsFor, files_in}
 use Rattle.cas_sessions.proofs.Behind.{behind_named, behind_with}
-use Rattle.cas_sessions.proofs.Files.{list_named, list_same}
+use Rattle.cas_sessions.proofs.Files.{list_named, list_same, told_named}
 use Rattle.cas_recovery.specs.Restored.{IsBehind}
 use Rattle.cas_recovery.proofs.Places.{same_place, get_here, get_other}
 
@@ -62,12 +62,12 @@ same_next s t n x y told there shards same next k z got = ⊎_elim here elsewher
 -- ---- a step that enters nothing, and leaves the room alone
 
 pub lasts_still : (h k : History) (found : List Mutation) (s t : State) (d e : Disk) (told : Told) (n : ℕ) (x y : ShardState) → k.acknowledged ≡ h.acknowledged
-    → slice_get s.shards n ≡ Some x → t.shards ≡ slice_set s.shards n y → y.number ≡ x.number
+    → k.changes ≡ h.changes → slice_get s.shards n ≡ Some x → t.shards ≡ slice_set s.shards n y → y.number ≡ x.number
     → ((l : List (Item Event)) → l ≡ s.list → (c : ℕ) → c ≡ s.committed → Keeps s.journal d s.list s.committed found told → Keeps t.journal e l c found told)
     → t.list ≡ s.list → t.committed ≡ s.committed → t.tables ≡ s.tables → t.limits ≡ s.limits → t.accepted ≡ s.accepted
     → (is_some t.journal.first ≡ false → is_some s.journal.first ≡ false) → t.last_file ≡ s.last_file → t.live ≡ s.live
     → files_in t.shards ≡ files_in s.shards → LastsFor h found s d told → LastsFor k found t e told
-lasts_still h k found s t d e told n x y acks there shards same keeps list committed tables limits accepted going last live files lasts = record {
+lasts_still h k found s t d e told n x y acks changes there shards same keeps list committed tables limits accepted going last live files lasts = record {
   keeps = keeps t.list list t.committed committed lasts.keeps;
   tables = lasts.tables ∙ sym tables;
   shards = lasts.shards ∙ ap (λ l. l.shards) (sym limits);
@@ -79,6 +79,7 @@ lasts_still h k found s t d e told n x y acks there shards same keeps list commi
   whole = λ on. let all = lasts.whole (going on) in omega (arith, all, committed, ap (λ l. length (accepted_in l)) list);
   behind = behind_with (said_by told.entries) s t n x y there shards (omega (arith, same)) last live lasts.behind;
   files = list_same (said_by told.entries) (files_in s.shards) (files_in t.shards) files lasts.files;
+  changes = lasts.changes ∙ sym changes;
 }
 
 -- ---- a mutation that may be taken
@@ -104,11 +105,11 @@ few_failed before now (inl same) few = subst (λ (es : List ManifestEntry). leng
 few_failed before now (inr named) few = subst (λ (es : List ManifestEntry). length es ≤ 1) (sym named.1) (omega arith)
 
 pub lasts_with_room : (h k : History) (found : List Mutation) (s t : State) (d e : Disk) (told u : Told) (n : ℕ) (x y : ShardState) → k.acknowledged ≡ h.acknowledged
-    → slice_get s.shards n ≡ Some x → t.shards ≡ slice_set s.shards n y → y.number ≡ x.number → MadeRoom told u → Keeps t.journal e t.list t.committed found u
+    → k.changes ≡ h.changes → slice_get s.shards n ≡ Some x → t.shards ≡ slice_set s.shards n y → y.number ≡ x.number → MadeRoom told u → Keeps t.journal e t.list t.committed found u
     → t.list ≡ s.list → t.committed ≡ s.committed → t.tables ≡ s.tables → t.limits ≡ s.limits → t.accepted ≡ s.accepted
     → (is_some t.journal.first ≡ false → is_some s.journal.first ≡ false) → t.last_file ≡ s.last_file → t.live ≡ s.live
     → files_in t.shards ≡ files_in s.shards → LastsFor h found s d told → LastsFor k found t e u
-lasts_with_room h k found s t d e told u n x y acks there shards same made keeps list committed tables limits accepted going last live files lasts =
+lasts_with_room h k found s t d e told u n x y acks changes there shards same made keeps list committed tables limits accepted going last live files lasts =
     let defined = named_segments_define_nothing told.entries made.numbers in
     record {
       keeps = keeps;
@@ -128,6 +129,7 @@ lasts_with_room h k found s t d e told u n x y acks there shards same made keeps
       files =
           subst (λ es. ListFiles (said_by es) (files_in t.shards)) (sym made.entries)
           (list_named told.entries made.numbers (files_in t.shards) (list_same (said_by told.entries) (files_in s.shards) (files_in t.shards) files lasts.files));
+      changes = ap changes_told made.entries ∙ told_named told.entries made.numbers ∙ lasts.changes ∙ sym changes;
     }
 
 -- ---- a mutation that was taken
@@ -168,8 +170,8 @@ module _ (h k : History) (found : List Mutation) (s t : State) (d e : Disk) (tol
       → t.accepted ≡ min (s.accepted + 1) (2 ^ 64 - 1) → s.accepted + 1 < 2 ^ 64 → Keeps t.journal e t.list t.committed found v
       → k.acknowledged ≤ h.acknowledged + 1 → (k.acknowledged ≤ h.acknowledged) × (s.committed ≤ t.committed) ⊎ (t.committed ≡ t.accepted)
       → (is_some t.journal.first ≡ false → t.committed ≡ t.accepted) → t.last_file ≡ s.last_file → t.live ≡ s.live
-      → files_in t.shards ≡ files_in s.shards → LastsFor k found t e v
-  lasts_taken session call list tables limits accepted room keeps acks either going last live files =
+      → files_in t.shards ≡ files_in s.shards → k.changes ≡ h.changes → LastsFor k found t e v
+  lasts_taken session call list tables limits accepted room keeps acks either going last live files changes =
       let defined = named_segments_define_nothing told.entries made.numbers in
       let longer : length (accepted_in t.list) ≡ length (accepted_in s.list) + 1 = ap (λ l. length (accepted_in l)) list ∙ one_accepted s.list m session call in
       let counted : length (accepted_in s.list) + 1 ≤ t.accepted = counts (length (accepted_in s.list)) s.accepted t.accepted lasts.counted (omega (arith, lasts.counted, room)) accepted in
@@ -191,6 +193,7 @@ module _ (h k : History) (found : List Mutation) (s t : State) (d e : Disk) (tol
         files =
             subst (λ es. ListFiles (said_by es) (files_in t.shards)) (sym (entries ∙ made.entries))
             (list_named told.entries made.numbers (files_in t.shards) (list_same (said_by told.entries) (files_in s.shards) (files_in t.shards) files lasts.files));
+        changes = ap changes_told (entries ∙ made.entries) ∙ told_named told.entries made.numbers ∙ lasts.changes ∙ sym changes;
       }
     where
       acks_by : (k.acknowledged ≤ h.acknowledged) × (s.committed ≤ t.committed) ⊎ (t.committed ≡ t.accepted)

@@ -207,7 +207,7 @@ moves_look s d q x y reading reads r there number keeps more raises shows stores
         stands = stands_read h s (with_looked s q.shard y reads) q.shard x y reading [] stands there refl still (λ k. none_more q.shard k (entries_in k s.list)) (same_remembers s.tables x y stores) refl refl refl refl refl disk;
         lasts = λ found told lasts. (
           told,
-          lasts_still h (after_read h q.shard reading reads) found s (with_looked s q.shard y reads) d d told q.shard x y refl there refl number
+          lasts_still h (after_read h q.shard reading reads) found s (with_looked s q.shard y reads) d d told q.shard x y refl refl there refl number
               (λ l same c count keeps.
               subst (λ (ls : List (Item Event)). Keeps s.journal d ls c found told) (sym same) (subst (λ (k : ℕ). Keeps s.journal d s.list k found told) (sym count) keeps))
               refl refl refl refl refl (λ on. on) refl refl (files_still s.shards q.shard x y there keeps) lasts,

@@ -25,7 +25,7 @@ use Rattle.cas_listed.specs.Listed.{AreLoaded}
 use Rattle.cas_shard.specs.declared.entry.ShardOpening.{ShardOpening}
 use Rattle.cas_shard.specs.Shards.{ShardHistory, found_shard, empty_shard}
 use Rattle.cas_shard.specs.Stands.{ShardState, Stands, files_at}
-use Rattle.cas_sessions.specs.History.{History, shard_at}
+use Rattle.cas_sessions.specs.History.{History, changes_told, shard_at}
 use Rattle.cas_sessions.specs.Starts.{start, AreItsFiles, BeginsAs, IsInMemory, IsStarted}
 use Rattle.cas_sessions.specs.Entered.{HasTables, IsLeft, ListFiles, entries_in}
 use Rattle.cas_recovery.specs.Openings.{AreOpenings, MayHaveBeen}
@@ -35,7 +35,7 @@ use Rattle.cas_sessions.specs.Nodes.{State, StandsFor, LastsFor, disk_of, files_
 use Rattle.cas_recovery.proofs.Explained.{opened_goes_on}
 use Rattle.cas_recovery.proofs.Places.{get_within}
 use Rattle.cas_sessions.proofs.Behind.{behind_said}
-use Rattle.cas_sessions.proofs.Files.{list_said}
+use Rattle.cas_sessions.proofs.Files.{list_said, told_named}
 use Rattle.cas_sessions.proofs.Parts.{no_more, said_few, there_at}
 
 -- ---- numbers
@@ -180,6 +180,7 @@ module _ (given : Limits) (entries : List ManifestEntry) (mutations : List Mutat
     whole = λ on. none s.committed;
     behind = behind_said (said_by entries) (said_by t.entries) s.shards s.last_file s.live told.shards told.parts told.numbers told.listed memory.behind;
     files = list_said (said_by entries) (said_by t.entries) (files_in s.shards) told.shards told.parts memory.files;
+    changes = ap changes_told told.begun.1 ∙ told_named entries told.begun.0;
   }
     where
       none : (n : ℕ) → length (accepted_in s.list) ≤ n
@@ -214,6 +215,7 @@ module _ (final : History) (mutations : List Mutation) (s : State) (d : Disk) (t
     are = same ∙ sym (append-nil t.entries);
     tables = lasts.tables ∙ sym stands.tables;
     files = its_listed;
+    changes = lasts.changes;
     few = omega arith;
     none = λ on. refl;
   }
@@ -223,6 +225,7 @@ module _ (final : History) (mutations : List Mutation) (s : State) (d : Disk) (t
     are = more;
     tables = lasts.tables ∙ sym stands.tables;
     files = its_listed;
+    changes = lasts.changes;
     few = lasts.few;
     none = λ on. (lasts.keeps.lasts.goes (going on)).none_failed;
   }

@@ -41,13 +41,13 @@ use Rattle.cas_room.specs.Rooms.{accepted_in}
 use Rattle.cas_shard.specs.Shards.{ShardHistory}
 use Rattle.cas_shard.specs.Stands.{ShardState, Stands, order_at, order_of}
 use Rattle.cas_shard.proofs.Standing.{stands_under}
-use Rattle.cas_sessions.specs.History.{Changes, Defines, History, DiskState, shard_at}
+use Rattle.cas_sessions.specs.History.{Changes, Defines, History, DiskState, changes_told, shard_at}
 use Rattle.cas_sessions.specs.Inner.Definitions.{MayBeTold}
 use Rattle.cas_sessions.specs.Nodes.{State, StandsFor, LastsFor, disk_of, files_in, Moves}
 use Rattle.cas_sessions.specs.Inner.Faults.{reply_for}
 use Rattle.cas_recovery.specs.Restored.{IsBehind, Remember}
 use Rattle.cas_sessions.proofs.Behind.{behind_defined, still_behind}
-use Rattle.cas_sessions.proofs.Files.{Files, list_defined, list_same}
+use Rattle.cas_sessions.proofs.Files.{Files, list_defined, list_same, told_defined}
 
 -- ---- a shard under more tables
 
@@ -173,8 +173,8 @@ pub lasts_defined : (h k : History) (found : List Mutation) (s t : State) (d e :
     → (said_by now.entries).shards ≡ (said_by told.entries).shards
     → t.limits ≡ s.limits → t.list ≡ s.list → t.shards ≡ s.shards → t.accepted ≡ s.accepted → t.committed ≡ s.committed
     → (is_some t.journal.first ≡ false → is_some s.journal.first ≡ false) → IsBehind (said_by now.entries) t.shards t.last_file t.live
-    → ListFiles (said_by now.entries) (files_in t.shards) → LastsFor k found t e now
-lasts_defined h k found s t d e told now lasts acks keeps taken few tables said limits list shards accepted committed going behind files = record {
+    → ListFiles (said_by now.entries) (files_in t.shards) → changes_told now.entries ≡ k.changes → LastsFor k found t e now
+lasts_defined h k found s t d e told now lasts acks keeps taken few tables said limits list shards accepted committed going behind files changes = record {
   keeps = keeps;
   tables = tables;
   shards = said ∙ lasts.shards ∙ ap (λ l. l.shards) (sym limits);
@@ -187,6 +187,7 @@ lasts_defined h k found s t d e told now lasts acks keeps taken few tables said 
   whole = λ on. let all = lasts.whole (going on) in omega (arith, all, committed, ap (λ (l : List (Item Event)). length (accepted_in l)) list);
   behind = behind;
   files = files;
+  changes = changes;
 }
 
 -- ---- how a definition ends
@@ -345,7 +346,8 @@ module _ (s t : State) (d e : Disk) (x : ManifestEntry) (b : Bound) (may : MayBe
                 (ap (λ es. (said_by es).shards) still.entries) rest.limits rest.list rest.shards rest.accepted rest.committed
                 (goes_before {T = Unit {0}} s.journal.first t.journal.first s.faults t.faults (Err fault) ends)
                 (subst (λ es. IsBehind (said_by es) t.shards t.last_file t.live) (sym still.entries) (stays told lasts.behind))
-                (subst (λ es. ListFiles (said_by es) (files_in t.shards)) (sym still.entries) (lists_still told lasts.files)),
+                (subst (λ es. ListFiles (said_by es) (files_in t.shards)) (sym still.entries) (lists_still told lasts.files))
+                (ap changes_told still.entries ∙ lasts.changes),
           );
     },
   )
@@ -383,7 +385,8 @@ module _ (s t : State) (d e : Disk) (x : ManifestEntry) (b : Bound) (may : MayBe
                 (subst (λ (sy : Saying). IsBehind sy t.shards t.last_file t.live) (sym said)
                 (behind_defined (said_by told.entries) x t.shards t.last_file t.live is (stays told lasts.behind)))
                 (subst (λ (sy : Saying). ListFiles sy (files_in t.shards)) (sym said)
-                (list_defined (said_by told.entries) x (files_in t.shards) is (lists_still told lasts.files))),
+                (list_defined (said_by told.entries) x (files_in t.shards) is (lists_still told lasts.files)))
+                (told_defined told.entries x is ∙ lasts.changes),
           );
     },
   )

@@ -15,7 +15,7 @@ use Rattle.cas_shard.specs.declared.entry.Entry.{Entry}
 use Rattle.cas_shard.specs.declared.entry.Entry.TheVariants as entry
 use Rattle.cas_sstread.specs.Loading.{Held}
 use Rattle.cas_view.specs.Views.{File}
-use Rattle.cas_sessions.specs.History.{History, shard_at}
+use Rattle.cas_sessions.specs.History.{History, changes_told, shard_at}
 
 -- the entry of a mutation, as a shard's history tells it
 abbrev pub entry_told : ℕ → ℕ → Event → List Entry
@@ -40,13 +40,14 @@ abbrev pub ListFiles : Saying → (ℕ → ℕ → List (File Held)) → Type 0
 ListFiles said files = (n table : ℕ) → n < said.shards → map (λ f. f.info) (files n table) ≡ (part_of said table n).listed
 
 -- The image tells of the tables of a run, in order, as they were defined; of each table in each shard it lists just the files that it has, those that were
--- found and then those that were flushed; and it tells at most of one definition or flush more, for which the disk failed.
+-- found and then those that were flushed, by the changes that the history has; and it tells at most one definition or flush more, for which the disk failed.
 pub record HasTables (h : History) (entries : List ManifestEntry) : Type 0 where
   pub told : List ManifestEntry
   pub more : List ManifestEntry
   pub are : entries ≡ told ++ more
   pub tables : (said_by told).tables ≡ h.tables
   pub files : ListFiles (said_by told) h.disk.files
+  pub changes : changes_told told ≡ h.changes
   pub few : length more ≤ 1
   pub none : h.disk.stopped ≡ false → more ≡ []
 

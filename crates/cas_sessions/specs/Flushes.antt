@@ -71,6 +71,11 @@ abbrev pub reach_by : Reach → Option Change → Reach
 reach_by r None = r
 reach_by r (Some c) = reach_with (change_entry c) r
 
+-- the changes that the manifest tells with one more, if there is one
+abbrev pub changes_by : List Change → Option Change → List Change
+changes_by before None = before
+changes_by before (Some c) = before ++ c ∷ []
+
 -- The first shards were flushed, with these changes, one of each: all that was written to the table in them stands in its files. No other file is touched.
 pub record Flushed (h : History) (t : TableSchema) (changes : List (Option Change)) (e : DiskState) : Type 0 where
   pub files : (n : ℕ) → Grows t.number n (shard_at h n) (change_of changes n) (h.disk.files n t.number) (e.files n t.number)
@@ -97,11 +102,12 @@ abbrev pub EndsSo : History → List (Option Change) → Result (List ℕ) Fault
 EndsSo h changes (Ok told) e = (length changes ≡ length h.shards) × (told ≡ numbers_added changes) × (e.stopped ≡ false)
 EndsSo h changes (Err f) e = (length changes < length h.shards) × WhyNoFurther h.disk e f
 
--- A flush of the table: an earlier fault stopped it, and nothing is done; or shards are flushed, from the first on, and all but the disk is as it was.
+-- A flush of the table: an earlier fault stopped it, and nothing is done; or shards are flushed, from the first on, the manifest tells these changes, and all
+-- but the disk is as it was.
 abbrev pub FlushesTable : History → TableSchema → Result (List ℕ) Fault → History → Type 0
 FlushesTable h t (Err (Stopped first)) after = (h.disk.stopped ≡ true) × (after ≡ h)
 FlushesTable h t r after = (changes : List (Option Change)) × (e : DiskState) × (h.disk.stopped ≡ false) × Flushed h t changes e × EndsSo h changes r e
-    × (after ≡ record h { disk = e })
+    × (after ≡ record h { changes = fold changes_by h.changes changes; disk = e })
 
 -- of the table that is named so, if there is one
 abbrev pub FlushesNamed : History → Option TableSchema → Result (List ℕ) Fault → History → Type 0

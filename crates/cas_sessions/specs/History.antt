@@ -3,13 +3,15 @@
 use Rattle.std.specs.Prelude.{◌≡◌, ◌≢◌, ◌⊎◌, ℕ, ◌+◌, ◌^◌, ◌<◌, ◌≤◌, ℤ, pos, ◌*ℤ◌, Bool, true, false, None, Some, Result, Ok, Err}
 use Rattle.std.specs.Prelude.{List, [], ◌∷◌, ◌++◌, length, slice_index_or, slice_set}
 use Rattle.std.specs.Int.{int_max, int_min}
+use Rattle.std.specs.List.{flat_map}
 use Rattle.cas_types.specs.declared.limits.TheConstants.{LAST_MICROSECOND}
 use Rattle.cas_types.specs.declared.schema.TableSchema.{TableSchema}
 use Rattle.cas_io.specs.Causes.{Rose}
 use Rattle.cas_atoms.specs.declared.atom.Mutation.{Mutation}
 use Rattle.cas_atoms.specs.declared.query.Query.{Query}
+use Rattle.cas_changes.specs.declared.entry.Change.{Change}
 use Rattle.cas_changes.specs.declared.entry.Entry.{Entry as ManifestEntry}
-use Rattle.cas_changes.specs.declared.entry.Entry.TheVariants.{Schema, AddColumns}
+use Rattle.cas_changes.specs.declared.entry.Entry.TheVariants.{Schema, AddColumns, Change as change_entry}
 use Rattle.cas_changes.specs.Spelling.{entry_bytes}
 use Rattle.cas_manifest.specs.Manifests.{room_of}
 use Rattle.cas_journal.specs.Reach.{Reach, GoesOn, IsFull, HasNoPlace}
@@ -48,7 +50,8 @@ pub record DiskState : Type 0 where
   pub reads : ℕ
 
 -- The limits of the store, its tables, its shards, and the seconds that the last `\clock` set; the number of the session that runs the lines, how
--- many mutations were accepted of it, and how many of these were acknowledged by an `ok`; and how the disk stands.
+-- many mutations were accepted of it, and how many of these were acknowledged by an `ok`; the changes of table files that the manifest tells, in order, those
+-- that were found first; and how the disk stands.
 pub record History : Type 0 where
   pub limits : Limits
   pub tables : List TableSchema
@@ -57,7 +60,16 @@ pub record History : Type 0 where
   pub session : ℕ
   pub calls : ℕ
   pub acknowledged : ℕ
+  pub changes : List Change
   pub disk : DiskState
+
+-- the changes of table files that entries of the manifest tell, in order
+abbrev pub change_told : ManifestEntry → List Change
+change_told (change_entry c) = c ∷ []
+change_told _ = []
+
+abbrev pub changes_told : List ManifestEntry → List Change
+changes_told entries = flat_map change_told entries
 
 -- the shard of this number; they are numbered from 0
 abbrev pub shard_at : History → ℕ → ShardHistory

@@ -20,7 +20,7 @@ use Rattle.cas_room.specs.Rooms.{accepted_in}
 use Rattle.cas_shard.specs.Stands.{ShardState, Stands, files_at}
 use Rattle.cas_sstread.specs.Loading.{Held}
 use Rattle.cas_view.specs.Views.{File}
-use Rattle.cas_sessions.specs.History.{History, DiskState, shard_at}
+use Rattle.cas_sessions.specs.History.{History, DiskState, changes_told, shard_at}
 use Rattle.cas_sessions.specs.Entered.{AreEntered, IsLeftAmid, ListFiles}
 
 -- What an open store is made of, as one of its sessions has it: its limits, its tables, its shards; the shards of their seats and the last number of
@@ -82,7 +82,7 @@ pub record StandsFor (h : History) (s : State) : Type 0 where
   pub memory : Remember s.tables s.shards
 
 -- A store's disk keeps what its history says. What the journal was told are the mutations that were found and then all that was accepted, by which
--- each shard's next number goes on; the manifest tells of the tables, lists just the table files that there are, and is not ahead of memory. Each mutation that was acknowledged
+-- each shard's next number goes on; the manifest tells of the tables, lists just the table files that there are, by the history's changes, and is not ahead of memory. Each mutation that was acknowledged
 -- was said to be committed, and where no write failed all were.
 pub record LastsFor (h : History) (found : List Mutation) (s : State) (disk : Disk) (t : Told) : Type 0 where
   pub keeps : Keeps s.journal disk s.list s.committed found t
@@ -96,6 +96,7 @@ pub record LastsFor (h : History) (found : List Mutation) (s : State) (disk : Di
   pub whole : is_some s.journal.first ≡ false → length (accepted_in s.list) ≤ s.committed
   pub behind : IsBehind (said_by t.entries) s.shards s.last_file s.live
   pub files : ListFiles (said_by t.entries) (files_in s.shards)
+  pub changes : changes_told t.entries ≡ h.changes
 
 -- from one history to another the store went on: its memory stands for the other, and its disk keeps what that says
 pub record GoesOnTo (h after : History) (s t : State) (old new : Disk) : Type 0 where

@@ -20,13 +20,13 @@ use Rattle.cas_shard.specs.Shards.{found_shard}
 use Rattle.cas_sessions.specs.Entered.{ListFiles}
 use Rattle.cas_sessions.specs.Nodes.{State, StandsFor, LastsFor, disk_of, files_in}
 use Rattle.cas_history.specs.Hands.{numbers}
-use Rattle.cas_sessions.specs.History.{History, DiskState}
+use Rattle.cas_sessions.specs.History.{History, DiskState, changes_told}
 use Rattle.cas_recovery.specs.Openings.{AreOpenings}
 use Rattle.cas_recovery.specs.Recovered.{IsRecovered}
 use Rattle.cas_recovery.specs.Restored.{IsBehind, IsTold, Remember}
 
 -- The history before the first line: the tables that the manifest tells of, as many shards as it says, and of each shard what it was before the run; the
--- clock at 0.
+-- changes of table files that the manifest tells; the clock at 0.
 unfoldable pub start : Limits → List ManifestEntry → (ℕ → ShardOpening) → ℕ → DiskState → History
 start l entries openings session disk = record {
   limits = record l { shards = (said_by entries).shards };
@@ -36,6 +36,7 @@ start l entries openings session disk = record {
   session = session;
   calls = 0;
   acknowledged = 0;
+  changes = changes_told entries;
   disk = disk;
 }
 

@@ -1,7 +1,7 @@
 -- The steps of a flush of a table in a shard (own).
 use Rattle.std.specs.Prelude.{◌≡◌, ◌⊎◌, ℕ, ◌+◌, ◌≤◌, ◌<◌, false, Option, None, Some, Result, Ok, Err, IfErr, MatchResult}
 use Rattle.std.specs.Prelude.{List, [], ◌∷◌, ◌++◌, length, slice_get}
-use Rattle.std.specs.List.{AllByRecursion}
+use Rattle.std.specs.List.{AllByRecursion, fold}
 use Rattle.std.specs.Int.{int_max}
 use Rattle.cas_types.specs.Limits.{IsMoment}
 use Rattle.cas_types.specs.declared.limits.TheConstants.{MUTATION_LIMIT}
@@ -45,7 +45,7 @@ use Rattle.cas_tables.specs.declared.header.Version.TheVariants.{Second}
 use Rattle.cas_view.specs.Views.{File}
 use Rattle.cas_sessions.specs.declared.answer.Fault.{Fault}
 use Rattle.cas_sessions.specs.declared.answer.Fault.TheVariants.{Refused, Stopped, Disk as Failed, Read, BadBlock, Mem}
-use Rattle.cas_sessions.specs.Flushes.{AreInFiles, Flushed, Grows, WhyNoFurther, numbers_added, numbers_in, reach_by}
+use Rattle.cas_sessions.specs.Flushes.{AreInFiles, Flushed, Grows, WhyNoFurther, changes_by, numbers_added, numbers_in, reach_by}
 use Rattle.cas_recovery.specs.Restored.{Remember}
 use Rattle.cas_sessions.specs.History.{History, DiskState, shard_at}
 use Rattle.cas_sessions.specs.Entered.{IsLeftAmid}
@@ -208,10 +208,15 @@ abbrev pub listed_of : Option ℕ → List ℕ
 listed_of None = []
 listed_of (Some n) = n ∷ []
 
--- how a flush in a shard ends: with the number of its file, if there is one
-abbrev pub EndsIn : TableSchema → ℕ → ShardHistory → Result (Option ℕ) Fault → DiskState → DiskState → Type 0
-EndsIn t n q (Ok told) d e = (c : Option Change) × (numbers_in c ≡ listed_of told) × FlushedOne t n q c d e
-EndsIn t n q (Err f) d e = NotFlushed d e f
+-- how a flush in a shard ends, with this change
+abbrev pub EndsIn : TableSchema → ℕ → ShardHistory → Option Change → Result (Option ℕ) Fault → DiskState → DiskState → Type 0
+EndsIn t n q c (Ok told) d e = FlushedOne t n q c d e
+EndsIn t n q c (Err f) d e = NotFlushed d e f
+
+-- its answer tells the number of the file that the change adds, if there is one; after a fault there is none
+abbrev pub TellsIt : Option Change → Result (Option ℕ) Fault → Type 0
+TellsIt c (Ok told) = numbers_in c ≡ listed_of told
+TellsIt c (Err f) = c ≡ None
 
 -- ---- the change
 
@@ -251,9 +256,9 @@ pub record IsBeside (s u : State) (d e : Disk) : Type 0 where
   pub during : During (SameUpTo s.last_file) d e
   pub tells : (c : Image) → d.reads c → (b : Image) × e.reads b
 
--- its disk keeps what it kept, and a crash in between leaves what it must
-abbrev pub GoesOn : History → List Mutation → State → State → Disk → Disk → Type 0
-GoesOn h found s u d e = ((now : Told) × LastsFor h found u e now) × Leaves (IsLeftAmid found s.list h) d e
+-- its disk keeps what it kept, with these changes told, and a crash in between leaves what it must
+abbrev pub GoesOn : History → List Change → List Mutation → State → State → Disk → Disk → Type 0
+GoesOn h changes found s u d e = ((now : Told) × LastsFor (record h { changes = changes }) found u e now) × Leaves (IsLeftAmid found s.list h) d e
 
 -- memory stands for the same but for the disk, and this becomes of it
 abbrev pub Moved : (History → DiskState → DiskState → Type 0) → State → State → Type 0
@@ -263,35 +268,41 @@ Moved Ends s u = Remember s.tables s.shards → (h : History) → StandsFor h s
 -- The file of that number took the place of the frozen memtables, where the manifest listed none of that number or above.
 pub record TakesFile (t : TableSchema) (n number : ℕ) (Says : Type 0) (result : Result (Option ℕ) Fault) (s u : State) (d e : Disk) : Type 0 where
   pub beside : IsBeside s u d e
+  pub change : Option Change
+  pub answer : TellsIt change result
   pub lasts : (h : History) (found : List Mutation) (told : Told) → h.tables ≡ s.tables → LastsFor h found s d told
-      → AllByRecursion (λ k. k < number) (said_by told.entries).numbers → GoesOn h found s u d e
-  pub moves : Says → Moved (λ h. EndsIn t n (shard_at h n) result) s u
+      → AllByRecursion (λ k. k < number) (said_by told.entries).numbers → GoesOn h (changes_by h.changes change) found s u d e
+  pub moves : Says → Moved (λ h. EndsIn t n (shard_at h n) change result) s u
   pub own : IfErr result IsOwn
 
 -- a flush of a table in a shard
 pub record FlushesOne (t : TableSchema) (n : ℕ) (result : Result (Option ℕ) Fault) (s u : State) (d e : Disk) : Type 0 where
   pub beside : IsBeside s u d e
-  pub lasts : (h : History) (found : List Mutation) (told : Told) → h.tables ≡ s.tables → LastsFor h found s d told → GoesOn h found s u d e
-  pub moves : (c : Image) → d.reads c → Moved (λ h. EndsIn t n (shard_at h n) result) s u
+  pub change : Option Change
+  pub answer : TellsIt change result
+  pub lasts : (h : History) (found : List Mutation) (told : Told) → h.tables ≡ s.tables → LastsFor h found s d told
+      → GoesOn h (changes_by h.changes change) found s u d e
+  pub moves : (c : Image) → d.reads c → Moved (λ h. EndsIn t n (shard_at h n) change result) s u
   pub own : IfErr result IsOwn
 
 -- so many shards were flushed, with these numbers of files
-abbrev pub IsFirst : TableSchema → ℕ → List ℕ → History → DiskState → DiskState → Type 0
-IsFirst t count told h d e = (changes : List (Option Change)) × (length changes ≡ count) × (told ≡ numbers_added changes) × Flushed h t changes e
-
 pub record FlushesFirst (t : TableSchema) (count : ℕ) (told : List ℕ) (s u : State) (d e : Disk) : Type 0 where
   pub beside : IsBeside s u d e
-  pub lasts : (h : History) (found : List Mutation) (told : Told) → h.tables ≡ s.tables → LastsFor h found s d told → GoesOn h found s u d e
-  pub moves : (c : Image) → d.reads c → Moved (IsFirst t count told) s u
+  pub changes : List (Option Change)
+  pub many : length changes ≡ count
+  pub added : told ≡ numbers_added changes
+  pub lasts : (h : History) (found : List Mutation) (told : Told) → h.tables ≡ s.tables → LastsFor h found s d told
+      → GoesOn h (fold changes_by h.changes changes) found s u d e
+  pub moves : (c : Image) → d.reads c → Moved (λ h before now. Flushed h t changes now) s u
 
 -- the first ones were, and then one wasn't
-abbrev pub IsNoFurther : TableSchema → Fault → History → DiskState → DiskState → Type 0
-IsNoFurther t f h d e = (changes : List (Option Change)) × (length changes < length h.shards) × Flushed h t changes e × WhyNoFurther d e f
-
 pub record FlushesNoFurther (t : TableSchema) (f : Fault) (s u : State) (d e : Disk) : Type 0 where
   pub beside : IsBeside s u d e
-  pub lasts : (h : History) (found : List Mutation) (told : Told) → h.tables ≡ s.tables → LastsFor h found s d told → GoesOn h found s u d e
-  pub moves : (c : Image) → d.reads c → Moved (IsNoFurther t f) s u
+  pub changes : List (Option Change)
+  pub few : length changes < length s.shards
+  pub lasts : (h : History) (found : List Mutation) (told : Told) → h.tables ≡ s.tables → LastsFor h found s d told
+      → GoesOn h (fold changes_by h.changes changes) found s u d e
+  pub moves : (c : Image) → d.reads c → Moved (λ h before now. Flushed h t changes now × WhyNoFurther before now f) s u
   pub own : IsOwn f
 
 -- ---- faults

@@ -27,5 +27,6 @@ returns g c h s session calls stands = (
     whole = lasts.whole;
     behind = lasts.behind;
     files = lasts.files;
+    changes = lasts.changes;
   },
 )

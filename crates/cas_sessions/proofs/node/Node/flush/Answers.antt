@@ -37,7 +37,7 @@ returns-in-Ok-clause-crash g c = λ clock.
     let is : table_named n.tables.items c.args.name.now ≡ Some t = ap (λ ts. table_named ts c.args.name.now) (sym c.deref.ensures.value) ∙ sym c.in-Some.ensures in
     let at_t : slice_get n.tables.items t.number ≡ Some t = named_there n.tables.items c.args.name.now t n.sound.tables.numbered is in
     let first = c.in-Ok.ensures.flushed clock t at_t in
-    keeps_all _ _ _ _ first.beside.list first.lasts
+    keeps_all _ _ _ _ first.changes first.beside.list first.lasts
 
 pub returns-in-Err-clause-crash : goal.returns-in-Err-clause-crash
 returns-in-Err-clause-crash g c = λ clock.
@@ -46,7 +46,7 @@ returns-in-Err-clause-crash g c = λ clock.
     let is : table_named n.tables.items c.args.name.now ≡ Some t = ap (λ ts. table_named ts c.args.name.now) (sym c.deref.ensures.value) ∙ sym c.in-Some.ensures in
     let at_t : slice_get n.tables.items t.number ≡ Some t = named_there n.tables.items c.args.name.now t n.sound.tables.numbered is in
     let none = c.in-Err.ensures.failed clock t at_t in
-    keeps_all _ _ _ _ none.beside.list none.lasts
+    keeps_all _ _ _ _ none.changes none.beside.list none.lasts
 
 pub returns-in-Err-clause-told : goal.returns-in-Err-clause-told
 returns-in-Err-clause-told g c =

@@ -1,4 +1,4 @@
-use Rattle.std.proofs.Common.{◌≡◌, ◌<◌, ◌∙◌, ℕ, pos, length, Some, sym, ap, subst, arith}
+use Rattle.std.proofs.Common.{◌≡◌, ◌<◌, ◌∙◌, ℕ, pos, length, Some, sym, ap, subst, arith, refl}
 use Rattle.std.specs.Prelude.{IfNone, slice_get}
 use Rattle.cas_bounds.specs.ClusteringOrder.{clustering_order}
 use Rattle.cas_memtable.specs.Kept.{HoldJust}
@@ -27,12 +27,12 @@ returns-in-Ok-eq0-clause-flushes g c = λ clock t at_t.
     flushes_quietly t c.args.place _ _ _ _ _ (c.freeze.ensures.quiet _ _ clock) c.freeze.ensures.tables
     (λ image reads have.
     quiet_none_at t c.args.place _ _ _ _ (c.freeze.ensures.quiet _ _ clock) c.requires.going y c.args.table number at_t here.1 frozen.1
-    (λ kept. no_frozen (clustering_order t.columns) (frozen_at (slice_get y.stores c.args.table)) (omega (arith, frozen.0)))) tt
+    (λ kept. no_frozen (clustering_order t.columns) (frozen_at (slice_get y.stores c.args.table)) (omega (arith, frozen.0)))) tt refl
 
 pub returns-in-Err-clause-flushes : goal.returns-in-Err-clause-flushes
 returns-in-Err-clause-flushes g c = λ clock t at_t.
     flushes_quietly t c.args.place _ _ _ _ _ (c.freeze.ensures.quiet _ _ clock) c.freeze.ensures.tables
-    (λ image reads have. quiet_fails t c.args.place _ _ _ _ (c.freeze.ensures.quiet _ _ clock) c.requires.going Mem tt) tt
+    (λ image reads have. quiet_fails t c.args.place _ _ _ _ (c.freeze.ensures.quiet _ _ clock) c.requires.going Mem tt) tt refl
 
 pub returns-in-Ok-None-clause-flushes : goal.returns-in-Ok-None-clause-flushes
 returns-in-Ok-None-clause-flushes g c = λ clock t at_t.
@@ -58,7 +58,7 @@ returns-in-Ok-None-clause-flushes g c = λ clock t at_t.
     (λ kept.
     let ws = kept c.args.place t.number y at_m in
     holds_nothing t.columns (frozen_at (slice_get y.stores c.args.table))
-    (nothing ws.0 (subst (λ (k : ℕ). HoldJust t.columns (memtables_at (slice_get y.stores k)) ws.0) number (one_in_memory m.tables.items t ws.0 y m_t ws.1))))) tt
+    (nothing ws.0 (subst (λ (k : ℕ). HoldJust t.columns (memtables_at (slice_get y.stores k)) ws.0) number (one_in_memory m.tables.items t ws.0 y m_t ws.1))))) tt refl
 
 pub returns-in-Ok-None-clause-going : goal.returns-in-Ok-None-clause-going
 returns-in-Ok-None-clause-going g c =
@@ -72,7 +72,7 @@ returns-in-Err-make_file-clause-flushes g c = λ clock t at_t.
     let read = (c.freeze.ensures.quiet 0 0 clock).tells image reads in
     quiet_fails t c.args.place _ _ _ _ (quiet_then _ _ _ _ _ _ (c.freeze.ensures.quiet _ _ clock) (c.make_file.ensures.quiet _ _ clock)) c.requires.going c.in-Err-make_file.fault
     (not_made_since _ _ _ _ _ _ c.in-Err-make_file.fault (c.freeze.ensures.quiet 0 0 clock).faults (c.freeze.ensures.quiet 0 0 clock).reads
-    (c.in-Err-make_file.ensures.why read.0 read.1 (quiet_remembers _ _ _ _ (c.freeze.ensures.quiet 0 0 clock) have)))) c.in-Err-make_file.ensures.own
+    (c.in-Err-make_file.ensures.why read.0 read.1 (quiet_remembers _ _ _ _ (c.freeze.ensures.quiet 0 0 clock) have)))) c.in-Err-make_file.ensures.own refl
 
 pub take_file-requires-clause-going : goal.take_file-requires-clause-going
 take_file-requires-clause-going g c =
