@@ -82,8 +82,8 @@ pub record StandsFor (h : History) (s : State) : Type 0 where
   pub memory : Remember s.tables s.shards
 
 -- A store's disk keeps what its history says. What the journal was told are the mutations that were found and then all that was accepted, by which
--- each shard's next number goes on; the manifest tells of the tables, lists just the table files that there are, by the history's changes, and is not ahead of memory. Each mutation that was acknowledged
--- was said to be committed, and where no write failed all were.
+-- each shard's next number goes on; the manifest tells of the tables, lists just the table files that there are, by the history's changes, and is not ahead of
+-- memory. Each mutation that was acknowledged was said to be committed, and where no write failed all were.
 pub record LastsFor (h : History) (found : List Mutation) (s : State) (disk : Disk) (t : Told) : Type 0 where
   pub keeps : Keeps s.journal disk s.list s.committed found t
   pub tables : (said_by t.entries).tables ≡ s.tables
