@@ -9,7 +9,8 @@ use cas_flush::flush_parts;
 use cas_stored::TableStore;
 use cas_tables::{Header, Version};
 use cas_types::{Bytes, Column, Kind, List, Shape, Text, TypeTag};
-use std::alloc::{AllocError, Global};
+use std::alloc::Global;
+use std::process::Abort;
 
 // The manifest by hand. The file has 238 bytes: 21 of the header, 96 of the one partition with two rows of 41, 33 of the
 // index, 12 of the filter, 44 of what is told of it, and 32 of the footer.
@@ -57,79 +58,83 @@ fn column(alloc: Global, kind: Kind) -> Column {
     }
 }
 
-fn columns(alloc: Global) -> Result<Vec<Column>, AllocError> {
-    Ok(vec![in alloc;
+fn columns(rt: &impl Abort, alloc: Global) -> Vec<Column> {
+    let columns = vec![in alloc;
         column(alloc, Kind::Partition),
         column(alloc, Kind::Ascending),
         column(alloc, Kind::Regular),
-    ]?)
+    ];
+    columns.expect(rt, "memory")
 }
 
-fn place(alloc: Global, c: u8) -> Result<Clustering, AllocError> {
+fn bytes_of(rt: &impl Abort, alloc: Global, bytes: &[u8]) -> Bytes {
+    Bytes::copy_of(alloc, bytes).expect(rt, "memory")
+}
+
+fn order(rt: &impl Abort, alloc: Global) -> RowOrder {
     let order = Ordered {
         tag: TypeTag::TinyInt,
         descending: false,
     };
-    Ok(Clustering {
-        values: Values::one(Bytes::copy_of(alloc, &[c])?),
-        order: RowOrder::from_vec(vec![in alloc; order]?),
-    })
+    RowOrder::from_vec(vec![in alloc; order].expect(rt, "memory"))
 }
 
-fn live(alloc: Global, c: u8, at: u8) -> Result<Atom, AllocError> {
-    let live = Liveness::Plain { at: i64::from(at) };
-    Ok(Atom::Live(place(alloc, c)?, live))
+fn place(rt: &impl Abort, alloc: Global, c: u8) -> Clustering {
+    Clustering {
+        values: Values::one(bytes_of(rt, alloc, &[c])),
+        order: order(rt, alloc),
+    }
 }
 
-fn written(alloc: Global, c: u8, v: u8, at: u8) -> Result<Atom, AllocError> {
+fn live(rt: &impl Abort, alloc: Global, c: u8, at: u8) -> Atom {
+    Atom::Live(place(rt, alloc, c), Liveness::Plain { at: i64::from(at) })
+}
+
+fn written(rt: &impl Abort, alloc: Global, c: u8, v: u8, at: u8) -> Atom {
     let cell = Cell::Plain {
         at: i64::from(at),
-        value: Bytes::copy_of(alloc, &[v])?,
+        value: bytes_of(rt, alloc, &[v]),
     };
     let column = ColumnRef {
         number: 2,
         path: None,
     };
-    Ok(Atom::Write(place(alloc, c)?, column, Bytes::copy_of(alloc, &[])?, cell))
+    Atom::Write(place(rt, alloc, c), column, bytes_of(rt, alloc, &[]), cell)
+}
+
+fn atoms(rt: &impl Abort, alloc: Global, c: u8, v: u8, at: u8) -> List<Atom> {
+    let atoms = vec![in alloc; live(rt, alloc, c, at), written(rt, alloc, c, v, at)];
+    List::from_vec(atoms.expect(rt, "memory"))
 }
 
 // INSERT INTO t (k, c, v) VALUES (1, c, v) USING TIMESTAMP at
-fn insert(alloc: Global, number: u64, c: u8, v: u8, at: u8) -> Result<Mutation, AllocError> {
-    let atoms = vec![in alloc; live(alloc, c, at)?, written(alloc, c, v, at)?]?;
-    Ok(Mutation {
+fn insert(rt: &impl Abort, alloc: Global, number: u64, c: u8, v: u8, at: u8) -> Mutation {
+    Mutation {
         table: 0,
         shard: 1,
         number,
         drawn: false,
         at: i64::from(at),
         moment: 77,
-        key: Bytes::copy_of(alloc, &[1])?,
-        atoms: List::from_vec(atoms),
-    })
+        key: bytes_of(rt, alloc, &[1]),
+        atoms: atoms(rt, alloc, c, v, at),
+    }
 }
 
-fn join(store: &mut TableStore<MemSealed>, mutation: Mutation) -> Result<(), AllocError> {
-    store.reserve(&mutation)?;
-    store.apply(mutation);
-    Ok(())
-}
-
-// The store takes two INSERTs.
-fn joined(alloc: Global, store: &mut TableStore<MemSealed>) -> Result<(), AllocError> {
-    join(store, insert(alloc, 4, 3, 30, 10)?)?;
-    join(store, insert(alloc, 5, 5, 50, 20)?)
+fn join(rt: &impl Abort, store: &mut TableStore<MemSealed>, mutation: Mutation) {
+    match store.reserve(&mutation) {
+        Ok(()) => store.apply(mutation),
+        Err(_) => panic!(rt; "memory"),
+    }
 }
 
 // A store whose one frozen memtable has two rows of a partition.
-fn frozen(alloc: Global) -> Option<TableStore<MemSealed>> {
-    let Ok(mut store) = TableStore::new(alloc) else {
-        return None;
-    };
-    if joined(alloc, &mut store).is_ok() && store.freeze(alloc).is_ok() {
-        Some(store)
-    } else {
-        None
-    }
+fn frozen(rt: &impl Abort, alloc: Global) -> TableStore<MemSealed> {
+    let mut store = TableStore::new(alloc).expect(rt, "memory");
+    join(rt, &mut store, insert(rt, alloc, 4, 3, 30, 10));
+    join(rt, &mut store, insert(rt, alloc, 5, 5, 50, 20));
+    store.freeze(alloc).expect(rt, "memory");
+    store
 }
 
 fn is_admitted(folder: &mut MemFolder, draft: MemDraft) -> bool
@@ -139,13 +144,24 @@ fn is_admitted(folder: &mut MemFolder, draft: MemDraft) -> bool
 }
 
 // Whether a flush of these memtables wrote the table file 1.
-fn is_flushed(alloc: Global, folder: &mut MemFolder, store: &TableStore<MemSealed>) -> bool {
-    let (Ok(columns), Ok(draft)) = (columns(alloc), folder.draft(1)) else {
+fn is_flushed(
+    alloc: Global,
+    folder: &mut MemFolder,
+    store: &TableStore<MemSealed>,
+    columns: &[Column],
+) -> bool {
+    let Ok(draft) = folder.draft(1) else {
         return false;
     };
-    let mut tally = FaultCount::fresh();
     let memtables = store.parts().frozen();
-    match flush_parts(alloc, memtables, &columns, HEADER, draft, &mut tally) {
+    match flush_parts(
+        alloc,
+        memtables,
+        columns,
+        HEADER,
+        draft,
+        &mut FaultCount::fresh(),
+    ) {
         Ok(Some((_info, draft))) => is_admitted(folder, draft),
         _ => false,
     }
@@ -157,28 +173,26 @@ pub(crate) fn put(folder: &mut MemFolder, name: Name, bytes: &[u8]) -> bool {
 }
 
 // The folder, whose calls fail by this plan.
-fn flushed(alloc: Global, plan: FaultPlan) -> Option<MemFolder> {
+fn flushed(rt: &impl Abort, alloc: Global, plan: FaultPlan) -> MemFolder {
     let mut folder = MemFolder::new(alloc, plan);
-    let store = frozen(alloc)?;
-    if put(&mut folder, Name::Manifest, &MANIFEST) && is_flushed(alloc, &mut folder, &store) {
-        Some(folder)
-    } else {
-        None
-    }
+    assert!(rt; put(&mut folder, Name::Manifest, &MANIFEST));
+    let store = frozen(rt, alloc);
+    let columns = columns(rt, alloc);
+    assert!(rt; is_flushed(alloc, &mut folder, &store, &columns));
+    folder
 }
 
 /// The folder, whose table file fails at the read of this number.
-pub(crate) fn failing(alloc: Global, read: u64) -> Option<MemFolder> {
-    let reads = vec![in alloc; (1, read)].ok()?;
+pub(crate) fn failing(rt: &impl Abort, alloc: Global, read: u64) -> MemFolder {
     let plan = FaultPlan {
         calls: Vec::new(alloc),
         drafts: Vec::new(alloc),
-        reads,
+        reads: vec![in alloc; (1, read)].expect(rt, "memory"),
     };
-    flushed(alloc, plan)
+    flushed(rt, alloc, plan)
 }
 
 /// The same without such a read.
-pub(crate) fn found(alloc: Global) -> Option<MemFolder> {
-    flushed(alloc, FaultPlan::none(alloc))
+pub(crate) fn found(rt: &impl Abort, alloc: Global) -> MemFolder {
+    flushed(rt, alloc, FaultPlan::none(alloc))
 }

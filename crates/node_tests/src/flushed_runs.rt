@@ -1,12 +1,12 @@
 //! What a run prints over a folder with a table file, and how it ends.
 
 use crate::flushed::{failing, found};
-use crate::runs::run_in;
+use crate::runs::{run_in, source_of};
 use cas_disk::{Folder, MemFolder, Name};
-use cas_io::{MemSink, MemSource};
+use cas_io::MemSink;
 use cas_node::Cause;
 use std::alloc::Global;
-use std::test::Fail;
+use std::process::Abort;
 
 // Two rows of the file, and one that is written.
 const SCRIPT: &str = "SELECT c, v FROM t WHERE k = 1
@@ -40,36 +40,28 @@ failed block
 ";
 
 // How the run of the script over the folder ended, and whether it printed this.
-fn ended(alloc: Global, folder: MemFolder, output: &str) -> Result<(u8, Cause, bool), Fail> {
-    let mut source = MemSource::new(SCRIPT.as_bytes().to_vec(alloc)?);
-    let ended = run_in(alloc, &mut source, MemSink::new(alloc), folder)?;
-    let printed = ended.output.as_slice() == output.as_bytes();
-    Ok((ended.status, ended.cause, printed))
+fn ended(rt: &impl Abort, alloc: Global, folder: MemFolder, output: &str) -> (u8, Cause, bool) {
+    let mut source = source_of(rt, alloc, SCRIPT);
+    let ended = run_in(rt, alloc, &mut source, MemSink::new(alloc), folder);
+    let is_printed = ended.output.as_slice() == output.as_bytes();
+    (ended.status, ended.cause, is_printed)
 }
 
 // Whether the rows of the file are shown, with the one that is written.
-fn are_shown(alloc: Global) -> Result<bool, Fail> {
-    match found(alloc) {
-        Some(folder) => Ok(ended(alloc, folder, ROWS)? == (0, Cause::Good, true)),
-        None => Ok(false),
-    }
+fn are_shown(rt: &impl Abort, alloc: Global) -> bool {
+    ended(rt, alloc, found(rt, alloc), ROWS) == (0, Cause::Good, true)
 }
 
 // Whether a run prints this and ends so, where the read of this number fails.
-fn is_unread(alloc: Global, read: u64, output: &str) -> Result<bool, Fail> {
-    match failing(alloc, read) {
-        Some(folder) => Ok(ended(alloc, folder, output)? == (5, Cause::Disk, true)),
-        None => Ok(false),
-    }
+fn is_unread(rt: &impl Abort, alloc: Global, read: u64, output: &str) -> bool {
+    ended(rt, alloc, failing(rt, alloc, read), output) == (5, Cause::Disk, true)
 }
 
 // The folder, where another byte stands at that place of its table file.
-fn altered(alloc: Global, place: u64, byte: u8) -> Option<MemFolder> {
-    let mut folder = found(alloc)?;
-    match folder.write_at(Name::Table(1), place, &[byte]) {
-        Ok(()) => Some(folder),
-        Err(_) => None,
-    }
+fn altered(rt: &impl Abort, alloc: Global, place: u64, byte: u8) -> MemFolder {
+    let mut folder = found(rt, alloc);
+    assert!(rt; folder.write_at(Name::Table(1), place, &[byte]).is_ok());
+    folder
 }
 
 fn is_of_file(ended: (u8, Cause, bool)) -> bool {
@@ -80,31 +72,25 @@ fn is_of_file(ended: (u8, Cause, bool)) -> bool {
 }
 
 // Whether a run prints this and ends for the file, where another byte stands at that place of it.
-fn is_bad(alloc: Global, place: u64, byte: u8, output: &str) -> Result<bool, Fail> {
-    match altered(alloc, place, byte) {
-        Some(folder) => Ok(is_of_file(ended(alloc, folder, output)?)),
-        None => Ok(false),
-    }
+fn is_bad(rt: &impl Abort, alloc: Global, place: u64, byte: u8, output: &str) -> bool {
+    is_of_file(ended(rt, alloc, altered(rt, alloc, place, byte), output))
 }
 
 #[test]
-fn a_run_begins_with_the_flushed_file(rt: HostRuntime) -> Result<(), Fail> {
-    assert!(rt; are_shown(rt.alloc())?);
-    Ok(())
+fn a_run_begins_with_the_flushed_file(rt: HostRuntime) {
+    assert!(rt; are_shown(&rt, rt.alloc()));
 }
 
 // The sixth read is the last of the opening, the seventh the first of the SELECT.
 #[test]
-fn a_failed_read_is_told_by_a_run(rt: HostRuntime) -> Result<(), Fail> {
-    assert!(rt; is_unread(rt.alloc(), 6, "")?);
-    assert!(rt; is_unread(rt.alloc(), 7, UNREAD)?);
-    Ok(())
+fn a_failed_read_is_told_by_a_run(rt: HostRuntime) {
+    assert!(rt; is_unread(&rt, rt.alloc(), 6, ""));
+    assert!(rt; is_unread(&rt, rt.alloc(), 7, UNREAD));
 }
 
 // No such version stands at 9; at 31 no fragment, in a partition.
 #[test]
-fn a_bad_file_is_told_by_a_run(rt: HostRuntime) -> Result<(), Fail> {
-    assert!(rt; is_bad(rt.alloc(), 9, 3, "")?);
-    assert!(rt; is_bad(rt.alloc(), 31, 3, BLOCKED)?);
-    Ok(())
+fn a_bad_file_is_told_by_a_run(rt: HostRuntime) {
+    assert!(rt; is_bad(&rt, rt.alloc(), 9, 3, ""));
+    assert!(rt; is_bad(&rt, rt.alloc(), 31, 3, BLOCKED));
 }

@@ -1,5 +1,5 @@
-//! An open store, as a program uses it that has no script: it is opened, a session defines a table,
-//! writes and reads, and the folder that is handed back is opened again.
+//! An open store, as a program uses it that has no script: it is opened, a session defines a table, writes, reads and
+//! flushes, and the folder that is handed back is opened again.
 
 ghost use Rattle.std.specs.Prelude.{◌≡◌, ◌≤◌, pos};
 
@@ -8,9 +8,10 @@ use cas_disk::{FaultPlan, MemFolder};
 use cas_history::Store;
 use cas_io::ManualClock;
 use cas_sessions::{Answer, Fault, Node, Opened, Session, Stored, start};
+use cql_parse::{TableName, table_name};
 use std::alloc::Global;
 use std::marker::Brand;
-use std::test::Fail;
+use std::process::Abort;
 
 const CREATE: &str = "CREATE TABLE t (k int PRIMARY KEY, v text)";
 
@@ -18,14 +19,16 @@ const INSERT: &str = "INSERT INTO t (k, v) VALUES (1, 'a')";
 
 const SELECT: &str = "SELECT v FROM t WHERE k = 1";
 
-/// What the calls answered: why the definition wasn't executed, the number of the mutation, how many rows
-/// were shown up to which, and how many sessions could be begun beside the one.
-#[derive(Clone, Copy, Debug, PartialEq, Eq)]
+/// What the calls answered: why the definition wasn't executed; the number of the mutation; how many files a flush wrote
+/// with the number of the last; how many rows were shown up to which mutation; how many files a second flush wrote; and how
+/// many sessions could be begun beside the one.
+#[derive(Clone, Copy, PartialEq)]
 struct Answered {
     refused: Option<Fault>,
     wrote: u64,
-    rows: usize,
-    front: u64,
+    flushed: Option<(usize, u64)>,
+    read: (usize, u64),
+    again: Option<(usize, u64)>,
     sessions: u64,
 }
 
@@ -36,22 +39,33 @@ fn fault_of(answer: Result<Answer, Fault>) -> Option<Fault> {
     }
 }
 
-pub(crate) fn number_of(answer: Result<Answer, Fault>) -> u64 {
+fn number_of(answer: Result<Answer, Fault>) -> u64 {
     match answer {
         Ok(Answer::Wrote { number }) => number,
         _ => 0,
     }
 }
 
-pub(crate) fn rows_of(answer: Result<Answer, Fault>) -> (usize, u64) {
+fn rows_of(answer: Result<Answer, Fault>) -> (usize, u64) {
     match answer {
         Ok(Answer::Rows { rows, front, .. }) => (rows.len(), front),
         _ => (0, 0),
     }
 }
 
+fn files_of(answer: Result<Vec<u64>, Fault>) -> Option<(usize, u64)> {
+    match answer {
+        Ok(files) => Some((files.len(), files.last().copied().unwrap_or(0))),
+        Err(_) => None,
+    }
+}
+
 // The session executes the definition, which is refused, defines it, writes a row, and reads it.
-fn ask<J: Store>(alloc: Global, node: &mut Node<MemFolder, J>, session: &mut Session<J>) -> Answered
+fn write<J: Store>(
+    alloc: Global,
+    node: &mut Node<MemFolder, J>,
+    session: &mut Session<J>,
+) -> Answered
     requires { ((⟦<Node<MemFolder, J> as Stored>⟧.state node.old session.old.seat.list session.old.seat.calls (pos 0)).calls ≤ 1000)
         × ((⟦<Node<MemFolder, J> as Stored>⟧.state node.old session.old.seat.list session.old.seat.calls (pos 0)).accepted ≤ 1000) }
 {
@@ -59,13 +73,56 @@ fn ask<J: Store>(alloc: Global, node: &mut Node<MemFolder, J>, session: &mut Ses
     let refused = fault_of(node.execute(alloc, session, &clock, CREATE));
     let _defined = node.define(alloc, session, CREATE);
     let wrote = number_of(node.execute(alloc, session, &clock, INSERT));
-    let (rows, front) = rows_of(node.execute(alloc, session, &clock, SELECT));
+    let read = rows_of(node.execute(alloc, session, &clock, SELECT));
     Answered {
         refused,
         wrote,
-        rows,
-        front,
+        flushed: None,
+        read,
+        again: None,
         sessions: 0,
+    }
+}
+
+// The session writes a row, flushes the table, reads the row, and flushes once more.
+fn flush<J: Store>(
+    alloc: Global,
+    node: &mut Node<MemFolder, J>,
+    session: &mut Session<J>,
+    name: &TableName,
+) -> Answered
+    requires { ((⟦<Node<MemFolder, J> as Stored>⟧.state node.old session.old.seat.list session.old.seat.calls (pos 0)).calls ≤ 1000)
+        × ((⟦<Node<MemFolder, J> as Stored>⟧.state node.old session.old.seat.list session.old.seat.calls (pos 0)).accepted ≤ 1000) }
+{
+    let clock = ManualClock { reading: 7_000_000 };
+    let _defined = node.define(alloc, session, CREATE);
+    let wrote = number_of(node.execute(alloc, session, &clock, INSERT));
+    let flushed = files_of(node.flush(alloc, session, name));
+    let read = rows_of(node.execute(alloc, session, &clock, SELECT));
+    let again = files_of(node.flush(alloc, session, name));
+    Answered {
+        refused: None,
+        wrote,
+        flushed,
+        read,
+        again,
+        sessions: 0,
+    }
+}
+
+// The session flushes the table that has a name, or none.
+fn ask<J: Store>(
+    alloc: Global,
+    node: &mut Node<MemFolder, J>,
+    session: &mut Session<J>,
+    name: Option<&TableName>,
+) -> Answered
+    requires { ((⟦<Node<MemFolder, J> as Stored>⟧.state node.old session.old.seat.list session.old.seat.calls (pos 0)).calls ≤ 1000)
+        × ((⟦<Node<MemFolder, J> as Stored>⟧.state node.old session.old.seat.list session.old.seat.calls (pos 0)).accepted ≤ 1000) }
+{
+    match name {
+        Some(name) => flush(alloc, node, session, name),
+        None => write(alloc, node, session),
     }
 }
 
@@ -84,26 +141,35 @@ fn more_sessions<J: Store>(node: &mut Node<MemFolder, J>, most: u64) -> u64 {
     }
 }
 
-// What a session of an opened store was answered, and the folder.
-fn used<J: Store>(alloc: Global, opened: Opened<MemFolder>) -> (Option<Answered>, MemFolder)
+// What a session of an opened store was answered, which flushes the table of that name, and the folder.
+fn used<J: Store>(
+    rt: &impl Abort,
+    alloc: Global,
+    opened: Opened<MemFolder>,
+    name: Option<&TableName>,
+) -> (Answered, MemFolder)
     requires { opened.table.seat.table_id ≡ J.table }
 {
     let mut node = match opened.named::<J>(alloc) {
         Ok(node) => node,
-        Err(closed) => return (None, closed.into_folder()),
+        Err(_closed) => panic!(rt; "memory"),
     };
     let mut session = match node.session() {
         Ok(session) => session,
-        Err(_) => return (None, node.close().into_folder()),
+        Err(_) => panic!(rt; "memory"),
     };
-    let mut answered = ask(alloc, &mut node, &mut session);
+    let mut answered = ask(alloc, &mut node, &mut session, name);
     answered.sessions = more_sessions(&mut node, 40);
     node.end(session);
-    (Some(answered), node.close().into_folder())
+    (answered, node.close().into_folder())
 }
 
-/// The store of the folder, or the folder alone.
-pub(crate) fn opened(alloc: Global, folder: MemFolder) -> Result<Opened<MemFolder>, MemFolder> {
+fn opened_and_used(
+    rt: &impl Abort,
+    alloc: Global,
+    folder: MemFolder,
+    name: Option<&TableName>,
+) -> (Answered, MemFolder) {
     let limits = Limits {
         shards: 1,
         segment: 4_096,
@@ -111,45 +177,52 @@ pub(crate) fn opened(alloc: Global, folder: MemFolder) -> Result<Opened<MemFolde
         compactors: 0,
     };
     match start(alloc, folder, &limits) {
-        Ok(opened) => Ok(opened),
-        Err((_, closed)) => Err(closed.into_folder()),
+        Ok(opened) => used::<Brand>(rt, alloc, opened, name),
+        Err((_, _closed)) => panic!(rt; "no store"),
     }
 }
 
-fn opened_and_used(alloc: Global, folder: MemFolder) -> (Option<Answered>, MemFolder) {
-    match opened(alloc, folder) {
-        Ok(opened) => used::<Brand>(alloc, opened),
-        Err(folder) => (None, folder),
-    }
-}
-
-// The second time the table is there, and the mutation is the second. Of 33 sessions 32 are left.
-#[test]
-fn a_store_is_used_without_a_script(rt: HostRuntime) -> Result<(), Fail> {
-    let alloc = rt.alloc();
+// What is answered in two openings of one folder.
+fn used_twice(rt: &impl Abort, alloc: Global, name: Option<&TableName>) -> (Answered, Answered) {
     let folder = MemFolder::new(alloc, FaultPlan::none(alloc));
-    let (first, folder) = opened_and_used(alloc, folder);
-    let (second, _folder) = opened_and_used(alloc, folder);
-    let refused = Some(Fault::Refused(13));
-    assert_eq!(rt;
-        first,
-        Some(Answered {
-            refused,
-            wrote: 1,
-            rows: 1,
-            front: 1,
-            sessions: 32
-        })
-    );
-    assert_eq!(rt;
-        second,
-        Some(Answered {
-            refused,
-            wrote: 2,
-            rows: 1,
-            front: 2,
-            sessions: 32
-        })
-    );
-    Ok(())
+    let (first, folder) = opened_and_used(rt, alloc, folder, name);
+    let (second, _folder) = opened_and_used(rt, alloc, folder, name);
+    (first, second)
+}
+
+// Of 33 sessions 32 are left.
+fn expected(number: u64) -> Answered {
+    Answered {
+        refused: Some(Fault::Refused(13)),
+        wrote: number,
+        flushed: None,
+        read: (1, number),
+        again: None,
+        sessions: 32,
+    }
+}
+
+// The second time the table is there, and the mutation is the second.
+#[test]
+fn a_store_is_used_without_a_script(rt: HostRuntime) {
+    assert!(rt; used_twice(&rt, rt.alloc(), None) == (expected(1), expected(2)));
+}
+
+// What is flushed is one file, and nothing is left to be flushed then.
+fn expected_flush(number: u64) -> Answered {
+    Answered {
+        refused: None,
+        wrote: number,
+        flushed: Some((1, number)),
+        read: (1, number),
+        again: Some((0, 0)),
+        sessions: 32,
+    }
+}
+
+// The first opening writes file 1 and the second, which finds it, file 2.
+#[test]
+fn a_table_is_flushed_and_found(rt: HostRuntime) {
+    let name = table_name(rt.alloc(), "t").ok().expect(&rt, "a name");
+    assert!(rt; used_twice(&rt, rt.alloc(), Some(&name)) == (expected_flush(1), expected_flush(2)));
 }

@@ -5,6 +5,7 @@ use cas_bind::Limits;
 use cas_disk::{Count, FaultCount, Folder, MemFolder, MemSealed, Name};
 use cas_recovery::{RecoveryFault, Started, recover};
 use std::alloc::Global;
+use std::process::Abort;
 
 // A new store would have four shards.
 const LIMITS: Limits = Limits {
@@ -57,46 +58,27 @@ const BLOCK: [u8; 116] = [
 
 // Whether the folder is opened as it is; once more, where the manifest lists the segment that was begun; and once a block
 // stands in that.
-fn is_found(alloc: Global) -> bool {
-    let Some(mut folder) = found(alloc) else {
-        return false;
-    };
-    answer(alloc, &mut folder) == FOUND
-        && answer(alloc, &mut folder) == FOUND
+fn is_found(alloc: Global, folder: &mut MemFolder) -> bool {
+    answer(alloc, folder) == FOUND
+        && answer(alloc, folder) == FOUND
         && folder.write_at(Name::Log(1), 24, &BLOCK).is_ok()
-        && answer(alloc, &mut folder) == (Ok((1, 0, 6)), 0, 0)
+        && answer(alloc, folder) == (Ok((1, 0, 6)), 0, 0)
 }
 
 // Whether a table file that isn't listed goes, and the listed one stays.
-fn is_swept(alloc: Global) -> bool {
-    let Some(mut folder) = found(alloc) else {
-        return false;
-    };
-    put(&mut folder, Name::Table(9), b"")
-        && answer(alloc, &mut folder) == FOUND
+fn is_swept(alloc: Global, folder: &mut MemFolder) -> bool {
+    put(folder, Name::Table(9), b"")
+        && answer(alloc, folder) == FOUND
         && !folder.has(Name::Table(9))
         && folder.has(Name::Table(1))
 }
 
 #[test]
 fn a_flushed_file_is_found_by_an_opening(rt: HostRuntime) {
-    assert!(rt; is_found(rt.alloc()) && is_swept(rt.alloc()));
+    let alloc = rt.alloc();
+    assert!(rt; is_found(alloc, &mut found(&rt, alloc)));
+    assert!(rt; is_swept(alloc, &mut found(&rt, alloc)));
 }
-
-// Another byte at a place of the table file, and where that is refused.
-const ALTERED: [(u64, u8, Option<u64>); 11] = [
-    (9, 2, None), // as it is
-    (9, 1, Some(8)), // of the first version
-    (7, 0x32, Some(0)), // another word
-    (9, 3, Some(8)), // no such version
-    (11, 1, Some(10)), // of another table
-    (12, 0, Some(12)), // of another shard
-    (20, 2, Some(13)), // of another number
-    (31, 3, None), // no fragment, in a partition, which isn't read
-    (122, 0, Some(121)), // an empty key in the index
-    (199, 21, Some(192)), // a timestamp that isn't listed so
-    (237, 0x32, Some(230)), // another word at the end
-];
 
 fn expected(refused: Option<u64>) -> Answer {
     let name = Name::Table(1);
@@ -106,58 +88,52 @@ fn expected(refused: Option<u64>) -> Answer {
     }
 }
 
-// Whether the folder is answered so where this byte stands at a place of the table file.
-fn is_told(alloc: Global, place: u64, byte: u8, refused: Option<u64>) -> bool {
-    let Some(mut folder) = found(alloc) else {
-        return false;
-    };
-    folder.write_at(Name::Table(1), place, &[byte]).is_ok()
-        && answer(alloc, &mut folder) == expected(refused)
+// The folder is answered so where this byte stands at a place of the table file.
+fn tells(rt: &impl Abort, alloc: Global, place: u64, byte: u8, refused: Option<u64>) {
+    let mut folder = found(rt, alloc);
+    assert!(rt;
+        folder.write_at(Name::Table(1), place, &[byte]).is_ok()
+            && answer(alloc, &mut folder) == expected(refused),
+        "{place}"
+    );
 }
 
-// The first of these that is answered otherwise.
-fn wrong(alloc: Global) -> Option<u64> {
-    for (place, byte, refused) in &ALTERED {
-        if !is_told(alloc, *place, *byte, *refused) {
-            return Some(*place);
-        }
-    }
-    None
-}
-
+// Another byte at a place of the table file, and where that is refused.
 #[test]
 fn another_byte_is_found(rt: HostRuntime) {
-    assert_eq!(rt; wrong(rt.alloc()), None);
+    let alloc = rt.alloc();
+    tells(&rt, alloc, 9, 2, None); // as it is
+    tells(&rt, alloc, 9, 1, Some(8)); // of the first version
+    tells(&rt, alloc, 7, 0x32, Some(0)); // another word
+    tells(&rt, alloc, 9, 3, Some(8)); // no such version
+    tells(&rt, alloc, 11, 1, Some(10)); // of another table
+    tells(&rt, alloc, 12, 0, Some(12)); // of another shard
+    tells(&rt, alloc, 20, 2, Some(13)); // of another number
+    tells(&rt, alloc, 31, 3, None); // no fragment, in a partition, which isn't read
+    tells(&rt, alloc, 122, 0, Some(121)); // an empty key in the index
+    tells(&rt, alloc, 199, 21, Some(192)); // a timestamp that isn't listed so
+    tells(&rt, alloc, 237, 0x32, Some(230)); // another word at the end
 }
 
 // Whether a listed file that isn't there is a fault of the folder.
-fn is_missed(alloc: Global) -> bool {
-    let Some(mut folder) = found(alloc) else {
-        return false;
-    };
+fn is_missed(alloc: Global, folder: &mut MemFolder) -> bool {
     folder.remove(Name::Table(1)).is_ok()
-        && answer(alloc, &mut folder) == (Err(RecoveryFault::Failed), 1, 0)
+        && answer(alloc, folder) == (Err(RecoveryFault::Failed), 1, 0)
 }
 
 // Whether the folder is answered so where the read of this number fails.
-fn is_answered(alloc: Global, read: u64, expected: Answer) -> bool {
-    match failing(alloc, read) {
-        Some(mut folder) => answer(alloc, &mut folder) == expected,
-        None => false,
-    }
+fn is_answered(rt: &impl Abort, alloc: Global, read: u64, expected: Answer) -> bool {
+    answer(alloc, &mut failing(rt, alloc, read)) == expected
 }
 
-// Loading takes six reads: whether each of them that fails is told and counted, and one behind them isn't done.
-fn are_told(alloc: Global) -> bool {
-    for read in 1..=6 {
-        if !is_answered(alloc, read, (Err(RecoveryFault::Read), 0, 1)) {
-            return false;
-        }
-    }
-    is_answered(alloc, 7, FOUND)
-}
-
+// Loading takes six reads: each of them that fails is told and counted, and one behind them isn't done.
 #[test]
 fn what_fails_is_told(rt: HostRuntime) {
-    assert!(rt; is_missed(rt.alloc()) && are_told(rt.alloc()));
+    let alloc = rt.alloc();
+    assert!(rt; is_missed(alloc, &mut found(&rt, alloc)));
+    for read in 1..=6 {
+        let told = (Err(RecoveryFault::Read), 0, 1);
+        assert!(rt; is_answered(&rt, alloc, read, told), "{read}");
+    }
+    assert!(rt; is_answered(&rt, alloc, 7, FOUND));
 }

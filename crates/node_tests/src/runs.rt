@@ -3,7 +3,7 @@ use cas_io::{Failed, FreeGate, ManualClock, MemSink, MemSource, Source};
 use cas_node::{Cause, Outcome, SCRIPT_LIMIT, run};
 use std::alloc::Global;
 use std::fmt::Write;
-use std::test::Fail;
+use std::process::Abort;
 
 const CREATE: &str = "CREATE TABLE t (k int, c int, v text, PRIMARY KEY (k, c));\n";
 
@@ -19,22 +19,24 @@ pub(crate) struct Ended {
 }
 
 /// The words that the text has between its blanks.
-pub(crate) fn words_of(alloc: Global, text: &str) -> Result<Vec<String>, Fail> {
+pub(crate) fn words_of(rt: &impl Abort, alloc: Global, text: &str) -> Vec<String> {
     let mut list = Vec::new(alloc);
     for word in text.split(' ') {
-        list.push(String::from_str(alloc, word)?)?;
+        let word = String::from_str(alloc, word).expect(rt, "memory");
+        list.push(word).expect(rt, "memory");
     }
-    Ok(list)
+    list
 }
 
 /// Runs over a folder with the manual clock, and one shard where the store is made.
 pub(crate) fn run_in<S: Source>(
+    rt: &impl Abort,
     alloc: Global,
     source: &mut S,
     mut sink: MemSink,
     folder: MemFolder,
-) -> Result<Ended, Fail> {
-    let words = words_of(alloc, "--clock manual --shards 1 d")?;
+) -> Ended {
+    let words = words_of(rt, alloc, "--clock manual --shards 1 d");
     let clock = ManualClock { reading: 7 };
     let Outcome {
         status,
@@ -43,71 +45,65 @@ pub(crate) fn run_in<S: Source>(
         folder: _folder,
         tally: _tally,
     } = run(alloc, &words, source, &mut sink, folder, &clock, &FreeGate);
-    let has_run = pass.is_some();
-    let output = sink.taken().to_vec(alloc)?;
-    Ok(Ended {
+    Ended {
         status,
         cause,
-        output,
-        has_run,
-    })
+        output: sink.taken().to_vec(alloc).expect(rt, "memory"),
+        has_run: pass.is_some(),
+    }
 }
 
 // The same over an empty folder.
-fn run_over<S: Source>(alloc: Global, source: &mut S, sink: MemSink) -> Result<Ended, Fail> {
-    run_in(
-        alloc,
-        source,
-        sink,
-        MemFolder::new(alloc, FaultPlan::none(alloc)),
-    )
+fn run_over<S: Source>(rt: &impl Abort, alloc: Global, source: &mut S, sink: MemSink) -> Ended {
+    let folder = MemFolder::new(alloc, FaultPlan::none(alloc));
+    run_in(rt, alloc, source, sink, folder)
 }
 
-fn source_of(alloc: Global, text: &str) -> Result<MemSource, Fail> {
-    Ok(MemSource::new(text.as_bytes().to_vec(alloc)?))
+/// The text as a source.
+pub(crate) fn source_of(rt: &impl Abort, alloc: Global, text: &str) -> MemSource {
+    MemSource::new(text.as_bytes().to_vec(alloc).expect(rt, "memory"))
 }
 
-fn script(alloc: Global) -> Result<String, Fail> {
-    Ok(format!(in alloc; "{CREATE}{INSERT}{INSERT}")?)
+fn script(rt: &impl Abort, alloc: Global) -> String {
+    format!(in alloc; "{CREATE}{INSERT}{INSERT}").expect(rt, "memory")
+}
+
+// Runs that script.
+fn run_script(rt: &impl Abort, alloc: Global, sink: MemSink) -> Ended {
+    let script = script(rt, alloc);
+    run_over(rt, alloc, &mut source_of(rt, alloc, &script), sink)
 }
 
 // Out of memory is an answer that needs no cause, so that a body which always gives it is refused by
 // a run alone.
 #[test]
-fn a_run_ends_well_and_hands_back_its_history(rt: HostRuntime) -> Result<(), Fail> {
-    let alloc = rt.alloc();
-    let mut source = source_of(alloc, &script(alloc)?)?;
-    let ended = run_over(alloc, &mut source, MemSink::new(alloc))?;
-    assert_eq!(rt; ended.cause, Cause::Good);
-    assert_eq!(rt; ended.output.as_slice(), b"ok\nok 1\nok 2\n".as_slice());
-    assert!(rt; ended.has_run);
-    Ok(())
+fn a_run_ends_well_and_hands_back_its_history(rt: HostRuntime) {
+    let ended = run_script(&rt, rt.alloc(), MemSink::new(rt.alloc()));
+    assert!(rt;
+        ended.cause == Cause::Good
+            && ended.output.as_slice() == b"ok\nok 1\nok 2\n".as_slice()
+            && ended.has_run
+    );
 }
 
 // The source fails after ten bytes.
 #[test]
-fn a_source_that_fails_is_not_run(rt: HostRuntime) -> Result<(), Fail> {
-    let alloc = rt.alloc();
-    let mut source = MemSource::with_plan(CREATE.as_bytes().to_vec(alloc)?, Some(10), 7);
-    let ended = run_over(alloc, &mut source, MemSink::new(alloc))?;
-    assert_eq!(rt; (ended.status, ended.output.len()), (3, 0));
-    assert!(rt; !ended.has_run);
-    Ok(())
+fn a_source_that_fails_is_not_run(rt: HostRuntime) {
+    let bytes = CREATE.as_bytes().to_vec(rt.alloc()).expect(&rt, "memory");
+    let mut source = MemSource::with_plan(bytes, Some(10), 7);
+    let ended = run_over(&rt, rt.alloc(), &mut source, MemSink::new(rt.alloc()));
+    assert!(rt; ended.status == 3 && ended.output.is_empty() && !ended.has_run);
 }
 
 // The second write fails; or each takes nothing.
 #[test]
-fn a_sink_that_fails_or_takes_nothing_ends_the_run(rt: HostRuntime) -> Result<(), Fail> {
+fn a_sink_that_fails_or_takes_nothing_ends_the_run(rt: HostRuntime) {
     let alloc = rt.alloc();
-    let script = script(alloc)?;
-    let failing = MemSink::with_plan(alloc, vec![in alloc; 2]?, 9);
-    let failed = run_over(alloc, &mut source_of(alloc, &script)?, failing)?;
-    assert_eq!(rt; failed.status, 4);
-    assert_eq!(rt; failed.output.as_slice(), b"ok\n".as_slice());
-    let stalling = MemSink::with_plan(alloc, Vec::new(alloc), 0);
-    let stalled = run_over(alloc, &mut source_of(alloc, &script)?, stalling)?;
-    assert_eq!(rt; (stalled.status, stalled.output.len()), (4, 0));
-    Ok(())
+    let failing = MemSink::with_plan(alloc, vec![in alloc; 2].expect(&rt, "memory"), 9);
+    let failed = run_script(&rt, alloc, failing);
+    assert!(rt; failed.status == 4 && failed.output.as_slice() == b"ok\n".as_slice());
+    let stalled = run_script(&rt, alloc, MemSink::with_plan(alloc, Vec::new(alloc), 0));
+    assert!(rt; stalled.status == 4 && stalled.output.is_empty());
 }
 
 // A source that makes so many line feeds.
@@ -131,49 +127,45 @@ impl Source for Feeds {
     }
 }
 
-#[test]
-fn the_longest_script_of_empty_lines_is_run(rt: HostRuntime) -> Result<(), Fail> {
-    let alloc = rt.alloc();
-    let mut source = Feeds { left: SCRIPT_LIMIT };
-    let ended = run_over(alloc, &mut source, MemSink::new(alloc))?;
-    assert_eq!(rt; (ended.status, ended.output.len()), (0, 0));
-    Ok(())
+// Runs so many line feeds.
+fn run_feeds(rt: &impl Abort, alloc: Global, left: u64) -> Ended {
+    run_over(rt, alloc, &mut Feeds { left }, MemSink::new(alloc))
 }
 
 #[test]
-fn a_script_above_the_limit_is_not_run(rt: HostRuntime) -> Result<(), Fail> {
-    let alloc = rt.alloc();
-    let mut source = Feeds {
-        left: SCRIPT_LIMIT + 1,
-    };
-    let ended = run_over(alloc, &mut source, MemSink::new(alloc))?;
-    assert_eq!(rt; ended.cause, Cause::TooLong { taken: 67_108_865 });
-    assert!(rt; !ended.has_run);
-    Ok(())
+fn the_longest_script_of_empty_lines_is_run(rt: HostRuntime) {
+    let ended = run_feeds(&rt, rt.alloc(), SCRIPT_LIMIT);
+    assert!(rt; ended.status == 0 && ended.output.is_empty());
+}
+
+#[test]
+fn a_script_above_the_limit_is_not_run(rt: HostRuntime) {
+    let ended = run_feeds(&rt, rt.alloc(), SCRIPT_LIMIT + 1);
+    assert!(rt; ended.cause == Cause::TooLong { taken: 67_108_865 } && !ended.has_run);
 }
 
 // Statements over 8 partitions, every 100th of them a SELECT.
-fn many_statements(script: &mut String, count: u32) -> Result<(), Fail> {
+fn many_statements(rt: &impl Abort, script: &mut String, count: u32) {
     for i in 1..=count {
         let key = i % 8;
-        if i % 100 == 0 {
-            writeln!(script, "SELECT * FROM t WHERE k = {key}")?;
+        let written = if i % 100 == 0 {
+            writeln!(script, "SELECT * FROM t WHERE k = {key}")
         } else {
-            writeln!(script, "INSERT INTO t (k, c, v) VALUES ({key}, {i}, 'a')")?;
-        }
+            writeln!(script, "INSERT INTO t (k, c, v) VALUES ({key}, {i}, 'a')")
+        };
+        written.expect(rt, "memory");
     }
-    Ok(())
 }
 
 // The last SELECT shows partition 0: of its 1,250 statements 50 are SELECTs.
 #[test]
-fn ten_thousand_statements_end(rt: HostRuntime) -> Result<(), Fail> {
+fn ten_thousand_statements_end(rt: HostRuntime) {
     let alloc = rt.alloc();
-    let mut script = String::from_str(alloc, CREATE)?;
-    many_statements(&mut script, 10_000)?;
-    let ended = run_over(alloc, &mut source_of(alloc, &script)?, MemSink::new(alloc))?;
-    assert_eq!(rt; ended.status, 0);
+    let mut script = String::from_str(alloc, CREATE).expect(&rt, "memory");
+    many_statements(&rt, &mut script, 10_000);
+    let mut source = source_of(&rt, alloc, &script);
+    let ended = run_over(&rt, alloc, &mut source, MemSink::new(alloc));
+    assert!(rt; ended.status == 0);
     let last = b"\n0 | 9992 | 'a'\n-- 1200 rows, shard 0, front 9900, now 0\n".as_slice();
     assert!(rt; ended.output.ends_with(last));
-    Ok(())
 }

@@ -2,7 +2,8 @@
 
 use crate::runs::words_of;
 use cas_words::{ClockKind, Command, path_of, read_words};
-use std::test::Fail;
+use std::alloc::Global;
+use std::process::Abort;
 
 /// Limits as numbers: shards, the bytes of a segment and of a memtable, compactors.
 const USUAL: (u8, u64, u64, u8) = (4, 33_554_432, 4_194_304, 1);
@@ -21,44 +22,59 @@ fn numbers_of(command: &Command) -> (u8, u64, u64, u8) {
     )
 }
 
-#[test]
-fn words_of_the_command(rt: HostRuntime) -> Result<(), Fail> {
-    let alloc = rt.alloc();
-    let cases: [(&'static str, (u8, u64, u64, u8), ClockKind, &'static str); 8] = [
-        ("store", USUAL, ClockKind::System, "store"),
-        ("--clock manual a/b", USUAL, ClockKind::Manual, "a/b"),
-        ("store --clock=system", USUAL, ClockKind::System, "store"),
-        (
-            "--shards 1 --segment 4096 --memtable 4096 --compactors 0 s",
-            LEAST,
-            ClockKind::System,
-            "s",
-        ),
-        (
-            "--memtable=1073741824 s --compactors 4 --clock manual --shards=16 --segment 33554432",
-            MOST,
-            ClockKind::Manual,
-            "s",
-        ),
-        ("shards=4", USUAL, ClockKind::System, "shards=4"),
-        ("help", USUAL, ClockKind::System, "help"),
-        ("+", USUAL, ClockKind::System, "+"),
-    ];
-    for (text, limits, clock, folder) in &cases {
-        let words = words_of(alloc, text)?;
-        match read_words(alloc, &words)? {
-            Some(command) => {
-                assert!(rt;
-                    numbers_of(&command) == *limits
-                        && command.clock == *clock
-                        && command.folder.is(folder),
-                    "{text}"
-                );
-            }
-            None => assert!(rt; false, "{text}"),
+fn is_read(
+    rt: &impl Abort,
+    alloc: Global,
+    words: &[String],
+    limits: (u8, u64, u64, u8),
+    clock: ClockKind,
+    folder: &str,
+) -> bool {
+    match read_words(alloc, words).expect(rt, "memory") {
+        Some(command) => {
+            numbers_of(&command) == limits && command.clock == clock && command.folder.is(folder)
         }
-        let path = path_of(alloc, &words)?;
-        assert!(rt; path.is_some_and(|path| path.as_str() == *folder), "{text}");
+        None => false,
     }
-    Ok(())
+}
+
+fn has_path(rt: &impl Abort, alloc: Global, words: &[String], folder: &str) -> bool {
+    match path_of(alloc, words).expect(rt, "memory") {
+        Some(path) => path.as_str() == folder,
+        None => false,
+    }
+}
+
+// What the words of the text set.
+fn sets(
+    rt: &impl Abort,
+    alloc: Global,
+    text: &str,
+    limits: (u8, u64, u64, u8),
+    clock: ClockKind,
+    folder: &str,
+) {
+    let words = words_of(rt, alloc, text);
+    assert!(rt;
+        is_read(rt, alloc, &words, limits, clock, folder) && has_path(rt, alloc, &words, folder),
+        "{text}"
+    );
+}
+
+#[test]
+fn words_of_the_command(rt: HostRuntime) {
+    let alloc = rt.alloc();
+    let system = ClockKind::System;
+    let manual = ClockKind::Manual;
+    sets(&rt, alloc, "store", USUAL, system, "store");
+    sets(&rt, alloc, "--clock manual a/b", USUAL, manual, "a/b");
+    sets(&rt, alloc, "store --clock=system", USUAL, system, "store");
+    let least = "--shards 1 --segment 4096 --memtable 4096 --compactors 0 s";
+    sets(&rt, alloc, least, LEAST, system, "s");
+    let most =
+        "--memtable=1073741824 s --compactors 4 --clock manual --shards=16 --segment 33554432";
+    sets(&rt, alloc, most, MOST, manual, "s");
+    sets(&rt, alloc, "shards=4", USUAL, system, "shards=4");
+    sets(&rt, alloc, "help", USUAL, system, "help");
+    sets(&rt, alloc, "+", USUAL, system, "+");
 }
