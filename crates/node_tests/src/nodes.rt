@@ -110,7 +110,7 @@ fn flush<J: Store>(
     }
 }
 
-// The session flushes the table that has a name, or none.
+// The session defines, writes and reads; of a table that is named it also flushes what it wrote.
 fn ask<J: Store>(
     alloc: Global,
     node: &mut Node<MemFolder, J>,
