@@ -1,12 +1,11 @@
 -- What memtables hold under a key, of which they have all rows.
-use Rattle.std.proofs.Common.{◌≡◌, ◌≢◌, ◌⊎◌, inl, inr, ◌||◌, ℕ, ℤ, Bool, true, false, cond, Option, None, Some, is_some, List, [], ◌∷◌, ◌++◌, refl, sym, ap, ◌∙◌, subst, append-nil, arith}
+use Rattle.std.proofs.Common.{◌≡◌, ◌||◌, ℕ, ℤ, Bool, true, false, cond, Option, None, Some, is_some, List, [], ◌∷◌, ◌++◌, refl, sym, ap, ◌∙◌, subst, arith}
 use Rattle.std.proofs.lemmas.Bool.{true≢false}
 use Rattle.std.specs.List.{AllByRecursion}
 use Rattle.cas_types.specs.declared.schema.Column.{Column}
 use Rattle.cas_cell.specs.declared.deletion.Deletion.{Deletion}
 use Rattle.cas_bounds.specs.ClusteringOrder.{clustering_order}
 use Rattle.cas_bounds.specs.Cuts.{is_inside}
-use Rattle.cas_bounds.specs.declared.cuts.Cut.{Cut}
 use Rattle.cas_bounds.specs.declared.cuts.Slice.{Slice}
 use Rattle.cas_bounds.specs.declared.order.Ordered.{Ordered}
 use Rattle.cas_atoms.specs.Coordinates.{RowKey, clustered, static_row, row_of, same_bytes}
@@ -16,27 +15,27 @@ use Rattle.cas_atoms.specs.declared.atom.Atom.{Atom}
 use Rattle.cas_atoms.specs.declared.atom.Mutation.{Mutation}
 use Rattle.cas_laws.specs.Inside.{SameIn, is_in}
 use Rattle.cas_laws.proofs.ShownProofs.{equal_bytes}
-use Rattle.cas_streams.specs.Flat.{changes, flat}
+use Rattle.cas_streams.specs.Flat.{changes}
 use Rattle.cas_streams.specs.Joined.{Stream}
 use Rattle.cas_streams.specs.Merged.{merged, flat_of, flats}
 use Rattle.cas_streams.specs.NoMore.{SaysNoMore}
-use Rattle.cas_streams.specs.Streams.{IsThere, IsOrdered, WellFormed}
+use Rattle.cas_streams.specs.Streams.{IsThere, WellFormed}
 use Rattle.cas_streams.specs.declared.fragment.Fragment.{Fragment}
 use Rattle.cas_streams.specs.declared.fragment.Fragment.TheVariants as fragment
 use Rattle.cas_streams.proofs.Formed.{merge_is_well_formed}
 use Rattle.cas_streams.proofs.Merges.{merge_is_join}
 use Rattle.cas_streams.proofs.NoMore.{merge_says_no_more, no_more_then}
 use Rattle.cas_fragments.specs.Allowed.{HasSpelling}
-use Rattle.cas_fragments.specs.Blocks.{statics_in, behind_statics}
+use Rattle.cas_fragments.specs.Blocks.{behind_statics}
 use Rattle.cas_partition.specs.Partitions.{AllFit, AreAtCuts}
 use Rattle.cas_partition.proofs.AtCuts.{merge_at}
-use Rattle.cas_memtable.specs.Memtables.{least_of, least_with, IsOfColumns}
+use Rattle.cas_memtable.specs.Memtables.{least_of, least_with}
 use Rattle.cas_memtable.specs.declared.memtable.MemPart.{MemPart}
-use Rattle.cas_memtable.specs.Kept.{HoldMutations, MayHold, StandIn, StandInEach, ShowPartition, all_of, atoms_at, atoms_under, has_key}
+use Rattle.cas_memtable.specs.Kept.{HoldMutations, MayHold, StandInEach, ShowPartition, all_of, atoms_at, atoms_under, has_key}
 use Rattle.cas_merge.specs.Told.{streams_told}
 use Rattle.cas_memtable.proofs.Keeping.{more_under}
 use Rattle.cas_memtable.proofs.Showing.{nothing_written}
-use Rattle.cas_flush.specs.Fitting.{FitsTable, HasRoom}
+use Rattle.cas_flush.specs.Fitting.{FitsTable}
 use Rattle.cas_flush.proofs.Fitted.{stream_fits}
 use Rattle.cas_sstwrite.specs.Rooms.{IsHeld, AreHeld}
 use Rattle.cas_sstwrite.specs.Writers.{FitsStream}
@@ -168,10 +167,10 @@ module _ {M : Type 0} (tells : M → Option (List Fragment)) (tops : M → Optio
     told_no_more = subst (λ ss. SaysNoMore (flat_of (merged ss)) (atoms_under key (all_of wss))) are_told merge_no_more
 
   module _ (hold : HoldMutations columns ms wss) where
-    merge_formed : WellFormed columns (merged shows.streams).fragments
+    pub merge_formed : WellFormed columns (merged shows.streams).fragments
     merge_formed = merge_is_well_formed columns shows.streams (shows.formed columns refl hold.of)
 
-    merge_at_cuts : AreAtCuts columns (changes (merged shows.streams).fragments)
+    pub merge_at_cuts : AreAtCuts columns (changes (merged shows.streams).fragments)
     merge_at_cuts =
         merge_at (FitsCut (clustering_order columns)) shows.streams
         (shows.cuts columns refl hold.of (low_allowed columns s w) (high_allowed columns s w))

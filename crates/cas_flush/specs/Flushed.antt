@@ -1,24 +1,29 @@
 -- What a flush writes: a table file that says, key by key, what the memtables' mutations say.
 -- Cassandra documentation, "Storage engine: SSTables; memtables"; own.
-use Rattle.std.specs.Prelude.{◌≡◌, ◌⊎◌, ℕ, Bool, true, List, [], length, if◌then◌else◌, Option}
+use Rattle.std.specs.Prelude.{◌≡◌, ◌⊎◌, ℕ, Bool, true, List, [], length, map, if◌then◌else◌}
 use Rattle.std.specs.List.{AllByRecursion, flat_map}
+use Rattle.std.specs.List.Sorted.{IsStrictlySortedBy}
 use Rattle.std.specs.Ordering.{is_lt}
 use Rattle.cas_types.specs.Values.{bytes_cmp}
 use Rattle.cas_types.specs.declared.schema.Column.{Column}
 use Rattle.cas_bounds.specs.ClusteringOrder.{clustering_order}
 use Rattle.cas_atoms.specs.Coordinates.{same_bytes}
+use Rattle.cas_atoms.specs.Fits.{FitsKey}
 use Rattle.cas_atoms.specs.Winners.{Same}
 use Rattle.cas_atoms.specs.declared.atom.Atom.{Atom}
 use Rattle.cas_atoms.specs.declared.atom.Mutation.{Mutation}
+use Rattle.cas_streams.specs.Flat.{changes}
 use Rattle.cas_streams.specs.Joined.{Stream}
 use Rattle.cas_streams.specs.Merged.{flat_of}
 use Rattle.cas_streams.specs.NoMore.{SaysNoMore}
-use Rattle.cas_streams.specs.Streams.{IsThere}
+use Rattle.cas_streams.specs.Streams.{IsThere, WellFormed}
+use Rattle.cas_partition.specs.Partitions.{AreAtCuts}
 use Rattle.cas_memtable.specs.declared.memtable.MemPart.{MemPart}
 use Rattle.cas_memtable.specs.Kept.{StandInEach, all_of, atoms_under}
 use Rattle.cas_tables.specs.declared.header.Header.{Header}
 use Rattle.cas_tables.specs.Contents.{Partition, Contents}
 use Rattle.cas_tables.specs.Files.{index_of, front_bytes}
+use Rattle.cas_tables.specs.Fitting.{FitsPartition}
 use Rattle.cas_sstwrite.specs.declared.fault.Measure.{Measure}
 use Rattle.cas_sstwrite.specs.declared.fault.PartitionFault.TheVariants.{Write}
 use Rattle.cas_sstwrite.specs.declared.fault.WriteFault.{WriteFault}
@@ -61,26 +66,42 @@ at_level_0 header ps = record { header = header; level = 0; partitions = ps }
 
 -- ---- faults
 
--- at a key the writer answered that fault: behind the partitions of the keys below it, to a stream that says what the mutations say there
-pub record Hinders (header : Header) (ws : List Mutation) (e : WriteFault) : Type 0 where
+-- partitions that stand in a file of a table with these columns: each is one that the table may have, and their keys ascend
+pub record MayStand (columns : List Column) (ps : List Partition) : Type 0 where
+  pub each : AllByRecursion (FitsPartition columns) ps
+  pub ascend : IsStrictlySortedBy bytes_cmp (map (λ p. p.key) ps)
+
+-- a well-formed stream, whose markers stand at cuts that the table may have, says what memtables hold under a key: it says the same as whichever mutations
+-- stand in these, and no more
+pub record SaysWhatIsUnder (columns : List Column) (ms : List MemPart) (key : List ℕ) (s : Stream) : Type 0 where
+  pub key_fits : FitsKey key
+  pub formed : WellFormed columns s.fragments
+  pub cuts : AreAtCuts columns (changes s.fragments)
+  pub same : (wss : List (List Mutation)) → StandInEach (clustering_order columns) ms wss → Same (flat_of s) (atoms_under key (all_of wss))
+  pub no_more : (wss : List (List Mutation)) → StandInEach (clustering_order columns) ms wss → SaysNoMore (flat_of s) (atoms_under key (all_of wss))
+
+-- at a key the writer answered that fault: behind the partitions of the keys below it, to a stream that says what the memtables hold there
+pub record Hinders (columns : List Column) (header : Header) (ms : List MemPart) (e : WriteFault) : Type 0 where
   pub before : List Partition
   pub key : List ℕ
   pub stream : Stream
-  pub below : AreOf (is_below key) ws before
-  pub same : Same (flat_of stream) (atoms_under key ws)
-  pub no_more : SaysNoMore (flat_of stream) (atoms_under key ws)
+  pub stand : MayStand columns before
+  pub below : SayWhatIsHeld columns ms (is_below key) before
+  pub says : SaysWhatIsUnder columns ms key stream
   pub causes : Causes (index_of (at_level_0 header before)) (length (front_bytes (at_level_0 header before))) key stream.top stream.fragments e
 
 -- or at the end, behind all partitions
-pub record EndsLong (header : Header) (ws : List Mutation) (what : Measure) (limit : ℕ) : Type 0 where
+pub record EndsLong (columns : List Column) (header : Header) (ms : List MemPart) (what : Measure) (limit : ℕ) : Type 0 where
   pub partitions : List Partition
-  pub all : AreOf any ws partitions
+  pub stand : MayStand columns partitions
+  pub all : SayWhatIsHeld columns ms any partitions
   pub why : FinishFault {E = Unit {0}} (at_level_0 header partitions) (Write (TooMany what limit))
 
--- Why mutations aren't written to a file with this header. Keys are never out of order. That the disk failed is told by the counts.
-abbrev pub FlushFault : Header → List Mutation → WriteFault → Type 0
-FlushFault header ws Failed = Unit {0}
-FlushFault header ws Order = ⊥
-FlushFault header ws (TooMany what limit) = Hinders header ws (TooMany what limit) ⊎ EndsLong header ws what limit
-FlushFault header ws Unfit = Hinders header ws Unfit
-FlushFault header ws Mem = Unit {0}
+-- Why memtables of a table with these columns aren't written to a file with this header. Keys are never out of order. That the disk failed is told by the
+-- counts.
+abbrev pub FlushFault : List Column → Header → List MemPart → WriteFault → Type 0
+FlushFault columns header ms Failed = Unit {0}
+FlushFault columns header ms Order = ⊥
+FlushFault columns header ms (TooMany what limit) = Hinders columns header ms (TooMany what limit) ⊎ EndsLong columns header ms what limit
+FlushFault columns header ms Unfit = Hinders columns header ms Unfit
+FlushFault columns header ms Mem = Unit {0}

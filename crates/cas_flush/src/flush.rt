@@ -8,7 +8,7 @@ ghost use Rattle.cas_disk.specs.Counts.{Counted};
 ghost use Rattle.cas_tables.specs.Allowed.{FitsHeader};
 ghost use Rattle.cas_tables.specs.Contents.{Partition as PartitionOf};
 ghost use Rattle.cas_tables.specs.declared.header.Version.TheVariants.{Second};
-ghost use Rattle.cas_memtable.specs.Kept.{HoldMutations, all_of, has_key};
+ghost use Rattle.cas_memtable.specs.Kept.{HoldMutations, has_key};
 ghost use Rattle.cas_sstwrite.specs.Writers.{Writes, fault_of as fault_in};
 ghost use Rattle.cas_sstwrite.specs.Finished.{Finishes};
 ghost use Rattle.cas_flush.specs.Flushed.{SayWhatIsHeld, any, at_level_0, FlushFault};
@@ -44,7 +44,8 @@ fn write_keys<D: Draft>(
     ensures sound { OnOk result (fault_in writer.new ≡ None) }
     ensures kept { OnOk result ((writer.new.header ≡ writer.old.header) × (writer.new.level ≡ writer.old.level)) }
     ensures why { IfErr result (λ e. (columns : ListOf ColumnOf) (wss : ListOf (ListOf Wrote)) → HoldMutations columns (map arc_value memtables.now) wss
-        → IsWhole columns slice.now → Writes D.number D.written columns writer.old [] → StopsAt writer.old.header writer.old.level (all_of wss) e) }
+        → IsWhole columns slice.now → Writes D.number D.written columns writer.old []
+        → StopsAt columns writer.old.header writer.old.level (map arc_value memtables.now) e) }
     ensures count { Counted (D.Tally.number tally.old) (D.Tally.number tally.new) (IsErrOf result WriteFault.Failed) }
 {
     let mut last: Option<&Bytes> = None;
@@ -75,7 +76,8 @@ pub fn flush_parts<D: Draft>(
     ensures synced { IfOk result (λ r. IfSome r (λ p. D.is_synced p.1)) }
     ensures nothing { ((key : ListOf ℕ) → has_key (map arc_value memtables.now) key ≡ false) → (result ≡ Ok None) × (tally.new ≡ tally.old) }
     ensures why { IfErr result (λ e. D.number draft ≡ header.number → ((bytes : ListOf ℕ) → D.written draft bytes → bytes ≡ [])
-        → (wss : ListOf (ListOf Wrote)) → HoldMutations columns.now (map arc_value memtables.now) wss → FlushFault header (all_of wss) e) }
+        → (wss : ListOf (ListOf Wrote)) → HoldMutations columns.now (map arc_value memtables.now) wss
+        → FlushFault columns.now header (map arc_value memtables.now) e) }
     ensures count { Counted (D.Tally.number tally.old) (D.Tally.number tally.new) (IsErrOf result WriteFault.Failed) }
 {
     if next_key(memtables, None).is_none() {

@@ -7,7 +7,7 @@ ghost use Rattle.cas_bounds.specs.ClusteringOrder.{clustering_order};
 ghost use Rattle.cas_atoms.specs.declared.atom.Mutation.{Mutation as Wrote};
 ghost use Rattle.cas_disk.specs.Counts.{Counted};
 ghost use Rattle.cas_tables.specs.Contents.{Partition as PartitionOf};
-ghost use Rattle.cas_memtable.specs.Kept.{HoldMutations, all_of, has_key};
+ghost use Rattle.cas_memtable.specs.Kept.{HoldMutations, has_key};
 ghost use Rattle.cas_sstwrite.specs.Writers.{Writes, contents_of, fault_of as fault_in};
 ghost use Rattle.cas_flush.specs.Inner.Keys.{IsWhole, end_at, told, WritesKey, KeyFault};
 
@@ -69,7 +69,7 @@ pub(crate) fn write_key<D: Draft>(
     ensures kept { OnOk result ((writer.new.header ≡ writer.old.header) × (writer.new.level ≡ writer.old.level)) }
     ensures why { IfErr result (λ e. (columns : ListOf ColumnOf) (wss : ListOf (ListOf Wrote)) (ps : ListOf PartitionOf)
         → HoldMutations columns (map arc_value memtables.now) wss → IsWhole columns slice.now → Writes D.number D.written columns writer.old ps
-        → KeyFault (contents_of writer.old ps) key.now (all_of wss) e) }
+        → KeyFault columns (contents_of writer.old ps) key.now (map arc_value memtables.now) e) }
     ensures count { Counted (D.Tally.number tally.old) (D.Tally.number tally.new) (IsErrOf result WriteFault.Failed) }
 {
     let sources = sources_of(alloc, memtables, key, slice)?;

@@ -4,7 +4,7 @@ use Rattle.cas_types.specs.declared.schema.Column.{Column}
 use Rattle.cas_types.specs.declared.schema.TableSchema.{TableSchema}
 use Rattle.cas_atoms.specs.declared.atom.Mutation.{Mutation}
 use Rattle.cas_info.specs.declared.info.TableInfo.{TableInfo}
-use Rattle.cas_memtable.specs.Kept.{HoldJust, HoldMutations, all_of}
+use Rattle.cas_memtable.specs.Kept.{HoldJust, HoldMutations}
 use Rattle.cas_memtable.specs.declared.memtable.MemPart.{MemPart}
 use Rattle.cas_tables.specs.Contents.{Partition}
 use Rattle.cas_sstwrite.specs.Finished.{Finishes}
@@ -12,7 +12,7 @@ use Rattle.cas_sstwrite.specs.declared.fault.WriteFault.{WriteFault}
 use Rattle.cas_flush.specs.Flushed.{FlushFault, SayWhatIsHeld, any, at_level_0}
 use Rattle.cas_stored.specs.Stored.{StoredTable}
 use Rattle.cas_shard.specs.Flushing.{frozen_at, memtables_at}
-use Rattle.cas_flushing.specs.Flushed.{Flushes, WhyUnwritten, head_of}
+use Rattle.cas_flushing.specs.Flushed.{Flushes, head_of}
 use Rattle.cas_flushing.proofs.Frozen.{HoldFirst, frozen_held}
 
 module _ {D : Type 0} (number_of : D → ℕ) (wrote : D → List ℕ → Type 0) (t : TableSchema) (shard number : ℕ) (o : Option StoredTable) (ms : List MemPart)
@@ -47,11 +47,12 @@ module _ {D : Type 0} (number_of : D → ℕ) (wrote : D → List ℕ → Type 0
           record { partitions = ps; says = subst (λ l. SayWhatIsHeld t.columns l any ps) same says; file = file }
       by (Err e) goes = tt
 
+  -- why these memtables aren't written, and why the frozen ones of a table aren't
   abbrev Stopped : List Column → WriteFault → Type 0
-  Stopped columns e = Given ((wss : List (List Mutation)) → HoldMutations columns ms wss → FlushFault (head_of t shard number) (all_of wss) e)
+  Stopped columns e = Given ((wss : List (List Mutation)) → HoldMutations columns ms wss → FlushFault columns (head_of t shard number) ms e)
 
   abbrev Why : WriteFault → Type 0
-  Why e = (ws : List Mutation) → HoldJust t.columns (memtables_at o) ws → Given (WhyUnwritten (head_of t shard number) ws e)
+  Why e = (ws : List Mutation) → HoldJust t.columns (memtables_at o) ws → Given (FlushFault t.columns (head_of t shard number) (frozen_at o) e)
 
   pub unwritten : (columns : List Column) → columns ≡ t.columns → IfErr r (Stopped columns) → IfErr r Why
   unwritten columns of goes = by r (subst (λ cs. IfErr r (Stopped cs)) of goes)
@@ -60,4 +61,4 @@ module _ {D : Type 0} (number_of : D → ℕ) (wrote : D → List ℕ → Type 0
       by (Ok p) goes = tt
       by (Err e) goes = λ ws just of empty.
           let first = held ws just in
-          record { frozen = all_of first.0.places; others = first.0.others; all = first.0.all; why = goes of empty first.0.places first.1 }
+          subst (λ l. FlushFault t.columns (head_of t shard number) l e) same (goes of empty first.0.places first.1)

@@ -1,17 +1,15 @@
 -- What a flush of a table in a shard writes, and the file that is opened of it.
 -- Cassandra documentation, "Storage engine: memtables, SSTables"; own.
-use Rattle.std.specs.Prelude.{◌≡◌, ◌⊎◌, ℕ, List, [], ◌++◌, Option, None, Some, Ok}
+use Rattle.std.specs.Prelude.{◌≡◌, ◌⊎◌, ℕ, List, [], Option, None, Some, Ok}
 use Rattle.cas_types.specs.declared.schema.TableSchema.{TableSchema}
 use Rattle.cas_bounds.specs.ClusteringOrder.{clustering_order}
-use Rattle.cas_atoms.specs.declared.atom.Mutation.{Mutation}
 use Rattle.cas_info.specs.declared.info.TableInfo.{TableInfo}
 use Rattle.cas_memtable.specs.declared.memtable.MemPart.{MemPart}
 use Rattle.cas_tables.specs.declared.header.Header.{Header}
 use Rattle.cas_tables.specs.declared.header.Version.TheVariants.{First, Second}
 use Rattle.cas_tables.specs.Contents.{Partition}
-use Rattle.cas_sstwrite.specs.declared.fault.WriteFault.{WriteFault}
 use Rattle.cas_sstwrite.specs.Finished.{IsFinished}
-use Rattle.cas_flush.specs.Flushed.{FlushFault, SayWhatIsHeld, any, at_level_0}
+use Rattle.cas_flush.specs.Flushed.{SayWhatIsHeld, any, at_level_0}
 use Rattle.cas_sstread.specs.declared.fault.TableFault.{TableFault}
 use Rattle.cas_sstread.specs.declared.fault.TableFault.TheVariants.{ReadFault as Unread, BadBlock, Mem}
 use Rattle.cas_sstread.specs.Loading.{Held, IsBadAt}
@@ -36,13 +34,6 @@ pub record IsFlushed {D : Type 0} (number_of : D → ℕ) (written : D → List 
 abbrev pub Flushes : {D : Type 0} → (D → ℕ) → (D → List ℕ → Type 0) → TableSchema → ℕ → ℕ → List MemPart → Option (TableInfo × D) → Type 0
 Flushes number_of written t shard number ms None = SayWhatIsHeld t.columns ms any []
 Flushes number_of written t shard number ms (Some p) = IsFlushed number_of written t shard number ms p.0 p.1
-
--- Why frozen memtables aren't written to the file with this header, where these mutations are in memory: by the first of them, which stand in the frozen ones.
-pub record WhyUnwritten (header : Header) (ws : List Mutation) (e : WriteFault) : Type 0 where
-  pub frozen : List Mutation
-  pub others : List Mutation
-  pub all : ws ≡ frozen ++ others
-  pub why : FlushFault header frozen e
 
 -- ---- the file that is opened
 

@@ -6,8 +6,9 @@ ghost use Rattle.cas_disk.specs.Counts.{Counted};
 ghost use Rattle.cas_info.specs.declared.info.TheConstants.{FILE_NUMBER_LIMIT};
 ghost use Rattle.cas_tables.specs.declared.header.TheConstants.{LAST_SHARD};
 ghost use Rattle.cas_memtable.specs.Kept.{HoldJust, has_key};
+ghost use Rattle.cas_flush.specs.Flushed.{FlushFault};
 ghost use Rattle.cas_shard.specs.Flushing.{frozen_at, memtables_at};
-ghost use Rattle.cas_flushing.specs.Flushed.{Flushes, WhyUnwritten, head_of};
+ghost use Rattle.cas_flushing.specs.Flushed.{Flushes, head_of};
 
 use cas_disk::{Draft, Sealed};
 use cas_flush::flush_parts;
@@ -41,7 +42,7 @@ pub fn write_frozen<S: Sealed, D: Draft>(
         → (result ≡ Ok None) × (tally.new ≡ tally.old) }
     ensures why { IfErr result (λ e. (ws : ListOf Wrote) → HoldJust table.now.columns (memtables_at (slice_get shard.now.stores table.now.number)) ws
         → D.number draft ≡ number → ((bytes : ListOf ℕ) → D.written draft bytes → bytes ≡ [])
-        → WhyUnwritten (head_of table.now index number) ws e) }
+        → FlushFault table.now.columns (head_of table.now index number) (frozen_at (slice_get shard.now.stores table.now.number)) e) }
     ensures count { Counted (D.Tally.number tally.old) (D.Tally.number tally.new) (IsErrOf result WriteFault.Failed) }
 {
     let header = Header {

@@ -1,4 +1,4 @@
--- The line of a flush, from its word on.
+-- The lines of a flush and of a verification, from their word on.
 use Rattle.std.proofs.Common.{◌≡◌, ℕ, false, true, List, [], ◌∷◌, ◌++◌, Option, None, Some, refl, ap, ◌∙◌, subst, cond, codes, inl, inr}
 use Rattle.std.specs.List.{All, filter, slice_split}
 use Rattle.std.proofs.lemmas.List.Elements.{All-cons, All-nil}
@@ -10,7 +10,7 @@ use Rattle.cql_parse.specs.declared.syntax.TableName.{TableName}
 use Rattle.cql_parse.specs.Lexemes.{lexemes_of}
 use Rattle.cql_parse.specs.TableNames.{SpellsTable}
 use Rattle.cql_tables.specs.Tables.{Qualified}
-use Rattle.cas_lines.specs.Lines.{Flushes, IsTable, flushed_in, flushed_word, has_bytes}
+use Rattle.cas_lines.specs.Lines.{Flushes, IsTable, Verifies, has_bytes, word_in, word_of}
 use Rattle.cas_lines.proofs.OneLine.{no_lexemes, starts}
 
 -- ---- no table is spelled by nothing
@@ -34,21 +34,38 @@ some_bytes (b ∷ word) t s = refl
 
 -- ---- the words of the line
 
-no_blanks : All (λ b. is_blank b ≡ false) (codes "\\flush")
+abbrev HasNoBlank : List ℕ → Type 0
+HasNoBlank word = All (λ b. is_blank b ≡ false) word
+
+no_blanks : HasNoBlank (codes "\\flush")
 no_blanks =
     let P = λ (b : ℕ). is_blank b ≡ false in
     All-cons P 92 (codes "flush") refl (All-cons P 102 (codes "lush") refl (All-cons P 108 (codes "ush") refl
     (All-cons P 117 (codes "sh") refl (All-cons P 115 (codes "h") refl (All-cons P 104 [] refl (All-nil P))))))
 
-two_words : (word : List ℕ) → All (λ b. is_blank b ≡ false) word → slice_split is_blank (codes "\\flush " ++ word) ≡ codes "\\flush" ∷ word ∷ []
-two_words word whole =
-    slice_split_at is_blank (codes "\\flush") 32 word no_blanks refl ∙ ap (λ ws. codes "\\flush" ∷ ws) (slice_split_none is_blank word whole)
+none_blank : HasNoBlank (codes "\\verify")
+none_blank =
+    let P = λ (b : ℕ). is_blank b ≡ false in
+    All-cons P 92 (codes "verify") refl (All-cons P 118 (codes "erify") refl (All-cons P 101 (codes "rify") refl
+    (All-cons P 114 (codes "ify") refl (All-cons P 105 (codes "fy") refl (All-cons P 102 (codes "y") refl (All-cons P 121 [] refl (All-nil P)))))))
 
-pub flush_said : (word : List ℕ) (t : TableName) → IsTable word t → All (λ b. is_blank b ≡ false) word → Flushes (codes "\\flush " ++ word) t
-unfolding flushed_word
+two_words : (c word : List ℕ) → HasNoBlank c → HasNoBlank word → slice_split is_blank (c ++ 32 ∷ word) ≡ c ∷ word ∷ []
+two_words c word named whole = slice_split_at is_blank c 32 word named refl ∙ ap (λ ws. c ∷ ws) (slice_split_none is_blank word whole)
+
+pub flush_said : (word : List ℕ) (t : TableName) → IsTable word t → HasNoBlank word → Flushes (codes "\\flush " ++ word) t
+unfolding word_of
 flush_said word t is whole = (
   word,
-  ap (λ ws. flushed_in (filter has_bytes ws)) (two_words word whole)
-      ∙ ap (λ b. flushed_in (codes "\\flush" ∷ cond b (word ∷ []) [])) (some_bytes word t is.1),
+  ap (λ ws. word_in (codes "\\flush") (filter has_bytes ws)) (two_words (codes "\\flush") word no_blanks whole)
+      ∙ ap (λ b. word_in (codes "\\flush") (codes "\\flush" ∷ cond b (word ∷ []) [])) (some_bytes word t is.1),
+  is,
+)
+
+pub verify_said : (word : List ℕ) (t : TableName) → IsTable word t → HasNoBlank word → Verifies (codes "\\verify " ++ word) t
+unfolding word_of
+verify_said word t is whole = (
+  word,
+  ap (λ ws. word_in (codes "\\verify") (filter has_bytes ws)) (two_words (codes "\\verify") word none_blank whole)
+      ∙ ap (λ b. word_in (codes "\\verify") (codes "\\verify" ∷ cond b (word ∷ []) [])) (some_bytes word t is.1),
   is,
 )

@@ -19,7 +19,7 @@ use Rattle.cql_parse.specs.Means.{Means}
 use Rattle.cas_lines.specs.declared.line.Line.{Line}
 use Rattle.cas_lines.specs.declared.line.Line.TheVariants as line
 use Rattle.cql_parse.specs.declared.syntax.TableName.{TableName}
-use Rattle.cas_lines.specs.Lines.{Flushes, IsTable, Spells, asks_status, clock_of, clock_in, flushed_in, flushed_word, is_command, seconds_in, status_in, words_of}
+use Rattle.cas_lines.specs.Lines.{Commands, IsTable, Spells, asks_status, clock_of, clock_in, is_command, seconds_in, status_in, word_in, word_of, words_of}
 
 -- ---- a command begins with `\`
 
@@ -44,15 +44,15 @@ by_test : (b : Bool) (o : Option (List ℕ)) (w : List ℕ) → cond b o None �
 by_test true o w e = refl
 by_test false o w e = absurd (none-some w e)
 
--- a line that flushes a table is a command
-pub flushes_by_command : (text : List ℕ) (t : TableName) → Flushes text t → is_command text ≡ true
-unfolding flushed_word
-flushes_by_command text t f = by_test (is_command text) _ f.0 f.1
+-- a line that tells a command of a table is a command
+pub tells_by_command : (c text : List ℕ) (t : TableName) → Commands c text t → is_command text ≡ true
+unfolding word_of
+tells_by_command c text t f = by_test (is_command text) _ f.0 f.1
 
--- the word that a command flushes
-pub flush_is : (text : List ℕ) (o : Option (List ℕ)) → is_command text ≡ true → o ≡ flushed_in (words_of text) → flushed_word text ≡ o
-unfolding flushed_word
-flush_is text o e is = ap (λ b. cond b (flushed_in (words_of text)) None) e ∙ sym is
+-- the word behind a command's name
+pub word_is : (c text : List ℕ) (o : Option (List ℕ)) → is_command text ≡ true → o ≡ word_in c (words_of text) → word_of c text ≡ o
+unfolding word_of
+word_is c text o e is = ap (λ b. cond b (word_in c (words_of text)) None) e ∙ sym is
 
 both_tests : (a b : Bool) → (a && b) ≡ true → (a ≡ true) × (b ≡ true)
 both_tests true true e = (refl, refl)
@@ -75,32 +75,48 @@ named_alike : (name a b : List ℕ) → str_eq_ignore_ascii_case name a ≡ true
     → str_to_ascii_lowercase a ≡ str_to_ascii_lowercase b
 named_alike name a b x y = sym ((bytes_eq-Decides _ _).0 x) ∙ (bytes_eq-Decides _ _).0 y
 
-two_names : (name : List ℕ) → str_eq_ignore_ascii_case name (codes "\\clock") ≡ true → str_eq_ignore_ascii_case name (codes "\\flush") ≡ true → ⊥
-two_names name x y =
-    let alike = named_alike name (codes "\\clock") (codes "\\flush") x y in
-    let same : bytes_eq (str_to_ascii_lowercase (codes "\\clock")) (str_to_ascii_lowercase (codes "\\flush")) ≡ true = (bytes_eq-Decides _ _).1 alike in
-    true≢false (sym same)
+-- in small letters the names differ
+abbrev pub Differ : List ℕ → List ℕ → Type 0
+Differ a b = bytes_eq (str_to_ascii_lowercase a) (str_to_ascii_lowercase b) ≡ false
 
-no_two : (words : List (List ℕ)) (n : ℤ) (word : List ℕ) → clock_in words ≡ Some n → flushed_in words ≡ Some word → ⊥
-no_two [] n w e f = none-some n e
-no_two (a ∷ []) n w e f = none-some n e
-no_two (name ∷ word ∷ []) n w e f = two_names name (tested _ (seconds_in (number_value word)) n e) (by_test _ (Some word) w f)
-no_two (a ∷ b ∷ d ∷ words) n w e f = none-some n e
+two_names : (name a b : List ℕ) → Differ a b → str_eq_ignore_ascii_case name a ≡ true → str_eq_ignore_ascii_case name b ≡ true → ⊥
+two_names name a b d x y = true≢false (sym ((bytes_eq-Decides _ _).1 (named_alike name a b x y)) ∙ d)
 
--- one that flushes sets no clock
-pub flushes_no_clock : (text word : List ℕ) (n : ℤ) → flushed_word text ≡ Some word → clock_of text ≡ Some n → ⊥
-unfolding clock_of flushed_word
-flushes_no_clock text word n f e =
+no_two : (c : List ℕ) (words : List (List ℕ)) (n : ℤ) (word : List ℕ) → Differ (codes "\\clock") c → clock_in words ≡ Some n → word_in c words ≡ Some word → ⊥
+no_two c [] n w d e f = none-some n e
+no_two c (a ∷ []) n w d e f = none-some n e
+no_two c (name ∷ word ∷ []) n w d e f =
+    two_names name (codes "\\clock") c d (tested _ (seconds_in (number_value word)) n e) (by_test _ (Some word) w f)
+no_two c (a ∷ b ∷ x ∷ words) n w d e f = none-some n e
+
+-- one of another name sets no clock
+pub tells_no_clock : (c text word : List ℕ) (n : ℤ) → Differ (codes "\\clock") c → word_of c text ≡ Some word → clock_of text ≡ Some n → ⊥
+unfolding clock_of word_of
+tells_no_clock c text word n d f e =
     let is : is_command text ≡ true = tested (is_command text) _ n e in
-    no_two (words_of text) n word (ap (λ b. cond b (clock_in (words_of text)) None) (sym is) ∙ e)
-    (ap (λ b. cond b (flushed_in (words_of text)) None) (sym is) ∙ f)
+    no_two c (words_of text) n word d (ap (λ b. cond b (clock_in (words_of text)) None) (sym is) ∙ e)
+    (ap (λ b. cond b (word_in c (words_of text)) None) (sym is) ∙ f)
+
+no_both : (a b : List ℕ) (words : List (List ℕ)) (v w : List ℕ) → Differ a b → word_in a words ≡ Some v → word_in b words ≡ Some w → ⊥
+no_both a b [] v w d e f = none-some v e
+no_both a b (x ∷ []) v w d e f = none-some v e
+no_both a b (name ∷ word ∷ []) v w d e f = two_names name a b d (by_test _ (Some word) v e) (by_test _ (Some word) w f)
+no_both a b (x ∷ y ∷ z ∷ words) v w d e f = none-some v e
+
+-- one of a name isn't one of another
+pub tells_one : (a b text v w : List ℕ) → Differ a b → word_of a text ≡ Some v → word_of b text ≡ Some w → ⊥
+unfolding word_of
+tells_one a b text v w d e f =
+    let is : is_command text ≡ true = by_test (is_command text) _ v e in
+    no_both a b (words_of text) v w d (ap (λ x. cond x (word_in a (words_of text)) None) (sym is) ∙ e)
+    (ap (λ x. cond x (word_in b (words_of text)) None) (sym is) ∙ f)
 
 -- ---- one of one word is none of two
 
-one_or_two : (words : List (List ℕ)) (word : List ℕ) → status_in words ≡ true → flushed_in words ≡ Some word → ⊥
-one_or_two [] word s f = none-some word f
-one_or_two (a ∷ []) word s f = none-some word f
-one_or_two (a ∷ b ∷ words) word s f = true≢false (sym s)
+one_or_two : (c : List ℕ) (words : List (List ℕ)) (word : List ℕ) → status_in words ≡ true → word_in c words ≡ Some word → ⊥
+one_or_two c [] word s f = none-some word f
+one_or_two c (a ∷ []) word s f = none-some word f
+one_or_two c (a ∷ b ∷ words) word s f = true≢false (sym s)
 
 one_or_set : (words : List (List ℕ)) (n : ℤ) → status_in words ≡ true → clock_in words ≡ Some n → ⊥
 one_or_set [] n s e = none-some n e
@@ -114,44 +130,59 @@ asks_no_clock text n s e =
     let is = both_tests (is_command text) (status_in (words_of text)) s in
     one_or_set (words_of text) n is.1 (ap (λ b. cond b (clock_in (words_of text)) None) (sym is.0) ∙ e)
 
--- and flushes nothing
-pub asks_no_flush : (text word : List ℕ) → asks_status text ≡ true → flushed_word text ≡ Some word → ⊥
-unfolding flushed_word asks_status
-asks_no_flush text word s f =
+-- and tells no command of a table
+pub asks_no_table : (c text word : List ℕ) → asks_status text ≡ true → word_of c text ≡ Some word → ⊥
+unfolding word_of asks_status
+asks_no_table c text word s f =
     let is = both_tests (is_command text) (status_in (words_of text)) s in
-    one_or_two (words_of text) word is.1 (ap (λ b. cond b (flushed_in (words_of text)) None) (sym is.0) ∙ f)
+    one_or_two c (words_of text) word is.1 (ap (λ b. cond b (word_in c (words_of text)) None) (sym is.0) ∙ f)
 
--- a command that sets no clock, flushes nothing and doesn't ask for the status says nothing that is known
-pub no_command : (text : List ℕ) → is_command text ≡ true → clock_in (words_of text) ≡ None → flushed_word text ≡ None → asks_status text ≡ false
-    → (l : Line) → Spells text l → ⊥
+-- a command that sets no clock, flushes and verifies nothing and doesn't ask for the status says nothing that is known
+pub no_command : (text : List ℕ) → is_command text ≡ true → clock_in (words_of text) ≡ None → word_of (codes "\\flush") text ≡ None
+    → word_of (codes "\\verify") text ≡ None → asks_status text ≡ false → (l : Line) → Spells text l → ⊥
 unfolding clock_of
-no_command text e h f n line.Blank s = no_token text [] e s.1
-no_command text e h f n (line.Statement st) s = no_token text s.1.0 e s.1.1
-no_command text e h f n (line.Clock k) s = none-some k (sym h ∙ (ap (λ b. cond b (clock_in (words_of text)) None) (sym e) ∙ s))
-no_command text e h f n (line.Flush t) s = none-some s.0 (sym f ∙ s.1)
-no_command text e h f n line.Status s = true≢false (sym s ∙ n)
-no_command text e h f n line.Syntax s = s
+no_command text e h f v n line.Blank s = no_token text [] e s.1
+no_command text e h f v n (line.Statement st) s = no_token text s.1.0 e s.1.1
+no_command text e h f v n (line.Clock k) s = none-some k (sym h ∙ (ap (λ b. cond b (clock_in (words_of text)) None) (sym e) ∙ s))
+no_command text e h f v n (line.Flush t) s = none-some s.0 (sym f ∙ s.1)
+no_command text e h f v n (line.Verify t) s = none-some s.0 (sym v ∙ s.1)
+no_command text e h f v n line.Status s = true≢false (sym s ∙ n)
+no_command text e h f v n line.Syntax s = s
 
 -- what the words of a command tell
-pub ruleset commands_read = (no_command, flush_is, status_is)
+pub ruleset commands_read = (no_command, word_is, status_is)
+
+names_none : (c text word : List ℕ) (t : TableName) → word_of c text ≡ Some word → ((t : TableName) → IsTable word t → ⊥) → Commands c text t → ⊥
+names_none c text word t f h s = h t (subst (λ w. IsTable w t) (sym (same_Some word s.0 (sym f ∙ s.1))) s.2)
 
 -- nor does one whose word names no table
-pub no_table : (text word : List ℕ) → is_command text ≡ true → flushed_word text ≡ Some word → ((t : TableName) → IsTable word t → ⊥)
+pub no_flushed_table : (text word : List ℕ) → is_command text ≡ true → word_of (codes "\\flush") text ≡ Some word → ((t : TableName) → IsTable word t → ⊥)
     → (l : Line) → Spells text l → ⊥
-no_table text word e f h line.Blank s = no_token text [] e s.1
-no_table text word e f h (line.Statement st) s = no_token text s.1.0 e s.1.1
-no_table text word e f h (line.Clock n) s = flushes_no_clock text word n f s
-no_table text word e f h (line.Flush t) s = h t (subst (λ w. IsTable w t) (sym (same_Some word s.0 (sym f ∙ s.1))) s.2)
-no_table text word e f h line.Status s = asks_no_flush text word s f
-no_table text word e f h line.Syntax s = s
+no_flushed_table text word e f h line.Blank s = no_token text [] e s.1
+no_flushed_table text word e f h (line.Statement st) s = no_token text s.1.0 e s.1.1
+no_flushed_table text word e f h (line.Clock n) s = tells_no_clock (codes "\\flush") text word n refl f s
+no_flushed_table text word e f h (line.Flush t) s = names_none (codes "\\flush") text word t f h s
+no_flushed_table text word e f h (line.Verify t) s = tells_one (codes "\\flush") (codes "\\verify") text word s.0 refl f s.1
+no_flushed_table text word e f h line.Status s = asks_no_table (codes "\\flush") text word s f
+no_flushed_table text word e f h line.Syntax s = s
+
+pub no_verified_table : (text word : List ℕ) → is_command text ≡ true → word_of (codes "\\verify") text ≡ Some word → ((t : TableName) → IsTable word t → ⊥)
+    → (l : Line) → Spells text l → ⊥
+no_verified_table text word e f h line.Blank s = no_token text [] e s.1
+no_verified_table text word e f h (line.Statement st) s = no_token text s.1.0 e s.1.1
+no_verified_table text word e f h (line.Clock n) s = tells_no_clock (codes "\\verify") text word n refl f s
+no_verified_table text word e f h (line.Flush t) s = tells_one (codes "\\flush") (codes "\\verify") text s.0 word refl s.1 f
+no_verified_table text word e f h (line.Verify t) s = names_none (codes "\\verify") text word t f h s
+no_verified_table text word e f h line.Status s = asks_no_table (codes "\\verify") text word s f
+no_verified_table text word e f h line.Syntax s = s
 
 -- a line that is no command sets no clock
 not_set : (text : List ℕ) (n : ℤ) → is_command text ≡ false → clock_of text ≡ Some n → ⊥
 not_set text n e s = true≢false (sym (sets_by_command text n s) ∙ e)
 
--- and flushes no table
-no_flush : (text : List ℕ) (t : TableName) → is_command text ≡ false → Flushes text t → ⊥
-no_flush text t e s = true≢false (sym (flushes_by_command text t s) ∙ e)
+-- and tells no command of a table
+no_tables : (c text : List ℕ) (t : TableName) → is_command text ≡ false → Commands c text t → ⊥
+no_tables c text t e s = true≢false (sym (tells_by_command c text t s) ∙ e)
 
 -- nor does it ask for the status
 no_status : (text : List ℕ) → is_command text ≡ false → asks_status text ≡ true → ⊥
@@ -161,7 +192,8 @@ pub no_tokens : (text : List ℕ) → is_command text ≡ false → IsRefused te
 no_tokens text c h line.Blank s = h [] s.1
 no_tokens text c h (line.Statement st) s = h s.1.0 s.1.1
 no_tokens text c h (line.Clock n) s = not_set text n c s
-no_tokens text c h (line.Flush t) s = no_flush text t c s
+no_tokens text c h (line.Flush t) s = no_tables (codes "\\flush") text t c s
+no_tokens text c h (line.Verify t) s = no_tables (codes "\\verify") text t c s
 no_tokens text c h line.Status s = no_status text c s
 no_tokens text c h line.Syntax s = s
 
@@ -169,7 +201,8 @@ pub no_statement : (text : List ℕ) (tokens : List Token) → is_command text �
 no_statement text tokens c lexed some h line.Blank s = some (one_reading text tokens [] lexed s.1)
 no_statement text tokens c lexed some h (line.Statement st) s = h st (subst (λ ts. Means text ts st) (one_reading text s.1.0 tokens s.1.1 lexed) s.1.2)
 no_statement text tokens c lexed some h (line.Clock n) s = not_set text n c s
-no_statement text tokens c lexed some h (line.Flush t) s = no_flush text t c s
+no_statement text tokens c lexed some h (line.Flush t) s = no_tables (codes "\\flush") text t c s
+no_statement text tokens c lexed some h (line.Verify t) s = no_tables (codes "\\verify") text t c s
 no_statement text tokens c lexed some h line.Status s = no_status text c s
 no_statement text tokens c lexed some h line.Syntax s = s
 
@@ -177,7 +210,8 @@ pub not_utf8 : (text : List ℕ) → is_command text ≡ false → (IsUtf8 text 
 not_utf8 text c h line.Blank s = h s.0
 not_utf8 text c h (line.Statement st) s = h s.0
 not_utf8 text c h (line.Clock n) s = not_set text n c s
-not_utf8 text c h (line.Flush t) s = no_flush text t c s
+not_utf8 text c h (line.Flush t) s = no_tables (codes "\\flush") text t c s
+not_utf8 text c h (line.Verify t) s = no_tables (codes "\\verify") text t c s
 not_utf8 text c h line.Status s = no_status text c s
 not_utf8 text c h line.Syntax s = s
 

@@ -16,6 +16,11 @@ abbrev pub FlushesAreRead : Type 0
 FlushesAreRead =
     (word : List ℕ) (t : TableName) → IsTable word t → All (λ b. is_blank b ≡ false) word → Says (codes "\\flush " ++ word) (line.Flush t)
 
+-- and behind `\verify` and a space to verify it
+abbrev pub VerifiesAreRead : Type 0
+VerifiesAreRead =
+    (word : List ℕ) (t : TableName) → IsTable word t → All (λ b. is_blank b ≡ false) word → Says (codes "\\verify " ++ word) (line.Verify t)
+
 -- `\status` asks which table files there are, also in large letters
 abbrev pub StatusIsRead : Type 0
 StatusIsRead = Says (codes "\\status") line.Status × Says (codes "\\STATUS") line.Status

@@ -1,5 +1,6 @@
--- What a line of a script says: nothing, a statement, `\clock n`, `\flush t`, `\status`, or nothing that is known.
--- CQL documentation, "Definitions: comments"; the commands are own, `\flush` after the tool "nodetool flush", `\status` after "nodetool tablestats".
+-- What a line of a script says: nothing, a statement, `\clock n`, `\flush t`, `\verify t`, `\status`, or nothing that is known.
+-- CQL documentation, "Definitions: comments"; the commands are own, `\flush` and `\verify` after the tools "nodetool flush" and "nodetool verify", `\status`
+-- after "nodetool tablestats".
 use Rattle.std.specs.Prelude.{◌≡◌, ℕ, ◌==◌, ℤ, pos, int_le, Bool, true, false, ◌&&◌, if◌then◌else◌}
 use Rattle.std.specs.Prelude.{List, [], ◌∷◌, codes, Option, None, Some, IsUtf8}
 use Rattle.std.specs.List.{filter, slice_split}
@@ -51,22 +52,30 @@ clock_of text = if is_command text then clock_in (words_of text) else None
 abbrev pub IsTable : List ℕ → TableName → Type 0
 IsTable word t = IsUtf8 word × SpellsTable word t
 
--- the word behind the name `\flush`, which stands in small letters or large ones
-abbrev pub flushed_by : List ℕ → List ℕ → Option (List ℕ)
-flushed_by name word = if str_eq_ignore_ascii_case name (codes "\\flush") then Some word else None
+-- the word behind the name of a command, which stands in small letters or large ones
+abbrev pub word_by : List ℕ → List ℕ → List ℕ → Option (List ℕ)
+word_by command name word = if str_eq_ignore_ascii_case name command then Some word else None
 
 -- the word behind it, where it is the only one
-abbrev pub flushed_in : List (List ℕ) → Option (List ℕ)
-flushed_in (name ∷ word ∷ []) = flushed_by name word
-flushed_in _ = None
+abbrev pub word_in : List ℕ → List (List ℕ) → Option (List ℕ)
+word_in command (name ∷ word ∷ []) = word_by command name word
+word_in command _ = None
 
--- the word of the command `\flush t`: of `\Flush  local.t` it is `local.t`; `\flush` and `\flush t u` have none
-unfoldable pub flushed_word : List ℕ → Option (List ℕ)
-flushed_word text = if is_command text then flushed_in (words_of text) else None
+-- the word of a command of that name: of `\Flush  local.t` it is `local.t`; `\flush` and `\flush t u` have none
+unfoldable pub word_of : List ℕ → List ℕ → Option (List ℕ)
+word_of command text = if is_command text then word_in command (words_of text) else None
+
+-- the line tells the command of that name to do its work on this table
+abbrev pub Commands : List ℕ → List ℕ → TableName → Type 0
+Commands command text t = (word : List ℕ) × (word_of command text ≡ Some word) × IsTable word t
 
 -- the line tells to flush this table: `\flush t` does, and `\flush t;` doesn't
 abbrev pub Flushes : List ℕ → TableName → Type 0
-Flushes text t = (word : List ℕ) × (flushed_word text ≡ Some word) × IsTable word t
+Flushes text t = Commands (codes "\\flush") text t
+
+-- the line tells to verify this table, as `\verify t` does
+abbrev pub Verifies : List ℕ → TableName → Type 0
+Verifies text t = Commands (codes "\\verify") text t
 
 -- the name `\status`, in small letters or large ones
 abbrev pub names_status : List ℕ → Bool
@@ -87,6 +96,7 @@ Spells text line.Blank = IsUtf8 text × Lexes text []
 Spells text (line.Statement s) = IsUtf8 text × ((tokens : List Token) × Lexes text tokens × Means text tokens s)
 Spells text (line.Clock n) = clock_of text ≡ Some n
 Spells text (line.Flush t) = Flushes text t
+Spells text (line.Verify t) = Verifies text t
 Spells text line.Status = asks_status text ≡ true
 Spells text line.Syntax = ⊥
 
@@ -96,5 +106,6 @@ Says text line.Blank = Spells text line.Blank
 Says text (line.Statement s) = Spells text (line.Statement s)
 Says text (line.Clock n) = Spells text (line.Clock n)
 Says text (line.Flush t) = Spells text (line.Flush t)
+Says text (line.Verify t) = Spells text (line.Verify t)
 Says text line.Status = Spells text line.Status
 Says text line.Syntax = (l : Line) → Spells text l → ⊥

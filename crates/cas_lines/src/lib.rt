@@ -5,6 +5,6 @@ mod laws;
 mod line;
 mod lines;
 
-pub use laws::{flushes_are_read, one_reading, status_is_read};
+pub use laws::{flushes_are_read, one_reading, status_is_read, verifies_are_read};
 pub use line::{Line, read_line};
 pub use lines::next_line;

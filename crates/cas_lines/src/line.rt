@@ -1,10 +1,10 @@
 //! What a line of a script says.
 
-ghost use Rattle.std.specs.Prelude.{◌≡◌, [], false, true, map, option_map, IfOk, IsTrue, IsUtf8, Some};
+ghost use Rattle.std.specs.Prelude.{◌≡◌, [], false, true, codes, map, option_map, IfOk, IsTrue, IsUtf8, Some};
 ghost use Rattle.cql_lex.specs.Lexes.{Lexes};
 ghost use Rattle.cql_lex.specs.Gaps.{is_blank};
 ghost use Rattle.cas_lines.specs.Lines.{Says, clock_by, clock_in, has_bytes, is_command, seconds_in, words_of};
-ghost use Rattle.cas_lines.specs.Lines.{flushed_by, flushed_in, flushed_word, names_status, status_in};
+ghost use Rattle.cas_lines.specs.Lines.{names_status, status_in, word_by, word_in, word_of};
 ghost use Rattle.cas_lines.specs.Inner.Flushing.{NamesTable};
 
 use cas_types::{LAST_SECOND, Mem};
@@ -23,6 +23,8 @@ pub enum Line {
     Clock(i64),
     /// `\flush t`, with the table's name.
     Flush(TableName),
+    /// `\verify t`, with the table's name.
+    Verify(TableName),
     /// `\status`.
     Status,
     /// It is none of these.
@@ -100,21 +102,22 @@ fn table_in(alloc: Global, word: &[u8]) -> Result<Option<TableName>, Mem>
     }
 }
 
-fn flushed_by<'a>(name: &[u8], word: &'a [u8]) -> Option<&'a [u8]>
-    ensures { option_map (λ w. w.now) result ≡ flushed_by name.now word.now }
+fn word_by<'a>(command: &[u8], name: &[u8], word: &'a [u8]) -> Option<&'a [u8]>
+    ensures { option_map (λ w. w.now) result ≡ word_by command.now name.now word.now }
 {
-    if name.eq_ignore_ascii_case(b"\\flush") {
+    if name.eq_ignore_ascii_case(command) {
         Some(word)
     } else {
         None
     }
 }
 
-fn flushed_in<'a>(words: &[&'a [u8]]) -> Option<&'a [u8]>
-    ensures { option_map (λ w. w.now) result ≡ flushed_in (map (λ w. w.now) words.now) }
+// The one word behind the name of a command, where that stands there.
+fn word_in<'a>(command: &[u8], words: &[&'a [u8]]) -> Option<&'a [u8]>
+    ensures { option_map (λ w. w.now) result ≡ word_in command.now (map (λ w. w.now) words.now) }
 {
     match words {
-        [name, word] => flushed_by(name, word),
+        [name, word] => word_by(command, name, word),
         _ => None,
     }
 }
@@ -135,14 +138,27 @@ fn is_status(words: &[&[u8]]) -> bool
 }
 
 // What the command says that tells to flush what the word names.
-#[tactic(auto, using(crate::proofs::LineReading::no_table))]
+#[tactic(auto, using(crate::proofs::LineReading::no_flushed_table))]
 fn read_flush(alloc: Global, text: &[u8], word: &[u8]) -> Result<Line, Mem>
     requires command { is_command text.now ≡ true }
-    requires word { flushed_word text.now ≡ Some word.now }
+    requires word { word_of (codes "\\flush") text.now ≡ Some word.now }
     ensures { IfOk result (λ l. Says text.now l) }
 {
     match table_in(alloc, word)? {
         Some(table) => Ok(Line::Flush(table)),
+        None => Ok(Line::Syntax),
+    }
+}
+
+// What the command says that tells to verify it.
+#[tactic(auto, using(crate::proofs::LineReading::no_verified_table))]
+fn read_verify(alloc: Global, text: &[u8], word: &[u8]) -> Result<Line, Mem>
+    requires command { is_command text.now ≡ true }
+    requires word { word_of (codes "\\verify") text.now ≡ Some word.now }
+    ensures { IfOk result (λ l. Says text.now l) }
+{
+    match table_in(alloc, word)? {
+        Some(table) => Ok(Line::Verify(table)),
         None => Ok(Line::Syntax),
     }
 }
@@ -160,8 +176,11 @@ fn read_command(alloc: Global, text: &[u8]) -> Result<Line, Mem>
     if is_status(&words) {
         return Ok(Line::Status);
     }
-    match flushed_in(&words) {
-        Some(word) => read_flush(alloc, text, word),
+    if let Some(word) = word_in(b"\\flush", &words) {
+        return read_flush(alloc, text, word);
+    }
+    match word_in(b"\\verify", &words) {
+        Some(word) => read_verify(alloc, text, word),
         None => Ok(Line::Syntax),
     }
 }

@@ -11,16 +11,20 @@ use Rattle.cas_lines.specs.declared.line.Line.TheVariants as line
 use Rattle.cas_lines.proofs.LineReading.{clock_is_moment}
 use Rattle.cas_render.specs.declared.reply.Reply.{Reply}
 use Rattle.cas_render.specs.declared.reply.Reply.TheVariants as reply
+use Rattle.cas_render.specs.declared.reply.Verdict.{Verdict}
 use Rattle.cas_words.specs.declared.words.ClockKind.{ClockKind}
 use Rattle.cas_words.specs.declared.words.ClockKind.TheVariants as clock
 use Rattle.cql_parse.specs.declared.syntax.Statement.{Statement}
 use Rattle.cql_parse.specs.declared.syntax.TableName.{TableName}
 use Rattle.cas_sessions.specs.declared.answer.Fault.{Fault}
 use Rattle.cas_sessions.specs.Flushes.{Flushes}
-use Rattle.cas_sessions.specs.History.{History, Does}
+use Rattle.cas_sessions.specs.History.{History, Does, shard_at}
 use Rattle.cas_sessions.specs.Status.{status}
-use Rattle.cas_node.specs.Lines.{Answers, FlushesNone, SetsClock, Tells, reply_of_flush}
+use Rattle.cas_sessions.specs.Verifying.{Verifies}
+use Rattle.cas_node.specs.Inner.Serving.{Knows}
+use Rattle.cas_node.specs.Lines.{Answers, FlushesNone, SetsClock, reply_of_flush, reply_of_verify}
 use Rattle.cas_sessions.specs.Nodes.{State, StandsFor, GoesOnTo, Moves, OrWant}
+use Rattle.cas_sessions.proofs.Explaining.{explains_still, goes_nowhere, keep_files_none}
 use Rattle.cas_sessions.proofs.Answering.{moves_as}
 
 -- ---- a line
@@ -57,12 +61,23 @@ pub says_flush : (text : List ℕ) (l : Line) (name : TableName) → Says text l
 says_flush text l name says is none = none name (subst (λ l. Says text l) is says)
 
 module _ (kind : ClockKind) (Gives : ℤ → Type 0) where
-  pub answers_flush : (s t : State) (d e : Disk) (text : List ℕ) (l : Line) (name : TableName) (r : Reply) → (Tells d → Moves (λ h after. Flushed name r h after) s t d e)
-      → Says text l → l ≡ line.Flush name → Tells d ⊎ FlushesNone text → Moves (λ h after. Answers kind Gives h text (Some r) after) s t d e
-  answers_flush s t d e text l name r moves says is (inl tells) =
-      moves_as s t d e (Flushed name r) (λ h after. Answers kind Gives h text (Some r) after) (moves tells)
+  pub answers_flush : (s t : State) (d e : Disk) (text : List ℕ) (l : Line) (name : TableName) (r : Reply) → (Knows s d → Moves (λ h after. Flushed name r h after) s t d e)
+      → Says text l → l ≡ line.Flush name → Knows s d ⊎ FlushesNone text → Moves (λ h after. Answers kind Gives h text (Some r) after) s t d e
+  answers_flush s t d e text l name r moves says is (inl known) =
+      moves_as s t d e (Flushed name r) (λ h after. Answers kind Gives h text (Some r) after) (moves known)
       (λ h after stands so. inr (line.Flush name, subst (λ l. Says text l) is says, (so.0, ap (λ q. Some q) so.1, so.2)))
   answers_flush s t d e text l name r moves says is (inr none) = absurd (says_flush text l name says is none)
+
+-- what a check answers, and becomes of the store
+abbrev pub Verified : TableName → Reply → History → History → Type 0
+Verified name r h after = (told : Result (List Verdict) Fault) × (r ≡ reply_of_verify told) × Verifies h name told after
+
+module _ (kind : ClockKind) (Gives : ℤ → Type 0) where
+  pub answers_verify : (s t : State) (d e : Disk) (text : List ℕ) (l : Line) (name : TableName) (r : Reply) → Moves (λ h after. Verified name r h after) s t d e
+      → Says text l → l ≡ line.Verify name → Moves (λ h after. Answers kind Gives h text (Some r) after) s t d e
+  answers_verify s t d e text l name r moves says is =
+      moves_as s t d e (Verified name r) (λ h after. Answers kind Gives h text (Some r) after) moves
+      (λ h after stands so. inr (line.Verify name, subst (λ l. Says text l) is says, (so.0, ap (λ q. Some q) so.1, so.2)))
 
 -- what `\status` answers; it changes nothing
 abbrev pub Listed : Reply → History → History → Type 0
@@ -72,7 +87,7 @@ module _ (kind : ClockKind) (Gives : ℤ → Type 0) where
   pub answers_status : (s : State) (d : Disk) (text : List ℕ) (l : Line) (r : Reply) → ((h : History) → StandsFor h s → OrWant r (Listed r) h h)
       → Says text l → l ≡ line.Status → Moves (λ h after. Answers kind Gives h text (Some r) after) s s d d
   answers_status s d text l r lists says is h stands =
-      (h, answers (lists h stands), record { stands = stands; lasts = λ found told lasts. (told, lasts) })
+      (h, answers (lists h stands), record { stands = stands; lasts = λ found told lasts. (told, lasts, λ openings explained. explained) })
     where
       answers : OrWant r (Listed r) h h → Answers kind Gives h text (Some r) h
       answers (inl want) = inl (ap (λ q. Some q) want.0, refl)
@@ -113,6 +128,9 @@ with_clock h s n d stands = record {
       files = lasts.files;
       changes = lasts.changes;
     },
+    λ openings explained.
+        explains_still openings h (record h { clock = n }) found s (record s { clock = n }) d d told (λ k. goes_nowhere (shard_at h k)) refl refl (keep_files_none told d)
+        (λ ms have. have) explained,
   );
 }
 
@@ -123,4 +141,4 @@ sets_clock kind s n m d is same h stands =
 
 pub refuses_clock : (kind : ClockKind) (s : State) (n : ℤ) (d : Disk) → kind ≡ clock.System → Moves (λ h after. SetsClock kind h n (reply.Refused NOT_HERE) after) s s d d
 refuses_clock kind s n d is h stands =
-    (h, subst (λ k. SetsClock k h n (reply.Refused NOT_HERE) h) (sym is) (refl, refl), record { stands = stands; lasts = λ found told lasts. (told, lasts) })
+    (h, subst (λ k. SetsClock k h n (reply.Refused NOT_HERE) h) (sym is) (refl, refl), record { stands = stands; lasts = λ found told lasts. (told, lasts, λ openings explained. explained) })

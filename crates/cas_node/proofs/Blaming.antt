@@ -1,5 +1,5 @@
--- A run calls a table file bad only where it is bad for a query.
-use Rattle.std.proofs.Common.{◌≡◌, inl, inr, ℕ, ℤ, List, [], ◌∷◌, ◌++◌, Bool, None, true, false, Option, Some, Result, Ok, Err, sym, ap, subst}
+-- A run calls a table file bad only where it is bad for a query, or was found bad.
+use Rattle.std.proofs.Common.{◌≡◌, inl, inr, ℕ, ℤ, List, [], ◌∷◌, ◌++◌, length, Bool, None, true, false, Option, Some, Result, Ok, Err, sym, ap, subst}
 use Rattle.std.specs.Prelude.{if◌then◌else◌, ◌||◌}
 use Rattle.std.specs.List.{fold}
 use Rattle.cas_types.specs.declared.schema.TableSchema.{TableSchema}
@@ -20,8 +20,10 @@ use Rattle.cas_lines.specs.declared.line.Line.TheVariants as line
 use Rattle.cas_render.specs.declared.reply.Failure.TheVariants as failure
 use Rattle.cas_render.specs.declared.reply.Reply.{Reply}
 use Rattle.cas_render.specs.declared.reply.Reply.TheVariants as reply
+use Rattle.cas_render.specs.declared.reply.Verdict.{Verdict}
 use Rattle.cas_shard.specs.declared.entry.Entry.{Entry}
 use Rattle.cas_shard.specs.Shards.{ShardHistory}
+use Rattle.cas_shard.specs.declared.answers.Look.{Look}
 use Rattle.cas_sstread.specs.Loading.{Held}
 use Rattle.cas_stored.specs.Reading.{IsBadFile}
 use Rattle.cas_terms.specs.Columns.{table_named}
@@ -31,12 +33,14 @@ use Rattle.cas_words.specs.declared.words.ClockKind.TheVariants as clock
 use Rattle.cas_sessions.specs.declared.answer.Fault.{Fault}
 use Rattle.cas_sessions.specs.declared.answer.Fault.TheVariants as fault
 use Rattle.cas_sessions.specs.Flushes.{FlushesNamed, FlushesTable}
-use Rattle.cas_sessions.specs.History.{History, DiskState, Takes, Defines, Shows, Does}
+use Rattle.cas_sessions.specs.History.{History, DiskState, Takes, Defines, Shows, Does, rows_reply}
+use Rattle.cas_sessions.specs.Verifying.{VerifiesNamed, table_files}
 use Rattle.cas_node.specs.declared.cause.Cause.{Cause}
 use Rattle.cas_node.specs.declared.cause.Cause.TheVariants as cause
-use Rattle.cas_node.specs.Lines.{Answered, Answers, Runs, SetsClock, reply_of_flush}
+use Rattle.cas_node.specs.Lines.{Answered, Answers, Runs, SetsClock, reply_of_flush, reply_of_verify}
 use Rattle.cas_node.specs.Ran.{Ended, IfBad, IsBadForOne, RanFrom, Stop, at_the_end, at_the_sink, for_memory, has_risen, reply_cause, with_faults, worse, worst}
 use Rattle.cas_node.proofs.Stopping.{AreMore, one_line}
+use Rattle.cas_node.proofs.Verified.{found_bad, in_some_shard}
 
 pub of_both : (P : Cause → Type 0) (b : Bool) (x y : Cause) → P x → P y → P (if b then y else x)
 of_both P true x y p q = q
@@ -53,6 +57,7 @@ module _ (P : Name → ℕ → Type 0) where
   taken segment m x d (reply.Wrote number) entries e t = tt
   taken segment m x d (reply.Rows rows shard front now) entries e t = absurd t
   taken segment m x d (reply.Flushed files) entries e t = absurd t
+  taken segment m x d (reply.Verified files) entries e t = absurd t
   taken segment m x d (reply.Status tables) entries e t = absurd t
   taken segment m x d (reply.Refused why) entries e t = tt
   taken segment m x d (reply.Failed failure.Memory) entries e t = tt
@@ -67,6 +72,7 @@ module _ (P : Name → ℕ → Type 0) where
   defined x old new d (reply.Wrote number) tables e t = absurd t
   defined x old new d (reply.Rows rows shard front now) tables e t = absurd t
   defined x old new d (reply.Flushed files) tables e t = absurd t
+  defined x old new d (reply.Verified files) tables e t = absurd t
   defined x old new d (reply.Status listed) tables e t = absurd t
   defined x old new d (reply.Refused why) tables e t = tt
   defined x old new d (reply.Failed failure.Memory) tables e t = tt
@@ -91,19 +97,40 @@ named : (P : Name → ℕ → Type 0) (h : History) (o : Option TableSchema) (r 
 named P h None r after a = subst (λ (x : Result (List ℕ) Fault). IfBad (reply_cause (Some (reply_of_flush x))) P) (sym a.0) tt
 named P h (Some t) r after a = flushed P h t r after a
 
+-- a check blames a file that it found bad
+verified : (h : History) (o : Option TableSchema) (r : Result (List Verdict) Fault) (after : History) → VerifiesNamed h o r after
+    → IsSo h.disk.files (reply_cause (Some (reply_of_verify r)))
+verified h None r after a = subst (λ (x : Result (List Verdict) Fault). IsSo h.disk.files (reply_cause (Some (reply_of_verify x)))) (sym a.0) tt
+verified h (Some t) (Ok vs) after a =
+    found_bad (IsBadForOne h.disk.files) (table_files h.disk.files (length h.shards) t.number) vs
+    (λ f number at has is found.
+    let there = in_some_shard h.disk.files (length h.shards) t.number f has in
+    inr (there.0, t.number, (f, there.1, is, found)))
+    a.2
+verified h (Some t) (Err (fault.Refused why)) after a = tt
+verified h (Some t) (Err (fault.Stopped first)) after a = tt
+verified h (Some t) (Err (fault.Disk number)) after a = tt
+verified h (Some t) (Err fault.Read) after a = tt
+verified h (Some t) (Err (fault.BadBlock number at)) after a = absurd a.2
+verified h (Some t) (Err fault.Mem) after a = tt
+
+never_shown : (verdicts : List Verdict) (shard : ℕ) (look : Look) → reply.Verified verdicts ≡ rows_reply shard look → ⊥
+never_shown verdicts shard look e = cc
+
 shown : (files : ℕ → ℕ → List (File Held)) (before now : ℕ) (s : ShardHistory) (reading : ℤ) (q : BoundRead) (r : Reply)
     → Shows (files q.shard q.query.table) before now s reading q r → IsSo files (reply_cause (Some r))
 shown files before now s reading q reply.Done t = tt
 shown files before now s reading q (reply.Wrote number) t = tt
 shown files before now s reading q (reply.Rows rows shard front at) t = tt
 shown files before now s reading q (reply.Flushed numbers) t = tt
+shown files before now s reading q (reply.Verified verdicts) t = absurd (never_shown verdicts q.shard _ t)
 shown files before now s reading q (reply.Status tables) t = tt
 shown files before now s reading q (reply.Refused why) t = tt
 shown files before now s reading q (reply.Failed failure.Memory) t = tt
 shown files before now s reading q (reply.Failed failure.Stopped) t = absurd t
 shown files before now s reading q (reply.Failed failure.Disk) t = absurd t
 shown files before now s reading q (reply.Failed failure.Read) t = tt
-shown files before now s reading q (reply.Failed (failure.Block n at)) t = (q.shard, q.query, t)
+shown files before now s reading q (reply.Failed (failure.Block n at)) t = inl (q.shard, q.query, t)
 
 -- ---- more files
 
@@ -125,8 +152,12 @@ with_more fs gs more cause.Write so = tt
 with_more fs gs more cause.Disk so = tt
 with_more fs gs more cause.Mem so = tt
 with_more fs gs more (cause.TooLong taken) so = tt
-with_more fs gs more (cause.Bad (file.Table number) at) so =
-    (so.0, so.1, ∥∥₁_map so.2 (still_bad (fs so.0 so.1.table) (gs so.0 so.1.table) so.1.key so.1.slice number at (more so.0 so.1.table)))
+with_more fs gs more (cause.Bad (file.Table number) at) (inl so) =
+    inl (so.0, so.1, ∥∥₁_map so.2 (still_bad (fs so.0 so.1.table) (gs so.0 so.1.table) so.1.key so.1.slice number at (more so.0 so.1.table)))
+with_more fs gs more (cause.Bad (file.Table number) at) (inr so) =
+    let (shard, table, (f, has, is, found)) = so in
+    let (others, are) = more shard table in
+    inr (shard, table, (f, subst (λ hs. Has hs f) (sym are) (has_front (fs shard table) others f has), is, found))
 with_more fs gs more (cause.Bad file.Manifest at) so = so
 with_more fs gs more (cause.Bad (file.Log number) at) so = so
 with_more fs gs more (cause.Bad (file.Import number) at) so = so
@@ -154,6 +185,7 @@ module _ (kind : ClockKind) (Gives : ℤ → Type 0) where
   answered h line.Syntax r t a = quiet h.disk.files r _ a.0 tt
   answered h (line.Clock n) r t a = quiet h.disk.files r _ a.1 (clock_set kind h n a.0 t a.2)
   answered h (line.Flush name) r t a = quiet h.disk.files r _ a.1 (named (IsBadForOne h.disk.files) h (table_named h.tables name) a.0 t a.2)
+  answered h (line.Verify name) r t a = quiet h.disk.files r _ a.1 (verified h (table_named h.tables name) a.0 t a.2)
   answered h line.Status r t a = quiet h.disk.files r _ a.0 tt
   answered h (line.Statement s) r t a = quiet h.disk.files r _ a.1 (deed h (meaning h.limits.shards h.tables s) a.0 t a.2)
 

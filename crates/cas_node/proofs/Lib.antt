@@ -1,7 +1,8 @@
 mod Answered
 mod Stopping
+mod Verified
+mod FilesFew
 mod Blaming
-mod Numbered
 mod Staying
 mod RunLemmas
 mod NumbersRise

@@ -20,6 +20,7 @@ use Rattle.cas_lines.specs.declared.line.Line.TheVariants as line
 use Rattle.cas_render.specs.declared.reply.Failure.TheVariants as failure
 use Rattle.cas_render.specs.declared.reply.Reply.{Reply}
 use Rattle.cas_render.specs.declared.reply.Reply.TheVariants as reply
+use Rattle.cas_render.specs.declared.reply.Verdict.{Verdict}
 use Rattle.cas_shard.specs.declared.entry.ShardOpening.{ShardOpening}
 use Rattle.cas_shard.specs.Shards.{ShardHistory, empty_shard, found_shard, moment_at, mutation_at, number_of}
 use Rattle.cas_shard.specs.Stands.{NumbersRise}
@@ -33,6 +34,7 @@ use Rattle.cas_sessions.specs.declared.answer.Fault.TheVariants as fault
 use Rattle.cas_changes.specs.declared.entry.Change.{Change}
 use Rattle.cas_sessions.specs.Flushes.{FlushesNamed, FlushesTable, changes_by}
 use Rattle.cas_sessions.specs.History.{History, DiskState, Does, Takes, shard_at, after_entries, with_shard}
+use Rattle.cas_sessions.specs.Verifying.{VerifiesNamed}
 use Rattle.cas_node.specs.Lines.{SetsClock, Answered, Answers}
 use Rattle.cas_recovery.specs.Found.{AreOfAStore}
 use Rattle.cas_recovery.specs.Openings.{AreOpenings}
@@ -73,6 +75,7 @@ module _ (reading : ℤ) (s : ShardHistory) (session call : ℕ) (m : Mutation) 
   taken segment d (reply.Wrote number) entries e t = one entries t.2
   taken segment d (reply.Rows rows shard front now) entries e t = absurd t
   taken segment d (reply.Flushed files) entries e t = absurd t
+  taken segment d (reply.Verified files) entries e t = absurd t
   taken segment d (reply.Status tables) entries e t = absurd t
   taken segment d (reply.Refused why) entries e t = none entries t.1
   taken segment d (reply.Failed failure.Memory) entries e t = none entries t.0
@@ -129,11 +132,17 @@ named_keeps : (h : History) (o : Option TableSchema) (r : Result (List ℕ) Faul
 named_keeps h None r t a all = subst AllRise (sym a.1) all
 named_keeps h (Some x) r t a all = flush_keeps h x r t a all
 
+-- a check changes no shard
+verify_keeps : (h : History) (o : Option TableSchema) (r : Result (List Verdict) Fault) (t : History) → VerifiesNamed h o r t → AllRise h → AllRise t
+verify_keeps h None r t a all = subst AllRise (sym a.1) all
+verify_keeps h (Some x) r t a all = subst AllRise (sym a.3) all
+
 answered_keeps : (kind : ClockKind) (Gives : ℤ → Type 0) (h : History) (l : Line) (r : Option Reply) (t : History) → Answered kind Gives h l r t → AllRise h → AllRise t
 answered_keeps kind Gives h line.Blank r t a all = subst AllRise (sym a.1) all
 answered_keeps kind Gives h line.Syntax r t a all = subst AllRise (sym a.1) all
 answered_keeps kind Gives h (line.Clock n) r t a all = sets_keeps kind h n a.0 t a.2 all
 answered_keeps kind Gives h (line.Flush name) r t a all = named_keeps h (table_named h.tables name) a.0 t a.2 all
+answered_keeps kind Gives h (line.Verify name) r t a all = verify_keeps h (table_named h.tables name) a.0 t a.2 all
 answered_keeps kind Gives h line.Status r t a all = subst AllRise (sym a.1) all
 answered_keeps kind Gives h (line.Statement s) r t a all = does_keeps kind Gives h (meaning h.limits.shards h.tables s) a.0 t a.2 all
 

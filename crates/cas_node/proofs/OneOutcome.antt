@@ -1,5 +1,5 @@
 -- Under the manual clock a script has one outcome.
-use Rattle.std.proofs.Common.{◌≡◌, ◌≤◌, ◌+◌, ℕ, ℤ, Bool, true, false, List, [], ◌∷◌, Option, Some, None, Result, Ok, Err, refl, sym, ap, ◌∙◌, subst, inl, inr, arith}
+use Rattle.std.proofs.Common.{◌≡◌, ◌≤◌, ◌+◌, ℕ, ℤ, Bool, true, false, List, [], ◌∷◌, length, Option, Some, None, Result, Ok, Err, refl, sym, ap, ◌∙◌, subst, inl, inr, arith}
 use Rattle.std.specs.Prelude.{◌⊎◌}
 use Rattle.std.specs.List.{list_any}
 use Rattle.std.proofs.Math.Logic.{∥∥₁_elim}
@@ -24,6 +24,7 @@ use Rattle.cas_render.specs.Listing.{status_of}
 use Rattle.cas_render.specs.declared.reply.Failure.TheVariants as failure
 use Rattle.cas_render.specs.declared.reply.Reply.{Reply}
 use Rattle.cas_render.specs.declared.reply.Reply.TheVariants as reply
+use Rattle.cas_render.specs.declared.reply.Verdict.{Verdict}
 use Rattle.cas_lines.specs.declared.line.Line.{Line}
 use Rattle.cas_lines.specs.declared.line.Line.TheVariants as line
 use Rattle.cas_lines.specs.Lines.{Says}
@@ -31,13 +32,18 @@ use Rattle.cas_lines.proofs.OneLine.{one_line}
 use Rattle.cas_shard.specs.declared.entry.Entry.{Entry}
 use Rattle.cas_shard.specs.Shards.{ShardHistory, look_at, take_refusal, mutation_at}
 use Rattle.cas_sstread.specs.Loading.{Held}
+use Rattle.cas_terms.specs.Columns.{table_named}
 use Rattle.cas_view.specs.Views.{File}
 use Rattle.cas_words.specs.declared.words.ClockKind.TheVariants as clock
 use Rattle.cas_sessions.specs.History.{History, DiskState, Takes, Shows, Stays, Stops, SameFiles, Defines, Changes, Does, ReadsAt, WritesAt, after_read, after_write, entry_of, rows_reply, shard_at, tells_want}
 use Rattle.cas_sessions.specs.Status.{file_numbers, status}
-use Rattle.cas_node.specs.Lines.{Answered, Answers, FlushesNone, NoneFlushes, Runs, is_starved}
+use Rattle.cas_sessions.specs.Verifying.{EndsVerified, VerifiesNamed, table_files}
+use Rattle.cas_sessions.specs.declared.answer.Fault.{Fault}
+use Rattle.cas_sessions.specs.declared.answer.Fault.TheVariants as fault
+use Rattle.cas_node.specs.Lines.{Answered, Answers, FlushesNone, NoneFlushes, Runs, is_starved, reply_of_verify}
 use Rattle.cas_node.specs.Ran.{AreGood}
 use Rattle.cas_node.specs.Laws.{OneOutcome, SameStore, IsRoomy, StaysWell}
+use Rattle.cas_node.proofs.Verified.{all_good, are_good, in_some_shard}
 
 -- ---- the disk along a run
 
@@ -79,6 +85,7 @@ taken_grows segment m x d reply.Done entries e t = absurd t
 taken_grows segment m x d (reply.Wrote number) entries e t = of_stays d e t.3.1
 taken_grows segment m x d (reply.Rows rows shard front now) entries e t = absurd t
 taken_grows segment m x d (reply.Flushed files) entries e t = absurd t
+taken_grows segment m x d (reply.Verified files) entries e t = absurd t
 taken_grows segment m x d (reply.Status tables) entries e t = absurd t
 taken_grows segment m x d (reply.Refused why) entries e t = of_stays d e t.2
 taken_grows segment m x d (reply.Failed failure.Memory) entries e t = of_stays d e t.1
@@ -96,6 +103,7 @@ defined_grows x old new d reply.Done tables e t = with_entry d e x (ap (λ q. q.
 defined_grows x old new d (reply.Wrote number) tables e t = absurd t
 defined_grows x old new d (reply.Rows rows shard front now) tables e t = absurd t
 defined_grows x old new d (reply.Flushed files) tables e t = absurd t
+defined_grows x old new d (reply.Verified files) tables e t = absurd t
 defined_grows x old new d (reply.Status listed) tables e t = absurd t
 defined_grows x old new d (reply.Refused why) tables e t = of_stays d e t.4.1
 defined_grows x old new d (reply.Failed failure.Memory) tables e t = of_stays d e t.1
@@ -124,14 +132,20 @@ no_flush text line.Blank says none = tt
 no_flush text line.Syntax says none = tt
 no_flush text (line.Clock n) says none = tt
 no_flush text (line.Flush name) says none = none name says
+no_flush text (line.Verify name) says none = tt
 no_flush text line.Status says none = tt
 no_flush text (line.Statement s) says none = tt
+
+verify_grows : (h : History) (o : Option TableSchema) (r : Result (List Verdict) Fault) (t : History) → VerifiesNamed h o r t → Grows h.disk t.disk
+verify_grows h None r t a = at_disk h t h.disk (ap (λ (k : History). k.disk) a.1) (still h.disk)
+verify_grows h (Some x) r t a = at_disk h t (record h.disk { reads = a.0 }) (ap (λ (k : History). k.disk) a.3) (read_on h.disk a.0 a.1)
 
 answered_grows : (Gives : ℤ → Type 0) (h : History) (l : Line) (r : Option Reply) (t : History) → IsNoFlush l → Answered clock.Manual Gives h l r t → Grows h.disk t.disk
 answered_grows Gives h line.Blank r t none a = at_disk h t h.disk (ap (λ (k : History). k.disk) a.1) (still h.disk)
 answered_grows Gives h line.Syntax r t none a = at_disk h t h.disk (ap (λ (k : History). k.disk) a.1) (still h.disk)
 answered_grows Gives h (line.Clock n) r t none a = at_disk h t h.disk (ap (λ (k : History). k.disk) a.2.1) (still h.disk)
 answered_grows Gives h (line.Flush name) r t none a = absurd none
+answered_grows Gives h (line.Verify name) r t none a = verify_grows h (table_named h.tables name) a.0 t a.2
 answered_grows Gives h line.Status r t none a = at_disk h t h.disk (ap (λ (k : History). k.disk) a.1) (still h.disk)
 answered_grows Gives h (line.Statement s) r t none a = deed_grows Gives h (meaning h.limits.shards h.tables s) a.0 t a.2
 
@@ -209,6 +223,7 @@ settled segment m x d (reply.Wrote number) entries e t v well =
     by_refusal (take_refusal segment m) None m x _ entries e t.0 (ap (λ n. reply.Wrote n) t.1) t.2 (t.3.1.stopped ∙ t.3.0)
 settled segment m x d (reply.Rows rows shard front now) entries e t v well = absurd t
 settled segment m x d (reply.Flushed files) entries e t v well = absurd t
+settled segment m x d (reply.Verified files) entries e t v well = absurd t
 settled segment m x d (reply.Status tables) entries e t v well = absurd t
 settled segment m x d (reply.Refused why) entries e t v well = by t.0
   where
@@ -233,6 +248,7 @@ agreed x old new d reply.Done tables e t v well = record { done = refl; are = t.
 agreed x old new d (reply.Wrote number) tables e t v well = absurd t
 agreed x old new d (reply.Rows rows shard front now) tables e t v well = absurd t
 agreed x old new d (reply.Flushed files) tables e t v well = absurd t
+agreed x old new d (reply.Verified files) tables e t v well = absurd t
 agreed x old new d (reply.Status listed) tables e t v well = absurd t
 agreed x old new d (reply.Refused why) tables e t v well = absurd (omega (arith, t.2, t.3, t.4.1.reach.manifest, well.2.1))
 agreed x old new d (reply.Failed failure.Memory) tables e t v well = absurd (true≢false v)
@@ -248,13 +264,32 @@ is_shown files before now s a x reply.Done t v none good = t
 is_shown files before now s a x (reply.Wrote number) t v none good = t
 is_shown files before now s a x (reply.Rows rows shard front at) t v none good = t
 is_shown files before now s a x (reply.Flushed numbers) t v none good = t
+is_shown files before now s a x (reply.Verified verdicts) t v none good = t
 is_shown files before now s a x (reply.Status tables) t v none good = t
 is_shown files before now s a x (reply.Refused why) t v none good = t
 is_shown files before now s a x (reply.Failed failure.Memory) t v none good = absurd (true≢false v)
 is_shown files before now s a x (reply.Failed failure.Stopped) t v none good = absurd t
 is_shown files before now s a x (reply.Failed failure.Disk) t v none good = absurd t
 is_shown files before now s a x (reply.Failed failure.Read) t v none good = absurd (none t.1)
-is_shown files before now s a x (reply.Failed (failure.Block n at)) t v none good = absurd (∥∥₁_elim t ⊥_prop (λ bad. good x.shard n at x.query bad))
+is_shown files before now s a x (reply.Failed (failure.Block n at)) t v none good = absurd (∥∥₁_elim t ⊥_prop (λ bad. good.slices x.shard n at x.query bad))
+
+-- what a check says then: each file is good
+is_verified : (files : ℕ → ℕ → List (File Held)) (shards table before now : ℕ) (r : Result (List Verdict) Fault)
+    → EndsVerified (table_files files shards table) before now r → tells_want (reply_of_verify r) ≡ false → (Rose before now → ⊥) → AreGood files
+    → reply_of_verify r ≡ reply.Verified (all_good (table_files files shards table))
+is_verified files shards table before now (Ok vs) a v none good =
+    ap (λ ws. reply.Verified ws)
+    (are_good (table_files files shards table) vs
+    (λ f number at has is found.
+    let there = in_some_shard files shards table f has in
+    good.wholes there.0 table number at (f, there.1, is, found))
+    a)
+is_verified files shards table before now (Err (fault.Refused why)) a v none good = absurd a
+is_verified files shards table before now (Err (fault.Stopped first)) a v none good = absurd a
+is_verified files shards table before now (Err (fault.Disk number)) a v none good = absurd a
+is_verified files shards table before now (Err fault.Read) a v none good = absurd (none a)
+is_verified files shards table before now (Err (fault.BadBlock number at)) a v none good = absurd a
+is_verified files shards table before now (Err fault.Mem) a v none good = absurd (true≢false v)
 
 -- ---- two runs
 
@@ -326,6 +361,26 @@ module _ (h : History) (d e : DiskState) where
     other_goes = ap (λ (j : History). j.disk.stopped) g ∙ good.0;
   }
 
+  one_check : (o : Option TableSchema) (r q : Result (List Verdict) Fault) (t u : History) → d.files ≡ e.files → VerifiesNamed (on h d) o r t
+      → VerifiesNamed (on h e) o q u → tells_want (reply_of_verify r) ≡ false → tells_want (reply_of_verify q) ≡ false → Well d t.disk → Well e u.disk
+      → Same (reply_of_verify r) (reply_of_verify q) t u
+  one_check None r q t u same a b v z well good =
+      left (reply_of_verify r) (reply_of_verify q) _ h t u (ap reply_of_verify a.0) (ap reply_of_verify b.0) a.1 b.1 well good
+  one_check (Some x) r q t u same a b v z well good =
+      let (j, more, m, f) = a in
+      let (k, also, n, g) = b in
+      record {
+        replies =
+            is_verified d.files (length h.shards) x.number d.reads j r m v
+            (λ rose. well.3 (subst (Rose d.reads) (sym (ap (λ (i : History). i.disk.reads) f)) rose)) well.4
+            ∙ ap (λ files. reply.Verified (all_good (table_files files (length h.shards) x.number))) same
+            ∙ sym (is_verified e.files (length h.shards) x.number e.reads k q n z
+            (λ rose. good.3 (subst (Rose e.reads) (sym (ap (λ (i : History). i.disk.reads) g)) rose)) good.4);
+        stores = ap (λ (i : History). on i u.disk) f ∙ ap (λ (i : DiskState). on h i) (ap (λ (i : History). i.disk) g) ∙ sym g;
+        one_goes = ap (λ (i : History). i.disk.stopped) f ∙ well.0;
+        other_goes = ap (λ (i : History). i.disk.stopped) g ∙ good.0;
+      }
+
   one_deed : (Gives : ℤ → Type 0) (m : Result Bound Refusal) (r q : Reply) (t u : History) → Does clock.Manual Gives (on h d) m r t → Does clock.Manual Gives (on h e) m q u
       → tells_want r ≡ false → tells_want q ≡ false → Well d t.disk → Well e u.disk → Same r q t u
   one_deed Gives (Err x) r q t u a b v w well good = left r q _ h t u a.0 b.0 a.1 b.1 well good
@@ -356,6 +411,9 @@ module _ (h : History) (d e : DiskState) where
   one_answered Gives (line.Clock n) r q t u same none a b v w well good =
       shown a.0 b.0 r q t u a.1 b.1 (left a.0 b.0 reply.Done (record h { clock = n }) t u a.2.0 b.2.0 a.2.1 b.2.1 well good)
   one_answered Gives (line.Flush name) r q t u same none a b v w well good = absurd none
+  one_answered Gives (line.Verify name) r q t u same none a b v w well good =
+      shown (reply_of_verify a.0) (reply_of_verify b.0) r q t u a.1 b.1
+      (one_check (table_named h.tables name) a.0 b.0 t u same a.2 b.2 (ap is_starved (sym a.1) ∙ v) (ap is_starved (sym b.1) ∙ w) well good)
   one_answered Gives line.Status r q t u same none a b v w well good =
       left r q (Some (reply.Status (status (on h d)))) h t u a.0
       (b.0 ∙ ap (λ files. Some (reply.Status (status_of h.tables h.limits.shards (file_numbers files)))) (sym same)) a.1 b.1 well good

@@ -17,6 +17,7 @@ use Rattle.cas_disk.specs.Disk.{Disk, During, Image}
 use Rattle.cas_gates.specs.declared.first.First.{First}
 use Rattle.cas_atoms.specs.declared.atom.Mutation.{Mutation}
 use Rattle.cas_bind.specs.declared.bound.Limits.{Limits}
+use Rattle.cas_changes.specs.Saying.{said_by}
 use Rattle.cas_changes.specs.declared.entry.Entry.{Entry as ManifestEntry}
 use Rattle.cas_history.specs.declared.item.Item.{Item}
 use Rattle.cas_journal.specs.Journals.{Lasts}
@@ -26,13 +27,11 @@ use Rattle.cas_opening.specs.Opening.{IsOfBytes, OpensAs, next_segment}
 use Rattle.cas_opening.proofs.Readings.{one_store, opens_not_bad}
 use Rattle.cas_recovery.specs.declared.fault.RecoveryFault.{RecoveryFault}
 use Rattle.cas_recovery.specs.declared.fault.RecoveryFault.TheVariants as recovery
-use Rattle.cas_recovery.specs.Found.{AreOfAStore}
 use Rattle.cas_recovery.specs.Openings.{AreOpenings}
 use Rattle.cas_recovery.specs.Recovered.{IsBadTable, IsUnreadable}
 use Rattle.cas_recovery.specs.Restored.{IsTold}
 use Rattle.cas_recovery.proofs.Refusing.{never_bad}
 use Rattle.cas_room.specs.declared.event.Event.{Event}
-use Rattle.cas_room.specs.Rooms.{accepted_in}
 use Rattle.cas_shard.specs.declared.entry.ShardOpening.{ShardOpening}
 use Rattle.cas_shard.specs.Stands.{ShardState}
 use Rattle.cas_render.specs.declared.reply.Reply.{Reply}
@@ -48,37 +47,39 @@ use Rattle.cas_sessions.specs.History.{History, DiskState}
 use Rattle.cas_node.specs.Lines.{NoneFlushes, Runs, Tells}
 use Rattle.cas_sstread.specs.Loading.{Held}
 use Rattle.cas_view.specs.Views.{File}
-use Rattle.cas_sessions.specs.Starts.{AreItsFiles, Begins, start, BeginsAs, IsInMemory, IsOpenedAs, IsStarted}
+use Rattle.cas_sessions.specs.Starts.{AreExplained, AreItsFiles, Begins, start, BeginsAs, IsInMemory, IsOpenedAs, IsStarted}
 use Rattle.cas_node.specs.Ran.{AllWell, AreGood, Ended, GoodOrMem, IfBad, IfUnread, IsBadForOne, IsGranted, IsKnown, IsNotRun, Outside, Ran, RanAll, RanFrom, RanOn, StaysGood}
 use Rattle.cas_node.specs.Ran.{Stop, WriteRose}
-use Rattle.cas_node.specs.Ran.{at_the_end, at_the_sink, for_memory, has_risen, reply_cause, weight, with_faults, worse, worst}
-use Rattle.cas_node.specs.Inner.Serving.{EndsServed, IsKnownIn, Served, Serves}
+use Rattle.cas_node.specs.Ran.{at_the_end, at_the_sink, for_memory, has_risen, reply_cause, verdicts_cause, weight, with_faults, worse, worst}
+use Rattle.cas_node.specs.Inner.Serving.{EndsServed, IsKnownIn, IsKnownOn, Served, Serves}
 use Rattle.cas_sessions.specs.Entered.{IsLeft}
 use Rattle.cas_sessions.specs.Listing.{KeepsListing, SameListed}
-use Rattle.cas_sessions.specs.Numbering.{NumbersOn}
 use Rattle.cas_sessions.proofs.Listing.{lists_since}
-use Rattle.cas_sessions.proofs.Next.{left_explains}
+use Rattle.cas_sessions.proofs.Explaining.{opening_in}
+use Rattle.cas_sessions.proofs.Serving.{is_explained}
+use Rattle.cas_recovery.proofs.Explained.{as_opening}
 use Rattle.cas_node.specs.Inner.Turns.{cause_of_opening, IsEnd}
 use Rattle.cas_sessions.specs.Nodes.{State, StandsFor, LastsFor, disk_of, files_in, Moves}
 use Rattle.cas_node.proofs.Blaming.{blamed, of_both}
-use Rattle.cas_node.proofs.Staying.{AreUpTo, from_before, front_numbers, nothing_accepted, numbered}
+use Rattle.cas_node.proofs.SessionLemmas.{told_ends, verdicts_told}
+use Rattle.cas_node.proofs.Staying.{AreUpTo, from_before}
 use Rattle.cas_node.proofs.Stopping.{stop_is_counted}
 
 -- ---- what was served
 
 module _ (kind : ClockKind) (Gives : ℤ → Type 0) (script : List ℕ) (old new : Option (List ℕ)) (s t : State) (d e : Disk) (faults_before : ℕ) (told why : Cause)
-    (moves : IsKnownIn d script → Moves (λ h after. RanFrom h kind Gives script old new after told) s t d e) (l : Limits) (tables : List TableSchema) (shards : List ShardState) (last live : ℕ) (journal : Journal)
+    (moves : IsKnownIn s d script → Moves (λ h after. RanFrom h kind Gives script old new after told) s t d e) (l : Limits) (tables : List TableSchema) (shards : List ShardState) (last live : ℕ) (journal : Journal)
     (faults reads : ℕ) (opened : IsOpenedAs l tables shards journal faults reads s)
     (begins : (given : Limits) (entries : List ManifestEntry) (mutations : List Mutation) (openings : ℕ → ShardOpening)
     → IsInMemory given entries mutations openings l tables shards last live → BeginsAs given entries mutations openings d s)
     (going : journal.first ≡ None) (ended : why ≡ with_faults faults_before t.faults t.reads told)
     (left : (h : History) (found : List Mutation) (u : Told) → StandsFor h t → LastsFor h found t e u → (i : Image) → e.may_leave i → IsLeft found t.list h i)
-    (lists : NoneFlushes (lines script) → KeepsListing s d e) (numbers : NumbersOn s t) where
+    (lists : NoneFlushes (lines script) → KeepsListing s d e) where
   of_store : (given : Limits) (entries : List ManifestEntry) (mutations : List Mutation) (openings : ℕ → ShardOpening)
       → IsInMemory given entries mutations openings l tables shards last live → BeginsAs given entries mutations openings d s → journal.last_segment ≤ next_segment entries
-      → IsKnownIn d script → Served kind Gives script old new given entries mutations openings (files_in shards) journal d e faults_before faults t.faults t.reads t.list why
+      → IsKnownOn d journal entries mutations script → Served kind Gives script old new given entries mutations openings (files_in shards) journal d e faults_before faults t.faults t.reads t.list why
   of_store given entries mutations openings memory first segment known =
-      let (after, ran, goes) = moves known (start given entries openings s.session (disk_of s)) first.stands in
+      let (after, ran, goes) = moves (known_as known) (start given entries openings s.session (disk_of s)) first.stands in
       record {
         first = start given entries openings s.session (disk_of s);
         begins = record {
@@ -89,25 +90,32 @@ module _ (kind : ClockKind) (Gives : ℤ → Type 0) (script : List ℕ) (old ne
           faults = omega (arith, opened.faults_are);
           segment = subst (λ (j : Journal). j.last_segment ≤ next_segment entries) (sym opened.journal_is) segment;
           files_are = ap files_in opened.shards_are;
+          last_file = first.counts.0;
+          live = first.counts.1;
         };
         final = after;
         told = told;
         ran = ran;
         entered = goes.stands.entered;
         crash = λ u is lasts i leaves.
-            let (now, still) = goes.lasts mutations u (first.lasts u is (subst (λ (j : Journal). Lasts j d u) (sym opened.journal_is) lasts)) in
+            let (now, still, explains) = goes.lasts mutations u (first.lasts u is (subst (λ (j : Journal). Lasts j d u) (sym opened.journal_is) lasts)) in
             left after mutations now goes.stands still i leaves;
         lists = λ none u is lasts.
             lists none (start given entries openings s.session (disk_of s)) mutations u first.stands
             (first.lasts u is (subst (λ (j : Journal). Lasts j d u) (sym opened.journal_is) lasts));
-        numbers = λ u is lasts n low.
-            let began = first.lasts u is (subst (λ (j : Journal). Lasts j d u) (sym opened.journal_is) lasts) in
-            numbered given entries mutations openings l tables shards last live memory s t opened.shards_are
-            (nothing_accepted mutations u.taken (accepted_in s.list) is.taken began.keeps.all) numbers n low;
+        next = λ u is lasts explained i leaves bytes.
+            let (now, still, explains) = goes.lasts mutations u (first.lasts u is (subst (λ (j : Journal). Lasts j d u) (sym opened.journal_is) lasts)) in
+            is_explained after mutations t e now goes.stands still openings (explains openings (first.explains u is explained)) i leaves bytes;
         faults = ap (λ disk. disk.faults) goes.stands.disk;
         reads_are = ap (λ disk. disk.reads) goes.stands.disk;
         ended = ended;
       }
+    where
+      known_as : IsKnownOn d journal entries mutations script → IsKnownIn s d script
+      known_as (inl (tells, (u, is, lasts))) =
+          let began = first.lasts u is (subst (λ (j : Journal). Lasts j d u) (sym opened.journal_is) lasts) in
+          inl (tells, (start given entries openings s.session (disk_of s), mutations, u, first.stands, began))
+      known_as (inr none) = inr none
 
   serves : (pass : Option (List (Item Event))) → IsSome pass → IfSome pass (λ p. p ≡ t.list)
       → Serves kind Gives script old new l tables shards last live journal d faults faults_before e t.faults t.reads pass why
@@ -178,7 +186,9 @@ module _ (words : List (List ℕ)) (Gives : ℤ → Type 0) (before after : Outs
     (stay : (d : Image) → before.folder.reads d → IsOfBytes d → (entries : List ManifestEntry) (mutations : List Mutation) → OpensAs c.limits.shards entries mutations d
     → AreUpTo last entries → During (SameListed entries) before.folder after.folder)
     (telling : (d : Image) → before.folder.reads d → IsOfBytes d → (entries : List ManifestEntry) (mutations : List Mutation) → OpensAs c.limits.shards entries mutations d
-    → Tells mid) where
+    → Tells mid)
+    (opening : (d : Image) → before.folder.reads d → IsOfBytes d → (entries : List ManifestEntry) (mutations : List Mutation) → OpensAs c.limits.shards entries mutations d
+    → During (SameListed entries) before.folder mid) where
   module _ (entries : List ManifestEntry) (openings : ℕ → ShardOpening) (files : ℕ → ℕ → List (File Held)) (h : History) (begins : Begins c.limits entries openings files faults h) where
     earlier : Begins c.limits entries openings files before.folder_faults h
     earlier = record {
@@ -189,6 +199,8 @@ module _ (words : List (List ℕ)) (Gives : ℤ → Type 0) (before after : Outs
       faults = omega (arith, kept, begins.faults);
       segment = begins.segment;
       files_are = begins.files_are;
+      last_file = begins.last_file;
+      live = begins.live;
     }
 
     at_first : h.disk ≡ begins.disk
@@ -202,11 +214,10 @@ module _ (words : List (List ℕ)) (Gives : ℤ → Type 0) (before after : Outs
 
   of_served : (list : List (Item Event)) (entries : List ManifestEntry) (mutations : List Mutation) (openings : ℕ → ShardOpening) (files : ℕ → ℕ → List (File Held))
       → ((image : Image) → before.folder.reads image → IsOfBytes image → (t : Told) × IsTold entries mutations t × Lasts journal mid t)
-      → AreOfAStore entries mutations → AreOpenings entries mutations before.folder openings
-      → ((image : Image) → before.folder.reads image → IsOfBytes image → During (SameListed entries) before.folder after.folder)
+      → ((image : Image) → before.folder.reads image → IsOfBytes image → AreExplained entries mutations openings mid)
       → Served c.clock Gives script before.taken after.taken c.limits entries mutations openings files journal mid after.folder n faults after.folder_faults reads list why
       → RanOn c Gives script before after reads list why entries mutations openings files
-  of_served list entries mutations openings files lasts store are same served =
+  of_served list entries mutations openings files lasts explained served =
       let ended : why ≡ with_faults before.folder_faults after.folder_faults reads served.told =
       served.ended ∙ ap (λ (k : ℕ). with_faults k after.folder_faults reads served.told) counted in
       record {
@@ -220,17 +231,9 @@ module _ (words : List (List ℕ)) (Gives : ℤ → Type 0) (before after : Outs
         lists = λ none image reads bytes i left.
             let (t, told, still) = lasts image reads bytes in
             lists_since journal mid after.folder t entries mutations told still (served.lists none t told still) i left;
-        next = λ none image reads bytes i left its_bytes.
+        next = λ image reads bytes i left its_bytes.
             let (t, told, still) = lasts image reads bytes in
-            let crash = served.crash t told still i left in
-            let (b, was, alike) = from_before entries before.folder after.folder (same image reads bytes) i left in
-            record {
-              left = crash;
-              next =
-                  left_explains before.folder entries mutations openings list served.final b i store are was alike
-                  (lists_since journal mid after.folder t entries mutations told still (served.lists none t told still) i left) crash its_bytes
-                  (λ n low nil. front_numbers n (openings n).number (accepted_in list) crash.count (served.numbers t told still n low));
-            };
+            served.next t told still (explained image reads bytes) i left its_bytes;
         faults = served.faults;
         reads_are = served.reads_are;
         counted =
@@ -242,13 +245,23 @@ module _ (words : List (List ℕ)) (Gives : ℤ → Type 0) (before after : Outs
       }
 
   -- what the folder tells as it was found, it tells of the store that was opened
-  known_in : IsKnown before.folder script → IsKnownIn mid script
-  known_in (inl (d, reads, bytes)) = inl (telling d reads bytes started.back.entries started.back.mutations (started.back.found.told d reads bytes))
+  known_in : IsKnown before.folder script → IsKnownOn mid journal started.back.entries started.back.mutations script
+  known_in (inl (d, reads, bytes)) =
+      inl (telling d reads bytes started.back.entries started.back.mutations (started.back.found.told d reads bytes), started.back.lasts d reads bytes)
   known_in (inr none) = inr none
 
   listed_on : (d : Image) → before.folder.reads d → IsOfBytes d → During (SameListed started.back.entries) before.folder after.folder
   listed_on d reads bytes =
       stay d reads bytes started.back.entries started.back.mutations (started.back.found.told d reads bytes) started.back.behind.numbers
+
+  -- what the shards may have been by the folder as it was found, they may have been by what a crash may leave once it was opened
+  explained_on : (openings : ℕ → ShardOpening) → AreOpenings started.back.entries started.back.mutations before.folder openings → (d : Image) → before.folder.reads d → IsOfBytes d
+      → AreExplained started.back.entries started.back.mutations openings mid
+  explained_on openings are d reads bytes i leaves n low =
+      let entries = started.back.entries in
+      let (b, was, alike) = from_before entries before.folder mid (opening d reads bytes entries started.back.mutations (started.back.found.told d reads bytes)) i leaves in
+      opening_in (said_by entries) started.back.mutations before.folder b i n (openings n) low was alike
+      (as_opening entries started.back.mutations started.back.found.of_a_store.log before.folder n (openings n) low (are n low))
 
   ran_over : (list : List (Item Event))
       → Serves c.clock Gives script before.taken after.taken limits tables shards last live journal mid faults n after.folder after.folder_faults reads (Some list) why
@@ -261,8 +274,8 @@ module _ (words : List (List ℕ)) (Gives : ℤ → Type 0) (before after : Outs
     its_files = started.files;
     tables = listed_on;
     on = λ openings are known.
-        of_served list started.back.entries started.back.mutations openings (files_in shards) started.back.lasts started.back.found.of_a_store are
-        listed_on (serves c.limits started.back.entries started.back.mutations openings (started.memory openings are) started.back.segment (known_in known));
+        of_served list started.back.entries started.back.mutations openings (files_in shards) started.back.lasts (explained_on openings are)
+        (serves c.limits started.back.entries started.back.mutations openings (started.memory openings are) started.back.segment (known_in known));
   }
 
   pub ran_all : (pass : Option (List (Item Event))) → length script ≤ SCRIPT_LIMIT
@@ -397,6 +410,7 @@ of_reply (Some reply.Done) = tt
 of_reply (Some (reply.Wrote n)) = tt
 of_reply (Some (reply.Rows rows shard front now)) = tt
 of_reply (Some (reply.Flushed files)) = tt
+of_reply (Some (reply.Verified verdicts)) = told_ends (verdicts_cause verdicts) (verdicts_told verdicts)
 of_reply (Some (reply.Status tables)) = tt
 of_reply (Some (reply.Refused n)) = tt
 of_reply (Some (reply.Failed failure.Memory)) = tt
@@ -460,7 +474,8 @@ none_blamed files cause.Disk good bad = tt
 none_blamed files cause.Words good bad = tt
 none_blamed files cause.Read good bad = tt
 none_blamed files (cause.TooLong taken) good bad = tt
-none_blamed files (cause.Bad (file.Table number) at) good bad = ∥∥₁_elim bad.2 ⊥_prop (λ is. good bad.0 number at bad.1 is)
+none_blamed files (cause.Bad (file.Table number) at) good (inl bad) = ∥∥₁_elim bad.2 ⊥_prop (λ is. good.slices bad.0 number at bad.1 is)
+none_blamed files (cause.Bad (file.Table number) at) good (inr bad) = good.wholes bad.0 bad.1 number at bad.2
 none_blamed files (cause.Bad file.Manifest at) good bad = bad
 none_blamed files (cause.Bad (file.Log number) at) good bad = bad
 none_blamed files (cause.Bad (file.Import number) at) good bad = bad
@@ -513,12 +528,14 @@ module _ (words : List (List ℕ)) (Gives : ℤ → Type 0) (before after : Outs
       → AreUpTo last entries → During (SameListed entries) before.folder after.folder)
       → ((d : Image) → before.folder.reads d → IsOfBytes d → (entries : List ManifestEntry) (mutations : List Mutation) → OpensAs c.limits.shards entries mutations d
       → Tells mid)
+      → ((d : Image) → before.folder.reads d → IsOfBytes d → (entries : List ManifestEntry) (mutations : List Mutation) → OpensAs c.limits.shards entries mutations d
+      → During (SameListed entries) before.folder mid)
       → Serves c.clock Gives script before.taken after.taken limits tables shards last live journal mid faults n after.folder after.folder_faults reads pass why
       → (why ≡ cause.Write → WriteRose before after) → GoodOrMem why
-  ends_well script limits tables shards last live journal mid faults None why read started kept n counted stay telling serves write = inr serves
-  ends_well script limits tables shards last live journal mid faults (Some list) why read started kept n counted stay telling serves write =
+  ends_well script limits tables shards last live journal mid faults None why read started kept n counted stay telling opening serves write = inr serves
+  ends_well script limits tables shards last live journal mid faults (Some list) why read started kept n counted stay telling opening serves write =
       ran_well script list why read
-      (ran_over words Gives before after c script limits tables shards last live journal mid faults reads why said read started kept n counted stay telling list serves) write
+      (ran_over words Gives before after c script limits tables shards last live journal mid faults reads why said read started kept n counted stay telling opening list serves) write
 
   readable : (name : Name) (at : ℕ) → IsUnreadable c.limits.shards before.folder name at well.image → ⊥
   readable name at (inl refused) = opens_not_bad well.image well.of_bytes c.limits.shards well.entries well.mutations opens name at refused

@@ -1,5 +1,6 @@
 -- A session up to some line.
 use Rattle.std.proofs.Common.{◌≡◌, inl, inr, ℕ, ℤ, length, Bool, true, false, Option, None, Some, List, [], ◌∷◌, ◌++◌, codes, refl, sym, ap, ◌∙◌, subst, append_assoc, append-nil, arith}
+use Rattle.std.proofs.lemmas.Bool.{true≢false}
 use Rattle.std.proofs.lemmas.Bool.Decides.{nat_tests}
 use Rattle.std.specs.Prelude.{◌==◌, ◌⊎◌, if◌then◌else◌}
 use Rattle.std.specs.Str.Lines.{lines}
@@ -11,6 +12,7 @@ use Rattle.cas_io.specs.Streams.{AppendsFront}
 use Rattle.cas_render.specs.declared.reply.Failure.TheVariants as failure
 use Rattle.cas_render.specs.declared.reply.Reply.{Reply}
 use Rattle.cas_render.specs.declared.reply.Reply.TheVariants as reply
+use Rattle.cas_render.specs.declared.reply.Verdict.{Verdict}
 use Rattle.cas_render.specs.Text.{reply_text}
 use Rattle.cas_words.specs.declared.words.ClockKind.{ClockKind}
 use Rattle.cas_node.specs.declared.cause.Cause.{Cause}
@@ -21,13 +23,11 @@ use Rattle.cas_disk.specs.Disk.{Disk, During, Image}
 use Rattle.cas_sessions.specs.History.{History}
 use Rattle.cas_node.specs.Lines.{Answers, FlushesNone, NoneFlushes, Runs, Tells}
 use Rattle.cas_node.specs.Text.{output, line_text}
-use Rattle.cas_node.specs.Ran.{RanFrom, reply_cause, worse, worst, at_the_end, at_the_sink, for_memory}
+use Rattle.cas_node.specs.Ran.{RanFrom, reply_cause, verdict_cause, verdicts_cause, worse, worst, at_the_end, at_the_sink, for_memory}
 use Rattle.cas_sessions.specs.Listing.{KeepsListing}
 use Rattle.cas_sessions.specs.Nodes.{State, GoesOnTo, Moves}
-use Rattle.cas_sessions.specs.Numbering.{NumbersOn}
-use Rattle.cas_sessions.proofs.Going.{numbers_more, numbers_none}
 use Rattle.cas_sessions.proofs.Listing.{listing_twice, lists_nothing}
-use Rattle.cas_node.specs.Inner.Serving.{IsKnownIn}
+use Rattle.cas_node.specs.Inner.Serving.{IsKnownIn, Knows}
 use Rattle.cas_node.specs.Inner.Turns.{IsEnd, IsToldSo, Turned, Printed, PrintedReply, StopsFor}
 
 -- ---- text
@@ -46,6 +46,15 @@ pub empty_of : (xs : List ℕ) → (length xs == 0) ≡ true → xs ≡ []
 empty_of [] e = refl
 empty_of (x ∷ xs) e = grind (arith, nat_tests, e)
 
+-- what is said of table files
+verdict_told : (number : ℕ) (bad : Option ℕ) (others : Cause) → IsToldSo others → IsToldSo (verdict_cause number bad others)
+verdict_told number None others told = told
+verdict_told number (Some at) others told = tt
+
+pub verdicts_told : (vs : List Verdict) → IsToldSo (verdicts_cause vs)
+verdicts_told [] = tt
+verdicts_told (v ∷ vs) = verdict_told v.number v.bad (verdicts_cause vs) (verdicts_told vs)
+
 -- what a reply says, and what all say
 pub reply_told : (r : Option Reply) → IsToldSo (reply_cause r)
 reply_told None = tt
@@ -53,6 +62,7 @@ reply_told (Some reply.Done) = tt
 reply_told (Some (reply.Wrote n)) = tt
 reply_told (Some (reply.Rows rows shard front now)) = tt
 reply_told (Some (reply.Flushed files)) = tt
+reply_told (Some (reply.Verified verdicts)) = verdicts_told verdicts
 reply_told (Some (reply.Status tables)) = tt
 reply_told (Some (reply.Refused n)) = tt
 reply_told (Some (reply.Failed failure.Memory)) = tt
@@ -225,6 +235,11 @@ module _ (kind : ClockKind) (Gives : ℤ → Type 0) where
     ended = record { all = refl; written = so.written; told = so.told };
   }
 
+  -- nothing is left
+  pub none_left : (rest : List ℕ) → (length rest == 0) ≡ true → rest ≡ []
+  none_left [] e = refl
+  none_left (x ∷ rest) e = let some : (length (x ∷ rest) == 0) ≡ false = grind (arith, nat_tests) in absurd (true≢false (sym e ∙ some))
+
   -- ---- of a store
 
   -- a line was answered, and this came of its reply
@@ -235,12 +250,11 @@ module _ (kind : ClockKind) (Gives : ℤ → Type 0) where
       let (after, so, goes) = moves h stands in
       (after, record { reply = r; answers = so; told = told; printed = printed }, goes)
 
-  -- From whichever history the store stood for, the lines so far were run, where what the script's flushes write is known; the mutations are numbered on;
+  -- From whichever history the store stood for, the lines so far were run, where what the script's flushes write is known;
   -- and of lines that flush no table none is left that does, and the manifest lists the table files that it listed.
   pub record AllSoFar (s t : State) (old new : Disk) (script rest : List ℕ) (out now : Option (List ℕ)) (why : Cause) : Type 0 where
-    pub ran : IsKnownIn old script → Moves (λ h after. SoFar kind Gives h script rest out now after why) s t old new
+    pub ran : IsKnownIn s old script → Moves (λ h after. SoFar kind Gives h script rest out now after why) s t old new
     pub lists : NoneFlushes (lines script) → KeepsListing s old new
-    pub numbers : NumbersOn s t
     pub left : NoneFlushes (lines script) → NoneFlushes (lines rest)
 
   pub all_so_far_none : (s : State) (d : Disk) (script : List ℕ) (out : Option (List ℕ)) → AllSoFar s s d d script script out out cause.Good
@@ -248,10 +262,9 @@ module _ (kind : ClockKind) (Gives : ℤ → Type 0) where
     ran = λ known h stands. (
       h,
       record { run = []; replies = []; cut = refl; steps = refl; written = Appends-nil out; told = refl },
-      record { stands = stands; lasts = λ found told lasts. (told, lasts) },
+      record { stands = stands; lasts = λ found told lasts. (told, lasts, λ openings explained. explained) },
     );
     lists = λ none. lists_nothing s d;
-    numbers = numbers_none s s refl refl;
     left = λ none. none;
   }
 
@@ -261,16 +274,20 @@ module _ (kind : ClockKind) (Gives : ℤ → Type 0) where
 
   -- what it writes is known, if it does
   pub known_next : (s t : State) (d e : Disk) (script rest after line : List ℕ) (out now : Option (List ℕ)) (why : Cause) → AllSoFar s t d e script rest out now why
-      → lines rest ≡ line ∷ lines after → (Tells d → Tells e) → IsKnownIn d script → Tells e ⊎ FlushesNone line
-  known_next s t d e script rest after line out now why so cut tells (inl known) = inl (tells known)
+      → lines rest ≡ line ∷ lines after → (Tells d → Tells e) → IsKnownIn s d script → Knows t e ⊎ FlushesNone line
+  known_next s t d e script rest after line out now why so cut tells (inl (told, (h, found, was, stands, lasts))) =
+      let (k, far, goes) = so.ran (inl (told, (h, found, was, stands, lasts))) h stands in
+      let (later, still, explains) = goes.lasts found was lasts in
+      inl (tells told, (k, found, later, goes.stands, still))
   known_next s t d e script rest after line out now why so cut tells (inr none) = inr (none_next rest after line cut (so.left none)).0
 
   on_from : (h k l : History) (s t u : State) (d e f : Disk) → GoesOnTo h k s t d e → GoesOnTo k l t u e f → GoesOnTo h l s u d f
   on_from h k l s t u d e f one two = record {
     stands = two.stands;
     lasts = λ found told lasts.
-        let (now, so) = one.lasts found told lasts in
-        two.lasts found now so;
+        let (now, so, explains) = one.lasts found told lasts in
+        let (later, still, more) = two.lasts found now so in
+        (later, still, λ openings explained. more openings (explains openings explained));
   }
 
   -- so far the manifest lists the same table files, and so it does through one turn more
@@ -278,27 +295,26 @@ module _ (kind : ClockKind) (Gives : ℤ → Type 0) where
       → lines rest ≡ line ∷ lines after → (FlushesNone line → KeepsListing t e f) → NoneFlushes (lines script) → KeepsListing s d f
   lists_more s t d e f script rest after line out now why so cut more none h found told stands lasts =
       let (k, ran, goes) = so.ran (inr none) h stands in
-      let (later, still) = goes.lasts found told lasts in
+      let (later, still, explains) = goes.lasts found told lasts in
       listing_twice d e f (so.lists none h found told stands lasts) (more (none_next rest after line cut (so.left none)).0 k found later goes.stands still)
 
   pub all_so_far_more : (s t u : State) (d e f : Disk) (script rest after line : List ℕ) (out mid now : Option (List ℕ)) (before x why : Cause) (fault : Option PrintFault)
       → AllSoFar s t d e script rest out mid before → lines rest ≡ line ∷ lines after → (Tells d → Tells e)
-      → (Tells e ⊎ FlushesNone line → Moves (λ h after. Turned kind Gives h line after mid now x fault) t u e f)
-      → (FlushesNone line → KeepsListing t e f) → NumbersOn t u → fault ≡ None → why ≡ worse before x → AllSoFar s u d f script after out now why
-  all_so_far_more s t u d e f script rest after line out mid now before x why fault so cut tells turn lists numbers none told = record {
+      → (Knows t e ⊎ FlushesNone line → Moves (λ h after. Turned kind Gives h line after mid now x fault) t u e f)
+      → (FlushesNone line → KeepsListing t e f) → fault ≡ None → why ≡ worse before x → AllSoFar s u d f script after out now why
+  all_so_far_more s t u d e f script rest after line out mid now before x why fault so cut tells turn lists none told = record {
     ran = λ known h stands.
         let (k, far, one) = so.ran known h stands in
         let (l, turned, two) = turn (known_next s t d e script rest after line out mid before so cut tells known) k one.stands in
         (l, so_far_more h script rest after line out mid now k l before x why fault far cut turned none told, on_from h k l s t u d e f one two);
     lists = lists_more s t d e f script rest after line out mid before so cut lists;
-    numbers = numbers_more s t u so.numbers numbers;
     left = λ quiet. (none_next rest after line cut (so.left quiet)).1;
   }
 
   pub all_ran_cut : (s t u : State) (d e f : Disk) (script rest after line : List ℕ) (out mid now : Option (List ℕ)) (before x sofar why : Cause) (whole : Option PrintFault)
       (fault : PrintFault) → AllSoFar s t d e script rest out mid before → lines rest ≡ line ∷ lines after → (Tells d → Tells e)
-      → (Tells e ⊎ FlushesNone line → Moves (λ h after. Turned kind Gives h line after mid now x whole) t u e f)
-      → whole ≡ Some fault → sofar ≡ worse before x → StopsFor fault sofar why → IsKnownIn d script
+      → (Knows t e ⊎ FlushesNone line → Moves (λ h after. Turned kind Gives h line after mid now x whole) t u e f)
+      → whole ≡ Some fault → sofar ≡ worse before x → StopsFor fault sofar why → IsKnownIn s d script
       → Moves (λ h after. RanFrom h kind Gives script out now after why) s u d f
   all_ran_cut s t u d e f script rest after line out mid now before x sofar why whole fault so cut tells turn some told ends known h stands =
       let (k, far, one) = so.ran known h stands in
@@ -306,7 +322,7 @@ module _ (kind : ClockKind) (Gives : ℤ → Type 0) where
       (l, ran_cut h script rest after line out mid now k l before x sofar why whole fault far cut turned some told ends, on_from h k l s t u d e f one two)
 
   pub all_ran_whole : (s t : State) (d e : Disk) (script rest : List ℕ) (out now : Option (List ℕ)) (why : Cause)
-      → AllSoFar s t d e script rest out now why → rest ≡ [] → IsKnownIn d script → Moves (λ h after. RanFrom h kind Gives script out now after why) s t d e
+      → AllSoFar s t d e script rest out now why → rest ≡ [] → IsKnownIn s d script → Moves (λ h after. RanFrom h kind Gives script out now after why) s t d e
   all_ran_whole s t d e script rest out now why so none known h stands =
       let (k, far, one) = so.ran known h stands in
       (k, ran_whole h script rest out now k why far none, one)

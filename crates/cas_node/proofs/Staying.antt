@@ -1,4 +1,4 @@
--- The listed table files, and the mutations' numbers, through a run: while the store is opened, and while its lines run.
+-- The listed table files through a run: while the store is opened, and while its lines run.
 use Rattle.std.proofs.Common.{◌≡◌, ◌≢◌, inl, inr, ⊎_elim, ◌∙◌, ◌<◌, ◌+◌, ℕ, Some, List, [], ◌∷◌, ◌++◌, length, take, refl, sym, ap, subst, append-nil}
 use Rattle.std.specs.Prelude.{drop, slice_get, ◌≤◌}
 use Rattle.std.specs.List.{AllByRecursion}
@@ -6,27 +6,15 @@ use Rattle.std.proofs.lemmas.List.{append_cancel_left, take-append-drop}
 use Rattle.cas_disk.specs.declared.name.Name.TheVariants.{Manifest as manifest_name, Table as table_name}
 use Rattle.cas_disk.specs.Disk.{Disk, During, Image}
 use Rattle.cas_disk.proofs.Moments.{left_after, no_call, one_call_more, reworded}
-use Rattle.cas_types.specs.declared.schema.TableSchema.{TableSchema}
 use Rattle.cas_atoms.specs.declared.atom.Mutation.{Mutation}
-use Rattle.cas_bind.specs.declared.bound.Limits.{Limits}
 use Rattle.cas_changes.specs.Saying.{said_by}
 use Rattle.cas_changes.specs.declared.entry.Entry.{Entry as ManifestEntry}
 use Rattle.cas_manifest.specs.Loading.{IsNew, first_entries}
 use Rattle.cas_journal.specs.Stores.{IsStore}
 use Rattle.cas_opening.specs.Opening.{HasStayed, MayBeMadeNew, MayBeOpened, OpensAs}
-use Rattle.cas_replay.specs.Grammar.{AscendByOne, numbers_of}
-use Rattle.cas_room.specs.Rooms.{accepted_in}
-use Rattle.cas_shard.specs.declared.entry.ShardOpening.{ShardOpening}
-use Rattle.cas_shard.specs.Stands.{ShardState}
-use Rattle.cas_shard.proofs.Numbers.{last_of_none}
-use Rattle.cas_recovery.proofs.Places.{get_within}
 use Rattle.cas_sessions.specs.Listing.{SameListed, SameUpTo}
 use Rattle.cas_node.specs.Lines.{Tells}
-use Rattle.cas_node.proofs.Numbered.{listed_low}
-use Rattle.cas_sessions.specs.Nodes.{State}
-use Rattle.cas_sessions.specs.Numbering.{NumbersOn}
-use Rattle.cas_sessions.specs.Starts.{IsInMemory}
-use Rattle.cas_sessions.proofs.Going.{ascend_front, got, numbers_both}
+use Rattle.cas_sessions.proofs.Numbered.{listed_low}
 
 -- ---- the same folder
 
@@ -69,17 +57,21 @@ then_listed entries last a b z low first second =
     one_call_more (SameListed entries) (SameUpTo last) a b z first second (λ d c was mid same number is. same number (listed_low entries last low number is))
     (λ e d c was so_far mid same number is. same number (listed_low entries last low number is) ∙ so_far number is)
 
--- from the folder as it was found to the one that is handed back
+-- from the folder as it was found to that of the store that was opened
+pub listed_opening : (shards : ℕ) (entries : List ManifestEntry) (mutations : List Mutation) (d : Image) (a b : Disk) → OpensAs shards entries mutations d
+    → (IsStore entries mutations d → During (MayBeOpened entries mutations) a b) → (IsNew d → During (MayBeMadeNew shards) a b) → During (SameListed entries) a b
+listed_opening shards entries mutations d a b (inl store) stays made =
+    reworded (MayBeOpened entries mutations) (SameListed entries) a b (stays store) (λ e c was opened. opened_listed entries mutations e c opened)
+listed_opening shards entries mutations d a b (inr (new, are, none)) stays made =
+    subst (λ es. During (SameListed es) a b) (sym are)
+    (reworded (MayBeMadeNew shards) (SameListed (first_entries shards)) a b (made new) (λ e c was opened. made_listed shards e c opened))
+
+-- and to the one that is handed back
 pub listed_through : (shards : ℕ) (entries : List ManifestEntry) (mutations : List Mutation) (d : Image) (last : ℕ) (a b z : Disk) → OpensAs shards entries mutations d
     → AreUpTo last entries → (IsStore entries mutations d → During (MayBeOpened entries mutations) a b) → (IsNew d → During (MayBeMadeNew shards) a b)
     → During (SameUpTo last) b z → During (SameListed entries) a z
-listed_through shards entries mutations d last a b z (inl store) low stays made runs =
-    then_listed entries last a b z low
-    (reworded (MayBeOpened entries mutations) (SameListed entries) a b (stays store) (λ e c was opened. opened_listed entries mutations e c opened)) runs
-listed_through shards entries mutations d last a b z (inr (new, are, none)) low stays made runs =
-    subst (λ es. During (SameListed es) a z) (sym are)
-    (then_listed (first_entries shards) last a b z (subst (λ es. AreUpTo last es) are low)
-    (reworded (MayBeMadeNew shards) (SameListed (first_entries shards)) a b (made new) (λ e c was opened. made_listed shards e c opened)) runs)
+listed_through shards entries mutations d last a b z opens low stays made runs =
+    then_listed entries last a b z low (listed_opening shards entries mutations d a b opens stays made) runs
 
 -- a folder that tells what is read of it, as it was found, tells it of the store that was opened
 pub tells_through : (shards : ℕ) (entries : List ManifestEntry) (mutations : List Mutation) (d : Image) (a b : Disk) → OpensAs shards entries mutations d → a.reads d
@@ -91,28 +83,3 @@ tells_through shards entries mutations d a b (inr (new, are, none)) reads stays 
 pub from_before : (entries : List ManifestEntry) (a z : Disk) → During (SameListed entries) a z → (i : Image) → z.may_leave i
     → (b : Image) × a.may_leave b × SameListed entries b i
 from_before entries a z call i left = ⊎_elim (λ was. (i, was, λ number is. refl)) (λ made. made) (left_after (SameListed entries) a z call i left)
-
--- ---- numbers
-
-pub nothing_accepted : (mutations taken accepted : List Mutation) → taken ≡ mutations → taken ≡ mutations ++ accepted → accepted ≡ []
-nothing_accepted mutations taken accepted is all = sym (append_cancel_left mutations [] accepted (append-nil mutations ∙ sym is ∙ all))
-
--- each shard of a store that was opened numbers on from what it was
-pub numbered : (given : Limits) (entries : List ManifestEntry) (mutations : List Mutation) (openings : ℕ → ShardOpening) (l : Limits) (tables : List TableSchema)
-    (shards : List ShardState) (last live : ℕ) → IsInMemory given entries mutations openings l tables shards last live → (s t : State) → s.shards ≡ shards → accepted_in s.list ≡ [] → NumbersOn s t
-    → (n : ℕ) → n < (said_by entries).shards → AscendByOne ((openings n).number ∷ numbers_of n (accepted_in t.list))
-numbered given entries mutations openings l tables shards last live memory s t shards_are none on n low =
-    let many : length shards ≡ (said_by entries).shards = memory.count ∙ ap (λ (k : Limits). k.shards) memory.same in
-    let (x, there) = got s.shards n (subst (λ xs. n < length xs) (sym shards_are) (subst (λ k. n < k) (sym many) low)) in
-    let (y, here) = got t.shards n (subst (λ k. n < k) (sym on.count) (get_within s.shards n x there)) in
-    let its : x.number ≡ (openings n).number =
-    (memory.stands n x (subst (λ xs. slice_get xs n ≡ Some x) shards_are there)).number ∙ last_of_none (openings n).number in
-    let all : accepted_in t.list ≡ on.fresh = on.list ∙ ap (λ l. l ++ on.fresh) none in
-    subst (λ l. AscendByOne ((openings n).number ∷ numbers_of n l)) (sym all)
-    (subst (λ k. AscendByOne (k ∷ numbers_of n on.fresh)) its
-    (ascend_front x.number (numbers_of n on.fresh) ((y.number + 1) ∷ []) (on.shards n x y there here)))
-
-pub front_numbers : (n k : ℕ) (ms : List Mutation) (count : ℕ) → AscendByOne (k ∷ numbers_of n ms) → AscendByOne (k ∷ numbers_of n (take count ms))
-front_numbers n k ms count ascend =
-    ascend_front k (numbers_of n (take count ms)) (numbers_of n (drop count ms))
-    (subst (λ l. AscendByOne (k ∷ l)) (ap (λ l. numbers_of n l) (sym (take-append-drop count ms)) ∙ numbers_both n (take count ms) (drop count ms)) ascend)

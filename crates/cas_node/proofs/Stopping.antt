@@ -1,5 +1,5 @@
 -- Along a run the disk is stopped only where the folder failed, which its count tells; its table files stay, and others come behind them.
-use Rattle.std.proofs.Common.{◌≡◌, ◌≤◌, ◌⊎◌, inl, inr, ⊎_elim, ℕ, zero, suc, ℤ, List, [], ◌∷◌, ◌++◌, append-nil, append_assoc, true, false, Option, None, Some, Result, Ok, Err, refl, sym, ap, ◌∙◌, subst, arith}
+use Rattle.std.proofs.Common.{◌≡◌, ◌≤◌, ◌⊎◌, inl, inr, ⊎_elim, ℕ, zero, suc, ℤ, List, [], ◌∷◌, ◌++◌, length, append-nil, append_assoc, true, false, Option, None, Some, Result, Ok, Err, refl, sym, ap, ◌∙◌, subst, arith}
 use Rattle.std.specs.List.{fold}
 use Rattle.std.proofs.lemmas.Bool.{true≢false}
 use Rattle.cas_types.specs.declared.schema.TableSchema.{TableSchema}
@@ -18,6 +18,7 @@ use Rattle.cas_lines.specs.declared.line.Line.TheVariants as line
 use Rattle.cas_render.specs.declared.reply.Failure.TheVariants as failure
 use Rattle.cas_render.specs.declared.reply.Reply.{Reply}
 use Rattle.cas_render.specs.declared.reply.Reply.TheVariants as reply
+use Rattle.cas_render.specs.declared.reply.Verdict.{Verdict}
 use Rattle.cas_words.specs.declared.words.ClockKind.{ClockKind}
 use Rattle.cas_words.specs.declared.words.ClockKind.TheVariants as clock
 use Rattle.cas_sstread.specs.Loading.{Held}
@@ -26,7 +27,8 @@ use Rattle.cas_view.specs.Views.{File}
 use Rattle.cas_sessions.specs.declared.answer.Fault.{Fault}
 use Rattle.cas_sessions.specs.declared.answer.Fault.TheVariants as fault
 use Rattle.cas_sessions.specs.Flushes.{EndsSo, Flushed, FlushesNamed, FlushesTable, Grows, WhyNoFurther, change_of, changes_by}
-use Rattle.cas_sessions.specs.History.{History, DiskState, Takes, Defines, Does, Stays, Stops}
+use Rattle.cas_sessions.specs.History.{History, DiskState, Takes, Defines, Does, Stays, Stops, shard_at}
+use Rattle.cas_sessions.specs.Verifying.{VerifiesNamed}
 use Rattle.cas_node.specs.Lines.{Answered, Answers, Runs, SetsClock}
 
 -- ---- table files
@@ -87,6 +89,7 @@ taken segment m x d reply.Done entries e t = absurd t
 taken segment m x d (reply.Wrote number) entries e t = of_stays d e t.3.1
 taken segment m x d (reply.Rows rows shard front now) entries e t = absurd t
 taken segment m x d (reply.Flushed files) entries e t = absurd t
+taken segment m x d (reply.Verified files) entries e t = absurd t
 taken segment m x d (reply.Status tables) entries e t = absurd t
 taken segment m x d (reply.Refused why) entries e t = of_stays d e t.2
 taken segment m x d (reply.Failed failure.Memory) entries e t = of_stays d e t.1
@@ -101,6 +104,7 @@ defined x old new d reply.Done tables e t =
 defined x old new d (reply.Wrote number) tables e t = absurd t
 defined x old new d (reply.Rows rows shard front now) tables e t = absurd t
 defined x old new d (reply.Flushed files) tables e t = absurd t
+defined x old new d (reply.Verified files) tables e t = absurd t
 defined x old new d (reply.Status listed) tables e t = absurd t
 defined x old new d (reply.Refused why) tables e t = of_stays d e t.4.1
 defined x old new d (reply.Failed failure.Memory) tables e t = of_stays d e t.1
@@ -141,26 +145,26 @@ module _ (h : History) (t : TableSchema) (changes : List (Option Change)) (e : D
           subst (λ k. (more : List (File Held)) × (e.files n k ≡ h.disk.files n k ++ more)) (sym same)
           (grown t.number n _ (change_of changes n) (h.disk.files n t.number) (e.files n t.number) (so.files n))
 
-  further : (f : Fault) → WhyNoFurther h.disk e f → (e.stopped ≡ false) ⊎ Rose h.disk.faults e.faults
-  further (fault.Refused why) w = inl w.1
-  further (fault.Stopped first) w = absurd w
-  further (fault.Disk None) w = ⊎_elim (λ rose. inr rose) (λ other. inl other.0) w
-  further (fault.Disk (Some number)) w = absurd w
-  further fault.Read w = inl w.0
-  further (fault.BadBlock number at) w = absurd w
-  further fault.Mem w = inl w
+  further : (n : ℕ) (f : Fault) → WhyNoFurther t n (shard_at h n) h.disk e f → (e.stopped ≡ false) ⊎ Rose h.disk.faults e.faults
+  further n (fault.Refused why) w = inl w.1
+  further n (fault.Stopped first) w = absurd w
+  further n (fault.Disk None) w = ⊎_elim (λ rose. inr rose) (λ other. inl other.0) w
+  further n (fault.Disk (Some number)) w = absurd w
+  further n fault.Read w = inl w.0
+  further n (fault.BadBlock number at) w = absurd w
+  further n fault.Mem w = inl w
 
-  ended : (r : Result (List ℕ) Fault) → EndsSo h changes r e → (e.stopped ≡ false) ⊎ Rose h.disk.faults e.faults
+  ended : (r : Result (List ℕ) Fault) → EndsSo h t changes r e → (e.stopped ≡ false) ⊎ Rose h.disk.faults e.faults
   ended (Ok told) ends = inl ends.2
-  ended (Err f) ends = further f ends.1
+  ended (Err f) ends = further (length changes) f ends.1
 
-  pub flushed_counts : (r : Result (List ℕ) Fault) → EndsSo h changes r e → Counts h.disk e
+  pub flushed_counts : (r : Result (List ℕ) Fault) → EndsSo h t changes r e → Counts h.disk e
   flushed_counts r ends = record { faults = so.faults; stops = λ on. ended r ends; files = flushed_more }
 
 -- a flush that an earlier fault didn't stop
 abbrev IsBegun : History → TableSchema → Result (List ℕ) Fault → History → Type 0
 IsBegun h t r after =
-    (changes : List (Option Change)) × (e : DiskState) × (h.disk.stopped ≡ false) × Flushed h t changes e × EndsSo h changes r e
+    (changes : List (Option Change)) × (e : DiskState) × (h.disk.stopped ≡ false) × Flushed h t changes e × EndsSo h t changes r e
     × (after ≡ record h { changes = fold changes_by h.changes changes; disk = e })
 
 begun_counts : (h : History) (t : TableSchema) (r : Result (List ℕ) Fault) (after : History) → IsBegun h t r after → Counts h.disk after.disk
@@ -178,6 +182,12 @@ flush_counts h t (Err fault.Mem) after a = begun_counts h t (Err fault.Mem) afte
 named_counts : (h : History) (o : Option TableSchema) (r : Result (List ℕ) Fault) (after : History) → FlushesNamed h o r after → Counts h.disk after.disk
 named_counts h None r after a = unchanged h after a.1
 named_counts h (Some t) r after a = flush_counts h t r after a
+
+-- ---- a check
+
+verified_counts : (h : History) (o : Option TableSchema) (r : Result (List Verdict) Fault) (t : History) → VerifiesNamed h o r t → Counts h.disk t.disk
+verified_counts h None r t a = unchanged h t a.1
+verified_counts h (Some x) r t a = at_disk h t (record h.disk { reads = a.0 }) (ap (λ (k : History). k.disk) a.3) (read_on h.disk a.0)
 
 -- ---- a line
 
@@ -198,6 +208,7 @@ module _ (kind : ClockKind) (Gives : ℤ → Type 0) where
       clock_set clock.Manual h n r t s = at_disk h t h.disk (ap (λ (k : History). k.disk) s.1) (still h.disk)
       clock_set clock.System h n r t s = unchanged h t s.1
   answered h (line.Flush name) r t a = named_counts h (table_named h.tables name) a.0 t a.2
+  answered h (line.Verify name) r t a = verified_counts h (table_named h.tables name) a.0 t a.2
   answered h line.Status r t a = unchanged h t a.1
   answered h (line.Statement s) r t a = deed h (meaning h.limits.shards h.tables s) a.0 t a.2
 

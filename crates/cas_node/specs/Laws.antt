@@ -1,5 +1,5 @@
 -- What holds of every run of a script, and of every open store (own).
-use Rattle.std.specs.Prelude.{◌≡◌, ◌<◌, ◌≤◌, ◌+◌, ◌^◌, ℕ, ℤ, false, List, Option}
+use Rattle.std.specs.Prelude.{◌≡◌, ◌<◌, ◌≤◌, ◌+◌, ◌*◌, ◌^◌, ℕ, ℤ, false, List, Option, length}
 use Rattle.std.specs.List.{list_any}
 use Rattle.cas_io.specs.Causes.{Rose}
 use Rattle.cas_disk.specs.Disk.{Disk}
@@ -59,3 +59,11 @@ NumbersStay Gives =
 -- so the front cuts nothing off: a SELECT reads all mutations of its partition that its shard has accepted, before the run or in it
 abbrev pub AllAreRead : Type 0
 AllAreRead = (s : ShardHistory) → NumbersRise s → AreShown s
+
+-- along a run each line adds at most one table file for each shard, and one, and gives as many numbers: so in a store with few files no flush is refused for
+-- their count or their numbers, but after many others
+abbrev pub FilesAreFew : (ℤ → Type 0) → Type 0
+FilesAreFew Gives =
+    (kind : ClockKind) (h after : History) (lines : List (List ℕ)) (rs : List (Option Reply)) → Runs kind Gives h lines rs after
+    → (after.disk.last_file ≤ h.disk.last_file + length lines * (length h.shards + 1))
+    × (after.disk.live ≤ h.disk.live + length lines * (length h.shards + 1))

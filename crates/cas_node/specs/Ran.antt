@@ -19,6 +19,7 @@ use Rattle.cas_render.specs.declared.reply.Failure.{Failure}
 use Rattle.cas_render.specs.declared.reply.Failure.TheVariants as failure
 use Rattle.cas_render.specs.declared.reply.Reply.{Reply}
 use Rattle.cas_render.specs.declared.reply.Reply.TheVariants as reply
+use Rattle.cas_render.specs.declared.reply.Verdict.{Verdict}
 use Rattle.cas_render.specs.Text.{reply_text}
 use Rattle.cas_shard.specs.declared.entry.ShardOpening.{ShardOpening}
 use Rattle.cas_sstread.specs.Loading.{Held}
@@ -38,6 +39,7 @@ use Rattle.cas_sessions.specs.Starts.{AreItsFiles, Begins}
 use Rattle.cas_sessions.specs.Entered.{AreEntered, IsLeft}
 use Rattle.cas_sessions.specs.Listing.{HasBehind, SameListed}
 use Rattle.cas_sessions.specs.Next.{IsExplained}
+use Rattle.cas_sessions.specs.Verifying.{IsFoundBad}
 use Rattle.cas_node.specs.Text.{output}
 
 -- ---- how a run ends
@@ -78,10 +80,21 @@ failure_cause failure.Memory = cause.Mem
 failure_cause (failure.Block number at) = cause.Bad (file.Table number) at
 failure_cause _ = cause.Good
 
--- what a reply says of the run's end: a refusal, a failure, or nothing
+-- what is said of table files says that one is bad at a place, or nothing
+abbrev pub verdict_cause : ℕ → Option ℕ → Cause → Cause
+verdict_cause number None others = others
+verdict_cause number (Some at) others = cause.Bad (file.Table number) at
+
+-- of several it is the first
+abbrev pub verdicts_cause : List Verdict → Cause
+verdicts_cause [] = cause.Good
+verdicts_cause (v ∷ vs) = verdict_cause v.number v.bad (verdicts_cause vs)
+
+-- what a reply says of the run's end: a refusal, a failure, a table file that is bad, or nothing
 abbrev pub reply_cause : Option Reply → Cause
 reply_cause (Some (reply.Refused n)) = cause.Refused
 reply_cause (Some (reply.Failed f)) = failure_cause f
+reply_cause (Some (reply.Verified verdicts)) = verdicts_cause verdicts
 reply_cause _ = cause.Good
 
 -- the worst that the replies say
@@ -185,20 +198,29 @@ abbrev pub IfBad : Cause → (Name → ℕ → Type 0) → Type 0
 IfBad (cause.Bad name at) P = P name at
 IfBad _ P = Unit {0}
 
--- of these files, by shard and table, no place is bad for a query
-abbrev pub AreGood : (ℕ → ℕ → List (File Held)) → Type 0
-AreGood files = (shard number at : ℕ) (q : Query) → IsBadFile (files shard q.table) q.key q.slice number at → ⊥
+-- of these files, by shard and table, no place is bad for a query, and none is found bad that is read to its end
+pub record AreGood (files : ℕ → ℕ → List (File Held)) : Type 0 where
+  pub slices : (shard number at : ℕ) (q : Query) → IsBadFile (files shard q.table) q.key q.slice number at → ⊥
+  pub wholes : (shard table number at : ℕ) → IsFoundBad (files shard table) number at → ⊥
 
--- of these files, by shard and table, that place of the one of that name is bad for a query
+-- that place of the file of that number is bad for a query
+abbrev pub IsBadForQuery : (ℕ → ℕ → List (File Held)) → ℕ → ℕ → Type 0
+IsBadForQuery files number at = (shard : ℕ) × (q : Query) × ∥ IsBadFile (files shard q.table) q.key q.slice number at ∥₁
+
+-- the file of that number is found bad there, read to its end
+abbrev pub IsBadWhole : (ℕ → ℕ → List (File Held)) → ℕ → ℕ → Type 0
+IsBadWhole files number at = (shard : ℕ) × (table : ℕ) × IsFoundBad (files shard table) number at
+
+-- of these files, by shard and table, that place of the one of that name is bad for a query, or found bad
 abbrev pub IsBadForOne : (ℕ → ℕ → List (File Held)) → Name → ℕ → Type 0
-IsBadForOne files (file.Table number) at = (shard : ℕ) × (q : Query) × ∥ IsBadFile (files shard q.table) q.key q.slice number at ∥₁
+IsBadForOne files (file.Table number) at = IsBadForQuery files number at ⊎ IsBadWhole files number at
 IsBadForOne files _ at = ⊥
 
 -- A run of the command over a script, by what the shards of its store were before, and by its table files: from there the script's lines were run; what
--- they entered is the list that is handed back; and whatever a crash leaves of the folder handed back has all that was acknowledged. Where no line flushes a
--- table, its manifest lists the table files that were found and no others; so the next run, which finds just that, begins with what the shards were and the
--- front of what was accepted that is left. A write was stopped only where the folder's count of faults rose, so that otherwise all that was accepted is left;
--- and a file is called bad only where it is, of those that were found or flushed.
+-- they entered is the list that is handed back; and whatever a crash leaves of the folder handed back has all that was acknowledged. The next run, which finds
+-- just that, begins with what the shards were and the front of what was accepted that is left, also behind flushes; where no line flushes a table, the manifest
+-- lists the table files that were found and no others. A write was stopped only where the folder's count of faults rose, so that otherwise all that was accepted
+-- is left; and a file is called bad only where it is, of those that were found or flushed.
 pub record RanOn (c : Command) (Gives : ℤ → Type 0) (script : List ℕ) (before after : Outside) (reads : ℕ) (list : List (Item Event)) (why : Cause)
     (entries : List ManifestEntry) (mutations : List Mutation) (openings : ℕ → ShardOpening) (files : ℕ → ℕ → List (File Held)) : Type 0 where
   pub first : History
@@ -209,8 +231,7 @@ pub record RanOn (c : Command) (Gives : ℤ → Type 0) (script : List ℕ) (bef
   pub entered : AreEntered list final
   pub crash : (d : Image) → before.folder.reads d → IsOfBytes d → (i : Image) → after.folder.may_leave i → IsLeft mutations list final i
   pub lists : NoneFlushes (lines script) → (d : Image) → before.folder.reads d → IsOfBytes d → (i : Image) → after.folder.may_leave i → HasBehind entries i
-  pub next : NoneFlushes (lines script) → (d : Image) → before.folder.reads d → IsOfBytes d → (i : Image) → after.folder.may_leave i → IsOfBytes i
-      → IsExplained mutations list final openings i
+  pub next : (d : Image) → before.folder.reads d → IsOfBytes d → (i : Image) → after.folder.may_leave i → IsOfBytes i → IsExplained mutations list final openings i
   pub faults : final.disk.faults ≡ after.folder_faults
   pub reads_are : final.disk.reads ≡ reads
   pub counted : final.disk.stopped ≡ true → Rose before.folder_faults after.folder_faults

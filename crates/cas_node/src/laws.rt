@@ -1,6 +1,6 @@
 //! What holds of every run of a script.
 
-ghost use Rattle.cas_node.specs.Laws.{AllAreRead, FoundRise, NumbersStay, OneOutcome};
+ghost use Rattle.cas_node.specs.Laws.{AllAreRead, FilesAreFew, FoundRise, NumbersStay, OneOutcome};
 
 use cas_disk::Folder;
 use cas_io::Clock;
@@ -20,3 +20,8 @@ pub fn numbers_rise<C: Clock, F: Folder>(folder: &F)
 {
     let _folder = folder;
 }
+
+/// Along a run each line adds at most one table file for each shard, and one, and gives as many numbers.
+pub fn files_are_few<C: Clock>()
+    ensures { (clock : C) → FilesAreFew (C.may_give clock) }
+{}

@@ -9,5 +9,5 @@ mod script;
 
 pub use cas_words::path_of;
 pub use cause::Cause;
-pub use laws::{numbers_rise, one_outcome};
+pub use laws::{files_are_few, numbers_rise, one_outcome};
 pub use program::{Outcome, SCRIPT_LIMIT, run};

@@ -4,15 +4,17 @@ ghost use Rattle.std.specs.Prelude.{◌≡◌, ◌⊎◌, ℕ, List as ListOf, R
 ghost use Rattle.cas_types.specs.Limits.{IsMoment};
 ghost use Rattle.cas_disk.specs.Disk.{Disk, During};
 ghost use Rattle.cas_lines.specs.Lines.{Says};
-ghost use Rattle.cas_node.specs.Lines.{Answers, FlushesNone, SetsClock, Tells, reply_of_flush};
+ghost use Rattle.cas_node.specs.Inner.Serving.{Knows};
+ghost use Rattle.cas_node.specs.Lines.{Answers, FlushesNone, SetsClock, reply_of_flush, reply_of_verify};
 ghost use Rattle.cas_sessions.specs.Flushes.{Flushes};
 ghost use Rattle.cas_sessions.specs.declared.answer.Fault.{Fault};
 ghost use Rattle.cas_sessions.specs.Listing.{KeepsListing, SameUpTo};
-ghost use Rattle.cas_sessions.specs.Numbering.{NumbersOn};
 ghost use Rattle.cas_sessions.specs.Nodes.{CountsOn, IsFew, Moves, OrWant, StandsFor, State};
 ghost use Rattle.cas_sessions.specs.Status.{status};
+ghost use Rattle.cas_sessions.specs.Verifying.{Verifies};
 ghost use Rattle.cas_sessions.specs.History.{History};
 ghost use Rattle.cas_render.specs.declared.reply.Reply.TheVariants as replies;
+ghost use Rattle.cas_render.specs.declared.reply.Verdict.{Verdict};
 
 use cas_disk::Folder;
 use cas_effects::{NOT_HERE, SYNTAX};
@@ -59,7 +61,6 @@ impl<F: Folder, J: Store> Runner<F, J> {
             (⟦<Runner<F, J> as Running>⟧.disk self.old) (⟦<Runner<F, J> as Running>⟧.disk self.new) }
         ensures lists { KeepsListing (⟦<Runner<F, J> as Running>⟧.state self.old)
             (⟦<Runner<F, J> as Running>⟧.disk self.old) (⟦<Runner<F, J> as Running>⟧.disk self.new) }
-        ensures numbers { NumbersOn (⟦<Runner<F, J> as Running>⟧.state self.old) (⟦<Runner<F, J> as Running>⟧.state self.new) }
         ensures counts { CountsOn (⟦<Runner<F, J> as Running>⟧.state self.old) (⟦<Runner<F, J> as Running>⟧.state self.new) }
     {
         match kind {
@@ -73,19 +74,35 @@ impl<F: Folder, J: Store> Runner<F, J> {
 
     // Flushes a table, and says which files that made.
     fn flush(&mut self, alloc: Global, name: &TableName) -> Reply
-        ensures flushes { Tells (⟦<Runner<F, J> as Running>⟧.disk self.old)
+        ensures flushes { Knows (⟦<Runner<F, J> as Running>⟧.state self.old) (⟦<Runner<F, J> as Running>⟧.disk self.old)
             → Moves (λ h after. (told : ResultOf (ListOf ℕ) Fault) × (result ≡ reply_of_flush told) × Flushes h name.now told after)
             (⟦<Runner<F, J> as Running>⟧.state self.old) (⟦<Runner<F, J> as Running>⟧.state self.new)
             (⟦<Runner<F, J> as Running>⟧.disk self.old) (⟦<Runner<F, J> as Running>⟧.disk self.new) }
         ensures tables { During (SameUpTo (⟦<Runner<F, J> as Running>⟧.state self.old).last_file)
             (⟦<Runner<F, J> as Running>⟧.disk self.old) (⟦<Runner<F, J> as Running>⟧.disk self.new) }
-        ensures numbers { NumbersOn (⟦<Runner<F, J> as Running>⟧.state self.old) (⟦<Runner<F, J> as Running>⟧.state self.new) }
         ensures counts { CountsOn (⟦<Runner<F, J> as Running>⟧.state self.old) (⟦<Runner<F, J> as Running>⟧.state self.new) }
     {
         match self.node.flush(alloc, &mut self.session, name) {
             Ok(numbers) => Reply::Flushed {
                 files: List::from_vec(numbers),
             },
+            Err(fault) => reply_of(Err(fault)),
+        }
+    }
+
+    // Reads the files of a table, and says of each what was found.
+    fn verify(&mut self, alloc: Global, name: &TableName) -> Reply
+        ensures verifies { Moves (λ h after. (told : ResultOf (ListOf Verdict) Fault) × (result ≡ reply_of_verify told) × Verifies h name.now told after)
+            (⟦<Runner<F, J> as Running>⟧.state self.old) (⟦<Runner<F, J> as Running>⟧.state self.new)
+            (⟦<Runner<F, J> as Running>⟧.disk self.old) (⟦<Runner<F, J> as Running>⟧.disk self.new) }
+        ensures tables { During (SameUpTo (⟦<Runner<F, J> as Running>⟧.state self.old).last_file)
+            (⟦<Runner<F, J> as Running>⟧.disk self.old) (⟦<Runner<F, J> as Running>⟧.disk self.new) }
+        ensures lists { KeepsListing (⟦<Runner<F, J> as Running>⟧.state self.old)
+            (⟦<Runner<F, J> as Running>⟧.disk self.old) (⟦<Runner<F, J> as Running>⟧.disk self.new) }
+        ensures counts { CountsOn (⟦<Runner<F, J> as Running>⟧.state self.old) (⟦<Runner<F, J> as Running>⟧.state self.new) }
+    {
+        match self.node.verify(alloc, name) {
+            Ok(files) => Reply::Verified { files },
             Err(fault) => reply_of(Err(fault)),
         }
     }
@@ -110,7 +127,7 @@ impl<F: Folder, J: Store> Runner<F, J> {
     ) -> Option<Reply>
         requires few { IsFew (⟦<Runner<F, J> as Running>⟧.state self.old) }
         requires says { Says text.now line }
-        ensures answers { Tells (⟦<Runner<F, J> as Running>⟧.disk self.old) ⊎ FlushesNone text.now
+        ensures answers { Knows (⟦<Runner<F, J> as Running>⟧.state self.old) (⟦<Runner<F, J> as Running>⟧.disk self.old) ⊎ FlushesNone text.now
             → Moves (λ h after. Answers ask.now.kind (C.may_give ask.now.clock.now) h text.now result after)
             (⟦<Runner<F, J> as Running>⟧.state self.old) (⟦<Runner<F, J> as Running>⟧.state self.new)
             (⟦<Runner<F, J> as Running>⟧.disk self.old) (⟦<Runner<F, J> as Running>⟧.disk self.new) }
@@ -118,7 +135,6 @@ impl<F: Folder, J: Store> Runner<F, J> {
             (⟦<Runner<F, J> as Running>⟧.disk self.old) (⟦<Runner<F, J> as Running>⟧.disk self.new) }
         ensures lists { FlushesNone text.now → KeepsListing (⟦<Runner<F, J> as Running>⟧.state self.old)
             (⟦<Runner<F, J> as Running>⟧.disk self.old) (⟦<Runner<F, J> as Running>⟧.disk self.new) }
-        ensures numbers { NumbersOn (⟦<Runner<F, J> as Running>⟧.state self.old) (⟦<Runner<F, J> as Running>⟧.state self.new) }
         ensures counts { CountsOn (⟦<Runner<F, J> as Running>⟧.state self.old) (⟦<Runner<F, J> as Running>⟧.state self.new) }
     {
         match line {
@@ -126,6 +142,7 @@ impl<F: Folder, J: Store> Runner<F, J> {
             Line::Syntax => Some(Reply::Refused(SYNTAX)),
             Line::Clock(seconds) => Some(self.set_clock(ask.kind, seconds)),
             Line::Flush(name) => Some(self.flush(alloc, &name)),
+            Line::Verify(name) => Some(self.verify(alloc, &name)),
             Line::Status => Some(self.status(alloc)),
             Line::Statement(statement) => {
                 let answer = self
@@ -144,7 +161,7 @@ impl<F: Folder, J: Store> Runner<F, J> {
         line: &[u8],
     ) -> Option<Reply>
         requires few { IsFew (⟦<Runner<F, J> as Running>⟧.state self.old) }
-        ensures answers { Tells (⟦<Runner<F, J> as Running>⟧.disk self.old) ⊎ FlushesNone line.now
+        ensures answers { Knows (⟦<Runner<F, J> as Running>⟧.state self.old) (⟦<Runner<F, J> as Running>⟧.disk self.old) ⊎ FlushesNone line.now
             → Moves (λ h after. Answers ask.now.kind (C.may_give ask.now.clock.now) h line.now result after)
             (⟦<Runner<F, J> as Running>⟧.state self.old) (⟦<Runner<F, J> as Running>⟧.state self.new)
             (⟦<Runner<F, J> as Running>⟧.disk self.old) (⟦<Runner<F, J> as Running>⟧.disk self.new) }
@@ -152,7 +169,6 @@ impl<F: Folder, J: Store> Runner<F, J> {
             (⟦<Runner<F, J> as Running>⟧.disk self.old) (⟦<Runner<F, J> as Running>⟧.disk self.new) }
         ensures lists { FlushesNone line.now → KeepsListing (⟦<Runner<F, J> as Running>⟧.state self.old)
             (⟦<Runner<F, J> as Running>⟧.disk self.old) (⟦<Runner<F, J> as Running>⟧.disk self.new) }
-        ensures numbers { NumbersOn (⟦<Runner<F, J> as Running>⟧.state self.old) (⟦<Runner<F, J> as Running>⟧.state self.new) }
         ensures counts { CountsOn (⟦<Runner<F, J> as Running>⟧.state self.old) (⟦<Runner<F, J> as Running>⟧.state self.new) }
     {
         match read_line(alloc, line) {

@@ -6,12 +6,11 @@ ghost use Rattle.cas_io.specs.Causes.{Rose};
 ghost use Rattle.cas_disk.specs.Disk.{During};
 ghost use Rattle.cas_render.specs.Text.{reply_text};
 ghost use Rattle.cas_sessions.specs.Listing.{KeepsListing, SameUpTo};
-ghost use Rattle.cas_sessions.specs.Numbering.{NumbersOn};
 ghost use Rattle.cas_sessions.specs.Nodes.{CountsOn, IsFew, Moves};
-ghost use Rattle.cas_node.specs.Lines.{FlushesNone, NoneFlushes, Tells};
-ghost use Rattle.cas_node.specs.Inner.Serving.{IsKnownIn};
+ghost use Rattle.cas_node.specs.Lines.{FlushesNone, NoneFlushes};
+ghost use Rattle.cas_node.specs.Inner.Serving.{IsKnownIn, Knows};
 ghost use Rattle.cas_node.specs.Inner.Turns.{IsEnd, IsToldSo, Printed, PrintedReply, StopsFor, Turned};
-ghost use Rattle.cas_node.specs.Ran.{RanFrom, reply_cause, weight, worse};
+ghost use Rattle.cas_node.specs.Ran.{RanFrom, reply_cause, verdicts_cause, weight, worse};
 
 use crate::cause::Cause;
 use crate::runner::{Runner, Running};
@@ -19,7 +18,7 @@ use cas_disk::{Folder, Name};
 use cas_history::Store;
 use cas_io::{Clock, Sink, write_all};
 use cas_lines::next_line;
-use cas_render::{Failure, Reply, render};
+use cas_render::{Failure, Reply, Verdict, render};
 use cas_sessions::Ask;
 use cas_types::Mem;
 use std::alloc::Global;
@@ -29,6 +28,22 @@ use std::alloc::Global;
 pub(crate) enum PrintFault {
     Mem,
     Write,
+}
+
+// What is said of table files: of the first that is bad.
+fn verdicts_cause(verdicts: &[Verdict]) -> Cause
+    ensures cause { result ≡ verdicts_cause verdicts.now }
+    ensures told { IsToldSo result }
+{
+    for verdict in verdicts {
+        if let Some(at) = verdict.bad {
+            return Cause::Bad {
+                name: Name::Table(verdict.number),
+                at,
+            };
+        }
+    }
+    Cause::Good
 }
 
 fn reply_cause(reply: &Option<Reply>) -> Cause
@@ -42,6 +57,7 @@ fn reply_cause(reply: &Option<Reply>) -> Cause
             name: Name::Table(*number),
             at: *at,
         },
+        Some(Reply::Verified { files }) => verdicts_cause(files.as_slice()),
         _ => Cause::Good,
     }
 }
@@ -141,7 +157,8 @@ fn take_turn<K: Sink, F: Folder, J: Store, C: Clock>(
     line: &[u8],
 ) -> Turn
     requires few { IsFew (⟦<Runner<F, J> as Running>⟧.state runner.old) }
-    ensures turned { Tells (⟦<Runner<F, J> as Running>⟧.disk runner.old) ⊎ FlushesNone line.now → Moves (λ h after. Turned ask.now.kind (C.may_give ask.now.clock.now) h line.now after
+    ensures turned { Knows (⟦<Runner<F, J> as Running>⟧.state runner.old) (⟦<Runner<F, J> as Running>⟧.disk runner.old) ⊎ FlushesNone line.now
+        → Moves (λ h after. Turned ask.now.kind (C.may_give ask.now.clock.now) h line.now after
         (K.took sink.old) (K.took sink.new) result.cause result.fault)
         (⟦<Runner<F, J> as Running>⟧.state runner.old) (⟦<Runner<F, J> as Running>⟧.state runner.new)
         (⟦<Runner<F, J> as Running>⟧.disk runner.old) (⟦<Runner<F, J> as Running>⟧.disk runner.new) }
@@ -149,7 +166,6 @@ fn take_turn<K: Sink, F: Folder, J: Store, C: Clock>(
         (⟦<Runner<F, J> as Running>⟧.disk runner.old) (⟦<Runner<F, J> as Running>⟧.disk runner.new) }
     ensures lists { FlushesNone line.now → KeepsListing (⟦<Runner<F, J> as Running>⟧.state runner.old)
         (⟦<Runner<F, J> as Running>⟧.disk runner.old) (⟦<Runner<F, J> as Running>⟧.disk runner.new) }
-    ensures numbers { NumbersOn (⟦<Runner<F, J> as Running>⟧.state runner.old) (⟦<Runner<F, J> as Running>⟧.state runner.new) }
     ensures counts { CountsOn (⟦<Runner<F, J> as Running>⟧.state runner.old) (⟦<Runner<F, J> as Running>⟧.state runner.new) }
     ensures faults { K.faults sink.old ≤ K.faults sink.new }
     ensures stalls { K.stalls sink.old ≤ K.stalls sink.new }
@@ -186,7 +202,8 @@ pub(crate) fn run_lines<K: Sink, F: Folder, J: Store, C: Clock>(
     sink: &mut K,
 ) -> Cause
     requires begun { ((⟦<Runner<F, J> as Running>⟧.state runner.old).calls ≡ 0) × ((⟦<Runner<F, J> as Running>⟧.state runner.old).accepted ≡ 0) }
-    ensures ran { IsKnownIn (⟦<Runner<F, J> as Running>⟧.disk runner.old) script.now → Moves (λ h after. RanFrom h ask.now.kind (C.may_give ask.now.clock.now) script.now
+    ensures ran { IsKnownIn (⟦<Runner<F, J> as Running>⟧.state runner.old) (⟦<Runner<F, J> as Running>⟧.disk runner.old) script.now
+        → Moves (λ h after. RanFrom h ask.now.kind (C.may_give ask.now.clock.now) script.now
         (K.took sink.old) (K.took sink.new) after result)
         (⟦<Runner<F, J> as Running>⟧.state runner.old) (⟦<Runner<F, J> as Running>⟧.state runner.new)
         (⟦<Runner<F, J> as Running>⟧.disk runner.old) (⟦<Runner<F, J> as Running>⟧.disk runner.new) }
@@ -194,7 +211,6 @@ pub(crate) fn run_lines<K: Sink, F: Folder, J: Store, C: Clock>(
         (⟦<Runner<F, J> as Running>⟧.disk runner.old) (⟦<Runner<F, J> as Running>⟧.disk runner.new) }
     ensures lists { NoneFlushes (lines script.now) → KeepsListing (⟦<Runner<F, J> as Running>⟧.state runner.old)
         (⟦<Runner<F, J> as Running>⟧.disk runner.old) (⟦<Runner<F, J> as Running>⟧.disk runner.new) }
-    ensures numbers { NumbersOn (⟦<Runner<F, J> as Running>⟧.state runner.old) (⟦<Runner<F, J> as Running>⟧.state runner.new) }
     ensures faults { K.faults sink.old ≤ K.faults sink.new }
     ensures stalls { K.stalls sink.old ≤ K.stalls sink.new }
     ensures write { result ≡ Cause.Write

@@ -1,6 +1,7 @@
 -- The shards of a store with the mutations of its log, one after another.
-use Rattle.std.proofs.Common.{◌≡◌, ◌≢◌, ◌⊎◌, inl, inr, ◌<◌, ◌==◌, ℕ, zero, suc, Bool, List, [], ◌∷◌, ◌++◌, take, length, Some, sym, ap, ◌∙◌, subst}
+use Rattle.std.proofs.Common.{◌≡◌, ◌≢◌, ◌⊎◌, inl, inr, ◌<◌, ◌==◌, ℕ, zero, suc, Bool, List, [], ◌∷◌, ◌++◌, take, length, Some, sym, ap, ◌∙◌, subst, append-nil}
 use Rattle.std.proofs.Math.Logic.{∥∥₁_map}
+use Rattle.std.proofs.lemmas.Grind.{flat_map-append}
 use Rattle.std.specs.Prelude.{slice_get, slice_set, if◌then◌else◌}
 use Rattle.std.specs.List.{AllByRecursion}
 use Rattle.cas_types.specs.declared.schema.TableSchema.{TableSchema}
@@ -8,14 +9,15 @@ use Rattle.cas_atoms.specs.declared.atom.Mutation.{Mutation}
 use Rattle.cas_mutations.specs.Allowed.{FitsRecord}
 use Rattle.cas_replay.specs.Grammar.{numbers_of}
 use Rattle.cas_shard.specs.Entries.{last_number}
+use Rattle.cas_shard.specs.declared.entry.Entry.TheVariants.{Wrote}
 use Rattle.cas_shard.specs.declared.entry.ShardOpening.{ShardOpening}
 use Rattle.cas_shard.specs.Shards.{empty_shard, found_shard, restored}
-use Rattle.cas_shard.specs.Flushing.{HasInMemory}
-use Rattle.cas_shard.specs.Stands.{Belongs, HasNoFiles, KeepsFiles, ShardState, Stands, files_at}
+use Rattle.cas_shard.specs.Flushing.{HasInMemory, one_of}
+use Rattle.cas_shard.specs.Stands.{Belongs, HasNoFiles, KeepsFiles, ShardState, Stands, files_at, mutations_of, of_table}
 use Rattle.cas_sstread.specs.Loading.{Held}
 use Rattle.cas_view.specs.Views.{File}
 use Rattle.cas_recovery.specs.Found.{found_in}
-use Rattle.cas_recovery.specs.Restored.{HaveMemory, Remember, Remembers}
+use Rattle.cas_recovery.specs.Restored.{HaveMemory, Remember, RememberAll, Remembers, RemembersJust}
 use Rattle.cas_recovery.specs.Inner.Restoring.{AreRestored, HaveNoFiles, MayBeGiven, Rise}
 use Rattle.cas_recovery.proofs.Founding.{found_reads, front_rises, is_above, numbers_more, one_more}
 use Rattle.cas_recovery.proofs.Places.{get_here, get_other, is_other, is_same, same_place}
@@ -37,12 +39,12 @@ pub no_files_new : (shards : List ShardState) (x : ShardState) → HaveNoFiles s
 no_files_new shards x are none n y is =
     elim (get_pushed shards x y n is) [ inl before ↦ are n y before | inr same ↦ subst HasNoFiles same none ]
 
-pub memory_new : (tables : List TableSchema) (shards : List ShardState) (x : ShardState) → Remember tables shards
-    → ((ts : List TableSchema) (table : ℕ) → HasInMemory ts table [] x) → Remember tables (shards ++ x ∷ [])
+pub memory_new : (tables : List TableSchema) (shards : List ShardState) (x : ShardState) → RememberAll tables [] shards
+    → ((ts : List TableSchema) (table : ℕ) → HasInMemory ts table [] x) → RememberAll tables [] (shards ++ x ∷ [])
 memory_new tables shards x have none n table y is =
     elim (get_pushed shards x y n is) [
       | inl before ↦ have n table y before
-      | inr same ↦ subst (Remembers tables table) same ([], λ more. none (tables ++ more) table)
+      | inr same ↦ subst (RemembersJust tables table []) same (λ more. none (tables ++ more) table)
     ]
 
 -- ---- a mutation more
@@ -104,6 +106,31 @@ more_restored tables done m shards old new are there stands n x is = at (same_pl
     at (inr other) =
         subst (λ (o : ShardOpening). Stands tables (found_shard o) x) (sym (found_other n done m other))
         (are n x (sym (get_other shards m.shard n new other) ∙ is))
+
+-- of each table a mutation that is restored is the last
+one_last : (table : ℕ) (m : Mutation) (o : ShardOpening) → mutations_of table (restored m o).entries ≡ mutations_of table o.entries ++ one_of table m
+one_last table m o =
+    flat_map-append (of_table table) o.entries (Wrote 0 0 m ∷ []) ∙ ap (λ l. mutations_of table o.entries ++ l) (append-nil (of_table table (Wrote 0 0 m)))
+
+-- what is in memory of the shards, where one of them took a mutation more
+pub more_remembered : (tables : List TableSchema) (done : List Mutation) (m : Mutation) (shards : List ShardState) (old new : ShardState)
+    → RememberAll tables done shards → slice_get shards m.shard ≡ Some old
+    → ((table : ℕ) (ws : List Mutation) → RemembersJust tables table ws old → RemembersJust tables table (ws ++ one_of table m) new)
+    → RememberAll tables (done ++ m ∷ []) (slice_set shards m.shard new)
+more_remembered tables done m shards old new have there step n table x is = at (same_place n m.shard)
+  where
+    at : (n ≡ m.shard) ⊎ (n ≢ m.shard) → RemembersJust tables table (mutations_of table (found_in n (done ++ m ∷ [])).entries) x
+    at (inl here) =
+        let same : new ≡ x = (let set = get_here shards m.shard old new there in let its = ap (slice_get (slice_set shards m.shard new)) here in cc) in
+        let found : found_in n (done ++ m ∷ []) ≡ restored m (found_in m.shard done) = ap (λ (k : ℕ). found_in k (done ++ m ∷ [])) here ∙ found_here done m in
+        let before : List Mutation = mutations_of table (found_in m.shard done).entries in
+        let now : mutations_of table (found_in n (done ++ m ∷ [])).entries ≡ before ++ one_of table m =
+        ap (λ (o : ShardOpening). mutations_of table o.entries) found ∙ one_last table m (found_in m.shard done) in
+        subst (λ (ws : List Mutation). RemembersJust tables table ws x) (sym now)
+        (subst (RemembersJust tables table (before ++ one_of table m)) same (step table before (have m.shard table old there)))
+    at (inr other) =
+        subst (λ (o : ShardOpening). RemembersJust tables table (mutations_of table o.entries) x) (sym (found_other n done m other))
+        (have n table x (sym (get_other shards m.shard n new other) ∙ is))
 
 -- what holds of the files of each table in each shard
 abbrev pub OfFiles : (ℕ → List (File Held) → Type 0) → List ShardState → Type 0
@@ -171,5 +198,6 @@ first_restored tables mutations n shards are k x is = are k x (get_front n shard
 pub first_no_files : (n : ℕ) (shards : List ShardState) → HaveNoFiles shards → HaveNoFiles (take n shards)
 first_no_files n shards are k x is = are k x (get_front n shards k x is)
 
-pub first_memory : (tables : List TableSchema) (n : ℕ) (shards : List ShardState) → Remember tables shards → Remember tables (take n shards)
-first_memory tables n shards have k table x is = have k table x (get_front n shards k x is)
+pub first_memory : (tables : List TableSchema) (mutations : List Mutation) (n : ℕ) (shards : List ShardState) → RememberAll tables mutations shards
+    → RememberAll tables mutations (take n shards)
+first_memory tables mutations n shards have k table x is = have k table x (get_front n shards k x is)

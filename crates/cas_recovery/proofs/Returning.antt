@@ -35,7 +35,7 @@ use Rattle.define_laws.proofs.Told.{told_tables_are_tables}
 use Rattle.cas_recovery.specs.Found.{IsUnflushed, found_in}
 use Rattle.cas_recovery.specs.Openings.{MayHaveBeen, SayAll, greatest_frontier, unflushed_of}
 use Rattle.cas_recovery.specs.Recovered.{IsRecovered}
-use Rattle.cas_recovery.specs.Restored.{Remember, HaveNoMore, IsBehind, IsTold, MayBeRead, greatest_of}
+use Rattle.cas_recovery.specs.Restored.{HaveNoMore, IsBehind, IsTold, MayBeRead, RememberAll, greatest_of}
 use Rattle.cas_recovery.specs.Inner.Filling.{HasTaken, IsBroughtBack, IsFilled, IsOwn, IsWithin}
 use Rattle.cas_recovery.specs.Inner.Restoring.{MayBeGiven}
 use Rattle.cas_recovery.proofs.Afterwards.{still_lasts}
@@ -160,13 +160,15 @@ module _ (entries : List Entry) (mutations handed : List Mutation) (o : OpenStor
       let few : length x.stores ≤ length s.tables = (as_told mid n was x filled).few stood.few in
       ap (λ q. length (files_at q)) (slice_get_past x.stores table (omega (arith, few, high, ap length (back.tables_are ∙ tables_said))))
 
-  -- in memory is what was restored
+  -- in memory is what was handed on, all above the frontiers
   remembered : (given limits : Limits) (tables : List TableSchema) (shards : List ShardState) (mid : Disk) → IsBroughtBack given handed o.said mid limits tables shards
-      → Remember tables shards
-  remembered given limits tables shards mid back = subst (λ (ts : List TableSchema). Remember ts shards) (sym (back.tables_are ∙ tables_said)) (λ n table x there.
+      → RememberAll tables (unflushed_of s mutations) shards
+  remembered given limits tables shards mid back =
+      subst (λ (ms : List Mutation). RememberAll tables ms shards) read.above
+      (subst (λ (ts : List TableSchema). RememberAll ts handed shards) (sym (back.tables_are ∙ tables_said)) (λ n table x there more.
       let (was, before, filled) = back.filled.filled n x (omega (arith, get_within shards n x there, back.count)) there in
-      let k = back.restored.2 s.tables s.shards given_all n table was before in
-      (k.0, λ more. filled.memory (s.tables ++ more) table k.0 (k.1 more)))
+      filled.memory (s.tables ++ more) table (mutations_of table (found_in n handed).entries)
+      (back.restored.2 s.tables s.shards given_all n table was before more)))
 
   -- no table's frontier is above the greatest
   is_below : (n count table : ℕ) → table < count → (part_of s table n).frontier ≤ greatest_frontier s n count

@@ -23,13 +23,13 @@ use Rattle.cas_shard.specs.declared.entry.ShardOpening.{ShardOpening}
 use Rattle.cas_shard.specs.Shards.{found_shard}
 use Rattle.cas_shard.specs.Stands.{ShardState, Stands, files_at}
 use Rattle.cas_recovery.specs.Found.{IsFound}
-use Rattle.cas_recovery.specs.Openings.{MayHaveBeen}
-use Rattle.cas_recovery.specs.Restored.{AreListed, Remember, HaveNoMore, IsBehind, IsTold, greatest_of}
+use Rattle.cas_recovery.specs.Openings.{MayHaveBeen, unflushed_of}
+use Rattle.cas_recovery.specs.Restored.{AreListed, HaveNoMore, IsBehind, IsTold, RememberAll, greatest_of}
 use Rattle.cas_recovery.specs.declared.filling.TheConstants.{VERSION_PLACE}
 
 -- The store of a folder was read back: its limits and tables are what the manifest's entries say, each shard stands for whatever it may have been before,
--- its tables have the files that are listed, and its journal goes on behind the log's mutations, which last. The last number of a table file is the greatest
--- under which one was ever listed, and so many are live as are listed.
+-- its tables have the files that are listed, in memory are just the log's mutations above the frontiers, and its journal goes on behind the log's, which
+-- last. The last number of a table file is the greatest under which one was ever listed, and so many are live as are listed.
 pub record IsRecovered (given limits : Limits) (tables : List TableSchema) (shards : List ShardState) (last live : ℕ) (journal : Journal)
     (old new : Disk) : Type 0 where
   pub entries : List ManifestEntry
@@ -46,7 +46,7 @@ pub record IsRecovered (given limits : Limits) (tables : List TableSchema) (shar
       → slice_get tables table ≡ Some t
       → (d : Image) × old.may_leave d × AreLoaded t n d (part_of (said_by entries) table n).listed (files_at (slice_get x.stores table))
   pub no_more : HaveNoMore tables shards
-  pub memory : Remember tables shards
+  pub memory : RememberAll tables (unflushed_of (said_by entries) mutations) shards
   pub last_is : last ≡ greatest_of (said_by entries).numbers
   pub behind : IsBehind (said_by entries) shards last live
   pub segment : journal.last_segment ≤ next_segment entries

@@ -11,8 +11,9 @@ use Rattle.cas_changes.specs.declared.entry.Entry.{Entry as ManifestEntry}
 use Rattle.cas_journal.specs.Stores.{Told, named}
 use Rattle.cas_opening.specs.Opening.{found_with}
 use Rattle.cas_shard.specs.Flushing.{HasInMemory}
-use Rattle.cas_shard.specs.Stands.{ShardState, files_at}
+use Rattle.cas_shard.specs.Stands.{ShardState, files_at, mutations_of}
 use Rattle.cas_stored.specs.Reading.{AreReadIn}
+use Rattle.cas_recovery.specs.Found.{found_in}
 
 -- the files of each table may be read in each slice of the table: they are of the format's second version, of at most 256 columns, and order their
 -- rows as it does
@@ -30,9 +31,18 @@ abbrev pub AreListed : List ManifestEntry → List TableSchema → List ShardSta
 AreListed entries tables shards = (n : ℕ) (x : ShardState) → slice_get shards n ≡ Some x → (table : ℕ) (t : TableSchema) → slice_get tables table ≡ Some t
     → map (λ f. f.info) (files_at (slice_get x.stores table)) ≡ (part_of (said_by entries) table n).listed
 
--- In memory a shard has just some mutations of a table, each of which the table may hold; and so it is with whatever tables come behind these.
+-- In memory a shard has just these mutations of a table, each of which the table may hold; and so it is with whatever tables come behind these.
+abbrev pub RemembersJust : List TableSchema → ℕ → List Mutation → ShardState → Type 0
+RemembersJust tables table ws x = (more : List TableSchema) → HasInMemory (tables ++ more) table ws x
+
+-- it has just some
 abbrev pub Remembers : List TableSchema → ℕ → ShardState → Type 0
-Remembers tables table x = (ws : List Mutation) × ((more : List TableSchema) → HasInMemory (tables ++ more) table ws x)
+Remembers tables table x = (ws : List Mutation) × RemembersJust tables table ws x
+
+-- each shard has of each table just what these mutations have of it
+abbrev pub RememberAll : List TableSchema → List Mutation → List ShardState → Type 0
+RememberAll tables mutations shards =
+    (n table : ℕ) (x : ShardState) → slice_get shards n ≡ Some x → RemembersJust tables table (mutations_of table (found_in n mutations).entries) x
 
 -- each shard has some of each table
 abbrev pub Remember : List TableSchema → List ShardState → Type 0

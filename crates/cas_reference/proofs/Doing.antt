@@ -18,7 +18,7 @@ use Rattle.cas_lines.proofs.LineReading.{clock_is_moment}
 use Rattle.cas_reference.specs.Kept.{Reads, Writes}
 use Rattle.cas_terms.specs.Columns.{table_named}
 use Rattle.cql_parse.specs.declared.syntax.TableName.{TableName}
-use Rattle.cas_reference.specs.Replies.{Answers, Does, Keeps, Reading, SetsClock, Store, flushed, no_files}
+use Rattle.cas_reference.specs.Replies.{Answers, Does, Keeps, Reading, SetsClock, Store, flushed, no_files, verified}
 
 -- the seconds that a line sets are a moment
 pub says_moment : (text : List ℕ) (l : Line) (n m : ℤ) → m ≡ n → Says text l → l ≡ line.Clock n → IsMoment m
@@ -57,10 +57,15 @@ pub answers_flush : (Gives : ℤ → Type 0) (s : Store) (text : List ℕ) (l : 
 unfolding Answers
 answers_flush Gives s text l name r is says of = (line.Flush name, subst (λ l. Says text l) of says, (ap (λ q. Some q) is, refl))
 
+pub answers_verify : (Gives : ℤ → Type 0) (s : Store) (text : List ℕ) (l : Line) (name : TableName) (r : Reply) → r ≡ verified (table_named s.tables name)
+    → Says text l → l ≡ line.Verify name → Answers Gives s text (Some r) s
+unfolding Answers
+answers_verify Gives s text l name r is says of = (line.Verify name, subst (λ l. Says text l) of says, (ap (λ q. Some q) is, refl))
+
 pub answers_status : (Gives : ℤ → Type 0) (s : Store) (text : List ℕ) (l : Line) (tables : List Listed) → tables ≡ status_of s.tables s.limits.shards no_files
     → Says text l → l ≡ line.Status → Answers Gives s text (Some (reply.Status tables)) s
 unfolding Answers
 answers_status Gives s text l tables are says is = (line.Status, subst (λ l. Says text l) is says, (ap (λ q. Some (reply.Status q)) are, refl))
 
 -- what a line that was read is answered
-pub ruleset answers_known = (says_moment, answers_blank, answers_syntax, answers_clock, answers_flush, answers_status, answers_statement)
+pub ruleset answers_known = (says_moment, answers_blank, answers_syntax, answers_clock, answers_flush, answers_verify, answers_status, answers_statement)

@@ -91,6 +91,11 @@ abbrev pub flushed : Option TableSchema → Reply
 flushed None = reply.Refused (refusal_number NoTable)
 flushed (Some t) = reply.Flushed []
 
+-- `\verify` of a table that is there finds no file to read
+abbrev pub verified : Option TableSchema → Reply
+verified None = reply.Refused (refusal_number NoTable)
+verified (Some t) = reply.Verified []
+
 -- `\status` lists no file of a table in a shard, since there is none
 abbrev pub no_files : ℕ → ℕ → List ℕ
 no_files shard table = []
@@ -101,6 +106,7 @@ Answered Gives s line.Blank r after = (r ≡ None) × (after ≡ s)
 Answered Gives s line.Syntax r after = (r ≡ Some (reply.Refused SYNTAX)) × (after ≡ s)
 Answered Gives s (line.Clock n) r after = (answer : Reply) × (r ≡ Some answer) × SetsClock s.kind s n answer after
 Answered Gives s (line.Flush t) r after = (r ≡ Some (flushed (table_named s.tables t))) × (after ≡ s)
+Answered Gives s (line.Verify t) r after = (r ≡ Some (verified (table_named s.tables t))) × (after ≡ s)
 Answered Gives s line.Status r after = (r ≡ Some (reply.Status (status_of s.tables s.limits.shards no_files))) × (after ≡ s)
 Answered Gives s (line.Statement x) r after = (answer : Reply) × (r ≡ Some answer) × Does Gives s (meaning s.limits.shards s.tables x) answer after
 

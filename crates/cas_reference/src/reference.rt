@@ -45,7 +45,7 @@ impl Reference {
     ghost use Rattle.cas_lines.specs.Lines.{Says};
     ghost use Rattle.cas_render.specs.declared.reply.Reply.TheVariants as replies;
     ghost use Rattle.cas_terms.specs.Columns.{table_named};
-    ghost use Rattle.cas_reference.specs.Replies.{Answers, Does, SetsClock, begun, flushed, new_store, with_tables};
+    ghost use Rattle.cas_reference.specs.Replies.{Answers, Does, SetsClock, begun, flushed, new_store, verified, with_tables};
     ghost use Rattle.cas_reference.specs.Held.{held};
 
     /// A store that this command makes.
@@ -170,6 +170,18 @@ impl Reference {
         }
     }
 
+    // There is no file that could be bad.
+    fn verify(&self, alloc: Global, name: &TableName) -> Reply
+        ensures { result ≡ verified (table_named self.now.tables.items name.now) }
+    {
+        let Some(_table) = table_named(&self.tables, name) else {
+            return Reply::Refused(Refusal::NoTable.number());
+        };
+        Reply::Verified {
+            files: List::from_vec(Vec::new(alloc)),
+        }
+    }
+
     // Answers a line that says this.
     #[tactic(auto, using(crate::proofs::Doing::answers_known))]
     fn answer_known<C: Clock>(
@@ -187,6 +199,7 @@ impl Reference {
             Line::Syntax => Ok(Some(Reply::Refused(SYNTAX))),
             Line::Clock(seconds) => Ok(Some(self.set_clock(seconds))),
             Line::Flush(name) => Ok(Some(self.flush(alloc, &name))),
+            Line::Verify(name) => Ok(Some(self.verify(alloc, &name))),
             Line::Status => {
                 let tables = status_of(alloc, &self.tables, self.limits.shards)?;
                 Ok(Some(Reply::Status { tables }))

@@ -18,6 +18,7 @@ use Rattle.cas_render.specs.declared.reply.Failure.TheVariants as failure
 use Rattle.cas_render.specs.declared.reply.Listed.{Listed}
 use Rattle.cas_render.specs.declared.reply.Reply.{Reply}
 use Rattle.cas_render.specs.declared.reply.Reply.TheVariants as reply
+use Rattle.cas_render.specs.declared.reply.Verdict.{Verdict}
 
 -- a byte of a text, a quote twice
 abbrev pub quoted_byte : ℕ → List ℕ
@@ -104,12 +105,27 @@ further_number n = codes " " ++ decimal n
 unfoldable pub listed_text : Listed → List ℕ
 listed_text l = l.table ++ codes " shard " ++ decimal l.shard ++ codes ":" ++ flat_map further_number l.files ++ codes "\n"
 
+-- what was found of a file: it is good, or bad at a place
+abbrev pub found_text : Option ℕ → List ℕ
+found_text None = codes " good"
+found_text (Some at) = codes " bad at " ++ decimal at
+
+-- a file that was checked is a line: 1 good, or 2 bad at 32
+unfoldable pub verdict_text : Verdict → List ℕ
+verdict_text v = decimal v.number ++ found_text v.bad ++ codes "\n"
+
+-- the files that were checked, or that there is nothing to check
+abbrev pub verified_text : List Verdict → List ℕ
+verified_text [] = codes "nothing\n"
+verified_text (v ∷ vs) = flat_map verdict_text (v ∷ vs)
+
 -- what is printed of the answer to a line of the script
 unfoldable pub reply_text : Reply → List ℕ
 reply_text reply.Done = codes "ok\n"
 reply_text (reply.Wrote number) = codes "ok " ++ decimal number ++ codes "\n"
 reply_text (reply.Rows rows shard front now) = flat_map row_text rows ++ trailer (length rows) shard front now
 reply_text (reply.Flushed files) = codes "flushed" ++ flat_map further_number files ++ codes "\n"
+reply_text (reply.Verified files) = verified_text files
 reply_text (reply.Status tables) = flat_map listed_text tables
 reply_text (reply.Refused number) = codes "refused S" ++ decimal number ++ codes "\n"
 reply_text (reply.Failed failure) = failure_text failure

@@ -12,4 +12,4 @@ mod reply;
 pub use laws::status_ascends;
 pub use listing::{in_order, listed_of};
 pub use printing::render;
-pub use reply::{Failure, Listed, Reply};
+pub use reply::{Failure, Listed, Reply, Verdict};

@@ -3,10 +3,11 @@
 ghost use Rattle.std.specs.Prelude.{◌≡◌, ◌++◌, [], codes, OnOk, OnErr};
 ghost use Rattle.std.specs.List.{flat_map, join_by};
 ghost use Rattle.cas_render.specs.Text.{datum_text, further_number, listed_text, row_text, trailer, failure_text, reply_text};
+ghost use Rattle.cas_render.specs.Text.{found_text, verdict_text, verified_text};
 
 use crate::collections::append_datum;
 use crate::pieces::{append, append_number, append_signed};
-use crate::reply::{Failure, Listed, Reply};
+use crate::reply::{Failure, Listed, Reply, Verdict};
 use cas_atoms::{Datum, LiveRow};
 use cas_types::Mem;
 use std::alloc::Global;
@@ -116,6 +117,45 @@ fn append_status(out: &mut Vec<u8>, tables: &[Listed]) -> Result<(), Mem>
     Ok(())
 }
 
+fn append_found(out: &mut Vec<u8>, bad: Option<u64>) -> Result<(), Mem>
+    ensures { OnOk result (out.new.items ≡ out.old.items ++ found_text bad) }
+{
+    match bad {
+        None => append(out, b" good"),
+        Some(at) => {
+            append(out, b" bad at ")?;
+            append_number(out, at)
+        }
+    }
+}
+
+#[tactic(auto, unfolding(crate::specs::Text::verdict_text))]
+fn append_verdict(out: &mut Vec<u8>, verdict: Verdict) -> Result<(), Mem>
+    ensures { OnOk result (out.new.items ≡ out.old.items ++ verdict_text verdict) }
+{
+    append_number(out, verdict.number)?;
+    append_found(out, verdict.bad)?;
+    append(out, b"\n")
+}
+
+fn append_verdicts(out: &mut Vec<u8>, verdicts: &[Verdict]) -> Result<(), Mem>
+    ensures { OnOk result (out.new.items ≡ out.old.items ++ flat_map verdict_text verdicts.now) }
+{
+    for verdict in verdicts {
+        append_verdict(out, *verdict)?;
+    }
+    Ok(())
+}
+
+fn append_verified(out: &mut Vec<u8>, verdicts: &[Verdict]) -> Result<(), Mem>
+    ensures { OnOk result (out.new.items ≡ out.old.items ++ verified_text verdicts.now) }
+{
+    match verdicts {
+        [] => append(out, b"nothing\n"),
+        [_first, ..] => append_verdicts(out, verdicts),
+    }
+}
+
 fn append_failure(out: &mut Vec<u8>, failure: Failure) -> Result<(), Mem>
     ensures { OnOk result (out.new.items ≡ out.old.items ++ failure_text failure) }
 {
@@ -149,6 +189,7 @@ fn append_reply(alloc: Global, out: &mut Vec<u8>, reply: &Reply) -> Result<(), M
             append_trailer(out, rows.len() as u64, *shard, *front, *now)
         }
         Reply::Flushed { files } => append_flushed(out, files.as_slice()),
+        Reply::Verified { files } => append_verified(out, files.as_slice()),
         Reply::Status { tables } => append_status(out, tables.as_slice()),
         Reply::Refused(number) => {
             append(out, b"refused S")?;

@@ -26,6 +26,14 @@ pub struct Listed {
     pub files: List<u64>,
 }
 
+/// What was found of a table file that was read to its end: its number, and the place of the first thing in it that
+/// isn't as it must be, if there is one.
+#[derive(Clone, Copy, Debug, PartialEq, Eq)]
+pub struct Verdict {
+    pub number: u64,
+    pub bad: Option<u64>,
+}
+
 /// What a line is answered.
 #[derive(Drop)]
 pub enum Reply {
@@ -46,6 +54,10 @@ pub enum Reply {
     /// A table was flushed, to the table files of these numbers.
     Flushed {
         files: List<u64>,
+    },
+    /// The table files of a table were checked: what was found of each.
+    Verified {
+        files: List<Verdict>,
     },
     /// The table files that are listed, of each table in each shard.
     Status {

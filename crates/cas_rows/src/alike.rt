@@ -21,6 +21,9 @@ use std::{fs, io};
 // What the reference answers to a flush: it writes no files that it could number.
 const FLUSHED: &[u8] = b"flushed\n";
 
+// What it answers to a check: it has no files that could be read.
+const NOTHING: &[u8] = b"nothing\n";
+
 /// What a comparison came to.
 #[derive(Drop)]
 pub(crate) enum Compared {
@@ -90,6 +93,23 @@ fn behind_flush(output: &[u8]) -> Option<&[u8]> {
     }
 }
 
+// Whether the line answers a check: a table file is good, or there is none.
+fn is_checked(line: &[u8]) -> bool {
+    line == NOTHING || line.ends_with(b" good\n".as_slice())
+}
+
+// The output behind what answers checks, as many as there are.
+fn behind_checks(output: &[u8]) -> &[u8] {
+    let mut rest = output;
+    for line in output.split_inclusive(is_feed) {
+        match rest.strip_prefix(line) {
+            Some(more) if is_checked(line) => rest = more,
+            _ => break,
+        }
+    }
+    rest
+}
+
 // Whether the line lists the table and the shard that the other does, with the numbers of files or without.
 fn lists_same(line: &[u8], listed: &[u8]) -> bool {
     let Some(bare) = listed.strip_suffix(b"\n".as_slice()) else {
@@ -114,9 +134,12 @@ fn behind_status<'a>(output: &'a [u8], reply: &[u8]) -> Option<&'a [u8]> {
 }
 
 // The output behind the reply; none where it begins with something else. Of a flush, and of what lists tables, the
-// numbers of files may stand there.
+// numbers of files may stand there; what answers checks is passed over.
 fn behind<'a>(output: &'a [u8], reply: &[u8], lists: bool) -> Option<&'a [u8]> {
-    if lists {
+    let output = behind_checks(output);
+    if reply == NOTHING {
+        Some(output)
+    } else if lists {
         behind_status(output, reply)
     } else if reply == FLUSHED {
         behind_flush(output)

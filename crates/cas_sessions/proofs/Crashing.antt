@@ -25,7 +25,7 @@ use Rattle.cas_sessions.specs.Inner.Definitions.{MayBeTold}
 use Rattle.cas_sessions.proofs.Lasting.{few_failed}
 
 -- the first of what was taken, and more behind it
-front_is : (found accepted taken rest : List Mutation) (n : ℕ) → taken ++ rest ≡ found ++ accepted → length found ≤ n → n ≤ length taken
+pub front_is : (found accepted taken rest : List Mutation) (n : ℕ) → taken ++ rest ≡ found ++ accepted → length found ≤ n → n ≤ length taken
     → take n taken ≡ found ++ take (n - length found) accepted
 front_is found accepted taken rest n all more fewer =
     let sum : n ≡ length found + (n - length found) = omega (arith, more) in

@@ -1,10 +1,12 @@
 -- A write: what its steps come to in the history.
-use Rattle.std.proofs.Common.{◌≡◌, ◌<◌, ◌≤◌, ◌+◌, ◌^◌, ◌/◌, ◌-◌, min, inl, inr, ℕ, ℤ, zero, suc, Bool, true, false, List, [], ◌∷◌, ◌++◌, length, map, Option, Some, None, Result, Ok, Err, is_some, refl, sym, ap, ◌∙◌, subst, arith}
+use Rattle.std.proofs.Common.{◌≡◌, ◌≢◌, ◌<◌, ◌≤◌, ◌+◌, ◌^◌, ◌/◌, ◌-◌, min, inl, inr, ℕ, ℤ, zero, suc, Bool, true, false, List, [], ◌∷◌, ◌++◌, length, map, Option, Some, None, Result, Ok, Err, is_some, refl, sym, ap, ◌∙◌, subst, arith, length-append}
 use Rattle.std.specs.Prelude.{slice_get, slice_set, slice_index_or, ◌⊎◌}
+use Rattle.std.proofs.lemmas.Bool.{lt-ltb}
+use Rattle.std.proofs.lemmas.List.{flat_map_more}
 use Rattle.std.proofs.lemmas.Option.{same_Some}
 use Rattle.cas_types.specs.declared.schema.TableSchema.{TableSchema}
 use Rattle.cas_io.specs.Causes.{Rose}
-use Rattle.cas_disk.specs.Disk.{Disk}
+use Rattle.cas_disk.specs.Disk.{Disk, During, Image}
 use Rattle.cas_gates.specs.declared.first.First.{First}
 use Rattle.cas_atoms.specs.Fits.{FitsMutation}
 use Rattle.cas_atoms.specs.LogLength.{record_length}
@@ -18,7 +20,7 @@ use Rattle.cas_history.specs.declared.item.Item.TheVariants.{Wrote}
 use Rattle.cas_journal.specs.Ends.{Prepares as JournalPrepares, Ends, EndsBy, IsOfFolder}
 use Rattle.cas_journal.specs.Journals.{MayTake}
 use Rattle.cas_journal.specs.Reach.{Reach, GoesOn, IsFull, reach_of}
-use Rattle.cas_journal.specs.Stores.{Told, MadeRoom}
+use Rattle.cas_journal.specs.Stores.{FailedToName, MadeRoom, SameTables, Told, took}
 use Rattle.cas_journal.specs.declared.fault.Counted.{Counted}
 use Rattle.cas_journal.specs.declared.fault.JournalFault.{JournalFault}
 use Rattle.cas_journal.specs.declared.fault.JournalFault.TheVariants.{TooLarge, TooMany, Stopped, Failed, Mem}
@@ -28,22 +30,30 @@ use Rattle.cas_render.specs.declared.reply.Reply.{Reply}
 use Rattle.cas_render.specs.declared.reply.Reply.TheVariants as reply
 use Rattle.cas_room.specs.declared.event.Event.TheVariants as event
 use Rattle.cas_room.specs.Keeping.{Keeps}
-use Rattle.cas_shard.specs.Shards.{ShardHistory, Prepares, mutation_at, take_refusal, taken_unless, prepare_answer, raised, wants}
+use Rattle.cas_room.specs.Rooms.{accepted_in, mutation_of as accepted_of}
+use Rattle.cas_opening.specs.Opening.{is_above}
+use Rattle.cas_changes.specs.Saying.{part_of, said_by}
+use Rattle.cas_shard.specs.Flushing.{one_of}
+use Rattle.cas_shard.specs.declared.entry.ShardOpening.{ShardOpening}
+use Rattle.cas_shard.specs.Shards.{ShardHistory, Prepares, empty_shard, found_shard, mutation_at, number_of, prepare_answer, raised, restored, take_refusal, taken_unless, wants}
 use Rattle.cas_shard.specs.Shards.{entered as with_entered}
 use Rattle.cas_shard.specs.Stands.{Belongs, IsPrepared, IsReady, KeepsFiles, ShardState, Stands, Suits, files_at}
 use Rattle.cas_sstread.specs.Loading.{Held}
 use Rattle.cas_view.specs.Views.{File}
 use Rattle.cas_shard.specs.declared.answers.TakeFault.{TakeFault}
 use Rattle.cas_shard.specs.declared.answers.TakeFault.TheVariants as fault
-use Rattle.cas_recovery.specs.Restored.{Remembers}
-use Rattle.cas_sessions.specs.History.{History, DiskState, SameFiles, Takes, WritesAt, Stays, acknowledges, after_entries, after_write, entry_of, shard_at}
+use Rattle.cas_recovery.specs.Restored.{RememberAll, RemembersJust}
+use Rattle.cas_sessions.specs.History.{History, DiskState, SameFiles, Takes, WritesAt, Stays, acknowledges, after_entries, after_write, entry_of, shard_at, with_shard}
 use Rattle.cas_sessions.specs.Entered.{entries_in}
-use Rattle.cas_sessions.specs.Nodes.{State, StandsFor, LastsFor, disk_of, files_in, Moves}
+use Rattle.cas_sessions.specs.Explained.{IsNotAhead}
+use Rattle.cas_sessions.specs.Nodes.{Explains, State, StandsFor, LastsFor, disk_of, files_in, Moves}
 use Rattle.cas_sessions.specs.Inner.Sound.{IsSoundState}
 use Rattle.cas_sessions.specs.Inner.Faults.{reply_for}
-use Rattle.cas_recovery.proofs.Places.{get_within, get_map, index_here}
+use Rattle.cas_recovery.proofs.Places.{get_within, get_map, index_here, index_other, length_set, same_place}
+use Rattle.cas_sessions.proofs.Explaining.{GoesFurther, KeepFilesOf, entered_ahead, explains_named, explains_still, explains_taken, further_at, goes_nowhere, keep_files, keep_files_none, raised_further}
 use Rattle.cas_sessions.proofs.Filing.{files_still}
 use Rattle.cas_sessions.proofs.Moving.{none_more, one_more, with_entries, raised_is, stands_write}
+use Rattle.cas_sessions.proofs.Remembering.{all_entered, all_still, each_remembers, each_with}
 use Rattle.cas_sessions.proofs.Lasting.{lasts_still, may_be_taken, lasts_with_room, lasts_taken}
 
 -- ---- places
@@ -107,7 +117,7 @@ pub record Asked (s : State) (w : BoundWrite) (reading : ℤ) (x y : ShardState)
   pub answered : (tables : List TableSchema) (q : ShardHistory) → Stands tables q x → Prepares s.limits.segment q reading w result
   pub stands : (tables : List TableSchema) (shards : ℕ) (q : ShardHistory) → Stands tables q x → Suits tables shards w → Stands tables (raised reading q) y
   pub number : y.number ≡ x.number
-  pub memory : (table : ℕ) → Remembers s.tables table x → Remembers s.tables table y
+  pub memory : (table : ℕ) (ws : List Mutation) → RemembersJust s.tables table ws x → RemembersJust s.tables table ws y
 
 -- the mutation of a write, in a history
 abbrev pub mutation_in : History → ℤ → BoundWrite → Mutation
@@ -146,6 +156,22 @@ module _ (s : State) (w : BoundWrite) (reading : ℤ) (x y : ShardState) (result
 
 -- ---- a write that wasn't taken
 
+-- what may be left explains it still, where the shard only met a reading
+module _ (s : State) (w : BoundWrite) (reading : ℤ) (x y : ShardState) (result : Result Mutation TakeFault) (asked : Asked s w reading x y result) (h : History) (stands : StandsFor h s) where
+  still_explained : (r : Reply) (entries : List Entry) (t : State) (d e : Disk) (told : Told) → t.shards ≡ slice_set s.shards w.shard y → (stood : DiskState) → t.tables ≡ s.tables
+      → accepted_in t.list ≡ accepted_in s.list → entries ≡ [] → KeepFilesOf told d e → GoesFurther (shard_at h w.shard) (after_entries reading entries (shard_at h w.shard))
+      → (found : List Mutation) (openings : ℕ → ShardOpening) → Explains openings h found s d told
+      → Explains openings (after_write h w.shard reading r entries stood) found t e told
+  still_explained r entries t d e told shards stood tables list none files further found openings explained =
+      let at : slice_get s.shards w.shard ≡ Some x = there s w reading x y result asked in
+      explains_still openings h (after_write h w.shard reading r entries stood) found s t d e told
+      (further_at h w.shard (after_entries reading entries (shard_at h w.shard)) (subst (λ (k : ℕ). w.shard < k) (sym stands.count) (get_within s.shards w.shard x at)) further)
+      (length_set h.shards w.shard (after_entries reading entries (shard_at h w.shard))) list files
+      (λ ms have.
+      subst (λ (ts : List TableSchema). RememberAll ts ms t.shards) (sym tables)
+      (subst (RememberAll s.tables ms) (sym shards) (all_still s.tables s.shards w.shard x y ms at asked.memory have)))
+      explained
+
 abbrev pub prepared_only : State → ℕ → ShardState → State
 prepared_only s n y = record s { shards = slice_set s.shards n y }
 
@@ -159,7 +185,7 @@ module _ (s : State) (w : BoundWrite) (reading : ℤ) (x y : ShardState) (result
     stopped = refl;
     faults = omega arith;
     reach = record { segment = omega arith; segment_next = omega arith; manifest = omega arith; manifest_next = omega arith };
-    files = (files_still s.shards w.shard x y (there s w reading x y result asked) asked.files, refl);
+    files = (files_still s.shards w.shard x y (there s w reading x y result asked) asked.files, refl, refl, refl);
   }
 
   at_once : (r : Reply) → acknowledges r ≡ 0
@@ -171,12 +197,14 @@ module _ (s : State) (w : BoundWrite) (reading : ℤ) (x y : ShardState) (result
         ([], disk_now, takes h stands, refl),
         record {
           stands = stands_write h s (prepared_only s w.shard y) w.shard x y reading [] stands (there s w reading x y result asked) refl (stands_raised s w reading x y result asked h stands)
-              (λ k. none_more w.shard k (entries_in k s.list)) asked.memory r refl refl refl refl (omega arith);
+              (λ k. none_more w.shard k (entries_in k s.list)) (each_remembers s.tables x y asked.memory) r refl refl refl refl (omega arith);
           lasts = λ found told lasts. (
             told,
             lasts_still h after found s (prepared_only s w.shard y) d d told w.shard x y (omega (arith, quiet)) refl (there s w reading x y result asked) refl asked.number
                 (λ l el c ec keeps. subst (λ j. Keeps s.journal d l j found told) (sym ec) (subst (λ j. Keeps s.journal d j s.committed found told) (sym el) keeps))
                 refl refl refl refl refl (λ on. on) refl refl (files_still s.shards w.shard x y (there s w reading x y result asked) asked.files) lasts,
+            still_explained s w reading x y result asked h stands r [] (prepared_only s w.shard y) d d told refl (disk_of (prepared_only s w.shard y)) refl refl refl (keep_files_none told d)
+                (raised_further reading (shard_at h w.shard)) found,
           );
         },
       )
@@ -201,10 +229,11 @@ module _ (s : State) (w : BoundWrite) (reading : ℤ) (x y : ShardState) (result
 abbrev Files : Type 0
 Files = ℕ → ℕ → List (File Held)
 
--- how a disk stands: what fault is kept, the folder's count of faults, and how far the files have come; what table files there are, and how often a read
--- of one failed
-abbrev standing : Option First → ℕ → Reach → Files → ℕ → DiskState
-standing first faults reach files reads = record { stopped = is_some first; faults = faults; reach = reach; files = files; reads = reads }
+-- how a disk stands: what fault is kept, the folder's count of faults, and how far the files have come; what table files there are, how often a read
+-- of one failed, the last number of one, and how many are listed
+abbrev standing : Option First → ℕ → Reach → Files → ℕ → ℕ → ℕ → DiskState
+standing first faults reach files reads last live =
+    record { stopped = is_some first; faults = faults; reach = reach; files = files; reads = reads; last_file = last; live = live }
 
 abbrev failed : {T : Type 0} → JournalFault → Result T JournalFault
 failed f = Err f
@@ -227,36 +256,37 @@ ended : (first kept : Option First) (before now : ℕ) (f : JournalFault) → En
 ended None kept before now f p = inl (refl, p)
 ended (Some g) kept before now f p = inr (g, err_is f (Stopped g) p.0, refl, p.1)
 
-module _ (old new : Files) (reads reads_now : ℕ) (same : (new ≡ old) × (reads_now ≡ reads)) where
+module _ (old new : Files) (reads reads_now last last_now live live_now : ℕ)
+    (same : (new ≡ old) × (reads_now ≡ reads) × (last_now ≡ last) × (live_now ≡ live)) where
   fault_takes : (f : JournalFault) (first kept : Option First) (before now : ℕ) (a b : Reach) (segment long most : ℕ) (m : Mutation) (x : Entry)
       → JournalPrepares {T = ℕ} long most first kept before now (Err f) → long ≤ most → take_refusal segment m ≡ None → GoesOn a b → before ≤ now
       → ((what : Counted) (n : ℕ) → f ≡ TooMany what n → IsFull b)
-      → Takes segment m x (standing first before a old reads) (reply_for f) [] (standing kept now b new reads_now)
+      → Takes segment m x (standing first before a old reads last live) (reply_for f) [] (standing kept now b new reads_now last_now live_now)
   fault_takes (TooLarge length limit) first kept before now a b segment long most m x p short none goes rises full = absurd (omega (arith, p.0, short))
   fault_takes (TooMany what n) first kept before now a b segment long most m x p short none goes rises full = by (ended first kept before now (TooMany what n) p.1)
     where
       by : ((first ≡ None) × EndsBy (TooMany what n) kept before now) ⊎ ((g : First) × (TooMany what n ≡ Stopped g) × (first ≡ Some g) × (kept ≡ Some g))
-          → Takes segment m x (standing first before a old reads) (reply_for (TooMany what n)) [] (standing kept now b new reads_now)
+          → Takes segment m x (standing first before a old reads last live) (reply_for (TooMany what n)) [] (standing kept now b new reads_now last_now live_now)
       by (inl c) =
           (inr (none, ap is_some c.0, refl, full what n refl), refl, record { stopped = ap is_some c.1 ∙ sym (ap is_some c.0); faults = rises; reach = goes; files = same })
       by (inr c) = absurd (many_not what n c.0 c.1)
   fault_takes (Stopped g) first kept before now a b segment long most m x p short none goes rises full = by (ended first kept before now (Stopped g) p.1)
     where
       by : ((first ≡ None) × EndsBy (Stopped g) kept before now) ⊎ ((h : First) × (Stopped g ≡ Stopped h) × (first ≡ Some h) × (kept ≡ Some h))
-          → Takes segment m x (standing first before a old reads) (reply.Failed failure.Stopped) [] (standing kept now b new reads_now)
+          → Takes segment m x (standing first before a old reads last live) (reply.Failed failure.Stopped) [] (standing kept now b new reads_now last_now live_now)
       by (inl c) = absurd c.1
       by (inr c) = (none, refl, (ap is_some c.2, record { stopped = ap is_some c.3 ∙ sym (ap is_some c.2); faults = rises; reach = goes; files = same }))
   fault_takes Failed first kept before now a b segment long most m x p short none goes rises full = by (ended first kept before now Failed p.1)
     where
       by : ((first ≡ None) × EndsBy Failed kept before now) ⊎ ((g : First) × (Failed ≡ Stopped g) × (first ≡ Some g) × (kept ≡ Some g))
-          → Takes segment m x (standing first before a old reads) (reply.Failed failure.Disk) [] (standing kept now b new reads_now)
+          → Takes segment m x (standing first before a old reads last live) (reply.Failed failure.Disk) [] (standing kept now b new reads_now last_now live_now)
       by (inl c) =
           (none, inl refl, record { before = ap is_some c.0; stopped = ap is_some c.1.1; faults = rises; rose = c.1.0; reach = goes; files = same })
       by (inr c) = absurd (failed_not c.0 c.1)
   fault_takes Mem first kept before now a b segment long most m x p short none goes rises full = by (ended first kept before now Mem p.1)
     where
       by : ((first ≡ None) × EndsBy Mem kept before now) ⊎ ((g : First) × (Mem ≡ Stopped g) × (first ≡ Some g) × (kept ≡ Some g))
-          → Takes segment m x (standing first before a old reads) (reply.Failed failure.Memory) [] (standing kept now b new reads_now)
+          → Takes segment m x (standing first before a old reads last live) (reply.Failed failure.Memory) [] (standing kept now b new reads_now last_now live_now)
       by (inl c) = (refl, record { stopped = ap is_some c.1 ∙ sym (ap is_some c.0); faults = rises; reach = goes; files = same })
       by (inr c) = absurd (mem_not c.0 c.1)
 
@@ -287,6 +317,7 @@ pub record NotTaken (s t : State) (d e : Disk) (n : ℕ) (y : ShardState) (m : M
   pub reads : t.reads ≡ s.reads
   pub last_file : t.last_file ≡ s.last_file
   pub live : t.live ≡ s.live
+  pub during : During SameTables d e
 
 -- nothing was kept before, where nothing is kept now
 kept_since : (first kept : Option First) (before now : ℕ) (f : JournalFault) → Ends {T = Unit {0}} first kept before now (Err f)
@@ -342,8 +373,8 @@ module _ (s : State) (w : BoundWrite) (reading : ℤ) (x y : ShardState) (result
           let after : History = after_write h w.shard reading (reply_for f) [] (disk_of t) in
           let both = prepared_for s w reading x y result asked h stands m is in
           let takes : Takes h.limits.segment (mutation_in h reading w) (entry_of h (mutation_in h reading w)) (disk_of s) (reply_for f) [] (disk_of t) =
-          fault_takes (files_in s.shards) (files_in t.shards) s.reads t.reads
-          (ap files_in left.shards ∙ files_still s.shards w.shard x y at asked.files, left.reads) f s.journal.first t.journal.first s.faults t.faults (reach_of s.journal) (reach_of t.journal) h.limits.segment (record_length m) (s.journal.size / 2)
+          fault_takes (files_in s.shards) (files_in t.shards) s.reads t.reads s.last_file t.last_file s.live t.live
+          (ap files_in left.shards ∙ files_still s.shards w.shard x y at asked.files, left.reads, left.last_file, left.live) f s.journal.first t.journal.first s.faults t.faults (reach_of s.journal) (reach_of t.journal) h.limits.segment (record_length m) (s.journal.size / 2)
           (mutation_in h reading w) (entry_of h (mutation_in h reading w)) left.ends short_for both.0 left.reach left.count left.full in (
             after,
             (
@@ -355,8 +386,8 @@ module _ (s : State) (w : BoundWrite) (reading : ℤ) (x y : ShardState) (result
             ),
             record {
               stands = stands_write h s t w.shard x y reading [] stands at left.shards (stands_raised s w reading x y result asked h stands)
-                  (λ k. ap (entries_in k) left.list ∙ none_more w.shard k (entries_in k s.list)) asked.memory (reply_for f) left.limits left.tables left.clock left.session
-                  (omega (arith, left.calls));
+                  (λ k. ap (entries_in k) left.list ∙ none_more w.shard k (entries_in k s.list)) (each_remembers s.tables x y asked.memory) (reply_for f) left.limits left.tables left.clock
+                  left.session (omega (arith, left.calls));
               lasts = λ found was lasts.
                   let got = left.keeps found was lasts.keeps (may_take h found d was lasts) in (
                     got.0,
@@ -364,6 +395,10 @@ module _ (s : State) (w : BoundWrite) (reading : ℤ) (x y : ShardState) (result
                         left.tables left.limits left.accepted
                         (going_since f s.journal.first t.journal.first s.faults t.faults (record_length m) (s.journal.size / 2) left.ends short_for) left.last_file left.live
                         (ap files_in left.shards ∙ files_still s.shards w.shard x y at asked.files) lasts,
+                    λ openings explained.
+                        explains_named openings after found t e was got.0 got.1.numbers got.1.entries got.1.failed got.1.taken (λ i leaves. got.1.committed)
+                        (still_explained s w reading x y result asked h stands (reply_for f) [] t d e was left.shards (disk_of t) left.tables (ap accepted_in left.list) refl
+                        (keep_files was d e left.during) (raised_further reading (shard_at h w.shard)) found openings explained),
                   );
             },
           )
@@ -427,10 +462,10 @@ pub record Took (s t : State) (d e : Disk) (w : BoundWrite) (y yy z : ShardState
   pub stands : (tables : List TableSchema) (shards : ℕ) (q : ShardHistory) (session call : ℕ) → Stands tables q yy → Belongs tables shards m
       → Stands tables (with_entered (entry.Wrote session call m ∷ []) q) z
   pub number : z.number ≡ m.number
-  pub memory : (table : ℕ) → Remembers s.tables table yy → Remembers s.tables table z
+  pub memory : (table : ℕ) (ws : List Mutation) → RemembersJust s.tables table ws yy → RemembersJust s.tables table (ws ++ one_of table m) z
   pub keeps : (found : List Mutation) (told : Told) → Keeps s.journal d s.list s.committed found told → MayTake told m
       → (u : Told) × (v : Told) × MadeRoom told u × (v.entries ≡ u.entries) × (v.failed ≡ u.failed) × (v.taken ≡ u.taken ++ m ∷ [])
-      × Keeps t.journal e t.list t.committed found v
+      × ((u.committed ≤ v.committed) ⊎ (v.committed ≡ length v.taken)) × Keeps t.journal e t.list t.committed found v
   pub first : Option First
   pub faults : ℕ
   pub ended : Ends {T = Unit {0}} s.journal.first first s.faults faults (Ok tt)
@@ -440,6 +475,7 @@ pub record Took (s t : State) (d e : Disk) (w : BoundWrite) (y yy z : ShardState
   pub reads : t.reads ≡ s.reads
   pub last_file : t.last_file ≡ s.last_file
   pub live : t.live ≡ s.live
+  pub during : During SameTables d e
 
 module _ (s : State) (w : BoundWrite) (reading : ℤ) (x y : ShardState) (result : Result Mutation TakeFault) (asked : Asked s w reading x y result) (m : Mutation)
     (is : result ≡ Ok m) (prepared : IsPrepared y m) (ready : IsReady s.limits.segment w m)
@@ -470,11 +506,86 @@ module _ (s : State) (w : BoundWrite) (reading : ℤ) (x y : ShardState) (result
     ap files_in shards_now
         ∙ files_still s.shards w.shard x z at_x (λ table. left.files table ∙ ap (λ (q : ShardState). files_at (slice_get q.stores table)) (sym same_shard) ∙ asked.files table),
     left.reads,
+    left.last_file,
+    left.live,
   )
 
   lists : (k : ℕ) → entries_in k t.list ≡ with_entries w.shard k new (entries_in k s.list)
   lists k =
       ap (entries_in k) left.list ∙ one_more s.list m s.session (s.calls + 1) k ∙ ap (λ (j : ℕ). with_entries j k new (entries_in k s.list)) ready.shard
+
+  remembers : (table : ℕ) (ws : List Mutation) → RemembersJust s.tables table ws x → RemembersJust s.tables table (ws ++ one_of table m) z
+  remembers table ws k = left.memory table ws (subst (RemembersJust s.tables table ws) same_shard (asked.memory table ws k))
+
+  -- what may be left explains it
+  explains : (h : History) → StandsFor h s → (after : History) → after.shards ≡ (with_shard h w.shard (after_entries reading new (shard_at h w.shard))).shards → m ≡ mutation_in h reading w
+      → (found : List Mutation) (was v : Told) → LastsFor h found s d was → (u : Told) → MadeRoom was u → v.entries ≡ u.entries → v.failed ≡ u.failed → v.taken ≡ u.taken ++ m ∷ []
+      → ((u.committed ≤ v.committed) ⊎ (v.committed ≡ length v.taken)) → Keeps t.journal e t.list t.committed found v
+      → (openings : ℕ → ShardOpening) → Explains openings h found s d was → Explains openings after found t e v
+  explains h stands after shards_are same found was v lasts u made entries failed taken committed keeps openings explained =
+      explains_named openings after found t e (took m was) v made.numbers (entries ∙ made.entries)
+      (subst (λ es. FailedToName was.failed es) (sym failed) made.failed) (taken ∙ ap (λ ms. ms ++ m ∷ []) made.taken)
+      (λ i leaves.
+      let (b, before, its) = keep_files was d e left.during i leaves in
+      by_then b before committed)
+      (explains_still openings after after found t t d e (took m was) (λ n. goes_nowhere (shard_at after n)) refl refl (keep_files (took m was) d e left.during) (λ ms have. have)
+      (explains_taken openings h after found s t d was m (lasts.keeps.lasts.goes begun.0).none_failed (may_take s w reading x y result asked m is prepared ready h found d was lasts).fits above
+      (λ low. next_is) (lasts.shards ∙ sym asked.sound.count ∙ sym stands.count)
+      (ap accepted_in left.list ∙ sym (flat_map_more accepted_of [] s.list (Wrote m.shard s.session (s.calls + 1) m.number (event.Accepted m))))
+      (λ i leaves. within_all i leaves) (ap length shards_are ∙ length_set h.shards w.shard (after_entries reading new (shard_at h w.shard))) ahead others
+      (λ ms have.
+      subst (λ (ts : List TableSchema). RememberAll ts (ms ++ m ∷ []) t.shards) (sym left.tables)
+      (subst (RememberAll s.tables (ms ++ m ∷ [])) (sym shards_now) (all_entered s.tables s.shards w.shard x z ms m at_x ready.shard remembers have)))
+      explained))
+    where
+      seat : slice_get s.shards m.shard ≡ Some x
+      seat = subst (λ (k : ℕ). slice_get s.shards k ≡ Some x) (sym ready.shard) at_x
+
+      low_h : w.shard < length h.shards
+      low_h = subst (λ (k : ℕ). w.shard < k) (sym stands.count) (get_within s.shards w.shard x at_x)
+
+      number_is : x.number ≡ number_of (shard_at h w.shard)
+      number_is = (stands.shards w.shard x at_x).number
+
+      next_is : m.number ≡ number_of (shard_at h m.shard) + 1
+      next_is =
+          next s w reading x y result asked m is prepared ready ∙ ap (λ k. k + 1) (number_is ∙ ap (λ (k : ℕ). number_of (shard_at h k)) (sym ready.shard))
+
+      above : is_above (said_by was.entries) m ≡ true
+      above =
+          let below = lasts.behind.frontiers m.shard m.table x seat in
+          lt-ltb (part_of (said_by was.entries) m.table m.shard).frontier m.number (omega (arith, below, next s w reading x y result asked m is prepared ready))
+
+      within_all : (i : Image) → d.may_leave i → was.committed ≤ length found + length (accepted_in s.list)
+      within_all i leaves =
+          let holds = lasts.keeps.lasts.holds i leaves in
+          omega (arith, holds.least, holds.most, ap length lasts.keeps.all, length-append found (accepted_in s.list))
+
+      by_then : (b : Image) → d.may_leave b → ((u.committed ≤ v.committed) ⊎ (v.committed ≡ length v.taken)) → was.committed ≤ v.committed
+      by_then b before (inl more) = omega (arith, made.committed, more)
+      by_then b before (inr all) =
+          let holds = lasts.keeps.lasts.holds b before in
+          omega (arith, all, holds.least, holds.most, ap length taken, ap length made.taken, length-append u.taken (m ∷ []))
+
+      here : shard_at after w.shard ≡ after_entries reading new (shard_at h w.shard)
+      here =
+          ap (λ qs. slice_index_or qs w.shard (found_shard empty_shard)) shards_are
+          ∙ index_here h.shards w.shard (after_entries reading new (shard_at h w.shard)) (found_shard empty_shard) low_h
+
+      elsewhere : (n : ℕ) → n ≢ w.shard → shard_at after n ≡ shard_at h n
+      elsewhere n other =
+          ap (λ qs. slice_index_or qs n (found_shard empty_shard)) shards_are
+          ∙ index_other h.shards w.shard n (after_entries reading new (shard_at h w.shard)) (found_shard empty_shard) other
+
+      ahead : (o : ShardOpening) → IsNotAhead (shard_at h m.shard) o → IsNotAhead (shard_at after m.shard) (restored m o)
+      ahead o is_not =
+          subst (λ (k : ℕ). IsNotAhead (shard_at after k) (restored m o)) (sym ready.shard)
+          (subst (λ (q : ShardHistory). IsNotAhead q (restored m o)) (sym here)
+          (entered_ahead reading (shard_at h w.shard) w s.session (s.calls + 1) m o same (next_is ∙ ap (λ (k : ℕ). number_of (shard_at h k) + 1) ready.shard)
+          (subst (λ (k : ℕ). IsNotAhead (shard_at h k) o) ready.shard is_not)))
+
+      others : (n : ℕ) → n ≢ m.shard → (o : ShardOpening) → IsNotAhead (shard_at h n) o → IsNotAhead (shard_at after n) o
+      others n other o is_not = subst (λ (q : ShardHistory). IsNotAhead q o) (sym (elsewhere n (λ at. other (at ∙ sym ready.shard)))) is_not
 
   moves_taken : (r : Reply) → acknowledges r ≤ 1
       → ((h : History) → StandsFor h s → take_refusal h.limits.segment (mutation_in h reading w) ≡ None → m ≡ mutation_in h reading w
@@ -508,14 +619,15 @@ module _ (s : State) (w : BoundWrite) (reading : ℤ) (x y : ShardState) (result
         ),
         record {
           stands = stands_write h s t w.shard x z reading new stands at_x shards_now stands_new lists
-              (λ table k. left.memory table (subst (Remembers s.tables table) same_shard (asked.memory table k))) r left.limits left.tables left.clock left.session left.calls;
+              (each_with s.tables x z m remembers) r left.limits left.tables left.clock left.session left.calls;
           lasts = λ found was lasts.
               let got = left.keeps found was lasts.keeps (may_take s w reading x y result asked m is prepared ready h found d was lasts) in (
                 got.1,
                 lasts_taken h after found s t d e was got.0 got.1 m x z (subst (λ (k : ℕ). slice_get s.shards k ≡ Some x) (sym ready.shard) at_x)
                     (subst (λ (k : ℕ). t.shards ≡ slice_set s.shards k z) (sym ready.shard) shards_now) (next s w reading x y result asked m is prepared ready) left.number
-                    got.2 got.3 got.4 got.5 lasts s.session (s.calls + 1) left.list left.tables left.limits left.accepted left.few got.6
+                    got.2 got.3 got.4 got.5 lasts s.session (s.calls + 1) left.list left.tables left.limits left.accepted left.few got.7
                     (omega (arith, one)) (acked h after either refl) going left.last_file left.live same_files.0 refl,
+                explains h stands after refl both.1 found was got.1 lasts got.0 got.2 got.3 got.4 got.5 got.6 got.7,
               );
         },
       )

@@ -13,7 +13,8 @@ use Rattle.cas_atoms.specs.declared.atom.Mutation.{Mutation}
 use Rattle.cas_changes.specs.declared.entry.Change.{Change}
 use Rattle.cas_journal.specs.Reach.{Reach}
 use Rattle.cas_journal.specs.Stores.{Told}
-use Rattle.cas_shard.specs.Shards.{all_entries}
+use Rattle.cas_shard.specs.declared.entry.ShardOpening.{ShardOpening}
+use Rattle.cas_shard.specs.Shards.{ShardHistory, all_entries}
 use Rattle.cas_shard.specs.Stands.{mutations_of}
 use Rattle.cas_sstread.specs.Loading.{Held}
 use Rattle.cas_bind.specs.Tables.{AreInPlace}
@@ -26,10 +27,11 @@ use Rattle.cas_sessions.specs.declared.answer.Fault.TheVariants.{Refused, Stoppe
 use Rattle.cas_sessions.specs.Calls.{IsTrueOf}
 use Rattle.cas_sessions.specs.Entered.{IsLeftAmid}
 use Rattle.cas_sessions.specs.Listing.{SameUpTo}
-use Rattle.cas_sessions.specs.Flushes.{AreInFiles, Flushed, Flushes, FlushesNamed, FlushesTable, Grows, WhyNoFurther, change_of, changes_by, numbers_in, reach_by}
+use Rattle.cas_sessions.specs.Flushes.{AreInFiles, Flushed, Flushes, FlushesNamed, FlushesTable, Grows, WhyNoFurther, change_of, changes_by, numbers_added, numbers_in, reach_by}
 use Rattle.cas_sessions.specs.History.{History, DiskState, shard_at}
-use Rattle.cas_sessions.specs.Nodes.{State, StandsFor, LastsFor, GoesOnTo, KeepsAll, Moves, disk_of}
-use Rattle.cas_sessions.specs.Inner.Flushing.{FlushedOne, FlushesFirst, FlushesNoFurther, FlushesOne, GoesOn, IsOwn, listed_of}
+use Rattle.cas_sessions.specs.Nodes.{Explains, State, StandsFor, LastsFor, LastsForOne, GoesOnTo, KeepsAll, Moves, disk_of}
+use Rattle.cas_sessions.specs.Inner.Flushing.{AreStood, FlushedOne, FlushesFirst, FlushesNoFurther, FlushesOne, GoesOn, IsOwn, TellsReads, listed_of}
+use Rattle.cas_sessions.proofs.Explaining.{explains_still, goes_nowhere, keep_files_none}
 use Rattle.cas_sessions.proofs.FlushShard.{quiet_still}
 use Rattle.cas_sessions.proofs.FlushSteps.{amid_then, amid_with, beside_then, lasts_as, quiet_beside, quiet_goes, quiet_stands, stands_with, with_disk}
 
@@ -52,10 +54,36 @@ change_before [] c (suc n) other = refl
 change_before (x ∷ changes) c zero other = refl
 change_before (x ∷ changes) c (suc n) other = change_before changes c n (λ same. other (ap suc same))
 
+-- ---- what a crash may leave
+
+-- in a history that tells other changes
+with_changes : (openings : ℕ → ShardOpening) (h : History) (changes : List Change) (found : List Mutation) (u : State) (e : Disk) (told : Told) → Explains openings h found u e told
+    → Explains openings (record h { changes = changes }) found u e told
+with_changes openings h changes found u e told was =
+    explains_still openings h (record h { changes = changes }) found u u e e told (λ n. goes_nowhere (shard_at h n)) refl refl (keep_files_none told e) (λ ms have. have) was
+
+without_changes : (openings : ℕ → ShardOpening) (h : History) (changes : List Change) (found : List Mutation) (u : State) (e : Disk) (told : Told)
+    → Explains openings (record h { changes = changes }) found u e told → Explains openings h found u e told
+without_changes openings h changes found u e told was =
+    explains_still openings (record h { changes = changes }) h found u u e e told (λ n. goes_nowhere (shard_at h n)) refl refl (keep_files_none told e) (λ ms have. have) was
+
+-- one part of a flush explains it, and then the next
+both_explain : (h : History) (so_far : List Change) (found : List Mutation) (s u v : State) (d e f : Disk) (was now later : Told) → (TellsReads d → TellsReads e)
+    → (TellsReads d → AreStood h s → AreStood h u)
+    → (TellsReads d → AreStood h s → (openings : ℕ → ShardOpening) → Explains openings h found s d was → Explains openings h found u e now)
+    → (TellsReads e → AreStood (record h { changes = so_far }) u → (openings : ℕ → ShardOpening) → Explains openings (record h { changes = so_far }) found u e now
+    → Explains openings (record h { changes = so_far }) found v f later)
+    → TellsReads d → AreStood h s → (openings : ℕ → ShardOpening) → Explains openings h found s d was → Explains openings h found v f later
+both_explain h so_far found s u v d e f was now later tells stands first second telling stood openings before =
+    without_changes openings h so_far found v f later
+    (second (tells telling) (stands_with (with_disk h u) so_far u (stands telling stood)) openings
+    (with_changes openings h so_far found u e now (first telling stood openings before)))
+
 -- ---- a shard more
 
 module _ (h : History) (t : TableSchema) (changes : List (Option Change)) (c : Option Change) (k : ℕ) (u v : DiskState) (at : length changes ≡ k) (first : Flushed h t changes u)
-    (one : FlushedOne t k (shard_at h k) c u v) (faults : u.faults ≤ v.faults) (reads : u.reads ≤ v.reads) where
+    (one : FlushedOne t k (shard_at h k) c u v) (faults : u.faults ≤ v.faults) (reads : u.reads ≤ v.reads) (last : u.last_file ≤ v.last_file)
+    (next : v.last_file ≤ h.disk.last_file + length changes + 2) where
   apart : (n j : ℕ) → n ≢ k → v.files n j ≡ u.files n j
   apart n j other = one.others n j (λ both. other both.0)
 
@@ -93,12 +121,18 @@ module _ (h : History) (t : TableSchema) (changes : List (Option Change)) (c : O
     reach = one.reach ∙ ap (λ (r : Reach). reach_by r c) first.reach ∙ sym (fold_push reach_by h.disk.reach changes c);
     faults = omega (arith, first.faults, faults);
     reads = omega (arith, first.reads, reads);
+    live =
+        let more : length (numbers_added changes ++ numbers_in c) ≡ length (numbers_added (changes ++ c ∷ [])) = ap length (flat_map_more numbers_in [] changes c) in
+        let both : length (numbers_added changes ++ numbers_in c) ≡ length (numbers_added changes) + length (numbers_in c) = length-append (numbers_added changes) (numbers_in c) in
+        omega (arith, one.live, first.live, more, both);
+    last_file = (omega (arith, first.last_file.0, last), omega (arith, next, length-append changes (c ∷ [])));
   }
 
 pub first_more : (t : TableSchema) (k : ℕ) (told : List ℕ) (o : Option ℕ) (s u v : State) (d e f : Disk) → FlushesFirst t k told s u d e → FlushesOne t k (Ok o) u v e f
     → FlushesFirst t (k + 1) (told ++ listed_of o) s v d f
 first_more t k told o s u v d e f first one = record {
   beside = beside_then s u v d e f first.beside one.beside;
+  numbers = omega (arith, first.numbers, one.numbers);
   changes = first.changes ++ one.change ∷ [];
   many = length-append first.changes (one.change ∷ []) ∙ ap (λ (n : ℕ). n + 1) first.many;
   added = (λ i. first.added i ++ sym one.answer i) ∙ flat_map_more numbers_in [] first.changes one.change;
@@ -109,23 +143,30 @@ first_more t k told o s u v d e f first one = record {
         (
           later.0,
           subst (λ (cs : List Change). LastsFor (record h { changes = cs }) found v f later.0) (sym (fold_push changes_by h.changes first.changes one.change)) later.1,
+          both_explain h so_far found s u v d e f was now.0 later.0 (λ tells. first.beside.tells tells.0 tells.1) (λ tells stood. (first.moves tells.0 tells.1 stood.memory (with_disk h s) stood).0) now.2 later.2,
         ),
         amid_then h found s u d e f first.beside.list amid (amid_with h so_far found u.list e f more),
       );
   moves = λ c reads have h stands.
       let (now, kept, so) = first.moves c reads stands.memory h stands in
       let (b, read) = first.beside.tells c reads in
-      let (later, still, ends) = one.moves b read kept (with_disk h u) now in
-      (later, still, flushed_more h t first.changes one.change k (disk_of u) (disk_of v) first.many so ends one.beside.faults one.beside.reads);
+      let (later, still, ends) = one.moves b read tt kept (with_disk h u) now in
+      let began : h.disk.last_file ≡ s.last_file = ap (λ (q : DiskState). q.last_file) stands.disk in (
+        later,
+        still,
+        flushed_more h t first.changes one.change k (disk_of u) (disk_of v) first.many so ends one.beside.faults one.beside.reads one.beside.last
+            (omega (arith, began, first.numbers, first.many, one.numbers)),
+      );
 }
 
 pub first_none : (t : TableSchema) (s : State) (d : Disk) → FlushesFirst t 0 [] s s d d
 first_none t s d = record {
   beside = quiet_beside s s d d (quiet_still s d) (no_call (SameUpTo s.last_file) d);
+  numbers = omega arith;
   changes = [];
   many = refl;
   added = refl;
-  lasts = λ h found was tables lasts. quiet_goes s s d d (quiet_still s d) h found was tables lasts;
+  lasts = λ h found was tables lasts. quiet_goes s s d d (quiet_still s d) (TellsReads d) h found was tables lasts (λ openings explained. explained);
   moves = λ c reads have h stands. (
     quiet_stands s s d d (quiet_still s d) h stands,
     have,
@@ -136,6 +177,8 @@ first_none t s d = record {
       reach = ap (λ (e : DiskState). e.reach) (sym stands.disk);
       faults = omega (arith, ap (λ (e : DiskState). e.faults) stands.disk);
       reads = omega (arith, ap (λ (e : DiskState). e.reads) stands.disk);
+      live = omega (arith, ap (λ (e : DiskState). e.live) stands.disk);
+      last_file = (omega (arith, ap (λ (e : DiskState). e.last_file) stands.disk), omega (arith, ap (λ (e : DiskState). e.last_file) stands.disk));
     },
   );
 }
@@ -187,20 +230,22 @@ named_there tables n t places e =
 
 -- ---- no shard more
 
-why_since : (d m e : DiskState) (f : Fault) → d.faults ≤ m.faults → d.reads ≤ m.reads → WhyNoFurther m e f → WhyNoFurther d e f
-why_since d m e (Refused why) faults reads is = is
-why_since d m e (Stopped first) faults reads is = is
-why_since d m e (Failed None) faults reads (inl rose) = inl (omega (arith, faults, rose))
-why_since d m e (Failed None) faults reads (inr rose) = inr (rose.0, omega (arith, reads, rose.1))
-why_since d m e (Failed (Some number)) faults reads is = is
-why_since d m e Read faults reads rose = (rose.0, omega (arith, reads, rose.1))
-why_since d m e (BadBlock number at) faults reads is = is
-why_since d m e Mem faults reads is = is
+why_since : (t : TableSchema) (n : ℕ) (q : ShardHistory) (d m e : DiskState) (f : Fault) → d.faults ≤ m.faults → d.reads ≤ m.reads → WhyNoFurther t n q m e f
+    → WhyNoFurther t n q d e f
+why_since t n q d m e (Refused why) faults reads is = is
+why_since t n q d m e (Stopped first) faults reads is = is
+why_since t n q d m e (Failed None) faults reads (inl rose) = inl (omega (arith, faults, rose))
+why_since t n q d m e (Failed None) faults reads (inr rose) = inr (rose.0, omega (arith, reads, rose.1))
+why_since t n q d m e (Failed (Some number)) faults reads is = is
+why_since t n q d m e Read faults reads rose = (rose.0, omega (arith, reads, rose.1))
+why_since t n q d m e (BadBlock number at) faults reads is = is
+why_since t n q d m e Mem faults reads is = is
 
 -- nothing of it is another
 still_flushed : (h : History) (t : TableSchema) (changes : List (Option Change)) (u v : DiskState) → Flushed h t changes u → ((k j : ℕ) → v.files k j ≡ u.files k j)
-    → v.reach ≡ u.reach → u.faults ≤ v.faults → u.reads ≤ v.reads → Flushed h t changes v
-still_flushed h t changes u v first files reach faults reads = record {
+    → v.reach ≡ u.reach → u.faults ≤ v.faults → u.reads ≤ v.reads → v.live ≡ u.live → u.last_file ≤ v.last_file → v.last_file ≤ h.disk.last_file + length changes + 1
+    → Flushed h t changes v
+still_flushed h t changes u v first files reach faults reads live last next = record {
   files = λ n.
       subst (λ (fs : List (File Held)). Grows t.number n (shard_at h n) (change_of changes n) (h.disk.files n t.number) fs) (sym (files n t.number)) (first.files n);
   others = λ n k other. files n k ∙ first.others n k other;
@@ -209,7 +254,27 @@ still_flushed h t changes u v first files reach faults reads = record {
   reach = reach ∙ first.reach;
   faults = omega (arith, first.faults, faults);
   reads = omega (arith, first.reads, reads);
+  live = live ∙ first.live;
+  last_file = (omega (arith, first.last_file.0, last), next);
 }
+
+-- the history goes on so
+abbrev went_on : History → List (Option Change) → State → History
+went_on h changes u = record h { changes = fold changes_by h.changes changes; disk = disk_of u }
+
+-- so far the disk keeps what some history says for which the store stands
+first_lasts_for_one : (t : TableSchema) (k : ℕ) (told : List ℕ) (s u : State) (d e : Disk) → FlushesFirst t k told s u d e → (c : Image) → d.reads c → LastsForOne s d
+    → LastsForOne u e
+first_lasts_for_one t k told s u d e first c reads (h, found, was, stands, lasts) =
+    let (now, kept, so) = first.moves c reads stands.memory h stands in
+    let (later, amid) = first.lasts h found was stands.tables lasts in
+    let so_far : List Change = fold changes_by h.changes first.changes in (
+      went_on h first.changes u,
+      found,
+      later.0,
+      stands_with (with_disk h u) so_far u now,
+      lasts_as (record h { changes = so_far }) (went_on h first.changes u) found u e later.0 refl refl later.1,
+    )
 
 pub no_further : (t : TableSchema) (k : ℕ) (told : List ℕ) (x : Fault) (s u v : State) (d e f : Disk) → FlushesFirst t k told s u d e → FlushesOne t k (Err x) u v e f
     → k < length s.shards → FlushesNoFurther t x s v d f
@@ -221,18 +286,25 @@ no_further t k told x s u v d e f first one few = record {
       let (now, amid) = first.lasts h found was tables lasts in
       let so_far : List Change = fold changes_by h.changes first.changes in
       let (later, more) = one.lasts (record h { changes = so_far }) found now.0 (tables ∙ sym first.beside.tables) now.1 in (
-        (later.0, subst (λ (c : Option Change). LastsFor (record h { changes = changes_by so_far c }) found v f later.0) one.answer later.1),
+        (
+          later.0,
+          subst (λ (c : Option Change). LastsFor (record h { changes = changes_by so_far c }) found v f later.0) one.answer later.1,
+          both_explain h so_far found s u v d e f was now.0 later.0 (λ tells. first.beside.tells tells.0 tells.1) (λ tells stood. (first.moves tells.0 tells.1 stood.memory (with_disk h s) stood).0) now.2 later.2,
+        ),
         amid_then h found s u d e f first.beside.list amid (amid_with h so_far found u.list e f more),
       );
-  moves = λ c reads have h stands.
+  moves = λ c reads kept_so have h stands.
       let (now, kept, so) = first.moves c reads stands.memory h stands in
       let (b, read) = first.beside.tells c reads in
-      let (later, still, none) = one.moves b read kept (with_disk h u) now in (
+      let (later, still, none) = one.moves b read (first_lasts_for_one t k told s u d e first c reads kept_so) kept (with_disk h u) now in
+      let began : h.disk.last_file ≡ s.last_file = ap (λ (q : DiskState). q.last_file) stands.disk in (
         later,
         still,
         (
-          still_flushed h t first.changes (disk_of u) (disk_of v) so none.files none.reach one.beside.faults one.beside.reads,
-          why_since (disk_of s) (disk_of u) (disk_of v) x first.beside.faults first.beside.reads none.why,
+          still_flushed h t first.changes (disk_of u) (disk_of v) so none.files none.reach one.beside.faults one.beside.reads none.live one.beside.last
+              (omega (arith, began, first.numbers, first.many, one.numbers)),
+          subst (λ (j : ℕ). WhyNoFurther t j (shard_at h j) (disk_of s) (disk_of v) x) (sym first.many)
+              (why_since t k (shard_at h k) (disk_of s) (disk_of u) (disk_of v) x first.beside.faults first.beside.reads none.why),
         ),
       );
   own = one.own;
@@ -246,7 +318,7 @@ none_of_memory t k told s u d e first few going = record {
   changes = first.changes;
   few = omega (arith, first.many, few);
   lasts = first.lasts;
-  moves = λ c reads have h stands.
+  moves = λ c reads kept_so have h stands.
       let (now, kept, so) = first.moves c reads stands.memory h stands in
       (now, kept, (so, ap is_some going));
   own = tt;
@@ -254,17 +326,34 @@ none_of_memory t k told s u d e first few going = record {
 
 -- ---- the call
 
--- the history goes on so
-abbrev went_on : History → List (Option Change) → State → History
-went_on h changes u = record h { changes = fold changes_by h.changes changes; disk = disk_of u }
+-- memory stands for the history as its disk stands
+as_it_stands : (h : History) (s : State) → StandsFor h s → AreStood h s
+as_it_stands h s stands = record {
+  limits = stands.limits;
+  tables = stands.tables;
+  clock = stands.clock;
+  session = stands.session;
+  calls = stands.calls;
+  disk = refl;
+  count = stands.count;
+  shards = stands.shards;
+  entered = stands.entered;
+  memory = stands.memory;
+}
 
-went_to : (h : History) (changes : List (Option Change)) (s u : State) (d e : Disk) → StandsFor (with_disk h u) u
-    → ((found : List Mutation) (told : Told) → LastsFor h found s d told → GoesOn h (fold changes_by h.changes changes) found s u d e) → GoesOnTo h (went_on h changes u) s u d e
-went_to h changes s u d e stands lasts = record {
+went_to : (h : History) (changes : List (Option Change)) (s u : State) (d e : Disk) → TellsReads d → StandsFor h s → StandsFor (with_disk h u) u
+    → ((found : List Mutation) (told : Told) → LastsFor h found s d told → GoesOn (TellsReads d) h (fold changes_by h.changes changes) found told s u d e)
+    → GoesOnTo h (went_on h changes u) s u d e
+went_to h changes s u d e tells before stands lasts = record {
   stands = stands_with (with_disk h u) (fold changes_by h.changes changes) u stands;
   lasts = λ found told was.
-      let (later, amid) = lasts found told was in
-      (later.0, lasts_as (record h { changes = fold changes_by h.changes changes }) (went_on h changes u) found u e later.0 refl refl later.1);
+      let (later, amid) = lasts found told was in (
+        later.0,
+        lasts_as (record h { changes = fold changes_by h.changes changes }) (went_on h changes u) found u e later.0 refl refl later.1,
+        λ openings explained.
+            explains_still openings h (went_on h changes u) found u u e e later.0 (λ n. goes_nowhere (shard_at h n)) refl refl (keep_files_none later.0 e) (λ ms have. have)
+            (later.2 tells (as_it_stands h s before) openings explained),
+      );
 }
 
 named : (h : History) (tables : List TableSchema) (name : TableName) (o : Option TableSchema) (r : Result (List ℕ) Fault) (after : History) → h.tables ≡ tables
@@ -285,12 +374,12 @@ flushes_all name t told s u d e is going on first c reads h stands =
         (first.many ∙ sym stands.count, first.added, ap is_some on),
         refl,
       ),
-      went_to h first.changes s u d e now (λ found was lasts. first.lasts h found was stands.tables lasts),
+      went_to h first.changes s u d e (c, reads) stands now (λ found was lasts. first.lasts h found was stands.tables lasts),
     )
 
 -- a fault that isn't of an earlier one
 fails_by : (h : History) (t : TableSchema) (f : Fault) (changes : List (Option Change)) (e : DiskState) → h.disk.stopped ≡ false → Flushed h t changes e → length changes < length h.shards
-    → WhyNoFurther h.disk e f → FlushesTable h t (Err f) (record h { changes = fold changes_by h.changes changes; disk = e })
+    → WhyNoFurther t (length changes) (shard_at h (length changes)) h.disk e f → FlushesTable h t (Err f) (record h { changes = fold changes_by h.changes changes; disk = e })
 fails_by h t (Refused why) changes e going flushed few is = (changes, e, going, flushed, (few, is), refl)
 fails_by h t (Stopped first) changes e going flushed few is = absurd is
 fails_by h t (Failed number) changes e going flushed few is = (changes, e, going, flushed, (few, is), refl)
@@ -299,18 +388,20 @@ fails_by h t (BadBlock number at) changes e going flushed few is = absurd is
 fails_by h t Mem changes e going flushed few is = (changes, e, going, flushed, (few, is), refl)
 
 pub flushes_some : (name : TableName) (t : TableSchema) (f : Fault) (s u : State) (d e : Disk) → table_named s.tables name ≡ Some t → s.journal.first ≡ None
-    → FlushesNoFurther t f s u d e → (c : Image) → d.reads c → Moves (λ h after. Flushes h name (Err f) after) s u d e
-flushes_some name t f s u d e is going none c reads h stands =
-    let (now, kept, so) = none.moves c reads stands.memory h stands in (
+    → FlushesNoFurther t f s u d e → (c : Image) → d.reads c → LastsForOne s d → Moves (λ h after. Flushes h name (Err f) after) s u d e
+flushes_some name t f s u d e is going none c reads one h stands =
+    let (now, kept, so) = none.moves c reads one stands.memory h stands in
+    let n : ℕ = length none.changes in (
       went_on h none.changes u,
       named h s.tables name (Some t) (Err f) (went_on h none.changes u) stands.tables is
           (fails_by h t f none.changes (disk_of u) (ap (λ (x : DiskState). x.stopped) stands.disk ∙ ap is_some going) so.0 (omega (arith, none.few, stands.count))
-          (subst (λ (x : DiskState). WhyNoFurther x (disk_of u) f) (sym stands.disk) so.1)),
-      went_to h none.changes s u d e now (λ found was lasts. none.lasts h found was stands.tables lasts),
+          (subst (λ (x : DiskState). WhyNoFurther t n (shard_at h n) x (disk_of u) f) (sym stands.disk) so.1)),
+      went_to h none.changes s u d e (c, reads) stands now (λ found was lasts. none.lasts h found was stands.tables lasts),
     )
 
 pub keeps_all : (s u : State) (d e : Disk) (changes : List (Option Change)) → u.list ≡ s.list
-    → ((h : History) (found : List Mutation) (told : Told) → h.tables ≡ s.tables → LastsFor h found s d told → GoesOn h (fold changes_by h.changes changes) found s u d e)
+    → ((h : History) (found : List Mutation) (told : Told) → h.tables ≡ s.tables → LastsFor h found s d told
+    → GoesOn (TellsReads d) h (fold changes_by h.changes changes) found told s u d e)
     → KeepsAll s u d e
 keeps_all s u d e changes list lasts h found told stands was =
     subst (λ l. Leaves (IsLeftAmid found l h) d e) (sym list) (lasts h found told stands.tables was).1

@@ -26,13 +26,14 @@ use Rattle.cas_journal.specs.Stores.{Told, MayList, appended, committed_all, fai
 use Rattle.cas_journal.specs.declared.fault.JournalFault.{JournalFault}
 use Rattle.cas_room.specs.Changing.{MayBeTold, StandsAmid}
 use Rattle.cas_room.specs.Rooms.{accepted_in}
+use Rattle.cas_shard.specs.declared.entry.ShardOpening.{ShardOpening}
 use Rattle.cas_shard.specs.Stands.{ShardState}
 use Rattle.cas_recovery.specs.Restored.{IsBehind}
 use Rattle.cas_recovery.proofs.Places.{get_here, get_other, get_within, same_place}
 use Rattle.cas_sessions.specs.History.{History, changes_told}
 use Rattle.cas_sessions.specs.Entered.{IsLeftAmid, ListFiles}
-use Rattle.cas_sessions.specs.Nodes.{State, LastsFor, files_in}
-use Rattle.cas_sessions.specs.Inner.Flushing.{AddsFile, GoesOn, Lists, SameNumbers}
+use Rattle.cas_sessions.specs.Nodes.{Explains, State, LastsFor, files_in}
+use Rattle.cas_sessions.specs.Inner.Flushing.{AddsFile, AreStood, GoesOn, Lists, SameNumbers}
 use Rattle.cas_sessions.proofs.Files.{list_changed, list_same, told_more}
 use Rattle.cas_sessions.proofs.Parts.{has_parts, one_shard}
 use Rattle.cas_sessions.proofs.Tables.{goes_before, said_still}
@@ -239,11 +240,14 @@ module _ (s t : State) (d e : Disk) (place number : ℕ) (c : Change) (count : l
       (λ b i was image. left i tables image)
 
   -- it has the change, and the shards have the file that it adds, and no other
-  pub lists_done : {T : Type 0} (x : T) → Lists c (Ok x) s t d e → h.tables ≡ s.tables → s.journal.first ≡ None → (ys : List ShardState) → SameNumbers t.shards ys
+  pub lists_done : {T : Type 0} (Left : Type 0) (x : T) → Lists c (Ok x) s t d e → h.tables ≡ s.tables → s.journal.first ≡ None → (ys : List ShardState) → SameNumbers t.shards ys
       → map (λ f. f.info) (files_in ys c.shard c.table) ≡ map (λ f. f.info) (files_in s.shards c.shard c.table) ++ c.added
-      → ((n k : ℕ) → ((n ≡ c.shard) × (k ≡ c.table) → ⊥) → files_in ys n k ≡ files_in s.shards n k) → GoesOn h (h.changes ++ c ∷ []) found s (record t { shards = ys }) d e
-  lists_done x lists tables going ys numbers here others =
-      ((appended (change_entry c) (committed_all told), keeps_on), lists_amid (Ok x) lists tables)
+      → ((n k : ℕ) → ((n ≡ c.shard) × (k ≡ c.table) → ⊥) → files_in ys n k ≡ files_in s.shards n k)
+      → (Left → AreStood h s → (openings : ℕ → ShardOpening) → Explains openings h found s d told
+      → Explains openings h found (record t { shards = ys }) e (appended (change_entry c) (committed_all told)))
+      → GoesOn Left h (h.changes ++ c ∷ []) found told s (record t { shards = ys }) d e
+  lists_done Left x lists tables going ys numbers here others explains =
+      ((appended (change_entry c) (committed_all told), keeps_on, explains), lists_amid (Ok x) lists tables)
     where
       said : said_by (told.entries ++ change_entry c ∷ []) ≡ change_after (said_by told.entries) c
       said = said_more told.entries (change_entry c)
@@ -299,8 +303,10 @@ module _ (s t : State) (d e : Disk) (place number : ℕ) (c : Change) (count : l
       let still = said_still f (change_entry c) (committed_all told) lasts.few in
       (ap (λ (v : Told). v.entries) since ∙ still.entries, ap (λ (v : Told). v.taken) since ∙ still.taken, subst (λ (v : Told). length v.failed ≤ 1) (sym since) still.few)
 
-  pub lists_failed : (T : Type 0) (f : JournalFault) → Lists {T = T} c (Err f) s t d e → h.tables ≡ s.tables → GoesOn h h.changes found s t d e
-  lists_failed T f lists tables =
+  pub lists_failed : (Left T : Type 0) (f : JournalFault) → Lists {T = T} c (Err f) s t d e → h.tables ≡ s.tables
+      → ((u : Told) → MayBeTold f (change_entry c) told u → Left → AreStood h s → (openings : ℕ → ShardOpening) → Explains openings h found s d told → Explains openings h found t e u)
+      → GoesOn Left h h.changes found told s t d e
+  lists_failed Left T f lists tables explains =
       let (u, may, keeps) = lists.keeps found told lasts.keeps fits in
       let (entries, taken, few) = same_told f u may in (
         (
@@ -331,6 +337,7 @@ module _ (s t : State) (d e : Disk) (place number : ℕ) (c : Change) (count : l
                 (list_same (said_by told.entries) (files_in s.shards) (files_in t.shards) (ap files_in lists.shards) lasts.files);
             changes = ap changes_told entries ∙ lasts.changes;
           },
+          explains u may,
         ),
         lists_amid {T = T} (Err f) lists tables,
       )

@@ -49,19 +49,19 @@ nothing_says ws none =
 
 -- ---- a memtable without bytes, behind others that say nothing
 
-all_append : (vss uss : List (List Mutation)) → all_of (vss ++ uss) ≡ all_of vss ++ all_of uss
+pub all_append : (vss uss : List (List Mutation)) → all_of (vss ++ uss) ≡ all_of vss ++ all_of uss
 all_append [] uss = refl
 all_append (vs ∷ vss) uss = ap (λ (l : List Mutation). vs ++ l) (all_append vss uss) ∙ sym (append_assoc vs (all_of vss) (all_of uss))
 
 -- what stands in the last memtable, and in those before it
-record LastOf (order : List Ordered) (fs : List MemPart) (a : MemPart) (wss : List (List Mutation)) : Type 0 where
-  before : List (List Mutation)
-  last : List Mutation
-  all : wss ≡ before ++ last ∷ []
-  stand : StandInEach order fs before
-  stands : StandIn order a last
+pub record LastOf (order : List Ordered) (fs : List MemPart) (a : MemPart) (wss : List (List Mutation)) : Type 0 where
+  pub before : List (List Mutation)
+  pub last : List Mutation
+  pub all : wss ≡ before ++ last ∷ []
+  pub stand : StandInEach order fs before
+  pub stands : StandIn order a last
 
-last_of : (order : List Ordered) (fs : List MemPart) (a : MemPart) (wss : List (List Mutation)) → StandInEach order (fs ++ a ∷ []) wss → LastOf order fs a wss
+pub last_of : (order : List Ordered) (fs : List MemPart) (a : MemPart) (wss : List (List Mutation)) → StandInEach order (fs ++ a ∷ []) wss → LastOf order fs a wss
 last_of order [] a [] stand = absurd stand
 last_of order [] a (ws ∷ []) stand = record { before = []; last = ws; all = refl; stand = tt; stands = stand.0 }
 last_of order [] a (ws ∷ vs ∷ wss) stand = absurd stand.1
@@ -123,14 +123,14 @@ rest_says_nothing order (Some p) count none all =
 -- ---- all stands in the files
 
 -- what stands in the files, and in the memtables behind them
-record Parted (order : List Ordered) (fs : List (File Held)) (ms : List MemPart) (wss : List (List Mutation)) : Type 0 where
-  front : List (List Mutation)
-  rest : List (List Mutation)
-  all : wss ≡ front ++ rest
-  files : HoldEach order fs [] front
-  memory : StandInEach order ms rest
+pub record Parted (order : List Ordered) (fs : List (File Held)) (ms : List MemPart) (wss : List (List Mutation)) : Type 0 where
+  pub front : List (List Mutation)
+  pub rest : List (List Mutation)
+  pub all : wss ≡ front ++ rest
+  pub files : HoldEach order fs [] front
+  pub memory : StandInEach order ms rest
 
-parted : (order : List Ordered) (fs : List (File Held)) (ms : List MemPart) (wss : List (List Mutation)) → HoldEach order fs ms wss → Parted order fs ms wss
+pub parted : (order : List Ordered) (fs : List (File Held)) (ms : List MemPart) (wss : List (List Mutation)) → HoldEach order fs ms wss → Parted order fs ms wss
 parted order [] ms wss holds = record { front = []; rest = wss; all = refl; files = tt; memory = holds }
 parted order (f ∷ fs) ms [] holds = absurd holds
 parted order (f ∷ fs) ms (ws ∷ wss) holds =

@@ -1,11 +1,12 @@
 -- The new file of a flush: it is written, the folder gets it, and it is opened.
-use Rattle.std.proofs.Common.{◌≡◌, inl, ◌<◌, ◌≤◌, ℕ, List, [], ◌∷◌, ◌++◌, Option, None, Some, refl, sym, ap, ◌∙◌, subst, arith, append-nil}
+use Rattle.std.proofs.Common.{◌≡◌, inl, inr, ◌<◌, ◌≤◌, ◌+◌, ℕ, List, [], ◌∷◌, ◌++◌, Option, None, Some, Result, Ok, Err, refl, sym, ap, ◌∙◌, subst, arith, append-nil}
 use Rattle.std.proofs.Math.Logic.{∥∥₁_elim}
 use Rattle.std.proofs.Props.{props}
 use Rattle.std.specs.Prelude.{slice_get}
 use Rattle.std.proofs.lemmas.Option.{same_Some}
 use mathlib.Core.HLevel.{Unit-prop}
 use Rattle.std.specs.Prelude.{IfSome}
+use Rattle.cas_types.specs.declared.schema.Column.{Column}
 use Rattle.cas_types.specs.declared.schema.TableSchema.{TableSchema}
 use Rattle.cas_io.specs.Causes.{Rose}
 use Rattle.cas_bind.specs.Tables.{AreInPlace}
@@ -13,12 +14,15 @@ use Rattle.cas_disk.specs.Disk.{Disk}
 use Rattle.cas_disk.specs.declared.fault.FolderFault.{FolderFault}
 use Rattle.cas_disk.specs.declared.fault.FolderFault.TheVariants as folder
 use Rattle.cas_atoms.specs.declared.atom.Mutation.{Mutation}
-use Rattle.cas_flushing.specs.Flushed.{Flushes, IsFlushed, IsOpened, WhyUnopened}
+use Rattle.cas_flush.specs.Flushed.{FlushFault}
+use Rattle.cas_flushing.specs.Flushed.{Flushes, IsFlushed, IsOpened, WhyUnopened, head_of}
 use Rattle.cas_flushing.specs.Laws.{StandsForThem}
 use Rattle.cas_flushing.proofs.Files.{flush_stands}
 use Rattle.cas_info.specs.Allowed.{FitsInfo}
 use Rattle.cas_info.specs.declared.info.TableInfo.{TableInfo}
 use Rattle.cas_memtable.specs.Kept.{HoldJust}
+use Rattle.cas_memtable.specs.declared.memtable.MemPart.{MemPart}
+use Rattle.cas_room.specs.Tables.{Begins, IsFull}
 use Rattle.cas_room.specs.declared.fault.FreshFault.{FreshFault}
 use Rattle.cas_room.specs.declared.fault.FreshFault.TheVariants as fresh
 use Rattle.cas_shard.specs.Flushing.{HasInMemory, frozen_at, memtables_at}
@@ -29,11 +33,12 @@ use Rattle.cas_sstread.specs.declared.fault.TableFault.TheVariants as load
 use Rattle.cas_sstwrite.specs.declared.fault.WriteFault.{WriteFault}
 use Rattle.cas_sstwrite.specs.declared.fault.WriteFault.TheVariants as write
 use Rattle.cas_stored.specs.Stored.{StoredTable}
+use Rattle.cas_tables.specs.declared.header.Header.{Header}
 use Rattle.cas_view.specs.Views.{File}
 use Rattle.cas_sessions.specs.declared.answer.Fault.{Fault}
 use Rattle.cas_sessions.specs.declared.answer.Fault.TheVariants.{Refused, Stopped, Disk as Failed, Read, BadBlock, Mem}
 use Rattle.cas_sessions.specs.Nodes.{State}
-use Rattle.cas_sessions.specs.Inner.Flushing.{HasOneMore, IsMade, IsOwn, Quiet, WhyNoneMore, WhyNotMade, fault_of_folder, fault_of_fresh, fault_of_load, fault_of_write}
+use Rattle.cas_sessions.specs.Inner.Flushing.{HasOneMore, HoldTooMuch, IsMade, IsOfSize, IsOwn, Quiet, WhyNoneMore, WhyNotMade, fault_of_folder, fault_of_fresh, fault_of_load, fault_of_write}
 use Rattle.cas_sessions.proofs.FlushShard.{quiet_still}
 use Rattle.cas_sessions.proofs.FlushSound.{numbered}
 
@@ -60,6 +65,41 @@ own_load load.ReadFault = tt
 own_load (load.BadBlock number at) = tt
 own_load load.Mem = tt
 
+-- one number at most is drawn, also where no file was begun
+pub next_after : {T : Type 0} (live last before now new : ℕ) (r : Result T FreshFault) → Begins live last before now r → ((IsFull live last → ⊥) → new ≡ last + 1)
+    → (IsFull live last → new ≡ last) → new ≤ last + 1
+next_after live last before now new (Ok x) is drawn full = omega (arith, drawn is)
+next_after live last before now new (Err (fresh.Full files)) is drawn full = omega (arith, full is.0)
+next_after live last before now new (Err fresh.Failed) is drawn full = omega (arith, drawn is.0)
+next_after live last before now new (Err fresh.Mem) is drawn full = omega (arith, drawn is)
+
+-- no file was begun
+pub why_not_begun : {T : Type 0} (Full : Type 0) (live last before now reads reads_now : ℕ) (r : Result T FreshFault) (f : FreshFault) (x : Fault) → r ≡ Err f
+    → x ≡ fault_of_fresh f → (IsFull live last → Full) → Begins live last before now r → WhyNotMade Full before now reads reads_now x
+why_not_begun Full live last before now reads reads_now (Ok y) f x told same full is = absurd (cc told)
+why_not_begun {T} Full live last before now reads reads_now (Err g) f x told same full is =
+    let one : f ≡ g = cc in
+    subst (WhyNotMade Full before now reads reads_now) (sym (same ∙ ap fault_of_fresh one)) (by g is)
+  where
+    by : (f : FreshFault) → Begins {T = T} live last before now (Err f) → WhyNotMade Full before now reads reads_now (fault_of_fresh f)
+    by (fresh.Full files) is = (refl, full is.0)
+    by fresh.Failed is = inl is.1
+    by fresh.Mem is = tt
+
+-- it wasn't written
+pub why_not_written : (Full : Type 0) (columns : List Column) (header : Header) (ms : List MemPart) (faults now reads reads_now : ℕ) (e : WriteFault) (x : Fault)
+    → x ≡ fault_of_write e → (IsOfSize e → FlushFault columns header ms e → Full) → FlushFault columns header ms e → (e ≡ write.Failed → Rose reads reads_now)
+    → WhyNotMade Full faults now reads reads_now x
+why_not_written Full columns header ms faults now reads reads_now e x same full why rose = subst (WhyNotMade Full faults now reads reads_now) (sym same) (by e full why rose)
+  where
+    by : (e : WriteFault) → (IsOfSize e → FlushFault columns header ms e → Full) → FlushFault columns header ms e → (e ≡ write.Failed → Rose reads reads_now)
+        → WhyNotMade Full faults now reads reads_now (fault_of_write e)
+    by write.Failed full why rose = inr (rose refl)
+    by write.Order full why rose = absurd why
+    by (write.TooMany what limit) full why rose = (refl, full tt why)
+    by write.Unfit full why rose = (refl, full tt why)
+    by write.Mem full why rose = tt
+
 module _ (t : TableSchema) (shard : ℕ) (told : TableInfo) (Bytes : List ℕ → Type 0) (Tells : Type 0) (faults now reads reads_now : ℕ) where
   -- the folder didn't get it
   pub why_not_admitted : (f : FolderFault) → (f ≡ folder.Failed → Rose faults now) → WhyNoneMore t shard told Bytes Tells faults now reads reads_now (fault_of_folder f)
@@ -82,17 +122,17 @@ module _ (t : TableSchema) (shard : ℕ) (told : TableInfo) (Bytes : List ℕ �
       (why_not_loaded f bytes written tells (subst (λ (w : TableSchema). WhyUnopened w shard told bytes f) same why) rose)
 
   -- a file that was just written isn't bad
-  pub never_bad : (f : Fault) → Tells → ((b : List ℕ) (e : TableFault) → Bytes b → WhyUnopened t shard told (Some b) e → IsNoBlock e) → WhyNoneMore t shard told Bytes Tells faults now reads reads_now f
-      → WhyNotMade faults now reads reads_now f
-  never_bad (Refused why) tells whole is = absurd is
-  never_bad (Stopped first) tells whole is = is
-  never_bad (Failed None) tells whole rose = inl rose
-  never_bad (Failed (Some number)) tells whole is = is
-  never_bad Read tells whole rose = rose
-  never_bad (BadBlock number at) tells whole is =
+  pub never_bad : (Full : Type 0) (f : Fault) → Tells → ((b : List ℕ) (e : TableFault) → Bytes b → WhyUnopened t shard told (Some b) e → IsNoBlock e) → WhyNoneMore t shard told Bytes Tells faults now reads reads_now f
+      → WhyNotMade Full faults now reads reads_now f
+  never_bad Full (Refused why) tells whole is = absurd is
+  never_bad Full (Stopped first) tells whole is = is
+  never_bad Full (Failed None) tells whole rose = inl rose
+  never_bad Full (Failed (Some number)) tells whole is = is
+  never_bad Full Read tells whole rose = rose
+  never_bad Full (BadBlock number at) tells whole is =
       let (b, written, why) = is tells in
       whole b (load.BadBlock number at) written why
-  never_bad Mem tells whole is = tt
+  never_bad Full Mem tells whole is = tt
 
 -- ---- reads that fail
 
@@ -187,6 +227,17 @@ module _ (tables : List TableSchema) (xs : List ShardState) (t sch : TableSchema
     written = written;
     is_told = tells;
   }
+
+  -- the table's memtables hold too much
+  pub hold_too_much : (number : ℕ) (e : WriteFault) → IsOfSize e → FlushFault sch.columns (head_of sch place number) (frozen_at (slice_get sh.stores sch.number)) e
+      → HoldTooMuch t place (frozen_at (slice_get x.stores table))
+  hold_too_much number e of why = (
+    number,
+    e,
+    of,
+    subst (λ (u : TableSchema). FlushFault u.columns (head_of u place number) (frozen_at (slice_get x.stores table)) e) same_table
+        (subst (λ o. FlushFault sch.columns (head_of sch place number) (frozen_at o) e) store_is why),
+  )
 
   -- what was written, or nothing
   pub for_table : {D : Type 0} (number_of : D → ℕ) (wrote : D → List ℕ → Type 0) (number : ℕ) (draft : D) (r : Option (TableInfo × D)) → number_of draft ≡ number

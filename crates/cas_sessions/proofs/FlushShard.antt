@@ -1,5 +1,5 @@
 -- A flush of a table in a shard.
-use Rattle.std.proofs.Common.{◌≡◌, ◌≢◌, ◌⊎◌, inl, inr, ◌<◌, ◌≤◌, ℕ, false, List, [], ◌∷◌, ◌++◌, length, map, take, drop, Option, None, Some, Result, Ok, Err, is_some, ℤ, refl, sym, ap, ◌∙◌, subst, arith}
+use Rattle.std.proofs.Common.{◌≡◌, ◌≢◌, ◌⊎◌, inl, inr, ◌<◌, ◌≤◌, ◌+◌, ℕ, false, List, [], ◌∷◌, ◌++◌, length, map, take, drop, Option, None, Some, Result, Ok, Err, is_some, ℤ, refl, sym, ap, ◌∙◌, subst, arith}
 use Rattle.std.proofs.lemmas.List.{take_all}
 use Rattle.std.proofs.lemmas.Option.{same_Some}
 use Rattle.std.specs.Prelude.{slice_get, slice_set, IfErr}
@@ -15,34 +15,42 @@ use Rattle.cas_gates.specs.declared.first.First.{First}
 use Rattle.cas_atoms.specs.declared.atom.Mutation.{Mutation}
 use Rattle.cas_changes.specs.Saying.{said_by}
 use Rattle.cas_changes.specs.declared.entry.Change.{Change}
-use Rattle.cas_changes.specs.declared.said.TheConstants.{FIRST_DRAWN}
+use Rattle.cas_changes.specs.declared.entry.Entry.TheVariants.{Change as change_entry}
+use Rattle.cas_changes.specs.declared.said.TheConstants.{FIRST_DRAWN, LISTED_LIMIT}
+use Rattle.cas_info.specs.Allowed.{FitsInfo}
 use Rattle.cas_info.specs.declared.info.TableInfo.{TableInfo}
 use Rattle.cas_journal.specs.Ends.{Ends}
-use Rattle.cas_journal.specs.Reach.{Reach, reach_of}
+use Rattle.cas_journal.specs.Reach.{HasNoPlace, IsOver, Reach, reach_of}
 use Rattle.cas_journal.specs.Stores.{Told, Holds as HoldsTold}
+use Rattle.cas_journal.specs.declared.fault.Counted.{Counted}
+use Rattle.cas_journal.specs.declared.fault.Counted.TheVariants.{Segments, Manifest, Files}
 use Rattle.cas_journal.specs.declared.fault.JournalFault.{JournalFault}
 use Rattle.cas_journal.specs.declared.fault.JournalFault.TheVariants as journal
+use Rattle.cas_manifest.specs.Manifests.{place_of as manifest_place}
 use Rattle.cas_memtable.specs.Kept.{HoldJust}
 use Rattle.cas_memtable.proofs.Keeping.{mapped_more}
 use Rattle.cas_memtable.specs.declared.memtable.MemPart.{MemPart}
 use Rattle.cas_shard.specs.Flushing.{HasInMemory, SaysWhatTheyDo, bytes_at, frozen_at, memtables_at}
-use Rattle.cas_shard.specs.Shards.{ShardHistory, all_entries, number_of}
+use Rattle.cas_shard.specs.Shards.{ShardHistory, all_entries}
 use Rattle.cas_shard.specs.Stands.{Holds, ShardState, Stands, files_at, mutations_of, order_at, order_of}
 use Rattle.cas_sstread.specs.Loading.{Held}
 use Rattle.cas_view.specs.Views.{File}
+use Rattle.cas_room.specs.declared.table_files.TheConstants.{LIVE_LIMIT}
 use Rattle.cas_recovery.proofs.Places.{get_here, get_other, length_set, same_place}
 use Rattle.cas_sessions.specs.declared.answer.Fault.{Fault}
 use Rattle.cas_sessions.specs.declared.answer.Fault.TheVariants.{Refused, Stopped, Disk as Failed, Read, BadBlock, Mem}
-use Rattle.cas_sessions.specs.Flushes.{AreInFiles, Grows, WhyNoFurther, reach_by}
-use Rattle.cas_recovery.specs.Restored.{Remember}
+use Rattle.cas_sessions.specs.Flushes.{AreInFiles, Grows, ListsOne, WhyNoFurther, WhyTooMany, numbers_in, reach_by}
+use Rattle.cas_recovery.specs.Restored.{Remember, RemembersJust}
 use Rattle.cas_sessions.specs.Listing.{SameUpTo}
 use Rattle.cas_sessions.specs.History.{History, DiskState, shard_at}
-use Rattle.cas_sessions.specs.Nodes.{State, StandsFor, LastsFor, disk_of, files_in, files_of}
+use Rattle.cas_sessions.specs.Nodes.{State, StandsFor, LastsFor, LastsForOne, disk_of, files_in, files_of}
 use Rattle.cas_sessions.specs.Inner.Faults.{fault_for}
-use Rattle.cas_sessions.specs.Inner.Flushing.{AddsFile, EndsIn, FlushedOne, FlushesOne, GoesOn, GoesOnAs, IsOwn, Lists, Moved, NewFile, Quiet, SaysSo, TakesFile, TellsIt, WhyNotMade}
+use Rattle.cas_sessions.specs.Inner.Flushing.{AddsFile, EndsIn, FlushedOne, FlushesOne, GoesOn, GoesOnAs, IsChangeFor, IsOwn, Lists, Moved, NewFile, Quiet, SaysSo, StandsSo, TakesFile, TellsIt, TellsReads, WhyNotMade}
 use Rattle.cas_sessions.proofs.FlushChange.{below_next, lists_done, lists_failed}
+use Rattle.cas_sessions.proofs.FlushExplains.{explains_told, explains_untold}
 use Rattle.cas_sessions.proofs.FlushFiles.{SayNothing, in_files, memory_says_nothing, rest_says_nothing}
-use Rattle.cas_sessions.proofs.FlushSteps.{amid_then, beside_then, files_again, one_goes_on, quiet_amid, quiet_beside, quiet_goes, quiet_lasts, quiet_remembers, quiet_stands, same_shards, stands_again, with_disk}
+use Rattle.cas_sessions.proofs.FlushSteps.{amid_then, beside_then, files_again, lasts_as, one_goes_on, quiet_amid, quiet_beside, quiet_explains, quiet_goes, quiet_lasts}
+use Rattle.cas_sessions.proofs.FlushSteps.{quiet_remembers, quiet_stands, same_shards, stands_again, with_disk}
 use Rattle.cas_sessions.proofs.Listing.{up_to_same}
 
 -- ---- nothing is done
@@ -133,6 +141,7 @@ module _ (t : TableSchema) (n : ℕ) (s u : State) (d e : Disk) (quiet : Quiet s
           others = λ k table other. files_again s.shards u.shards quiet.shards k table;
           all = all_in_files h u t n y now (ap (λ (ts : List TableSchema). slice_get ts t.number) quiet.tables ∙ table) there (nothing kept);
           reach = ap reach_of quiet.journal;
+          live = omega (arith, quiet.live);
           stopped = ap is_some still_going;
         },
       )
@@ -147,18 +156,24 @@ module _ (t : TableSchema) (n : ℕ) (s u : State) (d e : Disk) (quiet : Quiet s
       (subst (λ (j : ℕ). SayNothing (clustering_order t.columns) (frozen_at (slice_get y.stores j))) (sym same) (says have)))
 
   -- a fault came between
-  pub quiet_fails : (f : Fault) → WhyNotMade s.faults u.faults s.reads u.reads f → Moved (λ h. EndsIn t n (shard_at h n) None (Err f)) s u
-  quiet_fails f why have h stands = (
+  pub quiet_fails : (Full : Type 0) (f : Fault) → WhyNotMade Full s.faults u.faults s.reads u.reads f
+      → ((h : History) → StandsFor h s → Full → WhyTooMany t n (shard_at h n) (disk_of u)) → Moved (λ h. EndsIn t n (shard_at h n) None (Err f)) s u
+  quiet_fails Full f why full have h stands = (
     quiet_stands s u d e quiet h stands,
     quiet_remembers s u d e quiet have,
-    record { files = λ k table. files_again s.shards u.shards quiet.shards k table; reach = ap reach_of quiet.journal; why = by f why },
+    record {
+      files = λ k table. files_again s.shards u.shards quiet.shards k table;
+      reach = ap reach_of quiet.journal;
+      live = quiet.live;
+      why = by f why;
+    },
   )
     where
       off : is_some u.journal.first ≡ false
       off = ap is_some still_going
 
-      by : (f : Fault) → WhyNotMade s.faults u.faults s.reads u.reads f → WhyNoFurther (disk_of s) (disk_of u) f
-      by (Refused why) is = (is, off)
+      by : (f : Fault) → WhyNotMade Full s.faults u.faults s.reads u.reads f → WhyNoFurther t n (shard_at h n) (disk_of s) (disk_of u) f
+      by (Refused why) is = (is.0, off, full h stands is.1)
       by (Stopped first) is = absurd is
       by (Failed None) (inl rose) = inl rose
       by (Failed None) (inr rose) = inr (off, rose)
@@ -167,19 +182,23 @@ module _ (t : TableSchema) (n : ℕ) (s u : State) (d e : Disk) (quiet : Quiet s
       by (BadBlock number at) is = absurd is
       by Mem is = off
 
+  -- memory ran out
+  pub quiet_starves : Moved (λ h. EndsIn t n (shard_at h n) None (Err Mem)) s u
+  quiet_starves = quiet_fails ⊥ Mem tt (λ h stands none. absurd none)
+
 rose_since : (a b c : ℕ) → a ≤ b → Rose b c → Rose a c
 rose_since a b c le rose = omega (arith, le, rose)
 
 -- the same fault, since an earlier moment
-pub not_made_since : (a b c p q r : ℕ) (f : Fault) → a ≤ b → p ≤ q → WhyNotMade b c q r f → WhyNotMade a c p r f
-not_made_since a b c p q r (Refused why) faults reads is = is
-not_made_since a b c p q r (Stopped first) faults reads is = is
-not_made_since a b c p q r (Failed None) faults reads (inl rose) = inl (rose_since a b c faults rose)
-not_made_since a b c p q r (Failed None) faults reads (inr rose) = inr (rose_since p q r reads rose)
-not_made_since a b c p q r (Failed (Some number)) faults reads is = is
-not_made_since a b c p q r Read faults reads rose = rose_since p q r reads rose
-not_made_since a b c p q r (BadBlock number at) faults reads is = is
-not_made_since a b c p q r Mem faults reads is = is
+pub not_made_since : (Full : Type 0) (a b c p q r : ℕ) (f : Fault) → a ≤ b → p ≤ q → WhyNotMade Full b c q r f → WhyNotMade Full a c p r f
+not_made_since Full a b c p q r (Refused why) faults reads is = is
+not_made_since Full a b c p q r (Stopped first) faults reads is = is
+not_made_since Full a b c p q r (Failed None) faults reads (inl rose) = inl (rose_since a b c faults rose)
+not_made_since Full a b c p q r (Failed None) faults reads (inr rose) = inr (rose_since p q r reads rose)
+not_made_since Full a b c p q r (Failed (Some number)) faults reads is = is
+not_made_since Full a b c p q r Read faults reads rose = rose_since p q r reads rose
+not_made_since Full a b c p q r (BadBlock number at) faults reads is = is
+not_made_since Full a b c p q r Mem faults reads is = is
 
 -- ---- the file is listed, and takes the place of memtables
 
@@ -212,11 +231,30 @@ pub ok_goes : {T : Type 0} (first kept : Option First) (before now : ℕ) (x : T
 ok_goes None kept before now x ends none = ends
 ok_goes (Some f) kept before now x ends none = absurd cc
 
+-- the change lists the new file
+lists_one : (t : TableSchema) (n number : ℕ) (s : State) (c : Change) (x : ShardState) (told : TableInfo) (files : List (File Held)) → slice_get s.shards n ≡ Some x
+    → (adds : AddsFile s.tables s.shards n number c) → adds.x ≡ x → adds.told ≡ told → c.table ≡ t.number → (new : NewFile t (slice_get x.stores t.number) told files)
+    → (h : History) → StandsFor h s → ListsOne t.number n (shard_at h n) new.file c
+lists_one t n number s c x told files there adds is_x is_told of_table new h stands =
+    let one : Stands h.tables (shard_at h n) x = stands.shards n x there in
+    record {
+      of_table = of_table;
+      of_shard = adds.is.of_shard;
+      frontier = adds.is.frontier.0 ∙ ap (λ (q : ShardState). q.number) is_x ∙ one.number;
+      moment = adds.is.moment.0 ∙ ap (λ (q : ShardState). q.moment) is_x ∙ one.moment;
+      drawn = adds.is.drawn.0 ∙ ap (λ (q : ShardState). int_max q.drawn FIRST_DRAWN) is_x ∙ ap (λ (at : ℤ). int_max at FIRST_DRAWN) one.drawn;
+      removed = adds.is.removed;
+      added = adds.is.added ∙ ap (λ (i : TableInfo). i ∷ []) (is_told ∙ sym new.info);
+    }
+
 module _ {T : Type 0} (t : TableSchema) (n number count : ℕ) (s m : State) (d e : Disk) (c : Change) (x y : ShardState) (told : TableInfo) (files : List (File Held))
     (table : slice_get s.tables t.number ≡ Some t) (many : length s.shards ≡ s.limits.shards) (there : slice_get s.shards n ≡ Some x) (going : s.journal.first ≡ None)
     (adds : AddsFile s.tables s.shards n number c) (is_x : adds.x ≡ x) (is_told : adds.told ≡ told) (of_table : c.table ≡ t.number) (low : number ≤ s.last_file)
     (new : NewFile t (slice_get x.stores t.number) told files) (answer : T) (lists : Lists c (Ok answer) s m d e) (swapped : Swapped t.number count files x y)
     (all : count ≡ length (frozen_at (slice_get x.stores t.number))) (none : bytes_at (slice_get x.stores t.number) ≡ 0) where
+  abbrev Left : Type 0
+  Left = StandsSo t n told (slice_get x.stores t.number) d
+
   abbrev u : State
   u = record m { shards = slice_set m.shards n y }
 
@@ -269,11 +307,32 @@ module _ {T : Type 0} (t : TableSchema) (n number count : ℕ) (s m : State) (d 
       (ap (λ (fs : List (File Held)). map (λ f. f.info) fs) one_more ∙ mapped_more (λ (f : File Held). f.info) (files_in s.shards n t.number) new.file
       ∙ ap (λ (is : List TableInfo). map (λ f. f.info) (files_in s.shards n t.number) ++ is) its_added))
 
+  its_change : IsChangeFor t.number n told x c
+  its_change =
+      subst (λ (k : ℕ). IsChangeFor k n told x c) of_table
+      (subst (λ (i : TableInfo). IsChangeFor c.table n i x c) is_told (subst (λ (z : ShardState). IsChangeFor c.table n adds.told z c) is_x adds.is))
+
+  -- the shard has none of the table in memory then, and what it had of the others
+  swapped_just : (k : ℕ) (ws : List Mutation) → RemembersJust s.tables k ws x → ((k ≡ t.number) × RemembersJust s.tables k [] y) ⊎ ((k ≢ t.number) × RemembersJust s.tables k ws y)
+  swapped_just k ws has = by (same_place k t.number)
+    where
+      by : (k ≡ t.number) ⊎ (k ≢ t.number) → ((k ≡ t.number) × RemembersJust s.tables k [] y) ⊎ ((k ≢ t.number) × RemembersJust s.tables k ws y)
+      by (inl here) =
+          inl (
+            here,
+            λ more. subst (λ (j : ℕ). HasInMemory (s.tables ++ more) j [] y) (sym here)
+                (swapped.emptied (s.tables ++ more) ws all none (subst (λ (j : ℕ). HasInMemory (s.tables ++ more) j ws x) here (has more))),
+          )
+      by (inr other) = inr (other, λ more v at. subst (λ o. HoldJust v.columns (memtables_at o) ws) (sym (swapped.others k other)) (has more v at))
+
   keeps_on : (h : History) (found : List Mutation) (was : Told) → h.tables ≡ s.tables → LastsFor h found s d was → AllByRecursion (λ k. k < number) (said_by was.entries).numbers
-      → GoesOn h (h.changes ++ c ∷ []) found s u d e
+      → GoesOn Left h (h.changes ++ c ∷ []) found was s u d e
   keeps_on h found was tables so below =
-      lists_done s m d e n number c many adds low h found was so below answer lists tables going (slice_set m.shards n y) numbers its_file
+      lists_done s m d e n number c many adds low h found was so below Left answer lists tables going (slice_set m.shards n y) numbers its_file
       (λ k j other. other_files k j (λ both. other (both.0 ∙ sym adds.is.of_shard, both.1 ∙ sym of_table)))
+      (λ left stood openings explained.
+      explains_told openings h found s u d e was c t x n told so going its_change table there many none left lists.during stood lists.list explained y lists.tables
+      (λ k z got. each k z got) swapped_just)
 
   remembers : Remember s.tables s.shards → Remember m.tables (slice_set m.shards n y)
   remembers have k j z got = by (each k z got)
@@ -309,36 +368,23 @@ module _ {T : Type 0} (t : TableSchema) (n number count : ℕ) (s m : State) (d 
                 (x, ap (λ (j : ℕ). slice_get s.shards j) here ∙ there, λ q so. subst (λ (v : ShardState). Stands s.tables q v) same (one_stands q so))
             at (inr (other, got)) = (z, got, λ q so. so)
 
-    one : Stands h.tables (shard_at h n) x
-    one = stands.shards n x there
-
-    frontier_is : c.frontier ≡ number_of (shard_at h n)
-    frontier_is = adds.is.frontier.0 ∙ ap (λ (q : ShardState). q.number) is_x ∙ one.number
-
     flushed : FlushedOne t n (shard_at h n) (Some c) (disk_of s) (disk_of u)
     flushed = record {
       files = (
         new.file,
         one_more,
-        record {
-          of_table = of_table;
-          of_shard = adds.is.of_shard;
-          frontier = frontier_is;
-          moment = adds.is.moment.0 ∙ ap (λ (q : ShardState). q.moment) is_x ∙ one.moment;
-          drawn = adds.is.drawn.0 ∙ ap (λ (q : ShardState). int_max q.drawn FIRST_DRAWN) is_x ∙ ap (λ (at : ℤ). int_max at FIRST_DRAWN) one.drawn;
-          removed = adds.is.removed;
-          added = sym its_added;
-        },
+        lists_one t n number s c x told files there adds is_x is_told of_table new h stands,
       );
       others = other_files;
       all =
           all_in_files h u t n y now_stands (ap (λ (ts : List TableSchema). slice_get ts t.number) lists.tables ∙ table) at_u
           (subst (SayNothing (clustering_order t.columns)) (sym swapped.memory) (rest_says_nothing (clustering_order t.columns) (slice_get x.stores t.number) count none all));
       reach = lists.reach;
+      live = lists.live ∙ ap (λ (is : List TableInfo). s.live + length (map (λ i. i.number) is)) (sym adds.is.added);
       stopped = ap is_some (ok_goes s.journal.first m.journal.first s.faults m.faults answer lists.outcome going);
     }
 
-  pub takes_file : TakesFile t n number (SaysSo t (slice_get x.stores t.number) new.file) (Ok (Some number)) s u d e
+  pub takes_file : TakesFile t n number (SaysSo t (slice_get x.stores t.number) new.file) Left (Ok (Some number)) s u d e
   takes_file = record {
     beside = record {
       limits = lists.limits;
@@ -356,10 +402,11 @@ module _ {T : Type 0} (t : TableSchema) (n number count : ℕ) (s m : State) (d 
       during = up_to_same s.last_file d e lists.during;
       tells = lists.tells;
     };
+    numbers = lists.last;
     change = Some c;
     answer = ap (λ (is : List TableInfo). map (λ i. i.number) is) adds.is.added ∙ ap (λ (k : ℕ). k ∷ []) adds.numbered;
     lasts = keeps_on;
-    moves = λ says have h stands. (now_stands says h stands, remembers have, flushed says h stands);
+    moves = λ says fine have h stands. (now_stands says h stands, remembers have, flushed says h stands);
     own = tt;
   }
 
@@ -368,26 +415,56 @@ pub takes_file_at : {T : Type 0} (t : TableSchema) (n number count k : ℕ) (s m
     (answer : T) → t.number ≡ k → slice_get s.tables k ≡ Some t → length s.shards ≡ s.limits.shards → slice_get s.shards n ≡ Some x → s.journal.first ≡ None
     → (adds : AddsFile s.tables s.shards n number c) → adds.x ≡ x → adds.told ≡ told → c.table ≡ k → number ≤ s.last_file → (new : NewFile t (slice_get x.stores k) told files)
     → Lists c (Ok answer) s m d e → Swapped k count files x y → count ≡ length (frozen_at (slice_get x.stores k)) → bytes_at (slice_get x.stores k) ≡ 0
-    → TakesFile t n number (SaysSo t (slice_get x.stores k) new.file) (Ok (Some number)) s (record m { shards = slice_set m.shards n y }) d e
+    → TakesFile t n number (SaysSo t (slice_get x.stores k) new.file) (StandsSo t n told (slice_get x.stores k) d) (Ok (Some number)) s
+    (record m { shards = slice_set m.shards n y }) d e
 takes_file_at t n number count k s m d e c x y told files answer same table many there going adds is_x is_told of_table low new lists swapped all none =
     subst (λ (j : ℕ). slice_get s.tables j ≡ Some t → c.table ≡ j → (new : NewFile t (slice_get x.stores j) told files) → Swapped j count files x y
     → count ≡ length (frozen_at (slice_get x.stores j)) → bytes_at (slice_get x.stores j) ≡ 0
-    → TakesFile t n number (SaysSo t (slice_get x.stores j) new.file) (Ok (Some number)) s (record m { shards = slice_set m.shards n y }) d e) same
+    → TakesFile t n number (SaysSo t (slice_get x.stores j) new.file) (StandsSo t n told (slice_get x.stores j) d) (Ok (Some number)) s
+    (record m { shards = slice_set m.shards n y }) d e) same
     (λ table of_table new swapped all none.
     takes_file t n number count s m d e c x y told files table many there going adds is_x is_told of_table low new answer lists swapped all none) table of_table new swapped all none
 
 -- ---- it isn't listed
 
-module _ (t : TableSchema) (n number : ℕ) (s m : State) (d e : Disk) (c : Change) (many : length s.shards ≡ s.limits.shards) (going : s.journal.first ≡ None)
-    (adds : AddsFile s.tables s.shards n number c) (low : number ≤ s.last_file) where
+-- as many table files are listed as the store counts, so that there is room for one more
+not_over : (h : History) (found : List Mutation) (s : State) (d : Disk) (told : Told) (c : Change) (i : TableInfo) → LastsFor h found s d told → s.journal.first ≡ None
+    → s.live < LIVE_LIMIT → c.removed ≡ [] → c.added ≡ i ∷ [] → IsOver Files (change_entry c) s.journal → ⊥
+not_over h found s d told c i lasts going room removed added over =
+    let listed : (said_by told.entries).listed ≡ (manifest_place s.journal.manifest).listed = (lasts.keeps.lasts.goes going).manifest.listed in
+    let limits : LIVE_LIMIT ≡ LISTED_LIMIT = refl in
+    let none : length c.removed ≡ 0 = ap (λ (ns : List ℕ). length ns) removed in
+    let one : length c.added ≡ 1 = ap (λ (is : List TableInfo). length is) added in
+    let count : (said_by told.entries).listed ≡ s.live = lasts.behind.listed in
+    omega (arith, over, room, listed, limits, none, one, count)
+
+module _ (t : TableSchema) (n number : ℕ) (s m : State) (d e : Disk) (c : Change) (x : ShardState) (told : TableInfo) (files : List (File Held))
+    (many : length s.shards ≡ s.limits.shards) (going : s.journal.first ≡ None) (there : slice_get s.shards n ≡ Some x)
+    (adds : AddsFile s.tables s.shards n number c) (is_x : adds.x ≡ x) (is_told : adds.told ≡ told) (of_table : c.table ≡ t.number)
+    (new : NewFile t (slice_get x.stores t.number) told files) (low : number ≤ s.last_file) (room : s.live < LIVE_LIMIT) where
+  -- the manifest has no place
+  no_place : (what : Counted) (most : ℕ) → Lists {T = Unit {0}} c (Err (journal.TooMany what most)) s m d e → IsOver what (change_entry c) s.journal
+      → LastsForOne s d → (h : History) → StandsFor h s → WhyTooMany t n (shard_at h n) (disk_of m)
+  no_place Manifest most lists over lasts h stands =
+      inr (inl (record {
+        file = new.file;
+        change = c;
+        lists = lists_one t n number s c x told files there adds is_x is_told of_table new h stands;
+        fits = subst FitsInfo (sym new.info) new.fits;
+        full = subst (HasNoPlace (change_entry c)) (sym lists.reach) over;
+      }))
+  no_place Files most lists over (k, found, was, at, lasts) h stands = absurd (not_over k found s d was c adds.told lasts going room adds.is.removed adds.is.added over)
+  no_place Segments most lists over lasts h stands = absurd over
+
   why_unlisted : (f : JournalFault) (first : Option First) → first ≡ None → Ends {T = Unit {0}} first m.journal.first s.faults m.faults (Err f)
-      → WhyNoFurther (disk_of s) (disk_of m) (fault_for f)
-  why_unlisted (journal.TooLarge long most) None none ends = absurd ends
-  why_unlisted (journal.TooMany what most) None none ends = (refl, ap is_some ends)
-  why_unlisted (journal.Stopped first) None none ends = absurd ends
-  why_unlisted journal.Failed None none ends = inl ends.0
-  why_unlisted journal.Mem None none ends = ap is_some ends
-  why_unlisted f (Some first) none ends = absurd cc
+      → Lists {T = Unit {0}} c (Err f) s m d e → LastsForOne s d → (h : History) → StandsFor h s → WhyNoFurther t n (shard_at h n) (disk_of s) (disk_of m) (fault_for f)
+  why_unlisted (journal.TooLarge long most) None none ends lists lasts h stands = absurd ends
+  why_unlisted (journal.TooMany what most) None none ends lists lasts h stands =
+      (refl, ap is_some ends, no_place what most lists (lists.full what most refl) lasts h stands)
+  why_unlisted (journal.Stopped first) None none ends lists lasts h stands = absurd ends
+  why_unlisted journal.Failed None none ends lists lasts h stands = inl ends.0
+  why_unlisted journal.Mem None none ends lists lasts h stands = ap is_some ends
+  why_unlisted f (Some first) none ends lists lasts h stands = absurd cc
 
   own_fault : (f : JournalFault) (first : Option First) → first ≡ None → Ends {T = Unit {0}} first m.journal.first s.faults m.faults (Err f) → IsOwn (fault_for f)
   own_fault (journal.TooLarge long most) first none ends = tt
@@ -397,8 +474,14 @@ module _ (t : TableSchema) (n number : ℕ) (s m : State) (d e : Disk) (c : Chan
   own_fault journal.Failed first none ends = tt
   own_fault journal.Mem first none ends = tt
 
-  pub takes_none : (Says : Type 0) (f : JournalFault) → Lists {T = Unit {0}} c (Err f) s m d e → TakesFile t n number Says (Err (fault_for f)) s m d e
-  takes_none Says f lists = record {
+  its_own : IsChangeFor t.number n told x c
+  its_own =
+      subst (λ (k : ℕ). IsChangeFor k n told x c) of_table
+      (subst (λ (i : TableInfo). IsChangeFor c.table n i x c) is_told (subst (λ (z : ShardState). IsChangeFor c.table n adds.told z c) is_x adds.is))
+
+  pub takes_none : (Says : Type 0) → slice_get s.tables t.number ≡ Some t → bytes_at (slice_get x.stores t.number) ≡ 0 → (f : JournalFault)
+      → Lists {T = Unit {0}} c (Err f) s m d e → TakesFile t n number Says (StandsSo t n told (slice_get x.stores t.number) d) (Err (fault_for f)) s m d e
+  takes_none Says table none f lists = record {
     beside = record {
       limits = lists.limits;
       tables = lists.tables;
@@ -413,10 +496,14 @@ module _ (t : TableSchema) (n number : ℕ) (s m : State) (d e : Disk) (c : Chan
       during = up_to_same s.last_file d e lists.during;
       tells = lists.tells;
     };
+    numbers = lists.last;
     change = None;
     answer = refl;
-    lasts = λ h found was tables lasts below. lists_failed s m d e n number c many adds low h found was lasts below (Unit {0}) f lists tables;
-    moves = λ says have h stands.
+    lasts = λ h found was tables lasts below.
+        lists_failed s m d e n number c many adds low h found was lasts below (StandsSo t n told (slice_get x.stores t.number) d) (Unit {0}) f lists tables
+        (λ v may left stood openings explained.
+        explains_untold openings h found s m d e was c t x n told lasts going its_own table there many none left lists.during stood lists.list explained lists.tables lists.shards f v may);
+    moves = λ says one have h stands.
         let still : Remember s.tables s.shards → Remember m.tables m.shards =
         λ kept. subst (λ (xs : List ShardState). Remember m.tables xs) (sym lists.shards) (subst (λ (ts : List TableSchema). Remember ts s.shards) (sym lists.tables) kept) in (
           stands_again h s m stands lists.limits lists.tables lists.clock lists.list lists.session lists.calls (ap length lists.shards)
@@ -425,26 +512,35 @@ module _ (t : TableSchema) (n number : ℕ) (s m : State) (d e : Disk) (c : Chan
           record {
             files = λ k table. ap (λ (xs : List ShardState). files_in xs k table) lists.shards;
             reach = lists.reach;
-            why = why_unlisted f s.journal.first going lists.outcome;
+            live = lists.live;
+            why = why_unlisted f s.journal.first going lists.outcome lists one h stands;
           },
         );
     own = own_fault f s.journal.first going lists.outcome;
   }
 
-pub takes_none_as : (t : TableSchema) (n number : ℕ) (s m : State) (d e : Disk) (c : Change) (Says : Type 0) (f : JournalFault) (r : Fault) → length s.shards ≡ s.limits.shards
-    → s.journal.first ≡ None → AddsFile s.tables s.shards n number c → number ≤ s.last_file → Lists {T = Unit {0}} c (Err f) s m d e → r ≡ fault_for f
-    → TakesFile t n number Says (Err r) s m d e
-takes_none_as t n number s m d e c Says f r many going adds low lists is =
-    subst (λ (x : Fault). TakesFile t n number Says (Err x) s m d e) (sym is) (takes_none t n number s m d e c many going adds low Says f lists)
+-- the same, where the table is looked at by its place, and the fault is called otherwise
+pub takes_none_as : (t : TableSchema) (n number k : ℕ) (s m : State) (d e : Disk) (c : Change) (x : ShardState) (told : TableInfo) (files : List (File Held))
+    (Says : Type 0) (f : JournalFault) (r : Fault) → t.number ≡ k → slice_get s.tables k ≡ Some t → length s.shards ≡ s.limits.shards → s.journal.first ≡ None
+    → slice_get s.shards n ≡ Some x → (adds : AddsFile s.tables s.shards n number c) → adds.x ≡ x → adds.told ≡ told → c.table ≡ k
+    → NewFile t (slice_get x.stores k) told files → bytes_at (slice_get x.stores k) ≡ 0 → number ≤ s.last_file → s.live < LIVE_LIMIT
+    → Lists {T = Unit {0}} c (Err f) s m d e → r ≡ fault_for f → TakesFile t n number Says (StandsSo t n told (slice_get x.stores k) d) (Err r) s m d e
+takes_none_as t n number k s m d e c x told files Says f r same table many going there adds is_x is_told of_table new none low room lists is =
+    subst (λ (q : Fault). TakesFile t n number Says (StandsSo t n told (slice_get x.stores k) d) (Err q) s m d e) (sym is)
+    (subst (λ (j : ℕ). TakesFile t n number Says (StandsSo t n told (slice_get x.stores j) d) (Err (fault_for f)) s m d e) same
+    (takes_none t n number s m d e c x told files many going there adds is_x is_told (of_table ∙ sym same)
+    (subst (λ (j : ℕ). NewFile t (slice_get x.stores j) told files) (sym same) new) low room Says (subst (λ (j : ℕ). slice_get s.tables j ≡ Some t) (sym same) table)
+    (subst (λ (j : ℕ). bytes_at (slice_get x.stores j) ≡ 0) (sym same) none) f lists))
 
 -- memory ran out before
-pub takes_nothing : (t : TableSchema) (n number : ℕ) (Says : Type 0) (s : State) (d : Disk) → s.journal.first ≡ None → TakesFile t n number Says (Err Mem) s s d d
-takes_nothing t n number Says s d going = record {
+pub takes_nothing : (t : TableSchema) (n number : ℕ) (Says Left : Type 0) (s : State) (d : Disk) → s.journal.first ≡ None → TakesFile t n number Says Left (Err Mem) s s d d
+takes_nothing t n number Says Left s d going = record {
   beside = quiet_beside s s d d (quiet_still s d) (no_call (SameUpTo s.last_file) d);
+  numbers = refl;
   change = None;
   answer = refl;
-  lasts = λ h found was tables lasts below. quiet_goes s s d d (quiet_still s d) h found was tables lasts;
-  moves = λ says. quiet_fails t n s s d d (quiet_still s d) going Mem tt;
+  lasts = λ h found was tables lasts below. quiet_goes s s d d (quiet_still s d) Left h found was tables lasts (λ openings explained. explained);
+  moves = λ says one. quiet_starves t n s s d d (quiet_still s d) going;
   own = tt;
 }
 
@@ -452,18 +548,19 @@ takes_nothing t n number Says s d going = record {
 
 -- how it ends, since an earlier moment with the same files
 ends_since : (t : TableSchema) (n : ℕ) (q : ShardHistory) (c : Option Change) (r : Result (Option ℕ) Fault) (d m e : DiskState) → ((k j : ℕ) → m.files k j ≡ d.files k j) → m.reach ≡ d.reach
-    → d.faults ≤ m.faults → d.reads ≤ m.reads → EndsIn t n q c r m e → EndsIn t n q c r d e
-ends_since t n q c (Ok told) d m e files reach faults reads one = record {
+    → m.live ≡ d.live → d.faults ≤ m.faults → d.reads ≤ m.reads → EndsIn t n q c r m e → EndsIn t n q c r d e
+ends_since t n q c (Ok told) d m e files reach live faults reads one = record {
   files = subst (λ (fs : List (File Held)). Grows t.number n q c fs (e.files n t.number)) (files n t.number) one.files;
   others = λ k j other. one.others k j other ∙ files k j;
   all = one.all;
   reach = one.reach ∙ ap (λ (r : Reach). reach_by r c) reach;
+  live = one.live ∙ ap (λ (k : ℕ). k + length (numbers_in c)) live;
   stopped = one.stopped;
 }
-ends_since t n q c (Err f) d m e files reach faults reads none =
-    record { files = λ k j. none.files k j ∙ files k j; reach = none.reach ∙ reach; why = by f none.why }
+ends_since t n q c (Err f) d m e files reach live faults reads none =
+    record { files = λ k j. none.files k j ∙ files k j; reach = none.reach ∙ reach; live = none.live ∙ live; why = by f none.why }
   where
-    by : (f : Fault) → WhyNoFurther m e f → WhyNoFurther d e f
+    by : (f : Fault) → WhyNoFurther t n q m e f → WhyNoFurther t n q d e f
     by (Refused why) is = is
     by (Stopped first) is = is
     by (Failed None) (inl rose) = inl (rose_since d.faults m.faults e.faults faults rose)
@@ -473,35 +570,57 @@ ends_since t n q c (Err f) d m e files reach faults reads none =
     by (BadBlock number at) is = is
     by Mem is = is
 
+-- what is known where a call failed
+pub where_failed : {T E A B : Type 0} (r : Result T E) → (A → B) → IfErr r (λ f. A) → IfErr r (λ f. B)
+where_failed (Ok x) goes one = tt
+where_failed (Err f) goes one = goes one
+
+-- the disk still keeps what some history says for which the store stands
+pub quiet_lasts_for_one : (s m : State) (d e : Disk) → Quiet s m d e → LastsForOne s d → LastsForOne m e
+quiet_lasts_for_one s m d e quiet (h, found, told, stands, lasts) =
+    (with_disk h m, found, told, quiet_stands s m d e quiet h stands, lasts_as h (with_disk h m) found m e told refl refl (quiet_lasts s m d e quiet h found told lasts))
+
 -- quiet steps, and then the file is listed or not
-pub flushes_then : (t : TableSchema) (n number last : ℕ) (Says : Type 0) (r : Result (Option ℕ) Fault) (s m u : State) (d e f : Disk) → Quiet s m d e
-    → During (SameUpTo s.last_file) d e → TakesFile t n number Says r m u e f → s.last_file ≤ last → last < number → ((c : Image) → d.reads c → Remember s.tables s.shards → Says) → FlushesOne t n r s u d f
-flushes_then t n number last Says r s m u d e f quiet during takes low above says = record {
+pub flushes_then : (t : TableSchema) (n number last : ℕ) (Says Left : Type 0) (r : Result (Option ℕ) Fault) (s m u : State) (d e f : Disk) → Quiet s m d e
+    → During (SameUpTo s.last_file) d e → s.journal.first ≡ None → TakesFile t n number Says Left r m u e f → Left → s.last_file ≤ last → last < number
+    → m.last_file ≤ s.last_file + 1 → ((c : Image) → d.reads c → Remember s.tables s.shards → Says) → FlushesOne t n r s u d f
+flushes_then t n number last Says Left r s m u d e f quiet during going takes left low above next says = record {
   beside = beside_then s m u d e f (quiet_beside s m d e quiet during) takes.beside;
+  numbers = omega (arith, takes.numbers, next);
   change = takes.change;
   answer = takes.answer;
   lasts = λ h found told tables lasts.
       let (now, amid) = takes.lasts h found told (tables ∙ sym quiet.tables) (quiet_lasts s m d e quiet h found told lasts)
-      (below_next s.last_file number (said_by told.entries).numbers (omega (arith, low, above)) lasts.behind.numbers) in
-      (now, amid_then h found s m d e f quiet.list (quiet_amid s m d e quiet h found told tables lasts) amid);
-  moves = λ c reads have h stands.
-      let (now, kept, ends) = takes.moves (says c reads have) (quiet_remembers s m d e quiet have) (with_disk h m) (quiet_stands s m d e quiet h stands) in (
+      (below_next s.last_file number (said_by told.entries).numbers (omega (arith, low, above)) lasts.behind.numbers) in (
+        (
+          now.0,
+          now.1,
+          λ tells stood openings explained.
+              now.2 left (quiet_stands s m d e quiet (with_disk h s) stood) openings (quiet_explains s m d e quiet during going h found told lasts openings explained),
+        ),
+        amid_then h found s m d e f quiet.list (quiet_amid s m d e quiet h found told tables lasts) amid,
+      );
+  moves = λ c reads one have h stands.
+      let (now, kept, ends) = takes.moves (says c reads have) (where_failed r (quiet_lasts_for_one s m d e quiet) one) (quiet_remembers s m d e quiet have) (with_disk h m)
+      (quiet_stands s m d e quiet h stands) in (
         now,
         kept,
-        ends_since t n (shard_at h n) takes.change r (disk_of s) (disk_of m) (disk_of u) (λ k j. files_again s.shards m.shards quiet.shards k j) (ap reach_of quiet.journal) quiet.faults quiet.reads
-            ends,
+        ends_since t n (shard_at h n) takes.change r (disk_of s) (disk_of m) (disk_of u) (λ k j. files_again s.shards m.shards quiet.shards k j) (ap reach_of quiet.journal) quiet.live quiet.faults
+            quiet.reads ends,
       );
   own = takes.own;
 }
 
 -- quiet steps alone
 pub flushes_quietly : (t : TableSchema) (n : ℕ) (r : Result (Option ℕ) Fault) (s u : State) (d e : Disk) → Quiet s u d e → During (SameUpTo s.last_file) d e
+    → s.journal.first ≡ None → u.last_file ≤ s.last_file + 1
     → ((c : Image) → d.reads c → Remember s.tables s.shards → Moved (λ h. EndsIn t n (shard_at h n) None r) s u) → IfErr r IsOwn → TellsIt None r → FlushesOne t n r s u d e
-flushes_quietly t n r s u d e quiet during moves own answer = record {
+flushes_quietly t n r s u d e quiet during going next moves own answer = record {
   beside = quiet_beside s u d e quiet during;
+  numbers = next;
   change = None;
   answer = answer;
-  lasts = λ h found told tables lasts. quiet_goes s u d e quiet h found told tables lasts;
-  moves = λ c reads have h stands. moves c reads have have h stands;
+  lasts = λ h found told tables lasts. quiet_goes s u d e quiet (TellsReads d) h found told tables lasts (quiet_explains s u d e quiet during going h found told lasts);
+  moves = λ c reads one have h stands. moves c reads have have h stands;
   own = own;
 }

@@ -16,16 +16,19 @@ use Rattle.cas_journal.specs.Stores.{Told, Holds}
 use Rattle.cas_room.specs.Keeping.{Keeps}
 use Rattle.cas_room.specs.Rooms.{accepted_in}
 use Rattle.cas_shard.specs.Flushing.{HasInMemory}
+use Rattle.cas_shard.specs.declared.entry.ShardOpening.{ShardOpening}
 use Rattle.cas_shard.specs.Shards.{ShardHistory}
-use Rattle.cas_shard.specs.Stands.{ShardState, Stands}
+use Rattle.cas_shard.specs.Stands.{ShardState, Stands, mutations_of}
 use Rattle.cas_recovery.proofs.Places.{get_here, get_other, length_set, same_place}
 use Rattle.cas_sessions.specs.History.{History, shard_at}
 use Rattle.cas_sessions.specs.Entered.{IsLeftAmid, entries_in}
 use Rattle.cas_sessions.specs.Listing.{SameUpTo}
-use Rattle.cas_recovery.specs.Restored.{Remember}
-use Rattle.cas_sessions.specs.Nodes.{State, StandsFor, LastsFor, disk_of, files_in, files_of}
+use Rattle.cas_recovery.specs.Found.{found_in}
+use Rattle.cas_recovery.specs.Restored.{Remember, RememberAll}
+use Rattle.cas_sessions.specs.Nodes.{Explains, State, StandsFor, LastsFor, disk_of, files_in, files_of}
 use Rattle.cas_sessions.specs.Inner.Flushing.{AllGoOn, GoesOn, GoesOnAs, IsBeside, Quiet, SameNumbers}
 use Rattle.cas_sessions.proofs.Crashing.{holds_amid}
+use Rattle.cas_sessions.proofs.Explaining.{explains_still, goes_nowhere, keep_files_below}
 use Rattle.cas_sessions.proofs.Files.{list_still}
 use Rattle.cas_sessions.proofs.Listing.{up_to_twice}
 
@@ -219,9 +222,28 @@ module _ (s t : State) (d e : Disk) (quiet : Quiet s t d e) where
       holds_amid told h found [] s.list c (append-nil told.taken ∙ lasts.keeps.all) (omega (arith, lasts.keeps.committed, lasts.acknowledged.0)) lasts.keeps.whole
       (lasts.tables ∙ sym tables) lasts.few holds)
 
-  pub quiet_goes : (h : History) (found : List Mutation) (told : Told) → h.tables ≡ s.tables → LastsFor h found s d told → GoesOn h h.changes found s t d e
-  quiet_goes h found told tables lasts =
-      ((told, lasts_as h (record h { changes = h.changes }) found t e told refl refl (quiet_lasts h found told lasts)), quiet_amid h found told tables lasts)
+  pub quiet_goes : (Left : Type 0) (h : History) (found : List Mutation) (told : Told) → h.tables ≡ s.tables → LastsFor h found s d told
+      → ((openings : ℕ → ShardOpening) → Explains openings h found s d told → Explains openings h found t e told) → GoesOn Left h h.changes found told s t d e
+  quiet_goes Left h found told tables lasts explains = (
+    (
+      told,
+      lasts_as h (record h { changes = h.changes }) found t e told refl refl (quiet_lasts h found told lasts),
+      λ left stood openings. explains openings,
+    ),
+    quiet_amid h found told tables lasts,
+  )
+
+  quiet_all : (ms : List Mutation) → RememberAll s.tables ms s.shards → RememberAll t.tables ms t.shards
+  quiet_all ms have n table y there =
+      let (x, at, goes) = quiet.shards.each n y there in
+      let ws = mutations_of table (found_in n ms).entries in
+      λ more. subst (λ (ts : List TableSchema). HasInMemory (ts ++ more) table ws y) (sym quiet.tables) (goes.memory (s.tables ++ more) table ws (have n table x at more))
+
+  pub quiet_explains : During (SameUpTo s.last_file) d e → s.journal.first ≡ None → (h : History) (found : List Mutation) (told : Told) → LastsFor h found s d told
+      → (openings : ℕ → ShardOpening) → Explains openings h found s d told → Explains openings h found t e told
+  quiet_explains during going h found told lasts openings was =
+      explains_still openings h h found s t d e told (λ n. goes_nowhere (shard_at h n)) refl (ap accepted_in quiet.list)
+      (keep_files_below told s.last_file d e (lasts.keeps.lasts.goes going).none_failed lasts.behind.numbers during) quiet_all was
 
   pub quiet_remembers : Remember s.tables s.shards → Remember t.tables t.shards
   quiet_remembers have n table y there =

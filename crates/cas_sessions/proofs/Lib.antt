@@ -6,6 +6,8 @@ mod Behind
 mod Files
 mod Parts
 mod Remembering
+pub mod Numbered
+pub mod Explaining
 mod Moving
 pub mod Answering
 mod Performing
@@ -19,11 +21,17 @@ mod Alone
 pub mod Listing
 pub mod Going
 pub mod Next
+pub mod Changed
 mod FlushSteps
+mod FlushExplains
 mod FlushFiles
+mod TooMuch
+mod NothingMuch
+mod PartitionsFew
 mod FlushChange
 mod FlushShard
 mod FlushAll
 mod FlushMaking
 mod FlushSound
 mod Statuses
+mod Verdicts

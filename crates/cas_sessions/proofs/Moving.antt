@@ -29,7 +29,8 @@ use Rattle.cas_sessions.specs.declared.answer.Fault.{Fault}
 use Rattle.cas_sessions.specs.Calls.{reply_of}
 use Rattle.cas_recovery.specs.Restored.{Remember, Remembers}
 use Rattle.cas_recovery.proofs.Restoring.{one_remembers}
-use Rattle.cas_sessions.proofs.Remembering.{same_remembers}
+use Rattle.cas_sessions.proofs.Explaining.{explains_still, further_at, keep_files_none, raised_further}
+use Rattle.cas_sessions.proofs.Remembering.{all_still, each_remembers, same_just}
 use Rattle.cas_sessions.specs.History.{DiskState, History, ReadsAt, Shows, after_entries, after_read, after_write, rows_reply, shard_at, with_shard}
 use Rattle.cas_sessions.specs.Entered.{entries_in, entry_in}
 use Rattle.cas_sessions.specs.Nodes.{State, StandsFor, disk_of, files_of, Moves}
@@ -204,13 +205,18 @@ moves_look s d q x y reading reads r there number keeps more raises shows stores
         refl,
       ),
       record {
-        stands = stands_read h s (with_looked s q.shard y reads) q.shard x y reading [] stands there refl still (λ k. none_more q.shard k (entries_in k s.list)) (same_remembers s.tables x y stores) refl refl refl refl refl disk;
+        stands = stands_read h s (with_looked s q.shard y reads) q.shard x y reading [] stands there refl still (λ k. none_more q.shard k (entries_in k s.list)) (each_remembers s.tables x y (same_just s.tables x y stores)) refl refl refl refl refl disk;
         lasts = λ found told lasts. (
           told,
           lasts_still h (after_read h q.shard reading reads) found s (with_looked s q.shard y reads) d d told q.shard x y refl refl there refl number
               (λ l same c count keeps.
               subst (λ (ls : List (Item Event)). Keeps s.journal d ls c found told) (sym same) (subst (λ (k : ℕ). Keeps s.journal d s.list k found told) (sym count) keeps))
               refl refl refl refl refl (λ on. on) refl refl (files_still s.shards q.shard x y there keeps) lasts,
+          λ openings explained. explains_still openings h (after_read h q.shard reading reads) found s (with_looked s q.shard y reads) d d told
+              (further_at h q.shard (after_entries reading [] (shard_at h q.shard)) (subst (λ (k : ℕ). q.shard < k) (sym stands.count) (get_within s.shards q.shard x there))
+              (raised_further reading (shard_at h q.shard)))
+              (length_set h.shards q.shard (after_entries reading [] (shard_at h q.shard))) refl (keep_files_none told d)
+              (λ ms have. all_still s.tables s.shards q.shard x y ms there (same_just s.tables x y stores) have) explained,
         );
       },
     )

@@ -48,34 +48,35 @@ use Rattle.cas_recovery.proofs.Standing.{AreAlike, all_listed, own_file}
 use Rattle.cas_recovery.proofs.Within.{all_filtered}
 use Rattle.cas_room.specs.Rooms.{accepted_in}
 use Rattle.cas_sessions.specs.Listing.{ListsNone, SameListed}
-use Rattle.cas_sessions.specs.Next.{LeftExplains, only, with_more}
+use Rattle.cas_sessions.specs.Explained.{only, with_more}
+use Rattle.cas_sessions.specs.Next.{LeftExplains}
 use Rattle.cas_sessions.proofs.Listing.{entries_alone}
 use Rattle.cas_sessions.proofs.Parts.{no_more, said_few}
 
 -- ---- what is said by more entries
 
 -- the table got columns, none of the primary key, or is as it was
-record Widens (b t : TableSchema) : Type 0 where
-  number : t.number ≡ b.number
-  added : List Column
-  bare : AreAdded added
-  columns : t.columns ≡ b.columns ++ added
+pub record Widens (b t : TableSchema) : Type 0 where
+  pub number : t.number ≡ b.number
+  pub added : List Column
+  pub bare : AreAdded added
+  pub columns : t.columns ≡ b.columns ++ added
 
-abbrev IsOf : List TableSchema → ℕ → TableSchema → Type 0
+abbrev pub IsOf : List TableSchema → ℕ → TableSchema → Type 0
 IsOf tables table t = (length tables ≤ table) ⊎ ((b : TableSchema) × (slice_get tables table ≡ Some b) × Widens b t)
 
 -- the same is said of table files, and of more or wider tables
-record Grows (s u : Saying) : Type 0 where
-  shards : u.shards ≡ s.shards
-  parts : (table shard : ℕ) → part_of u table shard ≡ part_of s table shard
-  times : u.times ≡ s.times
-  more : length s.tables ≤ length u.tables
-  tables : (table : ℕ) (t : TableSchema) → slice_get u.tables table ≡ Some t → IsOf s.tables table t
+pub record Grows (s u : Saying) : Type 0 where
+  pub shards : u.shards ≡ s.shards
+  pub parts : (table shard : ℕ) → part_of u table shard ≡ part_of s table shard
+  pub times : u.times ≡ s.times
+  pub more : length s.tables ≤ length u.tables
+  pub tables : (table : ℕ) (t : TableSchema) → slice_get u.tables table ≡ Some t → IsOf s.tables table t
 
-same_table : (t : TableSchema) → Widens t t
+pub same_table : (t : TableSchema) → Widens t t
 same_table t = record { number = refl; added = []; bare = tt; columns = sym (append-nil t.columns) }
 
-all_both : {A : Type 0} (P : A → Type 0) (xs ys : List A) → AllByRecursion P xs → AllByRecursion P ys → AllByRecursion P (xs ++ ys)
+pub all_both : {A : Type 0} (P : A → Type 0) (xs ys : List A) → AllByRecursion P xs → AllByRecursion P ys → AllByRecursion P (xs ++ ys)
 all_both P [] ys one two = two
 all_both P (x ∷ xs) ys one two = (one.0, all_both P xs ys one.1 two)
 
@@ -87,7 +88,7 @@ wider_still a b t one two = record {
   columns = two.columns ∙ ap (λ l. l ++ two.added) one.columns ∙ append_assoc a.columns one.added two.added;
 }
 
-grows_none : (s : Saying) → Grows s s
+pub grows_none : (s : Saying) → Grows s s
 grows_none s = record { shards = refl; parts = λ table shard. refl; times = refl; more = omega arith; tables = λ table t there. inr (t, there, same_table t) }
 
 grows_more : (s u v : Saying) → Grows s u → Grows u v → Grows s v
@@ -131,7 +132,7 @@ wider_by : (table : ℕ) (columns : List Column) (b : TableSchema) → AreAdded 
 wider_by table columns b bare true = record { number = refl; added = columns; bare = bare; columns = refl }
 wider_by table columns b bare false = same_table b
 
-grows_after : (s : Saying) (e : Entry) → ListsNone e → FitsEntry s e → Grows s (after s e)
+pub grows_after : (s : Saying) (e : Entry) → ListsNone e → FitsEntry s e → Grows s (after s e)
 grows_after s (entry.Store shards) none fits = absurd none
 grows_after s (entry.DropSegment n) none fits = absurd none
 grows_after s (entry.Change c) none fits = absurd none
@@ -186,7 +187,7 @@ module _ (s : Saying) (mutations more : List Mutation) (folder : Disk) (n : ℕ)
 
 -- ---- in an image that has the same files
 
-wider_contents : (b t : TableSchema) (shard : ℕ) (c d : Image) (infos : List TableInfo) (wss : List (List Mutation)) → Widens b t → AreAlike c d infos
+pub wider_contents : (b t : TableSchema) (shard : ℕ) (c d : Image) (infos : List TableInfo) (wss : List (List Mutation)) → Widens b t → AreAlike c d infos
     → StandInFiles b shard c infos wss → StandInFiles t shard d infos wss
 wider_contents b t shard c d [] [] widens alike stand = tt
 wider_contents b t shard c d [] (ws ∷ wss) widens alike stand = absurd stand
@@ -230,7 +231,7 @@ same_greatest s u n grows zero = refl
 same_greatest s u n grows (suc k) =
     ap (λ j. max j (part_of u k n).frontier) (same_greatest s u n grows k) ∙ ap (λ (p : Part). max (greatest_frontier s n k) p.frontier) (grows.parts k n)
 
-upto : (a b : ℕ) → a ≤ suc b → (a ≤ b) ⊎ (a ≡ suc b)
+pub upto : (a b : ℕ) → a ≤ suc b → (a ≤ b) ⊎ (a ≡ suc b)
 upto zero b le = inl (omega arith)
 upto (suc a) zero le = inr (omega (arith, le))
 upto (suc a) (suc b) le = ⊎_elim (λ (l : a ≤ b). inl (omega (arith, l))) (λ (e : a ≡ suc b). inr (omega (arith, e))) (upto a b (omega (arith, le)))
@@ -253,10 +254,10 @@ module _ (s u : Saying) (grows : Grows s u) (few : length s.parts ≤ length s.t
   all_greatest : greatest_frontier u n (length u.tables) ≡ greatest_frontier s n (length s.tables)
   all_greatest = same_greatest s u n grows (length u.tables) ∙ none_greater s n few (length u.tables) grows.more
 
-  all_unflushed : unflushed_of u mutations ≡ unflushed_of s mutations
+  pub all_unflushed : unflushed_of u mutations ≡ unflushed_of s mutations
   all_unflushed = λ k. filter (λ m. nat_lt ((grows.parts m.table m.shard) k).frontier m.number) mutations
 
-  all_times : times_of u n ≡ times_of s n
+  pub all_times : times_of u n ≡ times_of s n
   all_times = ap (λ ts. unwrap_or (slice_get ts n) no_times) grows.times
 
   says_wider : IsOpening s mutations before n o → (table : ℕ) (t : TableSchema) → IsOf s.tables table t
@@ -284,7 +285,7 @@ module _ (s u : Saying) (grows : Grows s u) (few : length s.parts ≤ length s.t
         says = say_alike _ _ (none_found n table s.tables s.shards high (unflushed_of s mutations) empty_shard (all_filtered (FitsRecord s.tables s.shards) (is_above s) mutations fit) refl ∙ sym (is.no_others table high));
       })
 
-  opening_wider : IsOpening s mutations before n o → IsOpening u mutations (only i) n o
+  pub opening_wider : IsOpening s mutations before n o → IsOpening u mutations (only i) n o
   opening_wider is = record {
     rise = is.rise;
     number = is.number ∙ ap (λ l. max (found_in n l).number (greatest_frontier s n (length s.tables))) (sym all_unflushed)
@@ -361,7 +362,7 @@ module _ (s : Saying) (mutations : List Mutation) (folder : Disk) (n : ℕ) (o :
     entries_on : (table : ℕ) (p : ShardOpening) → mutations_of table (restored m p).entries ≡ mutations_of table p.entries ++ mutations_of table (Wrote 0 0 m ∷ [])
     entries_on table p = flat_map-append (of_table table) p.entries (Wrote 0 0 m ∷ [])
 
-    opening_with : IsOpening s (mutations ++ m ∷ []) folder n (restored m o)
+    pub opening_with : IsOpening s (mutations ++ m ∷ []) folder n (restored m o)
     opening_with = record {
       rise = one_restored m o is.rise (omega (arith, is.rise.found, next));
       number = number_on ∙ ap (λ (p : ShardOpening). max p.number (greatest_frontier s n (length s.tables))) (sym found);
@@ -397,7 +398,7 @@ module _ (s : Saying) (mutations : List Mutation) (folder : Disk) (n : ℕ) (o :
     filtered true = one_more n (unflushed_of s mutations) m ∙ ap (λ (b : Bool). if b then restored m so_far else so_far) other
     filtered false = ap (found_in n) (append-nil (unflushed_of s mutations))
 
-    opening_without : IsOpening s (mutations ++ m ∷ []) folder n o
+    pub opening_without : IsOpening s (mutations ++ m ∷ []) folder n o
     opening_without =
         opening_as s mutations (mutations ++ m ∷ []) folder n o
         (ap (found_in n) (filter-append (is_above s) mutations (m ∷ [])) ∙ filtered (is_above s m))
@@ -432,7 +433,7 @@ segments_fit tables shards file (k ∷ ks) [] are = absurd are
 segments_fit tables shards file (k ∷ ks) (ms ∷ parts) are =
     all_both (FitsRecord tables shards) ms (joined parts) are.0.fit (segments_fit tables shards file ks parts are.1)
 
-behind_fit : {A : Type 0} (P : A → Type 0) (xs ys : List A) → AllByRecursion P (xs ++ ys) → AllByRecursion P ys
+pub behind_fit : {A : Type 0} (P : A → Type 0) (xs ys : List A) → AllByRecursion P (xs ++ ys) → AllByRecursion P ys
 behind_fit P [] ys all = all
 behind_fit P (x ∷ xs) ys all = behind_fit P xs ys all.1
 

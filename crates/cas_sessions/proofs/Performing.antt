@@ -16,7 +16,7 @@ use Rattle.cas_sessions.proofs.Answering.{says_spelled}
 
 -- nothing changes
 still : (h : History) (s : State) (d : Disk) → StandsFor h s → GoesOnTo h h s s d d
-still h s d stands = record { stands = stands; lasts = λ found told lasts. (told, lasts) }
+still h s d stands = record { stands = stands; lasts = λ found told lasts. (told, lasts, λ openings explained. explained) }
 
 -- ---- a text of which nothing is performed
 
@@ -25,6 +25,7 @@ refused_so defines Gives h line.Blank f is = (ap (λ (x : Fault). reply_of (Err 
 refused_so defines Gives h line.Syntax f is = (ap (λ (x : Fault). reply_of (Err x)) is, refl)
 refused_so defines Gives h (line.Clock n) f is = (ap (λ (x : Fault). reply_of (Err x)) is, refl)
 refused_so defines Gives h (line.Flush t) f is = (ap (λ (x : Fault). reply_of (Err x)) is, refl)
+refused_so defines Gives h (line.Verify t) f is = (ap (λ (x : Fault). reply_of (Err x)) is, refl)
 refused_so defines Gives h line.Status f is = (ap (λ (x : Fault). reply_of (Err x)) is, refl)
 refused_so defines Gives h (line.Statement x) f (other, is) =
     subst (λ b. IfTaken b (reply_of (Err f)) h h (Does clock.System Gives h (meaning h.limits.shards h.tables x) (reply_of (Err f)) h)) (sym other)
@@ -41,6 +42,7 @@ refused_truly defines line.Blank f s is = subst (λ (x : Fault). IsTrueOf (Err x
 refused_truly defines line.Syntax f s is = subst (λ (x : Fault). IsTrueOf (Err x) s s) (sym is) tt
 refused_truly defines (line.Clock n) f s is = subst (λ (x : Fault). IsTrueOf (Err x) s s) (sym is) tt
 refused_truly defines (line.Flush t) f s is = subst (λ (x : Fault). IsTrueOf (Err x) s s) (sym is) tt
+refused_truly defines (line.Verify t) f s is = subst (λ (x : Fault). IsTrueOf (Err x) s s) (sym is) tt
 refused_truly defines line.Status f s is = subst (λ (x : Fault). IsTrueOf (Err x) s s) (sym is) tt
 refused_truly defines (line.Statement x) f s (other, is) = subst (λ (x : Fault). IsTrueOf (Err x) s s) (sym is) tt
 

@@ -1,7 +1,8 @@
 -- What is in memory of a store, where its shards and its tables change.
-use Rattle.std.proofs.Common.{◌≡◌, ℕ, zero, suc, Bool, true, false, ◌==◌, List, [], ◌∷◌, ◌++◌, map, Some, refl, sym, ap, ◌∙◌, subst, append-nil, append_assoc}
+use Rattle.std.proofs.Common.{◌≡◌, ◌≢◌, ◌⊎◌, inl, inr, ℕ, zero, suc, Bool, true, false, ◌==◌, List, [], ◌∷◌, ◌++◌, map, Some, refl, sym, ap, ◌∙◌, subst, append-nil, append_assoc}
 use Rattle.std.proofs.Math.Logic.{∥∥₁_map}
 use Rattle.std.specs.Prelude.{if◌then◌else◌, slice_get, slice_set}
+use Rattle.std.proofs.lemmas.Grind.{flat_map-append}
 use Rattle.std.proofs.lemmas.Option.{same_Some}
 use Rattle.cas_types.specs.declared.schema.TableSchema.{TableSchema}
 use Rattle.cas_atoms.specs.declared.atom.Mutation.{Mutation}
@@ -15,68 +16,131 @@ use Rattle.cas_flushing.proofs.Tables.{added_columns_stay}
 use Rattle.cas_journal.proofs.Fitting.{NoKeys}
 use Rattle.cas_memtable.specs.Kept.{HoldJust}
 use Rattle.cas_shard.specs.Flushing.{HasInMemory, memtables_at, one_of}
-use Rattle.cas_shard.specs.Stands.{Belongs, IsReady, ShardState, Suits}
-use Rattle.cas_recovery.specs.Restored.{HaveMemory, Remember, Remembers}
+use Rattle.cas_shard.specs.declared.entry.Entry.TheVariants.{Wrote}
+use Rattle.cas_shard.specs.declared.entry.ShardOpening.{ShardOpening}
+use Rattle.cas_shard.specs.Shards.{restored}
+use Rattle.cas_shard.specs.Stands.{Belongs, IsReady, ShardState, Suits, mutations_of, of_table}
+use Rattle.cas_recovery.specs.Found.{found_in}
+use Rattle.cas_recovery.specs.Restored.{HaveMemory, Remember, RememberAll, Remembers, RemembersJust}
+use Rattle.cas_recovery.proofs.Founding.{one_more}
+use Rattle.cas_recovery.proofs.Places.{get_here, get_other, is_other, is_same, same_place}
 use Rattle.cas_recovery.proofs.Restoring.{get_first, one_has_memory}
 
 -- ---- a shard in another state
 
+-- where it has what it had, whatever that is, it has some again
+pub each_remembers : (ts : List TableSchema) (x y : ShardState) → ((table : ℕ) (ws : List Mutation) → RemembersJust ts table ws x → RemembersJust ts table ws y) → (table : ℕ)
+    → Remembers ts table x → Remembers ts table y
+each_remembers ts x y keeps table k = (k.0, keeps table k.0 k.1)
+
+-- the same with a mutation more
+pub each_with : (ts : List TableSchema) (x y : ShardState) (m : Mutation)
+    → ((table : ℕ) (ws : List Mutation) → RemembersJust ts table ws x → RemembersJust ts table (ws ++ one_of table m) y) → (table : ℕ) → Remembers ts table x → Remembers ts table y
+each_with ts x y m keeps table k = (k.0 ++ one_of table m, keeps table k.0 k.1)
+
 module _ (ts : List TableSchema) (x y : ShardState) where
   -- with the same memtables
-  pub same_remembers : y.stores ≡ x.stores → (table : ℕ) → Remembers ts table x → Remembers ts table y
-  same_remembers same table k = (k.0, λ more t at. subst (λ ps. HoldJust t.columns (memtables_at (slice_get ps table)) k.0) (sym same) (k.1 more t at))
+  pub same_just : y.stores ≡ x.stores → (table : ℕ) (ws : List Mutation) → RemembersJust ts table ws x → RemembersJust ts table ws y
+  same_just same table ws k = λ more t at. subst (λ ps. HoldJust t.columns (memtables_at (slice_get ps table)) ws) (sym same) (k more t at)
 
   -- prepared for a write
-  pub prepared_remembers : (w : BoundWrite) (shards : ℕ) → BoundFits shards ts (bound.Write w)
+  pub prepared_just : (w : BoundWrite) (shards : ℕ) → BoundFits shards ts (bound.Write w)
       → ((tables : List TableSchema) (count table : ℕ) (ws : List Mutation) → Suits tables count w → HasInMemory tables table ws x → HasInMemory tables table ws y)
-      → (table : ℕ) → Remembers ts table x → Remembers ts table y
-  prepared_remembers w shards fits keeps table k =
-      (k.0, λ more. keeps (ts ++ more) shards table k.0 (fits.0, get_first ts more w.table fits.0 fits.1, fits.2) (k.1 more))
+      → (table : ℕ) (ws : List Mutation) → RemembersJust ts table ws x → RemembersJust ts table ws y
+  prepared_just w shards fits keeps table ws k =
+      λ more. keeps (ts ++ more) shards table ws (fits.0, get_first ts more w.table fits.0 fits.1, fits.2) (k more)
 
   -- with the mutation of a write
-  pub entered_remembers : (w : BoundWrite) (m : Mutation) (segment shards : ℕ) → BoundFits shards ts (bound.Write w) → IsReady segment w m
+  pub entered_just : (w : BoundWrite) (m : Mutation) (segment shards : ℕ) → BoundFits shards ts (bound.Write w) → IsReady segment w m
       → ((tables : List TableSchema) (count table : ℕ) (ws : List Mutation) → Belongs tables count m → HasInMemory tables table ws x
       → HasInMemory tables table (ws ++ one_of table m) y)
-      → (table : ℕ) → Remembers ts table x → Remembers ts table y
-  entered_remembers w m segment shards fits ready keeps table k = (
-    k.0 ++ one_of table m,
-    λ more. keeps (ts ++ more) shards table k.0 (
-      fits.0,
-      get_first ts more m.table fits.0 (subst (λ (j : ℕ). slice_get ts j ≡ Some fits.0) (sym ready.table) fits.1),
-      ready.fits fits.0 shards fits.2,
-    ) (k.1 more),
-  )
+      → (table : ℕ) (ws : List Mutation) → RemembersJust ts table ws x → RemembersJust ts table (ws ++ one_of table m) y
+  entered_just w m segment shards fits ready keeps table ws k =
+      λ more. keeps (ts ++ more) shards table ws (
+        fits.0,
+        get_first ts more m.table fits.0 (subst (λ (j : ℕ). slice_get ts j ≡ Some fits.0) (sym ready.table) fits.1),
+        ready.fits fits.0 shards fits.2,
+      ) (k more)
 
 module _ (ts : List TableSchema) (xs : List ShardState) (n : ℕ) (x y : ShardState) (kept : HaveMemory ts xs) (there : slice_get xs n ≡ Some x) where
   pub same_stores : y.stores ≡ x.stores → HaveMemory ts (slice_set xs n y)
-  same_stores same = one_has_memory ts xs n x y kept there (same_remembers ts x y same)
+  same_stores same = one_has_memory ts xs n x y kept there (each_remembers ts x y (same_just ts x y same))
 
   pub memory_prepared : (w : BoundWrite) (shards : ℕ) → BoundFits shards ts (bound.Write w)
       → ((tables : List TableSchema) (count table : ℕ) (ws : List Mutation) → Suits tables count w → HasInMemory tables table ws x → HasInMemory tables table ws y)
       → HaveMemory ts (slice_set xs n y)
-  memory_prepared w shards fits keeps = one_has_memory ts xs n x y kept there (prepared_remembers ts x y w shards fits keeps)
+  memory_prepared w shards fits keeps = one_has_memory ts xs n x y kept there (each_remembers ts x y (prepared_just ts x y w shards fits keeps))
 
   pub memory_entered : (w : BoundWrite) (m : Mutation) (segment shards : ℕ) → BoundFits shards ts (bound.Write w) → IsReady segment w m
       → ((tables : List TableSchema) (count table : ℕ) (ws : List Mutation) → Belongs tables count m → HasInMemory tables table ws x
       → HasInMemory tables table (ws ++ one_of table m) y)
       → HaveMemory ts (slice_set xs n y)
-  memory_entered w m segment shards fits ready keeps = one_has_memory ts xs n x y kept there (entered_remembers ts x y w m segment shards fits ready keeps)
+  memory_entered w m segment shards fits ready keeps = one_has_memory ts xs n x y kept there (each_with ts x y m (entered_just ts x y w m segment shards fits ready keeps))
 
 -- what is remembered within a truncation too
 pub have_memory : (ts : List TableSchema) (xs : List ShardState) → Remember ts xs → HaveMemory ts xs
 have_memory ts xs kept n table x there = ∣ kept n table x there ∣₁
 
+-- ---- just what the log has
+
+-- of a shard that is another, which has what it had
+pub all_still : (ts : List TableSchema) (xs : List ShardState) (n : ℕ) (x y : ShardState) (ms : List Mutation) → slice_get xs n ≡ Some x
+    → ((table : ℕ) (ws : List Mutation) → RemembersJust ts table ws x → RemembersJust ts table ws y) → RememberAll ts ms xs → RememberAll ts ms (slice_set xs n y)
+all_still ts xs n x y ms there keeps have k table z got = by (same_place k n)
+  where
+    by : (k ≡ n) ⊎ (k ≢ n) → RemembersJust ts table (mutations_of table (found_in k ms).entries) z
+    by (inl here) =
+        let at_k : slice_get (slice_set xs n y) k ≡ Some y = ap (λ (j : ℕ). slice_get (slice_set xs n y) j) here ∙ get_here xs n x y there in
+        let same : y ≡ z = same_Some y z (sym at_k ∙ got) in
+        subst (λ (w : ShardState). RemembersJust ts table (mutations_of table (found_in k ms).entries) w) same
+        (subst (λ (j : ℕ). RemembersJust ts table (mutations_of table (found_in j ms).entries) y) (sym here) (keeps table (mutations_of table (found_in n ms).entries) (have n table x there)))
+    by (inr other) = have k table z (sym (get_other xs n k y other) ∙ got)
+
+-- and which has a mutation more, as the log has
+pub all_entered : (ts : List TableSchema) (xs : List ShardState) (n : ℕ) (x y : ShardState) (ms : List Mutation) (m : Mutation) → slice_get xs n ≡ Some x → m.shard ≡ n
+    → ((table : ℕ) (ws : List Mutation) → RemembersJust ts table ws x → RemembersJust ts table (ws ++ one_of table m) y) → RememberAll ts ms xs
+    → RememberAll ts (ms ++ m ∷ []) (slice_set xs n y)
+all_entered ts xs n x y ms m there of_it keeps have k table z got = by (same_place k n)
+  where
+    more : (b : Bool) → (m.shard == k) ≡ b → mutations_of table (found_in k (ms ++ m ∷ [])).entries
+        ≡ mutations_of table (found_in k ms).entries ++ (if b then one_of table m else [])
+    more true is =
+        ap (λ (o : ShardOpening). mutations_of table o.entries) (one_more k ms m ∙ ap (λ (c : Bool). if c then restored m (found_in k ms) else found_in k ms) is)
+        ∙ flat_map-append (of_table table) (found_in k ms).entries (Wrote 0 0 m ∷ []) ∙ ap (λ l. mutations_of table (found_in k ms).entries ++ l) (append-nil (one_of table m))
+    more false is =
+        ap (λ (o : ShardOpening). mutations_of table o.entries) (one_more k ms m ∙ ap (λ (c : Bool). if c then restored m (found_in k ms) else found_in k ms) is)
+        ∙ sym (append-nil (mutations_of table (found_in k ms).entries))
+
+    by : (k ≡ n) ⊎ (k ≢ n) → RemembersJust ts table (mutations_of table (found_in k (ms ++ m ∷ [])).entries) z
+    by (inl here) =
+        let at_k : slice_get (slice_set xs n y) k ≡ Some y = ap (λ (j : ℕ). slice_get (slice_set xs n y) j) here ∙ get_here xs n x y there in
+        let same : y ≡ z = same_Some y z (sym at_k ∙ got) in
+        let is : (m.shard == k) ≡ true = ap (λ j. m.shard == j) (here ∙ sym of_it) ∙ is_same m.shard in
+        subst (λ ws. RemembersJust ts table ws z) (sym (more true is))
+        (subst (λ (w : ShardState). RemembersJust ts table (mutations_of table (found_in k ms).entries ++ one_of table m) w) same
+        (subst (λ (j : ℕ). RemembersJust ts table (mutations_of table (found_in j ms).entries ++ one_of table m) y) (sym here)
+        (keeps table (mutations_of table (found_in n ms).entries) (have n table x there))))
+    by (inr other) =
+        subst (λ ws. RemembersJust ts table ws z) (sym (more false (is_other m.shard k (λ e. other (e ∙ of_it))) ∙ append-nil (mutations_of table (found_in k ms).entries)))
+        (have k table z (sym (get_other xs n k y other) ∙ got))
+
+-- some are just those
+pub some_of_all : (ts : List TableSchema) (xs : List ShardState) (ms : List Mutation) → RememberAll ts ms xs → Remember ts xs
+some_of_all ts xs ms have n table x there = (mutations_of table (found_in n ms).entries, have n table x there)
+
 -- ---- other tables
 
-created_remembers : (ts : List TableSchema) (t : TableSchema) (table : ℕ) (x : ShardState) → Remembers ts table x → Remembers (ts ++ t ∷ []) table x
-created_remembers ts t table x k =
-    (k.0, λ more. subst (λ (us : List TableSchema). HasInMemory us table k.0 x) (sym (append_assoc ts (t ∷ []) more)) (k.1 (t ∷ more)))
+created_just : (ts : List TableSchema) (t : TableSchema) (table : ℕ) (ws : List Mutation) (x : ShardState) → RemembersJust ts table ws x → RemembersJust (ts ++ t ∷ []) table ws x
+created_just ts t table ws x k = λ more. subst (λ (us : List TableSchema). HasInMemory us table ws x) (sym (append_assoc ts (t ∷ []) more)) (k (t ∷ more))
 
 pub remember_created : (ts : List TableSchema) (xs : List ShardState) (t : TableSchema) → Remember ts xs → Remember (ts ++ t ∷ []) xs
-remember_created ts xs t kept n table x there = created_remembers ts t table x (kept n table x there)
+remember_created ts xs t kept n table x there = let k = kept n table x there in (k.0, created_just ts t table k.0 x k.1)
+
+pub all_created : (ts : List TableSchema) (xs : List ShardState) (t : TableSchema) (ms : List Mutation) → RememberAll ts ms xs → RememberAll (ts ++ t ∷ []) ms xs
+all_created ts xs t ms have n table x there = created_just ts t table (mutations_of table (found_in n ms).entries) x (have n table x there)
 
 pub memory_created : (ts : List TableSchema) (xs : List ShardState) (t : TableSchema) → HaveMemory ts xs → HaveMemory (ts ++ t ∷ []) xs
-memory_created ts xs t kept n table x there = ∥∥₁_map (kept n table x there) (created_remembers ts t table x)
+memory_created ts xs t kept n table x there = ∥∥₁_map (kept n table x there) (λ k. (k.0, created_just ts t table k.0 x k.1))
 
 module _ (a : Addition) (bare : NoKeys a.columns) where
   one_widened : (u t : TableSchema) (b : Bool) → (if b then record u { columns = u.columns ++ a.columns } else u) ≡ t → IsWidened (Some u) t
@@ -88,12 +152,14 @@ module _ (a : Addition) (bare : NoKeys a.columns) where
   widened (u ∷ ts) more zero t is = one_widened u t (u.number == a.table) (same_Some (with_added a u) t is)
   widened (u ∷ ts) more (suc n) t is = widened ts more n t is
 
-  altered_remembers : (ts : List TableSchema) (table : ℕ) (x : ShardState) → Remembers ts table x → Remembers (map (with_added a) ts) table x
-  altered_remembers ts table x k =
-      (k.0, λ more. added_columns_stay (ts ++ more) (map (with_added a) ts ++ more) table k.0 x (λ t is. widened ts more table t is) (k.1 more))
+  altered_just : (ts : List TableSchema) (table : ℕ) (ws : List Mutation) (x : ShardState) → RemembersJust ts table ws x → RemembersJust (map (with_added a) ts) table ws x
+  altered_just ts table ws x k = λ more. added_columns_stay (ts ++ more) (map (with_added a) ts ++ more) table ws x (λ t is. widened ts more table t is) (k more)
 
   pub remember_altered : (ts : List TableSchema) (xs : List ShardState) → Remember ts xs → Remember (map (with_added a) ts) xs
-  remember_altered ts xs kept n table x there = altered_remembers ts table x (kept n table x there)
+  remember_altered ts xs kept n table x there = let k = kept n table x there in (k.0, altered_just ts table k.0 x k.1)
+
+  pub all_altered : (ts : List TableSchema) (xs : List ShardState) (ms : List Mutation) → RememberAll ts ms xs → RememberAll (map (with_added a) ts) ms xs
+  all_altered ts xs ms have n table x there = altered_just ts table (mutations_of table (found_in n ms).entries) x (have n table x there)
 
   pub memory_altered : (ts : List TableSchema) (xs : List ShardState) → HaveMemory ts xs → HaveMemory (map (with_added a) ts) xs
-  memory_altered ts xs kept n table x there = ∥∥₁_map (kept n table x there) (altered_remembers ts table x)
+  memory_altered ts xs kept n table x there = ∥∥₁_map (kept n table x there) (λ k. (k.0, altered_just ts table k.0 x k.1))

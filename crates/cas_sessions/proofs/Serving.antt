@@ -1,6 +1,8 @@
 -- A run over a store that was opened, from its beginning to what a crash leaves of it.
-use Rattle.std.proofs.Common.{◌≡◌, ◌<◌, ◌≤◌, ◌+◌, ℕ, zero, suc, pos, inl, inr, false, List, [], ◌∷◌, ◌++◌, length, map, Option, Some, None, is_some, refl, sym, ap, ◌∙◌, subst, arith, append-nil}
-use Rattle.std.specs.Prelude.{◌⊎◌, slice_get, slice_index_or}
+use Rattle.std.proofs.Common.{◌≡◌, ◌<◌, ◌≤◌, ◌+◌, ◌-◌, ℕ, ℤ, zero, suc, pos, inl, inr, false, List, [], ◌∷◌, ◌++◌, length, map, Option, Some, None, is_some, refl, sym, ap, ◌∙◌, subst, arith, append-nil, length-append, take}
+use Rattle.std.specs.Prelude.{◌⊎◌, ◌≤ℤ◌, slice_get, slice_index_or}
+use Rattle.std.specs.Int.{int_max}
+use Rattle.std.proofs.lemmas.Int.{clamps, ints}
 use Rattle.std.proofs.lemmas.Bool.{cases_lt}
 use Rattle.cas_disk.specs.Disk.{Disk, Image}
 use Rattle.cas_gates.specs.declared.first.First.{First}
@@ -8,12 +10,14 @@ use Rattle.cas_history.specs.Hands.{numbers}
 use Rattle.cas_atoms.specs.declared.atom.Mutation.{Mutation}
 use Rattle.cas_bind.specs.declared.bound.Limits.{Limits}
 use Rattle.cas_types.specs.declared.schema.TableSchema.{TableSchema}
-use Rattle.cas_changes.specs.Saying.{part_of, said_by}
+use Rattle.cas_changes.specs.Saying.{Saying, part_of, said_by}
 use Rattle.cas_changes.specs.declared.entry.Entry.{Entry as ManifestEntry}
 use Rattle.cas_changes.specs.declared.said.Part.{Part}
 use Rattle.cas_history.specs.declared.item.Item.{Item}
 use Rattle.cas_journal.specs.Journals.{Lasts}
-use Rattle.cas_journal.specs.Stores.{Told, MayList}
+use Rattle.cas_journal.proofs.Holding.{whole_store}
+use Rattle.cas_journal.specs.Stores.{Holds, IsStore, MayList, Told}
+use Rattle.cas_opening.specs.Opening.{IsOfBytes}
 use Rattle.cas_journal.specs.declared.journal.Journal.{Journal}
 use Rattle.cas_replay.specs.Grammar.{AreInOrder, AscendByOne, numbers_of}
 use Rattle.cas_room.specs.Keeping.{StandsFor as ImageStands}
@@ -26,15 +30,21 @@ use Rattle.cas_shard.specs.declared.entry.ShardOpening.{ShardOpening}
 use Rattle.cas_shard.specs.Shards.{ShardHistory, found_shard, empty_shard}
 use Rattle.cas_shard.specs.Stands.{ShardState, Stands, files_at}
 use Rattle.cas_sessions.specs.History.{History, changes_told, shard_at}
-use Rattle.cas_sessions.specs.Starts.{start, AreItsFiles, BeginsAs, IsInMemory, IsStarted}
+use Rattle.cas_sessions.specs.Explained.{IsNotAhead, OpensIn, as_told, only, with_more}
+use Rattle.cas_sessions.specs.Next.{IsExplained}
+use Rattle.cas_sessions.specs.Starts.{AreExplained, AreItsFiles, BeginsAs, IsInMemory, IsStarted, start}
 use Rattle.cas_sessions.specs.Entered.{HasTables, IsLeft, ListFiles, entries_in}
-use Rattle.cas_recovery.specs.Openings.{AreOpenings, MayHaveBeen}
+use Rattle.cas_shard.proofs.Numbers.{drawn_of_none, last_of_none}
+use Rattle.cas_recovery.specs.Openings.{AreOpenings, IsOpening, MayHaveBeen, times_of, unflushed_of}
 use Rattle.cas_recovery.specs.Recovered.{IsRecovered}
 use Rattle.cas_recovery.specs.Restored.{IsTold}
-use Rattle.cas_sessions.specs.Nodes.{State, StandsFor, LastsFor, disk_of, files_in, files_of}
+use Rattle.cas_sessions.specs.Nodes.{Explains, State, StandsFor, LastsFor, disk_of, files_in, files_of}
 use Rattle.cas_recovery.proofs.Explained.{opened_goes_on}
 use Rattle.cas_recovery.proofs.Places.{get_within}
 use Rattle.cas_sessions.proofs.Behind.{behind_said}
+use Rattle.cas_sessions.proofs.Crashing.{front_is}
+use Rattle.cas_sessions.proofs.Explaining.{explains_named}
+use Rattle.cas_sessions.proofs.Remembering.{some_of_all}
 use Rattle.cas_sessions.proofs.Files.{list_said, told_named}
 use Rattle.cas_sessions.proofs.Parts.{no_more, said_few, there_at}
 
@@ -113,6 +123,7 @@ module _ (given limits : Limits) (tables : List TableSchema) (shards : List Shar
     next = λ n x there.
         opened_goes_on is.entries is.mutations is.found.of_a_store.log old n (openings n) (low n x there) (may n x there) tables x (is.stands n x (openings n) there (may n x there));
     behind = is.behind;
+    last_is = is.last_is;
     files = just_listed;
     memory = is.memory;
   }
@@ -155,7 +166,7 @@ module _ (given : Limits) (entries : List ManifestEntry) (mutations : List Mutat
     entered = λ n lt.
         ap (λ (q : ShardHistory). q.entries) (at n (subst (λ (k : ℕ). n < k) (many_mapped _ (numbers 0 count) ∙ many_numbers 0 count) lt))
         ∙ ap (entries_in n) (sym list);
-    memory = memory.memory;
+    memory = some_of_all s.tables s.shards (unflushed_of (said_by entries) mutations) memory.memory;
   }
 
   first_lasts : (d : Disk) (t : Told) → IsTold entries mutations t → Lasts s.journal d t → s.committed ≡ 0
@@ -186,6 +197,53 @@ module _ (given : Limits) (entries : List ManifestEntry) (mutations : List Mutat
       none : (n : ℕ) → length (accepted_in s.list) ≤ n
       none n = subst (λ (l : List (Item Event)). length (accepted_in l) ≤ n) (sym list) (omega arith)
 
+  abbrev first_history : History
+  first_history = start given entries openings s.session (disk_of s)
+
+  abbrev alone : Told → Told
+  alone t = record t { entries = entries; failed = []; taken = mutations }
+
+  -- what a crash may leave explains it
+  first_explains : (d : Disk) (t : Told) → IsTold entries mutations t → AreExplained entries mutations openings d
+      → Explains openings (start given entries openings s.session (disk_of s)) mutations s d t
+  unfolding start
+  first_explains d t told explained =
+      explains_named openings first_history mutations s d (alone t) t told.begun.0 told.begun.1 (inl told.failed) told.taken (λ i leaves. omega arith) (record {
+        behind = λ n low.
+            let lt : n < count = subst (λ (k : ℕ). n < k) (many_mapped _ (numbers 0 count) ∙ many_numbers 0 count) low in
+            subst (λ ms. IsNotAhead (shard_at first_history n) (with_more n ms (openings n))) (sym nothing)
+            (subst (λ (q : ShardHistory). IsNotAhead q (openings n)) (sym (at n lt)) (record {
+              number = sym (last_of_none (openings n).number);
+              drawn = subst (λ (at : ℤ). (openings n).drawn ≤ℤ at) (sym (drawn_of_none (openings n).drawn)) (omega (arith, ints));
+              moment = omega (arith, ints);
+            }));
+        opens = λ i leaves es may many least most n low.
+            let none : take many (accepted_in s.list) ≡ [] = take_none many (accepted_in s.list) nothing in
+            subst (λ ms. OpensIn mutations ms es i n (openings n)) (sym none)
+            (subst (λ l. OpensIn mutations [] l i n (openings n)) (sym (only_entries es may))
+            (as_it_is (said_by entries) n i (openings n) (explained i leaves n (subst (λ l. n < (said_by l).shards) (only_entries es may) low))));
+        memory = memory.memory;
+      })
+    where
+      nothing : accepted_in s.list ≡ []
+      nothing = ap accepted_in list
+
+      take_none : (k : ℕ) (ms : List Mutation) → ms ≡ [] → take k ms ≡ []
+      take_none zero ms e = refl
+      take_none (suc k) [] e = refl
+      take_none (suc k) (m ∷ ms) e = absurd cc
+
+      only_entries : (es : List ManifestEntry) → MayList (alone t) es → es ≡ entries
+      only_entries es (inl same) = same
+      only_entries es (inr more) = more ∙ append-nil entries
+
+      as_it_is : (q : Saying) (n : ℕ) (i : Image) (o : ShardOpening) → IsOpening q mutations (only i) n o → IsOpening q (mutations ++ []) (only i) n (as_told q n o)
+      as_it_is q n i o is =
+          let drawn : int_max o.drawn (times_of q n).drawn ≡ o.drawn = omega (arith, ints, clamps, is.drawn) in
+          let moment : int_max o.moment (times_of q n).moment ≡ o.moment = omega (arith, ints, clamps, is.moment) in
+          subst (λ ms. IsOpening q ms (only i) n (as_told q n o)) (sym (append-nil mutations))
+          (subst (λ (p : ShardOpening). IsOpening q mutations (only i) n p) (sym (λ j. record o { drawn = drawn j; moment = moment j })) is)
+
 -- the store stands for the history that begins with whatever its shards were
 pub begins : (given : Limits) (entries : List ManifestEntry) (mutations : List Mutation) (openings : ℕ → ShardOpening) (s : State) (d : Disk)
     → IsInMemory given entries mutations openings s.limits s.tables s.shards s.last_file s.live → s.clock ≡ pos 0 → s.list ≡ [] → s.calls ≡ 0 → s.committed ≡ 0
@@ -193,6 +251,8 @@ pub begins : (given : Limits) (entries : List ManifestEntry) (mutations : List M
 begins given entries mutations openings s d memory clock list calls committed = record {
   stands = first_stands given entries mutations openings s memory clock list calls;
   lasts = λ t told lasts. first_lasts given entries mutations openings s memory clock list calls d t told lasts committed;
+  explains = λ t told explained. first_explains given entries mutations openings s memory clock list calls d t told explained;
+  counts = (memory.last_is, sym memory.behind.listed);
 }
 
 -- ---- what a crash leaves
@@ -240,3 +300,29 @@ module _ (final : History) (mutations : List Mutation) (s : State) (d : Disk) (t
     all = λ on. let whole = lasts.whole (ap (λ disk. disk.stopped) (sym stands.disk) ∙ on) in omega (arith, whole, image.least, image.most);
     store = image.store;
   }
+
+  -- what was told to the journal, in an image, in the words of the history
+  image_stands : (i : Image) → (holds : Holds t i) → ImageStands (MayList t) mutations (accepted_in s.list) s.committed i
+  image_stands i holds = record {
+    entries = holds.entries;
+    may = holds.listed;
+    count = holds.count - length mutations;
+    least = omega (arith, lasts.keeps.committed, holds.least);
+    most = omega (arith, lasts.keeps.committed, holds.least, holds.most, ap length lasts.keeps.all, length-append mutations (accepted_in s.list));
+    store =
+        subst (λ (ms : List Mutation). IsStore holds.entries ms i)
+        (front_is mutations (accepted_in s.list) t.taken [] holds.count (append-nil t.taken ∙ lasts.keeps.all) (omega (arith, lasts.keeps.committed, holds.least)) holds.most)
+        (whole_store t i lasts.keeps.whole holds);
+  }
+
+  -- it explains the history to the next run
+  pub is_explained : (openings : ℕ → ShardOpening) → Explains openings final mutations s d t → (i : Image) → d.may_leave i → IsOfBytes i → IsExplained mutations s.list final openings i
+  unfolding is_left image_stands
+  is_explained openings explains i leaves bytes =
+      let holds = lasts.keeps.lasts.holds i leaves in
+      let least : t.committed ≤ length mutations + (holds.count - length mutations) = omega (arith, lasts.keeps.committed, holds.least) in
+      let image = image_stands i holds in
+      record {
+        left = is_left i image;
+        next = λ n low. inl ((i, (λ k. refl), bytes), explains.opens i leaves holds.entries holds.listed (holds.count - length mutations) least image.most n low);
+      }

@@ -1,5 +1,5 @@
 -- A store after a definition.
-use Rattle.std.proofs.Common.{◌≡◌, ◌<◌, ◌≤◌, ◌+◌, ◌^◌, ◌==◌, ℕ, zero, suc, Bool, true, false, List, [], ◌∷◌, ◌++◌, length, map, Option, Some, None, Result, Ok, Err, is_some, refl, sym, ap, ◌∙◌, subst, arith, length-append}
+use Rattle.std.proofs.Common.{◌≡◌, ◌⊎◌, append-nil, inl, inr, ◌<◌, ◌≤◌, ◌+◌, ◌^◌, ◌==◌, ℕ, zero, suc, Bool, true, false, List, [], ◌∷◌, ◌++◌, length, map, Option, Some, None, Result, Ok, Err, is_some, refl, sym, ap, ◌∙◌, subst, arith, length-append}
 use Rattle.std.specs.Prelude.{slice_get, slice_set, if◌then◌else◌}
 use Rattle.std.proofs.lemmas.Bool.Decides.{nat_tests}
 use Rattle.std.proofs.lemmas.Option.{same_Some}
@@ -19,14 +19,14 @@ use Rattle.cas_journal.specs.Reach.{Reach, GoesOn, HasNoPlace, reach_of}
 use Rattle.cas_journal.specs.declared.fault.Counted.{Counted}
 use Rattle.cas_journal.specs.declared.fault.JournalFault.{JournalFault}
 use Rattle.cas_journal.specs.declared.fault.JournalFault.TheVariants.{TooLarge, TooMany, Stopped, Failed, Mem}
-use Rattle.cas_journal.specs.Stores.{appended}
+use Rattle.cas_journal.specs.Stores.{MayList, SameTables, appended, failed_at}
 use Rattle.cas_manifest.proofs.Appends.{said_more}
 use Rattle.cas_manifest.specs.Manifests.{room_of}
 use Rattle.cas_render.specs.declared.reply.Failure.TheVariants as failure
 use Rattle.cas_render.specs.declared.reply.Reply.{Reply}
 use Rattle.cas_render.specs.declared.reply.Reply.TheVariants as reply
 use Rattle.define_laws.specs.Entries.{MayTell}
-use Rattle.cas_disk.specs.Disk.{Disk}
+use Rattle.cas_disk.specs.Disk.{Disk, During}
 use Rattle.cas_atoms.specs.declared.atom.Mutation.{Mutation}
 use Rattle.cas_bind.specs.Tables.{AreInPlace, tables_after, with_added}
 use Rattle.cas_changes.specs.Saying.{Saying, said_by, nothing, after}
@@ -38,16 +38,20 @@ use Rattle.cas_journal.proofs.Fitting.{NoKeys, no_keys, same_order}
 use Rattle.cas_room.specs.declared.event.Event.{Event}
 use Rattle.cas_room.specs.Keeping.{Keeps}
 use Rattle.cas_room.specs.Rooms.{accepted_in}
+use Rattle.cas_shard.specs.declared.entry.ShardOpening.{ShardOpening}
 use Rattle.cas_shard.specs.Shards.{ShardHistory}
 use Rattle.cas_shard.specs.Stands.{ShardState, Stands, order_at, order_of}
 use Rattle.cas_shard.proofs.Standing.{stands_under}
 use Rattle.cas_sessions.specs.History.{Changes, Defines, History, DiskState, changes_told, shard_at}
 use Rattle.cas_sessions.specs.Inner.Definitions.{MayBeTold}
-use Rattle.cas_sessions.specs.Nodes.{State, StandsFor, LastsFor, disk_of, files_in, Moves}
+use Rattle.cas_sessions.specs.Listing.{ListsNone}
+use Rattle.cas_sessions.specs.Nodes.{Explains, State, StandsFor, LastsFor, disk_of, files_in, Moves}
 use Rattle.cas_sessions.specs.Inner.Faults.{reply_for}
-use Rattle.cas_recovery.specs.Restored.{IsBehind, Remember}
+use Rattle.cas_recovery.specs.Restored.{IsBehind, Remember, RememberAll}
 use Rattle.cas_sessions.proofs.Behind.{behind_defined, still_behind}
+use Rattle.cas_sessions.proofs.Explaining.{explains_still, explains_wider, goes_nowhere as goes_further, keep_files, keep_files_none}
 use Rattle.cas_sessions.proofs.Files.{Files, list_defined, list_same, told_defined}
+use Rattle.cas_sessions.proofs.Parts.{said_few}
 
 -- ---- a shard under more tables
 
@@ -206,13 +210,14 @@ goes_before (Some first) kept before now result ends on = absurd (not_on (ap is_
     not_on e = cc
 
 module _ (x : ManifestEntry) (old new tables : List TableSchema) (kept : Option First) (before now : ℕ) (r q : Reach) (are : tables ≡ old)
-    (short : length (entry_bytes x) < 2 ^ 32) (le : before ≤ now) (same : q ≡ r) (fs gs : Files) (reads reads_now : ℕ) (files : (gs ≡ fs) × (reads_now ≡ reads)) where
+    (short : length (entry_bytes x) < 2 ^ 32) (le : before ≤ now) (same : q ≡ r) (fs gs : Files) (reads reads_now last last_now live live_now : ℕ)
+    (files : (gs ≡ fs) × (reads_now ≡ reads) × (last_now ≡ last) × (live_now ≡ live)) where
   -- how the disk stands before and after it
   abbrev stood : Option First → DiskState
-  stood first = record { stopped = is_some first; faults = before; reach = r; files = fs; reads = reads }
+  stood first = record { stopped = is_some first; faults = before; reach = r; files = fs; reads = reads; last_file = last; live = live }
 
   abbrev stands_now : DiskState
-  stands_now = record { stopped = is_some kept; faults = now; reach = q; files = gs; reads = reads_now }
+  stands_now = record { stopped = is_some kept; faults = now; reach = q; files = gs; reads = reads_now; last_file = last_now; live = live_now }
 
   pub defines_not : (first : Option First) (fault : JournalFault) → Ends {T = Unit {0}} first kept before now (Err fault)
       → ((what : Counted) (most : ℕ) → fault ≡ TooMany what most → HasNoPlace x r)
@@ -240,14 +245,14 @@ module _ (x : ManifestEntry) (old new tables : List TableSchema) (kept : Option 
   defines_not (Some f) Failed ends full = absurd (cc ends.0)
   defines_not (Some f) Mem ends full = absurd (cc ends.0)
 
-pub defines_done : {T : Type 0} (x : ManifestEntry) (old new tables : List TableSchema) (first kept : Option First) (before now : ℕ) (r q : Reach) (fs gs : Files) (reads reads_now : ℕ)
+pub defines_done : {T : Type 0} (x : ManifestEntry) (old new tables : List TableSchema) (first kept : Option First) (before now : ℕ) (r q : Reach) (fs gs : Files) (reads reads_now last last_now live live_now : ℕ)
     (given : T) → tables ≡ new → Ends first kept before now (Ok given) → before ≤ now → q ≡ record { segment = r.segment; manifest = r.manifest + room_of x }
-    → (gs ≡ fs) × (reads_now ≡ reads)
-    → Defines x old new (record { stopped = is_some first; faults = before; reach = r; files = fs; reads = reads }) reply.Done tables
-    (record { stopped = is_some kept; faults = now; reach = q; files = gs; reads = reads_now })
-defines_done x old new tables None kept before now r q fs gs reads reads_now given are ends le same files =
+    → (gs ≡ fs) × (reads_now ≡ reads) × (last_now ≡ last) × (live_now ≡ live)
+    → Defines x old new (record { stopped = is_some first; faults = before; reach = r; files = fs; reads = reads; last_file = last; live = live }) reply.Done tables
+    (record { stopped = is_some kept; faults = now; reach = q; files = gs; reads = reads_now; last_file = last_now; live = live_now })
+defines_done x old new tables None kept before now r q fs gs reads reads_now last last_now live live_now given are ends le same files =
     (are, refl, record { stopped = ap is_some ends; faults = le; reach = same; files = files })
-defines_done x old new tables (Some f) kept before now r q fs gs reads reads_now given are ends le same files = absurd (cc ends.0)
+defines_done x old new tables (Some f) kept before now r q fs gs reads reads_now last last_now live live_now given are ends le same files = absurd (cc ends.0)
 
 -- ---- what is said after it
 
@@ -272,6 +277,28 @@ said_still (Stopped first) x told few = record { entries = refl; taken = refl; f
 said_still Failed x told few = record { entries = refl; taken = refl; few = omega arith }
 said_still Mem x told few = record { entries = refl; taken = refl; few = few }
 
+lists_none : (x : ManifestEntry) → IsDefinition x → ListsNone x
+lists_none (entry.Schema t) is = tt
+lists_none (entry.AddColumns table columns) is = tt
+lists_none (entry.Store shards) is = absurd is
+lists_none (entry.NewSegment n) is = absurd is
+lists_none (entry.DropSegment n) is = absurd is
+lists_none (entry.Change c) is = absurd is
+
+-- nothing had failed before a call that was done, or that failed first
+begun : (first kept : Option First) (before now : ℕ) → Ends {T = Unit {0}} first kept before now (Ok tt) → first ≡ None
+begun None kept before now ends = refl
+begun (Some f) kept before now ends = absurd (cc ends.0)
+
+failed_goes : (first kept : Option First) (before now : ℕ) → Ends {T = Unit {0}} first kept before now (Err Failed) → first ≡ None
+failed_goes None kept before now ends = refl
+failed_goes (Some f) kept before now ends = absurd (cc ends.0)
+
+-- where nothing had failed, the manifest has the entry that was appended
+may_appended : (x : ManifestEntry) (told : Told) (entries : List ManifestEntry) → told.failed ≡ [] → MayList (appended x told) entries → entries ≡ told.entries ++ x ∷ []
+may_appended x told entries none (inl same) = same
+may_appended x told entries none (inr more) = more ∙ ap (λ l. (told.entries ++ x ∷ []) ++ l) none ∙ append-nil (told.entries ++ x ∷ [])
+
 -- ---- a store after a definition
 
 -- all but the tables, the journal and the folder's count are as before
@@ -294,8 +321,8 @@ pub record IsRest (s t : State) : Type 0 where
 pub moves_nowhere : (s : State) (d : Disk) (x : ManifestEntry) (b : Bound) → Moves (λ h after. Changes h x b (reply.Failed failure.Memory) after) s s d d
 moves_nowhere s d x b h stands = (
   h,
-  (h.tables, h.disk, (refl, record { stopped = refl; faults = omega arith; reach = goes_nowhere h.disk.reach h.disk.reach refl; files = (refl, refl) }), refl),
-  record { stands = stands; lasts = λ found told lasts. (told, lasts) },
+  (h.tables, h.disk, (refl, record { stopped = refl; faults = omega arith; reach = goes_nowhere h.disk.reach h.disk.reach refl; files = (refl, refl, refl, refl) }), refl),
+  record { stands = stands; lasts = λ found told lasts. (told, lasts, λ openings explained. explained) },
 )
 
 -- the same where the list of its tables got a place more
@@ -317,12 +344,43 @@ module _ (s t : State) (d e : Disk) (x : ManifestEntry) (b : Bound) (may : MayBe
   lists_still : (told : Told) → ListFiles (said_by told.entries) (files_in s.shards) → ListFiles (said_by told.entries) (files_in t.shards)
   lists_still told are = list_same (said_by told.entries) (files_in s.shards) (files_in t.shards) (ap files_in rest.shards) are
 
-  pub moves_not : (answer : Reply) (fault : JournalFault) → answer ≡ reply_for fault → t.tables ≡ s.tables → length (entry_bytes x) < 2 ^ 32 → Ends {T = Unit {0}} s.journal.first t.journal.first s.faults t.faults (Err fault)
+  -- what a crash may leave explains it still
+  goes_on : (openings : ℕ → ShardOpening) (h : History) (found : List Mutation) (now : Told) → During SameTables d e → Explains openings h found t d now
+      → Explains openings (record h { tables = t.tables; disk = disk_of t }) found t e now
+  goes_on openings h found now during was =
+      explains_still openings h (record h { tables = t.tables; disk = disk_of t }) found t t d e now (λ n. goes_further (shard_at h n)) refl refl (keep_files now d e during) (λ ms have. have) was
+
+  told_one : s.journal.first ≡ None → (openings : ℕ → ShardOpening) (h : History) (found : List Mutation) (told now : Told) → LastsFor h found s d told → IsDefinition x → FitsEntry (said_by told.entries) x
+      → ((entries : List ManifestEntry) → MayList now entries → (entries ≡ told.entries) ⊎ (entries ≡ told.entries ++ x ∷ [])) → now.committed ≡ told.committed
+      → now.taken ≡ told.taken → ((ms : List Mutation) → RememberAll s.tables ms s.shards → RememberAll t.tables ms s.shards) → Explains openings h found s d told
+      → Explains openings h found t d now
+  told_one going openings h found told now lasts is fits may_be committed taken memory was =
+      let goes = lasts.keeps.lasts.goes going in
+      explains_wider openings h found s t d told now x (lists_none x is) fits (said_few told.entries goes.manifest.follow) goes.fit lasts.keeps.all may_be committed taken (ap accepted_in rest.list)
+      (λ ms have. subst (λ (xs : List ShardState). RememberAll t.tables ms xs) (sym rest.shards) (memory ms have)) was
+
+  as_it_was : (openings : ℕ → ShardOpening) (h : History) (found : List Mutation) (told : Told) → ((ms : List Mutation) → RememberAll s.tables ms s.shards → RememberAll t.tables ms s.shards)
+      → Explains openings h found s d told → Explains openings h found t d told
+  as_it_was openings h found told memory was =
+      explains_still openings h h found s t d d told (λ n. goes_further (shard_at h n)) refl (ap accepted_in rest.list) (keep_files_none told d)
+      (λ ms have. subst (λ (xs : List ShardState). RememberAll t.tables ms xs) (sym rest.shards) (memory ms have)) was
+
+  untold : (fault : JournalFault) → Ends {T = Unit {0}} s.journal.first t.journal.first s.faults t.faults (Err fault) → (openings : ℕ → ShardOpening) (h : History) (found : List Mutation)
+      (told : Told) → LastsFor h found s d told → IsDefinition x → FitsEntry (said_by told.entries) x → ((ms : List Mutation) → RememberAll s.tables ms s.shards → RememberAll t.tables ms s.shards)
+      → Explains openings h found s d told → Explains openings h found t d (told_after fault x told)
+  untold (TooLarge size most) ends openings h found told lasts is fits memory was = as_it_was openings h found told memory was
+  untold (TooMany what most) ends openings h found told lasts is fits memory was = as_it_was openings h found told memory was
+  untold (Stopped first) ends openings h found told lasts is fits memory was = as_it_was openings h found told memory was
+  untold Mem ends openings h found told lasts is fits memory was = as_it_was openings h found told memory was
+  untold Failed ends openings h found told lasts is fits memory was =
+      told_one (failed_goes s.journal.first t.journal.first s.faults t.faults ends) openings h found told (failed_at x told) lasts is fits (λ entries may. may) refl refl memory was
+
+  pub moves_not : (answer : Reply) (fault : JournalFault) → During SameTables d e → IsDefinition x → answer ≡ reply_for fault → t.tables ≡ s.tables → length (entry_bytes x) < 2 ^ 32 → Ends {T = Unit {0}} s.journal.first t.journal.first s.faults t.faults (Err fault)
       → reach_of t.journal ≡ reach_of s.journal → ((what : Counted) (most : ℕ) → fault ≡ TooMany what most → HasNoPlace x (reach_of s.journal))
       → ((found : List Mutation) (told : Told) → Keeps s.journal d s.list s.committed found told → FitsEntry (said_by told.entries) x
       → Keeps t.journal e t.list t.committed found (told_after fault x told))
       → Moves (λ h after. Changes h x b answer after) s t d e
-  moves_not answer fault is same short ends reach full kept h stands = (
+  moves_not answer fault during defines is same short ends reach full kept h stands = (
     record h { tables = t.tables; disk = disk_of t },
     (
       t.tables,
@@ -330,7 +388,8 @@ module _ (s t : State) (d e : Disk) (x : ManifestEntry) (b : Bound) (may : MayBe
       subst (λ (k : DiskState). Defines x h.tables (tables_after h.tables b) k answer t.tables (disk_of t)) (sym stands.disk)
           (subst (λ (k : Reply). Defines x h.tables (tables_after h.tables b) (disk_of s) k t.tables (disk_of t)) (sym is)
           (defines_not x h.tables (tables_after h.tables b) t.tables t.journal.first s.faults t.faults (reach_of s.journal) (reach_of t.journal) (same ∙ sym stands.tables) short count reach
-          (files_in s.shards) (files_in t.shards) s.reads t.reads (ap files_in rest.shards, rest.reads) s.journal.first fault ends full)),
+          (files_in s.shards) (files_in t.shards) s.reads t.reads s.last_file t.last_file s.live t.live
+          (ap files_in rest.shards, rest.reads, rest.last_file, rest.live) s.journal.first fault ends full)),
       refl,
     ),
     record {
@@ -348,26 +407,29 @@ module _ (s t : State) (d e : Disk) (x : ManifestEntry) (b : Bound) (may : MayBe
                 (subst (λ es. IsBehind (said_by es) t.shards t.last_file t.live) (sym still.entries) (stays told lasts.behind))
                 (subst (λ es. ListFiles (said_by es) (files_in t.shards)) (sym still.entries) (lists_still told lasts.files))
                 (ap changes_told still.entries ∙ lasts.changes),
+            λ openings explained.
+                goes_on openings h found (told_after fault x told) during
+                (untold fault ends openings h found told lasts defines (tells h found told lasts).fits (λ ms have. subst (λ (ts : List TableSchema). RememberAll ts ms s.shards) (sym same) have) explained),
           );
     },
   )
 
-  pub moves_done : IsDefinition x → t.tables ≡ tables_after s.tables b → ((z : ShardHistory) (y : ShardState) → Stands s.tables z y → Stands t.tables z y)
-      → (Remember s.tables s.shards → Remember t.tables s.shards)
+  pub moves_done : During SameTables d e → IsDefinition x → t.tables ≡ tables_after s.tables b → ((z : ShardHistory) (y : ShardState) → Stands s.tables z y → Stands t.tables z y)
+      → (Remember s.tables s.shards → Remember t.tables s.shards) → ((ms : List Mutation) → RememberAll s.tables ms s.shards → RememberAll t.tables ms s.shards)
       → Ends {T = Unit {0}} s.journal.first t.journal.first s.faults t.faults (Ok tt)
       → reach_of t.journal ≡ record { segment = (reach_of s.journal).segment; manifest = (reach_of s.journal).manifest + room_of x }
       → ((found : List Mutation) (told : Told) → Keeps s.journal d s.list s.committed found told → FitsEntry (said_by told.entries) x
       → Keeps t.journal e t.list t.committed found (appended x told))
       → Moves (λ h after. Changes h x b reply.Done after) s t d e
-  moves_done is new under remembers ends reach kept h stands = (
+  moves_done during is new under remembers all ends reach kept h stands = (
     record h { tables = t.tables; disk = disk_of t },
     (
       t.tables,
       disk_of t,
       subst (λ (k : DiskState). Defines x h.tables (tables_after h.tables b) k reply.Done t.tables (disk_of t)) (sym stands.disk)
           (defines_done x h.tables (tables_after h.tables b) t.tables s.journal.first t.journal.first s.faults t.faults (reach_of s.journal) (reach_of t.journal)
-          (files_in s.shards) (files_in t.shards) s.reads t.reads tt (new ∙ ap (λ (ts : List TableSchema). tables_after ts b) (sym stands.tables)) ends count reach
-          (ap files_in rest.shards, rest.reads)),
+          (files_in s.shards) (files_in t.shards) s.reads t.reads s.last_file t.last_file s.live t.live tt (new ∙ ap (λ (ts : List TableSchema). tables_after ts b) (sym stands.tables)) ends count reach
+          (ap files_in rest.shards, rest.reads, rest.last_file, rest.live)),
       refl,
     ),
     record {
@@ -387,6 +449,11 @@ module _ (s t : State) (d e : Disk) (x : ManifestEntry) (b : Bound) (may : MayBe
                 (subst (λ (sy : Saying). ListFiles sy (files_in t.shards)) (sym said)
                 (list_defined (said_by told.entries) x (files_in t.shards) is (lists_still told lasts.files)))
                 (told_defined told.entries x is ∙ lasts.changes),
+            λ openings explained.
+                let going = begun s.journal.first t.journal.first s.faults t.faults ends in
+                goes_on openings h found (appended x told) during
+                (told_one going openings h found told (appended x told) lasts is more.fits
+                (λ entries may. inr (may_appended x told entries (lasts.keeps.lasts.goes going).none_failed may)) refl refl all explained),
           );
     },
   )

@@ -1,6 +1,6 @@
 -- What a flush of a table does, in the words of the history: what each shard has of it in memory comes into one table file more. No SELECT shows more or less.
 -- Cassandra documentation, "nodetool flush"; "Storage engine: memtables, SSTables"; the numbers of files and of faults are own.
-use Rattle.std.specs.Prelude.{◌≡◌, ◌⊎◌, ℕ, ◌≤◌, ◌<◌, true, false, Option, None, Some, Result, Ok, Err, List, [], ◌∷◌, ◌++◌, length, slice_index_or}
+use Rattle.std.specs.Prelude.{◌≡◌, ◌⊎◌, ℕ, ◌+◌, ◌≤◌, ◌<◌, true, false, Option, None, Some, Result, Ok, Err, List, [], ◌∷◌, ◌++◌, length, slice_index_or}
 use Rattle.std.specs.List.{flat_map, fold}
 use Rattle.std.specs.Int.{int_max}
 use Rattle.cas_types.specs.declared.schema.TableSchema.{TableSchema}
@@ -11,9 +11,11 @@ use Rattle.cas_atoms.specs.declared.atom.Mutation.{Mutation}
 use Rattle.cas_changes.specs.declared.entry.Change.{Change}
 use Rattle.cas_changes.specs.declared.said.TheConstants.{FIRST_DRAWN}
 use Rattle.cas_changes.specs.declared.entry.Entry.TheVariants.{Change as change_entry}
-use Rattle.cas_journal.specs.Reach.{Reach}
+use Rattle.cas_info.specs.Allowed.{FitsInfo}
+use Rattle.cas_journal.specs.Reach.{Reach, HasNoPlace}
 use Rattle.cas_memtable.specs.Kept.{all_of}
 use Rattle.cas_room.specs.Changing.{added_by}
+use Rattle.cas_room.specs.Tables.{IsFull}
 use Rattle.cas_shard.specs.Shards.{ShardHistory, all_entries, drawn_of, number_of}
 use Rattle.cas_shard.specs.Stands.{SaySame, mutations_of}
 use Rattle.cas_sstread.specs.Loading.{Held}
@@ -27,6 +29,7 @@ use Rattle.cql_parse.specs.declared.syntax.TableName.{TableName}
 use Rattle.cas_sessions.specs.declared.answer.Fault.{Fault}
 use Rattle.cas_sessions.specs.declared.answer.Fault.TheVariants.{Refused, Stopped, Disk, Read, BadBlock, Mem}
 use Rattle.cas_sessions.specs.History.{History, DiskState, reach_with, shard_at}
+use Rattle.cas_sessions.specs.TooMuch.{IsTooMuch}
 
 -- ---- one shard
 
@@ -77,6 +80,7 @@ changes_by before None = before
 changes_by before (Some c) = before ++ c ∷ []
 
 -- The first shards were flushed, with these changes, one of each: all that was written to the table in them stands in its files. No other file is touched.
+-- One number at most was given to a file in each shard, and in the next one.
 pub record Flushed (h : History) (t : TableSchema) (changes : List (Option Change)) (e : DiskState) : Type 0 where
   pub files : (n : ℕ) → Grows t.number n (shard_at h n) (change_of changes n) (h.disk.files n t.number) (e.files n t.number)
   pub others : (n k : ℕ) → (k ≡ t.number → ⊥) → e.files n k ≡ h.disk.files n k
@@ -85,28 +89,50 @@ pub record Flushed (h : History) (t : TableSchema) (changes : List (Option Chang
   pub reach : e.reach ≡ fold reach_by h.disk.reach changes
   pub faults : h.disk.faults ≤ e.faults
   pub reads : h.disk.reads ≤ e.reads
+  pub live : e.live ≡ h.disk.live + length (numbers_added changes)
+  pub last_file : (h.disk.last_file ≤ e.last_file) × (e.last_file ≤ h.disk.last_file + length changes + 1)
 
--- Why a flush goes no further: there is too much of something; the folder failed, or writing a file, which is counted with the reads; or a read of the new
--- file. Only a failed write stops all further ones. No file that was just written is bad.
-abbrev pub WhyNoFurther : DiskState → DiskState → Fault → Type 0
-WhyNoFurther d e (Refused why) = (why ≡ TOO_MANY) × (e.stopped ≡ false)
-WhyNoFurther d e (Stopped first) = ⊥
-WhyNoFurther d e (Disk None) = Rose d.faults e.faults ⊎ ((e.stopped ≡ false) × Rose d.reads e.reads)
-WhyNoFurther d e (Disk (Some number)) = ⊥
-WhyNoFurther d e Read = (e.stopped ≡ false) × Rose d.reads e.reads
-WhyNoFurther d e (BadBlock number at) = ⊥
-WhyNoFurther d e Mem = e.stopped ≡ false
+-- ---- why it goes no further
 
--- how a flush ends that no earlier fault stopped: all shards are flushed, and the new files' numbers are told; or only the first ones are, and why
-abbrev pub EndsSo : History → List (Option Change) → Result (List ℕ) Fault → DiskState → Type 0
-EndsSo h changes (Ok told) e = (length changes ≡ length h.shards) × (told ≡ numbers_added changes) × (e.stopped ≡ false)
-EndsSo h changes (Err f) e = (length changes < length h.shards) × WhyNoFurther h.disk e f
+-- no table file can be begun: 4,096 are listed, or the last number, 2^60, was given
+abbrev pub HasNoFile : DiskState → Type 0
+HasNoFile e = IsFull e.live e.last_file
+
+-- the manifest has no place for the entry that would list one file more of the table in the shard
+pub record HasNoEntry (table shard : ℕ) (s : ShardHistory) (e : DiskState) : Type 0 where
+  pub file : File Held
+  pub change : Change
+  pub lists : ListsOne table shard s file change
+  pub fits : FitsInfo file.info
+  pub full : HasNoPlace (change_entry change) e.reach
+
+-- there is too much of something: table files, bytes of the manifest, or what was written to the table in that shard
+abbrev pub WhyTooMany : TableSchema → ℕ → ShardHistory → DiskState → Type 0
+WhyTooMany t n s e = HasNoFile e ⊎ (HasNoEntry t.number n s e ⊎ IsTooMuch t n (mutations_of t.number (all_entries s)))
+
+-- Why a flush goes no further than to that shard: there is too much of something; the folder failed, or writing a file, which is counted with the reads; or a
+-- read of the new file. Only a failed write stops all further ones. No file that was just written is bad.
+abbrev pub WhyNoFurther : TableSchema → ℕ → ShardHistory → DiskState → DiskState → Fault → Type 0
+WhyNoFurther t n s d e (Refused why) = (why ≡ TOO_MANY) × (e.stopped ≡ false) × WhyTooMany t n s e
+WhyNoFurther t n s d e (Stopped first) = ⊥
+WhyNoFurther t n s d e (Disk None) = Rose d.faults e.faults ⊎ ((e.stopped ≡ false) × Rose d.reads e.reads)
+WhyNoFurther t n s d e (Disk (Some number)) = ⊥
+WhyNoFurther t n s d e Read = (e.stopped ≡ false) × Rose d.reads e.reads
+WhyNoFurther t n s d e (BadBlock number at) = ⊥
+WhyNoFurther t n s d e Mem = e.stopped ≡ false
+
+-- how a flush ends that no earlier fault stopped: all shards are flushed, and the new files' numbers are told; or only the first ones are, and why the next
+-- one isn't
+abbrev pub EndsSo : History → TableSchema → List (Option Change) → Result (List ℕ) Fault → DiskState → Type 0
+EndsSo h t changes (Ok told) e = (length changes ≡ length h.shards) × (told ≡ numbers_added changes) × (e.stopped ≡ false)
+EndsSo h t changes (Err f) e =
+    (length changes < length h.shards) × WhyNoFurther t (length changes) (shard_at h (length changes)) h.disk e f
 
 -- A flush of the table: an earlier fault stopped it, and nothing is done; or shards are flushed, from the first on, the manifest tells these changes, and all
 -- but the disk is as it was.
 abbrev pub FlushesTable : History → TableSchema → Result (List ℕ) Fault → History → Type 0
 FlushesTable h t (Err (Stopped first)) after = (h.disk.stopped ≡ true) × (after ≡ h)
-FlushesTable h t r after = (changes : List (Option Change)) × (e : DiskState) × (h.disk.stopped ≡ false) × Flushed h t changes e × EndsSo h changes r e
+FlushesTable h t r after = (changes : List (Option Change)) × (e : DiskState) × (h.disk.stopped ≡ false) × Flushed h t changes e × EndsSo h t changes r e
     × (after ≡ record h { changes = fold changes_by h.changes changes; disk = e })
 
 -- of the table that is named so, if there is one

@@ -41,13 +41,16 @@ use Rattle.cas_shard.specs.Shards.{ShardHistory, found_shard, empty_shard, momen
 -- ---- what the lines so far came to
 
 -- How a store's disk stands: whether a failed write stopped all further ones, how often the folder failed, and how far the numbers of segments and
--- the bytes of the manifest have come; which table files there are, by the shard's number and the table's, and how often a read of one failed.
+-- the bytes of the manifest have come; which table files there are, by the shard's number and the table's, and how often a read of one failed; the last
+-- number that a table file got, and how many of them are listed.
 pub record DiskState : Type 0 where
   pub stopped : Bool
   pub faults : ℕ
   pub reach : Reach
   pub files : ℕ → ℕ → List (File Held)
   pub reads : ℕ
+  pub last_file : ℕ
+  pub live : ℕ
 
 -- The limits of the store, its tables, its shards, and the seconds that the last `\clock` set; the number of the session that runs the lines, how
 -- many mutations were accepted of it, and how many of these were acknowledged by an `ok`; the changes of table files that the manifest tells, in order, those
@@ -92,9 +95,9 @@ IsReading clock.System Gives seconds reading = (raw : ℤ) × Gives raw × (read
 
 -- ---- the disk
 
--- the table files are the same, and none was read
+-- the table files are the same, none was read, and none got a number
 abbrev pub SameFiles : DiskState → DiskState → Type 0
-SameFiles d e = (e.files ≡ d.files) × (e.reads ≡ d.reads)
+SameFiles d e = (e.files ≡ d.files) × (e.reads ≡ d.reads) × (e.last_file ≡ d.last_file) × (e.live ≡ d.live)
 
 -- nothing is stopped by it: the folder's count of faults doesn't fall, and at most one segment is begun and named
 pub record Stays (d e : DiskState) : Type 0 where

@@ -3,3 +3,4 @@ pub mod Definitions
 pub mod Faults
 pub mod Texts
 pub mod Flushing
+pub mod Verifying

@@ -1,4 +1,5 @@
 pub mod History
+pub mod Explained
 pub mod Entered
 pub mod Nodes
 pub mod Starts
@@ -6,7 +7,9 @@ pub mod Numbering
 pub mod Listing
 pub mod Next
 pub mod Calls
+pub mod TooMuch
 pub mod Flushes
 pub mod Status
+pub mod Verifying
 pub mod Laws
 pub mod Inner

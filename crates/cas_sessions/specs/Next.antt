@@ -1,8 +1,6 @@
 -- What the next run of a store may begin with, by what a crash left of this one (own).
-use Rattle.std.specs.Prelude.{◌≡◌, ℕ, ◌<◌, ◌==◌, if◌then◌else◌, List, [], ◌∷◌, ◌++◌, take}
-use Rattle.std.specs.List.{fold}
-use Rattle.std.proofs.Common.{sym, ◌∙◌}
-use Rattle.cas_disk.specs.Disk.{Disk, Image, Same}
+use Rattle.std.specs.Prelude.{◌≡◌, ℕ, ◌<◌, List, [], ◌∷◌, ◌++◌, take}
+use Rattle.cas_disk.specs.Disk.{Disk, Image}
 use Rattle.cas_atoms.specs.declared.atom.Mutation.{Mutation}
 use Rattle.cas_changes.specs.Saying.{said_by}
 use Rattle.cas_changes.specs.declared.entry.Entry.{Entry as ManifestEntry}
@@ -12,39 +10,24 @@ use Rattle.cas_room.specs.declared.event.Event.{Event}
 use Rattle.cas_room.specs.Rooms.{accepted_in}
 use Rattle.cas_replay.specs.Grammar.{AscendByOne, numbers_of}
 use Rattle.cas_shard.specs.declared.entry.ShardOpening.{ShardOpening}
-use Rattle.cas_shard.specs.Shards.{restored}
 use Rattle.cas_recovery.specs.Found.{AreOfAStore}
 use Rattle.cas_recovery.specs.Openings.{AreOpenings}
 use Rattle.cas_sessions.specs.Entered.{IsLeft}
+use Rattle.cas_sessions.specs.Explained.{as_told, only, with_more}
 use Rattle.cas_sessions.specs.History.{History}
 use Rattle.cas_sessions.specs.Listing.{HasBehind, SameListed}
-
--- a folder that has just this image, as one is found after a crash
-abbrev pub only : Image → Disk
-only i = record {
-  reads = λ c. Same i c;
-  may_leave = λ c. Same i c;
-  moment = 0;
-  left_since = λ t c. Same i c;
-  one = λ c d is also n. is n ∙ sym (also n);
-  is_image = λ c is. is;
-  counts_now = λ t c now is. is;
-  only_now = λ c is. is;
-}
-
--- the shard of this number as it was, with more mutations of the log behind
-abbrev pub with_more : ℕ → List Mutation → ShardOpening → ShardOpening
-with_more n more o = fold (λ p m. if m.shard == n then restored m p else p) o more
 
 -- the front of what a run accepted that the image has
 abbrev pub front_left : (found : List Mutation) (list : List (Item Event)) (h : History) (i : Image) → IsLeft found list h i → List Mutation
 front_left found list h i left = take left.count (accepted_in list)
 
 -- An image that a crash left of a run is what the run's promise says; and for the next run, which finds just this image, each shard may have been what it
--- was before the run, with the front of what the run accepted behind.
+-- was before the run, with the front of what the run accepted behind; and its moment and its last drawn timestamp are those that the manifest tells, where a
+-- flush told greater ones.
 pub record IsExplained (found : List Mutation) (list : List (Item Event)) (h : History) (openings : ℕ → ShardOpening) (i : Image) : Type 0 where
   pub left : IsLeft found list h i
-  pub next : AreOpenings left.entries (found ++ front_left found list h i left) (only i) (λ n. with_more n (front_left found list h i left) (openings n))
+  pub next : AreOpenings left.entries (found ++ front_left found list h i left) (only i)
+      (λ n. as_told (said_by left.entries) n (with_more n (front_left found list h i left) (openings n)))
 
 -- What is left explains the history. Where the shards of a store may have been these before a run, and an image that a crash left has what the run's
 -- promise says (a front of what it accepted, the table files that were listed, all of their bytes, and a manifest that lists no others), then for the next

@@ -1,26 +1,30 @@
 -- What a store that is open stands for, and how it goes on (own).
-use Rattle.std.specs.Prelude.{◌≡◌, ◌⊎◌, ◌≤◌, ◌<◌, ◌+◌, ◌^◌, ℕ, ℤ, List, [], ◌∷◌, ◌++◌, length, false, Option, None, Some, is_some, slice_get}
+use Rattle.std.specs.Prelude.{◌≡◌, ◌⊎◌, ◌≤◌, ◌<◌, ◌+◌, ◌^◌, ℕ, ℤ, List, [], ◌∷◌, ◌++◌, length, false, Option, None, Some, is_some, slice_get, take}
 use Rattle.cas_types.specs.declared.schema.TableSchema.{TableSchema}
-use Rattle.cas_disk.specs.Disk.{Disk, Leaves}
+use Rattle.cas_disk.specs.Disk.{Disk, Image, Leaves}
 use Rattle.cas_atoms.specs.declared.atom.Mutation.{Mutation}
 use Rattle.cas_bind.specs.declared.bound.Limits.{Limits}
 use Rattle.cas_changes.specs.Saying.{said_by}
+use Rattle.cas_changes.specs.declared.entry.Entry.{Entry as ManifestEntry}
 use Rattle.cas_replay.specs.Grammar.{AreInOrder, AscendByOne, numbers_of}
 use Rattle.cas_journal.specs.declared.journal.Journal.{Journal}
-use Rattle.cas_journal.specs.Stores.{Told}
+use Rattle.cas_journal.specs.Stores.{MayList, Told}
 use Rattle.cas_journal.specs.Reach.{reach_of}
 use Rattle.cas_history.specs.declared.item.Item.{Item}
-use Rattle.cas_recovery.specs.Restored.{IsBehind, Remember}
+use Rattle.cas_recovery.specs.Openings.{unflushed_of}
+use Rattle.cas_recovery.specs.Restored.{IsBehind, Remember, RememberAll}
 use Rattle.cas_render.specs.declared.reply.Failure.TheVariants as failure
 use Rattle.cas_render.specs.declared.reply.Reply.{Reply}
 use Rattle.cas_render.specs.declared.reply.Reply.TheVariants as reply
 use Rattle.cas_room.specs.declared.event.Event.{Event}
 use Rattle.cas_room.specs.Keeping.{Keeps}
 use Rattle.cas_room.specs.Rooms.{accepted_in}
+use Rattle.cas_shard.specs.declared.entry.ShardOpening.{ShardOpening}
 use Rattle.cas_shard.specs.Stands.{ShardState, Stands, files_at}
 use Rattle.cas_sstread.specs.Loading.{Held}
 use Rattle.cas_view.specs.Views.{File}
 use Rattle.cas_sessions.specs.History.{History, DiskState, changes_told, shard_at}
+use Rattle.cas_sessions.specs.Explained.{IsNotAhead, OpensIn, with_more}
 use Rattle.cas_sessions.specs.Entered.{AreEntered, IsLeftAmid, ListFiles}
 
 -- What an open store is made of, as one of its sessions has it: its limits, its tables, its shards; the shards of their seats and the last number of
@@ -64,8 +68,15 @@ files_in shards n table = files_of (slice_get shards n) table
 
 -- how its disk stands
 abbrev pub disk_of : State → DiskState
-disk_of s =
-    record { stopped = is_some s.journal.first; faults = s.faults; reach = reach_of s.journal; files = files_in s.shards; reads = s.reads }
+disk_of s = record {
+  stopped = is_some s.journal.first;
+  faults = s.faults;
+  reach = reach_of s.journal;
+  files = files_in s.shards;
+  reads = s.reads;
+  last_file = s.last_file;
+  live = s.live;
+}
 
 -- A store's memory stands for a history: each shard's state does, and the entries are those of the list; and in memory are some mutations, each of which
 -- its table may hold.
@@ -98,10 +109,25 @@ pub record LastsFor (h : History) (found : List Mutation) (s : State) (disk : Di
   pub files : ListFiles (said_by t.entries) (files_in s.shards)
   pub changes : changes_told t.entries ≡ h.changes
 
--- from one history to another the store went on: its memory stands for the other, and its disk keeps what that says
+-- What a crash may leave of a store explains to the next run what its shards have been, which were so before this one. No shard's history is behind that with all
+-- that was accepted; in whatever a crash leaves, whichever of the entries that were told the manifest has, each shard may have been just that, with a front of what
+-- was accepted that has all that was committed; and in memory is just what the log has above the frontiers.
+pub record Explains (openings : ℕ → ShardOpening) (h : History) (found : List Mutation) (s : State) (disk : Disk) (t : Told) : Type 0 where
+  pub behind : (n : ℕ) → n < length h.shards → IsNotAhead (shard_at h n) (with_more n (accepted_in s.list) (openings n))
+  pub opens : (i : Image) → disk.may_leave i → (entries : List ManifestEntry) → MayList t entries → (count : ℕ) → t.committed ≤ length found + count
+      → count ≤ length (accepted_in s.list) → (n : ℕ) → n < (said_by entries).shards → OpensIn found (take count (accepted_in s.list)) entries i n (openings n)
+  pub memory : RememberAll s.tables (unflushed_of (said_by t.entries) t.taken) s.shards
+
+-- From one history to another the store went on: its memory stands for the other, its disk keeps what that says, and what a crash may leave explains it, where
+-- that explained the one before.
 pub record GoesOnTo (h after : History) (s t : State) (old new : Disk) : Type 0 where
   pub stands : StandsFor after t
   pub lasts : (found : List Mutation) (told : Told) → LastsFor h found s old told → (now : Told) × LastsFor after found t new now
+      × ((openings : ℕ → ShardOpening) → Explains openings h found s old told → Explains openings after found t new now)
+
+-- it stands for some history, and its disk keeps what that says
+abbrev pub LastsForOne : State → Disk → Type 0
+LastsForOne s disk = (h : History) × (found : List Mutation) × (told : Told) × StandsFor h s × LastsFor h found s disk told
 
 -- whichever history it stood for, it went on to one that follows it so
 abbrev pub Moves : (History → History → Type 0) → State → State → Disk → Disk → Type 0

@@ -18,12 +18,13 @@ use Rattle.cas_shard.specs.declared.entry.ShardOpening.{ShardOpening}
 use Rattle.cas_shard.specs.Stands.{ShardState, Stands}
 use Rattle.cas_shard.specs.Shards.{found_shard}
 use Rattle.cas_sessions.specs.Entered.{ListFiles}
-use Rattle.cas_sessions.specs.Nodes.{State, StandsFor, LastsFor, disk_of, files_in}
+use Rattle.cas_sessions.specs.Explained.{only}
+use Rattle.cas_sessions.specs.Nodes.{Explains, State, StandsFor, LastsFor, disk_of, files_in}
 use Rattle.cas_history.specs.Hands.{numbers}
 use Rattle.cas_sessions.specs.History.{History, DiskState, changes_told}
-use Rattle.cas_recovery.specs.Openings.{AreOpenings}
+use Rattle.cas_recovery.specs.Openings.{AreOpenings, IsOpening, unflushed_of}
 use Rattle.cas_recovery.specs.Recovered.{IsRecovered}
-use Rattle.cas_recovery.specs.Restored.{IsBehind, IsTold, Remember}
+use Rattle.cas_recovery.specs.Restored.{IsBehind, IsTold, RememberAll, greatest_of}
 
 -- The history before the first line: the tables that the manifest tells of, as many shards as it says, and of each shard what it was before the run; the
 -- changes of table files that the manifest tells; the clock at 0.
@@ -51,7 +52,8 @@ pub record AreItsFiles (entries : List ManifestEntry) (folder : Disk) (files : �
   pub no_more : (shard table : ℕ) → ((said_by entries).shards ≤ shard) ⊎ (length (said_by entries).tables ≤ table) → files shard table ≡ []
 
 -- The limits, tables and shards of a store of these entries, with these mutations in its log: each shard stands for what it was, and its next number goes
--- on behind the log's. The entries list just its table files, and are not ahead of it.
+-- on behind the log's. The entries list just its table files, and are not ahead of it; the last number of a file is the greatest that was ever listed; and in
+-- memory is just what the log has above the frontiers.
 pub record IsInMemory (given : Limits) (entries : List ManifestEntry) (mutations : List Mutation) (openings : ℕ → ShardOpening) (limits : Limits)
     (tables : List TableSchema) (shards : List ShardState) (last live : ℕ) : Type 0 where
   pub same : limits ≡ record given { shards = (said_by entries).shards }
@@ -61,8 +63,9 @@ pub record IsInMemory (given : Limits) (entries : List ManifestEntry) (mutations
   pub ordered : AreInOrder mutations
   pub next : (n : ℕ) (x : ShardState) → slice_get shards n ≡ Some x → AscendByOne (numbers_of n mutations ++ (x.number + 1) ∷ [])
   pub behind : IsBehind (said_by entries) shards last live
+  pub last_is : last ≡ greatest_of (said_by entries).numbers
   pub files : ListFiles (said_by entries) (files_in shards)
-  pub memory : Remember tables shards
+  pub memory : RememberAll tables (unflushed_of (said_by entries) mutations) shards
 
 -- The store of a folder was opened: it was read back with its files; and whatever its shards may have been before, for all that is known of the folder,
 -- memory has them so.
@@ -73,7 +76,8 @@ pub record IsStarted (given limits : Limits) (tables : List TableSchema) (shards
       → IsInMemory given back.entries back.mutations openings limits tables shards last live
   pub files : AreItsFiles back.entries old (files_in shards)
 
--- A run with these limits and these table files begins so: nothing is stopped, and at most one segment was begun since the entries were written.
+-- A run with these limits and these table files begins so: nothing is stopped, and at most one segment was begun since the entries were written; as many
+-- table files are listed as the entries list, and the last number of one is the greatest that was ever listed.
 pub record Begins (l : Limits) (entries : List ManifestEntry) (openings : ℕ → ShardOpening) (files : ℕ → ℕ → List (File Held)) (before : ℕ)
     (h : History) : Type 0 where
   pub session : ℕ
@@ -83,6 +87,8 @@ pub record Begins (l : Limits) (entries : List ManifestEntry) (openings : ℕ �
   pub faults : before ≤ disk.faults
   pub segment : disk.reach.segment ≤ next_segment entries
   pub files_are : disk.files ≡ files
+  pub last_file : disk.last_file ≡ greatest_of (said_by entries).numbers
+  pub live : disk.live ≡ (said_by entries).listed
 
 -- The store is as it was opened, in a new history: it accepted nothing.
 pub record IsOpenedAs (l : Limits) (tables : List TableSchema) (shards : List ShardState) (journal : Journal) (faults reads : ℕ) (s : State) : Type 0 where
@@ -94,9 +100,18 @@ pub record IsOpenedAs (l : Limits) (tables : List TableSchema) (shards : List Sh
   pub reads_are : s.reads ≡ reads
   pub accepted : s.accepted ≡ 0
 
--- The store stands for the history that begins with these entries and openings, and its disk keeps what was told of the entries and the log's mutations.
+-- in whatever a crash leaves of the folder the shards may have been so before the run
+abbrev pub AreExplained : List ManifestEntry → List Mutation → (ℕ → ShardOpening) → Disk → Type 0
+AreExplained entries mutations openings disk =
+    (i : Image) → disk.may_leave i → (n : ℕ) → n < (said_by entries).shards → IsOpening (said_by entries) mutations (only i) n (openings n)
+
+-- The store stands for the history that begins with these entries and openings, and its disk keeps what was told of the entries and the log's mutations; its
+-- table files are counted and numbered by the entries; and what a crash may leave explains the history, where it explains the openings.
 pub record BeginsAs (given : Limits) (entries : List ManifestEntry) (mutations : List Mutation) (openings : ℕ → ShardOpening) (disk : Disk)
     (s : State) : Type 0 where
   pub stands : StandsFor (start given entries openings s.session (disk_of s)) s
   pub lasts : (t : Told) → IsTold entries mutations t → Lasts s.journal disk t
       → LastsFor (start given entries openings s.session (disk_of s)) mutations s disk t
+  pub explains : (t : Told) → IsTold entries mutations t → AreExplained entries mutations openings disk
+      → Explains openings (start given entries openings s.session (disk_of s)) mutations s disk t
+  pub counts : (s.last_file ≡ greatest_of (said_by entries).numbers) × (s.live ≡ (said_by entries).listed)

@@ -1,10 +1,11 @@
 //! A flush: what the shards have of a table in memory comes into table files, which the manifest then lists.
 
-ghost use Rattle.std.specs.Prelude.{◌≡◌, ◌≤◌, ◌<◌, ◌∷◌, ◌++◌, ℕ, ℤ, List as ListOf, [], true, None, Some, Ok as OkOf, Err, pos};
+ghost use Rattle.std.specs.Prelude.{◌≡◌, ◌≤◌, ◌<◌, ◌+◌, ◌∷◌, ◌++◌, ℕ, ℤ, List as ListOf, [], true, None, Some, Ok as OkOf, Err, pos};
 ghost use Rattle.std.specs.Prelude.{length, slice_get, IfOk, IfErr, IfSome, IfNone, OnOk, vec_capacity, vec_len};
 ghost use Rattle.std.specs.Option.{option_copied};
 ghost use Rattle.std.specs.Arc.{arc_value};
 ghost use Rattle.cas_disk.specs.Disk.{During, Image};
+ghost use Rattle.cas_disk.specs.declared.name.Name.TheVariants.{Table as table_name};
 ghost use Rattle.cas_changes.specs.declared.entry.Change.{Change as Wrote};
 ghost use Rattle.cas_changes.specs.declared.entry.Entry.TheVariants as entry_of;
 ghost use Rattle.cas_history.specs.Items.{listed};
@@ -23,9 +24,11 @@ ghost use Rattle.cas_sessions.specs.Flushes.{Flushes};
 ghost use Rattle.cas_sessions.specs.Listing.{SameUpTo};
 ghost use Rattle.cas_sessions.specs.Numbering.{NumbersOn};
 ghost use Rattle.cas_recovery.specs.Restored.{Remember};
-ghost use Rattle.cas_sessions.specs.Nodes.{KeepsAll, Moves};
+ghost use Rattle.cas_sessions.specs.Nodes.{KeepsAll, LastsForOne, Moves};
 ghost use Rattle.cas_sessions.specs.Inner.Flushing.{AddsFile, FlushesFirst, FlushesNoFurther, FlushesOne, HasOneMore, IsChangeFor, IsOwn, Lists};
-ghost use Rattle.cas_sessions.specs.Inner.Flushing.{HoldsNothing, IsMade, NewFile, Quiet, SaysSo, TakesFile, WhyNoneMore, WhyNotMade, listed_of};
+ghost use Rattle.cas_sessions.specs.Inner.Flushing.{HoldsNothing, IsMade, NewFile, Quiet, SaysSo, StandsSo, TakesFile, WhyNoFile, WhyNoneMore};
+ghost use Rattle.cas_sessions.specs.Inner.Flushing.{WhyNotMade};
+ghost use Rattle.cas_sessions.specs.Inner.Flushing.{listed_of};
 ghost use Rattle.cas_sessions.specs.Inner.Flushing.{fault_of_folder, fault_of_fresh, fault_of_load, fault_of_write};
 
 use crate::answer::Fault;
@@ -171,6 +174,7 @@ impl<F: Folder, J: Store> Node<F, J> {
         ensures outcome { Begins self.old.live self.old.room.numbers.last (F.faults_of self.old.room.folder) (F.faults_of self.new.room.folder) result }
         ensures number { IfOk result (λ r. (self.old.room.numbers.last < r.0) × (r.0 ≤ self.new.room.numbers.last) × (r.0 ≤ FILE_NUMBER_LIMIT)
             × (F.Draft.number r.1 ≡ r.0)) }
+        ensures next { self.new.room.numbers.last ≤ self.old.room.numbers.last + 1 }
         ensures empty { IfOk result (λ r. (b : ListOf ℕ) → F.Draft.written r.1 b → b ≡ []) }
         ensures held { IfOk result (λ r. holds r.0 (listed self.new.files.list self.new.files.pass.saw) ≡ true) }
         ensures booked { IfOk result (λ r. is_live (at self.new.book.refs r.0) ≡ true) }
@@ -214,6 +218,8 @@ impl<F: Folder, J: Store> Node<F, J> {
             → slice_get self.old.shards.items place ≡ Some x → HasOneMore t place info.now (F.Draft.written draft)
             ((c : Image) × (⟦<Node<F, J> as Stored>⟧.disk self.old).reads c) (files_at (slice_get x.stores table)) (arc_value v)) }
         ensures stands { OnOk result (Stand (info.now.number ∷ []) (⟦<Node<F, J> as Stored>⟧.disk self.new)) }
+        ensures left { OnOk result ((i : Image) → (⟦<Node<F, J> as Stored>⟧.disk self.new).may_leave i
+            → (b : ListOf ℕ) × F.Draft.written draft b × (i (table_name info.now.number) ≡ Some b)) }
         ensures why { IfErr result (λ f. (t : _) → slice_get self.old.tables.items table ≡ Some t
             → WhyNoneMore t place info.now (F.Draft.written draft) ((c : Image) × (⟦<Node<F, J> as Stored>⟧.disk self.old).reads c)
             (F.faults_of self.old.room.folder) (F.faults_of self.new.room.folder) (F.Tally.number self.old.tally)
@@ -256,12 +262,18 @@ impl<F: Folder, J: Store> Node<F, J> {
         ensures nothing { IfOk result (λ o. IfNone o ((t : _) (x : ShardState) → slice_get self.old.tables.items table ≡ Some t
             → slice_get self.old.shards.items place ≡ Some x → HoldsNothing t (slice_get x.stores table))) }
         ensures stands { IfOk result (λ o. IfSome o (λ m. Stand (m.0.number ∷ []) (⟦<Node<F, J> as Stored>⟧.disk self.new))) }
+        ensures left { IfOk result (λ o. IfSome o (λ m. (t : _) (x : ShardState) → slice_get self.old.tables.items table ≡ Some t
+            → slice_get self.old.shards.items place ≡ Some x
+            → StandsSo t place m.0 (slice_get x.stores table) (⟦<Node<F, J> as Stored>⟧.disk self.new))) }
         ensures held { IfOk result (λ o. IfSome o (λ m. (holds m.0.number (listed self.new.files.list self.new.files.pass.saw) ≡ true)
             × (is_live (at self.new.book.refs m.0.number) ≡ true) × (self.new.live < LIVE_LIMIT)
             × (m.0.number ≤ self.new.room.numbers.last))) }
+        ensures next { self.new.room.numbers.last ≤ self.old.room.numbers.last + 1 }
         ensures why { IfErr result (λ f. (c : Image) → (⟦<Node<F, J> as Stored>⟧.disk self.old).reads c
-            → Remember self.old.tables.items self.old.shards.items
-            → WhyNotMade (F.faults_of self.old.room.folder) (F.faults_of self.new.room.folder) (F.Tally.number self.old.tally)
+            → Remember self.old.tables.items self.old.shards.items → (t : _) (x : ShardState) → slice_get self.old.tables.items table ≡ Some t
+            → slice_get self.old.shards.items place ≡ Some x
+            → WhyNotMade (WhyNoFile t place self.old.live self.old.room.numbers.last (frozen_at (slice_get x.stores table)))
+            (F.faults_of self.old.room.folder) (F.faults_of self.new.room.folder) (F.Tally.number self.old.tally)
             (F.Tally.number self.new.tally) f) }
         ensures own { IfErr result IsOwn }
         ensures same { (self.new.shards ≡ self.old.shards) × (self.new.limits ≡ self.old.limits) × (self.new.tables ≡ self.old.tables) }
@@ -365,7 +377,8 @@ impl<F: Folder, J: Store> Node<F, J> {
         requires room { (self.old.live < LIVE_LIMIT) × (info.number ≤ self.old.room.numbers.last) }
         ensures takes { (clock : ℤ) (t : _) (x : ShardState) → slice_get self.old.tables.items table ≡ Some t
             → slice_get self.old.shards.items place ≡ Some x → (new : NewFile t (slice_get x.stores table) info (arc_value view))
-            → TakesFile t place info.number (SaysSo t (slice_get x.stores table) new.file) result
+            → TakesFile t place info.number (SaysSo t (slice_get x.stores table) new.file)
+            (StandsSo t place info (slice_get x.stores table) (⟦<Node<F, J> as Stored>⟧.disk self.old)) result
             (⟦<Node<F, J> as Stored>⟧.state self.old session.old.seat.list session.old.seat.calls clock)
             (⟦<Node<F, J> as Stored>⟧.state self.new session.new.seat.list session.new.seat.calls clock)
             (⟦<Node<F, J> as Stored>⟧.disk self.old) (⟦<Node<F, J> as Stored>⟧.disk self.new) }
@@ -476,6 +489,8 @@ impl<F: Folder, J: Store> Node<F, J> {
             (⟦<Node<F, J> as Stored>⟧.state self.new session.new.seat.list session.new.seat.calls clock)
             (⟦<Node<F, J> as Stored>⟧.disk self.old) (⟦<Node<F, J> as Stored>⟧.disk self.new)) }
         ensures faults { IfErr result (λ f. (clock : ℤ) (c : Image) → (⟦<Node<F, J> as Stored>⟧.disk self.old).reads c
+            → LastsForOne (⟦<Node<F, J> as Stored>⟧.state self.old session.old.seat.list session.old.seat.calls clock)
+            (⟦<Node<F, J> as Stored>⟧.disk self.old)
             → Moves (λ h after. Flushes h name.now (Err f) after)
             (⟦<Node<F, J> as Stored>⟧.state self.old session.old.seat.list session.old.seat.calls clock)
             (⟦<Node<F, J> as Stored>⟧.state self.new session.new.seat.list session.new.seat.calls clock)

@@ -1,6 +1,6 @@
 //! What holds of every open store.
 
-ghost use Rattle.cas_sessions.specs.Laws.{AllShare};
+ghost use Rattle.cas_sessions.specs.Laws.{AllShare, NothingIsTooMuch, PartitionsAreFew};
 ghost use Rattle.cas_sessions.specs.Next.{LeftExplains};
 
 use cas_disk::Folder;
@@ -20,3 +20,13 @@ pub fn left_explains<F: Folder>(before: &F)
 {
     let _before = before;
 }
+
+/// A flush isn't refused for too much of a table to which nothing was written in the shard.
+pub fn nothing_is_too_much()
+    ensures { NothingIsTooMuch }
+{}
+
+/// A flush makes no more partitions than mutations were written to the table in the shard.
+pub fn partitions_are_few()
+    ensures { PartitionsAreFew }
+{}

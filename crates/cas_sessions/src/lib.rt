@@ -12,10 +12,11 @@ mod seats;
 mod statements;
 mod status;
 mod texts;
+mod verifying;
 mod writing;
 
 pub use answer::{Answer, Fault, reply_of};
-pub use laws::{left_explains, sessions_share};
+pub use laws::{left_explains, nothing_is_too_much, partitions_are_few, sessions_share};
 pub use node::{Closed, Node, Pass, SESSION_LIMIT, Session, SessionFault, Stored};
 pub use opened::{Opened, start};
 pub use statements::Ask;

@@ -35,9 +35,14 @@ pub(crate) fn statement_of(alloc: Global, text: &str, defines: bool) -> Result<S
                 Err(Fault::Refused(NOT_HERE))
             }
         }
-        Ok(Line::Blank | Line::Syntax | Line::Clock(_) | Line::Flush(_) | Line::Status) => {
-            Err(Fault::Refused(SYNTAX))
-        }
+        Ok(
+            Line::Blank
+            | Line::Syntax
+            | Line::Clock(_)
+            | Line::Flush(_)
+            | Line::Verify(_)
+            | Line::Status,
+        ) => Err(Fault::Refused(SYNTAX)),
         Err(Mem) => Err(Fault::Mem),
     }
 }

@@ -165,17 +165,13 @@ pub not_finished : (G : Type 0) {D F : Type 0} (number_of : D → ℕ) (written 
     → TailFault w.sink.place w.entries.items i e → FinishFault {E = G} (contents_of w ps) (Write e)
 not_finished G number_of written columns w ps i Failed writes told why = tt
 not_finished G number_of written columns w ps i Order writes told why = absurd why
-not_finished G number_of written columns w ps i (TooMany FileBytes limit) writes told why = (why.0, longer)
-  where
-    longer : (g : Facts) → AreFacts (atoms_of (contents_of w ps)) g → FILE_LIMIT < length (table_bytes (contents_of w ps) g)
-    longer g are =
-        let c : Contents = contents_of w ps in
-        let f : Facts = told.0 in
-        let j : TableInfo = with_bytes i (w.sink.place + length (tail_at w.sink.place w.entries.items (filter_at w.entries.items) i)) in
-        let facts : AreFacts (atoms_of c) f = subst (λ x. AreFactsSoFar (atoms_of c) x) told.1 writes.facts in
-        let info : j ≡ info_of c f = info_same number_of written columns w ps f i j writes (told.3 ∙ told_same number_of written columns w ps f writes) refl in
-        subst (λ x. FILE_LIMIT < length (table_bytes c x)) (same_facts c f g facts are)
-        (subst (λ n. FILE_LIMIT < n) (file_long number_of written columns w ps j writes ∙ ap (λ x. length (with_info c x)) info) why.1)
+not_finished G number_of written columns w ps i (TooMany FileBytes limit) writes told why =
+    let c : Contents = contents_of w ps in
+    let f : Facts = told.0 in
+    let j : TableInfo = with_bytes i (w.sink.place + length (tail_at w.sink.place w.entries.items (filter_at w.entries.items) i)) in
+    let facts : AreFacts (atoms_of c) f = subst (λ x. AreFactsSoFar (atoms_of c) x) told.1 writes.facts in
+    let info : j ≡ info_of c f = info_same number_of written columns w ps f i j writes (told.3 ∙ told_same number_of written columns w ps f writes) refl in
+    (why.0, (f, facts, subst (λ n. FILE_LIMIT < n) (file_long number_of written columns w ps j writes ∙ ap (λ x. length (with_info c x)) info) why.1))
 not_finished G number_of written columns w ps i (TooMany BlockBytes limit) writes told why = absurd why
 not_finished G number_of written columns w ps i (TooMany Partitions limit) writes told why = absurd why
 not_finished G number_of written columns w ps i Unfit writes told why = absurd why

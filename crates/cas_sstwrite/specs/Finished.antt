@@ -34,7 +34,7 @@ Finishes number_of written columns c (Some p) = IsFinished number_of written col
 abbrev pub FinishFault : {E : Type 0} → Contents → PartitionFault E → Type 0
 FinishFault c (Write Failed) = Unit {0}
 FinishFault c (Write Order) = ⊥
-FinishFault c (Write (TooMany FileBytes limit)) = (limit ≡ FILE_LIMIT) × ((f : Facts) → AreFacts (atoms_of c) f → FILE_LIMIT < length (table_bytes c f))
+FinishFault c (Write (TooMany FileBytes limit)) = (limit ≡ FILE_LIMIT) × ((f : Facts) × AreFacts (atoms_of c) f × (FILE_LIMIT < length (table_bytes c f)))
 FinishFault c (Write (TooMany BlockBytes limit)) = ⊥
 FinishFault c (Write (TooMany Partitions limit)) = ⊥
 FinishFault c (Write Unfit) = ⊥

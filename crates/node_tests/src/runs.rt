@@ -28,29 +28,42 @@ pub(crate) fn words_of(rt: &impl Abort, alloc: Global, text: &str) -> Vec<String
     list
 }
 
-/// Runs over a folder with the manual clock, and one shard where the store is made.
-pub(crate) fn run_in<S: Source>(
+/// Runs over a folder with the manual clock, and one shard where the store is made. Hands the folder back.
+pub(crate) fn run_on<S: Source>(
     rt: &impl Abort,
     alloc: Global,
     source: &mut S,
     mut sink: MemSink,
     folder: MemFolder,
-) -> Ended {
+) -> (Ended, MemFolder) {
     let words = words_of(rt, alloc, "--clock manual --shards 1 d");
     let clock = ManualClock { reading: 7 };
     let Outcome {
         status,
         cause,
         pass,
-        folder: _folder,
+        folder,
         tally: _tally,
     } = run(alloc, &words, source, &mut sink, folder, &clock, &FreeGate);
-    Ended {
+    let ended = Ended {
         status,
         cause,
         output: sink.taken().to_vec(alloc).expect(rt, "memory"),
         has_run: pass.is_some(),
-    }
+    };
+    (ended, folder)
+}
+
+/// The same without the folder.
+pub(crate) fn run_in<S: Source>(
+    rt: &impl Abort,
+    alloc: Global,
+    source: &mut S,
+    sink: MemSink,
+    folder: MemFolder,
+) -> Ended {
+    let (ended, _folder) = run_on(rt, alloc, source, sink, folder);
+    ended
 }
 
 // The same over an empty folder.

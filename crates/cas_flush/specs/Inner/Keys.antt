@@ -1,5 +1,5 @@
 -- One key of a flush (own).
-use Rattle.std.specs.Prelude.{◌≡◌, ◌⊎◌, ℕ, Bool, true, false, not, List, [], ◌∷◌, ◌++◌, length, Option}
+use Rattle.std.specs.Prelude.{◌≡◌, ◌⊎◌, ℕ, Bool, true, false, not, List, [], ◌++◌, length, Option}
 use Rattle.cas_types.specs.declared.schema.Column.{Column}
 use Rattle.cas_cell.specs.declared.deletion.Deletion.{Deletion}
 use Rattle.cas_bounds.specs.ClusteringOrder.{clustering_order}
@@ -9,6 +9,7 @@ use Rattle.cas_bounds.specs.declared.order.Ordered.{Ordered}
 use Rattle.cas_atoms.specs.Winners.{Same}
 use Rattle.cas_atoms.specs.declared.atom.Mutation.{Mutation}
 use Rattle.cas_streams.specs.Flat.{flat}
+use Rattle.cas_streams.specs.Joined.{Stream}
 use Rattle.cas_streams.specs.NoMore.{SaysNoMore}
 use Rattle.cas_streams.specs.declared.fragment.Fragment.{Fragment}
 use Rattle.cas_memtable.specs.Memtables.{is_above}
@@ -20,11 +21,11 @@ use Rattle.cas_tables.specs.Files.{index_of, front_bytes}
 use Rattle.cas_sstwrite.specs.declared.fault.PartitionFault.{PartitionFault}
 use Rattle.cas_sstwrite.specs.declared.fault.PartitionFault.TheVariants.{Write, Source}
 use Rattle.cas_sstwrite.specs.declared.fault.WriteFault.{WriteFault}
-use Rattle.cas_sstwrite.specs.declared.fault.WriteFault.TheVariants.{Failed, Order, TooMany, Unfit, Mem}
+use Rattle.cas_sstwrite.specs.declared.fault.WriteFault.TheVariants.{Order, Mem}
 use Rattle.cas_sstwrite.specs.declared.held.TableWriter.{TableWriter}
 use Rattle.cas_sstwrite.specs.Causes.{Causes}
 use Rattle.cas_sstwrite.specs.Writers.{Writes, partition_of}
-use Rattle.cas_flush.specs.Flushed.{AreOf, is_below}
+use Rattle.cas_flush.specs.Flushed.{MayStand, SayWhatIsHeld, SaysWhatIsUnder, is_below}
 
 -- ---- all rows of a partition
 
@@ -44,28 +45,27 @@ abbrev pub told : {E : Type 0} → PartitionFault E → WriteFault
 told (Write e) = e
 told (Source e) = Mem
 
--- the writer's reason not to write a stream under a key, which says what the mutations say there
-pub record Refuses (c : Contents) (key : List ℕ) (ws : List Mutation) (e : WriteFault) : Type 0 where
-  pub top : Option Deletion
-  pub fragments : List Fragment
-  pub same : Same (flat top fragments) (atoms_under key ws)
-  pub no_more : SaysNoMore (flat top fragments) (atoms_under key ws)
-  pub causes : Causes (index_of c) (length (front_bytes c)) key top fragments e
+-- the writer's reason not to write a stream under a key, which says what the memtables hold there
+pub record Refuses (columns : List Column) (c : Contents) (key : List ℕ) (ms : List MemPart) (e : WriteFault) : Type 0 where
+  pub stream : Stream
+  pub says : SaysWhatIsUnder columns ms key stream
+  pub causes : Causes (index_of c) (length (front_bytes c)) key stream.top stream.fragments e
 
 -- or memory ran out
-abbrev pub KeyFault : Contents → List ℕ → List Mutation → WriteFault → Type 0
-KeyFault c key ws e = (e ≡ Mem) ⊎ Refuses c key ws e
+abbrev pub KeyFault : List Column → Contents → List ℕ → List MemPart → WriteFault → Type 0
+KeyFault columns c key ms e = (e ≡ Mem) ⊎ Refuses columns c key ms e
 
 -- behind the partitions of the keys below some key
-pub record Stops (header : Header) (level : ℕ) (ws : List Mutation) (e : WriteFault) : Type 0 where
+pub record Stops (columns : List Column) (header : Header) (level : ℕ) (ms : List MemPart) (e : WriteFault) : Type 0 where
   pub before : List Partition
   pub key : List ℕ
-  pub below : AreOf (is_below key) ws before
-  pub why : Refuses (record { header = header; level = level; partitions = before }) key ws e
+  pub stand : MayStand columns before
+  pub below : SayWhatIsHeld columns ms (is_below key) before
+  pub why : Refuses columns (record { header = header; level = level; partitions = before }) key ms e
   pub order : e ≡ Order → ⊥
 
-abbrev pub StopsAt : Header → ℕ → List Mutation → WriteFault → Type 0
-StopsAt header level ws e = (e ≡ Mem) ⊎ Stops header level ws e
+abbrev pub StopsAt : List Column → Header → ℕ → List MemPart → WriteFault → Type 0
+StopsAt columns header level ms e = (e ≡ Mem) ⊎ Stops columns header level ms e
 
 -- ---- what is written
 

@@ -18,21 +18,28 @@ use Rattle.cas_changes.specs.declared.entry.Change.{Change}
 use Rattle.cas_changes.specs.declared.entry.Entry.TheVariants.{Change as change_entry}
 use Rattle.cas_changes.specs.declared.said.TheConstants.{FIRST_DRAWN}
 use Rattle.cas_effects.specs.declared.refusal.TheConstants.{TOO_MANY}
-use Rattle.cas_flush.specs.Flushed.{SayWhatIsHeld, any}
-use Rattle.cas_flushing.specs.Flushed.{IsOpened, WhyUnopened}
+use Rattle.cas_flush.specs.Flushed.{FlushFault, SayWhatIsHeld, any}
+use Rattle.cas_flushing.specs.Flushed.{IsOpened, WhyUnopened, head_of}
+use Rattle.cas_flushing.specs.Laws.{SayTheSame}
 use Rattle.cas_info.specs.Allowed.{FitsInfo}
 use Rattle.cas_info.specs.declared.info.TableInfo.{TableInfo}
+use Rattle.cas_listed.specs.Listed.{StandIn}
 use Rattle.cas_journal.specs.Ends.{Ends}
-use Rattle.cas_journal.specs.Reach.{reach_of, reach_after}
+use Rattle.cas_journal.specs.Reach.{IsOver, reach_of, reach_after}
 use Rattle.cas_journal.specs.Stores.{Told, Holds, SameTables, appended, committed_all}
+use Rattle.cas_journal.specs.declared.fault.Counted.{Counted}
 use Rattle.cas_journal.specs.declared.fault.JournalFault.{JournalFault}
+use Rattle.cas_journal.specs.declared.fault.JournalFault.TheVariants.{TooMany}
 use Rattle.cas_memtable.specs.Kept.{HoldJust}
+use Rattle.cas_memtable.specs.declared.memtable.MemPart.{MemPart}
 use Rattle.cas_room.specs.Changing.{MayBeTold, StandsAmid}
 use Rattle.cas_room.specs.declared.fault.FreshFault.{FreshFault}
 use Rattle.cas_room.specs.declared.fault.FreshFault.TheVariants as fresh
 use Rattle.cas_room.specs.Keeping.{Keeps}
+use Rattle.cas_room.specs.Tables.{IsFull}
 use Rattle.cas_room.specs.Rooms.{accepted_in}
 use Rattle.cas_shard.specs.Flushing.{HasInMemory, SaysWhatTheyDo, frozen_at, memtables_at}
+use Rattle.cas_shard.specs.declared.entry.ShardOpening.{ShardOpening}
 use Rattle.cas_shard.specs.Shards.{ShardHistory, all_entries}
 use Rattle.cas_shard.specs.Stands.{KeepsFiles, ShardState, Stands, files_at, mutations_of, order_at}
 use Rattle.cas_sstread.specs.Loading.{Held}
@@ -50,7 +57,7 @@ use Rattle.cas_recovery.specs.Restored.{Remember}
 use Rattle.cas_sessions.specs.History.{History, DiskState, shard_at}
 use Rattle.cas_sessions.specs.Entered.{IsLeftAmid}
 use Rattle.cas_sessions.specs.Listing.{SameUpTo}
-use Rattle.cas_sessions.specs.Nodes.{State, StandsFor, LastsFor, disk_of}
+use Rattle.cas_sessions.specs.Nodes.{Explains, State, StandsFor, LastsFor, LastsForOne, disk_of}
 
 -- ---- shards
 
@@ -117,6 +124,7 @@ pub record Lists {T : Type 0} (c : Change) (result : Result T JournalFault) (s t
       → Leaves (λ i. StandsAmid told (change_entry c) found (accepted_in s.list) s.committed i) d e
   pub during : During SameTables d e
   pub outcome : Ends s.journal.first t.journal.first s.faults t.faults result
+  pub full : (what : Counted) (most : ℕ) → result ≡ Err (TooMany what most) → IsOver what (change_entry c) s.journal
   pub reach : reach_of t.journal ≡ reach_after result (change_entry c) (reach_of s.journal)
   pub tells : (i : Image) → d.reads i → (b : Image) × e.reads b
 
@@ -177,15 +185,31 @@ IsOwn Read = Unit {0}
 IsOwn (BadBlock number at) = Unit {0}
 IsOwn Mem = Unit {0}
 
--- why there is neither, by the same counts
-abbrev pub WhyNotMade : ℕ → ℕ → ℕ → ℕ → Fault → Type 0
-WhyNotMade faults now reads reads_now (Refused why) = why ≡ TOO_MANY
-WhyNotMade faults now reads reads_now (Stopped first) = ⊥
-WhyNotMade faults now reads reads_now (Failed None) = Rose faults now ⊎ Rose reads reads_now
-WhyNotMade faults now reads reads_now (Failed (Some number)) = ⊥
-WhyNotMade faults now reads reads_now Read = Rose reads reads_now
-WhyNotMade faults now reads reads_now (BadBlock number at) = ⊥
-WhyNotMade faults now reads reads_now Mem = Unit {0}
+-- the writer's fault is that of too much, not of the disk or of memory
+abbrev pub IsOfSize : WriteFault → Type 0
+IsOfSize write.Failed = ⊥
+IsOfSize write.Order = ⊥
+IsOfSize (write.TooMany what limit) = Unit {0}
+IsOfSize write.Unfit = Unit {0}
+IsOfSize write.Mem = ⊥
+
+-- memtables of a table hold too much for one file in that shard
+abbrev pub HoldTooMuch : TableSchema → ℕ → List MemPart → Type 0
+HoldTooMuch t shard ms = (number : ℕ) × (e : WriteFault) × IsOfSize e × FlushFault t.columns (head_of t shard number) ms e
+
+-- why there is neither, by the same counts: it is refused where something is full
+abbrev pub WhyNotMade : Type 0 → ℕ → ℕ → ℕ → ℕ → Fault → Type 0
+WhyNotMade Full faults now reads reads_now (Refused why) = (why ≡ TOO_MANY) × Full
+WhyNotMade Full faults now reads reads_now (Stopped first) = ⊥
+WhyNotMade Full faults now reads reads_now (Failed None) = Rose faults now ⊎ Rose reads reads_now
+WhyNotMade Full faults now reads reads_now (Failed (Some number)) = ⊥
+WhyNotMade Full faults now reads reads_now Read = Rose reads reads_now
+WhyNotMade Full faults now reads reads_now (BadBlock number at) = ⊥
+WhyNotMade Full faults now reads reads_now Mem = Unit {0}
+
+-- no file can be begun, or the memtables hold too much for one
+abbrev pub WhyNoFile : TableSchema → ℕ → ℕ → ℕ → List MemPart → Type 0
+WhyNoFile t shard live last ms = IsFull live last ⊎ HoldTooMuch t shard ms
 
 -- ---- a shard, and all of them
 
@@ -195,13 +219,15 @@ pub record FlushedOne (t : TableSchema) (n : ℕ) (q : ShardHistory) (c : Option
   pub others : (k table : ℕ) → ((k ≡ n) × (table ≡ t.number) → ⊥) → e.files k table ≡ d.files k table
   pub all : AreInFiles (clustering_order t.columns) (e.files n t.number) (mutations_of t.number (all_entries q))
   pub reach : e.reach ≡ reach_by d.reach c
+  pub live : e.live ≡ d.live + length (numbers_in c)
   pub stopped : e.stopped ≡ false
 
 -- it wasn't: no file is another
-pub record NotFlushed (d e : DiskState) (f : Fault) : Type 0 where
+pub record NotFlushed (t : TableSchema) (n : ℕ) (q : ShardHistory) (d e : DiskState) (f : Fault) : Type 0 where
   pub files : (k table : ℕ) → e.files k table ≡ d.files k table
   pub reach : e.reach ≡ d.reach
-  pub why : WhyNoFurther d e f
+  pub live : e.live ≡ d.live
+  pub why : WhyNoFurther t n q d e f
 
 -- a number, if there is one
 abbrev pub listed_of : Option ℕ → List ℕ
@@ -211,7 +237,7 @@ listed_of (Some n) = n ∷ []
 -- how a flush in a shard ends, with this change
 abbrev pub EndsIn : TableSchema → ℕ → ShardHistory → Option Change → Result (Option ℕ) Fault → DiskState → DiskState → Type 0
 EndsIn t n q c (Ok told) d e = FlushedOne t n q c d e
-EndsIn t n q c (Err f) d e = NotFlushed d e f
+EndsIn t n q c (Err f) d e = NotFlushed t n q d e f
 
 -- its answer tells the number of the file that the change adds, if there is one; after a fault there is none
 abbrev pub TellsIt : Option Change → Result (Option ℕ) Fault → Type 0
@@ -256,9 +282,27 @@ pub record IsBeside (s u : State) (d e : Disk) : Type 0 where
   pub during : During (SameUpTo s.last_file) d e
   pub tells : (c : Image) → d.reads c → (b : Image) × e.reads b
 
--- its disk keeps what it kept, with these changes told, and a crash in between leaves what it must
-abbrev pub GoesOn : History → List Change → List Mutation → State → State → Disk → Disk → Type 0
-GoesOn h changes found s u d e = ((now : Told) × LastsFor (record h { changes = changes }) found u e now) × Leaves (IsLeftAmid found s.list h) d e
+-- memory stands for the history, however that says that the disk stands
+abbrev pub AreStood : History → State → Type 0
+AreStood h s = StandsFor (record h { disk = disk_of s }) s
+
+-- In whatever a crash leaves stands the file of which that is told; mutations that say what the frozen memtables do stand in it.
+abbrev pub StandsSo : TableSchema → ℕ → TableInfo → Option StoredTable → Disk → Type 0
+StandsSo t n told o disk =
+    (ws : List Mutation) → HoldJust t.columns (memtables_at o) ws → (i : Image) → disk.may_leave i
+    → (vs : List Mutation) × StandIn t n i told vs × SayTheSame t.columns (frozen_at o) vs
+
+-- Its disk keeps what it kept, with these changes told, and a crash in between leaves what it must; and under this condition what a crash may leave explains it,
+-- where that explained the history before.
+abbrev pub GoesOn : Type 0 → History → List Change → List Mutation → Told → State → State → Disk → Disk → Type 0
+GoesOn Left h changes found told s u d e =
+    ((now : Told) × LastsFor (record h { changes = changes }) found u e now
+    × (Left → AreStood h s → (openings : ℕ → ShardOpening) → Explains openings h found s d told → Explains openings h found u e now))
+    × Leaves (IsLeftAmid found s.list h) d e
+
+-- the folder tells what it reads
+abbrev pub TellsReads : Disk → Type 0
+TellsReads d = (c : Image) × d.reads c
 
 -- memory stands for the same but for the disk, and this becomes of it
 abbrev pub Moved : (History → DiskState → DiskState → Type 0) → State → State → Type 0
@@ -266,33 +310,36 @@ Moved Ends s u = Remember s.tables s.shards → (h : History) → StandsFor h s
     → StandsFor (record h { disk = disk_of u }) u × Remember u.tables u.shards × Ends h (disk_of s) (disk_of u)
 
 -- The file of that number took the place of the frozen memtables, where the manifest listed none of that number or above.
-pub record TakesFile (t : TableSchema) (n number : ℕ) (Says : Type 0) (result : Result (Option ℕ) Fault) (s u : State) (d e : Disk) : Type 0 where
+pub record TakesFile (t : TableSchema) (n number : ℕ) (Says Left : Type 0) (result : Result (Option ℕ) Fault) (s u : State) (d e : Disk) : Type 0 where
   pub beside : IsBeside s u d e
+  pub numbers : u.last_file ≡ s.last_file
   pub change : Option Change
   pub answer : TellsIt change result
   pub lasts : (h : History) (found : List Mutation) (told : Told) → h.tables ≡ s.tables → LastsFor h found s d told
-      → AllByRecursion (λ k. k < number) (said_by told.entries).numbers → GoesOn h (changes_by h.changes change) found s u d e
-  pub moves : Says → Moved (λ h. EndsIn t n (shard_at h n) change result) s u
+      → AllByRecursion (λ k. k < number) (said_by told.entries).numbers → GoesOn Left h (changes_by h.changes change) found told s u d e
+  pub moves : Says → IfErr result (λ f. LastsForOne s d) → Moved (λ h. EndsIn t n (shard_at h n) change result) s u
   pub own : IfErr result IsOwn
 
--- a flush of a table in a shard
+-- a flush of a table in a shard; why it failed is known where the disk keeps what some history says for which the store stands
 pub record FlushesOne (t : TableSchema) (n : ℕ) (result : Result (Option ℕ) Fault) (s u : State) (d e : Disk) : Type 0 where
   pub beside : IsBeside s u d e
+  pub numbers : u.last_file ≤ s.last_file + 1
   pub change : Option Change
   pub answer : TellsIt change result
   pub lasts : (h : History) (found : List Mutation) (told : Told) → h.tables ≡ s.tables → LastsFor h found s d told
-      → GoesOn h (changes_by h.changes change) found s u d e
-  pub moves : (c : Image) → d.reads c → Moved (λ h. EndsIn t n (shard_at h n) change result) s u
+      → GoesOn (TellsReads d) h (changes_by h.changes change) found told s u d e
+  pub moves : (c : Image) → d.reads c → IfErr result (λ f. LastsForOne s d) → Moved (λ h. EndsIn t n (shard_at h n) change result) s u
   pub own : IfErr result IsOwn
 
 -- so many shards were flushed, with these numbers of files
 pub record FlushesFirst (t : TableSchema) (count : ℕ) (told : List ℕ) (s u : State) (d e : Disk) : Type 0 where
   pub beside : IsBeside s u d e
+  pub numbers : u.last_file ≤ s.last_file + count
   pub changes : List (Option Change)
   pub many : length changes ≡ count
   pub added : told ≡ numbers_added changes
   pub lasts : (h : History) (found : List Mutation) (told : Told) → h.tables ≡ s.tables → LastsFor h found s d told
-      → GoesOn h (fold changes_by h.changes changes) found s u d e
+      → GoesOn (TellsReads d) h (fold changes_by h.changes changes) found told s u d e
   pub moves : (c : Image) → d.reads c → Moved (λ h before now. Flushed h t changes now) s u
 
 -- the first ones were, and then one wasn't
@@ -301,8 +348,9 @@ pub record FlushesNoFurther (t : TableSchema) (f : Fault) (s u : State) (d e : D
   pub changes : List (Option Change)
   pub few : length changes < length s.shards
   pub lasts : (h : History) (found : List Mutation) (told : Told) → h.tables ≡ s.tables → LastsFor h found s d told
-      → GoesOn h (fold changes_by h.changes changes) found s u d e
-  pub moves : (c : Image) → d.reads c → Moved (λ h before now. Flushed h t changes now × WhyNoFurther before now f) s u
+      → GoesOn (TellsReads d) h (fold changes_by h.changes changes) found told s u d e
+  pub moves : (c : Image) → d.reads c → LastsForOne s d
+      → Moved (λ h before now. Flushed h t changes now × WhyNoFurther t (length changes) (shard_at h (length changes)) before now f) s u
   pub own : IsOwn f
 
 -- ---- faults

@@ -12,7 +12,7 @@ use Rattle.cas_sstwrite.specs.Writers.{contents_of}
 use Rattle.cas_sstwrite.proofs.Results.{passed_on}
 use Rattle.cas_flush.specs.Flushed.{FlushFault}
 use Rattle.cas_flush.proofs.Reaching.{none_reached, all_reached}
-use Rattle.cas_flush.proofs.Writing.{stop_fault, end_fault, contents_are}
+use Rattle.cas_flush.proofs.Writing.{stop_fault, end_fault, contents_are, may_stand}
 use Rattle.cas_flush.proofs.flush.flush_parts.Goals as goal
 
 -- where there is a first key, something is held
@@ -44,10 +44,11 @@ returns-in_err-write_keys-clause-why g c =
     let e = c.in_err-write_keys.field-0.0 in
     passed_on c.from_residual-in_err-write_keys.result e
     (λ f. g.D.Draft.number c.args.draft ≡ c.args.header.number → ((bytes : List ℕ) → g.D.Draft.written c.args.draft bytes → bytes ≡ [])
-    → (wss : List (List Mutation)) → HoldMutations columns (map arc_value c.args.memtables.now) wss → FlushFault c.args.header (all_of wss) f)
+    → (wss : List (List Mutation)) → HoldMutations columns (map arc_value c.args.memtables.now) wss
+    → FlushFault columns c.args.header (map arc_value c.args.memtables.now) f)
     c.from_residual-in_err-write_keys.ensures.1
     (λ number empty wss hold.
-    stop_fault w.header w.level c.args.header (all_of wss) e c.in_ok-writer.ensures.header.0 c.in_ok-writer.ensures.header.1
+    stop_fault columns w.header w.level c.args.header (map arc_value c.args.memtables.now) e c.in_ok-writer.ensures.header.0 c.in_ok-writer.ensures.header.1
     (c.in_err-write_keys.ensures.why columns wss hold c.in_ok-slice.ensures (c.in_ok-writer.ensures.begun number empty columns)))
 
 pub returns-in-Ok-clause-written : goal.returns-in-Ok-clause-written
@@ -73,8 +74,10 @@ pub returns-in-Err-clause-why : goal.returns-in-Err-clause-why
 returns-in-Err-clause-why g c number empty wss hold =
     let columns = c.args.columns.now in
     let (ps, are, w) = c.in_ok-write_keys.ensures.written columns wss hold c.in_ok-slice.ensures (c.in_ok-writer.ensures.begun number empty columns) in
-    subst (FlushFault c.args.header (all_of wss)) (sym c.fault_of.ensures)
-    (end_fault c.args.header (all_of wss) ps (contents_of c.write_keys.new.writer ps) c.in-Err.fault (are wss hold.stand)
+    let ms : List MemPart = map arc_value c.args.memtables.now in
+    subst (FlushFault columns c.args.header ms) (sym c.fault_of.ensures)
+    (end_fault columns c.args.header ms ps (contents_of c.write_keys.new.writer ps) c.in-Err.fault
+    (may_stand g.D.Draft.number g.D.Draft.written columns c.write_keys.new.writer ps w) are
     (contents_are c.write_keys.new.writer c.args.header ps (c.in_ok-write_keys.ensures.kept.0 ∙ c.in_ok-writer.ensures.header.0)
     (c.in_ok-write_keys.ensures.kept.1 ∙ c.in_ok-writer.ensures.header.1))
     (c.in-Err.ensures.why c.in_ok-write_keys.ensures.sound columns ps w))

@@ -1,4 +1,4 @@
-use Rattle.std.proofs.Common.{◌≡◌, ℕ, List, [], ◌++◌, map, Option, Some, refl, sym, ap, ◌∙◌, subst, arith}
+use Rattle.std.proofs.Common.{ℕ, List, [], ◌++◌, map, Option, Some, refl, ap, ◌∙◌, subst, arith}
 use Rattle.std.specs.Arc.{arc_value}
 use Rattle.std.specs.Option.{option_copied}
 use Rattle.cas_types.specs.declared.schema.Column.{Column}
@@ -11,7 +11,7 @@ use Rattle.cas_sstwrite.specs.Writers.{Writes, partition_of}
 use Rattle.cas_flush.specs.Inner.Keys.{IsWhole, StopsAt}
 use Rattle.cas_flush.proofs.Counting.{fewer_left}
 use Rattle.cas_flush.proofs.Reaching.{none_reached, reached_next, all_below, all_reached}
-use Rattle.cas_flush.proofs.Writing.{stops_at}
+use Rattle.cas_flush.proofs.Writing.{may_stand, stops_at}
 use Rattle.cas_flush.proofs.flush.write_keys.Goals as goal
 
 pub loop-key-init : goal.loop-key-init
@@ -68,11 +68,12 @@ returns-in_err-write_key-clause-why g c =
     let e = c.in_err-write_key.field-0.0 in
     passed_on c.from_residual.result e
     (λ f. (columns : List Column) (wss : List (List Mutation)) → HoldMutations columns ms wss → IsWhole columns c.args.slice.now
-    → Writes g.D.Draft.number g.D.Draft.written columns old [] → StopsAt old.header old.level (all_of wss) f)
+    → Writes g.D.Draft.number g.D.Draft.written columns old [] → StopsAt columns old.header old.level ms f)
     c.from_residual.ensures.1
     (λ columns wss hold whole w.
     let (ps, are, writes) = c.loop-key.invariant.written columns wss hold whole w in
-    subst (λ h. StopsAt h old.level (all_of wss) e) c.loop-key.invariant.kept.0
-    (subst (λ n. StopsAt now.header n (all_of wss) e) c.loop-key.invariant.kept.1
-    (stops_at now.header now.level (all_of wss) ps key e (all_below (clustering_order columns) ms wss hold.stand after key is ps (are wss hold.stand))
+    subst (λ h. StopsAt columns h old.level ms e) c.loop-key.invariant.kept.0
+    (subst (λ n. StopsAt columns now.header n ms e) c.loop-key.invariant.kept.1
+    (stops_at columns now.header now.level ms wss ps key e hold.stand (may_stand g.D.Draft.number g.D.Draft.written columns now ps writes)
+    (λ vss stand. all_below (clustering_order columns) ms vss stand after key is ps (are vss stand))
     (c.in_err-write_key.ensures.why columns wss ps hold whole writes))))

@@ -1,4 +1,4 @@
-use Rattle.std.proofs.Common.{◌≡◌, ℕ, List, [], None, map}
+use Rattle.std.proofs.Common.{◌≡◌, List, [], None, map}
 use Rattle.std.specs.Arc.{arc_value}
 use Rattle.std.specs.Option.{option_copied}
 use Rattle.cas_types.specs.declared.schema.Column.{Column}

@@ -8,7 +8,7 @@ use Rattle.cas_node.specs.Ran.{GoodOrMem, IfUnread, weight}
 use Rattle.cas_node.specs.declared.cause.Cause.TheVariants as cause
 use Rattle.cas_node.specs.declared.program.TheConstants.{SCRIPT_LIMIT}
 use Rattle.cas_node.proofs.RunLemmas.{bad_opening, disk_opening, disk_told, ends_well, grave_opening, none_bad, not_disk_told, opening_read, opens_well, ran_all, served_read}
-use Rattle.cas_node.proofs.Staying.{listed_through, tells_through}
+use Rattle.cas_node.proofs.Staying.{listed_opening, listed_through, tells_through}
 use Rattle.cas_node.proofs.program.run.Goals as goal
 
 pub returns-in-Err-start-clause-bad : goal.returns-in-Err-start-clause-bad
@@ -56,6 +56,9 @@ returns-clause-headline g c =
     (λ d reads bytes entries mutations opens.
     tells_through c.in-Ok-Some.command.limits.shards entries mutations d _ _ opens reads (λ store. c.in-Ok-start.ensures.stays _ refl tt d reads bytes entries mutations store)
     (λ new. c.in-Ok-start.ensures.made _ refl tt d reads bytes new))
+    (λ d reads bytes entries mutations opens.
+    listed_opening c.in-Ok-Some.command.limits.shards entries mutations d _ _ opens (λ store. c.in-Ok-start.ensures.stays _ refl tt d reads bytes entries mutations store)
+    (λ new. c.in-Ok-start.ensures.made _ refl tt d reads bytes new))
     _
     (subst (λ l. length l ≤ SCRIPT_LIMIT) (sym c.deref.ensures.value) c.in-Ok.ensures.short) c.serve.ensures.served
     (λ none. ap (λ k. g.K.Sink.took k) (c.serve.ensures.unwritten none))
@@ -92,5 +95,8 @@ returns-clause-complete g c = λ well.
     (λ new. c.in-Ok-start.ensures.made _ refl tt d reads bytes new) c.serve.ensures.tables)
     (λ d reads bytes entries mutations opens.
     tells_through c.in-Ok-Some.command.limits.shards entries mutations d _ _ opens reads (λ store. c.in-Ok-start.ensures.stays _ refl tt d reads bytes entries mutations store)
+    (λ new. c.in-Ok-start.ensures.made _ refl tt d reads bytes new))
+    (λ d reads bytes entries mutations opens.
+    listed_opening c.in-Ok-Some.command.limits.shards entries mutations d _ _ opens (λ store. c.in-Ok-start.ensures.stays _ refl tt d reads bytes entries mutations store)
     (λ new. c.in-Ok-start.ensures.made _ refl tt d reads bytes new))
     c.serve.ensures.served c.serve.ensures.write

@@ -27,7 +27,7 @@ returns-clause-served g c =
     ∙ ap (λ n. with_faults c.args.faults (g.F.Folder.faults_of last.node.room.folder) n c.run_lines-told.result) counted)
     (left_by _ _ last.session.seat.list last.session.seat.calls last.seconds _ _ _ c.end.ensures.same (ap (λ x. g.F.Folder.disk x) ended)
     (ap (λ x. g.F.Folder.disk x) (c.close-2.ensures.folder ∙ ended)) c.close-2.ensures.left)
-    c.run_lines-told.ensures.lists c.run_lines-told.ensures.numbers
+    c.run_lines-told.ensures.lists
     _ _ _ _ c.finished.result.pass
     (ap (λ r. g.F.Folder.disk r.folder) c.session.ensures.room ∙ ap (λ x. g.F.Folder.disk x) c.in-Ok.ensures.folder)
     (sym (ap (λ x. g.F.Folder.disk x) closed))

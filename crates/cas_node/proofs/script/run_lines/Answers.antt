@@ -1,8 +1,7 @@
-use Rattle.std.proofs.Common.{rules, arith, subst, sym}
+use Rattle.std.proofs.Common.{rules, arith, subst, sym, ◌∙◌}
 use Rattle.cas_disk.proofs.Moments.{no_call}
 use Rattle.cas_node.specs.Inner.Turns.{IsToldSo}
-use Rattle.cas_node.proofs.SessionLemmas.{all_so_far_none, all_so_far_more, all_ran_cut, lists_more, tells_on, worse_told}
-use Rattle.cas_sessions.proofs.Going.{numbers_more}
+use Rattle.cas_node.proofs.SessionLemmas.{all_so_far_none, all_so_far_more, all_ran_cut, all_ran_whole, lists_more, none_left, tells_on, worse_told}
 use Rattle.cas_sessions.proofs.Listing.{up_to_twice}
 use Rattle.cas_sessions.specs.Listing.{SameUpTo}
 use Rattle.cas_node.proofs.script.run_lines.Goals as goal
@@ -36,17 +35,11 @@ returns-in-Some-clause-lists g c =
 pub returns-clause-lists : goal.returns-clause-lists
 returns-clause-lists g c = c.loop-rest.invariant.so_far.lists
 
-pub returns-in-Some-clause-numbers : goal.returns-in-Some-clause-numbers
-returns-in-Some-clause-numbers g c = numbers_more _ _ _ c.loop-rest.invariant.so_far.numbers c.take_turn-turn.ensures.numbers
-
-pub returns-clause-numbers : goal.returns-clause-numbers
-returns-clause-numbers g c = c.loop-rest.invariant.so_far.numbers
-
 pub loop-rest-preserved : goal.loop-rest-preserved
 loop-rest-preserved g c = record {
   so_far =
       all_so_far_more c.args.ask.now.kind (g.C.Clock.may_give c.args.ask.now.clock.now) _ _ _ _ _ _ _ _ _ _ _ _ _ _ _ _ _
-      c.loop-rest.invariant.so_far c.next_line.ensures.lines (tells_on _ _ _ c.loop-rest.invariant.tables) c.take_turn-turn.ensures.turned c.take_turn-turn.ensures.lists c.take_turn-turn.ensures.numbers c.in_default.is
+      c.loop-rest.invariant.so_far c.next_line.ensures.lines (tells_on _ _ _ c.loop-rest.invariant.tables) c.take_turn-turn.ensures.turned c.take_turn-turn.ensures.lists c.in_default.is
       c.worse-cause.ensures;
   tables = up_to_twice _ _ _ _ _ c.loop-rest.invariant.last c.loop-rest.invariant.tables c.take_turn-turn.ensures.tables;
   last = omega (arith, c.loop-rest.invariant.last, c.take_turn-turn.ensures.counts.2);
@@ -57,3 +50,8 @@ loop-rest-preserved g c = record {
   faults = omega (arith, c.loop-rest.invariant.faults, c.take_turn-turn.ensures.faults);
   stalls = omega (arith, c.loop-rest.invariant.stalls, c.take_turn-turn.ensures.stalls);
 }
+
+pub returns-clause-ran : goal.returns-clause-ran
+returns-clause-ran g c =
+    all_ran_whole c.args.ask.now.kind (g.C.Clock.may_give c.args.ask.now.clock.now) _ _ _ _ _ _ _ _ _ c.loop-rest.invariant.so_far
+    (none_left c.args.ask.now.kind (g.C.Clock.may_give c.args.ask.now.clock.now) c.loop-rest.rest.now (sym c.is_empty.ensures ∙ c.loop-rest-test.false))

@@ -1,6 +1,6 @@
 use Rattle.std.proofs.Common.{arith, sym, subst, []}
 use Rattle.std.proofs.lemmas.Grind.{common_steps}
-use Rattle.cas_recovery.specs.Restored.{Remember}
+use Rattle.cas_recovery.specs.Restored.{RememberAll}
 use Rattle.cas_recovery.specs.Inner.Restoring.{AreRestored, HaveNoFiles}
 use Rattle.cas_recovery.proofs.Restoring.{memory_new, no_files_new, one_new}
 use Rattle.cas_recovery.proofs.memory.new_shards.Goals as goal
@@ -13,6 +13,6 @@ loop-shard-preserved g c = record {
       subst (λ xs. AreRestored tables [] xs) (sym c.in_ok-push.ensures.items)
       (one_new tables c.loop-shard.shards.items c.new.result (c.loop-shard.invariant.new tables) (c.new.ensures.stands tables));
   memory = λ tables.
-      subst (λ xs. Remember tables xs) (sym c.in_ok-push.ensures.items)
+      subst (λ xs. RememberAll tables [] xs) (sym c.in_ok-push.ensures.items)
       (memory_new tables c.loop-shard.shards.items c.new.result (c.loop-shard.invariant.memory tables) c.new.ensures.memory);
 }

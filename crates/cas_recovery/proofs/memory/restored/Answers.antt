@@ -1,6 +1,6 @@
 use Rattle.std.proofs.Common.{◌≡◌, ◌∙◌, List, Option, Some, sym, subst}
 use Rattle.cas_shard.specs.Stands.{ShardState}
-use Rattle.cas_recovery.specs.Restored.{Remember}
+use Rattle.cas_recovery.specs.Restored.{RememberAll}
 use Rattle.cas_recovery.specs.Inner.Restoring.{AreRestored, HasRestored, HaveNoFiles, HaveRestored}
 use Rattle.cas_recovery.proofs.Restoring.{first_memory, first_no_files, first_restored}
 use Rattle.cas_recovery.proofs.memory.restored.Goals as goal
@@ -16,6 +16,6 @@ returns-clause-restored g c mutations has =
           subst (λ (l : List ShardState). AreRestored tables mutations l) (sym c.truncate.ensures.items)
           (first_restored tables mutations c.args.count _ (subst (λ (a : List ShardState). AreRestored tables mutations a) (sym same) (were.1 tables count log))),
       λ tables count log.
-          subst (Remember tables) (sym c.truncate.ensures.items)
-          (first_memory tables c.args.count _ (subst (Remember tables) (sym same) (were.2 tables count log))),
+          subst (λ (l : List ShardState). RememberAll tables mutations l) (sym c.truncate.ensures.items)
+          (first_memory tables mutations c.args.count _ (subst (λ (a : List ShardState). RememberAll tables mutations a) (sym same) (were.2 tables count log))),
     )

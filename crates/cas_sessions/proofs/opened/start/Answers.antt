@@ -1,7 +1,9 @@
 use Rattle.std.proofs.Common.{◌∙◌, sym, subst}
 use Rattle.cas_disk.specs.Disk.{During, Same}
 use Rattle.cas_opening.specs.Opening.{MayBeMadeNew, MayBeOpened}
-use Rattle.cas_sessions.proofs.Remembering.{have_memory}
+use Rattle.cas_changes.specs.Saying.{said_by}
+use Rattle.cas_recovery.specs.Openings.{unflushed_of}
+use Rattle.cas_sessions.proofs.Remembering.{have_memory, some_of_all}
 use Rattle.cas_sessions.proofs.Serving.{started}
 use Rattle.cas_sessions.proofs.opened.start.Goals as goal
 
@@ -45,4 +47,7 @@ returns-in-Err-new-clause-untouched g c = λ after ok err d reads bytes fresh st
     subst (λ x. During Same (g.F.Folder.disk c.args.folder) (g.F.Folder.disk x)) (sym (err ∙ c.not_opened-in-Err-new.ensures.folder)) (c.recover.ensures.untouched d reads bytes fresh store)
 
 pub invariant_of-result-clause-kept : goal.invariant_of-result-clause-kept
-invariant_of-result-clause-kept g c = have_memory _ _ c.in-Ok.ensures.recovered.memory
+invariant_of-result-clause-kept g c =
+    let back = c.in-Ok.ensures.recovered in
+    have_memory c.in-Ok.started.tables.items c.in-Ok.started.shards.items
+    (some_of_all c.in-Ok.started.tables.items c.in-Ok.started.shards.items (unflushed_of (said_by back.entries) back.mutations) back.memory)

@@ -1,11 +1,10 @@
 use Rattle.std.proofs.Common.{refl, arith}
 use Rattle.std.proofs.lemmas.Int.{ints}
-use Rattle.cas_node.proofs.Answered.{answers_clock, answers_flush, answers_statement, answers_status, says_flush, says_moment}
+use Rattle.cas_node.proofs.Answered.{answers_clock, answers_flush, answers_statement, answers_status, answers_verify, says_flush, says_moment}
 use Rattle.cas_sessions.proofs.Answering.{says_spelled, stands_at}
 use Rattle.cas_disk.proofs.Moments.{no_call}
 use Rattle.cas_sessions.specs.Listing.{SameUpTo}
 use Rattle.cas_sessions.proofs.Listing.{lists_nothing, up_to_same}
-use Rattle.cas_sessions.proofs.Going.{numbers_none}
 use Rattle.cas_node.proofs.runner.Runner.answer_known.Goals as goal
 
 pub set_clock-requires : goal.set_clock-requires
@@ -42,15 +41,6 @@ returns-in-Syntax-clause-lists g c = λ none. lists_nothing _ _
 pub returns-in-Statement-clause-lists : goal.returns-in-Statement-clause-lists
 returns-in-Statement-clause-lists g c = λ none. c.answer-answer.ensures.lists c.args.self.now.seconds
 
-pub returns-in-Blank-clause-numbers : goal.returns-in-Blank-clause-numbers
-returns-in-Blank-clause-numbers g c = numbers_none _ _ refl refl
-
-pub returns-in-Syntax-clause-numbers : goal.returns-in-Syntax-clause-numbers
-returns-in-Syntax-clause-numbers g c = numbers_none _ _ refl refl
-
-pub returns-in-Statement-clause-numbers : goal.returns-in-Statement-clause-numbers
-returns-in-Statement-clause-numbers g c = c.answer-answer.ensures.numbers c.args.self.now.seconds
-
 pub returns-in-Flush-clause-answers : goal.returns-in-Flush-clause-answers
 returns-in-Flush-clause-answers g c =
     answers_flush c.args.ask.now.kind (g.C.Clock.may_give c.args.ask.now.clock.now) _ _ _ _ c.args.text.now c.args.line c.in-Flush.name _ c.flush.ensures.flushes c.requires.says c.in-Flush.is
@@ -71,5 +61,7 @@ returns-in-Status-clause-tables g c = no_call (SameUpTo _) _
 pub returns-in-Status-clause-lists : goal.returns-in-Status-clause-lists
 returns-in-Status-clause-lists g c = λ none. lists_nothing _ _
 
-pub returns-in-Status-clause-numbers : goal.returns-in-Status-clause-numbers
-returns-in-Status-clause-numbers g c = numbers_none _ _ refl refl
+pub returns-in-Verify-clause-answers : goal.returns-in-Verify-clause-answers
+returns-in-Verify-clause-answers g c = λ known.
+    answers_verify c.args.ask.now.kind (g.C.Clock.may_give c.args.ask.now.clock.now) _ _ _ _ c.args.text.now c.args.line c.in-Verify.name _
+    c.verify.ensures.verifies c.requires.says c.in-Verify.is

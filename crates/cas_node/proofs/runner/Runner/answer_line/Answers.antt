@@ -1,8 +1,6 @@
-use Rattle.std.proofs.Common.{refl}
 use Rattle.cas_disk.proofs.Moments.{no_call}
 use Rattle.cas_sessions.specs.Listing.{SameUpTo}
 use Rattle.cas_sessions.proofs.Listing.{lists_nothing}
-use Rattle.cas_sessions.proofs.Going.{numbers_none}
 use Rattle.cas_node.proofs.runner.Runner.answer_line.Goals as goal
 
 pub returns-in-Err-clause-tables : goal.returns-in-Err-clause-tables
@@ -10,6 +8,3 @@ returns-in-Err-clause-tables g c = no_call (SameUpTo _) _
 
 pub returns-in-Err-clause-lists : goal.returns-in-Err-clause-lists
 returns-in-Err-clause-lists g c = λ none. lists_nothing _ _
-
-pub returns-in-Err-clause-numbers : goal.returns-in-Err-clause-numbers
-returns-in-Err-clause-numbers g c = numbers_none _ _ refl refl

@@ -1,10 +1,9 @@
-use Rattle.std.proofs.Common.{refl, arith}
+use Rattle.std.proofs.Common.{arith}
 use Rattle.std.proofs.lemmas.Int.{ints}
 use Rattle.cas_node.proofs.Answered.{refuses_clock, sets_clock}
 use Rattle.cas_disk.proofs.Moments.{no_call}
 use Rattle.cas_sessions.specs.Listing.{SameUpTo}
 use Rattle.cas_sessions.proofs.Listing.{lists_nothing}
-use Rattle.cas_sessions.proofs.Going.{numbers_none}
 use Rattle.cas_node.proofs.runner.Runner.set_clock.Goals as goal
 
 pub returns-in-Manual-clause-sets : goal.returns-in-Manual-clause-sets
@@ -24,9 +23,3 @@ returns-in-Manual-clause-lists g c = lists_nothing _ _
 
 pub returns-in-System-clause-lists : goal.returns-in-System-clause-lists
 returns-in-System-clause-lists g c = lists_nothing _ _
-
-pub returns-in-Manual-clause-numbers : goal.returns-in-Manual-clause-numbers
-returns-in-Manual-clause-numbers g c = numbers_none _ _ refl refl
-
-pub returns-in-System-clause-numbers : goal.returns-in-System-clause-numbers
-returns-in-System-clause-numbers g c = numbers_none _ _ refl refl

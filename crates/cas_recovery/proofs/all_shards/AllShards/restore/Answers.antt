@@ -3,8 +3,7 @@ use Rattle.std.proofs.lemmas.Option.{slice_get-get_or}
 use Rattle.std.specs.Prelude.{slice_get}
 use Rattle.cas_recovery.specs.Found.{found_in}
 use Rattle.cas_recovery.specs.Inner.Restoring.{HaveRestored}
-use Rattle.cas_shard.specs.Flushing.{one_of}
-use Rattle.cas_recovery.proofs.Restoring.{above_here, belongs_here, belongs_too, front_given, more_restored, one_keeps_none, one_remembers}
+use Rattle.cas_recovery.proofs.Restoring.{above_here, belongs_here, belongs_too, front_given, more_remembered, more_restored, one_keeps_none}
 use Rattle.cas_recovery.proofs.all_shards.AllShards.restore.Goals as goal
 
 pub returns : goal.returns
@@ -22,10 +21,8 @@ returns g c before has =
           (c.in_ok-restore.ensures.stands tables count (found_in m.shard before) (were m.shard x there) (belongs_here tables count before m [] (before ++ m ∷ []) refl given)
           (above_here tables count before m [] (before ++ m ∷ []) refl given)),
       λ tables count given.
-          one_remembers tables xs m.shard x c.restore.new.self (had.2 tables count (front_given tables count before m [] (before ++ m ∷ []) refl given)) there
-          (λ table k. (
-            k.0 ++ one_of table m,
-            λ more. c.in_ok-restore.ensures.memory (tables ++ more) count table k.0
-                (belongs_too tables more count m (belongs_here tables count before m [] (before ++ m ∷ []) refl given)) (k.1 more),
-          )),
+          let were = had.2 tables count (front_given tables count before m [] (before ++ m ∷ []) refl given) in
+          more_remembered tables before m xs x c.restore.new.self were there
+          (λ table ws k more. c.in_ok-restore.ensures.memory (tables ++ more) count table ws
+          (belongs_too tables more count m (belongs_here tables count before m [] (before ++ m ∷ []) refl given)) (k more)),
     )

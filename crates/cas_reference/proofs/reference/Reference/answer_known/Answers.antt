@@ -1,7 +1,7 @@
 use Rattle.std.proofs.Common.{arith}
 use Rattle.std.proofs.lemmas.Int.{ints}
 use Rattle.cas_reference.specs.Held.{held}
-use Rattle.cas_reference.proofs.Doing.{answers_flush, answers_statement, says_moment}
+use Rattle.cas_reference.proofs.Doing.{answers_flush, answers_statement, answers_verify, says_moment}
 use Rattle.cas_reference.proofs.reference.Reference.answer_known.Goals as goal
 
 pub set_clock-requires : goal.set_clock-requires
@@ -18,3 +18,8 @@ pub returns-in-Flush : goal.returns-in-Flush
 returns-in-Flush g c =
     answers_flush (g.C.Clock.may_give c.args.clock.now) (held c.args.self.now) c.args.text.now c.args.line c.in-Flush.name c.flush.result c.flush.ensures
     c.requires.says c.in-Flush.is
+
+pub returns-in-Verify : goal.returns-in-Verify
+returns-in-Verify g c =
+    answers_verify (g.C.Clock.may_give c.args.clock.now) (held c.args.self.now) c.args.text.now c.args.line c.in-Verify.name c.verify.result c.verify.ensures
+    c.requires.says c.in-Verify.is

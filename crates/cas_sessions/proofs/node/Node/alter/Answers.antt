@@ -10,9 +10,9 @@ use Rattle.cas_recovery.proofs.Places.{get_within}
 use Rattle.cas_sessions.proofs.Tables.{adds_no_keys, altered_by, has_spelling, is_short, mapped, moves_done, moves_not, moves_nowhere, under_altered}
 use Rattle.cas_sessions.specs.Calls.{reply_of}
 use Rattle.cas_sessions.specs.declared.answer.Fault.{Fault}
-use Rattle.cas_recovery.specs.Restored.{HaveMemory, HaveNoMore, MayBeRead, Remember}
+use Rattle.cas_recovery.specs.Restored.{HaveMemory, HaveNoMore, MayBeRead, Remember, RememberAll}
 use Rattle.cas_sessions.proofs.Filing.{readable_altered, unmade_altered}
-use Rattle.cas_sessions.proofs.Remembering.{memory_altered, remember_altered}
+use Rattle.cas_sessions.proofs.Remembering.{all_altered, memory_altered, remember_altered}
 use Rattle.cas_sessions.proofs.Sounding.{sound_told}
 use Rattle.cas_sessions.proofs.Telling.{true_of_end}
 use Rattle.cas_sessions.proofs.Crashing.{amid_defined, amid_nothing, fits_told}
@@ -52,7 +52,7 @@ returns-in-Err-define-clause-changes g c = λ clock.
       last_file = ap (λ q. q.last) c.define.ensures.numbers;
       live = refl;
     })
-    c.define.ensures.count (reply_of (Err c.fault_for.result)) c.in-Err-define.fault (ap (λ (x : Fault). reply_of (Err x)) c.fault_for.ensures) refl short c.in-Err-define.ensures.outcome c.in-Err-define.ensures.reach
+    c.define.ensures.count (reply_of (Err c.fault_for.result)) c.in-Err-define.fault c.define.ensures.tables tt (ap (λ (x : Fault). reply_of (Err x)) c.fault_for.ensures) refl short c.in-Err-define.ensures.outcome c.in-Err-define.ensures.reach
     (λ what most e. c.in-Err-define.ensures.full what most (ap Err e)) c.in-Err-define.ensures.kept
 
 pub index_mut-requires : goal.index_mut-requires
@@ -85,10 +85,12 @@ returns-clause-changes g c = λ clock.
       last_file = ap (λ q. q.last) c.define.ensures.numbers;
       live = refl;
     })
-    c.define.ensures.count tt (new ∙ sym (mapped ts a))
+    c.define.ensures.count c.define.ensures.tables tt (new ∙ sym (mapped ts a))
     (λ z y so. subst (λ (us : List TableSchema). Stands us z y) (sym new) (under_altered a (adds_no_keys ts a c.requires.told) ts z y so))
     (λ k. subst (λ (us : List TableSchema). Remember us c.args.self.now.shards.items) (sym new)
     (remember_altered a (adds_no_keys ts a c.requires.told) ts c.args.self.now.shards.items k))
+    (λ ms k. subst (λ (us : List TableSchema). RememberAll us ms c.args.self.now.shards.items) (sym new)
+    (all_altered a (adds_no_keys ts a c.requires.told) ts c.args.self.now.shards.items ms k))
     c.in_default.ensures.outcome c.in_default.ensures.reach c.in_default.ensures.kept
 
 pub invariant_of-self-2 : goal.invariant_of-self-2

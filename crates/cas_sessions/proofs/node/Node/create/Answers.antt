@@ -8,9 +8,9 @@ use Rattle.cas_shard.specs.Stands.{Stands}
 use Rattle.cas_sessions.proofs.Tables.{created, has_spelling, is_short, moves_done, moves_not, moves_reserved, pushed, under_created}
 use Rattle.cas_sessions.specs.Calls.{reply_of}
 use Rattle.cas_sessions.specs.declared.answer.Fault.{Fault}
-use Rattle.cas_recovery.specs.Restored.{HaveMemory, HaveNoMore, MayBeRead, Remember}
+use Rattle.cas_recovery.specs.Restored.{HaveMemory, HaveNoMore, MayBeRead, Remember, RememberAll}
 use Rattle.cas_sessions.proofs.Filing.{readable_created, unmade_created}
-use Rattle.cas_sessions.proofs.Remembering.{memory_created, remember_created}
+use Rattle.cas_sessions.proofs.Remembering.{all_created, memory_created, remember_created}
 use Rattle.cas_sessions.proofs.Sounding.{sound_reserved, sound_told}
 use Rattle.cas_sessions.proofs.Telling.{true_of_end}
 use Rattle.cas_sessions.proofs.Crashing.{amid_defined, amid_nothing, fits_told}
@@ -48,7 +48,7 @@ returns-in-Err-define-clause-changes g c = λ clock.
       last_file = ap (λ q. q.last) c.define.ensures.numbers;
       live = refl;
     })
-    c.define.ensures.count (reply_of (Err c.fault_for.result)) c.in-Err-define.fault (ap (λ (x : Fault). reply_of (Err x)) c.fault_for.ensures) c.reserve.ensures.items short c.in-Err-define.ensures.outcome c.in-Err-define.ensures.reach
+    c.define.ensures.count (reply_of (Err c.fault_for.result)) c.in-Err-define.fault c.define.ensures.tables tt (ap (λ (x : Fault). reply_of (Err x)) c.fault_for.ensures) c.reserve.ensures.items short c.in-Err-define.ensures.outcome c.in-Err-define.ensures.reach
     (λ what most e. c.in-Err-define.ensures.full what most (ap Err e)) c.in-Err-define.ensures.kept
 
 pub returns-clause-changes : goal.returns-clause-changes
@@ -72,9 +72,10 @@ returns-clause-changes g c = λ clock.
       last_file = ap (λ q. q.last) c.define.ensures.numbers;
       live = refl;
     })
-    c.define.ensures.count tt (new ∙ sym (created ts c.args.table))
+    c.define.ensures.count c.define.ensures.tables tt (new ∙ sym (created ts c.args.table))
     (λ z y so. subst (λ (us : List TableSchema). Stands us z y) (sym new) (under_created ts c.args.table z y so))
     (λ k. subst (λ (us : List TableSchema). Remember us c.args.self.now.shards.items) (sym new) (remember_created ts c.args.self.now.shards.items c.args.table k))
+    (λ ms k. subst (λ (us : List TableSchema). RememberAll us ms c.args.self.now.shards.items) (sym new) (all_created ts c.args.self.now.shards.items c.args.table ms k))
     c.in_default-define.ensures.outcome c.in_default-define.ensures.reach c.in_default-define.ensures.kept
 
 pub invariant_of-self-2 : goal.invariant_of-self-2

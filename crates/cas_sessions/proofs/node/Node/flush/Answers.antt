@@ -23,12 +23,12 @@ returns-in-Ok-clause-flushes g c = λ clock image reads.
     flushes_all c.args.name.now t _ _ _ _ _ is (sym c.in_default.ensures) c.in-Ok.ensures.going (c.in-Ok.ensures.flushed clock t at_t) image reads
 
 pub returns-in-Err-clause-faults : goal.returns-in-Err-clause-faults
-returns-in-Err-clause-faults g c = λ clock image reads.
+returns-in-Err-clause-faults g c = λ clock image reads one.
     let n = c.args.self.now in
     let t = c.in-Some.table.now in
     let is : table_named n.tables.items c.args.name.now ≡ Some t = ap (λ ts. table_named ts c.args.name.now) (sym c.deref.ensures.value) ∙ sym c.in-Some.ensures in
     let at_t : slice_get n.tables.items t.number ≡ Some t = named_there n.tables.items c.args.name.now t n.sound.tables.numbered is in
-    flushes_some c.args.name.now t c.in-Err.fault _ _ _ _ is (sym c.in_default.ensures) (c.in-Err.ensures.failed clock t at_t) image reads
+    flushes_some c.args.name.now t c.in-Err.fault _ _ _ _ is (sym c.in_default.ensures) (c.in-Err.ensures.failed clock t at_t) image reads one
 
 pub returns-in-Ok-clause-crash : goal.returns-in-Ok-clause-crash
 returns-in-Ok-clause-crash g c = λ clock.

@@ -3,15 +3,15 @@ use Rattle.std.specs.Prelude.{IfNone, slice_get}
 use Rattle.cas_bounds.specs.ClusteringOrder.{clustering_order}
 use Rattle.cas_memtable.specs.Kept.{HoldJust}
 use Rattle.cas_shard.specs.Flushing.{frozen_at, memtables_at}
-use Rattle.cas_sessions.specs.declared.answer.Fault.TheVariants.{Mem}
 use Rattle.cas_sessions.specs.Inner.Flushing.{HoldsNothing}
 use Rattle.cas_sessions.proofs.FlushFiles.{holds_nothing, no_frozen}
 use Rattle.cas_sessions.proofs.FlushMaking.{one_in_memory}
-use Rattle.cas_sessions.proofs.FlushShard.{flushes_quietly, flushes_then, not_made_since, quiet_fails, quiet_none_at}
+use Rattle.cas_sessions.proofs.FlushShard.{flushes_quietly, flushes_then, not_made_since, quiet_fails, quiet_none_at, quiet_starves}
 use Rattle.cas_sessions.proofs.FlushSound.{numbered}
 use Rattle.cas_sessions.proofs.Parts.{there_at}
 use Rattle.cas_sessions.proofs.FlushSteps.{quiet_remembers, quiet_then}
 use Rattle.cas_sessions.proofs.Listing.{up_to_twice}
+use Rattle.cas_sessions.proofs.TooMuch.{why_full_then}
 use Rattle.cas_sessions.proofs.node.Node.flush_shard.Goals as goal
 
 pub returns-in-Ok-eq0-clause-flushes : goal.returns-in-Ok-eq0-clause-flushes
@@ -24,15 +24,17 @@ returns-in-Ok-eq0-clause-flushes g c = λ clock t at_t.
     let y = here.0 in
     let now_t : slice_get f.tables.items c.args.table ≡ Some t = ap (λ ts. slice_get ts.items c.args.table) c.freeze.ensures.room.2 ∙ at_t in
     let frozen = c.in-Ok-eq0.ensures.frozen y here.1 in
-    flushes_quietly t c.args.place _ _ _ _ _ (c.freeze.ensures.quiet _ _ clock) c.freeze.ensures.tables
+    flushes_quietly t c.args.place _ _ _ _ _ (c.freeze.ensures.quiet _ _ clock) c.freeze.ensures.tables c.requires.going
+    (omega (arith, ap (λ r. r.numbers.last) c.freeze.ensures.room.0))
     (λ image reads have.
     quiet_none_at t c.args.place _ _ _ _ (c.freeze.ensures.quiet _ _ clock) c.requires.going y c.args.table number at_t here.1 frozen.1
     (λ kept. no_frozen (clustering_order t.columns) (frozen_at (slice_get y.stores c.args.table)) (omega (arith, frozen.0)))) tt refl
 
 pub returns-in-Err-clause-flushes : goal.returns-in-Err-clause-flushes
 returns-in-Err-clause-flushes g c = λ clock t at_t.
-    flushes_quietly t c.args.place _ _ _ _ _ (c.freeze.ensures.quiet _ _ clock) c.freeze.ensures.tables
-    (λ image reads have. quiet_fails t c.args.place _ _ _ _ (c.freeze.ensures.quiet _ _ clock) c.requires.going Mem tt) tt refl
+    flushes_quietly t c.args.place _ _ _ _ _ (c.freeze.ensures.quiet _ _ clock) c.freeze.ensures.tables c.requires.going
+    (omega (arith, ap (λ r. r.numbers.last) c.freeze.ensures.room.0))
+    (λ image reads have. quiet_starves t c.args.place _ _ _ _ (c.freeze.ensures.quiet _ _ clock) c.requires.going) tt refl
 
 pub returns-in-Ok-None-clause-flushes : goal.returns-in-Ok-None-clause-flushes
 returns-in-Ok-None-clause-flushes g c = λ clock t at_t.
@@ -52,7 +54,8 @@ returns-in-Ok-None-clause-flushes g c = λ clock t at_t.
     (subst (λ o. IfNone o ((u : _) (x : _) → slice_get f.tables.items c.args.table ≡ Some u → slice_get f.shards.items c.args.place ≡ Some x → HoldsNothing u (slice_get x.stores c.args.table)))
     c.in-Ok-None.field-0-is c.in-Ok-None.ensures.nothing) t y now_t here.1 in
     flushes_quietly t c.args.place _ _ _ _ _ (quiet_then _ _ _ _ _ _ (c.freeze.ensures.quiet _ _ clock) (c.make_file.ensures.quiet _ _ clock))
-    (up_to_twice _ _ _ _ _ (c.freeze.ensures.quiet 0 0 clock).last c.freeze.ensures.tables c.make_file.ensures.tables)
+    (up_to_twice _ _ _ _ _ (c.freeze.ensures.quiet 0 0 clock).last c.freeze.ensures.tables c.make_file.ensures.tables) c.requires.going
+    (omega (arith, ap (λ r. r.numbers.last) c.freeze.ensures.room.0, c.make_file.ensures.next))
     (λ image reads have.
     quiet_none_at t c.args.place _ _ _ _ (quiet_then _ _ _ _ _ _ (c.freeze.ensures.quiet _ _ clock) (c.make_file.ensures.quiet _ _ clock)) c.requires.going y c.args.table number at_t at_m frozen.1
     (λ kept.
@@ -66,13 +69,24 @@ returns-in-Ok-None-clause-going g c =
 
 pub returns-in-Err-make_file-clause-flushes : goal.returns-in-Err-make_file-clause-flushes
 returns-in-Err-make_file-clause-flushes g c = λ clock t at_t.
+    let n = c.args.self.now in
+    let f = c.freeze.new.self in
+    let number : t.number ≡ c.args.table = numbered 0 n.tables.items c.args.table t n.sound.tables.numbered at_t ∙ omega arith in
+    let low : c.args.place < length f.shards.items = omega (arith, f.sound.count, ap (λ l. l.shards) c.freeze.ensures.room.1, c.requires.within.1) in
+    let here = there_at f.shards.items c.args.place low in
+    let y = here.0 in
+    let now_t : slice_get f.tables.items c.args.table ≡ Some t = ap (λ ts. slice_get ts.items c.args.table) c.freeze.ensures.room.2 ∙ at_t in
     flushes_quietly t c.args.place _ _ _ _ _ (quiet_then _ _ _ _ _ _ (c.freeze.ensures.quiet _ _ clock) (c.make_file.ensures.quiet _ _ clock))
-    (up_to_twice _ _ _ _ _ (c.freeze.ensures.quiet 0 0 clock).last c.freeze.ensures.tables c.make_file.ensures.tables)
+    (up_to_twice _ _ _ _ _ (c.freeze.ensures.quiet 0 0 clock).last c.freeze.ensures.tables c.make_file.ensures.tables) c.requires.going
+    (omega (arith, ap (λ r. r.numbers.last) c.freeze.ensures.room.0, c.make_file.ensures.next))
     (λ image reads have.
     let read = (c.freeze.ensures.quiet 0 0 clock).tells image reads in
-    quiet_fails t c.args.place _ _ _ _ (quiet_then _ _ _ _ _ _ (c.freeze.ensures.quiet _ _ clock) (c.make_file.ensures.quiet _ _ clock)) c.requires.going c.in-Err-make_file.fault
-    (not_made_since _ _ _ _ _ _ c.in-Err-make_file.fault (c.freeze.ensures.quiet 0 0 clock).faults (c.freeze.ensures.quiet 0 0 clock).reads
-    (c.in-Err-make_file.ensures.why read.0 read.1 (quiet_remembers _ _ _ _ (c.freeze.ensures.quiet 0 0 clock) have)))) c.in-Err-make_file.ensures.own refl
+    quiet_fails t c.args.place _ _ _ _ (quiet_then _ _ _ _ _ _ (c.freeze.ensures.quiet _ _ clock) (c.make_file.ensures.quiet _ _ clock)) c.requires.going _ c.in-Err-make_file.fault
+    (not_made_since _ _ _ _ _ _ _ c.in-Err-make_file.fault (c.freeze.ensures.quiet 0 0 clock).faults (c.freeze.ensures.quiet 0 0 clock).reads
+    (c.in-Err-make_file.ensures.why read.0 read.1 (quiet_remembers _ _ _ _ (c.freeze.ensures.quiet 0 0 clock) have) t y now_t here.1))
+    (why_full_then t c.args.place c.args.table _ _ _ _ _ _ y (c.freeze.ensures.quiet c.args.session.now.seat.list c.args.session.now.seat.calls clock)
+    (c.make_file.ensures.quiet c.args.session.now.seat.list c.args.session.now.seat.calls clock) now_t number here.1))
+    c.in-Err-make_file.ensures.own refl
 
 pub take_file-requires-clause-going : goal.take_file-requires-clause-going
 take_file-requires-clause-going g c =
@@ -99,8 +113,10 @@ returns-clause-flushes g c = λ clock t at_t.
     let m_t : slice_get m.tables.items c.args.table ≡ Some t = ap (λ ts. slice_get ts.items c.args.table) c.make_file.ensures.same.2 ∙ now_t in
     let made = (rw c.in-Ok-Some.field-0-is at c.in-Ok-Some.ensures.made) t y now_t here.1 in
     let f_t : slice_get f.tables.items t.number ≡ Some t = ap (λ (k : ℕ). slice_get f.tables.items k) number ∙ now_t in
-    flushes_then t c.args.place _ _ _ _ _ _ _ _ _ _ (quiet_then _ _ _ _ _ _ (c.freeze.ensures.quiet _ _ clock) (c.make_file.ensures.quiet _ _ clock))
-    (up_to_twice _ _ _ _ _ (c.freeze.ensures.quiet 0 0 clock).last c.freeze.ensures.tables c.make_file.ensures.tables) (c.take_file.ensures.takes clock t y m_t at_m made.new) (c.freeze.ensures.quiet 0 0 clock).last made.above
+    flushes_then t c.args.place _ _ _ _ _ _ _ _ _ _ _ (quiet_then _ _ _ _ _ _ (c.freeze.ensures.quiet _ _ clock) (c.make_file.ensures.quiet _ _ clock))
+    (up_to_twice _ _ _ _ _ (c.freeze.ensures.quiet 0 0 clock).last c.freeze.ensures.tables c.make_file.ensures.tables) c.requires.going (c.take_file.ensures.takes clock t y m_t at_m made.new)
+    ((rw c.in-Ok-Some.field-0-is at c.in-Ok-Some.ensures.left) t y now_t here.1) (c.freeze.ensures.quiet 0 0 clock).last made.above
+    (omega (arith, ap (λ r. r.numbers.last) c.freeze.ensures.room.0, c.make_file.ensures.next))
     (λ image reads have.
     let read = (c.freeze.ensures.quiet 0 0 clock).tells image reads in
     let ws = quiet_remembers _ _ _ _ (c.freeze.ensures.quiet 0 0 clock) have c.args.place t.number y here.1 in

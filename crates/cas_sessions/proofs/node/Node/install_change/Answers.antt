@@ -162,6 +162,7 @@ returns-in-Ok-clause-lists g c = λ clock change is. record {
       (c.install.ensures.front found told keeps (subst (λ e. FitsEntry (said_by told.entries) e) (sym is) fits));
   during = c.install.ensures.tables;
   outcome = c.in-Ok.ensures.outcome;
+  full = λ what most told. absurd cc;
   reach = subst (λ e. reach_of c.install.new.self.journal ≡ reach_with e (reach_of c.args.self.now.room.journal)) is c.in-Ok.ensures.reach;
   tells = c.install.ensures.tables.tells;
 }

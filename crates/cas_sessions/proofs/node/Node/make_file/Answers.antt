@@ -1,16 +1,17 @@
-use Rattle.std.proofs.Common.{◌≡◌, ◌<◌, ◌∙◌, ℕ, pos, true, List, [], length, None, Some, refl, sym, ap, subst, arith}
+use Rattle.std.proofs.Common.{◌≡◌, inl, inr, ◌<◌, ◌∙◌, ℕ, pos, true, List, [], length, None, Some, Err, refl, sym, ap, subst, arith}
 use Rattle.std.proofs.Math.Logic.{∥∥₁_map}
 use Rattle.std.specs.Prelude.{slice_get}
 use Rattle.std.proofs.lemmas.Option.{slice_get_read}
 use Rattle.cas_atoms.specs.declared.atom.Mutation.{Mutation}
-use Rattle.cas_flushing.specs.Flushed.{Flushes}
+use Rattle.cas_flushing.specs.Flushed.{Flushes, head_of}
 use Rattle.cas_history.specs.Items.{listed}
 use Rattle.cas_history.specs.Last.{holds}
 use Rattle.cas_lifecycle.specs.Books.{is_live}
 use Rattle.cas_memtable.specs.Kept.{HoldJust}
 use Rattle.cas_refs.specs.Counts.{at}
 use Rattle.cas_shard.specs.Flushing.{frozen_at, memtables_at}
-use Rattle.cas_sessions.proofs.FlushMaking.{for_table, is_made, its_number, more_since, never_bad, one_in_memory, quiet_reads, stands_for, told_fits}
+use Rattle.cas_sessions.proofs.FlushMaking.{for_table, hold_too_much, is_made, its_number, more_since, never_bad, one_in_memory, quiet_reads, stands_for, told_fits, why_not_begun}
+use Rattle.cas_sessions.proofs.FlushMaking.{why_not_written}
 use Rattle.cas_sessions.proofs.FlushShard.{not_made_since}
 use Rattle.cas_sessions.proofs.FlushSteps.{quiet_then}
 use Rattle.cas_sessions.proofs.Listing.{up_to_twice}
@@ -122,8 +123,39 @@ returns-in-Ok-open_file-clause-made g c = λ t x at_t at_x.
     (more_since t c.args.place c.in-Ok-Some.written.0 (g.F.Draft.Draft.written c.in-Ok-Some.written.1) _ _ _ _ (λ tells. (c.begin_file.ensures.quiet 0 0 (pos 0)).tells tells.0 tells.1)
     (c.in-Ok-open_file.ensures.view t x now_t now_x)) told.0 (omega (arith, number, c.in-Ok.ensures.number.0))
 
+pub returns-in-Ok-open_file-clause-left : goal.returns-in-Ok-open_file-clause-left
+returns-in-Ok-open_file-clause-left g c = λ t x at_t at_x ws just i leaves.
+    let n = c.begin_file.new.self in
+    let sch = c.index-schema.result.now in
+    let sh = c.index-shard.result.now in
+    let low_t : c.args.table < length n.tables.items = subst (λ ts. c.args.table < length ts.items) (sym c.begin_file.ensures.same.2) c.requires.within.0 in
+    let low_n : c.args.place < n.limits.shards = subst (λ l. c.args.place < l.shards) (sym c.begin_file.ensures.same.1) c.requires.within.1 in
+    let at_sch : slice_get n.tables.items c.args.table ≡ Some sch = slice_get_read n.tables.items (length n.tables.items) c.args.table sch refl low_t c.index-schema.ensures in
+    let at_sh : slice_get n.shards.items c.args.place ≡ Some sh = slice_get_read n.shards.items n.limits.shards c.args.place sh (sym n.sound.count) low_n c.index-shard.ensures in
+    let now_t : slice_get n.tables.items c.args.table ≡ Some t = ap (λ ts. slice_get ts.items c.args.table) c.begin_file.ensures.same.2 ∙ at_t in
+    let now_x : slice_get n.shards.items c.args.place ≡ Some x = ap (λ xs. slice_get xs.items c.args.place) c.begin_file.ensures.same.0 ∙ at_x in
+    let its = its_number n.tables.items n.shards.items sch sch sh sh c.args.table c.args.place at_sch at_sch at_sh at_sh n.sound.tables.numbered in
+    let there : slice_get n.tables.items sch.number ≡ Some sch = ap (λ (k : ℕ). slice_get n.tables.items k) its ∙ at_sch in
+    let has = ∥∥₁_map (n.kept c.args.place sch.number sh at_sh) (λ k. (k.0, subst (λ (j : ℕ). HoldJust sch.columns (memtables_at (slice_get sh.stores j)) k.0) its (one_in_memory n.tables.items sch k.0 sh there k.1))) in
+    let told = told_fits g.F.Draft.Draft.number g.F.Draft.Draft.written sch c.args.place c.in-Ok.begun.0 (slice_get sh.stores c.args.table) c.in-Ok-Some.written.0 c.in-Ok-Some.written.1
+    (for_table n.tables.items n.shards.items sch sch sh sh c.args.table c.args.place at_sch at_sch at_sh at_sh n.sound.tables.numbered g.F.Draft.Draft.number g.F.Draft.Draft.written c.in-Ok.begun.0
+    c.in-Ok.begun.1 (Some c.in-Ok-Some.written) c.in-Ok.ensures.number.3 c.in-Ok.ensures.empty
+    (subst (λ r. (ws : List Mutation) → HoldJust sch.columns (memtables_at (slice_get sh.stores sch.number)) ws → g.F.Draft.Draft.number c.in-Ok.begun.1 ≡ c.in-Ok.begun.0
+    → ((b : List ℕ) → g.F.Draft.Draft.written c.in-Ok.begun.1 b → b ≡ []) → Flushes g.F.Draft.Draft.number g.F.Draft.Draft.written sch c.args.place c.in-Ok.begun.0 (frozen_at (slice_get sh.stores sch.number)) r)
+    c.in-Ok-Some.field-0-is c.in-Ok-Some.ensures.written)) has in
+    let number : c.in-Ok-Some.written.0.number ≡ c.in-Ok.begun.0 = told.1 in
+    let (b, written, there) = c.in-Ok-open_file.ensures.left i leaves in
+    let its =
+    stands_for g.F.Draft.Draft.number g.F.Draft.Draft.written t c.args.place c.in-Ok.begun.0 (slice_get x.stores c.args.table) c.in-Ok-Some.written.0 c.in-Ok-Some.written.1
+    (for_table n.tables.items n.shards.items t sch x sh c.args.table c.args.place now_t at_sch now_x at_sh n.sound.tables.numbered g.F.Draft.Draft.number g.F.Draft.Draft.written c.in-Ok.begun.0
+    c.in-Ok.begun.1 (Some c.in-Ok-Some.written) c.in-Ok.ensures.number.3 c.in-Ok.ensures.empty
+    (subst (λ r. (ws : List Mutation) → HoldJust sch.columns (memtables_at (slice_get sh.stores sch.number)) ws → g.F.Draft.Draft.number c.in-Ok.begun.1 ≡ c.in-Ok.begun.0
+    → ((b : List ℕ) → g.F.Draft.Draft.written c.in-Ok.begun.1 b → b ≡ []) → Flushes g.F.Draft.Draft.number g.F.Draft.Draft.written sch c.args.place c.in-Ok.begun.0 (frozen_at (slice_get sh.stores sch.number)) r)
+    c.in-Ok-Some.field-0-is c.in-Ok-Some.ensures.written)) ws just in
+    (its.written, its.listed i b written there, its.says)
+
 pub returns-in-Err-open_file-clause-why : goal.returns-in-Err-open_file-clause-why
-returns-in-Err-open_file-clause-why g c = λ image reads have.
+returns-in-Err-open_file-clause-why g c = λ image reads have t x at_t at_x.
     let n = c.begin_file.new.self in
     let sch = c.index-schema.result.now in
     let sh = c.index-shard.result.now in
@@ -145,8 +177,8 @@ returns-in-Err-open_file-clause-why g c = λ image reads have.
     let was_sch : slice_get c.args.self.now.tables.items sch.number ≡ Some sch = ap (λ ts. slice_get ts.items sch.number) (sym c.begin_file.ensures.same.2) ∙ there in
     let just = subst (λ (j : ℕ). HoldJust sch.columns (memtables_at (slice_get sh.stores j)) (have c.args.place sch.number sh was_sh).0) its_table
     (one_in_memory c.args.self.now.tables.items sch (have c.args.place sch.number sh was_sh).0 sh was_sch (have c.args.place sch.number sh was_sh).1) in
-    not_made_since _ _ _ _ _ _ c.in-Err-open_file.fault (c.begin_file.ensures.quiet 0 0 (pos 0)).faults (omega (arith, (c.begin_file.ensures.quiet 0 0 (pos 0)).reads, c.write_frozen.ensures.count.kept))
-    (never_bad sch c.args.place c.in-Ok-Some.written.0 (g.F.Draft.Draft.written c.in-Ok-Some.written.1) _ _ _ _ _ c.in-Err-open_file.fault
+    not_made_since _ _ _ _ _ _ _ c.in-Err-open_file.fault (c.begin_file.ensures.quiet 0 0 (pos 0)).faults (omega (arith, (c.begin_file.ensures.quiet 0 0 (pos 0)).reads, c.write_frozen.ensures.count.kept))
+    (never_bad sch c.args.place c.in-Ok-Some.written.0 (g.F.Draft.Draft.written c.in-Ok-Some.written.1) _ _ _ _ _ _ c.in-Err-open_file.fault
     ((c.begin_file.ensures.quiet 0 0 (pos 0)).tells image reads)
     (stands_for g.F.Draft.Draft.number g.F.Draft.Draft.written sch c.args.place c.in-Ok.begun.0 (slice_get sh.stores c.args.table) c.in-Ok-Some.written.0 c.in-Ok-Some.written.1
     (for_table n.tables.items n.shards.items sch sch sh sh c.args.table c.args.place at_sch at_sch at_sh at_sh n.sound.tables.numbered g.F.Draft.Draft.number g.F.Draft.Draft.written c.in-Ok.begun.0
@@ -199,3 +231,30 @@ returns-in-Err-open_file-clause-tables g c =
     let number : c.in-Ok-Some.written.0.number ≡ c.in-Ok.begun.0 = told.1 in
     let last = c.args.self.now.room.numbers.last in
     up_to_twice last last _ _ _ (omega arith) c.begin_file.ensures.tables (c.open_file.ensures.tables last (omega (arith, number, c.in-Ok.ensures.number.0)))
+
+pub returns-in-Err-clause-why : goal.returns-in-Err-clause-why
+returns-in-Err-clause-why g c = λ image reads have t x at_t at_x.
+    why_not_begun _ _ _ _ _ _ _ _ c.in-Err.fault _ c.in-Err.is c.fault_of_fresh.ensures (λ full. inl full) c.begin_file.ensures.outcome
+
+pub returns-in-Err-write_frozen-clause-why : goal.returns-in-Err-write_frozen-clause-why
+returns-in-Err-write_frozen-clause-why g c = λ image reads have t x at_t at_x.
+    let n = c.begin_file.new.self in
+    let sch = c.index-schema.result.now in
+    let sh = c.index-shard.result.now in
+    let low_t : c.args.table < length n.tables.items = subst (λ ts. c.args.table < length ts.items) (sym c.begin_file.ensures.same.2) c.requires.within.0 in
+    let low_n : c.args.place < n.limits.shards = subst (λ l. c.args.place < l.shards) (sym c.begin_file.ensures.same.1) c.requires.within.1 in
+    let at_sch : slice_get n.tables.items c.args.table ≡ Some sch = slice_get_read n.tables.items (length n.tables.items) c.args.table sch refl low_t c.index-schema.ensures in
+    let at_sh : slice_get n.shards.items c.args.place ≡ Some sh = slice_get_read n.shards.items n.limits.shards c.args.place sh (sym n.sound.count) low_n c.index-shard.ensures in
+    let now_t : slice_get n.tables.items c.args.table ≡ Some t = ap (λ ts. slice_get ts.items c.args.table) c.begin_file.ensures.same.2 ∙ at_t in
+    let now_x : slice_get n.shards.items c.args.place ≡ Some x = ap (λ xs. slice_get xs.items c.args.place) c.begin_file.ensures.same.0 ∙ at_x in
+    let its = its_number n.tables.items n.shards.items sch sch sh sh c.args.table c.args.place at_sch at_sch at_sh at_sh n.sound.tables.numbered in
+    let there : slice_get n.tables.items sch.number ≡ Some sch = ap (λ (k : ℕ). slice_get n.tables.items k) its ∙ at_sch in
+    let was_sh : slice_get c.args.self.now.shards.items c.args.place ≡ Some sh = ap (λ xs. slice_get xs.items c.args.place) (sym c.begin_file.ensures.same.0) ∙ at_sh in
+    let was_sch : slice_get c.args.self.now.tables.items sch.number ≡ Some sch = ap (λ ts. slice_get ts.items sch.number) (sym c.begin_file.ensures.same.2) ∙ there in
+    let ws = have c.args.place sch.number sh was_sh in
+    let tally : g.F.Tally.Count.number n.tally ≡ g.F.Tally.Count.number c.args.self.now.tally = ap (λ k. g.F.Tally.Count.number k) c.begin_file.ensures.same.3 in
+    why_not_written _ sch.columns (head_of sch c.args.place c.in-Ok.begun.0) (frozen_at (slice_get sh.stores sch.number)) _ _ _ _ c.in-Err-write_frozen.fault _ c.fault_of_write.ensures
+    (λ of why. inr (hold_too_much n.tables.items n.shards.items t sch x sh c.args.table c.args.place now_t at_sch now_x at_sh n.sound.tables.numbered c.in-Ok.begun.0
+    c.in-Err-write_frozen.fault of why))
+    (c.in-Err-write_frozen.ensures.why ws.0 (one_in_memory c.args.self.now.tables.items sch ws.0 sh was_sch ws.1) c.in-Ok.ensures.number.3 c.in-Ok.ensures.empty)
+    (λ e. let rose = c.write_frozen.ensures.count.rose (c.in-Err-write_frozen.is ∙ ap Err e) in omega (arith, rose, tally))

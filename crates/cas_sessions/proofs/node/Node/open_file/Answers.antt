@@ -1,7 +1,8 @@
-use Rattle.std.proofs.Common.{◌≡◌, ◌∙◌, length, Some, Err, refl, sym, ap, arith}
+use Rattle.std.proofs.Common.{◌≡◌, ◌∙◌, ℕ, length, Some, Err, refl, sym, ap, subst, arith}
 use Rattle.std.specs.Prelude.{slice_get}
 use Rattle.std.proofs.lemmas.Option.{same_Some, slice_get_read}
 use Rattle.cas_disk.specs.Disk.{MayBeAnything}
+use Rattle.cas_disk.specs.declared.name.Name.TheVariants.{Table as table_name}
 use Rattle.cas_sessions.proofs.FlushMaking.{one_more, why_not_loaded_as}
 use Rattle.cas_sessions.proofs.Listing.{up_to_below}
 use Rattle.cas_sessions.proofs.node.Node.open_file.Goals as goal
@@ -39,3 +40,8 @@ returns-in-Ok-view_of_flush-clause-tables g c = λ last above.
 pub returns-in-Err-view_of_flush-clause-tables : goal.returns-in-Err-view_of_flush-clause-tables
 returns-in-Err-view_of_flush-clause-tables g c = λ last above.
     up_to_below last (g.F.Draft.Draft.number c.args.draft) MayBeAnything _ _ (omega (arith, above, c.requires.fits.1)) c.admit.ensures.during
+
+pub returns-in-Ok-view_of_flush-clause-left : goal.returns-in-Ok-view_of_flush-clause-left
+returns-in-Ok-view_of_flush-clause-left g c = λ i leaves.
+    let (b, written, there) = c.in-Ok.ensures.stands i leaves in
+    (b, written, subst (λ (k : ℕ). i (table_name k) ≡ Some b) c.requires.fits.1 there)

@@ -45,7 +45,9 @@ returns-in-Err-install_change-clause-takes g c = λ clock t x at_t at_x new.
       fits = (c.requires.new here.0 sh here.1 at_sh).fits;
       numbered = refl;
     } in
-    takes_none_as t c.args.place c.args.info.number _ _ _ _ c.in-Ok.change _ c.in-Err-install_change.fault c.fault_for.result n.sound.count c.requires.going adds c.requires.room.1
+    let number : t.number ≡ c.args.table = numbered 0 n.tables.items c.args.table t n.sound.tables.numbered at_t ∙ omega arith in
+    takes_none_as t c.args.place c.args.info.number c.args.table _ _ _ _ c.in-Ok.change x c.args.info (arc_value c.args.view) _ c.in-Err-install_change.fault c.fault_for.result number
+    at_t n.sound.count c.requires.going at_x adds (same_Some sh x (sym at_sh ∙ at_x)) refl is.of_table new (c.requires.frozen x at_x).2 c.requires.room.1 c.requires.room.0
     (c.in-Err-install_change.ensures.lists clock c.in-Ok.change refl) c.fault_for.ensures
 
 pub swap-requires-clause-some : goal.swap-requires-clause-some

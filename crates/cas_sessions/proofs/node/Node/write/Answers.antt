@@ -1,4 +1,4 @@
-use Rattle.std.proofs.Common.{◌≡◌, ◌+◌, Some}
+use Rattle.std.proofs.Common.{◌≡◌, ◌+◌, Some, inl, inr}
 use Rattle.std.proofs.Common.{w64, ℤ}
 use Rattle.std.proofs.Common.{ℕ, pos, map, Err, ap, sym, subst, ◌∙◌, refl, arith}
 use Rattle.std.proofs.lemmas.Int.{to_z-of_z}
@@ -13,7 +13,7 @@ use Rattle.cas_sessions.specs.Calls.{reply_of}
 use Rattle.cas_sessions.specs.declared.answer.Fault.{Fault}
 use Rattle.cas_sessions.proofs.Entering.{may_take, refused_at_once, starved_at_once, of_a_table, seated, place_is, number_is, not_taken, taken_and_committed, taken_and_failed, set_twice}
 use Rattle.cas_sessions.proofs.Filing.{still_readable, still_unmade}
-use Rattle.cas_sessions.proofs.Remembering.{entered_remembers, memory_entered, memory_prepared, prepared_remembers}
+use Rattle.cas_sessions.proofs.Remembering.{entered_just, memory_entered, memory_prepared, prepared_just}
 use Rattle.cas_sessions.proofs.Sounding.{sound_looked, sound_with}
 use Rattle.cas_sessions.proofs.Telling.{true_of_accepted, true_of_prepare}
 use Rattle.cas_sessions.proofs.Idling.{idle_taken}
@@ -30,14 +30,14 @@ pub returns-in-Err-Refused-clause-writes : goal.returns-in-Err-Refused-clause-wr
 returns-in-Err-Refused-clause-writes g c = λ clock.
     let at = to_z-of_z w64 c.args.reading c.ranges.reading in
     refused_at_once _ c.args.write c.args.reading _ c.prepare.new.self c.prepare.result
-    (record { sound = c.args.self.now.sound; within = c.requires.within.0; fits = c.requires.fits; seat = c.index_mut.ensures.value; files = c.prepare.ensures.files; answered = λ ts q stands quiet. c.prepare.ensures.answered ts q stands quiet ∙ ap (λ (k : ℤ). prepare_answer c.args.self.now.limits.segment k q c.args.write) at; stands = λ ts n q stands suits. subst (λ (k : ℤ). Stands ts (raised k q) c.prepare.new.self) at (c.prepare.ensures.stands ts n q stands suits); number = c.prepare.ensures.number; memory = prepared_remembers c.args.self.now.tables.items c.index_mut.result.now c.prepare.new.self c.args.write c.args.self.now.limits.shards c.requires.fits c.prepare.ensures.memory })
+    (record { sound = c.args.self.now.sound; within = c.requires.within.0; fits = c.requires.fits; seat = c.index_mut.ensures.value; files = c.prepare.ensures.files; answered = λ ts q stands quiet. c.prepare.ensures.answered ts q stands quiet ∙ ap (λ (k : ℤ). prepare_answer c.args.self.now.limits.segment k q c.args.write) at; stands = λ ts n q stands suits. subst (λ (k : ℤ). Stands ts (raised k q) c.prepare.new.self) at (c.prepare.ensures.stands ts n q stands suits); number = c.prepare.ensures.number; memory = prepared_just c.args.self.now.tables.items c.index_mut.result.now c.prepare.new.self c.args.write c.args.self.now.limits.shards c.requires.fits c.prepare.ensures.memory })
     _ _ _ c.in-Err-Refused.refused-is (c.in-Err-Refused.is ∙ ap Err c.in-Err-Refused.field-0-is)
 
 pub returns-in-Err-Mem-clause-writes : goal.returns-in-Err-Mem-clause-writes
 returns-in-Err-Mem-clause-writes g c = λ clock.
     let at = to_z-of_z w64 c.args.reading c.ranges.reading in
     starved_at_once _ c.args.write c.args.reading _ c.prepare.new.self c.prepare.result
-    (record { sound = c.args.self.now.sound; within = c.requires.within.0; fits = c.requires.fits; seat = c.index_mut.ensures.value; files = c.prepare.ensures.files; answered = λ ts q stands quiet. c.prepare.ensures.answered ts q stands quiet ∙ ap (λ (k : ℤ). prepare_answer c.args.self.now.limits.segment k q c.args.write) at; stands = λ ts n q stands suits. subst (λ (k : ℤ). Stands ts (raised k q) c.prepare.new.self) at (c.prepare.ensures.stands ts n q stands suits); number = c.prepare.ensures.number; memory = prepared_remembers c.args.self.now.tables.items c.index_mut.result.now c.prepare.new.self c.args.write c.args.self.now.limits.shards c.requires.fits c.prepare.ensures.memory }) _
+    (record { sound = c.args.self.now.sound; within = c.requires.within.0; fits = c.requires.fits; seat = c.index_mut.ensures.value; files = c.prepare.ensures.files; answered = λ ts q stands quiet. c.prepare.ensures.answered ts q stands quiet ∙ ap (λ (k : ℤ). prepare_answer c.args.self.now.limits.segment k q c.args.write) at; stands = λ ts n q stands suits. subst (λ (k : ℤ). Stands ts (raised k q) c.prepare.new.self) at (c.prepare.ensures.stands ts n q stands suits); number = c.prepare.ensures.number; memory = prepared_just c.args.self.now.tables.items c.index_mut.result.now c.prepare.new.self c.args.write c.args.self.now.limits.shards c.requires.fits c.prepare.ensures.memory }) _
 
 -- src/writing.rt:60:28
 pub accept-requires-clause-of : goal.accept-requires-clause-of
@@ -62,7 +62,7 @@ accept-requires-clause-of g c =
       last_file = c.args.self.now.room.numbers.last;
       live = c.args.self.now.live;
     }) c.args.write c.args.reading c.index_mut.result.now c.prepare.new.self c.prepare.result
-    (record { sound = c.args.self.now.sound; within = c.requires.within.0; fits = c.requires.fits; seat = c.index_mut.ensures.value; files = c.prepare.ensures.files; answered = λ ts q stands quiet. c.prepare.ensures.answered ts q stands quiet ∙ ap (λ (k : ℤ). prepare_answer c.args.self.now.limits.segment k q c.args.write) at; stands = λ ts n q stands suits. subst (λ (k : ℤ). Stands ts (raised k q) c.prepare.new.self) at (c.prepare.ensures.stands ts n q stands suits); number = c.prepare.ensures.number; memory = prepared_remembers c.args.self.now.tables.items c.index_mut.result.now c.prepare.new.self c.args.write c.args.self.now.limits.shards c.requires.fits c.prepare.ensures.memory })
+    (record { sound = c.args.self.now.sound; within = c.requires.within.0; fits = c.requires.fits; seat = c.index_mut.ensures.value; files = c.prepare.ensures.files; answered = λ ts q stands quiet. c.prepare.ensures.answered ts q stands quiet ∙ ap (λ (k : ℤ). prepare_answer c.args.self.now.limits.segment k q c.args.write) at; stands = λ ts n q stands suits. subst (λ (k : ℤ). Stands ts (raised k q) c.prepare.new.self) at (c.prepare.ensures.stands ts n q stands suits); number = c.prepare.ensures.number; memory = prepared_just c.args.self.now.tables.items c.index_mut.result.now c.prepare.new.self c.args.write c.args.self.now.limits.shards c.requires.fits c.prepare.ensures.memory })
     c.in-Ok.mutation c.in-Ok.is c.in-Ok.ensures.prepared c.in-Ok.ensures.ready
 
 -- src/writing.rt:60:28
@@ -92,7 +92,7 @@ pub returns-in-Err-clause-writes : goal.returns-in-Err-clause-writes
 returns-in-Err-clause-writes g c = λ clock.
     let at = to_z-of_z w64 c.args.reading c.ranges.reading in
     not_taken _ c.args.write c.args.reading c.index_mut.result.now c.prepare.new.self c.prepare.result
-    (record { sound = c.args.self.now.sound; within = c.requires.within.0; fits = c.requires.fits; seat = c.index_mut.ensures.value; files = c.prepare.ensures.files; answered = λ ts q stands quiet. c.prepare.ensures.answered ts q stands quiet ∙ ap (λ (k : ℤ). prepare_answer c.args.self.now.limits.segment k q c.args.write) at; stands = λ ts n q stands suits. subst (λ (k : ℤ). Stands ts (raised k q) c.prepare.new.self) at (c.prepare.ensures.stands ts n q stands suits); number = c.prepare.ensures.number; memory = prepared_remembers c.args.self.now.tables.items c.index_mut.result.now c.prepare.new.self c.args.write c.args.self.now.limits.shards c.requires.fits c.prepare.ensures.memory })
+    (record { sound = c.args.self.now.sound; within = c.requires.within.0; fits = c.requires.fits; seat = c.index_mut.ensures.value; files = c.prepare.ensures.files; answered = λ ts q stands quiet. c.prepare.ensures.answered ts q stands quiet ∙ ap (λ (k : ℤ). prepare_answer c.args.self.now.limits.segment k q c.args.write) at; stands = λ ts n q stands suits. subst (λ (k : ℤ). Stands ts (raised k q) c.prepare.new.self) at (c.prepare.ensures.stands ts n q stands suits); number = c.prepare.ensures.number; memory = prepared_just c.args.self.now.tables.items c.index_mut.result.now c.prepare.new.self c.args.write c.args.self.now.limits.shards c.requires.fits c.prepare.ensures.memory })
     c.in-Ok.mutation c.in-Ok.is c.in-Ok.ensures.prepared c.in-Ok.ensures.ready
     _ _ _ c.in-Err.fault (reply_of (Err c.fault_for.result)) (ap (λ (x : Fault). reply_of (Err x)) c.fault_for.ensures)
     (record {
@@ -113,6 +113,7 @@ returns-in-Err-clause-writes g c = λ clock.
       reads = refl;
       last_file = ap (λ q. q.last) c.accept.ensures.numbers;
       live = refl;
+      during = c.accept.ensures.tables;
     })
 
 -- src/writing.rt:39:5
@@ -120,7 +121,7 @@ pub returns-in-Ok-commit-clause-writes : goal.returns-in-Ok-commit-clause-writes
 returns-in-Ok-commit-clause-writes g c = λ clock.
     let at = to_z-of_z w64 c.args.reading c.ranges.reading in
     taken_and_committed _ c.args.write c.args.reading c.index_mut.result.now c.prepare.new.self c.prepare.result
-    (record { sound = c.args.self.now.sound; within = c.requires.within.0; fits = c.requires.fits; seat = c.index_mut.ensures.value; files = c.prepare.ensures.files; answered = λ ts q stands quiet. c.prepare.ensures.answered ts q stands quiet ∙ ap (λ (k : ℤ). prepare_answer c.args.self.now.limits.segment k q c.args.write) at; stands = λ ts n q stands suits. subst (λ (k : ℤ). Stands ts (raised k q) c.prepare.new.self) at (c.prepare.ensures.stands ts n q stands suits); number = c.prepare.ensures.number; memory = prepared_remembers c.args.self.now.tables.items c.index_mut.result.now c.prepare.new.self c.args.write c.args.self.now.limits.shards c.requires.fits c.prepare.ensures.memory })
+    (record { sound = c.args.self.now.sound; within = c.requires.within.0; fits = c.requires.fits; seat = c.index_mut.ensures.value; files = c.prepare.ensures.files; answered = λ ts q stands quiet. c.prepare.ensures.answered ts q stands quiet ∙ ap (λ (k : ℤ). prepare_answer c.args.self.now.limits.segment k q c.args.write) at; stands = λ ts n q stands suits. subst (λ (k : ℤ). Stands ts (raised k q) c.prepare.new.self) at (c.prepare.ensures.stands ts n q stands suits); number = c.prepare.ensures.number; memory = prepared_just c.args.self.now.tables.items c.index_mut.result.now c.prepare.new.self c.args.write c.args.self.now.limits.shards c.requires.fits c.prepare.ensures.memory })
     c.in-Ok.mutation c.in-Ok.is c.in-Ok.ensures.prepared c.in-Ok.ensures.ready
     _ _ _ c.index_mut-2.result.now c.enter.new.self
     (record {
@@ -136,8 +137,8 @@ returns-in-Ok-commit-clause-writes g c = λ clock.
       accepted = c.commit.ensures.accepted ∙ c.in-Ok-accept.ensures.accepted;
       stands = c.enter.ensures.stands;
       number = c.enter.ensures.number;
-      memory = entered_remembers c.args.self.now.tables.items c.index_mut-2.result.now c.enter.new.self c.args.write c.in-Ok.mutation c.args.self.now.limits.segment c.args.self.now.limits.shards c.requires.fits c.in-Ok.ensures.ready c.enter.ensures.memory;
-      keeps = λ found told keeps may. let got = c.in-Ok-accept.ensures.kept found told keeps may in (got.0, committed_all (took c.in-Ok.mutation got.0), got.1, refl, refl, refl, c.in-Ok-commit.ensures.kept found _ got.2);
+      memory = entered_just c.args.self.now.tables.items c.index_mut-2.result.now c.enter.new.self c.args.write c.in-Ok.mutation c.args.self.now.limits.segment c.args.self.now.limits.shards c.requires.fits c.in-Ok.ensures.ready c.enter.ensures.memory;
+      keeps = λ found told keeps may. let got = c.in-Ok-accept.ensures.kept found told keeps may in (got.0, committed_all (took c.in-Ok.mutation got.0), got.1, refl, refl, refl, inr refl, c.in-Ok-commit.ensures.kept found _ got.2);
       first = _;
       faults = _;
       ended = c.in-Ok-accept.ensures.outcome.1;
@@ -147,6 +148,7 @@ returns-in-Ok-commit-clause-writes g c = λ clock.
       reads = refl;
       last_file = ap (λ q. q.last) (c.commit.ensures.numbers ∙ c.accept.ensures.numbers);
       live = refl;
+      during = tables_twice _ _ _ c.accept.ensures.tables c.commit.ensures.tables;
     })
     _ c.in-Ok-accept.ensures.number
     c.in-Ok-commit.field-0 c.in-Ok-commit.ensures.outcome (c.in-Ok-commit.ensures.all ∙ sym c.commit.ensures.accepted)
@@ -156,7 +158,7 @@ pub returns-in-Err-commit-clause-writes : goal.returns-in-Err-commit-clause-writ
 returns-in-Err-commit-clause-writes g c = λ clock.
     let at = to_z-of_z w64 c.args.reading c.ranges.reading in
     taken_and_failed _ c.args.write c.args.reading c.index_mut.result.now c.prepare.new.self c.prepare.result
-    (record { sound = c.args.self.now.sound; within = c.requires.within.0; fits = c.requires.fits; seat = c.index_mut.ensures.value; files = c.prepare.ensures.files; answered = λ ts q stands quiet. c.prepare.ensures.answered ts q stands quiet ∙ ap (λ (k : ℤ). prepare_answer c.args.self.now.limits.segment k q c.args.write) at; stands = λ ts n q stands suits. subst (λ (k : ℤ). Stands ts (raised k q) c.prepare.new.self) at (c.prepare.ensures.stands ts n q stands suits); number = c.prepare.ensures.number; memory = prepared_remembers c.args.self.now.tables.items c.index_mut.result.now c.prepare.new.self c.args.write c.args.self.now.limits.shards c.requires.fits c.prepare.ensures.memory })
+    (record { sound = c.args.self.now.sound; within = c.requires.within.0; fits = c.requires.fits; seat = c.index_mut.ensures.value; files = c.prepare.ensures.files; answered = λ ts q stands quiet. c.prepare.ensures.answered ts q stands quiet ∙ ap (λ (k : ℤ). prepare_answer c.args.self.now.limits.segment k q c.args.write) at; stands = λ ts n q stands suits. subst (λ (k : ℤ). Stands ts (raised k q) c.prepare.new.self) at (c.prepare.ensures.stands ts n q stands suits); number = c.prepare.ensures.number; memory = prepared_just c.args.self.now.tables.items c.index_mut.result.now c.prepare.new.self c.args.write c.args.self.now.limits.shards c.requires.fits c.prepare.ensures.memory })
     c.in-Ok.mutation c.in-Ok.is c.in-Ok.ensures.prepared c.in-Ok.ensures.ready
     _ _ _ c.index_mut-2.result.now c.enter.new.self
     (record {
@@ -172,8 +174,8 @@ returns-in-Err-commit-clause-writes g c = λ clock.
       accepted = c.commit.ensures.accepted ∙ c.in-Ok-accept.ensures.accepted;
       stands = c.enter.ensures.stands;
       number = c.enter.ensures.number;
-      memory = entered_remembers c.args.self.now.tables.items c.index_mut-2.result.now c.enter.new.self c.args.write c.in-Ok.mutation c.args.self.now.limits.segment c.args.self.now.limits.shards c.requires.fits c.in-Ok.ensures.ready c.enter.ensures.memory;
-      keeps = λ found told keeps may. let got = c.in-Ok-accept.ensures.kept found told keeps may in (got.0, took c.in-Ok.mutation got.0, got.1, refl, refl, refl, c.in-Err-commit.ensures.kept found _ got.2);
+      memory = entered_just c.args.self.now.tables.items c.index_mut-2.result.now c.enter.new.self c.args.write c.in-Ok.mutation c.args.self.now.limits.segment c.args.self.now.limits.shards c.requires.fits c.in-Ok.ensures.ready c.enter.ensures.memory;
+      keeps = λ found told keeps may. let got = c.in-Ok-accept.ensures.kept found told keeps may in (got.0, took c.in-Ok.mutation got.0, got.1, refl, refl, refl, inl (omega arith), c.in-Err-commit.ensures.kept found _ got.2);
       first = _;
       faults = _;
       ended = c.in-Ok-accept.ensures.outcome.1;
@@ -183,6 +185,7 @@ returns-in-Err-commit-clause-writes g c = λ clock.
       reads = refl;
       last_file = ap (λ q. q.last) (c.commit.ensures.numbers ∙ c.accept.ensures.numbers);
       live = refl;
+      during = tables_twice _ _ _ c.accept.ensures.tables c.commit.ensures.tables;
     })
     (Unit {0}) c.in-Err-commit.field-0 c.in-Err-commit.ensures.outcome c.in-Err-commit.ensures.why (omega (arith, c.accept.ensures.committed, c.commit.ensures.rises))
 
@@ -211,7 +214,7 @@ returns-in-Ok-commit-clause-crash g c = λ clock h found told stands lasts.
     let at = to_z-of_z w64 c.args.reading c.ranges.reading in
     let got = c.in-Ok-accept.ensures.kept found told lasts.keeps
     (may_take _ c.args.write c.args.reading c.index_mut.result.now c.prepare.new.self c.prepare.result
-    (record { sound = c.args.self.now.sound; within = c.requires.within.0; fits = c.requires.fits; seat = c.index_mut.ensures.value; files = c.prepare.ensures.files; answered = λ ts q stands quiet. c.prepare.ensures.answered ts q stands quiet ∙ ap (λ (k : ℤ). prepare_answer c.args.self.now.limits.segment k q c.args.write) at; stands = λ ts n q stands suits. subst (λ (k : ℤ). Stands ts (raised k q) c.prepare.new.self) at (c.prepare.ensures.stands ts n q stands suits); number = c.prepare.ensures.number; memory = prepared_remembers c.args.self.now.tables.items c.index_mut.result.now c.prepare.new.self c.args.write c.args.self.now.limits.shards c.requires.fits c.prepare.ensures.memory })
+    (record { sound = c.args.self.now.sound; within = c.requires.within.0; fits = c.requires.fits; seat = c.index_mut.ensures.value; files = c.prepare.ensures.files; answered = λ ts q stands quiet. c.prepare.ensures.answered ts q stands quiet ∙ ap (λ (k : ℤ). prepare_answer c.args.self.now.limits.segment k q c.args.write) at; stands = λ ts n q stands suits. subst (λ (k : ℤ). Stands ts (raised k q) c.prepare.new.self) at (c.prepare.ensures.stands ts n q stands suits); number = c.prepare.ensures.number; memory = prepared_just c.args.self.now.tables.items c.index_mut.result.now c.prepare.new.self c.args.write c.args.self.now.limits.shards c.requires.fits c.prepare.ensures.memory })
     c.in-Ok.mutation c.in-Ok.is c.in-Ok.ensures.prepared c.in-Ok.ensures.ready h found _ told lasts) in
     amid_taken h found _ _ told stands lasts _ c.in-Ok.mutation _ _ got.0 _ _
     (ap (λ l. listed log_list l.pass.saw) c.commit.ensures.log ∙ c.in-Ok-accept.ensures.entered.0) got.1
@@ -222,7 +225,7 @@ returns-in-Err-commit-clause-crash g c = λ clock h found told stands lasts.
     let at = to_z-of_z w64 c.args.reading c.ranges.reading in
     let got = c.in-Ok-accept.ensures.kept found told lasts.keeps
     (may_take _ c.args.write c.args.reading c.index_mut.result.now c.prepare.new.self c.prepare.result
-    (record { sound = c.args.self.now.sound; within = c.requires.within.0; fits = c.requires.fits; seat = c.index_mut.ensures.value; files = c.prepare.ensures.files; answered = λ ts q stands quiet. c.prepare.ensures.answered ts q stands quiet ∙ ap (λ (k : ℤ). prepare_answer c.args.self.now.limits.segment k q c.args.write) at; stands = λ ts n q stands suits. subst (λ (k : ℤ). Stands ts (raised k q) c.prepare.new.self) at (c.prepare.ensures.stands ts n q stands suits); number = c.prepare.ensures.number; memory = prepared_remembers c.args.self.now.tables.items c.index_mut.result.now c.prepare.new.self c.args.write c.args.self.now.limits.shards c.requires.fits c.prepare.ensures.memory })
+    (record { sound = c.args.self.now.sound; within = c.requires.within.0; fits = c.requires.fits; seat = c.index_mut.ensures.value; files = c.prepare.ensures.files; answered = λ ts q stands quiet. c.prepare.ensures.answered ts q stands quiet ∙ ap (λ (k : ℤ). prepare_answer c.args.self.now.limits.segment k q c.args.write) at; stands = λ ts n q stands suits. subst (λ (k : ℤ). Stands ts (raised k q) c.prepare.new.self) at (c.prepare.ensures.stands ts n q stands suits); number = c.prepare.ensures.number; memory = prepared_just c.args.self.now.tables.items c.index_mut.result.now c.prepare.new.self c.args.write c.args.self.now.limits.shards c.requires.fits c.prepare.ensures.memory })
     c.in-Ok.mutation c.in-Ok.is c.in-Ok.ensures.prepared c.in-Ok.ensures.ready h found _ told lasts) in
     amid_taken h found _ _ told stands lasts _ c.in-Ok.mutation _ _ got.0 _ _
     (ap (λ l. listed log_list l.pass.saw) c.commit.ensures.log ∙ c.in-Ok-accept.ensures.entered.0) got.1
@@ -323,7 +326,7 @@ returns-in-Ok-commit-clause-lists g c = λ clock h found told stands lasts.
     let at = to_z-of_z w64 c.args.reading c.ranges.reading in
     let got = c.in-Ok-accept.ensures.kept found told lasts.keeps
     (may_take _ c.args.write c.args.reading c.index_mut.result.now c.prepare.new.self c.prepare.result
-    (record { sound = c.args.self.now.sound; within = c.requires.within.0; fits = c.requires.fits; seat = c.index_mut.ensures.value; files = c.prepare.ensures.files; answered = λ ts q stands quiet. c.prepare.ensures.answered ts q stands quiet ∙ ap (λ (k : ℤ). prepare_answer c.args.self.now.limits.segment k q c.args.write) at; stands = λ ts n q stands suits. subst (λ (k : ℤ). Stands ts (raised k q) c.prepare.new.self) at (c.prepare.ensures.stands ts n q stands suits); number = c.prepare.ensures.number; memory = prepared_remembers c.args.self.now.tables.items c.index_mut.result.now c.prepare.new.self c.args.write c.args.self.now.limits.shards c.requires.fits c.prepare.ensures.memory })
+    (record { sound = c.args.self.now.sound; within = c.requires.within.0; fits = c.requires.fits; seat = c.index_mut.ensures.value; files = c.prepare.ensures.files; answered = λ ts q stands quiet. c.prepare.ensures.answered ts q stands quiet ∙ ap (λ (k : ℤ). prepare_answer c.args.self.now.limits.segment k q c.args.write) at; stands = λ ts n q stands suits. subst (λ (k : ℤ). Stands ts (raised k q) c.prepare.new.self) at (c.prepare.ensures.stands ts n q stands suits); number = c.prepare.ensures.number; memory = prepared_just c.args.self.now.tables.items c.index_mut.result.now c.prepare.new.self c.args.write c.args.self.now.limits.shards c.requires.fits c.prepare.ensures.memory })
     c.in-Ok.mutation c.in-Ok.is c.in-Ok.ensures.prepared c.in-Ok.ensures.ready h found _ told lasts) in
     let going = going_on _ _ _ _ _ c.in-Ok-accept.ensures.outcome.1 in
     listing_twice _ _ _ (lists_room _ _ _ told lasts.keeps.lasts going.0 (c.accept.ensures.crash told lasts.keeps.lasts))
@@ -334,7 +337,7 @@ returns-in-Err-commit-clause-lists g c = λ clock h found told stands lasts.
     let at = to_z-of_z w64 c.args.reading c.ranges.reading in
     let got = c.in-Ok-accept.ensures.kept found told lasts.keeps
     (may_take _ c.args.write c.args.reading c.index_mut.result.now c.prepare.new.self c.prepare.result
-    (record { sound = c.args.self.now.sound; within = c.requires.within.0; fits = c.requires.fits; seat = c.index_mut.ensures.value; files = c.prepare.ensures.files; answered = λ ts q stands quiet. c.prepare.ensures.answered ts q stands quiet ∙ ap (λ (k : ℤ). prepare_answer c.args.self.now.limits.segment k q c.args.write) at; stands = λ ts n q stands suits. subst (λ (k : ℤ). Stands ts (raised k q) c.prepare.new.self) at (c.prepare.ensures.stands ts n q stands suits); number = c.prepare.ensures.number; memory = prepared_remembers c.args.self.now.tables.items c.index_mut.result.now c.prepare.new.self c.args.write c.args.self.now.limits.shards c.requires.fits c.prepare.ensures.memory })
+    (record { sound = c.args.self.now.sound; within = c.requires.within.0; fits = c.requires.fits; seat = c.index_mut.ensures.value; files = c.prepare.ensures.files; answered = λ ts q stands quiet. c.prepare.ensures.answered ts q stands quiet ∙ ap (λ (k : ℤ). prepare_answer c.args.self.now.limits.segment k q c.args.write) at; stands = λ ts n q stands suits. subst (λ (k : ℤ). Stands ts (raised k q) c.prepare.new.self) at (c.prepare.ensures.stands ts n q stands suits); number = c.prepare.ensures.number; memory = prepared_just c.args.self.now.tables.items c.index_mut.result.now c.prepare.new.self c.args.write c.args.self.now.limits.shards c.requires.fits c.prepare.ensures.memory })
     c.in-Ok.mutation c.in-Ok.is c.in-Ok.ensures.prepared c.in-Ok.ensures.ready h found _ told lasts) in
     let going = going_on _ _ _ _ _ c.in-Ok-accept.ensures.outcome.1 in
     listing_twice _ _ _ (lists_room _ _ _ told lasts.keeps.lasts going.0 (c.accept.ensures.crash told lasts.keeps.lasts))
