@@ -113,7 +113,7 @@ module _ {D : Type 0} (number_of : D → ℕ) (wrote : D → List ℕ → Type 0
           behind = [];
           place = refl;
           others = tt;
-          bad = record { number_is = is_own; bytes = b; there = refl; bad = bad };
+          bad = record { number_is = is_own; bad = bad };
         })
     fit n at is_own (inr old) = not_old at old
 

@@ -1,16 +1,26 @@
 -- A file as it is found, and behind those that are loaded.
-use Rattle.std.proofs.Common.{◌≡◌, ◌+◌, ◌<◌, ℕ, suc, List, [], ◌∷◌, ◌++◌, length, get_or, map, take, drop, drop-cons, take-append-drop, sym, ap, subst, ◌∙◌}
+use Rattle.std.proofs.Common.{◌≡◌, ◌+◌, ◌<◌, ℕ, suc, List, [], ◌∷◌, ◌++◌, Option, length, get_or, map, take, drop, drop-cons, take-append-drop, sym, ap, subst, ◌∙◌}
 use Rattle.std.proofs.lemmas.List.{map-append, take_more}
 use Rattle.std.specs.List.{AllByRecursion}
 use Rattle.cas_types.specs.declared.schema.TableSchema.{TableSchema}
-use Rattle.cas_disk.specs.Disk.{Disk, During, Follows, Image, Same}
+use Rattle.cas_bounds.specs.ClusteringOrder.{clustering_order}
+use Rattle.cas_disk.specs.Disk.{Disk, During, Follows, Image, Same, bytes_of}
 use Rattle.cas_disk.specs.declared.name.Name.TheVariants.{Table as table_name}
 use Rattle.cas_disk.proofs.Moments.{reads_on}
 use Rattle.cas_info.specs.declared.info.TableInfo.{TableInfo}
-use Rattle.cas_sstread.specs.Loading.{Held}
+use Rattle.cas_sstread.specs.Reading.{loaded_at}
+use Rattle.cas_sstread.specs.Loading.{Held, IsBadAt}
 use Rattle.cas_view.specs.Views.{File, file_of, files_of}
 use Rattle.cas_view.specs.declared.view.OpenFile.{OpenFile}
 use Rattle.cas_listed.specs.Listed.{AreLoaded, IsBadFile, IsBadListed, IsLoaded, Loads}
+
+-- a file that stands in both images alike is bad in both
+pub bad_as : (t : TableSchema) (shard : ℕ) (c d : Image) (i : TableInfo) (number at : ℕ) → d (table_name i.number) ≡ c (table_name i.number)
+    → IsBadListed t shard d i number at → IsBadListed t shard c i number at
+bad_as t shard c d i number at same b = record {
+  number_is = b.number_is;
+  bad = subst (λ (o : Option (List ℕ)). IsBadAt (loaded_at (clustering_order t.columns) t.number shard i (bytes_of o)) at) same b.bad;
+}
 
 -- what is found after calls that change nothing stood there before them
 module _ (start now : Disk) (during : During Same start now) (reads : Follows Same start.reads now.reads) (t : TableSchema) (shard : ℕ) (c : Image) (read : start.reads c) (i : TableInfo) where
@@ -23,8 +33,7 @@ module _ (start now : Disk) (during : During Same start now) (reads : Follows Sa
   pub bad_before : (number at : ℕ) → ((d : Image) → now.reads d → IsBadListed t shard d i number at) → IsBadListed t shard c i number at
   bad_before number at bad =
       let (d, still, same) = reads_on start now during reads c read in
-      let b = bad d still in
-      record { number_is = b.number_is; bytes = b.bytes; there = sym (same (table_name i.number)) ∙ b.there; bad = b.bad }
+      bad_as t shard c d i number at (same (table_name i.number)) (bad d still)
 
 -- ---- a bad one behind those that are loaded
 

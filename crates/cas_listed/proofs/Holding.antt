@@ -1,11 +1,11 @@
 -- What stands in a listed file that is loaded, and that such a file isn't bad.
-use Rattle.std.proofs.Common.{◌≡◌, ℕ, inl, inr, List, [], ◌∷◌, ◌++◌, Some, Ok, Result, refl, subst, ap, ◌∙◌}
+use Rattle.std.proofs.Common.{◌≡◌, ℕ, inl, inr, List, [], ◌∷◌, ◌++◌, Some, Ok, Result, refl, sym, subst, ap, ◌∙◌}
 use Rattle.cas_types.specs.declared.schema.Column.{Column}
 use Rattle.cas_types.specs.declared.schema.TableSchema.{TableSchema}
 use Rattle.cas_bounds.specs.ClusteringOrder.{clustering_order}
 use Rattle.cas_atoms.specs.declared.atom.Mutation.{Mutation}
 use Rattle.cas_codec.specs.declared.fault.ReadFault.{ReadFault}
-use Rattle.cas_disk.specs.Disk.{Image}
+use Rattle.cas_disk.specs.Disk.{Image, bytes_of}
 use Rattle.cas_disk.specs.declared.name.Name.TheVariants.{Table as table_name}
 use Rattle.cas_info.specs.declared.info.TableInfo.{TableInfo}
 use Rattle.cas_tables.specs.Contents.{Contents}
@@ -57,7 +57,7 @@ module _ (t : TableSchema) (shard : ℕ) (c : Image) (i : TableInfo) where
       }
 
   isnt_bad : (ws : List Mutation) (number at : ℕ) → StandIn t shard c i ws → IsBadListed t shard c i number at → ⊥
-  isnt_bad ws number at s bad = never _ (kept_for s.contents) at (loads s.contents s.file bad.bytes bad.there) bad.bad
+  isnt_bad ws number at s bad = never _ (kept_for s.contents) at (loads s.contents s.file _ (s.file.there ∙ ap (λ (b : List ℕ). Some b) (sym (ap bytes_of s.file.there)))) bad.bad
 
 pub listed_files_hold : ListedFilesHold
 listed_files_hold t shard c [] [] [] loaded stand = tt

@@ -9,7 +9,7 @@ use Rattle.cas_facts.specs.Facts.{AreFacts}
 use Rattle.cas_facts.specs.declared.facts.Facts.{Facts}
 use Rattle.cas_memtable.specs.Kept.{atoms_under}
 use Rattle.cas_info.specs.declared.info.TableInfo.{TableInfo}
-use Rattle.cas_disk.specs.Disk.{Image}
+use Rattle.cas_disk.specs.Disk.{Image, bytes_of}
 use Rattle.cas_disk.specs.declared.name.Name.TheVariants.{Table as table_name}
 use Rattle.cas_tables.specs.Contents.{Contents, Partition, atoms_of}
 use Rattle.cas_tables.specs.Files.{info_of, table_bytes}
@@ -71,12 +71,11 @@ abbrev pub Loads : TableSchema → ℕ → Image → TableInfo → Type 0
 Loads t shard c i = (bytes : List ℕ) × (kept : Loaded) × (c (table_name i.number) ≡ Some bytes)
     × (loaded_at (clustering_order t.columns) t.number shard i bytes ≡ Ok kept)
 
--- it stands there, but the first field that isn't as it must be, or isn't as it is listed, is at that place; it has that number
+-- the first field in it that isn't as it must be, or isn't as it is listed, is at that place; it has that number. A file that isn't there reads as one
+-- without bytes, and is bad at its beginning.
 pub record IsBadListed (t : TableSchema) (shard : ℕ) (c : Image) (i : TableInfo) (number at : ℕ) : Type 0 where
   pub number_is : number ≡ i.number
-  pub bytes : List ℕ
-  pub there : c (table_name i.number) ≡ Some bytes
-  pub bad : IsBadAt (loaded_at (clustering_order t.columns) t.number shard i bytes) at
+  pub bad : IsBadAt (loaded_at (clustering_order t.columns) t.number shard i (bytes_of (c (table_name i.number)))) at
 
 -- the first such file of those that are listed; the ones before it are as they must be
 pub record IsBadFile (t : TableSchema) (shard : ℕ) (c : Image) (listed : List TableInfo) (number at : ℕ) : Type 0 where

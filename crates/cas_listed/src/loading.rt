@@ -1,10 +1,11 @@
 //! Loads the listed files of a table in a shard, one after another.
 
-ghost use Rattle.std.specs.Prelude.{◌≡◌, ◌≤◌, ℕ, List, Some, Ok, map, IfOk, IsErrOf};
+ghost use Rattle.std.specs.Prelude.{◌≡◌, ◌↔◌, ◌≤◌, ℕ, List, [], Some, Ok, map, IfOk, IsErrOf, IsTrue};
 ghost use Rattle.std.specs.List.{AllByRecursion};
 ghost use Rattle.cas_bounds.specs.ClusteringOrder.{clustering_order};
 ghost use Rattle.cas_disk.specs.Counts.{Counted};
-ghost use Rattle.cas_disk.specs.Disk.{Image, During, Follows, Same};
+ghost use Rattle.cas_disk.specs.Disk.{Image, During, Follows, Same, bytes_of};
+ghost use Rattle.cas_disk.specs.declared.name.Name.TheVariants.{Table as table_name};
 ghost use Rattle.cas_info.specs.declared.info.TheConstants.{FILE_LIMIT};
 ghost use Rattle.cas_sstread.specs.Reading.{loaded_at};
 ghost use Rattle.cas_sstread.specs.Loading.{Held, IsBadAt};
@@ -13,7 +14,7 @@ ghost use Rattle.cas_stored.specs.Stored.{IsFileOf};
 ghost use Rattle.cas_listed.specs.Listed.{AreLoaded, IsBadFile, IsBadListed, IsLoaded};
 
 use crate::fault::ListedFault;
-use cas_disk::{Count, Folder, FolderFault, Sealed};
+use cas_disk::{Count, Folder, FolderFault, Name, Sealed};
 use cas_info::TableInfo;
 use cas_sstread::{Table, TableFault};
 use cas_types::{Mem, TableSchema};
@@ -63,6 +64,43 @@ fn load<S: Sealed>(
     }
 }
 
+// Whether a table's file has no byte, as one that isn't there.
+fn is_empty<F: Folder>(folder: &mut F, number: u64) -> Result<bool, FolderFault>
+    ensures empty { IfOk result (λ none. (c : Image) → (F.disk folder.old).reads c → (IsTrue none ↔ (bytes_of (c (table_name number)) ≡ []))) }
+    ensures reads { Follows Same (F.disk folder.old).reads (F.disk folder.new).reads }
+    ensures during { During Same (F.disk folder.old) (F.disk folder.new) }
+    ensures count { Counted (F.faults_of folder.old) (F.faults_of folder.new) (IsErrOf result FolderFault.Failed) }
+{
+    let mut byte = [0u8; 1];
+    match folder.read_at(Name::Table(number), 0, &mut byte) {
+        Ok(given) => Ok(given == 0),
+        Err(fault) => Err(FolderFault::from(fault)),
+    }
+}
+
+// Opens a table's file that is listed; one without bytes is bad at its beginning.
+fn open_listed<F: Folder>(folder: &mut F, number: u64) -> Result<F::Sealed, ListedFault>
+    ensures holds { IfOk result (λ file. (c : Image) → (F.disk folder.old).reads c
+        → (b : List ℕ) × (F.Sealed.contents file ≡ Some b) × (c (table_name number) ≡ Some b)) }
+    ensures bad { (n at : ℕ) → IsErrOf result (ListedFault.Bad n at) → (n ≡ number) × (at ≡ 0)
+        × ((c : Image) → (F.disk folder.old).reads c → bytes_of (c (table_name number)) ≡ []) }
+    ensures reads { Follows Same (F.disk folder.old).reads (F.disk folder.new).reads }
+    ensures during { During Same (F.disk folder.old) (F.disk folder.new) }
+    ensures count { Counted (F.faults_of folder.old) (F.faults_of folder.new) (IsErrOf result ListedFault.Failed) }
+    ensures read { IsErrOf result ListedFault.Read → ⊥ }
+{
+    match is_empty(folder, number) {
+        Ok(true) => Err(ListedFault::Bad { number, at: 0 }),
+        Ok(false) => match folder.sealed(number) {
+            Ok(file) => Ok(file),
+            Err(FolderFault::Failed) => Err(ListedFault::Failed),
+            Err(FolderFault::Mem) => Err(ListedFault::Mem),
+        },
+        Err(FolderFault::Failed) => Err(ListedFault::Failed),
+        Err(FolderFault::Mem) => Err(ListedFault::Mem),
+    }
+}
+
 // Loads the file of that table and that shard of which this is listed.
 fn load_file<F: Folder>(
     alloc: Global,
@@ -83,13 +121,11 @@ fn load_file<F: Folder>(
     ensures count { Counted (F.faults_of folder.old) (F.faults_of folder.new) (IsErrOf result ListedFault.Failed) }
     ensures read { Counted (F.Tally.number tally.old) (F.Tally.number tally.new) (IsErrOf result ListedFault.Read) }
 {
-    let file = match folder.sealed(info.number) {
-        Ok(file) => file,
-        Err(FolderFault::Failed) => return Err(ListedFault::Failed),
-        Err(FolderFault::Mem) => return Err(ListedFault::Mem),
-    };
-    match load(alloc, file, table, shard, info, tally) {
-        Ok(file) => Ok(file),
+    match open_listed(folder, info.number) {
+        Ok(file) => match load(alloc, file, table, shard, info, tally) {
+            Ok(file) => Ok(file),
+            Err(fault) => Err(fault),
+        },
         Err(fault) => Err(fault),
     }
 }

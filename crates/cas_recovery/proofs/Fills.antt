@@ -18,6 +18,7 @@ use Rattle.cas_sstread.specs.Loading.{Held}
 use Rattle.cas_view.specs.Views.{File, file_of, files_of}
 use Rattle.cas_view.specs.declared.view.OpenFile.{OpenFile}
 use Rattle.cas_stored.specs.Stored.{HoldEach, IsFileOf, StoredTable}
+use Rattle.cas_listed.proofs.Behind.{bad_as}
 use Rattle.cas_listed.specs.Listed.{AreLoaded, IsBadFile, Loads}
 use Rattle.cas_listed.specs.declared.fault.ListedFault.{ListedFault}
 use Rattle.cas_listed.specs.declared.fault.ListedFault.TheVariants as listed
@@ -243,12 +244,7 @@ bad_alike t shard c d infos number at same is = record {
   behind = is.behind;
   place = is.place;
   others = all_load t shard c d is.before same is.others;
-  bad = record {
-    number_is = is.bad.number_is;
-    bytes = is.bad.bytes;
-    there = sym (same (table_name is.info.number)) ∙ is.bad.there;
-    bad = is.bad.bad;
-  };
+  bad = bad_as t shard c d is.info number at (same (table_name is.info.number)) is.bad;
 }
 
 old_alike : (t : TableSchema) (shard : ℕ) (c d : Image) (infos : List TableInfo) (number at : ℕ) → Same c d → IsOldFile t shard d infos number at → IsOldFile t shard c infos number at

@@ -20,6 +20,7 @@ use Rattle.cas_sstread.specs.Laws.{kept_for}
 use Rattle.cas_sstread.specs.Reading.{Loaded, loaded_at}
 use Rattle.cas_sstread.proofs.ContentsLoad.{tables_load}
 use Rattle.cas_listed.specs.Listed.{IsBadFile, IsFileIn, Loads, StandIn, StandInFiles}
+use Rattle.cas_listed.proofs.Behind.{bad_as}
 use Rattle.cas_listed.proofs.Holding.{files_are_never_bad}
 use Rattle.cas_opening.specs.Opening.{IsReadWith, MayBeMadeNew, MayBeOpened, OpensAs}
 use Rattle.cas_opening.specs.declared.opened.OpenStore.{OpenStore}
@@ -75,12 +76,7 @@ bad_before t shard d c infos number at alike is =
       behind = is.behind;
       place = is.place;
       others = all_load t shard d c is.before (front_alike d c is.before (is.info ∷ is.behind) parts) is.others;
-      bad = record {
-        number_is = is.bad.number_is;
-        bytes = is.bad.bytes;
-        there = sym (here_alike d c is.before is.info is.behind parts) ∙ is.bad.there;
-        bad = is.bad.bad;
-      };
+      bad = bad_as t shard d c is.info number at (here_alike d c is.before is.info is.behind parts) is.bad;
     }
 
 listed_alike : (d c : Image) (infos : List TableInfo) (i : TableInfo) → AreAlike d c infos → Has infos i → c (table_name i.number) ≡ d (table_name i.number)

@@ -115,10 +115,9 @@ fn another_byte_is_found(rt: HostRuntime) {
     tells(&rt, alloc, 237, 0x32, Some(230)); // another word at the end
 }
 
-// Whether a listed file that isn't there is a fault of the folder.
+// Whether a listed file that isn't there is bad at its beginning.
 fn is_missed(alloc: Global, folder: &mut MemFolder) -> bool {
-    folder.remove(Name::Table(1)).is_ok()
-        && answer(alloc, folder) == (Err(RecoveryFault::Failed), 1, 0)
+    folder.remove(Name::Table(1)).is_ok() && answer(alloc, folder) == expected(Some(0))
 }
 
 // Whether the folder is answered so where the read of this number fails.
