@@ -18,7 +18,7 @@ module _ (order : List Ordered) (columns : List Column) (number end : ℕ) (cont
   before_block o step answers n at may file is =
       let a = answers file is in
       let m = may file is in
-      let b : List Fragment = step.fragments.items in
+      let b : List Fragment = step.fragments in
       let left = left_at file end step.onward.place in
       let behind : BreaksBehind order columns (is_none (past_all (reached o) b).force) (is_full b) (past_all (reached o) b) left m.1.0 at =
       subst (λ (e : Bool). BreaksBehind order columns e (is_full b) (past_all (reached o) b) left m.1.0 at) a.1.ends

@@ -123,10 +123,10 @@ module _ (order : List Ordered) (columns : List Column) (number end : ℕ) (file
     no_more some e = (Bad o.place, next_no_more order columns o.ends o.goes_on (reached o) (left_at file end o.place) body rest there some e)
 
     pub went_on : 0 < length body → o.goes_on ≡ true → o.place + 4 + length body ≤ end → (step : Step)
-        → ParsesTo order columns o body step.fragments.items × IsStep o (length body) step → Answers order columns number end file o (Ok (Some step))
+        → ParsesTo order columns o body step.fragments × IsStep o (length body) step → Answers order columns number end file o (Ok (Some step))
     went_on some e within step is = (
-      next_is order columns o.ends o.goes_on (reached o) (left_at file end o.place) body rest there some e step.fragments.items is.0.0 is.0.1
-          ∙ ap (λ (l : Left). Ok (Some step.fragments.items, l)) (left_behind file end o.place (length body) within
+      next_is order columns o.ends o.goes_on (reached o) (left_at file end o.place) body rest there some e step.fragments is.0.0 is.0.1
+          ∙ ap (λ (l : Left). Ok (Some step.fragments, l)) (left_behind file end o.place (length body) within
           ∙ ap (left_at file end) (sym is.1.place)),
       is.1.behind,
     )

@@ -1,44 +1,35 @@
 //! The fragments of a partition's blocks, of which one is held at a time.
 
-ghost use Rattle.std.specs.Prelude.{◌≡◌, List as ListOf, Some, None, [], IsErrOf};
-ghost use Rattle.std.specs.Vec.Iter.{into_iter_items};
+ghost use Rattle.std.specs.Prelude.{◌≡◌, List as ListOf, Some, [], IsErrOf};
 ghost use Rattle.cas_disk.specs.Counts.{Counted};
 ghost use Rattle.cas_streams.specs.Sources.{TakesFirst, Shrinks};
 ghost use Rattle.cas_streams.specs.declared.fragment.Fragment.{Fragment};
-ghost use Rattle.cas_blocks.specs.Inner.Pieces.{left_of, room_of, told_on, IsBadBlock, FindsNoMore, IfBad, with_first};
+ghost use Rattle.cas_blocks.specs.Inner.Pieces.{left_of, room_of, told_on, IsBadBlock, FindsNoMore, IfBad};
 
 use crate::fault::TableFault;
 use crate::file::TableFile;
 use crate::steps::{Onward, next_block};
 use cas_disk::Sealed;
+use cas_skips::Spelled;
 use cas_streams::Fragment;
 use std::mem;
 use std::mem::drop;
-use std::vec::IntoIter;
 
 /// What is to be read of a partition: the rest of the block at hand, and how it goes on behind that.
 #[derive(Drop)]
-pub struct Pieces {
+pub struct Pieces<'a> {
     pub onward: Option<Onward>,
-    pub rest: IntoIter<Fragment>,
+    pub rest: Spelled<'a>,
 }
 
-// The first of what is left, and the others stay.
-fn first_of(rest: &mut IntoIter<Fragment>) -> Option<Fragment>
-    ensures split { with_first result (into_iter_items rest.new) ≡ into_iter_items rest.old }
-    ensures ended { result ≡ None → into_iter_items rest.new ≡ [] }
-{
-    rest.next()
-}
-
-impl Pieces {
+impl<'a> Pieces<'a> {
     // The next block's first fragment, where nothing is left of the one at hand.
     fn next_in_block<F: Sealed>(
         &mut self,
-        file: &TableFile<'_, F>,
+        file: &TableFile<'a, F>,
         tally: &mut F::Tally,
     ) -> Result<Option<Fragment>, TableFault>
-        requires { into_iter_items self.old.rest ≡ [] }
+        requires { self.old.rest ≡ [] }
         ensures first { (fs : ListOf Fragment) →
             left_of file.now.order.now file.now.columns.now file.now.end (F.contents file.now.sealed.now) self.old ≡ Some fs
             → TakesFirst fs (left_of file.now.order.now file.now.columns.now file.now.end (F.contents file.now.sealed.now) self.new) result }
@@ -62,8 +53,8 @@ impl Pieces {
             }
             Ok(Some(step)) => {
                 drop(mem::replace(&mut self.onward, Some(step.onward)));
-                drop(mem::replace(&mut self.rest, step.fragments.into_iter()));
-                Ok(first_of(&mut self.rest))
+                drop(mem::replace(&mut self.rest, step.fragments));
+                Ok(self.rest.next(file.alloc)?)
             }
             Err(fault) => Err(fault),
         }
@@ -72,7 +63,7 @@ impl Pieces {
     /// The next fragment; none at the partition's end.
     pub fn next<F: Sealed>(
         &mut self,
-        file: &TableFile<'_, F>,
+        file: &TableFile<'a, F>,
         tally: &mut F::Tally,
     ) -> Result<Option<Fragment>, TableFault>
         ensures first { (fs : ListOf Fragment) →
@@ -88,7 +79,7 @@ impl Pieces {
         ensures narrows { FindsNoMore file.now.order.now file.now.columns.now file.now.number file.now.end (F.contents file.now.sealed.now)
             self.old.onward self.new.onward }
     {
-        match first_of(&mut self.rest) {
+        match self.rest.next(file.alloc)? {
             Some(fragment) => Ok(Some(fragment)),
             None => self.next_in_block(file, tally),
         }

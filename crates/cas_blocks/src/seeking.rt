@@ -6,7 +6,7 @@ ghost use Rattle.cas_disk.specs.Counts.{Counted};
 ghost use Rattle.cas_streams.specs.Sources.{TakesFirst, Shrinks};
 ghost use Rattle.cas_streams.specs.declared.fragment.Fragment.{Fragment};
 ghost use Rattle.cas_blocks.specs.Inner.Pieces.{left_of, room_of, IsBadBlock, FindsNoMore, IfBad};
-ghost use Rattle.cas_blocks.specs.Inner.Windows.{Begun, GoesOn};
+ghost use Rattle.cas_blocks.specs.Inner.Windows.{Begun, Comes, GoesOn};
 
 use crate::cutting::{is_before, is_behind, opened};
 use crate::fault::TableFault;
@@ -17,10 +17,36 @@ use cas_cell::Deletion;
 use cas_disk::Sealed;
 use cas_streams::Fragment;
 
+// The next fragment behind those of the block at hand that don't stand behind the slice's low cut,
+// which are passed over.
+fn next_beyond<'a, F: Sealed>(
+    file: &TableFile<'a, F>,
+    pieces: &mut Pieces<'a>,
+    slice: &Slice,
+    force: &mut Option<Deletion>,
+    tally: &mut F::Tally,
+) -> Result<Option<Fragment>, TableFault>
+    ensures told { (fs : ListOf Fragment) → left_of file.now.order.now file.now.columns.now file.now.end (F.contents file.now.sealed.now) pieces.old ≡ Some fs
+        → IfOk result (λ next. Comes file.now.order.now slice.now force.old force.new fs next
+        (left_of file.now.order.now file.now.columns.now file.now.end (F.contents file.now.sealed.now) pieces.new)) }
+    ensures sound { (fs : ListOf Fragment) → left_of file.now.order.now file.now.columns.now file.now.end (F.contents file.now.sealed.now) pieces.old ≡ Some fs
+        → IfBad (λ n at. ⊥) result }
+    ensures ends { Shrinks (room_of file.now.end pieces.old) (room_of file.now.end pieces.new) result }
+    ensures count { Counted (F.Tally.number tally.old) (F.Tally.number tally.new) (IsErrOf result TableFault.Read) }
+    ensures bad { IfBad (IsBadBlock file.now.order.now file.now.columns.now file.now.number file.now.end (F.contents file.now.sealed.now)
+        pieces.new.onward) result }
+    ensures narrows { FindsNoMore file.now.order.now file.now.columns.now file.now.number file.now.end (F.contents file.now.sealed.now)
+        pieces.old.onward pieces.new.onward }
+{
+    let now = pieces.rest.skip(file.alloc, file.order, &slice.lo, *force)?;
+    *force = now;
+    pieces.next(file, tally)
+}
+
 // Goes up to the first fragment behind the slice's low cut; none where the partition ends before.
-pub(crate) fn seek<F: Sealed>(
-    file: &TableFile<'_, F>,
-    pieces: &mut Pieces,
+pub(crate) fn seek<'a, F: Sealed>(
+    file: &TableFile<'a, F>,
+    pieces: &mut Pieces<'a>,
     slice: &Slice,
     force: &mut Option<Deletion>,
     tally: &mut F::Tally,
@@ -37,7 +63,7 @@ pub(crate) fn seek<F: Sealed>(
     ensures narrows { FindsNoMore file.now.order.now file.now.columns.now file.now.number file.now.end (F.contents file.now.sealed.now)
         pieces.old.onward pieces.new.onward }
 {
-    while let Some(fragment) = pieces.next(file, tally)? {
+    while let Some(fragment) = next_beyond(file, pieces, slice, force, tally)? {
         if is_behind(file.order, &slice.lo, &fragment) {
             return Ok(Some(fragment));
         }
@@ -48,9 +74,9 @@ pub(crate) fn seek<F: Sealed>(
 }
 
 // The next fragment, of which one may have been read ahead.
-fn draw<F: Sealed>(
-    file: &TableFile<'_, F>,
-    pieces: &mut Pieces,
+fn draw<'a, F: Sealed>(
+    file: &TableFile<'a, F>,
+    pieces: &mut Pieces<'a>,
     ahead: Option<Fragment>,
     tally: &mut F::Tally,
 ) -> Result<Option<Fragment>, TableFault>
@@ -73,9 +99,9 @@ fn draw<F: Sealed>(
 }
 
 // The next fragment before the slice's high cut; none where there is none.
-pub(crate) fn next_inside<F: Sealed>(
-    file: &TableFile<'_, F>,
-    pieces: &mut Pieces,
+pub(crate) fn next_inside<'a, F: Sealed>(
+    file: &TableFile<'a, F>,
+    pieces: &mut Pieces<'a>,
     slice: &Slice,
     force: &mut Option<Deletion>,
     ahead: Option<Fragment>,

@@ -19,6 +19,7 @@ use cas_bounds::Slice;
 use cas_cell::Deletion;
 use cas_disk::Sealed;
 use cas_index::BlockAt;
+use cas_skips::Spelled;
 use cas_streams::{Fragment, FragmentSource};
 use cas_types::List;
 use std::mem::drop;
@@ -29,7 +30,7 @@ pub struct Blocks<'a, F: Sealed> {
     top: Option<Deletion>,
     // Where something is still to be given of the static row.
     statics: Option<List<RowColumn>>,
-    window: Window,
+    window: Window<'a>,
     fault: Option<TableFault>,
     file: TableFile<'a, F>,
     tally: F::Tally,
@@ -79,7 +80,7 @@ impl<'a, F: Sealed> Blocks<'a, F> {
             (F.contents result.file.sealed.now) result.window.pieces.onward n at → IsBadBehind file.entry.order.now file.entry.columns.now
             file.entry.number file.entry.end (F.contents file.entry.sealed.now) block n at }
     {
-        let rest = Vec::new(file.alloc).into_iter();
+        let rest = Spelled::none(file.alloc, file.order, file.columns);
         let statics = some_columns(statics);
         let (phase, force, onward) = match block {
             Some(block) => (Phase::Before, block.in_force, Some(onward_from(block))),

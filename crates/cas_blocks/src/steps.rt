@@ -3,9 +3,8 @@
 ghost use Rattle.std.specs.Prelude.{◌≡◌, ◌+◌, ◌≤◌, ◌<◌, ◌^◌, ℕ, List as ListOf, Some, None, length, vec_len, nat_le, IfOk, IfSome, MatchOption, IsErrOf, OnOk};
 ghost use Rattle.std.specs.Option.{option_copied};
 ghost use Rattle.cas_disk.specs.Counts.{Counted};
-ghost use Rattle.cas_streams.specs.Places.{place_of};
 ghost use Rattle.cas_streams.specs.Streams.{IsThere};
-ghost use Rattle.cas_fragments.specs.Blocks.{past_all, last_place, Reached, is_full};
+ghost use Rattle.cas_fragments.specs.Blocks.{past_all, last_place, is_full};
 ghost use Rattle.cas_blocks.specs.Reading.{left_at};
 ghost use Rattle.cas_blocks.specs.Inner.Bodies.{TellsLength, NoBody, IsBody};
 ghost use Rattle.cas_blocks.specs.Inner.Steps.{reached, IsStep, Parses, Answers, IsShorter};
@@ -13,14 +12,12 @@ ghost use Rattle.cas_blocks.specs.Inner.Steps.{reached, IsStep, Parses, Answers,
 use crate::fault::TableFault;
 use crate::file::TableFile;
 use crate::reading::read_range;
-use cas_atoms::Row;
 use cas_cell::Deletion;
 use cas_codec::{ReadFault, Reader};
 use cas_disk::{FolderFault, Sealed};
-use cas_fragments::{BLOCK_LEAST, Block, read_block};
+use cas_fragments::BLOCK_LEAST;
+use cas_skips::{Checked, Spelled, check_block};
 use cas_streams::Fragment;
-use cas_types::List;
-use std::alloc::{AllocError, Global};
 
 /// How a partition goes on: the place of the next block, or of the end; whether the end may stand
 /// there, and whether a block may; the last fragment's place and the range deletion in force there.
@@ -35,8 +32,8 @@ pub struct Onward {
 
 /// A block's fragments, and how the partition goes on behind them.
 #[derive(Drop)]
-pub struct Step {
-    pub fragments: Vec<Fragment>,
+pub struct Step<'a> {
+    pub fragments: Spelled<'a>,
     pub onward: Onward,
 }
 
@@ -86,54 +83,26 @@ fn read_body<F: Sealed>(
     Ok(Some(body))
 }
 
-// A fragment that stands for the place of another one, and says nothing else.
-fn place_mark(alloc: Global, fragment: &Fragment) -> Result<Fragment, AllocError>
-    ensures { IfOk result (λ f. place_of f ≡ place_of fragment.now) }
-{
-    match fragment {
-        Fragment::Static(_) => Ok(Fragment::Static(List::from_vec(Vec::new(alloc)))),
-        Fragment::Row(row) => Ok(Fragment::Row(Row {
-            clustering: row.clustering.copied()?,
-            deletion: None,
-            live: None,
-            columns: List::from_vec(Vec::new(alloc)),
-        })),
-        Fragment::Marker(cut, _) => Ok(Fragment::Marker(cut.copied()?, None)),
-    }
-}
-
-// The place of the last of some fragments.
-fn last_mark(alloc: Global, fragments: &[Fragment]) -> Result<Option<Fragment>, AllocError>
-    ensures { IfOk result (λ last. (r : Reached) → IsThere fragments.now → last_place last ≡ (past_all r fragments.now).last) }
-{
-    match fragments.last() {
-        Some(last) => Ok(Some(place_mark(alloc, last)?)),
-        None => Ok(None),
-    }
-}
-
 // How the partition goes on behind a block of so many bytes.
-fn behind(alloc: Global, at: &Onward, block: Block, long: usize) -> Result<Step, AllocError>
+fn behind<'a>(at: &Onward, block: Checked<'a>, long: usize) -> Step<'a>
     requires place { at.now.place + 4 + long ≤ 2 ^ 62 }
-    requires some { IsThere block.fragments.items }
-    requires few { length block.fragments.items ≤ long }
-    requires force { block.force ≡ (past_all (reached at.now) block.fragments.items).force }
-    requires full { is_full block.fragments.items ≡ nat_le BLOCK_LEAST long }
-    ensures same { IfOk result (λ step. step.fragments.items ≡ block.fragments.items) }
-    ensures step { IfOk result (IsStep at.now long) }
+    requires some { IsThere block.fragments }
+    requires few { length block.fragments ≤ long }
+    requires reached { record { last = last_place block.last; force = block.force } ≡ past_all (reached at.now) block.fragments }
+    requires full { is_full block.fragments ≡ nat_le BLOCK_LEAST long }
+    ensures same { result.fragments ≡ block.entry.fragments }
+    ensures step { IsStep at.now long result }
 {
-    let last = last_mark(alloc, &block.fragments)?;
-    let onward = Onward {
-        place: at.place + 4 + long as u64,
-        ends: block.force.is_none(),
-        goes_on: BLOCK_LEAST <= long,
-        last,
-        force: block.force,
-    };
-    Ok(Step {
+    Step {
         fragments: block.fragments,
-        onward,
-    })
+        onward: Onward {
+            place: at.place + 4 + long as u64,
+            ends: block.force.is_none(),
+            goes_on: BLOCK_LEAST <= long,
+            last: block.last,
+            force: block.force,
+        },
+    }
 }
 
 // The fragment that stands for what comes before the next block.
@@ -147,38 +116,39 @@ fn mark_before(at: &Onward) -> Option<&Fragment>
 }
 
 // The block that these bytes are.
-fn parse_block<F: Sealed>(
-    file: &TableFile<'_, F>,
+fn parse_block<'a, F: Sealed>(
+    file: &TableFile<'a, F>,
     at: &Onward,
-    body: &[u8],
-) -> Result<Step, TableFault>
-    requires { at.now.place + 4 + length body.now ≤ file.now.end }
-    ensures { Parses file.now.order.now file.now.columns.now file.now.number at.now body.now result }
+    body: Vec<u8>,
+) -> Result<Step<'a>, TableFault>
+    requires { at.now.place + 4 + vec_len body ≤ file.now.end }
+    ensures { Parses file.now.order.now file.now.columns.now file.now.number at.now body.items result }
 {
-    let mut reader = Reader::new(body, at.place + 4);
+    let long = body.len();
     let last = mark_before(at);
-    match read_block(
+    match check_block(
         file.alloc,
-        &mut reader,
+        body,
+        at.place + 4,
         file.order,
         file.columns,
         last,
         at.force,
     ) {
-        Ok(block) => Ok(behind(file.alloc, at, block, body.len())?),
+        Ok(block) => Ok(behind(at, block, long)),
         Err(ReadFault::Mem) => Err(TableFault::Mem),
         Err(_) => Err(file.bad_block(at.place)),
     }
 }
 
 // What these bytes are, which the file tells there: a block, or none where they are the end.
-fn judge<F: Sealed>(
-    file: &TableFile<'_, F>,
+fn judge<'a, F: Sealed>(
+    file: &TableFile<'a, F>,
     at: &Onward,
-    body: &[u8],
-) -> Result<Option<Step>, TableFault>
-    requires { at.now.place + 4 + length body.now ≤ file.now.end }
-    ensures told { (b : ListOf ℕ) → IsBody body.now (left_at b file.now.end at.now.place)
+    body: Vec<u8>,
+) -> Result<Option<Step<'a>>, TableFault>
+    requires { at.now.place + 4 + vec_len body ≤ file.now.end }
+    ensures told { (b : ListOf ℕ) → IsBody body.items (left_at b file.now.end at.now.place)
         → Answers file.now.order.now file.now.columns.now file.now.number file.now.end b at.now result }
     ensures shorter { IfOk result (λ o. IfSome o (IsShorter file.now.end at.now)) }
     ensures no_read { IsErrOf result TableFault.Read → ⊥ }
@@ -199,18 +169,18 @@ fn judge<F: Sealed>(
 }
 
 /// The next block of a partition; none at its end.
-pub(crate) fn next_block<F: Sealed>(
-    file: &TableFile<'_, F>,
+pub(crate) fn next_block<'a, F: Sealed>(
+    file: &TableFile<'a, F>,
     at: &Onward,
     tally: &mut F::Tally,
-) -> Result<Option<Step>, TableFault>
+) -> Result<Option<Step<'a>>, TableFault>
     ensures told { (b : ListOf ℕ) → F.contents file.now.sealed.now ≡ Some b
         → Answers file.now.order.now file.now.columns.now file.now.number file.now.end b at.now result }
     ensures shorter { IfOk result (λ o. IfSome o (IsShorter file.now.end at.now)) }
     ensures count { Counted (F.Tally.number tally.old) (F.Tally.number tally.new) (IsErrOf result TableFault.Read) }
 {
     match read_body(file, at.place, tally) {
-        Ok(Some(body)) => judge(file, at, &body),
+        Ok(Some(body)) => judge(file, at, body),
         Ok(None) => Err(file.bad_block(at.place)),
         Err(fault) => Err(TableFault::from(fault)),
     }

@@ -29,20 +29,20 @@ pub enum Phase {
 /// A slice, how far a read of it came, the range deletion in force there, a fragment that was read
 /// ahead, and what is to be read behind that.
 #[derive(Drop)]
-pub struct Window {
+pub struct Window<'a> {
     pub slice: Slice,
     pub phase: Phase,
     pub force: Option<Deletion>,
     pub ahead: Option<Fragment>,
-    pub pieces: Pieces,
+    pub pieces: Pieces<'a>,
 }
 
-impl Window {
+impl<'a> Window<'a> {
     // Goes into the slice, where the read is before it: gives the marker with which it begins, if
     // something is in force there.
     fn enter<F: Sealed>(
         &mut self,
-        file: &TableFile<'_, F>,
+        file: &TableFile<'a, F>,
         tally: &mut F::Tally,
     ) -> Result<Option<Fragment>, TableFault>
         ensures entered { IfOk result (λ m. self.new.phase ≡ Phase.Before → ⊥) }
@@ -71,7 +71,7 @@ impl Window {
     /// The next fragment of the slice; none behind the last one.
     pub fn next<F: Sealed>(
         &mut self,
-        file: &TableFile<'_, F>,
+        file: &TableFile<'a, F>,
         tally: &mut F::Tally,
     ) -> Result<Option<Fragment>, TableFault>
         ensures first { (fs : List Fragment) →

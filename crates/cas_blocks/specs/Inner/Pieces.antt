@@ -1,7 +1,6 @@
 -- What is still to be read of a partition's blocks (own).
-use Rattle.std.specs.Prelude.{◌≡◌, ℕ, ◌+◌, ◌-◌, List, [], ◌∷◌, length, ◌++◌, Option, None, Some, Result, Ok, Err}
+use Rattle.std.specs.Prelude.{◌≡◌, ℕ, ◌+◌, ◌-◌, List, length, ◌++◌, Option, None, Some, Result, Ok, Err}
 use Rattle.std.specs.Option.{option_map}
-use Rattle.std.specs.Vec.Iter.{into_iter_items}
 use Rattle.cas_types.specs.declared.schema.Column.{Column}
 use Rattle.cas_bounds.specs.declared.order.Ordered.{Ordered}
 use Rattle.cas_codec.specs.declared.fault.ReadFault.{ReadFault}
@@ -27,7 +26,7 @@ pieces_left order columns end contents (Some o) rest = told_on order columns end
 
 -- what is left of what a read has
 abbrev pub left_of : List Ordered → List Column → ℕ → Option (List ℕ) → Pieces → Option (List Fragment)
-left_of order columns end contents p = pieces_left order columns end contents p.onward (into_iter_items p.rest)
+left_of order columns end contents p = pieces_left order columns end contents p.onward p.rest
 
 -- at most so many fragments are to come
 abbrev pub pieces_room : ℕ → Option Onward → List Fragment → ℕ
@@ -35,7 +34,7 @@ pieces_room end None rest = length rest
 pieces_room end (Some o) rest = length rest + (end - o.place)
 
 abbrev pub room_of : ℕ → Pieces → ℕ
-room_of end p = pieces_room end p.onward (into_iter_items p.rest)
+room_of end p = pieces_room end p.onward p.rest
 
 -- the next block is the bad one: what stands at its place is no block that may stand there
 abbrev pub IsBadBlock : List Ordered → List Column → ℕ → ℕ → Option (List ℕ) → Option Onward → ℕ → ℕ → Type 0
@@ -61,8 +60,3 @@ IfBad P (Ok x) = Unit {0}
 IfBad P (Err table_fault.Read) = Unit {0}
 IfBad P (Err (table_fault.BadBlock n at)) = P n at
 IfBad P (Err table_fault.Mem) = Unit {0}
-
--- a list by its first element and the others
-abbrev pub with_first : Option Fragment → List Fragment → List Fragment
-with_first None rest = []
-with_first (Some f) rest = f ∷ rest

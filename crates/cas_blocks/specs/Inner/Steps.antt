@@ -26,9 +26,9 @@ pub record IsBehind (r : Reached) (fs : List Fragment) (o : Onward) : Type 0 whe
 
 -- a block that was read, and how the partition goes on behind it
 pub record IsStep (o : Onward) (long : ℕ) (step : Step) : Type 0 where
-  pub some : IsThere step.fragments.items
-  pub few : length step.fragments.items ≤ long
-  pub behind : IsBehind (reached o) step.fragments.items step.onward
+  pub some : IsThere step.fragments
+  pub few : length step.fragments ≤ long
+  pub behind : IsBehind (reached o) step.fragments step.onward
   pub place : step.onward.place ≡ o.place + 4 + long
 
 -- these bytes, which stand behind their number, are the fragments of a block there
@@ -41,7 +41,7 @@ IsNoBody order columns o body = (f : ReadFault) × (body_at order columns (reach
 
 -- what is answered of these bytes, of which a block of so many is at most so many fragments
 abbrev pub Parses : List Ordered → List Column → ℕ → Onward → List ℕ → Result Step TableFault → Type 0
-Parses order columns number o body (Ok step) = ParsesTo order columns o body step.fragments.items × IsStep o (length body) step
+Parses order columns number o body (Ok step) = ParsesTo order columns o body step.fragments × IsStep o (length body) step
 Parses order columns number o body (Err table_fault.Read) = ⊥
 Parses order columns number o body (Err (table_fault.BadBlock n at)) = (n ≡ number) × (at ≡ o.place) × IsNoBody order columns o body
 Parses order columns number o body (Err table_fault.Mem) = Unit {0}
@@ -51,8 +51,8 @@ abbrev pub Answers : List Ordered → List Column → ℕ → ℕ → List ℕ �
 Answers order columns number end file o (Ok None) =
     (left : Left) × (next_block_at order columns o.ends o.goes_on (reached o) (left_at file end o.place) ≡ Ok (None, left))
 Answers order columns number end file o (Ok (Some step)) =
-    (next_block_at order columns o.ends o.goes_on (reached o) (left_at file end o.place) ≡ Ok (Some step.fragments.items, left_at file end step.onward.place))
-    × IsBehind (reached o) step.fragments.items step.onward
+    (next_block_at order columns o.ends o.goes_on (reached o) (left_at file end o.place) ≡ Ok (Some step.fragments, left_at file end step.onward.place))
+    × IsBehind (reached o) step.fragments step.onward
 Answers order columns number end file o (Err table_fault.Read) = Unit {0}
 Answers order columns number end file o (Err (table_fault.BadBlock n at)) =
     (n ≡ number) × (at ≡ o.place) × ((f : ReadFault) × (next_block_at order columns o.ends o.goes_on (reached o) (left_at file end o.place) ≡ Err f))
@@ -60,5 +60,5 @@ Answers order columns number end file o (Err table_fault.Mem) = Unit {0}
 
 -- what is given makes what is left shorter
 pub record IsShorter (end : ℕ) (o : Onward) (step : Step) : Type 0 where
-  pub some : IsThere step.fragments.items
-  pub room : length step.fragments.items + (end - step.onward.place) < end - o.place
+  pub some : IsThere step.fragments
+  pub room : length step.fragments + (end - step.onward.place) < end - o.place

@@ -1,16 +1,18 @@
 -- What is still to come of a slice (own).
-use Rattle.std.specs.Prelude.{◌≡◌, ℕ, ◌+◌, List, [], ◌∷◌, length, ◌++◌, Option, None, Some}
+use Rattle.std.specs.Prelude.{◌≡◌, ℕ, ◌+◌, List, [], ◌∷◌, length, ◌++◌, Option, None, Some, Result, Ok}
 use Rattle.std.specs.Option.{option_map, option_to_list}
 use Rattle.cas_cell.specs.declared.deletion.Deletion.{Deletion}
 use Rattle.cas_bounds.specs.declared.order.Ordered.{Ordered}
 use Rattle.cas_bounds.specs.declared.cuts.Slice.{Slice}
 use Rattle.cas_atoms.specs.declared.row.RowColumn.{RowColumn}
+use Rattle.cas_streams.specs.Sources.{TakesFirst}
 use Rattle.cas_streams.specs.Slices.{opened_at, closed_at}
 use Rattle.cas_streams.specs.declared.fragment.Fragment.{Fragment}
 use Rattle.cas_streams.specs.declared.fragment.Fragment.TheVariants as fragment
 use Rattle.cas_blocks.specs.Cutting.{cut_from, up_to_end}
 use Rattle.cas_types.specs.declared.schema.Column.{Column}
 use Rattle.cas_blocks.specs.Inner.Pieces.{left_of, room_of}
+use Rattle.cas_blocks.specs.declared.fault.TableFault.{TableFault}
 use Rattle.cas_blocks.specs.declared.window.Window.{Window}
 use Rattle.cas_blocks.specs.declared.window.Phase.{Phase}
 use Rattle.cas_blocks.specs.declared.window.Phase.TheVariants.{Before, Inside, Over}
@@ -47,6 +49,11 @@ pub record Begun (order : List Ordered) (s : Slice) (force now : Option Deletion
   pub rest : List Fragment
   pub left_is : left ≡ Some rest
   pub same : cut_from order s force fs ≡ opened_at s.lo now ++ up_to_end order s now (option_to_list ahead ++ rest)
+
+-- what comes next on a way to the slice's beginning, where the deletion in force by then is told
+abbrev pub Comes : List Ordered → Slice → Option Deletion → Option Deletion → List Fragment → Option Fragment → Option (List Fragment) → Type 0
+Comes order s force now fs next left =
+    (gs : List Fragment) × (cut_from order s force fs ≡ cut_from order s now gs) × TakesFirst gs left (let r : Result (Option Fragment) TableFault = Ok next in r)
 
 -- what a way into the slice gave, and what is to come behind that
 pub record Enters (fs : List Fragment) (given : Option Fragment) (left : Option (List Fragment)) : Type 0 where

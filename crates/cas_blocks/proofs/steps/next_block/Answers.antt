@@ -1,13 +1,10 @@
-use Rattle.std.proofs.Common.{List, ℕ, sym, subst}
-use Rattle.cas_blocks.specs.Reading.{left_at}
-use Rattle.cas_blocks.specs.Inner.Bodies.{IsBody}
 use Rattle.cas_blocks.proofs.NextBlock.{unread, told_bad}
 use Rattle.cas_blocks.proofs.steps.next_block.Goals as goal
 
 pub returns-in-Ok-Some-clause-told : goal.returns-in-Ok-Some-clause-told
 returns-in-Ok-Some-clause-told g c = λ b is.
     let told = rw c.in-Ok-Some.field-0-is at (c.in-Ok-Some.ensures.told b is) in
-    c.judge.ensures.told b (subst (λ (t : List ℕ). IsBody t (left_at b c.args.file.now.end c.args.at.now.place)) (sym c.deref.ensures.value) told)
+    c.judge.ensures.told b told
 
 pub returns-in-Ok-None-clause-told : goal.returns-in-Ok-None-clause-told
 returns-in-Ok-None-clause-told g c = λ b is.

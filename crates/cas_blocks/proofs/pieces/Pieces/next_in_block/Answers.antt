@@ -1,5 +1,4 @@
 use Rattle.std.proofs.Common.{◌≡◌, ℕ, List, Option, Some, Result, Ok, Err, sym, ap, subst, ◌∙◌}
-use Rattle.std.specs.Vec.Iter.{into_iter_items}
 use Rattle.cas_streams.specs.Sources.{TakesFirst}
 use Rattle.cas_streams.specs.declared.fragment.Fragment.{Fragment}
 use Rattle.cas_blocks.specs.Inner.Pieces.{pieces_left, IfBad, IsBadBlock, FindsNoMore}
@@ -13,28 +12,28 @@ pub returns-in-Ok-None-clause-first : goal.returns-in-Ok-None-clause-first
 returns-in-Ok-None-clause-first g c = λ fs told.
     let answers = rw c.in-Ok-None.field-0-is at c.in-Ok-None.ensures.told in
     let on = told_there c.args.file.now.order.now c.args.file.now.columns.now c.args.file.now.end (g.F.Sealed.contents c.args.file.now.sealed.now)
-    c.args.self.now.onward c.in-Some.at (into_iter_items c.args.self.now.rest) fs c.in-Some.is c.requires told in (
+    c.args.self.now.onward c.in-Some.at c.args.self.now.rest fs c.in-Some.is c.requires told in (
       piece_end c.args.file.now.order.now c.args.file.now.columns.now c.args.file.now.number c.args.file.now.end
           (g.F.Sealed.contents c.args.file.now.sealed.now) c.in-Some.at fs on answers,
       ap (λ (o : Option Onward). pieces_left c.args.file.now.order.now c.args.file.now.columns.now c.args.file.now.end
-          (g.F.Sealed.contents c.args.file.now.sealed.now) o (into_iter_items c.args.self.now.rest)) c.replace.ensures.after
+          (g.F.Sealed.contents c.args.file.now.sealed.now) o c.args.self.now.rest) c.replace.ensures.after
           ∙ ap (λ (xs : List Fragment). Some xs) c.requires,
     )
 
-pub returns-in-Ok-Some-clause-first : goal.returns-in-Ok-Some-clause-first
-returns-in-Ok-Some-clause-first g c = λ fs told.
+pub returns-in_ok-next-in-Ok-Some-clause-first : goal.returns-in_ok-next-in-Ok-Some-clause-first
+returns-in_ok-next-in-Ok-Some-clause-first g c = λ fs told.
     let answers = rw c.in-Ok-Some.field-0-is at c.in-Ok-Some.ensures.told in
     let shorter = rw c.in-Ok-Some.field-0-is at c.in-Ok-Some.ensures.shorter in
     let on = told_there c.args.file.now.order.now c.args.file.now.columns.now c.args.file.now.end (g.F.Sealed.contents c.args.file.now.sealed.now)
-    c.args.self.now.onward c.in-Some.at (into_iter_items c.args.self.now.rest) fs c.in-Some.is c.requires told in
+    c.args.self.now.onward c.in-Some.at c.args.self.now.rest fs c.in-Some.is c.requires told in
     let there = piece_block c.args.file.now.order.now c.args.file.now.columns.now c.args.file.now.number c.args.file.now.end
     (g.F.Sealed.contents c.args.file.now.sealed.now) c.in-Some.at fs c.in-Ok-Some.step on answers in
-    let given : Result (Option Fragment) TableFault = Ok c.first_of.result in
+    let given : Result (Option Fragment) TableFault = Ok c.in_ok-next-in-Ok-Some.field-0 in
     subst (λ (o : Option Onward). TakesFirst fs (pieces_left c.args.file.now.order.now c.args.file.now.columns.now c.args.file.now.end
-    (g.F.Sealed.contents c.args.file.now.sealed.now) o (into_iter_items c.first_of.new.rest)) given) (sym c.replace-in-Ok-Some.ensures.after)
+    (g.F.Sealed.contents c.args.file.now.sealed.now) o c.next.new.self) given) (sym c.replace-in-Ok-Some.ensures.after)
     (taken c.args.file.now.order.now c.args.file.now.columns.now c.args.file.now.number c.args.file.now.end
-    (g.F.Sealed.contents c.args.file.now.sealed.now) c.in-Ok-Some.step.onward fs c.in-Ok-Some.step.fragments.items (into_iter_items c.first_of.new.rest)
-    c.first_of.result there (c.first_of.ensures.split ∙ ap into_iter_items c.replace-in-Ok-Some-2.ensures.after ∙ c.into_iter.ensures.rest) shorter.some)
+    (g.F.Sealed.contents c.args.file.now.sealed.now) c.in-Ok-Some.step.onward fs c.in-Ok-Some.step.fragments c.next.new.self
+    c.in_ok-next-in-Ok-Some.field-0 there (c.in_ok-next-in-Ok-Some.ensures.split ∙ c.replace-in-Ok-Some-2.ensures.after) shorter.some)
 
 pub returns-in-Err-clause-bad : goal.returns-in-Err-clause-bad
 returns-in-Err-clause-bad g c =
@@ -48,12 +47,23 @@ returns-in-Err-clause-bad g c =
 pub returns-in-Err-clause-sound : goal.returns-in-Err-clause-sound
 returns-in-Err-clause-sound g c = λ fs told.
     let on = told_there c.args.file.now.order.now c.args.file.now.columns.now c.args.file.now.end (g.F.Sealed.contents c.args.file.now.sealed.now)
-    c.args.self.now.onward c.in-Some.at (into_iter_items c.args.self.now.rest) fs c.in-Some.is c.requires told in
+    c.args.self.now.onward c.in-Some.at c.args.self.now.rest fs c.in-Some.is c.requires told in
     piece_sound c.args.file.now.order.now c.args.file.now.columns.now c.args.file.now.number c.args.file.now.end
     (g.F.Sealed.contents c.args.file.now.sealed.now) c.in-Some.at c.in-Err.fault fs on c.in-Err.ensures.told
 
-pub returns-in-Ok-Some-clause-narrows : goal.returns-in-Ok-Some-clause-narrows
-returns-in-Ok-Some-clause-narrows g c =
+pub returns-in_ok-next-in-Ok-Some-clause-narrows : goal.returns-in_ok-next-in-Ok-Some-clause-narrows
+returns-in_ok-next-in-Ok-Some-clause-narrows g c =
+    let file = c.args.file.now in
+    let contents : Option (List ℕ) = g.F.Sealed.contents file.sealed.now in
+    let is : c.args.self.now.onward ≡ Some c.in-Some.at = c.in-Some.is in
+    let answers = rw c.in-Ok-Some.field-0-is at c.in-Ok-Some.ensures.told in
+    subst (λ (o : Option Onward). FindsNoMore file.order.now file.columns.now file.number file.end contents c.args.self.now.onward o)
+    (sym c.replace-in-Ok-Some.ensures.after)
+    (subst (λ (o : Option Onward). FindsNoMore file.order.now file.columns.now file.number file.end contents o (Some c.in-Ok-Some.step.onward)) (sym is)
+    (before_block file.order.now file.columns.now file.number file.end contents c.in-Some.at c.in-Ok-Some.step answers))
+
+pub returns-in_err-next-in-Ok-Some-clause-narrows : goal.returns-in_err-next-in-Ok-Some-clause-narrows
+returns-in_err-next-in-Ok-Some-clause-narrows g c =
     let file = c.args.file.now in
     let contents : Option (List ℕ) = g.F.Sealed.contents file.sealed.now in
     let is : c.args.self.now.onward ≡ Some c.in-Some.at = c.in-Some.is in

@@ -1,0 +1,4 @@
+pub mod Seen
+pub mod Passing
+pub mod BlockLoop
+pub mod Spelling

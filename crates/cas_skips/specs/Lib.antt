@@ -1,0 +1,4 @@
+pub mod Told
+pub mod Marks
+pub mod Blocks
+pub mod Inner
