@@ -1,5 +1,5 @@
 -- What calls on the map of partitions do to what a memtable says.
-use Rattle.std.proofs.Common.{◌≡◌, ℕ, ℤ, true, false, cond, Option, None, Some, is_some, IsSome, List, ◌++◌, Result, Ok, Err, OnOk, ◌⊎◌, inl, inr, refl, sym, ap, ◌∙◌, subst}
+use Rattle.std.proofs.Common.{◌≡◌, ℕ, ℤ, Bool, true, false, cond, Option, None, Some, is_some, IsSome, List, ◌++◌, Result, Ok, Err, OnOk, IsErr, ◌⊎◌, inl, inr, refl, sym, ap, ◌∙◌, subst}
 use Rattle.std.proofs.lemmas.Bool.{true≢false}
 use Rattle.std.proofs.lemmas.Option.{none-some}
 use Rattle.std.proofs.lemmas.Cmp.{tied_itself}
@@ -19,7 +19,7 @@ use Rattle.cas_partition.specs.Partitions.{partition_atoms, IsOf, HavePlaces, Jo
 use Rattle.cas_partition.specs.Partitions.{MakesPlaces as MakesIn, IsOfTable as IsPartitionOf}
 use Rattle.cas_partition.specs.declared.partition.Partition.{Partition}
 use Rattle.cas_memtable.specs.Memtables.{held_at, atoms_held, atoms_of, least_held, least_with, bytes_with, IsOfTable, IsOfColumns, PlacesIn, HasPlaces, MakesPlaces, Joins}
-use Rattle.cas_memtable.specs.Inner.Steps.{IsBlank, StaysOrBlank, Puts, ReservesAt, AppliesAt}
+use Rattle.cas_memtable.specs.Inner.Steps.{IsBlank, StaysOrBlank, Puts, ReservesAt, ReservesIn, AppliesAt}
 use Rattle.cas_memtable.specs.declared.memtable.Held.{Held}
 use Rattle.cas_memtable.specs.declared.memtable.MemPart.{MemPart}
 
@@ -55,9 +55,6 @@ blank_put key h before after blank none puts q =
     fresh None p is e = inr (h, is, blank)
     fresh (Some g) p is e = absurd (true≢false e)
 
-pub kept_put : (key copy : List ℕ) (h : Held) (before after : Look) → copy ≡ key → IsBlank h → is_some (before key) ≡ false → Puts copy h before after → (q : List ℕ) → StaysOrBlank (before q) (after q)
-kept_put key copy h before after e blank none puts = blank_put copy h before after blank (ap (λ k. is_some (before k)) e ∙ none) puts
-
 pub put_there : (key : List ℕ) (h : Held) (before after : Look) → Puts key h before after → after key ≡ Some h
 put_there key h before after puts = puts key ∙ ap (λ b. cond b (Some h) (before key)) (own_key key)
 
@@ -80,17 +77,47 @@ stays_fact P blank None p (inr b) all g is = subst (λ k. P k.partition) (ap (λ
 
 -- ---- what is written through at a key
 
-pub reserves : {E : Type 0} (key : List ℕ) (atoms : List Atom) (h g : Held) (p : Partition) (before after : Look) (result : Result (Unit {0}) E) → before key ≡ Some h → Some g ≡ before key
-    → Puts key (record { partition = p; least = g.least }) before after → MakesIn atoms g.partition p → OnOk result (HavePlaces p atoms) → ReservesAt key atoms h before after result
-reserves key atoms h g p before after result is found puts makes places =
-    let same : g ≡ h = ap (λ o. unwrap_or o g) (found ∙ is) in
+-- no place was made
+pub untouched : {E : Type 0} (key : List ℕ) (atoms : List Atom) (before after : Look) (result : Result (Unit {0}) E) → IsErr result → ((q : List ℕ) → after q ≡ before q)
+    → ReservesIn key atoms before after result
+untouched key atoms before after result fails same = record { middle = before; kept = λ q. stays (before q); reserved = inl (fails, same) }
+
+-- place was made in what was held
+pub reserves : {E : Type 0} (key : List ℕ) (atoms : List Atom) (g : Held) (p : Partition) (before after : Look) (result : Result (Unit {0}) E) → Some g ≡ before key
+    → Puts key (record { partition = p; least = g.least }) before after → MakesIn atoms g.partition p → OnOk result (HavePlaces p atoms) → ReservesIn key atoms before after result
+reserves key atoms g p before after result found puts makes places = record {
+  middle = before;
+  kept = λ q. stays (before q);
+  reserved = inr (g, sym found, record { held = record { partition = p; least = g.least }; puts = puts; least = refl; makes = makes; places = places });
+}
+
+-- in a partition that was blank and is held now
+pub reserves_new : {E : Type 0} (key copy : List ℕ) (atoms : List Atom) (b p : Partition) (before after : Look) (result : Result (Unit {0}) E) → copy ≡ key → before key ≡ None
+    → IsBlank (record { partition = b; least = None }) → MakesIn atoms b p → OnOk result (HavePlaces p atoms) → Puts copy (record { partition = p; least = None }) before after
+    → ReservesIn key atoms before after result
+reserves_new key copy atoms b p before after result same none blank makes places puts =
+    let first : Held = record { partition = b; least = None } in
+    let held : Held = record { partition = p; least = None } in
+    let middle : Look = λ q. cond (is_eq (bytes_cmp key q)) (Some first) (before q) in
     record {
-      held = record { partition = p; least = g.least };
-      puts = puts;
-      least = ap (λ k. k.least) same;
-      makes = subst (λ k. MakesIn atoms k.partition p) same makes;
-      places = places;
+      middle = middle;
+      kept = blank_put key first before middle blank (ap is_some none) (λ q. refl);
+      reserved = inr (
+        first,
+        put_there key first before middle (λ q. refl),
+        record {
+          held = held;
+          puts = λ q. puts q ∙ ap (λ k. cond (is_eq (bytes_cmp k q)) (Some held) (before q)) same ∙ over (is_eq (bytes_cmp key q)) (Some held) (Some first) (before q);
+          least = refl;
+          makes = makes;
+          places = places;
+        },
+      );
     }
+  where
+    over : (b : Bool) (x y z : Option Held) → cond b x z ≡ cond b x (cond b y z)
+    over true x y z = refl
+    over false x y z = refl
 
 pub applies : (key : List ℕ) (atoms : List Atom) (h g : Held) (p : Partition) (least : Option ℤ) (before after : Look) → before key ≡ Some h → Some g ≡ before key
     → Puts key (record { partition = p; least = least }) before after → least ≡ least_with g.least atoms → JoinsAll atoms g.partition p → AppliesAt key atoms h before after
@@ -188,6 +215,31 @@ module _ {E : Type 0} (w : Mutation) (m n : MemPart) (mid : Look) (result : Resu
           ];
           bytes = bytes;
         }
+
+-- a memtable whose partitions did so
+module _ {E : Type 0} (w : Mutation) (m n : MemPart) (result : Result (Unit {0}) E) (did : ReservesIn w.key w.atoms (held_at m) (held_at n) result) (bytes : n.bytes ≡ m.bytes) where
+  there_in : (h : Held) → did.middle w.key ≡ Some h → IsSome (did.middle w.key)
+  there_in h is = ap is_some is
+
+  reserved_in : (h : Held) → did.middle w.key ≡ Some h → ReservesAt w.key w.atoms h did.middle (held_at n) result
+      → (g : Held) → did.middle w.key ≡ Some g → ReservesAt w.key w.atoms g did.middle (held_at n) result
+  reserved_in h is r g also = subst (λ k. ReservesAt w.key w.atoms k did.middle (held_at n) result) (ap (λ o. unwrap_or o h) (sym is ∙ also)) r
+
+  pub places_in : OnOk result (HasPlaces n w)
+  places_in = elim did.reserved [
+    | inl none ↦ never result (HasPlaces n w) none.0
+    | inr made ↦ places_made w m n did.middle result did.kept bytes (there_in made.0 made.1) (reserved_in made.0 made.1 made.2)
+  ]
+    where
+      never : (r : Result (Unit {0}) E) (Q : Type 0) → IsErr r → OnOk r Q
+      never (Ok x) Q e = absurd (true≢false (sym e))
+      never (Err e) Q f = tt
+
+  pub makes_in : MakesPlaces w m n
+  makes_in = elim did.reserved [
+    | inl none ↦ only_blank w m n did.middle result did.kept bytes none.1
+    | inr made ↦ makes_all w m n did.middle result did.kept bytes (there_in made.0 made.1) (reserved_in made.0 made.1 made.2)
+  ]
 
 found_place : (o : Option Held) (atoms : List Atom) → PlacesIn o atoms → (h : Held) × (o ≡ Some h)
 found_place None atoms p = absurd p

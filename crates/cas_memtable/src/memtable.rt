@@ -1,6 +1,6 @@
 //! The partitions of a table in memory.
 
-ghost use Rattle.std.specs.Prelude.{◌≡◌, ℕ, Some, None, List as ListOf, IfOk, OnOk, IsSome};
+ghost use Rattle.std.specs.Prelude.{◌≡◌, ℕ, Some, None, List as ListOf, IfOk, OnOk};
 ghost use Rattle.std.specs.Option.{option_copied};
 ghost use Rattle.std.specs.BTreeMap.{get};
 ghost use Rattle.std.specs.BTreeMap.Range.{is_from_start};
@@ -9,7 +9,7 @@ ghost use Rattle.cas_types.specs.Values.{bytes_cmp};
 ghost use Rattle.cas_atoms.specs.Coordinates.{atom_at};
 ghost use Rattle.cas_memtable.specs.Memtables.{held_at, least_of, earlier, least_with, bytes_with, PlacesIn, HasPlaces, MakesPlaces};
 ghost use Rattle.cas_memtable.specs.Memtables.{Joins, GivesPart, is_above, IsNextKey};
-ghost use Rattle.cas_memtable.specs.Inner.Steps.{StaysOrBlank, ReservesAt, AppliesAt, first_key};
+ghost use Rattle.cas_memtable.specs.Inner.Steps.{ReservesIn, AppliesAt, first_key};
 
 use cas_atoms::{Atom, Mutation, length};
 use cas_bounds::Slice;
@@ -84,39 +84,39 @@ fn bytes_with(bytes: u64, mutation: &Mutation) -> u64
     }
 }
 
-// A partition of the key, with nothing in it if there is none yet.
-fn reserve_key(
+// A partition of the key, where there is none yet, with places for atoms.
+fn insert_reserved(
     partitions: &mut BTreeMap<Bytes, Held>,
     alloc: Global,
     key: &Bytes,
+    atoms: &[Atom],
 ) -> Result<(), AllocError>
-    ensures there { OnOk result (IsSome (get bytes_cmp partitions.new key.now)) }
-    ensures kept { (q : ListOf ℕ) → StaysOrBlank (get bytes_cmp partitions.old q) (get bytes_cmp partitions.new q) }
+    requires { get bytes_cmp partitions.old key.now ≡ None }
+    ensures { ReservesIn key.now atoms.now (get bytes_cmp partitions.old) (get bytes_cmp partitions.new) result }
 {
-    if partitions.contains_key(key) {
-        return Ok(());
-    }
     let copy = key.clone()?;
+    let mut partition = Partition::new(alloc);
+    partition.reserve_all(atoms)?;
     let held = Held {
-        partition: Partition::new(alloc),
+        partition,
         least: None,
     };
     partitions.insert(copy, held)?;
     Ok(())
 }
 
-// Places for atoms of the partition of the key.
+// Places for atoms in the partition of the key, which is made if there is none yet.
 fn reserve_atoms(
     partitions: &mut BTreeMap<Bytes, Held>,
+    alloc: Global,
     key: &Bytes,
     atoms: &[Atom],
 ) -> Result<(), AllocError>
-    ensures { (h : Held) → get bytes_cmp partitions.old key.now ≡ Some h
-        → ReservesAt key.now atoms.now h (get bytes_cmp partitions.old) (get bytes_cmp partitions.new) result }
+    ensures { ReservesIn key.now atoms.now (get bytes_cmp partitions.old) (get bytes_cmp partitions.new) result }
 {
     match partitions.get_mut(key) {
-        None => Ok(()),
         Some(held) => held.partition.reserve_all(atoms),
+        None => insert_reserved(partitions, alloc, key, atoms),
     }
 }
 
@@ -174,9 +174,9 @@ impl MemPart {
         ensures places { OnOk result (HasPlaces self.new mutation.now) }
         ensures makes { MakesPlaces mutation.now self.old self.new }
     {
-        reserve_key(&mut self.partitions, self.alloc, &mutation.key)?;
         reserve_atoms(
             &mut self.partitions,
+            self.alloc,
             &mutation.key,
             mutation.atoms.as_slice(),
         )

@@ -1,25 +1,27 @@
 -- Where the numbers of two spots of one kind differ, they decide.
 use Rattle.std.proofs.Common.{arith, ◌≡◌, ℕ, zero, suc, ◌+◌, ℤ, pos, negsuc, ◌==◌, if◌then◌else◌, Bool, true, false, Option, None, Some, List, [], ◌∷◌, ◌⊎◌, inl, inr, refl, sym, ap, ◌∙◌, subst}
+use Rattle.std.proofs.lemmas.Cmp.{tied_itself}
 use Rattle.std.proofs.lemmas.Option.{none-some}
 use Rattle.std.proofs.Math.IntN.{ -ℤ_one}
 use Rattle.std.specs.Option.{option_cmp}
+use Rattle.std.specs.Cmp.Lexicographic.{options_total}
 use Rattle.std.specs.FinMap.{int_cmp-IsAntisymmetric}
-use Rattle.std.specs.Ordering.{int_cmp, nat_cmp, ordering_then, is_eq, is_gt}
+use Rattle.std.specs.Ordering.{int_cmp, ordering_then, is_eq, is_gt}
 use Rattle.std.specs.declared.cmp.Ordering.{Ordering}
 use Rattle.std.specs.declared.cmp.Ordering.TheVariants.{Less, Equal, Greater}
-use Rattle.cas_types.specs.Values.{bytes_cmp, value_cmp}
+use Rattle.cas_types.specs.Values.{value_cmp}
 use Rattle.cas_types.specs.declared.tag.TypeTag.{TypeTag}
 use Rattle.cas_types.specs.declared.tag.TypeTag.TheVariants.{Ascii, BigInt, Blob, Boolean, Date, Int, SmallInt, Text, Time, Timestamp, TimeUuid, TinyInt, Uuid}
 use Rattle.cas_bounds.specs.Orders.{column_cmp}
 use Rattle.cas_bounds.specs.Points.{ends_cmp, side}
 use Rattle.cas_bounds.specs.Keys.{key_cmp}
-use Rattle.cas_bounds.specs.Inner.KeyLaws.{keys_are_points}
+use Rattle.cas_bounds.specs.Inner.KeyLaws.{key_total, keys_are_points}
 use Rattle.cas_bounds.specs.declared.map_key.End.{End}
 use Rattle.cas_bounds.specs.declared.map_key.End.TheVariants.{Row}
 use Rattle.cas_bounds.specs.declared.map_key.MapKey.{MapKey}
 use Rattle.cas_bounds.specs.declared.order.Ordered.{Ordered}
-use Rattle.cas_partition.specs.Spots.{spot_cmp}
-use Rattle.cas_partition.specs.Inner.Fronts.{plain_number, kind_of, turned, no_front, front_by, front_at, front_of}
+use Rattle.cas_partition.specs.Spots.{spot_cmp, within}
+use Rattle.cas_partition.specs.Inner.Fronts.{HaveSameValues, plain_number, kind_of, turned, no_front, front_by, front_at, front_of}
 use Rattle.cas_partition.specs.Inner.Passing.{are_of_one, is_first}
 use Rattle.cas_partition.specs.Inner.Slots.{is_after}
 use Rattle.cas_partition.specs.declared.front.Front.{Front}
@@ -189,16 +191,34 @@ fronts_decide s t a b (inr f) (inr g) k n = both_fronts s t a b f g k n
 
 -- ---- spots
 
--- what decides where both are of one row
-abbrev within : Spot → Spot → Ordering
-within s t = ordering_then (option_cmp nat_cmp s.column t.column) (option_cmp bytes_cmp s.path t.path)
-
 pub numbers_decide : (s t : Spot) (a b : Front) → a ≡ front_of s.row → b ≡ front_of t.row → a.kind ≡ b.kind → (a.number ≡ b.number → ⊥)
     → int_cmp a.number b.number ≡ spot_cmp s t
 numbers_decide s t a b p q k n =
     sym (ap (λ c. ordering_then c (within s t)) (fronts_decide s.row t.row a b (subst (λ f. (f ≡ no_front) ⊎ HasFront s.row f) (sym p) (row_front s.row))
     (subst (λ f. (f ≡ no_front) ⊎ HasFront t.row f) (sym q) (row_front t.row)) k n)
     ∙ differ a.number b.number (within s t) n)
+
+both_same : (s t : Option MapKey) (a b : Front) → HasFront s a → HasFront t b → a.kind ≡ b.kind → HaveSameValues s t → s ≡ t
+both_same s t a b f g k one =
+    let kinds : kind_of f.order ≡ kind_of g.order = sym (ap (λ z. z.kind) f.front) ∙ k ∙ ap (λ z. z.kind) g.front in
+    let orders : f.order ≡ g.order = one_column f.order g.order f.value g.value f.number g.number f.has g.has kinds in
+    let same : HaveSameValues (Some (key f.order f.value f.end)) (Some (key g.order g.value g.end)) =
+    subst (λ u. HaveSameValues u (Some (key g.order g.value g.end))) f.is (subst (HaveSameValues s) g.is one) in
+    f.is ∙ (λ i. Some (record { values = same.0 i; end = (same.1 ∙ sym same.2) i; order = orders i ∷ [] })) ∙ sym g.is
+
+fronts_same : (s t : Option MapKey) (a b : Front) → (a ≡ no_front) ⊎ HasFront s a → (b ≡ no_front) ⊎ HasFront t b
+    → a.kind ≡ b.kind → (a.kind ≡ 0 → ⊥) → HaveSameValues s t → s ≡ t
+fronts_same s t a b (inl p) g k n one = absurd (n (ap (λ z. z.kind) p))
+fronts_same s t a b (inr f) (inl q) k n one = absurd (n (k ∙ ap (λ z. z.kind) q))
+fronts_same s t a b (inr f) (inr g) k n one = both_same s t a b f g k one
+
+pub one_row : (s t : Spot) (a b : Front) → a ≡ front_of s.row → b ≡ front_of t.row → a.kind ≡ b.kind → (a.kind ≡ 0 → ⊥) → HaveSameValues s.row t.row
+    → within s t ≡ spot_cmp s t
+one_row s t a b p q k n one =
+    let same : s.row ≡ t.row = fronts_same s.row t.row a b (subst (λ f. (f ≡ no_front) ⊎ HasFront s.row f) (sym p) (row_front s.row))
+    (subst (λ f. (f ≡ no_front) ⊎ HasFront t.row f) (sym q) (row_front t.row)) k n one in
+    sym (ap (λ r. ordering_then (option_cmp key_cmp s.row r) (within s t)) (sym same)
+    ∙ ap (λ c. ordering_then c (within s t)) (tied_itself (options_total key_total) s.row))
 
 -- ---- cuts
 

@@ -22,11 +22,13 @@ use Rattle.cas_streams.specs.declared.fragment.Fragment.TheVariants as fragment
 use Rattle.cas_partition.specs.declared.spot.Spot.{Spot}
 use Rattle.cas_partition.specs.declared.spot.Content.{Content}
 
--- spots row by row, the static row first; in a row by the columns' numbers, and in a column by the bytes of the paths
+-- spots of one row by the columns' numbers, and in a column by the bytes of the paths
+abbrev pub within : Spot → Spot → Ordering
+within s t = ordering_then (option_cmp nat_cmp s.column t.column) (option_cmp bytes_cmp s.path t.path)
+
+-- spots row by row, the static row first, and then so
 abbrev pub spot_cmp : Spot → Spot → Ordering
-spot_cmp s t =
-    ordering_then (option_cmp key_cmp s.row t.row)
-    (ordering_then (option_cmp nat_cmp s.column t.column) (option_cmp bytes_cmp s.path t.path))
+spot_cmp s t = ordering_then (option_cmp key_cmp s.row t.row) (within s t)
 
 -- nothing said
 abbrev pub blank : Option TypeTag → Content

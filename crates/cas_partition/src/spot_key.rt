@@ -1,13 +1,14 @@
 //! Spots as keys of an ordered map.
 
-ghost use Rattle.std.specs.Prelude.{◌≡◌, Some, refl};
+ghost use Rattle.std.specs.Prelude.{◌≡◌, true, Some, refl};
 ghost use Rattle.std.specs.Ordering.{eq_by_cmp};
 ghost use Rattle.std.specs.Cmp.{eq_by_cmp_equiv, partial_equiv_from_equiv, partial_order_from_agreeing_total};
-ghost use Rattle.cas_partition.specs.Spots.{spot_cmp};
-ghost use Rattle.cas_partition.specs.Inner.Fronts.{front_of, spot_total};
+ghost use Rattle.cas_partition.specs.Spots.{spot_cmp, within};
+ghost use Rattle.cas_partition.specs.Inner.Fronts.{front_of, spot_total, HaveSameValues};
 
 use crate::front::{Front, front_of};
 use crate::spot::Spot;
+use cas_bounds::{End, MapKey};
 use std::cmp::Ordering;
 use std::marker::Model;
 
@@ -28,6 +29,31 @@ impl Model for SpotKey {
     ghost view = { λ k. k.spot };
 
     ghost invariant = { λ k. k.front ≡ front_of k.spot.row };
+}
+
+// Whether both are rows with the same values.
+#[inline]
+fn have_same_values(a: &Option<MapKey>, b: &Option<MapKey>) -> bool
+    ensures { result ≡ true → HaveSameValues a.now b.now }
+{
+    match (a, b) {
+        (Some(k), Some(q)) => match (k.end, q.end) {
+            (End::Row, End::Row) => k.values.as_slice() == q.values.as_slice(),
+            _ => false,
+        },
+        _ => false,
+    }
+}
+
+// The order of two spots of one row.
+#[inline]
+fn compare_within(a: &Spot, b: &Spot) -> Ordering
+    ensures { result ≡ within a.now b.now }
+{
+    match a.column.cmp(&b.column) {
+        Ordering::Equal => a.path.cmp(&b.path),
+        decided => decided,
+    }
 }
 
 impl SpotKey {
@@ -54,6 +80,22 @@ impl SpotKey {
         ensures { result ≡ front_of self.now.row }
     {
         self.front
+    }
+}
+
+// The order of two spots whose numbers don't tell them apart, mostly of one row. It stands apart, so that
+// comparisons that numbers decide are short.
+#[inline(never)]
+fn compare_tied(a: &SpotKey, b: &SpotKey) -> Ordering
+    ensures { result ≡ spot_cmp a.now b.now }
+{
+    if a.front.kind == b.front.kind
+        && a.front.kind != 0
+        && have_same_values(&a.spot.row, &b.spot.row)
+    {
+        compare_within(&a.spot, &b.spot)
+    } else {
+        a.spot.cmp(&b.spot)
     }
 }
 
@@ -95,7 +137,7 @@ impl Ord for SpotKey {
         if self.front.kind == other.front.kind && self.front.number != other.front.number {
             self.front.number.cmp(&other.front.number)
         } else {
-            self.spot.cmp(&other.spot)
+            compare_tied(self, other)
         }
     }
 }

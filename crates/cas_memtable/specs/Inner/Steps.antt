@@ -1,5 +1,5 @@
 -- What calls on the map of partitions do at each key (own).
-use Rattle.std.specs.Prelude.{◌≡◌, ℕ, cond, Option, None, Some, is_some, List, [], ◌∷◌, ◌⊎◌, Result, OnOk, if◌then◌else◌}
+use Rattle.std.specs.Prelude.{◌≡◌, ℕ, cond, Option, None, Some, is_some, List, [], ◌∷◌, ◌⊎◌, Result, OnOk, IsErr, if◌then◌else◌}
 use Rattle.std.specs.Ordering.{is_eq}
 use Rattle.cas_types.specs.Values.{bytes_cmp}
 use Rattle.cas_types.specs.declared.schema.Column.{Column}
@@ -33,6 +33,12 @@ pub record ReservesAt (key : List ℕ) (atoms : List Atom) (h : Held) (before af
   pub least : held.least ≡ h.least
   pub makes : MakesPlaces atoms h.partition held.partition
   pub places : OnOk result (HavePlaces held.partition atoms)
+
+-- place was made for the atoms under the key, in what was held there or in a blank partition; or it wasn't, and no more than blank partitions came
+pub record ReservesIn (key : List ℕ) (atoms : List Atom) (before after : List ℕ → Option Held) {E : Type 0} (result : Result (Unit {0}) E) : Type 0 where
+  pub middle : List ℕ → Option Held
+  pub kept : (q : List ℕ) → StaysOrBlank (before q) (middle q)
+  pub reserved : (IsErr result × ((q : List ℕ) → after q ≡ middle q)) ⊎ ((h : Held) × (middle key ≡ Some h) × ReservesAt key atoms h middle after result)
 
 -- the atoms were joined to it
 pub record AppliesAt (key : List ℕ) (atoms : List Atom) (h : Held) (before after : List ℕ → Option Held) : Type 0 where

@@ -1,5 +1,5 @@
 -- A number by which most spots of one table are told apart, before all else is compared; and that their order is total (own).
-use Rattle.std.specs.Prelude.{ℕ, ◌+◌, ℤ, pos, negsuc, ◌-ℤ◌, Option, None, Some, List, [], ◌∷◌, if◌then◌else◌}
+use Rattle.std.specs.Prelude.{◌≡◌, ℕ, ◌+◌, ℤ, pos, negsuc, ◌-ℤ◌, Option, None, Some, List, [], ◌∷◌, if◌then◌else◌}
 use Rattle.std.specs.Int.{w8, w16, w32, w64}
 use Rattle.std.specs.Cmp.{IsTotalOrder, then_total, on_total, nat_cmp_total}
 use Rattle.std.specs.Cmp.Lexicographic.{options_total, nat_list_cmp_total}
@@ -8,6 +8,7 @@ use Rattle.cas_types.specs.declared.tag.TypeTag.{TypeTag}
 use Rattle.cas_types.specs.declared.tag.TypeTag.TheVariants.{Ascii, BigInt, Blob, Boolean, Date, Int, SmallInt, Text, Time, Timestamp, TimeUuid, TinyInt, Uuid}
 use Rattle.cas_bounds.specs.Inner.KeyLaws.{key_total}
 use Rattle.cas_bounds.specs.declared.order.Ordered.{Ordered}
+use Rattle.cas_bounds.specs.declared.map_key.End.TheVariants.{Row}
 use Rattle.cas_bounds.specs.declared.map_key.MapKey.{MapKey}
 use Rattle.cas_partition.specs.Spots.{spot_cmp}
 use Rattle.cas_partition.specs.declared.front.Front.{Front}
@@ -71,6 +72,11 @@ front_at _ _ = no_front
 abbrev pub front_of : Option MapKey → Front
 front_of None = no_front
 front_of (Some k) = front_at k.order k.values
+
+-- both are rows, with the same values
+abbrev pub HaveSameValues : Option MapKey → Option MapKey → Type 0
+HaveSameValues (Some k) (Some q) = (k.values ≡ q.values) × (k.end ≡ Row) × (q.end ≡ Row)
+HaveSameValues _ _ = ⊥
 
 pub spot_total : IsTotalOrder spot_cmp
 spot_total =
