@@ -28,7 +28,7 @@ use Rattle.cas_words.specs.declared.words.ClockKind.{ClockKind}
 use Rattle.cas_words.specs.declared.words.ClockKind.TheVariants as clock
 use Rattle.cas_sessions.specs.declared.answer.Fault.{Fault}
 use Rattle.cas_sessions.specs.declared.answer.Fault.TheVariants as fault
-use Rattle.cas_sessions.specs.Flushes.{EndsSo, Flushed, FlushesNamed, FlushesTable, Grows, change_of, changes_by, numbers_added}
+use Rattle.cas_sessions.specs.Flushes.{EndsSo, Flushed, FlushesNamed, FlushesTable, Grows, change_of, changes_by, numbers_added, without_flushed}
 use Rattle.cas_sessions.specs.History.{History, DiskState, Takes, Defines, Does, after_entries, shard_at}
 use Rattle.cas_sessions.specs.Verifying.{VerifiesNamed}
 use Rattle.cas_node.specs.Lines.{Answered, Answers, Runs, SetsClock}
@@ -105,7 +105,8 @@ module _ (h : History) (t : TableSchema) (changes : List (Option Change)) (e : D
   its_shards (Ok told) ends = omega (arith, ends.0)
   its_shards (Err f) ends = omega (arith, ends.0)
 
-  few_flushed : (r : Result (List ℕ) Fault) (after : History) → EndsSo h t changes r e → after ≡ record h { changes = fold changes_by h.changes changes; disk = e } → Few h after
+  few_flushed : (r : Result (List ℕ) Fault) (after : History) → EndsSo h t changes r e
+      → after ≡ record h { unflushed = without_flushed t.number changes h.unflushed; changes = fold changes_by h.changes changes; disk = e } → Few h after
   few_flushed r after ends is =
       let many : length changes ≤ length h.shards = its_shards r ends in
       let added : length (numbers_added changes) ≤ length changes =

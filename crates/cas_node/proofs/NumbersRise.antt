@@ -32,7 +32,7 @@ use Rattle.cas_types.specs.declared.schema.TableSchema.{TableSchema}
 use Rattle.cas_sessions.specs.declared.answer.Fault.{Fault}
 use Rattle.cas_sessions.specs.declared.answer.Fault.TheVariants as fault
 use Rattle.cas_changes.specs.declared.entry.Change.{Change}
-use Rattle.cas_sessions.specs.Flushes.{FlushesNamed, FlushesTable, changes_by}
+use Rattle.cas_sessions.specs.Flushes.{FlushesNamed, FlushesTable, changes_by, without_flushed}
 use Rattle.cas_sessions.specs.History.{History, DiskState, Does, Takes, shard_at, after_entries, with_shard}
 use Rattle.cas_sessions.specs.Verifying.{VerifiesNamed}
 use Rattle.cas_node.specs.Lines.{SetsClock, Answered, Answers}
@@ -116,17 +116,18 @@ does_keeps kind Gives h (Ok (bound.Read q)) r t a all =
     (shard_keeps h q.shard (after_entries reading [] (shard_at h q.shard)) all (raised_rise (shard_at h q.shard) (moment_at reading (shard_at h q.shard)) (all q.shard)))
 
 -- a flush enters nothing
-begun_keeps : (h t : History) (changes : List Change) (e : DiskState) → t ≡ record h { changes = changes; disk = e } → AllRise h → AllRise t
-begun_keeps h t changes e same all = subst AllRise (sym same) all
+begun_keeps : (h t : History) (left : ℕ → ℕ → List Mutation) (changes : List Change) (e : DiskState) → t ≡ record h { unflushed = left; changes = changes; disk = e } → AllRise h
+    → AllRise t
+begun_keeps h t left changes e same all = subst AllRise (sym same) all
 
 flush_keeps : (h : History) (x : TableSchema) (r : Result (List ℕ) Fault) (t : History) → FlushesTable h x r t → AllRise h → AllRise t
-flush_keeps h x (Ok told) t a all = begun_keeps h t (fold changes_by h.changes a.0) a.1 a.5 all
+flush_keeps h x (Ok told) t a all = begun_keeps h t (without_flushed x.number a.0 h.unflushed) (fold changes_by h.changes a.0) a.1 a.5 all
 flush_keeps h x (Err (fault.Stopped first)) t a all = subst AllRise (sym a.1) all
-flush_keeps h x (Err (fault.Refused why)) t a all = begun_keeps h t (fold changes_by h.changes a.0) a.1 a.5 all
-flush_keeps h x (Err (fault.Disk number)) t a all = begun_keeps h t (fold changes_by h.changes a.0) a.1 a.5 all
-flush_keeps h x (Err fault.Read) t a all = begun_keeps h t (fold changes_by h.changes a.0) a.1 a.5 all
-flush_keeps h x (Err (fault.BadBlock number at)) t a all = begun_keeps h t (fold changes_by h.changes a.0) a.1 a.5 all
-flush_keeps h x (Err fault.Mem) t a all = begun_keeps h t (fold changes_by h.changes a.0) a.1 a.5 all
+flush_keeps h x (Err (fault.Refused why)) t a all = begun_keeps h t (without_flushed x.number a.0 h.unflushed) (fold changes_by h.changes a.0) a.1 a.5 all
+flush_keeps h x (Err (fault.Disk number)) t a all = begun_keeps h t (without_flushed x.number a.0 h.unflushed) (fold changes_by h.changes a.0) a.1 a.5 all
+flush_keeps h x (Err fault.Read) t a all = begun_keeps h t (without_flushed x.number a.0 h.unflushed) (fold changes_by h.changes a.0) a.1 a.5 all
+flush_keeps h x (Err (fault.BadBlock number at)) t a all = begun_keeps h t (without_flushed x.number a.0 h.unflushed) (fold changes_by h.changes a.0) a.1 a.5 all
+flush_keeps h x (Err fault.Mem) t a all = begun_keeps h t (without_flushed x.number a.0 h.unflushed) (fold changes_by h.changes a.0) a.1 a.5 all
 
 named_keeps : (h : History) (o : Option TableSchema) (r : Result (List ℕ) Fault) (t : History) → FlushesNamed h o r t → AllRise h → AllRise t
 named_keeps h None r t a all = subst AllRise (sym a.1) all

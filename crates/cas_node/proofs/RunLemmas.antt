@@ -79,9 +79,9 @@ module _ (kind : ClockKind) (Gives : ℤ → Type 0) (script : List ℕ) (old ne
       → IsInMemory given entries mutations openings l tables shards last live → BeginsAs given entries mutations openings d s → journal.last_segment ≤ next_segment entries
       → IsKnownOn d journal entries mutations script → Served kind Gives script old new given entries mutations openings (files_in shards) journal d e faults_before faults t.faults t.reads t.list why
   of_store given entries mutations openings memory first segment known =
-      let (after, ran, goes) = moves (known_as known) (start given entries openings s.session (disk_of s)) first.stands in
+      let (after, ran, goes) = moves (known_as known) (start given entries mutations openings s.session (disk_of s)) first.stands in
       record {
-        first = start given entries openings s.session (disk_of s);
+        first = start given entries mutations openings s.session (disk_of s);
         begins = record {
           session = s.session;
           disk = disk_of s;
@@ -101,7 +101,7 @@ module _ (kind : ClockKind) (Gives : ℤ → Type 0) (script : List ℕ) (old ne
             let (now, still, explains) = goes.lasts mutations u (first.lasts u is (subst (λ (j : Journal). Lasts j d u) (sym opened.journal_is) lasts)) in
             left after mutations now goes.stands still i leaves;
         lists = λ none u is lasts.
-            lists none (start given entries openings s.session (disk_of s)) mutations u first.stands
+            lists none (start given entries mutations openings s.session (disk_of s)) mutations u first.stands
             (first.lasts u is (subst (λ (j : Journal). Lasts j d u) (sym opened.journal_is) lasts));
         next = λ u is lasts explained i leaves bytes.
             let (now, still, explains) = goes.lasts mutations u (first.lasts u is (subst (λ (j : Journal). Lasts j d u) (sym opened.journal_is) lasts)) in
@@ -114,7 +114,7 @@ module _ (kind : ClockKind) (Gives : ℤ → Type 0) (script : List ℕ) (old ne
       known_as : IsKnownOn d journal entries mutations script → IsKnownIn s d script
       known_as (inl (tells, (u, is, lasts))) =
           let began = first.lasts u is (subst (λ (j : Journal). Lasts j d u) (sym opened.journal_is) lasts) in
-          inl (tells, (start given entries openings s.session (disk_of s), mutations, u, first.stands, began))
+          inl (tells, (start given entries mutations openings s.session (disk_of s), mutations, u, first.stands, began))
       known_as (inr none) = inr none
 
   serves : (pass : Option (List (Item Event))) → IsSome pass → IfSome pass (λ p. p ≡ t.list)
@@ -169,9 +169,10 @@ pass_by f g session calls clock p q same is of =
     (subst (λ (x : ℕ → ℕ → ℤ → State). IfSome p (λ l. l ≡ (x session calls clock).list)) same of)
 
 -- how the disk stands at the beginning
-first_disk : (l : Limits) (entries : List ManifestEntry) (openings : ℕ → ShardOpening) (session : ℕ) (disk : DiskState) → (start l entries openings session disk).disk ≡ disk
+first_disk : (l : Limits) (entries : List ManifestEntry) (mutations : List Mutation) (openings : ℕ → ShardOpening) (session : ℕ) (disk : DiskState)
+    → (start l entries mutations openings session disk).disk ≡ disk
 unfolding start
-first_disk l entries openings session disk = refl
+first_disk l entries mutations openings session disk = refl
 
 -- ---- the script ran
 
@@ -189,8 +190,9 @@ module _ (words : List (List ℕ)) (Gives : ℤ → Type 0) (before after : Outs
     → Tells mid)
     (opening : (d : Image) → before.folder.reads d → IsOfBytes d → (entries : List ManifestEntry) (mutations : List Mutation) → OpensAs c.limits.shards entries mutations d
     → During (SameListed entries) before.folder mid) where
-  module _ (entries : List ManifestEntry) (openings : ℕ → ShardOpening) (files : ℕ → ℕ → List (File Held)) (h : History) (begins : Begins c.limits entries openings files faults h) where
-    earlier : Begins c.limits entries openings files before.folder_faults h
+  module _ (entries : List ManifestEntry) (mutations : List Mutation) (openings : ℕ → ShardOpening) (files : ℕ → ℕ → List (File Held)) (h : History)
+      (begins : Begins c.limits entries mutations openings files faults h) where
+    earlier : Begins c.limits entries mutations openings files before.folder_faults h
     earlier = record {
       session = begins.session;
       disk = begins.disk;
@@ -204,7 +206,7 @@ module _ (words : List (List ℕ)) (Gives : ℤ → Type 0) (before after : Outs
     }
 
     at_first : h.disk ≡ begins.disk
-    at_first = ap (λ (k : History). k.disk) begins.history ∙ first_disk c.limits entries openings begins.session begins.disk
+    at_first = ap (λ (k : History). k.disk) begins.history ∙ first_disk c.limits entries mutations openings begins.session begins.disk
 
     not_stopped : h.disk.stopped ≡ false
     not_stopped = ap (λ (d : DiskState). d.stopped) at_first ∙ begins.going
@@ -222,7 +224,7 @@ module _ (words : List (List ℕ)) (Gives : ℤ → Type 0) (before after : Outs
       served.ended ∙ ap (λ (k : ℕ). with_faults k after.folder_faults reads served.told) counted in
       record {
         first = served.first;
-        begins = earlier entries openings files served.first served.begins;
+        begins = earlier entries mutations openings files served.first served.begins;
         final = served.final;
         told = served.told;
         ran = served.ran;
@@ -238,7 +240,7 @@ module _ (words : List (List ℕ)) (Gives : ℤ → Type 0) (before after : Outs
         reads_are = served.reads_are;
         counted =
             stop_is_counted c.clock Gives served.first served.ran.run served.ran.replies served.final before.folder_faults after.folder_faults served.ran.steps
-            (not_stopped entries openings files served.first served.begins) (counted_from entries openings files served.first served.begins) served.faults;
+            (not_stopped entries mutations openings files served.first served.begins) (counted_from entries mutations openings files served.first served.begins) served.faults;
         bad =
             blamed c.clock Gives served.first script before.taken after.taken served.final served.told why before.folder_faults after.folder_faults reads served.ran ended;
         ended = ended;
@@ -489,13 +491,14 @@ module _ (words : List (List ℕ)) (Gives : ℤ → Type 0) (before after : Outs
   opens = subst (λ (k : Command). OpensAs k.limits.shards well.entries well.mutations well.image) same well.opens
 
   ran_on_well : (script : List ℕ) (list : List (Item Event)) (why : Cause) (entries : List ManifestEntry) (mutations : List Mutation) (files : ℕ → ℕ → List (File Held))
-      → entries ≡ well.entries → script ≡ well.script → AreItsFiles entries before.folder files
+      → entries ≡ well.entries → mutations ≡ well.mutations → script ≡ well.script → AreItsFiles entries before.folder files
       → RanOn c Gives script before after reads list why entries mutations well.openings files → (why ≡ cause.Write → WriteRose before after) → GoodOrMem why
-  ran_on_well script list why entries mutations files one text its ran write =
+  ran_on_well script list why entries mutations files one all text its ran write =
       let its_own : AreItsFiles well.entries before.folder files = subst (λ (es : List ManifestEntry). AreItsFiles es before.folder files) one its in
-      let begun : Begins well.command.limits well.entries well.openings files before.folder_faults ran.first =
-      subst (λ (k : Command). Begins k.limits well.entries well.openings files before.folder_faults ran.first) (sym same)
-      (subst (λ (es : List ManifestEntry). Begins c.limits es well.openings files before.folder_faults ran.first) one ran.begins) in
+      let begun : Begins well.command.limits well.entries well.mutations well.openings files before.folder_faults ran.first =
+      subst (λ (k : Command). Begins k.limits well.entries well.mutations well.openings files before.folder_faults ran.first) (sym same)
+      (subst (λ (es : List ManifestEntry). Begins c.limits es well.mutations well.openings files before.folder_faults ran.first) one
+      (subst (λ (ms : List Mutation). Begins c.limits entries ms well.openings files before.folder_faults ran.first) all ran.begins)) in
       let granted : IsGranted ran.first c.clock Gives script =
       subst (λ (k : Command). IsGranted ran.first k.clock Gives script) same
       (subst (λ (l : List ℕ). IsGranted ran.first well.command.clock Gives l) (sym text) (well.granted files its_own ran.first begun)) in
@@ -517,7 +520,7 @@ module _ (words : List (List ℕ)) (Gives : ℤ → Type 0) (before after : Outs
       let explained : AreOpenings ran.entries ran.mutations before.folder well.openings =
       subst (λ (es : List ManifestEntry). AreOpenings es ran.mutations before.folder well.openings) (sym one.0)
       (subst (λ (ms : List Mutation). AreOpenings well.entries ms before.folder well.openings) (sym one.1) well.explained) in
-      ran_on_well script list why ran.entries ran.mutations ran.files one.0 (all_read before.left after.left well.script script well.told read) ran.its_files
+      ran_on_well script list why ran.entries ran.mutations ran.files one.0 one.1 (all_read before.left after.left well.script script well.told read) ran.its_files
       (ran.on well.openings explained (inl (well.image, well.reads, well.of_bytes))) write
 
   pub ends_well : (script : List ℕ) (limits : Limits) (tables : List TableSchema) (shards : List ShardState) (last live : ℕ) (journal : Journal) (mid : Disk)

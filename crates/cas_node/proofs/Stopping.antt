@@ -26,7 +26,7 @@ use Rattle.cas_terms.specs.Columns.{table_named}
 use Rattle.cas_view.specs.Views.{File}
 use Rattle.cas_sessions.specs.declared.answer.Fault.{Fault}
 use Rattle.cas_sessions.specs.declared.answer.Fault.TheVariants as fault
-use Rattle.cas_sessions.specs.Flushes.{EndsSo, Flushed, FlushesNamed, FlushesTable, Grows, WhyNoFurther, change_of, changes_by}
+use Rattle.cas_sessions.specs.Flushes.{EndsSo, Flushed, FlushesNamed, FlushesTable, Grows, WhyNoFurther, change_of, changes_by, without_flushed}
 use Rattle.cas_sessions.specs.History.{History, DiskState, Takes, Defines, Does, Stays, Stops, shard_at}
 use Rattle.cas_sessions.specs.Verifying.{VerifiesNamed}
 use Rattle.cas_node.specs.Lines.{Answered, Answers, Runs, SetsClock}
@@ -165,7 +165,7 @@ module _ (h : History) (t : TableSchema) (changes : List (Option Change)) (e : D
 abbrev IsBegun : History → TableSchema → Result (List ℕ) Fault → History → Type 0
 IsBegun h t r after =
     (changes : List (Option Change)) × (e : DiskState) × (h.disk.stopped ≡ false) × Flushed h t changes e × EndsSo h t changes r e
-    × (after ≡ record h { changes = fold changes_by h.changes changes; disk = e })
+    × (after ≡ record h { unflushed = without_flushed t.number changes h.unflushed; changes = fold changes_by h.changes changes; disk = e })
 
 begun_counts : (h : History) (t : TableSchema) (r : Result (List ℕ) Fault) (after : History) → IsBegun h t r after → Counts h.disk after.disk
 begun_counts h t r after a = at_disk h after a.1 (ap (λ (k : History). k.disk) a.5) (flushed_counts h t a.0 a.1 a.3 r a.4)

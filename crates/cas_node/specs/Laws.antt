@@ -49,7 +49,7 @@ AllRise h = (n : ℕ) → NumbersRise (shard_at h n)
 abbrev pub FoundRise : Disk → Type 0
 FoundRise folder =
     (l : Limits) (entries : List ManifestEntry) (mutations : List Mutation) (openings : ℕ → ShardOpening) (session : ℕ) (disk : DiskState)
-    → AreOfAStore entries mutations → AreOpenings entries mutations folder openings → AllRise (start l entries openings session disk)
+    → AreOfAStore entries mutations → AreOpenings entries mutations folder openings → AllRise (start l entries mutations openings session disk)
 
 -- along a run they stay so, under either clock and whatever is answered
 abbrev pub NumbersStay : (ℤ → Type 0) → Type 0

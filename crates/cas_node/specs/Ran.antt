@@ -224,7 +224,7 @@ IsBadForOne files _ at = ⊥
 pub record RanOn (c : Command) (Gives : ℤ → Type 0) (script : List ℕ) (before after : Outside) (reads : ℕ) (list : List (Item Event)) (why : Cause)
     (entries : List ManifestEntry) (mutations : List Mutation) (openings : ℕ → ShardOpening) (files : ℕ → ℕ → List (File Held)) : Type 0 where
   pub first : History
-  pub begins : Begins c.limits entries openings files before.folder_faults first
+  pub begins : Begins c.limits entries mutations openings files before.folder_faults first
   pub final : History
   pub told : Cause
   pub ran : RanFrom first c.clock Gives script before.taken after.taken final told
@@ -327,9 +327,9 @@ pub record AllWell (words : List (List ℕ)) (Gives : ℤ → Type 0) (before af
   pub openings : ℕ → ShardOpening
   pub explained : AreOpenings entries mutations before.folder openings
   pub good : (files : ℕ → ℕ → List (File Held)) → AreItsFiles entries before.folder files → (first : History)
-      → Begins command.limits entries openings files before.folder_faults first → StaysGood first command.clock Gives script
+      → Begins command.limits entries mutations openings files before.folder_faults first → StaysGood first command.clock Gives script
   pub granted : (files : ℕ → ℕ → List (File Held)) → AreItsFiles entries before.folder files → (first : History)
-      → Begins command.limits entries openings files before.folder_faults first → IsGranted first command.clock Gives script
+      → Begins command.limits entries mutations openings files before.folder_faults first → IsGranted first command.clock Gives script
   pub no_read_fault : ReadRose before after → ⊥
   pub no_write_fault : WriteRose before after → ⊥
   pub no_folder_fault : Rose before.folder_faults after.folder_faults → ⊥

@@ -53,7 +53,7 @@ use Rattle.cas_recovery.proofs.Places.{get_within, get_map, index_here, index_ot
 use Rattle.cas_sessions.proofs.Explaining.{GoesFurther, KeepFilesOf, entered_ahead, explains_named, explains_still, explains_taken, further_at, goes_nowhere, keep_files, keep_files_none, raised_further}
 use Rattle.cas_sessions.proofs.Filing.{files_still}
 use Rattle.cas_sessions.proofs.Moving.{none_more, one_more, with_entries, raised_is, stands_write}
-use Rattle.cas_sessions.proofs.Remembering.{all_entered, all_still, each_remembers, each_with}
+use Rattle.cas_sessions.proofs.Remembering.{all_entered, all_still, just_with, with_entry, with_none}
 use Rattle.cas_sessions.proofs.Lasting.{lasts_still, may_be_taken, lasts_with_room, lasts_taken}
 
 -- ---- places
@@ -197,7 +197,8 @@ module _ (s : State) (w : BoundWrite) (reading : ℤ) (x y : ShardState) (result
         ([], disk_now, takes h stands, refl),
         record {
           stands = stands_write h s (prepared_only s w.shard y) w.shard x y reading [] stands (there s w reading x y result asked) refl (stands_raised s w reading x y result asked h stands)
-              (λ k. none_more w.shard k (entries_in k s.list)) (each_remembers s.tables x y asked.memory) r refl refl refl refl (omega arith);
+              (λ k. none_more w.shard k (entries_in k s.list))
+              (just_with s.tables h.unflushed s.shards w.shard x y [] (there s w reading x y result asked) (with_none s.tables x y asked.memory) stands.memory) r refl refl refl refl (omega arith);
           lasts = λ found told lasts. (
             told,
             lasts_still h after found s (prepared_only s w.shard y) d d told w.shard x y (omega (arith, quiet)) refl (there s w reading x y result asked) refl asked.number
@@ -386,7 +387,8 @@ module _ (s : State) (w : BoundWrite) (reading : ℤ) (x y : ShardState) (result
             ),
             record {
               stands = stands_write h s t w.shard x y reading [] stands at left.shards (stands_raised s w reading x y result asked h stands)
-                  (λ k. ap (entries_in k) left.list ∙ none_more w.shard k (entries_in k s.list)) (each_remembers s.tables x y asked.memory) (reply_for f) left.limits left.tables left.clock
+                  (λ k. ap (entries_in k) left.list ∙ none_more w.shard k (entries_in k s.list))
+                  (just_with s.tables h.unflushed s.shards w.shard x y [] at (with_none s.tables x y asked.memory) stands.memory) (reply_for f) left.limits left.tables left.clock
                   left.session (omega (arith, left.calls));
               lasts = λ found was lasts.
                   let got = left.keeps found was lasts.keeps (may_take h found d was lasts) in (
@@ -619,7 +621,7 @@ module _ (s : State) (w : BoundWrite) (reading : ℤ) (x y : ShardState) (result
         ),
         record {
           stands = stands_write h s t w.shard x z reading new stands at_x shards_now stands_new lists
-              (each_with s.tables x z m remembers) r left.limits left.tables left.clock left.session left.calls;
+              (just_with s.tables h.unflushed s.shards w.shard x z new at_x (with_entry s.tables x z m s.session (s.calls + 1) remembers) stands.memory) r left.limits left.tables left.clock left.session left.calls;
           lasts = λ found was lasts.
               let got = left.keeps found was lasts.keeps (may_take s w reading x y result asked m is prepared ready h found d was lasts) in (
                 got.1,

@@ -1,6 +1,6 @@
 -- A flush of a table in all shards, one after another.
 use Rattle.std.proofs.Common.{◌≡◌, ◌≢◌, ◌⊎◌, inl, inr, ◌<◌, ◌≤◌, ◌+◌, ℕ, zero, suc, Bool, true, false, cond, List, [], ◌∷◌, ◌++◌, length, Option, None, Some, Result, Ok, Err, is_some, refl, sym, ap, ◌∙◌, subst, arith, length-append}
-use Rattle.std.specs.Prelude.{slice_get}
+use Rattle.std.specs.Prelude.{◌==◌, ◌&&◌, if◌then◌else◌, IfSome, slice_get}
 use Rattle.std.specs.List.{find, fold}
 use Rattle.std.specs.Str.{bytes_eq}
 use Rattle.std.proofs.lemmas.List.{flat_map_more}
@@ -15,22 +15,23 @@ use Rattle.cas_journal.specs.Reach.{Reach}
 use Rattle.cas_journal.specs.Stores.{Told}
 use Rattle.cas_shard.specs.declared.entry.ShardOpening.{ShardOpening}
 use Rattle.cas_shard.specs.Shards.{ShardHistory, all_entries}
-use Rattle.cas_shard.specs.Stands.{mutations_of}
+use Rattle.cas_shard.specs.Stands.{SaySame, mutations_of}
 use Rattle.cas_sstread.specs.Loading.{Held}
 use Rattle.cas_bind.specs.Tables.{AreInPlace}
 use Rattle.cas_terms.specs.Columns.{is_local, table_named}
 use Rattle.cas_view.specs.Views.{File}
 use Rattle.cql_parse.specs.declared.syntax.TableName.{TableName}
-use Rattle.cas_recovery.proofs.Places.{same_place}
+use Rattle.cas_recovery.proofs.Places.{is_other, is_same, same_place}
 use Rattle.cas_sessions.specs.declared.answer.Fault.{Fault}
 use Rattle.cas_sessions.specs.declared.answer.Fault.TheVariants.{Refused, Stopped, Disk as Failed, Read, BadBlock, Mem}
 use Rattle.cas_sessions.specs.Calls.{IsTrueOf}
 use Rattle.cas_sessions.specs.Entered.{IsLeftAmid}
 use Rattle.cas_sessions.specs.Listing.{SameUpTo}
-use Rattle.cas_sessions.specs.Flushes.{AreInFiles, Flushed, Flushes, FlushesNamed, FlushesTable, Grows, WhyNoFurther, change_of, changes_by, numbers_added, numbers_in, reach_by}
+use Rattle.cas_sessions.specs.Flushes.{AreInFiles, AscendTo, Flushed, Flushes, FlushesNamed, FlushesTable, Grows, SaySomething, WhyNoFurther, change_of, changes_by, numbers_added}
+use Rattle.cas_sessions.specs.Flushes.{numbers_in, reach_by, without_flushed}
 use Rattle.cas_sessions.specs.History.{History, DiskState, shard_at}
 use Rattle.cas_sessions.specs.Nodes.{Explains, State, StandsFor, LastsFor, LastsForOne, GoesOnTo, KeepsAll, Moves, disk_of}
-use Rattle.cas_sessions.specs.Inner.Flushing.{AreStood, FlushedOne, FlushesFirst, FlushesNoFurther, FlushesOne, GoesOn, IsOwn, TellsReads, listed_of}
+use Rattle.cas_sessions.specs.Inner.Flushing.{AreStood, FlushedOne, FlushesFirst, FlushesNoFurther, FlushesOne, GoesOn, IsOwn, SaysNone, TellsReads, listed_of, rest_with}
 use Rattle.cas_sessions.proofs.Explaining.{explains_still, goes_nowhere, keep_files_none}
 use Rattle.cas_sessions.proofs.FlushShard.{quiet_still}
 use Rattle.cas_sessions.proofs.FlushSteps.{amid_then, amid_with, beside_then, lasts_as, quiet_beside, quiet_goes, quiet_stands, stands_with, with_disk}
@@ -54,35 +55,87 @@ change_before [] c (suc n) other = refl
 change_before (x ∷ changes) c zero other = refl
 change_before (x ∷ changes) c (suc n) other = change_before changes c n (λ same. other (ap suc same))
 
+-- numbers with one's behind them
+ascend_more : (n : ℕ) (ks : List ℕ) (m : ℕ) (more : List ℕ) (last : ℕ) → AscendTo n ks m → AscendTo m more last → AscendTo n (ks ++ more) last
+ascend_more n [] m more last first later = from_below more later
+  where
+    from_below : (more : List ℕ) → AscendTo m more last → AscendTo n more last
+    from_below [] up = omega (arith, first, up)
+    from_below (k ∷ ks) up = (omega (arith, first, up.0), up.1)
+ascend_more n (k ∷ ks) m more last first later = (first.0, ascend_more k ks m more last first.1 later)
+
+-- ---- what stands in no file
+
+-- with a change more
+rest_more : (table : ℕ) (changes : List (Option Change)) (c : Option Change) (n : ℕ) (before : ℕ → ℕ → List Mutation) → length changes ≡ n
+    → rest_with table n c (without_flushed table changes before) ≡ without_flushed table (changes ++ c ∷ []) before
+rest_more table changes None n before at = λ i k j. if (j == table) && is_some (still k i) then [] else before k j
+  where
+    still : (k : ℕ) → change_of changes k ≡ change_of (changes ++ None ∷ []) k
+    still k = by (same_place k n)
+      where
+        by : (k ≡ n) ⊎ (k ≢ n) → change_of changes k ≡ change_of (changes ++ None ∷ []) k
+        by (inl here) = change_past changes k (omega (arith, here, at)) ∙ sym (change_last changes None k (here ∙ sym at))
+        by (inr other) = sym (change_before changes None k (λ same. other (same ∙ at)))
+rest_more table changes (Some c) n before at = λ i k j. each k j i
+  where
+    each : (k j : ℕ) → (if (k == n) && (j == table) then [] else without_flushed table changes before k j) ≡ without_flushed table (changes ++ Some c ∷ []) before k j
+    each k j = by (same_place k n)
+      where
+        both : (b : Bool) → (if b then [] else (if b && is_some (change_of changes k) then [] else before k j)) ≡ (if b && true then [] else before k j)
+        both true = refl
+        both false = refl
+
+        by : (k ≡ n) ⊎ (k ≢ n) → (if (k == n) && (j == table) then [] else without_flushed table changes before k j) ≡ without_flushed table (changes ++ Some c ∷ []) before k j
+        by (inl here) =
+            ap (λ (b : Bool). if b && (j == table) then [] else without_flushed table changes before k j) (ap (λ (i : ℕ). i == n) here ∙ is_same n)
+            ∙ both (j == table)
+            ∙ ap (λ (o : Option Change). if (j == table) && is_some o then [] else before k j) (sym (change_last changes (Some c) k (here ∙ sym at)))
+        by (inr other) =
+            ap (λ (b : Bool). if b && (j == table) then [] else without_flushed table changes before k j) (is_other k n (λ e. other (sym e)))
+            ∙ ap (λ (o : Option Change). if (j == table) && is_some o then [] else before k j) (sym (change_before changes (Some c) k (λ same. other (same ∙ at))))
+
+-- where no shard was flushed all is left
+none_flushed : (table : ℕ) (before : ℕ → ℕ → List Mutation) → before ≡ without_flushed table [] before
+none_flushed table before = λ i k j. at (j == table) k j i
+  where
+    at : (b : Bool) (k j : ℕ) → before k j ≡ (if b && false then [] else before k j)
+    at true k j = refl
+    at false k j = refl
+
 -- ---- what a crash may leave
 
--- in a history that tells other changes
-with_changes : (openings : ℕ → ShardOpening) (h : History) (changes : List Change) (found : List Mutation) (u : State) (e : Disk) (told : Told) → Explains openings h found u e told
-    → Explains openings (record h { changes = changes }) found u e told
-with_changes openings h changes found u e told was =
-    explains_still openings h (record h { changes = changes }) found u u e e told (λ n. goes_nowhere (shard_at h n)) refl refl (keep_files_none told e) (λ ms have. have) was
+-- in a history that tells other changes, and has other things in no file
+with_changes : (openings : ℕ → ShardOpening) (h : History) (left : ℕ → ℕ → List Mutation) (changes : List Change) (found : List Mutation) (u : State) (e : Disk) (told : Told)
+    → Explains openings h found u e told → Explains openings (record h { unflushed = left; changes = changes }) found u e told
+with_changes openings h left changes found u e told was =
+    explains_still openings h (record h { unflushed = left; changes = changes }) found u u e e told (λ n. goes_nowhere (shard_at h n)) refl refl (keep_files_none told e)
+    (λ ms have. have) was
 
-without_changes : (openings : ℕ → ShardOpening) (h : History) (changes : List Change) (found : List Mutation) (u : State) (e : Disk) (told : Told)
-    → Explains openings (record h { changes = changes }) found u e told → Explains openings h found u e told
-without_changes openings h changes found u e told was =
-    explains_still openings (record h { changes = changes }) h found u u e e told (λ n. goes_nowhere (shard_at h n)) refl refl (keep_files_none told e) (λ ms have. have) was
+without_changes : (openings : ℕ → ShardOpening) (h : History) (left : ℕ → ℕ → List Mutation) (changes : List Change) (found : List Mutation) (u : State) (e : Disk) (told : Told)
+    → Explains openings (record h { unflushed = left; changes = changes }) found u e told → Explains openings h found u e told
+without_changes openings h left changes found u e told was =
+    explains_still openings (record h { unflushed = left; changes = changes }) h found u u e e told (λ n. goes_nowhere (shard_at h n)) refl refl (keep_files_none told e)
+    (λ ms have. have) was
 
 -- one part of a flush explains it, and then the next
-both_explain : (h : History) (so_far : List Change) (found : List Mutation) (s u v : State) (d e f : Disk) (was now later : Told) → (TellsReads d → TellsReads e)
-    → (TellsReads d → AreStood h s → AreStood h u)
+both_explain : (h : History) (left : ℕ → ℕ → List Mutation) (so_far : List Change) (found : List Mutation) (s u v : State) (d e f : Disk) (was now later : Told) → (TellsReads d → TellsReads e)
+    → (TellsReads d → AreStood h s → AreStood (record h { unflushed = left }) u)
     → (TellsReads d → AreStood h s → (openings : ℕ → ShardOpening) → Explains openings h found s d was → Explains openings h found u e now)
-    → (TellsReads e → AreStood (record h { changes = so_far }) u → (openings : ℕ → ShardOpening) → Explains openings (record h { changes = so_far }) found u e now
-    → Explains openings (record h { changes = so_far }) found v f later)
+    → (TellsReads e → AreStood (record h { unflushed = left; changes = so_far }) u → (openings : ℕ → ShardOpening)
+    → Explains openings (record h { unflushed = left; changes = so_far }) found u e now → Explains openings (record h { unflushed = left; changes = so_far }) found v f later)
     → TellsReads d → AreStood h s → (openings : ℕ → ShardOpening) → Explains openings h found s d was → Explains openings h found v f later
-both_explain h so_far found s u v d e f was now later tells stands first second telling stood openings before =
-    without_changes openings h so_far found v f later
-    (second (tells telling) (stands_with (with_disk h u) so_far u (stands telling stood)) openings
-    (with_changes openings h so_far found u e now (first telling stood openings before)))
+both_explain h left so_far found s u v d e f was now later tells stands first second telling stood openings before =
+    without_changes openings h left so_far found v f later
+    (second (tells telling) (stands_with (record h { unflushed = left; disk = disk_of u }) so_far u (stands telling stood)) openings
+    (with_changes openings h left so_far found u e now (first telling stood openings before)))
 
 -- ---- a shard more
 
 module _ (h : History) (t : TableSchema) (changes : List (Option Change)) (c : Option Change) (k : ℕ) (u v : DiskState) (at : length changes ≡ k) (first : Flushed h t changes u)
-    (one : FlushedOne t k (shard_at h k) c u v) (faults : u.faults ≤ v.faults) (reads : u.reads ≤ v.reads) (last : u.last_file ≤ v.last_file)
+    (one : FlushedOne t k (shard_at h k) c u v) (number : AscendTo u.last_file (numbers_in c) v.last_file) (said : IfSome c (λ x. SaySomething (h.unflushed k t.number)))
+    (unsaid : c ≡ None → SaySame [] (h.unflushed k t.number))
+    (faults : u.faults ≤ v.faults) (reads : u.reads ≤ v.reads) (last : u.last_file ≤ v.last_file)
     (next : v.last_file ≤ h.disk.last_file + length changes + 2) where
   apart : (n j : ℕ) → n ≢ k → v.files n j ≡ u.files n j
   apart n j other = one.others n j (λ both. other both.0)
@@ -113,11 +166,28 @@ module _ (h : History) (t : TableSchema) (changes : List (Option Change)) (c : O
       below : (n : ℕ) → n < length (changes ++ c ∷ []) → n ≢ k → n < length changes
       below n lt other = omega (arith, lt, length-append changes (c ∷ []), other, at)
 
+  says : (n : ℕ) (x : Change) → change_of (changes ++ c ∷ []) n ≡ Some x → (n ≡ k) ⊎ (n ≢ k) → SaySomething (h.unflushed n t.number)
+  says n x is (inl here) =
+      let its : c ≡ Some x = sym (change_last changes c n (here ∙ sym at)) ∙ is in
+      subst (λ (i : ℕ). SaySomething (h.unflushed i t.number)) (sym here) (subst (λ (o : Option Change). IfSome o (λ y. SaySomething (h.unflushed k t.number))) its said)
+  says n x is (inr other) = first.some n x (sym (change_before changes c n (λ same. other (same ∙ at))) ∙ is)
+
+  says_none : (n : ℕ) → n < length (changes ++ c ∷ []) → change_of (changes ++ c ∷ []) n ≡ None → (n ≡ k) ⊎ (n ≢ k) → SaySame [] (h.unflushed n t.number)
+  says_none n lt is (inl here) =
+      subst (λ (i : ℕ). SaySame [] (h.unflushed i t.number)) (sym here) (unsaid (sym (change_last changes c n (here ∙ sym at)) ∙ is))
+  says_none n lt is (inr other) =
+      first.none n (omega (arith, lt, length-append changes (c ∷ []), other, at)) (sym (change_before changes c n (λ same. other (same ∙ at))) ∙ is)
+
   pub flushed_more : Flushed h t (changes ++ c ∷ []) v
   flushed_more = record {
     files = λ n. grows n (same_place n k);
     others = λ n j other. one.others n j (λ both. other both.1) ∙ first.others n j other;
     all = λ n lt. stand n lt (same_place n k);
+    some = λ n x is. says n x is (same_place n k);
+    none = λ n lt is. says_none n lt is (same_place n k);
+    numbers =
+        subst (λ ns. AscendTo h.disk.last_file ns v.last_file) (flat_map_more numbers_in [] changes c)
+        (ascend_more h.disk.last_file (numbers_added changes) u.last_file (numbers_in c) v.last_file first.numbers number);
     reach = one.reach ∙ ap (λ (r : Reach). reach_by r c) first.reach ∙ sym (fold_push reach_by h.disk.reach changes c);
     faults = omega (arith, first.faults, faults);
     reads = omega (arith, first.reads, reads);
@@ -127,6 +197,31 @@ module _ (h : History) (t : TableSchema) (changes : List (Option Change)) (c : O
         omega (arith, one.live, first.live, more, both);
     last_file = (omega (arith, first.last_file.0, last), omega (arith, next, length-append changes (c ∷ [])));
   }
+
+if_some : (c : Option Change) (u : State) (k table : ℕ) → IfSome c (λ x. (h : History) → StandsFor h u → SaySomething (h.unflushed k table)) → (h : History)
+    → StandsFor h u → IfSome c (λ x. SaySomething (h.unflushed k table))
+if_some None u k table says h stands = tt
+if_some (Some c) u k table says h stands = says h stands
+
+and_none : (b : Bool) → (b && false) ≡ false
+and_none true = refl
+and_none false = refl
+
+-- what the next shard has in no file before its turn is what it had at the beginning
+as_before : (h : History) (table k : ℕ) (changes : List (Option Change)) → length changes ≡ k → without_flushed table changes h.unflushed k table ≡ h.unflushed k table
+as_before h table k changes at =
+    ap (λ (o : Option Change). if (table == table) && is_some o then [] else h.unflushed k table) (change_past changes k (omega (arith, at)))
+    ∙ ap (λ (b : Bool). if b then [] else h.unflushed k table) (and_none (table == table))
+
+none_before : (h : History) (table k : ℕ) (changes : List (Option Change)) (o : Option ℕ) (c : Option Change) → length changes ≡ k
+    → SaysNone (Ok o) c (without_flushed table changes h.unflushed k table) → c ≡ None → SaySame [] (h.unflushed k table)
+none_before h table k changes o None at says is = subst (SaySame []) (as_before h table k changes at) says
+none_before h table k changes o (Some c) at says is = absurd cc
+
+said_before : (h : History) (table k : ℕ) (changes : List (Option Change)) (c : Option Change) → length changes ≡ k
+    → IfSome c (λ x. SaySomething (without_flushed table changes h.unflushed k table)) → IfSome c (λ x. SaySomething (h.unflushed k table))
+said_before h table k changes None at says = tt
+said_before h table k changes (Some c) at says = subst SaySomething (as_before h table k changes at) says
 
 pub first_more : (t : TableSchema) (k : ℕ) (told : List ℕ) (o : Option ℕ) (s u v : State) (d e f : Disk) → FlushesFirst t k told s u d e → FlushesOne t k (Ok o) u v e f
     → FlushesFirst t (k + 1) (told ++ listed_of o) s v d f
@@ -139,25 +234,35 @@ first_more t k told o s u v d e f first one = record {
   lasts = λ h found was tables lasts.
       let (now, amid) = first.lasts h found was tables lasts in
       let so_far : List Change = fold changes_by h.changes first.changes in
-      let (later, more) = one.lasts (record h { changes = so_far }) found now.0 (tables ∙ sym first.beside.tables) now.1 in (
+      let left : ℕ → ℕ → List Mutation = without_flushed t.number first.changes h.unflushed in
+      let amidst : History = record h { unflushed = left; changes = so_far } in
+      let (later, more) =
+      one.lasts amidst found now.0 (tables ∙ sym first.beside.tables) (lasts_as (record h { changes = so_far }) amidst found u e now.0 refl refl now.1) in (
         (
           later.0,
-          subst (λ (cs : List Change). LastsFor (record h { changes = cs }) found v f later.0) (sym (fold_push changes_by h.changes first.changes one.change)) later.1,
-          both_explain h so_far found s u v d e f was now.0 later.0 (λ tells. first.beside.tells tells.0 tells.1) (λ tells stood. (first.moves tells.0 tells.1 stood.memory (with_disk h s) stood).0) now.2 later.2,
+          lasts_as (record amidst { changes = changes_by so_far one.change }) (record h { changes = fold changes_by h.changes (first.changes ++ one.change ∷ []) }) found v f later.0
+              refl (fold_push changes_by h.changes first.changes one.change) later.1,
+          both_explain h left so_far found s u v d e f was now.0 later.0 (λ tells. first.beside.tells tells.0 tells.1) (λ tells stood. (first.moves tells.0 tells.1 (with_disk h s) stood).0) now.2 later.2,
         ),
-        amid_then h found s u d e f first.beside.list amid (amid_with h so_far found u.list e f more),
+        amid_then h found s u d e f first.beside.list amid (amid_with h left so_far found u.list e f more),
       );
-  moves = λ c reads have h stands.
-      let (now, kept, so) = first.moves c reads stands.memory h stands in
+  moves = λ c reads h stands.
+      let (now, so) = first.moves c reads h stands in
       let (b, read) = first.beside.tells c reads in
-      let (later, still, ends) = one.moves b read tt kept (with_disk h u) now in
+      let left : ℕ → ℕ → List Mutation = without_flushed t.number first.changes h.unflushed in
+      let (later, ends) = one.moves b read tt (record h { unflushed = left; disk = disk_of u }) now in
       let began : h.disk.last_file ≡ s.last_file = ap (λ (q : DiskState). q.last_file) stands.disk in (
-        later,
-        still,
-        flushed_more h t first.changes one.change k (disk_of u) (disk_of v) first.many so ends one.beside.faults one.beside.reads one.beside.last
-            (omega (arith, began, first.numbers, first.many, one.numbers)),
+        subst (λ (ws : ℕ → ℕ → List Mutation). StandsFor (record h { unflushed = ws; disk = disk_of v }) v)
+            (rest_more t.number first.changes one.change k h.unflushed first.many) later,
+        flushed_more h t first.changes one.change k (disk_of u) (disk_of v) first.many so ends.0 one.numbered
+            (said_before h t.number k first.changes one.change first.many
+            (if_some one.change u k t.number one.some (record h { unflushed = left; disk = disk_of u }) now))
+            (none_before h t.number k first.changes o one.change first.many ends.1) one.beside.faults one.beside.reads one.beside.last (omega (arith, began, first.numbers, first.many, one.numbers)),
       );
 }
+
+none_not_some : (c : Change) → None ≡ Some c → ⊥
+none_not_some c e = cc
 
 pub first_none : (t : TableSchema) (s : State) (d : Disk) → FlushesFirst t 0 [] s s d d
 first_none t s d = record {
@@ -167,13 +272,16 @@ first_none t s d = record {
   many = refl;
   added = refl;
   lasts = λ h found was tables lasts. quiet_goes s s d d (quiet_still s d) (TellsReads d) h found was tables lasts (λ openings explained. explained);
-  moves = λ c reads have h stands. (
-    quiet_stands s s d d (quiet_still s d) h stands,
-    have,
+  moves = λ c reads h stands. (
+    subst (λ (ws : ℕ → ℕ → List Mutation). StandsFor (record h { unflushed = ws; disk = disk_of s }) s) (none_flushed t.number h.unflushed)
+        (quiet_stands s s d d (quiet_still s d) h stands),
     record {
       files = λ n. ap (λ (e : DiskState). e.files n t.number) (sym stands.disk);
       others = λ n k other. ap (λ (e : DiskState). e.files n k) (sym stands.disk);
       all = λ n lt. absurd (omega (arith, lt));
+      some = λ n c is. absurd (none_not_some c is);
+      none = λ n lt is. absurd (omega (arith, lt));
+      numbers = omega (arith, ap (λ (e : DiskState). e.last_file) stands.disk);
       reach = ap (λ (e : DiskState). e.reach) (sym stands.disk);
       faults = omega (arith, ap (λ (e : DiskState). e.faults) stands.disk);
       reads = omega (arith, ap (λ (e : DiskState). e.reads) stands.disk);
@@ -241,6 +349,10 @@ why_since t n q d m e Read faults reads rose = (rose.0, omega (arith, reads, ros
 why_since t n q d m e (BadBlock number at) faults reads is = is
 why_since t n q d m e Mem faults reads is = is
 
+further : (n : ℕ) (ks : List ℕ) (last now : ℕ) → last ≤ now → AscendTo n ks last → AscendTo n ks now
+further n [] last now le up = omega (arith, up, le)
+further n (k ∷ ks) last now le up = (up.0, further k ks last now le up.1)
+
 -- nothing of it is another
 still_flushed : (h : History) (t : TableSchema) (changes : List (Option Change)) (u v : DiskState) → Flushed h t changes u → ((k j : ℕ) → v.files k j ≡ u.files k j)
     → v.reach ≡ u.reach → u.faults ≤ v.faults → u.reads ≤ v.reads → v.live ≡ u.live → u.last_file ≤ v.last_file → v.last_file ≤ h.disk.last_file + length changes + 1
@@ -251,6 +363,9 @@ still_flushed h t changes u v first files reach faults reads live last next = re
   others = λ n k other. files n k ∙ first.others n k other;
   all = λ n lt.
       subst (λ (fs : List (File Held)). AreInFiles (clustering_order t.columns) fs (mutations_of t.number (all_entries (shard_at h n)))) (sym (files n t.number)) (first.all n lt);
+  some = first.some;
+  none = first.none;
+  numbers = further h.disk.last_file (numbers_added changes) u.last_file v.last_file last first.numbers;
   reach = reach ∙ first.reach;
   faults = omega (arith, first.faults, faults);
   reads = omega (arith, first.reads, reads);
@@ -259,21 +374,21 @@ still_flushed h t changes u v first files reach faults reads live last next = re
 }
 
 -- the history goes on so
-abbrev went_on : History → List (Option Change) → State → History
-went_on h changes u = record h { changes = fold changes_by h.changes changes; disk = disk_of u }
+abbrev went_on : History → ℕ → List (Option Change) → State → History
+went_on h table changes u = record h { unflushed = without_flushed table changes h.unflushed; changes = fold changes_by h.changes changes; disk = disk_of u }
 
 -- so far the disk keeps what some history says for which the store stands
 first_lasts_for_one : (t : TableSchema) (k : ℕ) (told : List ℕ) (s u : State) (d e : Disk) → FlushesFirst t k told s u d e → (c : Image) → d.reads c → LastsForOne s d
     → LastsForOne u e
 first_lasts_for_one t k told s u d e first c reads (h, found, was, stands, lasts) =
-    let (now, kept, so) = first.moves c reads stands.memory h stands in
+    let (now, so) = first.moves c reads h stands in
     let (later, amid) = first.lasts h found was stands.tables lasts in
     let so_far : List Change = fold changes_by h.changes first.changes in (
-      went_on h first.changes u,
+      went_on h t.number first.changes u,
       found,
       later.0,
-      stands_with (with_disk h u) so_far u now,
-      lasts_as (record h { changes = so_far }) (went_on h first.changes u) found u e later.0 refl refl later.1,
+      stands_with (record h { unflushed = without_flushed t.number first.changes h.unflushed; disk = disk_of u }) so_far u now,
+      lasts_as (record h { changes = so_far }) (went_on h t.number first.changes u) found u e later.0 refl refl later.1,
     )
 
 pub no_further : (t : TableSchema) (k : ℕ) (told : List ℕ) (x : Fault) (s u v : State) (d e f : Disk) → FlushesFirst t k told s u d e → FlushesOne t k (Err x) u v e f
@@ -285,26 +400,30 @@ no_further t k told x s u v d e f first one few = record {
   lasts = λ h found was tables lasts.
       let (now, amid) = first.lasts h found was tables lasts in
       let so_far : List Change = fold changes_by h.changes first.changes in
-      let (later, more) = one.lasts (record h { changes = so_far }) found now.0 (tables ∙ sym first.beside.tables) now.1 in (
+      let left : ℕ → ℕ → List Mutation = without_flushed t.number first.changes h.unflushed in
+      let amidst : History = record h { unflushed = left; changes = so_far } in
+      let (later, more) =
+      one.lasts amidst found now.0 (tables ∙ sym first.beside.tables) (lasts_as (record h { changes = so_far }) amidst found u e now.0 refl refl now.1) in (
         (
           later.0,
-          subst (λ (c : Option Change). LastsFor (record h { changes = changes_by so_far c }) found v f later.0) one.answer later.1,
-          both_explain h so_far found s u v d e f was now.0 later.0 (λ tells. first.beside.tells tells.0 tells.1) (λ tells stood. (first.moves tells.0 tells.1 stood.memory (with_disk h s) stood).0) now.2 later.2,
+          lasts_as (record amidst { changes = changes_by so_far one.change }) (record h { changes = so_far }) found v f later.0 refl
+              (ap (λ (c : Option Change). changes_by so_far c) (sym one.answer)) later.1,
+          both_explain h left so_far found s u v d e f was now.0 later.0 (λ tells. first.beside.tells tells.0 tells.1) (λ tells stood. (first.moves tells.0 tells.1 (with_disk h s) stood).0) now.2 later.2,
         ),
-        amid_then h found s u d e f first.beside.list amid (amid_with h so_far found u.list e f more),
+        amid_then h found s u d e f first.beside.list amid (amid_with h left so_far found u.list e f more),
       );
-  moves = λ c reads kept_so have h stands.
-      let (now, kept, so) = first.moves c reads stands.memory h stands in
+  moves = λ c reads kept_so h stands.
+      let (now, so) = first.moves c reads h stands in
       let (b, read) = first.beside.tells c reads in
-      let (later, still, none) = one.moves b read (first_lasts_for_one t k told s u d e first c reads kept_so) kept (with_disk h u) now in
+      let left : ℕ → ℕ → List Mutation = without_flushed t.number first.changes h.unflushed in
+      let (later, none) = one.moves b read (first_lasts_for_one t k told s u d e first c reads kept_so) (record h { unflushed = left; disk = disk_of u }) now in
       let began : h.disk.last_file ≡ s.last_file = ap (λ (q : DiskState). q.last_file) stands.disk in (
-        later,
-        still,
+        subst (λ (c : Option Change). StandsFor (record h { unflushed = rest_with t.number k c left; disk = disk_of v }) v) one.answer later,
         (
-          still_flushed h t first.changes (disk_of u) (disk_of v) so none.files none.reach one.beside.faults one.beside.reads none.live one.beside.last
+          still_flushed h t first.changes (disk_of u) (disk_of v) so none.0.files none.0.reach one.beside.faults one.beside.reads none.0.live one.beside.last
               (omega (arith, began, first.numbers, first.many, one.numbers)),
           subst (λ (j : ℕ). WhyNoFurther t j (shard_at h j) (disk_of s) (disk_of v) x) (sym first.many)
-              (why_since t k (shard_at h k) (disk_of s) (disk_of u) (disk_of v) x first.beside.faults first.beside.reads none.why),
+              (why_since t k (shard_at h k) (disk_of s) (disk_of u) (disk_of v) x first.beside.faults first.beside.reads none.0.why),
         ),
       );
   own = one.own;
@@ -318,9 +437,9 @@ none_of_memory t k told s u d e first few going = record {
   changes = first.changes;
   few = omega (arith, first.many, few);
   lasts = first.lasts;
-  moves = λ c reads kept_so have h stands.
-      let (now, kept, so) = first.moves c reads stands.memory h stands in
-      (now, kept, (so, ap is_some going));
+  moves = λ c reads kept_so h stands.
+      let (now, so) = first.moves c reads h stands in
+      (now, (so, ap is_some going));
   own = tt;
 }
 
@@ -341,17 +460,18 @@ as_it_stands h s stands = record {
   memory = stands.memory;
 }
 
-went_to : (h : History) (changes : List (Option Change)) (s u : State) (d e : Disk) → TellsReads d → StandsFor h s → StandsFor (with_disk h u) u
+went_to : (h : History) (table : ℕ) (changes : List (Option Change)) (s u : State) (d e : Disk) → TellsReads d → StandsFor h s
+    → StandsFor (record h { unflushed = without_flushed table changes h.unflushed; disk = disk_of u }) u
     → ((found : List Mutation) (told : Told) → LastsFor h found s d told → GoesOn (TellsReads d) h (fold changes_by h.changes changes) found told s u d e)
-    → GoesOnTo h (went_on h changes u) s u d e
-went_to h changes s u d e tells before stands lasts = record {
-  stands = stands_with (with_disk h u) (fold changes_by h.changes changes) u stands;
+    → GoesOnTo h (went_on h table changes u) s u d e
+went_to h table changes s u d e tells before stands lasts = record {
+  stands = stands_with (record h { unflushed = without_flushed table changes h.unflushed; disk = disk_of u }) (fold changes_by h.changes changes) u stands;
   lasts = λ found told was.
       let (later, amid) = lasts found told was in (
         later.0,
-        lasts_as (record h { changes = fold changes_by h.changes changes }) (went_on h changes u) found u e later.0 refl refl later.1,
+        lasts_as (record h { changes = fold changes_by h.changes changes }) (went_on h table changes u) found u e later.0 refl refl later.1,
         λ openings explained.
-            explains_still openings h (went_on h changes u) found u u e e later.0 (λ n. goes_nowhere (shard_at h n)) refl refl (keep_files_none later.0 e) (λ ms have. have)
+            explains_still openings h (went_on h table changes u) found u u e e later.0 (λ n. goes_nowhere (shard_at h n)) refl refl (keep_files_none later.0 e) (λ ms have. have)
             (later.2 tells (as_it_stands h s before) openings explained),
       );
 }
@@ -364,9 +484,9 @@ named h tables name o r after same is flushes =
 pub flushes_all : (name : TableName) (t : TableSchema) (told : List ℕ) (s u : State) (d e : Disk) → table_named s.tables name ≡ Some t → s.journal.first ≡ None → u.journal.first ≡ None
     → FlushesFirst t (length s.shards) told s u d e → (c : Image) → d.reads c → Moves (λ h after. Flushes h name (Ok told) after) s u d e
 flushes_all name t told s u d e is going on first c reads h stands =
-    let (now, kept, so) = first.moves c reads stands.memory h stands in (
-      went_on h first.changes u,
-      named h s.tables name (Some t) (Ok told) (went_on h first.changes u) stands.tables is (
+    let (now, so) = first.moves c reads h stands in (
+      went_on h t.number first.changes u,
+      named h s.tables name (Some t) (Ok told) (went_on h t.number first.changes u) stands.tables is (
         first.changes,
         disk_of u,
         ap (λ (x : DiskState). x.stopped) stands.disk ∙ ap is_some going,
@@ -374,12 +494,13 @@ flushes_all name t told s u d e is going on first c reads h stands =
         (first.many ∙ sym stands.count, first.added, ap is_some on),
         refl,
       ),
-      went_to h first.changes s u d e (c, reads) stands now (λ found was lasts. first.lasts h found was stands.tables lasts),
+      went_to h t.number first.changes s u d e (c, reads) stands now (λ found was lasts. first.lasts h found was stands.tables lasts),
     )
 
 -- a fault that isn't of an earlier one
 fails_by : (h : History) (t : TableSchema) (f : Fault) (changes : List (Option Change)) (e : DiskState) → h.disk.stopped ≡ false → Flushed h t changes e → length changes < length h.shards
-    → WhyNoFurther t (length changes) (shard_at h (length changes)) h.disk e f → FlushesTable h t (Err f) (record h { changes = fold changes_by h.changes changes; disk = e })
+    → WhyNoFurther t (length changes) (shard_at h (length changes)) h.disk e f → FlushesTable h t (Err f)
+    (record h { unflushed = without_flushed t.number changes h.unflushed; changes = fold changes_by h.changes changes; disk = e })
 fails_by h t (Refused why) changes e going flushed few is = (changes, e, going, flushed, (few, is), refl)
 fails_by h t (Stopped first) changes e going flushed few is = absurd is
 fails_by h t (Failed number) changes e going flushed few is = (changes, e, going, flushed, (few, is), refl)
@@ -390,13 +511,13 @@ fails_by h t Mem changes e going flushed few is = (changes, e, going, flushed, (
 pub flushes_some : (name : TableName) (t : TableSchema) (f : Fault) (s u : State) (d e : Disk) → table_named s.tables name ≡ Some t → s.journal.first ≡ None
     → FlushesNoFurther t f s u d e → (c : Image) → d.reads c → LastsForOne s d → Moves (λ h after. Flushes h name (Err f) after) s u d e
 flushes_some name t f s u d e is going none c reads one h stands =
-    let (now, kept, so) = none.moves c reads one stands.memory h stands in
+    let (now, so) = none.moves c reads one h stands in
     let n : ℕ = length none.changes in (
-      went_on h none.changes u,
-      named h s.tables name (Some t) (Err f) (went_on h none.changes u) stands.tables is
+      went_on h t.number none.changes u,
+      named h s.tables name (Some t) (Err f) (went_on h t.number none.changes u) stands.tables is
           (fails_by h t f none.changes (disk_of u) (ap (λ (x : DiskState). x.stopped) stands.disk ∙ ap is_some going) so.0 (omega (arith, none.few, stands.count))
           (subst (λ (x : DiskState). WhyNoFurther t n (shard_at h n) x (disk_of u) f) (sym stands.disk) so.1)),
-      went_to h none.changes s u d e (c, reads) stands now (λ found was lasts. none.lasts h found was stands.tables lasts),
+      went_to h t.number none.changes s u d e (c, reads) stands now (λ found was lasts. none.lasts h found was stands.tables lasts),
     )
 
 pub keeps_all : (s u : State) (d e : Disk) (changes : List (Option Change)) → u.list ≡ s.list

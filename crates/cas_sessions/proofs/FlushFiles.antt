@@ -9,18 +9,21 @@ use Rattle.cas_atoms.specs.LogLength.{record_length}
 use Rattle.cas_atoms.specs.Winners.{Same}
 use Rattle.cas_atoms.specs.declared.atom.Atom.{Atom}
 use Rattle.cas_atoms.specs.declared.atom.Mutation.{Mutation}
-use Rattle.cas_flush.specs.Flushed.{SayWhatIsHeld, any}
-use Rattle.cas_memtable.specs.Kept.{StandIn, StandInEach, all_of, atoms_under, bytes_of, memtables_of}
+use Rattle.cas_flush.specs.Flushed.{AreOf, SayWhatIsHeld, any}
+use Rattle.cas_memtable.specs.Kept.{HoldJust, StandIn, StandInEach, all_of, atoms_under, bytes_of, memtables_of}
 use Rattle.cas_memtable.specs.Memtables.{added, bytes_with}
 use Rattle.cas_memtable.specs.declared.memtable.MemPart.{MemPart}
+use Rattle.cas_memtable.proofs.Keeping.{more_under}
 use Rattle.cas_shard.specs.Flushing.{bytes_at, frozen_at, memtables_at}
 use Rattle.cas_shard.specs.Stands.{Holds, SaySame, files_at}
 use Rattle.cas_shard.proofs.Memory.{say_alike, say_behind, say_then}
 use Rattle.cas_sstread.specs.Loading.{Held}
 use Rattle.cas_stored.specs.Stored.{HoldEach, StoredTable}
 use Rattle.cas_streams.specs.NoMore.{SaysNoMore}
+use Rattle.cas_streams.specs.Streams.{IsThere}
+use Rattle.cas_tables.specs.Contents.{Partition}
 use Rattle.cas_view.specs.Views.{File}
-use Rattle.cas_sessions.specs.Flushes.{AreInFiles}
+use Rattle.cas_sessions.specs.Flushes.{AreInFiles, SaySomething}
 
 -- ---- mutations that write nothing
 
@@ -119,6 +122,31 @@ rest_says_nothing order (Some p) count none all =
     let fs : List MemPart = map arc_value p.parts.frozen.items in
     subst (SayNothing order) (sym (ap (λ (k : ℕ). drop k (fs ++ p.parts.active ∷ [])) all ∙ all_but_last fs p.parts.active))
     (with_last order [] p.parts.active none (none_stand order))
+
+-- ---- mutations that say something
+
+there_more : {X : Type 0} (xs ys : List X) → IsThere xs → IsThere (xs ++ ys)
+there_more [] ys is = absurd is
+there_more (x ∷ xs) ys is = tt
+
+-- a file's partitions are of keys under which something was written
+first_written : (ws : List Mutation) (ps : List Partition) → 1 ≤ length ps → AreOf any ws ps → SaySomething ws
+first_written ws [] some are = absurd (omega (arith, some))
+first_written ws (p ∷ ps) some are = (p.key, are.written.0)
+
+-- where there is one, memory says something
+pub held_something : (columns : List Column) (o : Option StoredTable) (ps : List Partition) → 1 ≤ length ps → SayWhatIsHeld columns (frozen_at o) any ps → (ws : List Mutation)
+    → HoldJust columns (memtables_at o) ws → SaySomething ws
+held_something columns None ps some says ws has = absurd (first_written [] ps some (says [] tt)).1
+held_something columns (Some t) ps some says ws has =
+    let l = last_of (clustering_order columns) (map arc_value t.parts.frozen.items) t.parts.active has.places has.held.stand in
+    let (key, is) = first_written (all_of l.before) ps some (says l.before l.stand) in
+    let all : all_of l.before ++ all_of (l.last ∷ []) ≡ ws = sym (ap all_of l.all ∙ all_append l.before (l.last ∷ [])) ∙ has.all in (
+      key,
+      subst (λ us. IsThere (atoms_under key us)) all
+          (subst IsThere (sym (more_under key (all_of l.before) (all_of (l.last ∷ []))))
+          (there_more (atoms_under key (all_of l.before)) (atoms_under key (all_of (l.last ∷ []))) is)),
+    )
 
 -- ---- all stands in the files
 

@@ -39,6 +39,7 @@ use Rattle.cas_sessions.specs.declared.answer.Fault.{Fault}
 use Rattle.cas_sessions.specs.declared.answer.Fault.TheVariants.{Refused, Stopped, Disk as Failed, Read, BadBlock, Mem}
 use Rattle.cas_sessions.specs.Nodes.{State}
 use Rattle.cas_sessions.specs.Inner.Flushing.{HasOneMore, HoldTooMuch, IsMade, IsOfSize, IsOwn, Quiet, WhyNoneMore, WhyNotMade, fault_of_folder, fault_of_fresh, fault_of_load, fault_of_write}
+use Rattle.cas_sessions.proofs.FlushFiles.{held_something}
 use Rattle.cas_sessions.proofs.FlushShard.{quiet_still}
 use Rattle.cas_sessions.proofs.FlushSound.{numbered}
 
@@ -187,6 +188,9 @@ module _ {D : Type 0} (number_of : D → ℕ) (wrote : D → List ℕ → Type 0
     is_made = record {
       new = record { fits = fits; file = more.file; are = more.are; info = more.opened.info; columns = more.opened.columns; version = more.opened.version };
       above = above;
+      some = λ ws has.
+          let flushed = written ws has in
+          held_something t.columns o flushed.partitions flushed.file.fits.few.0 flushed.says ws has;
       says = λ tells ws has tables there.
           let (b, is) = more.is_told tells in
           (stands_for ws has).opened tables b more.file there (more.written b is) (subst (λ bytes. IsOpened t shard told bytes more.file) is more.opened);

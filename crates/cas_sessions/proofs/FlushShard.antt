@@ -1,8 +1,8 @@
 -- A flush of a table in a shard.
-use Rattle.std.proofs.Common.{◌≡◌, ◌≢◌, ◌⊎◌, inl, inr, ◌<◌, ◌≤◌, ◌+◌, ℕ, false, List, [], ◌∷◌, ◌++◌, length, map, take, drop, Option, None, Some, Result, Ok, Err, is_some, ℤ, refl, sym, ap, ◌∙◌, subst, arith}
+use Rattle.std.proofs.Common.{◌≡◌, ◌≢◌, ◌⊎◌, inl, inr, ◌<◌, ◌≤◌, ◌+◌, ℕ, Bool, true, false, ◌==◌, List, [], ◌∷◌, ◌++◌, length, map, take, drop, Option, None, Some, Result, Ok, Err, is_some, ℤ, refl, sym, ap, ◌∙◌, subst, arith, append-nil}
 use Rattle.std.proofs.lemmas.List.{take_all}
 use Rattle.std.proofs.lemmas.Option.{same_Some}
-use Rattle.std.specs.Prelude.{slice_get, slice_set, IfErr}
+use Rattle.std.specs.Prelude.{◌&&◌, if◌then◌else◌, slice_get, slice_set, IfOk, IfErr, IfSome}
 use Rattle.std.specs.List.{AllByRecursion}
 use Rattle.std.specs.Int.{int_max}
 use Rattle.cas_types.specs.declared.schema.TableSchema.{TableSchema}
@@ -32,26 +32,27 @@ use Rattle.cas_memtable.proofs.Keeping.{mapped_more}
 use Rattle.cas_memtable.specs.declared.memtable.MemPart.{MemPart}
 use Rattle.cas_shard.specs.Flushing.{HasInMemory, SaysWhatTheyDo, bytes_at, frozen_at, memtables_at}
 use Rattle.cas_shard.specs.Shards.{ShardHistory, all_entries}
-use Rattle.cas_shard.specs.Stands.{Holds, ShardState, Stands, files_at, mutations_of, order_at, order_of}
+use Rattle.cas_shard.specs.Stands.{Holds, SaySame, ShardState, Stands, files_at, mutations_of, order_at, order_of}
 use Rattle.cas_sstread.specs.Loading.{Held}
 use Rattle.cas_view.specs.Views.{File}
 use Rattle.cas_room.specs.declared.table_files.TheConstants.{LIVE_LIMIT}
-use Rattle.cas_recovery.proofs.Places.{get_here, get_other, length_set, same_place}
+use Rattle.cas_recovery.proofs.Places.{get_here, get_other, is_other, is_same, length_set, same_place}
 use Rattle.cas_sessions.specs.declared.answer.Fault.{Fault}
 use Rattle.cas_sessions.specs.declared.answer.Fault.TheVariants.{Refused, Stopped, Disk as Failed, Read, BadBlock, Mem}
-use Rattle.cas_sessions.specs.Flushes.{AreInFiles, Grows, ListsOne, WhyNoFurther, WhyTooMany, numbers_in, reach_by}
+use Rattle.cas_sessions.specs.Flushes.{AreInFiles, AscendTo, Grows, ListsOne, SaySomething, WhyNoFurther, WhyTooMany, numbers_in, reach_by}
 use Rattle.cas_recovery.specs.Restored.{Remember, RemembersJust}
 use Rattle.cas_sessions.specs.Listing.{SameUpTo}
 use Rattle.cas_sessions.specs.History.{History, DiskState, shard_at}
-use Rattle.cas_sessions.specs.Nodes.{State, StandsFor, LastsFor, LastsForOne, disk_of, files_in, files_of}
+use Rattle.cas_sessions.specs.Nodes.{RememberJust, State, StandsFor, LastsFor, LastsForOne, disk_of, files_in, files_of}
 use Rattle.cas_sessions.specs.Inner.Faults.{fault_for}
-use Rattle.cas_sessions.specs.Inner.Flushing.{AddsFile, EndsIn, FlushedOne, FlushesOne, GoesOn, GoesOnAs, IsChangeFor, IsOwn, Lists, Moved, NewFile, Quiet, SaysSo, StandsSo, TakesFile, TellsIt, TellsReads, WhyNotMade}
+use Rattle.cas_sessions.specs.Inner.Flushing.{AddsFile, EndsIn, FlushedOne, FlushesOne, GoesOn, GoesOnAs, IsChangeFor, IsOwn, Lists, Moved, NewFile, Quiet, SaysSo, StandsSo, TakesFile, SaysNone, TellsIt, TellsReads, WhyNotMade, rest_with}
 use Rattle.cas_sessions.proofs.FlushChange.{below_next, lists_done, lists_failed}
 use Rattle.cas_sessions.proofs.FlushExplains.{explains_told, explains_untold}
 use Rattle.cas_sessions.proofs.FlushFiles.{SayNothing, in_files, memory_says_nothing, rest_says_nothing}
 use Rattle.cas_sessions.proofs.FlushSteps.{amid_then, beside_then, files_again, lasts_as, one_goes_on, quiet_amid, quiet_beside, quiet_explains, quiet_goes, quiet_lasts}
-use Rattle.cas_sessions.proofs.FlushSteps.{quiet_remembers, quiet_stands, same_shards, stands_again, with_disk}
+use Rattle.cas_sessions.proofs.FlushSteps.{quiet_stands, same_shards, stands_again, with_disk}
 use Rattle.cas_sessions.proofs.Listing.{up_to_same}
+use Rattle.cas_sessions.proofs.Remembering.{some_of_just}
 
 -- ---- nothing is done
 
@@ -123,6 +124,11 @@ all_in_files h u t n y stands table there nothing =
 
 -- ---- no file is listed
 
+-- what is just in memory says nothing, where that says nothing
+just_says_none : (t : TableSchema) (ws : List Mutation) (y : ShardState) → SayNothing (clustering_order t.columns) (memtables_at (slice_get y.stores t.number))
+    → HoldJust t.columns (memtables_at (slice_get y.stores t.number)) ws → SaySame [] ws
+just_says_none t ws y says has = subst (SaySame []) has.all (says has.places has.held.stand)
+
 module _ (t : TableSchema) (n : ℕ) (s u : State) (d e : Disk) (quiet : Quiet s u d e) (going : s.journal.first ≡ None) where
   still_going : u.journal.first ≡ None
   still_going = ap (λ j. j.first) quiet.journal ∙ going
@@ -130,25 +136,30 @@ module _ (t : TableSchema) (n : ℕ) (s u : State) (d e : Disk) (quiet : Quiet s
   -- memory had nothing that says more
   pub quiet_none : (y : ShardState) → slice_get s.tables t.number ≡ Some t → slice_get u.shards n ≡ Some y
       → (Remember u.tables u.shards → SayNothing (clustering_order t.columns) (memtables_at (slice_get y.stores t.number)))
-      → Moved (λ h. EndsIn t n (shard_at h n) None (Ok None)) s u
-  quiet_none y table there nothing have h stands =
+      → Moved (rest_with t.number n None) (λ h before now. EndsIn t n (shard_at h n) None (Ok None) before now × SaysNone (Ok None) None (h.unflushed n t.number)) s u
+  quiet_none y table there nothing h stands =
       let now : StandsFor (with_disk h u) u = quiet_stands s u d e quiet h stands in
-      let kept : Remember u.tables u.shards = quiet_remembers s u d e quiet have in (
+      let at_t : slice_get u.tables t.number ≡ Some t = ap (λ (ts : List TableSchema). slice_get ts t.number) quiet.tables ∙ table in
+      let says = nothing (some_of_just u.tables h.unflushed u.shards now.memory) in (
         now,
-        kept,
-        record {
-          files = files_again s.shards u.shards quiet.shards n t.number;
-          others = λ k table other. files_again s.shards u.shards quiet.shards k table;
-          all = all_in_files h u t n y now (ap (λ (ts : List TableSchema). slice_get ts t.number) quiet.tables ∙ table) there (nothing kept);
-          reach = ap reach_of quiet.journal;
-          live = omega (arith, quiet.live);
-          stopped = ap is_some still_going;
-        },
+        (
+          record {
+            files = files_again s.shards u.shards quiet.shards n t.number;
+            others = λ k table other. files_again s.shards u.shards quiet.shards k table;
+            all = all_in_files h u t n y now at_t there says;
+            reach = ap reach_of quiet.journal;
+            live = omega (arith, quiet.live);
+            stopped = ap is_some still_going;
+          },
+          just_says_none t (h.unflushed n t.number) y says
+              (now.memory n t.number y there [] t (ap (λ (ts : List TableSchema). slice_get ts t.number) (append-nil u.tables) ∙ at_t)),
+        ),
       )
 
   -- the same, where the table is looked at by its place
   pub quiet_none_at : (y : ShardState) (k : ℕ) → t.number ≡ k → slice_get s.tables k ≡ Some t → slice_get u.shards n ≡ Some y → bytes_at (slice_get y.stores k) ≡ 0
-      → (Remember u.tables u.shards → SayNothing (clustering_order t.columns) (frozen_at (slice_get y.stores k))) → Moved (λ h. EndsIn t n (shard_at h n) None (Ok None)) s u
+      → (Remember u.tables u.shards → SayNothing (clustering_order t.columns) (frozen_at (slice_get y.stores k)))
+      → Moved (rest_with t.number n None) (λ h before now. EndsIn t n (shard_at h n) None (Ok None) before now × SaysNone (Ok None) None (h.unflushed n t.number)) s u
   quiet_none_at y k same table there none says =
       quiet_none y (subst (λ (j : ℕ). slice_get s.tables j ≡ Some t) (sym same) table) there
       (λ have.
@@ -157,16 +168,19 @@ module _ (t : TableSchema) (n : ℕ) (s u : State) (d e : Disk) (quiet : Quiet s
 
   -- a fault came between
   pub quiet_fails : (Full : Type 0) (f : Fault) → WhyNotMade Full s.faults u.faults s.reads u.reads f
-      → ((h : History) → StandsFor h s → Full → WhyTooMany t n (shard_at h n) (disk_of u)) → Moved (λ h. EndsIn t n (shard_at h n) None (Err f)) s u
-  quiet_fails Full f why full have h stands = (
+      → ((h : History) → StandsFor h s → Full → WhyTooMany t n (shard_at h n) (disk_of u))
+      → Moved (rest_with t.number n None) (λ h before now. EndsIn t n (shard_at h n) None (Err f) before now × SaysNone (Err f) None (h.unflushed n t.number)) s u
+  quiet_fails Full f why full h stands = (
     quiet_stands s u d e quiet h stands,
-    quiet_remembers s u d e quiet have,
-    record {
-      files = λ k table. files_again s.shards u.shards quiet.shards k table;
-      reach = ap reach_of quiet.journal;
-      live = quiet.live;
-      why = by f why;
-    },
+    (
+      record {
+        files = λ k table. files_again s.shards u.shards quiet.shards k table;
+        reach = ap reach_of quiet.journal;
+        live = quiet.live;
+        why = by f why;
+      },
+      tt,
+    ),
   )
     where
       off : is_some u.journal.first ≡ false
@@ -183,7 +197,8 @@ module _ (t : TableSchema) (n : ℕ) (s u : State) (d e : Disk) (quiet : Quiet s
       by Mem is = off
 
   -- memory ran out
-  pub quiet_starves : Moved (λ h. EndsIn t n (shard_at h n) None (Err Mem)) s u
+  pub quiet_starves : Moved (rest_with t.number n None)
+      (λ h before now. EndsIn t n (shard_at h n) None (Err Mem) before now × SaysNone (Err Mem) None (h.unflushed n t.number)) s u
   quiet_starves = quiet_fails ⊥ Mem tt (λ h stands none. absurd none)
 
 rose_since : (a b c : ℕ) → a ≤ b → Rose b c → Rose a c
@@ -199,6 +214,10 @@ not_made_since Full a b c p q r (Failed (Some number)) faults reads is = is
 not_made_since Full a b c p q r Read faults reads rose = rose_since p q r reads rose
 not_made_since Full a b c p q r (BadBlock number at) faults reads is = is
 not_made_since Full a b c p q r Mem faults reads is = is
+
+and_false : (b : Bool) → (b && false) ≡ false
+and_false true = refl
+and_false false = refl
 
 -- ---- the file is listed, and takes the place of memtables
 
@@ -334,17 +353,26 @@ module _ {T : Type 0} (t : TableSchema) (n number count : ℕ) (s m : State) (d 
       explains_told openings h found s u d e was c t x n told so going its_change table there many none left lists.during stood lists.list explained y lists.tables
       (λ k z got. each k z got) swapped_just)
 
-  remembers : Remember s.tables s.shards → Remember m.tables (slice_set m.shards n y)
-  remembers have k j z got = by (each k z got)
+  -- so it is with what stands in no file
+  remembers : (ws : ℕ → ℕ → List Mutation) → RememberJust s.tables ws s.shards → RememberJust m.tables (rest_with t.number n (Some c) ws) (slice_set m.shards n y)
+  remembers ws have k j z got =
+      subst (λ (ts : List TableSchema). RemembersJust ts j (if (k == n) && (j == t.number) then [] else ws k j) z) (sym lists.tables) (by (each k z got))
     where
-      by : ((k ≡ n) × (y ≡ z)) ⊎ ((k ≢ n) × (slice_get s.shards k ≡ Some z))
-          → (ws : List Mutation) × ((more : List TableSchema) → HasInMemory (m.tables ++ more) j ws z)
+      of : k ≡ n → ((j ≡ t.number) × RemembersJust s.tables j [] y) ⊎ ((j ≢ t.number) × RemembersJust s.tables j (ws k j) y)
+          → RemembersJust s.tables j (if (k == n) && (j == t.number) then [] else ws k j) y
+      of here (inl (of_it, empty)) =
+          subst (λ (b : Bool). RemembersJust s.tables j (if b then [] else ws k j) y)
+          (sym ((λ i. (here i == n) && (of_it i == t.number)) ∙ (λ i. is_same n i && is_same t.number i))) empty
+      of here (inr (other, has)) =
+          subst (λ (b : Bool). RemembersJust s.tables j (if b then [] else ws k j) y)
+          (sym (ap (λ (b : Bool). (k == n) && b) (is_other j t.number (λ e. other (sym e))) ∙ and_false (k == n))) has
+
+      by : ((k ≡ n) × (y ≡ z)) ⊎ ((k ≢ n) × (slice_get s.shards k ≡ Some z)) → RemembersJust s.tables j (if (k == n) && (j == t.number) then [] else ws k j) z
       by (inl (here, same)) =
-          subst (λ (ts : List TableSchema). (ws : List Mutation) × ((more : List TableSchema) → HasInMemory (ts ++ more) j ws z)) (sym lists.tables)
-          (subst (λ (q : ShardState). (ws : List Mutation) × ((more : List TableSchema) → HasInMemory (s.tables ++ more) j ws q)) same
-          (swapped_has s.tables t.number count files x y swapped all none j (have n j x there)))
+          subst (λ (q : ShardState). RemembersJust s.tables j (if (k == n) && (j == t.number) then [] else ws k j) q) same
+          (of here (swapped_just j (ws k j) (have k j x (ap (λ (i : ℕ). slice_get s.shards i) here ∙ there))))
       by (inr (other, at)) =
-          subst (λ (ts : List TableSchema). (ws : List Mutation) × ((more : List TableSchema) → HasInMemory (ts ++ more) j ws z)) (sym lists.tables) (have k j z at)
+          subst (λ (b : Bool). RemembersJust s.tables j (if b && (j == t.number) then [] else ws k j) z) (sym (is_other k n (λ e. other (sym e)))) (have k j z at)
 
   module _ (says : SaysSo t (slice_get x.stores t.number) new.file) (h : History) (stands : StandsFor h s) where
     one_stands : (q : ShardHistory) → Stands s.tables q x → Stands s.tables q y
@@ -353,10 +381,10 @@ module _ {T : Type 0} (t : TableSchema) (n number count : ℕ) (s m : State) (d 
         (subst (λ (ms : List MemPart). SaysWhatTheyDo (order_at s.tables t.number) ms new.file)
         (sym (take_all count (frozen_at (slice_get x.stores t.number)) (omega (arith, all)))) (says s.tables table)) so
 
-    now_stands : StandsFor (with_disk h u) u
+    now_stands : StandsFor (record h { unflushed = rest_with t.number n (Some c) h.unflushed; disk = disk_of u }) u
     now_stands =
         stands_again h s u stands lists.limits lists.tables lists.clock lists.list lists.session lists.calls (length_set m.shards n y ∙ ap length lists.shards) by
-        (remembers stands.memory)
+        (rest_with t.number n (Some c) h.unflushed) (remembers h.unflushed stands.memory)
       where
         by : (k : ℕ) (z : ShardState) → slice_get (slice_set m.shards n y) k ≡ Some z
             → (w : ShardState) × (slice_get s.shards k ≡ Some w) × ((q : ShardHistory) → Stands s.tables q w → Stands s.tables q z)
@@ -377,7 +405,8 @@ module _ {T : Type 0} (t : TableSchema) (n number count : ℕ) (s m : State) (d 
       );
       others = other_files;
       all =
-          all_in_files h u t n y now_stands (ap (λ (ts : List TableSchema). slice_get ts t.number) lists.tables ∙ table) at_u
+          all_in_files (record h { unflushed = rest_with t.number n (Some c) h.unflushed }) u t n y now_stands
+          (ap (λ (ts : List TableSchema). slice_get ts t.number) lists.tables ∙ table) at_u
           (subst (SayNothing (clustering_order t.columns)) (sym swapped.memory) (rest_says_nothing (clustering_order t.columns) (slice_get x.stores t.number) count none all));
       reach = lists.reach;
       live = lists.live ∙ ap (λ (is : List TableInfo). s.live + length (map (λ i. i.number) is)) (sym adds.is.added);
@@ -406,7 +435,8 @@ module _ {T : Type 0} (t : TableSchema) (n number count : ℕ) (s m : State) (d 
     change = Some c;
     answer = ap (λ (is : List TableInfo). map (λ i. i.number) is) adds.is.added ∙ ap (λ (k : ℕ). k ∷ []) adds.numbered;
     lasts = keeps_on;
-    moves = λ says fine have h stands. (now_stands says h stands, remembers have, flushed says h stands);
+    numbered = ap (λ (is : List TableInfo). map (λ i. i.number) is) adds.is.added ∙ ap (λ (k : ℕ). k ∷ []) adds.numbered;
+    moves = λ says fine h stands. (now_stands says h stands, flushed says h stands);
     own = tt;
   }
 
@@ -503,12 +533,13 @@ module _ (t : TableSchema) (n number : ℕ) (s m : State) (d e : Disk) (c : Chan
         lists_failed s m d e n number c many adds low h found was lasts below (StandsSo t n told (slice_get x.stores t.number) d) (Unit {0}) f lists tables
         (λ v may left stood openings explained.
         explains_untold openings h found s m d e was c t x n told lasts going its_own table there many none left lists.during stood lists.list explained lists.tables lists.shards f v may);
-    moves = λ says one have h stands.
-        let still : Remember s.tables s.shards → Remember m.tables m.shards =
-        λ kept. subst (λ (xs : List ShardState). Remember m.tables xs) (sym lists.shards) (subst (λ (ts : List TableSchema). Remember ts s.shards) (sym lists.tables) kept) in (
+    numbered = tt;
+    moves = λ says one h stands.
+        let still : RememberJust m.tables h.unflushed m.shards =
+        subst (λ (xs : List ShardState). RememberJust m.tables h.unflushed xs) (sym lists.shards)
+        (subst (λ (ts : List TableSchema). RememberJust ts h.unflushed s.shards) (sym lists.tables) stands.memory) in (
           stands_again h s m stands lists.limits lists.tables lists.clock lists.list lists.session lists.calls (ap length lists.shards)
-              (λ k z got. (z, ap (λ (xs : List ShardState). slice_get xs k) (sym lists.shards) ∙ got, λ q so. so)) (still stands.memory),
-          still have,
+              (λ k z got. (z, ap (λ (xs : List ShardState). slice_get xs k) (sym lists.shards) ∙ got, λ q so. so)) h.unflushed still,
           record {
             files = λ k table. ap (λ (xs : List ShardState). files_in xs k table) lists.shards;
             reach = lists.reach;
@@ -540,7 +571,10 @@ takes_nothing t n number Says Left s d going = record {
   change = None;
   answer = refl;
   lasts = λ h found was tables lasts below. quiet_goes s s d d (quiet_still s d) Left h found was tables lasts (λ openings explained. explained);
-  moves = λ says one. quiet_starves t n s s d d (quiet_still s d) going;
+  numbered = tt;
+  moves = λ says one h stands.
+      let (now, ends) = quiet_starves t n s s d d (quiet_still s d) going h stands in
+      (now, ends.0);
   own = tt;
 }
 
@@ -583,11 +617,14 @@ quiet_lasts_for_one s m d e quiet (h, found, told, stands, lasts) =
 -- quiet steps, and then the file is listed or not
 pub flushes_then : (t : TableSchema) (n number last : ℕ) (Says Left : Type 0) (r : Result (Option ℕ) Fault) (s m u : State) (d e f : Disk) → Quiet s m d e
     → During (SameUpTo s.last_file) d e → s.journal.first ≡ None → TakesFile t n number Says Left r m u e f → Left → s.last_file ≤ last → last < number
-    → m.last_file ≤ s.last_file + 1 → ((c : Image) → d.reads c → Remember s.tables s.shards → Says) → FlushesOne t n r s u d f
-flushes_then t n number last Says Left r s m u d e f quiet during going takes left low above next says = record {
+    → number ≤ m.last_file → m.last_file ≤ s.last_file + 1 → ((h : History) → StandsFor h s → SaySomething (h.unflushed n t.number))
+    → ((c : Image) → d.reads c → Remember s.tables s.shards → Says) → FlushesOne t n r s u d f
+flushes_then t n number last Says Left r s m u d e f quiet during going takes left low above up next some says = record {
   beside = beside_then s m u d e f (quiet_beside s m d e quiet during) takes.beside;
   numbers = omega (arith, takes.numbers, next);
   change = takes.change;
+  numbered = one_number r takes.change takes.answer takes.numbered;
+  some = some_then takes.change;
   answer = takes.answer;
   lasts = λ h found told tables lasts.
       let (now, amid) = takes.lasts h found told (tables ∙ sym quiet.tables) (quiet_lasts s m d e quiet h found told lasts)
@@ -600,27 +637,47 @@ flushes_then t n number last Says Left r s m u d e f quiet during going takes le
         ),
         amid_then h found s m d e f quiet.list (quiet_amid s m d e quiet h found told tables lasts) amid,
       );
-  moves = λ c reads one have h stands.
-      let (now, kept, ends) = takes.moves (says c reads have) (where_failed r (quiet_lasts_for_one s m d e quiet) one) (quiet_remembers s m d e quiet have) (with_disk h m)
+  moves = λ c reads one h stands.
+      let (now, ends) =
+      takes.moves (says c reads (some_of_just s.tables h.unflushed s.shards stands.memory)) (where_failed r (quiet_lasts_for_one s m d e quiet) one) (with_disk h m)
       (quiet_stands s m d e quiet h stands) in (
         now,
-        kept,
-        ends_since t n (shard_at h n) takes.change r (disk_of s) (disk_of m) (disk_of u) (λ k j. files_again s.shards m.shards quiet.shards k j) (ap reach_of quiet.journal) quiet.live quiet.faults
-            quiet.reads ends,
+        (
+          ends_since t n (shard_at h n) takes.change r (disk_of s) (disk_of m) (disk_of u) (λ k j. files_again s.shards m.shards quiet.shards k j) (ap reach_of quiet.journal) quiet.live quiet.faults
+              quiet.reads ends,
+          listed_or_failed r takes.change (h.unflushed n t.number) takes.numbered,
+        ),
       );
   own = takes.own;
 }
+  where
+    one_number : (r : Result (Option ℕ) Fault) (c : Option Change) → TellsIt c r → IfOk r (λ told. numbers_in c ≡ number ∷ []) → AscendTo s.last_file (numbers_in c) u.last_file
+    one_number (Ok told) c answer is = subst (λ ns. AscendTo s.last_file ns u.last_file) (sym is) (omega (arith, low, above), omega (arith, up, takes.numbers))
+    one_number (Err f) c answer is = subst (λ x. AscendTo s.last_file (numbers_in x) u.last_file) (sym answer) (omega (arith, quiet.last, takes.numbers))
+
+    listed_or_failed : (r : Result (Option ℕ) Fault) (c : Option Change) (ws : List Mutation) → IfOk r (λ told. numbers_in c ≡ number ∷ []) → SaysNone r c ws
+    listed_or_failed (Ok told) None ws is = absurd cc
+    listed_or_failed (Ok told) (Some c) ws is = tt
+    listed_or_failed (Err f) c ws is = tt
+
+    some_then : (c : Option Change) → IfSome c (λ x. (h : History) → StandsFor h s → SaySomething (h.unflushed n t.number))
+    some_then None = tt
+    some_then (Some c) = some
 
 -- quiet steps alone
 pub flushes_quietly : (t : TableSchema) (n : ℕ) (r : Result (Option ℕ) Fault) (s u : State) (d e : Disk) → Quiet s u d e → During (SameUpTo s.last_file) d e
     → s.journal.first ≡ None → u.last_file ≤ s.last_file + 1
-    → ((c : Image) → d.reads c → Remember s.tables s.shards → Moved (λ h. EndsIn t n (shard_at h n) None r) s u) → IfErr r IsOwn → TellsIt None r → FlushesOne t n r s u d e
+    → ((c : Image) → d.reads c → Remember s.tables s.shards → Moved (rest_with t.number n None)
+    (λ h before now. EndsIn t n (shard_at h n) None r before now × SaysNone r None (h.unflushed n t.number)) s u) → IfErr r IsOwn
+    → TellsIt None r → FlushesOne t n r s u d e
 flushes_quietly t n r s u d e quiet during going next moves own answer = record {
   beside = quiet_beside s u d e quiet during;
   numbers = next;
   change = None;
+  numbered = quiet.last;
+  some = tt;
   answer = answer;
   lasts = λ h found told tables lasts. quiet_goes s u d e quiet (TellsReads d) h found told tables lasts (quiet_explains s u d e quiet during going h found told lasts);
-  moves = λ c reads one have h stands. moves c reads have have h stands;
+  moves = λ c reads one h stands. moves c reads (some_of_just s.tables h.unflushed s.shards stands.memory) h stands;
   own = own;
 }

@@ -25,7 +25,7 @@ use Rattle.cas_sessions.specs.Entered.{IsLeftAmid, entries_in}
 use Rattle.cas_sessions.specs.Listing.{SameUpTo}
 use Rattle.cas_recovery.specs.Found.{found_in}
 use Rattle.cas_recovery.specs.Restored.{Remember, RememberAll}
-use Rattle.cas_sessions.specs.Nodes.{Explains, State, StandsFor, LastsFor, disk_of, files_in, files_of}
+use Rattle.cas_sessions.specs.Nodes.{Explains, RememberJust, State, StandsFor, LastsFor, disk_of, files_in, files_of}
 use Rattle.cas_sessions.specs.Inner.Flushing.{AllGoOn, GoesOn, GoesOnAs, IsBeside, Quiet, SameNumbers}
 use Rattle.cas_sessions.proofs.Crashing.{holds_amid}
 use Rattle.cas_sessions.proofs.Explaining.{explains_still, goes_nowhere, keep_files_below}
@@ -168,8 +168,8 @@ with_disk h t = record h { disk = disk_of t }
 pub stands_again : (h : History) (s t : State) → StandsFor h s → t.limits ≡ s.limits → t.tables ≡ s.tables → t.clock ≡ s.clock → t.list ≡ s.list → t.session ≡ s.session
     → t.calls ≡ s.calls → length t.shards ≡ length s.shards
     → ((n : ℕ) (y : ShardState) → slice_get t.shards n ≡ Some y → (x : ShardState) × (slice_get s.shards n ≡ Some x) × ((q : ShardHistory) → Stands s.tables q x → Stands s.tables q y))
-    → Remember t.tables t.shards → StandsFor (with_disk h t) t
-stands_again h s t stands limits tables clock list session calls count shards remembers = record {
+    → (left : ℕ → ℕ → List Mutation) → RememberJust t.tables left t.shards → StandsFor (record h { unflushed = left; disk = disk_of t }) t
+stands_again h s t stands limits tables clock list session calls count shards left remembers = record {
   limits = stands.limits ∙ sym limits;
   tables = stands.tables ∙ sym tables;
   clock = stands.clock ∙ sym clock;
@@ -251,10 +251,16 @@ module _ (s t : State) (d e : Disk) (quiet : Quiet s t d e) where
       let (ws, has) = have n table x at in
       (ws, λ more. subst (λ (ts : List TableSchema). HasInMemory (ts ++ more) table ws y) (sym quiet.tables) (goes.memory (s.tables ++ more) table ws (has more)))
 
+  pub quiet_just : (ws : ℕ → ℕ → List Mutation) → RememberJust s.tables ws s.shards → RememberJust t.tables ws t.shards
+  quiet_just ws have n table y there =
+      let (x, at, goes) = quiet.shards.each n y there in
+      λ more. subst (λ (ts : List TableSchema). HasInMemory (ts ++ more) table (ws n table) y) (sym quiet.tables)
+      (goes.memory (s.tables ++ more) table (ws n table) (have n table x at more))
+
   pub quiet_stands : (h : History) → StandsFor h s → StandsFor (with_disk h t) t
   quiet_stands h stands =
       stands_again h s t stands quiet.limits quiet.tables quiet.clock quiet.list quiet.session quiet.calls quiet.shards.count
-      (λ n y there. let (x, at, goes) = quiet.shards.each n y there in (x, at, λ q. goes.stands s.tables q)) (quiet_remembers stands.memory)
+      (λ n y there. let (x, at, goes) = quiet.shards.each n y there in (x, at, λ q. goes.stands s.tables q)) h.unflushed (quiet_just h.unflushed stands.memory)
 
   pub quiet_beside : During (SameUpTo s.last_file) d e → IsBeside s t d e
   quiet_beside during = record {
@@ -294,10 +300,10 @@ beside_then s t u d e f first second = record {
 }
 
 -- what a crash leaves, in the words of a history with other changes
-pub amid_with : (h : History) (changes : List Change) (found : List Mutation) (list : List (Item Event)) (d e : Disk)
-    → Leaves (IsLeftAmid found list (record h { changes = changes })) d e → Leaves (IsLeftAmid found list h) d e
-amid_with h changes found list d e leaves =
-    reworded (λ _ c. IsLeftAmid found list (record h { changes = changes }) c) (λ _ c. IsLeftAmid found list h c) d e leaves
+pub amid_with : (h : History) (left : ℕ → ℕ → List Mutation) (changes : List Change) (found : List Mutation) (list : List (Item Event)) (d e : Disk)
+    → Leaves (IsLeftAmid found list (record h { unflushed = left; changes = changes })) d e → Leaves (IsLeftAmid found list h) d e
+amid_with h left changes found list d e leaves =
+    reworded (λ _ c. IsLeftAmid found list (record h { unflushed = left; changes = changes }) c) (λ _ c. IsLeftAmid found list h c) d e leaves
     (λ b c was left. record {
       entries = left.entries;
       told = left.told;

@@ -27,13 +27,11 @@ use Rattle.cas_shard.specs.declared.answers.Look.{Look}
 use Rattle.cas_shard.specs.Stands.{KeepsFiles, ShardState, Stands, files_at}
 use Rattle.cas_sessions.specs.declared.answer.Fault.{Fault}
 use Rattle.cas_sessions.specs.Calls.{reply_of}
-use Rattle.cas_recovery.specs.Restored.{Remember, Remembers}
-use Rattle.cas_recovery.proofs.Restoring.{one_remembers}
 use Rattle.cas_sessions.proofs.Explaining.{explains_still, further_at, keep_files_none, raised_further}
-use Rattle.cas_sessions.proofs.Remembering.{all_still, each_remembers, same_just}
-use Rattle.cas_sessions.specs.History.{DiskState, History, ReadsAt, Shows, after_entries, after_read, after_write, rows_reply, shard_at, with_shard}
+use Rattle.cas_sessions.proofs.Remembering.{all_still, just_still, same_just}
+use Rattle.cas_sessions.specs.History.{DiskState, History, ReadsAt, Shows, after_entries, after_read, after_write, rows_reply, shard_at, with_shard, with_unflushed}
 use Rattle.cas_sessions.specs.Entered.{entries_in, entry_in}
-use Rattle.cas_sessions.specs.Nodes.{State, StandsFor, disk_of, files_of, Moves}
+use Rattle.cas_sessions.specs.Nodes.{RememberJust, State, StandsFor, disk_of, files_of, Moves}
 use Rattle.cas_sessions.specs.Inner.Faults.{fault_of_table}
 use Rattle.cas_sessions.proofs.Filing.{files_still}
 use Rattle.cas_sessions.proofs.Lasting.{lasts_still}
@@ -64,8 +62,7 @@ raised_is reading s = ap (λ es. record (raised reading s) { entries = es }) (sy
 
 module _ (h : History) (s t : State) (n : ℕ) (x y : ShardState) (reading : ℤ) (new : List Entry) (stands : StandsFor h s) (there : slice_get s.shards n ≡ Some x)
     (shards : t.shards ≡ slice_set s.shards n y) (stands_new : Stands h.tables (after_entries reading new (shard_at h n)) y)
-    (entered : (k : ℕ) → entries_in k t.list ≡ with_entries n k new (entries_in k s.list))
-    (remembers : (table : ℕ) → Remembers s.tables table x → Remembers s.tables table y) where
+    (entered : (k : ℕ) → entries_in k t.list ≡ with_entries n k new (entries_in k s.list)) where
   abbrev after : History
   after = with_shard h n (after_entries reading new (shard_at h n))
 
@@ -116,9 +113,9 @@ module _ (h : History) (s t : State) (n : ℕ) (x y : ShardState) (reading : ℤ
   pub still_many : length after.shards ≡ length t.shards
   still_many = length_set h.shards n _ ∙ stands.count ∙ sym (length_set s.shards n y) ∙ ap length (sym shards)
 
-  pub stands_write : (r : Reply) → t.limits ≡ s.limits → t.tables ≡ s.tables → t.clock ≡ s.clock → t.session ≡ s.session → t.calls ≡ s.calls + length new
+  pub stands_write : RememberJust s.tables (with_unflushed n new h.unflushed) (slice_set s.shards n y) → (r : Reply) → t.limits ≡ s.limits → t.tables ≡ s.tables → t.clock ≡ s.clock → t.session ≡ s.session → t.calls ≡ s.calls + length new
       → StandsFor (after_write h n reading r new (disk_of t)) t
-  stands_write r limits tables clock session calls = record {
+  stands_write remembers r limits tables clock session calls = record {
     limits = stands.limits ∙ sym limits;
     tables = stands.tables ∙ sym tables;
     clock = stands.clock ∙ sym clock;
@@ -129,13 +126,13 @@ module _ (h : History) (s t : State) (n : ℕ) (x y : ShardState) (reading : ℤ
     shards = shards_stand;
     entered = are_entered;
     memory =
-        subst (λ (ts : List TableSchema). Remember ts t.shards) (sym tables)
-        (subst (Remember s.tables) (sym shards) (one_remembers s.tables s.shards n x y stands.memory there remembers));
+        subst (λ (ts : List TableSchema). RememberJust ts (with_unflushed n new h.unflushed) t.shards) (sym tables)
+        (subst (RememberJust s.tables (with_unflushed n new h.unflushed)) (sym shards) remembers);
   }
 
-  pub stands_read : t.limits ≡ s.limits → t.tables ≡ s.tables → t.clock ≡ s.clock → t.session ≡ s.session → t.calls ≡ s.calls
+  pub stands_read : RememberJust s.tables h.unflushed (slice_set s.shards n y) → t.limits ≡ s.limits → t.tables ≡ s.tables → t.clock ≡ s.clock → t.session ≡ s.session → t.calls ≡ s.calls
       → disk_of t ≡ record (disk_of s) { reads = t.reads } → StandsFor (record after { disk = record h.disk { reads = t.reads } }) t
-  stands_read limits tables clock session calls disk = record {
+  stands_read remembers limits tables clock session calls disk = record {
     limits = stands.limits ∙ sym limits;
     tables = stands.tables ∙ sym tables;
     clock = stands.clock ∙ sym clock;
@@ -146,8 +143,8 @@ module _ (h : History) (s t : State) (n : ℕ) (x y : ShardState) (reading : ℤ
     shards = shards_stand;
     entered = are_entered;
     memory =
-        subst (λ (ts : List TableSchema). Remember ts t.shards) (sym tables)
-        (subst (Remember s.tables) (sym shards) (one_remembers s.tables s.shards n x y stands.memory there remembers));
+        subst (λ (ts : List TableSchema). RememberJust ts h.unflushed t.shards) (sym tables)
+        (subst (RememberJust s.tables h.unflushed) (sym shards) remembers);
   }
 
 -- ---- a SELECT
@@ -205,7 +202,8 @@ moves_look s d q x y reading reads r there number keeps more raises shows stores
         refl,
       ),
       record {
-        stands = stands_read h s (with_looked s q.shard y reads) q.shard x y reading [] stands there refl still (λ k. none_more q.shard k (entries_in k s.list)) (each_remembers s.tables x y (same_just s.tables x y stores)) refl refl refl refl refl disk;
+        stands = stands_read h s (with_looked s q.shard y reads) q.shard x y reading [] stands there refl still (λ k. none_more q.shard k (entries_in k s.list))
+            (just_still s.tables h.unflushed s.shards q.shard x y there (same_just s.tables x y stores) stands.memory) refl refl refl refl refl disk;
         lasts = λ found told lasts. (
           told,
           lasts_still h (after_read h q.shard reading reads) found s (with_looked s q.shard y reads) d d told q.shard x y refl refl there refl number

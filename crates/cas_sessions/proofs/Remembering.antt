@@ -16,6 +16,7 @@ use Rattle.cas_flushing.proofs.Tables.{added_columns_stay}
 use Rattle.cas_journal.proofs.Fitting.{NoKeys}
 use Rattle.cas_memtable.specs.Kept.{HoldJust}
 use Rattle.cas_shard.specs.Flushing.{HasInMemory, memtables_at, one_of}
+use Rattle.cas_shard.specs.declared.entry.Entry.{Entry}
 use Rattle.cas_shard.specs.declared.entry.Entry.TheVariants.{Wrote}
 use Rattle.cas_shard.specs.declared.entry.ShardOpening.{ShardOpening}
 use Rattle.cas_shard.specs.Shards.{restored}
@@ -25,6 +26,8 @@ use Rattle.cas_recovery.specs.Restored.{HaveMemory, Remember, RememberAll, Remem
 use Rattle.cas_recovery.proofs.Founding.{one_more}
 use Rattle.cas_recovery.proofs.Places.{get_here, get_other, is_other, is_same, same_place}
 use Rattle.cas_recovery.proofs.Restoring.{get_first, one_has_memory}
+use Rattle.cas_sessions.specs.History.{with_unflushed}
+use Rattle.cas_sessions.specs.Nodes.{RememberJust}
 
 -- ---- a shard in another state
 
@@ -81,6 +84,53 @@ module _ (ts : List TableSchema) (xs : List ShardState) (n : ℕ) (x y : ShardSt
 pub have_memory : (ts : List TableSchema) (xs : List ShardState) → Remember ts xs → HaveMemory ts xs
 have_memory ts xs kept n table x there = ∣ kept n table x there ∣₁
 
+-- ---- just what stands in no table file
+
+-- what is just that is something
+pub some_of_just : (ts : List TableSchema) (ws : ℕ → ℕ → List Mutation) (xs : List ShardState) → RememberJust ts ws xs → Remember ts xs
+some_of_just ts ws xs just n table x there = (ws n table, just n table x there)
+
+-- of a shard that is another, which has what it had
+pub just_still : (ts : List TableSchema) (ws : ℕ → ℕ → List Mutation) (xs : List ShardState) (n : ℕ) (x y : ShardState) → slice_get xs n ≡ Some x
+    → ((table : ℕ) (vs : List Mutation) → RemembersJust ts table vs x → RemembersJust ts table vs y) → RememberJust ts ws xs → RememberJust ts ws (slice_set xs n y)
+just_still ts ws xs n x y there keeps just k table z got = by (same_place k n)
+  where
+    by : (k ≡ n) ⊎ (k ≢ n) → RemembersJust ts table (ws k table) z
+    by (inl here) =
+        let at_k : slice_get (slice_set xs n y) k ≡ Some y = ap (λ (j : ℕ). slice_get (slice_set xs n y) j) here ∙ get_here xs n x y there in
+        subst (λ (w : ShardState). RemembersJust ts table (ws k table) w) (same_Some y z (sym at_k ∙ got))
+        (keeps table (ws k table) (just k table x (ap (slice_get xs) here ∙ there)))
+    by (inr other) = just k table z (sym (get_other xs n k y other) ∙ got)
+
+-- with entries of it behind
+pub just_with : (ts : List TableSchema) (ws : ℕ → ℕ → List Mutation) (xs : List ShardState) (n : ℕ) (x y : ShardState) (new : List Entry) → slice_get xs n ≡ Some x
+    → ((table : ℕ) (vs : List Mutation) → RemembersJust ts table vs x → RemembersJust ts table (vs ++ mutations_of table new) y) → RememberJust ts ws xs
+    → RememberJust ts (with_unflushed n new ws) (slice_set xs n y)
+just_with ts ws xs n x y new there keeps just k table z got = by (same_place k n)
+  where
+    by : (k ≡ n) ⊎ (k ≢ n) → RemembersJust ts table (if k == n then ws k table ++ mutations_of table new else ws k table) z
+    by (inl here) =
+        let at_k : slice_get (slice_set xs n y) k ≡ Some y = ap (λ (j : ℕ). slice_get (slice_set xs n y) j) here ∙ get_here xs n x y there in
+        subst (λ (b : Bool). RemembersJust ts table (if b then ws k table ++ mutations_of table new else ws k table) z)
+        (sym (ap (λ (j : ℕ). k == j) (sym here) ∙ is_same k))
+        (subst (λ (w : ShardState). RemembersJust ts table (ws k table ++ mutations_of table new) w) (same_Some y z (sym at_k ∙ got))
+        (keeps table (ws k table) (just k table x (ap (slice_get xs) here ∙ there))))
+    by (inr other) =
+        subst (λ (b : Bool). RemembersJust ts table (if b then ws k table ++ mutations_of table new else ws k table) z) (sym (is_other k n (λ e. other (sym e))))
+        (just k table z (sym (get_other xs n k y other) ∙ got))
+
+-- with none
+pub with_none : (ts : List TableSchema) (x y : ShardState) → ((table : ℕ) (vs : List Mutation) → RemembersJust ts table vs x → RemembersJust ts table vs y)
+    → (table : ℕ) (vs : List Mutation) → RemembersJust ts table vs x → RemembersJust ts table (vs ++ mutations_of table []) y
+with_none ts x y keeps table vs has = subst (λ us. RemembersJust ts table us y) (sym (append-nil vs)) (keeps table vs has)
+
+-- with the entry of a mutation
+pub with_entry : (ts : List TableSchema) (x y : ShardState) (m : Mutation) (session calls : ℕ)
+    → ((table : ℕ) (vs : List Mutation) → RemembersJust ts table vs x → RemembersJust ts table (vs ++ one_of table m) y)
+    → (table : ℕ) (vs : List Mutation) → RemembersJust ts table vs x → RemembersJust ts table (vs ++ mutations_of table (Wrote session calls m ∷ [])) y
+with_entry ts x y m session calls keeps table vs has =
+    subst (λ us. RemembersJust ts table (vs ++ us) y) (sym (append-nil (one_of table m))) (keeps table vs has)
+
 -- ---- just what the log has
 
 -- of a shard that is another, which has what it had
@@ -133,8 +183,8 @@ some_of_all ts xs ms have n table x there = (mutations_of table (found_in n ms).
 created_just : (ts : List TableSchema) (t : TableSchema) (table : ℕ) (ws : List Mutation) (x : ShardState) → RemembersJust ts table ws x → RemembersJust (ts ++ t ∷ []) table ws x
 created_just ts t table ws x k = λ more. subst (λ (us : List TableSchema). HasInMemory us table ws x) (sym (append_assoc ts (t ∷ []) more)) (k (t ∷ more))
 
-pub remember_created : (ts : List TableSchema) (xs : List ShardState) (t : TableSchema) → Remember ts xs → Remember (ts ++ t ∷ []) xs
-remember_created ts xs t kept n table x there = let k = kept n table x there in (k.0, created_just ts t table k.0 x k.1)
+pub remember_created : (ts : List TableSchema) (ws : ℕ → ℕ → List Mutation) (xs : List ShardState) (t : TableSchema) → RememberJust ts ws xs → RememberJust (ts ++ t ∷ []) ws xs
+remember_created ts ws xs t kept n table x there = created_just ts t table (ws n table) x (kept n table x there)
 
 pub all_created : (ts : List TableSchema) (xs : List ShardState) (t : TableSchema) (ms : List Mutation) → RememberAll ts ms xs → RememberAll (ts ++ t ∷ []) ms xs
 all_created ts xs t ms have n table x there = created_just ts t table (mutations_of table (found_in n ms).entries) x (have n table x there)
@@ -155,8 +205,8 @@ module _ (a : Addition) (bare : NoKeys a.columns) where
   altered_just : (ts : List TableSchema) (table : ℕ) (ws : List Mutation) (x : ShardState) → RemembersJust ts table ws x → RemembersJust (map (with_added a) ts) table ws x
   altered_just ts table ws x k = λ more. added_columns_stay (ts ++ more) (map (with_added a) ts ++ more) table ws x (λ t is. widened ts more table t is) (k more)
 
-  pub remember_altered : (ts : List TableSchema) (xs : List ShardState) → Remember ts xs → Remember (map (with_added a) ts) xs
-  remember_altered ts xs kept n table x there = let k = kept n table x there in (k.0, altered_just ts table k.0 x k.1)
+  pub remember_altered : (ts : List TableSchema) (ws : ℕ → ℕ → List Mutation) (xs : List ShardState) → RememberJust ts ws xs → RememberJust (map (with_added a) ts) ws xs
+  remember_altered ts ws xs kept n table x there = altered_just ts table (ws n table) x (kept n table x there)
 
   pub all_altered : (ts : List TableSchema) (xs : List ShardState) (ms : List Mutation) → RememberAll ts ms xs → RememberAll (map (with_added a) ts) ms xs
   all_altered ts xs ms have n table x there = altered_just ts table (mutations_of table (found_in n ms).entries) x (have n table x there)

@@ -35,7 +35,7 @@ use Rattle.cas_sessions.specs.Next.{IsExplained}
 use Rattle.cas_sessions.specs.Starts.{AreExplained, AreItsFiles, BeginsAs, IsInMemory, IsStarted, start}
 use Rattle.cas_sessions.specs.Entered.{HasTables, IsLeft, ListFiles, entries_in}
 use Rattle.cas_shard.proofs.Numbers.{drawn_of_none, last_of_none}
-use Rattle.cas_recovery.specs.Openings.{AreOpenings, IsOpening, MayHaveBeen, times_of, unflushed_of}
+use Rattle.cas_recovery.specs.Openings.{AreOpenings, IsOpening, MayHaveBeen, times_of}
 use Rattle.cas_recovery.specs.Recovered.{IsRecovered}
 use Rattle.cas_recovery.specs.Restored.{IsTold}
 use Rattle.cas_sessions.specs.Nodes.{Explains, State, StandsFor, LastsFor, disk_of, files_in, files_of}
@@ -44,7 +44,6 @@ use Rattle.cas_recovery.proofs.Places.{get_within}
 use Rattle.cas_sessions.proofs.Behind.{behind_said}
 use Rattle.cas_sessions.proofs.Crashing.{front_is}
 use Rattle.cas_sessions.proofs.Explaining.{explains_named}
-use Rattle.cas_sessions.proofs.Remembering.{some_of_all}
 use Rattle.cas_sessions.proofs.Files.{list_said, told_named}
 use Rattle.cas_sessions.proofs.Parts.{no_more, said_few, there_at}
 
@@ -145,11 +144,11 @@ module _ (given : Limits) (entries : List ManifestEntry) (mutations : List Mutat
   many : length s.shards ≡ count
   many = memory.count ∙ ap (λ (l : Limits). l.shards) memory.same
 
-  at : (n : ℕ) → n < count → shard_at (start given entries openings s.session (disk_of s)) n ≡ found_shard (openings n)
+  at : (n : ℕ) → n < count → shard_at (start given entries mutations openings s.session (disk_of s)) n ≡ found_shard (openings n)
   unfolding start
   at n lt = numbered (λ (k : ℕ). found_shard (openings k)) (found_shard empty_shard) 0 count n lt ∙ ap (λ (k : ℕ). found_shard (openings k)) (from_none n)
 
-  first_stands : StandsFor (start given entries openings s.session (disk_of s)) s
+  first_stands : StandsFor (start given entries mutations openings s.session (disk_of s)) s
   unfolding start
   first_stands = record {
     limits = sym memory.same;
@@ -166,11 +165,11 @@ module _ (given : Limits) (entries : List ManifestEntry) (mutations : List Mutat
     entered = λ n lt.
         ap (λ (q : ShardHistory). q.entries) (at n (subst (λ (k : ℕ). n < k) (many_mapped _ (numbers 0 count) ∙ many_numbers 0 count) lt))
         ∙ ap (entries_in n) (sym list);
-    memory = some_of_all s.tables s.shards (unflushed_of (said_by entries) mutations) memory.memory;
+    memory = memory.memory;
   }
 
   first_lasts : (d : Disk) (t : Told) → IsTold entries mutations t → Lasts s.journal d t → s.committed ≡ 0
-      → LastsFor (start given entries openings s.session (disk_of s)) mutations s d t
+      → LastsFor (start given entries mutations openings s.session (disk_of s)) mutations s d t
   unfolding start
   first_lasts d t told lasts committed = record {
     keeps = record {
@@ -198,14 +197,14 @@ module _ (given : Limits) (entries : List ManifestEntry) (mutations : List Mutat
       none n = subst (λ (l : List (Item Event)). length (accepted_in l) ≤ n) (sym list) (omega arith)
 
   abbrev first_history : History
-  first_history = start given entries openings s.session (disk_of s)
+  first_history = start given entries mutations openings s.session (disk_of s)
 
   abbrev alone : Told → Told
   alone t = record t { entries = entries; failed = []; taken = mutations }
 
   -- what a crash may leave explains it
   first_explains : (d : Disk) (t : Told) → IsTold entries mutations t → AreExplained entries mutations openings d
-      → Explains openings (start given entries openings s.session (disk_of s)) mutations s d t
+      → Explains openings (start given entries mutations openings s.session (disk_of s)) mutations s d t
   unfolding start
   first_explains d t told explained =
       explains_named openings first_history mutations s d (alone t) t told.begun.0 told.begun.1 (inl told.failed) told.taken (λ i leaves. omega arith) (record {

@@ -45,9 +45,9 @@ use Rattle.cas_shard.proofs.Standing.{stands_under}
 use Rattle.cas_sessions.specs.History.{Changes, Defines, History, DiskState, changes_told, shard_at}
 use Rattle.cas_sessions.specs.Inner.Definitions.{MayBeTold}
 use Rattle.cas_sessions.specs.Listing.{ListsNone}
-use Rattle.cas_sessions.specs.Nodes.{Explains, State, StandsFor, LastsFor, disk_of, files_in, Moves}
+use Rattle.cas_sessions.specs.Nodes.{Explains, RememberJust, State, StandsFor, LastsFor, disk_of, files_in, Moves}
 use Rattle.cas_sessions.specs.Inner.Faults.{reply_for}
-use Rattle.cas_recovery.specs.Restored.{IsBehind, Remember, RememberAll}
+use Rattle.cas_recovery.specs.Restored.{IsBehind, RememberAll}
 use Rattle.cas_sessions.proofs.Behind.{behind_defined, still_behind}
 use Rattle.cas_sessions.proofs.Explaining.{explains_still, explains_wider, goes_nowhere as goes_further, keep_files, keep_files_none}
 use Rattle.cas_sessions.proofs.Files.{Files, list_defined, list_same, told_defined}
@@ -157,7 +157,7 @@ adds_no_keys ts a may =
 -- its memory stands for the history with these tables
 pub stands_defined : (h : History) (s t : State) → StandsFor h s → t.limits ≡ s.limits → t.clock ≡ s.clock → t.session ≡ s.session → t.calls ≡ s.calls
     → t.list ≡ s.list → t.shards ≡ s.shards → ((q : ShardHistory) (x : ShardState) → Stands h.tables q x → Stands t.tables q x)
-    → Remember t.tables s.shards → StandsFor (record h { tables = t.tables; disk = disk_of t }) t
+    → RememberJust t.tables h.unflushed s.shards → StandsFor (record h { tables = t.tables; disk = disk_of t }) t
 stands_defined h s t stands limits clock session calls list shards under remembers = record {
   limits = stands.limits ∙ sym limits;
   tables = refl;
@@ -168,7 +168,7 @@ stands_defined h s t stands limits clock session calls list shards under remembe
   count = stands.count ∙ ap length (sym shards);
   shards = λ n x got. under (shard_at h n) x (stands.shards n x (subst (λ (xs : List ShardState). slice_get xs n ≡ Some x) shards got));
   entered = λ n lt. stands.entered n lt ∙ ap (entries_in n) (sym list);
-  memory = subst (Remember t.tables) (sym shards) remembers;
+  memory = subst (RememberJust t.tables h.unflushed) (sym shards) remembers;
 }
 
 -- its disk keeps that, by what the journal is told then
@@ -396,7 +396,7 @@ module _ (s t : State) (d e : Disk) (x : ManifestEntry) (b : Bound) (may : MayBe
       stands =
           stands_defined h s t stands rest.limits rest.clock rest.session rest.calls rest.list rest.shards
           (λ z y. subst (λ (ts : List TableSchema). Stands ts z y) (stands.tables ∙ sym same))
-          (subst (λ (ts : List TableSchema). Remember ts s.shards) (sym same) stands.memory);
+          (subst (λ (ts : List TableSchema). RememberJust ts h.unflushed s.shards) (sym same) stands.memory);
       lasts = λ found told lasts.
           let still = said_still fault x told lasts.few in (
             told_after fault x told,
@@ -415,7 +415,7 @@ module _ (s t : State) (d e : Disk) (x : ManifestEntry) (b : Bound) (may : MayBe
   )
 
   pub moves_done : During SameTables d e → IsDefinition x → t.tables ≡ tables_after s.tables b → ((z : ShardHistory) (y : ShardState) → Stands s.tables z y → Stands t.tables z y)
-      → (Remember s.tables s.shards → Remember t.tables s.shards) → ((ms : List Mutation) → RememberAll s.tables ms s.shards → RememberAll t.tables ms s.shards)
+      → ((ws : ℕ → ℕ → List Mutation) → RememberJust s.tables ws s.shards → RememberJust t.tables ws s.shards) → ((ms : List Mutation) → RememberAll s.tables ms s.shards → RememberAll t.tables ms s.shards)
       → Ends {T = Unit {0}} s.journal.first t.journal.first s.faults t.faults (Ok tt)
       → reach_of t.journal ≡ record { segment = (reach_of s.journal).segment; manifest = (reach_of s.journal).manifest + room_of x }
       → ((found : List Mutation) (told : Told) → Keeps s.journal d s.list s.committed found told → FitsEntry (said_by told.entries) x
@@ -435,7 +435,7 @@ module _ (s t : State) (d e : Disk) (x : ManifestEntry) (b : Bound) (may : MayBe
     record {
       stands =
           stands_defined h s t stands rest.limits rest.clock rest.session rest.calls rest.list rest.shards
-          (λ z y so. under z y (subst (λ (ts : List TableSchema). Stands ts z y) stands.tables so)) (remembers stands.memory);
+          (λ z y so. under z y (subst (λ (ts : List TableSchema). Stands ts z y) stands.tables so)) (remembers h.unflushed stands.memory);
       lasts = λ found told lasts.
           let more = tells h found told lasts in
           let said = said_more told.entries x in (

@@ -1,6 +1,7 @@
 -- What a flush of a table does, in the words of the history: what each shard has of it in memory comes into one table file more. No SELECT shows more or less.
 -- Cassandra documentation, "nodetool flush"; "Storage engine: memtables, SSTables"; the numbers of files and of faults are own.
-use Rattle.std.specs.Prelude.{◌≡◌, ◌⊎◌, ℕ, ◌+◌, ◌≤◌, ◌<◌, true, false, Option, None, Some, Result, Ok, Err, List, [], ◌∷◌, ◌++◌, length, slice_index_or}
+use Rattle.std.specs.Prelude.{◌≡◌, ◌⊎◌, ℕ, ◌+◌, ◌≤◌, ◌<◌, ◌==◌, ◌&&◌, if◌then◌else◌, true, false, Option, None, Some, is_some, Result, Ok, Err}
+use Rattle.std.specs.Prelude.{List, [], ◌∷◌, ◌++◌, length, slice_index_or}
 use Rattle.std.specs.List.{flat_map, fold}
 use Rattle.std.specs.Int.{int_max}
 use Rattle.cas_types.specs.declared.schema.TableSchema.{TableSchema}
@@ -13,13 +14,14 @@ use Rattle.cas_changes.specs.declared.said.TheConstants.{FIRST_DRAWN}
 use Rattle.cas_changes.specs.declared.entry.Entry.TheVariants.{Change as change_entry}
 use Rattle.cas_info.specs.Allowed.{FitsInfo}
 use Rattle.cas_journal.specs.Reach.{Reach, HasNoPlace}
-use Rattle.cas_memtable.specs.Kept.{all_of}
+use Rattle.cas_memtable.specs.Kept.{all_of, atoms_under}
 use Rattle.cas_room.specs.Changing.{added_by}
 use Rattle.cas_room.specs.Tables.{IsFull}
 use Rattle.cas_shard.specs.Shards.{ShardHistory, all_entries, drawn_of, number_of}
 use Rattle.cas_shard.specs.Stands.{SaySame, mutations_of}
 use Rattle.cas_sstread.specs.Loading.{Held}
 use Rattle.cas_stored.specs.Stored.{HoldEach}
+use Rattle.cas_streams.specs.Streams.{IsThere}
 use Rattle.cas_view.specs.Views.{File}
 use Rattle.cas_effects.specs.declared.refusal.Refusal.TheVariants.{NoTable}
 use Rattle.cas_effects.specs.declared.refusal.TheConstants.{TOO_MANY}
@@ -55,6 +57,10 @@ pub record AreInFiles (order : List Ordered) (files : List (File Held)) (ws : Li
   pub stand : HoldEach order files [] places
   pub says : SaySame (all_of places) ws
 
+-- the mutations say something: an atom of one of them stands under a key
+abbrev pub SaySomething : List Mutation → Type 0
+SaySomething ws = (key : List ℕ) × IsThere (atoms_under key ws)
+
 -- ---- the shards, one after another
 
 -- the numbers of the files that changes add, in the order of the shards
@@ -79,13 +85,26 @@ abbrev pub changes_by : List Change → Option Change → List Change
 changes_by before None = before
 changes_by before (Some c) = before ++ c ∷ []
 
+-- what stands in no table file, where these changes were told of the table, one of each shard: nothing of it in a shard with a change, all else as before
+abbrev pub without_flushed : ℕ → List (Option Change) → (ℕ → ℕ → List Mutation) → ℕ → ℕ → List Mutation
+without_flushed table changes before n k = if (k == table) && is_some (change_of changes n) then [] else before n k
+
+-- numbers of files ascend, from above one number up to another
+abbrev pub AscendTo : ℕ → List ℕ → ℕ → Type 0
+AscendTo n [] last = n ≤ last
+AscendTo n (k ∷ ks) last = (n < k) × AscendTo k ks last
+
 -- The first shards were flushed, with these changes, one of each: all that was written to the table in them stands in its files. No other file is touched.
--- One number at most was given to a file in each shard, and in the next one.
+-- There is a change only where something stood in no file yet, and none only where that says nothing. The new files' numbers ascend, from above the last; one
+-- number at most was given to a file in each shard, and in the next one.
 pub record Flushed (h : History) (t : TableSchema) (changes : List (Option Change)) (e : DiskState) : Type 0 where
   pub files : (n : ℕ) → Grows t.number n (shard_at h n) (change_of changes n) (h.disk.files n t.number) (e.files n t.number)
   pub others : (n k : ℕ) → (k ≡ t.number → ⊥) → e.files n k ≡ h.disk.files n k
   pub all : (n : ℕ) → n < length changes
       → AreInFiles (clustering_order t.columns) (e.files n t.number) (mutations_of t.number (all_entries (shard_at h n)))
+  pub some : (n : ℕ) (c : Change) → change_of changes n ≡ Some c → SaySomething (h.unflushed n t.number)
+  pub none : (n : ℕ) → n < length changes → change_of changes n ≡ None → SaySame [] (h.unflushed n t.number)
+  pub numbers : AscendTo h.disk.last_file (numbers_added changes) e.last_file
   pub reach : e.reach ≡ fold reach_by h.disk.reach changes
   pub faults : h.disk.faults ≤ e.faults
   pub reads : h.disk.reads ≤ e.reads
@@ -128,12 +147,12 @@ EndsSo h t changes (Ok told) e = (length changes ≡ length h.shards) × (told �
 EndsSo h t changes (Err f) e =
     (length changes < length h.shards) × WhyNoFurther t (length changes) (shard_at h (length changes)) h.disk e f
 
--- A flush of the table: an earlier fault stopped it, and nothing is done; or shards are flushed, from the first on, the manifest tells these changes, and all
--- but the disk is as it was.
+-- A flush of the table: an earlier fault stopped it, and nothing is done; or shards are flushed, from the first on, the manifest tells these changes, what they
+-- tell of stands in a file, and all but the disk is as it was.
 abbrev pub FlushesTable : History → TableSchema → Result (List ℕ) Fault → History → Type 0
 FlushesTable h t (Err (Stopped first)) after = (h.disk.stopped ≡ true) × (after ≡ h)
 FlushesTable h t r after = (changes : List (Option Change)) × (e : DiskState) × (h.disk.stopped ≡ false) × Flushed h t changes e × EndsSo h t changes r e
-    × (after ≡ record h { changes = fold changes_by h.changes changes; disk = e })
+    × (after ≡ record h { unflushed = without_flushed t.number changes h.unflushed; changes = fold changes_by h.changes changes; disk = e })
 
 -- of the table that is named so, if there is one
 abbrev pub FlushesNamed : History → Option TableSchema → Result (List ℕ) Fault → History → Type 0

@@ -1,6 +1,6 @@
 -- What each line answers, and what it enters into the history of the store.
 -- CQL documentation, "Data definition" and "Data manipulation"; numbers, timestamps, moments, what a failed write stops, and the command are own.
-use Rattle.std.specs.Prelude.{◌≡◌, ◌≢◌, ◌⊎◌, ℕ, ◌+◌, ◌^◌, ◌<◌, ◌≤◌, ℤ, pos, ◌*ℤ◌, Bool, true, false, None, Some, Result, Ok, Err}
+use Rattle.std.specs.Prelude.{◌≡◌, ◌≢◌, ◌⊎◌, ℕ, ◌+◌, ◌^◌, ◌<◌, ◌≤◌, ◌==◌, ℤ, pos, ◌*ℤ◌, Bool, true, false, if◌then◌else◌, None, Some, Result, Ok, Err}
 use Rattle.std.specs.Prelude.{List, [], ◌∷◌, ◌++◌, length, slice_index_or, slice_set}
 use Rattle.std.specs.Int.{int_max, int_min}
 use Rattle.std.specs.List.{flat_map}
@@ -37,6 +37,7 @@ use Rattle.cas_shard.specs.declared.entry.Entry.{Entry}
 use Rattle.cas_shard.specs.declared.entry.Entry.TheVariants as entry
 use Rattle.cas_shard.specs.declared.answers.Look.{Look}
 use Rattle.cas_shard.specs.Shards.{ShardHistory, found_shard, empty_shard, moment_at, mutation_at, take_refusal, look_at}
+use Rattle.cas_shard.specs.Stands.{mutations_of}
 
 -- ---- what the lines so far came to
 
@@ -53,8 +54,8 @@ pub record DiskState : Type 0 where
   pub live : ℕ
 
 -- The limits of the store, its tables, its shards, and the seconds that the last `\clock` set; the number of the session that runs the lines, how
--- many mutations were accepted of it, and how many of these were acknowledged by an `ok`; the changes of table files that the manifest tells, in order, those
--- that were found first; and how the disk stands.
+-- many mutations were accepted of it, and how many of these were acknowledged by an `ok`; what was written to a table in a shard and stands in no table file
+-- yet, by the shard's number and the table's; the changes of table files that the manifest tells, in order, those that were found first; and how the disk stands.
 pub record History : Type 0 where
   pub limits : Limits
   pub tables : List TableSchema
@@ -63,6 +64,7 @@ pub record History : Type 0 where
   pub session : ℕ
   pub calls : ℕ
   pub acknowledged : ℕ
+  pub unflushed : ℕ → ℕ → List Mutation
   pub changes : List Change
   pub disk : DiskState
 
@@ -160,12 +162,17 @@ acknowledges _ = 0
 abbrev pub after_entries : ℤ → List Entry → ShardHistory → ShardHistory
 after_entries reading entries s = record s { entries = s.entries ++ entries; moment = moment_at reading s }
 
+-- what stands in no table file, with these entries of a shard behind it
+abbrev pub with_unflushed : ℕ → List Entry → (ℕ → ℕ → List Mutation) → ℕ → ℕ → List Mutation
+with_unflushed n entries before k table = if k == n then before k table ++ mutations_of table entries else before k table
+
 -- the history after a write that was answered so entered this at a reading into a shard
 abbrev pub after_write : History → ℕ → ℤ → Reply → List Entry → DiskState → History
 after_write h n reading r entries e =
     record (with_shard h n (after_entries reading entries (shard_at h n))) {
       calls = h.calls + length entries;
       acknowledged = h.acknowledged + acknowledges r;
+      unflushed = with_unflushed n entries h.unflushed;
       disk = e;
     }
 

@@ -12,7 +12,7 @@ use Rattle.cas_journal.specs.Stores.{MayList, Told}
 use Rattle.cas_journal.specs.Reach.{reach_of}
 use Rattle.cas_history.specs.declared.item.Item.{Item}
 use Rattle.cas_recovery.specs.Openings.{unflushed_of}
-use Rattle.cas_recovery.specs.Restored.{IsBehind, Remember, RememberAll}
+use Rattle.cas_recovery.specs.Restored.{IsBehind, RememberAll, RemembersJust}
 use Rattle.cas_render.specs.declared.reply.Failure.TheVariants as failure
 use Rattle.cas_render.specs.declared.reply.Reply.{Reply}
 use Rattle.cas_render.specs.declared.reply.Reply.TheVariants as reply
@@ -78,8 +78,12 @@ disk_of s = record {
   live = s.live;
 }
 
--- A store's memory stands for a history: each shard's state does, and the entries are those of the list; and in memory are some mutations, each of which
--- its table may hold.
+-- each shard has in memory of each table just these mutations, by the shard's number and the table's, each of which the table may hold
+abbrev pub RememberJust : List TableSchema → (ℕ → ℕ → List Mutation) → List ShardState → Type 0
+RememberJust tables mutations shards =
+    (n table : ℕ) (x : ShardState) → slice_get shards n ≡ Some x → RemembersJust tables table (mutations n table) x
+
+-- A store's memory stands for a history: each shard's state does, and the entries are those of the list; and in memory is just what stands in no table file.
 pub record StandsFor (h : History) (s : State) : Type 0 where
   pub limits : h.limits ≡ s.limits
   pub tables : h.tables ≡ s.tables
@@ -90,7 +94,7 @@ pub record StandsFor (h : History) (s : State) : Type 0 where
   pub count : length h.shards ≡ length s.shards
   pub shards : (n : ℕ) (x : ShardState) → slice_get s.shards n ≡ Some x → Stands h.tables (shard_at h n) x
   pub entered : AreEntered s.list h
-  pub memory : Remember s.tables s.shards
+  pub memory : RememberJust s.tables h.unflushed s.shards
 
 -- A store's disk keeps what its history says. What the journal was told are the mutations that were found and then all that was accepted, by which
 -- each shard's next number goes on; the manifest tells of the tables, lists just the table files that there are, by the history's changes, and is not ahead of

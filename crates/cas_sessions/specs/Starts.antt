@@ -15,21 +15,26 @@ use Rattle.cas_sstread.specs.Loading.{Held}
 use Rattle.cas_view.specs.Views.{File}
 use Rattle.cas_listed.specs.Listed.{AreLoaded}
 use Rattle.cas_shard.specs.declared.entry.ShardOpening.{ShardOpening}
-use Rattle.cas_shard.specs.Stands.{ShardState, Stands}
+use Rattle.cas_shard.specs.Stands.{ShardState, Stands, mutations_of}
 use Rattle.cas_shard.specs.Shards.{found_shard}
 use Rattle.cas_sessions.specs.Entered.{ListFiles}
 use Rattle.cas_sessions.specs.Explained.{only}
 use Rattle.cas_sessions.specs.Nodes.{Explains, State, StandsFor, LastsFor, disk_of, files_in}
 use Rattle.cas_history.specs.Hands.{numbers}
 use Rattle.cas_sessions.specs.History.{History, DiskState, changes_told}
+use Rattle.cas_recovery.specs.Found.{found_in}
 use Rattle.cas_recovery.specs.Openings.{AreOpenings, IsOpening, unflushed_of}
 use Rattle.cas_recovery.specs.Recovered.{IsRecovered}
 use Rattle.cas_recovery.specs.Restored.{IsBehind, IsTold, RememberAll, greatest_of}
 
--- The history before the first line: the tables that the manifest tells of, as many shards as it says, and of each shard what it was before the run; the
--- changes of table files that the manifest tells; the clock at 0.
-unfoldable pub start : Limits → List ManifestEntry → (ℕ → ShardOpening) → ℕ → DiskState → History
-start l entries openings session disk = record {
+-- what the log has of a table in a shard that stands in no table file
+abbrev pub unflushed_in : List ManifestEntry → List Mutation → ℕ → ℕ → List Mutation
+unflushed_in entries mutations n table = mutations_of table (found_in n (unflushed_of (said_by entries) mutations)).entries
+
+-- The history before the first line: the tables that the manifest tells of, as many shards as it says, and of each shard what it was before the run; of the
+-- log's mutations those that stand in no table file, and the changes of table files that the manifest tells; the clock at 0.
+unfoldable pub start : Limits → List ManifestEntry → List Mutation → (ℕ → ShardOpening) → ℕ → DiskState → History
+start l entries mutations openings session disk = record {
   limits = record l { shards = (said_by entries).shards };
   tables = (said_by entries).tables;
   shards = map (λ n. found_shard (openings n)) (numbers 0 (said_by entries).shards);
@@ -37,6 +42,7 @@ start l entries openings session disk = record {
   session = session;
   calls = 0;
   acknowledged = 0;
+  unflushed = unflushed_in entries mutations;
   changes = changes_told entries;
   disk = disk;
 }
@@ -78,11 +84,11 @@ pub record IsStarted (given limits : Limits) (tables : List TableSchema) (shards
 
 -- A run with these limits and these table files begins so: nothing is stopped, and at most one segment was begun since the entries were written; as many
 -- table files are listed as the entries list, and the last number of one is the greatest that was ever listed.
-pub record Begins (l : Limits) (entries : List ManifestEntry) (openings : ℕ → ShardOpening) (files : ℕ → ℕ → List (File Held)) (before : ℕ)
-    (h : History) : Type 0 where
+pub record Begins (l : Limits) (entries : List ManifestEntry) (mutations : List Mutation) (openings : ℕ → ShardOpening) (files : ℕ → ℕ → List (File Held))
+    (before : ℕ) (h : History) : Type 0 where
   pub session : ℕ
   pub disk : DiskState
-  pub history : h ≡ start l entries openings session disk
+  pub history : h ≡ start l entries mutations openings session disk
   pub going : disk.stopped ≡ false
   pub faults : before ≤ disk.faults
   pub segment : disk.reach.segment ≤ next_segment entries
@@ -109,9 +115,9 @@ AreExplained entries mutations openings disk =
 -- table files are counted and numbered by the entries; and what a crash may leave explains the history, where it explains the openings.
 pub record BeginsAs (given : Limits) (entries : List ManifestEntry) (mutations : List Mutation) (openings : ℕ → ShardOpening) (disk : Disk)
     (s : State) : Type 0 where
-  pub stands : StandsFor (start given entries openings s.session (disk_of s)) s
+  pub stands : StandsFor (start given entries mutations openings s.session (disk_of s)) s
   pub lasts : (t : Told) → IsTold entries mutations t → Lasts s.journal disk t
-      → LastsFor (start given entries openings s.session (disk_of s)) mutations s disk t
+      → LastsFor (start given entries mutations openings s.session (disk_of s)) mutations s disk t
   pub explains : (t : Told) → IsTold entries mutations t → AreExplained entries mutations openings disk
-      → Explains openings (start given entries openings s.session (disk_of s)) mutations s disk t
+      → Explains openings (start given entries mutations openings s.session (disk_of s)) mutations s disk t
   pub counts : (s.last_file ≡ greatest_of (said_by entries).numbers) × (s.live ≡ (said_by entries).listed)

@@ -38,7 +38,7 @@ pub record Served (kind : ClockKind) (Gives : ℤ → Type 0) (script : List ℕ
     (entries : List ManifestEntry) (mutations : List Mutation) (openings : ℕ → ShardOpening) (files : ℕ → ℕ → List (File Held)) (journal : Journal)
     (before after : Disk) (faults_before faults_first faults_now reads : ℕ) (list : List (Item Event)) (why : Cause) : Type 0 where
   pub first : History
-  pub begins : Begins limits entries openings files faults_first first
+  pub begins : Begins limits entries mutations openings files faults_first first
   pub final : History
   pub told : Cause
   pub ran : RanFrom first kind Gives script old new final told

@@ -1,5 +1,5 @@
 -- The steps of a flush of a table in a shard (own).
-use Rattle.std.specs.Prelude.{◌≡◌, ◌⊎◌, ℕ, ◌+◌, ◌≤◌, ◌<◌, false, Option, None, Some, Result, Ok, Err, IfErr, MatchResult}
+use Rattle.std.specs.Prelude.{◌≡◌, ◌⊎◌, ℕ, ◌+◌, ◌≤◌, ◌<◌, ◌==◌, ◌&&◌, if◌then◌else◌, false, Option, None, Some, IfSome, Result, Ok, Err, IfOk, IfErr, MatchResult}
 use Rattle.std.specs.Prelude.{List, [], ◌∷◌, ◌++◌, length, slice_get}
 use Rattle.std.specs.List.{AllByRecursion, fold}
 use Rattle.std.specs.Int.{int_max}
@@ -41,7 +41,7 @@ use Rattle.cas_room.specs.Rooms.{accepted_in}
 use Rattle.cas_shard.specs.Flushing.{HasInMemory, SaysWhatTheyDo, frozen_at, memtables_at}
 use Rattle.cas_shard.specs.declared.entry.ShardOpening.{ShardOpening}
 use Rattle.cas_shard.specs.Shards.{ShardHistory, all_entries}
-use Rattle.cas_shard.specs.Stands.{KeepsFiles, ShardState, Stands, files_at, mutations_of, order_at}
+use Rattle.cas_shard.specs.Stands.{KeepsFiles, SaySame, ShardState, Stands, files_at, mutations_of, order_at}
 use Rattle.cas_sstread.specs.Loading.{Held}
 use Rattle.cas_sstread.specs.declared.fault.TableFault.{TableFault}
 use Rattle.cas_sstread.specs.declared.fault.TableFault.TheVariants as load
@@ -52,8 +52,7 @@ use Rattle.cas_tables.specs.declared.header.Version.TheVariants.{Second}
 use Rattle.cas_view.specs.Views.{File}
 use Rattle.cas_sessions.specs.declared.answer.Fault.{Fault}
 use Rattle.cas_sessions.specs.declared.answer.Fault.TheVariants.{Refused, Stopped, Disk as Failed, Read, BadBlock, Mem}
-use Rattle.cas_sessions.specs.Flushes.{AreInFiles, Flushed, Grows, WhyNoFurther, changes_by, numbers_added, numbers_in, reach_by}
-use Rattle.cas_recovery.specs.Restored.{Remember}
+use Rattle.cas_sessions.specs.Flushes.{AreInFiles, AscendTo, Flushed, Grows, SaySomething, WhyNoFurther, changes_by, numbers_added, numbers_in, reach_by, without_flushed}
 use Rattle.cas_sessions.specs.History.{History, DiskState, shard_at}
 use Rattle.cas_sessions.specs.Entered.{IsLeftAmid}
 use Rattle.cas_sessions.specs.Listing.{SameUpTo}
@@ -165,10 +164,11 @@ pub record NewFile (t : TableSchema) (o : Option StoredTable) (told : TableInfo)
 abbrev pub SaysSo : TableSchema → Option StoredTable → File Held → Type 0
 SaysSo t o f = (tables : List TableSchema) → slice_get tables t.number ≡ Some t → SaysWhatTheyDo (order_at tables t.number) (frozen_at o) f
 
--- The frozen memtables were written to it, under a number above the last; and where the folder tells what it reads, it says what they do.
+-- The frozen memtables were written to it, under a number above the last, and hold something; and where the folder tells what it reads, it says what they do.
 pub record IsMade (t : TableSchema) (o : Option StoredTable) (Tells : Type 0) (last : ℕ) (told : TableInfo) (files : List (File Held)) : Type 0 where
   pub new : NewFile t o told files
   pub above : last < told.number
+  pub some : (ws : List Mutation) → HoldJust t.columns (memtables_at o) ws → SaySomething ws
   pub says : Tells → (ws : List Mutation) → HoldJust t.columns (memtables_at o) ws → SaysSo t o new.file
 
 -- they hold nothing: a file without partitions would say what they do
@@ -304,10 +304,21 @@ GoesOn Left h changes found told s u d e =
 abbrev pub TellsReads : Disk → Type 0
 TellsReads d = (c : Image) × d.reads c
 
--- memory stands for the same but for the disk, and this becomes of it
-abbrev pub Moved : (History → DiskState → DiskState → Type 0) → State → State → Type 0
-Moved Ends s u = Remember s.tables s.shards → (h : History) → StandsFor h s
-    → StandsFor (record h { disk = disk_of u }) u × Remember u.tables u.shards × Ends h (disk_of s) (disk_of u)
+-- what stands in no table file, where this change was told of the table in the shard, if there is one
+abbrev pub rest_with : ℕ → ℕ → Option Change → (ℕ → ℕ → List Mutation) → ℕ → ℕ → List Mutation
+rest_with table n None before = before
+rest_with table n (Some c) before = λ k j. if (k == n) && (j == table) then [] else before k j
+
+-- memory stands for the same but for the disk and for what stands in no file, of which this is left, and this becomes of it
+abbrev pub Moved : ((ℕ → ℕ → List Mutation) → ℕ → ℕ → List Mutation) → (History → DiskState → DiskState → Type 0) → State → State → Type 0
+Moved rest Ends s u =
+    (h : History) → StandsFor h s → StandsFor (record h { unflushed = rest h.unflushed; disk = disk_of u }) u × Ends h (disk_of s) (disk_of u)
+
+-- where nothing failed and nothing was listed, what stood in no file says nothing
+abbrev pub SaysNone : Result (Option ℕ) Fault → Option Change → List Mutation → Type 0
+SaysNone (Ok told) None ws = SaySame [] ws
+SaysNone (Ok told) (Some c) ws = Unit {0}
+SaysNone (Err f) c ws = Unit {0}
 
 -- The file of that number took the place of the frozen memtables, where the manifest listed none of that number or above.
 pub record TakesFile (t : TableSchema) (n number : ℕ) (Says Left : Type 0) (result : Result (Option ℕ) Fault) (s u : State) (d e : Disk) : Type 0 where
@@ -317,7 +328,8 @@ pub record TakesFile (t : TableSchema) (n number : ℕ) (Says Left : Type 0) (re
   pub answer : TellsIt change result
   pub lasts : (h : History) (found : List Mutation) (told : Told) → h.tables ≡ s.tables → LastsFor h found s d told
       → AllByRecursion (λ k. k < number) (said_by told.entries).numbers → GoesOn Left h (changes_by h.changes change) found told s u d e
-  pub moves : Says → IfErr result (λ f. LastsForOne s d) → Moved (λ h. EndsIn t n (shard_at h n) change result) s u
+  pub numbered : IfOk result (λ told. numbers_in change ≡ number ∷ [])
+  pub moves : Says → IfErr result (λ f. LastsForOne s d) → Moved (rest_with t.number n change) (λ h. EndsIn t n (shard_at h n) change result) s u
   pub own : IfErr result IsOwn
 
 -- a flush of a table in a shard; why it failed is known where the disk keeps what some history says for which the store stands
@@ -325,10 +337,13 @@ pub record FlushesOne (t : TableSchema) (n : ℕ) (result : Result (Option ℕ) 
   pub beside : IsBeside s u d e
   pub numbers : u.last_file ≤ s.last_file + 1
   pub change : Option Change
+  pub numbered : AscendTo s.last_file (numbers_in change) u.last_file
+  pub some : IfSome change (λ c. (h : History) → StandsFor h s → SaySomething (h.unflushed n t.number))
   pub answer : TellsIt change result
   pub lasts : (h : History) (found : List Mutation) (told : Told) → h.tables ≡ s.tables → LastsFor h found s d told
       → GoesOn (TellsReads d) h (changes_by h.changes change) found told s u d e
-  pub moves : (c : Image) → d.reads c → IfErr result (λ f. LastsForOne s d) → Moved (λ h. EndsIn t n (shard_at h n) change result) s u
+  pub moves : (c : Image) → d.reads c → IfErr result (λ f. LastsForOne s d) → Moved (rest_with t.number n change)
+      (λ h before now. EndsIn t n (shard_at h n) change result before now × SaysNone result change (h.unflushed n t.number)) s u
   pub own : IfErr result IsOwn
 
 -- so many shards were flushed, with these numbers of files
@@ -340,7 +355,7 @@ pub record FlushesFirst (t : TableSchema) (count : ℕ) (told : List ℕ) (s u :
   pub added : told ≡ numbers_added changes
   pub lasts : (h : History) (found : List Mutation) (told : Told) → h.tables ≡ s.tables → LastsFor h found s d told
       → GoesOn (TellsReads d) h (fold changes_by h.changes changes) found told s u d e
-  pub moves : (c : Image) → d.reads c → Moved (λ h before now. Flushed h t changes now) s u
+  pub moves : (c : Image) → d.reads c → Moved (without_flushed t.number changes) (λ h before now. Flushed h t changes now) s u
 
 -- the first ones were, and then one wasn't
 pub record FlushesNoFurther (t : TableSchema) (f : Fault) (s u : State) (d e : Disk) : Type 0 where
@@ -350,7 +365,8 @@ pub record FlushesNoFurther (t : TableSchema) (f : Fault) (s u : State) (d e : D
   pub lasts : (h : History) (found : List Mutation) (told : Told) → h.tables ≡ s.tables → LastsFor h found s d told
       → GoesOn (TellsReads d) h (fold changes_by h.changes changes) found told s u d e
   pub moves : (c : Image) → d.reads c → LastsForOne s d
-      → Moved (λ h before now. Flushed h t changes now × WhyNoFurther t (length changes) (shard_at h (length changes)) before now f) s u
+      → Moved (without_flushed t.number changes)
+      (λ h before now. Flushed h t changes now × WhyNoFurther t (length changes) (shard_at h (length changes)) before now f) s u
   pub own : IsOwn f
 
 -- ---- faults

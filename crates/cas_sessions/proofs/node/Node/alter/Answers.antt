@@ -10,7 +10,8 @@ use Rattle.cas_recovery.proofs.Places.{get_within}
 use Rattle.cas_sessions.proofs.Tables.{adds_no_keys, altered_by, has_spelling, is_short, mapped, moves_done, moves_not, moves_nowhere, under_altered}
 use Rattle.cas_sessions.specs.Calls.{reply_of}
 use Rattle.cas_sessions.specs.declared.answer.Fault.{Fault}
-use Rattle.cas_recovery.specs.Restored.{HaveMemory, HaveNoMore, MayBeRead, Remember, RememberAll}
+use Rattle.cas_recovery.specs.Restored.{HaveMemory, HaveNoMore, MayBeRead, RememberAll}
+use Rattle.cas_sessions.specs.Nodes.{RememberJust}
 use Rattle.cas_sessions.proofs.Filing.{readable_altered, unmade_altered}
 use Rattle.cas_sessions.proofs.Remembering.{all_altered, memory_altered, remember_altered}
 use Rattle.cas_sessions.proofs.Sounding.{sound_told}
@@ -87,8 +88,8 @@ returns-clause-changes g c = λ clock.
     })
     c.define.ensures.count c.define.ensures.tables tt (new ∙ sym (mapped ts a))
     (λ z y so. subst (λ (us : List TableSchema). Stands us z y) (sym new) (under_altered a (adds_no_keys ts a c.requires.told) ts z y so))
-    (λ k. subst (λ (us : List TableSchema). Remember us c.args.self.now.shards.items) (sym new)
-    (remember_altered a (adds_no_keys ts a c.requires.told) ts c.args.self.now.shards.items k))
+    (λ ws k. subst (λ (us : List TableSchema). RememberJust us ws c.args.self.now.shards.items) (sym new)
+    (remember_altered a (adds_no_keys ts a c.requires.told) ts ws c.args.self.now.shards.items k))
     (λ ms k. subst (λ (us : List TableSchema). RememberAll us ms c.args.self.now.shards.items) (sym new)
     (all_altered a (adds_no_keys ts a c.requires.told) ts c.args.self.now.shards.items ms k))
     c.in_default.ensures.outcome c.in_default.ensures.reach c.in_default.ensures.kept

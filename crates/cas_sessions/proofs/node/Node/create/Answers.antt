@@ -8,7 +8,8 @@ use Rattle.cas_shard.specs.Stands.{Stands}
 use Rattle.cas_sessions.proofs.Tables.{created, has_spelling, is_short, moves_done, moves_not, moves_reserved, pushed, under_created}
 use Rattle.cas_sessions.specs.Calls.{reply_of}
 use Rattle.cas_sessions.specs.declared.answer.Fault.{Fault}
-use Rattle.cas_recovery.specs.Restored.{HaveMemory, HaveNoMore, MayBeRead, Remember, RememberAll}
+use Rattle.cas_recovery.specs.Restored.{HaveMemory, HaveNoMore, MayBeRead, RememberAll}
+use Rattle.cas_sessions.specs.Nodes.{RememberJust}
 use Rattle.cas_sessions.proofs.Filing.{readable_created, unmade_created}
 use Rattle.cas_sessions.proofs.Remembering.{all_created, memory_created, remember_created}
 use Rattle.cas_sessions.proofs.Sounding.{sound_reserved, sound_told}
@@ -74,7 +75,7 @@ returns-clause-changes g c = λ clock.
     })
     c.define.ensures.count c.define.ensures.tables tt (new ∙ sym (created ts c.args.table))
     (λ z y so. subst (λ (us : List TableSchema). Stands us z y) (sym new) (under_created ts c.args.table z y so))
-    (λ k. subst (λ (us : List TableSchema). Remember us c.args.self.now.shards.items) (sym new) (remember_created ts c.args.self.now.shards.items c.args.table k))
+    (λ ws k. subst (λ (us : List TableSchema). RememberJust us ws c.args.self.now.shards.items) (sym new) (remember_created ts ws c.args.self.now.shards.items c.args.table k))
     (λ ms k. subst (λ (us : List TableSchema). RememberAll us ms c.args.self.now.shards.items) (sym new) (all_created ts c.args.self.now.shards.items c.args.table ms k))
     c.in_default-define.ensures.outcome c.in_default-define.ensures.reach c.in_default-define.ensures.kept
 

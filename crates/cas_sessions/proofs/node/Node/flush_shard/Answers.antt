@@ -9,7 +9,7 @@ use Rattle.cas_sessions.proofs.FlushMaking.{one_in_memory}
 use Rattle.cas_sessions.proofs.FlushShard.{flushes_quietly, flushes_then, not_made_since, quiet_fails, quiet_none_at, quiet_starves}
 use Rattle.cas_sessions.proofs.FlushSound.{numbered}
 use Rattle.cas_sessions.proofs.Parts.{there_at}
-use Rattle.cas_sessions.proofs.FlushSteps.{quiet_remembers, quiet_then}
+use Rattle.cas_sessions.proofs.FlushSteps.{quiet_just, quiet_remembers, quiet_then}
 use Rattle.cas_sessions.proofs.Listing.{up_to_twice}
 use Rattle.cas_sessions.proofs.TooMuch.{why_full_then}
 use Rattle.cas_sessions.proofs.node.Node.flush_shard.Goals as goal
@@ -116,7 +116,12 @@ returns-clause-flushes g c = λ clock t at_t.
     flushes_then t c.args.place _ _ _ _ _ _ _ _ _ _ _ (quiet_then _ _ _ _ _ _ (c.freeze.ensures.quiet _ _ clock) (c.make_file.ensures.quiet _ _ clock))
     (up_to_twice _ _ _ _ _ (c.freeze.ensures.quiet 0 0 clock).last c.freeze.ensures.tables c.make_file.ensures.tables) c.requires.going (c.take_file.ensures.takes clock t y m_t at_m made.new)
     ((rw c.in-Ok-Some.field-0-is at c.in-Ok-Some.ensures.left) t y now_t here.1) (c.freeze.ensures.quiet 0 0 clock).last made.above
-    (omega (arith, ap (λ r. r.numbers.last) c.freeze.ensures.room.0, c.make_file.ensures.next))
+    (rw c.in-Ok-Some.field-0-is at c.in-Ok-Some.ensures.held).3 (omega (arith, ap (λ r. r.numbers.last) c.freeze.ensures.room.0, c.make_file.ensures.next))
+    (λ h stands.
+    let just = quiet_just _ _ _ _ (c.freeze.ensures.quiet c.args.session.now.seat.list c.args.session.now.seat.calls clock) h.unflushed stands.memory c.args.place t.number y here.1 in
+    made.some (h.unflushed c.args.place t.number)
+    (subst (λ (k : ℕ). HoldJust t.columns (memtables_at (slice_get y.stores k)) (h.unflushed c.args.place t.number)) number
+    (one_in_memory f.tables.items t (h.unflushed c.args.place t.number) y f_t just)))
     (λ image reads have.
     let read = (c.freeze.ensures.quiet 0 0 clock).tells image reads in
     let ws = quiet_remembers _ _ _ _ (c.freeze.ensures.quiet 0 0 clock) have c.args.place t.number y here.1 in
