@@ -1,7 +1,7 @@
 -- What each line answers, and what it enters into the history of the store.
 -- CQL documentation, "Data definition" and "Data manipulation"; numbers, timestamps, moments, what a failed write stops, and the command are own.
-use Rattle.std.specs.Prelude.{◌≡◌, ◌≢◌, ◌⊎◌, ℕ, ◌+◌, ◌^◌, ◌<◌, ◌≤◌, ◌==◌, ℤ, pos, ◌*ℤ◌, Bool, true, false, if◌then◌else◌, None, Some, Result, Ok, Err}
-use Rattle.std.specs.Prelude.{List, [], ◌∷◌, ◌++◌, length, slice_index_or, slice_set}
+use Rattle.std.specs.Prelude.{◌≡◌, ◌≢◌, ◌⊎◌, ℕ, ◌+◌, ◌^◌, ◌<◌, ◌≤◌, ◌==◌, ℤ, pos, ◌*ℤ◌, Bool, true, false}
+use Rattle.std.specs.Prelude.{if◌then◌else◌, None, Some, Result, Ok, Err, List, [], ◌∷◌, ◌++◌, length, slice_index_or, slice_set}
 use Rattle.std.specs.Int.{int_max, int_min}
 use Rattle.std.specs.List.{flat_map}
 use Rattle.cas_types.specs.declared.limits.TheConstants.{LAST_MICROSECOND}

@@ -1,6 +1,6 @@
 -- The steps of a flush of a table in a shard (own).
-use Rattle.std.specs.Prelude.{◌≡◌, ◌⊎◌, ℕ, ◌+◌, ◌≤◌, ◌<◌, ◌==◌, ◌&&◌, if◌then◌else◌, false, Option, None, Some, IfSome, Result, Ok, Err, IfOk, IfErr, MatchResult}
-use Rattle.std.specs.Prelude.{List, [], ◌∷◌, ◌++◌, length, slice_get}
+use Rattle.std.specs.Prelude.{◌≡◌, ◌⊎◌, ℕ, ◌+◌, ◌≤◌, ◌<◌, ◌==◌, ◌&&◌, if◌then◌else◌, false}
+use Rattle.std.specs.Prelude.{Option, None, Some, IfSome, Result, Ok, Err, IfOk, IfErr, MatchResult, List, [], ◌∷◌, ◌++◌, length, slice_get}
 use Rattle.std.specs.List.{AllByRecursion, fold}
 use Rattle.std.specs.Int.{int_max}
 use Rattle.cas_types.specs.Limits.{IsMoment}
@@ -52,7 +52,8 @@ use Rattle.cas_tables.specs.declared.header.Version.TheVariants.{Second}
 use Rattle.cas_view.specs.Views.{File}
 use Rattle.cas_sessions.specs.declared.answer.Fault.{Fault}
 use Rattle.cas_sessions.specs.declared.answer.Fault.TheVariants.{Refused, Stopped, Disk as Failed, Read, BadBlock, Mem}
-use Rattle.cas_sessions.specs.Flushes.{AreInFiles, AscendTo, Flushed, Grows, SaySomething, WhyNoFurther, changes_by, numbers_added, numbers_in, reach_by, without_flushed}
+use Rattle.cas_sessions.specs.Flushes.{AreInFiles, AscendTo, Flushed, Grows, SaySomething, WhyNoFurther}
+use Rattle.cas_sessions.specs.Flushes.{changes_by, numbers_added, numbers_in, reach_by, without_flushed}
 use Rattle.cas_sessions.specs.History.{History, DiskState, shard_at}
 use Rattle.cas_sessions.specs.Entered.{IsLeftAmid}
 use Rattle.cas_sessions.specs.Listing.{SameUpTo}
