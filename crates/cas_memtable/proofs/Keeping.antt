@@ -65,6 +65,10 @@ own_under w ws key e = more_under key ws (w ∷ []) ∙ ap (λ l. atoms_under ke
 other_under : (w : Mutation) (ws : List Mutation) (key : List ℕ) → same_bytes w.key key ≡ false → atoms_under key (ws ++ w ∷ []) ≡ atoms_under key ws
 other_under w ws key e = more_under key ws (w ∷ []) ∙ ap (λ l. atoms_under key ws ++ l) (one_under key w ∙ at_other w key e) ∙ append-nil (atoms_under key ws)
 
+pub bytes_both : (bytes : ℕ) (ws vs : List Mutation) → bytes_of bytes (ws ++ vs) ≡ bytes_of (bytes_of bytes ws) vs
+bytes_both bytes [] vs = refl
+bytes_both bytes (w ∷ ws) vs = bytes_both (bytes_with bytes w) ws vs
+
 bytes_more : (bytes : ℕ) (ws : List Mutation) (w : Mutation) → bytes_of bytes (ws ++ w ∷ []) ≡ bytes_with (bytes_of bytes ws) w
 bytes_more bytes [] w = refl
 bytes_more bytes (v ∷ ws) w = bytes_more (bytes_with bytes v) ws w

@@ -46,10 +46,10 @@ fn least_frozen(frozen: &[Arc<MemPart, Global>], key: &Bytes) -> Option<i64>
 }
 
 impl Parts {
-    ghost use Rattle.std.specs.Prelude.{◌≡◌, ◌++◌, ◌∷◌, ◌≤◌, [], List as ListOf, None, IfOk, OnOk, is_ok, ◌&&◌, not, ◌==◌, if◌then◌else◌, length, drop};
+    ghost use Rattle.std.specs.Prelude.{◌≡◌, ◌++◌, ◌∷◌, ◌≤◌, [], List as ListOf, None, IfOk, OnOk, OnErr, is_ok, ◌&&◌, not, ◌==◌, if◌then◌else◌, length, drop};
     ghost use Rattle.cas_bounds.specs.declared.order.Ordered.{Ordered as Order};
     ghost use Rattle.cas_atoms.specs.declared.atom.Mutation.{Mutation as Wrote};
-    ghost use Rattle.cas_memtable.specs.Memtables.{HasPlaces, least_with};
+    ghost use Rattle.cas_memtable.specs.Memtables.{HasPlaces, bytes_with, least_with};
     ghost use Rattle.cas_partition.specs.Partitions.{AllFit, AreAtomsOf};
     ghost use Rattle.cas_types.specs.declared.schema.Column.{Column as ColumnOf};
     ghost use Rattle.cas_memtable.specs.Kept.{IsOfTable, Keeps, ShowPartition, all_of, atoms_under, begun, memtables_of, with_one};
@@ -58,6 +58,7 @@ impl Parts {
     pub fn new(alloc: Global) -> Self
         ensures keeps { (order : ListOf Order) → Keeps order result ([] ∷ []) }
         ensures columns { (columns : ListOf ColumnOf) → IsOfTable columns result }
+        ensures bytes { result.active.bytes ≡ 0 }
     {
         Parts {
             frozen: Vec::new(alloc),
@@ -71,6 +72,7 @@ impl Parts {
         ensures keeps { (order : ListOf Order) (wss : ListOf (ListOf Wrote)) → Keeps order self.old wss → AreAtomsOf order mutation.now.atoms
             → Keeps order self.new wss }
         ensures columns { (columns : ListOf ColumnOf) → IsOfTable columns self.old → AllFit columns mutation.now.atoms → IsOfTable columns self.new }
+        ensures bytes { self.new.active.bytes ≡ self.old.active.bytes }
     {
         self.active.reserve(mutation)
     }
@@ -81,6 +83,7 @@ impl Parts {
         ensures keeps { (order : ListOf Order) (wss : ListOf (ListOf Wrote)) → Keeps order self.old wss → AreAtomsOf order mutation.atoms
             → Keeps order self.new (with_one mutation wss) }
         ensures columns { (columns : ListOf ColumnOf) → IsOfTable columns self.old → AllFit columns mutation.atoms → IsOfTable columns self.new }
+        ensures bytes { self.new.active.bytes ≡ bytes_with self.old.active.bytes mutation }
     {
         self.active.apply(mutation);
     }
@@ -131,6 +134,7 @@ impl Parts {
             → Keeps order self.new (if is_ok result && not (self.old.active.bytes == 0) then begun wss else wss) }
         ensures columns { (columns : ListOf ColumnOf) → IsOfTable columns self.old → IsOfTable columns self.new }
         ensures begun { OnOk result (self.new.active.bytes ≡ 0) }
+        ensures stays { OnErr result (self.new.active.bytes ≡ self.old.active.bytes) }
     {
         if self.active.bytes() == 0 {
             return Ok(());

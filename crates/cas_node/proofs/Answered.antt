@@ -3,7 +3,6 @@ use Rattle.std.proofs.Common.{◌≡◌, inl, inr, ℕ, ℤ, List, Result, Some,
 use Rattle.std.specs.Prelude.{◌⊎◌}
 use Rattle.cas_types.specs.Limits.{IsMoment}
 use Rattle.cas_disk.specs.Disk.{Disk}
-use Rattle.cas_bind.specs.Meaning.{meaning}
 use Rattle.cas_effects.specs.declared.refusal.TheConstants.{NOT_HERE}
 use Rattle.cas_lines.specs.Lines.{Says}
 use Rattle.cas_lines.specs.declared.line.Line.{Line}
@@ -18,11 +17,13 @@ use Rattle.cql_parse.specs.declared.syntax.Statement.{Statement}
 use Rattle.cql_parse.specs.declared.syntax.TableName.{TableName}
 use Rattle.cas_sessions.specs.declared.answer.Fault.{Fault}
 use Rattle.cas_sessions.specs.Flushes.{Flushes}
-use Rattle.cas_sessions.specs.History.{History, Does, shard_at}
+use Rattle.cas_sessions.specs.History.{History, shard_at}
 use Rattle.cas_sessions.specs.Status.{status}
 use Rattle.cas_sessions.specs.Verifying.{Verifies}
-use Rattle.cas_node.specs.Inner.Serving.{Knows}
-use Rattle.cas_node.specs.Lines.{Answers, FlushesNone, SetsClock, reply_of_flush, reply_of_verify}
+use Rattle.cas_node.specs.declared.upshot.Upshot.{Upshot}
+use Rattle.cas_node.specs.Inner.Serving.{Knows, ListsIf, MovesIf, PerformsRoomily, PerformsSo}
+use Rattle.cas_node.specs.Lines.{Answers, FlushesNone, SetsClock, reply_of_flush, reply_of_verify, replied}
+use Rattle.cas_sessions.specs.Listing.{KeepsListing}
 use Rattle.cas_sessions.specs.Nodes.{State, StandsFor, GoesOnTo, Moves, OrWant}
 use Rattle.cas_sessions.proofs.Explaining.{explains_still, goes_nowhere, keep_files_none}
 use Rattle.cas_sessions.proofs.Answering.{moves_as}
@@ -31,42 +32,28 @@ use Rattle.cas_sessions.proofs.Answering.{moves_as}
 
 module _ (kind : ClockKind) (Gives : ℤ → Type 0) where
   pub answers_clock : (s t : State) (d e : Disk) (text : List ℕ) (l : Line) (n m : ℤ) (r : Reply)
-      → Moves (λ h after. SetsClock kind h m r after) s t d e → m ≡ n → Says text l → l ≡ line.Clock n → Moves (λ h after. Answers kind Gives h text (Some r) after) s t d e
+      → Moves (λ h after. SetsClock kind h m r after) s t d e → m ≡ n → Says text l → l ≡ line.Clock n → Moves (λ h after. Answers kind Gives h text (replied (Some r)) after) s t d e
   answers_clock s t d e text l n m r moves same says is h stands =
       let (after, so, goes) = moves h stands in
       (after, inr (line.Clock n, subst (λ l. Says text l) is says, (r, refl, subst (λ k. SetsClock kind h k r after) same so)), goes)
-
-  pub answers_statement : (s t : State) (d e : Disk) (text : List ℕ) (l : Line) (x : Statement) (r q : Reply) → r ≡ q → Says text l → l ≡ line.Statement x
-      → Moves (λ h after. OrWant q (λ h after. Does kind Gives h (meaning s.limits.shards s.tables x) q after) h after) s t d e
-      → Moves (λ h after. Answers kind Gives h text (Some r) after) s t d e
-  answers_statement s t d e text l x r q told says is moves =
-      moves_as s t d e (λ h after. OrWant r (λ h after. Does kind Gives h (meaning s.limits.shards s.tables x) r after) h after)
-      (λ h after. Answers kind Gives h text (Some r) after) (subst (λ p. Moves (λ h after. OrWant p (λ h after. Does kind Gives h (meaning s.limits.shards s.tables x) p after) h after) s t d e) (sym told) moves) answers
-    where
-      answers : (h after : History) → StandsFor h s → OrWant r (λ h after. Does kind Gives h (meaning s.limits.shards s.tables x) r after) h after
-          → Answers kind Gives h text (Some r) after
-      answers h after stands (inl want) = inl (ap (λ q. Some q) want.0, want.1)
-      answers h after stands (inr does) =
-          let of : Does kind Gives h (meaning h.limits.shards h.tables x) r after =
-          subst (λ l. Does kind Gives h (meaning l.shards h.tables x) r after) (sym stands.limits)
-          (subst (λ ts. Does kind Gives h (meaning s.limits.shards ts x) r after) (sym stands.tables) does) in
-          inr (line.Statement x, subst (λ l. Says text l) is says, (r, refl, of))
 
 -- what a flush answers, and becomes of the store
 abbrev pub Flushed : TableName → Reply → History → History → Type 0
 Flushed name r h after = (told : Result (List ℕ) Fault) × (r ≡ reply_of_flush told) × Flushes h name told after
 
 -- a line that flushes a table isn't one that doesn't
-pub says_flush : (text : List ℕ) (l : Line) (name : TableName) → Says text l → l ≡ line.Flush name → FlushesNone text → ⊥
-says_flush text l name says is none = none name (subst (λ l. Says text l) is says)
+pub says_flush : (kind : ClockKind) (Gives : ℤ → Type 0) (h : History) (text : List ℕ) (l : Line) (name : TableName) → Says text l → l ≡ line.Flush name
+    → FlushesNone kind Gives h text → ⊥
+says_flush kind Gives h text l name says is none = none.0 name (subst (λ l. Says text l) is says)
 
 module _ (kind : ClockKind) (Gives : ℤ → Type 0) where
   pub answers_flush : (s t : State) (d e : Disk) (text : List ℕ) (l : Line) (name : TableName) (r : Reply) → (Knows s d → Moves (λ h after. Flushed name r h after) s t d e)
-      → Says text l → l ≡ line.Flush name → Knows s d ⊎ FlushesNone text → Moves (λ h after. Answers kind Gives h text (Some r) after) s t d e
-  answers_flush s t d e text l name r moves says is (inl known) =
-      moves_as s t d e (Flushed name r) (λ h after. Answers kind Gives h text (Some r) after) (moves known)
-      (λ h after stands so. inr (line.Flush name, subst (λ l. Says text l) is says, (so.0, ap (λ q. Some q) so.1, so.2)))
-  answers_flush s t d e text l name r moves says is (inr none) = absurd (says_flush text l name says is none)
+      → Says text l → l ≡ line.Flush name
+      → MovesIf (λ h. Knows s d ⊎ FlushesNone kind Gives h text) (λ h after. Answers kind Gives h text (replied (Some r)) after) s t d e
+  answers_flush s t d e text l name r moves says is h stands (inl known) =
+      let (after, so, goes) = moves known h stands in
+      (after, inr (line.Flush name, subst (λ l. Says text l) is says, (so.0, ap (λ q. replied (Some q)) so.1, so.2)), goes)
+  answers_flush s t d e text l name r moves says is h stands (inr none) = absurd (says_flush kind Gives h text l name says is none)
 
 -- what a check answers, and becomes of the store
 abbrev pub Verified : TableName → Reply → History → History → Type 0
@@ -74,10 +61,10 @@ Verified name r h after = (told : Result (List Verdict) Fault) × (r ≡ reply_o
 
 module _ (kind : ClockKind) (Gives : ℤ → Type 0) where
   pub answers_verify : (s t : State) (d e : Disk) (text : List ℕ) (l : Line) (name : TableName) (r : Reply) → Moves (λ h after. Verified name r h after) s t d e
-      → Says text l → l ≡ line.Verify name → Moves (λ h after. Answers kind Gives h text (Some r) after) s t d e
+      → Says text l → l ≡ line.Verify name → Moves (λ h after. Answers kind Gives h text (replied (Some r)) after) s t d e
   answers_verify s t d e text l name r moves says is =
-      moves_as s t d e (Verified name r) (λ h after. Answers kind Gives h text (Some r) after) moves
-      (λ h after stands so. inr (line.Verify name, subst (λ l. Says text l) is says, (so.0, ap (λ q. Some q) so.1, so.2)))
+      moves_as s t d e (Verified name r) (λ h after. Answers kind Gives h text (replied (Some r)) after) moves
+      (λ h after stands so. inr (line.Verify name, subst (λ l. Says text l) is says, (so.0, ap (λ q. replied (Some q)) so.1, so.2)))
 
 -- what `\status` answers; it changes nothing
 abbrev pub Listed : Reply → History → History → Type 0
@@ -85,13 +72,54 @@ Listed r h after = (r ≡ reply.Status (status h)) × (after ≡ h)
 
 module _ (kind : ClockKind) (Gives : ℤ → Type 0) where
   pub answers_status : (s : State) (d : Disk) (text : List ℕ) (l : Line) (r : Reply) → ((h : History) → StandsFor h s → OrWant r (Listed r) h h)
-      → Says text l → l ≡ line.Status → Moves (λ h after. Answers kind Gives h text (Some r) after) s s d d
+      → Says text l → l ≡ line.Status → Moves (λ h after. Answers kind Gives h text (replied (Some r)) after) s s d d
   answers_status s d text l r lists says is h stands =
       (h, answers (lists h stands), record { stands = stands; lasts = λ found told lasts. (told, lasts, λ openings explained. explained) })
     where
-      answers : OrWant r (Listed r) h h → Answers kind Gives h text (Some r) h
-      answers (inl want) = inl (ap (λ q. Some q) want.0, refl)
-      answers (inr listed) = inr (line.Status, subst (λ l. Says text l) is says, (ap (λ q. Some q) listed.0, refl))
+      answers : OrWant r (Listed r) h h → Answers kind Gives h text (replied (Some r)) h
+      answers (inl want) = inl (ap (λ q. replied (Some q)) want.0, refl)
+      answers (inr listed) = inr (line.Status, subst (λ l. Says text l) is says, (ap (λ q. replied (Some q)) listed.0, refl))
+
+-- ---- a statement
+
+-- a line that says it is answered as it is carried out
+pub answers_statement : (kind : ClockKind) (Gives : ℤ → Type 0) (h after : History) (text : List ℕ) (l : Line) (x : Statement) (o : Upshot) → Says text l → l ≡ line.Statement x
+    → PerformsSo kind Gives x o h after → Answers kind Gives h text o after
+answers_statement kind Gives h after text l x o says is (inl want) = inl want
+answers_statement kind Gives h after text l x o says is (inr so) = inr (line.Statement x, subst (λ l. Says text l) is says, so)
+
+module _ (kind : ClockKind) (Gives : ℤ → Type 0) (s : State) (d e : Disk) (text : List ℕ) (l : Line) (x : Statement) (says : Says text l) (is : l ≡ line.Statement x) where
+  roomily : (h : History) → FlushesNone kind Gives h text → PerformsRoomily kind Gives x h
+  roomily h none = none.1 x (subst (λ l. Says text l) is says)
+
+  known_so : (h : History) → Knows s d ⊎ FlushesNone kind Gives h text → Knows s d ⊎ PerformsRoomily kind Gives x h
+  known_so h (inl known) = inl known
+  known_so h (inr none) = inr (roomily h none)
+
+  pub answers_performed : (t : State) (o : Upshot) → MovesIf (λ h. Knows s d ⊎ PerformsRoomily kind Gives x h) (λ h after. PerformsSo kind Gives x o h after) s t d e
+      → MovesIf (λ h. Knows s d ⊎ FlushesNone kind Gives h text) (λ h after. Answers kind Gives h text o after) s t d e
+  answers_performed t o moves h stands known =
+      let (after, so, goes) = moves h stands (known_so h known) in
+      (after, answers_statement kind Gives h after text l x o says is so, goes)
+
+  pub lists_performed : ListsIf (PerformsRoomily kind Gives x) s d e → ListsIf (λ h. FlushesNone kind Gives h text) s d e
+  lists_performed lists h found told stands lasts none = lists h found told stands lasts (roomily h none)
+
+-- ---- what comes of a line is called otherwise
+
+pub as_replied : (kind : ClockKind) (Gives : ℤ → Type 0) (If : History → Type 0) (s t : State) (d e : Disk) (text : List ℕ) (o p : Upshot) → o ≡ p
+    → MovesIf If (λ h after. Answers kind Gives h text p after) s t d e → MovesIf If (λ h after. Answers kind Gives h text o after) s t d e
+as_replied kind Gives If s t d e text o p is moves h stands so =
+    let (after, answers, goes) = moves h stands so in
+    (after, subst (λ q. Answers kind Gives h text q after) (sym is) answers, goes)
+
+-- ---- whatever is known
+
+pub in_any_case : (If : History → Type 0) (P : History → History → Type 0) (s t : State) (d e : Disk) → Moves P s t d e → MovesIf If P s t d e
+in_any_case If P s t d e moves h stands so = moves h stands
+
+pub lists_in_any_case : (If : History → Type 0) (s : State) (d e : Disk) → KeepsListing s d e → ListsIf If s d e
+lists_in_any_case If s d e lists h found told stands lasts so = lists h found told stands lasts
 
 -- ---- the clock
 
@@ -111,6 +139,7 @@ with_clock h s n d stands = record {
     shards = stands.shards;
     entered = stands.entered;
     memory = stands.memory;
+    filled = stands.filled;
   };
   lasts = λ found told lasts. (
     told,

@@ -37,8 +37,9 @@ use Rattle.cas_sessions.specs.History.{History, DiskState, Takes, Defines, Shows
 use Rattle.cas_sessions.specs.Verifying.{VerifiesNamed, table_files}
 use Rattle.cas_node.specs.declared.cause.Cause.{Cause}
 use Rattle.cas_node.specs.declared.cause.Cause.TheVariants as cause
-use Rattle.cas_node.specs.Lines.{Answered, Answers, Runs, SetsClock, reply_of_flush, reply_of_verify}
-use Rattle.cas_node.specs.Ran.{Ended, IfBad, IsBadForOne, RanFrom, Stop, at_the_end, at_the_sink, for_memory, has_risen, reply_cause, with_faults, worse, worst}
+use Rattle.cas_node.specs.declared.upshot.Upshot.{Upshot}
+use Rattle.cas_node.specs.Lines.{Answered, Answers, Runs, SetsClock, reply_of_flush, reply_of_verify, replied}
+use Rattle.cas_node.specs.Ran.{Ended, IfBad, IsBadForOne, RanFrom, Stop, at_the_end, at_the_sink, for_memory, has_risen, reply_cause, upshot_cause, with_faults, worse, worst}
 use Rattle.cas_node.proofs.Stopping.{AreMore, one_line}
 use Rattle.cas_node.proofs.Verified.{found_bad, in_some_shard}
 
@@ -89,7 +90,7 @@ flushed P h t (Err (fault.Stopped first)) after a = tt
 flushed P h t (Err (fault.Refused why)) after a = tt
 flushed P h t (Err (fault.Disk number)) after a = tt
 flushed P h t (Err fault.Read) after a = tt
-flushed P h t (Err (fault.BadBlock number at)) after a = absurd a.4.1
+flushed P h t (Err (fault.BadBlock number at)) after a = absurd a.5.1
 flushed P h t (Err fault.Mem) after a = tt
 
 named : (P : Name → ℕ → Type 0) (h : History) (o : Option TableSchema) (r : Result (List ℕ) Fault) (after : History) → FlushesNamed h o r after
@@ -168,6 +169,13 @@ with_more fs gs more (cause.Bad (file.Import number) at) so = so
 quiet : (files : ℕ → ℕ → List (File Held)) (r q : Option Reply) → r ≡ q → IsSo files (reply_cause q) → IsSo files (reply_cause r)
 quiet files r q is so = subst (λ (x : Option Reply). IsSo files (reply_cause x)) (sym is) so
 
+-- and so what comes of a line
+of_upshot : (files : ℕ → ℕ → List (File Held)) (o : Upshot) → IsSo files (reply_cause o.reply) → IsSo files (upshot_cause o)
+of_upshot files o so = of_both (IsSo files) o.want (reply_cause o.reply) (worse (reply_cause o.reply) cause.Mem) so (of_both (IsSo files) _ (reply_cause o.reply) cause.Mem so tt)
+
+its_reply : (o : Upshot) (r : Option Reply) → o ≡ replied r → o.reply ≡ r
+its_reply o r is = ap (λ (p : Upshot). p.reply) is
+
 module _ (kind : ClockKind) (Gives : ℤ → Type 0) where
   deed : (h : History) (m : Result Bound Refusal) (r : Reply) (t : History) → Does kind Gives h m r t → IsSo h.disk.files (reply_cause (Some r))
   deed h (Err x) r t a = quiet h.disk.files (Some r) _ (ap (λ (k : Reply). Some k) a.0) tt
@@ -180,42 +188,42 @@ module _ (kind : ClockKind) (Gives : ℤ → Type 0) where
   clock_set clock.Manual h n r t s = quiet h.disk.files (Some r) _ (ap (λ (k : Reply). Some k) s.0) tt
   clock_set clock.System h n r t s = quiet h.disk.files (Some r) _ (ap (λ (k : Reply). Some k) s.0) tt
 
-  answered : (h : History) (l : Line) (r : Option Reply) (t : History) → Answered kind Gives h l r t → IsSo h.disk.files (reply_cause r)
-  answered h line.Blank r t a = quiet h.disk.files r _ a.0 tt
-  answered h line.Syntax r t a = quiet h.disk.files r _ a.0 tt
-  answered h (line.Clock n) r t a = quiet h.disk.files r _ a.1 (clock_set kind h n a.0 t a.2)
-  answered h (line.Flush name) r t a = quiet h.disk.files r _ a.1 (named (IsBadForOne h.disk.files) h (table_named h.tables name) a.0 t a.2)
-  answered h (line.Verify name) r t a = quiet h.disk.files r _ a.1 (verified h (table_named h.tables name) a.0 t a.2)
-  answered h line.Status r t a = quiet h.disk.files r _ a.0 tt
-  answered h (line.Statement s) r t a = quiet h.disk.files r _ a.1 (deed h (meaning h.limits.shards h.tables s) a.0 t a.2)
+  answered : (h : History) (l : Line) (o : Upshot) (t : History) → Answered kind Gives h l o t → IsSo h.disk.files (reply_cause o.reply)
+  answered h line.Blank o t a = quiet h.disk.files o.reply _ (its_reply o _ a.0) tt
+  answered h line.Syntax o t a = quiet h.disk.files o.reply _ (its_reply o _ a.0) tt
+  answered h (line.Clock n) o t a = quiet h.disk.files o.reply _ (its_reply o _ a.1) (clock_set kind h n a.0 t a.2)
+  answered h (line.Flush name) o t a = quiet h.disk.files o.reply _ (its_reply o _ a.1) (named (IsBadForOne h.disk.files) h (table_named h.tables name) a.0 t a.2)
+  answered h (line.Verify name) o t a = quiet h.disk.files o.reply _ (its_reply o _ a.1) (verified h (table_named h.tables name) a.0 t a.2)
+  answered h line.Status o t a = quiet h.disk.files o.reply _ (its_reply o _ a.0) tt
+  answered h (line.Statement s) o t a = quiet h.disk.files o.reply _ a.2 (deed h (meaning h.limits.shards h.tables s) a.0 a.1 a.3)
 
-  told : (h : History) (text : List ℕ) (r : Option Reply) (t : History) → Answers kind Gives h text r t → IsSo h.disk.files (reply_cause r)
-  told h text r t (inl x) = quiet h.disk.files r _ x.0 tt
-  told h text r t (inr x) = answered h x.0 r t x.2
+  told : (h : History) (text : List ℕ) (o : Upshot) (t : History) → Answers kind Gives h text o t → IsSo h.disk.files (upshot_cause o)
+  told h text o t (inl x) = of_upshot h.disk.files o (quiet h.disk.files o.reply _ (its_reply o _ x.0) tt)
+  told h text o t (inr x) = of_upshot h.disk.files o (answered h x.0 o t x.2)
 
   -- ---- a run
 
-  all_told : (h : History) (ls : List (List ℕ)) (rs : List (Option Reply)) (t : History) (why : Cause) → Runs kind Gives h ls rs t → IsSo h.disk.files why
-      → IsSo t.disk.files (fold (λ c r. worse c (reply_cause r)) why rs)
+  all_told : (h : History) (ls : List (List ℕ)) (os : List Upshot) (t : History) (why : Cause) → Runs kind Gives h ls os t → IsSo h.disk.files why
+      → IsSo t.disk.files (fold (λ c o. worse c (upshot_cause o)) why os)
   all_told h [] [] t why x so = subst (λ (k : History). IsSo k.disk.files why) (sym x) so
-  all_told h [] (r ∷ rs) t why x so = absurd x
+  all_told h [] (o ∷ os) t why x so = absurd x
   all_told h (l ∷ ls) [] t why x so = absurd x
-  all_told h (l ∷ ls) (r ∷ rs) t why x so =
-      all_told x.0 ls rs t (worse why (reply_cause r)) x.2
-      (with_more h.disk.files x.0.disk.files (one_line kind Gives h l r x.0 x.1).files (worse why (reply_cause r))
-      (of_both (IsSo h.disk.files) _ why (reply_cause r) so (told h l r x.0 x.1)))
+  all_told h (l ∷ ls) (o ∷ os) t why x so =
+      all_told x.0 ls os t (worse why (upshot_cause o)) x.2
+      (with_more h.disk.files x.0.disk.files (one_line kind Gives h l o x.0 x.1).files (worse why (upshot_cause o))
+      (of_both (IsSo h.disk.files) _ why (upshot_cause o) so (told h l o x.0 x.1)))
 
-  ended : (files : ℕ → ℕ → List (File Held)) (s : Stop) (rest : List (List ℕ)) (old new : Option (List ℕ)) (replies : List (Option Reply)) (why : Cause)
-      → Ended s rest old new replies why → IsSo files (worst replies) → IsSo files why
-  ended files at_the_end rest old new replies why e so = subst (IsSo files) (sym e.told) so
-  ended files at_the_sink rest old new replies why e so = subst (IsSo files) (sym e.told) (of_both (IsSo files) _ (worst replies) cause.Write so tt)
-  ended files for_memory rest old new replies why e so = subst (IsSo files) (sym e.told) tt
+  ended : (files : ℕ → ℕ → List (File Held)) (s : Stop) (rest : List (List ℕ)) (old new : Option (List ℕ)) (upshots : List Upshot) (why : Cause)
+      → Ended s rest old new upshots why → IsSo files (worst upshots) → IsSo files why
+  ended files at_the_end rest old new upshots why e so = subst (IsSo files) (sym e.told) so
+  ended files at_the_sink rest old new upshots why e so = subst (IsSo files) (sym e.told) (of_both (IsSo files) _ (worst upshots) cause.Write so tt)
+  ended files for_memory rest old new upshots why e so = subst (IsSo files) (sym e.told) tt
 
   -- where the run ends for a file, that is bad, of those that there were at its end
   pub blamed : (first : History) (script : List ℕ) (old new : Option (List ℕ)) (final : History) (by why : Cause) (before now reads : ℕ)
       → RanFrom first kind Gives script old new final by → why ≡ with_faults before now reads by → IfBad why (IsBadForOne final.disk.files)
   blamed first script old new final by why before now reads ran is =
       let files = final.disk.files in
-      let at_end : IsSo files by = ended files ran.stop ran.rest old new ran.replies by ran.ended (all_told first ran.run ran.replies final cause.Good ran.steps tt) in
+      let at_end : IsSo files by = ended files ran.stop ran.rest old new ran.upshots by ran.ended (all_told first ran.run ran.upshots final cause.Good ran.steps tt) in
       subst (IsSo files) (sym is)
       (of_both (IsSo files) (has_risen before now || has_risen 0 reads) by (worse by cause.Disk) at_end (of_both (IsSo files) _ by cause.Disk at_end tt))

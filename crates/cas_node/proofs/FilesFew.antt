@@ -28,10 +28,13 @@ use Rattle.cas_words.specs.declared.words.ClockKind.{ClockKind}
 use Rattle.cas_words.specs.declared.words.ClockKind.TheVariants as clock
 use Rattle.cas_sessions.specs.declared.answer.Fault.{Fault}
 use Rattle.cas_sessions.specs.declared.answer.Fault.TheVariants as fault
-use Rattle.cas_sessions.specs.Flushes.{EndsSo, Flushed, FlushesNamed, FlushesTable, Grows, change_of, changes_by, numbers_added, without_flushed}
+use Rattle.cas_sessions.specs.Flushes.{EndsSo, Flushed, FlushesNamed, FlushesTable, Grows, change_of, changes_by, numbers_added, without_begun, without_flushed}
+use Rattle.cas_sessions.specs.Filling.{EndsIn, FlushesIn}
 use Rattle.cas_sessions.specs.History.{History, DiskState, Takes, Defines, Does, after_entries, shard_at}
 use Rattle.cas_sessions.specs.Verifying.{VerifiesNamed}
+use Rattle.cas_node.specs.declared.upshot.Upshot.{Upshot}
 use Rattle.cas_node.specs.Lines.{Answered, Answers, Runs, SetsClock}
+use Rattle.cas_node.proofs.Settling.{behind}
 use Rattle.cas_node.specs.Laws.{FilesAreFew}
 
 -- ---- a step
@@ -49,11 +52,32 @@ unchanged h t same = subst (Few h) (sym same) (record { shards = refl; last = om
 abbrev SameCounts : DiskState → DiskState → Type 0
 SameCounts d e = (e.last_file ≡ d.last_file) × (e.live ≡ d.live)
 
+-- as many shards as before, and no file more
+record NoMore (h t : History) : Type 0 where
+  shards : length t.shards ≡ length h.shards
+  last : t.disk.last_file ≡ h.disk.last_file
+  live : t.disk.live ≡ h.disk.live
+
+same_still : (h t : History) (e : DiskState) → t.disk ≡ e → SameCounts h.disk e → length t.shards ≡ length h.shards → NoMore h t
+same_still h t e disk same shards = record {
+  shards = shards;
+  last = ap (λ (d : DiskState). d.last_file) disk ∙ same.0;
+  live = ap (λ (d : DiskState). d.live) disk ∙ same.1;
+}
+
+few_of : (h t : History) → NoMore h t → Few h t
+few_of h t none = record { shards = none.shards; last = omega (arith, none.last); live = omega (arith, none.live) }
+
 same_counts : (h t : History) (e : DiskState) → t.disk ≡ e → SameCounts h.disk e → length t.shards ≡ length h.shards → Few h t
-same_counts h t e disk same shards =
-    let last : t.disk.last_file ≡ e.last_file = ap (λ (d : DiskState). d.last_file) disk in
-    let live : t.disk.live ≡ e.live = ap (λ (d : DiskState). d.live) disk in
-    record { shards = shards; last = omega (arith, last, same.0); live = omega (arith, live, same.1) }
+same_counts h t e disk same shards = few_of h t (same_still h t e disk same shards)
+
+-- and then some
+few_then : (h k t : History) → NoMore h k → Few k t → Few h t
+few_then h k t none few = record {
+  shards = few.shards ∙ none.shards;
+  last = omega (arith, few.last, none.last, none.shards);
+  live = omega (arith, few.live, none.live, none.shards);
+}
 
 taken : (segment : ℕ) (m : Mutation) (x : Entry) (d : DiskState) (r : Reply) (entries : List Entry) (e : DiskState) → Takes segment m x d r entries e → SameCounts d e
 taken segment m x d reply.Done entries e t = absurd t
@@ -101,14 +125,19 @@ one_added table shard s c before after g =
     omega (arith, one)
 
 module _ (h : History) (t : TableSchema) (changes : List (Option Change)) (e : DiskState) (so : Flushed h t changes e) where
-  its_shards : (r : Result (List ℕ) Fault) → EndsSo h t changes r e → length changes ≤ length h.shards
-  its_shards (Ok told) ends = omega (arith, ends.0)
-  its_shards (Err f) ends = omega (arith, ends.0)
+  its_shards : (begun : ℕ) (r : Result (List ℕ) Fault) → EndsSo h t changes begun r e → length changes ≤ length h.shards
+  its_shards begun (Ok told) ends = omega (arith, ends.0)
+  its_shards begun (Err f) ends = omega (arith, ends.0)
 
-  few_flushed : (r : Result (List ℕ) Fault) (after : History) → EndsSo h t changes r e
-      → after ≡ record h { unflushed = without_flushed t.number changes h.unflushed; changes = fold changes_by h.changes changes; disk = e } → Few h after
-  few_flushed r after ends is =
-      let many : length changes ≤ length h.shards = its_shards r ends in
+  few_flushed : (begun : ℕ) (r : Result (List ℕ) Fault) (after : History) → EndsSo h t changes begun r e
+      → after ≡ record h {
+        unflushed = without_flushed t.number changes h.unflushed;
+        filled = without_begun t.number begun h.filled;
+        changes = fold changes_by h.changes changes;
+        disk = e;
+      } → Few h after
+  few_flushed begun r after ends is =
+      let many : length changes ≤ length h.shards = its_shards begun r ends in
       let added : length (numbers_added changes) ≤ length changes =
       few_added changes (λ n c at.
       one_added t.number n (shard_at h n) c (h.disk.files n t.number) (e.files n t.number)
@@ -117,17 +146,30 @@ module _ (h : History) (t : TableSchema) (changes : List (Option Change)) (e : D
       (record { shards = refl; last = omega (arith, so.last_file.1, many); live = omega (arith, so.live, added, many) })
 
 few_table : (h : History) (t : TableSchema) (r : Result (List ℕ) Fault) (after : History) → FlushesTable h t r after → Few h after
-few_table h t (Ok told) after a = few_flushed h t a.0 a.1 a.3 (Ok told) after a.4 a.5
+few_table h t (Ok told) after a = few_flushed h t a.0 a.2 a.4 a.1 (Ok told) after a.5 a.6
 few_table h t (Err (fault.Stopped first)) after a = unchanged h after a.1
-few_table h t (Err (fault.Refused why)) after a = few_flushed h t a.0 a.1 a.3 (Err (fault.Refused why)) after a.4 a.5
-few_table h t (Err (fault.Disk number)) after a = few_flushed h t a.0 a.1 a.3 (Err (fault.Disk number)) after a.4 a.5
-few_table h t (Err fault.Read) after a = few_flushed h t a.0 a.1 a.3 (Err fault.Read) after a.4 a.5
-few_table h t (Err (fault.BadBlock number at)) after a = few_flushed h t a.0 a.1 a.3 (Err (fault.BadBlock number at)) after a.4 a.5
-few_table h t (Err fault.Mem) after a = few_flushed h t a.0 a.1 a.3 (Err fault.Mem) after a.4 a.5
+few_table h t (Err (fault.Refused why)) after a = few_flushed h t a.0 a.2 a.4 a.1 (Err (fault.Refused why)) after a.5 a.6
+few_table h t (Err (fault.Disk number)) after a = few_flushed h t a.0 a.2 a.4 a.1 (Err (fault.Disk number)) after a.5 a.6
+few_table h t (Err fault.Read) after a = few_flushed h t a.0 a.2 a.4 a.1 (Err fault.Read) after a.5 a.6
+few_table h t (Err (fault.BadBlock number at)) after a = few_flushed h t a.0 a.2 a.4 a.1 (Err (fault.BadBlock number at)) after a.5 a.6
+few_table h t (Err fault.Mem) after a = few_flushed h t a.0 a.2 a.4 a.1 (Err fault.Mem) after a.5 a.6
 
 few_named : (h : History) (o : Option TableSchema) (r : Result (List ℕ) Fault) (after : History) → FlushesNamed h o r after → Few h after
 few_named h None r after a = unchanged h after a.1
 few_named h (Some t) r after a = few_table h t r after a
+
+-- of one shard
+one_live : (t : TableSchema) (n : ℕ) (q : ShardHistory) (c : Option Change) (r : Result (Option ℕ) Fault) (d e : DiskState) → EndsIn t n q c r d e → e.live ≤ d.live + 1
+one_live t n q None (Ok told) d e one = omega (arith, one.live)
+one_live t n q (Some c) (Ok told) d e one =
+    let added = one_added t.number n q c (d.files n t.number) (e.files n t.number) one.files in
+    omega (arith, one.live, added)
+one_live t n q c (Err f) d e none = omega (arith, none.live)
+
+few_one : (h after : History) (t : TableSchema) (n : ℕ) (r : Result (Option ℕ) Fault) → FlushesIn h t n r after → Few h after
+few_one h after t n r a =
+    let live = one_live t n (shard_at h n) a.change r h.disk a.disk a.ends in
+    subst (Few h) (sym a.follows) (record { shards = refl; last = omega (arith, a.last_file); live = omega (arith, live) })
 
 -- ---- a check
 
@@ -139,20 +181,20 @@ checked h (Some t) r after a =
 -- ---- a line
 
 module _ (kind : ClockKind) (Gives : ℤ → Type 0) where
-  deed : (h : History) (m : Result Bound Refusal) (r : Reply) (t : History) → Does kind Gives h m r t → Few h t
-  deed h (Err x) r t a = unchanged h t a.1
+  deed : (h : History) (m : Result Bound Refusal) (r : Reply) (t : History) → Does kind Gives h m r t → NoMore h t
+  deed h (Err x) r t a = record { shards = ap (λ (k : History). length k.shards) a.1; last = ap (λ (k : History). k.disk.last_file) a.1; live = ap (λ (k : History). k.disk.live) a.1 }
   deed h (Ok (bound.Create x)) r t a =
-      same_counts h t a.1 (ap (λ (k : History). k.disk) a.3) (defined _ _ _ _ r a.0 a.1 a.2) (ap (λ (k : History). length k.shards) a.3)
+      same_still h t a.1 (ap (λ (k : History). k.disk) a.3) (defined _ _ _ _ r a.0 a.1 a.2) (ap (λ (k : History). length k.shards) a.3)
   deed h (Ok (bound.Alter x)) r t a =
-      same_counts h t a.1 (ap (λ (k : History). k.disk) a.3) (defined _ _ _ _ r a.0 a.1 a.2) (ap (λ (k : History). length k.shards) a.3)
+      same_still h t a.1 (ap (λ (k : History). k.disk) a.3) (defined _ _ _ _ r a.0 a.1 a.2) (ap (λ (k : History). length k.shards) a.3)
   deed h (Ok (bound.Write w)) r t a =
-      same_counts h t a.2.1 (ap (λ (k : History). k.disk) a.2.3) (taken _ _ _ _ r a.2.0 a.2.1 a.2.2)
+      same_still h t a.2.1 (ap (λ (k : History). k.disk) a.2.3) (taken _ _ _ _ r a.2.0 a.2.1 a.2.2)
       (ap (λ (k : History). length k.shards) a.2.3 ∙ length_set h.shards w.shard (after_entries a.0 a.2.0 (shard_at h w.shard)))
   deed h (Ok (bound.Read q)) r t a =
-      same_counts h t (record h.disk { reads = a.2.0 }) (ap (λ (k : History). k.disk) a.2.3) (refl, refl)
+      same_still h t (record h.disk { reads = a.2.0 }) (ap (λ (k : History). k.disk) a.2.3) (refl, refl)
       (ap (λ (k : History). length k.shards) a.2.3 ∙ length_set h.shards q.shard (after_entries a.0 [] (shard_at h q.shard)))
 
-  answered : (h : History) (l : Line) (r : Option Reply) (t : History) → Answered kind Gives h l r t → Few h t
+  answered : (h : History) (l : Line) (r : Upshot) (t : History) → Answered kind Gives h l r t → Few h t
   answered h line.Blank r t a = unchanged h t a.1
   answered h line.Syntax r t a = unchanged h t a.1
   answered h (line.Clock n) r t a = clock_set kind h n a.0 t a.2
@@ -164,9 +206,11 @@ module _ (kind : ClockKind) (Gives : ℤ → Type 0) where
   answered h (line.Flush name) r t a = few_named h (table_named h.tables name) a.0 t a.2
   answered h (line.Verify name) r t a = checked h (table_named h.tables name) a.0 t a.2
   answered h line.Status r t a = unchanged h t a.1
-  answered h (line.Statement s) r t a = deed h (meaning h.limits.shards h.tables s) a.0 t a.2
+  answered h (line.Statement s) r t a =
+      let b = meaning h.limits.shards h.tables s in
+      few_then h a.1 t (deed h b a.0 a.1 a.3) (behind Few unchanged few_one b a.0 r.want a.1 t a.4)
 
-  one_line : (h : History) (text : List ℕ) (r : Option Reply) (t : History) → Answers kind Gives h text r t → Few h t
+  one_line : (h : History) (text : List ℕ) (r : Upshot) (t : History) → Answers kind Gives h text r t → Few h t
   one_line h text r t (inl x) = unchanged h t x.1
   one_line h text r t (inr x) = answered h x.0 r t x.2
 
@@ -181,7 +225,7 @@ module _ (kind : ClockKind) (Gives : ℤ → Type 0) where
       let same : n * (length k.shards + 1) ≡ n * (length h.shards + 1) = ap (λ (m : ℕ). n * (m + 1)) one.shards in
       record { last = omega (arith, one.last, rest.last, more, same); live = omega (arith, one.live, rest.live, more, same) }
 
-  all_lines : (h : History) (ls : List (List ℕ)) (rs : List (Option Reply)) (t : History) → Runs kind Gives h ls rs t → FewOf (length ls) h t
+  all_lines : (h : History) (ls : List (List ℕ)) (rs : List Upshot) (t : History) → Runs kind Gives h ls rs t → FewOf (length ls) h t
   all_lines h [] [] t x =
       let last : t.disk.last_file ≡ h.disk.last_file = ap (λ (k : History). k.disk.last_file) x in
       let live : t.disk.live ≡ h.disk.live = ap (λ (k : History). k.disk.live) x in

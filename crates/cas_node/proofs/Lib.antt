@@ -1,4 +1,5 @@
 mod Answered
+mod Settling
 mod Stopping
 mod Verified
 mod FilesFew
@@ -8,3 +9,4 @@ mod RunLemmas
 mod NumbersRise
 mod OneOutcome
 pub mod SessionLemmas
+mod Carrying

@@ -32,10 +32,13 @@ use Rattle.cas_types.specs.declared.schema.TableSchema.{TableSchema}
 use Rattle.cas_sessions.specs.declared.answer.Fault.{Fault}
 use Rattle.cas_sessions.specs.declared.answer.Fault.TheVariants as fault
 use Rattle.cas_changes.specs.declared.entry.Change.{Change}
-use Rattle.cas_sessions.specs.Flushes.{FlushesNamed, FlushesTable, changes_by, without_flushed}
+use Rattle.cas_sessions.specs.Filling.{FlushesIn, filled_with, rest_with}
+use Rattle.cas_sessions.specs.Flushes.{FlushesNamed, FlushesTable, changes_by, without_begun, without_flushed}
 use Rattle.cas_sessions.specs.History.{History, DiskState, Does, Takes, shard_at, after_entries, with_shard}
 use Rattle.cas_sessions.specs.Verifying.{VerifiesNamed}
+use Rattle.cas_node.specs.declared.upshot.Upshot.{Upshot}
 use Rattle.cas_node.specs.Lines.{SetsClock, Answered, Answers}
+use Rattle.cas_node.proofs.Settling.{behind}
 use Rattle.cas_recovery.specs.Found.{AreOfAStore}
 use Rattle.cas_recovery.specs.Openings.{AreOpenings}
 use Rattle.cas_recovery.proofs.Explained.{as_opening}
@@ -116,18 +119,30 @@ does_keeps kind Gives h (Ok (bound.Read q)) r t a all =
     (shard_keeps h q.shard (after_entries reading [] (shard_at h q.shard)) all (raised_rise (shard_at h q.shard) (moment_at reading (shard_at h q.shard)) (all q.shard)))
 
 -- a flush enters nothing
-begun_keeps : (h t : History) (left : ℕ → ℕ → List Mutation) (changes : List Change) (e : DiskState) → t ≡ record h { unflushed = left; changes = changes; disk = e } → AllRise h
-    → AllRise t
-begun_keeps h t left changes e same all = subst AllRise (sym same) all
+abbrev Flushed : History → History → (ℕ → ℕ → List Mutation) → (ℕ → ℕ → ℕ) → List Change → DiskState → Type 0
+Flushed h t left full changes e = t ≡ record h { unflushed = left; filled = full; changes = changes; disk = e }
+
+begun_keeps : (h t : History) (left : ℕ → ℕ → List Mutation) (full : ℕ → ℕ → ℕ) (changes : List Change) (e : DiskState) → Flushed h t left full changes e → AllRise h → AllRise t
+begun_keeps h t left full changes e same all = subst AllRise (sym same) all
+
+table_keeps : (h : History) (x : TableSchema) (t : History) (changes : List (Option Change)) (begun : ℕ) (e : DiskState)
+    → Flushed h t (without_flushed x.number changes h.unflushed) (without_begun x.number begun h.filled) (fold changes_by h.changes changes) e → AllRise h → AllRise t
+table_keeps h x t changes begun e is all =
+    begun_keeps h t (without_flushed x.number changes h.unflushed) (without_begun x.number begun h.filled) (fold changes_by h.changes changes) e is all
 
 flush_keeps : (h : History) (x : TableSchema) (r : Result (List ℕ) Fault) (t : History) → FlushesTable h x r t → AllRise h → AllRise t
-flush_keeps h x (Ok told) t a all = begun_keeps h t (without_flushed x.number a.0 h.unflushed) (fold changes_by h.changes a.0) a.1 a.5 all
+flush_keeps h x (Ok told) t a all = table_keeps h x t a.0 a.1 a.2 a.6 all
 flush_keeps h x (Err (fault.Stopped first)) t a all = subst AllRise (sym a.1) all
-flush_keeps h x (Err (fault.Refused why)) t a all = begun_keeps h t (without_flushed x.number a.0 h.unflushed) (fold changes_by h.changes a.0) a.1 a.5 all
-flush_keeps h x (Err (fault.Disk number)) t a all = begun_keeps h t (without_flushed x.number a.0 h.unflushed) (fold changes_by h.changes a.0) a.1 a.5 all
-flush_keeps h x (Err fault.Read) t a all = begun_keeps h t (without_flushed x.number a.0 h.unflushed) (fold changes_by h.changes a.0) a.1 a.5 all
-flush_keeps h x (Err (fault.BadBlock number at)) t a all = begun_keeps h t (without_flushed x.number a.0 h.unflushed) (fold changes_by h.changes a.0) a.1 a.5 all
-flush_keeps h x (Err fault.Mem) t a all = begun_keeps h t (without_flushed x.number a.0 h.unflushed) (fold changes_by h.changes a.0) a.1 a.5 all
+flush_keeps h x (Err (fault.Refused why)) t a all = table_keeps h x t a.0 a.1 a.2 a.6 all
+flush_keeps h x (Err (fault.Disk number)) t a all = table_keeps h x t a.0 a.1 a.2 a.6 all
+flush_keeps h x (Err fault.Read) t a all = table_keeps h x t a.0 a.1 a.2 a.6 all
+flush_keeps h x (Err (fault.BadBlock number at)) t a all = table_keeps h x t a.0 a.1 a.2 a.6 all
+flush_keeps h x (Err fault.Mem) t a all = table_keeps h x t a.0 a.1 a.2 a.6 all
+
+-- nor does one of one shard
+one_keeps : (h after : History) (t : TableSchema) (n : ℕ) (r : Result (Option ℕ) Fault) → FlushesIn h t n r after → AllRise h → AllRise after
+one_keeps h after t n r a all =
+    begun_keeps h after (rest_with t.number n a.change h.unflushed) (filled_with t.number n a.begun h.filled) (changes_by h.changes a.change) a.disk a.follows all
 
 named_keeps : (h : History) (o : Option TableSchema) (r : Result (List ℕ) Fault) (t : History) → FlushesNamed h o r t → AllRise h → AllRise t
 named_keeps h None r t a all = subst AllRise (sym a.1) all
@@ -138,16 +153,18 @@ verify_keeps : (h : History) (o : Option TableSchema) (r : Result (List Verdict)
 verify_keeps h None r t a all = subst AllRise (sym a.1) all
 verify_keeps h (Some x) r t a all = subst AllRise (sym a.3) all
 
-answered_keeps : (kind : ClockKind) (Gives : ℤ → Type 0) (h : History) (l : Line) (r : Option Reply) (t : History) → Answered kind Gives h l r t → AllRise h → AllRise t
+answered_keeps : (kind : ClockKind) (Gives : ℤ → Type 0) (h : History) (l : Line) (r : Upshot) (t : History) → Answered kind Gives h l r t → AllRise h → AllRise t
 answered_keeps kind Gives h line.Blank r t a all = subst AllRise (sym a.1) all
 answered_keeps kind Gives h line.Syntax r t a all = subst AllRise (sym a.1) all
 answered_keeps kind Gives h (line.Clock n) r t a all = sets_keeps kind h n a.0 t a.2 all
 answered_keeps kind Gives h (line.Flush name) r t a all = named_keeps h (table_named h.tables name) a.0 t a.2 all
 answered_keeps kind Gives h (line.Verify name) r t a all = verify_keeps h (table_named h.tables name) a.0 t a.2 all
 answered_keeps kind Gives h line.Status r t a all = subst AllRise (sym a.1) all
-answered_keeps kind Gives h (line.Statement s) r t a all = does_keeps kind Gives h (meaning h.limits.shards h.tables s) a.0 t a.2 all
+answered_keeps kind Gives h (line.Statement s) r t a all =
+    behind (λ (k j : History). AllRise k → AllRise j) (λ k j same rise. subst AllRise (sym same) rise) one_keeps (meaning h.limits.shards h.tables s) a.0 r.want a.1 t a.4
+    (does_keeps kind Gives h (meaning h.limits.shards h.tables s) a.0 a.1 a.3 all)
 
-answer_keeps : (kind : ClockKind) (Gives : ℤ → Type 0) (h : History) (text : List ℕ) (r : Option Reply) (t : History) → Answers kind Gives h text r t → AllRise h → AllRise t
+answer_keeps : (kind : ClockKind) (Gives : ℤ → Type 0) (h : History) (text : List ℕ) (r : Upshot) (t : History) → Answers kind Gives h text r t → AllRise h → AllRise t
 answer_keeps kind Gives h text r t (inl x) all = subst AllRise (sym x.1) all
 answer_keeps kind Gives h text r t (inr x) all = answered_keeps kind Gives h x.0 r t x.2 all
 

@@ -40,9 +40,12 @@ use Rattle.cas_sessions.specs.Status.{file_numbers, status}
 use Rattle.cas_sessions.specs.Verifying.{EndsVerified, VerifiesNamed, table_files}
 use Rattle.cas_sessions.specs.declared.answer.Fault.{Fault}
 use Rattle.cas_sessions.specs.declared.answer.Fault.TheVariants as fault
-use Rattle.cas_node.specs.Lines.{Answered, Answers, FlushesNone, NoneFlushes, Runs, is_starved, reply_of_verify}
+use Rattle.cql_parse.specs.declared.syntax.Statement.{Statement}
+use Rattle.cas_node.specs.declared.upshot.Upshot.{Upshot}
+use Rattle.cas_node.specs.Lines.{Answered, Answers, FlushesNone, LeavesRoom, NoneFlushes, Runs, is_starved, reply_of_verify, replied}
 use Rattle.cas_node.specs.Ran.{AreGood}
 use Rattle.cas_node.specs.Laws.{OneOutcome, SameStore, IsRoomy, StaysWell}
+use Rattle.cas_node.proofs.Settling.{room_behind}
 use Rattle.cas_node.proofs.Verified.{all_good, are_good, in_some_shard}
 
 -- ---- the disk along a run
@@ -122,42 +125,57 @@ deed_grows Gives h (Ok (bound.Alter x)) r t a = at_disk h t a.1 (ap (λ (k : His
 deed_grows Gives h (Ok (bound.Write w)) r t a = at_disk h t a.2.1 (ap (λ (k : History). k.disk) a.2.3) (taken_grows _ _ _ _ r a.2.0 a.2.1 a.2.2)
 deed_grows Gives h (Ok (bound.Read q)) r t a = at_disk h t (record h.disk { reads = a.2.0 }) (ap (λ (k : History). k.disk) a.2.3) (read_on h.disk a.2.0 a.2.1)
 
--- a line that says something else
-abbrev IsNoFlush : Line → Type 0
-IsNoFlush (line.Flush name) = ⊥
-IsNoFlush _ = Unit {0}
+-- a line that flushes nothing, from there
+abbrev IsNoFlush : (ℤ → Type 0) → History → Line → Type 0
+IsNoFlush Gives h (line.Flush name) = ⊥
+IsNoFlush Gives h (line.Statement s) =
+    (answer : Reply) (after : History) → Does clock.Manual Gives h (meaning h.limits.shards h.tables s) answer after
+    → LeavesRoom (meaning h.limits.shards h.tables s) answer after
+IsNoFlush Gives h _ = Unit {0}
 
-no_flush : (text : List ℕ) (l : Line) → Says text l → FlushesNone text → IsNoFlush l
-no_flush text line.Blank says none = tt
-no_flush text line.Syntax says none = tt
-no_flush text (line.Clock n) says none = tt
-no_flush text (line.Flush name) says none = none name says
-no_flush text (line.Verify name) says none = tt
-no_flush text line.Status says none = tt
-no_flush text (line.Statement s) says none = tt
+no_flush : (Gives : ℤ → Type 0) (h : History) (text : List ℕ) (l : Line) → Says text l → FlushesNone clock.Manual Gives h text → IsNoFlush Gives h l
+no_flush Gives h text line.Blank says none = tt
+no_flush Gives h text line.Syntax says none = tt
+no_flush Gives h text (line.Clock n) says none = tt
+no_flush Gives h text (line.Flush name) says none = none.0 name says
+no_flush Gives h text (line.Verify name) says none = tt
+no_flush Gives h text line.Status says none = tt
+no_flush Gives h text (line.Statement s) says none = none.1 s says
+
+-- what comes of a statement then
+quietly : (Gives : ℤ → Type 0) (h : History) (s : Statement) (o : Upshot) (t : History) → IsNoFlush Gives h (line.Statement s) → Answered clock.Manual Gives h (line.Statement s) o t
+    → (answer : Reply) × (o ≡ replied (Some answer)) × Does clock.Manual Gives h (meaning h.limits.shards h.tables s) answer t
+quietly Gives h s o t none a =
+    let b = meaning h.limits.shards h.tables s in
+    let (want, same) = room_behind b a.0 o.want a.1 t (none a.0 a.1 a.3) a.4 in
+    (a.0, (λ i. record { reply = a.2 i; want = want i }), subst (Does clock.Manual Gives h b a.0) (sym same) a.3)
 
 verify_grows : (h : History) (o : Option TableSchema) (r : Result (List Verdict) Fault) (t : History) → VerifiesNamed h o r t → Grows h.disk t.disk
 verify_grows h None r t a = at_disk h t h.disk (ap (λ (k : History). k.disk) a.1) (still h.disk)
 verify_grows h (Some x) r t a = at_disk h t (record h.disk { reads = a.0 }) (ap (λ (k : History). k.disk) a.3) (read_on h.disk a.0 a.1)
 
-answered_grows : (Gives : ℤ → Type 0) (h : History) (l : Line) (r : Option Reply) (t : History) → IsNoFlush l → Answered clock.Manual Gives h l r t → Grows h.disk t.disk
-answered_grows Gives h line.Blank r t none a = at_disk h t h.disk (ap (λ (k : History). k.disk) a.1) (still h.disk)
-answered_grows Gives h line.Syntax r t none a = at_disk h t h.disk (ap (λ (k : History). k.disk) a.1) (still h.disk)
-answered_grows Gives h (line.Clock n) r t none a = at_disk h t h.disk (ap (λ (k : History). k.disk) a.2.1) (still h.disk)
-answered_grows Gives h (line.Flush name) r t none a = absurd none
-answered_grows Gives h (line.Verify name) r t none a = verify_grows h (table_named h.tables name) a.0 t a.2
-answered_grows Gives h line.Status r t none a = at_disk h t h.disk (ap (λ (k : History). k.disk) a.1) (still h.disk)
-answered_grows Gives h (line.Statement s) r t none a = deed_grows Gives h (meaning h.limits.shards h.tables s) a.0 t a.2
+answered_grows : (Gives : ℤ → Type 0) (h : History) (l : Line) (o : Upshot) (t : History) → IsNoFlush Gives h l → Answered clock.Manual Gives h l o t → Grows h.disk t.disk
+answered_grows Gives h line.Blank o t none a = at_disk h t h.disk (ap (λ (k : History). k.disk) a.1) (still h.disk)
+answered_grows Gives h line.Syntax o t none a = at_disk h t h.disk (ap (λ (k : History). k.disk) a.1) (still h.disk)
+answered_grows Gives h (line.Clock n) o t none a = at_disk h t h.disk (ap (λ (k : History). k.disk) a.2.1) (still h.disk)
+answered_grows Gives h (line.Flush name) o t none a = absurd none
+answered_grows Gives h (line.Verify name) o t none a = verify_grows h (table_named h.tables name) a.0 t a.2
+answered_grows Gives h line.Status o t none a = at_disk h t h.disk (ap (λ (k : History). k.disk) a.1) (still h.disk)
+answered_grows Gives h (line.Statement s) o t none a =
+    let q = quietly Gives h s o t none a in deed_grows Gives h (meaning h.limits.shards h.tables s) q.0 t q.2
 
-line_grows : (Gives : ℤ → Type 0) (h : History) (text : List ℕ) (r : Option Reply) (t : History) → FlushesNone text → Answers clock.Manual Gives h text r t → Grows h.disk t.disk
-line_grows Gives h text r t none (inl x) = at_disk h t h.disk (ap (λ (k : History). k.disk) x.1) (still h.disk)
-line_grows Gives h text r t none (inr x) = answered_grows Gives h x.0 r t (no_flush text x.0 x.1 none) x.2
+line_grows : (Gives : ℤ → Type 0) (h : History) (text : List ℕ) (o : Upshot) (t : History) → FlushesNone clock.Manual Gives h text → Answers clock.Manual Gives h text o t
+    → Grows h.disk t.disk
+line_grows Gives h text o t none (inl x) = at_disk h t h.disk (ap (λ (k : History). k.disk) x.1) (still h.disk)
+line_grows Gives h text o t none (inr x) = answered_grows Gives h x.0 o t (no_flush Gives h text x.0 x.1 none) x.2
 
-run_grows : (Gives : ℤ → Type 0) (h : History) (ls : List (List ℕ)) (rs : List (Option Reply)) (t : History) → NoneFlushes ls → Runs clock.Manual Gives h ls rs t → Grows h.disk t.disk
+run_grows : (Gives : ℤ → Type 0) (h : History) (ls : List (List ℕ)) (rs : List Upshot) (t : History) → NoneFlushes clock.Manual Gives h ls → Runs clock.Manual Gives h ls rs t
+    → Grows h.disk t.disk
 run_grows Gives h [] [] t none x = at_disk h t h.disk (ap (λ (k : History). k.disk) x) (still h.disk)
 run_grows Gives h [] (r ∷ rs) t none x = absurd x
 run_grows Gives h (l ∷ ls) [] t none x = absurd x
-run_grows Gives h (l ∷ ls) (r ∷ rs) t none x = then_on h.disk x.0.disk t.disk (line_grows Gives h l r x.0 none.0 x.1) (run_grows Gives x.0 ls rs t none.1 x.2)
+run_grows Gives h (l ∷ ls) (r ∷ rs) t none x =
+    then_on h.disk x.0.disk t.disk (line_grows Gives h l r x.0 none.0 x.1) (run_grows Gives x.0 ls rs t (none.1 r x.0 x.1) x.2)
 
 -- ---- one step, where the disk is well
 
@@ -395,68 +413,82 @@ module _ (h : History) (d e : DiskState) where
       let other = subst (λ (k : ℤ). ReadsAt (on h e) k x q u) same b.2 in
       one_read x a.0 a.2.0 other.0 r q t u a.2.2 other.2 a.2.3 other.3 v w well good
 
-  -- answers that are shown are the same where their replies are
-  shown : (a b : Reply) (r q : Option Reply) (t u : History) → r ≡ Some a → q ≡ Some b → Same a b t u → Same r q t u
-  shown a b r q t u x y same = record {
-    replies = x ∙ ap (λ (k : Reply). Some k) same.replies ∙ sym y;
+  -- what comes of lines is the same where their replies are
+  shown : (a b : Reply) (o p : Upshot) (t u : History) → o ≡ replied (Some a) → p ≡ replied (Some b) → Same a b t u → Same o p t u
+  shown a b o p t u x y same = record {
+    replies = x ∙ ap (λ (k : Reply). replied (Some k)) same.replies ∙ sym y;
     stores = same.stores;
     one_goes = same.one_goes;
     other_goes = same.other_goes;
   }
 
-  one_answered : (Gives : ℤ → Type 0) (l : Line) (r q : Option Reply) (t u : History) → d.files ≡ e.files → IsNoFlush l → Answered clock.Manual Gives (on h d) l r t → Answered clock.Manual Gives (on h e) l q u
-      → is_starved r ≡ false → is_starved q ≡ false → Well d t.disk → Well e u.disk → Same r q t u
-  one_answered Gives line.Blank r q t u same none a b v w well good = left r q _ h t u a.0 b.0 a.1 b.1 well good
-  one_answered Gives line.Syntax r q t u same none a b v w well good = left r q _ h t u a.0 b.0 a.1 b.1 well good
-  one_answered Gives (line.Clock n) r q t u same none a b v w well good =
-      shown a.0 b.0 r q t u a.1 b.1 (left a.0 b.0 reply.Done (record h { clock = n }) t u a.2.0 b.2.0 a.2.1 b.2.1 well good)
-  one_answered Gives (line.Flush name) r q t u same none a b v w well good = absurd none
-  one_answered Gives (line.Verify name) r q t u same none a b v w well good =
-      shown (reply_of_verify a.0) (reply_of_verify b.0) r q t u a.1 b.1
-      (one_check (table_named h.tables name) a.0 b.0 t u same a.2 b.2 (ap is_starved (sym a.1) ∙ v) (ap is_starved (sym b.1) ∙ w) well good)
-  one_answered Gives line.Status r q t u same none a b v w well good =
-      left r q (Some (reply.Status (status (on h d)))) h t u a.0
-      (b.0 ∙ ap (λ files. Some (reply.Status (status_of h.tables h.limits.shards (file_numbers files)))) (sym same)) a.1 b.1 well good
-  one_answered Gives (line.Statement s) r q t u same none a b v w well good =
-      shown a.0 b.0 r q t u a.1 b.1
-      (one_deed Gives (meaning h.limits.shards h.tables s) a.0 b.0 t u a.2 b.2 (ap is_starved (sym a.1) ∙ v) (ap is_starved (sym b.1) ∙ w) well good)
+  -- and so is that memory didn't run out
+  fed : (a : Reply) (o : Upshot) → o ≡ replied (Some a) → is_starved o ≡ false → tells_want a ≡ false
+  fed a o is quiet = (or_parts (tells_want a) false (ap is_starved (sym is) ∙ quiet)).0
 
--- a line's answer is of what it says
-of_line : (Gives : ℤ → Type 0) (h : History) (text : List ℕ) (r : Option Reply) (t : History) → Answers clock.Manual Gives h text r t → is_starved r ≡ false
-    → (l : Line) × Says text l × Answered clock.Manual Gives h l r t
-of_line Gives h text r t (inl x) v = absurd (true≢false (ap is_starved (sym x.0) ∙ v))
-of_line Gives h text r t (inr x) v = x
+  one_answered : (Gives : ℤ → Type 0) (l : Line) (o p : Upshot) (t u : History) → d.files ≡ e.files → IsNoFlush Gives (on h d) l → IsNoFlush Gives (on h e) l
+      → Answered clock.Manual Gives (on h d) l o t → Answered clock.Manual Gives (on h e) l p u → is_starved o ≡ false → is_starved p ≡ false → Well d t.disk → Well e u.disk → Same o p t u
+  one_answered Gives line.Blank o p t u same none quiet a b v w well good = left o p _ h t u a.0 b.0 a.1 b.1 well good
+  one_answered Gives line.Syntax o p t u same none quiet a b v w well good = left o p _ h t u a.0 b.0 a.1 b.1 well good
+  one_answered Gives (line.Clock n) o p t u same none quiet a b v w well good =
+      shown a.0 b.0 o p t u a.1 b.1 (left a.0 b.0 reply.Done (record h { clock = n }) t u a.2.0 b.2.0 a.2.1 b.2.1 well good)
+  one_answered Gives (line.Flush name) o p t u same none quiet a b v w well good = absurd none
+  one_answered Gives (line.Verify name) o p t u same none quiet a b v w well good =
+      shown (reply_of_verify a.0) (reply_of_verify b.0) o p t u a.1 b.1
+      (one_check (table_named h.tables name) a.0 b.0 t u same a.2 b.2 (fed (reply_of_verify a.0) o a.1 v) (fed (reply_of_verify b.0) p b.1 w) well good)
+  one_answered Gives line.Status o p t u same none quiet a b v w well good =
+      left o p (replied (Some (reply.Status (status (on h d))))) h t u a.0
+      (b.0 ∙ ap (λ files. replied (Some (reply.Status (status_of h.tables h.limits.shards (file_numbers files))))) (sym same)) a.1 b.1 well good
+  one_answered Gives (line.Statement s) o p t u same none quiet a b v w well good =
+      let x = quietly Gives (on h d) s o t none a in
+      let y = quietly Gives (on h e) s p u quiet b in
+      shown x.0 y.0 o p t u x.1 y.1
+      (one_deed Gives (meaning h.limits.shards h.tables s) x.0 y.0 t u x.2 y.2 (fed x.0 o x.1 v) (fed y.0 p y.1 w) well good)
 
-one_answer : (Gives : ℤ → Type 0) (h : History) (d e : DiskState) (text : List ℕ) (r q : Option Reply) (t u : History) → d.files ≡ e.files → FlushesNone text
-    → Answers clock.Manual Gives (on h d) text r t → Answers clock.Manual Gives (on h e) text q u → is_starved r ≡ false → is_starved q ≡ false
-    → Well d t.disk → Well e u.disk → Same r q t u
-one_answer Gives h d e text r q t u files none x y v w well good =
-    let a = of_line Gives (on h d) text r t x v in
-    let b = of_line Gives (on h e) text q u y w in
+-- what comes of a line is of what it says
+of_line : (Gives : ℤ → Type 0) (h : History) (text : List ℕ) (o : Upshot) (t : History) → Answers clock.Manual Gives h text o t → is_starved o ≡ false
+    → (l : Line) × Says text l × Answered clock.Manual Gives h l o t
+of_line Gives h text o t (inl x) v = absurd (true≢false (ap is_starved (sym x.0) ∙ v))
+of_line Gives h text o t (inr x) v = x
+
+one_answer : (Gives : ℤ → Type 0) (h : History) (d e : DiskState) (text : List ℕ) (o p : Upshot) (t u : History) → d.files ≡ e.files
+    → FlushesNone clock.Manual Gives (on h d) text → FlushesNone clock.Manual Gives (on h e) text
+    → Answers clock.Manual Gives (on h d) text o t → Answers clock.Manual Gives (on h e) text p u → is_starved o ≡ false → is_starved p ≡ false
+    → Well d t.disk → Well e u.disk → Same o p t u
+one_answer Gives h d e text o p t u files none quiet x y v w well good =
+    let a = of_line Gives (on h d) text o t x v in
+    let b = of_line Gives (on h e) text p u y w in
     let same = one_line text b.0 a.0 b.1 a.1 in
-    one_answered h d e Gives a.0 r q t u files (no_flush text a.0 a.1 none) a.2 (subst (λ l. Answered clock.Manual Gives (on h e) l q u) same b.2) v w well good
+    one_answered h d e Gives a.0 o p t u files (no_flush Gives (on h d) text a.0 a.1 none) (no_flush Gives (on h e) text a.0 a.1 quiet) a.2
+    (subst (λ l. Answered clock.Manual Gives (on h e) l p u) same b.2) v w well good
 
-runs_agree : (Gives : ℤ → Type 0) (h : History) (d e : DiskState) (ls : List (List ℕ)) (rs ss : List (Option Reply)) (t u : History) → d.files ≡ e.files → NoneFlushes ls
+runs_agree : (Gives : ℤ → Type 0) (h : History) (d e : DiskState) (ls : List (List ℕ)) (rs ss : List Upshot) (t u : History) → d.files ≡ e.files
+    → NoneFlushes clock.Manual Gives (on h d) ls → NoneFlushes clock.Manual Gives (on h e) ls
     → Runs clock.Manual Gives (on h d) ls rs t → Runs clock.Manual Gives (on h e) ls ss u → list_any is_starved rs ≡ false → list_any is_starved ss ≡ false
     → Well d t.disk → Well e u.disk → (rs ≡ ss) × SameStore t u
-runs_agree Gives h d e [] [] [] t u files none x y v w well good =
+runs_agree Gives h d e [] [] [] t u files none quiet x y v w well good =
     (refl, ap (λ (j : History). on j u.disk) x ∙ ap (λ (j : DiskState). on h j) (ap (λ (j : History). j.disk) y) ∙ sym y)
-runs_agree Gives h d e [] [] (s ∷ ss) t u files none x y v w well good = absurd y
-runs_agree Gives h d e [] (r ∷ rs) ss t u files none x y v w well good = absurd x
-runs_agree Gives h d e (l ∷ ls) [] ss t u files none x y v w well good = absurd x
-runs_agree Gives h d e (l ∷ ls) (r ∷ rs) [] t u files none x y v w well good = absurd y
-runs_agree Gives h d e (l ∷ ls) (r ∷ rs) (s ∷ ss) t u files none x y v w well good =
+runs_agree Gives h d e [] [] (s ∷ ss) t u files none quiet x y v w well good = absurd y
+runs_agree Gives h d e [] (r ∷ rs) ss t u files none quiet x y v w well good = absurd x
+runs_agree Gives h d e (l ∷ ls) [] ss t u files none quiet x y v w well good = absurd x
+runs_agree Gives h d e (l ∷ ls) (r ∷ rs) [] t u files none quiet x y v w well good = absurd y
+runs_agree Gives h d e (l ∷ ls) (r ∷ rs) (s ∷ ss) t u files none quiet x y v w well good =
     let left = or_parts (is_starved r) (list_any is_starved rs) v in
     let right = or_parts (is_starved s) (list_any is_starved ss) w in
     let one_more = line_grows Gives (on h d) l r x.0 none.0 x.1 in
-    let other_more = line_grows Gives (on h e) l s y.0 none.0 y.1 in
-    let one_rest = run_grows Gives x.0 ls rs t none.1 x.2 in
-    let other_rest = run_grows Gives y.0 ls ss u none.1 y.2 in
-    let one = one_answer Gives h d e l r s x.0 y.0 files none.0 x.1 y.1 left.0 right.0 (first_well d x.0.disk t.disk one_more one_rest well) (first_well e y.0.disk u.disk other_more other_rest good) in
+    let other_more = line_grows Gives (on h e) l s y.0 quiet.0 y.1 in
+    let none_rest : NoneFlushes clock.Manual Gives x.0 ls = none.1 r x.0 x.1 in
+    let quiet_rest : NoneFlushes clock.Manual Gives y.0 ls = quiet.1 s y.0 y.1 in
+    let one_rest = run_grows Gives x.0 ls rs t none_rest x.2 in
+    let other_rest = run_grows Gives y.0 ls ss u quiet_rest y.2 in
+    let one =
+    one_answer Gives h d e l r s x.0 y.0 files none.0 quiet.0 x.1 y.1 left.0 right.0 (first_well d x.0.disk t.disk one_more one_rest well)
+    (first_well e y.0.disk u.disk other_more other_rest good) in
     let rest =
-    runs_agree Gives x.0 x.0.disk y.0.disk ls rs ss t u (one_more.files ∙ files ∙ sym other_more.files) none.1 x.2 (subst (λ k. Runs clock.Manual Gives k ls ss u) (sym one.stores) y.2) left.1 right.1
+    runs_agree Gives x.0 x.0.disk y.0.disk ls rs ss t u (one_more.files ∙ files ∙ sym other_more.files) none_rest
+    (subst (λ k. NoneFlushes clock.Manual Gives k ls) (sym one.stores) quiet_rest) x.2 (subst (λ k. Runs clock.Manual Gives k ls ss u) (sym one.stores) y.2) left.1 right.1
     (rest_well d x.0.disk t.disk one_more one_rest well one.one_goes) (rest_well e y.0.disk u.disk other_more other_rest good one.other_goes) in
     (λ i. one.replies i ∷ rest.0 i, rest.1)
 
 pub one_outcome : (Gives : ℤ → Type 0) → OneOutcome Gives
-one_outcome Gives h ls rs ss t u x y none v w well good = runs_agree Gives h h.disk h.disk ls rs ss t u refl none x y v w well good
+one_outcome Gives h ls rs ss t u x y none v w well good = runs_agree Gives h h.disk h.disk ls rs ss t u refl none none x y v w well good

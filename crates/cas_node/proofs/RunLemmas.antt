@@ -44,22 +44,23 @@ use Rattle.cas_node.specs.declared.cause.Cause.{Cause}
 use Rattle.cas_node.specs.declared.cause.Cause.TheVariants as cause
 use Rattle.cas_node.specs.declared.program.TheConstants.{SCRIPT_LIMIT}
 use Rattle.cas_sessions.specs.History.{History, DiskState}
+use Rattle.cas_node.specs.declared.upshot.Upshot.{Upshot}
 use Rattle.cas_node.specs.Lines.{NoneFlushes, Runs, Tells}
 use Rattle.cas_sstread.specs.Loading.{Held}
 use Rattle.cas_view.specs.Views.{File}
 use Rattle.cas_sessions.specs.Starts.{AreExplained, AreItsFiles, Begins, start, BeginsAs, IsInMemory, IsOpenedAs, IsStarted}
 use Rattle.cas_node.specs.Ran.{AllWell, AreGood, Ended, GoodOrMem, IfBad, IfUnread, IsBadForOne, IsGranted, IsKnown, IsNotRun, Outside, Ran, RanAll, RanFrom, RanOn, StaysGood}
 use Rattle.cas_node.specs.Ran.{Stop, WriteRose}
-use Rattle.cas_node.specs.Ran.{at_the_end, at_the_sink, for_memory, has_risen, reply_cause, verdicts_cause, weight, with_faults, worse, worst}
-use Rattle.cas_node.specs.Inner.Serving.{EndsServed, IsKnownIn, IsKnownOn, Served, Serves}
+use Rattle.cas_node.specs.Ran.{at_the_end, at_the_sink, for_memory, has_risen, reply_cause, upshot_cause, verdicts_cause, weight, with_faults, worse, worst}
+use Rattle.cas_node.specs.Inner.Serving.{EndsServed, IsKnownIn, IsKnownOn, ListsIf, MovesIf, Served, Serves}
 use Rattle.cas_sessions.specs.Entered.{IsLeft}
-use Rattle.cas_sessions.specs.Listing.{KeepsListing, SameListed}
+use Rattle.cas_sessions.specs.Listing.{SameListed}
 use Rattle.cas_sessions.proofs.Listing.{lists_since}
 use Rattle.cas_sessions.proofs.Explaining.{opening_in}
 use Rattle.cas_sessions.proofs.Serving.{is_explained}
 use Rattle.cas_recovery.proofs.Explained.{as_opening}
 use Rattle.cas_node.specs.Inner.Turns.{cause_of_opening, IsEnd}
-use Rattle.cas_sessions.specs.Nodes.{State, StandsFor, LastsFor, disk_of, files_in, Moves}
+use Rattle.cas_sessions.specs.Nodes.{State, StandsFor, LastsFor, disk_of, files_in}
 use Rattle.cas_node.proofs.Blaming.{blamed, of_both}
 use Rattle.cas_node.proofs.SessionLemmas.{told_ends, verdicts_told}
 use Rattle.cas_node.proofs.Staying.{AreUpTo, from_before}
@@ -68,31 +69,22 @@ use Rattle.cas_node.proofs.Stopping.{stop_is_counted}
 -- ---- what was served
 
 module _ (kind : ClockKind) (Gives : ℤ → Type 0) (script : List ℕ) (old new : Option (List ℕ)) (s t : State) (d e : Disk) (faults_before : ℕ) (told why : Cause)
-    (moves : IsKnownIn s d script → Moves (λ h after. RanFrom h kind Gives script old new after told) s t d e) (l : Limits) (tables : List TableSchema) (shards : List ShardState) (last live : ℕ) (journal : Journal)
+    (moves : MovesIf (IsKnownIn kind Gives s d script) (λ h after. RanFrom h kind Gives script old new after told) s t d e) (l : Limits) (tables : List TableSchema) (shards : List ShardState) (last live : ℕ) (journal : Journal)
     (faults reads : ℕ) (opened : IsOpenedAs l tables shards journal faults reads s)
     (begins : (given : Limits) (entries : List ManifestEntry) (mutations : List Mutation) (openings : ℕ → ShardOpening)
     → IsInMemory given entries mutations openings l tables shards last live → BeginsAs given entries mutations openings d s)
     (going : journal.first ≡ None) (ended : why ≡ with_faults faults_before t.faults t.reads told)
     (left : (h : History) (found : List Mutation) (u : Told) → StandsFor h t → LastsFor h found t e u → (i : Image) → e.may_leave i → IsLeft found t.list h i)
-    (lists : NoneFlushes (lines script) → KeepsListing s d e) where
+    (lists : ListsIf (λ h. NoneFlushes kind Gives h (lines script)) s d e) where
   of_store : (given : Limits) (entries : List ManifestEntry) (mutations : List Mutation) (openings : ℕ → ShardOpening)
       → IsInMemory given entries mutations openings l tables shards last live → BeginsAs given entries mutations openings d s → journal.last_segment ≤ next_segment entries
-      → IsKnownOn d journal entries mutations script → Served kind Gives script old new given entries mutations openings (files_in shards) journal d e faults_before faults t.faults t.reads t.list why
+      → IsKnownOn d journal entries mutations (Begins given entries mutations openings (files_in shards) faults) (λ first. NoneFlushes kind Gives first (lines script))
+      → Served kind Gives script old new given entries mutations openings (files_in shards) journal d e faults_before faults t.faults t.reads t.list why
   of_store given entries mutations openings memory first segment known =
-      let (after, ran, goes) = moves (known_as known) (start given entries mutations openings s.session (disk_of s)) first.stands in
+      let (after, ran, goes) = moves (start given entries mutations openings s.session (disk_of s)) first.stands (known_as known) in
       record {
         first = start given entries mutations openings s.session (disk_of s);
-        begins = record {
-          session = s.session;
-          disk = disk_of s;
-          history = refl;
-          going = ap (λ (j : Journal). is_some j.first) opened.journal_is ∙ ap (λ (f : Option First). is_some f) going;
-          faults = omega (arith, opened.faults_are);
-          segment = subst (λ (j : Journal). j.last_segment ≤ next_segment entries) (sym opened.journal_is) segment;
-          files_are = ap files_in opened.shards_are;
-          last_file = first.counts.0;
-          live = first.counts.1;
-        };
+        begins = began;
         final = after;
         told = told;
         ran = ran;
@@ -101,8 +93,8 @@ module _ (kind : ClockKind) (Gives : ℤ → Type 0) (script : List ℕ) (old ne
             let (now, still, explains) = goes.lasts mutations u (first.lasts u is (subst (λ (j : Journal). Lasts j d u) (sym opened.journal_is) lasts)) in
             left after mutations now goes.stands still i leaves;
         lists = λ none u is lasts.
-            lists none (start given entries mutations openings s.session (disk_of s)) mutations u first.stands
-            (first.lasts u is (subst (λ (j : Journal). Lasts j d u) (sym opened.journal_is) lasts));
+            lists (start given entries mutations openings s.session (disk_of s)) mutations u first.stands
+            (first.lasts u is (subst (λ (j : Journal). Lasts j d u) (sym opened.journal_is) lasts)) none;
         next = λ u is lasts explained i leaves bytes.
             let (now, still, explains) = goes.lasts mutations u (first.lasts u is (subst (λ (j : Journal). Lasts j d u) (sym opened.journal_is) lasts)) in
             is_explained after mutations t e now goes.stands still openings (explains openings (first.explains u is explained)) i leaves bytes;
@@ -111,11 +103,25 @@ module _ (kind : ClockKind) (Gives : ℤ → Type 0) (script : List ℕ) (old ne
         ended = ended;
       }
     where
-      known_as : IsKnownOn d journal entries mutations script → IsKnownIn s d script
+      began : Begins given entries mutations openings (files_in shards) faults (start given entries mutations openings s.session (disk_of s))
+      began = record {
+        session = s.session;
+        disk = disk_of s;
+        history = refl;
+        going = ap (λ (j : Journal). is_some j.first) opened.journal_is ∙ ap (λ (f : Option First). is_some f) going;
+        faults = omega (arith, opened.faults_are);
+        segment = subst (λ (j : Journal). j.last_segment ≤ next_segment entries) (sym opened.journal_is) segment;
+        files_are = ap files_in opened.shards_are;
+        last_file = first.counts.0;
+        live = first.counts.1;
+      }
+
+      known_as : IsKnownOn d journal entries mutations (Begins given entries mutations openings (files_in shards) faults) (λ first. NoneFlushes kind Gives first (lines script))
+          → IsKnownIn kind Gives s d script (start given entries mutations openings s.session (disk_of s))
       known_as (inl (tells, (u, is, lasts))) =
-          let began = first.lasts u is (subst (λ (j : Journal). Lasts j d u) (sym opened.journal_is) lasts) in
-          inl (tells, (start given entries mutations openings s.session (disk_of s), mutations, u, first.stands, began))
-      known_as (inr none) = inr none
+          let kept = first.lasts u is (subst (λ (j : Journal). Lasts j d u) (sym opened.journal_is) lasts) in
+          inl (tells, (start given entries mutations openings s.session (disk_of s), mutations, u, first.stands, kept))
+      known_as (inr none) = inr (none (start given entries mutations openings s.session (disk_of s)) began)
 
   serves : (pass : Option (List (Item Event))) → IsSome pass → IfSome pass (λ p. p ≡ t.list)
       → Serves kind Gives script old new l tables shards last live journal d faults faults_before e t.faults t.reads pass why
@@ -239,7 +245,7 @@ module _ (words : List (List ℕ)) (Gives : ℤ → Type 0) (before after : Outs
         faults = served.faults;
         reads_are = served.reads_are;
         counted =
-            stop_is_counted c.clock Gives served.first served.ran.run served.ran.replies served.final before.folder_faults after.folder_faults served.ran.steps
+            stop_is_counted c.clock Gives served.first served.ran.run served.ran.upshots served.final before.folder_faults after.folder_faults served.ran.steps
             (not_stopped entries mutations openings files served.first served.begins) (counted_from entries mutations openings files served.first served.begins) served.faults;
         bad =
             blamed c.clock Gives served.first script before.taken after.taken served.final served.told why before.folder_faults after.folder_faults reads served.ran ended;
@@ -247,10 +253,13 @@ module _ (words : List (List ℕ)) (Gives : ℤ → Type 0) (before after : Outs
       }
 
   -- what the folder tells as it was found, it tells of the store that was opened
-  known_in : IsKnown before.folder script → IsKnownOn mid journal started.back.entries started.back.mutations script
-  known_in (inl (d, reads, bytes)) =
+  known_in : (openings : ℕ → ShardOpening) → IsKnown c Gives script before started.back.entries started.back.mutations openings (files_in shards)
+      → IsKnownOn mid journal started.back.entries started.back.mutations
+      (Begins c.limits started.back.entries started.back.mutations openings (files_in shards) faults) (λ first. NoneFlushes c.clock Gives first (lines script))
+  known_in openings (inl (d, reads, bytes)) =
       inl (telling d reads bytes started.back.entries started.back.mutations (started.back.found.told d reads bytes), started.back.lasts d reads bytes)
-  known_in (inr none) = inr none
+  known_in openings (inr none) =
+      inr (λ first begins. none first (earlier started.back.entries started.back.mutations openings (files_in shards) first begins))
 
   listed_on : (d : Image) → before.folder.reads d → IsOfBytes d → During (SameListed started.back.entries) before.folder after.folder
   listed_on d reads bytes =
@@ -277,7 +286,7 @@ module _ (words : List (List ℕ)) (Gives : ℤ → Type 0) (before after : Outs
     tables = listed_on;
     on = λ openings are known.
         of_served list started.back.entries started.back.mutations openings (files_in shards) started.back.lasts (explained_on openings are)
-        (serves c.limits started.back.entries started.back.mutations openings (started.memory openings are) started.back.segment (known_in known));
+        (serves c.limits started.back.entries started.back.mutations openings (started.memory openings are) started.back.segment (known_in openings known));
   }
 
   pub ran_all : (pass : Option (List (Item Event))) → length script ≤ SCRIPT_LIMIT
@@ -405,7 +414,7 @@ opening_read recovery.Mem P = tt
 
 -- ---- where all is well
 
--- what the replies say
+-- what comes of lines says
 of_reply : (r : Option Reply) → IsEnd (reply_cause r)
 of_reply None = tt
 of_reply (Some reply.Done) = tt
@@ -421,9 +430,13 @@ of_reply (Some (reply.Failed failure.Disk)) = tt
 of_reply (Some (reply.Failed failure.Read)) = tt
 of_reply (Some (reply.Failed (failure.Block n at))) = tt
 
-of_replies : (c : Cause) (rs : List (Option Reply)) → IsEnd c → IsEnd (fold (λ c r. worse c (reply_cause r)) c rs)
-of_replies c [] h = h
-of_replies c (r ∷ rs) h = of_replies (worse c (reply_cause r)) rs (of_both IsEnd _ c (reply_cause r) h (of_reply r))
+of_upshot : (o : Upshot) → IsEnd (upshot_cause o)
+of_upshot o =
+    of_both IsEnd o.want (reply_cause o.reply) (worse (reply_cause o.reply) cause.Mem) (of_reply o.reply) (of_both IsEnd _ (reply_cause o.reply) cause.Mem (of_reply o.reply) tt)
+
+of_upshots : (c : Cause) (os : List Upshot) → IsEnd c → IsEnd (fold (λ c o. worse c (upshot_cause o)) c os)
+of_upshots c [] h = h
+of_upshots c (o ∷ os) h = of_upshots (worse c (upshot_cause o)) os (of_both IsEnd _ c (upshot_cause o) h (of_upshot o))
 
 -- a failed write is told, or memory ran out, or a file is bad
 cut : (c : Cause) → IsEnd c → (worse c cause.Write ≡ cause.Write → ⊥) → IfBad c (λ name at. ⊥) → GoodOrMem (worse c cause.Write)
@@ -450,15 +463,15 @@ uncut (cause.Bad name at) b = b
 uncut (cause.TooLong taken) b = tt
 
 stops_well : (first : History) (kind : ClockKind) (Gives : ℤ → Type 0) (script : List ℕ) (old new : Option (List ℕ)) (final : History) (why : Cause)
-    → IsGranted first kind Gives script → (why ≡ cause.Write → ⊥) → IfBad why (λ name at. ⊥) → (s : Stop) (run rest : List (List ℕ)) (replies : List (Option Reply))
-    → run ++ rest ≡ lines script → Runs kind Gives first run replies final → Ended s rest old new replies why → GoodOrMem why
-stops_well first kind Gives script old new final why granted fine sound at_the_end run rest replies parts steps e =
+    → IsGranted first kind Gives script → (why ≡ cause.Write → ⊥) → IfBad why (λ name at. ⊥) → (s : Stop) (run rest : List (List ℕ)) (upshots : List Upshot)
+    → run ++ rest ≡ lines script → Runs kind Gives first run upshots final → Ended s rest old new upshots why → GoodOrMem why
+stops_well first kind Gives script old new final why granted fine sound at_the_end run rest upshots parts steps e =
     let all : run ≡ lines script = sym (append-nil run) ∙ ap (λ r. run ++ r) (sym e.all) ∙ parts in
-    subst GoodOrMem (sym e.told) (granted replies final (subst (λ ls. Runs kind Gives first ls replies final) all steps))
-stops_well first kind Gives script old new final why granted fine sound at_the_sink run rest replies parts steps e =
+    subst GoodOrMem (sym e.told) (granted upshots final (subst (λ ls. Runs kind Gives first ls upshots final) all steps))
+stops_well first kind Gives script old new final why granted fine sound at_the_sink run rest upshots parts steps e =
     subst GoodOrMem (sym e.told)
-    (cut (worst replies) (of_replies cause.Good replies tt) (λ x. fine (e.told ∙ x)) (uncut (worst replies) (subst (λ w. IfBad w (λ name at. ⊥)) e.told sound)))
-stops_well first kind Gives script old new final why granted fine sound for_memory run rest replies parts steps e = inr e.told
+    (cut (worst upshots) (of_upshots cause.Good upshots tt) (λ x. fine (e.told ∙ x)) (uncut (worst upshots) (subst (λ w. IfBad w (λ name at. ⊥)) e.told sound)))
+stops_well first kind Gives script old new final why granted fine sound for_memory run rest upshots parts steps e = inr e.told
 
 -- what was read is all that was left
 all_read : (left new : Option (List ℕ)) (s bytes : List ℕ) → left ≡ Some s → ReadToEnd left new bytes → bytes ≡ s
@@ -507,10 +520,10 @@ module _ (words : List (List ℕ)) (Gives : ℤ → Type 0) (before after : Outs
       let stays : StaysGood ran.first c.clock Gives script =
       subst (λ (k : Command). StaysGood ran.first k.clock Gives script) same
       (subst (λ (l : List ℕ). StaysGood ran.first well.command.clock Gives l) (sym text) (well.good files its_own ran.first begun)) in
-      let good : AreGood ran.final.disk.files = stays r.run r.rest r.replies ran.final r.cut r.steps in
+      let good : AreGood ran.final.disk.files = stays r.run r.rest r.upshots ran.final r.cut r.steps in
       let sound : IfBad ran.told (λ name at. ⊥) = subst (λ (w : Cause). IfBad w (λ name at. ⊥)) is (none_blamed ran.final.disk.files why good ran.bad) in
       subst GoodOrMem (sym is)
-      (stops_well ran.first c.clock Gives script before.taken after.taken ran.final ran.told granted (λ e. well.no_write_fault (write (is ∙ e))) sound r.stop r.run r.rest r.replies r.cut
+      (stops_well ran.first c.clock Gives script before.taken after.taken ran.final ran.told granted (λ e. well.no_write_fault (write (is ∙ e))) sound r.stop r.run r.rest r.upshots r.cut
       r.steps r.ended)
 
   ran_well : (script : List ℕ) (list : List (Item Event)) (why : Cause) → ReadToEnd before.left after.left script → Ran c Gives script before after reads list why

@@ -1,8 +1,7 @@
 -- The listed table files through a run: while the store is opened, and while its lines run.
-use Rattle.std.proofs.Common.{◌≡◌, ◌≢◌, inl, inr, ⊎_elim, ◌∙◌, ◌<◌, ◌+◌, ℕ, Some, List, [], ◌∷◌, ◌++◌, length, take, refl, sym, ap, subst, append-nil}
-use Rattle.std.specs.Prelude.{drop, slice_get, ◌≤◌}
+use Rattle.std.proofs.Common.{◌≡◌, ◌≢◌, inl, inr, ⊎_elim, ◌∙◌, ℕ, List, [], refl, sym, subst}
+use Rattle.std.specs.Prelude.{◌≤◌}
 use Rattle.std.specs.List.{AllByRecursion}
-use Rattle.std.proofs.lemmas.List.{append_cancel_left, take-append-drop}
 use Rattle.cas_disk.specs.declared.name.Name.TheVariants.{Manifest as manifest_name, Table as table_name}
 use Rattle.cas_disk.specs.Disk.{Disk, During, Image}
 use Rattle.cas_disk.proofs.Moments.{left_after, no_call, one_call_more, reworded}

@@ -26,10 +26,13 @@ use Rattle.cas_terms.specs.Columns.{table_named}
 use Rattle.cas_view.specs.Views.{File}
 use Rattle.cas_sessions.specs.declared.answer.Fault.{Fault}
 use Rattle.cas_sessions.specs.declared.answer.Fault.TheVariants as fault
-use Rattle.cas_sessions.specs.Flushes.{EndsSo, Flushed, FlushesNamed, FlushesTable, Grows, WhyNoFurther, change_of, changes_by, without_flushed}
+use Rattle.cas_sessions.specs.Flushes.{EndsSo, Flushed, FlushesNamed, FlushesTable, Grows, WhyNoFurther, change_of, changes_by, without_begun, without_flushed}
+use Rattle.cas_sessions.specs.Filling.{EndsIn, FlushesIn}
 use Rattle.cas_sessions.specs.History.{History, DiskState, Takes, Defines, Does, Stays, Stops, shard_at}
 use Rattle.cas_sessions.specs.Verifying.{VerifiesNamed}
+use Rattle.cas_node.specs.declared.upshot.Upshot.{Upshot}
 use Rattle.cas_node.specs.Lines.{Answered, Answers, Runs, SetsClock}
+use Rattle.cas_node.proofs.Settling.{behind}
 
 -- ---- table files
 
@@ -136,6 +139,15 @@ grown : (table shard : ℕ) (s : ShardHistory) (c : Option Change) (before after
 grown table shard s None before after g = ([], g ∙ sym (append-nil before))
 grown table shard s (Some c) before after g = (g.0 ∷ [], g.1)
 
+further : (t : TableSchema) (n : ℕ) (q : ShardHistory) (d e : DiskState) (f : Fault) → WhyNoFurther t n q d e f → (e.stopped ≡ false) ⊎ Rose d.faults e.faults
+further t n q d e (fault.Refused why) w = inl w.1
+further t n q d e (fault.Stopped first) w = absurd w
+further t n q d e (fault.Disk None) w = ⊎_elim (λ rose. inr rose) (λ other. inl other.0) w
+further t n q d e (fault.Disk (Some number)) w = absurd w
+further t n q d e fault.Read w = inl w.0
+further t n q d e (fault.BadBlock number at) w = absurd w
+further t n q d e fault.Mem w = inl w
+
 module _ (h : History) (t : TableSchema) (changes : List (Option Change)) (e : DiskState) (so : Flushed h t changes e) where
   flushed_more : AreMore h.disk.files e.files
   flushed_more n table = ⊎_elim here (λ other. ([], so.others n table other ∙ sym (append-nil (h.disk.files n table)))) (same_or_not table t.number)
@@ -145,30 +157,26 @@ module _ (h : History) (t : TableSchema) (changes : List (Option Change)) (e : D
           subst (λ k. (more : List (File Held)) × (e.files n k ≡ h.disk.files n k ++ more)) (sym same)
           (grown t.number n _ (change_of changes n) (h.disk.files n t.number) (e.files n t.number) (so.files n))
 
-  further : (n : ℕ) (f : Fault) → WhyNoFurther t n (shard_at h n) h.disk e f → (e.stopped ≡ false) ⊎ Rose h.disk.faults e.faults
-  further n (fault.Refused why) w = inl w.1
-  further n (fault.Stopped first) w = absurd w
-  further n (fault.Disk None) w = ⊎_elim (λ rose. inr rose) (λ other. inl other.0) w
-  further n (fault.Disk (Some number)) w = absurd w
-  further n fault.Read w = inl w.0
-  further n (fault.BadBlock number at) w = absurd w
-  further n fault.Mem w = inl w
+  ended : (begun : ℕ) (r : Result (List ℕ) Fault) → EndsSo h t changes begun r e → (e.stopped ≡ false) ⊎ Rose h.disk.faults e.faults
+  ended begun (Ok told) ends = inl ends.2
+  ended begun (Err f) ends = further t (length changes) (shard_at h (length changes)) h.disk e f ends.1
 
-  ended : (r : Result (List ℕ) Fault) → EndsSo h t changes r e → (e.stopped ≡ false) ⊎ Rose h.disk.faults e.faults
-  ended (Ok told) ends = inl ends.2
-  ended (Err f) ends = further (length changes) f ends.1
-
-  pub flushed_counts : (r : Result (List ℕ) Fault) → EndsSo h t changes r e → Counts h.disk e
-  flushed_counts r ends = record { faults = so.faults; stops = λ on. ended r ends; files = flushed_more }
+  pub flushed_counts : (begun : ℕ) (r : Result (List ℕ) Fault) → EndsSo h t changes begun r e → Counts h.disk e
+  flushed_counts begun r ends = record { faults = so.faults; stops = λ on. ended begun r ends; files = flushed_more }
 
 -- a flush that an earlier fault didn't stop
 abbrev IsBegun : History → TableSchema → Result (List ℕ) Fault → History → Type 0
 IsBegun h t r after =
-    (changes : List (Option Change)) × (e : DiskState) × (h.disk.stopped ≡ false) × Flushed h t changes e × EndsSo h t changes r e
-    × (after ≡ record h { unflushed = without_flushed t.number changes h.unflushed; changes = fold changes_by h.changes changes; disk = e })
+    (changes : List (Option Change)) × (begun : ℕ) × (e : DiskState) × (h.disk.stopped ≡ false) × Flushed h t changes e × EndsSo h t changes begun r e
+    × (after ≡ record h {
+      unflushed = without_flushed t.number changes h.unflushed;
+      filled = without_begun t.number begun h.filled;
+      changes = fold changes_by h.changes changes;
+      disk = e;
+    })
 
 begun_counts : (h : History) (t : TableSchema) (r : Result (List ℕ) Fault) (after : History) → IsBegun h t r after → Counts h.disk after.disk
-begun_counts h t r after a = at_disk h after a.1 (ap (λ (k : History). k.disk) a.5) (flushed_counts h t a.0 a.1 a.3 r a.4)
+begun_counts h t r after a = at_disk h after a.2 (ap (λ (k : History). k.disk) a.6) (flushed_counts h t a.0 a.2 a.4 a.1 r a.5)
 
 flush_counts : (h : History) (t : TableSchema) (r : Result (List ℕ) Fault) (after : History) → FlushesTable h t r after → Counts h.disk after.disk
 flush_counts h t (Ok told) after a = begun_counts h t (Ok told) after a
@@ -182,6 +190,34 @@ flush_counts h t (Err fault.Mem) after a = begun_counts h t (Err fault.Mem) afte
 named_counts : (h : History) (o : Option TableSchema) (r : Result (List ℕ) Fault) (after : History) → FlushesNamed h o r after → Counts h.disk after.disk
 named_counts h None r after a = unchanged h after a.1
 named_counts h (Some t) r after a = flush_counts h t r after a
+
+-- of one shard
+more_in : (t : TableSchema) (n : ℕ) (q : ShardHistory) (c : Option Change) (r : Result (Option ℕ) Fault) (d e : DiskState) → EndsIn t n q c r d e → AreMore d.files e.files
+more_in t n q c (Err f) d e none k j = ([], none.files k j ∙ sym (append-nil (d.files k j)))
+more_in t n q c (Ok told) d e one k j = ⊎_elim (λ here. ⊎_elim (λ of_it. own here of_it) (λ apart. other (λ both. apart both.1)) (same_or_not j t.number)) (λ apart. other (λ both. apart both.0)) (same_or_not k n)
+  where
+    other : ((k ≡ n) × (j ≡ t.number) → ⊥) → (more : List (File Held)) × (e.files k j ≡ d.files k j ++ more)
+    other apart = ([], one.others k j apart ∙ sym (append-nil (d.files k j)))
+
+    own : k ≡ n → j ≡ t.number → (more : List (File Held)) × (e.files k j ≡ d.files k j ++ more)
+    own here of_it =
+        subst (λ i. (more : List (File Held)) × (e.files i j ≡ d.files i j ++ more)) (sym here)
+        (subst (λ i. (more : List (File Held)) × (e.files n i ≡ d.files n i ++ more)) (sym of_it)
+        (grown t.number n q c (d.files n t.number) (e.files n t.number) one.files))
+
+ends_on : (t : TableSchema) (n : ℕ) (q : ShardHistory) (c : Option Change) (r : Result (Option ℕ) Fault) (d e : DiskState) → EndsIn t n q c r d e
+    → (e.stopped ≡ false) ⊎ Rose d.faults e.faults
+ends_on t n q c (Ok told) d e one = inl one.stopped
+ends_on t n q c (Err f) d e none = further t n q d e f none.why
+
+one_counts : (h after : History) (t : TableSchema) (n : ℕ) (r : Result (Option ℕ) Fault) → FlushesIn h t n r after → Counts h.disk after.disk
+one_counts h after t n r a =
+    at_disk h after a.disk (ap (λ (k : History). k.disk) a.follows)
+    (record {
+      faults = a.faults;
+      stops = λ on. ends_on t n (shard_at h n) a.change r h.disk a.disk a.ends;
+      files = more_in t n (shard_at h n) a.change r h.disk a.disk a.ends;
+    })
 
 -- ---- a check
 
@@ -199,7 +235,7 @@ module _ (kind : ClockKind) (Gives : ℤ → Type 0) where
   deed h (Ok (bound.Write w)) r t a = at_disk h t a.2.1 (ap (λ (k : History). k.disk) a.2.3) (taken _ _ _ _ r a.2.0 a.2.1 a.2.2)
   deed h (Ok (bound.Read q)) r t a = at_disk h t (record h.disk { reads = a.2.0 }) (ap (λ (k : History). k.disk) a.2.3) (read_on h.disk a.2.0)
 
-  answered : (h : History) (l : Line) (r : Option Reply) (t : History) → Answered kind Gives h l r t → Counts h.disk t.disk
+  answered : (h : History) (l : Line) (r : Upshot) (t : History) → Answered kind Gives h l r t → Counts h.disk t.disk
   answered h line.Blank r t a = unchanged h t a.1
   answered h line.Syntax r t a = unchanged h t a.1
   answered h (line.Clock n) r t a = clock_set kind h n a.0 t a.2
@@ -210,20 +246,23 @@ module _ (kind : ClockKind) (Gives : ℤ → Type 0) where
   answered h (line.Flush name) r t a = named_counts h (table_named h.tables name) a.0 t a.2
   answered h (line.Verify name) r t a = verified_counts h (table_named h.tables name) a.0 t a.2
   answered h line.Status r t a = unchanged h t a.1
-  answered h (line.Statement s) r t a = deed h (meaning h.limits.shards h.tables s) a.0 t a.2
+  answered h (line.Statement s) r t a =
+      let b = meaning h.limits.shards h.tables s in
+      then_on h.disk a.1.disk t.disk (deed h b a.0 a.1 a.3)
+      (behind (λ (k j : History). Counts k.disk j.disk) unchanged one_counts b a.0 r.want a.1 t a.4)
 
-  pub one_line : (h : History) (text : List ℕ) (r : Option Reply) (t : History) → Answers kind Gives h text r t → Counts h.disk t.disk
+  pub one_line : (h : History) (text : List ℕ) (r : Upshot) (t : History) → Answers kind Gives h text r t → Counts h.disk t.disk
   one_line h text r t (inl x) = unchanged h t x.1
   one_line h text r t (inr x) = answered h x.0 r t x.2
 
-  all_lines : (h : History) (ls : List (List ℕ)) (rs : List (Option Reply)) (t : History) → Runs kind Gives h ls rs t → Counts h.disk t.disk
+  all_lines : (h : History) (ls : List (List ℕ)) (rs : List Upshot) (t : History) → Runs kind Gives h ls rs t → Counts h.disk t.disk
   all_lines h [] [] t x = unchanged h t x
   all_lines h [] (r ∷ rs) t x = absurd x
   all_lines h (l ∷ ls) [] t x = absurd x
   all_lines h (l ∷ ls) (r ∷ rs) t x = then_on h.disk x.0.disk t.disk (one_line h l r x.0 x.1) (all_lines x.0 ls rs t x.2)
 
   -- where the disk is stopped by the end the count rose, from whatever it was before
-  pub stop_is_counted : (h : History) (ls : List (List ℕ)) (rs : List (Option Reply)) (t : History) (before now : ℕ) → Runs kind Gives h ls rs t → h.disk.stopped ≡ false
+  pub stop_is_counted : (h : History) (ls : List (List ℕ)) (rs : List Upshot) (t : History) (before now : ℕ) → Runs kind Gives h ls rs t → h.disk.stopped ≡ false
       → before ≤ h.disk.faults → t.disk.faults ≡ now → t.disk.stopped ≡ true → Rose before now
   stop_is_counted h ls rs t before now runs on le is off =
       ⊎_elim (λ goes. absurd (true≢false (sym off ∙ goes)))

@@ -1,5 +1,5 @@
 -- What holds of every run of a script, and of every open store (own).
-use Rattle.std.specs.Prelude.{◌≡◌, ◌<◌, ◌≤◌, ◌+◌, ◌*◌, ◌^◌, ℕ, ℤ, false, List, Option, length}
+use Rattle.std.specs.Prelude.{◌≡◌, ◌<◌, ◌≤◌, ◌+◌, ◌*◌, ◌^◌, ℕ, ℤ, false, List, length}
 use Rattle.std.specs.List.{list_any}
 use Rattle.cas_io.specs.Causes.{Rose}
 use Rattle.cas_disk.specs.Disk.{Disk}
@@ -8,13 +8,13 @@ use Rattle.cas_bind.specs.declared.bound.Limits.{Limits}
 use Rattle.cas_changes.specs.declared.entry.Entry.{Entry as ManifestEntry}
 use Rattle.cas_changes.specs.declared.said.TheConstants.{SEGMENT_LIMIT, FILE_LIMIT}
 use Rattle.cas_journal.specs.Reach.{Reach}
-use Rattle.cas_render.specs.declared.reply.Reply.{Reply}
 use Rattle.cas_shard.specs.Shards.{ShardHistory}
 use Rattle.cas_shard.specs.Stands.{NumbersRise, AreShown}
 use Rattle.cas_words.specs.declared.words.ClockKind.{ClockKind}
 use Rattle.cas_words.specs.declared.words.ClockKind.TheVariants as clock
 use Rattle.cas_sessions.specs.History.{History, DiskState, shard_at}
 use Rattle.cas_shard.specs.declared.entry.ShardOpening.{ShardOpening}
+use Rattle.cas_node.specs.declared.upshot.Upshot.{Upshot}
 use Rattle.cas_node.specs.Lines.{NoneFlushes, Runs, is_starved}
 use Rattle.cas_node.specs.Ran.{AreGood}
 use Rattle.cas_recovery.specs.Found.{AreOfAStore}
@@ -34,12 +34,12 @@ StaysWell d e = (d.stopped ≡ false) × (Rose d.faults e.faults → ⊥) × IsR
 abbrev pub SameStore : History → History → Type 0
 SameStore t u = record t { disk = u.disk } ≡ u
 
--- under the manual clock lines that flush no table are answered in one way and leave one store, as long as memory doesn't run out and the disk is well
+-- under the manual clock lines that flush nothing are answered in one way and leave one store, as long as memory doesn't run out and the disk is well
 abbrev pub OneOutcome : (ℤ → Type 0) → Type 0
 OneOutcome Gives =
-    (h : History) (lines : List (List ℕ)) (rs ss : List (Option Reply)) (t u : History)
+    (h : History) (lines : List (List ℕ)) (rs ss : List Upshot) (t u : History)
     → Runs clock.Manual Gives h lines rs t → Runs clock.Manual Gives h lines ss u
-    → NoneFlushes lines → list_any is_starved rs ≡ false → list_any is_starved ss ≡ false → StaysWell h.disk t.disk → StaysWell h.disk u.disk → (rs ≡ ss) × SameStore t u
+    → NoneFlushes clock.Manual Gives h lines → list_any is_starved rs ≡ false → list_any is_starved ss ≡ false → StaysWell h.disk t.disk → StaysWell h.disk u.disk → (rs ≡ ss) × SameStore t u
 
 -- each shard's mutations are numbered upwards, those since the run began by one
 abbrev pub AllRise : History → Type 0
@@ -54,7 +54,7 @@ FoundRise folder =
 -- along a run they stay so, under either clock and whatever is answered
 abbrev pub NumbersStay : (ℤ → Type 0) → Type 0
 NumbersStay Gives =
-    (kind : ClockKind) (h after : History) (lines : List (List ℕ)) (rs : List (Option Reply)) → AllRise h → Runs kind Gives h lines rs after → AllRise after
+    (kind : ClockKind) (h after : History) (lines : List (List ℕ)) (rs : List Upshot) → AllRise h → Runs kind Gives h lines rs after → AllRise after
 
 -- so the front cuts nothing off: a SELECT reads all mutations of its partition that its shard has accepted, before the run or in it
 abbrev pub AllAreRead : Type 0
@@ -64,6 +64,6 @@ AllAreRead = (s : ShardHistory) → NumbersRise s → AreShown s
 -- their count or their numbers, but after many others
 abbrev pub FilesAreFew : (ℤ → Type 0) → Type 0
 FilesAreFew Gives =
-    (kind : ClockKind) (h after : History) (lines : List (List ℕ)) (rs : List (Option Reply)) → Runs kind Gives h lines rs after
+    (kind : ClockKind) (h after : History) (lines : List (List ℕ)) (rs : List Upshot) → Runs kind Gives h lines rs after
     → (after.disk.last_file ≤ h.disk.last_file + length lines * (length h.shards + 1))
     × (after.disk.live ≤ h.disk.live + length lines * (length h.shards + 1))

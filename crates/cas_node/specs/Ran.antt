@@ -31,6 +31,7 @@ use Rattle.cas_words.specs.declared.words.Command.{Command}
 use Rattle.cas_node.specs.declared.cause.Cause.{Cause}
 use Rattle.cas_node.specs.declared.cause.Cause.TheVariants as cause
 use Rattle.cas_node.specs.declared.program.TheConstants.{SCRIPT_LIMIT}
+use Rattle.cas_node.specs.declared.upshot.Upshot.{Upshot}
 use Rattle.cas_sessions.specs.History.{History, tells_want}
 use Rattle.cas_node.specs.Lines.{NoneFlushes, Runs}
 use Rattle.cas_recovery.specs.Found.{IsFound}
@@ -97,34 +98,41 @@ reply_cause (Some (reply.Failed f)) = failure_cause f
 reply_cause (Some (reply.Verified verdicts)) = verdicts_cause verdicts
 reply_cause _ = cause.Good
 
--- the worst that the replies say
-abbrev pub worst : List (Option Reply) → Cause
-worst replies = fold (λ c r. worse c (reply_cause r)) cause.Good replies
+-- what came of a line says this: its reply does, or memory ran out for a flush behind it. That such a flush failed for the disk or a read, the counts tell; and
+-- that it was one too many counts for nothing.
+abbrev pub upshot_cause : Upshot → Cause
+upshot_cause o = if o.want then worse (reply_cause o.reply) cause.Mem else reply_cause o.reply
+
+-- the worst that they say
+abbrev pub worst : List Upshot → Cause
+worst upshots = fold (λ c o. worse c (upshot_cause o)) cause.Good upshots
 
 -- ---- where a run stopped
 
--- no line is left, all replies were written, and the run ends as the worst of them says
-pub record AtTheEnd (rest : List (List ℕ)) (old new : Option (List ℕ)) (replies : List (Option Reply)) (why : Cause) : Type 0 where
+-- no line is left, all replies were written, and the run ends as the worst of what came of them says
+pub record AtTheEnd (rest : List (List ℕ)) (old new : Option (List ℕ)) (upshots : List Upshot) (why : Cause) : Type 0 where
   pub all : rest ≡ []
-  pub written : Appends old new (output replies)
-  pub told : why ≡ worst replies
+  pub written : Appends old new (output upshots)
+  pub told : why ≡ worst upshots
 
 -- the sink failed at the reply to the last line that was run: all earlier replies and a front of it were written
-pub record AtTheSink (old new : Option (List ℕ)) (replies : List (Option Reply)) (why : Cause) : Type 0 where
-  pub earlier : List (Option Reply)
+pub record AtTheSink (old new : Option (List ℕ)) (upshots : List Upshot) (why : Cause) : Type 0 where
+  pub earlier : List Upshot
   pub last : Reply
-  pub are : replies ≡ earlier ++ Some last ∷ []
+  pub want : Bool
+  pub are : upshots ≡ earlier ++ record { reply = Some last; want = want } ∷ []
   pub front : List ℕ
   pub back : List ℕ
   pub cut : front ++ back ≡ reply_text last
   pub written : Appends old new (output earlier ++ front)
-  pub told : why ≡ worse (worst replies) cause.Write
+  pub told : why ≡ worse (worst upshots) cause.Write
 
 -- memory ran out for the text of the reply to the last line that was run, which isn't `failed memory`: all earlier replies were written
-pub record ForMemory (old new : Option (List ℕ)) (replies : List (Option Reply)) (why : Cause) : Type 0 where
-  pub earlier : List (Option Reply)
+pub record ForMemory (old new : Option (List ℕ)) (upshots : List Upshot) (why : Cause) : Type 0 where
+  pub earlier : List Upshot
   pub last : Reply
-  pub are : replies ≡ earlier ++ Some last ∷ []
+  pub want : Bool
+  pub are : upshots ≡ earlier ++ record { reply = Some last; want = want } ∷ []
   pub other : tells_want last ≡ false
   pub written : Appends old new (output earlier)
   pub told : why ≡ cause.Mem
@@ -135,22 +143,22 @@ pub data Stop : Type 0 where
   at_the_sink : Stop
   for_memory : Stop
 
--- how it ended there: its replies, those that were written, and the cause
-abbrev pub Ended : Stop → List (List ℕ) → Option (List ℕ) → Option (List ℕ) → List (Option Reply) → Cause → Type 0
-Ended at_the_end rest old new replies why = AtTheEnd rest old new replies why
-Ended at_the_sink rest old new replies why = AtTheSink old new replies why
-Ended for_memory rest old new replies why = ForMemory old new replies why
+-- how it ended there: what came of its lines, what was written of their replies, and the cause
+abbrev pub Ended : Stop → List (List ℕ) → Option (List ℕ) → Option (List ℕ) → List Upshot → Cause → Type 0
+Ended at_the_end rest old new upshots why = AtTheEnd rest old new upshots why
+Ended at_the_sink rest old new upshots why = AtTheSink old new upshots why
+Ended for_memory rest old new upshots why = ForMemory old new upshots why
 
 -- From a history, the lines up to some place were run one after another; they left this history, and the run ended there.
 pub record RanFrom (h : History) (kind : ClockKind) (Gives : ℤ → Type 0) (script : List ℕ) (old new : Option (List ℕ))
     (final : History) (why : Cause) : Type 0 where
   pub run : List (List ℕ)
   pub rest : List (List ℕ)
-  pub replies : List (Option Reply)
+  pub upshots : List Upshot
   pub cut : run ++ rest ≡ lines script
-  pub steps : Runs kind Gives h run replies final
+  pub steps : Runs kind Gives h run upshots final
   pub stop : Stop
-  pub ended : Ended stop rest old new replies why
+  pub ended : Ended stop rest old new upshots why
 
 -- ---- a run and its outside
 
@@ -218,7 +226,7 @@ IsBadForOne files _ at = ⊥
 
 -- A run of the command over a script, by what the shards of its store were before, and by its table files: from there the script's lines were run; what
 -- they entered is the list that is handed back; and whatever a crash leaves of the folder handed back has all that was acknowledged. The next run, which finds
--- just that, begins with what the shards were and the front of what was accepted that is left, also behind flushes; where no line flushes a table, the manifest
+-- just that, begins with what the shards were and the front of what was accepted that is left, also behind flushes; where no line flushes anything, the manifest
 -- lists the table files that were found and no others. A write was stopped only where the folder's count of faults rose, so that otherwise all that was accepted
 -- is left; and a file is called bad only where it is, of those that were found or flushed.
 pub record RanOn (c : Command) (Gives : ℤ → Type 0) (script : List ℕ) (before after : Outside) (reads : ℕ) (list : List (Item Event)) (why : Cause)
@@ -230,7 +238,7 @@ pub record RanOn (c : Command) (Gives : ℤ → Type 0) (script : List ℕ) (bef
   pub ran : RanFrom first c.clock Gives script before.taken after.taken final told
   pub entered : AreEntered list final
   pub crash : (d : Image) → before.folder.reads d → IsOfBytes d → (i : Image) → after.folder.may_leave i → IsLeft mutations list final i
-  pub lists : NoneFlushes (lines script) → (d : Image) → before.folder.reads d → IsOfBytes d → (i : Image) → after.folder.may_leave i → HasBehind entries i
+  pub lists : NoneFlushes c.clock Gives first (lines script) → (d : Image) → before.folder.reads d → IsOfBytes d → (i : Image) → after.folder.may_leave i → HasBehind entries i
   pub next : (d : Image) → before.folder.reads d → IsOfBytes d → (i : Image) → after.folder.may_leave i → IsOfBytes i → IsExplained mutations list final openings i
   pub faults : final.disk.faults ≡ after.folder_faults
   pub reads_are : final.disk.reads ≡ reads
@@ -238,13 +246,16 @@ pub record RanOn (c : Command) (Gives : ℤ → Type 0) (script : List ℕ) (bef
   pub bad : IfBad why (IsBadForOne final.disk.files)
   pub ended : why ≡ with_faults before.folder_faults after.folder_faults reads told
 
--- What the script's flushes write is known: the folder tells what is read of it, or no line flushes a table.
-abbrev pub IsKnown : Disk → List ℕ → Type 0
-IsKnown folder script = ((d : Image) × folder.reads d × IsOfBytes d) ⊎ NoneFlushes (lines script)
+-- What flushes write is known: the folder tells what is read of it; or none of the script's lines flushes anything, whatever comes of those before it.
+abbrev pub IsKnown : Command → (ℤ → Type 0) → List ℕ → Outside → List ManifestEntry → List Mutation → (ℕ → ShardOpening) → (ℕ → ℕ → List (File Held))
+    → Type 0
+IsKnown c Gives script before entries mutations openings files =
+    ((d : Image) × before.folder.reads d × IsOfBytes d)
+    ⊎ ((first : History) → Begins c.limits entries mutations openings files before.folder_faults first → NoneFlushes c.clock Gives first (lines script))
 
 -- A run of the command over a script: its folder had a store of these entries and mutations, or got one, with these table files; whatever a crash leaves
 -- at any moment of the run has each of these files, all of its bytes, as it would have been left before the run; and whatever its shards may have been
--- before, for all that the folder tells, the script was run over that, where what its flushes write is known.
+-- before, for all that the folder tells, the script was run over that, where what flushes write is known.
 pub record Ran (c : Command) (Gives : ℤ → Type 0) (script : List ℕ) (before after : Outside) (reads : ℕ) (list : List (Item Event)) (why : Cause)
     : Type 0 where
   pub entries : List ManifestEntry
@@ -253,8 +264,8 @@ pub record Ran (c : Command) (Gives : ℤ → Type 0) (script : List ℕ) (befor
   pub files : ℕ → ℕ → List (File Held)
   pub its_files : AreItsFiles entries before.folder files
   pub tables : (d : Image) → before.folder.reads d → IsOfBytes d → During (SameListed entries) before.folder after.folder
-  pub on : (openings : ℕ → ShardOpening) → AreOpenings entries mutations before.folder openings → IsKnown before.folder script
-      → RanOn c Gives script before after reads list why entries mutations openings files
+  pub on : (openings : ℕ → ShardOpening) → AreOpenings entries mutations before.folder openings
+      → IsKnown c Gives script before entries mutations openings files → RanOn c Gives script before after reads list why entries mutations openings files
 
 -- a run may end so without having run a line
 abbrev pub IsNotRun : Cause → Type 0
@@ -279,7 +290,7 @@ GoodOrMem why = (why ≡ cause.Good) ⊎ (why ≡ cause.Mem)
 -- no line of the script is refused, whatever the clock reads, unless memory runs out
 abbrev pub IsGranted : History → ClockKind → (ℤ → Type 0) → List ℕ → Type 0
 IsGranted first kind Gives script =
-    (replies : List (Option Reply)) (final : History) → Runs kind Gives first (lines script) replies final → GoodOrMem (worst replies)
+    (upshots : List Upshot) (final : History) → Runs kind Gives first (lines script) upshots final → GoodOrMem (worst upshots)
 
 -- this holds of the bytes that were taken, if the script is too long
 abbrev pub IfTooLong : Cause → (ℕ → Type 0) → Type 0
@@ -307,7 +318,7 @@ count_taken (Some xs) (Some ys) = Some (length xs - length ys)
 -- Along each run of some of the script's lines, from the first on, no table file is bad: none of those that were found, and none that was flushed.
 abbrev pub StaysGood : History → ClockKind → (ℤ → Type 0) → List ℕ → Type 0
 StaysGood first kind Gives script =
-    (run rest : List (List ℕ)) (replies : List (Option Reply)) (final : History) → run ++ rest ≡ lines script → Runs kind Gives first run replies final
+    (run rest : List (List ℕ)) (upshots : List Upshot) (final : History) → run ++ rest ≡ lines script → Runs kind Gives first run upshots final
     → AreGood final.disk.files
 
 -- All is well: the words are the command's; the folder tells a store, with what its shards may have been before, whose table files are good and stay so; the

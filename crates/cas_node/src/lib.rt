@@ -6,8 +6,10 @@ mod laws;
 mod program;
 mod runner;
 mod script;
+mod upshot;
 
 pub use cas_words::path_of;
 pub use cause::Cause;
 pub use laws::{files_are_few, numbers_rise, one_outcome};
 pub use program::{Outcome, SCRIPT_LIMIT, run};
+pub use upshot::Upshot;

@@ -1,13 +1,14 @@
 //! What each line of a script does with an open store.
 
-ghost use Rattle.std.specs.Prelude.{◌≡◌, ◌⊎◌, ℕ, List as ListOf, Result as ResultOf};
+ghost use Rattle.std.specs.Prelude.{◌≡◌, ◌⊎◌, ◌<◌, ℕ, IfSome, length, List as ListOf, Result as ResultOf};
 ghost use Rattle.cas_types.specs.Limits.{IsMoment};
 ghost use Rattle.cas_disk.specs.Disk.{Disk, During};
 ghost use Rattle.cas_lines.specs.Lines.{Says};
-ghost use Rattle.cas_node.specs.Inner.Serving.{Knows};
-ghost use Rattle.cas_node.specs.Lines.{Answers, FlushesNone, SetsClock, reply_of_flush, reply_of_verify};
+ghost use Rattle.cas_node.specs.Inner.Serving.{HasRoomFor, KeepsCounts, Knows, ListsIf, MovesIf, PerformsRoomily, PerformsSo, SettledFor, place_of};
+ghost use Rattle.cas_node.specs.Lines.{Answers, FlushesNone, SetsClock, is_want, reply_of_flush, reply_of_verify};
+ghost use Rattle.cas_sessions.specs.Calls.{IsSpelled};
 ghost use Rattle.cas_sessions.specs.Flushes.{Flushes};
-ghost use Rattle.cas_sessions.specs.declared.answer.Fault.{Fault};
+ghost use Rattle.cas_sessions.specs.declared.answer.Fault.{Fault as FaultOf};
 ghost use Rattle.cas_sessions.specs.Listing.{KeepsListing, SameUpTo};
 ghost use Rattle.cas_sessions.specs.Nodes.{CountsOn, IsFew, Moves, OrWant, StandsFor, State};
 ghost use Rattle.cas_sessions.specs.Status.{status};
@@ -16,17 +17,38 @@ ghost use Rattle.cas_sessions.specs.History.{History};
 ghost use Rattle.cas_render.specs.declared.reply.Reply.TheVariants as replies;
 ghost use Rattle.cas_render.specs.declared.reply.Verdict.{Verdict};
 
+use crate::upshot::{Upshot, replied};
 use cas_disk::Folder;
 use cas_effects::{NOT_HERE, SYNTAX};
 use cas_history::Store;
 use cas_io::Clock;
 use cas_lines::{Line, read_line};
 use cas_render::{Failure, Reply};
-use cas_sessions::{Ask, Node, Session, Stored, reply_of};
+use cas_sessions::{Answer, Ask, Fault, Node, Session, Stored, reply_of};
 use cas_types::{List, Mem};
 use cas_words::ClockKind;
-use cql_parse::TableName;
+use cql_parse::{Statement, TableName};
 use std::alloc::Global;
+
+// The table and the shard of a mutation that was accepted.
+fn place_of(answer: &Result<Answer, Fault>) -> Option<(u16, u8)>
+    ensures { result ≡ place_of answer.now }
+{
+    match answer {
+        Ok(Answer::Wrote { table, shard, .. }) => Some((*table, *shard)),
+        _ => None,
+    }
+}
+
+// Whether memory ran out for a flush.
+fn is_want(told: &Result<Option<u64>, Fault>) -> bool
+    ensures { result ≡ is_want told.now }
+{
+    match told {
+        Err(Fault::Mem) => true,
+        _ => false,
+    }
+}
 
 /// What contracts see of a runner.
 pub(crate) trait Running {
@@ -75,7 +97,7 @@ impl<F: Folder, J: Store> Runner<F, J> {
     // Flushes a table, and says which files that made.
     fn flush(&mut self, alloc: Global, name: &TableName) -> Reply
         ensures flushes { Knows (⟦<Runner<F, J> as Running>⟧.state self.old) (⟦<Runner<F, J> as Running>⟧.disk self.old)
-            → Moves (λ h after. (told : ResultOf (ListOf ℕ) Fault) × (result ≡ reply_of_flush told) × Flushes h name.now told after)
+            → Moves (λ h after. (told : ResultOf (ListOf ℕ) FaultOf) × (result ≡ reply_of_flush told) × Flushes h name.now told after)
             (⟦<Runner<F, J> as Running>⟧.state self.old) (⟦<Runner<F, J> as Running>⟧.state self.new)
             (⟦<Runner<F, J> as Running>⟧.disk self.old) (⟦<Runner<F, J> as Running>⟧.disk self.new) }
         ensures tables { During (SameUpTo (⟦<Runner<F, J> as Running>⟧.state self.old).last_file)
@@ -92,7 +114,7 @@ impl<F: Folder, J: Store> Runner<F, J> {
 
     // Reads the files of a table, and says of each what was found.
     fn verify(&mut self, alloc: Global, name: &TableName) -> Reply
-        ensures verifies { Moves (λ h after. (told : ResultOf (ListOf Verdict) Fault) × (result ≡ reply_of_verify told) × Verifies h name.now told after)
+        ensures verifies { Moves (λ h after. (told : ResultOf (ListOf Verdict) FaultOf) × (result ≡ reply_of_verify told) × Verifies h name.now told after)
             (⟦<Runner<F, J> as Running>⟧.state self.old) (⟦<Runner<F, J> as Running>⟧.state self.new)
             (⟦<Runner<F, J> as Running>⟧.disk self.old) (⟦<Runner<F, J> as Running>⟧.disk self.new) }
         ensures tables { During (SameUpTo (⟦<Runner<F, J> as Running>⟧.state self.old).last_file)
@@ -118,62 +140,111 @@ impl<F: Folder, J: Store> Runner<F, J> {
         }
     }
 
+    // Flushes the memtable of a table in a shard that a mutation was written to, if there was one and it is full now, and says
+    // whether memory ran out for that.
+    fn settle(&mut self, alloc: Global, place: Option<(u16, u8)>) -> bool
+        requires within { IfSome place (λ p. (p.0 < length (⟦<Runner<F, J> as Running>⟧.state self.old).tables)
+            × (p.1 < (⟦<Runner<F, J> as Running>⟧.state self.old).limits.shards)) }
+        ensures settles { MovesIf (λ h. Knows (⟦<Runner<F, J> as Running>⟧.state self.old) (⟦<Runner<F, J> as Running>⟧.disk self.old)
+            ⊎ HasRoomFor place h) (λ h after. SettledFor place result h after)
+            (⟦<Runner<F, J> as Running>⟧.state self.old) (⟦<Runner<F, J> as Running>⟧.state self.new)
+            (⟦<Runner<F, J> as Running>⟧.disk self.old) (⟦<Runner<F, J> as Running>⟧.disk self.new) }
+        ensures tables { During (SameUpTo (⟦<Runner<F, J> as Running>⟧.state self.old).last_file)
+            (⟦<Runner<F, J> as Running>⟧.disk self.old) (⟦<Runner<F, J> as Running>⟧.disk self.new) }
+        ensures lists { ListsIf (HasRoomFor place) (⟦<Runner<F, J> as Running>⟧.state self.old)
+            (⟦<Runner<F, J> as Running>⟧.disk self.old) (⟦<Runner<F, J> as Running>⟧.disk self.new) }
+        ensures counts { KeepsCounts (⟦<Runner<F, J> as Running>⟧.state self.old) (⟦<Runner<F, J> as Running>⟧.state self.new) }
+    {
+        match place {
+            Some((table, shard)) => {
+                let told = self.node.flush_full(alloc, &mut self.session, table, shard);
+                is_want(&told)
+            }
+            None => false,
+        }
+    }
+
+    // Performs a statement, and flushes the memtable that it made full.
+    fn perform<C: Clock>(
+        &mut self,
+        alloc: Global,
+        ask: &Ask<'_, C>,
+        statement: &Statement,
+    ) -> Upshot
+        requires few { IsFew (⟦<Runner<F, J> as Running>⟧.state self.old) }
+        requires spelled { IsSpelled statement.now }
+        ensures performs { MovesIf (λ h. Knows (⟦<Runner<F, J> as Running>⟧.state self.old) (⟦<Runner<F, J> as Running>⟧.disk self.old)
+            ⊎ PerformsRoomily ask.now.kind (C.may_give ask.now.clock.now) statement.now h)
+            (λ h after. PerformsSo ask.now.kind (C.may_give ask.now.clock.now) statement.now result h after)
+            (⟦<Runner<F, J> as Running>⟧.state self.old) (⟦<Runner<F, J> as Running>⟧.state self.new)
+            (⟦<Runner<F, J> as Running>⟧.disk self.old) (⟦<Runner<F, J> as Running>⟧.disk self.new) }
+        ensures tables { During (SameUpTo (⟦<Runner<F, J> as Running>⟧.state self.old).last_file)
+            (⟦<Runner<F, J> as Running>⟧.disk self.old) (⟦<Runner<F, J> as Running>⟧.disk self.new) }
+        ensures lists { ListsIf (PerformsRoomily ask.now.kind (C.may_give ask.now.clock.now) statement.now)
+            (⟦<Runner<F, J> as Running>⟧.state self.old)
+            (⟦<Runner<F, J> as Running>⟧.disk self.old) (⟦<Runner<F, J> as Running>⟧.disk self.new) }
+        ensures counts { CountsOn (⟦<Runner<F, J> as Running>⟧.state self.old) (⟦<Runner<F, J> as Running>⟧.state self.new) }
+    {
+        let answer = self
+            .node
+            .answer(alloc, &mut self.session, ask, self.seconds, statement);
+        let want = self.settle(alloc, place_of(&answer));
+        Upshot {
+            reply: Some(reply_of(answer)),
+            want,
+        }
+    }
+
     fn answer_known<C: Clock>(
         &mut self,
         alloc: Global,
         ask: &Ask<'_, C>,
         text: &[u8],
         line: Line,
-    ) -> Option<Reply>
+    ) -> Upshot
         requires few { IsFew (⟦<Runner<F, J> as Running>⟧.state self.old) }
         requires says { Says text.now line }
-        ensures answers { Knows (⟦<Runner<F, J> as Running>⟧.state self.old) (⟦<Runner<F, J> as Running>⟧.disk self.old) ⊎ FlushesNone text.now
-            → Moves (λ h after. Answers ask.now.kind (C.may_give ask.now.clock.now) h text.now result after)
+        ensures answers { MovesIf (λ h. Knows (⟦<Runner<F, J> as Running>⟧.state self.old) (⟦<Runner<F, J> as Running>⟧.disk self.old)
+            ⊎ FlushesNone ask.now.kind (C.may_give ask.now.clock.now) h text.now)
+            (λ h after. Answers ask.now.kind (C.may_give ask.now.clock.now) h text.now result after)
             (⟦<Runner<F, J> as Running>⟧.state self.old) (⟦<Runner<F, J> as Running>⟧.state self.new)
             (⟦<Runner<F, J> as Running>⟧.disk self.old) (⟦<Runner<F, J> as Running>⟧.disk self.new) }
         ensures tables { During (SameUpTo (⟦<Runner<F, J> as Running>⟧.state self.old).last_file)
             (⟦<Runner<F, J> as Running>⟧.disk self.old) (⟦<Runner<F, J> as Running>⟧.disk self.new) }
-        ensures lists { FlushesNone text.now → KeepsListing (⟦<Runner<F, J> as Running>⟧.state self.old)
+        ensures lists { ListsIf (λ h. FlushesNone ask.now.kind (C.may_give ask.now.clock.now) h text.now)
+            (⟦<Runner<F, J> as Running>⟧.state self.old)
             (⟦<Runner<F, J> as Running>⟧.disk self.old) (⟦<Runner<F, J> as Running>⟧.disk self.new) }
         ensures counts { CountsOn (⟦<Runner<F, J> as Running>⟧.state self.old) (⟦<Runner<F, J> as Running>⟧.state self.new) }
     {
         match line {
-            Line::Blank => None,
-            Line::Syntax => Some(Reply::Refused(SYNTAX)),
-            Line::Clock(seconds) => Some(self.set_clock(ask.kind, seconds)),
-            Line::Flush(name) => Some(self.flush(alloc, &name)),
-            Line::Verify(name) => Some(self.verify(alloc, &name)),
-            Line::Status => Some(self.status(alloc)),
-            Line::Statement(statement) => {
-                let answer = self
-                    .node
-                    .answer(alloc, &mut self.session, ask, self.seconds, &statement);
-                Some(reply_of(answer))
-            }
+            Line::Blank => replied(None),
+            Line::Syntax => replied(Some(Reply::Refused(SYNTAX))),
+            Line::Clock(seconds) => replied(Some(self.set_clock(ask.kind, seconds))),
+            Line::Flush(name) => replied(Some(self.flush(alloc, &name))),
+            Line::Verify(name) => replied(Some(self.verify(alloc, &name))),
+            Line::Status => replied(Some(self.status(alloc))),
+            Line::Statement(statement) => self.perform(alloc, ask, &statement),
         }
     }
 
     /// Answers one line; one that says nothing isn't answered.
-    pub fn answer_line<C: Clock>(
-        &mut self,
-        alloc: Global,
-        ask: &Ask<'_, C>,
-        line: &[u8],
-    ) -> Option<Reply>
+    pub fn answer_line<C: Clock>(&mut self, alloc: Global, ask: &Ask<'_, C>, line: &[u8]) -> Upshot
         requires few { IsFew (⟦<Runner<F, J> as Running>⟧.state self.old) }
-        ensures answers { Knows (⟦<Runner<F, J> as Running>⟧.state self.old) (⟦<Runner<F, J> as Running>⟧.disk self.old) ⊎ FlushesNone line.now
-            → Moves (λ h after. Answers ask.now.kind (C.may_give ask.now.clock.now) h line.now result after)
+        ensures answers { MovesIf (λ h. Knows (⟦<Runner<F, J> as Running>⟧.state self.old) (⟦<Runner<F, J> as Running>⟧.disk self.old)
+            ⊎ FlushesNone ask.now.kind (C.may_give ask.now.clock.now) h line.now)
+            (λ h after. Answers ask.now.kind (C.may_give ask.now.clock.now) h line.now result after)
             (⟦<Runner<F, J> as Running>⟧.state self.old) (⟦<Runner<F, J> as Running>⟧.state self.new)
             (⟦<Runner<F, J> as Running>⟧.disk self.old) (⟦<Runner<F, J> as Running>⟧.disk self.new) }
         ensures tables { During (SameUpTo (⟦<Runner<F, J> as Running>⟧.state self.old).last_file)
             (⟦<Runner<F, J> as Running>⟧.disk self.old) (⟦<Runner<F, J> as Running>⟧.disk self.new) }
-        ensures lists { FlushesNone line.now → KeepsListing (⟦<Runner<F, J> as Running>⟧.state self.old)
+        ensures lists { ListsIf (λ h. FlushesNone ask.now.kind (C.may_give ask.now.clock.now) h line.now)
+            (⟦<Runner<F, J> as Running>⟧.state self.old)
             (⟦<Runner<F, J> as Running>⟧.disk self.old) (⟦<Runner<F, J> as Running>⟧.disk self.new) }
         ensures counts { CountsOn (⟦<Runner<F, J> as Running>⟧.state self.old) (⟦<Runner<F, J> as Running>⟧.state self.new) }
     {
         match read_line(alloc, line) {
             Ok(said) => self.answer_known(alloc, ask, line, said),
-            Err(Mem) => Some(Reply::Failed(Failure::Memory)),
+            Err(Mem) => replied(Some(Reply::Failed(Failure::Memory))),
         }
     }
 }

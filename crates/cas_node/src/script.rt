@@ -5,15 +5,16 @@ ghost use Rattle.std.specs.Str.Lines.{lines};
 ghost use Rattle.cas_io.specs.Causes.{Rose};
 ghost use Rattle.cas_disk.specs.Disk.{During};
 ghost use Rattle.cas_render.specs.Text.{reply_text};
-ghost use Rattle.cas_sessions.specs.Listing.{KeepsListing, SameUpTo};
-ghost use Rattle.cas_sessions.specs.Nodes.{CountsOn, IsFew, Moves};
+ghost use Rattle.cas_sessions.specs.Listing.{SameUpTo};
+ghost use Rattle.cas_sessions.specs.Nodes.{CountsOn, IsFew};
 ghost use Rattle.cas_node.specs.Lines.{FlushesNone, NoneFlushes};
-ghost use Rattle.cas_node.specs.Inner.Serving.{IsKnownIn, Knows};
+ghost use Rattle.cas_node.specs.Inner.Serving.{IsKnownIn, Knows, ListsIf, MovesIf};
 ghost use Rattle.cas_node.specs.Inner.Turns.{IsEnd, IsToldSo, Printed, PrintedReply, StopsFor, Turned};
-ghost use Rattle.cas_node.specs.Ran.{RanFrom, reply_cause, verdicts_cause, weight, worse};
+ghost use Rattle.cas_node.specs.Ran.{RanFrom, reply_cause, upshot_cause, verdicts_cause, weight, worse};
 
 use crate::cause::Cause;
 use crate::runner::{Runner, Running};
+use crate::upshot::Upshot;
 use cas_disk::{Folder, Name};
 use cas_history::Store;
 use cas_io::{Clock, Sink, write_all};
@@ -141,6 +142,19 @@ pub(crate) fn worse(a: Cause, b: Cause) -> Cause
     if weight(a) < weight(b) { b } else { a }
 }
 
+// What is said of the run's end by what came of a line.
+fn upshot_cause(upshot: &Upshot) -> Cause
+    ensures cause { result ≡ upshot_cause upshot.now }
+    ensures told { IsToldSo result }
+{
+    let said = reply_cause(&upshot.reply);
+    if upshot.want {
+        worse(said, Cause::Mem)
+    } else {
+        said
+    }
+}
+
 /// What one line came to.
 #[derive(Clone, Copy)]
 struct Turn {
@@ -157,14 +171,15 @@ fn take_turn<K: Sink, F: Folder, J: Store, C: Clock>(
     line: &[u8],
 ) -> Turn
     requires few { IsFew (⟦<Runner<F, J> as Running>⟧.state runner.old) }
-    ensures turned { Knows (⟦<Runner<F, J> as Running>⟧.state runner.old) (⟦<Runner<F, J> as Running>⟧.disk runner.old) ⊎ FlushesNone line.now
-        → Moves (λ h after. Turned ask.now.kind (C.may_give ask.now.clock.now) h line.now after
+    ensures turned { MovesIf (λ h. Knows (⟦<Runner<F, J> as Running>⟧.state runner.old) (⟦<Runner<F, J> as Running>⟧.disk runner.old)
+        ⊎ FlushesNone ask.now.kind (C.may_give ask.now.clock.now) h line.now) (λ h after. Turned ask.now.kind (C.may_give ask.now.clock.now) h line.now after
         (K.took sink.old) (K.took sink.new) result.cause result.fault)
         (⟦<Runner<F, J> as Running>⟧.state runner.old) (⟦<Runner<F, J> as Running>⟧.state runner.new)
         (⟦<Runner<F, J> as Running>⟧.disk runner.old) (⟦<Runner<F, J> as Running>⟧.disk runner.new) }
     ensures tables { During (SameUpTo (⟦<Runner<F, J> as Running>⟧.state runner.old).last_file)
         (⟦<Runner<F, J> as Running>⟧.disk runner.old) (⟦<Runner<F, J> as Running>⟧.disk runner.new) }
-    ensures lists { FlushesNone line.now → KeepsListing (⟦<Runner<F, J> as Running>⟧.state runner.old)
+    ensures lists { ListsIf (λ h. FlushesNone ask.now.kind (C.may_give ask.now.clock.now) h line.now)
+        (⟦<Runner<F, J> as Running>⟧.state runner.old)
         (⟦<Runner<F, J> as Running>⟧.disk runner.old) (⟦<Runner<F, J> as Running>⟧.disk runner.new) }
     ensures counts { CountsOn (⟦<Runner<F, J> as Running>⟧.state runner.old) (⟦<Runner<F, J> as Running>⟧.state runner.new) }
     ensures faults { K.faults sink.old ≤ K.faults sink.new }
@@ -173,10 +188,10 @@ fn take_turn<K: Sink, F: Folder, J: Store, C: Clock>(
         → Rose (K.faults sink.old) (K.faults sink.new) ⊎ Rose (K.stalls sink.old) (K.stalls sink.new) }
     ensures told { IsToldSo result.cause }
 {
-    let reply = runner.answer_line(alloc, ask, line);
-    let fault = print(alloc, &reply, text, sink);
+    let upshot = runner.answer_line(alloc, ask, line);
+    let fault = print(alloc, &upshot.reply, text, sink);
     Turn {
-        cause: reply_cause(&reply),
+        cause: upshot_cause(&upshot),
         fault,
     }
 }
@@ -202,14 +217,15 @@ pub(crate) fn run_lines<K: Sink, F: Folder, J: Store, C: Clock>(
     sink: &mut K,
 ) -> Cause
     requires begun { ((⟦<Runner<F, J> as Running>⟧.state runner.old).calls ≡ 0) × ((⟦<Runner<F, J> as Running>⟧.state runner.old).accepted ≡ 0) }
-    ensures ran { IsKnownIn (⟦<Runner<F, J> as Running>⟧.state runner.old) (⟦<Runner<F, J> as Running>⟧.disk runner.old) script.now
-        → Moves (λ h after. RanFrom h ask.now.kind (C.may_give ask.now.clock.now) script.now
+    ensures ran { MovesIf (IsKnownIn ask.now.kind (C.may_give ask.now.clock.now) (⟦<Runner<F, J> as Running>⟧.state runner.old)
+        (⟦<Runner<F, J> as Running>⟧.disk runner.old) script.now) (λ h after. RanFrom h ask.now.kind (C.may_give ask.now.clock.now) script.now
         (K.took sink.old) (K.took sink.new) after result)
         (⟦<Runner<F, J> as Running>⟧.state runner.old) (⟦<Runner<F, J> as Running>⟧.state runner.new)
         (⟦<Runner<F, J> as Running>⟧.disk runner.old) (⟦<Runner<F, J> as Running>⟧.disk runner.new) }
     ensures tables { During (SameUpTo (⟦<Runner<F, J> as Running>⟧.state runner.old).last_file)
         (⟦<Runner<F, J> as Running>⟧.disk runner.old) (⟦<Runner<F, J> as Running>⟧.disk runner.new) }
-    ensures lists { NoneFlushes (lines script.now) → KeepsListing (⟦<Runner<F, J> as Running>⟧.state runner.old)
+    ensures lists { ListsIf (λ h. NoneFlushes ask.now.kind (C.may_give ask.now.clock.now) h (lines script.now))
+        (⟦<Runner<F, J> as Running>⟧.state runner.old)
         (⟦<Runner<F, J> as Running>⟧.disk runner.old) (⟦<Runner<F, J> as Running>⟧.disk runner.new) }
     ensures faults { K.faults sink.old ≤ K.faults sink.new }
     ensures stalls { K.stalls sink.old ≤ K.stalls sink.new }

@@ -22,7 +22,7 @@ use Rattle.cas_listed.proofs.Behind.{bad_as}
 use Rattle.cas_listed.specs.Listed.{AreLoaded, IsBadFile, Loads}
 use Rattle.cas_listed.specs.declared.fault.ListedFault.{ListedFault}
 use Rattle.cas_listed.specs.declared.fault.ListedFault.TheVariants as listed
-use Rattle.cas_shard.specs.Flushing.{memtables_at}
+use Rattle.cas_shard.specs.Flushing.{KeepsBytes, bytes_at, memtables_at}
 use Rattle.cas_shard.specs.Stands.{ShardState, TakesFiles, files_at}
 use Rattle.cas_shard.proofs.Memory.{same_number}
 use Rattle.cas_recovery.specs.Openings.{greatest_frontier, times_of}
@@ -74,8 +74,8 @@ remembers x m y same keeps tables table ws has =
 pub is_given : (s : Saying) (disk : Disk) (shard : ℕ) (t : TableSchema) (files : List (File Held)) (x m y : ShardState) → m.stores ≡ x.stores
     → TakesFiles t.number files m.stores y.stores → ((c : Image) → disk.reads c → AreLoaded t shard c (part_of s t.number shard).listed files)
     → map (λ f. f.info) files ≡ (part_of s t.number shard).listed → AllByRecursion (IsOwn t.columns) files → y.number ≡ max x.number (part_of s t.number shard).frontier → y.drawn ≡ x.drawn → y.moment ≡ x.moment → KeepsMemory m y
-    → IsGiven s disk shard t x y
-is_given s disk shard t files x m y same takes loaded infos own number drawn moment memory =
+    → KeepsBytes m y → IsGiven s disk shard t x y
+is_given s disk shard t files x m y same takes loaded infos own number drawn moment memory bytes =
     let took : TakesFiles t.number files x.stores y.stores = subst (λ ps. TakesFiles t.number files ps y.stores) same takes in
     record {
       taken = record {
@@ -90,6 +90,7 @@ is_given s disk shard t files x m y same takes loaded infos own number drawn mom
       drawn = drawn;
       moment = moment;
       memory = remembers x m y same memory;
+      bytes = λ n. bytes n ∙ ap (λ ps. bytes_at (slice_get ps n)) same;
     }
 
 -- ---- table by table
@@ -124,6 +125,7 @@ none_given s disk shard x = record {
   drawn = refl;
   moment = refl;
   memory = λ tables table ws has. has;
+  bytes = λ n. refl;
 }
 
 pub one_given : (s : Saying) (start disk : Disk) (shard count : ℕ) (t : TableSchema) (x y z : ShardState) → During Same start disk → Follows Same start.reads disk.reads
@@ -140,6 +142,7 @@ one_given s start disk shard count t x y z during reads there own before more = 
   drawn = more.drawn ∙ before.drawn;
   moment = more.moment ∙ before.moment;
   memory = λ tables table ws has. more.memory tables table ws (before.memory tables table ws has);
+  bytes = λ n. more.bytes n ∙ before.bytes n;
 }
   where
     some_same : (a b : TableSchema) → Some a ≡ Some b → a ≡ b
@@ -176,6 +179,7 @@ is_filled s disk shard x m y same number drawn moment given = record {
   drawn = given.drawn ∙ drawn;
   moment = given.moment ∙ moment;
   memory = remembers x m y same given.memory;
+  bytes = λ n. given.bytes n ∙ ap (λ ps. bytes_at (slice_get ps n)) same;
 }
   where
     within : (ts : List TableSchema) (n : ℕ) (t : TableSchema) → slice_get ts n ≡ Some t → n < length ts
@@ -193,6 +197,7 @@ filled_before s start disk shard x y during reads is = record {
   drawn = is.drawn;
   moment = is.moment;
   memory = is.memory;
+  bytes = is.bytes;
 }
 
 -- ---- shard by shard

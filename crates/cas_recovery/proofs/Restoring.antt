@@ -6,18 +6,20 @@ use Rattle.std.specs.Prelude.{slice_get, slice_set, if◌then◌else◌}
 use Rattle.std.specs.List.{AllByRecursion}
 use Rattle.cas_types.specs.declared.schema.TableSchema.{TableSchema}
 use Rattle.cas_atoms.specs.declared.atom.Mutation.{Mutation}
+use Rattle.cas_memtable.specs.Kept.{bytes_of}
+use Rattle.cas_memtable.proofs.Keeping.{bytes_both}
 use Rattle.cas_mutations.specs.Allowed.{FitsRecord}
 use Rattle.cas_replay.specs.Grammar.{numbers_of}
 use Rattle.cas_shard.specs.Entries.{last_number}
 use Rattle.cas_shard.specs.declared.entry.Entry.TheVariants.{Wrote}
 use Rattle.cas_shard.specs.declared.entry.ShardOpening.{ShardOpening}
 use Rattle.cas_shard.specs.Shards.{empty_shard, found_shard, restored}
-use Rattle.cas_shard.specs.Flushing.{HasInMemory, one_of}
+use Rattle.cas_shard.specs.Flushing.{HasInMemory, bytes_at, one_of}
 use Rattle.cas_shard.specs.Stands.{Belongs, HasNoFiles, KeepsFiles, ShardState, Stands, files_at, mutations_of, of_table}
 use Rattle.cas_sstread.specs.Loading.{Held}
 use Rattle.cas_view.specs.Views.{File}
 use Rattle.cas_recovery.specs.Found.{found_in}
-use Rattle.cas_recovery.specs.Restored.{HaveMemory, Remember, RememberAll, Remembers, RemembersJust}
+use Rattle.cas_recovery.specs.Restored.{AreFilledBy, HaveMemory, Remember, RememberAll, Remembers, RemembersJust}
 use Rattle.cas_recovery.specs.Inner.Restoring.{AreRestored, HaveNoFiles, MayBeGiven, Rise}
 use Rattle.cas_recovery.proofs.Founding.{found_reads, front_rises, is_above, numbers_more, one_more}
 use Rattle.cas_recovery.proofs.Places.{get_here, get_other, is_other, is_same, same_place}
@@ -45,6 +47,13 @@ memory_new tables shards x have none n table y is =
     elim (get_pushed shards x y n is) [
       | inl before ↦ have n table y before
       | inr same ↦ subst (RemembersJust tables table []) same (λ more. none (tables ++ more) table)
+    ]
+
+pub filled_new : (shards : List ShardState) (x : ShardState) → AreFilledBy [] shards → ((table : ℕ) → bytes_at (slice_get x.stores table) ≡ 0) → AreFilledBy [] (shards ++ x ∷ [])
+filled_new shards x are none n table y is =
+    elim (get_pushed shards x y n is) [
+      | inl before ↦ are n table y before
+      | inr same ↦ subst (λ (z : ShardState). bytes_at (slice_get z.stores table) ≡ 0) same (none table)
     ]
 
 -- ---- a mutation more
@@ -132,6 +141,25 @@ more_remembered tables done m shards old new have there step n table x is = at (
         subst (λ (o : ShardOpening). RemembersJust tables table (mutations_of table o.entries) x) (sym (found_other n done m other))
         (have n table x (sym (get_other shards m.shard n new other) ∙ is))
 
+-- and what bytes they have
+pub more_filled : (done : List Mutation) (m : Mutation) (shards : List ShardState) (old new : ShardState) → AreFilledBy done shards → slice_get shards m.shard ≡ Some old
+    → ((table : ℕ) → bytes_at (slice_get new.stores table) ≡ bytes_of (bytes_at (slice_get old.stores table)) (one_of table m))
+    → AreFilledBy (done ++ m ∷ []) (slice_set shards m.shard new)
+more_filled done m shards old new are there step n table x is = at (same_place n m.shard)
+  where
+    at : (n ≡ m.shard) ⊎ (n ≢ m.shard) → bytes_at (slice_get x.stores table) ≡ bytes_of 0 (mutations_of table (found_in n (done ++ m ∷ [])).entries)
+    at (inl here) =
+        let same : new ≡ x = (let set = get_here shards m.shard old new there in let its = ap (slice_get (slice_set shards m.shard new)) here in cc) in
+        let found : found_in n (done ++ m ∷ []) ≡ restored m (found_in m.shard done) = ap (λ (k : ℕ). found_in k (done ++ m ∷ [])) here ∙ found_here done m in
+        let before : List Mutation = mutations_of table (found_in m.shard done).entries in
+        let now : mutations_of table (found_in n (done ++ m ∷ [])).entries ≡ before ++ one_of table m =
+        ap (λ (o : ShardOpening). mutations_of table o.entries) found ∙ one_last table m (found_in m.shard done) in
+        ap (λ (y : ShardState). bytes_at (slice_get y.stores table)) (sym same) ∙ step table ∙ ap (λ b. bytes_of b (one_of table m)) (are m.shard table old there)
+        ∙ sym (bytes_both 0 before (one_of table m)) ∙ ap (bytes_of 0) (sym now)
+    at (inr other) =
+        are n table x (sym (get_other shards m.shard n new other) ∙ is)
+        ∙ ap (λ (o : ShardOpening). bytes_of 0 (mutations_of table o.entries)) (sym (found_other n done m other))
+
 -- what holds of the files of each table in each shard
 abbrev pub OfFiles : (ℕ → List (File Held) → Type 0) → List ShardState → Type 0
 OfFiles P shards = (n : ℕ) (x : ShardState) → slice_get shards n ≡ Some x → (table : ℕ) → P table (files_at (slice_get x.stores table))
@@ -201,3 +229,6 @@ first_no_files n shards are k x is = are k x (get_front n shards k x is)
 pub first_memory : (tables : List TableSchema) (mutations : List Mutation) (n : ℕ) (shards : List ShardState) → RememberAll tables mutations shards
     → RememberAll tables mutations (take n shards)
 first_memory tables mutations n shards have k table x is = have k table x (get_front n shards k x is)
+
+pub first_filled : (mutations : List Mutation) (n : ℕ) (shards : List ShardState) → AreFilledBy mutations shards → AreFilledBy mutations (take n shards)
+first_filled mutations n shards are k table x is = are k table x (get_front n shards k x is)

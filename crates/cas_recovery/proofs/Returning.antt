@@ -35,7 +35,7 @@ use Rattle.define_laws.proofs.Told.{told_tables_are_tables}
 use Rattle.cas_recovery.specs.Found.{IsUnflushed, found_in}
 use Rattle.cas_recovery.specs.Openings.{MayHaveBeen, SayAll, greatest_frontier, unflushed_of}
 use Rattle.cas_recovery.specs.Recovered.{IsRecovered}
-use Rattle.cas_recovery.specs.Restored.{HaveNoMore, IsBehind, IsTold, MayBeRead, RememberAll, greatest_of}
+use Rattle.cas_recovery.specs.Restored.{AreFilledBy, HaveNoMore, IsBehind, IsTold, MayBeRead, RememberAll, greatest_of}
 use Rattle.cas_recovery.specs.Inner.Filling.{HasTaken, IsBroughtBack, IsFilled, IsOwn, IsWithin}
 use Rattle.cas_recovery.specs.Inner.Restoring.{MayBeGiven}
 use Rattle.cas_recovery.proofs.Afterwards.{still_lasts}
@@ -123,7 +123,7 @@ module _ (entries : List Entry) (mutations handed : List Mutation) (o : OpenStor
   as_told disk n x y filled =
       let (segments, last, is) = said_is in
       let same : IsFilled (record s { segments = segments; last_segment = last }) disk n x y = subst (λ (q : Saying). IsFilled q disk n x y) is filled in
-      record { tables = same.tables; few = same.few; number = same.number; drawn = same.drawn; moment = same.moment; memory = same.memory }
+      record { tables = same.tables; few = same.few; number = same.number; drawn = same.drawn; moment = same.moment; memory = same.memory; bytes = same.bytes }
 
   pub tables_said : o.said.tables ≡ s.tables
   tables_said = let (segments, last, is) = said_is in ap (λ (q : Saying). q.tables) is
@@ -169,6 +169,14 @@ module _ (entries : List Entry) (mutations handed : List Mutation) (o : OpenStor
       let (was, before, filled) = back.filled.filled n x (omega (arith, get_within shards n x there, back.count)) there in
       filled.memory (s.tables ++ more) table (mutations_of table (found_in n handed).entries)
       (back.restored.2 s.tables s.shards given_all n table was before more)))
+
+  -- and has their bytes
+  filled_by : (given limits : Limits) (tables : List TableSchema) (shards : List ShardState) (mid : Disk) → IsBroughtBack given handed o.said mid limits tables shards
+      → AreFilledBy (unflushed_of s mutations) shards
+  filled_by given limits tables shards mid back =
+      subst (λ (ms : List Mutation). AreFilledBy ms shards) read.above (λ n table x there.
+      let (was, before, filled) = back.filled.filled n x (omega (arith, get_within shards n x there, back.count)) there in
+      filled.bytes table ∙ back.restored.3 n table was before)
 
   -- no table's frontier is above the greatest
   is_below : (n count table : ℕ) → table < count → (part_of s table n).frontier ≤ greatest_frontier s n count
@@ -241,6 +249,7 @@ module _ (entries : List Entry) (mutations handed : List Mutation) (o : OpenStor
     lasts = λ c reads bytes.
         let (t, told, holds) = lasts c reads bytes in
         (t, told, subst (λ (j : Journal). Lasts j new t) (sym same) (still_lasts mid new loading o.journal t holds));
+    filled = filled_by given limits tables shards mid back;
   }
     where
       by : (n : ℕ) (x was : ShardState) (p : ShardOpening) → n < s.shards → Stands s.tables (found_shard (found_in n (unflushed_of s mutations))) was → HasNoFiles was

@@ -24,12 +24,13 @@ use Rattle.cas_shard.specs.Shards.{found_shard}
 use Rattle.cas_shard.specs.Stands.{ShardState, Stands, files_at}
 use Rattle.cas_recovery.specs.Found.{IsFound}
 use Rattle.cas_recovery.specs.Openings.{MayHaveBeen, unflushed_of}
-use Rattle.cas_recovery.specs.Restored.{AreListed, HaveNoMore, IsBehind, IsTold, RememberAll, greatest_of}
+use Rattle.cas_recovery.specs.Restored.{AreFilledBy, AreListed, HaveNoMore, IsBehind, IsTold, RememberAll, greatest_of}
 use Rattle.cas_recovery.specs.declared.filling.TheConstants.{VERSION_PLACE}
 
 -- The store of a folder was read back: its limits and tables are what the manifest's entries say, each shard stands for whatever it may have been before,
 -- its tables have the files that are listed, in memory are just the log's mutations above the frontiers, and its journal goes on behind the log's, which
--- last. The last number of a table file is the greatest under which one was ever listed, and so many are live as are listed.
+-- last. The memtables that are written to have the bytes of these mutations. The last number of a table file is the greatest under which one was ever
+-- listed, and so many are live as are listed.
 pub record IsRecovered (given limits : Limits) (tables : List TableSchema) (shards : List ShardState) (last live : ℕ) (journal : Journal)
     (old new : Disk) : Type 0 where
   pub entries : List ManifestEntry
@@ -51,6 +52,7 @@ pub record IsRecovered (given limits : Limits) (tables : List TableSchema) (shar
   pub behind : IsBehind (said_by entries) shards last live
   pub segment : journal.last_segment ≤ next_segment entries
   pub lasts : (c : Image) → old.reads c → IsOfBytes c → (t : Told) × IsTold entries mutations t × Lasts journal new t
+  pub filled : AreFilledBy (unflushed_of (said_by entries) mutations) shards
 
 -- The listed file of that number is as it must be and as it is listed, but of the format's first version, whose partitions can't be read in slices yet. The
 -- place is that of its version.

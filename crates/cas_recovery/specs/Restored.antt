@@ -5,12 +5,13 @@ use Rattle.cas_types.specs.declared.schema.TableSchema.{TableSchema}
 use Rattle.cas_bounds.specs.ClusteringOrder.{clustering_order}
 use Rattle.cas_bounds.specs.declared.cuts.Slice.{Slice}
 use Rattle.cas_atoms.specs.declared.atom.Mutation.{Mutation}
+use Rattle.cas_memtable.specs.Kept.{bytes_of}
 use Rattle.cas_index.specs.Searches.{IsSliceOf}
 use Rattle.cas_changes.specs.Saying.{Saying, part_of, said_by}
 use Rattle.cas_changes.specs.declared.entry.Entry.{Entry as ManifestEntry}
 use Rattle.cas_journal.specs.Stores.{Told, named}
 use Rattle.cas_opening.specs.Opening.{found_with}
-use Rattle.cas_shard.specs.Flushing.{HasInMemory}
+use Rattle.cas_shard.specs.Flushing.{HasInMemory, bytes_at}
 use Rattle.cas_shard.specs.Stands.{ShardState, files_at, mutations_of}
 use Rattle.cas_stored.specs.Reading.{AreReadIn}
 use Rattle.cas_recovery.specs.Found.{found_in}
@@ -43,6 +44,11 @@ Remembers tables table x = (ws : List Mutation) × RemembersJust tables table ws
 abbrev pub RememberAll : List TableSchema → List Mutation → List ShardState → Type 0
 RememberAll tables mutations shards =
     (n table : ℕ) (x : ShardState) → slice_get shards n ≡ Some x → RemembersJust tables table (mutations_of table (found_in n mutations).entries) x
+
+-- of each table in each shard the memtable that is written to has the bytes of just these mutations
+abbrev pub AreFilledBy : List Mutation → List ShardState → Type 0
+AreFilledBy mutations shards = (n table : ℕ) (x : ShardState) → slice_get shards n ≡ Some x
+    → bytes_at (slice_get x.stores table) ≡ bytes_of 0 (mutations_of table (found_in n mutations).entries)
 
 -- each shard has some of each table
 abbrev pub Remember : List TableSchema → List ShardState → Type 0

@@ -4,7 +4,7 @@ ghost use Rattle.std.specs.Prelude.{◌≡◌, List, [], ◌∷◌, ◌++◌, le
 ghost use Rattle.cas_types.specs.declared.schema.TableSchema.{TableSchema as Schema};
 ghost use Rattle.cas_atoms.specs.declared.atom.Mutation.{Mutation as MutationOf};
 ghost use Rattle.cas_replay.specs.Grammar.{IsWithinLimits};
-ghost use Rattle.cas_recovery.specs.Restored.{RememberAll, greatest_of};
+ghost use Rattle.cas_recovery.specs.Restored.{AreFilledBy, RememberAll, greatest_of};
 ghost use Rattle.cas_recovery.specs.Inner.Restoring.{AreRestored, HaveNoFiles, HaveRestored, HasRestored};
 
 use crate::all_shards::{AllShards, Restoring};
@@ -41,6 +41,7 @@ fn new_shards<S: Sealed>(alloc: Global, count: usize) -> Result<Vec<Shard<S>>, M
     ensures no_files { IfOk result (λ v. HaveNoFiles v.items) }
     ensures new { IfOk result (λ v. (tables : List Schema) → AreRestored tables [] v.items) }
     ensures memory { IfOk result (λ v. (tables : List Schema) → RememberAll tables [] v.items) }
+    ensures filled { IfOk result (λ v. AreFilledBy [] v.items) }
 {
     let mut shards = Vec::new(alloc);
     for _shard in 0..count {

@@ -113,15 +113,18 @@ impl Pair<'_> {
         }
     }
 
-    // What the first lines are to print where the disk fails for the one after so many. A line that names a table or column
-    // of a lost definition may be refused; and behind a flush that got no file nothing is stopped, so that the disk fails anew.
+    // What the first lines are to print where the disk fails for the one after so many, and so many were passed whole. A line
+    // that names a table or column of a lost definition may be refused; behind a flush that got no file nothing is stopped, so
+    // that the disk fails anew; and a flush behind an answer, of a memtable that is full, may have stopped the store.
     fn cut_short(
         &self,
         alloc: Global,
         lines: usize,
         found: &[u8],
-        answered: usize,
+        passed: usize,
     ) -> Result<Vec<u8>, AllocError> {
+        let answered = count_answered(found);
+        let is_behind = answered >= passed;
         let mut wanted = Vec::new(alloc);
         let mut is_undefined = false;
         let mut is_unflushed = false;
@@ -134,6 +137,8 @@ impl Pair<'_> {
                 line
             } else if is_undefined && answer.starts_with(b"refused S".as_slice()) {
                 answer
+            } else if is_behind && answer == STOPPED {
+                STOPPED
             } else if i == answered || (is_unflushed && answer == FAILED) {
                 FAILED
             } else {
@@ -159,9 +164,8 @@ impl Pair<'_> {
         } else {
             passed.saturating_add(AFTER)
         };
-        let answered = count_answered(&ended.output);
         let wanted = Ended {
-            output: self.cut_short(alloc, lines, &ended.output, answered)?,
+            output: self.cut_short(alloc, lines, &ended.output, passed)?,
             status: if passed < fronts.len() {
                 DISK
             } else {
@@ -200,11 +204,11 @@ impl Pair<'_> {
     }
 }
 
-// How many lines were answered before the disk failed.
+// How many lines were answered before one was for which the disk fails, or which it stopped.
 fn count_answered(output: &[u8]) -> usize {
     output
         .split_inclusive(is_feed)
-        .take_while(|line| *line != FAILED)
+        .take_while(|line| *line != FAILED && *line != STOPPED)
         .count()
 }
 

@@ -25,7 +25,7 @@ use Rattle.cas_opening.specs.Opening.{IsListedTable, is_above}
 use Rattle.cas_listed.specs.Listed.{StandIn, StandInFiles}
 use Rattle.cas_shard.specs.declared.entry.Entry.TheVariants.{Wrote}
 use Rattle.cas_shard.specs.declared.entry.ShardOpening.{ShardOpening}
-use Rattle.cas_shard.specs.Shards.{drawn_with, empty_shard, restored}
+use Rattle.cas_shard.specs.Shards.{empty_shard, restored}
 use Rattle.cas_shard.specs.Stands.{SaySame, mutations_of, of_table}
 use Rattle.cas_shard.proofs.Memory.{say_behind, say_then}
 use Rattle.cas_recovery.specs.Found.{found_in}

@@ -33,7 +33,8 @@ use Rattle.cas_room.specs.Keeping.{Keeps}
 use Rattle.cas_room.specs.Rooms.{accepted_in, mutation_of as accepted_of}
 use Rattle.cas_opening.specs.Opening.{is_above}
 use Rattle.cas_changes.specs.Saying.{part_of, said_by}
-use Rattle.cas_shard.specs.Flushing.{one_of}
+use Rattle.cas_memtable.specs.Kept.{bytes_of}
+use Rattle.cas_shard.specs.Flushing.{KeepsBytes, bytes_at, one_of}
 use Rattle.cas_shard.specs.declared.entry.ShardOpening.{ShardOpening}
 use Rattle.cas_shard.specs.Shards.{ShardHistory, Prepares, empty_shard, found_shard, mutation_at, number_of, prepare_answer, raised, restored, take_refusal, taken_unless, wants}
 use Rattle.cas_shard.specs.Shards.{entered as with_entered}
@@ -49,9 +50,10 @@ use Rattle.cas_sessions.specs.Explained.{IsNotAhead}
 use Rattle.cas_sessions.specs.Nodes.{Explains, State, StandsFor, LastsFor, disk_of, files_in, Moves}
 use Rattle.cas_sessions.specs.Inner.Sound.{IsSoundState}
 use Rattle.cas_sessions.specs.Inner.Faults.{reply_for}
-use Rattle.cas_recovery.proofs.Places.{get_within, get_map, index_here, index_other, length_set, same_place}
+use Rattle.cas_recovery.proofs.Places.{get_within, get_map, index_here, index_other, length_set}
 use Rattle.cas_sessions.proofs.Explaining.{GoesFurther, KeepFilesOf, entered_ahead, explains_named, explains_still, explains_taken, further_at, goes_nowhere, keep_files, keep_files_none, raised_further}
 use Rattle.cas_sessions.proofs.Filing.{files_still}
+use Rattle.cas_sessions.proofs.Filled.{as_entry, filled_more}
 use Rattle.cas_sessions.proofs.Moving.{none_more, one_more, with_entries, raised_is, stands_write}
 use Rattle.cas_sessions.proofs.Remembering.{all_entered, all_still, just_with, with_entry, with_none}
 use Rattle.cas_sessions.proofs.Lasting.{lasts_still, may_be_taken, lasts_with_room, lasts_taken}
@@ -118,6 +120,7 @@ pub record Asked (s : State) (w : BoundWrite) (reading : ℤ) (x y : ShardState)
   pub stands : (tables : List TableSchema) (shards : ℕ) (q : ShardHistory) → Stands tables q x → Suits tables shards w → Stands tables (raised reading q) y
   pub number : y.number ≡ x.number
   pub memory : (table : ℕ) (ws : List Mutation) → RemembersJust s.tables table ws x → RemembersJust s.tables table ws y
+  pub bytes : KeepsBytes x y
 
 -- the mutation of a write, in a history
 abbrev pub mutation_in : History → ℤ → BoundWrite → Mutation
@@ -198,7 +201,8 @@ module _ (s : State) (w : BoundWrite) (reading : ℤ) (x y : ShardState) (result
         record {
           stands = stands_write h s (prepared_only s w.shard y) w.shard x y reading [] stands (there s w reading x y result asked) refl (stands_raised s w reading x y result asked h stands)
               (λ k. none_more w.shard k (entries_in k s.list))
-              (just_with s.tables h.unflushed s.shards w.shard x y [] (there s w reading x y result asked) (with_none s.tables x y asked.memory) stands.memory) r refl refl refl refl (omega arith);
+              (just_with s.tables h.unflushed s.shards w.shard x y [] (there s w reading x y result asked) (with_none s.tables x y asked.memory) stands.memory)
+              (filled_more h.filled s.shards w.shard x y (there s w reading x y result asked) stands.filled [] asked.bytes) r refl refl refl refl (omega arith);
           lasts = λ found told lasts. (
             told,
             lasts_still h after found s (prepared_only s w.shard y) d d told w.shard x y (omega (arith, quiet)) refl (there s w reading x y result asked) refl asked.number
@@ -388,7 +392,8 @@ module _ (s : State) (w : BoundWrite) (reading : ℤ) (x y : ShardState) (result
             record {
               stands = stands_write h s t w.shard x y reading [] stands at left.shards (stands_raised s w reading x y result asked h stands)
                   (λ k. ap (entries_in k) left.list ∙ none_more w.shard k (entries_in k s.list))
-                  (just_with s.tables h.unflushed s.shards w.shard x y [] at (with_none s.tables x y asked.memory) stands.memory) (reply_for f) left.limits left.tables left.clock
+                  (just_with s.tables h.unflushed s.shards w.shard x y [] at (with_none s.tables x y asked.memory) stands.memory)
+                  (filled_more h.filled s.shards w.shard x y at stands.filled [] asked.bytes) (reply_for f) left.limits left.tables left.clock
                   left.session (omega (arith, left.calls));
               lasts = λ found was lasts.
                   let got = left.keeps found was lasts.keeps (may_take h found d was lasts) in (
@@ -465,6 +470,7 @@ pub record Took (s t : State) (d e : Disk) (w : BoundWrite) (y yy z : ShardState
       → Stands tables (with_entered (entry.Wrote session call m ∷ []) q) z
   pub number : z.number ≡ m.number
   pub memory : (table : ℕ) (ws : List Mutation) → RemembersJust s.tables table ws yy → RemembersJust s.tables table (ws ++ one_of table m) z
+  pub bytes : (table : ℕ) → bytes_at (slice_get z.stores table) ≡ bytes_of (bytes_at (slice_get yy.stores table)) (one_of table m)
   pub keeps : (found : List Mutation) (told : Told) → Keeps s.journal d s.list s.committed found told → MayTake told m
       → (u : Told) × (v : Told) × MadeRoom told u × (v.entries ≡ u.entries) × (v.failed ≡ u.failed) × (v.taken ≡ u.taken ++ m ∷ [])
       × ((u.committed ≤ v.committed) ⊎ (v.committed ≡ length v.taken)) × Keeps t.journal e t.list t.committed found v
@@ -518,6 +524,11 @@ module _ (s : State) (w : BoundWrite) (reading : ℤ) (x y : ShardState) (result
 
   remembers : (table : ℕ) (ws : List Mutation) → RemembersJust s.tables table ws x → RemembersJust s.tables table (ws ++ one_of table m) z
   remembers table ws k = left.memory table ws (subst (RemembersJust s.tables table ws) same_shard (asked.memory table ws k))
+
+  adds_bytes : (table : ℕ) → bytes_at (slice_get z.stores table) ≡ bytes_of (bytes_at (slice_get x.stores table)) (one_of table m)
+  adds_bytes table =
+      left.bytes table ∙ ap (λ (q : ShardState). bytes_of (bytes_at (slice_get q.stores table)) (one_of table m)) (sym same_shard)
+      ∙ ap (λ (b : ℕ). bytes_of b (one_of table m)) (asked.bytes table)
 
   -- what may be left explains it
   explains : (h : History) → StandsFor h s → (after : History) → after.shards ≡ (with_shard h w.shard (after_entries reading new (shard_at h w.shard))).shards → m ≡ mutation_in h reading w
@@ -621,7 +632,8 @@ module _ (s : State) (w : BoundWrite) (reading : ℤ) (x y : ShardState) (result
         ),
         record {
           stands = stands_write h s t w.shard x z reading new stands at_x shards_now stands_new lists
-              (just_with s.tables h.unflushed s.shards w.shard x z new at_x (with_entry s.tables x z m s.session (s.calls + 1) remembers) stands.memory) r left.limits left.tables left.clock left.session left.calls;
+              (just_with s.tables h.unflushed s.shards w.shard x z new at_x (with_entry s.tables x z m s.session (s.calls + 1) remembers) stands.memory)
+              (filled_more h.filled s.shards w.shard x z at_x stands.filled new (as_entry x z m s.session (s.calls + 1) adds_bytes)) r left.limits left.tables left.clock left.session left.calls;
           lasts = λ found was lasts.
               let got = left.keeps found was lasts.keeps (may_take s w reading x y result asked m is prepared ready h found d was lasts) in (
                 got.1,

@@ -1,5 +1,5 @@
 -- What a crash may leave explains the history still, after a step.
-use Rattle.std.proofs.Common.{◌≡◌, ◌≢◌, ◌⊎◌, inl, inr, ⊎_elim, ◌∙◌, ◌≤◌, ◌<◌, ◌+◌, ◌*◌, ◌==◌, ℕ, zero, suc, Bool, true, false, Some, List, [], ◌∷◌, ◌++◌, length, filter, refl, sym, ap, subst, append-nil, append_assoc, length-append, take, arith}
+use Rattle.std.proofs.Common.{◌≡◌, ◌≢◌, ◌⊎◌, inl, inr, ⊎_elim, ◌∙◌, ◌≤◌, ◌<◌, ◌+◌, ◌*◌, ◌==◌, ℕ, suc, Bool, true, false, Some, List, [], ◌∷◌, ◌++◌, length, filter, refl, sym, ap, subst, append-nil, append_assoc, length-append, take, arith}
 use Rattle.std.specs.Prelude.{if◌then◌else◌, ◌≤ℤ◌, ℤ, Option, None, drop, is_none, map, max, nat_lt, replicate, slice_get, slice_set, unwrap_or}
 use Rattle.std.specs.Int.{int_max}
 use Rattle.std.specs.List.{AllByRecursion, fold}
@@ -18,9 +18,7 @@ use Rattle.cas_changes.specs.Allowed.{FitsEntry}
 use Rattle.cas_changes.specs.Saying.{Saying, after, no_part, no_times, nothing, part_after, part_of, said_by, times_after, with_columns}
 use Rattle.cas_changes.specs.declared.entry.Entry.{Entry}
 use Rattle.cas_changes.specs.declared.entry.Entry.TheVariants as entry
-use Rattle.cas_changes.specs.declared.said.Part.{Part}
 use Rattle.cas_changes.specs.declared.said.ShardTimes.{ShardTimes}
-use Rattle.cas_listed.specs.Listed.{StandInFiles}
 use Rattle.cas_manifest.proofs.Appends.{said_more}
 use Rattle.cas_opening.specs.Opening.{IsListedTable, is_above}
 use Rattle.cas_journal.specs.Stores.{FailedToName, MayList, SameTables, Told, named, took}
@@ -31,7 +29,7 @@ use Rattle.cas_shard.specs.Shards.{ShardHistory, drawn_at, drawn_of, drawn_with,
 use Rattle.cas_shard.specs.declared.entry.Entry.TheVariants.{Wrote}
 use Rattle.cas_shard.proofs.Numbers.{last_drawn_more, last_number_more}
 use Rattle.cas_shard.specs.declared.entry.ShardOpening.{ShardOpening}
-use Rattle.cas_recovery.specs.Openings.{IsOpening, times_of, unflushed_of}
+use Rattle.cas_recovery.specs.Openings.{IsOpening, unflushed_of}
 use Rattle.cas_recovery.specs.Restored.{RememberAll}
 use Rattle.cas_recovery.proofs.Places.{get_within, index_here, index_other, is_other, is_same, same_place}
 use Rattle.cas_recovery.proofs.Standing.{AreAlike, all_listed, own_file}

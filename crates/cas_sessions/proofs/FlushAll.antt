@@ -3,6 +3,7 @@ use Rattle.std.proofs.Common.{◌≡◌, ◌≢◌, ◌⊎◌, inl, inr, ◌<◌
 use Rattle.std.specs.Prelude.{◌==◌, ◌&&◌, if◌then◌else◌, IfSome, slice_get}
 use Rattle.std.specs.List.{find, fold}
 use Rattle.std.specs.Str.{bytes_eq}
+use Rattle.std.proofs.Math.Bool.{and-false}
 use Rattle.std.proofs.lemmas.List.{flat_map_more}
 use Rattle.std.proofs.lemmas.List.Sums.{fold_push}
 use Rattle.cas_types.specs.declared.schema.TableSchema.{TableSchema}
@@ -15,7 +16,7 @@ use Rattle.cas_journal.specs.Reach.{Reach}
 use Rattle.cas_journal.specs.Stores.{Told}
 use Rattle.cas_shard.specs.declared.entry.ShardOpening.{ShardOpening}
 use Rattle.cas_shard.specs.Shards.{ShardHistory, all_entries}
-use Rattle.cas_shard.specs.Stands.{SaySame, mutations_of}
+use Rattle.cas_shard.specs.Stands.{SaySame, ShardState, mutations_of}
 use Rattle.cas_sstread.specs.Loading.{Held}
 use Rattle.cas_bind.specs.Tables.{AreInPlace}
 use Rattle.cas_terms.specs.Columns.{is_local, table_named}
@@ -28,13 +29,15 @@ use Rattle.cas_sessions.specs.Calls.{IsTrueOf}
 use Rattle.cas_sessions.specs.Entered.{IsLeftAmid}
 use Rattle.cas_sessions.specs.Listing.{SameUpTo}
 use Rattle.cas_sessions.specs.Flushes.{AreInFiles, AscendTo, Flushed, Flushes, FlushesNamed, FlushesTable, Grows, SaySomething, WhyNoFurther, change_of, changes_by, numbers_added}
-use Rattle.cas_sessions.specs.Flushes.{numbers_in, reach_by, without_flushed}
+use Rattle.cas_sessions.specs.Flushes.{numbers_in, reach_by, without_begun, without_flushed}
 use Rattle.cas_sessions.specs.History.{History, DiskState, shard_at}
-use Rattle.cas_sessions.specs.Nodes.{Explains, State, StandsFor, LastsFor, LastsForOne, GoesOnTo, KeepsAll, Moves, disk_of}
-use Rattle.cas_sessions.specs.Inner.Flushing.{AreStood, FlushedOne, FlushesFirst, FlushesNoFurther, FlushesOne, GoesOn, IsOwn, SaysNone, TellsReads, listed_of, rest_with}
+use Rattle.cas_sessions.specs.Nodes.{AreFilled, Explains, State, StandsFor, LastsFor, LastsForOne, GoesOnTo, KeepsAll, Moves, disk_of, filled_of}
+use Rattle.cas_sessions.specs.Filling.{FlushedOne, SaysNone, filled_with, listed_of, rest_with}
+use Rattle.cas_sessions.specs.Inner.Flushing.{AreStood, FlushesFirst, FlushesNoFurther, FlushesOne, GoesOn, IsOwn, TellsReads}
 use Rattle.cas_sessions.proofs.Explaining.{explains_still, goes_nowhere, keep_files_none}
+use Rattle.cas_sessions.proofs.Filled.{begun_more, begun_none, filled_are, stands_filled}
 use Rattle.cas_sessions.proofs.FlushShard.{quiet_still}
-use Rattle.cas_sessions.proofs.FlushSteps.{amid_then, amid_with, beside_then, lasts_as, quiet_beside, quiet_goes, quiet_stands, stands_with, with_disk}
+use Rattle.cas_sessions.proofs.FlushSteps.{amid_then, amid_with, beside_then, lasts_as, quiet_beside, quiet_goes, quiet_stands, stands_with, with_state}
 
 -- ---- lists with one more
 
@@ -127,7 +130,7 @@ both_explain : (h : History) (left : ℕ → ℕ → List Mutation) (so_far : Li
     → TellsReads d → AreStood h s → (openings : ℕ → ShardOpening) → Explains openings h found s d was → Explains openings h found v f later
 both_explain h left so_far found s u v d e f was now later tells stands first second telling stood openings before =
     without_changes openings h left so_far found v f later
-    (second (tells telling) (stands_with (record h { unflushed = left; disk = disk_of u }) so_far u (stands telling stood)) openings
+    (second (tells telling) (stands_with (record h { unflushed = left; filled = filled_of u; disk = disk_of u }) so_far u (stands telling stood)) openings
     (with_changes openings h left so_far found u e now (first telling stood openings before)))
 
 -- ---- a shard more
@@ -203,15 +206,11 @@ if_some : (c : Option Change) (u : State) (k table : ℕ) → IfSome c (λ x. (h
 if_some None u k table says h stands = tt
 if_some (Some c) u k table says h stands = says h stands
 
-and_none : (b : Bool) → (b && false) ≡ false
-and_none true = refl
-and_none false = refl
-
 -- what the next shard has in no file before its turn is what it had at the beginning
 as_before : (h : History) (table k : ℕ) (changes : List (Option Change)) → length changes ≡ k → without_flushed table changes h.unflushed k table ≡ h.unflushed k table
 as_before h table k changes at =
     ap (λ (o : Option Change). if (table == table) && is_some o then [] else h.unflushed k table) (change_past changes k (omega (arith, at)))
-    ∙ ap (λ (b : Bool). if b then [] else h.unflushed k table) (and_none (table == table))
+    ∙ ap (λ (b : Bool). if b then [] else h.unflushed k table) (and-false (table == table))
 
 none_before : (h : History) (table k : ℕ) (changes : List (Option Change)) (o : Option ℕ) (c : Option Change) → length changes ≡ k
     → SaysNone (Ok o) c (without_flushed table changes h.unflushed k table) → c ≡ None → SaySame [] (h.unflushed k table)
@@ -242,21 +241,25 @@ first_more t k told o s u v d e f first one = record {
           later.0,
           lasts_as (record amidst { changes = changes_by so_far one.change }) (record h { changes = fold changes_by h.changes (first.changes ++ one.change ∷ []) }) found v f later.0
               refl (fold_push changes_by h.changes first.changes one.change) later.1,
-          both_explain h left so_far found s u v d e f was now.0 later.0 (λ tells. first.beside.tells tells.0 tells.1) (λ tells stood. (first.moves tells.0 tells.1 (with_disk h s) stood).0) now.2 later.2,
+          both_explain h left so_far found s u v d e f was now.0 later.0 (λ tells. first.beside.tells tells.0 tells.1) (λ tells stood. (first.moves tells.0 tells.1 (with_state h s) stood).0) now.2 later.2,
         ),
         amid_then h found s u d e f first.beside.list amid (amid_with h left so_far found u.list e f more),
       );
+  fills = λ before full.
+      begun_more t.number k before v.shards
+      (subst (λ (b : Bool). AreFilled (filled_with t.number k b (without_begun t.number k before)) v.shards) one.begins
+      (one.fills (without_begun t.number k before) (first.fills before full)));
   moves = λ c reads h stands.
       let (now, so) = first.moves c reads h stands in
       let (b, read) = first.beside.tells c reads in
       let left : ℕ → ℕ → List Mutation = without_flushed t.number first.changes h.unflushed in
-      let (later, ends) = one.moves b read tt (record h { unflushed = left; disk = disk_of u }) now in
+      let (later, ends) = one.moves b read tt (record h { unflushed = left; filled = filled_of u; disk = disk_of u }) now in
       let began : h.disk.last_file ≡ s.last_file = ap (λ (q : DiskState). q.last_file) stands.disk in (
-        subst (λ (ws : ℕ → ℕ → List Mutation). StandsFor (record h { unflushed = ws; disk = disk_of v }) v)
+        subst (λ (ws : ℕ → ℕ → List Mutation). StandsFor (record h { unflushed = ws; filled = filled_of v; disk = disk_of v }) v)
             (rest_more t.number first.changes one.change k h.unflushed first.many) later,
         flushed_more h t first.changes one.change k (disk_of u) (disk_of v) first.many so ends.0 one.numbered
             (said_before h t.number k first.changes one.change first.many
-            (if_some one.change u k t.number one.some (record h { unflushed = left; disk = disk_of u }) now))
+            (if_some one.change u k t.number one.some (record h { unflushed = left; filled = filled_of u; disk = disk_of u }) now))
             (none_before h t.number k first.changes o one.change first.many ends.1) one.beside.faults one.beside.reads one.beside.last (omega (arith, began, first.numbers, first.many, one.numbers)),
       );
 }
@@ -272,8 +275,9 @@ first_none t s d = record {
   many = refl;
   added = refl;
   lasts = λ h found was tables lasts. quiet_goes s s d d (quiet_still s d) (TellsReads d) h found was tables lasts (λ openings explained. explained);
+  fills = λ before full. begun_none t.number before s.shards full;
   moves = λ c reads h stands. (
-    subst (λ (ws : ℕ → ℕ → List Mutation). StandsFor (record h { unflushed = ws; disk = disk_of s }) s) (none_flushed t.number h.unflushed)
+    subst (λ (ws : ℕ → ℕ → List Mutation). StandsFor (record h { unflushed = ws; filled = filled_of s; disk = disk_of s }) s) (none_flushed t.number h.unflushed)
         (quiet_stands s s d d (quiet_still s d) h stands),
     record {
       files = λ n. ap (λ (e : DiskState). e.files n t.number) (sym stands.disk);
@@ -375,7 +379,7 @@ still_flushed h t changes u v first files reach faults reads live last next = re
 
 -- the history goes on so
 abbrev went_on : History → ℕ → List (Option Change) → State → History
-went_on h table changes u = record h { unflushed = without_flushed table changes h.unflushed; changes = fold changes_by h.changes changes; disk = disk_of u }
+went_on h table changes u = record h { unflushed = without_flushed table changes h.unflushed; changes = fold changes_by h.changes changes; filled = filled_of u; disk = disk_of u }
 
 -- so far the disk keeps what some history says for which the store stands
 first_lasts_for_one : (t : TableSchema) (k : ℕ) (told : List ℕ) (s u : State) (d e : Disk) → FlushesFirst t k told s u d e → (c : Image) → d.reads c → LastsForOne s d
@@ -387,9 +391,23 @@ first_lasts_for_one t k told s u d e first c reads (h, found, was, stands, lasts
       went_on h t.number first.changes u,
       found,
       later.0,
-      stands_with (record h { unflushed = without_flushed t.number first.changes h.unflushed; disk = disk_of u }) so_far u now,
+      stands_with (record h { unflushed = without_flushed t.number first.changes h.unflushed; filled = filled_of u; disk = disk_of u }) so_far u now,
       lasts_as (record h { changes = so_far }) (went_on h t.number first.changes u) found u e later.0 refl refl later.1,
     )
+
+-- how many shards got a new memtable
+abbrev pub begun_to : Bool → ℕ → ℕ
+begun_to true k = k + 1
+begun_to false k = k
+
+begun_so : (b : Bool) (k n : ℕ) → n ≡ k → (begun_to b k ≡ n) ⊎ (begun_to b k ≡ n + 1)
+begun_so true k n is = inr (ap (λ (j : ℕ). j + 1) (sym is))
+begun_so false k n is = inl (sym is)
+
+filled_to : (table k : ℕ) (b : Bool) (f : ℕ → ℕ → ℕ) (xs : List ShardState) → AreFilled (filled_with table k b (without_begun table k f)) xs
+    → AreFilled (without_begun table (begun_to b k) f) xs
+filled_to table k true f xs full = begun_more table k f xs full
+filled_to table k false f xs full = full
 
 pub no_further : (t : TableSchema) (k : ℕ) (told : List ℕ) (x : Fault) (s u v : State) (d e f : Disk) → FlushesFirst t k told s u d e → FlushesOne t k (Err x) u v e f
     → k < length s.shards → FlushesNoFurther t x s v d f
@@ -408,17 +426,20 @@ no_further t k told x s u v d e f first one few = record {
           later.0,
           lasts_as (record amidst { changes = changes_by so_far one.change }) (record h { changes = so_far }) found v f later.0 refl
               (ap (λ (c : Option Change). changes_by so_far c) (sym one.answer)) later.1,
-          both_explain h left so_far found s u v d e f was now.0 later.0 (λ tells. first.beside.tells tells.0 tells.1) (λ tells stood. (first.moves tells.0 tells.1 (with_disk h s) stood).0) now.2 later.2,
+          both_explain h left so_far found s u v d e f was now.0 later.0 (λ tells. first.beside.tells tells.0 tells.1) (λ tells stood. (first.moves tells.0 tells.1 (with_state h s) stood).0) now.2 later.2,
         ),
         amid_then h found s u d e f first.beside.list amid (amid_with h left so_far found u.list e f more),
       );
+  begun = begun_to one.begun k;
+  begins = begun_so one.begun k (length first.changes) first.many;
+  fills = λ before full. filled_to t.number k one.begun before v.shards (one.fills (without_begun t.number k before) (first.fills before full));
   moves = λ c reads kept_so h stands.
       let (now, so) = first.moves c reads h stands in
       let (b, read) = first.beside.tells c reads in
       let left : ℕ → ℕ → List Mutation = without_flushed t.number first.changes h.unflushed in
-      let (later, none) = one.moves b read (first_lasts_for_one t k told s u d e first c reads kept_so) (record h { unflushed = left; disk = disk_of u }) now in
+      let (later, none) = one.moves b read (first_lasts_for_one t k told s u d e first c reads kept_so) (record h { unflushed = left; filled = filled_of u; disk = disk_of u }) now in
       let began : h.disk.last_file ≡ s.last_file = ap (λ (q : DiskState). q.last_file) stands.disk in (
-        subst (λ (c : Option Change). StandsFor (record h { unflushed = rest_with t.number k c left; disk = disk_of v }) v) one.answer later,
+        subst (λ (c : Option Change). StandsFor (record h { unflushed = rest_with t.number k c left; filled = filled_of v; disk = disk_of v }) v) one.answer later,
         (
           still_flushed h t first.changes (disk_of u) (disk_of v) so none.0.files none.0.reach one.beside.faults one.beside.reads none.0.live one.beside.last
               (omega (arith, began, first.numbers, first.many, one.numbers)),
@@ -437,6 +458,9 @@ none_of_memory t k told s u d e first few going = record {
   changes = first.changes;
   few = omega (arith, first.many, few);
   lasts = first.lasts;
+  begun = k;
+  begins = inl (sym first.many);
+  fills = first.fills;
   moves = λ c reads kept_so h stands.
       let (now, so) = first.moves c reads h stands in
       (now, (so, ap is_some going));
@@ -458,20 +482,23 @@ as_it_stands h s stands = record {
   shards = stands.shards;
   entered = stands.entered;
   memory = stands.memory;
+  filled = filled_are s;
 }
 
-went_to : (h : History) (table : ℕ) (changes : List (Option Change)) (s u : State) (d e : Disk) → TellsReads d → StandsFor h s
-    → StandsFor (record h { unflushed = without_flushed table changes h.unflushed; disk = disk_of u }) u
-    → ((found : List Mutation) (told : Told) → LastsFor h found s d told → GoesOn (TellsReads d) h (fold changes_by h.changes changes) found told s u d e)
-    → GoesOnTo h (went_on h table changes u) s u d e
-went_to h table changes s u d e tells before stands lasts = record {
-  stands = stands_with (record h { unflushed = without_flushed table changes h.unflushed; disk = disk_of u }) (fold changes_by h.changes changes) u stands;
+pub went_to : (h : History) (left : ℕ → ℕ → List Mutation) (full : ℕ → ℕ → ℕ) (changes : List Change) (s u : State) (d e : Disk) → TellsReads d → StandsFor h s
+    → StandsFor (record h { unflushed = left; filled = filled_of u; disk = disk_of u }) u → AreFilled full u.shards
+    → ((found : List Mutation) (told : Told) → LastsFor h found s d told → GoesOn (TellsReads d) h changes found told s u d e)
+    → GoesOnTo h (record h { unflushed = left; filled = full; changes = changes; disk = disk_of u }) s u d e
+went_to h left full changes s u d e tells before stands filled lasts = record {
+  stands = stands_filled (record h { unflushed = left; changes = changes; filled = filled_of u; disk = disk_of u }) full u filled
+      (stands_with (record h { unflushed = left; filled = filled_of u; disk = disk_of u }) changes u stands);
   lasts = λ found told was.
-      let (later, amid) = lasts found told was in (
+      let (later, amid) = lasts found told was in
+      let after : History = record h { unflushed = left; filled = full; changes = changes; disk = disk_of u } in (
         later.0,
-        lasts_as (record h { changes = fold changes_by h.changes changes }) (went_on h table changes u) found u e later.0 refl refl later.1,
+        lasts_as (record h { changes = changes }) after found u e later.0 refl refl later.1,
         λ openings explained.
-            explains_still openings h (went_on h table changes u) found u u e e later.0 (λ n. goes_nowhere (shard_at h n)) refl refl (keep_files_none later.0 e) (λ ms have. have)
+            explains_still openings h after found u u e e later.0 (λ n. goes_nowhere (shard_at h n)) refl refl (keep_files_none later.0 e) (λ ms have. have)
             (later.2 tells (as_it_stands h s before) openings explained),
       );
 }
@@ -481,43 +508,57 @@ named : (h : History) (tables : List TableSchema) (name : TableName) (o : Option
 named h tables name o r after same is flushes =
     subst (λ (x : Option TableSchema). FlushesNamed h x r after) (sym (ap (λ (ts : List TableSchema). table_named ts name) same ∙ is)) flushes
 
+-- the history after a flush of the table by which so many shards got new memtables
+abbrev pub flushed_to : History → ℕ → List (Option Change) → ℕ → State → History
+flushed_to h table changes begun u = record h {
+  unflushed = without_flushed table changes h.unflushed;
+  filled = without_begun table begun h.filled;
+  changes = fold changes_by h.changes changes;
+  disk = disk_of u;
+}
+
 pub flushes_all : (name : TableName) (t : TableSchema) (told : List ℕ) (s u : State) (d e : Disk) → table_named s.tables name ≡ Some t → s.journal.first ≡ None → u.journal.first ≡ None
     → FlushesFirst t (length s.shards) told s u d e → (c : Image) → d.reads c → Moves (λ h after. Flushes h name (Ok told) after) s u d e
 flushes_all name t told s u d e is going on first c reads h stands =
-    let (now, so) = first.moves c reads h stands in (
-      went_on h t.number first.changes u,
-      named h s.tables name (Some t) (Ok told) (went_on h t.number first.changes u) stands.tables is (
+    let (now, so) = first.moves c reads h stands in
+    let after : History = flushed_to h t.number first.changes (length s.shards) u in (
+      after,
+      named h s.tables name (Some t) (Ok told) after stands.tables is (
         first.changes,
+        length s.shards,
         disk_of u,
         ap (λ (x : DiskState). x.stopped) stands.disk ∙ ap is_some going,
         so,
-        (first.many ∙ sym stands.count, first.added, ap is_some on),
+        (first.many ∙ sym stands.count, first.added, ap is_some on, sym first.many),
         refl,
       ),
-      went_to h t.number first.changes s u d e (c, reads) stands now (λ found was lasts. first.lasts h found was stands.tables lasts),
+      went_to h (without_flushed t.number first.changes h.unflushed) (without_begun t.number (length s.shards) h.filled) (fold changes_by h.changes first.changes) s u d e (c, reads) stands now
+          (first.fills h.filled stands.filled) (λ found was lasts. first.lasts h found was stands.tables lasts),
     )
 
 -- a fault that isn't of an earlier one
-fails_by : (h : History) (t : TableSchema) (f : Fault) (changes : List (Option Change)) (e : DiskState) → h.disk.stopped ≡ false → Flushed h t changes e → length changes < length h.shards
-    → WhyNoFurther t (length changes) (shard_at h (length changes)) h.disk e f → FlushesTable h t (Err f)
-    (record h { unflushed = without_flushed t.number changes h.unflushed; changes = fold changes_by h.changes changes; disk = e })
-fails_by h t (Refused why) changes e going flushed few is = (changes, e, going, flushed, (few, is), refl)
-fails_by h t (Stopped first) changes e going flushed few is = absurd is
-fails_by h t (Failed number) changes e going flushed few is = (changes, e, going, flushed, (few, is), refl)
-fails_by h t Read changes e going flushed few is = (changes, e, going, flushed, (few, is), refl)
-fails_by h t (BadBlock number at) changes e going flushed few is = absurd is
-fails_by h t Mem changes e going flushed few is = (changes, e, going, flushed, (few, is), refl)
+fails_by : (h : History) (t : TableSchema) (f : Fault) (changes : List (Option Change)) (begun : ℕ) (u : State) → h.disk.stopped ≡ false → Flushed h t changes (disk_of u)
+    → length changes < length h.shards → WhyNoFurther t (length changes) (shard_at h (length changes)) h.disk (disk_of u) f
+    → (begun ≡ length changes) ⊎ (begun ≡ length changes + 1) → FlushesTable h t (Err f) (flushed_to h t.number changes begun u)
+fails_by h t (Refused why) changes begun u going flushed few is so = (changes, begun, disk_of u, going, flushed, (few, is, so), refl)
+fails_by h t (Stopped first) changes begun u going flushed few is so = absurd is
+fails_by h t (Failed number) changes begun u going flushed few is so = (changes, begun, disk_of u, going, flushed, (few, is, so), refl)
+fails_by h t Read changes begun u going flushed few is so = (changes, begun, disk_of u, going, flushed, (few, is, so), refl)
+fails_by h t (BadBlock number at) changes begun u going flushed few is so = absurd is
+fails_by h t Mem changes begun u going flushed few is so = (changes, begun, disk_of u, going, flushed, (few, is, so), refl)
 
 pub flushes_some : (name : TableName) (t : TableSchema) (f : Fault) (s u : State) (d e : Disk) → table_named s.tables name ≡ Some t → s.journal.first ≡ None
     → FlushesNoFurther t f s u d e → (c : Image) → d.reads c → LastsForOne s d → Moves (λ h after. Flushes h name (Err f) after) s u d e
 flushes_some name t f s u d e is going none c reads one h stands =
     let (now, so) = none.moves c reads one h stands in
-    let n : ℕ = length none.changes in (
-      went_on h t.number none.changes u,
-      named h s.tables name (Some t) (Err f) (went_on h t.number none.changes u) stands.tables is
-          (fails_by h t f none.changes (disk_of u) (ap (λ (x : DiskState). x.stopped) stands.disk ∙ ap is_some going) so.0 (omega (arith, none.few, stands.count))
-          (subst (λ (x : DiskState). WhyNoFurther t n (shard_at h n) x (disk_of u) f) (sym stands.disk) so.1)),
-      went_to h t.number none.changes s u d e (c, reads) stands now (λ found was lasts. none.lasts h found was stands.tables lasts),
+    let n : ℕ = length none.changes in
+    let after : History = flushed_to h t.number none.changes none.begun u in (
+      after,
+      named h s.tables name (Some t) (Err f) after stands.tables is
+          (fails_by h t f none.changes none.begun u (ap (λ (x : DiskState). x.stopped) stands.disk ∙ ap is_some going) so.0 (omega (arith, none.few, stands.count))
+          (subst (λ (x : DiskState). WhyNoFurther t n (shard_at h n) x (disk_of u) f) (sym stands.disk) so.1) none.begins),
+      went_to h (without_flushed t.number none.changes h.unflushed) (without_begun t.number none.begun h.filled) (fold changes_by h.changes none.changes) s u d e (c, reads) stands now
+          (none.fills h.filled stands.filled) (λ found was lasts. none.lasts h found was stands.tables lasts),
     )
 
 pub keeps_all : (s u : State) (d e : Disk) (changes : List (Option Change)) → u.list ≡ s.list

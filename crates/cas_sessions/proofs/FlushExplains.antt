@@ -1,7 +1,6 @@
 -- What a crash may leave explains the history still, where the manifest gets the change of a flush, or where that fails.
 use Rattle.std.proofs.Common.{◌≡◌, ◌≢◌, ◌⊎◌, inl, inr, ⊎_elim, ◌∙◌, ◌≤◌, ◌<◌, ◌+◌, ◌*◌, ℕ, None, Some, List, [], ◌∷◌, ◌++◌, length, refl, sym, ap, subst, append-nil, length-append, take, arith}
-use Rattle.std.specs.Prelude.{◌≤ℤ◌, slice_get}
-use Rattle.std.specs.Int.{int_max}
+use Rattle.std.specs.Prelude.{slice_get}
 use Rattle.std.proofs.lemmas.Int.{clamps, ints}
 use Rattle.std.proofs.lemmas.List.{take_all}
 use Rattle.std.proofs.lemmas.Option.{same_Some}
@@ -27,7 +26,6 @@ use Rattle.cas_replay.specs.Grammar.{AscendByOne, numbers_of}
 use Rattle.cas_room.specs.Changing.{MayBeTold}
 use Rattle.cas_room.specs.Rooms.{accepted_in}
 use Rattle.cas_shard.specs.Flushing.{bytes_at, memtables_at}
-use Rattle.cas_shard.specs.Shards.{drawn_of, number_of}
 use Rattle.cas_shard.specs.Stands.{SaySame, ShardState, Stands, mutations_of}
 use Rattle.cas_shard.specs.declared.entry.ShardOpening.{ShardOpening}
 use Rattle.cas_recovery.specs.Found.{found_in}

@@ -1,6 +1,7 @@
 -- A flush of a table in a shard.
 use Rattle.std.proofs.Common.{◌≡◌, ◌≢◌, ◌⊎◌, inl, inr, ◌<◌, ◌≤◌, ◌+◌, ℕ, Bool, true, false, ◌==◌, List, [], ◌∷◌, ◌++◌, length, map, take, drop, Option, None, Some, Result, Ok, Err, is_some, ℤ, refl, sym, ap, ◌∙◌, subst, arith, append-nil}
 use Rattle.std.proofs.lemmas.List.{take_all}
+use Rattle.std.proofs.Math.Bool.{and-false}
 use Rattle.std.proofs.lemmas.Option.{same_Some}
 use Rattle.std.specs.Prelude.{◌&&◌, if◌then◌else◌, slice_get, slice_set, IfOk, IfErr, IfSome}
 use Rattle.std.specs.List.{AllByRecursion}
@@ -30,7 +31,7 @@ use Rattle.cas_manifest.specs.Manifests.{place_of as manifest_place}
 use Rattle.cas_memtable.specs.Kept.{HoldJust}
 use Rattle.cas_memtable.proofs.Keeping.{mapped_more}
 use Rattle.cas_memtable.specs.declared.memtable.MemPart.{MemPart}
-use Rattle.cas_shard.specs.Flushing.{HasInMemory, SaysWhatTheyDo, bytes_at, frozen_at, memtables_at}
+use Rattle.cas_shard.specs.Flushing.{HasInMemory, KeepsBytes, SaysWhatTheyDo, bytes_at, frozen_at, memtables_at}
 use Rattle.cas_shard.specs.Shards.{ShardHistory, all_entries}
 use Rattle.cas_shard.specs.Stands.{Holds, SaySame, ShardState, Stands, files_at, mutations_of, order_at, order_of}
 use Rattle.cas_sstread.specs.Loading.{Held}
@@ -43,14 +44,16 @@ use Rattle.cas_sessions.specs.Flushes.{AreInFiles, AscendTo, Grows, ListsOne, Sa
 use Rattle.cas_recovery.specs.Restored.{Remember, RemembersJust}
 use Rattle.cas_sessions.specs.Listing.{SameUpTo}
 use Rattle.cas_sessions.specs.History.{History, DiskState, shard_at}
-use Rattle.cas_sessions.specs.Nodes.{RememberJust, State, StandsFor, LastsFor, LastsForOne, disk_of, files_in, files_of}
+use Rattle.cas_sessions.specs.Nodes.{AreFilled, RememberJust, State, StandsFor, LastsFor, LastsForOne, disk_of, files_in, files_of, filled_of}
 use Rattle.cas_sessions.specs.Inner.Faults.{fault_for}
-use Rattle.cas_sessions.specs.Inner.Flushing.{AddsFile, EndsIn, FlushedOne, FlushesOne, GoesOn, GoesOnAs, IsChangeFor, IsOwn, Lists, Moved, NewFile, Quiet, SaysSo, StandsSo, TakesFile, SaysNone, TellsIt, TellsReads, WhyNotMade, rest_with}
+use Rattle.cas_sessions.specs.Filling.{EndsIn, FlushedOne, IsBegun, SaysNone, TellsIt, filled_with, rest_with}
+use Rattle.cas_sessions.specs.Inner.Flushing.{AddsFile, Fills, FlushesOne, GoesOn, GoesOnAs, IsChangeFor, IsOwn, Lists, Moved, NewFile, Quiet, SaysSo, StandsSo, TakesFile, TellsReads, WhyNotMade}
+use Rattle.cas_sessions.proofs.Filled.{filled_still}
 use Rattle.cas_sessions.proofs.FlushChange.{below_next, lists_done, lists_failed}
 use Rattle.cas_sessions.proofs.FlushExplains.{explains_told, explains_untold}
 use Rattle.cas_sessions.proofs.FlushFiles.{SayNothing, in_files, memory_says_nothing, rest_says_nothing}
 use Rattle.cas_sessions.proofs.FlushSteps.{amid_then, beside_then, files_again, lasts_as, one_goes_on, quiet_amid, quiet_beside, quiet_explains, quiet_goes, quiet_lasts}
-use Rattle.cas_sessions.proofs.FlushSteps.{quiet_stands, same_shards, stands_again, with_disk}
+use Rattle.cas_sessions.proofs.FlushSteps.{quiet_stands, same_shards, stands_again, with_state}
 use Rattle.cas_sessions.proofs.Listing.{up_to_same}
 use Rattle.cas_sessions.proofs.Remembering.{some_of_just}
 
@@ -112,7 +115,7 @@ files_there : (xs : List ShardState) (n table : ℕ) (x : ShardState) → slice_
 files_there xs n table x there = ap (λ o. files_of o table) there
 
 -- all that was written to it stands in its files, where memory says nothing
-all_in_files : (h : History) (u : State) (t : TableSchema) (n : ℕ) (y : ShardState) → StandsFor (with_disk h u) u → slice_get u.tables t.number ≡ Some t → slice_get u.shards n ≡ Some y
+all_in_files : (h : History) (u : State) (t : TableSchema) (n : ℕ) (y : ShardState) → StandsFor (with_state h u) u → slice_get u.tables t.number ≡ Some t → slice_get u.shards n ≡ Some y
     → SayNothing (clustering_order t.columns) (memtables_at (slice_get y.stores t.number))
     → AreInFiles (clustering_order t.columns) (files_in u.shards n t.number) (mutations_of t.number (all_entries (shard_at h n)))
 all_in_files h u t n y stands table there nothing =
@@ -138,7 +141,7 @@ module _ (t : TableSchema) (n : ℕ) (s u : State) (d e : Disk) (quiet : Quiet s
       → (Remember u.tables u.shards → SayNothing (clustering_order t.columns) (memtables_at (slice_get y.stores t.number)))
       → Moved (rest_with t.number n None) (λ h before now. EndsIn t n (shard_at h n) None (Ok None) before now × SaysNone (Ok None) None (h.unflushed n t.number)) s u
   quiet_none y table there nothing h stands =
-      let now : StandsFor (with_disk h u) u = quiet_stands s u d e quiet h stands in
+      let now : StandsFor (with_state h u) u = quiet_stands s u d e quiet h stands in
       let at_t : slice_get u.tables t.number ≡ Some t = ap (λ (ts : List TableSchema). slice_get ts t.number) quiet.tables ∙ table in
       let says = nothing (some_of_just u.tables h.unflushed u.shards now.memory) in (
         now,
@@ -215,10 +218,6 @@ not_made_since Full a b c p q r Read faults reads rose = rose_since p q r reads 
 not_made_since Full a b c p q r (BadBlock number at) faults reads is = is
 not_made_since Full a b c p q r Mem faults reads is = is
 
-and_false : (b : Bool) → (b && false) ≡ false
-and_false true = refl
-and_false false = refl
-
 -- ---- the file is listed, and takes the place of memtables
 
 -- a shard's table took these files in the place of so many frozen memtables
@@ -230,6 +229,7 @@ pub record Swapped (table count : ℕ) (files : List (File Held)) (x y : ShardSt
   pub emptied : (tables : List TableSchema) (ws : List Mutation) → count ≡ length (frozen_at (slice_get x.stores table)) → bytes_at (slice_get x.stores table) ≡ 0
       → HasInMemory tables table ws x → HasInMemory tables table [] y
   pub others : (k : ℕ) → (k ≡ table → ⊥) → slice_get y.stores k ≡ slice_get x.stores k
+  pub bytes : KeepsBytes x y
   pub number : y.number ≡ x.number
 
 -- what it has in memory then
@@ -365,7 +365,7 @@ module _ {T : Type 0} (t : TableSchema) (n number count : ℕ) (s m : State) (d 
           (sym ((λ i. (here i == n) && (of_it i == t.number)) ∙ (λ i. is_same n i && is_same t.number i))) empty
       of here (inr (other, has)) =
           subst (λ (b : Bool). RemembersJust s.tables j (if b then [] else ws k j) y)
-          (sym (ap (λ (b : Bool). (k == n) && b) (is_other j t.number (λ e. other (sym e))) ∙ and_false (k == n))) has
+          (sym (ap (λ (b : Bool). (k == n) && b) (is_other j t.number (λ e. other (sym e))) ∙ and-false (k == n))) has
 
       by : ((k ≡ n) × (y ≡ z)) ⊎ ((k ≢ n) × (slice_get s.shards k ≡ Some z)) → RemembersJust s.tables j (if (k == n) && (j == t.number) then [] else ws k j) z
       by (inl (here, same)) =
@@ -381,7 +381,7 @@ module _ {T : Type 0} (t : TableSchema) (n number count : ℕ) (s m : State) (d 
         (subst (λ (ms : List MemPart). SaysWhatTheyDo (order_at s.tables t.number) ms new.file)
         (sym (take_all count (frozen_at (slice_get x.stores t.number)) (omega (arith, all)))) (says s.tables table)) so
 
-    now_stands : StandsFor (record h { unflushed = rest_with t.number n (Some c) h.unflushed; disk = disk_of u }) u
+    now_stands : StandsFor (record h { unflushed = rest_with t.number n (Some c) h.unflushed; filled = filled_of u; disk = disk_of u }) u
     now_stands =
         stands_again h s u stands lists.limits lists.tables lists.clock lists.list lists.session lists.calls (length_set m.shards n y ∙ ap length lists.shards) by
         (rest_with t.number n (Some c) h.unflushed) (remembers h.unflushed stands.memory)
@@ -436,6 +436,8 @@ module _ {T : Type 0} (t : TableSchema) (n number count : ℕ) (s m : State) (d 
     answer = ap (λ (is : List TableInfo). map (λ i. i.number) is) adds.is.added ∙ ap (λ (k : ℕ). k ∷ []) adds.numbered;
     lasts = keeps_on;
     numbered = ap (λ (is : List TableInfo). map (λ i. i.number) is) adds.is.added ∙ ap (λ (k : ℕ). k ∷ []) adds.numbered;
+    fills = λ before full.
+        subst (λ (xs : List ShardState). AreFilled before (slice_set xs n y)) (sym lists.shards) (filled_still before s.shards n x y there full swapped.bytes);
     moves = λ says fine h stands. (now_stands says h stands, flushed says h stands);
     own = tt;
   }
@@ -534,6 +536,7 @@ module _ (t : TableSchema) (n number : ℕ) (s m : State) (d e : Disk) (c : Chan
         (λ v may left stood openings explained.
         explains_untold openings h found s m d e was c t x n told lasts going its_own table there many none left lists.during stood lists.list explained lists.tables lists.shards f v may);
     numbered = tt;
+    fills = λ before full. subst (AreFilled before) (sym lists.shards) full;
     moves = λ says one h stands.
         let still : RememberJust m.tables h.unflushed m.shards =
         subst (λ (xs : List ShardState). RememberJust m.tables h.unflushed xs) (sym lists.shards)
@@ -572,6 +575,7 @@ takes_nothing t n number Says Left s d going = record {
   answer = refl;
   lasts = λ h found was tables lasts below. quiet_goes s s d d (quiet_still s d) Left h found was tables lasts (λ openings explained. explained);
   numbered = tt;
+  fills = λ before full. full;
   moves = λ says one h stands.
       let (now, ends) = quiet_starves t n s s d d (quiet_still s d) going h stands in
       (now, ends.0);
@@ -612,14 +616,14 @@ where_failed (Err f) goes one = goes one
 -- the disk still keeps what some history says for which the store stands
 pub quiet_lasts_for_one : (s m : State) (d e : Disk) → Quiet s m d e → LastsForOne s d → LastsForOne m e
 quiet_lasts_for_one s m d e quiet (h, found, told, stands, lasts) =
-    (with_disk h m, found, told, quiet_stands s m d e quiet h stands, lasts_as h (with_disk h m) found m e told refl refl (quiet_lasts s m d e quiet h found told lasts))
+    (with_state h m, found, told, quiet_stands s m d e quiet h stands, lasts_as h (with_state h m) found m e told refl refl (quiet_lasts s m d e quiet h found told lasts))
 
 -- quiet steps, and then the file is listed or not
 pub flushes_then : (t : TableSchema) (n number last : ℕ) (Says Left : Type 0) (r : Result (Option ℕ) Fault) (s m u : State) (d e f : Disk) → Quiet s m d e
     → During (SameUpTo s.last_file) d e → s.journal.first ≡ None → TakesFile t n number Says Left r m u e f → Left → s.last_file ≤ last → last < number
     → number ≤ m.last_file → m.last_file ≤ s.last_file + 1 → ((h : History) → StandsFor h s → SaySomething (h.unflushed n t.number))
-    → ((c : Image) → d.reads c → Remember s.tables s.shards → Says) → FlushesOne t n r s u d f
-flushes_then t n number last Says Left r s m u d e f quiet during going takes left low above up next some says = record {
+    → ((c : Image) → d.reads c → Remember s.tables s.shards → Says) → Fills (filled_with t.number n true) s m → FlushesOne t n r s u d f
+flushes_then t n number last Says Left r s m u d e f quiet during going takes left low above up next some says fills = record {
   beside = beside_then s m u d e f (quiet_beside s m d e quiet during) takes.beside;
   numbers = omega (arith, takes.numbers, next);
   change = takes.change;
@@ -633,13 +637,16 @@ flushes_then t n number last Says Left r s m u d e f quiet during going takes le
           now.0,
           now.1,
           λ tells stood openings explained.
-              now.2 left (quiet_stands s m d e quiet (with_disk h s) stood) openings (quiet_explains s m d e quiet during going h found told lasts openings explained),
+              now.2 left (quiet_stands s m d e quiet (with_state h s) stood) openings (quiet_explains s m d e quiet during going h found told lasts openings explained),
         ),
         amid_then h found s m d e f quiet.list (quiet_amid s m d e quiet h found told tables lasts) amid,
       );
+  begun = true;
+  begins = all_begun r;
+  fills = λ before full. takes.fills (filled_with t.number n true before) (fills before full);
   moves = λ c reads one h stands.
       let (now, ends) =
-      takes.moves (says c reads (some_of_just s.tables h.unflushed s.shards stands.memory)) (where_failed r (quiet_lasts_for_one s m d e quiet) one) (with_disk h m)
+      takes.moves (says c reads (some_of_just s.tables h.unflushed s.shards stands.memory)) (where_failed r (quiet_lasts_for_one s m d e quiet) one) (with_state h m)
       (quiet_stands s m d e quiet h stands) in (
         now,
         (
@@ -660,6 +667,10 @@ flushes_then t n number last Says Left r s m u d e f quiet during going takes le
     listed_or_failed (Ok told) (Some c) ws is = tt
     listed_or_failed (Err f) c ws is = tt
 
+    all_begun : (r : Result (Option ℕ) Fault) → IsBegun r true
+    all_begun (Ok told) = refl
+    all_begun (Err f) = tt
+
     some_then : (c : Option Change) → IfSome c (λ x. (h : History) → StandsFor h s → SaySomething (h.unflushed n t.number))
     some_then None = tt
     some_then (Some c) = some
@@ -669,8 +680,8 @@ pub flushes_quietly : (t : TableSchema) (n : ℕ) (r : Result (Option ℕ) Fault
     → s.journal.first ≡ None → u.last_file ≤ s.last_file + 1
     → ((c : Image) → d.reads c → Remember s.tables s.shards → Moved (rest_with t.number n None)
     (λ h before now. EndsIn t n (shard_at h n) None r before now × SaysNone r None (h.unflushed n t.number)) s u) → IfErr r IsOwn
-    → TellsIt None r → FlushesOne t n r s u d e
-flushes_quietly t n r s u d e quiet during going next moves own answer = record {
+    → TellsIt None r → (begun : Bool) → IsBegun r begun → Fills (filled_with t.number n begun) s u → FlushesOne t n r s u d e
+flushes_quietly t n r s u d e quiet during going next moves own answer begun begins fills = record {
   beside = quiet_beside s u d e quiet during;
   numbers = next;
   change = None;
@@ -678,6 +689,9 @@ flushes_quietly t n r s u d e quiet during going next moves own answer = record 
   some = tt;
   answer = answer;
   lasts = λ h found told tables lasts. quiet_goes s u d e quiet (TellsReads d) h found told tables lasts (quiet_explains s u d e quiet during going h found told lasts);
+  begun = begun;
+  begins = begins;
+  fills = fills;
   moves = λ c reads one h stands. moves c reads (some_of_just s.tables h.unflushed s.shards stands.memory) h stands;
   own = own;
 }

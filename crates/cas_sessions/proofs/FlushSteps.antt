@@ -18,18 +18,19 @@ use Rattle.cas_room.specs.Rooms.{accepted_in}
 use Rattle.cas_shard.specs.Flushing.{HasInMemory}
 use Rattle.cas_shard.specs.declared.entry.ShardOpening.{ShardOpening}
 use Rattle.cas_shard.specs.Shards.{ShardHistory}
-use Rattle.cas_shard.specs.Stands.{ShardState, Stands, mutations_of}
+use Rattle.cas_shard.specs.Stands.{ShardState, Stands}
 use Rattle.cas_recovery.proofs.Places.{get_here, get_other, length_set, same_place}
 use Rattle.cas_sessions.specs.History.{History, shard_at}
 use Rattle.cas_sessions.specs.Entered.{IsLeftAmid, entries_in}
 use Rattle.cas_sessions.specs.Listing.{SameUpTo}
-use Rattle.cas_recovery.specs.Found.{found_in}
-use Rattle.cas_recovery.specs.Restored.{Remember, RememberAll}
-use Rattle.cas_sessions.specs.Nodes.{Explains, RememberJust, State, StandsFor, LastsFor, disk_of, files_in, files_of}
+use Rattle.cas_recovery.specs.Restored.{Remember}
+use Rattle.cas_sessions.specs.Nodes.{Explains, RememberJust, State, StandsFor, LastsFor, disk_of, filled_of, files_in, files_of}
 use Rattle.cas_sessions.specs.Inner.Flushing.{AllGoOn, GoesOn, GoesOnAs, IsBeside, Quiet, SameNumbers}
 use Rattle.cas_sessions.proofs.Crashing.{holds_amid}
 use Rattle.cas_sessions.proofs.Explaining.{explains_still, goes_nowhere, keep_files_below}
 use Rattle.cas_sessions.proofs.Files.{list_still}
+use Rattle.cas_sessions.proofs.Filled.{filled_are}
+use Rattle.cas_sessions.proofs.Remembering.{in_log}
 use Rattle.cas_sessions.proofs.Listing.{up_to_twice}
 
 -- ---- shards
@@ -157,6 +158,7 @@ stands_with h changes s stands = record {
   shards = stands.shards;
   entered = stands.entered;
   memory = stands.memory;
+  filled = stands.filled;
 }
 
 -- ---- memory stands for the same
@@ -165,10 +167,14 @@ stands_with h changes s stands = record {
 abbrev pub with_disk : History → State → History
 with_disk h t = record h { disk = disk_of t }
 
+-- and how full memtables are
+abbrev pub with_state : History → State → History
+with_state h t = record h { filled = filled_of t; disk = disk_of t }
+
 pub stands_again : (h : History) (s t : State) → StandsFor h s → t.limits ≡ s.limits → t.tables ≡ s.tables → t.clock ≡ s.clock → t.list ≡ s.list → t.session ≡ s.session
     → t.calls ≡ s.calls → length t.shards ≡ length s.shards
     → ((n : ℕ) (y : ShardState) → slice_get t.shards n ≡ Some y → (x : ShardState) × (slice_get s.shards n ≡ Some x) × ((q : ShardHistory) → Stands s.tables q x → Stands s.tables q y))
-    → (left : ℕ → ℕ → List Mutation) → RememberJust t.tables left t.shards → StandsFor (record h { unflushed = left; disk = disk_of t }) t
+    → (left : ℕ → ℕ → List Mutation) → RememberJust t.tables left t.shards → StandsFor (record h { unflushed = left; filled = filled_of t; disk = disk_of t }) t
 stands_again h s t stands limits tables clock list session calls count shards left remembers = record {
   limits = stands.limits ∙ sym limits;
   tables = stands.tables ∙ sym tables;
@@ -183,6 +189,7 @@ stands_again h s t stands limits tables clock list session calls count shards le
       (so (shard_at h n) (subst (λ (ts : List TableSchema). Stands ts (shard_at h n) x) stands.tables (stands.shards n x at)));
   entered = λ n lt. stands.entered n lt ∙ ap (entries_in n) (sym list);
   memory = remembers;
+  filled = filled_are t;
 }
 
 -- ---- what such a step comes to
@@ -233,17 +240,17 @@ module _ (s t : State) (d e : Disk) (quiet : Quiet s t d e) where
     quiet_amid h found told tables lasts,
   )
 
-  quiet_all : (ms : List Mutation) → RememberAll s.tables ms s.shards → RememberAll t.tables ms t.shards
-  quiet_all ms have n table y there =
+  pub quiet_just : (ws : ℕ → ℕ → List Mutation) → RememberJust s.tables ws s.shards → RememberJust t.tables ws t.shards
+  quiet_just ws have n table y there =
       let (x, at, goes) = quiet.shards.each n y there in
-      let ws = mutations_of table (found_in n ms).entries in
-      λ more. subst (λ (ts : List TableSchema). HasInMemory (ts ++ more) table ws y) (sym quiet.tables) (goes.memory (s.tables ++ more) table ws (have n table x at more))
+      λ more. subst (λ (ts : List TableSchema). HasInMemory (ts ++ more) table (ws n table) y) (sym quiet.tables)
+      (goes.memory (s.tables ++ more) table (ws n table) (have n table x at more))
 
   pub quiet_explains : During (SameUpTo s.last_file) d e → s.journal.first ≡ None → (h : History) (found : List Mutation) (told : Told) → LastsFor h found s d told
       → (openings : ℕ → ShardOpening) → Explains openings h found s d told → Explains openings h found t e told
   quiet_explains during going h found told lasts openings was =
       explains_still openings h h found s t d e told (λ n. goes_nowhere (shard_at h n)) refl (ap accepted_in quiet.list)
-      (keep_files_below told s.last_file d e (lasts.keeps.lasts.goes going).none_failed lasts.behind.numbers during) quiet_all was
+      (keep_files_below told s.last_file d e (lasts.keeps.lasts.goes going).none_failed lasts.behind.numbers during) (λ ms. quiet_just (in_log ms)) was
 
   pub quiet_remembers : Remember s.tables s.shards → Remember t.tables t.shards
   quiet_remembers have n table y there =
@@ -251,13 +258,7 @@ module _ (s t : State) (d e : Disk) (quiet : Quiet s t d e) where
       let (ws, has) = have n table x at in
       (ws, λ more. subst (λ (ts : List TableSchema). HasInMemory (ts ++ more) table ws y) (sym quiet.tables) (goes.memory (s.tables ++ more) table ws (has more)))
 
-  pub quiet_just : (ws : ℕ → ℕ → List Mutation) → RememberJust s.tables ws s.shards → RememberJust t.tables ws t.shards
-  quiet_just ws have n table y there =
-      let (x, at, goes) = quiet.shards.each n y there in
-      λ more. subst (λ (ts : List TableSchema). HasInMemory (ts ++ more) table (ws n table) y) (sym quiet.tables)
-      (goes.memory (s.tables ++ more) table (ws n table) (have n table x at more))
-
-  pub quiet_stands : (h : History) → StandsFor h s → StandsFor (with_disk h t) t
+  pub quiet_stands : (h : History) → StandsFor h s → StandsFor (with_state h t) t
   quiet_stands h stands =
       stands_again h s t stands quiet.limits quiet.tables quiet.clock quiet.list quiet.session quiet.calls quiet.shards.count
       (λ n y there. let (x, at, goes) = quiet.shards.each n y there in (x, at, λ q. goes.stands s.tables q)) h.unflushed (quiet_just h.unflushed stands.memory)

@@ -22,6 +22,7 @@ pub mod Listing
 pub mod Going
 pub mod Next
 pub mod Changed
+mod Filled
 mod FlushSteps
 mod FlushExplains
 mod FlushFiles
@@ -31,6 +32,7 @@ mod PartitionsFew
 mod FlushChange
 mod FlushShard
 mod FlushAll
+pub mod FlushFull
 mod FlushMaking
 mod FlushSound
 mod Statuses

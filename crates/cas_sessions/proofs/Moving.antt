@@ -22,6 +22,7 @@ use Rattle.cas_sstread.specs.Loading.{Held}
 use Rattle.cas_stored.specs.Reading.{IsWhyNotShown}
 use Rattle.cas_view.specs.Views.{File}
 use Rattle.cas_types.specs.declared.schema.TableSchema.{TableSchema}
+use Rattle.cas_shard.specs.Flushing.{KeepsBytes, bytes_at}
 use Rattle.cas_shard.specs.Shards.{ShardHistory, found_shard, empty_shard, look_at, raised}
 use Rattle.cas_shard.specs.declared.answers.Look.{Look}
 use Rattle.cas_shard.specs.Stands.{KeepsFiles, ShardState, Stands, files_at}
@@ -29,11 +30,12 @@ use Rattle.cas_sessions.specs.declared.answer.Fault.{Fault}
 use Rattle.cas_sessions.specs.Calls.{reply_of}
 use Rattle.cas_sessions.proofs.Explaining.{explains_still, further_at, keep_files_none, raised_further}
 use Rattle.cas_sessions.proofs.Remembering.{all_still, just_still, same_just}
-use Rattle.cas_sessions.specs.History.{DiskState, History, ReadsAt, Shows, after_entries, after_read, after_write, rows_reply, shard_at, with_shard, with_unflushed}
+use Rattle.cas_sessions.specs.History.{DiskState, History, ReadsAt, Shows, after_entries, after_read, after_write, rows_reply, shard_at, with_filled, with_shard, with_unflushed}
 use Rattle.cas_sessions.specs.Entered.{entries_in, entry_in}
-use Rattle.cas_sessions.specs.Nodes.{RememberJust, State, StandsFor, disk_of, files_of, Moves}
+use Rattle.cas_sessions.specs.Nodes.{AreFilled, RememberJust, State, StandsFor, disk_of, files_of, Moves}
 use Rattle.cas_sessions.specs.Inner.Faults.{fault_of_table}
 use Rattle.cas_sessions.proofs.Filing.{files_still}
+use Rattle.cas_sessions.proofs.Filled.{filled_still}
 use Rattle.cas_sessions.proofs.Lasting.{lasts_still}
 use Rattle.cas_recovery.proofs.Places.{same_place, length_set, get_here, get_other, get_within, index_here, index_other, is_same, is_other}
 
@@ -113,9 +115,10 @@ module _ (h : History) (s t : State) (n : ℕ) (x y : ShardState) (reading : ℤ
   pub still_many : length after.shards ≡ length t.shards
   still_many = length_set h.shards n _ ∙ stands.count ∙ sym (length_set s.shards n y) ∙ ap length (sym shards)
 
-  pub stands_write : RememberJust s.tables (with_unflushed n new h.unflushed) (slice_set s.shards n y) → (r : Reply) → t.limits ≡ s.limits → t.tables ≡ s.tables → t.clock ≡ s.clock → t.session ≡ s.session → t.calls ≡ s.calls + length new
+  pub stands_write : RememberJust s.tables (with_unflushed n new h.unflushed) (slice_set s.shards n y) → AreFilled (with_filled n new h.filled) (slice_set s.shards n y) → (r : Reply)
+      → t.limits ≡ s.limits → t.tables ≡ s.tables → t.clock ≡ s.clock → t.session ≡ s.session → t.calls ≡ s.calls + length new
       → StandsFor (after_write h n reading r new (disk_of t)) t
-  stands_write remembers r limits tables clock session calls = record {
+  stands_write remembers full r limits tables clock session calls = record {
     limits = stands.limits ∙ sym limits;
     tables = stands.tables ∙ sym tables;
     clock = stands.clock ∙ sym clock;
@@ -128,11 +131,12 @@ module _ (h : History) (s t : State) (n : ℕ) (x y : ShardState) (reading : ℤ
     memory =
         subst (λ (ts : List TableSchema). RememberJust ts (with_unflushed n new h.unflushed) t.shards) (sym tables)
         (subst (RememberJust s.tables (with_unflushed n new h.unflushed)) (sym shards) remembers);
+    filled = subst (AreFilled (with_filled n new h.filled)) (sym shards) full;
   }
 
-  pub stands_read : RememberJust s.tables h.unflushed (slice_set s.shards n y) → t.limits ≡ s.limits → t.tables ≡ s.tables → t.clock ≡ s.clock → t.session ≡ s.session → t.calls ≡ s.calls
+  pub stands_read : RememberJust s.tables h.unflushed (slice_set s.shards n y) → KeepsBytes x y → t.limits ≡ s.limits → t.tables ≡ s.tables → t.clock ≡ s.clock → t.session ≡ s.session → t.calls ≡ s.calls
       → disk_of t ≡ record (disk_of s) { reads = t.reads } → StandsFor (record after { disk = record h.disk { reads = t.reads } }) t
-  stands_read remembers limits tables clock session calls disk = record {
+  stands_read remembers bytes limits tables clock session calls disk = record {
     limits = stands.limits ∙ sym limits;
     tables = stands.tables ∙ sym tables;
     clock = stands.clock ∙ sym clock;
@@ -145,6 +149,7 @@ module _ (h : History) (s t : State) (n : ℕ) (x y : ShardState) (reading : ℤ
     memory =
         subst (λ (ts : List TableSchema). RememberJust ts h.unflushed t.shards) (sym tables)
         (subst (RememberJust s.tables h.unflushed) (sym shards) remembers);
+    filled = subst (AreFilled h.filled) (sym shards) (filled_still h.filled s.shards n x y there stands.filled bytes);
   }
 
 -- ---- a SELECT
@@ -203,7 +208,8 @@ moves_look s d q x y reading reads r there number keeps more raises shows stores
       ),
       record {
         stands = stands_read h s (with_looked s q.shard y reads) q.shard x y reading [] stands there refl still (λ k. none_more q.shard k (entries_in k s.list))
-            (just_still s.tables h.unflushed s.shards q.shard x y there (same_just s.tables x y stores) stands.memory) refl refl refl refl refl disk;
+            (just_still s.tables h.unflushed s.shards q.shard x y there (same_just s.tables x y stores) stands.memory)
+            (λ n. ap (λ ps. bytes_at (slice_get ps n)) stores) refl refl refl refl refl disk;
         lasts = λ found told lasts. (
           told,
           lasts_still h (after_read h q.shard reading reads) found s (with_looked s q.shard y reads) d d told q.shard x y refl refl there refl number

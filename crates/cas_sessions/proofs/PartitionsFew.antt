@@ -19,7 +19,6 @@ use Rattle.cas_streams.specs.Streams.{IsThere}
 use Rattle.cas_tables.specs.Contents.{Partition}
 use Rattle.cas_tables.specs.Fitting.{FitsPartition}
 use Rattle.cas_sessions.specs.Laws.{PartitionsAreFew}
-use Rattle.cas_sessions.specs.TooMuch.{SayNoMore}
 use Rattle.cas_sessions.proofs.NothingMuch.{says_something}
 
 -- ---- mutations of other keys

@@ -133,18 +133,14 @@ with_entry ts x y m session calls keeps table vs has =
 
 -- ---- just what the log has
 
+-- what it has of each table in each shard
+abbrev pub in_log : List Mutation → ℕ → ℕ → List Mutation
+in_log ms n table = mutations_of table (found_in n ms).entries
+
 -- of a shard that is another, which has what it had
 pub all_still : (ts : List TableSchema) (xs : List ShardState) (n : ℕ) (x y : ShardState) (ms : List Mutation) → slice_get xs n ≡ Some x
     → ((table : ℕ) (ws : List Mutation) → RemembersJust ts table ws x → RemembersJust ts table ws y) → RememberAll ts ms xs → RememberAll ts ms (slice_set xs n y)
-all_still ts xs n x y ms there keeps have k table z got = by (same_place k n)
-  where
-    by : (k ≡ n) ⊎ (k ≢ n) → RemembersJust ts table (mutations_of table (found_in k ms).entries) z
-    by (inl here) =
-        let at_k : slice_get (slice_set xs n y) k ≡ Some y = ap (λ (j : ℕ). slice_get (slice_set xs n y) j) here ∙ get_here xs n x y there in
-        let same : y ≡ z = same_Some y z (sym at_k ∙ got) in
-        subst (λ (w : ShardState). RemembersJust ts table (mutations_of table (found_in k ms).entries) w) same
-        (subst (λ (j : ℕ). RemembersJust ts table (mutations_of table (found_in j ms).entries) y) (sym here) (keeps table (mutations_of table (found_in n ms).entries) (have n table x there)))
-    by (inr other) = have k table z (sym (get_other xs n k y other) ∙ got)
+all_still ts xs n x y ms there keeps have = just_still ts (in_log ms) xs n x y there keeps have
 
 -- and which has a mutation more, as the log has
 pub all_entered : (ts : List TableSchema) (xs : List ShardState) (n : ℕ) (x y : ShardState) (ms : List Mutation) (m : Mutation) → slice_get xs n ≡ Some x → m.shard ≡ n
@@ -176,7 +172,7 @@ all_entered ts xs n x y ms m there of_it keeps have k table z got = by (same_pla
 
 -- some are just those
 pub some_of_all : (ts : List TableSchema) (xs : List ShardState) (ms : List Mutation) → RememberAll ts ms xs → Remember ts xs
-some_of_all ts xs ms have n table x there = (mutations_of table (found_in n ms).entries, have n table x there)
+some_of_all ts xs ms have = some_of_just ts (in_log ms) xs have
 
 -- ---- other tables
 
@@ -187,7 +183,7 @@ pub remember_created : (ts : List TableSchema) (ws : ℕ → ℕ → List Mutati
 remember_created ts ws xs t kept n table x there = created_just ts t table (ws n table) x (kept n table x there)
 
 pub all_created : (ts : List TableSchema) (xs : List ShardState) (t : TableSchema) (ms : List Mutation) → RememberAll ts ms xs → RememberAll (ts ++ t ∷ []) ms xs
-all_created ts xs t ms have n table x there = created_just ts t table (mutations_of table (found_in n ms).entries) x (have n table x there)
+all_created ts xs t ms have = remember_created ts (in_log ms) xs t have
 
 pub memory_created : (ts : List TableSchema) (xs : List ShardState) (t : TableSchema) → HaveMemory ts xs → HaveMemory (ts ++ t ∷ []) xs
 memory_created ts xs t kept n table x there = ∥∥₁_map (kept n table x there) (λ k. (k.0, created_just ts t table k.0 x k.1))
@@ -209,7 +205,7 @@ module _ (a : Addition) (bare : NoKeys a.columns) where
   remember_altered ts ws xs kept n table x there = altered_just ts table (ws n table) x (kept n table x there)
 
   pub all_altered : (ts : List TableSchema) (xs : List ShardState) (ms : List Mutation) → RememberAll ts ms xs → RememberAll (map (with_added a) ts) ms xs
-  all_altered ts xs ms have n table x there = altered_just ts table (mutations_of table (found_in n ms).entries) x (have n table x there)
+  all_altered ts xs ms have = remember_altered ts (in_log ms) xs have
 
   pub memory_altered : (ts : List TableSchema) (xs : List ShardState) → HaveMemory ts xs → HaveMemory (map (with_added a) ts) xs
   memory_altered ts xs kept n table x there = ∥∥₁_map (kept n table x there) (λ k. (k.0, altered_just ts table k.0 x k.1))

@@ -125,6 +125,7 @@ module _ (given limits : Limits) (tables : List TableSchema) (shards : List Shar
     last_is = is.last_is;
     files = just_listed;
     memory = is.memory;
+    filled = is.filled;
   }
     where
       low : (n : ℕ) (x : ShardState) → slice_get shards n ≡ Some x → n < (said_by is.entries).shards
@@ -166,6 +167,7 @@ module _ (given : Limits) (entries : List ManifestEntry) (mutations : List Mutat
         ap (λ (q : ShardHistory). q.entries) (at n (subst (λ (k : ℕ). n < k) (many_mapped _ (numbers 0 count) ∙ many_numbers 0 count) lt))
         ∙ ap (entries_in n) (sym list);
     memory = memory.memory;
+    filled = memory.filled;
   }
 
   first_lasts : (d : Disk) (t : Told) → IsTold entries mutations t → Lasts s.journal d t → s.committed ≡ 0

@@ -45,7 +45,7 @@ use Rattle.cas_shard.proofs.Standing.{stands_under}
 use Rattle.cas_sessions.specs.History.{Changes, Defines, History, DiskState, changes_told, shard_at}
 use Rattle.cas_sessions.specs.Inner.Definitions.{MayBeTold}
 use Rattle.cas_sessions.specs.Listing.{ListsNone}
-use Rattle.cas_sessions.specs.Nodes.{Explains, RememberJust, State, StandsFor, LastsFor, disk_of, files_in, Moves}
+use Rattle.cas_sessions.specs.Nodes.{AreFilled, Explains, RememberJust, State, StandsFor, LastsFor, disk_of, files_in, Moves}
 use Rattle.cas_sessions.specs.Inner.Faults.{reply_for}
 use Rattle.cas_recovery.specs.Restored.{IsBehind, RememberAll}
 use Rattle.cas_sessions.proofs.Behind.{behind_defined, still_behind}
@@ -169,6 +169,7 @@ stands_defined h s t stands limits clock session calls list shards under remembe
   shards = λ n x got. under (shard_at h n) x (stands.shards n x (subst (λ (xs : List ShardState). slice_get xs n ≡ Some x) shards got));
   entered = λ n lt. stands.entered n lt ∙ ap (entries_in n) (sym list);
   memory = subst (RememberJust t.tables h.unflushed) (sym shards) remembers;
+  filled = subst (AreFilled h.filled) (sym shards) stands.filled;
 }
 
 -- its disk keeps that, by what the journal is told then

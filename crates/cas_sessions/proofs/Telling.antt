@@ -1,5 +1,6 @@
 -- What the fault of a call tells beside its reply.
-use Rattle.std.proofs.Common.{◌≡◌, ◌+◌, ℕ, List, [], ◌∷◌, ◌++◌, Option, None, Some, Err, sym, ap, ◌∙◌, subst}
+use Rattle.std.proofs.Common.{◌≡◌, ◌+◌, ℕ, List, [], ◌∷◌, ◌++◌, Option, None, Some, Result, Ok, Err, sym, ap, ◌∙◌, subst}
+use Rattle.std.specs.Prelude.{IfOk}
 use Rattle.cas_atoms.specs.declared.atom.Mutation.{Mutation}
 use Rattle.cas_blocks.specs.declared.fault.TableFault.{TableFault}
 use Rattle.cas_blocks.specs.declared.fault.TableFault.TheVariants as table_fault
@@ -11,10 +12,14 @@ use Rattle.cas_journal.specs.declared.fault.JournalFault.{JournalFault}
 use Rattle.cas_journal.specs.declared.fault.JournalFault.TheVariants.{TooLarge, TooMany, Stopped, Failed, Mem}
 use Rattle.cas_room.specs.declared.event.Event.{Event}
 use Rattle.cas_room.specs.declared.event.Event.TheVariants as event
+use Rattle.cas_bind.specs.declared.bound.Bound.{Bound}
+use Rattle.cas_effects.specs.declared.refusal.Refusal.{Refusal}
+use Rattle.cas_sessions.specs.declared.answer.Answer.{Answer}
+use Rattle.cas_sessions.specs.declared.answer.Answer.TheVariants.{Done, Wrote as WroteOne, Rows}
 use Rattle.cas_sessions.specs.declared.answer.Fault.{Fault}
-use Rattle.cas_sessions.specs.Calls.{IsTrueOf}
+use Rattle.cas_sessions.specs.Calls.{IsTrueOf, TellsPlace}
 use Rattle.cas_sessions.specs.Nodes.{State}
-use Rattle.cas_sessions.specs.Inner.Faults.{fault_for, fault_of_table}
+use Rattle.cas_sessions.specs.Inner.Faults.{IsOther, fault_for, fault_of_table}
 
 stopped_by : (T : Type 0) (first kept : Option First) (before now : ℕ) (g : First) → Ends {T = T} first kept before now (Err (Stopped g)) → first ≡ Some g
 stopped_by T None kept before now g p = absurd p
@@ -54,6 +59,20 @@ true_of_accepted list new m session calls now number is counted same = (
       ∙ ap (λ (k : ℕ). list ++ Wrote m.shard session now k (event.Accepted m) ∷ []) (sym same),
 )
 
+-- and acknowledged
+pub true_of_wrote : (list new : List (Item Event)) (m : Mutation) (session calls now number table shard : ℕ) → m.table ≡ table → m.shard ≡ shard
+    → new ≡ list ++ Wrote m.shard session (calls + 1) m.number (event.Accepted m) ∷ [] → now ≡ calls + 1 → number ≡ m.number
+    → (q : Mutation) × (q.number ≡ number) × (q.table ≡ table) × (q.shard ≡ shard) × (new ≡ list ++ Wrote shard session now number (event.Accepted q) ∷ [])
+true_of_wrote list new m session calls now number table shard of_table of_shard is counted same = (
+  m,
+  sym same,
+  of_table,
+  of_shard,
+  is ∙ ap (λ (k : ℕ). list ++ Wrote m.shard session k m.number (event.Accepted m) ∷ []) (sym counted)
+      ∙ ap (λ (k : ℕ). list ++ Wrote k session now m.number (event.Accepted m) ∷ []) of_shard
+      ∙ ap (λ (k : ℕ). list ++ Wrote shard session now k (event.Accepted m) ∷ []) (sym same),
+)
+
 -- a SELECT of which nothing is shown
 pub true_of_read : (f : TableFault) (x : Fault) (s t : State) → x ≡ fault_of_table f → IsTrueOf (Err x) s t
 true_of_read f x s t is = subst (λ (y : Fault). IsTrueOf (Err y) s t) (sym is) (by f)
@@ -62,3 +81,10 @@ true_of_read f x s t is = subst (λ (y : Fault). IsTrueOf (Err y) s t) (sym is) 
     by table_fault.Read = tt
     by (table_fault.BadBlock n at) = tt
     by table_fault.Mem = tt
+
+-- an answer that isn't a mutation's tells no place
+pub other_place : (r : Result Answer Fault) (b : Result Bound Refusal) → IfOk r IsOther → IfOk r (λ a. TellsPlace a b)
+other_place (Ok Done) b other = tt
+other_place (Ok (WroteOne number table shard)) b other = absurd other
+other_place (Ok (Rows rows shard front now)) b other = tt
+other_place (Err f) b other = tt

@@ -41,7 +41,7 @@ use Rattle.cas_sessions.specs.Nodes.{State, StandsFor, disk_of}
 use Rattle.cas_sessions.specs.TooMuch.{AllIsTooMuch, IsTooMuch, OneIsTooMuch}
 use Rattle.cas_sessions.specs.Inner.Flushing.{HoldTooMuch, IsOfSize, Quiet, WhyNoFile}
 use Rattle.cas_sessions.proofs.FlushFiles.{LastOf, Parted, all_append, last_of, parted}
-use Rattle.cas_sessions.proofs.FlushSteps.{quiet_stands, with_disk}
+use Rattle.cas_sessions.proofs.FlushSteps.{quiet_stands, with_state}
 
 -- ---- a part says no more than the whole
 
@@ -195,4 +195,4 @@ pub why_full_then : (t : TableSchema) (n k : ℕ) (s m u : State) (c d e : Disk)
     → slice_get m.shards n ≡ Some y → (h : History) → StandsFor h s → WhyNoFile t n m.live m.last_file (frozen_at (slice_get y.stores k))
     → WhyTooMany t n (shard_at h n) (disk_of u)
 why_full_then t n k s m u c d e y first second table number at h stands full =
-    why_full t n k m u d e y second table number at (with_disk h m) (quiet_stands s m c d first h stands) full
+    why_full t n k m u d e y second table number at (with_state h m) (quiet_stands s m c d first h stands) full

@@ -29,7 +29,8 @@ use Rattle.cas_sessions.specs.Verifying.{AreVerdicts, EndsVerified, IsVerdict, I
 use Rattle.cas_sessions.specs.Inner.Verifying.{AddVerdicts, AreNarrow, AreNarrowIn}
 use Rattle.cas_sessions.proofs.FlushMaking.{quiet_reads}
 use Rattle.cas_sessions.proofs.Explaining.{explains_still, goes_nowhere, keep_files_none}
-use Rattle.cas_sessions.proofs.FlushSteps.{lasts_as, quiet_lasts, quiet_stands, with_disk}
+use Rattle.cas_sessions.proofs.Filled.{stands_filled}
+use Rattle.cas_sessions.proofs.FlushSteps.{lasts_as, quiet_lasts, quiet_stands, with_disk, with_state}
 
 -- ---- narrow files
 
@@ -127,7 +128,7 @@ verifies_table name t s d reads r is le ends h stands =
       named h s.tables name (Some t) r (with_disk h u) stands.tables is
           (reads, le_h, ends_h, ap (λ (x : DiskState). record h { disk = record x { reads = reads } }) (sym stands.disk)),
       record {
-        stands = quiet_stands s u d d quiet h stands;
+        stands = stands_filled (with_state h u) h.filled u stands.filled (quiet_stands s u d d quiet h stands);
         lasts = λ found told lasts. (
           told,
           lasts_as h (with_disk h u) found u d told refl refl (quiet_lasts s u d d quiet h found told lasts),

@@ -1,7 +1,10 @@
 -- What the calls of an open store answer (own).
-use Rattle.std.specs.Prelude.{◌≡◌, ℕ, ℤ, List, Bool, true, false, not, Result, Ok, Err, Some, None, [], ◌∷◌, ◌++◌, if◌then◌else◌}
+use Rattle.std.specs.Prelude.{◌≡◌, ◌<◌, ℕ, ℤ, length, List, Bool, true, false, not, Result, Ok, Err, Some, None, [], ◌∷◌, ◌++◌, if◌then◌else◌}
 use Rattle.cas_atoms.specs.declared.atom.Mutation.{Mutation}
 use Rattle.cas_bind.specs.Meaning.{meaning}
+use Rattle.cas_bind.specs.declared.bound.Bound.{Bound}
+use Rattle.cas_bind.specs.declared.bound.Bound.TheVariants as bound
+use Rattle.cas_effects.specs.declared.refusal.Refusal.{Refusal}
 use Rattle.cas_effects.specs.declared.refusal.TheConstants.{NOT_HERE, SYNTAX}
 use Rattle.cas_history.specs.declared.item.Item.TheVariants.{Wrote as WroteOf}
 use Rattle.cas_lines.specs.Lines.{Says}
@@ -27,7 +30,7 @@ use Rattle.cas_words.specs.declared.words.ClockKind.{ClockKind}
 -- what a call's answer is printed as
 abbrev pub reply_of : Result Answer Fault → Reply
 reply_of (Ok Done) = reply.Done
-reply_of (Ok (Wrote number)) = reply.Wrote number
+reply_of (Ok (Wrote number table shard)) = reply.Wrote number
 reply_of (Ok (Rows rows shard front now)) = reply.Rows rows shard front now
 reply_of (Err (Refused number)) = reply.Refused number
 reply_of (Err (Stopped first)) = reply.Failed failure.Stopped
@@ -36,14 +39,24 @@ reply_of (Err Read) = reply.Failed failure.Read
 reply_of (Err (BadBlock number at)) = reply.Failed (failure.Block number at)
 reply_of (Err Mem) = reply.Failed failure.Memory
 
--- What a fault tells beside that: the fault that stopped the store before; of a mutation for which the disk failed whether it was accepted, and as which
--- number.
+-- What an answer tells beside that: of a mutation its table and its shard, which are there; the fault that stopped the store before; of a mutation for which
+-- the disk failed whether it was accepted, and as which number.
 abbrev pub IsTrueOf : Result Answer Fault → State → State → Type 0
+IsTrueOf (Ok (Wrote number table shard)) s t =
+    (table < length t.tables) × (shard < t.limits.shards)
+    × ((m : Mutation) × (m.number ≡ number) × (m.table ≡ table) × (m.shard ≡ shard)
+    × (t.list ≡ s.list ++ WroteOf shard s.session t.calls number (event.Accepted m) ∷ []))
 IsTrueOf (Err (Stopped first)) s t = s.journal.first ≡ Some first
 IsTrueOf (Err (Disk None)) s t = t.list ≡ s.list
 IsTrueOf (Err (Disk (Some number))) s t =
     (m : Mutation) × (m.number ≡ number) × (t.list ≡ s.list ++ WroteOf m.shard s.session t.calls number (event.Accepted m) ∷ [])
 IsTrueOf _ s t = Unit {0}
+
+-- the answer of a mutation tells the table and the shard that the statement writes to
+abbrev pub TellsPlace : Answer → Result Bound Refusal → Type 0
+TellsPlace (Wrote number table shard) (Ok (bound.Write w)) = (table ≡ w.table) × (shard ≡ w.shard)
+TellsPlace (Wrote number table shard) _ = ⊥
+TellsPlace _ b = Unit {0}
 
 -- tokens of some source spell the statement
 abbrev pub IsSpelled : Statement → Type 0

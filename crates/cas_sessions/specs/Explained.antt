@@ -1,5 +1,5 @@
 -- What each shard may have been for the next run, while a store is open: in whatever a crash leaves of its folder (own).
-use Rattle.std.specs.Prelude.{◌≡◌, ◌≤◌, ◌≤ℤ◌, ◌<◌, ◌+◌, ℕ, ◌==◌, if◌then◌else◌, List, ◌++◌, length, take}
+use Rattle.std.specs.Prelude.{◌≡◌, ◌≤ℤ◌, ℕ, ◌==◌, if◌then◌else◌, List, ◌++◌}
 use Rattle.std.specs.Int.{int_max}
 use Rattle.std.specs.List.{fold}
 use Rattle.std.proofs.Common.{sym, ◌∙◌}

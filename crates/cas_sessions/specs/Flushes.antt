@@ -1,6 +1,6 @@
 -- What a flush of a table does, in the words of the history: what each shard has of it in memory comes into one table file more. No SELECT shows more or less.
 -- Cassandra documentation, "nodetool flush"; "Storage engine: memtables, SSTables"; the numbers of files and of faults are own.
-use Rattle.std.specs.Prelude.{◌≡◌, ◌⊎◌, ℕ, ◌+◌, ◌≤◌, ◌<◌, ◌==◌, ◌&&◌, if◌then◌else◌, true, false, Option, None, Some, is_some, Result, Ok, Err}
+use Rattle.std.specs.Prelude.{◌≡◌, ◌⊎◌, ℕ, ◌+◌, ◌≤◌, ◌<◌, ◌==◌, ◌&&◌, nat_lt, if◌then◌else◌, true, false, Option, None, Some, is_some, Result, Ok, Err}
 use Rattle.std.specs.Prelude.{List, [], ◌∷◌, ◌++◌, length, slice_index_or}
 use Rattle.std.specs.List.{flat_map, fold}
 use Rattle.std.specs.Int.{int_max}
@@ -89,6 +89,10 @@ changes_by before (Some c) = before ++ c ∷ []
 abbrev pub without_flushed : ℕ → List (Option Change) → (ℕ → ℕ → List Mutation) → ℕ → ℕ → List Mutation
 without_flushed table changes before n k = if (k == table) && is_some (change_of changes n) then [] else before n k
 
+-- the bytes of the memtables that are written to, where those of the table in the first shards, so many, are new ones
+abbrev pub without_begun : ℕ → ℕ → (ℕ → ℕ → ℕ) → ℕ → ℕ → ℕ
+without_begun table count before n k = if (k == table) && nat_lt n count then 0 else before n k
+
 -- numbers of files ascend, from above one number up to another
 abbrev pub AscendTo : ℕ → List ℕ → ℕ → Type 0
 AscendTo n [] last = n ≤ last
@@ -140,19 +144,25 @@ WhyNoFurther t n s d e Read = (e.stopped ≡ false) × Rose d.reads e.reads
 WhyNoFurther t n s d e (BadBlock number at) = ⊥
 WhyNoFurther t n s d e Mem = e.stopped ≡ false
 
--- how a flush ends that no earlier fault stopped: all shards are flushed, and the new files' numbers are told; or only the first ones are, and why the next
--- one isn't
-abbrev pub EndsSo : History → TableSchema → List (Option Change) → Result (List ℕ) Fault → DiskState → Type 0
-EndsSo h t changes (Ok told) e = (length changes ≡ length h.shards) × (told ≡ numbers_added changes) × (e.stopped ≡ false)
-EndsSo h t changes (Err f) e =
-    (length changes < length h.shards) × WhyNoFurther t (length changes) (shard_at h (length changes)) h.disk e f
+-- how a flush ends that no earlier fault stopped, where so many shards got a new memtable: all shards are flushed, and the new files' numbers are told; or only the
+-- first ones are, and why the next one isn't, which may have got its memtable before
+abbrev pub EndsSo : History → TableSchema → List (Option Change) → ℕ → Result (List ℕ) Fault → DiskState → Type 0
+EndsSo h t changes begun (Ok told) e = (length changes ≡ length h.shards) × (told ≡ numbers_added changes) × (e.stopped ≡ false) × (begun ≡ length changes)
+EndsSo h t changes begun (Err f) e = (length changes < length h.shards) × WhyNoFurther t (length changes) (shard_at h (length changes)) h.disk e f
+    × ((begun ≡ length changes) ⊎ (begun ≡ length changes + 1))
 
 -- A flush of the table: an earlier fault stopped it, and nothing is done; or shards are flushed, from the first on, the manifest tells these changes, what they
--- tell of stands in a file, and all but the disk is as it was.
+-- tell of stands in a file, writes go to new memtables, and all but the disk is as it was.
 abbrev pub FlushesTable : History → TableSchema → Result (List ℕ) Fault → History → Type 0
 FlushesTable h t (Err (Stopped first)) after = (h.disk.stopped ≡ true) × (after ≡ h)
-FlushesTable h t r after = (changes : List (Option Change)) × (e : DiskState) × (h.disk.stopped ≡ false) × Flushed h t changes e × EndsSo h t changes r e
-    × (after ≡ record h { unflushed = without_flushed t.number changes h.unflushed; changes = fold changes_by h.changes changes; disk = e })
+FlushesTable h t r after = (changes : List (Option Change)) × (begun : ℕ) × (e : DiskState) × (h.disk.stopped ≡ false) × Flushed h t changes e
+    × EndsSo h t changes begun r e
+    × (after ≡ record h {
+      unflushed = without_flushed t.number changes h.unflushed;
+      filled = without_begun t.number begun h.filled;
+      changes = fold changes_by h.changes changes;
+      disk = e;
+    })
 
 -- of the table that is named so, if there is one
 abbrev pub FlushesNamed : History → Option TableSchema → Result (List ℕ) Fault → History → Type 0

@@ -14,6 +14,7 @@ use Rattle.cas_changes.specs.declared.entry.Entry.{Entry as ManifestEntry}
 use Rattle.cas_changes.specs.declared.entry.Entry.TheVariants.{Schema, AddColumns, Change as change_entry}
 use Rattle.cas_changes.specs.Spelling.{entry_bytes}
 use Rattle.cas_manifest.specs.Manifests.{room_of}
+use Rattle.cas_memtable.specs.Kept.{bytes_of}
 use Rattle.cas_journal.specs.Reach.{Reach, GoesOn, IsFull, HasNoPlace}
 use Rattle.cas_bind.specs.declared.bound.Bound.{Bound}
 use Rattle.cas_bind.specs.declared.bound.Bound.TheVariants as bound
@@ -55,7 +56,8 @@ pub record DiskState : Type 0 where
 
 -- The limits of the store, its tables, its shards, and the seconds that the last `\clock` set; the number of the session that runs the lines, how
 -- many mutations were accepted of it, and how many of these were acknowledged by an `ok`; what was written to a table in a shard and stands in no table file
--- yet, by the shard's number and the table's; the changes of table files that the manifest tells, in order, those that were found first; and how the disk stands.
+-- yet, by the shard's number and the table's, and how many bytes of records the memtable has that is written to; the changes of table files that the manifest
+-- tells, in order, those that were found first; and how the disk stands.
 pub record History : Type 0 where
   pub limits : Limits
   pub tables : List TableSchema
@@ -65,6 +67,7 @@ pub record History : Type 0 where
   pub calls : ℕ
   pub acknowledged : ℕ
   pub unflushed : ℕ → ℕ → List Mutation
+  pub filled : ℕ → ℕ → ℕ
   pub changes : List Change
   pub disk : DiskState
 
@@ -166,6 +169,10 @@ after_entries reading entries s = record s { entries = s.entries ++ entries; mom
 abbrev pub with_unflushed : ℕ → List Entry → (ℕ → ℕ → List Mutation) → ℕ → ℕ → List Mutation
 with_unflushed n entries before k table = if k == n then before k table ++ mutations_of table entries else before k table
 
+-- the bytes of the memtables, with these entries of a shard behind; a record without atoms doesn't count
+abbrev pub with_filled : ℕ → List Entry → (ℕ → ℕ → ℕ) → ℕ → ℕ → ℕ
+with_filled n entries before k table = if k == n then bytes_of (before k table) (mutations_of table entries) else before k table
+
 -- the history after a write that was answered so entered this at a reading into a shard
 abbrev pub after_write : History → ℕ → ℤ → Reply → List Entry → DiskState → History
 after_write h n reading r entries e =
@@ -173,6 +180,7 @@ after_write h n reading r entries e =
       calls = h.calls + length entries;
       acknowledged = h.acknowledged + acknowledges r;
       unflushed = with_unflushed n entries h.unflushed;
+      filled = with_filled n entries h.filled;
       disk = e;
     }
 

@@ -9,6 +9,7 @@ pub mod Next
 pub mod Calls
 pub mod TooMuch
 pub mod Flushes
+pub mod Filling
 pub mod Status
 pub mod Verifying
 pub mod Laws

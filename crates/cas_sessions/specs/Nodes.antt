@@ -20,6 +20,7 @@ use Rattle.cas_room.specs.declared.event.Event.{Event}
 use Rattle.cas_room.specs.Keeping.{Keeps}
 use Rattle.cas_room.specs.Rooms.{accepted_in}
 use Rattle.cas_shard.specs.declared.entry.ShardOpening.{ShardOpening}
+use Rattle.cas_shard.specs.Flushing.{bytes_at}
 use Rattle.cas_shard.specs.Stands.{ShardState, Stands, files_at}
 use Rattle.cas_sstread.specs.Loading.{Held}
 use Rattle.cas_view.specs.Views.{File}
@@ -83,7 +84,21 @@ abbrev pub RememberJust : List TableSchema → (ℕ → ℕ → List Mutation) �
 RememberJust tables mutations shards =
     (n table : ℕ) (x : ShardState) → slice_get shards n ≡ Some x → RemembersJust tables table (mutations n table) x
 
--- A store's memory stands for a history: each shard's state does, and the entries are those of the list; and in memory is just what stands in no table file.
+-- the memtable of each table that is written to in each shard has so many bytes of records, by the shard's number and the table's
+abbrev pub AreFilled : (ℕ → ℕ → ℕ) → List ShardState → Type 0
+AreFilled filled shards = (n table : ℕ) (x : ShardState) → slice_get shards n ≡ Some x → bytes_at (slice_get x.stores table) ≡ filled n table
+
+-- the bytes of records of a table's memtable that is written to in a shard, if that is there
+abbrev pub bytes_in : Option ShardState → ℕ → ℕ
+bytes_in None table = 0
+bytes_in (Some x) table = bytes_at (slice_get x.stores table)
+
+-- of each in each shard of the store
+abbrev pub filled_of : State → ℕ → ℕ → ℕ
+filled_of s n table = bytes_in (slice_get s.shards n) table
+
+-- A store's memory stands for a history: each shard's state does, and the entries are those of the list; and in memory is just what stands in no table file,
+-- and in the memtables that are written to as many bytes as it says.
 pub record StandsFor (h : History) (s : State) : Type 0 where
   pub limits : h.limits ≡ s.limits
   pub tables : h.tables ≡ s.tables
@@ -95,6 +110,7 @@ pub record StandsFor (h : History) (s : State) : Type 0 where
   pub shards : (n : ℕ) (x : ShardState) → slice_get s.shards n ≡ Some x → Stands h.tables (shard_at h n) x
   pub entered : AreEntered s.list h
   pub memory : RememberJust s.tables h.unflushed s.shards
+  pub filled : AreFilled h.filled s.shards
 
 -- A store's disk keeps what its history says. What the journal was told are the mutations that were found and then all that was accepted, by which
 -- each shard's next number goes on; the manifest tells of the tables, lists just the table files that there are, by the history's changes, and is not ahead of

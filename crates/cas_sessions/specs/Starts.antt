@@ -22,14 +22,19 @@ use Rattle.cas_sessions.specs.Explained.{only}
 use Rattle.cas_sessions.specs.Nodes.{Explains, State, StandsFor, LastsFor, disk_of, files_in}
 use Rattle.cas_history.specs.Hands.{numbers}
 use Rattle.cas_sessions.specs.History.{History, DiskState, changes_told}
+use Rattle.cas_memtable.specs.Kept.{bytes_of}
 use Rattle.cas_recovery.specs.Found.{found_in}
 use Rattle.cas_recovery.specs.Openings.{AreOpenings, IsOpening, unflushed_of}
 use Rattle.cas_recovery.specs.Recovered.{IsRecovered}
-use Rattle.cas_recovery.specs.Restored.{IsBehind, IsTold, RememberAll, greatest_of}
+use Rattle.cas_recovery.specs.Restored.{AreFilledBy, IsBehind, IsTold, RememberAll, greatest_of}
 
 -- what the log has of a table in a shard that stands in no table file
 abbrev pub unflushed_in : List ManifestEntry → List Mutation → ℕ → ℕ → List Mutation
 unflushed_in entries mutations n table = mutations_of table (found_in n (unflushed_of (said_by entries) mutations)).entries
+
+-- the bytes of its records, which are read back into the memtable that is written to
+abbrev pub filled_in : List ManifestEntry → List Mutation → ℕ → ℕ → ℕ
+filled_in entries mutations n table = bytes_of 0 (unflushed_in entries mutations n table)
 
 -- The history before the first line: the tables that the manifest tells of, as many shards as it says, and of each shard what it was before the run; of the
 -- log's mutations those that stand in no table file, and the changes of table files that the manifest tells; the clock at 0.
@@ -43,6 +48,7 @@ start l entries mutations openings session disk = record {
   calls = 0;
   acknowledged = 0;
   unflushed = unflushed_in entries mutations;
+  filled = filled_in entries mutations;
   changes = changes_told entries;
   disk = disk;
 }
@@ -72,6 +78,7 @@ pub record IsInMemory (given : Limits) (entries : List ManifestEntry) (mutations
   pub last_is : last ≡ greatest_of (said_by entries).numbers
   pub files : ListFiles (said_by entries) (files_in shards)
   pub memory : RememberAll tables (unflushed_of (said_by entries) mutations) shards
+  pub filled : AreFilledBy (unflushed_of (said_by entries) mutations) shards
 
 -- The store of a folder was opened: it was read back with its files; and whatever its shards may have been before, for all that is known of the folder,
 -- memory has them so.

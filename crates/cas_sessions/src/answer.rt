@@ -13,9 +13,12 @@ use cas_types::List;
 pub enum Answer {
     /// A definition was made, and lasts.
     Done,
-    /// The mutation was accepted with this number of its shard, and lasts.
+    /// The mutation was accepted with this number of its shard, and lasts. It is of the table of this number, in that
+    /// shard.
     Wrote {
         number: u64,
+        table: u16,
+        shard: u8,
     },
     /// The rows of a slice of the shard, as of the mutation of the number `front` and the moment `now` in
     /// seconds.
@@ -50,7 +53,7 @@ pub fn reply_of(answer: Result<Answer, Fault>) -> Reply
 {
     match answer {
         Ok(Answer::Done) => Reply::Done,
-        Ok(Answer::Wrote { number }) => Reply::Wrote { number },
+        Ok(Answer::Wrote { number, .. }) => Reply::Wrote { number },
         Ok(
             Answer::Rows {
                 rows,

@@ -1,7 +1,7 @@
 //! A flush: what the shards have of a table in memory comes into table files, which the manifest then lists.
 
 ghost use Rattle.std.specs.Prelude.{◌≡◌, ◌≤◌, ◌<◌, ◌+◌, ◌∷◌, ◌++◌, ℕ, ℤ, List as ListOf, [], true, None, Some, Ok as OkOf, Err, pos};
-ghost use Rattle.std.specs.Prelude.{length, slice_get, IfOk, IfErr, IfSome, IfNone, OnOk, vec_capacity, vec_len};
+ghost use Rattle.std.specs.Prelude.{length, slice_get, IfOk, IfErr, IfSome, IfNone, OnErr, OnOk, vec_capacity, vec_len};
 ghost use Rattle.std.specs.Option.{option_copied};
 ghost use Rattle.std.specs.Arc.{arc_value};
 ghost use Rattle.cas_disk.specs.Disk.{During, Image};
@@ -20,15 +20,15 @@ ghost use Rattle.cas_room.specs.declared.table_files.TheConstants.{LIVE_LIMIT};
 ghost use Rattle.cas_shard.specs.Flushing.{bytes_at, frozen_at};
 ghost use Rattle.cas_shard.specs.Stands.{ShardState, files_at};
 ghost use Rattle.cas_sessions.specs.Calls.{IsTrueOf};
+ghost use Rattle.cas_sessions.specs.Filling.{Settles, filled_with, listed_of};
 ghost use Rattle.cas_sessions.specs.Flushes.{Flushes};
 ghost use Rattle.cas_sessions.specs.Listing.{SameUpTo};
 ghost use Rattle.cas_sessions.specs.Numbering.{NumbersOn};
 ghost use Rattle.cas_recovery.specs.Restored.{Remember};
-ghost use Rattle.cas_sessions.specs.Nodes.{KeepsAll, LastsForOne, Moves};
+ghost use Rattle.cas_sessions.specs.Nodes.{AreFilled, KeepsAll, LastsForOne, Moves, filled_of};
 ghost use Rattle.cas_sessions.specs.Inner.Flushing.{AddsFile, FlushesFirst, FlushesNoFurther, FlushesOne, HasOneMore, IsChangeFor, IsOwn, Lists};
 ghost use Rattle.cas_sessions.specs.Inner.Flushing.{HoldsNothing, IsMade, NewFile, Quiet, SaysSo, StandsSo, TakesFile, WhyNoFile, WhyNoneMore};
 ghost use Rattle.cas_sessions.specs.Inner.Flushing.{WhyNotMade};
-ghost use Rattle.cas_sessions.specs.Inner.Flushing.{listed_of};
 ghost use Rattle.cas_sessions.specs.Inner.Flushing.{fault_of_folder, fault_of_fresh, fault_of_load, fault_of_write};
 
 use crate::answer::Fault;
@@ -156,6 +156,9 @@ impl<F: Folder, J: Store> Node<F, J> {
         ensures room { (self.new.room ≡ self.old.room) × (self.new.limits ≡ self.old.limits) × (self.new.tables ≡ self.old.tables) }
         ensures frozen { IfOk result (λ count. (x : ShardState) → slice_get self.new.shards.items place ≡ Some x
             → (count ≡ length (frozen_at (slice_get x.stores table))) × (bytes_at (slice_get x.stores table) ≡ 0)) }
+        ensures begun { OnOk result ((filled : ℕ → ℕ → ℕ) → AreFilled filled self.old.shards.items
+            → AreFilled (filled_with table place true filled) self.new.shards.items) }
+        ensures stays { OnErr result ((filled : ℕ → ℕ → ℕ) → AreFilled filled self.old.shards.items → AreFilled filled self.new.shards.items) }
         ensures sessions { ⟦<Node<F, J> as Stored>⟧.sessions self.new ≡ ⟦<Node<F, J> as Stored>⟧.sessions self.old }
     {
         let shard = &mut self.shards[place as usize];
@@ -519,5 +522,47 @@ impl<F: Folder, J: Store> Node<F, J> {
             Ok(numbers) => Ok(numbers),
             Err(fault) => Err(fault),
         }
+    }
+
+    /// Flushes the memtable of a table in a shard, where it has more bytes of records than the limit: gives the number of
+    /// its file, if there was anything to write. It is for a mutation that was just accepted, whose answer tells table and
+    /// shard. Where it isn't full, it takes the time of one comparison.
+    pub fn flush_full(
+        &mut self,
+        alloc: Global,
+        session: &mut Session<J>,
+        table: u16,
+        shard: u8,
+    ) -> Result<Option<u64>, Fault>
+        requires within { (table < length self.old.tables.items) × (shard < self.old.limits.shards) }
+        ensures settles { (clock : ℤ) (c : Image) → (⟦<Node<F, J> as Stored>⟧.disk self.old).reads c
+            → LastsForOne (⟦<Node<F, J> as Stored>⟧.state self.old session.old.seat.list session.old.seat.calls clock)
+            (⟦<Node<F, J> as Stored>⟧.disk self.old)
+            → Moves (λ h after. Settles h shard table result after)
+            (⟦<Node<F, J> as Stored>⟧.state self.old session.old.seat.list session.old.seat.calls clock)
+            (⟦<Node<F, J> as Stored>⟧.state self.new session.new.seat.list session.new.seat.calls clock)
+            (⟦<Node<F, J> as Stored>⟧.disk self.old) (⟦<Node<F, J> as Stored>⟧.disk self.new) }
+        ensures idle { filled_of (⟦<Node<F, J> as Stored>⟧.state self.old session.old.seat.list session.old.seat.calls (pos 0)) shard table
+            ≤ self.old.limits.memtable → (result ≡ OkOf None) × (self.new ≡ self.old) × (session.new ≡ session.old) }
+        ensures crash { (clock : ℤ) → KeepsAll (⟦<Node<F, J> as Stored>⟧.state self.old session.old.seat.list session.old.seat.calls clock)
+            (⟦<Node<F, J> as Stored>⟧.state self.new session.new.seat.list session.new.seat.calls clock)
+            (⟦<Node<F, J> as Stored>⟧.disk self.old) (⟦<Node<F, J> as Stored>⟧.disk self.new) }
+        ensures tables { During (SameUpTo self.old.room.numbers.last) (⟦<Node<F, J> as Stored>⟧.disk self.old) (⟦<Node<F, J> as Stored>⟧.disk self.new) }
+        ensures last { self.old.room.numbers.last ≤ self.new.room.numbers.last }
+        ensures numbers { (clock : ℤ) → NumbersOn (⟦<Node<F, J> as Stored>⟧.state self.old session.old.seat.list session.old.seat.calls clock)
+            (⟦<Node<F, J> as Stored>⟧.state self.new session.new.seat.list session.new.seat.calls clock) }
+        ensures told { IfErr result (λ f. IsTrueOf (Err f) (⟦<Node<F, J> as Stored>⟧.state self.old session.old.seat.list session.old.seat.calls (pos 0))
+            (⟦<Node<F, J> as Stored>⟧.state self.new session.new.seat.list session.new.seat.calls (pos 0))) }
+        ensures counts { (session.new.seat.calls ≡ session.old.seat.calls) × (self.new.room.accepted ≡ self.old.room.accepted) }
+        ensures limits { self.new.limits ≡ self.old.limits }
+        ensures sessions { ⟦<Node<F, J> as Stored>⟧.sessions self.new ≡ ⟦<Node<F, J> as Stored>⟧.sessions self.old }
+    {
+        if self.shards[shard as usize].bytes(table) <= self.limits.memtable {
+            return Ok(None);
+        }
+        if let Some(first) = self.room.stopped() {
+            return Err(Fault::Stopped(first));
+        }
+        self.flush_shard(alloc, session, table, shard)
     }
 }

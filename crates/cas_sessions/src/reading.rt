@@ -1,6 +1,6 @@
 //! SELECTs: a shard's rows at a moment.
 
-ghost use Rattle.std.specs.Prelude.{◌≡◌, ℕ, ℤ};
+ghost use Rattle.std.specs.Prelude.{◌≡◌, ℕ, ℤ, IfOk};
 ghost use Rattle.cas_disk.specs.Disk.{During};
 ghost use Rattle.cas_bind.specs.Fitting.{BoundFits};
 ghost use Rattle.cas_bind.specs.Tables.{IsWithin};
@@ -12,7 +12,7 @@ ghost use Rattle.cas_sessions.specs.Calls.{IsTrueOf, reply_of};
 ghost use Rattle.cas_sessions.specs.Listing.{KeepsListing};
 ghost use Rattle.cas_sessions.specs.Numbering.{NumbersOn};
 ghost use Rattle.cas_sessions.specs.Nodes.{Moves, State};
-ghost use Rattle.cas_sessions.specs.Inner.Faults.{fault_of_table};
+ghost use Rattle.cas_sessions.specs.Inner.Faults.{IsOther, fault_of_table};
 
 use crate::answer::{Answer, Fault};
 use crate::node::{Node, Stored};
@@ -45,6 +45,7 @@ impl<F: Folder, J: Store> Node<F, J> {
         requires time { IsTime reading }
         requires within { IsWithin self.old.limits.shards (bounds.Read read) }
         requires fits { BoundFits self.old.limits.shards self.old.tables.items (bounds.Read read) }
+        ensures other { IfOk result IsOther }
         ensures shows { (session calls : ℕ) (clock : ℤ) → Moves (λ h after. ReadsAt h reading read (reply_of result) after)
             (⟦<Node<F, J> as Stored>⟧.state self.old session calls clock) (⟦<Node<F, J> as Stored>⟧.state self.new session calls clock)
             (⟦<Node<F, J> as Stored>⟧.disk self.old) (⟦<Node<F, J> as Stored>⟧.disk self.new) }

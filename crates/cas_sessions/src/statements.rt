@@ -1,6 +1,6 @@
 //! What a statement does with an open store.
 
-ghost use Rattle.std.specs.Prelude.{◌≡◌, ℤ, pos, true, false, Ok as OkOf};
+ghost use Rattle.std.specs.Prelude.{◌≡◌, ℤ, pos, true, false, IfOk, Ok as OkOf};
 ghost use Rattle.cas_types.specs.Limits.{IsMoment};
 ghost use Rattle.cas_disk.specs.Disk.{During};
 ghost use Rattle.cas_bind.specs.Fitting.{BoundFits};
@@ -9,7 +9,7 @@ ghost use Rattle.cas_bind.specs.Tables.{IsWithin};
 ghost use Rattle.cas_journal.specs.Stores.{SameTables};
 ghost use Rattle.cas_shard.specs.Shards.{IsTime};
 ghost use Rattle.cas_words.specs.declared.words.ClockKind.TheVariants as clocks;
-ghost use Rattle.cas_sessions.specs.Calls.{IsSpelled, IsTrueOf, Performs, StandsAt, reply_of};
+ghost use Rattle.cas_sessions.specs.Calls.{IsSpelled, IsTrueOf, Performs, StandsAt, TellsPlace, reply_of};
 ghost use Rattle.cas_sessions.specs.History.{Does, IsReading, clamped};
 ghost use Rattle.cas_sessions.specs.Listing.{KeepsListing};
 ghost use Rattle.cas_sessions.specs.Numbering.{NumbersOn};
@@ -84,6 +84,7 @@ impl<F: Folder, J: Store> Node<F, J> {
             (⟦<Node<F, J> as Stored>⟧.state self.new session.new.seat.list session.new.seat.calls at) }
         ensures told { IsTrueOf result (⟦<Node<F, J> as Stored>⟧.state self.old session.old.seat.list session.old.seat.calls (pos 0))
             (⟦<Node<F, J> as Stored>⟧.state self.new session.new.seat.list session.new.seat.calls (pos 0)) }
+        ensures place { IfOk result (λ a. TellsPlace a (OkOf bound)) }
         ensures counts { CountsOn (⟦<Node<F, J> as Stored>⟧.state self.old session.old.seat.list session.old.seat.calls (pos 0))
             (⟦<Node<F, J> as Stored>⟧.state self.new session.new.seat.list session.new.seat.calls (pos 0)) }
         ensures limits { self.new.limits ≡ self.old.limits }
@@ -131,6 +132,7 @@ impl<F: Folder, J: Store> Node<F, J> {
             (⟦<Node<F, J> as Stored>⟧.state self.new session.new.seat.list session.new.seat.calls at) }
         ensures told { IsTrueOf result (⟦<Node<F, J> as Stored>⟧.state self.old session.old.seat.list session.old.seat.calls (pos 0))
             (⟦<Node<F, J> as Stored>⟧.state self.new session.new.seat.list session.new.seat.calls (pos 0)) }
+        ensures place { IfOk result (λ a. TellsPlace a (meaning self.old.limits.shards self.old.tables.items statement.now)) }
         ensures counts { CountsOn (⟦<Node<F, J> as Stored>⟧.state self.old session.old.seat.list session.old.seat.calls (pos 0))
             (⟦<Node<F, J> as Stored>⟧.state self.new session.new.seat.list session.new.seat.calls (pos 0)) }
         ensures limits { self.new.limits ≡ self.old.limits }

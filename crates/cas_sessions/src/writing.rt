@@ -1,6 +1,6 @@
 //! Writes: a mutation is prepared in its shard, accepted by the room, entered, and committed.
 
-ghost use Rattle.std.specs.Prelude.{◌≡◌, ℤ, pos};
+ghost use Rattle.std.specs.Prelude.{◌≡◌, ℤ, pos, IfOk, Ok as OkOf};
 ghost use Rattle.cas_disk.specs.Disk.{During};
 ghost use Rattle.cas_bind.specs.Fitting.{BoundFits};
 ghost use Rattle.cas_bind.specs.Tables.{IsWithin};
@@ -8,7 +8,7 @@ ghost use Rattle.cas_bind.specs.declared.bound.Bound.TheVariants as bounds;
 ghost use Rattle.cas_journal.specs.Stores.{SameTables};
 ghost use Rattle.cas_shard.specs.Shards.{IsTime};
 ghost use Rattle.cas_sessions.specs.History.{WritesAt};
-ghost use Rattle.cas_sessions.specs.Calls.{IsTrueOf, reply_of};
+ghost use Rattle.cas_sessions.specs.Calls.{IsTrueOf, TellsPlace, reply_of};
 ghost use Rattle.cas_sessions.specs.Listing.{KeepsListing};
 ghost use Rattle.cas_sessions.specs.Numbering.{NumbersOn};
 ghost use Rattle.cas_sessions.specs.Nodes.{Moves, IsFew, CountsOn, KeepsAll};
@@ -66,12 +66,15 @@ impl<F: Folder, J: Store> Node<F, J> {
             (⟦<Node<F, J> as Stored>⟧.state self.new session.new.seat.list session.new.seat.calls clock) }
         ensures told { IsTrueOf result (⟦<Node<F, J> as Stored>⟧.state self.old session.old.seat.list session.old.seat.calls (pos 0))
             (⟦<Node<F, J> as Stored>⟧.state self.new session.new.seat.list session.new.seat.calls (pos 0)) }
+        ensures place { IfOk result (λ a. TellsPlace a (OkOf (bounds.Write write))) }
         ensures counts { CountsOn (⟦<Node<F, J> as Stored>⟧.state self.old session.old.seat.list session.old.seat.calls (pos 0))
             (⟦<Node<F, J> as Stored>⟧.state self.new session.new.seat.list session.new.seat.calls (pos 0)) }
         ensures limits { self.new.limits ≡ self.old.limits }
         ensures sessions { ⟦<Node<F, J> as Stored>⟧.sessions self.new ≡ ⟦<Node<F, J> as Stored>⟧.sessions self.old }
     {
-        let place = write.shard as usize;
+        let table = write.table;
+        let shard = write.shard;
+        let place = shard as usize;
         let segment = self.limits.segment;
         let mutation = match self.shards[place].prepare(alloc, segment, reading, write) {
             Ok(mutation) => mutation,
@@ -85,7 +88,11 @@ impl<F: Folder, J: Store> Node<F, J> {
         };
         self.shards[place].enter(mutation);
         match self.room.commit(&mut session.seat) {
-            Ok(()) => Ok(Answer::Wrote { number }),
+            Ok(()) => Ok(Answer::Wrote {
+                number,
+                table,
+                shard,
+            }),
             Err(_) => Err(Fault::Disk {
                 number: Some(number),
             }),

@@ -8,13 +8,14 @@ use Rattle.cas_types.specs.declared.schema.TableSchema.{TableSchema}
 use Rattle.cas_atoms.specs.Fits.{Fits}
 use Rattle.cas_atoms.specs.declared.atom.Mutation.{Mutation}
 use Rattle.cas_bounds.specs.ClusteringOrder.{clustering_order}
-use Rattle.cas_memtable.specs.Kept.{HoldJust, MayHold, StandInEach, all_of, memtables_of}
+use Rattle.cas_memtable.specs.Kept.{HoldJust, MayHold, StandInEach, all_of, bytes_of, memtables_of}
+use Rattle.cas_memtable.specs.Memtables.{bytes_with}
 use Rattle.cas_stored.specs.Stored.{StoredTable}
 use Rattle.cas_shard.specs.Flushing.{bytes_at, memtables_at, one_of}
 use Rattle.cas_shard.specs.Shards.{take_refusal}
 use Rattle.cas_shard.specs.Stands.{Belongs}
-use Rattle.cas_shard.specs.Inner.Stores.{JoinsRoom, MakesRoom, MemoryStays}
-use Rattle.cas_shard.proofs.Memory.{at_set, same_number, set_keeps}
+use Rattle.cas_shard.specs.Inner.Stores.{JoinsRoom, KeepBytes, MakesRoom, MemoryStays}
+use Rattle.cas_shard.proofs.Memory.{at_apart, at_set, same_number, set_keeps}
 
 -- ---- one table
 
@@ -114,3 +115,51 @@ module _ (tables : List TableSchema) (shards n : ℕ) (ws : List Mutation) (w : 
           subst (λ (b : Bool). HoldJust t.columns (memtables_at (slice_get qs n)) (ws ++ (if b then w ∷ [] else []))) (sym (is_other apart))
           (subst (HoldJust t.columns (memtables_at (slice_get qs n))) (sym (append-nil ws))
           (subst (λ o. HoldJust t.columns (memtables_at o) ws) (sym (joins.others n apart)) (h t at)))
+
+-- ---- bytes
+
+-- a table more has something stored, of which no memtable has bytes
+pushed_bytes : (ps : List StoredTable) (p : StoredTable) → p.parts.active.bytes ≡ 0 → KeepBytes ps (ps ++ p ∷ [])
+pushed_bytes [] p none zero = none
+pushed_bytes [] p none (suc t) = refl
+pushed_bytes (q ∷ ps) p none zero = refl
+pushed_bytes (q ∷ ps) p none (suc t) = pushed_bytes ps p none t
+
+pub bytes_pushed : (start ps qs : List StoredTable) (p : StoredTable) → KeepBytes start ps → p.parts.active.bytes ≡ 0 → qs ≡ ps ++ p ∷ [] → KeepBytes start qs
+bytes_pushed start ps qs p keep none is t = ap (λ l. bytes_at (slice_get l t)) is ∙ pushed_bytes ps p none t ∙ keep t
+
+-- what one table has stored changed
+module _ (ps qs : List StoredTable) (n : ℕ) (p q : StoredTable) (there : n < length ps) (is : slice_get ps n ≡ Some p) (set : qs ≡ slice_set ps n q) where
+  bytes_here : bytes_at (slice_get qs n) ≡ q.parts.active.bytes
+  bytes_here = ap (λ l. bytes_at (slice_get l n)) set ∙ ap bytes_at (at_set ps n q there)
+
+  pub bytes_kept : q.parts.active.bytes ≡ p.parts.active.bytes → KeepBytes ps qs
+  bytes_kept same t = by (same_number t n)
+    where
+      by : (t ≡ n) ⊎ (t ≢ n) → bytes_at (slice_get qs t) ≡ bytes_at (slice_get ps t)
+      by (inl e) = ap (λ k. bytes_at (slice_get qs k)) e ∙ bytes_here ∙ same ∙ sym (ap (λ k. bytes_at (slice_get ps k)) e ∙ ap bytes_at is)
+      by (inr apart) = ap (λ l. bytes_at (slice_get l t)) set ∙ ap bytes_at (at_apart ps n q t apart)
+
+  pub bytes_grown : (w : Mutation) → q.parts.active.bytes ≡ bytes_with p.parts.active.bytes w → bytes_at (slice_get qs n) ≡ bytes_with (bytes_at (slice_get ps n)) w
+  bytes_grown w grown = bytes_here ∙ grown ∙ sym (ap (λ o. bytes_with (bytes_at o) w) is)
+
+-- and what was there before, too
+pub bytes_then : (ps mid qs : List StoredTable) → KeepBytes ps mid → KeepBytes mid qs → KeepBytes ps qs
+bytes_then ps mid qs first next t = next t ∙ first t
+
+of_it : (n : ℕ) (w : Mutation) → n ≡ w.table → (w.table == n) ≡ true
+of_it n w e = grind (arith, nat_tests, e)
+
+of_another : (n : ℕ) (w : Mutation) → n ≢ w.table → (w.table == n) ≡ false
+of_another n w h = grind (arith, nat_tests, h)
+
+-- with a mutation more
+pub bytes_joined : (w : Mutation) (ps qs : List StoredTable) → JoinsRoom w ps qs → (n : ℕ) → bytes_at (slice_get qs n) ≡ bytes_of (bytes_at (slice_get ps n)) (one_of n w)
+bytes_joined w ps qs joins n = by (same_number n w.table)
+  where
+    by : (n ≡ w.table) ⊎ (n ≢ w.table) → bytes_at (slice_get qs n) ≡ bytes_of (bytes_at (slice_get ps n)) (one_of n w)
+    by (inl e) =
+        ap (λ k. bytes_at (slice_get qs k)) e ∙ joins.bytes ∙ ap (λ k. bytes_with (bytes_at (slice_get ps k)) w) (sym e)
+        ∙ ap (λ (b : Bool). bytes_of (bytes_at (slice_get ps n)) (if b then w ∷ [] else [])) (sym (of_it n w e))
+    by (inr apart) =
+        ap bytes_at (joins.others n apart) ∙ ap (λ (b : Bool). bytes_of (bytes_at (slice_get ps n)) (if b then w ∷ [] else [])) (sym (of_another n w apart))

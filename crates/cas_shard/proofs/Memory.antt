@@ -1,6 +1,6 @@
 -- What calls on what a shard has stored of one table do to all that it has stored.
 use Rattle.std.proofs.lemmas.Grind.{flat_map-append}
-use Rattle.std.proofs.Common.{◌≡◌, ◌≢◌, ◌⊎◌, inl, inr, ◌<◌, ◌≤◌, ℕ, zero, suc, Option, None, Some, Result, Ok, Err, OnOk, List, [], ◌∷◌, ◌++◌, length, refl, sym, ap, ◌∙◌, subst, arith, length-append, Bool, true, false}
+use Rattle.std.proofs.Common.{◌≡◌, ◌≢◌, ◌⊎◌, inl, inr, ◌<◌, ◌≤◌, ℕ, zero, suc, Option, None, Some, Result, Ok, Err, OnOk, OnErr, List, [], ◌∷◌, ◌++◌, length, refl, sym, ap, ◌∙◌, subst, arith, length-append, Bool, true, false}
 use Rattle.std.specs.Prelude.{if◌then◌else◌, slice_get, slice_set}
 use Rattle.cas_types.specs.declared.schema.Column.{Column}
 use Rattle.cas_bounds.specs.declared.order.Ordered.{Ordered}
@@ -13,15 +13,15 @@ use Rattle.cas_laws.proofs.JoinProofs.{join_laws}
 use Rattle.cas_streams.specs.NoMore.{SaysNoMore, deletion_of}
 use Rattle.cas_streams.proofs.NoMore.{no_more_itself, no_more_kept, no_more_then}
 use Rattle.cas_partition.specs.Partitions.{AreAtomsOf}
-use Rattle.cas_memtable.specs.Memtables.{HasPlaces}
+use Rattle.cas_memtable.specs.Memtables.{HasPlaces, bytes_with}
 use Rattle.cas_memtable.specs.Kept.{HoldJust, MayHold, all_of, atoms_under, begun, with_one}
 use Rattle.cas_memtable.proofs.Keeping.{all_begun, more_under}
 use Rattle.cas_sstread.specs.Loading.{Held}
 use Rattle.cas_view.specs.Views.{File}
 use Rattle.cas_stored.specs.Stored.{HoldEach, HoldsEach, StoredTable}
 use Rattle.cas_shard.specs.Stands.{HasRoom, Holds, PlacesAt, SaySame, TakesFiles, files_at}
-use Rattle.cas_shard.specs.Flushing.{memtables_at}
-use Rattle.cas_shard.specs.Inner.Stores.{AllStay, JoinsRoom, KeepFiles, MakesRoom, MemoryStays, StayFew}
+use Rattle.cas_shard.specs.Flushing.{bytes_at, memtables_at}
+use Rattle.cas_shard.specs.Inner.Stores.{AllStay, JoinsRoom, KeepBytes, KeepFiles, MakesRoom, MemoryStays, StayFew}
 
 -- ---- lists
 
@@ -125,20 +125,27 @@ module _ (ps : List StoredTable) (n : ℕ) (p q : StoredTable) (there : n < leng
 
 -- ---- calls
 
-pub reached : (w : Mutation) (ps qs : List StoredTable) → AllStay ps qs → StayFew w.table ps qs → KeepFiles ps qs → MemoryStays ps qs → MakesRoom w ps qs
-reached w ps qs stay few files memory = record { kept = λ t order ws are h. stay t order ws h; few = few; files = files; memory = λ t columns ws may. memory t columns ws }
+pub reached : (w : Mutation) (ps qs : List StoredTable) → AllStay ps qs → StayFew w.table ps qs → KeepFiles ps qs → MemoryStays ps qs → KeepBytes ps qs → MakesRoom w ps qs
+reached w ps qs stay few files memory bytes = record {
+  kept = λ t order ws are h. stay t order ws h;
+  few = few;
+  files = files;
+  memory = λ t columns ws may. memory t columns ws;
+  bytes = bytes;
+}
 
 pub made : (w : Mutation) (ps mid qs : List StoredTable) (p q : StoredTable) → AllStay ps mid → StayFew w.table ps mid → KeepFiles ps mid → w.table < length mid → slice_get mid w.table ≡ Some p
     → qs ≡ slice_set mid w.table q → ((order : List Ordered) (wss : List (List Mutation)) → HoldsEach order p wss → AreAtomsOf order w.atoms → HoldsEach order q wss) → q.files ≡ p.files
     → ((t : ℕ) (columns : List Column) (ws : List Mutation) → (t ≡ w.table → MayHold columns w) → HoldJust columns (memtables_at (slice_get ps t)) ws → HoldJust columns (memtables_at (slice_get qs t)) ws)
-    → MakesRoom w ps qs
-made w ps mid qs p q stay few files there is set keeps own memory = record {
+    → KeepBytes ps qs → MakesRoom w ps qs
+made w ps mid qs p q stay few files there is set keeps own memory bytes = record {
   kept = λ t order ws are h.
       subst (λ l. Holds order (slice_get l t) ws) (sym set)
       (set_stays mid w.table p q there is t order ws (λ wss e k. (wss, keeps order wss k (are e), refl)) (stay t order ws h));
   few = λ k a b. subst (λ c. c ≤ k) (sym (ap length set ∙ count_set mid w.table q)) (few k a b);
   files = λ t. ap (λ l. files_at (slice_get l t)) set ∙ set_files mid w.table p q there is own t ∙ files t;
   memory = memory;
+  bytes = bytes;
 }
 
 pub has_room : (w : Mutation) (mid qs : List StoredTable) (q : StoredTable) → w.table < length mid → qs ≡ slice_set mid w.table q → HasPlaces q.parts.active w → HasRoom w qs
@@ -154,8 +161,8 @@ pub joined : (w : Mutation) (ps qs : List StoredTable) (p q : StoredTable) → w
     → ((order : List Ordered) (wss : List (List Mutation)) → HoldsEach order p wss → AreAtomsOf order w.atoms → HoldsEach order q (with_one w wss) × (all_of (with_one w wss) ≡ all_of wss ++ w ∷ []))
     → q.files ≡ p.files
     → ((columns : List Column) (ws : List Mutation) → MayHold columns w → HoldJust columns (memtables_at (slice_get ps w.table)) ws → HoldJust columns (memtables_at (slice_get qs w.table)) (ws ++ w ∷ []))
-    → JoinsRoom w ps qs
-joined w ps qs p q there is set keeps own memory = record {
+    → bytes_at (slice_get qs w.table) ≡ bytes_with (bytes_at (slice_get ps w.table)) w → JoinsRoom w ps qs
+joined w ps qs p q there is set keeps own memory bytes = record {
   joined = λ order ws are h.
       holds_at order (ws ++ w ∷ []) (Some q) (slice_get qs w.table) (ap (λ l. slice_get l w.table) set ∙ at_set ps w.table q there)
       (one_more order ws are (holds_at order ws (slice_get ps w.table) (Some p) (sym is) h));
@@ -163,6 +170,7 @@ joined w ps qs p q there is set keeps own memory = record {
   count = ap length set ∙ count_set ps w.table q;
   files = λ t. ap (λ l. files_at (slice_get l t)) set ∙ set_files ps w.table p q there is own t;
   memory = memory;
+  bytes = bytes;
 }
   where
     one_more : (order : List Ordered) (ws : List Mutation) → AreAtomsOf order w.atoms → Holds order (Some p) ws → Holds order (Some q) (ws ++ w ∷ [])
@@ -287,3 +295,7 @@ adopted ps mid qs n p q files stay few keep there is set takes own = record {
 pub on_ok_too : {A E : Type 0} (r : Result A E) (P Q : Type 0) → (P → Q) → OnOk r P → OnOk r Q
 on_ok_too (Ok x) P Q h p = h p
 on_ok_too (Err e) P Q h p = tt
+
+pub on_err_too : {A E : Type 0} (r : Result A E) (P Q : Type 0) → (P → Q) → OnErr r P → OnErr r Q
+on_err_too (Ok x) P Q h p = tt
+on_err_too (Err e) P Q h p = h p

@@ -26,7 +26,7 @@ use Rattle.cas_shard.specs.Flushing.{HasInMemory, SaysWhatTheyDo, bytes_at, froz
 use Rattle.cas_shard.specs.Shards.{ShardHistory, all_entries}
 use Rattle.cas_shard.specs.Stands.{Holds, SaySame, ShardState, Stands, files_at, mutations_of, order_at}
 use Rattle.cas_shard.specs.Inner.Stores.{Swaps}
-use Rattle.cas_shard.proofs.InMemory.{InStores, nothing_in_memory}
+use Rattle.cas_shard.proofs.InMemory.{InStores, bytes_kept, nothing_in_memory}
 use Rattle.cas_shard.proofs.Memory.{at_apart, at_set, count_set, holds_at, same_number, say_before, say_behind, say_then}
 
 -- ---- mutations that say the same, among others
@@ -79,8 +79,8 @@ pub swapped : (ps qs : List StoredTable) (n count : ℕ) (p q : StoredTable) (fi
     → count ≤ length p.parts.frozen.items
     → ((order : List Ordered) (wss : List (List Mutation)) (vs : List Mutation) (f : File Held) → files ≡ p.files ++ f ∷ [] → HoldsEach order p wss → StandInFile order f vs
     → HoldsEach order q (flushed (length p.files) count vs wss))
-    → memtables_of q.parts ≡ drop count (memtables_of p.parts) → q.files ≡ files → Swaps n count files ps qs
-swapped ps qs n count p q files there is set few keeps left own = record {
+    → memtables_of q.parts ≡ drop count (memtables_of p.parts) → q.files ≡ files → q.parts.active.bytes ≡ p.parts.active.bytes → Swaps n count files ps qs
+swapped ps qs n count p q files there is set few keeps left own bytes = record {
   holds = λ order f ws grown says h.
       holds_at order ws (Some q) (slice_get qs n) here
       (own_holds p q count files few order f ws (λ wss vs. keeps order wss vs f (grown ∙ ap (λ o. files_at o ++ f ∷ []) is))
@@ -89,6 +89,7 @@ swapped ps qs n count p q files there is set few keeps left own = record {
   memory = ap memtables_at here ∙ left ∙ ap (λ o. drop count (memtables_at o)) (sym is);
   others = λ t apart. ap (λ l. slice_get l t) set ∙ at_apart ps n q t apart;
   stay = ap length set ∙ count_set ps n q;
+  bytes = bytes_kept ps qs n p q there is set bytes;
 }
   where
     here : slice_get qs n ≡ Some q

@@ -29,6 +29,10 @@ abbrev pub bytes_at : Option StoredTable → ℕ
 bytes_at None = 0
 bytes_at (Some t) = t.parts.active.bytes
 
+-- of each table the memtable that is written to has the bytes that it had
+abbrev pub KeepsBytes : ShardState → ShardState → Type 0
+KeepsBytes x y = (n : ℕ) → bytes_at (slice_get y.stores n) ≡ bytes_at (slice_get x.stores n)
+
 -- ---- what they hold
 
 -- In memory the shard has just these mutations of the table of that number, one after another, and each is one that the table may hold. Where there is no

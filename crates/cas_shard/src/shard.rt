@@ -7,7 +7,7 @@ ghost use Rattle.cas_shard.specs.Shards.{drawn_with, take_refusal};
 
 use crate::answers::{Look, TakeFault};
 use crate::rows::rows_of;
-use crate::stores::{adopt, files, freeze, frozen, join, reserve, swap, view_with};
+use crate::stores::{adopt, bytes, files, freeze, frozen, join, reserve, swap, view_with};
 use cas_atoms::{Mutation, Query, length};
 use cas_blocks::TableFault;
 use cas_disk::{Count, Sealed};
@@ -97,8 +97,9 @@ impl<S: Sealed> Shard<S> {
     ghost use Rattle.cas_shard.specs.Shards.{later_drawn, later_moment, mutation_at, number_of, raised, take_refusal, told_shard};
     ghost use Rattle.cas_shard.specs.Stands.{AreShown, Asks, Belongs, HasNoFiles, HasRoom, IsPrepared, IsReady, KeepsFiles, Stands, Suits};
     ghost use Rattle.cas_shard.specs.Stands.{TakesFiles, files_at, order_at};
-    ghost use Rattle.cas_shard.specs.Flushing.{HasInMemory, SaysWhatTheyDo, bytes_at, frozen_at, memtables_at, one_of};
+    ghost use Rattle.cas_shard.specs.Flushing.{HasInMemory, KeepsBytes, SaysWhatTheyDo, bytes_at, frozen_at, memtables_at, one_of};
     ghost use Rattle.cas_atoms.specs.declared.atom.Mutation.{Mutation as MutationOf};
+    ghost use Rattle.cas_memtable.specs.Kept.{bytes_of};
     ghost use Rattle.cas_sstread.specs.Loading.{Held};
     ghost use Rattle.cas_view.specs.Views.{File, file_of, files_of};
     ghost use Rattle.cas_shard.specs.Inner.Stores.{MakesRoom};
@@ -112,6 +113,7 @@ impl<S: Sealed> Shard<S> {
         ensures stands { (tables : ListOf Schema) → Stands tables (found_shard empty_shard) result }
         ensures files { HasNoFiles result }
         ensures memory { (tables : ListOf Schema) (n : ℕ) → HasInMemory tables n [] result }
+        ensures bytes { (n : ℕ) → bytes_at (slice_get result.stores n) ≡ 0 }
     {
         Self::open(alloc, 0, -2, 0)
     }
@@ -126,6 +128,7 @@ impl<S: Sealed> Shard<S> {
         ensures number { result.number ≡ number }
         ensures files { HasNoFiles result }
         ensures memory { (tables : ListOf Schema) (n : ℕ) → HasInMemory tables n [] result }
+        ensures bytes { (n : ℕ) → bytes_at (slice_get result.stores n) ≡ 0 }
     {
         Shard {
             stores: Vec::new(alloc),
@@ -147,6 +150,8 @@ impl<S: Sealed> Shard<S> {
         ensures files { KeepsFiles self.old self.new }
         ensures memory { (tables : ListOf Schema) (shards n : ℕ) (ws : ListOf MutationOf) → Belongs tables shards mutation → HasInMemory tables n ws self.old
             → HasInMemory tables n (if is_ok result then ws ++ one_of n mutation else ws) self.new }
+        ensures bytes { (n : ℕ) → bytes_at (slice_get self.new.stores n)
+            ≡ bytes_of (bytes_at (slice_get self.old.stores n)) (if is_ok result then one_of n mutation else []) }
     {
         reserve(&mut self.stores, alloc, &mutation)?;
         self.number = self.number.max(mutation.number);
@@ -192,6 +197,7 @@ impl<S: Sealed> Shard<S> {
         ensures number { self.new.number ≡ self.old.number }
         ensures drawn { self.new.drawn ≡ self.old.drawn }
         ensures moment { self.new.moment ≡ self.old.moment }
+        ensures bytes { KeepsBytes self.old self.new }
     {
         adopt(&mut self.stores, alloc, table, view)
     }
@@ -315,6 +321,7 @@ impl<S: Sealed> Shard<S> {
         ensures files { KeepsFiles self.old self.new }
         ensures memory { (tables : ListOf Schema) (shards n : ℕ) (ws : ListOf MutationOf) → Suits tables shards write → HasInMemory tables n ws self.old
             → HasInMemory tables n ws self.new }
+        ensures bytes { KeepsBytes self.old self.new }
     {
         let mutation = self.mutation_at(alloc, reading, write);
         self.raise(reading);
@@ -333,6 +340,7 @@ impl<S: Sealed> Shard<S> {
         ensures files { KeepsFiles self.old self.new }
         ensures memory { (tables : ListOf Schema) (shards n : ℕ) (ws : ListOf MutationOf) → Belongs tables shards mutation → HasInMemory tables n ws self.old
             → HasInMemory tables n (ws ++ one_of n mutation) self.new }
+        ensures bytes { (n : ℕ) → bytes_at (slice_get self.new.stores n) ≡ bytes_of (bytes_at (slice_get self.old.stores n)) (one_of n mutation) }
     {
         self.number = mutation.number;
         self.drawn = drawn_after(self.drawn, &mutation);
@@ -355,6 +363,8 @@ impl<S: Sealed> Shard<S> {
         ensures memory { (tables : ListOf Schema) (shards n : ℕ) (s : ShardHistory) (ws : ListOf MutationOf) → Stands tables s self.old
             → Suits tables shards write → HasInMemory tables n ws self.old
             → HasInMemory tables n (if is_ok result then ws ++ one_of n (mutation_at reading s write) else ws) self.new }
+        ensures bytes { (tables : ListOf Schema) (n : ℕ) (s : ShardHistory) → Stands tables s self.old → bytes_at (slice_get self.new.stores n)
+            ≡ bytes_of (bytes_at (slice_get self.old.stores n)) (if is_ok result then one_of n (mutation_at reading s write) else []) }
     {
         let mutation = self.prepare(alloc, segment, reading, write)?;
         let number = mutation.number;
@@ -371,6 +381,7 @@ impl<S: Sealed> Shard<S> {
         ensures memory { (tables : ListOf Schema) (n : ℕ) (ws : ListOf MutationOf) → HasInMemory tables n ws self.old → HasInMemory tables n ws self.new }
         ensures begun { OnOk result (bytes_at (slice_get self.new.stores table) ≡ 0) }
         ensures others { (n : ℕ) → (n ≡ table → ⊥) → slice_get self.new.stores n ≡ slice_get self.old.stores n }
+        ensures stays { OnErr result (KeepsBytes self.old self.new) }
     {
         freeze(&mut self.stores, alloc, table)
     }
@@ -380,6 +391,14 @@ impl<S: Sealed> Shard<S> {
         ensures { map arc_value result.now ≡ frozen_at (slice_get self.now.stores table) }
     {
         frozen(&self.stores, table)
+    }
+
+    /// The bytes of the memtable of a table that is written to: the sum of the lengths of the records that have
+    /// atoms, and 2^64-1 where it is greater.
+    pub fn bytes(&self, table: u16) -> u64
+        ensures { result ≡ bytes_at (slice_get self.now.stores table) }
+    {
+        bytes(&self.stores, table)
     }
 
     /// The files that a table has, in the order in which they were listed.
@@ -417,6 +436,7 @@ impl<S: Sealed> Shard<S> {
         ensures number { self.new.number ≡ self.old.number }
         ensures drawn { self.new.drawn ≡ self.old.drawn }
         ensures moment { self.new.moment ≡ self.old.moment }
+        ensures bytes { KeepsBytes self.old self.new }
     {
         swap(&mut self.stores, table, view, count);
     }

@@ -5,7 +5,7 @@ ghost use Rattle.std.specs.Arc.{arc_value};
 ghost use Rattle.cas_view.specs.Views.{file_of, files_of};
 ghost use Rattle.cas_shard.specs.Flushing.{bytes_at, frozen_at};
 ghost use Rattle.cas_shard.specs.Stands.{HasRoom, TakesFiles, files_at};
-ghost use Rattle.cas_shard.specs.Inner.Stores.{AllStay, JoinsRoom, KeepFiles, MakesRoom, MemoryStays, OthersStay, StayFew, Swaps};
+ghost use Rattle.cas_shard.specs.Inner.Stores.{AllStay, JoinsRoom, KeepBytes, KeepFiles, MakesRoom, MemoryStays, OthersStay, StayFew, Swaps};
 
 use cas_atoms::Mutation;
 use cas_disk::Sealed;
@@ -24,6 +24,7 @@ fn reach<S: Sealed>(stores: &mut Vec<TableStore<S>>, alloc: Global, table: u16) 
     ensures few { StayFew table stores.old.items stores.new.items }
     ensures files { KeepFiles stores.old.items stores.new.items }
     ensures memory { MemoryStays stores.old.items stores.new.items }
+    ensures bytes { KeepBytes stores.old.items stores.new.items }
 {
     while stores.len() <= table as usize {
         stores.push(TableStore::new(alloc)?)?;
@@ -66,6 +67,7 @@ pub(crate) fn freeze<S: Sealed>(
     ensures memory { MemoryStays stores.old.items stores.new.items }
     ensures begun { OnOk result (bytes_at (slice_get stores.new.items table) ≡ 0) }
     ensures others { OthersStay table stores.old.items stores.new.items }
+    ensures stays { OnErr result (KeepBytes stores.old.items stores.new.items) }
 {
     if stores.len() <= table as usize {
         return Ok(());
@@ -86,6 +88,7 @@ pub(crate) fn adopt<S: Sealed>(
     ensures few { StayFew table stores.old.items stores.new.items }
     ensures files { OnErr result (KeepFiles stores.old.items stores.new.items) }
     ensures memory { MemoryStays stores.old.items stores.new.items }
+    ensures bytes { KeepBytes stores.old.items stores.new.items }
 {
     let view = Arc::new(alloc, view)?;
     reach(stores, alloc, table)?;
@@ -101,6 +104,16 @@ pub(crate) fn frozen<S: Sealed>(stores: &[TableStore<S>], table: u16) -> &[Arc<M
     match stores.get(table as usize) {
         None => &[],
         Some(store) => store.parts().frozen(),
+    }
+}
+
+/// The bytes of a table's memtable that is written to.
+pub(crate) fn bytes<S: Sealed>(stores: &[TableStore<S>], table: u16) -> u64
+    ensures { result ≡ bytes_at (slice_get stores.now table) }
+{
+    match stores.get(table as usize) {
+        None => 0,
+        Some(store) => store.parts().bytes(),
     }
 }
 

@@ -1,7 +1,7 @@
 //! What a table has stored in a shard.
 
 ghost use Rattle.std.specs.Prelude.{◌≡◌, ℕ, ◌++◌, ◌∷◌, [], ◌≤◌, length, drop, List as ListOf};
-ghost use Rattle.std.specs.Prelude.{IfOk, IfErr, IsErrOf, OnOk, is_ok, ◌&&◌, not, ◌==◌, if◌then◌else◌};
+ghost use Rattle.std.specs.Prelude.{IfOk, IfErr, IsErrOf, OnOk, OnErr, is_ok, ◌&&◌, not, ◌==◌, if◌then◌else◌};
 ghost use Rattle.std.specs.Arc.{arc_value};
 ghost use Rattle.std.specs.List.{AllByRecursion};
 ghost use Rattle.cas_bounds.specs.declared.order.Ordered.{Ordered as Order};
@@ -9,7 +9,7 @@ ghost use Rattle.cas_types.specs.declared.schema.Column.{Column as ColumnOf};
 ghost use Rattle.cas_atoms.specs.declared.atom.Mutation.{Mutation as Wrote};
 ghost use Rattle.cas_disk.specs.Counts.{Counted};
 ghost use Rattle.cas_partition.specs.Partitions.{AllFit, AreAtomsOf};
-ghost use Rattle.cas_memtable.specs.Memtables.{HasPlaces};
+ghost use Rattle.cas_memtable.specs.Memtables.{HasPlaces, bytes_with};
 ghost use Rattle.cas_memtable.specs.Kept.{HoldJust, MayHold, all_of, begun, memtables_of, with_one};
 ghost use Rattle.cas_sstread.specs.Loading.{Held};
 ghost use Rattle.cas_view.specs.Views.{File, file_of};
@@ -60,6 +60,7 @@ impl<S: Sealed> TableStore<S> {
         ensures files { IfOk result (λ t. t.files ≡ []) }
         ensures columns { IfOk result (λ t. (columns : ListOf ColumnOf) → IsStoredOf columns t) }
         ensures memory { IfOk result (λ t. (columns : ListOf ColumnOf) → HoldJust columns (memtables_of t.parts) []) }
+        ensures bytes { IfOk result (λ t. t.parts.active.bytes ≡ 0) }
     {
         Ok(TableStore {
             parts: Parts::new(alloc),
@@ -90,6 +91,7 @@ impl<S: Sealed> TableStore<S> {
         ensures memory { (columns : ListOf ColumnOf) (ws : ListOf Wrote) → HoldJust columns (memtables_of self.old.parts) ws → MayHold columns mutation.now
             → HoldJust columns (memtables_of self.new.parts) ws }
         ensures files { self.new.files ≡ self.old.files }
+        ensures bytes { self.new.parts.active.bytes ≡ self.old.parts.active.bytes }
     {
         self.parts.reserve(mutation)
     }
@@ -103,6 +105,7 @@ impl<S: Sealed> TableStore<S> {
         ensures memory { (columns : ListOf ColumnOf) (ws : ListOf Wrote) → HoldJust columns (memtables_of self.old.parts) ws → MayHold columns mutation
             → HoldJust columns (memtables_of self.new.parts) (ws ++ mutation ∷ []) }
         ensures files { self.new.files ≡ self.old.files }
+        ensures bytes { self.new.parts.active.bytes ≡ bytes_with self.old.parts.active.bytes mutation }
     {
         self.parts.apply(mutation);
     }
@@ -117,6 +120,7 @@ impl<S: Sealed> TableStore<S> {
             → HoldJust columns (memtables_of self.new.parts) ws }
         ensures begun { OnOk result (self.new.parts.active.bytes ≡ 0) }
         ensures files { self.new.files ≡ self.old.files }
+        ensures stays { OnErr result (self.new.parts.active.bytes ≡ self.old.parts.active.bytes) }
     {
         self.parts.freeze(alloc)
     }
@@ -181,6 +185,7 @@ impl<S: Sealed> TableStore<S> {
             → IsStoredOf columns self.old → IsFileOf columns f → IsStoredOf columns self.new }
         ensures memory { memtables_of self.new.parts ≡ drop count (memtables_of self.old.parts) }
         ensures files { self.new.files ≡ arc_value view }
+        ensures bytes { self.new.parts.active.bytes ≡ self.old.parts.active.bytes }
     {
         self.view = view;
         self.parts.forget(count);

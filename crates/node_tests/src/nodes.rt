@@ -2,6 +2,7 @@
 //! flushes, and the folder that is handed back is opened again.
 
 ghost use Rattle.std.specs.Prelude.{◌≡◌, ◌≤◌, pos};
+ghost use Rattle.cas_sessions.specs.Nodes.{CountsOn};
 
 use cas_bind::Limits;
 use cas_disk::{FaultPlan, MemFolder};
@@ -19,13 +20,15 @@ const INSERT: &str = "INSERT INTO t (k, v) VALUES (1, 'a')";
 
 const SELECT: &str = "SELECT v FROM t WHERE k = 1";
 
-/// What the calls answered: why the definition wasn't executed; the number of the mutation; how many files a flush wrote
+/// What the calls answered: why the definition wasn't executed; the number of the mutation, and the file of the memtable
+/// that it made full, if it did; how many files a flush wrote
 /// with the number of the last; how many rows were shown up to which mutation; how many files a second flush wrote; and how
 /// many sessions could be begun beside the one.
 #[derive(Clone, Copy, PartialEq)]
 struct Answered {
     refused: Option<Fault>,
     wrote: u64,
+    full: Option<u64>,
     flushed: Option<(usize, u64)>,
     read: (usize, u64),
     again: Option<(usize, u64)>,
@@ -41,7 +44,7 @@ fn fault_of(answer: Result<Answer, Fault>) -> Option<Fault> {
 
 fn number_of(answer: Result<Answer, Fault>) -> u64 {
     match answer {
-        Ok(Answer::Wrote { number }) => number,
+        Ok(Answer::Wrote { number, .. }) => number,
         _ => 0,
     }
 }
@@ -77,10 +80,38 @@ fn write<J: Store>(
     Answered {
         refused,
         wrote,
+        full: None,
         flushed: None,
         read,
         again: None,
         sessions: 0,
+    }
+}
+
+// The session writes a row, and flushes its memtable if that made it full: the row's number, and the file's.
+fn fill<J: Store>(
+    alloc: Global,
+    node: &mut Node<MemFolder, J>,
+    session: &mut Session<J>,
+) -> (u64, Option<u64>)
+    requires { ((⟦<Node<MemFolder, J> as Stored>⟧.state node.old session.old.seat.list session.old.seat.calls (pos 0)).calls ≤ 2000)
+        × ((⟦<Node<MemFolder, J> as Stored>⟧.state node.old session.old.seat.list session.old.seat.calls (pos 0)).accepted ≤ 2000) }
+    ensures { CountsOn (⟦<Node<MemFolder, J> as Stored>⟧.state node.old session.old.seat.list session.old.seat.calls (pos 0))
+        (⟦<Node<MemFolder, J> as Stored>⟧.state node.new session.new.seat.list session.new.seat.calls (pos 0)) }
+{
+    let clock = ManualClock { reading: 7_000_000 };
+    match node.execute(alloc, session, &clock, INSERT) {
+        Ok(
+            Answer::Wrote {
+                number,
+                table,
+                shard,
+            },
+        ) => match node.flush_full(alloc, session, table, shard) {
+            Ok(file) => (number, file),
+            Err(_) => (number, None),
+        },
+        _ => (0, None),
     }
 }
 
@@ -96,13 +127,14 @@ fn flush<J: Store>(
 {
     let clock = ManualClock { reading: 7_000_000 };
     let _defined = node.define(alloc, session, CREATE);
-    let wrote = number_of(node.execute(alloc, session, &clock, INSERT));
+    let (wrote, full) = fill(alloc, node, session);
     let flushed = files_of(node.flush(alloc, session, name));
     let read = rows_of(node.execute(alloc, session, &clock, SELECT));
     let again = files_of(node.flush(alloc, session, name));
     Answered {
         refused: None,
         wrote,
+        full,
         flushed,
         read,
         again,
@@ -168,12 +200,13 @@ fn opened_and_used(
     rt: &impl Abort,
     alloc: Global,
     folder: MemFolder,
+    memtable: u64,
     name: Option<&TableName>,
 ) -> (Answered, MemFolder) {
     let limits = Limits {
         shards: 1,
         segment: 4_096,
-        memtable: 4_096,
+        memtable,
         compactors: 0,
     };
     match start(alloc, folder, &limits) {
@@ -182,11 +215,16 @@ fn opened_and_used(
     }
 }
 
-// What is answered in two openings of one folder.
-fn used_twice(rt: &impl Abort, alloc: Global, name: Option<&TableName>) -> (Answered, Answered) {
+// What is answered in two openings of one folder, where memtables may have so many bytes.
+fn used_twice(
+    rt: &impl Abort,
+    alloc: Global,
+    memtable: u64,
+    name: Option<&TableName>,
+) -> (Answered, Answered) {
     let folder = MemFolder::new(alloc, FaultPlan::none(alloc));
-    let (first, folder) = opened_and_used(rt, alloc, folder, name);
-    let (second, _folder) = opened_and_used(rt, alloc, folder, name);
+    let (first, folder) = opened_and_used(rt, alloc, folder, memtable, name);
+    let (second, _folder) = opened_and_used(rt, alloc, folder, memtable, name);
     (first, second)
 }
 
@@ -195,6 +233,7 @@ fn expected(number: u64) -> Answered {
     Answered {
         refused: Some(Fault::Refused(13)),
         wrote: number,
+        full: None,
         flushed: None,
         read: (1, number),
         again: None,
@@ -205,7 +244,7 @@ fn expected(number: u64) -> Answered {
 // The second time the table is there, and the mutation is the second.
 #[test]
 fn a_store_is_used_without_a_script(rt: HostRuntime) {
-    assert!(rt; used_twice(&rt, rt.alloc(), None) == (expected(1), expected(2)));
+    assert!(rt; used_twice(&rt, rt.alloc(), 4_096, None) == (expected(1), expected(2)));
 }
 
 // What is flushed is one file, and nothing is left to be flushed then.
@@ -213,6 +252,7 @@ fn expected_flush(number: u64) -> Answered {
     Answered {
         refused: None,
         wrote: number,
+        full: None,
         flushed: Some((1, number)),
         read: (1, number),
         again: Some((0, 0)),
@@ -224,5 +264,29 @@ fn expected_flush(number: u64) -> Answered {
 #[test]
 fn a_table_is_flushed_and_found(rt: HostRuntime) {
     let name = table_name(rt.alloc(), "t").ok().expect(&rt, "a name");
-    assert!(rt; used_twice(&rt, rt.alloc(), Some(&name)) == (expected_flush(1), expected_flush(2)));
+    assert!(rt;
+        used_twice(&rt, rt.alloc(), 4_096, Some(&name)) == (expected_flush(1), expected_flush(2))
+    );
+}
+
+// What is flushed behind the row is one file, and nothing is left to be flushed then.
+fn expected_full(number: u64) -> Answered {
+    Answered {
+        refused: None,
+        wrote: number,
+        full: Some(number),
+        flushed: Some((0, 0)),
+        read: (1, number),
+        again: Some((0, 0)),
+        sessions: 32,
+    }
+}
+
+// The row's record has more bytes than a memtable may have.
+#[test]
+fn a_full_memtable_is_flushed_and_found(rt: HostRuntime) {
+    let name = table_name(rt.alloc(), "t").ok().expect(&rt, "a name");
+    assert!(rt;
+        used_twice(&rt, rt.alloc(), 10, Some(&name)) == (expected_full(1), expected_full(2))
+    );
 }

@@ -12,10 +12,11 @@ use Rattle.cas_words.specs.declared.words.ClockKind.{ClockKind}
 use Rattle.cas_node.specs.declared.cause.Cause.{Cause}
 use Rattle.cas_node.specs.declared.cause.Cause.TheVariants as cause
 use Rattle.cas_node.specs.declared.script.PrintFault.{PrintFault}
+use Rattle.cas_node.specs.declared.upshot.Upshot.{Upshot}
 use Rattle.cas_node.specs.declared.script.PrintFault.TheVariants as print
 use Rattle.cas_sessions.specs.History.{History, tells_want}
 use Rattle.cas_node.specs.Lines.{Answers}
-use Rattle.cas_node.specs.Ran.{reply_cause, worse}
+use Rattle.cas_node.specs.Ran.{upshot_cause, worse}
 
 -- what came of writing a reply: all of it was written; a front of it; or nothing, as memory ran out, and it isn't `failed memory`
 abbrev pub PrintedReply : Option PrintFault → Reply → Option (List ℕ) → Option (List ℕ) → Type 0
@@ -28,13 +29,13 @@ abbrev pub Printed : Option PrintFault → Option Reply → Option (List ℕ) �
 Printed fault None old new = (fault ≡ None) × Keeps old new
 Printed fault (Some r) old new = PrintedReply fault r old new
 
--- one line was answered, and this came of its reply
+-- one line was run, and this came of writing its reply
 pub record Turned (kind : ClockKind) (Gives : ℤ → Type 0) (before : History) (line : List ℕ) (after : History)
     (old new : Option (List ℕ)) (why : Cause) (fault : Option PrintFault) : Type 0 where
-  pub reply : Option Reply
-  pub answers : Answers kind Gives before line reply after
-  pub told : why ≡ reply_cause reply
-  pub printed : Printed fault reply old new
+  pub upshot : Upshot
+  pub answers : Answers kind Gives before line upshot after
+  pub told : why ≡ upshot_cause upshot
+  pub printed : Printed fault upshot.reply old new
 
 -- replies say this of a run's end
 abbrev pub IsToldSo : Cause → Type 0

@@ -20,7 +20,7 @@ use Rattle.cas_sstread.specs.Loading.{Held}
 use Rattle.cas_view.specs.Views.{File}
 use Rattle.cas_stored.specs.Stored.{HoldEach, IsFileOf, StoredTable}
 use Rattle.cas_listed.specs.Listed.{AreLoaded}
-use Rattle.cas_shard.specs.Flushing.{HasInMemory}
+use Rattle.cas_shard.specs.Flushing.{HasInMemory, KeepsBytes}
 use Rattle.cas_shard.specs.Stands.{Holds, ShardState, files_at}
 use Rattle.cas_recovery.specs.declared.fault.RecoveryFault.{RecoveryFault}
 use Rattle.cas_recovery.specs.declared.fault.RecoveryFault.TheVariants as fault
@@ -72,6 +72,7 @@ pub record IsGiven (s : Saying) (disk : Disk) (shard : ℕ) (t : TableSchema) (x
   pub drawn : y.drawn ≡ x.drawn
   pub moment : y.moment ≡ x.moment
   pub memory : KeepsMemory x y
+  pub bytes : KeepsBytes x y
 
 -- the first tables of a shard, so many, were given what the store has of them, and the others stayed
 pub record AreGiven (s : Saying) (disk : Disk) (shard count : ℕ) (x y : ShardState) : Type 0 where
@@ -83,6 +84,7 @@ pub record AreGiven (s : Saying) (disk : Disk) (shard count : ℕ) (x y : ShardS
   pub drawn : y.drawn ≡ x.drawn
   pub moment : y.moment ≡ x.moment
   pub memory : KeepsMemory x y
+  pub bytes : KeepsBytes x y
 
 -- a shard was given all that the store has of it
 pub record IsFilled (s : Saying) (disk : Disk) (shard : ℕ) (x y : ShardState) : Type 0 where
@@ -93,6 +95,7 @@ pub record IsFilled (s : Saying) (disk : Disk) (shard : ℕ) (x y : ShardState) 
   pub drawn : y.drawn ≡ int_max x.drawn (times_of s shard).drawn
   pub moment : y.moment ≡ int_max x.moment (times_of s shard).moment
   pub memory : KeepsMemory x y
+  pub bytes : KeepsBytes x y
 
 -- so were the first shards, so many
 pub record AreFilled (s : Saying) (disk : Disk) (count : ℕ) (xs ys : List ShardState) : Type 0 where

@@ -8,7 +8,7 @@ use Rattle.cas_replay.specs.Grammar.{numbers_of}
 use Rattle.cas_shard.specs.Shards.{found_shard}
 use Rattle.cas_shard.specs.Stands.{HasNoFiles, ShardState, Stands}
 use Rattle.cas_recovery.specs.Found.{found_in}
-use Rattle.cas_recovery.specs.Restored.{RememberAll}
+use Rattle.cas_recovery.specs.Restored.{AreFilledBy, RememberAll}
 
 -- the numbers rise, from above n
 abbrev pub Rise : ℕ → List ℕ → Type 0
@@ -33,6 +33,7 @@ abbrev pub HaveRestored : List Mutation → List ShardState → Type 0
 HaveRestored mutations shards =
     HaveNoFiles shards × ((tables : List TableSchema) (count : ℕ) → MayBeGiven tables count mutations → AreRestored tables mutations shards)
     × ((tables : List TableSchema) (count : ℕ) → MayBeGiven tables count mutations → RememberAll tables mutations shards)
+    × AreFilledBy mutations shards
 
 -- the same of those that are there, unless memory ran out
 abbrev pub HasRestored : List Mutation → Option (List ShardState) → Type 0

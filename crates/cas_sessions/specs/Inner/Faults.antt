@@ -6,6 +6,8 @@ use Rattle.cas_effects.specs.declared.refusal.TheConstants.{TOO_LARGE, TOO_MANY}
 use Rattle.cas_journal.specs.declared.fault.JournalFault.{JournalFault}
 use Rattle.cas_journal.specs.declared.fault.JournalFault.TheVariants.{TooLarge, TooMany, Stopped, Failed, Mem}
 use Rattle.cas_render.specs.declared.reply.Reply.{Reply}
+use Rattle.cas_sessions.specs.declared.answer.Answer.{Answer}
+use Rattle.cas_sessions.specs.declared.answer.Answer.TheVariants.{Wrote}
 use Rattle.cas_sessions.specs.declared.answer.Fault.{Fault}
 use Rattle.cas_sessions.specs.declared.answer.Fault.TheVariants as fault_of
 use Rattle.cas_sessions.specs.Calls.{reply_of}
@@ -27,3 +29,8 @@ abbrev pub fault_of_table : TableFault → Fault
 fault_of_table table_fault.Read = fault_of.Read
 fault_of_table (table_fault.BadBlock number at) = fault_of.BadBlock number at
 fault_of_table table_fault.Mem = fault_of.Mem
+
+-- an answer that isn't a mutation's
+abbrev pub IsOther : Answer → Type 0
+IsOther (Wrote number table shard) = ⊥
+IsOther a = Unit {0}

@@ -1,12 +1,11 @@
 -- The steps of a flush of a table in a shard (own).
-use Rattle.std.specs.Prelude.{◌≡◌, ◌⊎◌, ℕ, ◌+◌, ◌≤◌, ◌<◌, ◌==◌, ◌&&◌, if◌then◌else◌, false}
-use Rattle.std.specs.Prelude.{Option, None, Some, IfSome, Result, Ok, Err, IfOk, IfErr, MatchResult, List, [], ◌∷◌, ◌++◌, length, slice_get}
+use Rattle.std.specs.Prelude.{◌≡◌, ◌⊎◌, ℕ, ◌+◌, ◌≤◌, ◌<◌, Bool}
+use Rattle.std.specs.Prelude.{Option, None, Some, IfSome, Result, Err, IfOk, IfErr, MatchResult, List, [], ◌∷◌, ◌++◌, length, slice_get}
 use Rattle.std.specs.List.{AllByRecursion, fold}
 use Rattle.std.specs.Int.{int_max}
 use Rattle.cas_types.specs.Limits.{IsMoment}
 use Rattle.cas_types.specs.declared.limits.TheConstants.{MUTATION_LIMIT}
 use Rattle.cas_types.specs.declared.schema.TableSchema.{TableSchema}
-use Rattle.cas_bounds.specs.ClusteringOrder.{clustering_order}
 use Rattle.cas_io.specs.Causes.{Rose}
 use Rattle.cas_disk.specs.Disk.{Disk, During, Image, Leaves}
 use Rattle.cas_disk.specs.declared.fault.FolderFault.{FolderFault}
@@ -40,8 +39,8 @@ use Rattle.cas_room.specs.Tables.{IsFull}
 use Rattle.cas_room.specs.Rooms.{accepted_in}
 use Rattle.cas_shard.specs.Flushing.{HasInMemory, SaysWhatTheyDo, frozen_at, memtables_at}
 use Rattle.cas_shard.specs.declared.entry.ShardOpening.{ShardOpening}
-use Rattle.cas_shard.specs.Shards.{ShardHistory, all_entries}
-use Rattle.cas_shard.specs.Stands.{KeepsFiles, SaySame, ShardState, Stands, files_at, mutations_of, order_at}
+use Rattle.cas_shard.specs.Shards.{ShardHistory}
+use Rattle.cas_shard.specs.Stands.{KeepsFiles, ShardState, Stands, files_at, order_at}
 use Rattle.cas_sstread.specs.Loading.{Held}
 use Rattle.cas_sstread.specs.declared.fault.TableFault.{TableFault}
 use Rattle.cas_sstread.specs.declared.fault.TableFault.TheVariants as load
@@ -52,12 +51,13 @@ use Rattle.cas_tables.specs.declared.header.Version.TheVariants.{Second}
 use Rattle.cas_view.specs.Views.{File}
 use Rattle.cas_sessions.specs.declared.answer.Fault.{Fault}
 use Rattle.cas_sessions.specs.declared.answer.Fault.TheVariants.{Refused, Stopped, Disk as Failed, Read, BadBlock, Mem}
-use Rattle.cas_sessions.specs.Flushes.{AreInFiles, AscendTo, Flushed, Grows, SaySomething, WhyNoFurther}
-use Rattle.cas_sessions.specs.Flushes.{changes_by, numbers_added, numbers_in, reach_by, without_flushed}
+use Rattle.cas_sessions.specs.Filling.{EndsIn, IsBegun, SaysNone, TellsIt, filled_with, rest_with}
+use Rattle.cas_sessions.specs.Flushes.{AscendTo, Flushed, SaySomething, WhyNoFurther}
+use Rattle.cas_sessions.specs.Flushes.{changes_by, numbers_added, numbers_in, without_begun, without_flushed}
 use Rattle.cas_sessions.specs.History.{History, DiskState, shard_at}
 use Rattle.cas_sessions.specs.Entered.{IsLeftAmid}
 use Rattle.cas_sessions.specs.Listing.{SameUpTo}
-use Rattle.cas_sessions.specs.Nodes.{Explains, State, StandsFor, LastsFor, LastsForOne, disk_of}
+use Rattle.cas_sessions.specs.Nodes.{AreFilled, Explains, State, StandsFor, LastsFor, LastsForOne, disk_of, filled_of}
 
 -- ---- shards
 
@@ -214,37 +214,6 @@ WhyNoFile t shard live last ms = IsFull live last ⊎ HoldTooMuch t shard ms
 
 -- ---- a shard, and all of them
 
--- A table was flushed in a shard, with this change, if there was anything: between how the disk stood and stands.
-pub record FlushedOne (t : TableSchema) (n : ℕ) (q : ShardHistory) (c : Option Change) (d e : DiskState) : Type 0 where
-  pub files : Grows t.number n q c (d.files n t.number) (e.files n t.number)
-  pub others : (k table : ℕ) → ((k ≡ n) × (table ≡ t.number) → ⊥) → e.files k table ≡ d.files k table
-  pub all : AreInFiles (clustering_order t.columns) (e.files n t.number) (mutations_of t.number (all_entries q))
-  pub reach : e.reach ≡ reach_by d.reach c
-  pub live : e.live ≡ d.live + length (numbers_in c)
-  pub stopped : e.stopped ≡ false
-
--- it wasn't: no file is another
-pub record NotFlushed (t : TableSchema) (n : ℕ) (q : ShardHistory) (d e : DiskState) (f : Fault) : Type 0 where
-  pub files : (k table : ℕ) → e.files k table ≡ d.files k table
-  pub reach : e.reach ≡ d.reach
-  pub live : e.live ≡ d.live
-  pub why : WhyNoFurther t n q d e f
-
--- a number, if there is one
-abbrev pub listed_of : Option ℕ → List ℕ
-listed_of None = []
-listed_of (Some n) = n ∷ []
-
--- how a flush in a shard ends, with this change
-abbrev pub EndsIn : TableSchema → ℕ → ShardHistory → Option Change → Result (Option ℕ) Fault → DiskState → DiskState → Type 0
-EndsIn t n q c (Ok told) d e = FlushedOne t n q c d e
-EndsIn t n q c (Err f) d e = NotFlushed t n q d e f
-
--- its answer tells the number of the file that the change adds, if there is one; after a fault there is none
-abbrev pub TellsIt : Option Change → Result (Option ℕ) Fault → Type 0
-TellsIt c (Ok told) = numbers_in c ≡ listed_of told
-TellsIt c (Err f) = c ≡ None
-
 -- ---- the change
 
 -- the change that lists the file of a flush, of which this is told, of a table in that shard
@@ -283,9 +252,9 @@ pub record IsBeside (s u : State) (d e : Disk) : Type 0 where
   pub during : During (SameUpTo s.last_file) d e
   pub tells : (c : Image) → d.reads c → (b : Image) × e.reads b
 
--- memory stands for the history, however that says that the disk stands
+-- memory stands for the history, however that says that the disk stands, and how full memtables are
 abbrev pub AreStood : History → State → Type 0
-AreStood h s = StandsFor (record h { disk = disk_of s }) s
+AreStood h s = StandsFor (record h { filled = filled_of s; disk = disk_of s }) s
 
 -- In whatever a crash leaves stands the file of which that is told; mutations that say what the frozen memtables do stand in it.
 abbrev pub StandsSo : TableSchema → ℕ → TableInfo → Option StoredTable → Disk → Type 0
@@ -305,21 +274,15 @@ GoesOn Left h changes found told s u d e =
 abbrev pub TellsReads : Disk → Type 0
 TellsReads d = (c : Image) × d.reads c
 
--- what stands in no table file, where this change was told of the table in the shard, if there is one
-abbrev pub rest_with : ℕ → ℕ → Option Change → (ℕ → ℕ → List Mutation) → ℕ → ℕ → List Mutation
-rest_with table n None before = before
-rest_with table n (Some c) before = λ k j. if (k == n) && (j == table) then [] else before k j
-
--- memory stands for the same but for the disk and for what stands in no file, of which this is left, and this becomes of it
+-- memory stands for the same but for the disk, for the bytes of memtables and for what stands in no file, of which this is left, and this becomes of it
 abbrev pub Moved : ((ℕ → ℕ → List Mutation) → ℕ → ℕ → List Mutation) → (History → DiskState → DiskState → Type 0) → State → State → Type 0
 Moved rest Ends s u =
-    (h : History) → StandsFor h s → StandsFor (record h { unflushed = rest h.unflushed; disk = disk_of u }) u × Ends h (disk_of s) (disk_of u)
+    (h : History) → StandsFor h s → StandsFor (record h { unflushed = rest h.unflushed; filled = filled_of u; disk = disk_of u }) u
+    × Ends h (disk_of s) (disk_of u)
 
--- where nothing failed and nothing was listed, what stood in no file says nothing
-abbrev pub SaysNone : Result (Option ℕ) Fault → Option Change → List Mutation → Type 0
-SaysNone (Ok told) None ws = SaySame [] ws
-SaysNone (Ok told) (Some c) ws = Unit {0}
-SaysNone (Err f) c ws = Unit {0}
+-- where memtables had so many bytes, this becomes of them
+abbrev pub Fills : ((ℕ → ℕ → ℕ) → ℕ → ℕ → ℕ) → State → State → Type 0
+Fills Then s u = (before : ℕ → ℕ → ℕ) → AreFilled before s.shards → AreFilled (Then before) u.shards
 
 -- The file of that number took the place of the frozen memtables, where the manifest listed none of that number or above.
 pub record TakesFile (t : TableSchema) (n number : ℕ) (Says Left : Type 0) (result : Result (Option ℕ) Fault) (s u : State) (d e : Disk) : Type 0 where
@@ -330,6 +293,7 @@ pub record TakesFile (t : TableSchema) (n number : ℕ) (Says Left : Type 0) (re
   pub lasts : (h : History) (found : List Mutation) (told : Told) → h.tables ≡ s.tables → LastsFor h found s d told
       → AllByRecursion (λ k. k < number) (said_by told.entries).numbers → GoesOn Left h (changes_by h.changes change) found told s u d e
   pub numbered : IfOk result (λ told. numbers_in change ≡ number ∷ [])
+  pub fills : Fills (λ before. before) s u
   pub moves : Says → IfErr result (λ f. LastsForOne s d) → Moved (rest_with t.number n change) (λ h. EndsIn t n (shard_at h n) change result) s u
   pub own : IfErr result IsOwn
 
@@ -343,6 +307,9 @@ pub record FlushesOne (t : TableSchema) (n : ℕ) (result : Result (Option ℕ) 
   pub answer : TellsIt change result
   pub lasts : (h : History) (found : List Mutation) (told : Told) → h.tables ≡ s.tables → LastsFor h found s d told
       → GoesOn (TellsReads d) h (changes_by h.changes change) found told s u d e
+  pub begun : Bool
+  pub begins : IsBegun result begun
+  pub fills : Fills (filled_with t.number n begun) s u
   pub moves : (c : Image) → d.reads c → IfErr result (λ f. LastsForOne s d) → Moved (rest_with t.number n change)
       (λ h before now. EndsIn t n (shard_at h n) change result before now × SaysNone result change (h.unflushed n t.number)) s u
   pub own : IfErr result IsOwn
@@ -356,6 +323,7 @@ pub record FlushesFirst (t : TableSchema) (count : ℕ) (told : List ℕ) (s u :
   pub added : told ≡ numbers_added changes
   pub lasts : (h : History) (found : List Mutation) (told : Told) → h.tables ≡ s.tables → LastsFor h found s d told
       → GoesOn (TellsReads d) h (fold changes_by h.changes changes) found told s u d e
+  pub fills : Fills (without_begun t.number count) s u
   pub moves : (c : Image) → d.reads c → Moved (without_flushed t.number changes) (λ h before now. Flushed h t changes now) s u
 
 -- the first ones were, and then one wasn't
@@ -365,6 +333,9 @@ pub record FlushesNoFurther (t : TableSchema) (f : Fault) (s u : State) (d e : D
   pub few : length changes < length s.shards
   pub lasts : (h : History) (found : List Mutation) (told : Told) → h.tables ≡ s.tables → LastsFor h found s d told
       → GoesOn (TellsReads d) h (fold changes_by h.changes changes) found told s u d e
+  pub begun : ℕ
+  pub begins : (begun ≡ length changes) ⊎ (begun ≡ length changes + 1)
+  pub fills : Fills (without_begun t.number begun) s u
   pub moves : (c : Image) → d.reads c → LastsForOne s d
       → Moved (without_flushed t.number changes)
       (λ h before now. Flushed h t changes now × WhyNoFurther t (length changes) (shard_at h (length changes)) before now f) s u

@@ -5,10 +5,11 @@ use Rattle.cas_bounds.specs.declared.order.Ordered.{Ordered}
 use Rattle.cas_atoms.specs.declared.atom.Mutation.{Mutation}
 use Rattle.cas_partition.specs.Partitions.{AreAtomsOf}
 use Rattle.cas_memtable.specs.Kept.{HoldJust, MayHold}
+use Rattle.cas_memtable.specs.Memtables.{bytes_with}
 use Rattle.cas_sstread.specs.Loading.{Held}
 use Rattle.cas_stored.specs.Stored.{StoredTable}
 use Rattle.cas_view.specs.Views.{File}
-use Rattle.cas_shard.specs.Flushing.{SaysWhatTheyDo, frozen_at, memtables_at}
+use Rattle.cas_shard.specs.Flushing.{SaysWhatTheyDo, bytes_at, frozen_at, memtables_at}
 use Rattle.cas_shard.specs.Stands.{Holds, files_at}
 
 -- no more tables have something stored than before, or than the table's number asks for
@@ -28,6 +29,10 @@ abbrev pub MemoryStays : List StoredTable → List StoredTable → Type 0
 MemoryStays ps qs = (t : ℕ) (columns : List Column) (ws : List Mutation) → HoldJust columns (memtables_at (slice_get ps t)) ws
     → HoldJust columns (memtables_at (slice_get qs t)) ws
 
+-- and its memtable that is written to has the bytes that it had
+abbrev pub KeepBytes : List StoredTable → List StoredTable → Type 0
+KeepBytes ps qs = (t : ℕ) → bytes_at (slice_get qs t) ≡ bytes_at (slice_get ps t)
+
 -- so do the others
 abbrev pub OthersStay : ℕ → List StoredTable → List StoredTable → Type 0
 OthersStay table ps qs = (t : ℕ) → (t ≡ table → ⊥) → slice_get qs t ≡ slice_get ps t
@@ -40,6 +45,7 @@ pub record MakesRoom (w : Mutation) (ps qs : List StoredTable) : Type 0 where
   pub files : KeepFiles ps qs
   pub memory : (t : ℕ) (columns : List Column) (ws : List Mutation) → (t ≡ w.table → MayHold columns w) → HoldJust columns (memtables_at (slice_get ps t)) ws
       → HoldJust columns (memtables_at (slice_get qs t)) ws
+  pub bytes : KeepBytes ps qs
 
 -- the mutation was joined to those of its table
 pub record JoinsRoom (w : Mutation) (ps qs : List StoredTable) : Type 0 where
@@ -50,6 +56,7 @@ pub record JoinsRoom (w : Mutation) (ps qs : List StoredTable) : Type 0 where
   pub files : KeepFiles ps qs
   pub memory : (columns : List Column) (ws : List Mutation) → MayHold columns w → HoldJust columns (memtables_at (slice_get ps w.table)) ws
       → HoldJust columns (memtables_at (slice_get qs w.table)) (ws ++ w ∷ [])
+  pub bytes : bytes_at (slice_get qs w.table) ≡ bytes_with (bytes_at (slice_get ps w.table)) w
 
 -- the table has these files now, and so many of its oldest frozen memtables no longer: where the last file says what these did, it holds what it held
 pub record Swaps (table count : ℕ) (files : List (File Held)) (ps qs : List StoredTable) : Type 0 where
@@ -59,3 +66,4 @@ pub record Swaps (table count : ℕ) (files : List (File Held)) (ps qs : List St
   pub memory : memtables_at (slice_get qs table) ≡ drop count (memtables_at (slice_get ps table))
   pub others : OthersStay table ps qs
   pub stay : length qs ≡ length ps
+  pub bytes : KeepBytes ps qs

@@ -20,7 +20,7 @@ returns-in-Ok-adopt-clause-given g c =
     (c.in-Ok.ensures.infos.0 ∙ c.listed-listed.ensures) (all_own c.args.table.now.columns c.in-Ok.view c.in-Ok.ensures.columns
     (subst (AllByRecursion (λ f. f.table.kept.version ≡ Second)) c.files.ensures (c.old_file.ensures.none none)))
     (c.adopt.ensures.number ∙ c.tell_number.ensures.number ∙ ap (λ k. max c.args.filled.now.number k) c.frontier.ensures) (c.adopt.ensures.drawn ∙ c.tell_number.ensures.drawn)
-    (c.adopt.ensures.moment ∙ c.tell_number.ensures.moment) c.adopt.ensures.memory
+    (c.adopt.ensures.moment ∙ c.tell_number.ensures.moment) c.adopt.ensures.memory c.adopt.ensures.bytes
 
 pub returns-in-Some-clause-bad : goal.returns-in-Some-clause-bad
 returns-in-Some-clause-bad g c image read =

@@ -1,8 +1,8 @@
 use Rattle.std.proofs.Common.{arith, sym, subst, []}
 use Rattle.std.proofs.lemmas.Grind.{common_steps}
-use Rattle.cas_recovery.specs.Restored.{RememberAll}
+use Rattle.cas_recovery.specs.Restored.{AreFilledBy, RememberAll}
 use Rattle.cas_recovery.specs.Inner.Restoring.{AreRestored, HaveNoFiles}
-use Rattle.cas_recovery.proofs.Restoring.{memory_new, no_files_new, one_new}
+use Rattle.cas_recovery.proofs.Restoring.{filled_new, memory_new, no_files_new, one_new}
 use Rattle.cas_recovery.proofs.memory.new_shards.Goals as goal
 
 pub loop-shard-preserved : goal.loop-shard-preserved
@@ -15,4 +15,5 @@ loop-shard-preserved g c = record {
   memory = λ tables.
       subst (λ xs. RememberAll tables [] xs) (sym c.in_ok-push.ensures.items)
       (memory_new tables c.loop-shard.shards.items c.new.result (c.loop-shard.invariant.memory tables) c.new.ensures.memory);
+  filled = subst (λ xs. AreFilledBy [] xs) (sym c.in_ok-push.ensures.items) (filled_new c.loop-shard.shards.items c.new.result c.loop-shard.invariant.filled c.new.ensures.bytes);
 }

@@ -1,8 +1,8 @@
 use Rattle.std.proofs.Common.{◌≡◌, ◌∙◌, List, Option, Some, sym, subst}
 use Rattle.cas_shard.specs.Stands.{ShardState}
-use Rattle.cas_recovery.specs.Restored.{RememberAll}
+use Rattle.cas_recovery.specs.Restored.{AreFilledBy, RememberAll}
 use Rattle.cas_recovery.specs.Inner.Restoring.{AreRestored, HasRestored, HaveNoFiles, HaveRestored}
-use Rattle.cas_recovery.proofs.Restoring.{first_memory, first_no_files, first_restored}
+use Rattle.cas_recovery.proofs.Restoring.{first_filled, first_memory, first_no_files, first_restored}
 use Rattle.cas_recovery.proofs.memory.restored.Goals as goal
 
 pub returns-clause-restored : goal.returns-clause-restored
@@ -18,4 +18,5 @@ returns-clause-restored g c mutations has =
       λ tables count log.
           subst (λ (l : List ShardState). RememberAll tables mutations l) (sym c.truncate.ensures.items)
           (first_memory tables mutations c.args.count _ (subst (λ (a : List ShardState). RememberAll tables mutations a) (sym same) (were.2 tables count log))),
+      subst (AreFilledBy mutations) (sym c.truncate.ensures.items) (first_filled mutations c.args.count _ (subst (AreFilledBy mutations) (sym same) were.3)),
     )

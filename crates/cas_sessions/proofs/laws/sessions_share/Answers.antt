@@ -14,6 +14,7 @@ returns g c h s session calls stands = (
     shards = stands.shards;
     entered = stands.entered;
     memory = stands.memory;
+    filled = stands.filled;
   },
   λ found told lasts. record {
     keeps = lasts.keeps;

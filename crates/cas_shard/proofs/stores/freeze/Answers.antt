@@ -1,7 +1,7 @@
 use Rattle.std.proofs.Common.{refl, rules, is_ok, not, ◌&&◌, ◌==◌}
 use Rattle.std.proofs.lemmas.Option.{slice_get_read}
-use Rattle.cas_shard.proofs.InMemory.{bytes_of_it, stays_too}
-use Rattle.cas_shard.proofs.Memory.{at_apart, frozen_files, frozen_unless, on_ok_too}
+use Rattle.cas_shard.proofs.InMemory.{bytes_kept, bytes_of_it, stays_too}
+use Rattle.cas_shard.proofs.Memory.{at_apart, frozen_files, frozen_unless, on_err_too, on_ok_too}
 use Rattle.cas_shard.proofs.stores.freeze.Goals as goal
 
 pub returns-clause-kept : goal.returns-clause-kept
@@ -27,3 +27,9 @@ returns-clause-begun g c =
 
 pub returns-clause-others : goal.returns-clause-others
 returns-clause-others g c = λ t apart. at_apart c.args.stores.now.items c.args.table c.freeze.new.self t apart
+
+pub returns-clause-stays : goal.returns-clause-stays
+returns-clause-stays g c =
+    on_err_too c.freeze.result _ _
+    (bytes_kept c.args.stores.now.items _ c.args.table c.index_mut-store.result.now c.freeze.new.self (search rules)
+    (slice_get_read c.args.stores.now.items _ c.args.table c.index_mut-store.result.now refl (search rules) c.index_mut-store.ensures.value) refl) c.freeze.ensures.stays

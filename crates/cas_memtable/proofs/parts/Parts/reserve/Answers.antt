@@ -13,3 +13,6 @@ pub returns-clause-columns : goal.returns-clause-columns
 returns-clause-columns c columns of fits =
     last_of (IsOfColumns columns) (map arc_value c.args.self.now.frozen.items) c.args.self.now.active c.reserve.new.self
     (λ before. c.reserve.ensures.makes.fits columns before fits) of
+
+pub returns-clause-bytes : goal.returns-clause-bytes
+returns-clause-bytes c = c.reserve.ensures.makes.bytes

@@ -7,4 +7,4 @@ pub returns-in-Err-clause-tables : goal.returns-in-Err-clause-tables
 returns-in-Err-clause-tables g c = no_call (SameUpTo _) _
 
 pub returns-in-Err-clause-lists : goal.returns-in-Err-clause-lists
-returns-in-Err-clause-lists g c = λ none. lists_nothing _ _
+returns-in-Err-clause-lists g c = λ h found told stands lasts none. lists_nothing _ _ h found told stands lasts

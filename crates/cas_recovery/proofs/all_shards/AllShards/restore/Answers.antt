@@ -3,7 +3,7 @@ use Rattle.std.proofs.lemmas.Option.{slice_get-get_or}
 use Rattle.std.specs.Prelude.{slice_get}
 use Rattle.cas_recovery.specs.Found.{found_in}
 use Rattle.cas_recovery.specs.Inner.Restoring.{HaveRestored}
-use Rattle.cas_recovery.proofs.Restoring.{above_here, belongs_here, belongs_too, front_given, more_remembered, more_restored, one_keeps_none}
+use Rattle.cas_recovery.proofs.Restoring.{above_here, belongs_here, belongs_too, front_given, more_filled, more_remembered, more_restored, one_keeps_none}
 use Rattle.cas_recovery.proofs.all_shards.AllShards.restore.Goals as goal
 
 pub returns : goal.returns
@@ -25,4 +25,5 @@ returns g c before has =
           more_remembered tables before m xs x c.restore.new.self were there
           (λ table ws k more. c.in_ok-restore.ensures.memory (tables ++ more) count table ws
           (belongs_too tables more count m (belongs_here tables count before m [] (before ++ m ∷ []) refl given)) (k more)),
+      more_filled before m xs x c.restore.new.self had.3 there c.in_ok-restore.ensures.bytes,
     )

@@ -1,9 +1,11 @@
-use Rattle.std.proofs.Common.{◌≡◌, ◌<◌, ◌∙◌, ℕ, pos, length, Some, sym, ap, subst, arith, refl}
+use Rattle.std.proofs.Common.{◌≡◌, ◌<◌, ◌∙◌, ℕ, true, false, pos, length, Some, sym, ap, subst, arith, refl}
 use Rattle.std.specs.Prelude.{IfNone, slice_get}
 use Rattle.cas_bounds.specs.ClusteringOrder.{clustering_order}
 use Rattle.cas_memtable.specs.Kept.{HoldJust}
 use Rattle.cas_shard.specs.Flushing.{frozen_at, memtables_at}
+use Rattle.cas_sessions.specs.Filling.{filled_with}
 use Rattle.cas_sessions.specs.Inner.Flushing.{HoldsNothing}
+use Rattle.cas_sessions.specs.Nodes.{AreFilled}
 use Rattle.cas_sessions.proofs.FlushFiles.{holds_nothing, no_frozen}
 use Rattle.cas_sessions.proofs.FlushMaking.{one_in_memory}
 use Rattle.cas_sessions.proofs.FlushShard.{flushes_quietly, flushes_then, not_made_since, quiet_fails, quiet_none_at, quiet_starves}
@@ -28,13 +30,15 @@ returns-in-Ok-eq0-clause-flushes g c = λ clock t at_t.
     (omega (arith, ap (λ r. r.numbers.last) c.freeze.ensures.room.0))
     (λ image reads have.
     quiet_none_at t c.args.place _ _ _ _ (c.freeze.ensures.quiet _ _ clock) c.requires.going y c.args.table number at_t here.1 frozen.1
-    (λ kept. no_frozen (clustering_order t.columns) (frozen_at (slice_get y.stores c.args.table)) (omega (arith, frozen.0)))) tt refl
+    (λ kept. no_frozen (clustering_order t.columns) (frozen_at (slice_get y.stores c.args.table)) (omega (arith, frozen.0)))) tt refl true refl
+    (λ before full. subst (λ (k : ℕ). AreFilled (filled_with k c.args.place true before) f.shards.items) (sym number) (c.in-Ok-eq0.ensures.begun before full))
 
 pub returns-in-Err-clause-flushes : goal.returns-in-Err-clause-flushes
 returns-in-Err-clause-flushes g c = λ clock t at_t.
     flushes_quietly t c.args.place _ _ _ _ _ (c.freeze.ensures.quiet _ _ clock) c.freeze.ensures.tables c.requires.going
     (omega (arith, ap (λ r. r.numbers.last) c.freeze.ensures.room.0))
-    (λ image reads have. quiet_starves t c.args.place _ _ _ _ (c.freeze.ensures.quiet _ _ clock) c.requires.going) tt refl
+    (λ image reads have. quiet_starves t c.args.place _ _ _ _ (c.freeze.ensures.quiet _ _ clock) c.requires.going) tt refl false tt
+    (λ before full. c.in-Err.ensures.stays before full)
 
 pub returns-in-Ok-None-clause-flushes : goal.returns-in-Ok-None-clause-flushes
 returns-in-Ok-None-clause-flushes g c = λ clock t at_t.
@@ -61,7 +65,10 @@ returns-in-Ok-None-clause-flushes g c = λ clock t at_t.
     (λ kept.
     let ws = kept c.args.place t.number y at_m in
     holds_nothing t.columns (frozen_at (slice_get y.stores c.args.table))
-    (nothing ws.0 (subst (λ (k : ℕ). HoldJust t.columns (memtables_at (slice_get y.stores k)) ws.0) number (one_in_memory m.tables.items t ws.0 y m_t ws.1))))) tt refl
+    (nothing ws.0 (subst (λ (k : ℕ). HoldJust t.columns (memtables_at (slice_get y.stores k)) ws.0) number (one_in_memory m.tables.items t ws.0 y m_t ws.1))))) tt refl true refl
+    (λ before full.
+    subst (λ xs. AreFilled (filled_with t.number c.args.place true before) xs.items) (sym c.make_file.ensures.same.0)
+    (subst (λ (k : ℕ). AreFilled (filled_with k c.args.place true before) f.shards.items) (sym number) (c.in-Ok.ensures.begun before full)))
 
 pub returns-in-Ok-None-clause-going : goal.returns-in-Ok-None-clause-going
 returns-in-Ok-None-clause-going g c =
@@ -86,7 +93,10 @@ returns-in-Err-make_file-clause-flushes g c = λ clock t at_t.
     (c.in-Err-make_file.ensures.why read.0 read.1 (quiet_remembers _ _ _ _ (c.freeze.ensures.quiet 0 0 clock) have) t y now_t here.1))
     (why_full_then t c.args.place c.args.table _ _ _ _ _ _ y (c.freeze.ensures.quiet c.args.session.now.seat.list c.args.session.now.seat.calls clock)
     (c.make_file.ensures.quiet c.args.session.now.seat.list c.args.session.now.seat.calls clock) now_t number here.1))
-    c.in-Err-make_file.ensures.own refl
+    c.in-Err-make_file.ensures.own refl true tt
+    (λ before full.
+    subst (λ xs. AreFilled (filled_with t.number c.args.place true before) xs.items) (sym c.make_file.ensures.same.0)
+    (subst (λ (k : ℕ). AreFilled (filled_with k c.args.place true before) f.shards.items) (sym number) (c.in-Ok.ensures.begun before full)))
 
 pub take_file-requires-clause-going : goal.take_file-requires-clause-going
 take_file-requires-clause-going g c =
@@ -126,6 +136,9 @@ returns-clause-flushes g c = λ clock t at_t.
     let read = (c.freeze.ensures.quiet 0 0 clock).tells image reads in
     let ws = quiet_remembers _ _ _ _ (c.freeze.ensures.quiet 0 0 clock) have c.args.place t.number y here.1 in
     made.says read ws.0 (subst (λ (k : ℕ). HoldJust t.columns (memtables_at (slice_get y.stores k)) ws.0) number (one_in_memory f.tables.items t ws.0 y f_t ws.1)))
+    (λ before full.
+    subst (λ xs. AreFilled (filled_with t.number c.args.place true before) xs.items) (sym c.make_file.ensures.same.0)
+    (subst (λ (k : ℕ). AreFilled (filled_with k c.args.place true before) f.shards.items) (sym number) (c.in-Ok.ensures.begun before full)))
 
 pub returns-clause-going : goal.returns-clause-going
 returns-clause-going g c = c.take_file.ensures.going

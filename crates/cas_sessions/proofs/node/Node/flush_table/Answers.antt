@@ -1,6 +1,6 @@
 use Rattle.std.proofs.Common.{◌≡◌, ◌∙◌, ◌++◌, ℕ, List, Some, ap, arith}
 use Rattle.std.specs.Prelude.{slice_get}
-use Rattle.cas_sessions.specs.Inner.Flushing.{listed_of}
+use Rattle.cas_sessions.specs.Filling.{listed_of}
 use Rattle.cas_sessions.proofs.FlushAll.{all_first, first_more_as, first_none_as, no_further, none_of_memory}
 use Rattle.cas_sessions.proofs.node.Node.flush_table.Goals as goal
 

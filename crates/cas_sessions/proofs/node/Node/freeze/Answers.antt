@@ -8,6 +8,7 @@ use Rattle.cas_shard.specs.Flushing.{bytes_at, frozen_at}
 use Rattle.cas_shard.specs.Stands.{ShardState}
 use Rattle.cas_recovery.proofs.Places.{get_here}
 use Rattle.cas_sessions.specs.Listing.{SameUpTo}
+use Rattle.cas_sessions.proofs.Filled.{filled_new, filled_still}
 use Rattle.cas_sessions.proofs.Filing.{still_readable, still_unmade}
 use Rattle.cas_sessions.proofs.FlushShard.{quiet_one}
 use Rattle.cas_sessions.proofs.FlushSound.{still_remembers}
@@ -78,3 +79,17 @@ returns-in-Ok-clause-tables g c = no_call (SameUpTo c.args.self.now.room.numbers
 
 pub returns-in-Err-clause-tables : goal.returns-in-Err-clause-tables
 returns-in-Err-clause-tables g c = no_call (SameUpTo c.args.self.now.room.numbers.last) _
+
+pub returns-in-Ok-clause-begun : goal.returns-in-Ok-clause-begun
+returns-in-Ok-clause-begun g c = λ filled full.
+    let xs = c.args.self.now.shards.items in
+    let x = c.index_mut-shard.result.now in
+    let at_x : slice_get xs c.args.place ≡ Some x = slice_get_read xs c.args.self.now.limits.shards c.args.place x (sym c.args.self.now.sound.count) c.requires.within c.index_mut-shard.ensures.value in
+    filled_new filled xs c.args.place x c.freeze.new.self at_x full c.args.table c.in-Ok.ensures.begun c.freeze.ensures.others
+
+pub returns-in-Err-clause-stays : goal.returns-in-Err-clause-stays
+returns-in-Err-clause-stays g c = λ filled full.
+    let xs = c.args.self.now.shards.items in
+    let x = c.index_mut-shard.result.now in
+    let at_x : slice_get xs c.args.place ≡ Some x = slice_get_read xs c.args.self.now.limits.shards c.args.place x (sym c.args.self.now.sound.count) c.requires.within c.index_mut-shard.ensures.value in
+    filled_still filled xs c.args.place x c.freeze.new.self at_x full c.in-Err.ensures.stays

@@ -1,7 +1,8 @@
-use Rattle.std.proofs.Common.{ap, arith}
+use Rattle.std.proofs.Common.{Ok, ap, arith}
 use Rattle.std.proofs.lemmas.Int.{ints}
 use Rattle.cas_sessions.proofs.Answering.{does_alter, does_create, does_read, does_write}
 use Rattle.cas_sessions.proofs.Crashing.{amid_still}
+use Rattle.cas_sessions.proofs.Telling.{other_place}
 use Rattle.cas_sessions.proofs.node.Node.perform.Goals as goal
 
 pub returns-in-Create-clause-does : goal.returns-in-Create-clause-does
@@ -31,3 +32,12 @@ returns-in-Read-clause-lists g c = λ at. c.read.ensures.lists c.args.session.no
 
 pub returns-in-Read-clause-numbers : goal.returns-in-Read-clause-numbers
 returns-in-Read-clause-numbers g c = λ at. c.read.ensures.numbers c.args.session.now.seat.list c.args.session.now.seat.calls at
+
+pub returns-in-Create-clause-place : goal.returns-in-Create-clause-place
+returns-in-Create-clause-place g c = other_place c.create.result (Ok c.args.bound) c.create.ensures.other
+
+pub returns-in-Alter-clause-place : goal.returns-in-Alter-clause-place
+returns-in-Alter-clause-place g c = other_place c.alter.result (Ok c.args.bound) c.alter.ensures.other
+
+pub returns-in-Read-clause-place : goal.returns-in-Read-clause-place
+returns-in-Read-clause-place g c = other_place c.read.result (Ok c.args.bound) c.read.ensures.other

@@ -84,6 +84,7 @@ invariant_of-self g c =
       memory = c.swap.ensures.memory;
       emptied = c.swap.ensures.emptied;
       others = c.swap.ensures.others;
+      bytes = c.swap.ensures.bytes;
       number = c.swap.ensures.number;
     } in
     let low_t : c.args.table < length m.tables.items = subst (λ ts. c.args.table < length ts.items) (sym c.install_change.ensures.same.2) c.requires.within.0 in
@@ -137,6 +138,7 @@ returns-clause-takes g c = λ clock t x at_t at_x new.
       memory = c.swap.ensures.memory;
       emptied = c.swap.ensures.emptied;
       others = c.swap.ensures.others;
+      bytes = c.swap.ensures.bytes;
       number = c.swap.ensures.number;
     } in
     let same : y ≡ x = same_Some y x (sym was_y ∙ at_x) in

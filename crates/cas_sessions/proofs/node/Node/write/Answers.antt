@@ -5,7 +5,7 @@ use Rattle.std.proofs.lemmas.Int.{to_z-of_z}
 use Rattle.cas_shard.specs.Shards.{prepare_answer, raised}
 use Rattle.cas_shard.specs.Stands.{ShardState, Stands}
 use Rattle.std.specs.Prelude.{slice_get, slice_set}
-use Rattle.std.proofs.lemmas.Option.{slice_get_read}
+use Rattle.std.proofs.lemmas.Option.{slice_get_read, slice_get_within}
 use Rattle.cas_history.specs.Items.{listed, log_list}
 use Rattle.cas_journal.specs.Stores.{took, committed_all}
 use Rattle.cas_recovery.proofs.Places.{length_set}
@@ -15,7 +15,7 @@ use Rattle.cas_sessions.proofs.Entering.{may_take, refused_at_once, starved_at_o
 use Rattle.cas_sessions.proofs.Filing.{still_readable, still_unmade}
 use Rattle.cas_sessions.proofs.Remembering.{entered_just, memory_entered, memory_prepared, prepared_just}
 use Rattle.cas_sessions.proofs.Sounding.{sound_looked, sound_with}
-use Rattle.cas_sessions.proofs.Telling.{true_of_accepted, true_of_prepare}
+use Rattle.cas_sessions.proofs.Telling.{true_of_accepted, true_of_prepare, true_of_wrote}
 use Rattle.cas_sessions.proofs.Idling.{idle_taken}
 use Rattle.cas_sessions.proofs.Crashing.{amid_nothing, amid_room, amid_taken}
 use Rattle.cas_disk.proofs.Moments.{no_call}
@@ -30,14 +30,14 @@ pub returns-in-Err-Refused-clause-writes : goal.returns-in-Err-Refused-clause-wr
 returns-in-Err-Refused-clause-writes g c = λ clock.
     let at = to_z-of_z w64 c.args.reading c.ranges.reading in
     refused_at_once _ c.args.write c.args.reading _ c.prepare.new.self c.prepare.result
-    (record { sound = c.args.self.now.sound; within = c.requires.within.0; fits = c.requires.fits; seat = c.index_mut.ensures.value; files = c.prepare.ensures.files; answered = λ ts q stands quiet. c.prepare.ensures.answered ts q stands quiet ∙ ap (λ (k : ℤ). prepare_answer c.args.self.now.limits.segment k q c.args.write) at; stands = λ ts n q stands suits. subst (λ (k : ℤ). Stands ts (raised k q) c.prepare.new.self) at (c.prepare.ensures.stands ts n q stands suits); number = c.prepare.ensures.number; memory = prepared_just c.args.self.now.tables.items c.index_mut.result.now c.prepare.new.self c.args.write c.args.self.now.limits.shards c.requires.fits c.prepare.ensures.memory })
+    (record { sound = c.args.self.now.sound; within = c.requires.within.0; fits = c.requires.fits; seat = c.index_mut.ensures.value; files = c.prepare.ensures.files; answered = λ ts q stands quiet. c.prepare.ensures.answered ts q stands quiet ∙ ap (λ (k : ℤ). prepare_answer c.args.self.now.limits.segment k q c.args.write) at; stands = λ ts n q stands suits. subst (λ (k : ℤ). Stands ts (raised k q) c.prepare.new.self) at (c.prepare.ensures.stands ts n q stands suits); number = c.prepare.ensures.number; memory = prepared_just c.args.self.now.tables.items c.index_mut.result.now c.prepare.new.self c.args.write c.args.self.now.limits.shards c.requires.fits c.prepare.ensures.memory; bytes = c.prepare.ensures.bytes })
     _ _ _ c.in-Err-Refused.refused-is (c.in-Err-Refused.is ∙ ap Err c.in-Err-Refused.field-0-is)
 
 pub returns-in-Err-Mem-clause-writes : goal.returns-in-Err-Mem-clause-writes
 returns-in-Err-Mem-clause-writes g c = λ clock.
     let at = to_z-of_z w64 c.args.reading c.ranges.reading in
     starved_at_once _ c.args.write c.args.reading _ c.prepare.new.self c.prepare.result
-    (record { sound = c.args.self.now.sound; within = c.requires.within.0; fits = c.requires.fits; seat = c.index_mut.ensures.value; files = c.prepare.ensures.files; answered = λ ts q stands quiet. c.prepare.ensures.answered ts q stands quiet ∙ ap (λ (k : ℤ). prepare_answer c.args.self.now.limits.segment k q c.args.write) at; stands = λ ts n q stands suits. subst (λ (k : ℤ). Stands ts (raised k q) c.prepare.new.self) at (c.prepare.ensures.stands ts n q stands suits); number = c.prepare.ensures.number; memory = prepared_just c.args.self.now.tables.items c.index_mut.result.now c.prepare.new.self c.args.write c.args.self.now.limits.shards c.requires.fits c.prepare.ensures.memory }) _
+    (record { sound = c.args.self.now.sound; within = c.requires.within.0; fits = c.requires.fits; seat = c.index_mut.ensures.value; files = c.prepare.ensures.files; answered = λ ts q stands quiet. c.prepare.ensures.answered ts q stands quiet ∙ ap (λ (k : ℤ). prepare_answer c.args.self.now.limits.segment k q c.args.write) at; stands = λ ts n q stands suits. subst (λ (k : ℤ). Stands ts (raised k q) c.prepare.new.self) at (c.prepare.ensures.stands ts n q stands suits); number = c.prepare.ensures.number; memory = prepared_just c.args.self.now.tables.items c.index_mut.result.now c.prepare.new.self c.args.write c.args.self.now.limits.shards c.requires.fits c.prepare.ensures.memory; bytes = c.prepare.ensures.bytes }) _
 
 -- src/writing.rt:60:28
 pub accept-requires-clause-of : goal.accept-requires-clause-of
@@ -62,7 +62,7 @@ accept-requires-clause-of g c =
       last_file = c.args.self.now.room.numbers.last;
       live = c.args.self.now.live;
     }) c.args.write c.args.reading c.index_mut.result.now c.prepare.new.self c.prepare.result
-    (record { sound = c.args.self.now.sound; within = c.requires.within.0; fits = c.requires.fits; seat = c.index_mut.ensures.value; files = c.prepare.ensures.files; answered = λ ts q stands quiet. c.prepare.ensures.answered ts q stands quiet ∙ ap (λ (k : ℤ). prepare_answer c.args.self.now.limits.segment k q c.args.write) at; stands = λ ts n q stands suits. subst (λ (k : ℤ). Stands ts (raised k q) c.prepare.new.self) at (c.prepare.ensures.stands ts n q stands suits); number = c.prepare.ensures.number; memory = prepared_just c.args.self.now.tables.items c.index_mut.result.now c.prepare.new.self c.args.write c.args.self.now.limits.shards c.requires.fits c.prepare.ensures.memory })
+    (record { sound = c.args.self.now.sound; within = c.requires.within.0; fits = c.requires.fits; seat = c.index_mut.ensures.value; files = c.prepare.ensures.files; answered = λ ts q stands quiet. c.prepare.ensures.answered ts q stands quiet ∙ ap (λ (k : ℤ). prepare_answer c.args.self.now.limits.segment k q c.args.write) at; stands = λ ts n q stands suits. subst (λ (k : ℤ). Stands ts (raised k q) c.prepare.new.self) at (c.prepare.ensures.stands ts n q stands suits); number = c.prepare.ensures.number; memory = prepared_just c.args.self.now.tables.items c.index_mut.result.now c.prepare.new.self c.args.write c.args.self.now.limits.shards c.requires.fits c.prepare.ensures.memory; bytes = c.prepare.ensures.bytes })
     c.in-Ok.mutation c.in-Ok.is c.in-Ok.ensures.prepared c.in-Ok.ensures.ready
 
 -- src/writing.rt:60:28
@@ -92,7 +92,7 @@ pub returns-in-Err-clause-writes : goal.returns-in-Err-clause-writes
 returns-in-Err-clause-writes g c = λ clock.
     let at = to_z-of_z w64 c.args.reading c.ranges.reading in
     not_taken _ c.args.write c.args.reading c.index_mut.result.now c.prepare.new.self c.prepare.result
-    (record { sound = c.args.self.now.sound; within = c.requires.within.0; fits = c.requires.fits; seat = c.index_mut.ensures.value; files = c.prepare.ensures.files; answered = λ ts q stands quiet. c.prepare.ensures.answered ts q stands quiet ∙ ap (λ (k : ℤ). prepare_answer c.args.self.now.limits.segment k q c.args.write) at; stands = λ ts n q stands suits. subst (λ (k : ℤ). Stands ts (raised k q) c.prepare.new.self) at (c.prepare.ensures.stands ts n q stands suits); number = c.prepare.ensures.number; memory = prepared_just c.args.self.now.tables.items c.index_mut.result.now c.prepare.new.self c.args.write c.args.self.now.limits.shards c.requires.fits c.prepare.ensures.memory })
+    (record { sound = c.args.self.now.sound; within = c.requires.within.0; fits = c.requires.fits; seat = c.index_mut.ensures.value; files = c.prepare.ensures.files; answered = λ ts q stands quiet. c.prepare.ensures.answered ts q stands quiet ∙ ap (λ (k : ℤ). prepare_answer c.args.self.now.limits.segment k q c.args.write) at; stands = λ ts n q stands suits. subst (λ (k : ℤ). Stands ts (raised k q) c.prepare.new.self) at (c.prepare.ensures.stands ts n q stands suits); number = c.prepare.ensures.number; memory = prepared_just c.args.self.now.tables.items c.index_mut.result.now c.prepare.new.self c.args.write c.args.self.now.limits.shards c.requires.fits c.prepare.ensures.memory; bytes = c.prepare.ensures.bytes })
     c.in-Ok.mutation c.in-Ok.is c.in-Ok.ensures.prepared c.in-Ok.ensures.ready
     _ _ _ c.in-Err.fault (reply_of (Err c.fault_for.result)) (ap (λ (x : Fault). reply_of (Err x)) c.fault_for.ensures)
     (record {
@@ -121,7 +121,7 @@ pub returns-in-Ok-commit-clause-writes : goal.returns-in-Ok-commit-clause-writes
 returns-in-Ok-commit-clause-writes g c = λ clock.
     let at = to_z-of_z w64 c.args.reading c.ranges.reading in
     taken_and_committed _ c.args.write c.args.reading c.index_mut.result.now c.prepare.new.self c.prepare.result
-    (record { sound = c.args.self.now.sound; within = c.requires.within.0; fits = c.requires.fits; seat = c.index_mut.ensures.value; files = c.prepare.ensures.files; answered = λ ts q stands quiet. c.prepare.ensures.answered ts q stands quiet ∙ ap (λ (k : ℤ). prepare_answer c.args.self.now.limits.segment k q c.args.write) at; stands = λ ts n q stands suits. subst (λ (k : ℤ). Stands ts (raised k q) c.prepare.new.self) at (c.prepare.ensures.stands ts n q stands suits); number = c.prepare.ensures.number; memory = prepared_just c.args.self.now.tables.items c.index_mut.result.now c.prepare.new.self c.args.write c.args.self.now.limits.shards c.requires.fits c.prepare.ensures.memory })
+    (record { sound = c.args.self.now.sound; within = c.requires.within.0; fits = c.requires.fits; seat = c.index_mut.ensures.value; files = c.prepare.ensures.files; answered = λ ts q stands quiet. c.prepare.ensures.answered ts q stands quiet ∙ ap (λ (k : ℤ). prepare_answer c.args.self.now.limits.segment k q c.args.write) at; stands = λ ts n q stands suits. subst (λ (k : ℤ). Stands ts (raised k q) c.prepare.new.self) at (c.prepare.ensures.stands ts n q stands suits); number = c.prepare.ensures.number; memory = prepared_just c.args.self.now.tables.items c.index_mut.result.now c.prepare.new.self c.args.write c.args.self.now.limits.shards c.requires.fits c.prepare.ensures.memory; bytes = c.prepare.ensures.bytes })
     c.in-Ok.mutation c.in-Ok.is c.in-Ok.ensures.prepared c.in-Ok.ensures.ready
     _ _ _ c.index_mut-2.result.now c.enter.new.self
     (record {
@@ -138,6 +138,7 @@ returns-in-Ok-commit-clause-writes g c = λ clock.
       stands = c.enter.ensures.stands;
       number = c.enter.ensures.number;
       memory = entered_just c.args.self.now.tables.items c.index_mut-2.result.now c.enter.new.self c.args.write c.in-Ok.mutation c.args.self.now.limits.segment c.args.self.now.limits.shards c.requires.fits c.in-Ok.ensures.ready c.enter.ensures.memory;
+      bytes = c.enter.ensures.bytes;
       keeps = λ found told keeps may. let got = c.in-Ok-accept.ensures.kept found told keeps may in (got.0, committed_all (took c.in-Ok.mutation got.0), got.1, refl, refl, refl, inr refl, c.in-Ok-commit.ensures.kept found _ got.2);
       first = _;
       faults = _;
@@ -158,7 +159,7 @@ pub returns-in-Err-commit-clause-writes : goal.returns-in-Err-commit-clause-writ
 returns-in-Err-commit-clause-writes g c = λ clock.
     let at = to_z-of_z w64 c.args.reading c.ranges.reading in
     taken_and_failed _ c.args.write c.args.reading c.index_mut.result.now c.prepare.new.self c.prepare.result
-    (record { sound = c.args.self.now.sound; within = c.requires.within.0; fits = c.requires.fits; seat = c.index_mut.ensures.value; files = c.prepare.ensures.files; answered = λ ts q stands quiet. c.prepare.ensures.answered ts q stands quiet ∙ ap (λ (k : ℤ). prepare_answer c.args.self.now.limits.segment k q c.args.write) at; stands = λ ts n q stands suits. subst (λ (k : ℤ). Stands ts (raised k q) c.prepare.new.self) at (c.prepare.ensures.stands ts n q stands suits); number = c.prepare.ensures.number; memory = prepared_just c.args.self.now.tables.items c.index_mut.result.now c.prepare.new.self c.args.write c.args.self.now.limits.shards c.requires.fits c.prepare.ensures.memory })
+    (record { sound = c.args.self.now.sound; within = c.requires.within.0; fits = c.requires.fits; seat = c.index_mut.ensures.value; files = c.prepare.ensures.files; answered = λ ts q stands quiet. c.prepare.ensures.answered ts q stands quiet ∙ ap (λ (k : ℤ). prepare_answer c.args.self.now.limits.segment k q c.args.write) at; stands = λ ts n q stands suits. subst (λ (k : ℤ). Stands ts (raised k q) c.prepare.new.self) at (c.prepare.ensures.stands ts n q stands suits); number = c.prepare.ensures.number; memory = prepared_just c.args.self.now.tables.items c.index_mut.result.now c.prepare.new.self c.args.write c.args.self.now.limits.shards c.requires.fits c.prepare.ensures.memory; bytes = c.prepare.ensures.bytes })
     c.in-Ok.mutation c.in-Ok.is c.in-Ok.ensures.prepared c.in-Ok.ensures.ready
     _ _ _ c.index_mut-2.result.now c.enter.new.self
     (record {
@@ -175,6 +176,7 @@ returns-in-Err-commit-clause-writes g c = λ clock.
       stands = c.enter.ensures.stands;
       number = c.enter.ensures.number;
       memory = entered_just c.args.self.now.tables.items c.index_mut-2.result.now c.enter.new.self c.args.write c.in-Ok.mutation c.args.self.now.limits.segment c.args.self.now.limits.shards c.requires.fits c.in-Ok.ensures.ready c.enter.ensures.memory;
+      bytes = c.enter.ensures.bytes;
       keeps = λ found told keeps may. let got = c.in-Ok-accept.ensures.kept found told keeps may in (got.0, took c.in-Ok.mutation got.0, got.1, refl, refl, refl, inl (omega arith), c.in-Err-commit.ensures.kept found _ got.2);
       first = _;
       faults = _;
@@ -193,6 +195,15 @@ returns-in-Err-commit-clause-writes g c = λ clock.
 pub returns-in-Err-clause-told : goal.returns-in-Err-clause-told
 returns-in-Err-clause-told g c =
     true_of_prepare ℕ c.in-Err.fault c.fault_for.result _ _ _ _ _ _ c.fault_for.ensures c.in-Err.ensures.outcome c.in-Err.ensures.unentered.0
+
+pub returns-in-Ok-commit-clause-told : goal.returns-in-Ok-commit-clause-told
+returns-in-Ok-commit-clause-told g c = (
+  slice_get_within c.args.self.now.tables.items c.args.write.table c.requires.fits.0 c.requires.fits.1,
+  c.requires.within.0,
+  true_of_wrote _ _ c.in-Ok.mutation _ _ _ _ _ _ c.in-Ok.ensures.ready.table c.in-Ok.ensures.ready.shard
+      (ap (λ l. listed log_list l.pass.saw) c.commit.ensures.log ∙ c.in-Ok-accept.ensures.entered.0)
+      (c.commit.ensures.session.1 ∙ c.in-Ok-accept.ensures.calls) c.in-Ok-accept.ensures.number,
+)
 
 pub returns-in-Err-commit-clause-told : goal.returns-in-Err-commit-clause-told
 returns-in-Err-commit-clause-told g c =
@@ -214,7 +225,7 @@ returns-in-Ok-commit-clause-crash g c = λ clock h found told stands lasts.
     let at = to_z-of_z w64 c.args.reading c.ranges.reading in
     let got = c.in-Ok-accept.ensures.kept found told lasts.keeps
     (may_take _ c.args.write c.args.reading c.index_mut.result.now c.prepare.new.self c.prepare.result
-    (record { sound = c.args.self.now.sound; within = c.requires.within.0; fits = c.requires.fits; seat = c.index_mut.ensures.value; files = c.prepare.ensures.files; answered = λ ts q stands quiet. c.prepare.ensures.answered ts q stands quiet ∙ ap (λ (k : ℤ). prepare_answer c.args.self.now.limits.segment k q c.args.write) at; stands = λ ts n q stands suits. subst (λ (k : ℤ). Stands ts (raised k q) c.prepare.new.self) at (c.prepare.ensures.stands ts n q stands suits); number = c.prepare.ensures.number; memory = prepared_just c.args.self.now.tables.items c.index_mut.result.now c.prepare.new.self c.args.write c.args.self.now.limits.shards c.requires.fits c.prepare.ensures.memory })
+    (record { sound = c.args.self.now.sound; within = c.requires.within.0; fits = c.requires.fits; seat = c.index_mut.ensures.value; files = c.prepare.ensures.files; answered = λ ts q stands quiet. c.prepare.ensures.answered ts q stands quiet ∙ ap (λ (k : ℤ). prepare_answer c.args.self.now.limits.segment k q c.args.write) at; stands = λ ts n q stands suits. subst (λ (k : ℤ). Stands ts (raised k q) c.prepare.new.self) at (c.prepare.ensures.stands ts n q stands suits); number = c.prepare.ensures.number; memory = prepared_just c.args.self.now.tables.items c.index_mut.result.now c.prepare.new.self c.args.write c.args.self.now.limits.shards c.requires.fits c.prepare.ensures.memory; bytes = c.prepare.ensures.bytes })
     c.in-Ok.mutation c.in-Ok.is c.in-Ok.ensures.prepared c.in-Ok.ensures.ready h found _ told lasts) in
     amid_taken h found _ _ told stands lasts _ c.in-Ok.mutation _ _ got.0 _ _
     (ap (λ l. listed log_list l.pass.saw) c.commit.ensures.log ∙ c.in-Ok-accept.ensures.entered.0) got.1
@@ -225,7 +236,7 @@ returns-in-Err-commit-clause-crash g c = λ clock h found told stands lasts.
     let at = to_z-of_z w64 c.args.reading c.ranges.reading in
     let got = c.in-Ok-accept.ensures.kept found told lasts.keeps
     (may_take _ c.args.write c.args.reading c.index_mut.result.now c.prepare.new.self c.prepare.result
-    (record { sound = c.args.self.now.sound; within = c.requires.within.0; fits = c.requires.fits; seat = c.index_mut.ensures.value; files = c.prepare.ensures.files; answered = λ ts q stands quiet. c.prepare.ensures.answered ts q stands quiet ∙ ap (λ (k : ℤ). prepare_answer c.args.self.now.limits.segment k q c.args.write) at; stands = λ ts n q stands suits. subst (λ (k : ℤ). Stands ts (raised k q) c.prepare.new.self) at (c.prepare.ensures.stands ts n q stands suits); number = c.prepare.ensures.number; memory = prepared_just c.args.self.now.tables.items c.index_mut.result.now c.prepare.new.self c.args.write c.args.self.now.limits.shards c.requires.fits c.prepare.ensures.memory })
+    (record { sound = c.args.self.now.sound; within = c.requires.within.0; fits = c.requires.fits; seat = c.index_mut.ensures.value; files = c.prepare.ensures.files; answered = λ ts q stands quiet. c.prepare.ensures.answered ts q stands quiet ∙ ap (λ (k : ℤ). prepare_answer c.args.self.now.limits.segment k q c.args.write) at; stands = λ ts n q stands suits. subst (λ (k : ℤ). Stands ts (raised k q) c.prepare.new.self) at (c.prepare.ensures.stands ts n q stands suits); number = c.prepare.ensures.number; memory = prepared_just c.args.self.now.tables.items c.index_mut.result.now c.prepare.new.self c.args.write c.args.self.now.limits.shards c.requires.fits c.prepare.ensures.memory; bytes = c.prepare.ensures.bytes })
     c.in-Ok.mutation c.in-Ok.is c.in-Ok.ensures.prepared c.in-Ok.ensures.ready h found _ told lasts) in
     amid_taken h found _ _ told stands lasts _ c.in-Ok.mutation _ _ got.0 _ _
     (ap (λ l. listed log_list l.pass.saw) c.commit.ensures.log ∙ c.in-Ok-accept.ensures.entered.0) got.1
@@ -326,7 +337,7 @@ returns-in-Ok-commit-clause-lists g c = λ clock h found told stands lasts.
     let at = to_z-of_z w64 c.args.reading c.ranges.reading in
     let got = c.in-Ok-accept.ensures.kept found told lasts.keeps
     (may_take _ c.args.write c.args.reading c.index_mut.result.now c.prepare.new.self c.prepare.result
-    (record { sound = c.args.self.now.sound; within = c.requires.within.0; fits = c.requires.fits; seat = c.index_mut.ensures.value; files = c.prepare.ensures.files; answered = λ ts q stands quiet. c.prepare.ensures.answered ts q stands quiet ∙ ap (λ (k : ℤ). prepare_answer c.args.self.now.limits.segment k q c.args.write) at; stands = λ ts n q stands suits. subst (λ (k : ℤ). Stands ts (raised k q) c.prepare.new.self) at (c.prepare.ensures.stands ts n q stands suits); number = c.prepare.ensures.number; memory = prepared_just c.args.self.now.tables.items c.index_mut.result.now c.prepare.new.self c.args.write c.args.self.now.limits.shards c.requires.fits c.prepare.ensures.memory })
+    (record { sound = c.args.self.now.sound; within = c.requires.within.0; fits = c.requires.fits; seat = c.index_mut.ensures.value; files = c.prepare.ensures.files; answered = λ ts q stands quiet. c.prepare.ensures.answered ts q stands quiet ∙ ap (λ (k : ℤ). prepare_answer c.args.self.now.limits.segment k q c.args.write) at; stands = λ ts n q stands suits. subst (λ (k : ℤ). Stands ts (raised k q) c.prepare.new.self) at (c.prepare.ensures.stands ts n q stands suits); number = c.prepare.ensures.number; memory = prepared_just c.args.self.now.tables.items c.index_mut.result.now c.prepare.new.self c.args.write c.args.self.now.limits.shards c.requires.fits c.prepare.ensures.memory; bytes = c.prepare.ensures.bytes })
     c.in-Ok.mutation c.in-Ok.is c.in-Ok.ensures.prepared c.in-Ok.ensures.ready h found _ told lasts) in
     let going = going_on _ _ _ _ _ c.in-Ok-accept.ensures.outcome.1 in
     listing_twice _ _ _ (lists_room _ _ _ told lasts.keeps.lasts going.0 (c.accept.ensures.crash told lasts.keeps.lasts))
@@ -337,7 +348,7 @@ returns-in-Err-commit-clause-lists g c = λ clock h found told stands lasts.
     let at = to_z-of_z w64 c.args.reading c.ranges.reading in
     let got = c.in-Ok-accept.ensures.kept found told lasts.keeps
     (may_take _ c.args.write c.args.reading c.index_mut.result.now c.prepare.new.self c.prepare.result
-    (record { sound = c.args.self.now.sound; within = c.requires.within.0; fits = c.requires.fits; seat = c.index_mut.ensures.value; files = c.prepare.ensures.files; answered = λ ts q stands quiet. c.prepare.ensures.answered ts q stands quiet ∙ ap (λ (k : ℤ). prepare_answer c.args.self.now.limits.segment k q c.args.write) at; stands = λ ts n q stands suits. subst (λ (k : ℤ). Stands ts (raised k q) c.prepare.new.self) at (c.prepare.ensures.stands ts n q stands suits); number = c.prepare.ensures.number; memory = prepared_just c.args.self.now.tables.items c.index_mut.result.now c.prepare.new.self c.args.write c.args.self.now.limits.shards c.requires.fits c.prepare.ensures.memory })
+    (record { sound = c.args.self.now.sound; within = c.requires.within.0; fits = c.requires.fits; seat = c.index_mut.ensures.value; files = c.prepare.ensures.files; answered = λ ts q stands quiet. c.prepare.ensures.answered ts q stands quiet ∙ ap (λ (k : ℤ). prepare_answer c.args.self.now.limits.segment k q c.args.write) at; stands = λ ts n q stands suits. subst (λ (k : ℤ). Stands ts (raised k q) c.prepare.new.self) at (c.prepare.ensures.stands ts n q stands suits); number = c.prepare.ensures.number; memory = prepared_just c.args.self.now.tables.items c.index_mut.result.now c.prepare.new.self c.args.write c.args.self.now.limits.shards c.requires.fits c.prepare.ensures.memory; bytes = c.prepare.ensures.bytes })
     c.in-Ok.mutation c.in-Ok.is c.in-Ok.ensures.prepared c.in-Ok.ensures.ready h found _ told lasts) in
     let going = going_on _ _ _ _ _ c.in-Ok-accept.ensures.outcome.1 in
     listing_twice _ _ _ (lists_room _ _ _ told lasts.keeps.lasts going.0 (c.accept.ensures.crash told lasts.keeps.lasts))

@@ -1,12 +1,14 @@
-use Rattle.std.proofs.Common.{◌≡◌, ◌≤ℤ◌, of_z, to_z, w64, refl, sym, subst, rules, arith}
+use Rattle.std.proofs.Common.{◌≡◌, ◌≤ℤ◌, of_z, to_z, w64, refl, sym, ap, ◌∙◌, subst, rules, arith}
 use Rattle.std.specs.Int.{int_max}
 use Rattle.std.proofs.lemmas.Result.{err_from_is_err_and}
+use Rattle.std.specs.Prelude.{slice_get}
 use Rattle.cas_types.specs.Limits.{IsMoment}
 use Rattle.cas_types.specs.declared.limits.TheConstants.{LAST_DRAWN}
+use Rattle.cas_memtable.specs.Kept.{bytes_of}
 use Rattle.cas_shard.specs.Shards.{drawn_with, found_shard}
-use Rattle.cas_shard.specs.Stands.{Stands}
-use Rattle.cas_shard.specs.Flushing.{HasInMemory}
-use Rattle.cas_shard.proofs.InMemory.{join_memory, room_memory}
+use Rattle.cas_shard.specs.Stands.{ShardState, Stands}
+use Rattle.cas_shard.specs.Flushing.{HasInMemory, bytes_at, one_of}
+use Rattle.cas_shard.proofs.InMemory.{bytes_joined, join_memory, room_memory}
 use Rattle.cas_shard.proofs.Preparing.{later_begun, with_low}
 use Rattle.cas_shard.proofs.Standing.{one_is_restored, room_made}
 use Rattle.cas_shard.proofs.shard.Shard.restore.Goals as goal
@@ -40,3 +42,13 @@ pub returns-clause-memory : goal.returns-clause-memory
 returns-clause-memory g c tables shards n ws is h =
     join_memory tables shards n ws c.args.mutation c.reserve.new.stores.items _ is c.join.ensures
     (room_memory tables shards n ws c.args.mutation _ _ is c.reserve.ensures.makes (subst (λ x. HasInMemory tables n ws x) (sym c.self.view_is) h))
+
+pub returns-in_err-reserve-clause-bytes : goal.returns-in_err-reserve-clause-bytes
+returns-in_err-reserve-clause-bytes g c n =
+    let p = err_from_is_err_and c.from_residual.result c.from_residual.ensures.1 in
+    rw (p.1) (c.reserve.ensures.makes.bytes n ∙ ap (λ (x : ShardState). bytes_at (slice_get x.stores n)) c.self.view_is)
+
+pub returns-clause-bytes : goal.returns-clause-bytes
+returns-clause-bytes g c n =
+    bytes_joined c.args.mutation c.reserve.new.stores.items _ c.join.ensures n
+    ∙ ap (λ b. bytes_of b (one_of n c.args.mutation)) (c.reserve.ensures.makes.bytes n ∙ ap (λ (x : ShardState). bytes_at (slice_get x.stores n)) c.self.view_is)

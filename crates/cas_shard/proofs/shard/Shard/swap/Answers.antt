@@ -1,5 +1,8 @@
-use Rattle.std.proofs.Common.{ap, subst}
+use Rattle.std.proofs.Common.{ap, ◌∙◌, subst}
+use Rattle.std.specs.Prelude.{slice_get}
 use Rattle.std.specs.Arc.{arc_value}
+use Rattle.cas_shard.specs.Flushing.{bytes_at}
+use Rattle.cas_shard.specs.Stands.{ShardState}
 use Rattle.cas_shard.specs.Inner.Stores.{Swaps}
 use Rattle.cas_shard.proofs.Swapping.{as_emptied, as_swapped}
 use Rattle.cas_shard.proofs.shard.Shard.swap.Goals as goal
@@ -14,3 +17,6 @@ pub returns-clause-emptied : goal.returns-clause-emptied
 returns-clause-emptied g c tables ws all none h =
     as_emptied tables c.args.self.now c.swap.new.stores.items c.args.table c.args.count (arc_value c.args.view) ws
     (subst (λ x. Swaps c.args.table c.args.count (arc_value c.args.view) x.stores c.swap.new.stores.items) c.self.view_is c.swap.ensures) all none h
+
+pub returns-clause-bytes : goal.returns-clause-bytes
+returns-clause-bytes g c n = c.swap.ensures.bytes n ∙ ap (λ (x : ShardState). bytes_at (slice_get x.stores n)) c.self.view_is

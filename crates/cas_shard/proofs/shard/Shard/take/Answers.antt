@@ -1,8 +1,10 @@
-use Rattle.std.proofs.Common.{◌≡◌, ◌++◌, Ok, Err, of_z, to_z, w64, subst, arith}
+use Rattle.std.proofs.Common.{◌≡◌, ◌++◌, Ok, Err, of_z, to_z, w64, ap, ◌∙◌, subst, arith}
+use Rattle.std.specs.Prelude.{slice_get}
 use Rattle.std.proofs.lemmas.Int.{ints}
 use Rattle.std.proofs.lemmas.Result.{err_from_is_err_and}
 use Rattle.cas_shard.specs.Shards.{Prepares, raised}
-use Rattle.cas_shard.specs.Flushing.{HasInMemory, one_of}
+use Rattle.cas_shard.specs.Flushing.{HasInMemory, bytes_at, one_of}
+use Rattle.cas_memtable.specs.Kept.{bytes_of}
 use Rattle.cas_shard.specs.Stands.{Stands}
 use Rattle.cas_shard.proofs.Preparing.{ready_belongs}
 use Rattle.cas_shard.proofs.Standing.{prepared_is, took, took_nothing}
@@ -42,3 +44,17 @@ pub returns-in_err-mutation-clause-memory : goal.returns-in_err-mutation-clause-
 returns-in_err-mutation-clause-memory g c tables shards n s ws h suits just =
     let p = err_from_is_err_and c.from_residual.result c.from_residual.ensures.1 in
     rw (p.1) (c.prepare.ensures.memory tables shards n ws suits just)
+
+pub returns-clause-bytes : goal.returns-clause-bytes
+returns-clause-bytes g c tables n s h =
+    let reading : to_z w64 (of_z w64 c.args.reading) ≡ c.args.reading = omega (arith, ints) in
+    let mutation = c.in_ok-mutation.mutation in
+    subst (λ m. bytes_at (slice_get c.enter.new.self.stores n) ≡ bytes_of (bytes_at (slice_get c.args.self.now.stores n)) (one_of n m))
+    (prepared_is c.args.segment s c.args.reading c.args.write mutation
+    (subst (λ k. Prepares c.args.segment s k c.args.write (Ok mutation)) reading (c.in_ok-mutation.ensures.answered tables s h)))
+    (c.enter.ensures.bytes n ∙ ap (λ b. bytes_of b (one_of n mutation)) (c.prepare.ensures.bytes n))
+
+pub returns-in_err-mutation-clause-bytes : goal.returns-in_err-mutation-clause-bytes
+returns-in_err-mutation-clause-bytes g c tables n s h =
+    let p = err_from_is_err_and c.from_residual.result c.from_residual.ensures.1 in
+    rw (p.1) (c.prepare.ensures.bytes n)

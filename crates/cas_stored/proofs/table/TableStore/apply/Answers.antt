@@ -1,5 +1,6 @@
-use Rattle.std.proofs.Common.{map, refl, sym, subst}
+use Rattle.std.proofs.Common.{ap, ◌∙◌, map, refl, sym, subst}
 use Rattle.std.specs.Arc.{arc_value}
+use Rattle.cas_memtable.specs.Memtables.{bytes_with}
 use Rattle.cas_memtable.specs.Kept.{HoldJust, memtables_of}
 use Rattle.cas_stored.specs.Stored.{HoldsEach, IsStoredOf}
 use Rattle.cas_stored.proofs.Storing.{memory_joined}
@@ -21,3 +22,6 @@ returns-clause-memory g c columns ws just may =
     just_joined columns (memtables_of c.self.inside.parts) (memtables_of c.apply.new.self) (λ of. c.apply.ensures.columns columns of may.1) ws
     (subst (λ t. HoldJust columns (memtables_of t.parts) ws) (sym c.self.view_is) just) (map arc_value c.self.inside.parts.frozen.items) c.self.inside.parts.active c.args.mutation refl may
     c.apply.ensures.keeps
+
+pub returns-clause-bytes : goal.returns-clause-bytes
+returns-clause-bytes g c = c.apply.ensures.bytes ∙ ap (λ t. bytes_with t.parts.active.bytes c.args.mutation) c.self.view_is

@@ -1,4 +1,4 @@
-use Rattle.std.proofs.Common.{sym, subst}
+use Rattle.std.proofs.Common.{ap, ◌∙◌, sym, subst}
 use Rattle.std.specs.Arc.{arc_value}
 use Rattle.cas_memtable.specs.Kept.{HoldJust, memtables_of}
 use Rattle.cas_stored.specs.Stored.{HoldsEach, IsStoredOf}
@@ -20,3 +20,6 @@ pub returns-clause-memory : goal.returns-clause-memory
 returns-clause-memory g c columns ws just may =
     just_reserved columns (memtables_of c.self.inside.parts) (memtables_of c.reserve.new.self) (λ of. c.reserve.ensures.columns columns of may.1) ws
     (subst (λ t. HoldJust columns (memtables_of t.parts) ws) (sym c.self.view_is) just) c.args.mutation.now may c.reserve.ensures.keeps
+
+pub returns-clause-bytes : goal.returns-clause-bytes
+returns-clause-bytes g c = c.reserve.ensures.bytes ∙ ap (λ t. t.parts.active.bytes) c.self.view_is

@@ -18,3 +18,6 @@ returns-clause-memory g c =
     memory_left arc_value c.args.count c.self.inside.parts.frozen.items c.forget.new.self.frozen.items c.self.inside.parts.active c.forget.new.self.active
     (subst (λ t. c.args.count ≤ length t.parts.frozen.items) (sym c.self.view_is) c.requires) c.forget.ensures.frozen c.forget.ensures.active
     ∙ ap (λ t. drop c.args.count (memtables_of t.parts)) c.self.view_is
+
+pub returns-clause-bytes : goal.returns-clause-bytes
+returns-clause-bytes g c = ap (λ m. m.bytes) c.forget.ensures.active ∙ ap (λ t. t.parts.active.bytes) c.self.view_is
