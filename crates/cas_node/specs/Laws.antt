@@ -39,7 +39,8 @@ abbrev pub OneOutcome : (ℤ → Type 0) → Type 0
 OneOutcome Gives =
     (h : History) (lines : List (List ℕ)) (rs ss : List Upshot) (t u : History)
     → Runs clock.Manual Gives h lines rs t → Runs clock.Manual Gives h lines ss u
-    → NoneFlushes clock.Manual Gives h lines → list_any is_starved rs ≡ false → list_any is_starved ss ≡ false → StaysWell h.disk t.disk → StaysWell h.disk u.disk → (rs ≡ ss) × SameStore t u
+    → NoneFlushes clock.Manual Gives h lines → list_any is_starved rs ≡ false → list_any is_starved ss ≡ false
+    → StaysWell h.disk t.disk → StaysWell h.disk u.disk → (rs ≡ ss) × SameStore t u
 
 -- each shard's mutations are numbered upwards, those since the run began by one
 abbrev pub AllRise : History → Type 0
