@@ -49,6 +49,10 @@ place_in s table shard = table * s.shards + shard
 abbrev pub part_of : Saying → ℕ → ℕ → Part
 part_of s table shard = unwrap_or (slice_get s.parts (place_in s table shard)) no_part
 
+-- the frontiers of each table in each shard, table by table
+abbrev pub frontiers_in : Saying → List ℕ
+frontiers_in s = map (λ p. p.frontier) s.parts
+
 -- the number is among these
 abbrev pub is_listed : List ℕ → ℕ → Bool
 is_listed numbers n = list_any (λ m. m == n) numbers

@@ -1,13 +1,14 @@
 //! What the entries of a manifest say together.
 
-ghost use Rattle.std.specs.Prelude.{◌≡◌, ◌≤◌, nat_le, None, Some, if◌then◌else◌};
+ghost use Rattle.std.specs.Prelude.{◌≡◌, ◌≤◌, nat_le, IfOk, None, Some, if◌then◌else◌};
 ghost use Rattle.cas_changes.specs.declared.said.TheConstants.{LISTED_LIMIT};
-ghost use Rattle.cas_changes.specs.Saying.{place_in, part_of, is_listed, has_file, listed_after};
+ghost use Rattle.cas_changes.specs.Saying.{place_in, part_of, frontiers_in, is_listed, has_file, listed_after};
 
 use crate::entry::Entry;
 use crate::numbers::Numbers;
 use cas_info::TableInfo;
-use cas_types::{List, TableSchema};
+use cas_types::{List, Mem, TableSchema};
+use std::alloc::Global;
 use std::marker::Model;
 
 /// The greatest number of a segment.
@@ -180,6 +181,17 @@ impl Said {
             Some(part) => part.frontier,
             None => 0,
         }
+    }
+
+    /// The frontiers of each table in each shard, table by table.
+    pub fn frontiers(&self, alloc: Global) -> Result<Vec<u64>, Mem>
+        ensures { IfOk result (λ v. v.items ≡ frontiers_in self.now) }
+    {
+        let mut frontiers = Vec::new(alloc);
+        for part in &self.parts {
+            frontiers.push(part.frontier)?;
+        }
+        Ok(frontiers)
     }
 
     /// The listed files of a table in a shard.

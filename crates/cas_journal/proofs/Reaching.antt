@@ -1,5 +1,5 @@
 -- When a journal is full.
-use Rattle.std.proofs.Common.{◌≡◌, inl, inr, ℕ, ◌+◌, ◌<◌, ◌≤◌, Bool, true, false, ltb, leb, Option, None, Some, Result, Err, refl, ap, subst, arith}
+use Rattle.std.proofs.Common.{◌≡◌, inl, inr, ℕ, ◌+◌, ◌<◌, ◌≤◌, Bool, true, false, ltb, leb, Option, None, Some, Result, Err, refl, ap, subst, ◌∙◌, arith}
 use Rattle.std.specs.Prelude.{if◌then◌else◌}
 use Rattle.std.proofs.lemmas.Bool.{leb-true, ltb-true}
 use Rattle.cas_codec.specs.Fields.{u8, u64}
@@ -13,7 +13,7 @@ use Rattle.cas_manifest.specs.Manifests.{place_of as manifest_place, room_of}
 use Rattle.cas_manifest.specs.declared.fault.Limit.TheVariants.{Bytes, Files}
 use Rattle.cas_manifest.specs.declared.fault.ManifestFault.TheVariants.{TooMany as ManyOfManifest}
 use Rattle.cas_journal.specs.Ends.{entry_limit, next_limit, refused, Limits, IsDefinition, IsTold}
-use Rattle.cas_journal.specs.Reach.{HasNoPlace, IsFull, IsOver, name_room, reach_of}
+use Rattle.cas_journal.specs.Reach.{HasNoPlace, IsFull, IsOver, Reach, name_room, reach_dropped, reach_of}
 use Rattle.cas_journal.specs.declared.fault.Counted.{Counted}
 use Rattle.cas_journal.specs.declared.fault.Counted.TheVariants.{Segments, Manifest, Files as TableFiles}
 use Rattle.cas_journal.specs.declared.fault.JournalFault.{JournalFault}
@@ -82,6 +82,21 @@ definition_over j e is Segments over = absurd over
 name_long : (n : ℕ) → room_of (entry.NewSegment n) ≡ name_room
 unfolding u8 u64
 name_long n = refl
+
+drop_long : (n : ℕ) → room_of (entry.DropSegment n) ≡ name_room
+unfolding u8 u64
+drop_long n = refl
+
+-- ---- segments that are dropped
+
+pub none_dropped : (r : Reach) → r ≡ reach_dropped 0 r
+none_dropped r = ap (λ (m : ℕ). record r { manifest = m }) (omega arith)
+
+pub one_more_dropped : (n number : ℕ) (before r now : Reach) → r ≡ reach_dropped n before → now ≡ record { segment = r.segment; manifest = r.manifest + room_of (entry.DropSegment number) }
+    → now ≡ reach_dropped (n + 1) before
+one_more_dropped n number before r now was is =
+    is ∙ ap (λ (q : Reach). record { segment = q.segment; manifest = q.manifest + room_of (entry.DropSegment number) }) was
+    ∙ ap (λ (m : ℕ). record { segment = before.segment; manifest = m }) (omega (arith, drop_long number))
 
 -- an entry that lists no file is refused for its bytes alone
 no_place_by : (a b : Bool) (listed long : ℕ) (what : Counted) (most : ℕ) → ltb LISTED_LIMIT listed ≡ a → ltb FILE_LIMIT long ≡ b → listed ≤ LISTED_LIMIT

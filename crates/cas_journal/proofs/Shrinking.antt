@@ -102,11 +102,11 @@ module _ (shards : ℕ) (frontiers : List ℕ) where
     more_leaves a z before now =
         leaves_either (λ c. HoldsDropped shards frontiers t c) (λ c. HoldsWithout j.notes number u b c) (λ c. HoldsDropped shards frontiers t c) a b z before now
         (λ c holds. holds)
-        (λ c holds. ⊎_elim (λ stays. (u, dropped, inl stays)) (λ gone. (u, dropped, inr (number, gone.0, one_more gone.0 gone.1, gone.2))) holds)
+        (λ c holds. ⊎_elim (λ stays. (u, dropped, inl stays)) (λ gone. (u, dropped, inr (number, gone.0, gone.1.committed, one_more gone.0 gone.1, gone.2))) holds)
 
     -- after a fault
     pub fault_dropped : (f : JournalFault) (k : Journal) (z : Disk) → LastsAfter f k z j.notes number u b → LastsDropped f k z shards frontiers t
-    fault_dropped Failed k z lasts = (u, dropped, number, lasts.0, one_more lasts.0 lasts.1, lasts.2)
+    fault_dropped Failed k z lasts = (u, dropped, number, lasts.0, lasts.1.committed, one_more lasts.0 lasts.1, lasts.2)
     fault_dropped Mem k z lasts = (u, dropped, lasts)
     fault_dropped (TooMany what most) k z lasts = (u, dropped, lasts)
     fault_dropped (TooLarge long most) k z lasts = (u, dropped, lasts)

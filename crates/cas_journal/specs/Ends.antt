@@ -129,7 +129,7 @@ IsTold _ = ⊥
 -- what lasts after a fault of dropping segments: what was told without some, and where the folder failed, with one more or without
 abbrev pub LastsDropped : JournalFault → Journal → Disk → ℕ → List ℕ → Told → Type 0
 LastsDropped Failed j disk shards frontiers t = (u : Told) × Dropped shards frontiers t u
-    × (number many : ℕ) × Dropped shards frontiers t (without number many u) × Lasts j disk (may_be_without number many u)
+    × (number many : ℕ) × (many ≤ u.committed) × Dropped shards frontiers t (without number many u) × Lasts j disk (may_be_without number many u)
 LastsDropped _ j disk shards frontiers t = (u : Told) × Dropped shards frontiers t u × Lasts j disk u
 
 -- A segment is needed still: whatever a crash leaves has some of the mutations in its file, and of those that are noted with it one is above the frontier

@@ -1,5 +1,5 @@
 -- How far a journal has come, and when it is full. Own.
-use Rattle.std.specs.Prelude.{◌⊎◌, ℕ, ◌+◌, ◌<◌, ◌≤◌, Result, Ok, Err}
+use Rattle.std.specs.Prelude.{◌⊎◌, ℕ, ◌+◌, ◌*◌, ◌<◌, ◌≤◌, Result, Ok, Err}
 use Rattle.cas_changes.specs.declared.entry.Entry.{Entry}
 use Rattle.cas_changes.specs.declared.said.TheConstants.{FILE_LIMIT, LISTED_LIMIT, SEGMENT_LIMIT}
 use Rattle.cas_changes.specs.Saying.{listed_after}
@@ -33,6 +33,10 @@ pub record GoesOn (before after : Reach) : Type 0 where
 -- the manifest has no place for an entry: behind it no gate would stand within its limit
 abbrev pub HasNoPlace : Entry → Reach → Type 0
 HasNoPlace e reach = FILE_LIMIT < reach.manifest + room_of e + 1
+
+-- how far it has come where so many segments were named dropped: each such entry takes as many bytes as a name does
+abbrev pub reach_dropped : ℕ → Reach → Reach
+reach_dropped count reach = record { segment = reach.segment; manifest = reach.manifest + count * name_room }
 
 -- what there is too much of, with an entry: bytes of the manifest, for which it has no place, or table files that are listed, more than 4,096
 abbrev pub IsOver : Counted → Entry → Journal → Type 0

@@ -128,4 +128,4 @@ pub record Dropped (shards : ℕ) (frontiers : List ℕ) (t u : Told) : Type 0 w
 -- an image while segments are dropped: it holds what was told without some, and one more may be gone
 abbrev pub HoldsDropped : ℕ → List ℕ → Told → Image → Type 0
 HoldsDropped shards frontiers t c = (u : Told) × Dropped shards frontiers t u
-    × (Holds u c ⊎ ((number many : ℕ) × Dropped shards frontiers t (without number many u) × Holds (may_be_without number many u) c))
+    × (Holds u c ⊎ ((number many : ℕ) × (many ≤ u.committed) × Dropped shards frontiers t (without number many u) × Holds (may_be_without number many u) c))

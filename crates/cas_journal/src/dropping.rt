@@ -9,7 +9,7 @@ ghost use Rattle.cas_manifest.specs.Manifests.{place_of};
 ghost use Rattle.cas_journal.specs.Stores.{Told, SameTables, Dropped, HoldsDropped, without};
 ghost use Rattle.cas_journal.specs.Journals.{Lasts, AreFree};
 ghost use Rattle.cas_journal.specs.Ends.{Ends, WritesNothing, Limits, LastsDropped, IsLowestNeeded, entry_limit};
-ghost use Rattle.cas_journal.specs.Reach.{reach_of, reach_after, IsOver};
+ghost use Rattle.cas_journal.specs.Reach.{reach_of, reach_after, reach_dropped, IsOver};
 ghost use Rattle.cas_journal.specs.Inner.Dropping.{IsLowest, HasFirst, HoldsWithout, LastsAfter};
 
 use crate::fault::JournalFault;
@@ -79,6 +79,9 @@ impl Journal {
         ensures tables { During SameTables (F.disk folder.old) (F.disk folder.new) }
         ensures stays { OnOk result ((t : Told) → Lasts self.new (F.disk folder.new) t
             → IsLowestNeeded self.old.notes.shards frontiers.now t (F.disk folder.new) (said_by t.entries).segments) }
+        ensures reach { MatchResult result (λ count. reach_of self.new ≡ reach_dropped count (reach_of self.old))
+            (λ f. (count : ℕ) × (reach_of self.new ≡ reach_dropped count (reach_of self.old))) }
+        ensures shards { self.new.notes.shards ≡ self.old.notes.shards }
         ensures outcome { Ends self.old.first self.new.first (F.faults_of folder.old) (F.faults_of folder.new) result }
         ensures full { (what : _) (most : _) → result ≡ Err (JournalFault.TooMany what most) → (number : ℕ) × IsOver what (DropSegment number) self.new }
         ensures count { F.faults_of folder.old ≤ F.faults_of folder.new }

@@ -1,6 +1,7 @@
 -- What a line does with a store, from what its parts do.
-use Rattle.std.proofs.Common.{◌≡◌, inl, inr, ℕ, ℤ, List, Result, Some, refl, sym, ap, subst}
-use Rattle.std.specs.Prelude.{◌⊎◌}
+use Rattle.std.proofs.Common.{◌≡◌, inl, inr, ℕ, ℤ, Bool, true, false, List, [], ◌∷◌, length, Result, Ok, Some, refl, sym, ap, subst, arith}
+use Rattle.std.specs.Prelude.{◌⊎◌, ◌==◌, not}
+use Rattle.std.proofs.lemmas.Bool.Decides.{nat_tests}
 use Rattle.cas_types.specs.Limits.{IsMoment}
 use Rattle.cas_disk.specs.Disk.{Disk}
 use Rattle.cas_effects.specs.declared.refusal.TheConstants.{NOT_HERE}
@@ -16,13 +17,15 @@ use Rattle.cas_words.specs.declared.words.ClockKind.TheVariants as clock
 use Rattle.cql_parse.specs.declared.syntax.Statement.{Statement}
 use Rattle.cql_parse.specs.declared.syntax.TableName.{TableName}
 use Rattle.cas_sessions.specs.declared.answer.Fault.{Fault}
+use Rattle.cas_sessions.specs.Dropping.{DropsSegments}
 use Rattle.cas_sessions.specs.Flushes.{Flushes}
 use Rattle.cas_sessions.specs.History.{History, shard_at}
 use Rattle.cas_sessions.specs.Status.{status}
 use Rattle.cas_sessions.specs.Verifying.{Verifies}
 use Rattle.cas_node.specs.declared.upshot.Upshot.{Upshot}
 use Rattle.cas_node.specs.Inner.Serving.{Knows, ListsIf, MovesIf, PerformsRoomily, PerformsSo}
-use Rattle.cas_node.specs.Lines.{Answers, FlushesNone, SetsClock, reply_of_flush, reply_of_verify, replied}
+use Rattle.cas_node.specs.Lines.{Answers, DropsBehind, FlushesAndDrops, FlushesNone, SetsClock, is_want, lists_any, reply_of_flush, reply_of_verify, replied}
+use Rattle.cas_node.proofs.SessionLemmas.{on_from}
 use Rattle.cas_sessions.specs.Listing.{KeepsListing}
 use Rattle.cas_sessions.specs.Nodes.{State, StandsFor, GoesOnTo, Moves, OrWant}
 use Rattle.cas_sessions.proofs.Explaining.{explains_still, goes_nowhere, keep_files_none}
@@ -37,23 +40,60 @@ module _ (kind : ClockKind) (Gives : ℤ → Type 0) where
       let (after, so, goes) = moves h stands in
       (after, inr (line.Clock n, subst (λ l. Says text l) is says, (r, refl, subst (λ k. SetsClock kind h k r after) same so)), goes)
 
--- what a flush answers, and becomes of the store
-abbrev pub Flushed : TableName → Reply → History → History → Type 0
-Flushed name r h after = (told : Result (List ℕ) Fault) × (r ≡ reply_of_flush told) × Flushes h name told after
+-- ---- a flush
 
--- a line that flushes a table isn't one that doesn't
+-- it listed a file where it answers a number
+pub listed_any : (numbers : List ℕ) → not (length numbers == 0) ≡ lists_any (Ok numbers)
+listed_any [] = refl
+listed_any (n ∷ numbers) = let some : (length (n ∷ numbers) == 0) ≡ false = grind (arith, nat_tests) in ap not some
+
+module _ (s t : State) (d e : Disk) (name : TableName) (told : Result (List ℕ) Fault) (flushes : Moves (λ h after. Flushes h name told after) s t d e) (o : Upshot)
+    (is : o.reply ≡ Some (reply_of_flush told)) where
+  -- segments may have been dropped behind it
+  pub flushed_and_dropped : (u : State) (f : Disk) (listed : Bool) → listed ≡ lists_any told → Moves (λ h after. DropsBehind listed o.want h after) t u e f
+      → Moves (λ h after. FlushesAndDrops h name o after) s u d f
+  flushed_and_dropped u f listed same drops h stands =
+      let (mid, flushed, one) = flushes h stands in
+      let (after, dropped, two) = drops mid one.stands in
+      (after, (told, mid, is, flushed, subst (λ b. DropsBehind b o.want mid after) same dropped), on_from h mid after s t u d e f one two)
+
+  -- or nothing was listed
+  pub flushed_alone : lists_any told ≡ false → o.want ≡ false → Moves (λ h after. FlushesAndDrops h name o after) s t d e
+  flushed_alone none fed h stands =
+      let (after, flushed, goes) = flushes h stands in
+      (after, (told, after, is, flushed, subst (λ b. DropsBehind b o.want after after) (sym none) (fed, refl)), goes)
+
+-- ---- dropping segments behind it
+
+-- nothing is done where none was listed
+pub drops_none : (s : State) (d : Disk) (listed : Bool) → listed ≡ false → Moves (λ h after. DropsBehind listed false h after) s s d d
+drops_none s d listed is h stands = (
+  h,
+  subst (λ b. DropsBehind b false h h) (sym is) (refl, refl),
+  record { stands = stands; lasts = λ found told lasts. (told, lasts, λ openings explained. explained) },
+)
+
+pub drops_some : (s t : State) (d e : Disk) (listed want : Bool) (r : Result ℕ Fault) → listed ≡ true → want ≡ is_want r → Moves (λ h after. DropsSegments h r after) s t d e
+    → Moves (λ h after. DropsBehind listed want h after) s t d e
+drops_some s t d e listed want r is fed moves =
+    moves_as s t d e (λ h after. DropsSegments h r after) (λ h after. DropsBehind listed want h after) moves
+    (λ h after stands so. subst (λ b. DropsBehind b want h after) (sym is) (r, fed, so))
+
+-- ---- a line that flushes a table
+
+-- it isn't one that doesn't
 pub says_flush : (kind : ClockKind) (Gives : ℤ → Type 0) (h : History) (text : List ℕ) (l : Line) (name : TableName) → Says text l → l ≡ line.Flush name
     → FlushesNone kind Gives h text → ⊥
 says_flush kind Gives h text l name says is none = none.0 name (subst (λ l. Says text l) is says)
 
 module _ (kind : ClockKind) (Gives : ℤ → Type 0) where
-  pub answers_flush : (s t : State) (d e : Disk) (text : List ℕ) (l : Line) (name : TableName) (r : Reply) → (Knows s d → Moves (λ h after. Flushed name r h after) s t d e)
-      → Says text l → l ≡ line.Flush name
-      → MovesIf (λ h. Knows s d ⊎ FlushesNone kind Gives h text) (λ h after. Answers kind Gives h text (replied (Some r)) after) s t d e
-  answers_flush s t d e text l name r moves says is h stands (inl known) =
+  pub answers_flush : (s t : State) (d e : Disk) (text : List ℕ) (l : Line) (name : TableName) (o : Upshot)
+      → (Knows s d → Moves (λ h after. FlushesAndDrops h name o after) s t d e) → Says text l → l ≡ line.Flush name
+      → MovesIf (λ h. Knows s d ⊎ FlushesNone kind Gives h text) (λ h after. Answers kind Gives h text o after) s t d e
+  answers_flush s t d e text l name o moves says is h stands (inl known) =
       let (after, so, goes) = moves known h stands in
-      (after, inr (line.Flush name, subst (λ l. Says text l) is says, (so.0, ap (λ q. replied (Some q)) so.1, so.2)), goes)
-  answers_flush s t d e text l name r moves says is h stands (inr none) = absurd (says_flush kind Gives h text l name says is none)
+      (after, inr (line.Flush name, subst (λ l. Says text l) is says, so), goes)
+  answers_flush s t d e text l name o moves says is h stands (inr none) = absurd (says_flush kind Gives h text l name says is none)
 
 -- what a check answers, and becomes of the store
 abbrev pub Verified : TableName → Reply → History → History → Type 0
@@ -156,6 +196,7 @@ with_clock h s n d stands = record {
       behind = lasts.behind;
       files = lasts.files;
       changes = lasts.changes;
+      frontiers = lasts.frontiers;
     },
     λ openings explained.
         explains_still openings h (record h { clock = n }) found s (record s { clock = n }) d d told (λ k. goes_nowhere (shard_at h k)) refl refl (keep_files_none told d)

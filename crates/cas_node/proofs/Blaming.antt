@@ -192,7 +192,7 @@ module _ (kind : ClockKind) (Gives : ℤ → Type 0) where
   answered h line.Blank o t a = quiet h.disk.files o.reply _ (its_reply o _ a.0) tt
   answered h line.Syntax o t a = quiet h.disk.files o.reply _ (its_reply o _ a.0) tt
   answered h (line.Clock n) o t a = quiet h.disk.files o.reply _ (its_reply o _ a.1) (clock_set kind h n a.0 t a.2)
-  answered h (line.Flush name) o t a = quiet h.disk.files o.reply _ (its_reply o _ a.1) (named (IsBadForOne h.disk.files) h (table_named h.tables name) a.0 t a.2)
+  answered h (line.Flush name) o t a = quiet h.disk.files o.reply _ a.2 (named (IsBadForOne h.disk.files) h (table_named h.tables name) a.0 a.1 a.3)
   answered h (line.Verify name) o t a = quiet h.disk.files o.reply _ (its_reply o _ a.1) (verified h (table_named h.tables name) a.0 t a.2)
   answered h line.Status o t a = quiet h.disk.files o.reply _ (its_reply o _ a.0) tt
   answered h (line.Statement s) o t a = quiet h.disk.files o.reply _ a.2 (deed h (meaning h.limits.shards h.tables s) a.0 a.1 a.3)

@@ -1,7 +1,7 @@
--- A statement is carried out: it is performed, and then a memtable that is full is flushed.
+-- A statement is carried out: it is performed, and then a memtable that is full is flushed, and segments are dropped behind that.
 use Rattle.std.proofs.Common.{◌≡◌, ◌⊎◌, inl, inr, ◌<◌, ◌≤◌, ℕ, ℤ, Bool, false, length, Option, None, Some, Result, Ok, Err, refl, sym, ap, ◌∙◌, subst, arith}
 use Rattle.std.proofs.lemmas.Bool.{ltb-false}
-use Rattle.std.specs.Prelude.{IfOk, IfSome}
+use Rattle.std.specs.Prelude.{◌||◌, IfOk, IfSome}
 use Rattle.cas_disk.specs.Disk.{Disk}
 use Rattle.cas_bind.specs.Meaning.{meaning}
 use Rattle.cas_bind.specs.declared.bound.Bound.{Bound}
@@ -24,8 +24,8 @@ use Rattle.cas_sessions.specs.Listing.{KeepsListing}
 use Rattle.cas_sessions.specs.Nodes.{GoesOnTo, Moves, OrWant, State, StandsFor, filled_of}
 use Rattle.cas_sessions.proofs.FlushFull.{as_full}
 use Rattle.cas_sessions.proofs.Listing.{listing_twice, lists_nothing}
-use Rattle.cas_node.specs.Inner.Serving.{HasRoomFor, Knows, ListsIf, MovesIf, PerformsRoomily, PerformsSo, Settled, SettledFor, place_of}
-use Rattle.cas_node.specs.Lines.{LeavesRoom, SettlesBehind, Tells, is_want}
+use Rattle.cas_node.specs.Inner.Serving.{HasRoomFor, Knows, ListsIf, MovesIf, PerformsRoomily, PerformsSo, SettledFor, place_of}
+use Rattle.cas_node.specs.Lines.{DropsBehind, LeavesRoom, SettlesAndDrops, SettlesBehind, Tells, is_want, lists_one}
 use Rattle.cas_node.proofs.SessionLemmas.{on_from}
 
 -- ---- the memtable that was written to
@@ -39,27 +39,34 @@ module _ (s t : State) (d e : Disk) (n table : ℕ) (r : Result (Option ℕ) Fau
       let limit : h.limits.memtable ≡ s.limits.memtable = ap (λ l. l.memtable) stands.limits in
       omega (arith, few, bytes, limit)
 
-  pub settles : (want : Bool) → want ≡ is_want r → (Knows s d → Moves (λ h after. Settles h n table r after) s t d e)
-      → MovesIf (λ h. Knows s d ⊎ (is_full h n table ≡ false)) (λ h after. Settled n table want h after) s t d e
-  settles want is moves h stands (inl known) =
-      let (after, so, goes) = moves known h stands in
-      (after, (r, is, so), goes)
-  settles want is moves h stands (inr room) =
+  flushed : (Knows s d → Moves (λ h after. Settles h n table r after) s t d e)
+      → MovesIf (λ h. Knows s d ⊎ (is_full h n table ≡ false)) (λ h after. Settles h n table r after) s t d e
+  flushed moves h stands (inl known) = moves known h stands
+  flushed moves h stands (inr room) =
       let (none, still, quiet) = idle (small h stands room) in (
         h,
-        (r, is, subst (λ (b : Bool). FlushesIf b h n table r h) (sym room) (none, refl)),
+        subst (λ (b : Bool). FlushesIf b h n table r h) (sym room) (none, refl),
         subst (λ (u : State). GoesOnTo h h s u d e) (sym still)
             (subst (λ (f : Disk). GoesOnTo h h s s d f) (sym quiet) (record { stands = stands; lasts = λ found told lasts. (told, lasts, λ openings explained. explained) })),
       )
 
-  pub settles_listing : ListsIf (λ h. is_full h n table ≡ false) s d e
-  settles_listing h found told stands lasts room =
-      let (none, still, quiet) = idle (small h stands room) in
-      subst (λ (f : Disk). KeepsListing s d f) (sym quiet) (lists_nothing s d) h found told stands lasts
+  module _ (u : State) (f : Disk) (listed starved : Bool) (same : listed ≡ lists_one r) where
+    pub settles : (want : Bool) → want ≡ is_want r || starved → (Knows s d → Moves (λ h after. Settles h n table r after) s t d e)
+        → Moves (λ h after. DropsBehind listed starved h after) t u e f
+        → MovesIf (λ h. Knows s d ⊎ (is_full h n table ≡ false)) (λ h after. SettlesAndDrops n table want h after) s u d f
+    settles want is moves drops h stands known =
+        let (mid, settled, one) = flushed moves h stands known in
+        let (after, dropped, two) = drops mid one.stands in
+        (after, (r, mid, starved, is, settled, subst (λ b. DropsBehind b starved mid after) same dropped), on_from h mid after s t u d e f one two)
+
+    pub settles_listing : (listed ≡ false → f ≡ e) → ListsIf (λ h. is_full h n table ≡ false) s d f
+    settles_listing kept h found told stands lasts room =
+        let (none, still, quiet) = idle (small h stands room) in
+        subst (λ (k : Disk). KeepsListing s d k) (sym (kept (same ∙ ap lists_one none) ∙ quiet)) (lists_nothing s d) h found told stands lasts
 
 -- the same, where it is looked at by its place
 pub settled_at : (place : Option (ℕ × ℕ)) (table shard : ℕ) (want : Bool) (s t : State) (d e : Disk) → place ≡ Some (table, shard)
-    → MovesIf (λ h. Knows s d ⊎ (is_full h shard table ≡ false)) (λ h after. Settled shard table want h after) s t d e
+    → MovesIf (λ h. Knows s d ⊎ (is_full h shard table ≡ false)) (λ h after. SettlesAndDrops shard table want h after) s t d e
     → MovesIf (λ h. Knows s d ⊎ HasRoomFor place h) (λ h after. SettledFor place want h after) s t d e
 settled_at place table shard want s t d e is moves =
     subst (λ o. MovesIf (λ h. Knows s d ⊎ HasRoomFor o h) (λ h after. SettledFor o want h after) s t d e) (sym is) moves
@@ -126,7 +133,7 @@ settles_behind (Ok (bound.Create t)) (Ok (Wrote number table shard)) want h afte
 settles_behind (Ok (bound.Alter a)) (Ok (Wrote number table shard)) want h after place so = absurd place
 settles_behind (Ok (bound.Read q)) (Ok (Wrote number table shard)) want h after place so = absurd place
 settles_behind (Ok (bound.Write w)) (Ok (Wrote number table shard)) want h after place so =
-    (so.0, so.1, subst (λ (k : ℕ). Settles h w.shard k so.0 after) place.0 (subst (λ (k : ℕ). Settles h k table so.0 after) place.1 so.2))
+    subst (λ (k : ℕ). SettlesAndDrops w.shard k want h after) place.0 (subst (λ (k : ℕ). SettlesAndDrops k table want h after) place.1 so)
 
 -- ---- both, one after the other
 
@@ -158,13 +165,13 @@ module _ (kind : ClockKind) (Gives : ℤ → Type 0) (x : Statement) (s m : Stat
           let none : place_of r ≡ None = want_places_none r is in
           let (after, so, two) = settled between one.stands (inr (subst (λ o. HasRoomFor o between) (sym none) tt)) in
           let (quiet, left) = subst (λ o. SettledFor o want between after) none so in
-          (after, inl ((λ i. record { reply = Some (is i); want = quiet i }), left ∙ same), on_from kind Gives h between after s m t d e f one two)
+          (after, inl ((λ i. record { reply = Some (is i); want = quiet i }), left ∙ same), on_from h between after s m t d e f one two)
       by between one (inr performed) =
           let b : Result Bound Refusal = meaning s.limits.shards s.tables x in
           let own : Does kind Gives h (means h) (reply_of r) between = subst (λ c. Does kind Gives h c (reply_of r) between) (same_meaning h stands) performed in
           let its_place : IfOk r (λ a. TellsPlace a (means h)) = subst (λ c. IfOk r (λ a. TellsPlace a c)) (same_meaning h stands) place in
           let (after, so, two) = settled between one.stands (so_known between own its_place known) in
-          (after, inr (reply_of r, between, refl, own, settles_behind (means h) r want between after its_place so), on_from kind Gives h between after s m t d e f one two)
+          (after, inr (reply_of r, between, refl, own, settles_behind (means h) r want between after its_place so), on_from h between after s m t d e f one two)
         where
           so_known : (between : History) → Does kind Gives h (means h) (reply_of r) between → IfOk r (λ a. TellsPlace a (means h)) → Knows s d ⊎ PerformsRoomily kind Gives x h
               → Knows m e ⊎ HasRoomFor (place_of r) between

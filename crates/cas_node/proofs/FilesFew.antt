@@ -28,13 +28,14 @@ use Rattle.cas_words.specs.declared.words.ClockKind.{ClockKind}
 use Rattle.cas_words.specs.declared.words.ClockKind.TheVariants as clock
 use Rattle.cas_sessions.specs.declared.answer.Fault.{Fault}
 use Rattle.cas_sessions.specs.declared.answer.Fault.TheVariants as fault
+use Rattle.cas_sessions.specs.Dropping.{DropsSegments}
 use Rattle.cas_sessions.specs.Flushes.{EndsSo, Flushed, FlushesNamed, FlushesTable, Grows, change_of, changes_by, numbers_added, without_begun, without_flushed}
 use Rattle.cas_sessions.specs.Filling.{EndsIn, FlushesIn}
 use Rattle.cas_sessions.specs.History.{History, DiskState, Takes, Defines, Does, after_entries, shard_at}
 use Rattle.cas_sessions.specs.Verifying.{VerifiesNamed}
 use Rattle.cas_node.specs.declared.upshot.Upshot.{Upshot}
-use Rattle.cas_node.specs.Lines.{Answered, Answers, Runs, SetsClock}
-use Rattle.cas_node.proofs.Settling.{behind}
+use Rattle.cas_node.specs.Lines.{Answered, Answers, Runs, SetsClock, lists_any}
+use Rattle.cas_node.proofs.Settling.{behind, then_dropped}
 use Rattle.cas_node.specs.Laws.{FilesAreFew}
 
 -- ---- a step
@@ -171,6 +172,14 @@ few_one h after t n r a =
     let live = one_live t n (shard_at h n) a.change r h.disk a.disk a.ends in
     subst (Few h) (sym a.follows) (record { shards = refl; last = omega (arith, a.last_file); live = omega (arith, live) })
 
+-- segments are dropped
+few_dropped : (h k after : History) (r : Result ℕ Fault) → Few h k → DropsSegments k r after → Few h after
+few_dropped h k after r few a =
+    let shards : length after.shards ≡ length k.shards = ap (λ (j : History). length j.shards) a.follows in
+    let last : after.disk.last_file ≡ k.disk.last_file = ap (λ (j : History). j.disk.last_file) a.follows ∙ a.drops.files.2 in
+    let live : after.disk.live ≡ k.disk.live = ap (λ (j : History). j.disk.live) a.follows ∙ a.drops.files.3 in
+    record { shards = shards ∙ few.shards; last = omega (arith, few.last, last); live = omega (arith, few.live, live) }
+
 -- ---- a check
 
 checked : (h : History) (o : Option TableSchema) (r : Result (List Verdict) Fault) (after : History) → VerifiesNamed h o r after → Few h after
@@ -203,12 +212,12 @@ module _ (kind : ClockKind) (Gives : ℤ → Type 0) where
       clock_set clock.Manual h n r t s =
           same_counts h t h.disk (ap (λ (k : History). k.disk) s.1) (refl, refl) (ap (λ (k : History). length k.shards) s.1)
       clock_set clock.System h n r t s = unchanged h t s.1
-  answered h (line.Flush name) r t a = few_named h (table_named h.tables name) a.0 t a.2
+  answered h (line.Flush name) r t a = then_dropped Few few_dropped (lists_any a.0) r.want h a.1 t (few_named h (table_named h.tables name) a.0 a.1 a.3) a.4
   answered h (line.Verify name) r t a = checked h (table_named h.tables name) a.0 t a.2
   answered h line.Status r t a = unchanged h t a.1
   answered h (line.Statement s) r t a =
       let b = meaning h.limits.shards h.tables s in
-      few_then h a.1 t (deed h b a.0 a.1 a.3) (behind Few unchanged few_one b a.0 r.want a.1 t a.4)
+      few_then h a.1 t (deed h b a.0 a.1 a.3) (behind Few unchanged few_one few_dropped b a.0 r.want a.1 t a.4)
 
   one_line : (h : History) (text : List ℕ) (r : Upshot) (t : History) → Answers kind Gives h text r t → Few h t
   one_line h text r t (inl x) = unchanged h t x.1

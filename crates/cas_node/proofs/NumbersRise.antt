@@ -32,13 +32,14 @@ use Rattle.cas_types.specs.declared.schema.TableSchema.{TableSchema}
 use Rattle.cas_sessions.specs.declared.answer.Fault.{Fault}
 use Rattle.cas_sessions.specs.declared.answer.Fault.TheVariants as fault
 use Rattle.cas_changes.specs.declared.entry.Change.{Change}
+use Rattle.cas_sessions.specs.Dropping.{DropsSegments}
 use Rattle.cas_sessions.specs.Filling.{FlushesIn, filled_with, rest_with}
 use Rattle.cas_sessions.specs.Flushes.{FlushesNamed, FlushesTable, changes_by, without_begun, without_flushed}
 use Rattle.cas_sessions.specs.History.{History, DiskState, Does, Takes, shard_at, after_entries, with_shard}
 use Rattle.cas_sessions.specs.Verifying.{VerifiesNamed}
 use Rattle.cas_node.specs.declared.upshot.Upshot.{Upshot}
-use Rattle.cas_node.specs.Lines.{SetsClock, Answered, Answers}
-use Rattle.cas_node.proofs.Settling.{behind}
+use Rattle.cas_node.specs.Lines.{SetsClock, Answered, Answers, lists_any}
+use Rattle.cas_node.proofs.Settling.{behind, then_dropped}
 use Rattle.cas_recovery.specs.Found.{AreOfAStore}
 use Rattle.cas_recovery.specs.Openings.{AreOpenings}
 use Rattle.cas_recovery.proofs.Explained.{as_opening}
@@ -144,6 +145,13 @@ one_keeps : (h after : History) (t : TableSchema) (n : ℕ) (r : Result (Option 
 one_keeps h after t n r a all =
     begun_keeps h after (rest_with t.number n a.change h.unflushed) (filled_with t.number n a.begun h.filled) (changes_by h.changes a.change) a.disk a.follows all
 
+-- nor does dropping segments
+drop_keeps : (h after : History) (r : Result ℕ Fault) → DropsSegments h r after → AllRise h → AllRise after
+drop_keeps h after r a all = subst AllRise (sym a.follows) all
+
+then_keeps : (h k after : History) (r : Result ℕ Fault) → (AllRise h → AllRise k) → DropsSegments k r after → AllRise h → AllRise after
+then_keeps h k after r so drops all = drop_keeps k after r drops (so all)
+
 named_keeps : (h : History) (o : Option TableSchema) (r : Result (List ℕ) Fault) (t : History) → FlushesNamed h o r t → AllRise h → AllRise t
 named_keeps h None r t a all = subst AllRise (sym a.1) all
 named_keeps h (Some x) r t a all = flush_keeps h x r t a all
@@ -157,11 +165,12 @@ answered_keeps : (kind : ClockKind) (Gives : ℤ → Type 0) (h : History) (l : 
 answered_keeps kind Gives h line.Blank r t a all = subst AllRise (sym a.1) all
 answered_keeps kind Gives h line.Syntax r t a all = subst AllRise (sym a.1) all
 answered_keeps kind Gives h (line.Clock n) r t a all = sets_keeps kind h n a.0 t a.2 all
-answered_keeps kind Gives h (line.Flush name) r t a all = named_keeps h (table_named h.tables name) a.0 t a.2 all
+answered_keeps kind Gives h (line.Flush name) r t a all =
+    then_dropped (λ (k j : History). AllRise k → AllRise j) then_keeps (lists_any a.0) r.want h a.1 t (named_keeps h (table_named h.tables name) a.0 a.1 a.3) a.4 all
 answered_keeps kind Gives h (line.Verify name) r t a all = verify_keeps h (table_named h.tables name) a.0 t a.2 all
 answered_keeps kind Gives h line.Status r t a all = subst AllRise (sym a.1) all
 answered_keeps kind Gives h (line.Statement s) r t a all =
-    behind (λ (k j : History). AllRise k → AllRise j) (λ k j same rise. subst AllRise (sym same) rise) one_keeps (meaning h.limits.shards h.tables s) a.0 r.want a.1 t a.4
+    behind (λ (k j : History). AllRise k → AllRise j) (λ k j same rise. subst AllRise (sym same) rise) one_keeps then_keeps (meaning h.limits.shards h.tables s) a.0 r.want a.1 t a.4
     (does_keeps kind Gives h (meaning h.limits.shards h.tables s) a.0 a.1 a.3 all)
 
 answer_keeps : (kind : ClockKind) (Gives : ℤ → Type 0) (h : History) (text : List ℕ) (r : Upshot) (t : History) → Answers kind Gives h text r t → AllRise h → AllRise t

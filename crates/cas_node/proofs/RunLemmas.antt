@@ -1,6 +1,6 @@
 -- What a run did with its folder and its script, and how it ends.
 use Rattle.std.proofs.Common.{◌≡◌, ◌≤◌, ℕ, ℤ, pos, Bool, true, false, Option, None, Some, is_some, List, [], ◌∷◌, ◌++◌, length, refl, sym, ap, ◌∙◌, subst, append-nil, inl, inr, arith}
-use Rattle.std.specs.Prelude.{if◌then◌else◌, ◌⊎◌, ◌||◌, nat_le, IfSome, IsSome, IsTrue}
+use Rattle.std.specs.Prelude.{if◌then◌else◌, ◌⊎◌, ◌||◌, nat_le, nat_lt, IfSome, IsSome, IsTrue}
 use Rattle.std.specs.List.{fold}
 use Rattle.std.specs.Str.Lines.{lines}
 use Rattle.std.specs.Io.KnownBytes.{Keeps as KeepsBytes}
@@ -69,15 +69,15 @@ use Rattle.cas_node.proofs.Stopping.{stop_is_counted}
 -- ---- what was served
 
 module _ (kind : ClockKind) (Gives : ℤ → Type 0) (script : List ℕ) (old new : Option (List ℕ)) (s t : State) (d e : Disk) (faults_before : ℕ) (told why : Cause)
-    (moves : MovesIf (IsKnownIn kind Gives s d script) (λ h after. RanFrom h kind Gives script old new after told) s t d e) (l : Limits) (tables : List TableSchema) (shards : List ShardState) (last live : ℕ) (journal : Journal)
+    (moves : MovesIf (IsKnownIn kind Gives s d script) (λ h after. RanFrom h kind Gives script old new after told) s t d e) (l : Limits) (tables : List TableSchema) (shards : List ShardState) (frontiers : List ℕ) (last live : ℕ) (journal : Journal)
     (faults reads : ℕ) (opened : IsOpenedAs l tables shards journal faults reads s)
     (begins : (given : Limits) (entries : List ManifestEntry) (mutations : List Mutation) (openings : ℕ → ShardOpening)
-    → IsInMemory given entries mutations openings l tables shards last live → BeginsAs given entries mutations openings d s)
+    → IsInMemory given entries mutations openings l tables shards frontiers last live → BeginsAs given entries mutations openings d s)
     (going : journal.first ≡ None) (ended : why ≡ with_faults faults_before t.faults t.reads told)
     (left : (h : History) (found : List Mutation) (u : Told) → StandsFor h t → LastsFor h found t e u → (i : Image) → e.may_leave i → IsLeft found t.list h i)
     (lists : ListsIf (λ h. NoneFlushes kind Gives h (lines script)) s d e) where
   of_store : (given : Limits) (entries : List ManifestEntry) (mutations : List Mutation) (openings : ℕ → ShardOpening)
-      → IsInMemory given entries mutations openings l tables shards last live → BeginsAs given entries mutations openings d s → journal.last_segment ≤ next_segment entries
+      → IsInMemory given entries mutations openings l tables shards frontiers last live → BeginsAs given entries mutations openings d s → journal.last_segment ≤ next_segment entries
       → IsKnownOn d journal entries mutations (Begins given entries mutations openings (files_in shards) faults) (λ first. NoneFlushes kind Gives first (lines script))
       → Served kind Gives script old new given entries mutations openings (files_in shards) journal d e faults_before faults t.faults t.reads t.list why
   of_store given entries mutations openings memory first segment known =
@@ -124,7 +124,7 @@ module _ (kind : ClockKind) (Gives : ℤ → Type 0) (script : List ℕ) (old ne
       known_as (inr none) = inr (none (start given entries mutations openings s.session (disk_of s)) began)
 
   serves : (pass : Option (List (Item Event))) → IsSome pass → IfSome pass (λ p. p ≡ t.list)
-      → Serves kind Gives script old new l tables shards last live journal d faults faults_before e t.faults t.reads pass why
+      → Serves kind Gives script old new l tables shards frontiers last live journal d faults faults_before e t.faults t.reads pass why
   serves None some is = absurd cc
   serves (Some items) some is = λ given entries mutations openings memory segment known.
       subst
@@ -133,12 +133,12 @@ module _ (kind : ClockKind) (Gives : ℤ → Type 0) (script : List ℕ) (old ne
 
   -- also where the disks and the counts of faults are called otherwise
   pub serves_as : (before after : Disk) (now read : ℕ) (pass : Option (List (Item Event))) → d ≡ before → e ≡ after → t.faults ≡ now → t.reads ≡ read → IsSome pass
-      → IfSome pass (λ p. p ≡ t.list) → Serves kind Gives script old new l tables shards last live journal before faults faults_before after now read pass why
+      → IfSome pass (λ p. p ≡ t.list) → Serves kind Gives script old new l tables shards frontiers last live journal before faults faults_before after now read pass why
   serves_as before after now read pass at_first at_last count reading some is =
-      subst (λ x. Serves kind Gives script old new l tables shards last live journal x faults faults_before after now read pass why) at_first
-      (subst (λ x. Serves kind Gives script old new l tables shards last live journal d faults faults_before x now read pass why) at_last
-      (subst (λ n. Serves kind Gives script old new l tables shards last live journal d faults faults_before e n read pass why) count
-      (subst (λ n. Serves kind Gives script old new l tables shards last live journal d faults faults_before e t.faults n pass why) reading (serves pass some is))))
+      subst (λ x. Serves kind Gives script old new l tables shards frontiers last live journal x faults faults_before after now read pass why) at_first
+      (subst (λ x. Serves kind Gives script old new l tables shards frontiers last live journal d faults faults_before x now read pass why) at_last
+      (subst (λ n. Serves kind Gives script old new l tables shards frontiers last live journal d faults faults_before e n read pass why) count
+      (subst (λ n. Serves kind Gives script old new l tables shards frontiers last live journal d faults faults_before e t.faults n pass why) reading (serves pass some is))))
 
 -- a store that was opened is the same in the eyes of a session that wrote nothing
 pub opened_as : (l : Limits) (tables : List TableSchema) (shards : List ShardState) (journal : Journal) (faults reads : ℕ) (f g : ℕ → ℕ → ℤ → State) (session calls : ℕ) (clock : ℤ)
@@ -188,8 +188,8 @@ keeps (Some xs) None same = absurd cc
 keeps (Some xs) (Some ys) same = same_Some ys xs same
 
 module _ (words : List (List ℕ)) (Gives : ℤ → Type 0) (before after : Outside) (c : Command) (script : List ℕ) (limits : Limits) (tables : List TableSchema) (shards : List ShardState)
-    (last live : ℕ) (journal : Journal) (mid : Disk) (faults reads : ℕ) (why : Cause) (said : command_of words ≡ Some c) (read : ReadToEnd before.left after.left script)
-    (started : IsStarted c.limits limits tables shards last live journal before.folder mid) (kept : before.folder_faults ≤ faults) (n : ℕ) (counted : n ≡ before.folder_faults)
+    (frontiers : List ℕ) (last live : ℕ) (journal : Journal) (mid : Disk) (faults reads : ℕ) (why : Cause) (said : command_of words ≡ Some c) (read : ReadToEnd before.left after.left script)
+    (started : IsStarted c.limits limits tables shards frontiers last live journal before.folder mid) (kept : before.folder_faults ≤ faults) (n : ℕ) (counted : n ≡ before.folder_faults)
     (stay : (d : Image) → before.folder.reads d → IsOfBytes d → (entries : List ManifestEntry) (mutations : List Mutation) → OpensAs c.limits.shards entries mutations d
     → AreUpTo last entries → During (SameListed entries) before.folder after.folder)
     (telling : (d : Image) → before.folder.reads d → IsOfBytes d → (entries : List ManifestEntry) (mutations : List Mutation) → OpensAs c.limits.shards entries mutations d
@@ -275,7 +275,7 @@ module _ (words : List (List ℕ)) (Gives : ℤ → Type 0) (before after : Outs
       (as_opening entries started.back.mutations started.back.found.of_a_store.log before.folder n (openings n) low (are n low))
 
   ran_over : (list : List (Item Event))
-      → Serves c.clock Gives script before.taken after.taken limits tables shards last live journal mid faults n after.folder after.folder_faults reads (Some list) why
+      → Serves c.clock Gives script before.taken after.taken limits tables shards frontiers last live journal mid faults n after.folder after.folder_faults reads (Some list) why
       → Ran c Gives script before after reads list why
   ran_over list serves = record {
     entries = started.back.entries;
@@ -290,7 +290,7 @@ module _ (words : List (List ℕ)) (Gives : ℤ → Type 0) (before after : Outs
   }
 
   pub ran_all : (pass : Option (List (Item Event))) → length script ≤ SCRIPT_LIMIT
-      → Serves c.clock Gives script before.taken after.taken limits tables shards last live journal mid faults n after.folder after.folder_faults reads pass why
+      → Serves c.clock Gives script before.taken after.taken limits tables shards frontiers last live journal mid faults n after.folder after.folder_faults reads pass why
       → (pass ≡ None → after.taken ≡ before.taken) → RanAll words Gives before after reads pass why
   ran_all None short serves unwritten = (keeps before.taken after.taken (unwritten refl), subst IsNotRun (sym serves) tt)
   ran_all (Some list) short serves unwritten = (c, said, (script, read, short, ran_over list serves))
@@ -313,6 +313,21 @@ told_by : (before now reads : ℕ) (b d : Bool) → has_risen before now ≡ b �
 told_by before now reads true d test other told end is = inl (leb-true _ now test)
 told_by before now reads false true test other told end is = inr (leb-true _ reads other)
 told_by before now reads false false test other told end is = absurd (subst IsEnd is end)
+
+-- where it is told that a write failed, that is of a line
+disk_is_not : cause.Disk ≡ cause.Write → ⊥
+disk_is_not same = cc
+
+not_disk : (b : Bool) (told : Cause) → (if b then cause.Disk else told) ≡ cause.Write → told ≡ cause.Write
+not_disk true told is = absurd (disk_is_not is)
+not_disk false told is = is
+
+write_by : (b : Bool) (told : Cause) → (if b then worse told cause.Disk else told) ≡ cause.Write → told ≡ cause.Write
+write_by true told is = not_disk (nat_lt (weight told) (weight cause.Disk)) told is
+write_by false told is = is
+
+pub write_told : (before now reads : ℕ) (told why : Cause) → why ≡ with_faults before now reads told → why ≡ cause.Write → told ≡ cause.Write
+write_told before now reads told why is write = write_by (has_risen before now || has_risen 0 reads) told (sym is ∙ write)
 
 mem_is_not : cause.Mem ≡ cause.Disk → ⊥
 mem_is_not same = cc
@@ -536,9 +551,9 @@ module _ (words : List (List ℕ)) (Gives : ℤ → Type 0) (before after : Outs
       ran_on_well script list why ran.entries ran.mutations ran.files one.0 one.1 (all_read before.left after.left well.script script well.told read) ran.its_files
       (ran.on well.openings explained (inl (well.image, well.reads, well.of_bytes))) write
 
-  pub ends_well : (script : List ℕ) (limits : Limits) (tables : List TableSchema) (shards : List ShardState) (last live : ℕ) (journal : Journal) (mid : Disk)
+  pub ends_well : (script : List ℕ) (limits : Limits) (tables : List TableSchema) (shards : List ShardState) (frontiers : List ℕ) (last live : ℕ) (journal : Journal) (mid : Disk)
       (faults : ℕ) (pass : Option (List (Item Event))) (why : Cause) → ReadToEnd before.left after.left script
-      → IsStarted c.limits limits tables shards last live journal before.folder mid → before.folder_faults ≤ faults
+      → IsStarted c.limits limits tables shards frontiers last live journal before.folder mid → before.folder_faults ≤ faults
       → (n : ℕ) → n ≡ before.folder_faults
       → ((d : Image) → before.folder.reads d → IsOfBytes d → (entries : List ManifestEntry) (mutations : List Mutation) → OpensAs c.limits.shards entries mutations d
       → AreUpTo last entries → During (SameListed entries) before.folder after.folder)
@@ -546,12 +561,12 @@ module _ (words : List (List ℕ)) (Gives : ℤ → Type 0) (before after : Outs
       → Tells mid)
       → ((d : Image) → before.folder.reads d → IsOfBytes d → (entries : List ManifestEntry) (mutations : List Mutation) → OpensAs c.limits.shards entries mutations d
       → During (SameListed entries) before.folder mid)
-      → Serves c.clock Gives script before.taken after.taken limits tables shards last live journal mid faults n after.folder after.folder_faults reads pass why
+      → Serves c.clock Gives script before.taken after.taken limits tables shards frontiers last live journal mid faults n after.folder after.folder_faults reads pass why
       → (why ≡ cause.Write → WriteRose before after) → GoodOrMem why
-  ends_well script limits tables shards last live journal mid faults None why read started kept n counted stay telling opening serves write = inr serves
-  ends_well script limits tables shards last live journal mid faults (Some list) why read started kept n counted stay telling opening serves write =
+  ends_well script limits tables shards frontiers last live journal mid faults None why read started kept n counted stay telling opening serves write = inr serves
+  ends_well script limits tables shards frontiers last live journal mid faults (Some list) why read started kept n counted stay telling opening serves write =
       ran_well script list why read
-      (ran_over words Gives before after c script limits tables shards last live journal mid faults reads why said read started kept n counted stay telling opening list serves) write
+      (ran_over words Gives before after c script limits tables shards frontiers last live journal mid faults reads why said read started kept n counted stay telling opening list serves) write
 
   readable : (name : Name) (at : ℕ) → IsUnreadable c.limits.shards before.folder name at well.image → ⊥
   readable name at (inl refused) = opens_not_bad well.image well.of_bytes c.limits.shards well.entries well.mutations opens name at refused

@@ -122,6 +122,16 @@ kept (Some xs) (Some ys) (Some zs) bytes a k = k ∙ a
 pub tells_on : (step : Image → Image → Type 0) (d e : Disk) → During step d e → Tells d → Tells e
 tells_on step d e call (c, reads) = call.tells c reads
 
+-- one history after another
+pub on_from : (h k l : History) (s t u : State) (d e f : Disk) → GoesOnTo h k s t d e → GoesOnTo k l t u e f → GoesOnTo h l s u d f
+on_from h k l s t u d e f one two = record {
+  stands = two.stands;
+  lasts = λ found told lasts.
+      let (now, so, explains) = one.lasts found told lasts in
+      let (later, still, more) = two.lasts found now so in
+      (later, still, λ openings explained. more openings (explains openings explained));
+}
+
 -- the lines up to a place were run one after another, and their replies are written
 pub record SoFar (kind : ClockKind) (Gives : ℤ → Type 0) (first : History) (script rest : List ℕ) (old new : Option (List ℕ)) (now : History) (why : Cause) : Type 0 where
   pub run : List (List ℕ)
@@ -304,15 +314,6 @@ module _ (kind : ClockKind) (Gives : ℤ → Type 0) where
       let (later, still, explains) = goes.lasts found was lasts in
       inl (tells told, (l, found, later, goes.stands, still))
   known_next s t d e script rest after line out now why so cut tells h k far (inr none) = inr (none_next h k script rest after line out now why far cut none)
-
-  pub on_from : (h k l : History) (s t u : State) (d e f : Disk) → GoesOnTo h k s t d e → GoesOnTo k l t u e f → GoesOnTo h l s u d f
-  on_from h k l s t u d e f one two = record {
-    stands = two.stands;
-    lasts = λ found told lasts.
-        let (now, so, explains) = one.lasts found told lasts in
-        let (later, still, more) = two.lasts found now so in
-        (later, still, λ openings explained. more openings (explains openings explained));
-  }
 
   -- so far the manifest lists the same table files, and so it does through one turn more
   pub lists_more : (s t : State) (d e f : Disk) (script rest after line : List ℕ) (out now : Option (List ℕ)) (why : Cause) → AllSoFar s t d e script rest out now why

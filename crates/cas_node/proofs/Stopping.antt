@@ -26,13 +26,14 @@ use Rattle.cas_terms.specs.Columns.{table_named}
 use Rattle.cas_view.specs.Views.{File}
 use Rattle.cas_sessions.specs.declared.answer.Fault.{Fault}
 use Rattle.cas_sessions.specs.declared.answer.Fault.TheVariants as fault
+use Rattle.cas_sessions.specs.Dropping.{DropsSegments, EndsAfter}
 use Rattle.cas_sessions.specs.Flushes.{EndsSo, Flushed, FlushesNamed, FlushesTable, Grows, WhyNoFurther, change_of, changes_by, without_begun, without_flushed}
 use Rattle.cas_sessions.specs.Filling.{EndsIn, FlushesIn}
 use Rattle.cas_sessions.specs.History.{History, DiskState, Takes, Defines, Does, Stays, Stops, shard_at}
 use Rattle.cas_sessions.specs.Verifying.{VerifiesNamed}
 use Rattle.cas_node.specs.declared.upshot.Upshot.{Upshot}
-use Rattle.cas_node.specs.Lines.{Answered, Answers, Runs, SetsClock}
-use Rattle.cas_node.proofs.Settling.{behind}
+use Rattle.cas_node.specs.Lines.{Answered, Answers, Runs, SetsClock, lists_any}
+use Rattle.cas_node.proofs.Settling.{behind, then_dropped}
 
 -- ---- table files
 
@@ -219,6 +220,25 @@ one_counts h after t n r a =
       files = more_in t n (shard_at h n) a.change r h.disk a.disk a.ends;
     })
 
+-- segments are dropped
+ends_dropped : (count : ℕ) (r : Result ℕ Fault) (d e : DiskState) → EndsAfter count r d e → d.stopped ≡ false → (e.stopped ≡ false) ⊎ Rose d.faults e.faults
+ends_dropped count (Ok told) d e ends on = inl ends.2
+ends_dropped count (Err (fault.Refused why)) d e ends on = inl ends.1
+ends_dropped count (Err (fault.Stopped first)) d e ends on = absurd (true≢false (sym ends.0 ∙ on))
+ends_dropped count (Err (fault.Disk None)) d e ends on = inr ends.1
+ends_dropped count (Err (fault.Disk (Some number))) d e ends on = absurd ends
+ends_dropped count (Err fault.Read) d e ends on = absurd ends
+ends_dropped count (Err (fault.BadBlock number at)) d e ends on = absurd ends
+ends_dropped count (Err fault.Mem) d e ends on = inl ends
+
+drop_counts : (h after : History) (r : Result ℕ Fault) → DropsSegments h r after → Counts h.disk after.disk
+drop_counts h after r a =
+    at_disk h after a.disk (ap (λ (k : History). k.disk) a.follows)
+    (record { faults = a.drops.faults; stops = ends_dropped a.count r h.disk a.disk a.ends; files = no_more h.disk.files a.disk.files a.drops.files.0 })
+
+more_dropped : (h k after : History) (r : Result ℕ Fault) → Counts h.disk k.disk → DropsSegments k r after → Counts h.disk after.disk
+more_dropped h k after r so drops = then_on h.disk k.disk after.disk so (drop_counts k after r drops)
+
 -- ---- a check
 
 verified_counts : (h : History) (o : Option TableSchema) (r : Result (List Verdict) Fault) (t : History) → VerifiesNamed h o r t → Counts h.disk t.disk
@@ -243,13 +263,14 @@ module _ (kind : ClockKind) (Gives : ℤ → Type 0) where
       clock_set : (k : ClockKind) (h : History) (n : ℤ) (r : Reply) (t : History) → SetsClock k h n r t → Counts h.disk t.disk
       clock_set clock.Manual h n r t s = at_disk h t h.disk (ap (λ (k : History). k.disk) s.1) (still h.disk)
       clock_set clock.System h n r t s = unchanged h t s.1
-  answered h (line.Flush name) r t a = named_counts h (table_named h.tables name) a.0 t a.2
+  answered h (line.Flush name) r t a =
+      then_dropped (λ (k j : History). Counts k.disk j.disk) more_dropped (lists_any a.0) r.want h a.1 t (named_counts h (table_named h.tables name) a.0 a.1 a.3) a.4
   answered h (line.Verify name) r t a = verified_counts h (table_named h.tables name) a.0 t a.2
   answered h line.Status r t a = unchanged h t a.1
   answered h (line.Statement s) r t a =
       let b = meaning h.limits.shards h.tables s in
       then_on h.disk a.1.disk t.disk (deed h b a.0 a.1 a.3)
-      (behind (λ (k j : History). Counts k.disk j.disk) unchanged one_counts b a.0 r.want a.1 t a.4)
+      (behind (λ (k j : History). Counts k.disk j.disk) unchanged one_counts more_dropped b a.0 r.want a.1 t a.4)
 
   pub one_line : (h : History) (text : List ℕ) (r : Upshot) (t : History) → Answers kind Gives h text r t → Counts h.disk t.disk
   one_line h text r t (inl x) = unchanged h t x.1

@@ -23,13 +23,14 @@ use Rattle.cas_node.specs.declared.upshot.Upshot.{Upshot}
 use Rattle.cas_sessions.specs.declared.answer.Fault.{Fault}
 use Rattle.cas_sessions.specs.declared.answer.Fault.TheVariants.{Mem}
 use Rattle.cas_sessions.specs.Calls.{reply_of}
+use Rattle.cas_sessions.specs.Dropping.{DropsSegments}
 use Rattle.cas_sessions.specs.Filling.{Settles, is_full}
 use Rattle.cas_sessions.specs.Flushes.{Flushes}
 use Rattle.cas_sessions.specs.History.{History, Does, tells_want}
 use Rattle.cas_sessions.specs.Status.{status}
 use Rattle.cas_sessions.specs.Verifying.{Verifies}
 
--- what comes of a line that flushes no memtable by itself: its reply, if there is one
+-- what comes of a line where memory didn't run out for what it doesn't tell: its reply, if there is one
 abbrev pub replied : Option Reply → Upshot
 replied r = record { reply = r; want = false }
 
@@ -38,7 +39,7 @@ abbrev pub says_want : Option Reply → Bool
 says_want None = false
 says_want (Some r) = tells_want r
 
--- memory ran out for the line, or for a flush behind it
+-- memory ran out for the line, or for a flush behind it, or for dropping segments behind one
 abbrev pub is_starved : Upshot → Bool
 is_starved o = says_want o.reply || o.want
 
@@ -57,18 +58,47 @@ abbrev pub reply_of_verify : Result (List Verdict) Fault → Reply
 reply_of_verify (Ok verdicts) = reply.Verified verdicts
 reply_of_verify (Err f) = reply_of (Err f)
 
--- ---- a statement
+-- ---- a flush
 
--- memory ran out for the flush
-abbrev pub is_want : Result (Option ℕ) Fault → Bool
+-- memory ran out for it
+abbrev pub is_want : {T : Type 0} → Result T Fault → Bool
 is_want (Err Mem) = true
 is_want r = false
 
+-- Where a flush listed a file, segments of the log are dropped behind it that no table needs any more; otherwise nothing is done. What comes of that isn't
+-- printed, but that memory ran out for it counts.
+abbrev pub DropsBehind : Bool → Bool → History → History → Type 0
+DropsBehind false want h after = (want ≡ false) × (after ≡ h)
+DropsBehind true want h after = (told : Result ℕ Fault) × (want ≡ is_want told) × DropsSegments h told after
+
+-- a flush of a table listed a file
+abbrev pub lists_any : Result (List ℕ) Fault → Bool
+lists_any (Ok (number ∷ numbers)) = true
+lists_any r = false
+
+-- a flush of one memtable did
+abbrev pub lists_one : Result (Option ℕ) Fault → Bool
+lists_one (Ok (Some number)) = true
+lists_one r = false
+
+-- this comes of a line that flushes the table of that name, behind which segments are dropped
+abbrev pub FlushesAndDrops : History → TableName → Upshot → History → Type 0
+FlushesAndDrops h t o after =
+    (told : Result (List ℕ) Fault) × (between : History) × (o.reply ≡ Some (reply_of_flush told)) × Flushes h t told between
+    × DropsBehind (lists_any told) o.want between after
+
+-- The memtable of the table in that shard is flushed, if it is full, and segments are dropped behind that. Memory may have run out for one of the two.
+abbrev pub SettlesAndDrops : ℕ → ℕ → Bool → History → History → Type 0
+SettlesAndDrops shard table want h after =
+    (told : Result (Option ℕ) Fault) × (between : History) × (starved : Bool) × (want ≡ is_want told || starved) × Settles h shard table told between
+    × DropsBehind (lists_one told) starved between after
+
+-- ---- a statement
+
 -- Behind a statement that is to do this and was answered so, the memtable of its table in its shard is flushed, if a mutation was accepted and it is full.
--- What comes of the flush isn't printed.
+-- What comes of that isn't printed.
 abbrev pub SettlesBehind : Result Bound Refusal → Reply → Bool → History → History → Type 0
-SettlesBehind (Ok (bound.Write w)) (reply.Wrote number) want between after =
-    (told : Result (Option ℕ) Fault) × (want ≡ is_want told) × Settles between w.shard w.table told after
+SettlesBehind (Ok (bound.Write w)) (reply.Wrote number) want between after = SettlesAndDrops w.shard w.table want between after
 SettlesBehind b r want between after = (want ≡ false) × (after ≡ between)
 
 -- a statement that is to do this, or is refused for this, is answered so, and that flush comes behind
@@ -83,7 +113,7 @@ abbrev pub Answered : ClockKind → (ℤ → Type 0) → History → Line → Up
 Answered kind Gives h line.Blank o after = (o ≡ replied None) × (after ≡ h)
 Answered kind Gives h line.Syntax o after = (o ≡ replied (Some (reply.Refused SYNTAX))) × (after ≡ h)
 Answered kind Gives h (line.Clock n) o after = (answer : Reply) × (o ≡ replied (Some answer)) × SetsClock kind h n answer after
-Answered kind Gives h (line.Flush t) o after = (result : Result (List ℕ) Fault) × (o ≡ replied (Some (reply_of_flush result))) × Flushes h t result after
+Answered kind Gives h (line.Flush t) o after = FlushesAndDrops h t o after
 Answered kind Gives h (line.Verify t) o after =
     (result : Result (List Verdict) Fault) × (o ≡ replied (Some (reply_of_verify result))) × Verifies h t result after
 Answered kind Gives h line.Status o after = (o ≡ replied (Some (reply.Status (status h)))) × (after ≡ h)

@@ -98,8 +98,8 @@ reply_cause (Some (reply.Failed f)) = failure_cause f
 reply_cause (Some (reply.Verified verdicts)) = verdicts_cause verdicts
 reply_cause _ = cause.Good
 
--- what came of a line says this: its reply does, or memory ran out for a flush behind it. That such a flush failed for the disk or a read, the counts tell; and
--- that it was one too many counts for nothing.
+-- what came of a line says this: its reply does, or memory ran out for a flush behind it, or for dropping segments behind one. That these failed for the disk or a
+-- read, the counts tell; and that there was too much of something counts for nothing.
 abbrev pub upshot_cause : Upshot → Cause
 upshot_cause o = if o.want then worse (reply_cause o.reply) cause.Mem else reply_cause o.reply
 

@@ -149,7 +149,7 @@ fn serve<K: Sink, F: Folder, J: Store, C: Clock>(
 ) -> Outcome<F>
     requires table { opened.table.seat.table_id ≡ J.table }
     ensures served { Serves ask.now.kind (C.may_give ask.now.clock.now) script.now (K.took sink.old) (K.took sink.new)
-        opened.started.limits opened.started.tables.items opened.started.shards.items opened.started.last_file
+        opened.started.limits opened.started.tables.items opened.started.shards.items opened.started.frontiers.items opened.started.last_file
         opened.started.live opened.started.journal (F.disk opened.folder) (F.faults_of opened.folder) faults (F.disk result.folder)
         (F.faults_of result.folder) (⟦<F::Tally as Count>⟧.number result.tally) result.pass result.cause }
     ensures tables { During (SameUpTo opened.started.last_file) (F.disk opened.folder) (F.disk result.folder) }

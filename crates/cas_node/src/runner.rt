@@ -1,13 +1,12 @@
 //! What each line of a script does with an open store.
 
-ghost use Rattle.std.specs.Prelude.{◌≡◌, ◌⊎◌, ◌<◌, ℕ, IfSome, length, List as ListOf, Result as ResultOf};
+ghost use Rattle.std.specs.Prelude.{◌≡◌, ◌⊎◌, ◌<◌, ◌||◌, IfSome, false, length, List as ListOf, Ok as OkOf, Result as ResultOf};
 ghost use Rattle.cas_types.specs.Limits.{IsMoment};
 ghost use Rattle.cas_disk.specs.Disk.{Disk, During};
 ghost use Rattle.cas_lines.specs.Lines.{Says};
 ghost use Rattle.cas_node.specs.Inner.Serving.{HasRoomFor, KeepsCounts, Knows, ListsIf, MovesIf, PerformsRoomily, PerformsSo, SettledFor, place_of};
-ghost use Rattle.cas_node.specs.Lines.{Answers, FlushesNone, SetsClock, is_want, reply_of_flush, reply_of_verify};
+ghost use Rattle.cas_node.specs.Lines.{Answers, DropsBehind, FlushesAndDrops, FlushesNone, SetsClock, is_want, lists_any, lists_one, reply_of_verify};
 ghost use Rattle.cas_sessions.specs.Calls.{IsSpelled};
-ghost use Rattle.cas_sessions.specs.Flushes.{Flushes};
 ghost use Rattle.cas_sessions.specs.declared.answer.Fault.{Fault as FaultOf};
 ghost use Rattle.cas_sessions.specs.Listing.{KeepsListing, SameUpTo};
 ghost use Rattle.cas_sessions.specs.Nodes.{CountsOn, IsFew, Moves, OrWant, StandsFor, State};
@@ -40,14 +39,39 @@ fn place_of(answer: &Result<Answer, Fault>) -> Option<(u16, u8)>
     }
 }
 
-// Whether memory ran out for a flush.
-fn is_want(told: &Result<Option<u64>, Fault>) -> bool
+// Whether memory ran out for a call.
+fn is_want<T>(told: &Result<T, Fault>) -> bool
     ensures { result ≡ is_want told.now }
 {
     match told {
         Err(Fault::Mem) => true,
         _ => false,
     }
+}
+
+// Whether a flush of a memtable listed a file.
+fn lists_one(told: &Result<Option<u64>, Fault>) -> bool
+    ensures { result ≡ lists_one told.now }
+{
+    match told {
+        Ok(Some(_)) => true,
+        _ => false,
+    }
+}
+
+// Whether a flush of a table that gave these numbers listed a file.
+#[tactic(auto, using(crate::proofs::Answered::listed_any))]
+fn lists_any(numbers: &[u64]) -> bool
+    ensures { result ≡ lists_any (OkOf numbers.now) }
+{
+    !numbers.is_empty()
+}
+
+// Whether memory ran out for one of the two.
+fn either(one: bool, other: bool) -> bool
+    ensures { result ≡ one || other }
+{
+    one || other
 }
 
 /// What contracts see of a runner.
@@ -94,10 +118,27 @@ impl<F: Folder, J: Store> Runner<F, J> {
         }
     }
 
-    // Flushes a table, and says which files that made.
-    fn flush(&mut self, alloc: Global, name: &TableName) -> Reply
+    // Drops segments behind a flush that listed a file, and says whether memory ran out for that.
+    fn drop_behind(&mut self, alloc: Global, listed: bool) -> bool
+        ensures drops { Moves (λ h after. DropsBehind listed result h after)
+            (⟦<Runner<F, J> as Running>⟧.state self.old) (⟦<Runner<F, J> as Running>⟧.state self.new)
+            (⟦<Runner<F, J> as Running>⟧.disk self.old) (⟦<Runner<F, J> as Running>⟧.disk self.new) }
+        ensures idle { listed ≡ false → self.new ≡ self.old }
+        ensures tables { During (SameUpTo (⟦<Runner<F, J> as Running>⟧.state self.old).last_file)
+            (⟦<Runner<F, J> as Running>⟧.disk self.old) (⟦<Runner<F, J> as Running>⟧.disk self.new) }
+        ensures counts { KeepsCounts (⟦<Runner<F, J> as Running>⟧.state self.old) (⟦<Runner<F, J> as Running>⟧.state self.new) }
+    {
+        if !listed {
+            return false;
+        }
+        let told = self.node.drop_segments(alloc, &mut self.session);
+        is_want(&told)
+    }
+
+    // Flushes a table, says which files that made, and drops segments behind them.
+    fn flush(&mut self, alloc: Global, name: &TableName) -> Upshot
         ensures flushes { Knows (⟦<Runner<F, J> as Running>⟧.state self.old) (⟦<Runner<F, J> as Running>⟧.disk self.old)
-            → Moves (λ h after. (told : ResultOf (ListOf ℕ) FaultOf) × (result ≡ reply_of_flush told) × Flushes h name.now told after)
+            → Moves (λ h after. FlushesAndDrops h name.now result after)
             (⟦<Runner<F, J> as Running>⟧.state self.old) (⟦<Runner<F, J> as Running>⟧.state self.new)
             (⟦<Runner<F, J> as Running>⟧.disk self.old) (⟦<Runner<F, J> as Running>⟧.disk self.new) }
         ensures tables { During (SameUpTo (⟦<Runner<F, J> as Running>⟧.state self.old).last_file)
@@ -105,10 +146,16 @@ impl<F: Folder, J: Store> Runner<F, J> {
         ensures counts { CountsOn (⟦<Runner<F, J> as Running>⟧.state self.old) (⟦<Runner<F, J> as Running>⟧.state self.new) }
     {
         match self.node.flush(alloc, &mut self.session, name) {
-            Ok(numbers) => Reply::Flushed {
-                files: List::from_vec(numbers),
-            },
-            Err(fault) => reply_of(Err(fault)),
+            Ok(numbers) => {
+                let want = self.drop_behind(alloc, lists_any(&numbers));
+                Upshot {
+                    reply: Some(Reply::Flushed {
+                        files: List::from_vec(numbers),
+                    }),
+                    want,
+                }
+            }
+            Err(fault) => replied(Some(reply_of(Err(fault)))),
         }
     }
 
@@ -140,8 +187,8 @@ impl<F: Folder, J: Store> Runner<F, J> {
         }
     }
 
-    // Flushes the memtable of a table in a shard that a mutation was written to, if there was one and it is full now, and says
-    // whether memory ran out for that.
+    // Flushes the memtable of a table in a shard that a mutation was written to, if there was one and it is full now, and drops
+    // segments behind that: says whether memory ran out for one of the two.
     fn settle(&mut self, alloc: Global, place: Option<(u16, u8)>) -> bool
         requires within { IfSome place (λ p. (p.0 < length (⟦<Runner<F, J> as Running>⟧.state self.old).tables)
             × (p.1 < (⟦<Runner<F, J> as Running>⟧.state self.old).limits.shards)) }
@@ -158,7 +205,8 @@ impl<F: Folder, J: Store> Runner<F, J> {
         match place {
             Some((table, shard)) => {
                 let told = self.node.flush_full(alloc, &mut self.session, table, shard);
-                is_want(&told)
+                let starved = self.drop_behind(alloc, lists_one(&told));
+                either(is_want(&told), starved)
             }
             None => false,
         }
@@ -220,7 +268,7 @@ impl<F: Folder, J: Store> Runner<F, J> {
             Line::Blank => replied(None),
             Line::Syntax => replied(Some(Reply::Refused(SYNTAX))),
             Line::Clock(seconds) => replied(Some(self.set_clock(ask.kind, seconds))),
-            Line::Flush(name) => replied(Some(self.flush(alloc, &name))),
+            Line::Flush(name) => self.flush(alloc, &name),
             Line::Verify(name) => replied(Some(self.verify(alloc, &name))),
             Line::Status => replied(Some(self.status(alloc))),
             Line::Statement(statement) => self.perform(alloc, ask, &statement),

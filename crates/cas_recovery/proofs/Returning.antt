@@ -14,7 +14,7 @@ use Rattle.cas_bind.specs.Tables.{AreTables}
 use Rattle.cas_bind.specs.declared.bound.Limits.{Limits}
 use Rattle.cas_changes.specs.declared.entry.Entry.{Entry}
 use Rattle.cas_changes.specs.declared.said.Part.{Part}
-use Rattle.cas_changes.specs.Saying.{Saying, no_part, part_of, said_by}
+use Rattle.cas_changes.specs.Saying.{Saying, frontiers_in, no_part, part_of, said_by}
 use Rattle.cas_index.specs.Searches.{IsSliceOf}
 use Rattle.cas_manifest.specs.Loading.{first_entries}
 use Rattle.cas_journal.specs.Stores.{IsStore, Told}
@@ -134,6 +134,9 @@ module _ (entries : List Entry) (mutations handed : List Mutation) (o : OpenStor
   numbers_said : o.said.numbers ≡ s.numbers
   numbers_said = let (segments, last, is) = said_is in ap (λ (q : Saying). q.numbers) is
 
+  parts_said : o.said.parts ≡ s.parts
+  parts_said = let (segments, last, is) = said_is in ap (λ (q : Saying). q.parts) is
+
   listed_said : o.said.listed ≡ s.listed
   listed_said = let (segments, last, is) = said_is in ap (λ (q : Saying). q.listed) is
 
@@ -223,12 +226,12 @@ module _ (entries : List Entry) (mutations handed : List Mutation) (o : OpenStor
       let free : files_at b ≡ [] = none_mapped (λ f. f.info) (files_at b) (taken.infos ∙ ap (λ (p : Part). p.listed) part) in
       taken.holds (clustering_order t.columns) [] log empty (subst (λ fs. HoldEach (clustering_order t.columns) fs [] []) (sym free) tt) holds
 
-  pub recovered : (given limits : Limits) (tables : List TableSchema) (shards : List ShardState) (last live : ℕ) (journal : Journal) (old mid new : Disk)
+  pub recovered : (given limits : Limits) (tables : List TableSchema) (shards : List ShardState) (frontiers : List ℕ) (last live : ℕ) (journal : Journal) (old mid new : Disk)
       → IsBroughtBack given handed o.said mid limits tables shards → ((c : Image) → old.reads c → IsOfBytes c → OpensAs given.shards entries mutations c)
       → ((c : Image) → old.reads c → IsOfBytes c → IsStore entries mutations c → During (MayBeOpened entries mutations) old mid) → journal ≡ o.journal
       → ((c : Image) → old.reads c → IsOfBytes c → (t : Told) × IsTold entries mutations t × Lasts o.journal mid t) → During Same mid new
-      → last ≡ greatest_of o.said.numbers → live ≡ o.said.listed → IsRecovered given limits tables shards last live journal old new
-  recovered given limits tables shards last live journal old mid new back opens stays same lasts loading last_is live_is = record {
+      → last ≡ greatest_of o.said.numbers → live ≡ o.said.listed → frontiers ≡ frontiers_in o.said → IsRecovered given limits tables shards frontiers last live journal old new
+  recovered given limits tables shards frontiers last live journal old mid new back opens stays same lasts loading last_is live_is frontiers_are = record {
     entries = entries;
     mutations = mutations;
     found = record { of_a_store = record { made = read.made; follow = read.follow; shards = read.shards; log = read.log }; told = opens };
@@ -243,6 +246,7 @@ module _ (entries : List Entry) (mutations handed : List Mutation) (o : OpenStor
         (omega (arith, get_within shards n x there, back.count, shards_said)) table t (said_there table t is) (files_at (slice_get x.stores table)) (one_taken n x there table t is).loaded;
     no_more = no_more given limits tables shards mid back;
     memory = remembered given limits tables shards mid back;
+    frontiers_are = frontiers_are ∙ ap (λ (parts : List Part). map (λ (p : Part). p.frontier) parts) parts_said;
     last_is = last_is ∙ ap greatest_of numbers_said;
     behind = behind_all given limits tables shards mid last live back (last_is ∙ ap greatest_of numbers_said) (live_is ∙ listed_said);
     segment = subst (λ (j : Journal). j.last_segment ≤ next_segment entries) (sym same) read.last;

@@ -10,7 +10,7 @@ use Rattle.cas_laws.specs.Given.{Has}
 use Rattle.cas_info.specs.declared.info.TableInfo.{TableInfo}
 use Rattle.cas_bind.specs.Tables.{AreTables}
 use Rattle.cas_bind.specs.declared.bound.Limits.{Limits}
-use Rattle.cas_changes.specs.Saying.{part_of, said_by}
+use Rattle.cas_changes.specs.Saying.{frontiers_in, part_of, said_by}
 use Rattle.cas_changes.specs.declared.entry.Entry.{Entry as ManifestEntry}
 use Rattle.cas_journal.specs.Stores.{Told}
 use Rattle.cas_journal.specs.Journals.{Lasts}
@@ -30,9 +30,9 @@ use Rattle.cas_recovery.specs.declared.filling.TheConstants.{VERSION_PLACE}
 -- The store of a folder was read back: its limits and tables are what the manifest's entries say, each shard stands for whatever it may have been before,
 -- its tables have the files that are listed, in memory are just the log's mutations above the frontiers, and its journal goes on behind the log's, which
 -- last. The memtables that are written to have the bytes of these mutations. The last number of a table file is the greatest under which one was ever
--- listed, and so many are live as are listed.
-pub record IsRecovered (given limits : Limits) (tables : List TableSchema) (shards : List ShardState) (last live : ℕ) (journal : Journal)
-    (old new : Disk) : Type 0 where
+-- listed, and so many are live as are listed; the frontiers are those that the entries tell.
+pub record IsRecovered (given limits : Limits) (tables : List TableSchema) (shards : List ShardState) (frontiers : List ℕ) (last live : ℕ)
+    (journal : Journal) (old new : Disk) : Type 0 where
   pub entries : List ManifestEntry
   pub mutations : List Mutation
   pub found : IsFound given.shards old entries mutations
@@ -48,6 +48,7 @@ pub record IsRecovered (given limits : Limits) (tables : List TableSchema) (shar
       → (d : Image) × old.may_leave d × AreLoaded t n d (part_of (said_by entries) table n).listed (files_at (slice_get x.stores table))
   pub no_more : HaveNoMore tables shards
   pub memory : RememberAll tables (unflushed_of (said_by entries) mutations) shards
+  pub frontiers_are : frontiers ≡ frontiers_in (said_by entries)
   pub last_is : last ≡ greatest_of (said_by entries).numbers
   pub behind : IsBehind (said_by entries) shards last live
   pub segment : journal.last_segment ≤ next_segment entries

@@ -23,13 +23,15 @@ const SHARDS: usize = 256;
 /// The last drawn timestamp of a shard that drew none.
 pub(crate) const NONE_DRAWN: i64 = -2;
 
-/// A store that was opened: its limits, tables and shards in memory, the greatest number that the manifest ever listed
-/// a table file under, 0 before the first, how many it lists, and its journal.
+/// A store that was opened: its limits, tables and shards in memory, the frontiers of each table in each shard, table by
+/// table, the greatest number that the manifest ever listed a table file under, 0 before the first, how many it lists,
+/// and its journal.
 #[derive(Drop)]
 pub struct Started<S: Sealed> {
     pub limits: Limits,
     pub tables: Vec<TableSchema>,
     pub shards: Vec<Shard<S>>,
+    pub frontiers: Vec<u64>,
     pub last_file: u64,
     pub live: u64,
     pub journal: Journal,

@@ -6,6 +6,7 @@ ghost use Rattle.cas_types.specs.Limits.{IsShardCount};
 ghost use Rattle.cas_disk.specs.Counts.{Counted};
 ghost use Rattle.cas_disk.specs.Disk.{Disk, Image, During, Same};
 ghost use Rattle.cas_atoms.specs.declared.atom.Mutation.{Mutation as MutationOf};
+ghost use Rattle.cas_changes.specs.Saying.{frontiers_in};
 ghost use Rattle.cas_changes.specs.declared.entry.Entry.{Entry as EntryOf};
 ghost use Rattle.cas_log.specs.Segment.{IsSize};
 ghost use Rattle.cas_manifest.specs.Loading.{IsNew};
@@ -40,7 +41,8 @@ fn brought_back<F: Folder>(
     ensures back { (given : List MutationOf) → HasRestored given restoring.shards
         → IfOk result (λ s. IsBroughtBack limits.now given opened.said (F.disk folder.old) s.limits s.tables.items s.shards.items) }
     ensures journal { IfOk result (λ s. s.journal ≡ opened.journal) }
-    ensures files { IfOk result (λ s. (s.last_file ≡ greatest_of opened.said.numbers) × (s.live ≡ opened.said.listed)) }
+    ensures files { IfOk result (λ s. (s.last_file ≡ greatest_of opened.said.numbers) × (s.live ≡ opened.said.listed)
+        × (s.frontiers.items ≡ frontiers_in opened.said)) }
     ensures bad { IfErr result (λ f. (c : Image) → (F.disk folder.old).reads c → IsBadOfShard opened.said c f) }
     ensures during { During Same (F.disk folder.old) (F.disk folder.new) }
     ensures count { Counted (F.faults_of folder.old) (F.faults_of folder.new) (IsErrOf result RecoveryFault.Failed) }
@@ -48,6 +50,7 @@ fn brought_back<F: Folder>(
 {
     let OpenStore { journal, said } = opened;
     let tables = copied(alloc, said.tables())?;
+    let frontiers = said.frontiers(alloc)?;
     let mut shards = restored(restoring, said.shards())?;
     if let Err(fault) = fill_shards(alloc, folder, &said, &mut shards, tally) {
         return Err(fault);
@@ -56,6 +59,7 @@ fn brought_back<F: Folder>(
         limits: with_shards(limits, said.shards()),
         tables,
         shards,
+        frontiers,
         last_file: greatest_of(said.numbers()),
         live: said.listed_count(),
         journal,
@@ -72,8 +76,8 @@ pub fn recover<F: Folder>(
 ) -> Result<Started<F::Sealed>, RecoveryFault>
     requires shards { IsShardCount limits.now.shards }
     requires size { IsSize limits.now.segment }
-    ensures recovered { IfOk result (λ s. IsRecovered limits.now s.limits s.tables.items s.shards.items s.last_file s.live s.journal
-        (F.disk folder.old) (F.disk folder.new)) }
+    ensures recovered { IfOk result (λ s. IsRecovered limits.now s.limits s.tables.items s.shards.items s.frontiers.items s.last_file
+        s.live s.journal (F.disk folder.old) (F.disk folder.new)) }
     ensures readable { IfOk result (λ s. MayBeRead s.tables.items s.shards.items) }
     ensures runs { IfOk result (λ s. (s.journal.first ≡ None) × (s.journal.size ≡ limits.now.segment) × AreFree s.journal (F.disk folder.new)) }
     ensures refused { (name : _) (at : ℕ) → IsErrOf result (RecoveryFault.Bad name at) → (c : Image) → (F.disk folder.old).reads c → IsOfBytes c

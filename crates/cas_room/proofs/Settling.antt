@@ -1,14 +1,16 @@
 -- A commit, and an entry that is told behind it.
-use Rattle.std.proofs.Common.{◌≡◌, ◌⊎◌, ◌∙◌, inl, inr, ⊎_elim, ℕ, ◌≤◌, List, [], ◌∷◌, length, Some, Result, Ok, Err, refl, arith}
+use Rattle.std.proofs.Common.{◌≡◌, ◌⊎◌, ◌∙◌, inl, inr, ⊎_elim, ℕ, ◌≤◌, List, [], ◌∷◌, length, Some, Result, Ok, Err, refl, sym, subst, arith}
 use Rattle.std.specs.Prelude.{MatchResult}
 use Rattle.cas_disk.specs.declared.name.Name.TheVariants.{Table as table_name}
 use Rattle.cas_disk.specs.Disk.{Image, Disk, During, IsKept}
 use Rattle.cas_disk.proofs.Moments.{reworded, leaves_either, one_call_more}
 use Rattle.cas_atoms.specs.declared.atom.Mutation.{Mutation}
+use Rattle.cas_changes.specs.declared.entry.Change.{Change}
 use Rattle.cas_changes.specs.declared.entry.Entry.{Entry}
+use Rattle.cas_changes.specs.declared.entry.Entry.TheVariants as entry
 use Rattle.cas_history.specs.declared.item.Item.{Item}
 use Rattle.cas_journal.specs.Stores.{Told, Holds, SameTables, appended, committed_all, failed_at}
-use Rattle.cas_journal.specs.Ends.{told_after}
+use Rattle.cas_journal.specs.Ends.{IsTold, told_after}
 use Rattle.cas_journal.specs.declared.fault.JournalFault.{JournalFault}
 use Rattle.cas_journal.specs.declared.journal.Journal.{Journal}
 use Rattle.cas_journal.proofs.Moving.{still_so}
@@ -38,6 +40,10 @@ pub told_keeps : (k : Journal) (disk : Disk) (list : List (Item Event)) (said : 
     → MatchResult r (λ _. Keeps k disk list said found (appended e (committed_all t))) (λ f. (u : Told) × MayBeTold f e t u × Keeps k disk list said found u)
 told_keeps k disk list said found t e (Ok x) keeps = keeps
 told_keeps k disk list said found t e (Err f) keeps = (told_after f e (committed_all t), inr refl, keeps)
+
+-- a change of table files is told
+pub told_change : (e : Entry) (c : Change) → e ≡ entry.Change c → IsTold e
+told_change e c is = subst IsTold (sym is) tt
 
 -- ---- the files of tables
 

@@ -2,3 +2,4 @@ pub mod Rooms
 pub mod Keeping
 pub mod Tables
 pub mod Changing
+pub mod Dropping

@@ -3,6 +3,7 @@
 #![tactic(auto)]
 
 mod changing;
+mod dropping;
 mod event;
 mod fault;
 mod room;

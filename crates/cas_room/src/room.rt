@@ -120,7 +120,7 @@ pub(crate) fn say<F: Folder, J: Store>(
 }
 
 // The room says what it knows of its disk, with so many mutations committed, and the session gets to know it.
-fn note<F: Folder, J: Store>(
+pub(crate) fn note<F: Folder, J: Store>(
     folder: &F,
     journal: &Journal,
     committed: u64,
@@ -239,7 +239,6 @@ impl<F: Folder, J: Store> Room<F, J> {
 
     /// Commits what was accepted: after Ok each mutation that the room accepted is in every image, and the
     /// session knows it.
-    #[tactic(auto, using(crate::proofs::Tables::commit_keeps))]
     pub fn commit(&mut self, session: &mut Session<Event, J>) -> Result<(), JournalFault>
         ensures kept { (found : List MutationOf) (t : Told)
             → Keeps self.old.journal (F.disk self.old.folder) (listed log_list self.old.log.pass.saw) self.old.faults.committed found t

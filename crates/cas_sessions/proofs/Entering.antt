@@ -207,7 +207,7 @@ module _ (s : State) (w : BoundWrite) (reading : ℤ) (x y : ShardState) (result
             told,
             lasts_still h after found s (prepared_only s w.shard y) d d told w.shard x y (omega (arith, quiet)) refl (there s w reading x y result asked) refl asked.number
                 (λ l el c ec keeps. subst (λ j. Keeps s.journal d l j found told) (sym ec) (subst (λ j. Keeps s.journal d j s.committed found told) (sym el) keeps))
-                refl refl refl refl refl (λ on. on) refl refl (files_still s.shards w.shard x y (there s w reading x y result asked) asked.files) lasts,
+                refl refl refl refl refl (λ on. on) refl refl (files_still s.shards w.shard x y (there s w reading x y result asked) asked.files) refl lasts,
             still_explained s w reading x y result asked h stands r [] (prepared_only s w.shard y) d d told refl (disk_of (prepared_only s w.shard y)) refl refl refl (keep_files_none told d)
                 (raised_further reading (shard_at h w.shard)) found,
           );
@@ -322,6 +322,7 @@ pub record NotTaken (s t : State) (d e : Disk) (n : ℕ) (y : ShardState) (m : M
   pub reads : t.reads ≡ s.reads
   pub last_file : t.last_file ≡ s.last_file
   pub live : t.live ≡ s.live
+  pub frontiers : t.frontiers ≡ s.frontiers
   pub during : During SameTables d e
 
 -- nothing was kept before, where nothing is kept now
@@ -401,7 +402,7 @@ module _ (s : State) (w : BoundWrite) (reading : ℤ) (x y : ShardState) (result
                     lasts_with_room h after found s t d e was got.0 w.shard x y (omega (arith, quiet f)) refl at left.shards asked.number got.1 got.2 left.list left.committed
                         left.tables left.limits left.accepted
                         (going_since f s.journal.first t.journal.first s.faults t.faults (record_length m) (s.journal.size / 2) left.ends short_for) left.last_file left.live
-                        (ap files_in left.shards ∙ files_still s.shards w.shard x y at asked.files) lasts,
+                        (ap files_in left.shards ∙ files_still s.shards w.shard x y at asked.files) left.frontiers lasts,
                     λ openings explained.
                         explains_named openings after found t e was got.0 got.1.numbers got.1.entries got.1.failed got.1.taken (λ i leaves. got.1.committed)
                         (still_explained s w reading x y result asked h stands (reply_for f) [] t d e was left.shards (disk_of t) left.tables (ap accepted_in left.list) refl
@@ -483,6 +484,7 @@ pub record Took (s t : State) (d e : Disk) (w : BoundWrite) (y yy z : ShardState
   pub reads : t.reads ≡ s.reads
   pub last_file : t.last_file ≡ s.last_file
   pub live : t.live ≡ s.live
+  pub frontiers : t.frontiers ≡ s.frontiers
   pub during : During SameTables d e
 
 module _ (s : State) (w : BoundWrite) (reading : ℤ) (x y : ShardState) (result : Result Mutation TakeFault) (asked : Asked s w reading x y result) (m : Mutation)
@@ -569,10 +571,10 @@ module _ (s : State) (w : BoundWrite) (reading : ℤ) (x y : ShardState) (result
           let below = lasts.behind.frontiers m.shard m.table x seat in
           lt-ltb (part_of (said_by was.entries) m.table m.shard).frontier m.number (omega (arith, below, next s w reading x y result asked m is prepared ready))
 
-      within_all : (i : Image) → d.may_leave i → was.committed ≤ length found + length (accepted_in s.list)
+      within_all : (i : Image) → d.may_leave i → was.committed ≤ length was.taken
       within_all i leaves =
           let holds = lasts.keeps.lasts.holds i leaves in
-          omega (arith, holds.least, holds.most, ap length lasts.keeps.all, length-append found (accepted_in s.list))
+          omega (arith, holds.least, holds.most)
 
       by_then : (b : Image) → d.may_leave b → ((u.committed ≤ v.committed) ⊎ (v.committed ≡ length v.taken)) → was.committed ≤ v.committed
       by_then b before (inl more) = omega (arith, made.committed, more)
@@ -639,8 +641,8 @@ module _ (s : State) (w : BoundWrite) (reading : ℤ) (x y : ShardState) (result
                 got.1,
                 lasts_taken h after found s t d e was got.0 got.1 m x z (subst (λ (k : ℕ). slice_get s.shards k ≡ Some x) (sym ready.shard) at_x)
                     (subst (λ (k : ℕ). t.shards ≡ slice_set s.shards k z) (sym ready.shard) shards_now) (next s w reading x y result asked m is prepared ready) left.number
-                    got.2 got.3 got.4 got.5 lasts s.session (s.calls + 1) left.list left.tables left.limits left.accepted left.few got.7
-                    (omega (arith, one)) (acked h after either refl) going left.last_file left.live same_files.0 refl,
+                    got.2 got.3 got.4 lasts s.session (s.calls + 1) left.list left.tables left.limits left.accepted left.few got.7
+                    (omega (arith, one)) (acked h after either refl) going left.last_file left.live same_files.0 left.frontiers refl,
                 explains h stands after refl both.1 found was got.1 lasts got.0 got.2 got.3 got.4 got.5 got.6 got.7,
               );
         },

@@ -4,7 +4,7 @@ use Rattle.std.specs.Prelude.{if◌then◌else◌, ◌≤ℤ◌, ℤ, Option, No
 use Rattle.std.specs.Int.{int_max}
 use Rattle.std.specs.List.{AllByRecursion, fold}
 use Rattle.std.proofs.lemmas.Int.{clamps, ints}
-use Rattle.std.proofs.lemmas.List.{take_all, take-append-drop, take-append-le}
+use Rattle.std.proofs.lemmas.List.{length-drop, take_all, take-append-drop, take-append-le}
 use Rattle.std.proofs.lemmas.List.Elements.{filter-append}
 use Rattle.std.proofs.lemmas.List.Sums.{fold-append}
 use Rattle.cas_types.specs.declared.schema.TableSchema.{TableSchema}
@@ -33,15 +33,20 @@ use Rattle.cas_recovery.specs.Openings.{IsOpening, unflushed_of}
 use Rattle.cas_recovery.specs.Restored.{RememberAll}
 use Rattle.cas_recovery.proofs.Places.{get_within, index_here, index_other, is_other, is_same, same_place}
 use Rattle.cas_recovery.proofs.Standing.{AreAlike, all_listed, own_file}
-use Rattle.cas_recovery.proofs.Within.{named_alone}
+use Rattle.cas_recovery.proofs.Within.{all_filtered, named_alone}
 use Rattle.cas_room.specs.Rooms.{accepted_in}
 use Rattle.cas_sessions.specs.Explained.{IsNotAhead, OpensIn, as_told, only, with_more}
 use Rattle.cas_sessions.specs.History.{History, after_entries, shard_at, with_shard}
 use Rattle.cas_sessions.specs.Listing.{ListsNone, SameUpTo}
-use Rattle.cas_sessions.specs.Nodes.{Explains, State}
+use Rattle.cas_sessions.specs.Nodes.{Explains, State, all_in}
 use Rattle.cas_sessions.proofs.Changed.{as_told_more, with_more_both}
 use Rattle.cas_sessions.proofs.Next.{Grows, grows_after, opening_wider, opening_with, opening_without, same_table, upto, wider_contents}
 use Rattle.cas_sessions.proofs.Numbered.{listed_low}
+use Rattle.cas_sessions.proofs.Dropped.{unflushed_behind}
+use Rattle.cas_room.specs.Keeping.{IsFlushed}
+use Rattle.cas_room.proofs.Flushed.{SaysAs as SaysAsOfRoom, as_dropped}
+use Rattle.cas_room.specs.Dropping.{Drops, FailedToDrop}
+use Rattle.cas_shard.specs.Stands.{ShardState}
 
 first_of : {A : Type 0} (P : A → Type 0) (xs ys : List A) → AllByRecursion P (xs ++ ys) → AllByRecursion P xs
 first_of P [] ys all = tt
@@ -198,6 +203,11 @@ GoesFurther q r = (o : ShardOpening) → IsNotAhead q o → IsNotAhead r o
 pub goes_nowhere : (q : ShardHistory) → GoesFurther q q
 goes_nowhere q o is = is
 
+-- all that was found and accepted is what it was
+all_again : (found : List Mutation) (s t : State) (said : Saying) (tables : List TableSchema) (shards : List ShardState) → accepted_in t.list ≡ accepted_in s.list
+    → RememberAll tables (unflushed_of said (all_in found s)) shards → RememberAll tables (unflushed_of said (all_in found t)) shards
+all_again found s t said tables shards list have = subst (λ ms. RememberAll tables (unflushed_of said (found ++ ms)) shards) (sym list) have
+
 pub explains_still : (openings : ℕ → ShardOpening) (h k : History) (found : List Mutation) (s t : State) (d e : Disk) (told : Told)
     → ((n : ℕ) → GoesFurther (shard_at h n) (shard_at k n)) → length k.shards ≡ length h.shards → accepted_in t.list ≡ accepted_in s.list → KeepFilesOf told d e
     → ((ms : List Mutation) → RememberAll s.tables ms s.shards → RememberAll t.tables ms t.shards) → Explains openings h found s d told → Explains openings k found t e told
@@ -207,11 +217,11 @@ explains_still openings h k found s t d e told further count list files memory w
       (further n (with_more n (accepted_in s.list) (openings n)) (was.behind n (subst (λ j. n < j) count low)));
   opens = λ i left entries may many least most n low.
       let (b, before, same) = files i left in
-      let one = was.opens b before entries may many least (subst (λ ms. many ≤ length ms) list most) n low in
+      let one = was.opens b before entries may many (omega (arith, least, ap length list)) (subst (λ ms. many ≤ length ms) list most) n low in
       subst (λ ms. OpensIn found (take many ms) entries i n (openings n)) (sym list)
       (opening_in (said_by entries) (found ++ take many (accepted_in s.list)) (only b) b i n
       (as_told (said_by entries) n (with_more n (take many (accepted_in s.list)) (openings n))) low (λ k. refl) (same entries may) one);
-  memory = memory (unflushed_of (said_by told.entries) told.taken) was.memory;
+  memory = memory (unflushed_of (said_by told.entries) (all_in found t)) (all_again found s t (said_by told.entries) s.tables s.shards list was.memory);
 }
 
 -- one shard goes further, and the others stay
@@ -268,22 +278,21 @@ pub explains_named : (openings : ℕ → ShardOpening) (h : History) (found : Li
     → Explains openings h found s d now
 explains_named openings h found s d told now numbers entries_are failed taken committed was = record {
   behind = was.behind;
-  opens = λ i left entries may many least most n low. by entries may i left many (omega (arith, least, committed i left)) most n low;
+  opens = λ i left entries may many least most n low. by entries may i left many (omega (arith, least, committed i left, ap length taken)) most n low;
   memory =
       subst (λ ms. RememberAll s.tables ms s.shards)
-      (sym (ap (λ es. unflushed_of (said_by es) now.taken) entries_are
-      ∙ unflushed_alike (said_by told.entries) (said_by (told.entries ++ named numbers)) (as_named told.entries numbers) now.taken d 0 (openings 0)
-      ∙ ap (unflushed_of (said_by told.entries)) taken)) was.memory;
+      (sym (ap (λ es. unflushed_of (said_by es) (all_in found s)) entries_are
+      ∙ unflushed_alike (said_by told.entries) (said_by (told.entries ++ named numbers)) (as_named told.entries numbers) (all_in found s) d 0 (openings 0))) was.memory;
 }
   where
     -- by what the manifest had before
-    of_base : (base es : List Entry) → MayList told base → SaysAs (said_by base) (said_by es) → (i : Image) → d.may_leave i → (many : ℕ) → told.committed ≤ length found + many
+    of_base : (base es : List Entry) → MayList told base → SaysAs (said_by base) (said_by es) → (i : Image) → d.may_leave i → (many : ℕ) → told.committed + length (accepted_in s.list) ≤ length told.taken + many
         → many ≤ length (accepted_in s.list) → (n : ℕ) → n < (said_by es).shards → OpensIn found (take many (accepted_in s.list)) es i n (openings n)
     of_base base es may alike i left many least most n low =
         opening_alike (said_by base) (said_by es) alike (found ++ take many (accepted_in s.list)) (only i) n (with_more n (take many (accepted_in s.list)) (openings n))
         (was.opens i left base may many least most n (subst (λ k. n < k) alike.shards low))
 
-    failing : FailedToName told.failed now.failed → (es : List Entry) → es ≡ now.entries ++ now.failed → (i : Image) → d.may_leave i → (many : ℕ) → told.committed ≤ length found + many
+    failing : FailedToName told.failed now.failed → (es : List Entry) → es ≡ now.entries ++ now.failed → (i : Image) → d.may_leave i → (many : ℕ) → told.committed + length (accepted_in s.list) ≤ length told.taken + many
         → many ≤ length (accepted_in s.list) → (n : ℕ) → n < (said_by es).shards → OpensIn found (take many (accepted_in s.list)) es i n (openings n)
     failing (inl same) es are =
         of_base (told.entries ++ told.failed) es (inr refl)
@@ -294,7 +303,7 @@ explains_named openings h found s d told now numbers entries_are failed taken co
         (as_then (said_by told.entries) (said_by (told.entries ++ named numbers)) (said_by ((told.entries ++ named numbers) ++ named (number ∷ [])))
         (as_named told.entries numbers) (as_named (told.entries ++ named numbers) (number ∷ []))))
 
-    by : (es : List Entry) → MayList now es → (i : Image) → d.may_leave i → (many : ℕ) → told.committed ≤ length found + many
+    by : (es : List Entry) → MayList now es → (i : Image) → d.may_leave i → (many : ℕ) → told.committed + length (accepted_in s.list) ≤ length told.taken + many
         → many ≤ length (accepted_in s.list) → (n : ℕ) → n < (said_by es).shards → OpensIn found (take many (accepted_in s.list)) es i n (openings n)
     by es (inl same) =
         of_base told.entries es (inl refl)
@@ -305,28 +314,39 @@ explains_named openings h found s d told now numbers entries_are failed taken co
 
 pub explains_wider : (openings : ℕ → ShardOpening) (h : History) (found : List Mutation) (s t : State) (d : Disk) (told now : Told) (x : Entry) → ListsNone x → FitsEntry (said_by told.entries) x
     → length (said_by told.entries).parts ≤ length (said_by told.entries).tables * (said_by told.entries).shards
-    → AllByRecursion (FitsRecord (said_by told.entries).tables (said_by told.entries).shards) told.taken → told.taken ≡ found ++ accepted_in s.list
+    → AllByRecursion (FitsRecord (said_by told.entries).tables (said_by told.entries).shards) told.taken → (ds : List Mutation) → AllByRecursion (IsFlushed (said_by told.entries)) ds
+    → ds ++ told.taken ≡ all_in found s
     → ((entries : List Entry) → MayList now entries → (entries ≡ told.entries) ⊎ (entries ≡ told.entries ++ x ∷ [])) → now.committed ≡ told.committed → now.taken ≡ told.taken
     → accepted_in t.list ≡ accepted_in s.list → ((ms : List Mutation) → RememberAll s.tables ms s.shards → RememberAll t.tables ms t.shards)
     → Explains openings h found s d told → Explains openings h found t d now
-explains_wider openings h found s t d told now x lists fits few fit all may_be committed taken list memory was = record {
+explains_wider openings h found s t d told now x lists fits few fit ds flushed all may_be committed taken list memory was = record {
   behind = λ n low. subst (λ ms. IsNotAhead (shard_at h n) (with_more n ms (openings n))) (sym list) (was.behind n low);
   opens = λ i left entries may many least most n low.
       subst (λ ms. OpensIn found (take many ms) entries i n (openings n)) (sym list)
-      (by i left many (omega (arith, least, committed)) (subst (λ ms. many ≤ length ms) list most) entries (may_be entries may) n low);
-  memory = memory (unflushed_of (said_by now.entries) now.taken) (remembers (may_be now.entries (inl refl)));
+      (by i left many (omega (arith, least, committed, ap length taken, ap length list)) (subst (λ ms. many ≤ length ms) list most) entries (may_be entries may) n low);
+  memory = memory (unflushed_of (said_by now.entries) (all_in found t)) (all_again found s t (said_by now.entries) s.tables s.shards list (remembers (may_be now.entries (inl refl))));
 }
   where
     grows : Grows (said_by told.entries) (after (said_by told.entries) x)
     grows = grows_after (said_by told.entries) x lists fits
 
-    front_fits : (many : ℕ) → AllByRecursion (FitsRecord (said_by told.entries).tables (said_by told.entries).shards) (found ++ take many (accepted_in s.list))
-    front_fits many =
-        first_of (FitsRecord (said_by told.entries).tables (said_by told.entries).shards) (found ++ take many (accepted_in s.list)) (drop many (accepted_in s.list))
-        (subst (AllByRecursion (FitsRecord (said_by told.entries).tables (said_by told.entries).shards))
-        (all ∙ ap (λ ms. found ++ ms) (sym (take-append-drop many (accepted_in s.list))) ∙ sym (append_assoc found (take many (accepted_in s.list)) (drop many (accepted_in s.list)))) fit)
+    all_fit : AllByRecursion (FitsRecord (said_by told.entries).tables (said_by told.entries).shards) (unflushed_of (said_by told.entries) (all_in found s))
+    all_fit =
+        subst (AllByRecursion (FitsRecord (said_by told.entries).tables (said_by told.entries).shards))
+        (sym (unflushed_behind (said_by told.entries) ds told.taken flushed) ∙ ap (unflushed_of (said_by told.entries)) all)
+        (all_filtered (FitsRecord (said_by told.entries).tables (said_by told.entries).shards) (is_above (said_by told.entries)) told.taken fit)
 
-    by : (i : Image) → d.may_leave i → (many : ℕ) → told.committed ≤ length found + many → many ≤ length (accepted_in s.list) → (entries : List Entry)
+    front_fits : (many : ℕ)
+        → AllByRecursion (FitsRecord (said_by told.entries).tables (said_by told.entries).shards) (unflushed_of (said_by told.entries) (found ++ take many (accepted_in s.list)))
+    front_fits many =
+        first_of (FitsRecord (said_by told.entries).tables (said_by told.entries).shards) (unflushed_of (said_by told.entries) (found ++ take many (accepted_in s.list)))
+        (unflushed_of (said_by told.entries) (drop many (accepted_in s.list)))
+        (subst (AllByRecursion (FitsRecord (said_by told.entries).tables (said_by told.entries).shards))
+        (ap (λ ms. unflushed_of (said_by told.entries) (found ++ ms)) (sym (take-append-drop many (accepted_in s.list)))
+        ∙ ap (unflushed_of (said_by told.entries)) (sym (append_assoc found (take many (accepted_in s.list)) (drop many (accepted_in s.list))))
+        ∙ filter-append (is_above (said_by told.entries)) (found ++ take many (accepted_in s.list)) (drop many (accepted_in s.list))) all_fit)
+
+    by : (i : Image) → d.may_leave i → (many : ℕ) → told.committed + length (accepted_in s.list) ≤ length told.taken + many → many ≤ length (accepted_in s.list) → (entries : List Entry)
         → (entries ≡ told.entries) ⊎ (entries ≡ told.entries ++ x ∷ []) → (n : ℕ) → n < (said_by entries).shards
         → OpensIn found (take many (accepted_in s.list)) entries i n (openings n)
     by i left many least most entries (inl same) n low =
@@ -347,11 +367,11 @@ explains_wider openings h found s t d told now x lists fits few fit all may_be c
     same_unflushed : (ms : List Mutation) → unflushed_of (after (said_by told.entries) x) ms ≡ unflushed_of (said_by told.entries) ms
     same_unflushed ms = λ k. filter (λ m. nat_lt ((grows.parts m.table m.shard) k).frontier m.number) ms
 
-    remembers : (now.entries ≡ told.entries) ⊎ (now.entries ≡ told.entries ++ x ∷ []) → RememberAll s.tables (unflushed_of (said_by now.entries) now.taken) s.shards
-    remembers (inl same) = subst (λ ms. RememberAll s.tables ms s.shards) (sym (λ j. unflushed_of (said_by (same j)) (taken j))) was.memory
+    remembers : (now.entries ≡ told.entries) ⊎ (now.entries ≡ told.entries ++ x ∷ []) → RememberAll s.tables (unflushed_of (said_by now.entries) (all_in found s)) s.shards
+    remembers (inl same) = subst (λ es. RememberAll s.tables (unflushed_of (said_by es) (all_in found s)) s.shards) (sym same) was.memory
     remembers (inr more) =
         subst (λ ms. RememberAll s.tables ms s.shards)
-        (sym (ap (λ es. unflushed_of (said_by es) now.taken) more ∙ ap (λ (u : Saying). unflushed_of u now.taken) (said_more told.entries x) ∙ same_unflushed now.taken ∙ ap (unflushed_of (said_by told.entries)) taken))
+        (sym (ap (λ es. unflushed_of (said_by es) (all_in found s)) more ∙ ap (λ (u : Saying). unflushed_of u (all_in found s)) (said_more told.entries x) ∙ same_unflushed (all_in found s)))
         was.memory
 
 -- ---- a mutation was taken
@@ -368,7 +388,7 @@ one_taken n ms m o b is = with_more_both n ms (m ∷ []) o ∙ ap (λ (c : Bool)
 pub explains_taken : (openings : ℕ → ShardOpening) (h k : History) (found : List Mutation) (s t : State) (d : Disk) (told : Told) (m : Mutation) → told.failed ≡ []
     → FitsRecord (said_by told.entries).tables (said_by told.entries).shards m → is_above (said_by told.entries) m ≡ true → (m.shard < length h.shards → m.number ≡ number_of (shard_at h m.shard) + 1)
     → (said_by told.entries).shards ≡ length h.shards
-    → accepted_in t.list ≡ accepted_in s.list ++ m ∷ [] → ((i : Image) → d.may_leave i → told.committed ≤ length found + length (accepted_in s.list))
+    → accepted_in t.list ≡ accepted_in s.list ++ m ∷ [] → ((i : Image) → d.may_leave i → told.committed ≤ length told.taken)
     → length k.shards ≡ length h.shards
     → ((o : ShardOpening) → IsNotAhead (shard_at h m.shard) o → IsNotAhead (shard_at k m.shard) (restored m o))
     → ((n : ℕ) → n ≢ m.shard → (o : ShardOpening) → IsNotAhead (shard_at h n) o → IsNotAhead (shard_at k n) o)
@@ -378,12 +398,14 @@ explains_taken openings h k found s t d told m none fit above next many_are list
   opens = λ i left entries may many least most n low.
       subst (λ es. OpensIn found (take many (accepted_in t.list)) es i n (openings n)) (sym (only_told told entries none may))
       (subst (λ ms. OpensIn found (take many ms) told.entries i n (openings n)) (sym list)
-      (opens i left many least (upto many (length (accepted_in s.list)) (omega (arith, most, ap length list, length-append (accepted_in s.list) (m ∷ [])))) n
+      (opens i left many (omega (arith, least, ap length list, length-append (accepted_in s.list) (m ∷ []), length-append told.taken (m ∷ []))) (upto many (length (accepted_in s.list)) (omega (arith, most, ap length list, length-append (accepted_in s.list) (m ∷ [])))) n
       (subst (λ es. n < (said_by es).shards) (only_told told entries none may) low)));
   memory =
       subst (λ ms. RememberAll t.tables ms t.shards)
-      (sym (filter-append (is_above (said_by told.entries)) told.taken (m ∷ []) ∙ ap (λ (b : Bool). unflushed_of (said_by told.entries) told.taken ++ (if b then m ∷ [] else [])) above))
-      (memory (unflushed_of (said_by told.entries) told.taken) was.memory);
+      (sym (ap (λ ms. unflushed_of (said_by told.entries) (found ++ ms)) list ∙ ap (unflushed_of (said_by told.entries)) (sym (append_assoc found (accepted_in s.list) (m ∷ [])))
+      ∙ filter-append (is_above (said_by told.entries)) (all_in found s) (m ∷ [])
+      ∙ ap (λ (b : Bool). unflushed_of (said_by told.entries) (all_in found s) ++ (if b then m ∷ [] else [])) above))
+      (memory (unflushed_of (said_by told.entries) (all_in found s)) was.memory);
 }
   where
     behind : (n : ℕ) → n < length h.shards → (n ≡ m.shard) ⊎ (n ≢ m.shard) → IsNotAhead (shard_at k n) (with_more n (accepted_in t.list) (openings n))
@@ -417,7 +439,7 @@ explains_taken openings h k found s t d told m none fit above next many_are list
         (subst (λ (p : ShardOpening). IsOpening (said_by told.entries) ((found ++ (accepted_in s.list)) ++ m ∷ []) (only i) n p) (ap (as_told (said_by told.entries) n) (sym (one_taken n (accepted_in s.list) m (openings n) false is)))
         (opening_without (said_by told.entries) (found ++ (accepted_in s.list)) (only i) n (as_told (said_by told.entries) n o) m fit one is))
 
-    opens : (i : Image) → d.may_leave i → (many : ℕ) → told.committed ≤ length found + many → (many ≤ length (accepted_in s.list)) ⊎ (many ≡ suc (length (accepted_in s.list))) → (n : ℕ) → n < (said_by told.entries).shards
+    opens : (i : Image) → d.may_leave i → (many : ℕ) → told.committed + length (accepted_in s.list) ≤ length told.taken + many → (many ≤ length (accepted_in s.list)) ⊎ (many ≡ suc (length (accepted_in s.list))) → (n : ℕ) → n < (said_by told.entries).shards
         → OpensIn found (take many ((accepted_in s.list) ++ m ∷ [])) told.entries i n (openings n)
     opens i left many least (inl few) n low =
         subst (λ ms. OpensIn found ms told.entries i n (openings n)) (sym (take-append-le many (accepted_in s.list) (m ∷ []) few))
@@ -426,5 +448,57 @@ explains_taken openings h k found s t d told m none fit above next many_are list
         let longer : length ((accepted_in s.list) ++ m ∷ []) ≤ many = omega (arith, whole, length-append (accepted_in s.list) (m ∷ [])) in
         let one : OpensIn found (accepted_in s.list) told.entries i n (openings n) =
         subst (λ ms. OpensIn found ms told.entries i n (openings n)) (take_all (length (accepted_in s.list)) (accepted_in s.list) (omega arith))
-        (was.opens i left told.entries (inl refl) (length (accepted_in s.list)) (committed i left) (omega arith) n low) in
+        (was.opens i left told.entries (inl refl) (length (accepted_in s.list)) (let c = committed i left in omega (arith, c)) (omega arith) n low) in
         subst (λ ms. OpensIn found ms told.entries i n (openings n)) (sym (take_all many ((accepted_in s.list) ++ m ∷ []) longer)) (with_it i n low one (same_place n m.shard))
+
+-- ---- segments were dropped
+
+of_room : (s u : Saying) → SaysAsOfRoom s u → SaysAs s u
+of_room s u alike = record { shards = alike.shards; tables = alike.tables; parts = alike.parts; times = alike.times }
+
+-- entries behind one that may be there or not
+as_dropped_between : (xs ys : List Entry) (numbers : List ℕ) → SaysAs (said_by (xs ++ ys)) (said_by ((xs ++ map entry.DropSegment numbers) ++ ys))
+as_dropped_between xs ys numbers =
+    subst (λ (s : Saying). SaysAs s (said_by ((xs ++ map entry.DropSegment numbers) ++ ys))) (sym (said_both xs ys))
+    (subst (λ (u : Saying). SaysAs (fold after (said_by xs) ys) u) (sym (said_both (xs ++ map entry.DropSegment numbers) ys))
+    (as_all (said_by xs) (said_by (xs ++ map entry.DropSegment numbers)) ys (of_room _ _ (as_dropped xs numbers))))
+
+pub explains_dropped : (openings : ℕ → ShardOpening) (h : History) (found : List Mutation) (s : State) (d : Disk) (told now : Told) → Drops told now
+    → Explains openings h found s d told → Explains openings h found s d now
+explains_dropped openings h found s d told now drops was = record {
+  behind = was.behind;
+  opens = λ i left entries may many least most n low.
+      by entries may i left many (omega (arith, least, drops.committed, drops.few, ap length drops.taken, length-drop drops.many told.taken)) most n low;
+  memory =
+      subst (λ ms. RememberAll s.tables ms s.shards)
+      (sym (ap (λ es. unflushed_of (said_by es) (all_in found s)) drops.entries
+      ∙ unflushed_alike (said_by told.entries) (said_by (told.entries ++ map entry.DropSegment drops.numbers)) (of_room _ _ (as_dropped told.entries drops.numbers)) (all_in found s) d 0
+      (openings 0))) was.memory;
+}
+  where
+    of_base : (base es : List Entry) → MayList told base → SaysAs (said_by base) (said_by es) → (i : Image) → d.may_leave i → (many : ℕ)
+        → told.committed + length (accepted_in s.list) ≤ length told.taken + many → many ≤ length (accepted_in s.list) → (n : ℕ) → n < (said_by es).shards
+        → OpensIn found (take many (accepted_in s.list)) es i n (openings n)
+    of_base base es may alike i left many least most n low =
+        opening_alike (said_by base) (said_by es) alike (found ++ take many (accepted_in s.list)) (only i) n (with_more n (take many (accepted_in s.list)) (openings n))
+        (was.opens i left base may many least most n (subst (λ k. n < k) alike.shards low))
+
+    failing : FailedToDrop told.failed now.failed → (es : List Entry) → es ≡ now.entries ++ now.failed → (i : Image) → d.may_leave i → (many : ℕ)
+        → told.committed + length (accepted_in s.list) ≤ length told.taken + many → many ≤ length (accepted_in s.list) → (n : ℕ) → n < (said_by es).shards
+        → OpensIn found (take many (accepted_in s.list)) es i n (openings n)
+    failing (inl same) es are =
+        of_base (told.entries ++ told.failed) es (inr refl)
+        (subst (λ l. SaysAs (said_by (told.entries ++ told.failed)) (said_by l)) (sym (are ∙ (λ j. drops.entries j ++ same j))) (as_dropped_between told.entries told.failed drops.numbers))
+    failing (inr (number, one)) es are =
+        of_base told.entries es (inl refl)
+        (subst (λ l. SaysAs (said_by told.entries) (said_by l)) (sym (are ∙ (λ j. drops.entries j ++ one j)))
+        (as_then (said_by told.entries) (said_by (told.entries ++ map entry.DropSegment drops.numbers))
+        (said_by ((told.entries ++ map entry.DropSegment drops.numbers) ++ entry.DropSegment number ∷ []))
+        (of_room _ _ (as_dropped told.entries drops.numbers)) (of_room _ _ (as_dropped (told.entries ++ map entry.DropSegment drops.numbers) (number ∷ [])))))
+
+    by : (es : List Entry) → MayList now es → (i : Image) → d.may_leave i → (many : ℕ) → told.committed + length (accepted_in s.list) ≤ length told.taken + many
+        → many ≤ length (accepted_in s.list) → (n : ℕ) → n < (said_by es).shards → OpensIn found (take many (accepted_in s.list)) es i n (openings n)
+    by es (inl same) =
+        of_base told.entries es (inl refl)
+        (subst (λ l. SaysAs (said_by told.entries) (said_by l)) (sym (same ∙ drops.entries)) (of_room _ _ (as_dropped told.entries drops.numbers)))
+    by es (inr more) = failing drops.failed es more

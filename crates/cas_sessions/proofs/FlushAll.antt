@@ -28,11 +28,11 @@ use Rattle.cas_sessions.specs.declared.answer.Fault.TheVariants.{Refused, Stoppe
 use Rattle.cas_sessions.specs.Calls.{IsTrueOf}
 use Rattle.cas_sessions.specs.Entered.{IsLeftAmid}
 use Rattle.cas_sessions.specs.Listing.{SameUpTo}
-use Rattle.cas_sessions.specs.Flushes.{AreInFiles, AscendTo, Flushed, Flushes, FlushesNamed, FlushesTable, Grows, SaySomething, WhyNoFurther, change_of, changes_by, numbers_added}
+use Rattle.cas_sessions.specs.Flushes.{AreBegun, AreInFiles, AscendTo, Flushed, Flushes, FlushesNamed, FlushesTable, Grows, SaySomething, WhyNoFurther, change_of, changes_by, numbers_added}
 use Rattle.cas_sessions.specs.Flushes.{numbers_in, reach_by, without_begun, without_flushed}
 use Rattle.cas_sessions.specs.History.{History, DiskState, shard_at}
 use Rattle.cas_sessions.specs.Nodes.{AreFilled, Explains, State, StandsFor, LastsFor, LastsForOne, GoesOnTo, KeepsAll, Moves, disk_of, filled_of}
-use Rattle.cas_sessions.specs.Filling.{FlushedOne, SaysNone, filled_with, listed_of, rest_with}
+use Rattle.cas_sessions.specs.Filling.{FlushedOne, IsBegun, SaysNone, filled_with, listed_of, rest_with}
 use Rattle.cas_sessions.specs.Inner.Flushing.{AreStood, FlushesFirst, FlushesNoFurther, FlushesOne, GoesOn, IsOwn, TellsReads}
 use Rattle.cas_sessions.proofs.Explaining.{explains_still, goes_nowhere, keep_files_none}
 use Rattle.cas_sessions.proofs.Filled.{begun_more, begun_none, filled_are, stands_filled}
@@ -400,9 +400,17 @@ abbrev pub begun_to : Bool → ℕ → ℕ
 begun_to true k = k + 1
 begun_to false k = k
 
-begun_so : (b : Bool) (k n : ℕ) → n ≡ k → (begun_to b k ≡ n) ⊎ (begun_to b k ≡ n + 1)
-begun_so true k n is = inr (ap (λ (j : ℕ). j + 1) (sym is))
-begun_so false k n is = inl (sym is)
+begun_next : (b : Bool) (k n : ℕ) → b ≡ true → n ≡ k → begun_to b k ≡ n + 1
+begun_next b k n begun is = ap (λ x. begun_to x k) begun ∙ ap (λ (j : ℕ). j + 1) (sym is)
+
+begun_so : (f : Fault) (b : Bool) (k n : ℕ) → IsBegun (Err f) b → n ≡ k → AreBegun f n (begun_to b k)
+begun_so (Refused why) b k n begun is = begun_next b k n begun is
+begun_so (Stopped first) b k n begun is = begun_next b k n begun is
+begun_so (Failed number) b k n begun is = begun_next b k n begun is
+begun_so Read b k n begun is = begun_next b k n begun is
+begun_so (BadBlock number at) b k n begun is = begun_next b k n begun is
+begun_so Mem true k n begun is = inr (ap (λ (j : ℕ). j + 1) (sym is))
+begun_so Mem false k n begun is = inl (sym is)
 
 filled_to : (table k : ℕ) (b : Bool) (f : ℕ → ℕ → ℕ) (xs : List ShardState) → AreFilled (filled_with table k b (without_begun table k f)) xs
     → AreFilled (without_begun table (begun_to b k) f) xs
@@ -431,7 +439,7 @@ no_further t k told x s u v d e f first one few = record {
         amid_then h found s u d e f first.beside.list amid (amid_with h left so_far found u.list e f more),
       );
   begun = begun_to one.begun k;
-  begins = begun_so one.begun k (length first.changes) first.many;
+  begins = begun_so x one.begun k (length first.changes) one.begins first.many;
   fills = λ before full. filled_to t.number k one.begun before v.shards (one.fills (without_begun t.number k before) (first.fills before full));
   moves = λ c reads kept_so h stands.
       let (now, so) = first.moves c reads h stands in
@@ -539,7 +547,7 @@ flushes_all name t told s u d e is going on first c reads h stands =
 -- a fault that isn't of an earlier one
 fails_by : (h : History) (t : TableSchema) (f : Fault) (changes : List (Option Change)) (begun : ℕ) (u : State) → h.disk.stopped ≡ false → Flushed h t changes (disk_of u)
     → length changes < length h.shards → WhyNoFurther t (length changes) (shard_at h (length changes)) h.disk (disk_of u) f
-    → (begun ≡ length changes) ⊎ (begun ≡ length changes + 1) → FlushesTable h t (Err f) (flushed_to h t.number changes begun u)
+    → AreBegun f (length changes) begun → FlushesTable h t (Err f) (flushed_to h t.number changes begun u)
 fails_by h t (Refused why) changes begun u going flushed few is so = (changes, begun, disk_of u, going, flushed, (few, is, so), refl)
 fails_by h t (Stopped first) changes begun u going flushed few is so = absurd is
 fails_by h t (Failed number) changes begun u going flushed few is so = (changes, begun, disk_of u, going, flushed, (few, is, so), refl)

@@ -12,7 +12,7 @@ use Rattle.cas_info.specs.Allowed.{FitsInfo}
 use Rattle.cas_info.specs.declared.info.TableInfo.{TableInfo}
 use Rattle.cas_schemas.specs.Each.{EachFits}
 use Rattle.cas_changes.specs.Allowed.{FitsChange, FitsEntry, HasSpelling, may_come, may_go}
-use Rattle.cas_changes.specs.Saying.{Saying, change_after, has_file, is_listed, no_part, nothing, part_after, part_of, place_in, said_by}
+use Rattle.cas_changes.specs.Saying.{Saying, change_after, has_file, is_listed, no_part, nothing, part_after, part_of, place_in, said_by, frontiers_in}
 use Rattle.cas_changes.specs.Spelling.{entry_bytes}
 use Rattle.cas_changes.specs.declared.entry.Change.{Change}
 use Rattle.cas_changes.specs.declared.entry.Entry.{Entry as ManifestEntry}
@@ -21,7 +21,7 @@ use Rattle.cas_changes.specs.declared.said.Part.{Part}
 use Rattle.cas_changes.proofs.EntryLaws.{spelled}
 use Rattle.cas_changes.proofs.EntryLengths.{entry_short}
 use Rattle.cas_manifest.proofs.Appends.{said_more}
-use Rattle.cas_replay.specs.Grammar.{AreInOrder, AscendByOne, numbers_of}
+use Rattle.cas_replay.specs.Grammar.{AscendByOne, numbers_of}
 use Rattle.cas_journal.specs.Stores.{Told, MayList, appended, committed_all, failed_at}
 use Rattle.cas_journal.specs.declared.fault.JournalFault.{JournalFault}
 use Rattle.cas_room.specs.Changing.{MayBeTold, StandsAmid}
@@ -32,11 +32,13 @@ use Rattle.cas_recovery.specs.Restored.{IsBehind}
 use Rattle.cas_recovery.proofs.Places.{get_here, get_other, get_within, same_place}
 use Rattle.cas_sessions.specs.History.{History, changes_told}
 use Rattle.cas_sessions.specs.Entered.{IsLeftAmid, ListFiles}
-use Rattle.cas_sessions.specs.Nodes.{Explains, State, LastsFor, files_in}
+use Rattle.cas_sessions.specs.Nodes.{Explains, State, LastsFor, files_in, all_in}
 use Rattle.cas_sessions.specs.Inner.Flushing.{AddsFile, AreStood, GoesOn, Lists, SameNumbers}
 use Rattle.cas_sessions.proofs.Files.{list_changed, list_same, told_more}
 use Rattle.cas_sessions.proofs.Parts.{has_parts, one_shard}
 use Rattle.cas_sessions.proofs.Tables.{goes_before, said_still}
+use Rattle.cas_sessions.proofs.Lasting.{still_in_order, still_next}
+use Rattle.cas_sessions.proofs.Frontiers.{frontiers_changed}
 
 -- ---- numbers
 
@@ -272,11 +274,11 @@ module _ (s t : State) (d e : Disk) (place number : ℕ) (c : Change) (count : l
         tables = ap (λ (sy : Saying). sy.tables) said ∙ lasts.tables ∙ sym lists.tables;
         shards = ap (λ (sy : Saying). sy.shards) said ∙ lasts.shards ∙ ap (λ l. l.shards) (sym lists.limits);
         few = lasts.few;
-        ordered = lasts.ordered;
-        next = λ n z there.
+        ordered = still_in_order found s t lists.list lasts.ordered;
+        next = still_next found s t ys lists.list (λ n z there.
             let (y, at, same) = numbers n z there in
-            subst (λ (k : ℕ). AscendByOne (numbers_of n told.taken ++ (k + 1) ∷ [])) (sym same)
-            (lasts.next n y (subst (λ (xs : List ShardState). slice_get xs n ≡ Some y) lists.shards at));
+            subst (λ (k : ℕ). AscendByOne (numbers_of n (all_in found s) ++ (k + 1) ∷ [])) (sym same)
+            (lasts.next n y (subst (λ (xs : List ShardState). slice_get xs n ≡ Some y) lists.shards at)));
         counted = omega (arith, lasts.counted, lists.accepted, ap (λ l. length (accepted_in l)) lists.list);
         acknowledged = (
           omega (arith, lasts.acknowledged.0, lists.rises),
@@ -294,21 +296,22 @@ module _ (s t : State) (d e : Disk) (place number : ℕ) (c : Change) (count : l
             });
         files = subst (λ (sy : Saying). ListFiles sy (files_in ys)) (sym said) files;
         changes = told_more told.entries c ∙ ap (λ cs. cs ++ c ∷ []) lasts.changes;
+        frontiers = lists.frontiers ∙ frontiers_changed (said_by told.entries) c s.frontiers s.limits.shards lasts.frontiers (sym lasts.shards) ∙ ap frontiers_in (sym said);
       }
 
   -- it failed
-  same_told : (f : JournalFault) (u : Told) → MayBeTold f (change_entry c) told u → (u.entries ≡ told.entries) × (u.taken ≡ told.taken) × (length u.failed ≤ 1)
-  same_told f u (inl same) = (ap (λ (v : Told). v.entries) same, ap (λ (v : Told). v.taken) same, subst (λ (v : Told). length v.failed ≤ 1) (sym same) lasts.few)
+  same_told : (f : JournalFault) (u : Told) → MayBeTold f (change_entry c) told u → (u.entries ≡ told.entries) × (length u.failed ≤ 1)
+  same_told f u (inl same) = (ap (λ (v : Told). v.entries) same, subst (λ (v : Told). length v.failed ≤ 1) (sym same) lasts.few)
   same_told f u (inr since) =
       let still = said_still f (change_entry c) (committed_all told) lasts.few in
-      (ap (λ (v : Told). v.entries) since ∙ still.entries, ap (λ (v : Told). v.taken) since ∙ still.taken, subst (λ (v : Told). length v.failed ≤ 1) (sym since) still.few)
+      (ap (λ (v : Told). v.entries) since ∙ still.entries, subst (λ (v : Told). length v.failed ≤ 1) (sym since) still.few)
 
   pub lists_failed : (Left T : Type 0) (f : JournalFault) → Lists {T = T} c (Err f) s t d e → h.tables ≡ s.tables
       → ((u : Told) → MayBeTold f (change_entry c) told u → Left → AreStood h s → (openings : ℕ → ShardOpening) → Explains openings h found s d told → Explains openings h found t e u)
       → GoesOn Left h h.changes found told s t d e
   lists_failed Left T f lists tables explains =
       let (u, may, keeps) = lists.keeps found told lasts.keeps fits in
-      let (entries, taken, few) = same_told f u may in (
+      let (entries, few) = same_told f u may in (
         (
           u,
           record {
@@ -316,9 +319,8 @@ module _ (s t : State) (d e : Disk) (place number : ℕ) (c : Change) (count : l
             tables = ap (λ es. (said_by es).tables) entries ∙ lasts.tables ∙ sym lists.tables;
             shards = ap (λ es. (said_by es).shards) entries ∙ lasts.shards ∙ ap (λ l. l.shards) (sym lists.limits);
             few = few;
-            ordered = subst AreInOrder (sym taken) lasts.ordered;
-            next = λ n y there.
-                subst (λ ms. AscendByOne (numbers_of n ms ++ (y.number + 1) ∷ [])) (sym taken) (lasts.next n y (subst (λ (ys : List ShardState). slice_get ys n ≡ Some y) lists.shards there));
+            ordered = still_in_order found s t lists.list lasts.ordered;
+            next = still_next found s t t.shards lists.list (λ n y there. lasts.next n y (subst (λ (ys : List ShardState). slice_get ys n ≡ Some y) lists.shards there));
             counted = omega (arith, lasts.counted, lists.accepted, ap (λ l. length (accepted_in l)) lists.list);
             acknowledged = (
               omega (arith, lasts.acknowledged.0, lists.rises),
@@ -336,6 +338,7 @@ module _ (s t : State) (d e : Disk) (place number : ℕ) (c : Change) (count : l
                 subst (λ es. ListFiles (said_by es) (files_in t.shards)) (sym entries)
                 (list_same (said_by told.entries) (files_in s.shards) (files_in t.shards) (ap files_in lists.shards) lasts.files);
             changes = ap changes_told entries ∙ lasts.changes;
+            frontiers = lists.frontiers ∙ lasts.frontiers ∙ ap (λ es. frontiers_in (said_by es)) (sym entries);
           },
           explains u may,
         ),

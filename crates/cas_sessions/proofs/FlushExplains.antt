@@ -1,5 +1,5 @@
 -- What a crash may leave explains the history still, where the manifest gets the change of a flush, or where that fails.
-use Rattle.std.proofs.Common.{◌≡◌, ◌≢◌, ◌⊎◌, inl, inr, ⊎_elim, ◌∙◌, ◌≤◌, ◌<◌, ◌+◌, ◌*◌, ℕ, None, Some, List, [], ◌∷◌, ◌++◌, length, refl, sym, ap, subst, append-nil, length-append, take, arith}
+use Rattle.std.proofs.Common.{◌≡◌, ◌≢◌, ◌⊎◌, inl, inr, ⊎_elim, ◌∙◌, ◌≤◌, ◌<◌, ◌+◌, ◌*◌, ℕ, None, Some, List, [], ◌∷◌, ◌++◌, length, refl, sym, ap, subst, append-nil, take, arith}
 use Rattle.std.specs.Prelude.{slice_get}
 use Rattle.std.proofs.lemmas.Int.{clamps, ints}
 use Rattle.std.proofs.lemmas.List.{take_all}
@@ -96,7 +96,7 @@ module _ (openings : ℕ → ShardOpening) (h : History) (found : List Mutation)
       there_now = (λ j. slice_get (lasts.tables j) (is.of_table j)) ∙ table
 
       ws : List Mutation
-      ws = mutations_of t.number (found_in n (unflushed_of said was.taken)).entries
+      ws = mutations_of t.number (found_in n (unflushed_of said (found ++ all))).entries
 
       just : HoldJust t.columns (memtables_at (slice_get x.stores t.number)) ws
       just = explained.memory n t.number x there [] t (ap (λ (ts : List TableSchema). slice_get ts t.number) (append-nil s.tables) ∙ table)
@@ -110,7 +110,7 @@ module _ (openings : ℕ → ShardOpening) (h : History) (found : List Mutation)
             subst (λ (w : TableSchema). StandIn w c.shard i told vs) (sym same_v)
                 (subst (λ j. StandIn t j i told vs) (sym is.of_shard) (file_alike t n b i told vs (same told.number) stand)),
             subst (λ l. SaySame vs l)
-                (sym (λ j. mutations_of (is.of_table j) (found_in n (unflushed_of said (sym lasts.keeps.all j))).entries)) same_ws,
+                (sym (ap (λ (k : ℕ). mutations_of k (found_in n (unflushed_of said (found ++ all))).entries) is.of_table)) same_ws,
           )
 
   with_change : (b i : Image) → d.may_leave b → ((k : ℕ) → i (table_name k) ≡ b (table_name k)) → (k : ℕ) → k < said.shards → OpensIn found all was.entries b k (openings k)
@@ -125,16 +125,16 @@ module _ (openings : ℕ → ShardOpening) (h : History) (found : List Mutation)
 
   -- all is committed, and the change is told, or may be
   explains_change : (now : Told) → ((entries : List ManifestEntry) → MayList now entries → (entries ≡ was.entries) ⊎ (entries ≡ was.entries ++ change_entry c ∷ []))
-      → now.committed ≡ length was.taken → RememberAll u.tables (unflushed_of (said_by now.entries) now.taken) u.shards → Explains openings h found u e now
-  explains_change now may_be committed memory = record {
+      → now.committed ≡ length was.taken → now.taken ≡ was.taken → RememberAll u.tables (unflushed_of (said_by now.entries) (found ++ all)) u.shards → Explains openings h found u e now
+  explains_change now may_be committed taken memory = record {
     behind = λ k low. subst (λ l. IsNotAhead (shard_at h k) (with_more k (accepted_in l) (openings k))) (sym list) (explained.behind k low);
     opens = λ i leaves entries may count least most k low.
         let whole : length all ≤ count =
-        omega (arith, least, committed, ap length lasts.keeps.all, length-append found all) in
+        omega (arith, least, committed, ap length taken, ap (λ l. length (accepted_in l)) list) in
         let (b, before, same) = from_before i leaves in
         subst (λ ms. OpensIn found ms entries i k (openings k)) (sym (ap (λ l. take count (accepted_in l)) list ∙ take_all count all whole))
         (by b i before same entries (may_be entries may) k low);
-    memory = memory;
+    memory = subst (λ l. RememberAll u.tables (unflushed_of (said_by now.entries) (found ++ accepted_in l)) u.shards) (sym list) memory;
   }
     where
       by : (b i : Image) → d.may_leave b → ((k : ℕ) → i (table_name k) ≡ b (table_name k)) → (entries : List ManifestEntry)
@@ -145,7 +145,7 @@ module _ (openings : ℕ → ShardOpening) (h : History) (found : List Mutation)
           base few =
               let holds = lasts.keeps.lasts.holds b before in
               subst (λ ms. OpensIn found ms was.entries b k (openings k)) (take_all (length all) all (omega arith))
-              (explained.opens b before was.entries (inl refl) (length all) (omega (arith, holds.least, holds.most, ap length lasts.keeps.all, length-append found all)) (omega arith) k few)
+              (explained.opens b before was.entries (inl refl) (length all) (omega (arith, holds.least, holds.most)) (omega arith) k few)
 
           of : (entries ≡ was.entries) ⊎ (entries ≡ was.entries ++ change_entry c ∷ []) → OpensIn found all entries i k (openings k)
           of (inl still) =
@@ -162,35 +162,35 @@ module _ (openings : ℕ → ShardOpening) (h : History) (found : List Mutation)
   memory_then : (y : ShardState) (m_tables : List TableSchema) → m_tables ≡ s.tables
       → ((k : ℕ) (z : ShardState) → slice_get u.shards k ≡ Some z → ((k ≡ n) × (y ≡ z)) ⊎ ((k ≢ n) × (slice_get s.shards k ≡ Some z)))
       → ((k : ℕ) (ws : List Mutation) → RemembersJust s.tables k ws x → ((k ≡ t.number) × RemembersJust s.tables k [] y) ⊎ ((k ≢ t.number) × RemembersJust s.tables k ws y))
-      → RememberAll m_tables (unflushed_of (change_after said c) was.taken) u.shards
+      → RememberAll m_tables (unflushed_of (change_after said c) (found ++ all)) u.shards
   memory_then y m_tables tables each swapped k j z got =
-      subst (λ (ts : List TableSchema). RemembersJust ts j (mutations_of j (found_in k (unflushed_of (change_after said c) was.taken)).entries) z) (sym tables) (by (each k z got))
+      subst (λ (ts : List TableSchema). RemembersJust ts j (mutations_of j (found_in k (unflushed_of (change_after said c) (found ++ all))).entries) z) (sym tables) (by (each k z got))
     where
-      ends : AscendByOne (numbers_of n was.taken ++ (x.number + 1) ∷ [])
+      ends : AscendByOne (numbers_of n (found ++ all) ++ (x.number + 1) ∷ [])
       ends = lasts.next n x there
 
-      here : (j ≡ t.number) × RemembersJust s.tables j [] y ⊎ (j ≢ t.number) × RemembersJust s.tables j (mutations_of j (found_in n (unflushed_of said was.taken)).entries) y
-          → RemembersJust s.tables j (mutations_of j (found_in c.shard (unflushed_of (change_after said c) was.taken)).entries) y
+      here : (j ≡ t.number) × RemembersJust s.tables j [] y ⊎ (j ≢ t.number) × RemembersJust s.tables j (mutations_of j (found_in n (unflushed_of said (found ++ all))).entries) y
+          → RemembersJust s.tables j (mutations_of j (found_in c.shard (unflushed_of (change_after said c) (found ++ all))).entries) y
       here (inl (of_it, empty)) =
           subst (λ ms. RemembersJust s.tables j ms y)
-          (sym (ap (λ i. mutations_of i (found_in c.shard (unflushed_of (change_after said c) was.taken)).entries) (of_it ∙ sym is.of_table)
-          ∙ no_log said c parts table_low shard_low was.taken x.number is.frontier.0 (subst (λ i. AscendByOne (numbers_of i was.taken ++ (x.number + 1) ∷ [])) (sym is.of_shard) ends))) empty
+          (sym (ap (λ i. mutations_of i (found_in c.shard (unflushed_of (change_after said c) (found ++ all))).entries) (of_it ∙ sym is.of_table)
+          ∙ no_log said c parts table_low shard_low (found ++ all) x.number is.frontier.0 (subst (λ i. AscendByOne (numbers_of i (found ++ all) ++ (x.number + 1) ∷ [])) (sym is.of_shard) ends))) empty
       here (inr (other, has)) =
           subst (λ ms. RemembersJust s.tables j ms y)
-          (ap (λ i. mutations_of j (found_in i (unflushed_of said was.taken)).entries) (sym is.of_shard)
-          ∙ sym (same_log said c parts table_low shard_low was.taken x.number is.frontier.0 (subst (λ i. AscendByOne (numbers_of i was.taken ++ (x.number + 1) ∷ [])) (sym is.of_shard) ends) j
+          (ap (λ i. mutations_of j (found_in i (unflushed_of said (found ++ all))).entries) (sym is.of_shard)
+          ∙ sym (same_log said c parts table_low shard_low (found ++ all) x.number is.frontier.0 (subst (λ i. AscendByOne (numbers_of i (found ++ all) ++ (x.number + 1) ∷ [])) (sym is.of_shard) ends) j
           (λ at. other (at ∙ is.of_table)))) has
 
       by : ((k ≡ n) × (y ≡ z)) ⊎ ((k ≢ n) × (slice_get s.shards k ≡ Some z))
-          → RemembersJust s.tables j (mutations_of j (found_in k (unflushed_of (change_after said c) was.taken)).entries) z
+          → RemembersJust s.tables j (mutations_of j (found_in k (unflushed_of (change_after said c) (found ++ all))).entries) z
       by (inl (at, same)) =
-          subst (λ (w : ShardState). RemembersJust s.tables j (mutations_of j (found_in k (unflushed_of (change_after said c) was.taken)).entries) w) same
-          (subst (λ i. RemembersJust s.tables j (mutations_of j (found_in i (unflushed_of (change_after said c) was.taken)).entries) y) (is.of_shard ∙ sym at)
-          (here (swapped j (mutations_of j (found_in n (unflushed_of said was.taken)).entries) (explained.memory n j x there))))
+          subst (λ (w : ShardState). RemembersJust s.tables j (mutations_of j (found_in k (unflushed_of (change_after said c) (found ++ all))).entries) w) same
+          (subst (λ i. RemembersJust s.tables j (mutations_of j (found_in i (unflushed_of (change_after said c) (found ++ all))).entries) y) (is.of_shard ∙ sym at)
+          (here (swapped j (mutations_of j (found_in n (unflushed_of said (found ++ all))).entries) (explained.memory n j x there))))
       by (inr (apart, had)) =
           let low : k < said.shards = omega (arith, get_within s.shards k z had, many, lasts.shards) in
           subst (λ (o : ShardOpening). RemembersJust s.tables j (mutations_of j o.entries) z)
-          (sym (other_log said c shard_low was.taken k low (λ at. apart (at ∙ is.of_shard)))) (explained.memory k j z had)
+          (sym (other_log said c shard_low (found ++ all) k low (λ at. apart (at ∙ is.of_shard)))) (explained.memory k j z had)
 
   -- ---- the change was told
 
@@ -199,8 +199,8 @@ module _ (openings : ℕ → ShardOpening) (h : History) (found : List Mutation)
       → ((k : ℕ) (ws : List Mutation) → RemembersJust s.tables k ws x → ((k ≡ t.number) × RemembersJust s.tables k [] y) ⊎ ((k ≢ t.number) × RemembersJust s.tables k ws y))
       → Explains openings h found u e (appended (change_entry c) (committed_all was))
   explains_told y tables each swapped =
-      explains_change (appended (change_entry c) (committed_all was)) (λ entries may. inr (only_appended entries may)) refl
-      (subst (λ (v : Saying). RememberAll u.tables (unflushed_of v was.taken) u.shards) (sym (said_more was.entries (change_entry c))) (memory_then y u.tables tables each swapped))
+      explains_change (appended (change_entry c) (committed_all was)) (λ entries may. inr (only_appended entries may)) refl refl
+      (subst (λ (v : Saying). RememberAll u.tables (unflushed_of v (found ++ all)) u.shards) (sym (said_more was.entries (change_entry c))) (memory_then y u.tables tables each swapped))
     where
       only_appended : (entries : List ManifestEntry) → MayList (appended (change_entry c) (committed_all was)) entries → entries ≡ was.entries ++ change_entry c ∷ []
       only_appended entries (inl same) = same
@@ -218,11 +218,11 @@ module _ (openings : ℕ → ShardOpening) (h : History) (found : List Mutation)
     only_was entries (inr more) = more ∙ ap (λ l. was.entries ++ l) none_failed ∙ append-nil was.entries
 
     after_fault : (f : JournalFault) → Explains openings h found u e (told_after f (change_entry c) (committed_all was))
-    after_fault (TooLarge size most) = explains_change (committed_all was) (λ entries may. inl (only_was entries may)) refl (same_memory (unflushed_of said was.taken) explained.memory)
-    after_fault (TooMany what most) = explains_change (committed_all was) (λ entries may. inl (only_was entries may)) refl (same_memory (unflushed_of said was.taken) explained.memory)
-    after_fault (Stopped first) = explains_change (committed_all was) (λ entries may. inl (only_was entries may)) refl (same_memory (unflushed_of said was.taken) explained.memory)
-    after_fault Failed = explains_change (failed_at (change_entry c) (committed_all was)) (λ entries may. may) refl (same_memory (unflushed_of said was.taken) explained.memory)
-    after_fault Mem = explains_change (committed_all was) (λ entries may. inl (only_was entries may)) refl (same_memory (unflushed_of said was.taken) explained.memory)
+    after_fault (TooLarge size most) = explains_change (committed_all was) (λ entries may. inl (only_was entries may)) refl refl (same_memory (unflushed_of said (found ++ all)) explained.memory)
+    after_fault (TooMany what most) = explains_change (committed_all was) (λ entries may. inl (only_was entries may)) refl refl (same_memory (unflushed_of said (found ++ all)) explained.memory)
+    after_fault (Stopped first) = explains_change (committed_all was) (λ entries may. inl (only_was entries may)) refl refl (same_memory (unflushed_of said (found ++ all)) explained.memory)
+    after_fault Failed = explains_change (failed_at (change_entry c) (committed_all was)) (λ entries may. may) refl refl (same_memory (unflushed_of said (found ++ all)) explained.memory)
+    after_fault Mem = explains_change (committed_all was) (λ entries may. inl (only_was entries may)) refl refl (same_memory (unflushed_of said (found ++ all)) explained.memory)
 
     pub explains_untold : (f : JournalFault) (v : Told) → MayBeTold f (change_entry c) was v → Explains openings h found u e v
     explains_untold f v (inl same) =

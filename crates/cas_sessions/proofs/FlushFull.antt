@@ -69,7 +69,7 @@ if_said (Some c) s n table h says stands = says h stands
 
 -- not for an earlier fault
 fully : (h : History) (n table : ℕ) (r : Result (Option ℕ) Fault) (after : History) → IfErr r IsOwn
-    → (t : TableSchema) × (slice_get h.tables table ≡ Some t) × FlushesIn h t n r after → FlushesFull h n table r after
+    → (t : TableSchema) × (slice_get h.tables table ≡ Some t) × (t.number ≡ table) × FlushesIn h t n r after → FlushesFull h n table r after
 fully h n table (Ok told) after own is = is
 fully h n table (Err (Refused why)) after own is = is
 fully h n table (Err (Stopped first)) after own is = absurd own
@@ -78,7 +78,7 @@ fully h n table (Err Read) after own is = is
 fully h n table (Err (BadBlock number at)) after own is = is
 fully h n table (Err Mem) after own is = is
 
-module _ (t : TableSchema) (n table : ℕ) (r : Result (Option ℕ) Fault) (s u : State) (d e : Disk) (one : FlushesOne t n r s u d e) (at_t : slice_get s.tables table ≡ Some t)
+module _ (t : TableSchema) (n table : ℕ) (r : Result (Option ℕ) Fault) (s u : State) (d e : Disk) (one : FlushesOne t n r s u d e) (at_t : slice_get s.tables table ≡ Some t) (number : t.number ≡ table)
     (going : s.journal.first ≡ None) (low : n < length s.shards) (more : s.limits.memtable < filled_of s n table) where
   pub settles_full : (c : Image) → d.reads c → LastsForOne s d → Moves (λ h after. Settles h n table r after) s u d e
   settles_full c reads lasts h stands =
@@ -108,7 +108,7 @@ module _ (t : TableSchema) (n table : ℕ) (r : Result (Option ℕ) Fault) (s u 
       } in (
         after,
         subst (λ b. FlushesIf b h n table r after) (sym (full_is h s n table low stands more))
-            (fully h n table r after one.own (t, ap (λ (ts : List TableSchema). slice_get ts table) stands.tables ∙ at_t, flushes)),
+            (fully h n table r after one.own (t, ap (λ (ts : List TableSchema). slice_get ts table) stands.tables ∙ at_t, number, flushes)),
         went_to h (rest_with t.number n one.change h.unflushed) (filled_with t.number n one.begun h.filled) (changes_by h.changes one.change) s u d e (c, reads) stands now
             (one.fills h.filled stands.filled) (λ found was lasts. one.lasts h found was stands.tables lasts),
       )

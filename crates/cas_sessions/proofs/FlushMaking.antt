@@ -151,6 +151,7 @@ quiet_reads s d reads le =
       committed = refl;
       journal = refl;
       live = refl;
+      frontiers = refl;
       shards = still.shards;
       last = still.last;
       faults = still.faults;

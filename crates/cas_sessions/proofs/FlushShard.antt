@@ -71,6 +71,7 @@ quiet_still s d = record {
   committed = refl;
   journal = refl;
   live = refl;
+  frontiers = refl;
   shards = same_shards s.shards;
   last = omega arith;
   faults = omega arith;
@@ -95,6 +96,7 @@ quiet_one s d n x y there goes =
       committed = refl;
       journal = refl;
       live = refl;
+      frontiers = refl;
       shards = one_goes_on s.shards n x y there goes;
       last = still.last;
       faults = still.faults;
@@ -618,6 +620,16 @@ pub quiet_lasts_for_one : (s m : State) (d e : Disk) → Quiet s m d e → Lasts
 quiet_lasts_for_one s m d e quiet (h, found, told, stands, lasts) =
     (with_state h m, found, told, quiet_stands s m d e quiet h stands, lasts_as h (with_state h m) found m e told refl refl (quiet_lasts s m d e quiet h found told lasts))
 
+-- it got a new memtable
+pub all_begun : (r : Result (Option ℕ) Fault) → IsBegun r true
+all_begun (Ok told) = refl
+all_begun (Err (Refused why)) = refl
+all_begun (Err (Stopped first)) = refl
+all_begun (Err (Failed number)) = refl
+all_begun (Err Read) = refl
+all_begun (Err (BadBlock number at)) = refl
+all_begun (Err Mem) = tt
+
 -- quiet steps, and then the file is listed or not
 pub flushes_then : (t : TableSchema) (n number last : ℕ) (Says Left : Type 0) (r : Result (Option ℕ) Fault) (s m u : State) (d e f : Disk) → Quiet s m d e
     → During (SameUpTo s.last_file) d e → s.journal.first ≡ None → TakesFile t n number Says Left r m u e f → Left → s.last_file ≤ last → last < number
@@ -666,10 +678,6 @@ flushes_then t n number last Says Left r s m u d e f quiet during going takes le
     listed_or_failed (Ok told) None ws is = absurd cc
     listed_or_failed (Ok told) (Some c) ws is = tt
     listed_or_failed (Err f) c ws is = tt
-
-    all_begun : (r : Result (Option ℕ) Fault) → IsBegun r true
-    all_begun (Ok told) = refl
-    all_begun (Err f) = tt
 
     some_then : (c : Option Change) → IfSome c (λ x. (h : History) → StandsFor h s → SaySomething (h.unflushed n t.number))
     some_then None = tt

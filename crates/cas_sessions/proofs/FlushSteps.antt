@@ -24,7 +24,8 @@ use Rattle.cas_sessions.specs.History.{History, shard_at}
 use Rattle.cas_sessions.specs.Entered.{IsLeftAmid, entries_in}
 use Rattle.cas_sessions.specs.Listing.{SameUpTo}
 use Rattle.cas_recovery.specs.Restored.{Remember}
-use Rattle.cas_sessions.specs.Nodes.{Explains, RememberJust, State, StandsFor, LastsFor, disk_of, filled_of, files_in, files_of}
+use Rattle.cas_sessions.proofs.Lasting.{still_in_order, still_next}
+use Rattle.cas_sessions.specs.Nodes.{Explains, RememberJust, State, StandsFor, LastsFor, all_in, disk_of, filled_of, files_in, files_of}
 use Rattle.cas_sessions.specs.Inner.Flushing.{AllGoOn, GoesOn, GoesOnAs, IsBeside, Quiet, SameNumbers}
 use Rattle.cas_sessions.proofs.Crashing.{holds_amid}
 use Rattle.cas_sessions.proofs.Explaining.{explains_still, goes_nowhere, keep_files_below}
@@ -82,6 +83,7 @@ quiet_then s t u d e f first second = record {
   committed = second.committed ∙ first.committed;
   journal = second.journal ∙ first.journal;
   live = second.live ∙ first.live;
+  frontiers = second.frontiers ∙ first.frontiers;
   shards = then_go s.shards t.shards u.shards first.shards second.shards;
   last = omega (arith, first.last, second.last);
   faults = omega (arith, first.faults, second.faults);
@@ -102,16 +104,16 @@ all_below a b (k ∷ ks) le all = (omega (arith, le, all.0), all_below a b ks le
 pub lasts_again : (h : History) (found : List Mutation) (s t : State) (d e : Disk) (told : Told) → LastsFor h found s d told → Keeps t.journal e t.list t.committed found told
     → t.tables ≡ s.tables → t.limits ≡ s.limits → t.list ≡ s.list → t.accepted ≡ s.accepted → t.committed ≡ s.committed
     → (is_some t.journal.first ≡ false → is_some s.journal.first ≡ false) → SameNumbers s.shards t.shards → s.last_file ≤ t.last_file → t.live ≡ s.live
-    → ((n table : ℕ) → files_in t.shards n table ≡ files_in s.shards n table) → LastsFor h found t e told
-lasts_again h found s t d e told lasts keeps tables limits list accepted committed going shards last live files = record {
+    → ((n table : ℕ) → files_in t.shards n table ≡ files_in s.shards n table) → t.frontiers ≡ s.frontiers → LastsFor h found t e told
+lasts_again h found s t d e told lasts keeps tables limits list accepted committed going shards last live files frontiers = record {
   keeps = keeps;
   tables = lasts.tables ∙ sym tables;
   shards = lasts.shards ∙ ap (λ l. l.shards) (sym limits);
   few = lasts.few;
-  ordered = lasts.ordered;
-  next = λ n y there.
+  ordered = still_in_order found s t list lasts.ordered;
+  next = still_next found s t t.shards list (λ n y there.
       let (x, at, same) = shards n y there in
-      subst (λ (k : ℕ). AscendByOne (numbers_of n told.taken ++ (k + 1) ∷ [])) (sym same) (lasts.next n x at);
+      subst (λ (k : ℕ). AscendByOne (numbers_of n (all_in found s) ++ (k + 1) ∷ [])) (sym same) (lasts.next n x at));
   counted = omega (arith, lasts.counted, accepted, ap (λ l. length (accepted_in l)) list);
   acknowledged = (omega (arith, lasts.acknowledged.0, committed), omega (arith, lasts.acknowledged.1, ap (λ l. length (accepted_in l)) list));
   whole = λ on. let all = lasts.whole (going on) in omega (arith, all, committed, ap (λ l. length (accepted_in l)) list);
@@ -125,6 +127,7 @@ lasts_again h found s t d e told lasts keeps tables limits list accepted committ
   };
   files = list_still (said_by told.entries) (files_in s.shards) (files_in t.shards) files lasts.files;
   changes = lasts.changes;
+  frontiers = frontiers ∙ lasts.frontiers;
 }
 
 -- another history that tells the same changes, and of as many mutations that they were acknowledged
@@ -143,6 +146,7 @@ lasts_as h k found s d told acks changes lasts = record {
   behind = lasts.behind;
   files = lasts.files;
   changes = lasts.changes ∙ sym changes;
+  frontiers = lasts.frontiers;
 }
 
 -- memory says nothing of changes
@@ -220,13 +224,13 @@ module _ (s t : State) (d e : Disk) (quiet : Quiet s t d e) where
   quiet_lasts h found told lasts =
       lasts_again h found s t d e told lasts (quiet.keeps found told lasts.keeps) quiet.tables quiet.limits quiet.list quiet.accepted quiet.committed
       (λ on. ap (λ j. is_some j.first) (sym quiet.journal) ∙ on) same_numbers quiet.last quiet.live
-      (files_again s.shards t.shards quiet.shards)
+      (files_again s.shards t.shards quiet.shards) quiet.frontiers
 
   pub quiet_amid : (h : History) (found : List Mutation) (told : Told) → h.tables ≡ s.tables → LastsFor h found s d told → Leaves (IsLeftAmid found s.list h) d e
   quiet_amid h found told tables lasts =
       reworded (λ _ c. Holds told c) (λ _ c. IsLeftAmid found s.list h c) d e (quiet.crash found told lasts.keeps)
       (λ b c was holds.
-      holds_amid told h found [] s.list c (append-nil told.taken ∙ lasts.keeps.all) (omega (arith, lasts.keeps.committed, lasts.acknowledged.0)) lasts.keeps.whole
+      holds_amid told h found (accepted_in s.list) [] s.committed s.list c (sym (append-nil (accepted_in s.list))) lasts.keeps.has lasts.acknowledged.0
       (lasts.tables ∙ sym tables) lasts.few holds)
 
   pub quiet_goes : (Left : Type 0) (h : History) (found : List Mutation) (told : Told) → h.tables ≡ s.tables → LastsFor h found s d told

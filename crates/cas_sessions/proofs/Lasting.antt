@@ -1,5 +1,5 @@
 -- A store's disk keeps what the history says after a step.
-use Rattle.std.proofs.Common.{◌≡◌, ◌≢◌, ◌<◌, ◌≤◌, ◌+◌, ◌-◌, ◌^◌, min, inl, inr, ⊎_elim, ℕ, false, List, [], ◌∷◌, ◌++◌, length, Some, is_some, refl, sym, ap, ◌∙◌, subst, arith, length-append}
+use Rattle.std.proofs.Common.{◌≡◌, ◌≢◌, ◌<◌, ◌≤◌, ◌+◌, ◌-◌, ◌^◌, min, inl, inr, ⊎_elim, ℕ, false, List, [], ◌∷◌, ◌++◌, length, map, Some, is_some, refl, sym, ap, ◌∙◌, subst, arith, append_assoc, length-append}
 use Rattle.std.specs.Prelude.{slice_set, slice_get, ◌⊎◌}
 use Rattle.std.proofs.lemmas.List.{flat_map_more}
 use Rattle.std.proofs.lemmas.Option.{same_Some}
@@ -10,24 +10,26 @@ use Rattle.cas_atoms.specs.LogLength.{record_length}
 use Rattle.cas_atoms.specs.declared.atom.Mutation.{Mutation}
 use Rattle.cas_mutations.specs.Allowed.{FitsRecord}
 use Rattle.cas_mutations.proofs.RecordLaws.{has_record}
-use Rattle.cas_changes.specs.Saying.{said_by}
+use Rattle.cas_changes.specs.Saying.{frontiers_in, said_by}
 use Rattle.cas_changes.specs.declared.entry.Entry.{Entry as ManifestEntry}
 use Rattle.cas_replay.specs.Grammar.{AreInOrder, AscendByOne, numbers_of}
 use Rattle.cas_history.specs.declared.item.Item.{Item}
 use Rattle.cas_history.specs.declared.item.Item.TheVariants.{Wrote}
-use Rattle.cas_journal.specs.Stores.{Told, MadeRoom, FailedToName}
+use Rattle.cas_journal.specs.Stores.{Told, MadeRoom, FailedToName, named}
 use Rattle.cas_journal.specs.Journals.{MayTake}
 use Rattle.cas_journal.proofs.Taking.{may_take, next_in_order, next_after}
 use Rattle.cas_room.specs.declared.event.Event.{Event}
 use Rattle.cas_room.specs.declared.event.Event.TheVariants as event
 use Rattle.cas_room.specs.Keeping.{Keeps}
+use Rattle.cas_room.proofs.Flushed.{as_named}
 use Rattle.cas_room.specs.Rooms.{accepted_in, mutation_of}
 use Rattle.cas_shard.specs.Stands.{ShardState}
 use Rattle.define_laws.proofs.Telling.{named_segments_define_nothing}
 use Rattle.cas_sessions.specs.History.{History, changes_told}
 use Rattle.cas_sessions.specs.Entered.{ListFiles}
-use Rattle.cas_sessions.specs.Nodes.{State, LastsFor, files_in}
+use Rattle.cas_sessions.specs.Nodes.{State, LastsFor, all_in, files_in}
 use Rattle.cas_sessions.proofs.Behind.{behind_named, behind_with}
+use Rattle.cas_sessions.proofs.Dropped.{next_behind, ordered_behind}
 use Rattle.cas_sessions.proofs.Files.{list_named, list_same, told_named}
 use Rattle.cas_recovery.specs.Restored.{IsBehind}
 use Rattle.cas_recovery.proofs.Places.{same_place, get_here, get_other}
@@ -38,6 +40,25 @@ pub one_accepted : (list : List (Item Event)) (m : Mutation) (session call : ℕ
     → length (accepted_in (list ++ Wrote m.shard session call m.number (event.Accepted m) ∷ [])) ≡ length (accepted_in list) + 1
 one_accepted list m session call =
     ap length (sym (flat_map_more mutation_of [] list (Wrote m.shard session call m.number (event.Accepted m)))) ∙ length-append (accepted_in list) (m ∷ [])
+
+-- all that was found and accepted, with one mutation more
+all_with_one : (found : List Mutation) (list : List (Item Event)) (m : Mutation) (session call : ℕ)
+    → found ++ accepted_in (list ++ Wrote m.shard session call m.number (event.Accepted m) ∷ []) ≡ (found ++ accepted_in list) ++ m ∷ []
+all_with_one found list m session call =
+    ap (λ ms. found ++ ms) (sym (flat_map_more mutation_of [] list (Wrote m.shard session call m.number (event.Accepted m)))) ∙ sym (append_assoc found (accepted_in list) (m ∷ []))
+
+-- where none is accepted, all are as they were
+pub still_in_order : (found : List Mutation) (s t : State) → t.list ≡ s.list → AreInOrder (all_in found s) → AreInOrder (all_in found t)
+still_in_order found s t list ordered = subst (λ l. AreInOrder (found ++ accepted_in l)) (sym list) ordered
+
+pub still_next : (found : List Mutation) (s t : State) (xs : List ShardState) → t.list ≡ s.list
+    → ((n : ℕ) (x : ShardState) → slice_get xs n ≡ Some x → AscendByOne (numbers_of n (all_in found s) ++ (x.number + 1) ∷ []))
+    → (n : ℕ) (x : ShardState) → slice_get xs n ≡ Some x → AscendByOne (numbers_of n (all_in found t) ++ (x.number + 1) ∷ [])
+still_next found s t xs list next n x there = subst (λ l. AscendByOne (numbers_of n (found ++ accepted_in l) ++ (x.number + 1) ∷ [])) (sym list) (next n x there)
+
+-- the names of segments tell no frontier
+named_frontiers : (entries : List ManifestEntry) (numbers : List ℕ) → frontiers_in (said_by (entries ++ named numbers)) ≡ frontiers_in (said_by entries)
+named_frontiers entries numbers = ap (λ parts. map (λ p. p.frontier) parts) (as_named entries numbers).parts
 
 -- the next numbers of shards that are the same
 same_next : (s t : State) (n : ℕ) (x y : ShardState) (told : List Mutation) → slice_get s.shards n ≡ Some x → t.shards ≡ slice_set s.shards n y → y.number ≡ x.number
@@ -66,20 +87,21 @@ pub lasts_still : (h k : History) (found : List Mutation) (s t : State) (d e : D
     → ((l : List (Item Event)) → l ≡ s.list → (c : ℕ) → c ≡ s.committed → Keeps s.journal d s.list s.committed found told → Keeps t.journal e l c found told)
     → t.list ≡ s.list → t.committed ≡ s.committed → t.tables ≡ s.tables → t.limits ≡ s.limits → t.accepted ≡ s.accepted
     → (is_some t.journal.first ≡ false → is_some s.journal.first ≡ false) → t.last_file ≡ s.last_file → t.live ≡ s.live
-    → files_in t.shards ≡ files_in s.shards → LastsFor h found s d told → LastsFor k found t e told
-lasts_still h k found s t d e told n x y acks changes there shards same keeps list committed tables limits accepted going last live files lasts = record {
+    → files_in t.shards ≡ files_in s.shards → t.frontiers ≡ s.frontiers → LastsFor h found s d told → LastsFor k found t e told
+lasts_still h k found s t d e told n x y acks changes there shards same keeps list committed tables limits accepted going last live files frontiers lasts = record {
   keeps = keeps t.list list t.committed committed lasts.keeps;
   tables = lasts.tables ∙ sym tables;
   shards = lasts.shards ∙ ap (λ l. l.shards) (sym limits);
   few = lasts.few;
-  ordered = lasts.ordered;
-  next = same_next s t n x y told.taken there shards same lasts.next;
+  ordered = still_in_order found s t list lasts.ordered;
+  next = still_next found s t t.shards list (same_next s t n x y (all_in found s) there shards same lasts.next);
   counted = omega (arith, lasts.counted, accepted, ap (λ l. length (accepted_in l)) list);
   acknowledged = (omega (arith, lasts.acknowledged.0, acks, committed), omega (arith, lasts.acknowledged.1, acks, ap (λ l. length (accepted_in l)) list));
   whole = λ on. let all = lasts.whole (going on) in omega (arith, all, committed, ap (λ l. length (accepted_in l)) list);
   behind = behind_with (said_by told.entries) s t n x y there shards (omega (arith, same)) last live lasts.behind;
   files = list_same (said_by told.entries) (files_in s.shards) (files_in t.shards) files lasts.files;
   changes = lasts.changes ∙ sym changes;
+  frontiers = frontiers ∙ lasts.frontiers;
 }
 
 -- ---- a mutation that may be taken
@@ -88,7 +110,11 @@ pub may_be_taken : (h : History) (found : List Mutation) (s : State) (d : Disk) 
     → slice_get s.tables m.table ≡ Some table → FitsMutation table s.limits.shards m → record_length m < 2 ^ 32 → slice_get s.shards m.shard ≡ Some x
     → m.number ≡ x.number + 1 → MayTake t m
 may_be_taken h found s d t m table x lasts there fits short seat number =
-    may_take t m fitting lasts.ordered (subst (λ (k : ℕ). AscendByOne (numbers_of m.shard t.taken ++ k ∷ [])) (sym number) (lasts.next m.shard x seat))
+    let all : all_in found s ≡ lasts.keeps.has.dropped ++ t.taken = sym lasts.keeps.has.all in
+    may_take t m fitting (ordered_behind lasts.keeps.has.dropped t.taken (subst AreInOrder all lasts.ordered))
+    (next_behind m.shard m.number lasts.keeps.has.dropped t.taken
+    (subst (λ ms. AscendByOne (numbers_of m.shard ms ++ m.number ∷ [])) all
+    (subst (λ (k : ℕ). AscendByOne (numbers_of m.shard (all_in found s) ++ k ∷ [])) (sym number) (lasts.next m.shard x seat))))
   where
     fitting : FitsRecord (said_by t.entries).tables (said_by t.entries).shards m
     fitting = record {
@@ -108,18 +134,16 @@ pub lasts_with_room : (h k : History) (found : List Mutation) (s t : State) (d e
     → k.changes ≡ h.changes → slice_get s.shards n ≡ Some x → t.shards ≡ slice_set s.shards n y → y.number ≡ x.number → MadeRoom told u → Keeps t.journal e t.list t.committed found u
     → t.list ≡ s.list → t.committed ≡ s.committed → t.tables ≡ s.tables → t.limits ≡ s.limits → t.accepted ≡ s.accepted
     → (is_some t.journal.first ≡ false → is_some s.journal.first ≡ false) → t.last_file ≡ s.last_file → t.live ≡ s.live
-    → files_in t.shards ≡ files_in s.shards → LastsFor h found s d told → LastsFor k found t e u
-lasts_with_room h k found s t d e told u n x y acks changes there shards same made keeps list committed tables limits accepted going last live files lasts =
+    → files_in t.shards ≡ files_in s.shards → t.frontiers ≡ s.frontiers → LastsFor h found s d told → LastsFor k found t e u
+lasts_with_room h k found s t d e told u n x y acks changes there shards same made keeps list committed tables limits accepted going last live files frontiers lasts =
     let defined = named_segments_define_nothing told.entries made.numbers in
     record {
       keeps = keeps;
       tables = ap (λ es. (said_by es).tables) made.entries ∙ defined.0 ∙ lasts.tables ∙ sym tables;
       shards = ap (λ es. (said_by es).shards) made.entries ∙ defined.1 ∙ lasts.shards ∙ ap (λ l. l.shards) (sym limits);
       few = few_failed told.failed u.failed made.failed lasts.few;
-      ordered = subst AreInOrder (sym made.taken) lasts.ordered;
-      next =
-          subst (λ ms. (j : ℕ) (z : ShardState) → slice_get t.shards j ≡ Some z → AscendByOne (numbers_of j ms ++ (z.number + 1) ∷ [])) (sym made.taken)
-          (same_next s t n x y told.taken there shards same lasts.next);
+      ordered = still_in_order found s t list lasts.ordered;
+      next = still_next found s t t.shards list (same_next s t n x y (all_in found s) there shards same lasts.next);
       counted = omega (arith, lasts.counted, accepted, ap (λ l. length (accepted_in l)) list);
       acknowledged = (omega (arith, lasts.acknowledged.0, acks, committed), omega (arith, lasts.acknowledged.1, acks, ap (λ l. length (accepted_in l)) list));
       whole = λ on. let all = lasts.whole (going on) in omega (arith, all, committed, ap (λ l. length (accepted_in l)) list);
@@ -130,6 +154,7 @@ lasts_with_room h k found s t d e told u n x y acks changes there shards same ma
           subst (λ es. ListFiles (said_by es) (files_in t.shards)) (sym made.entries)
           (list_named told.entries made.numbers (files_in t.shards) (list_same (said_by told.entries) (files_in s.shards) (files_in t.shards) files lasts.files));
       changes = ap changes_told made.entries ∙ told_named told.entries made.numbers ∙ lasts.changes ∙ sym changes;
+      frontiers = frontiers ∙ lasts.frontiers ∙ sym (named_frontiers told.entries made.numbers) ∙ ap (λ es. frontiers_in (said_by es)) (sym made.entries);
     }
 
 -- ---- a mutation that was taken
@@ -140,47 +165,48 @@ counts n a b few room is = omega (arith, few, room, is)
 
 module _ (h k : History) (found : List Mutation) (s t : State) (d e : Disk) (told u v : Told) (m : Mutation) (x y : ShardState) (there : slice_get s.shards m.shard ≡ Some x)
     (shards : t.shards ≡ slice_set s.shards m.shard y) (number : m.number ≡ x.number + 1) (new : y.number ≡ m.number) (made : MadeRoom told u)
-    (entries : v.entries ≡ u.entries) (failed : v.failed ≡ u.failed) (taken : v.taken ≡ u.taken ++ m ∷ []) (lasts : LastsFor h found s d told) where
-  comes : AscendByOne (numbers_of m.shard told.taken ++ m.number ∷ [])
-  comes = subst (λ (j : ℕ). AscendByOne (numbers_of m.shard told.taken ++ j ∷ [])) (sym number) (lasts.next m.shard x there)
+    (entries : v.entries ≡ u.entries) (failed : v.failed ≡ u.failed) (lasts : LastsFor h found s d told) where
+  abbrev before : List Mutation
+  before = all_in found s
 
-  all : v.taken ≡ told.taken ++ m ∷ []
-  all = taken ∙ ap (λ ms. ms ++ m ∷ []) made.taken
+  comes : AscendByOne (numbers_of m.shard before ++ m.number ∷ [])
+  comes = subst (λ (j : ℕ). AscendByOne (numbers_of m.shard before ++ j ∷ [])) (sym number) (lasts.next m.shard x there)
 
-  next_now : (j : ℕ) (z : ShardState) → slice_get t.shards j ≡ Some z → AscendByOne (numbers_of j (told.taken ++ m ∷ []) ++ (z.number + 1) ∷ [])
+  next_now : (j : ℕ) (z : ShardState) → slice_get t.shards j ≡ Some z → AscendByOne (numbers_of j (before ++ m ∷ []) ++ (z.number + 1) ∷ [])
   next_now j z got = ⊎_elim here elsewhere (same_place j m.shard)
     where
       got_set : slice_get (slice_set s.shards m.shard y) j ≡ Some z
       got_set = subst (λ (xs : List ShardState). slice_get xs j ≡ Some z) shards got
 
-      here : j ≡ m.shard → AscendByOne (numbers_of j (told.taken ++ m ∷ []) ++ (z.number + 1) ∷ [])
+      here : j ≡ m.shard → AscendByOne (numbers_of j (before ++ m ∷ []) ++ (z.number + 1) ∷ [])
       here is =
           let at_j : slice_get (slice_set s.shards m.shard y) j ≡ Some y =
           subst (λ (i : ℕ). slice_get (slice_set s.shards m.shard y) i ≡ Some y) (sym is) (get_here s.shards m.shard x y there) in
           let same : y ≡ z = same_Some y z (sym at_j ∙ got_set) in
-          next_after told.taken m comes j (x.number + 1) (z.number + 1) (λ _. ap (λ (w : ShardState). w.number + 1) (sym same) ∙ ap (λ i. i + 1) new) (λ other. absurd (other (sym is)))
+          next_after before m comes j (x.number + 1) (z.number + 1) (λ _. ap (λ (w : ShardState). w.number + 1) (sym same) ∙ ap (λ i. i + 1) new) (λ other. absurd (other (sym is)))
           (lasts.next j x (subst (λ (i : ℕ). slice_get s.shards i ≡ Some x) (sym is) there))
 
-      elsewhere : j ≢ m.shard → AscendByOne (numbers_of j (told.taken ++ m ∷ []) ++ (z.number + 1) ∷ [])
+      elsewhere : j ≢ m.shard → AscendByOne (numbers_of j (before ++ m ∷ []) ++ (z.number + 1) ∷ [])
       elsewhere other =
-          next_after told.taken m comes j (z.number + 1) (z.number + 1) (λ same. absurd (other (sym same))) (λ _. refl)
+          next_after before m comes j (z.number + 1) (z.number + 1) (λ same. absurd (other (sym same))) (λ _. refl)
           (lasts.next j z (sym (get_other s.shards m.shard j y other) ∙ got_set))
 
   pub lasts_taken : (session call : ℕ) → t.list ≡ s.list ++ Wrote m.shard session call m.number (event.Accepted m) ∷ [] → t.tables ≡ s.tables → t.limits ≡ s.limits
       → t.accepted ≡ min (s.accepted + 1) (2 ^ 64 - 1) → s.accepted + 1 < 2 ^ 64 → Keeps t.journal e t.list t.committed found v
       → k.acknowledged ≤ h.acknowledged + 1 → (k.acknowledged ≤ h.acknowledged) × (s.committed ≤ t.committed) ⊎ (t.committed ≡ t.accepted)
       → (is_some t.journal.first ≡ false → t.committed ≡ t.accepted) → t.last_file ≡ s.last_file → t.live ≡ s.live
-      → files_in t.shards ≡ files_in s.shards → k.changes ≡ h.changes → LastsFor k found t e v
-  lasts_taken session call list tables limits accepted room keeps acks either going last live files changes =
+      → files_in t.shards ≡ files_in s.shards → t.frontiers ≡ s.frontiers → k.changes ≡ h.changes → LastsFor k found t e v
+  lasts_taken session call list tables limits accepted room keeps acks either going last live files frontiers changes =
       let defined = named_segments_define_nothing told.entries made.numbers in
       let longer : length (accepted_in t.list) ≡ length (accepted_in s.list) + 1 = ap (λ l. length (accepted_in l)) list ∙ one_accepted s.list m session call in
+      let all : all_in found t ≡ before ++ m ∷ [] = ap (λ l. found ++ accepted_in l) list ∙ all_with_one found s.list m session call in
       let counted : length (accepted_in s.list) + 1 ≤ t.accepted = counts (length (accepted_in s.list)) s.accepted t.accepted lasts.counted (omega (arith, lasts.counted, room)) accepted in
       record {
         keeps = keeps;
         tables = ap (λ es. (said_by es).tables) (entries ∙ made.entries) ∙ defined.0 ∙ lasts.tables ∙ sym tables;
         shards = ap (λ es. (said_by es).shards) (entries ∙ made.entries) ∙ defined.1 ∙ lasts.shards ∙ ap (λ l. l.shards) (sym limits);
         few = subst (λ es. length es ≤ 1) (sym failed) (few_failed told.failed u.failed made.failed lasts.few);
-        ordered = subst AreInOrder (sym all) (next_in_order told.taken m comes lasts.ordered);
+        ordered = subst AreInOrder (sym all) (next_in_order before m comes lasts.ordered);
         next =
             subst (λ ms. (j : ℕ) (z : ShardState) → slice_get t.shards j ≡ Some z → AscendByOne (numbers_of j ms ++ (z.number + 1) ∷ [])) (sym all) next_now;
         counted = omega (arith, longer, counted);
@@ -194,6 +220,7 @@ module _ (h k : History) (found : List Mutation) (s t : State) (d e : Disk) (tol
             subst (λ es. ListFiles (said_by es) (files_in t.shards)) (sym (entries ∙ made.entries))
             (list_named told.entries made.numbers (files_in t.shards) (list_same (said_by told.entries) (files_in s.shards) (files_in t.shards) files lasts.files));
         changes = ap changes_told (entries ∙ made.entries) ∙ told_named told.entries made.numbers ∙ lasts.changes ∙ sym changes;
+        frontiers = frontiers ∙ lasts.frontiers ∙ sym (named_frontiers told.entries made.numbers) ∙ ap (λ es. frontiers_in (said_by es)) (sym (entries ∙ made.entries));
       }
     where
       acks_by : (k.acknowledged ≤ h.acknowledged) × (s.committed ≤ t.committed) ⊎ (t.committed ≡ t.accepted)

@@ -3,6 +3,8 @@ mod Telling
 mod Idling
 mod Filing
 mod Behind
+mod Dropped
+mod Frontiers
 mod Files
 mod Parts
 mod Remembering
@@ -23,6 +25,7 @@ pub mod Going
 pub mod Next
 pub mod Changed
 mod Filled
+mod Shrinking
 mod FlushSteps
 mod FlushExplains
 mod FlushFiles
@@ -33,6 +36,7 @@ mod FlushChange
 mod FlushShard
 mod FlushAll
 pub mod FlushFull
+mod FullNoMore
 mod FlushMaking
 mod FlushSound
 mod Statuses

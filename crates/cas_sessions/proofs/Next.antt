@@ -249,7 +249,7 @@ none_greater s n few (suc count) high = ⊎_elim (λ low. behind low (none_great
         omega (arith, none, before)
 
 module _ (s u : Saying) (grows : Grows s u) (few : length s.parts ≤ length s.tables * s.shards) (mutations : List Mutation)
-    (fit : AllByRecursion (FitsRecord s.tables s.shards) mutations) (before : Disk) (n : ℕ) (within : n < s.shards) (o : ShardOpening) (b i : Image)
+    (fit : AllByRecursion (FitsRecord s.tables s.shards) (unflushed_of s mutations)) (before : Disk) (n : ℕ) (within : n < s.shards) (o : ShardOpening) (b i : Image)
     (left : before.may_leave b) (same : (number : ℕ) → IsListedTable s number → i (table_name number) ≡ b (table_name number)) where
   all_greatest : greatest_frontier u n (length u.tables) ≡ greatest_frontier s n (length s.tables)
   all_greatest = same_greatest s u n grows (length u.tables) ∙ none_greater s n few (length u.tables) grows.more
@@ -282,7 +282,7 @@ module _ (s u : Saying) (grows : Grows s u) (few : length s.parts ≤ length s.t
       (record {
         written = [];
         stand = λ c here. tt;
-        says = say_alike _ _ (none_found n table s.tables s.shards high (unflushed_of s mutations) empty_shard (all_filtered (FitsRecord s.tables s.shards) (is_above s) mutations fit) refl ∙ sym (is.no_others table high));
+        says = say_alike _ _ (none_found n table s.tables s.shards high (unflushed_of s mutations) empty_shard fit refl ∙ sym (is.no_others table high));
       })
 
   pub opening_wider : IsOpening s mutations before n o → IsOpening u mutations (only i) n o
@@ -465,7 +465,8 @@ module _ (before : Disk) (entries behind : List Entry) (mutations more : List Mu
       let first = as_opening entries mutations store.log before n (openings n) within (are n within) in
       let fit = subst (λ l. AllByRecursion (FitsRecord (said_by (entries ++ behind)).tables (said_by (entries ++ behind)).shards) l) is.log.all
       (segments_fit _ _ _ _ is.log.parts is.log.segments) in
-      let wider = opening_wider (said_by entries) (said_by (entries ++ behind)) grows (said_few entries store.follow) mutations store.log.fit before n within (openings n) b i left same first in
+      let wider = opening_wider (said_by entries) (said_by (entries ++ behind)) grows (said_few entries store.follow) mutations
+      (all_filtered (FitsRecord (said_by entries).tables (said_by entries).shards) (is_above (said_by entries)) mutations store.log.fit) before n within (openings n) b i left same first in
       let ordered : AscendByOne (numbers_of n mutations ++ numbers_of n more) =
       subst (λ l. AscendByOne l) (flat_map-append (λ (m : Mutation). if m.shard == n then m.number ∷ [] else []) mutations more) (is.log.ordered n) in
       let on = goes_from (numbers_of n mutations) (numbers_of n more) (openings n).number first.goes_on ordered (goes n within) in
@@ -475,8 +476,11 @@ module _ (before : Disk) (entries behind : List Entry) (mutations more : List Mu
       )
 
 pub left_explains : (before : Disk) → LeftExplains before
-left_explains before entries mutations openings list h b i store are left same (behind, none, has) crash bytes goes =
+left_explains before entries mutations openings list h b i store are left same (behind, none, has) crash nothing bytes goes =
     let more = take crash.count (accepted_in list) in
-    let one : crash.entries ≡ entries ++ behind = entries_alone crash.entries (entries ++ behind) i (crash.store.file, crash.store.there, crash.store.manifest) has in
+    let is = crash.store.store in
+    let one : crash.entries ≡ entries ++ behind = entries_alone crash.entries (entries ++ behind) i (is.file, is.there, is.manifest) has in
+    let all : mutations ++ more ≡ crash.store.logged = crash.store.are ∙ ap (λ ds. ds ++ crash.store.logged) nothing in
     subst (λ es. AreOpenings es (mutations ++ more) (only i) (λ n. with_more n more (openings n))) (sym one)
-    (explains before entries behind mutations more openings b i store are left same none (subst (λ es. IsStore es (mutations ++ more) i) one crash.store) bytes goes)
+    (explains before entries behind mutations more openings b i store are left same none
+    (subst (λ es. IsStore es (mutations ++ more) i) one (subst (λ ms. IsStore crash.entries ms i) (sym all) is)) bytes goes)

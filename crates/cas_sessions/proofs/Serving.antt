@@ -1,5 +1,5 @@
 -- A run over a store that was opened, from its beginning to what a crash leaves of it.
-use Rattle.std.proofs.Common.{◌≡◌, ◌<◌, ◌≤◌, ◌+◌, ◌-◌, ℕ, ℤ, zero, suc, pos, inl, inr, false, List, [], ◌∷◌, ◌++◌, length, map, Option, Some, None, is_some, refl, sym, ap, ◌∙◌, subst, arith, append-nil, length-append, take}
+use Rattle.std.proofs.Common.{◌≡◌, ◌<◌, ◌≤◌, ◌+◌, ℕ, ℤ, zero, suc, pos, inl, inr, false, List, [], ◌∷◌, ◌++◌, length, map, Option, Some, None, is_some, refl, sym, ap, ◌∙◌, subst, arith, append-nil, take}
 use Rattle.std.specs.Prelude.{◌⊎◌, ◌≤ℤ◌, slice_get, slice_index_or}
 use Rattle.std.specs.Int.{int_max}
 use Rattle.std.proofs.lemmas.Int.{clamps, ints}
@@ -15,12 +15,11 @@ use Rattle.cas_changes.specs.declared.entry.Entry.{Entry as ManifestEntry}
 use Rattle.cas_changes.specs.declared.said.Part.{Part}
 use Rattle.cas_history.specs.declared.item.Item.{Item}
 use Rattle.cas_journal.specs.Journals.{Lasts}
-use Rattle.cas_journal.proofs.Holding.{whole_store}
-use Rattle.cas_journal.specs.Stores.{Holds, IsStore, MayList, Told}
+use Rattle.cas_journal.specs.Stores.{MayList, Told}
 use Rattle.cas_opening.specs.Opening.{IsOfBytes}
 use Rattle.cas_journal.specs.declared.journal.Journal.{Journal}
 use Rattle.cas_replay.specs.Grammar.{AreInOrder, AscendByOne, numbers_of}
-use Rattle.cas_room.specs.Keeping.{StandsFor as ImageStands}
+use Rattle.cas_room.specs.Keeping.{AreFlushed, MayFail, StandsFor as ImageStands}
 use Rattle.cas_room.specs.Rooms.{accepted_in}
 use Rattle.cas_room.specs.declared.event.Event.{Event}
 use Rattle.cas_sstread.specs.Loading.{Held}
@@ -35,17 +34,18 @@ use Rattle.cas_sessions.specs.Next.{IsExplained}
 use Rattle.cas_sessions.specs.Starts.{AreExplained, AreItsFiles, BeginsAs, IsInMemory, IsStarted, start}
 use Rattle.cas_sessions.specs.Entered.{HasTables, IsLeft, ListFiles, entries_in}
 use Rattle.cas_shard.proofs.Numbers.{drawn_of_none, last_of_none}
-use Rattle.cas_recovery.specs.Openings.{AreOpenings, IsOpening, MayHaveBeen, times_of}
+use Rattle.cas_recovery.specs.Openings.{AreOpenings, IsOpening, MayHaveBeen, times_of, unflushed_of}
 use Rattle.cas_recovery.specs.Recovered.{IsRecovered}
-use Rattle.cas_recovery.specs.Restored.{IsTold}
-use Rattle.cas_sessions.specs.Nodes.{Explains, State, StandsFor, LastsFor, disk_of, files_in, files_of}
+use Rattle.cas_recovery.specs.Restored.{IsTold, RememberAll}
+use Rattle.cas_sessions.specs.Nodes.{Explains, State, StandsFor, LastsFor, disk_of, files_in, files_of, all_in}
 use Rattle.cas_recovery.proofs.Explained.{opened_goes_on}
 use Rattle.cas_recovery.proofs.Places.{get_within}
 use Rattle.cas_sessions.proofs.Behind.{behind_said}
-use Rattle.cas_sessions.proofs.Crashing.{front_is}
 use Rattle.cas_sessions.proofs.Explaining.{explains_named}
 use Rattle.cas_sessions.proofs.Files.{list_said, told_named}
 use Rattle.cas_sessions.proofs.Parts.{no_more, said_few, there_at}
+use Rattle.cas_sessions.proofs.Dropped.{opening_behind}
+use Rattle.cas_room.proofs.Standing.{front_lacks, holds_front}
 
 -- ---- numbers
 
@@ -72,8 +72,8 @@ empty_of [] e = refl
 empty_of (x ∷ xs) e = cc
 
 -- what was read back is in memory, whatever the shards may have been
-module _ (given limits : Limits) (tables : List TableSchema) (shards : List ShardState) (last live : ℕ) (journal : Journal) (old new : Disk)
-    (is : IsRecovered given limits tables shards last live journal old new) where
+module _ (given limits : Limits) (tables : List TableSchema) (shards : List ShardState) (frontiers : List ℕ) (last live : ℕ) (journal : Journal) (old new : Disk)
+    (is : IsRecovered given limits tables shards frontiers last live journal old new) where
   many_read : length shards ≡ (said_by is.entries).shards
   many_read = is.count ∙ ap (λ (l : Limits). l.shards) is.same
 
@@ -112,7 +112,7 @@ module _ (given limits : Limits) (tables : List TableSchema) (shards : List Shar
           ap (λ (l : List (File Held)). map (λ f. f.info) l) (its_files.no_more n table (inr high))
           ∙ ap (λ (p : Part). p.listed) (sym (no_more (said_by is.entries) table n (said_few is.entries is.found.of_a_store.follow) high))
 
-  read_back : (openings : ℕ → ShardOpening) → AreOpenings is.entries is.mutations old openings → IsInMemory given is.entries is.mutations openings limits tables shards last live
+  read_back : (openings : ℕ → ShardOpening) → AreOpenings is.entries is.mutations old openings → IsInMemory given is.entries is.mutations openings limits tables shards frontiers last live
   read_back openings were = record {
     same = is.same;
     tables_are = is.tables_are;
@@ -122,6 +122,7 @@ module _ (given limits : Limits) (tables : List TableSchema) (shards : List Shar
     next = λ n x there.
         opened_goes_on is.entries is.mutations is.found.of_a_store.log old n (openings n) (low n x there) (may n x there) tables x (is.stands n x (openings n) there (may n x there));
     behind = is.behind;
+    frontiers_are = is.frontiers_are;
     last_is = is.last_is;
     files = just_listed;
     memory = is.memory;
@@ -134,11 +135,11 @@ module _ (given limits : Limits) (tables : List TableSchema) (shards : List Shar
       may : (n : ℕ) (x : ShardState) → slice_get shards n ≡ Some x → MayHaveBeen (said_by is.entries) is.mutations old n (openings n)
       may n x there = were n (low n x there)
 
-  pub started : IsStarted given limits tables shards last live journal old new
+  pub started : IsStarted given limits tables shards frontiers last live journal old new
   started = record { back = is; memory = read_back; files = its_files }
 
 module _ (given : Limits) (entries : List ManifestEntry) (mutations : List Mutation) (openings : ℕ → ShardOpening) (s : State)
-    (memory : IsInMemory given entries mutations openings s.limits s.tables s.shards s.last_file s.live) (clock : s.clock ≡ pos 0) (list : s.list ≡ []) (calls : s.calls ≡ 0) where
+    (memory : IsInMemory given entries mutations openings s.limits s.tables s.shards s.frontiers s.last_file s.live) (clock : s.clock ≡ pos 0) (list : s.list ≡ []) (calls : s.calls ≡ 0) where
   abbrev count : ℕ
   count = (said_by entries).shards
 
@@ -170,22 +171,32 @@ module _ (given : Limits) (entries : List ManifestEntry) (mutations : List Mutat
     filled = memory.filled;
   }
 
+  -- nothing was accepted yet
+  whole_list : all_in mutations s ≡ mutations
+  whole_list = ap (λ (l : List (Item Event)). mutations ++ accepted_in l) list ∙ append-nil mutations
+
   first_lasts : (d : Disk) (t : Told) → IsTold entries mutations t → Lasts s.journal d t → s.committed ≡ 0
       → LastsFor (start given entries mutations openings s.session (disk_of s)) mutations s d t
   unfolding start
   first_lasts d t told lasts committed = record {
     keeps = record {
       lasts = lasts;
-      all = told.taken ∙ sym (append-nil mutations) ∙ ap (λ (l : List (Item Event)). mutations ++ accepted_in l) (sym list);
-      committed = omega (arith, told.committed, committed);
-      whole = told.whole;
+      has = record {
+        dropped = [];
+        all = told.taken ∙ sym whole_list;
+        committed = omega (arith, told.committed, committed);
+        flushed = tt;
+        few = omega (arith, told.whole);
+        leaving = subst (λ (n : ℕ). AreFlushed t.entries (take n t.taken)) (sym told.whole) tt;
+        failing = subst (MayFail (said_by t.entries)) (sym told.failed) tt;
+      };
     };
     tables = told.tables ∙ sym memory.tables_are;
     shards = told.shards ∙ ap (λ (l : Limits). l.shards) (sym memory.same);
     few = subst (λ (es : List ManifestEntry). length es ≤ 1) (sym told.failed) (omega arith);
-    ordered = subst AreInOrder (sym told.taken) memory.ordered;
+    ordered = subst AreInOrder (sym whole_list) memory.ordered;
     next =
-        subst (λ (ms : List Mutation). (n : ℕ) (x : ShardState) → slice_get s.shards n ≡ Some x → AscendByOne (numbers_of n ms ++ (x.number + 1) ∷ [])) (sym told.taken)
+        subst (λ (ms : List Mutation). (n : ℕ) (x : ShardState) → slice_get s.shards n ≡ Some x → AscendByOne (numbers_of n ms ++ (x.number + 1) ∷ [])) (sym whole_list)
         memory.next;
     counted = none s.accepted;
     acknowledged = (omega arith, omega arith);
@@ -193,6 +204,7 @@ module _ (given : Limits) (entries : List ManifestEntry) (mutations : List Mutat
     behind = behind_said (said_by entries) (said_by t.entries) s.shards s.last_file s.live told.shards told.parts told.numbers told.listed memory.behind;
     files = list_said (said_by entries) (said_by t.entries) (files_in s.shards) told.shards told.parts memory.files;
     changes = ap changes_told told.begun.1 ∙ told_named entries told.begun.0;
+    frontiers = memory.frontiers_are ∙ ap (λ (parts : List Part). map (λ (p : Part). p.frontier) parts) (sym told.parts);
   }
     where
       none : (n : ℕ) → length (accepted_in s.list) ≤ n
@@ -223,7 +235,7 @@ module _ (given : Limits) (entries : List ManifestEntry) (mutations : List Mutat
             subst (λ ms. OpensIn mutations ms es i n (openings n)) (sym none)
             (subst (λ l. OpensIn mutations [] l i n (openings n)) (sym (only_entries es may))
             (as_it_is (said_by entries) n i (openings n) (explained i leaves n (subst (λ l. n < (said_by l).shards) (only_entries es may) low))));
-        memory = memory.memory;
+        memory = subst (λ ms. RememberAll s.tables (unflushed_of (said_by entries) ms) s.shards) (sym whole_list) memory.memory;
       })
     where
       nothing : accepted_in s.list ≡ []
@@ -247,7 +259,7 @@ module _ (given : Limits) (entries : List ManifestEntry) (mutations : List Mutat
 
 -- the store stands for the history that begins with whatever its shards were
 pub begins : (given : Limits) (entries : List ManifestEntry) (mutations : List Mutation) (openings : ℕ → ShardOpening) (s : State) (d : Disk)
-    → IsInMemory given entries mutations openings s.limits s.tables s.shards s.last_file s.live → s.clock ≡ pos 0 → s.list ≡ [] → s.calls ≡ 0 → s.committed ≡ 0
+    → IsInMemory given entries mutations openings s.limits s.tables s.shards s.frontiers s.last_file s.live → s.clock ≡ pos 0 → s.list ≡ [] → s.calls ≡ 0 → s.committed ≡ 0
     → BeginsAs given entries mutations openings d s
 begins given entries mutations openings s d memory clock list calls committed = record {
   stands = first_stands given entries mutations openings s memory clock list calls;
@@ -302,28 +314,20 @@ module _ (final : History) (mutations : List Mutation) (s : State) (d : Disk) (t
     store = image.store;
   }
 
-  -- what was told to the journal, in an image, in the words of the history
-  image_stands : (i : Image) → (holds : Holds t i) → ImageStands (MayList t) mutations (accepted_in s.list) s.committed i
-  image_stands i holds = record {
-    entries = holds.entries;
-    may = holds.listed;
-    count = holds.count - length mutations;
-    least = omega (arith, lasts.keeps.committed, holds.least);
-    most = omega (arith, lasts.keeps.committed, holds.least, holds.most, ap length lasts.keeps.all, length-append mutations (accepted_in s.list));
-    store =
-        subst (λ (ms : List Mutation). IsStore holds.entries ms i)
-        (front_is mutations (accepted_in s.list) t.taken [] holds.count (append-nil t.taken ∙ lasts.keeps.all) (omega (arith, lasts.keeps.committed, holds.least)) holds.most)
-        (whole_store t i lasts.keeps.whole holds);
-  }
-
   -- it explains the history to the next run
   pub is_explained : (openings : ℕ → ShardOpening) → Explains openings final mutations s d t → (i : Image) → d.may_leave i → IsOfBytes i → IsExplained mutations s.list final openings i
-  unfolding is_left image_stands
+  unfolding is_left
   is_explained openings explains i leaves bytes =
       let holds = lasts.keeps.lasts.holds i leaves in
-      let least : t.committed ≤ length mutations + (holds.count - length mutations) = omega (arith, lasts.keeps.committed, holds.least) in
-      let image = image_stands i holds in
+      let image : ImageStands (MayList t) mutations (accepted_in s.list) s.committed i = holds_front t mutations (accepted_in s.list) s.committed i lasts.keeps.has holds in
+      let least : t.committed + length (accepted_in s.list) ≤ length t.taken + image.count = front_lacks t mutations (accepted_in s.list) s.committed i lasts.keeps.has holds in
       record {
         left = is_left i image;
-        next = λ n low. inl ((i, (λ k. refl), bytes), explains.opens i leaves holds.entries holds.listed (holds.count - length mutations) least image.most n low);
+        next = λ n low.
+            let o : ShardOpening = as_told (said_by image.entries) n (with_more n (take image.count (accepted_in s.list)) (openings n)) in
+            inl (
+              (i, (λ k. refl), bytes),
+              opening_behind (said_by image.entries) image.store.dropped image.store.logged (only i) n o image.store.flushed
+                  (subst (λ ms. IsOpening (said_by image.entries) ms (only i) n o) image.store.are (explains.opens i leaves image.entries image.may image.count least image.most n low)),
+            );
       }

@@ -7,7 +7,6 @@ use Rattle.cas_types.specs.Limits.{IsShardCount}
 use Rattle.cas_types.specs.declared.schema.Column.{Column}
 use Rattle.cas_types.specs.declared.schema.TableSchema.{TableSchema}
 use Rattle.cas_gates.specs.declared.first.First.{First}
-use Rattle.cas_replay.specs.Grammar.{AreInOrder, AscendByOne, numbers_of}
 use Rattle.cas_sessions.specs.Entered.{ListFiles, entries_in}
 use Rattle.cas_bind.specs.declared.bound.Bound.{Bound}
 use Rattle.cas_bind.specs.declared.bound.Bound.TheVariants as bound
@@ -29,7 +28,7 @@ use Rattle.define_laws.specs.Entries.{MayTell}
 use Rattle.cas_disk.specs.Disk.{Disk, During}
 use Rattle.cas_atoms.specs.declared.atom.Mutation.{Mutation}
 use Rattle.cas_bind.specs.Tables.{AreInPlace, tables_after, with_added}
-use Rattle.cas_changes.specs.Saying.{Saying, said_by, nothing, after}
+use Rattle.cas_changes.specs.Saying.{Saying, said_by, nothing, after, frontiers_in}
 use Rattle.cas_changes.specs.declared.entry.Entry.{Entry as ManifestEntry}
 use Rattle.cas_define.specs.declared.addition.Addition.{Addition}
 use Rattle.cas_history.specs.declared.item.Item.{Item}
@@ -52,6 +51,7 @@ use Rattle.cas_sessions.proofs.Behind.{behind_defined, still_behind}
 use Rattle.cas_sessions.proofs.Explaining.{explains_still, explains_wider, goes_nowhere as goes_further, keep_files, keep_files_none}
 use Rattle.cas_sessions.proofs.Files.{Files, list_defined, list_same, told_defined}
 use Rattle.cas_sessions.proofs.Parts.{said_few}
+use Rattle.cas_sessions.proofs.Lasting.{still_in_order, still_next}
 
 -- ---- a shard under more tables
 
@@ -174,25 +174,25 @@ stands_defined h s t stands limits clock session calls list shards under remembe
 
 -- its disk keeps that, by what the journal is told then
 pub lasts_defined : (h k : History) (found : List Mutation) (s t : State) (d e : Disk) (told now : Told) → LastsFor h found s d told → k.acknowledged ≡ h.acknowledged
-    → Keeps t.journal e t.list t.committed found now → now.taken ≡ told.taken → length now.failed ≤ 1 → (said_by now.entries).tables ≡ t.tables
+    → Keeps t.journal e t.list t.committed found now → length now.failed ≤ 1 → (said_by now.entries).tables ≡ t.tables
     → (said_by now.entries).shards ≡ (said_by told.entries).shards
     → t.limits ≡ s.limits → t.list ≡ s.list → t.shards ≡ s.shards → t.accepted ≡ s.accepted → t.committed ≡ s.committed
     → (is_some t.journal.first ≡ false → is_some s.journal.first ≡ false) → IsBehind (said_by now.entries) t.shards t.last_file t.live
-    → ListFiles (said_by now.entries) (files_in t.shards) → changes_told now.entries ≡ k.changes → LastsFor k found t e now
-lasts_defined h k found s t d e told now lasts acks keeps taken few tables said limits list shards accepted committed going behind files changes = record {
+    → ListFiles (said_by now.entries) (files_in t.shards) → changes_told now.entries ≡ k.changes → t.frontiers ≡ frontiers_in (said_by now.entries) → LastsFor k found t e now
+lasts_defined h k found s t d e told now lasts acks keeps few tables said limits list shards accepted committed going behind files changes frontiers = record {
   keeps = keeps;
   tables = tables;
   shards = said ∙ lasts.shards ∙ ap (λ l. l.shards) (sym limits);
   few = few;
-  ordered = subst AreInOrder (sym taken) lasts.ordered;
-  next = λ n x got.
-      subst (λ (ms : List Mutation). AscendByOne (numbers_of n ms ++ (x.number + 1) ∷ [])) (sym taken) (lasts.next n x (subst (λ (xs : List ShardState). slice_get xs n ≡ Some x) shards got));
+  ordered = still_in_order found s t list lasts.ordered;
+  next = still_next found s t t.shards list (λ n x got. lasts.next n x (subst (λ (xs : List ShardState). slice_get xs n ≡ Some x) shards got));
   counted = omega (arith, lasts.counted, accepted, ap (λ (l : List (Item Event)). length (accepted_in l)) list);
   acknowledged = (omega (arith, lasts.acknowledged.0, acks, committed), omega (arith, lasts.acknowledged.1, acks, ap (λ (l : List (Item Event)). length (accepted_in l)) list));
   whole = λ on. let all = lasts.whole (going on) in omega (arith, all, committed, ap (λ (l : List (Item Event)). length (accepted_in l)) list);
   behind = behind;
   files = files;
   changes = changes;
+  frontiers = frontiers;
 }
 
 -- ---- how a definition ends
@@ -302,7 +302,7 @@ may_appended x told entries none (inr more) = more ∙ ap (λ l. (told.entries +
 
 -- ---- a store after a definition
 
--- all but the tables, the journal and the folder's count are as before
+-- all but the tables, the frontiers, the journal and the folder's count are as before
 pub record IsRest (s t : State) : Type 0 where
   pub limits : t.limits ≡ s.limits
   pub shards : t.shards ≡ s.shards
@@ -326,11 +326,12 @@ moves_nowhere s d x b h stands = (
   record { stands = stands; lasts = λ found told lasts. (told, lasts, λ openings explained. explained) },
 )
 
--- the same where the list of its tables got a place more
-pub moves_reserved : (s : State) (d : Disk) (x : ManifestEntry) (b : Bound) (ts : List TableSchema) → ts ≡ s.tables
-    → Moves (λ h after. Changes h x b (reply.Failed failure.Memory) after) s (record s { tables = ts }) d d
-moves_reserved s d x b ts same =
-    subst (λ (us : List TableSchema). Moves (λ h after. Changes h x b (reply.Failed failure.Memory) after) s (record s { tables = us }) d d) (sym same) (moves_nowhere s d x b)
+-- the same where the lists of its tables and of its frontiers got places more
+pub moves_reserved : (s : State) (d : Disk) (x : ManifestEntry) (b : Bound) (ts : List TableSchema) (fs : List ℕ) → ts ≡ s.tables → fs ≡ s.frontiers
+    → Moves (λ h after. Changes h x b (reply.Failed failure.Memory) after) s (record s { tables = ts; frontiers = fs }) d d
+moves_reserved s d x b ts fs same still =
+    subst (λ (us : List TableSchema). Moves (λ h after. Changes h x b (reply.Failed failure.Memory) after) s (record s { tables = us; frontiers = fs }) d d) (sym same)
+    (subst (λ (gs : List ℕ). Moves (λ h after. Changes h x b (reply.Failed failure.Memory) after) s (record s { frontiers = gs }) d d) (sym still) (moves_nowhere s d x b))
 
 module _ (s t : State) (d e : Disk) (x : ManifestEntry) (b : Bound) (may : MayBeTold s.tables b x) (some : IsShardCount s.limits.shards) (rest : IsRest s t)
     (count : s.faults ≤ t.faults) where
@@ -357,7 +358,8 @@ module _ (s t : State) (d e : Disk) (x : ManifestEntry) (b : Bound) (may : MayBe
       → Explains openings h found t d now
   told_one going openings h found told now lasts is fits may_be committed taken memory was =
       let goes = lasts.keeps.lasts.goes going in
-      explains_wider openings h found s t d told now x (lists_none x is) fits (said_few told.entries goes.manifest.follow) goes.fit lasts.keeps.all may_be committed taken (ap accepted_in rest.list)
+      explains_wider openings h found s t d told now x (lists_none x is) fits (said_few told.entries goes.manifest.follow) goes.fit lasts.keeps.has.dropped lasts.keeps.has.flushed lasts.keeps.has.all may_be
+      committed taken (ap accepted_in rest.list)
       (λ ms have. subst (λ (xs : List ShardState). RememberAll t.tables ms xs) (sym rest.shards) (memory ms have)) was
 
   as_it_was : (openings : ℕ → ShardOpening) (h : History) (found : List Mutation) (told : Told) → ((ms : List Mutation) → RememberAll s.tables ms s.shards → RememberAll t.tables ms s.shards)
@@ -379,9 +381,9 @@ module _ (s t : State) (d e : Disk) (x : ManifestEntry) (b : Bound) (may : MayBe
   pub moves_not : (answer : Reply) (fault : JournalFault) → During SameTables d e → IsDefinition x → answer ≡ reply_for fault → t.tables ≡ s.tables → length (entry_bytes x) < 2 ^ 32 → Ends {T = Unit {0}} s.journal.first t.journal.first s.faults t.faults (Err fault)
       → reach_of t.journal ≡ reach_of s.journal → ((what : Counted) (most : ℕ) → fault ≡ TooMany what most → HasNoPlace x (reach_of s.journal))
       → ((found : List Mutation) (told : Told) → Keeps s.journal d s.list s.committed found told → FitsEntry (said_by told.entries) x
-      → Keeps t.journal e t.list t.committed found (told_after fault x told))
+      → Keeps t.journal e t.list t.committed found (told_after fault x told)) → t.frontiers ≡ s.frontiers
       → Moves (λ h after. Changes h x b answer after) s t d e
-  moves_not answer fault during defines is same short ends reach full kept h stands = (
+  moves_not answer fault during defines is same short ends reach full kept frontiers h stands = (
     record h { tables = t.tables; disk = disk_of t },
     (
       t.tables,
@@ -402,12 +404,12 @@ module _ (s t : State) (d e : Disk) (x : ManifestEntry) (b : Bound) (may : MayBe
           let still = said_still fault x told lasts.few in (
             told_after fault x told,
             lasts_defined h (record h { tables = t.tables; disk = disk_of t }) found s t d e told (told_after fault x told) lasts refl
-                (kept found told lasts.keeps (tells h found told lasts).fits) still.taken still.few (ap (λ es. (said_by es).tables) still.entries ∙ lasts.tables ∙ sym same)
+                (kept found told lasts.keeps (tells h found told lasts).fits) still.few (ap (λ es. (said_by es).tables) still.entries ∙ lasts.tables ∙ sym same)
                 (ap (λ es. (said_by es).shards) still.entries) rest.limits rest.list rest.shards rest.accepted rest.committed
                 (goes_before {T = Unit {0}} s.journal.first t.journal.first s.faults t.faults (Err fault) ends)
                 (subst (λ es. IsBehind (said_by es) t.shards t.last_file t.live) (sym still.entries) (stays told lasts.behind))
                 (subst (λ es. ListFiles (said_by es) (files_in t.shards)) (sym still.entries) (lists_still told lasts.files))
-                (ap changes_told still.entries ∙ lasts.changes),
+                (ap changes_told still.entries ∙ lasts.changes) (frontiers ∙ lasts.frontiers ∙ ap (λ es. frontiers_in (said_by es)) (sym still.entries)),
             λ openings explained.
                 goes_on openings h found (told_after fault x told) during
                 (untold fault ends openings h found told lasts defines (tells h found told lasts).fits (λ ms have. subst (λ (ts : List TableSchema). RememberAll ts ms s.shards) (sym same) have) explained),
@@ -421,8 +423,9 @@ module _ (s t : State) (d e : Disk) (x : ManifestEntry) (b : Bound) (may : MayBe
       → reach_of t.journal ≡ record { segment = (reach_of s.journal).segment; manifest = (reach_of s.journal).manifest + room_of x }
       → ((found : List Mutation) (told : Told) → Keeps s.journal d s.list s.committed found told → FitsEntry (said_by told.entries) x
       → Keeps t.journal e t.list t.committed found (appended x told))
+      → ((said : Saying) → s.frontiers ≡ frontiers_in said → s.limits.shards ≡ said.shards → t.frontiers ≡ frontiers_in (after said x))
       → Moves (λ h after. Changes h x b reply.Done after) s t d e
-  moves_done during is new under remembers all ends reach kept h stands = (
+  moves_done during is new under remembers all ends reach kept frontiers h stands = (
     record h { tables = t.tables; disk = disk_of t },
     (
       t.tables,
@@ -442,14 +445,14 @@ module _ (s t : State) (d e : Disk) (x : ManifestEntry) (b : Bound) (may : MayBe
           let said = said_more told.entries x in (
             appended x told,
             lasts_defined h (record h { tables = t.tables; disk = disk_of t }) found s t d e told (appended x told) lasts refl
-                (kept found told lasts.keeps more.fits) refl lasts.few (ap (λ (sy : Saying). sy.tables) said ∙ more.tells ∙ sym new)
+                (kept found told lasts.keeps more.fits) lasts.few (ap (λ (sy : Saying). sy.tables) said ∙ more.tells ∙ sym new)
                 (ap (λ (sy : Saying). sy.shards) said ∙ same_shards (said_by told.entries) x is) rest.limits rest.list rest.shards rest.accepted rest.committed
                 (goes_before s.journal.first t.journal.first s.faults t.faults (Ok tt) ends)
                 (subst (λ (sy : Saying). IsBehind sy t.shards t.last_file t.live) (sym said)
                 (behind_defined (said_by told.entries) x t.shards t.last_file t.live is (stays told lasts.behind)))
                 (subst (λ (sy : Saying). ListFiles sy (files_in t.shards)) (sym said)
                 (list_defined (said_by told.entries) x (files_in t.shards) is (lists_still told lasts.files)))
-                (told_defined told.entries x is ∙ lasts.changes),
+                (told_defined told.entries x is ∙ lasts.changes) (frontiers (said_by told.entries) lasts.frontiers (sym lasts.shards) ∙ ap frontiers_in (sym said)),
             λ openings explained.
                 let going = begun s.journal.first t.journal.first s.faults t.faults ends in
                 goes_on openings h found (appended x told) during

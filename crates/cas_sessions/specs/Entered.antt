@@ -7,7 +7,7 @@ use Rattle.cas_changes.specs.declared.entry.Entry.{Entry as ManifestEntry}
 use Rattle.cas_changes.specs.Saying.{Saying, part_of, said_by}
 use Rattle.cas_history.specs.declared.item.Item.{Item}
 use Rattle.cas_history.specs.declared.item.Item.TheVariants.{Wrote}
-use Rattle.cas_journal.specs.Stores.{IsStore}
+use Rattle.cas_room.specs.Keeping.{Stores}
 use Rattle.cas_room.specs.declared.event.Event.{Event}
 use Rattle.cas_room.specs.declared.event.Event.TheVariants as event
 use Rattle.cas_room.specs.Rooms.{accepted_in}
@@ -40,7 +40,8 @@ abbrev pub ListFiles : Saying → (ℕ → ℕ → List (File Held)) → Type 0
 ListFiles said files = (n table : ℕ) → n < said.shards → map (λ f. f.info) (files n table) ≡ (part_of said table n).listed
 
 -- The image tells of the tables of a run, in order, as they were defined; of each table in each shard it lists just the files that it has, those that were
--- found and then those that were flushed, by the changes that the history has; and it tells at most one definition or flush more, for which the disk failed.
+-- found and then those that were flushed, by the changes that the history has; and it tells at most one definition, flush or dropped segment more, for which
+-- the disk failed.
 pub record HasTables (h : History) (entries : List ManifestEntry) : Type 0 where
   pub told : List ManifestEntry
   pub more : List ManifestEntry
@@ -51,9 +52,9 @@ pub record HasTables (h : History) (entries : List ManifestEntry) : Type 0 where
   pub few : length more ≤ 1
   pub none : h.disk.stopped ≡ false → more ≡ []
 
--- What a crash leaves of a run that began with these mutations and accepted those of the list: a store with all that began, and behind it a front
--- of what was accepted, each whole, every one acknowledged by an `ok` among them; and where no write failed all of them. Its manifest tells of the run's tables
--- and lists the run's files.
+-- What a crash leaves of a run that began with these mutations and accepted those of the list: a store that has all that began, and behind it a front
+-- of what was accepted, each whole, every one acknowledged by an `ok` among them; and where no write failed all of them: in the log, or at or below the
+-- frontier of their table and shard, where their segment was dropped. Its manifest tells of the run's tables and lists the run's files.
 pub record IsLeft (found : List Mutation) (list : List (Item Event)) (h : History) (c : Image) : Type 0 where
   pub entries : List ManifestEntry
   pub tables : HasTables h entries
@@ -61,11 +62,11 @@ pub record IsLeft (found : List Mutation) (list : List (Item Event)) (h : Histor
   pub least : h.acknowledged ≤ count
   pub most : count ≤ length (accepted_in list)
   pub all : h.disk.stopped ≡ false → count ≡ length (accepted_in list)
-  pub store : IsStore entries (found ++ take count (accepted_in list)) c
+  pub store : Stores entries (found ++ take count (accepted_in list)) c
 
 -- What a crash leaves while a call is under way, of a store that stood for this history before it, and by whose end this list was accepted: a store with
 -- all that the store was opened with, and behind it a front of that list, each mutation whole, every one acknowledged before the call among them; its
--- tables are those before the call, and at most one definition more, which is under way or for which the disk failed.
+-- tables are those before the call, and at most one entry more, which is under way or for which the disk failed.
 pub record IsLeftAmid (found : List Mutation) (list : List (Item Event)) (h : History) (c : Image) : Type 0 where
   pub entries : List ManifestEntry
   pub told : List ManifestEntry
@@ -76,4 +77,4 @@ pub record IsLeftAmid (found : List Mutation) (list : List (Item Event)) (h : Hi
   pub count : ℕ
   pub least : h.acknowledged ≤ count
   pub most : count ≤ length (accepted_in list)
-  pub store : IsStore entries (found ++ take count (accepted_in list)) c
+  pub store : Stores entries (found ++ take count (accepted_in list)) c

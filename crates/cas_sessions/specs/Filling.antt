@@ -9,7 +9,7 @@ use Rattle.cas_changes.specs.declared.entry.Change.{Change}
 use Rattle.cas_shard.specs.Shards.{ShardHistory, all_entries}
 use Rattle.cas_shard.specs.Stands.{SaySame, mutations_of}
 use Rattle.cas_sessions.specs.declared.answer.Fault.{Fault}
-use Rattle.cas_sessions.specs.declared.answer.Fault.TheVariants.{Stopped}
+use Rattle.cas_sessions.specs.declared.answer.Fault.TheVariants.{Mem, Stopped}
 use Rattle.cas_sessions.specs.Flushes.{AreInFiles, AscendTo, Grows, SaySomething, WhyNoFurther, changes_by, numbers_in, reach_by}
 use Rattle.cas_sessions.specs.History.{History, DiskState, shard_at}
 
@@ -62,10 +62,10 @@ abbrev pub filled_with : ℕ → ℕ → Bool → (ℕ → ℕ → ℕ) → ℕ 
 filled_with table n false before = before
 filled_with table n true before = λ k j. if (k == n) && (j == table) then 0 else before k j
 
--- it got one, if nothing failed; else it may have got one before
+-- it got one, whatever failed behind; only where memory ran out it may not have
 abbrev pub IsBegun : Result (Option ℕ) Fault → Bool → Type 0
-IsBegun (Ok told) begun = begun ≡ true
-IsBegun (Err f) begun = Unit {0}
+IsBegun (Err Mem) begun = Unit {0}
+IsBegun r begun = begun ≡ true
 
 -- A flush of the table in the shard is answered so. The manifest tells this change, if there was anything that stood in no file; all but the disk, and what memory
 -- says of it, is as it was. The counts of the disk don't fall, and one number at most was given to a file.
@@ -99,7 +99,7 @@ is_full h n table = nat_lt h.limits.memtable (h.filled n table)
 -- it is flushed; where an earlier fault stopped the store, nothing is done
 abbrev pub FlushesFull : History → ℕ → ℕ → Result (Option ℕ) Fault → History → Type 0
 FlushesFull h n table (Err (Stopped first)) after = (h.disk.stopped ≡ true) × (after ≡ h)
-FlushesFull h n table r after = (t : TableSchema) × (slice_get h.tables table ≡ Some t) × FlushesIn h t n r after
+FlushesFull h n table r after = (t : TableSchema) × (slice_get h.tables table ≡ Some t) × (t.number ≡ table) × FlushesIn h t n r after
 
 -- one that is full is flushed, of any other nothing is done
 abbrev pub FlushesIf : Bool → History → ℕ → ℕ → Result (Option ℕ) Fault → History → Type 0

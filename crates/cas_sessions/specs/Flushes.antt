@@ -144,12 +144,17 @@ WhyNoFurther t n s d e Read = (e.stopped ≡ false) × Rose d.reads e.reads
 WhyNoFurther t n s d e (BadBlock number at) = ⊥
 WhyNoFurther t n s d e Mem = e.stopped ≡ false
 
+-- where so many shards are flushed and the next one isn't, so many got a new memtable: the next one did too, but where memory ran out it may not have
+abbrev pub AreBegun : Fault → ℕ → ℕ → Type 0
+AreBegun Mem flushed begun = (begun ≡ flushed) ⊎ (begun ≡ flushed + 1)
+AreBegun f flushed begun = begun ≡ flushed + 1
+
 -- how a flush ends that no earlier fault stopped, where so many shards got a new memtable: all shards are flushed, and the new files' numbers are told; or only the
--- first ones are, and why the next one isn't, which may have got its memtable before
+-- first ones are, and why the next one isn't
 abbrev pub EndsSo : History → TableSchema → List (Option Change) → ℕ → Result (List ℕ) Fault → DiskState → Type 0
 EndsSo h t changes begun (Ok told) e = (length changes ≡ length h.shards) × (told ≡ numbers_added changes) × (e.stopped ≡ false) × (begun ≡ length changes)
 EndsSo h t changes begun (Err f) e = (length changes < length h.shards) × WhyNoFurther t (length changes) (shard_at h (length changes)) h.disk e f
-    × ((begun ≡ length changes) ⊎ (begun ≡ length changes + 1))
+    × AreBegun f (length changes) begun
 
 -- A flush of the table: an earlier fault stopped it, and nothing is done; or shards are flushed, from the first on, the manifest tells these changes, what they
 -- tell of stands in a file, writes go to new memtables, and all but the disk is as it was.

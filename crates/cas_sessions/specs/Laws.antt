@@ -1,10 +1,13 @@
 -- What holds of every open store (own).
-use Rattle.std.specs.Prelude.{◌≤◌, ℕ, List, [], length}
+use Rattle.std.specs.Prelude.{◌≡◌, ◌≤◌, ℕ, false, Option, Result, Err, List, [], length}
 use Rattle.cas_types.specs.declared.schema.Column.{Column}
 use Rattle.cas_types.specs.declared.schema.TableSchema.{TableSchema}
 use Rattle.cas_disk.specs.Disk.{Disk}
 use Rattle.cas_atoms.specs.declared.atom.Mutation.{Mutation}
 use Rattle.cas_journal.specs.Stores.{Told}
+use Rattle.cas_sessions.specs.declared.answer.Fault.{Fault}
+use Rattle.cas_sessions.specs.declared.answer.Fault.TheVariants.{Mem, Stopped}
+use Rattle.cas_sessions.specs.Filling.{Settles, is_full}
 use Rattle.cas_sessions.specs.History.{History}
 use Rattle.cas_tables.specs.Contents.{Partition}
 use Rattle.cas_sessions.specs.Nodes.{State, StandsFor, LastsFor}
@@ -32,3 +35,13 @@ NothingIsTooMuch = (t : TableSchema) (shard : ℕ) → IsTooMuch t shard [] → 
 -- partitions that say no more than mutations do are no more than these: so there are too many of them for a file only where 2^28 mutations were written
 abbrev pub PartitionsAreFew : Type 0
 PartitionsAreFew = (columns : List Column) (ws : List Mutation) (ps : List Partition) → SayNoMore columns ws ps → length ps ≤ length ws
+
+-- a flush that no earlier fault stopped, and that had the memory for its new memtable
+abbrev pub WasTried : Result (Option ℕ) Fault → Type 0
+WasTried (Err Mem) = ⊥
+WasTried (Err (Stopped first)) = ⊥
+WasTried r = Unit {0}
+
+-- behind it the memtable isn't full any more, also where the disk failed: so a memtable is flushed for being full once, and not again at each write
+abbrev pub FullNoMore : Type 0
+FullNoMore = (h : History) (n table : ℕ) (r : Result (Option ℕ) Fault) (after : History) → Settles h n table r after → WasTried r → is_full after n table ≡ false

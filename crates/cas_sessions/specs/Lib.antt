@@ -10,6 +10,7 @@ pub mod Calls
 pub mod TooMuch
 pub mod Flushes
 pub mod Filling
+pub mod Dropping
 pub mod Status
 pub mod Verifying
 pub mod Laws

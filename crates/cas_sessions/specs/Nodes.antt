@@ -4,7 +4,7 @@ use Rattle.cas_types.specs.declared.schema.TableSchema.{TableSchema}
 use Rattle.cas_disk.specs.Disk.{Disk, Image, Leaves}
 use Rattle.cas_atoms.specs.declared.atom.Mutation.{Mutation}
 use Rattle.cas_bind.specs.declared.bound.Limits.{Limits}
-use Rattle.cas_changes.specs.Saying.{said_by}
+use Rattle.cas_changes.specs.Saying.{frontiers_in, said_by}
 use Rattle.cas_changes.specs.declared.entry.Entry.{Entry as ManifestEntry}
 use Rattle.cas_replay.specs.Grammar.{AreInOrder, AscendByOne, numbers_of}
 use Rattle.cas_journal.specs.declared.journal.Journal.{Journal}
@@ -31,7 +31,7 @@ use Rattle.cas_sessions.specs.Entered.{AreEntered, IsLeftAmid, ListFiles}
 -- What an open store is made of, as one of its sessions has it: its limits, its tables, its shards; the shards of their seats and the last number of
 -- each; the clock; the list of all that was accepted; the session, and how often it wrote; how many mutations the room accepted, and how many of them
 -- it said are committed; its journal, how often its folder failed, and how often a read of a table file; the last number of a table file that was drawn or
--- listed, and how many the manifest lists.
+-- listed, and how many the manifest lists; and the frontiers of each table in each shard, table by table, up to which its files have all mutations.
 pub record State : Type 0 where
   pub limits : Limits
   pub tables : List TableSchema
@@ -49,6 +49,7 @@ pub record State : Type 0 where
   pub reads : ℕ
   pub last_file : ℕ
   pub live : ℕ
+  pub frontiers : List ℕ
 
 -- how often the session wrote, and the room accepted, can be counted once more
 abbrev pub IsFew : State → Type 0
@@ -112,31 +113,37 @@ pub record StandsFor (h : History) (s : State) : Type 0 where
   pub memory : RememberJust s.tables h.unflushed s.shards
   pub filled : AreFilled h.filled s.shards
 
--- A store's disk keeps what its history says. What the journal was told are the mutations that were found and then all that was accepted, by which
--- each shard's next number goes on; the manifest tells of the tables, lists just the table files that there are, by the history's changes, and is not ahead of
--- memory. Each mutation that was acknowledged was said to be committed, and where no write failed all were.
+-- the mutations that were found, and then those that were accepted
+abbrev pub all_in : List Mutation → State → List Mutation
+all_in found s = found ++ accepted_in s.list
+
+-- A store's disk keeps what its history says. What the journal was told are the mutations that were found and then all that was accepted (`Keeps`), by which
+-- each shard's next number goes on; the manifest tells of the tables, lists just the table files that there are, by the history's changes, tells the store's
+-- frontiers, and is not ahead of memory. Each mutation that was acknowledged was said to be committed, and where no write failed all were.
 pub record LastsFor (h : History) (found : List Mutation) (s : State) (disk : Disk) (t : Told) : Type 0 where
   pub keeps : Keeps s.journal disk s.list s.committed found t
   pub tables : (said_by t.entries).tables ≡ s.tables
   pub shards : (said_by t.entries).shards ≡ s.limits.shards
   pub few : length t.failed ≤ 1
-  pub ordered : AreInOrder t.taken
-  pub next : (n : ℕ) (x : ShardState) → slice_get s.shards n ≡ Some x → AscendByOne (numbers_of n t.taken ++ (x.number + 1) ∷ [])
+  pub ordered : AreInOrder (all_in found s)
+  pub next : (n : ℕ) (x : ShardState) → slice_get s.shards n ≡ Some x → AscendByOne (numbers_of n (all_in found s) ++ (x.number + 1) ∷ [])
   pub counted : length (accepted_in s.list) ≤ s.accepted
   pub acknowledged : (h.acknowledged ≤ s.committed) × (h.acknowledged ≤ length (accepted_in s.list))
   pub whole : is_some s.journal.first ≡ false → length (accepted_in s.list) ≤ s.committed
   pub behind : IsBehind (said_by t.entries) s.shards s.last_file s.live
   pub files : ListFiles (said_by t.entries) (files_in s.shards)
   pub changes : changes_told t.entries ≡ h.changes
+  pub frontiers : s.frontiers ≡ frontiers_in (said_by t.entries)
 
 -- What a crash may leave of a store explains to the next run what its shards have been, which were so before this one. No shard's history is behind that with all
 -- that was accepted; in whatever a crash leaves, whichever of the entries that were told the manifest has, each shard may have been just that, with a front of what
--- was accepted that has all that was committed; and in memory is just what the log has above the frontiers.
+-- was accepted that lacks no more than what wasn't committed; and in memory is just what was written above the frontiers.
 pub record Explains (openings : ℕ → ShardOpening) (h : History) (found : List Mutation) (s : State) (disk : Disk) (t : Told) : Type 0 where
   pub behind : (n : ℕ) → n < length h.shards → IsNotAhead (shard_at h n) (with_more n (accepted_in s.list) (openings n))
-  pub opens : (i : Image) → disk.may_leave i → (entries : List ManifestEntry) → MayList t entries → (count : ℕ) → t.committed ≤ length found + count
-      → count ≤ length (accepted_in s.list) → (n : ℕ) → n < (said_by entries).shards → OpensIn found (take count (accepted_in s.list)) entries i n (openings n)
-  pub memory : RememberAll s.tables (unflushed_of (said_by t.entries) t.taken) s.shards
+  pub opens : (i : Image) → disk.may_leave i → (entries : List ManifestEntry) → MayList t entries → (count : ℕ)
+      → t.committed + length (accepted_in s.list) ≤ length t.taken + count → count ≤ length (accepted_in s.list) → (n : ℕ)
+      → n < (said_by entries).shards → OpensIn found (take count (accepted_in s.list)) entries i n (openings n)
+  pub memory : RememberAll s.tables (unflushed_of (said_by t.entries) (all_in found s)) s.shards
 
 -- From one history to another the store went on: its memory stands for the other, its disk keeps what that says, and what a crash may leave explains it, where
 -- that explained the one before.

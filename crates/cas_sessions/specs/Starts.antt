@@ -4,7 +4,7 @@ use Rattle.cas_disk.specs.Disk.{Disk, Image}
 use Rattle.cas_types.specs.declared.schema.TableSchema.{TableSchema}
 use Rattle.cas_atoms.specs.declared.atom.Mutation.{Mutation}
 use Rattle.cas_bind.specs.declared.bound.Limits.{Limits}
-use Rattle.cas_changes.specs.Saying.{part_of, said_by}
+use Rattle.cas_changes.specs.Saying.{frontiers_in, part_of, said_by}
 use Rattle.cas_changes.specs.declared.entry.Entry.{Entry as ManifestEntry}
 use Rattle.cas_replay.specs.Grammar.{AreInOrder, AscendByOne, numbers_of}
 use Rattle.cas_journal.specs.Stores.{Told}
@@ -67,7 +67,7 @@ pub record AreItsFiles (entries : List ManifestEntry) (folder : Disk) (files : �
 -- on behind the log's. The entries list just its table files, and are not ahead of it; the last number of a file is the greatest that was ever listed; and in
 -- memory is just what the log has above the frontiers.
 pub record IsInMemory (given : Limits) (entries : List ManifestEntry) (mutations : List Mutation) (openings : ℕ → ShardOpening) (limits : Limits)
-    (tables : List TableSchema) (shards : List ShardState) (last live : ℕ) : Type 0 where
+    (tables : List TableSchema) (shards : List ShardState) (frontiers : List ℕ) (last live : ℕ) : Type 0 where
   pub same : limits ≡ record given { shards = (said_by entries).shards }
   pub tables_are : tables ≡ (said_by entries).tables
   pub count : length shards ≡ limits.shards
@@ -75,6 +75,7 @@ pub record IsInMemory (given : Limits) (entries : List ManifestEntry) (mutations
   pub ordered : AreInOrder mutations
   pub next : (n : ℕ) (x : ShardState) → slice_get shards n ≡ Some x → AscendByOne (numbers_of n mutations ++ (x.number + 1) ∷ [])
   pub behind : IsBehind (said_by entries) shards last live
+  pub frontiers_are : frontiers ≡ frontiers_in (said_by entries)
   pub last_is : last ≡ greatest_of (said_by entries).numbers
   pub files : ListFiles (said_by entries) (files_in shards)
   pub memory : RememberAll tables (unflushed_of (said_by entries) mutations) shards
@@ -82,11 +83,11 @@ pub record IsInMemory (given : Limits) (entries : List ManifestEntry) (mutations
 
 -- The store of a folder was opened: it was read back with its files; and whatever its shards may have been before, for all that is known of the folder,
 -- memory has them so.
-pub record IsStarted (given limits : Limits) (tables : List TableSchema) (shards : List ShardState) (last live : ℕ) (journal : Journal)
-    (old new : Disk) : Type 0 where
-  pub back : IsRecovered given limits tables shards last live journal old new
+pub record IsStarted (given limits : Limits) (tables : List TableSchema) (shards : List ShardState) (frontiers : List ℕ) (last live : ℕ)
+    (journal : Journal) (old new : Disk) : Type 0 where
+  pub back : IsRecovered given limits tables shards frontiers last live journal old new
   pub memory : (openings : ℕ → ShardOpening) → AreOpenings back.entries back.mutations old openings
-      → IsInMemory given back.entries back.mutations openings limits tables shards last live
+      → IsInMemory given back.entries back.mutations openings limits tables shards frontiers last live
   pub files : AreItsFiles back.entries old (files_in shards)
 
 -- A run with these limits and these table files begins so: nothing is stopped, and at most one segment was begun since the entries were written; as many

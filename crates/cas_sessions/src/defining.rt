@@ -1,6 +1,6 @@
 //! CREATE TABLE and ALTER TABLE: the manifest tells of the definition, and then it counts.
 
-ghost use Rattle.std.specs.Prelude.{◌≡◌, ◌++◌, ℤ, pos, IfOk};
+ghost use Rattle.std.specs.Prelude.{◌≡◌, ◌+◌, ◌++◌, ◌<◌, ◌≤◌, ℤ, pos, replicate, vec_capacity, vec_len, IfOk, OnOk};
 ghost use Rattle.cas_disk.specs.Disk.{During};
 ghost use Rattle.cas_changes.specs.declared.entry.Entry.TheVariants.{Schema, AddColumns};
 ghost use Rattle.cas_journal.specs.Stores.{SameTables};
@@ -44,6 +44,29 @@ fn table_of(entry: Entry) -> TableSchema
     }
 }
 
+// Makes place for one table more, and for its frontiers in so many shards.
+fn make_place(
+    tables: &mut Vec<TableSchema>,
+    frontiers: &mut Vec<u64>,
+    shards: u8,
+) -> Result<(), AllocError>
+    ensures same { (tables.new.items ≡ tables.old.items) × (frontiers.new.items ≡ frontiers.old.items) }
+    ensures place { OnOk result ((vec_len tables.new < vec_capacity tables.new) × (vec_len frontiers.new + shards ≤ vec_capacity frontiers.new)) }
+{
+    tables.reserve(1)?;
+    frontiers.reserve(shards as usize)
+}
+
+// The frontiers of a new table in each of so many shards, for which there is place.
+fn begin_frontiers(frontiers: &mut Vec<u64>, shards: u8)
+    requires { vec_len frontiers.old + shards ≤ vec_capacity frontiers.old }
+    ensures { frontiers.new.items ≡ frontiers.old.items ++ replicate shards 0 }
+{
+    for _shard in 0..shards {
+        frontiers.push_reserved(0);
+    }
+}
+
 impl<F: Folder, J: Store> Node<F, J> {
     /// Makes a table: it is there once its entry is in the manifest.
     pub(crate) fn create(
@@ -73,7 +96,8 @@ impl<F: Folder, J: Store> Node<F, J> {
         ensures limits { self.new.limits ≡ self.old.limits }
         ensures sessions { ⟦<Node<F, J> as Stored>⟧.sessions self.new ≡ ⟦<Node<F, J> as Stored>⟧.sessions self.old }
     {
-        if let Err(AllocError) = self.tables.reserve(1) {
+        let shards = self.limits.shards;
+        if let Err(AllocError) = make_place(&mut self.tables, &mut self.frontiers, shards) {
             return Err(Fault::Mem);
         }
         let entry = Entry::Schema(table);
@@ -81,6 +105,7 @@ impl<F: Folder, J: Store> Node<F, J> {
             return Err(fault_for(fault));
         }
         self.tables.push_reserved(table_of(entry));
+        begin_frontiers(&mut self.frontiers, shards);
         Ok(Answer::Done)
     }
 

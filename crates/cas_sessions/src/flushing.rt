@@ -1,7 +1,7 @@
 //! A flush: what the shards have of a table in memory comes into table files, which the manifest then lists.
 
 ghost use Rattle.std.specs.Prelude.{◌≡◌, ◌≤◌, ◌<◌, ◌+◌, ◌∷◌, ◌++◌, ℕ, ℤ, List as ListOf, [], true, None, Some, Ok as OkOf, Err, pos};
-ghost use Rattle.std.specs.Prelude.{length, slice_get, IfOk, IfErr, IfSome, IfNone, OnErr, OnOk, vec_capacity, vec_len};
+ghost use Rattle.std.specs.Prelude.{length, slice_get, slice_set, IfOk, IfErr, IfSome, IfNone, OnErr, OnOk, vec_capacity, vec_len};
 ghost use Rattle.std.specs.Option.{option_copied};
 ghost use Rattle.std.specs.Arc.{arc_value};
 ghost use Rattle.cas_disk.specs.Disk.{During, Image};
@@ -132,6 +132,15 @@ fn change_in(entry: &Entry) -> &Change
     match entry {
         Entry::Change(change) => change,
         _ => unreachable!(),
+    }
+}
+
+// The frontier that stands there is this one then.
+fn raise(frontiers: &mut Vec<u64>, at: usize, frontier: u64)
+    ensures { frontiers.new.items ≡ slice_set frontiers.old.items at frontier }
+{
+    if let Some(raised) = frontiers.get_mut(at) {
+        *raised = frontier;
     }
 }
 
@@ -351,6 +360,9 @@ impl<F: Folder, J: Store> Node<F, J> {
         ) {
             Ok(()) => {
                 self.live += 1;
+                let at = change.table as usize * self.limits.shards as usize
+                    + change.shard as usize;
+                raise(&mut self.frontiers, at, change.frontier);
                 Ok(())
             }
             Err(fault) => Err(fault),

@@ -1,6 +1,6 @@
 //! What holds of every open store.
 
-ghost use Rattle.cas_sessions.specs.Laws.{AllShare, NothingIsTooMuch, PartitionsAreFew};
+ghost use Rattle.cas_sessions.specs.Laws.{AllShare, FullNoMore, NothingIsTooMuch, PartitionsAreFew};
 ghost use Rattle.cas_sessions.specs.Next.{LeftExplains};
 
 use cas_disk::Folder;
@@ -29,4 +29,9 @@ pub fn nothing_is_too_much()
 /// A flush makes no more partitions than mutations were written to the table in the shard.
 pub fn partitions_are_few()
     ensures { PartitionsAreFew }
+{}
+
+/// A memtable is flushed for being full once: behind a flush that was tried it isn't full any more, whether the disk failed or not.
+pub fn full_no_more()
+    ensures { FullNoMore }
 {}

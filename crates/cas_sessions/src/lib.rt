@@ -3,6 +3,7 @@
 
 mod answer;
 mod defining;
+mod dropping;
 mod flushing;
 mod laws;
 mod node;
@@ -16,7 +17,9 @@ mod verifying;
 mod writing;
 
 pub use answer::{Answer, Fault, reply_of};
-pub use laws::{left_explains, nothing_is_too_much, partitions_are_few, sessions_share};
+pub use laws::{
+    full_no_more, left_explains, nothing_is_too_much, partitions_are_few, sessions_share,
+};
 pub use node::{Closed, Node, Pass, SESSION_LIMIT, Session, SessionFault, Stored};
 pub use opened::{Opened, start};
 pub use statements::Ask;

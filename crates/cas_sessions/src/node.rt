@@ -116,6 +116,8 @@ pub struct Node<F: Folder, J: Store> {
     pub(crate) book: Book<Event, J>,
     pub(crate) files: Files<Event, J>,
     pub(crate) live: u64,
+    /// Of each table in each shard, table by table, up to which number its files have all mutations.
+    pub(crate) frontiers: Vec<u64>,
     ghost sound: { IsSound limits tables.items shards.items (map (λ f. f.shard) fronts.items) (map (λ f. f.number) fronts.items)
         room.journal.size } by { Prim.hlevel sound_props },
     ghost readable: { MayBeRead tables.items shards.items } by { Prim.hlevel read_props },
@@ -145,6 +147,7 @@ impl<F: Folder, J: Store> Stored for Node<F, J> {
       reads = F.Tally.number n.tally;
       last_file = n.room.numbers.last;
       live = n.live;
+      frontiers = n.frontiers.items;
     } };
 
     ghost disk = { λ n. F.disk n.room.folder };
@@ -214,6 +217,7 @@ impl<F: Folder, J: Store> Node<F, J> {
             book: _book,
             files: _files,
             live: _live,
+            frontiers: _frontiers,
         } = self;
         let (folder, first, log) = room.close();
         Closed {

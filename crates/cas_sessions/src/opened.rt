@@ -72,7 +72,7 @@ pub fn start<F: Folder>(
     requires shards { IsShardCount limits.now.shards }
     requires size { IsSize limits.now.segment }
     ensures started { IfOk result (λ o. IsStarted limits.now o.started.limits o.started.tables.items o.started.shards.items
-        o.started.last_file o.started.live o.started.journal (F.disk folder) (F.disk o.folder)) }
+        o.started.frontiers.items o.started.last_file o.started.live o.started.journal (F.disk folder) (F.disk o.folder)) }
     ensures refused { IfErr result (λ r. (name : _) (at : ℕ) → r.0 ≡ RecoveryFault.Bad name at → (c : Image) → (F.disk folder).reads c → IsOfBytes c
         → IsUnreadable limits.now.shards (F.disk folder) name at c) }
     ensures unopened { IfErr result (λ r. (r.1.pass ≡ None) × (r.1.first ≡ None)) }
@@ -130,7 +130,8 @@ fn assembled<F: Folder, J: Store>(
         → IsOpenedAs started.limits started.tables.items started.shards.items started.journal (F.faults_of folder)
         (⟦<F::Tally as Count>⟧.number tally) (⟦<Node<F, J> as Stored>⟧.state result session 0 clock) }
     ensures begins { (given : Limits) (entries : List EntryOf) (mutations : List MutationOf) (openings : ℕ → ShardOpening)
-        → IsInMemory given entries mutations openings started.limits started.tables.items started.shards.items started.last_file started.live
+        → IsInMemory given entries mutations openings started.limits started.tables.items started.shards.items started.frontiers.items
+        started.last_file started.live
         → (session : ℕ) → BeginsAs given entries mutations openings (F.disk folder) (⟦<Node<F, J> as Stored>⟧.state result session 0 (pos 0)) }
     ensures folder { result.room.folder ≡ folder }
     ensures last { result.room.numbers.last ≡ started.last_file }
@@ -140,6 +141,7 @@ fn assembled<F: Folder, J: Store>(
         limits: started.limits,
         tables: started.tables,
         shards: started.shards,
+        frontiers: started.frontiers,
         fronts: seats.fronts,
         room: Room::new(
             folder,
@@ -167,8 +169,8 @@ impl<F: Folder> Opened<F> {
             self.started.journal (F.faults_of self.folder) (⟦<F::Tally as Count>⟧.number self.tally)
             (⟦<Node<F, J> as Stored>⟧.state n session 0 clock)) }
         ensures begins { IfOk result (λ n. (given : Limits) (entries : List EntryOf) (mutations : List MutationOf) (openings : ℕ → ShardOpening)
-            → IsInMemory given entries mutations openings self.started.limits self.started.tables.items self.started.shards.items self.started.last_file
-            self.started.live → (session : ℕ)
+            → IsInMemory given entries mutations openings self.started.limits self.started.tables.items self.started.shards.items
+            self.started.frontiers.items self.started.last_file self.started.live → (session : ℕ)
             → BeginsAs given entries mutations openings (F.disk self.folder) (⟦<Node<F, J> as Stored>⟧.state n session 0 (pos 0))) }
         ensures folder { IfOk result (λ n. n.room.folder ≡ self.folder) }
         ensures last { IfOk result (λ n. n.room.numbers.last ≡ self.started.last_file) }

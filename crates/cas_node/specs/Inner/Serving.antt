@@ -28,14 +28,14 @@ use Rattle.cql_parse.specs.declared.syntax.Statement.{Statement}
 use Rattle.cas_sessions.specs.declared.answer.Fault.{Fault}
 use Rattle.cas_sessions.specs.declared.answer.Answer.{Answer}
 use Rattle.cas_sessions.specs.declared.answer.Answer.TheVariants.{Wrote}
-use Rattle.cas_sessions.specs.Filling.{Settles, is_full}
+use Rattle.cas_sessions.specs.Filling.{is_full}
 use Rattle.cas_sessions.specs.History.{Does, History}
 use Rattle.cas_sessions.specs.Nodes.{State, StandsFor, LastsFor, LastsForOne, GoesOnTo, files_in}
 use Rattle.cas_sessions.specs.Next.{IsExplained}
 use Rattle.cas_sessions.specs.Starts.{AreExplained, Begins, IsInMemory}
 use Rattle.cas_sessions.specs.Entered.{AreEntered, IsLeft}
 use Rattle.cas_sessions.specs.Listing.{SameListing}
-use Rattle.cas_node.specs.Lines.{IsCarriedOut, LeavesRoom, NoneFlushes, Tells, is_want, replied}
+use Rattle.cas_node.specs.Lines.{IsCarriedOut, LeavesRoom, NoneFlushes, SettlesAndDrops, Tells, replied}
 use Rattle.cas_node.specs.Ran.{RanFrom, with_faults}
 use Rattle.cas_recovery.specs.Restored.{IsTold}
 use Rattle.cas_node.specs.Inner.Turns.{IsEnd}
@@ -72,10 +72,6 @@ ListsIf If s old new = (h : History) (found : List Mutation) (told : Told) → S
 abbrev pub Knows : State → Disk → Type 0
 Knows s folder = Tells folder × LastsForOne s folder
 
--- this came of a memtable that a mutation was written to, which is flushed if it is full
-abbrev pub Settled : ℕ → ℕ → Bool → History → History → Type 0
-Settled shard table want h after = (told : Result (Option ℕ) Fault) × (want ≡ is_want told) × Settles h shard table told after
-
 -- the table and the shard of a mutation that was accepted
 abbrev pub place_of : Result Answer Fault → Option (ℕ × ℕ)
 place_of (Ok (Wrote number table shard)) = Some (table, shard)
@@ -86,10 +82,10 @@ abbrev pub HasRoomFor : Option (ℕ × ℕ) → History → Type 0
 HasRoomFor None h = Unit {0}
 HasRoomFor (Some p) h = is_full h p.1 p.0 ≡ false
 
--- it is flushed if it is
+-- it is flushed if it is, and segments are dropped behind that
 abbrev pub SettledFor : Option (ℕ × ℕ) → Bool → History → History → Type 0
 SettledFor None want h after = (want ≡ false) × (after ≡ h)
-SettledFor (Some p) want h after = Settled p.1 p.0 want h after
+SettledFor (Some p) want h after = SettlesAndDrops p.1 p.0 want h after
 
 -- no mutation was counted, and the last number of a table file doesn't fall
 abbrev pub KeepsCounts : State → State → Type 0
@@ -115,12 +111,12 @@ IsKnownOn folder journal entries mutations Begun Quiet =
     (Tells folder × ((t : Told) × IsTold entries mutations t × Lasts journal folder t)) ⊎ ((first : History) → Begun first → Quiet first)
 
 -- whichever entries and mutations the store has, and whatever its shards were before, a run over it is such; or memory ran out before a line was run
-abbrev pub Serves : ClockKind → (ℤ → Type 0) → List ℕ → Option (List ℕ) → Option (List ℕ) → Limits → List TableSchema → List ShardState → ℕ → ℕ
+abbrev pub Serves : ClockKind → (ℤ → Type 0) → List ℕ → Option (List ℕ) → Option (List ℕ) → Limits → List TableSchema → List ShardState → List ℕ → ℕ → ℕ
     → Journal → Disk → ℕ → ℕ → Disk → ℕ → ℕ → Option (List (Item Event)) → Cause → Type 0
-Serves kind Gives script old new limits tables shards last live journal before faults faults_before after faults_now reads None why = why ≡ cause.Mem
-Serves kind Gives script old new limits tables shards last live journal before faults faults_before after faults_now reads (Some list) why =
+Serves kind Gives script old new limits tables shards frontiers last live journal before faults faults_before after faults_now reads None why = why ≡ cause.Mem
+Serves kind Gives script old new limits tables shards frontiers last live journal before faults faults_before after faults_now reads (Some list) why =
     (given : Limits) (entries : List ManifestEntry) (mutations : List Mutation) (openings : ℕ → ShardOpening)
-    → IsInMemory given entries mutations openings limits tables shards last live → journal.last_segment ≤ next_segment entries
+    → IsInMemory given entries mutations openings limits tables shards frontiers last live → journal.last_segment ≤ next_segment entries
     → IsKnownOn before journal entries mutations (Begins given entries mutations openings (files_in shards) faults)
     (λ first. NoneFlushes kind Gives first (lines script))
     → Served kind Gives script old new given entries mutations openings (files_in shards) journal before after faults_before faults faults_now reads list why

@@ -1,6 +1,6 @@
 -- The steps of a flush of a table in a shard (own).
-use Rattle.std.specs.Prelude.{◌≡◌, ◌⊎◌, ℕ, ◌+◌, ◌≤◌, ◌<◌, Bool}
-use Rattle.std.specs.Prelude.{Option, None, Some, IfSome, Result, Err, IfOk, IfErr, MatchResult, List, [], ◌∷◌, ◌++◌, length, slice_get}
+use Rattle.std.specs.Prelude.{◌≡◌, ◌⊎◌, ℕ, ◌+◌, ◌*◌, ◌≤◌, ◌<◌, Bool}
+use Rattle.std.specs.Prelude.{Option, None, Some, IfSome, Result, Err, IfOk, IfErr, MatchResult, List, [], ◌∷◌, ◌++◌, length, slice_get, slice_set}
 use Rattle.std.specs.List.{AllByRecursion, fold}
 use Rattle.std.specs.Int.{int_max}
 use Rattle.cas_types.specs.Limits.{IsMoment}
@@ -52,7 +52,7 @@ use Rattle.cas_view.specs.Views.{File}
 use Rattle.cas_sessions.specs.declared.answer.Fault.{Fault}
 use Rattle.cas_sessions.specs.declared.answer.Fault.TheVariants.{Refused, Stopped, Disk as Failed, Read, BadBlock, Mem}
 use Rattle.cas_sessions.specs.Filling.{EndsIn, IsBegun, SaysNone, TellsIt, filled_with, rest_with}
-use Rattle.cas_sessions.specs.Flushes.{AscendTo, Flushed, SaySomething, WhyNoFurther}
+use Rattle.cas_sessions.specs.Flushes.{AreBegun, AscendTo, Flushed, SaySomething, WhyNoFurther}
 use Rattle.cas_sessions.specs.Flushes.{changes_by, numbers_added, numbers_in, without_begun, without_flushed}
 use Rattle.cas_sessions.specs.History.{History, DiskState, shard_at}
 use Rattle.cas_sessions.specs.Entered.{IsLeftAmid}
@@ -91,6 +91,7 @@ pub record Quiet (s t : State) (d e : Disk) : Type 0 where
   pub committed : t.committed ≡ s.committed
   pub journal : t.journal ≡ s.journal
   pub live : t.live ≡ s.live
+  pub frontiers : t.frontiers ≡ s.frontiers
   pub shards : AllGoOn s.shards t.shards
   pub last : s.last_file ≤ t.last_file
   pub faults : s.faults ≤ t.faults
@@ -116,6 +117,7 @@ pub record Lists {T : Type 0} (c : Change) (result : Result T JournalFault) (s t
   pub reads : t.reads ≡ s.reads
   pub faults : s.faults ≤ t.faults
   pub live : MatchResult result (λ x. t.live ≡ s.live + 1) (λ f. t.live ≡ s.live)
+  pub frontiers : MatchResult result (λ x. t.frontiers ≡ slice_set s.frontiers (c.table * s.limits.shards + c.shard) c.frontier) (λ f. t.frontiers ≡ s.frontiers)
   pub all : MatchResult result (λ x. t.committed ≡ s.accepted) (λ f. Unit {0})
   pub keeps : (found : List Mutation) (told : Told) → Keeps s.journal d s.list s.committed found told → FitsEntry (said_by told.entries) (change_entry c)
       → MatchResult result (λ x. Keeps t.journal e t.list t.committed found (appended (change_entry c) (committed_all told)))
@@ -334,7 +336,7 @@ pub record FlushesNoFurther (t : TableSchema) (f : Fault) (s u : State) (d e : D
   pub lasts : (h : History) (found : List Mutation) (told : Told) → h.tables ≡ s.tables → LastsFor h found s d told
       → GoesOn (TellsReads d) h (fold changes_by h.changes changes) found told s u d e
   pub begun : ℕ
-  pub begins : (begun ≡ length changes) ⊎ (begun ≡ length changes + 1)
+  pub begins : AreBegun f (length changes) begun
   pub fills : Fills (without_begun t.number begun) s u
   pub moves : (c : Image) → d.reads c → LastsForOne s d
       → Moved (without_flushed t.number changes)

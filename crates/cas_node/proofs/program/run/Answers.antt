@@ -47,7 +47,7 @@ returns-in-Err-start-clause-complete g c = λ well.
 
 pub returns-clause-headline : goal.returns-clause-headline
 returns-clause-headline g c =
-    ran_all _ _ _ _ c.in-Ok-Some.command c.deref.result.now _ _ _ _ _ _ _ _ _ _ (sym c.in-Ok-Some.ensures.exact ∙ c.in-Ok-Some.field-0-is)
+    ran_all _ _ _ _ c.in-Ok-Some.command c.deref.result.now _ _ _ _ _ _ _ _ _ _ _ (sym c.in-Ok-Some.ensures.exact ∙ c.in-Ok-Some.field-0-is)
     (subst (λ l. ReadToEnd (g.S.Source.left c.args.source.now) (g.S.Source.left c.read_script.new.source) l) (sym c.deref.ensures.value) c.in-Ok.ensures.script)
     c.in-Ok-start.ensures.started c.in-Ok-start.ensures.count _ c.faults-faults.ensures.number
     (λ d reads bytes entries mutations opens low.
@@ -87,7 +87,7 @@ returns-clause-stays g c = λ none d reads bytes entries mutations store.
 
 pub returns-clause-complete : goal.returns-clause-complete
 returns-clause-complete g c = λ well.
-    ends_well _ _ _ _ _ c.in-Ok-Some.command (sym c.in-Ok-Some.ensures.exact ∙ c.in-Ok-Some.field-0-is) well c.deref.result.now _ _ _ _ _ _ _ _ _ _
+    ends_well _ _ _ _ _ c.in-Ok-Some.command (sym c.in-Ok-Some.ensures.exact ∙ c.in-Ok-Some.field-0-is) well c.deref.result.now _ _ _ _ _ _ _ _ _ _ _
     (subst (λ l. ReadToEnd (g.S.Source.left c.args.source.now) (g.S.Source.left c.read_script.new.source) l) (sym c.deref.ensures.value) c.in-Ok.ensures.script)
     c.in-Ok-start.ensures.started c.in-Ok-start.ensures.count _ c.faults-faults.ensures.number
     (λ d reads bytes entries mutations opens low.

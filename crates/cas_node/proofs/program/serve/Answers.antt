@@ -2,7 +2,7 @@ use Rattle.std.proofs.Common.{◌∙◌, pos, sym, ap, subst}
 use Rattle.std.specs.Prelude.{IsSome}
 use Rattle.cas_sessions.specs.Listing.{SameUpTo}
 use Rattle.cas_node.specs.Ran.{with_faults}
-use Rattle.cas_node.proofs.RunLemmas.{begins_as, left_by, opened_as, pass_by, serves_as}
+use Rattle.cas_node.proofs.RunLemmas.{begins_as, left_by, opened_as, pass_by, serves_as, write_told}
 use Rattle.cas_node.proofs.Staying.{same_folder, tables_as, up_to_as}
 use Rattle.cas_node.proofs.program.serve.Goals as goal
 
@@ -15,7 +15,7 @@ returns-clause-served g c =
     let closed = c.finished.ensures.folder ∙ c.close-2.ensures.folder ∙ ended in
     let counted = ap (λ t. g.F.Tally.Count.number t) (c.finished.ensures.tally ∙ c.close-2.ensures.tally) ∙ ap (λ f. (f 0 0 (pos 0)).reads) c.end.ensures.same in
     serves_as c.args.ask.now.kind (g.C.Clock.may_give c.args.ask.now.clock.now) c.args.script.now _ _ _ _ _ _ c.args.faults c.run_lines-told.result c.finished.result.cause
-    c.run_lines-told.ensures.ran o.started.limits o.started.tables.items o.started.shards.items o.started.last_file o.started.live o.started.journal (g.F.Folder.faults_of o.folder) (g.F.Tally.Count.number o.tally)
+    c.run_lines-told.ensures.ran o.started.limits o.started.tables.items o.started.shards.items o.started.frontiers.items o.started.last_file o.started.live o.started.journal (g.F.Folder.faults_of o.folder) (g.F.Tally.Count.number o.tally)
     (opened_as _ _ _ _ _ _ _ _ seat.list seat.calls (pos 0) c.session.ensures.same c.in-Ok-session.ensures.begun.0 c.in-Ok.ensures.made)
     (λ given entries mutations openings memory.
     begins_as given entries mutations openings _ _ seat.list seat.calls _ _ c.session.ensures.same c.in-Ok-session.ensures.begun.0
@@ -58,3 +58,9 @@ returns-clause-tables g c =
     tables_as (SameUpTo c.args.opened.started.last_file) (λ x. g.F.Folder.disk x) _ _ _ _ (ap (λ r. r.folder) c.session.ensures.room ∙ c.in-Ok.ensures.folder)
     (c.finished.ensures.folder ∙ c.close-2.ensures.folder ∙ ap (λ r. r.folder) c.end.ensures.room)
     (up_to_as _ _ _ _ (ap (λ r. r.numbers.last) c.session.ensures.room ∙ c.in-Ok.ensures.last) c.run_lines-told.ensures.tables)
+
+pub returns-clause-write : goal.returns-clause-write
+returns-clause-write g c = λ is.
+    c.run_lines-told.ensures.write
+    (write_told c.args.faults (g.F.Folder.faults_of c.finished.result.folder) (g.F.Tally.Count.number c.finished.result.tally) c.run_lines-told.result c.finished.result.cause
+    c.finished.ensures.cause is)

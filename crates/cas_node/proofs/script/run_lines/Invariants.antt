@@ -26,6 +26,7 @@ invariant-loop-rest g l = record {
         reads = g.F.Tally.Count.number l.initial.runner.node.tally;
         last_file = l.initial.runner.node.room.numbers.last;
         live = l.initial.runner.node.live;
+        frontiers = l.initial.runner.node.frontiers.items;
       })
       (record {
         limits = l.runner.node.limits;
@@ -44,6 +45,7 @@ invariant-loop-rest g l = record {
         reads = g.F.Tally.Count.number l.runner.node.tally;
         last_file = l.runner.node.room.numbers.last;
         live = l.runner.node.live;
+        frontiers = l.runner.node.frontiers.items;
       })
       (g.F.Folder.disk l.initial.runner.node.room.folder) (g.F.Folder.disk l.runner.node.room.folder)
       l.fn.script l.rest (g.K.Sink.took l.initial.sink) (g.K.Sink.took l.sink) l.cause;

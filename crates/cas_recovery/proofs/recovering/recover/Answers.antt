@@ -24,12 +24,12 @@ returns-clause-recovered g c =
     let mid = g.F.Folder.disk c.open_to.new.folder in
     if_all c.brought_back.result _ _ _ _ (c.brought_back.ensures.back handed has) c.brought_back.ensures.journal c.brought_back.ensures.files
     (λ s back same files.
-    recovered entries ms handed c.in-Ok-open_to.opened reads c.args.limits.now s.limits s.tables.items s.shards.items s.last_file s.live s.journal old mid (g.F.Folder.disk c.brought_back.new.folder) back tells
+    recovered entries ms handed c.in-Ok-open_to.opened reads c.args.limits.now s.limits s.tables.items s.shards.items s.frontiers.items s.last_file s.live s.journal old mid (g.F.Folder.disk c.brought_back.new.folder) back tells
     (λ d read bytes store. c.open_to.ensures.stays d read bytes entries ms store) same
     (λ d read bytes.
     let (given, took, ends) = c.in-Ok-open_to.ensures.opens [] c.in-Ok.ensures d read bytes entries ms (tells d read bytes) in
     opened_lasts entries ms given c.in-Ok-open_to.opened mid ends)
-    c.brought_back.ensures.during files.0 files.1)
+    c.brought_back.ensures.during files.0 files.1 files.2)
 
 pub returns-clause-readable : goal.returns-clause-readable
 returns-clause-readable g c =

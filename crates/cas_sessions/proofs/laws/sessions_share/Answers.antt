@@ -29,5 +29,6 @@ returns g c h s session calls stands = (
     behind = lasts.behind;
     files = lasts.files;
     changes = lasts.changes;
+    frontiers = lasts.frontiers;
   },
 )

@@ -8,7 +8,7 @@ use Rattle.cas_sessions.proofs.Serving.{started}
 use Rattle.cas_sessions.proofs.opened.start.Goals as goal
 
 pub returns-in-Ok-new-clause-started : goal.returns-in-Ok-new-clause-started
-returns-in-Ok-new-clause-started g c = started _ _ _ _ _ _ _ _ _ c.in-Ok.ensures.recovered
+returns-in-Ok-new-clause-started g c = started _ _ _ _ _ _ _ _ _ _ c.in-Ok.ensures.recovered
 
 pub returns-in-Err-clause-stays : goal.returns-in-Err-clause-stays
 returns-in-Err-clause-stays g c = λ after ok err d reads bytes entries mutations store.

@@ -3,7 +3,9 @@ use Rattle.std.proofs.Common.{◌∙◌, ◌≤◌, refl, ap, length, arith}
 use Rattle.std.proofs.lemmas.List.{length-drop}
 use Rattle.cas_disk.proofs.Moments.{no_call}
 use Rattle.cas_changes.specs.Saying.{said_by}
+use Rattle.cas_journal.specs.Reach.{reach_of}
 use Rattle.cas_journal.proofs.Moving.{no_first}
+use Rattle.cas_journal.proofs.Reaching.{none_dropped, one_more_dropped}
 use Rattle.cas_journal.proofs.Tables.{tables_more}
 use Rattle.cas_journal.proofs.Shrinking.{lowest_of, some_first, still_going, none_yet, next_turn, more_leaves, fault_dropped}
 use Rattle.cas_journal.proofs.Staying.{lowest_needed}
@@ -22,6 +24,7 @@ turns-init g c = record {
   log = refl;
   spare = refl;
   last = refl;
+  reach = none_dropped (reach_of c.args.self.now);
   size = refl;
 }
 
@@ -56,6 +59,7 @@ turns-preserved g c =
       log = c.drop_segment.ensures.log ∙ inv.log;
       spare = c.drop_segment.ensures.spare ∙ inv.spare;
       last = c.drop_segment.ensures.last ∙ inv.last;
+      reach = one_more_dropped c.turns.dropped number (reach_of c.args.self.now) (reach_of j) (reach_of k) inv.reach c.in_default-drop_segment.ensures.reach;
       size = c.drop_segment.ensures.size ∙ inv.size;
     }
 

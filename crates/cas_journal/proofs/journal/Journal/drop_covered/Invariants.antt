@@ -1,5 +1,6 @@
 use Rattle.std.proofs.Common.{◌≡◌, ◌≤◌, ◌+◌, None, length, vec_len}
 use Rattle.cas_disk.specs.Disk.{During}
+use Rattle.cas_journal.specs.Reach.{reach_dropped, reach_of}
 use Rattle.cas_journal.specs.Stores.{Told, SameTables, Dropped, HoldsDropped}
 use Rattle.cas_journal.specs.Journals.{Lasts, AreFree}
 use Rattle.cas_journal.proofs.journal.Journal.drop_covered.Given as goal
@@ -19,6 +20,7 @@ invariant-turns g l = record {
   log : l.self.log ≡ l.fn.self.log;
   spare : l.self.spare ≡ l.fn.self.spare;
   last : l.self.last_segment ≡ l.fn.self.last_segment;
+  reach : reach_of l.self ≡ reach_dropped l.dropped (reach_of l.fn.self);
   size : l.self.size ≡ l.fn.self.size;
 }
 

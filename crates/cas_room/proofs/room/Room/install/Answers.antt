@@ -4,7 +4,7 @@ use Rattle.cas_room.specs.Rooms.{accepted_in}
 use Rattle.cas_room.proofs.Standing.{settled_stands}
 use Rattle.cas_disk.specs.Disk.{Image}
 use Rattle.cas_room.specs.Changing.{HoldsSettled, Have, added_by}
-use Rattle.cas_room.proofs.Settling.{both_leave, have_leaves, still_stand}
+use Rattle.cas_room.proofs.Settling.{both_leave, have_leaves, still_stand, told_change}
 use Rattle.cas_room.proofs.room.Room.install.Goals as goal
 
 pub returns-in-Err-clause-crash : goal.returns-in-Err-clause-crash
@@ -35,10 +35,10 @@ pub returns-in-Err-clause-front : goal.returns-in-Err-clause-front
 returns-in-Err-clause-front g c found t keeps fits =
     let disk = g.F.Folder.disk in
     settled_stands t c.args.entry.now found (accepted_in (listed log_list c.args.self.now.log.pass.saw)) c.args.self.now.faults.committed
-    (disk c.args.self.now.folder) (disk c.settle.new.self.folder) keeps.all keeps.committed keeps.whole (c.settle.ensures.crash found t keeps fits)
+    (disk c.args.self.now.folder) (disk c.settle.new.self.folder) keeps.has fits (told_change c.args.entry.now c.args.change.now c.requires.entry) (c.settle.ensures.crash found t keeps fits)
 
 pub returns-clause-front : goal.returns-clause-front
 returns-clause-front g c found t keeps fits =
     let disk = g.F.Folder.disk in
     settled_stands t c.args.entry.now found (accepted_in (listed log_list c.args.self.now.log.pass.saw)) c.args.self.now.faults.committed
-    (disk c.args.self.now.folder) (disk c.settle.new.self.folder) keeps.all keeps.committed keeps.whole (c.settle.ensures.crash found t keeps fits)
+    (disk c.args.self.now.folder) (disk c.settle.new.self.folder) keeps.has fits (told_change c.args.entry.now c.args.change.now c.requires.entry) (c.settle.ensures.crash found t keeps fits)

@@ -54,7 +54,7 @@ returns-in-Err-define-clause-changes g c = λ clock.
       live = refl;
     })
     c.define.ensures.count (reply_of (Err c.fault_for.result)) c.in-Err-define.fault c.define.ensures.tables tt (ap (λ (x : Fault). reply_of (Err x)) c.fault_for.ensures) refl short c.in-Err-define.ensures.outcome c.in-Err-define.ensures.reach
-    (λ what most e. c.in-Err-define.ensures.full what most (ap Err e)) c.in-Err-define.ensures.kept
+    (λ what most e. c.in-Err-define.ensures.full what most (ap Err e)) c.in-Err-define.ensures.kept refl
 
 pub index_mut-requires : goal.index_mut-requires
 index_mut-requires g c =
@@ -92,7 +92,7 @@ returns-clause-changes g c = λ clock.
     (remember_altered a (adds_no_keys ts a c.requires.told) ts ws c.args.self.now.shards.items k))
     (λ ms k. subst (λ (us : List TableSchema). RememberAll us ms c.args.self.now.shards.items) (sym new)
     (all_altered a (adds_no_keys ts a c.requires.told) ts c.args.self.now.shards.items ms k))
-    c.in_default.ensures.outcome c.in_default.ensures.reach c.in_default.ensures.kept
+    c.in_default.ensures.outcome c.in_default.ensures.reach c.in_default.ensures.kept (λ said are many. are)
 
 pub invariant_of-self-2 : goal.invariant_of-self-2
 invariant_of-self-2 g c =
@@ -125,11 +125,13 @@ returns-in-Err-clause-crash g c = λ clock h found told stands lasts. amid_nothi
 pub returns-in-Err-define-clause-crash : goal.returns-in-Err-define-clause-crash
 returns-in-Err-define-clause-crash g c = λ clock h found told stands lasts.
     amid_defined h found _ _ told stands lasts _ (AddColumns c.args.addition.table c.args.addition.columns) _ (ap (λ log. listed log_list log.pass.saw) c.define.ensures.log)
+    (fits_told h found _ _ told (bounds.Alter c.args.addition) (AddColumns c.args.addition.table c.args.addition.columns) c.requires.told c.args.self.now.sound.some lasts) tt
     (c.define.ensures.crash told lasts.keeps.lasts (fits_told h found _ _ told (bounds.Alter c.args.addition) (AddColumns c.args.addition.table c.args.addition.columns) c.requires.told c.args.self.now.sound.some lasts))
 
 pub returns-clause-crash : goal.returns-clause-crash
 returns-clause-crash g c = λ clock h found told stands lasts.
     amid_defined h found _ _ told stands lasts _ (AddColumns c.args.addition.table c.args.addition.columns) _ (ap (λ log. listed log_list log.pass.saw) c.define.ensures.log)
+    (fits_told h found _ _ told (bounds.Alter c.args.addition) (AddColumns c.args.addition.table c.args.addition.columns) c.requires.told c.args.self.now.sound.some lasts) tt
     (c.define.ensures.crash told lasts.keeps.lasts (fits_told h found _ _ told (bounds.Alter c.args.addition) (AddColumns c.args.addition.table c.args.addition.columns) c.requires.told c.args.self.now.sound.some lasts))
 
 pub returns-in-Err-clause-tables : goal.returns-in-Err-clause-tables

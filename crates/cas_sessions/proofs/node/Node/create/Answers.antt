@@ -19,10 +19,13 @@ use Rattle.cas_disk.proofs.Moments.{no_call}
 use Rattle.cas_journal.specs.Stores.{SameTables}
 use Rattle.cas_sessions.proofs.Listing.{going_on, lists_nothing, lists_told, lists_untold}
 use Rattle.cas_sessions.proofs.Going.{numbers_none}
+use Rattle.std.specs.Prelude.{◌++◌, replicate}
+use Rattle.cas_sessions.proofs.Frontiers.{frontiers_created}
 use Rattle.cas_sessions.proofs.node.Node.create.Goals as goal
 
 pub returns-in-Err-clause-changes : goal.returns-in-Err-clause-changes
-returns-in-Err-clause-changes g c = λ clock. moves_reserved _ _ (Schema c.args.table) (bounds.Create c.args.table) c.reserve.new.self.items c.reserve.ensures.items
+returns-in-Err-clause-changes g c = λ clock. moves_reserved _ _ (Schema c.args.table) (bounds.Create c.args.table) c.make_place.new.tables.items c.make_place.new.frontiers.items c.make_place.ensures.same.0
+    c.make_place.ensures.same.1
 
 pub define-requires-clause-spelled : goal.define-requires-clause-spelled
 define-requires-clause-spelled g c = has_spelling c.args.self.now.tables.items (bounds.Create c.args.table) (Schema c.args.table) c.requires.told
@@ -49,14 +52,14 @@ returns-in-Err-define-clause-changes g c = λ clock.
       last_file = ap (λ q. q.last) c.define.ensures.numbers;
       live = refl;
     })
-    c.define.ensures.count (reply_of (Err c.fault_for.result)) c.in-Err-define.fault c.define.ensures.tables tt (ap (λ (x : Fault). reply_of (Err x)) c.fault_for.ensures) c.reserve.ensures.items short c.in-Err-define.ensures.outcome c.in-Err-define.ensures.reach
-    (λ what most e. c.in-Err-define.ensures.full what most (ap Err e)) c.in-Err-define.ensures.kept
+    c.define.ensures.count (reply_of (Err c.fault_for.result)) c.in-Err-define.fault c.define.ensures.tables tt (ap (λ (x : Fault). reply_of (Err x)) c.fault_for.ensures) c.make_place.ensures.same.0 short c.in-Err-define.ensures.outcome c.in-Err-define.ensures.reach
+    (λ what most e. c.in-Err-define.ensures.full what most (ap Err e)) c.in-Err-define.ensures.kept c.make_place.ensures.same.1
 
 pub returns-clause-changes : goal.returns-clause-changes
 returns-clause-changes g c = λ clock.
     let ts = c.args.self.now.tables.items in
     let new =
-    pushed ts c.reserve.new.self.items c.push_reserved.new.self.items c.args.table c.table_of.result c.reserve.ensures.items c.push_reserved.ensures.items c.table_of.ensures in
+    pushed ts c.make_place.new.tables.items c.push_reserved.new.self.items c.args.table c.table_of.result c.make_place.ensures.same.0 c.push_reserved.ensures.items c.table_of.ensures in
     moves_done _ _ _ _ (Schema c.args.table) (bounds.Create c.args.table) c.requires.told c.args.self.now.sound.some
     (record {
       limits = refl;
@@ -78,12 +81,15 @@ returns-clause-changes g c = λ clock.
     (λ ws k. subst (λ (us : List TableSchema). RememberJust us ws c.args.self.now.shards.items) (sym new) (remember_created ts ws c.args.self.now.shards.items c.args.table k))
     (λ ms k. subst (λ (us : List TableSchema). RememberAll us ms c.args.self.now.shards.items) (sym new) (all_created ts c.args.self.now.shards.items c.args.table ms k))
     c.in_default-define.ensures.outcome c.in_default-define.ensures.reach c.in_default-define.ensures.kept
+    (λ said are many.
+    c.begin_frontiers.ensures ∙ ap (λ fs. fs ++ replicate c.args.self.now.limits.shards 0) c.make_place.ensures.same.1
+    ∙ frontiers_created said c.args.table c.args.self.now.frontiers.items c.args.self.now.limits.shards are many)
 
 pub invariant_of-self-2 : goal.invariant_of-self-2
 invariant_of-self-2 g c =
     let ts = c.args.self.now.tables.items in
     let new =
-    pushed ts c.reserve.new.self.items c.push_reserved.new.self.items c.args.table c.table_of.result c.reserve.ensures.items c.push_reserved.ensures.items c.table_of.ensures in
+    pushed ts c.make_place.new.tables.items c.push_reserved.new.self.items c.args.table c.table_of.result c.make_place.ensures.same.0 c.push_reserved.ensures.items c.table_of.ensures in
     let n = c.args.self.now in
     record {
       sound = sound_told _ _ _ _ _ _ _ _ n.sound c.define.ensures.size (subst AreTables (sym (new ∙ sym (created ts c.args.table))) c.requires.told.kept);
@@ -105,18 +111,20 @@ returns-in-Err-clause-crash g c = λ clock h found told stands lasts. amid_nothi
 pub returns-in-Err-define-clause-crash : goal.returns-in-Err-define-clause-crash
 returns-in-Err-define-clause-crash g c = λ clock h found told stands lasts.
     amid_defined h found _ _ told stands lasts _ (Schema c.args.table) _ (ap (λ log. listed log_list log.pass.saw) c.define.ensures.log)
+    (fits_told h found _ _ told (bounds.Create c.args.table) (Schema c.args.table) c.requires.told c.args.self.now.sound.some lasts) tt
     (c.define.ensures.crash told lasts.keeps.lasts (fits_told h found _ _ told (bounds.Create c.args.table) (Schema c.args.table) c.requires.told c.args.self.now.sound.some lasts))
 
 pub returns-clause-crash : goal.returns-clause-crash
 returns-clause-crash g c = λ clock h found told stands lasts.
     amid_defined h found _ _ told stands lasts _ (Schema c.args.table) _ (ap (λ log. listed log_list log.pass.saw) c.define.ensures.log)
+    (fits_told h found _ _ told (bounds.Create c.args.table) (Schema c.args.table) c.requires.told c.args.self.now.sound.some lasts) tt
     (c.define.ensures.crash told lasts.keeps.lasts (fits_told h found _ _ told (bounds.Create c.args.table) (Schema c.args.table) c.requires.told c.args.self.now.sound.some lasts))
 
 -- the list of its tables got a place more, and they are the same
 pub invariant_of-self : goal.invariant_of-self
 invariant_of-self g c =
     let n = c.args.self.now in
-    let same = c.reserve.ensures.items in
+    let same = c.make_place.ensures.same.0 in
     record {
       sound = sound_reserved _ _ _ _ _ _ _ n.sound same;
       readable = subst (λ (us : List TableSchema). MayBeRead us n.shards.items) (sym same) n.readable;
@@ -129,7 +137,7 @@ invariant_of-self g c =
 pub invariant_of-self-in-Err-define : goal.invariant_of-self-in-Err-define
 invariant_of-self-in-Err-define g c =
     let n = c.args.self.now in
-    let same = c.reserve.ensures.items in
+    let same = c.make_place.ensures.same.0 in
     record {
       sound = sound_told _ _ _ _ _ _ _ _ n.sound c.define.ensures.size (subst AreTables (sym same) n.sound.tables);
       readable = subst (λ (us : List TableSchema). MayBeRead us n.shards.items) (sym same) n.readable;

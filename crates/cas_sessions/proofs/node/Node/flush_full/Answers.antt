@@ -3,6 +3,7 @@ use Rattle.std.specs.Prelude.{slice_get}
 use Rattle.std.proofs.lemmas.Option.{slice_get_read}
 use Rattle.cas_sessions.specs.Nodes.{bytes_in}
 use Rattle.cas_sessions.proofs.FlushFull.{full_keeps, settles_full, settles_idle, settles_stopped, true_of_full}
+use Rattle.cas_sessions.proofs.FlushSound.{numbered}
 use Rattle.cas_sessions.proofs.Going.{numbers_kept, numbers_none}
 use Rattle.cas_sessions.proofs.Parts.{there_at}
 use Rattle.cas_sessions.proofs.node.Node.flush_full.Goals as goal
@@ -44,7 +45,8 @@ returns-clause-settles g c = λ clock image reads lasts.
     let at_x : slice_get n.shards.items c.args.shard ≡ Some x = slice_get_read n.shards.items n.limits.shards c.args.shard x (sym n.sound.count) c.requires.within.1 c.index.ensures in
     let full = ap (λ o. bytes_in o c.args.table) at_x ∙ sym c.bytes.ensures in
     let here = there_at n.tables.items c.args.table c.requires.within.0 in
-    settles_full here.0 c.args.shard c.args.table _ _ _ _ _ (c.flush_shard.ensures.flushes clock here.0 here.1) here.1 (sym c.in_default.ensures)
+    settles_full here.0 c.args.shard c.args.table _ _ _ _ _ (c.flush_shard.ensures.flushes clock here.0 here.1) here.1
+    (numbered 0 n.tables.items c.args.table here.0 n.sound.tables.numbered here.1 ∙ omega arith) (sym c.in_default.ensures)
     (omega (arith, n.sound.count, c.requires.within.1)) (omega (arith, full, c.if-bytes-self.false)) image reads lasts
 
 pub returns-clause-idle : goal.returns-clause-idle

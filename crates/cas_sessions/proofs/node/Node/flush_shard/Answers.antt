@@ -1,4 +1,4 @@
-use Rattle.std.proofs.Common.{◌≡◌, ◌<◌, ◌∙◌, ℕ, true, false, pos, length, Some, sym, ap, subst, arith, refl}
+use Rattle.std.proofs.Common.{◌≡◌, ◌<◌, ◌∙◌, ℕ, true, false, pos, length, Some, Err, sym, ap, subst, arith, refl}
 use Rattle.std.specs.Prelude.{IfNone, slice_get}
 use Rattle.cas_bounds.specs.ClusteringOrder.{clustering_order}
 use Rattle.cas_memtable.specs.Kept.{HoldJust}
@@ -8,7 +8,7 @@ use Rattle.cas_sessions.specs.Inner.Flushing.{HoldsNothing}
 use Rattle.cas_sessions.specs.Nodes.{AreFilled}
 use Rattle.cas_sessions.proofs.FlushFiles.{holds_nothing, no_frozen}
 use Rattle.cas_sessions.proofs.FlushMaking.{one_in_memory}
-use Rattle.cas_sessions.proofs.FlushShard.{flushes_quietly, flushes_then, not_made_since, quiet_fails, quiet_none_at, quiet_starves}
+use Rattle.cas_sessions.proofs.FlushShard.{all_begun, flushes_quietly, flushes_then, not_made_since, quiet_fails, quiet_none_at, quiet_starves}
 use Rattle.cas_sessions.proofs.FlushSound.{numbered}
 use Rattle.cas_sessions.proofs.Parts.{there_at}
 use Rattle.cas_sessions.proofs.FlushSteps.{quiet_just, quiet_remembers, quiet_then}
@@ -93,7 +93,7 @@ returns-in-Err-make_file-clause-flushes g c = λ clock t at_t.
     (c.in-Err-make_file.ensures.why read.0 read.1 (quiet_remembers _ _ _ _ (c.freeze.ensures.quiet 0 0 clock) have) t y now_t here.1))
     (why_full_then t c.args.place c.args.table _ _ _ _ _ _ y (c.freeze.ensures.quiet c.args.session.now.seat.list c.args.session.now.seat.calls clock)
     (c.make_file.ensures.quiet c.args.session.now.seat.list c.args.session.now.seat.calls clock) now_t number here.1))
-    c.in-Err-make_file.ensures.own refl true tt
+    c.in-Err-make_file.ensures.own refl true (all_begun (Err c.in-Err-make_file.fault))
     (λ before full.
     subst (λ xs. AreFilled (filled_with t.number c.args.place true before) xs.items) (sym c.make_file.ensures.same.0)
     (subst (λ (k : ℕ). AreFilled (filled_with k c.args.place true before) f.shards.items) (sym number) (c.in-Ok.ensures.begun before full)))

@@ -25,6 +25,7 @@ invariant-loop-place g l = record {
         reads = g.F.Tally.Count.number l.fn.self.tally;
         last_file = l.fn.self.room.numbers.last;
         live = l.fn.self.live;
+        frontiers = l.fn.self.frontiers.items;
       })
       (record {
         limits = l.self.limits;
@@ -43,6 +44,7 @@ invariant-loop-place g l = record {
         reads = g.F.Tally.Count.number l.self.tally;
         last_file = l.self.room.numbers.last;
         live = l.self.live;
+        frontiers = l.self.frontiers.items;
       })
       (g.F.Folder.disk l.fn.self.room.folder) (g.F.Folder.disk l.self.room.folder);
   going : l.self.room.journal.first ≡ None;

@@ -1,5 +1,5 @@
 use Rattle.std.proofs.Common.{◌≡◌, ◌<◌, ◌∙◌, ℕ, length, Some, refl, sym, ap, subst, arith}
-use Rattle.std.specs.Prelude.{slice_get}
+use Rattle.std.specs.Prelude.{◌+◌, ◌*◌, slice_get, slice_set}
 use Rattle.cas_disk.specs.Disk.{Leaves}
 use Rattle.cas_changes.specs.Allowed.{FitsEntry}
 use Rattle.cas_changes.specs.Saying.{said_by}
@@ -7,11 +7,11 @@ use Rattle.cas_changes.specs.Spelling.{entry_bytes}
 use Rattle.cas_changes.specs.declared.entry.Change.{Change}
 use Rattle.cas_history.specs.Items.{changes_list, listed, log_list}
 use Rattle.cas_history.specs.Last.{frontier_of}
-use Rattle.cas_journal.specs.Reach.{reach_of}
+use Rattle.cas_journal.specs.Reach.{IsOver, reach_of}
 use Rattle.cas_sessions.specs.History.{reach_with}
 use Rattle.cas_journal.specs.Stores.{appended, committed_all}
 use Rattle.cas_refs.specs.Counts.{at}
-use Rattle.cas_room.specs.Changing.{StandsAmid}
+use Rattle.cas_room.specs.Changing.{MayBeTold, StandsAmid}
 use Rattle.cas_room.specs.Keeping.{Keeps}
 use Rattle.cas_room.specs.Rooms.{accepted_in}
 use Rattle.cas_shard.specs.Stands.{ShardState}
@@ -151,6 +151,8 @@ returns-in-Ok-clause-lists g c = λ clock change is. record {
   reads = refl;
   faults = c.install.ensures.count;
   live = refl;
+  frontiers = c.raise.ensures ∙ ap (λ (x : Change). slice_set c.args.self.now.frontiers.items (x.table * c.args.self.now.limits.shards + x.shard) x.frontier)
+      (same_change c.change_in-change.result.now change (sym c.change_in-change.ensures ∙ is));
   all = c.in-Ok.ensures.all;
   keeps = λ found told keeps fits.
       subst (λ e. Keeps c.install.new.self.journal (g.F.Folder.disk c.install.new.self.folder) (listed log_list c.install.new.self.log.pass.saw) c.install.new.self.faults.committed found
@@ -164,5 +166,36 @@ returns-in-Ok-clause-lists g c = λ clock change is. record {
   outcome = c.in-Ok.ensures.outcome;
   full = λ what most told. absurd cc;
   reach = subst (λ e. reach_of c.install.new.self.journal ≡ reach_with e (reach_of c.args.self.now.room.journal)) is c.in-Ok.ensures.reach;
+  tells = c.install.ensures.tables.tells;
+}
+
+pub returns-in-Err-clause-lists : goal.returns-in-Err-clause-lists
+returns-in-Err-clause-lists g c = λ clock change is. record {
+  limits = refl;
+  tables = refl;
+  shards = refl;
+  clock = refl;
+  list = ap (λ log. listed log_list log.pass.saw) c.install.ensures.log;
+  session = c.install.ensures.session.0;
+  calls = c.install.ensures.session.1;
+  accepted = c.install.ensures.accepted;
+  rises = c.install.ensures.rises;
+  last = ap (λ q. q.last) c.install.ensures.numbers;
+  reads = refl;
+  faults = c.install.ensures.count;
+  live = refl;
+  frontiers = refl;
+  all = tt;
+  keeps = λ found told keeps fits.
+      let (u, may, kept) = c.in-Err.ensures.kept found told keeps (subst (λ e. FitsEntry (said_by told.entries) e) (sym is) fits) in
+      (u, subst (λ e. MayBeTold c.in-Err.fault e told u) is may, kept);
+  front = λ found told keeps fits.
+      subst (λ e. Leaves (λ i. StandsAmid told e found (accepted_in (listed log_list c.args.self.now.room.log.pass.saw)) c.args.self.now.room.faults.committed i)
+      (g.F.Folder.disk c.args.self.now.room.folder) (g.F.Folder.disk c.install.new.self.folder)) is
+      (c.install.ensures.front found told keeps (subst (λ e. FitsEntry (said_by told.entries) e) (sym is) fits));
+  during = c.install.ensures.tables;
+  outcome = c.in-Err.ensures.outcome;
+  full = λ what most told. subst (λ e. IsOver what e c.args.self.now.room.journal) is (c.in-Err.ensures.full what most told);
+  reach = c.in-Err.ensures.reach;
   tells = c.install.ensures.tables.tells;
 }

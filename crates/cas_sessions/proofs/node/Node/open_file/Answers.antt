@@ -45,3 +45,8 @@ pub returns-in-Ok-view_of_flush-clause-left : goal.returns-in-Ok-view_of_flush-c
 returns-in-Ok-view_of_flush-clause-left g c = λ i leaves.
     let (b, written, there) = c.in-Ok.ensures.stands i leaves in
     (b, written, subst (λ (k : ℕ). i (table_name k) ≡ Some b) c.requires.fits.1 there)
+
+pub returns-in-Ok-view_of_flush-clause-stands : goal.returns-in-Ok-view_of_flush-clause-stands
+returns-in-Ok-view_of_flush-clause-stands g c = λ i leaves.
+    let (b, written, there) = c.in-Ok.ensures.stands i leaves in
+    ((b, subst (λ (k : ℕ). i (table_name k) ≡ Some b) c.requires.fits.1 there), tt)

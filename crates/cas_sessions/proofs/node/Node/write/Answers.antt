@@ -61,6 +61,7 @@ accept-requires-clause-of g c =
       reads = g.F.Tally.Count.number c.args.self.now.tally;
       last_file = c.args.self.now.room.numbers.last;
       live = c.args.self.now.live;
+      frontiers = c.args.self.now.frontiers.items;
     }) c.args.write c.args.reading c.index_mut.result.now c.prepare.new.self c.prepare.result
     (record { sound = c.args.self.now.sound; within = c.requires.within.0; fits = c.requires.fits; seat = c.index_mut.ensures.value; files = c.prepare.ensures.files; answered = λ ts q stands quiet. c.prepare.ensures.answered ts q stands quiet ∙ ap (λ (k : ℤ). prepare_answer c.args.self.now.limits.segment k q c.args.write) at; stands = λ ts n q stands suits. subst (λ (k : ℤ). Stands ts (raised k q) c.prepare.new.self) at (c.prepare.ensures.stands ts n q stands suits); number = c.prepare.ensures.number; memory = prepared_just c.args.self.now.tables.items c.index_mut.result.now c.prepare.new.self c.args.write c.args.self.now.limits.shards c.requires.fits c.prepare.ensures.memory; bytes = c.prepare.ensures.bytes })
     c.in-Ok.mutation c.in-Ok.is c.in-Ok.ensures.prepared c.in-Ok.ensures.ready
@@ -113,6 +114,7 @@ returns-in-Err-clause-writes g c = λ clock.
       reads = refl;
       last_file = ap (λ q. q.last) c.accept.ensures.numbers;
       live = refl;
+      frontiers = refl;
       during = c.accept.ensures.tables;
     })
 
@@ -149,6 +151,7 @@ returns-in-Ok-commit-clause-writes g c = λ clock.
       reads = refl;
       last_file = ap (λ q. q.last) (c.commit.ensures.numbers ∙ c.accept.ensures.numbers);
       live = refl;
+      frontiers = refl;
       during = tables_twice _ _ _ c.accept.ensures.tables c.commit.ensures.tables;
     })
     _ c.in-Ok-accept.ensures.number
@@ -187,6 +190,7 @@ returns-in-Err-commit-clause-writes g c = λ clock.
       reads = refl;
       last_file = ap (λ q. q.last) (c.commit.ensures.numbers ∙ c.accept.ensures.numbers);
       live = refl;
+      frontiers = refl;
       during = tables_twice _ _ _ c.accept.ensures.tables c.commit.ensures.tables;
     })
     (Unit {0}) c.in-Err-commit.field-0 c.in-Err-commit.ensures.outcome c.in-Err-commit.ensures.why (omega (arith, c.accept.ensures.committed, c.commit.ensures.rises))
