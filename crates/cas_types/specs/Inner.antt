@@ -1,2 +1,3 @@
 -- What only helps this crate's own contracts.
 pub mod Kept
+pub mod Padded

@@ -122,8 +122,12 @@ impl PartialEq for Bytes {
 
     ghost laws = { partial_equiv_from_equiv nat_list_eq_equiv };
 
+    #[inline]
     fn eq(&self, other: &Self) -> bool {
-        self.as_slice() == other.as_slice()
+        match (&self.kept, &other.kept) {
+            (Kept::Here(x), Kept::Here(y)) => x.is_same(y),
+            _ => self.as_slice() == other.as_slice(),
+        }
     }
 }
 
@@ -160,7 +164,11 @@ impl Ord for Bytes {
 
     ghost matches_eq = { λ x y. texts_ties x y };
 
+    #[inline]
     fn cmp(&self, other: &Self) -> Ordering {
-        compare_bytes(self.as_slice(), other.as_slice())
+        match (&self.kept, &other.kept) {
+            (Kept::Here(x), Kept::Here(y)) => x.compare(y),
+            _ => compare_bytes(self.as_slice(), other.as_slice()),
+        }
     }
 }
