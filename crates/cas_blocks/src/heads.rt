@@ -14,7 +14,7 @@ use cas_disk::Sealed;
 use cas_fragments::{Head, read_head};
 
 /// So many bytes are tried first.
-const AT_FIRST: u64 = 4_096;
+const AT_FIRST: u64 = 512;
 
 // The head with which these bytes begin, the first of which stands at a place; none where they
 // aren't the front of one.
@@ -54,7 +54,7 @@ fn read_front<F: Sealed>(
 }
 
 /// Reads the head of the partition at a place of a file: its key, the deletion of all of it, and its
-/// static columns. It reads 4 KiB, and twice as many while that isn't enough, up to the end.
+/// static columns. It reads 512 bytes, and twice as many while that isn't enough, up to the end.
 pub fn read_head_at<F: Sealed>(
     file: &TableFile<'_, F>,
     place: u64,

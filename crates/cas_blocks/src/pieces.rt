@@ -9,6 +9,7 @@ ghost use Rattle.cas_blocks.specs.Inner.Pieces.{left_of, room_of, told_on, IsBad
 use crate::fault::TableFault;
 use crate::file::TableFile;
 use crate::steps::{Onward, next_block};
+use cas_bounds::Cut;
 use cas_disk::Sealed;
 use cas_skips::Spelled;
 use cas_streams::Fragment;
@@ -27,6 +28,7 @@ impl<'a> Pieces<'a> {
     fn next_in_block<F: Sealed>(
         &mut self,
         file: &TableFile<'a, F>,
+        low: Option<&Cut>,
         tally: &mut F::Tally,
     ) -> Result<Option<Fragment>, TableFault>
         requires { self.old.rest ≡ [] }
@@ -46,7 +48,7 @@ impl<'a> Pieces<'a> {
         let Some(at) = &self.onward else {
             return Ok(None);
         };
-        match next_block(file, at, tally) {
+        match next_block(file, at, low, tally) {
             Ok(None) => {
                 drop(mem::replace(&mut self.onward, None));
                 Ok(None)
@@ -60,10 +62,12 @@ impl<'a> Pieces<'a> {
         }
     }
 
-    /// The next fragment; none at the partition's end.
+    /// The next fragment; none at the partition's end. Where those behind a cut are looked for next,
+    /// that is told.
     pub fn next<F: Sealed>(
         &mut self,
         file: &TableFile<'a, F>,
+        low: Option<&Cut>,
         tally: &mut F::Tally,
     ) -> Result<Option<Fragment>, TableFault>
         ensures first { (fs : ListOf Fragment) →
@@ -81,7 +85,7 @@ impl<'a> Pieces<'a> {
     {
         match self.rest.next(file.alloc)? {
             Some(fragment) => Ok(Some(fragment)),
-            None => self.next_in_block(file, tally),
+            None => self.next_in_block(file, low, tally),
         }
     }
 }

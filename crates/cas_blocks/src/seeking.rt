@@ -40,7 +40,7 @@ fn next_beyond<'a, F: Sealed>(
 {
     let now = pieces.rest.skip(file.alloc, file.order, &slice.lo, *force)?;
     *force = now;
-    pieces.next(file, tally)
+    pieces.next(file, Some(&slice.lo), tally)
 }
 
 // Goes up to the first fragment behind the slice's low cut; none where the partition ends before.
@@ -94,7 +94,7 @@ fn draw<'a, F: Sealed>(
 {
     match ahead {
         Some(fragment) => Ok(Some(fragment)),
-        None => pieces.next(file, tally),
+        None => pieces.next(file, None, tally),
     }
 }
 

@@ -12,6 +12,7 @@ ghost use Rattle.cas_blocks.specs.Inner.Steps.{reached, IsStep, Parses, Answers,
 use crate::fault::TableFault;
 use crate::file::TableFile;
 use crate::reading::read_range;
+use cas_bounds::Cut;
 use cas_cell::Deletion;
 use cas_codec::{ReadFault, Reader};
 use cas_disk::{FolderFault, Sealed};
@@ -115,10 +116,11 @@ fn mark_before(at: &Onward) -> Option<&Fragment>
     }
 }
 
-// The block that these bytes are.
+// The block that these bytes are, of whose fragments those behind the cut are looked for next.
 fn parse_block<'a, F: Sealed>(
     file: &TableFile<'a, F>,
     at: &Onward,
+    low: Option<&Cut>,
     body: Vec<u8>,
 ) -> Result<Step<'a>, TableFault>
     requires { at.now.place + 4 + vec_len body ≤ file.now.end }
@@ -134,6 +136,7 @@ fn parse_block<'a, F: Sealed>(
         file.columns,
         last,
         at.force,
+        low,
     ) {
         Ok(block) => Ok(behind(at, block, long)),
         Err(ReadFault::Mem) => Err(TableFault::Mem),
@@ -145,6 +148,7 @@ fn parse_block<'a, F: Sealed>(
 fn judge<'a, F: Sealed>(
     file: &TableFile<'a, F>,
     at: &Onward,
+    low: Option<&Cut>,
     body: Vec<u8>,
 ) -> Result<Option<Step<'a>>, TableFault>
     requires { at.now.place + 4 + vec_len body ≤ file.now.end }
@@ -162,16 +166,18 @@ fn judge<'a, F: Sealed>(
     if !at.goes_on {
         return Err(file.bad_block(at.place));
     }
-    match parse_block(file, at, body) {
+    match parse_block(file, at, low, body) {
         Ok(step) => Ok(Some(step)),
         Err(fault) => Err(fault),
     }
 }
 
-/// The next block of a partition; none at its end.
+/// The next block of a partition; none at its end. Where its fragments behind a cut are looked for
+/// next, that is told.
 pub(crate) fn next_block<'a, F: Sealed>(
     file: &TableFile<'a, F>,
     at: &Onward,
+    low: Option<&Cut>,
     tally: &mut F::Tally,
 ) -> Result<Option<Step<'a>>, TableFault>
     ensures told { (b : ListOf ℕ) → F.contents file.now.sealed.now ≡ Some b
@@ -180,7 +186,7 @@ pub(crate) fn next_block<'a, F: Sealed>(
     ensures count { Counted (F.Tally.number tally.old) (F.Tally.number tally.new) (IsErrOf result TableFault.Read) }
 {
     match read_body(file, at.place, tally) {
-        Ok(Some(body)) => judge(file, at, body),
+        Ok(Some(body)) => judge(file, at, low, body),
         Ok(None) => Err(file.bad_block(at.place)),
         Err(fault) => Err(TableFault::from(fault)),
     }

@@ -2,3 +2,4 @@ pub mod Seen
 pub mod Passing
 pub mod BlockLoop
 pub mod Spelling
+pub mod Noting

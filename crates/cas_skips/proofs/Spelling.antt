@@ -139,24 +139,24 @@ module _ (order : List Ordered) (columns : List Column) (bytes : List ℕ) (plac
 
 -- ---- passing over those before a cut
 
-place_is : (f : Fragment) → place_of f ≡ (mark_of f).place
+pub place_is : (f : Fragment) → place_of f ≡ (mark_of f).place
 place_is (fragment.Static cs) = refl
 place_is (fragment.Row r) = refl
 place_is (fragment.Marker cut d) = refl
 
-opened_is : (now : Option Deletion) (f : Fragment) → opened now f ≡ force_behind now (mark_of f).opens
+pub opened_is : (now : Option Deletion) (f : Fragment) → opened now f ≡ force_behind now (mark_of f).opens
 opened_is now (fragment.Static cs) = refl
 opened_is now (fragment.Row r) = refl
 opened_is now (fragment.Marker cut d) = refl
 
 module _ (order : List Ordered) (columns : List Column) (by : List Ordered) (cut : Cut) where
-  abbrev beyond : Mark → Bool
+  abbrev pub beyond : Mark → Bool
   beyond m = is_lt (place_cmp by (Some (cut_point cut)) m.place)
 
-  beyond_is : (f : Fragment) (m : Mark) → mark_of f ≡ m → is_beyond by cut f ≡ beyond m
+  pub beyond_is : (f : Fragment) (m : Mark) → mark_of f ≡ m → is_beyond by cut f ≡ beyond m
   beyond_is f m e = ap (λ p. is_lt (place_cmp by (Some (cut_point cut)) p)) (place_is f) ∙ ap beyond e
 
-  skip_on : (n : ℕ) (now : Option Deletion) (m : Mark) (left new : Left) → told mark_of (fragment_at order columns left) ≡ Ok (m, new) → beyond m ≡ false
+  pub skip_on : (n : ℕ) (now : Option Deletion) (m : Mark) (left new : Left) → told mark_of (fragment_at order columns left) ≡ Ok (m, new) → beyond m ≡ false
       → skipped by cut now (spelled order columns (suc n) left) ≡ skipped by cut (force_behind now m.opens) (spelled order columns n new)
   skip_on n now m left new e low =
       let (f, is, same) = told_ok mark_of (fragment_at order columns left) m new e in
@@ -164,7 +164,7 @@ module _ (order : List Ordered) (columns : List Column) (by : List Ordered) (cut
       ∙ ap (λ (b : Bool). cond b (now, f ∷ spelled order columns n new) (skipped by cut (opened now f) (spelled order columns n new))) (beyond_is f m same ∙ low)
       ∙ ap (λ (d : Option Deletion). skipped by cut d (spelled order columns n new)) (opened_is now f ∙ ap (λ (k : Mark). force_behind now k.opens) same)
 
-  skip_found : (n : ℕ) (now : Option Deletion) (m : Mark) (left new : Left) → told mark_of (fragment_at order columns left) ≡ Ok (m, new) → beyond m ≡ true
+  pub skip_found : (n : ℕ) (now : Option Deletion) (m : Mark) (left new : Left) → told mark_of (fragment_at order columns left) ≡ Ok (m, new) → beyond m ≡ true
       → skipped by cut now (spelled order columns (suc n) left) ≡ (now, spelled order columns (suc n) left)
   skip_found n now m left new e high =
       let (f, is, same) = told_ok mark_of (fragment_at order columns left) m new e in

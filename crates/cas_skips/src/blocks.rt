@@ -6,7 +6,7 @@ ghost use Rattle.std.specs.Ordering.{is_lt};
 ghost use Rattle.cas_types.specs.Limits.{IsNarrow};
 ghost use Rattle.cas_bounds.specs.ClusteringOrder.{clustering_order};
 ghost use Rattle.cas_codec.specs.Exact.{AreBytes};
-ghost use Rattle.cas_codec.specs.Reading.{Gives};
+ghost use Rattle.cas_codec.specs.Reading.{Gives, Left};
 ghost use Rattle.cas_streams.specs.Places.{place_of, place_cmp};
 ghost use Rattle.cas_streams.specs.Settled.{same_force};
 ghost use Rattle.cas_fragments.specs.Blocks.{last_place, past_all};
@@ -14,8 +14,10 @@ ghost use Rattle.cas_fragments.specs.Reading.{next_fragment_at, early_fragment_a
 ghost use Rattle.cas_skips.specs.Told.{told, Ends};
 ghost use Rattle.cas_skips.specs.Marks.{mark_of, changes, force_behind, may_stand};
 ghost use Rattle.cas_skips.specs.Inner.Passing.{seen, mark_at, place_at, counted};
+ghost use Rattle.cas_skips.specs.Inner.Notes.{ArePrefix, IsSought};
 
 use crate::fragments::{Passed, end_of, skip_fragment};
+use crate::notes::{Spot, found, low_prefix, noted, spot_at};
 use crate::places::compare_seen;
 use crate::spelled::Spelled;
 use cas_atoms::Row;
@@ -37,23 +39,25 @@ pub struct Checked<'a> {
     pub force: Option<Deletion>,
 }
 
-// How many fragments were passed over, where the last of them stands, and what is in force behind
-// it.
+// How many fragments were passed over, where the last of them stands, what is in force behind it,
+// and where those begin that stand behind the cut that is looked for.
 #[derive(Drop)]
 struct Ended<'a> {
     count: usize,
     end: End,
     values: Vec<&'a [u8]>,
     force: Option<Deletion>,
+    spot: Option<Spot>,
 }
 
-// How many fragments there are, a fragment that stands where the last of them does, and what is in
-// force behind it.
+// How many fragments there are, a fragment that stands where the last of them does, what is in
+// force behind it, and where those begin that stand behind the cut that is looked for.
 #[derive(Drop)]
 struct Reaching {
     count: usize,
     last: Fragment,
     force: Option<Deletion>,
+    spot: Option<Spot>,
 }
 
 // Whether a point stands behind the last one.
@@ -72,7 +76,7 @@ fn stands_behind(
     }
 }
 
-fn same_force(a: Option<Deletion>, b: Option<Deletion>) -> bool
+pub(crate) fn same_force(a: Option<Deletion>, b: Option<Deletion>) -> bool
     ensures { result ≡ same_force a b }
 {
     match (a, b) {
@@ -248,18 +252,26 @@ fn skip_all<'a>(
     columns: &[Column],
     last: Option<&'a Fragment>,
     force: Option<Deletion>,
+    low: Option<&Cut>,
+    prefix: &[&[u8]],
 ) -> Result<Ended<'a>, ReadFault>
-    ensures { Gives (λ e. (e.count, record { last = place_at (Some e.end) (seen e.values.items); force = e.force })) result reader.new
+    requires ordered { order.now ≡ clustering_order columns.now }
+    requires narrow { IsNarrow columns.now }
+    requires prefix { ArePrefix (option_copied low) (seen prefix.now) }
+    ensures exact { Gives (λ e. (e.count, record { last = place_at (Some e.end) (seen e.values.items); force = e.force })) result reader.new
         (told (counted 0 (record { last = last_place (option_copied last.entry); force = force })) (body_at order.now columns.now
         (record { last = last_place (option_copied last.entry); force = force }) reader.old)) }
+    ensures sought { IfOk result (λ e. IsSought order.now columns.now (option_copied low.entry) force reader.old e.count e.force reader.new e.spot) }
 {
     let long = reader.left().len();
     let (mut end, mut before) = place_before(alloc, last)?;
     let mut values = Vec::new(alloc);
-    let mut now = force;
+    let (mut now, mut spot) = (force, None);
     for done in 0..long {
+        let here = spot_at(reader, done, now);
         match skip_early(reader, order, columns, long, end, &before, now, &mut values) {
             Ok(passed) => {
+                spot = found(order, low, prefix, spot, here, passed.end, &values);
                 now = force_behind(now, passed.opens);
                 end = Some(passed.end);
                 mem::swap(&mut before, &mut values);
@@ -269,6 +281,7 @@ fn skip_all<'a>(
                         end: passed.end,
                         values: before,
                         force: now,
+                        spot,
                     });
                 }
             }
@@ -279,7 +292,7 @@ fn skip_all<'a>(
 }
 
 // Checks the bytes of a block, of which they are all, and tells of its fragments how many there
-// are, and how far they came.
+// are, how far they came, and where those begin that stand behind the cut.
 fn check_bytes<'a>(
     alloc: Global,
     bytes: &'a [u8],
@@ -288,26 +301,43 @@ fn check_bytes<'a>(
     columns: &[Column],
     last: Option<&'a Fragment>,
     force: Option<Deletion>,
+    low: Option<&Cut>,
 ) -> Result<Reaching, ReadFault>
+    requires ordered { order.now ≡ clustering_order columns.now }
+    requires narrow { IsNarrow columns.now }
     requires within { place + length bytes.now < 2 ^ 64 }
     ensures exact { Ends (λ e. (e.count, record { last = place_of e.last; force = e.force })) result
         (told (counted 0 (record { last = last_place (option_copied last.entry); force = force })) (body_at order.now columns.now
         (record { last = last_place (option_copied last.entry); force = force }) (record { bytes = bytes.now; at = place }))) }
     ensures are_bytes { AreBytes bytes.now }
+    ensures sought { IfOk result (λ e. (new : Left) × IsSought order.now columns.now (option_copied low.entry) force
+        (record { bytes = bytes.now; at = place }) e.count e.force new e.spot) }
 {
     let mut reader = Reader::new(bytes, place);
-    let ended = skip_all(alloc, &mut reader, order, columns, last, force)?;
+    let prefix = low_prefix(alloc, low)?;
+    let ended = skip_all(
+        alloc,
+        &mut reader,
+        order,
+        columns,
+        last,
+        force,
+        low,
+        &prefix,
+    )?;
     let last = mark(alloc, order, ended.end, &ended.values)?;
     Ok(Reaching {
         count: ended.count,
         last,
         force: ended.force,
+        spot: ended.spot,
     })
 }
 
 /// Checks the bytes of a block, whose first stands at a place of the file, as `read_block` of
 /// `cas_fragments` reads them, and builds no fragment. The last fragment before them, and the range
-/// deletion in force there, are told, as there.
+/// deletion in force there, are told, as there. Where a cut is to be looked for, it is told as
+/// `low`: a `skip` to it needn't read again what it passes over.
 pub fn check_block<'a>(
     alloc: Global,
     bytes: Vec<u8>,
@@ -316,6 +346,7 @@ pub fn check_block<'a>(
     columns: &'a [Column],
     last: Option<&Fragment>,
     force: Option<Deletion>,
+    low: Option<&Cut>,
 ) -> Result<Checked<'a>, ReadFault>
     requires ordered { order.now ≡ clustering_order columns.now }
     requires narrow { IsNarrow columns.now }
@@ -326,12 +357,15 @@ pub fn check_block<'a>(
         ≡ past_all (record { last = last_place (option_copied last.entry); force = force }) c.fragments) }
     ensures are_bytes { AreBytes bytes.items }
 {
-    match check_bytes(alloc, &bytes, place, order, columns, last, force) {
-        Ok(reaching) => Ok(Checked {
-            fragments: Spelled::new(bytes, place, reaching.count, order, columns),
-            last: Some(reaching.last),
-            force: reaching.force,
-        }),
+    match check_bytes(alloc, &bytes, place, order, columns, last, force, low) {
+        Ok(reaching) => {
+            let note = noted(low, force, reaching.spot)?;
+            Ok(Checked {
+                fragments: Spelled::new(bytes, place, reaching.count, order, columns, note),
+                last: Some(reaching.last),
+                force: reaching.force,
+            })
+        }
         Err(fault) => Err(fault),
     }
 }

@@ -6,6 +6,7 @@ mod blocks;
 mod cells;
 mod columns;
 mod fragments;
+mod notes;
 mod places;
 mod spelled;
 

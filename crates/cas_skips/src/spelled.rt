@@ -9,9 +9,11 @@ ghost use Rattle.cas_streams.specs.Places.{place_cmp};
 ghost use Rattle.cas_skips.specs.Blocks.{spelled, skipped, with_first};
 ghost use Rattle.cas_skips.specs.Inner.Passing.{seen, place_at};
 ghost use Rattle.cas_skips.specs.Inner.Stops.{IsFurther, IsFirst, PassesOne};
+ghost use Rattle.cas_skips.specs.Inner.Notes.{IsNoted};
 
 use crate::blocks::{borrowed, force_behind};
 use crate::fragments::{Passed, end_of, skip_fragment};
+use crate::notes::{Note, count_behind, noted_spot};
 use crate::places::compare_seen;
 use cas_bounds::{Cut, End, RowOrder};
 use cas_cell::Deletion;
@@ -33,6 +35,8 @@ pub struct Spelled<'a> {
     count: usize,
     order: &'a RowOrder,
     columns: &'a [Column],
+    // Where those behind some cut begin, if that is known.
+    note: Option<Note>,
 }
 
 impl<'a> Model for Spelled<'a> {
@@ -41,17 +45,24 @@ impl<'a> Model for Spelled<'a> {
     ghost use Rattle.cas_bounds.specs.ClusteringOrder.{clustering_order};
     ghost use Rattle.cas_streams.specs.declared.fragment.Fragment.{Fragment};
     ghost use Rattle.cas_skips.specs.Blocks.{spelled};
-    ghost use Rattle.cas_skips.specs.Inner.Stops.{IsKept, left_from};
+    ghost use Rattle.cas_skips.specs.Inner.Stops.{left_from};
+    ghost use Rattle.cas_skips.specs.Inner.Notes.{IsHeld};
 
     ghost Value = { List Fragment };
 
     ghost view = { λ s. spelled s.order.now s.columns.now s.count (left_from s.bytes.items s.place s.taken) };
 
-    ghost invariant = { λ s. IsKept s.order.now s.columns.now s.bytes.items s.place s.taken };
+    ghost invariant = { λ s. IsHeld s.order.now s.columns.now s.bytes.items s.place s.taken s.count s.note };
 }
 
 // Whether a point stands behind a cut, whose prefix is told by reference too.
-fn is_beyond(order: &RowOrder, cut: &Cut, prefix: &[&[u8]], end: End, values: &[&[u8]]) -> bool
+pub(crate) fn is_beyond(
+    order: &RowOrder,
+    cut: &Cut,
+    prefix: &[&[u8]],
+    end: End,
+    values: &[&[u8]],
+) -> bool
     requires { seen prefix.now ≡ cut.now.prefix }
     ensures { result ≡ is_lt (place_cmp order.now (Some (cut_point cut.now)) (place_at (Some end) (seen values.now))) }
 {
@@ -173,20 +184,23 @@ impl<'a> Spelled<'a> {
         requires narrow { IsNarrow columns.now }
         ensures { result ≡ [] }
     {
-        Spelled::new(Vec::new(alloc), 0, 0, order, columns)
+        Spelled::new(Vec::new(alloc), 0, 0, order, columns, None)
     }
 
-    /// So many fragments that these bytes spell, which stand at that place.
+    /// So many fragments that these bytes spell, which stand at that place, and what is noted of
+    /// them.
     pub(crate) fn new(
         bytes: Vec<u8>,
         place: u64,
         count: usize,
         order: &'a RowOrder,
         columns: &'a [Column],
+        note: Option<Note>,
     ) -> Self
         requires ordered { order.now ≡ clustering_order columns.now }
         requires narrow { IsNarrow columns.now }
         requires within { place + vec_len bytes < 2 ^ 64 }
+        requires noted { IsNoted order.now columns.now (record { bytes = bytes.items; at = place }) count note }
         ensures { result ≡ spelled order.now columns.now count (record { bytes = bytes.items; at = place }) }
     {
         Spelled {
@@ -196,6 +210,7 @@ impl<'a> Spelled<'a> {
             count,
             order,
             columns,
+            note,
         }
     }
 
@@ -214,10 +229,12 @@ impl<'a> Spelled<'a> {
             Some((fragment, left)) => {
                 self.taken = self.bytes.len() - left;
                 self.count -= 1;
+                count_behind(&mut self.note, &fragment);
                 Ok(Some(fragment))
             }
             None => {
                 self.count = 0;
+                self.note = None;
                 Ok(None)
             }
         }
@@ -235,6 +252,12 @@ impl<'a> Spelled<'a> {
         ensures passed { IfOk result (λ now. skipped order.now cut.now force self.old ≡ (now, self.new)) }
         ensures unchanged { OnErr result (self.new ≡ self.old) }
     {
+        if let Some(spot) = noted_spot(&self.note, self.order, order, cut, force) {
+            self.taken = self.bytes.len() - spot.left;
+            self.count -= spot.before;
+            self.note = None;
+            return Ok(spot.force);
+        }
         let place = self.place + self.taken as u64;
         let mut reader = Reader::new(behind(&self.bytes, self.taken), place);
         let stop = pass(
@@ -250,6 +273,7 @@ impl<'a> Spelled<'a> {
         let (left, count, now) = (stop.rest.len(), stop.count, stop.force);
         self.taken = self.bytes.len() - left;
         self.count = count;
+        self.note = None;
         Ok(now)
     }
 }
