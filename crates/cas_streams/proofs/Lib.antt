@@ -18,3 +18,4 @@ pub mod Written
 pub mod Cutting
 pub mod Halves
 pub mod NoMore
+pub mod Something

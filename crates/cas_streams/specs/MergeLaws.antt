@@ -18,7 +18,7 @@ use Rattle.cas_laws.specs.Given.{Gives, Has}
 use Rattle.cas_laws.specs.Inside.{SameWhere}
 use Rattle.cas_streams.specs.Places.{Place, place_of, place_cmp, row_in}
 use Rattle.cas_streams.specs.Flat.{atom_of, own, changes, at_end, reaching, in_force}
-use Rattle.cas_streams.specs.Streams.{IsOrdered}
+use Rattle.cas_streams.specs.Streams.{IsOrdered, IsThere}
 use Rattle.cas_streams.specs.Joined.{Stream}
 use Rattle.cas_streams.specs.Merged.{merged, flat_of, flats, IsMerged}
 use Rattle.cas_streams.specs.NoMore.{SaysNoMore}
@@ -61,6 +61,14 @@ pub record MergeInventsNothing : Type 0 where
       → in_force (merged ss).fragments r ≡ Some d → Gives (λ s. in_force s.fragments r) ss d
   pub covers : (order : List Ordered) (ss : List Stream) → AllByRecursion (λ s. IsOrdered order s.fragments) ss → (x : Coordinate) (d : Deletion)
       → cover (flat_of (merged ss)) x ≡ Some d → Gives (deletion_at x) (flats ss) d
+
+-- ---- nor is all lost
+
+-- where something is said in the streams, something is said in their merge, also where it says the same as no atoms: a range deletion between two neighbours
+-- covers no row, and is told
+abbrev pub MergeSaysSomething : Type 0
+MergeSaysSomething = (order : List Ordered) (ss : List Stream) → AllByRecursion (λ s. IsOrdered order s.fragments) ss → IsThere (flats ss)
+    → IsThere (flat_of (merged ss))
 
 -- ---- what determines a stream
 

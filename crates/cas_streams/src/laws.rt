@@ -2,7 +2,7 @@
 
 ghost use Rattle.cas_streams.specs.Laws.{RowsSayAll, SameByRows, CutKeepsTheSlice, CutIsWellFormed};
 ghost use Rattle.cas_streams.specs.Laws.{MergeIsJoin, MergeIsWellFormed, MergeIsMerged};
-ghost use Rattle.cas_streams.specs.MergeLaws.{MergeByPlaces, MergeInventsNothing, SameWritesAlike};
+ghost use Rattle.cas_streams.specs.MergeLaws.{MergeByPlaces, MergeInventsNothing, MergeSaysSomething, SameWritesAlike};
 
 /// At each row an ordered stream says what its top, the deletion in force there and the row's own
 /// fragments say, and nothing more.
@@ -49,6 +49,11 @@ pub fn merge_by_places()
 /// It writes and deletes nothing that no stream writes or deletes there.
 pub fn merge_invents_nothing()
     ensures { MergeInventsNothing }
+{}
+
+/// And where a stream says something, it does too.
+pub fn merge_says_something()
+    ensures { MergeSaysSomething }
 {}
 
 /// What is the same as a merged stream has its writes.
