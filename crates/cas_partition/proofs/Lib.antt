@@ -16,3 +16,5 @@ pub mod Hiding
 pub mod RowsPassed
 pub mod NoMore
 pub mod Fronts
+pub mod Something
+pub mod Whole

@@ -7,9 +7,11 @@ use Rattle.cas_atoms.specs.Winners.{Same}
 use Rattle.cas_atoms.specs.declared.atom.Atom.{Atom}
 use Rattle.cas_laws.proofs.JoinProofs.{join_laws}
 use Rattle.cas_streams.specs.NoMore.{SaysNoMore}
+use Rattle.cas_streams.specs.Streams.{IsThere}
 use Rattle.cas_streams.proofs.NoMore.{no_more_itself, no_more_then, no_more_kept}
 use Rattle.cas_partition.specs.Partitions.{partition_atoms, IsOf, HasPlace, MakesPlace, Joins, AreAtomsOf, IsOfTable, AllFit, HavePlaces, MakesPlaces, JoinsAll}
 use Rattle.cas_partition.specs.declared.partition.Partition.{Partition}
+use Rattle.cas_partition.proofs.Something.{there_more}
 
 same_itself : (A : List Atom) → Same A A
 same_itself A = record { covers = λ x. refl; lives = λ c. refl; cells = λ x. refl }
@@ -23,6 +25,7 @@ same_then a b = record { covers = λ x. a.covers x ∙ b.covers x; lives = λ c.
 pub record Making (all rest : List Atom) (p q : Partition) : Type 0 where
   pub same : (order : List Ordered) → IsOf order p → AreAtomsOf order all → Same (partition_atoms q) (partition_atoms p)
   pub no_more : (order : List Ordered) → IsOf order p → AreAtomsOf order all → SaysNoMore (partition_atoms q) (partition_atoms p)
+  pub some : IsThere (partition_atoms p) → IsThere (partition_atoms q)
   pub of : (order : List Ordered) → IsOf order p → AreAtomsOf order all → IsOf order q × AreAtomsOf order rest
   pub fits : (columns : List Column) → IsOfTable columns p → AllFit columns all → IsOfTable columns q × AllFit columns rest
   pub others : (b : Atom) → HasPlace p b → HasPlace q b
@@ -32,6 +35,7 @@ pub making : (all : List Atom) (p : Partition) → Making all all p p
 making all p = record {
   same = λ order of atoms. same_itself (partition_atoms p);
   no_more = λ order of atoms. no_more_itself (partition_atoms p);
+  some = λ is. is;
   of = λ order of atoms. (of, atoms);
   fits = λ columns t all_fit. (t, all_fit);
   others = λ b h. h;
@@ -43,6 +47,7 @@ one_made all a rest p q r m one there = record {
   same = λ order of atoms. let (now, left) = m.of order of atoms in same_then (one.same order now left.0) (m.same order of atoms);
   no_more = λ order of atoms.
       no_more_then (partition_atoms r) (partition_atoms q) (partition_atoms p) (one.no_more order (m.of order of atoms).0) (m.no_more order of atoms);
+  some = λ is. one.some (m.some is);
   of = λ order of atoms. let (now, left) = m.of order of atoms in (one.of order now left.0, left.1);
   fits = λ columns t all_fit. let (now, left) = m.fits columns t all_fit in (one.fits columns now left.0, left.1);
   others = λ b h. one.others b (m.others b h);
@@ -50,7 +55,7 @@ one_made all a rest p q r m one there = record {
 }
 
 pub all_made : (all : List Atom) (p q : Partition) → Making all [] p q → MakesPlaces all p q
-all_made all p q m = record { same = m.same; no_more = m.no_more; of = λ order of atoms. (m.of order of atoms).0; fits = λ columns t all_fit. (m.fits columns t all_fit).0; others = m.others }
+all_made all p q m = record { same = m.same; no_more = m.no_more; some = m.some; of = λ order of atoms. (m.of order of atoms).0; fits = λ columns t all_fit. (m.fits columns t all_fit).0; others = m.others }
 
 pub all_there : (all : List Atom) (p q : Partition) → Making all [] p q → HavePlaces q all
 all_there all p q m = m.made q (λ b h. h) tt
@@ -60,6 +65,7 @@ some_made all a rest p q r m one = record {
   same = λ order of atoms. let (now, left) = m.of order of atoms in same_then (one.same order now left.0) (m.same order of atoms);
   no_more = λ order of atoms.
       no_more_then (partition_atoms r) (partition_atoms q) (partition_atoms p) (one.no_more order (m.of order of atoms).0) (m.no_more order of atoms);
+  some = λ is. one.some (m.some is);
   of = λ order of atoms. let (now, left) = m.of order of atoms in one.of order now left.0;
   fits = λ columns t all_fit. let (now, left) = m.fits columns t all_fit in one.fits columns now left.0;
   others = λ b h. one.others b (m.others b h);
@@ -71,6 +77,7 @@ some_made all a rest p q r m one = record {
 pub record Joining (all rest : List Atom) (p q : Partition) : Type 0 where
   pub joined : (order : List Ordered) → IsOf order p → AreAtomsOf order all → Same (partition_atoms q ++ rest) (partition_atoms p ++ all)
   pub no_more : (order : List Ordered) → IsOf order p → AreAtomsOf order all → SaysNoMore (partition_atoms q ++ rest) (partition_atoms p ++ all)
+  pub some : (order : List Ordered) → IsOf order p → AreAtomsOf order all → IsThere (partition_atoms p ++ all) → IsThere (partition_atoms q ++ rest)
   pub of : (order : List Ordered) → IsOf order p → AreAtomsOf order all → IsOf order q × AreAtomsOf order rest
   pub fits : (columns : List Column) → IsOfTable columns p → AllFit columns all → IsOfTable columns q × AllFit columns rest
   pub others : (b : Atom) → HasPlace p b → HasPlace q b
@@ -80,6 +87,7 @@ pub joining : (all rest : List Atom) (p : Partition) → rest ≡ all → HavePl
 joining all rest p e there = subst (λ l. Joining all l p p) (sym e) (record {
   joined = λ order of atoms. same_itself (partition_atoms p ++ all);
   no_more = λ order of atoms. no_more_itself (partition_atoms p ++ all);
+  some = λ order of atoms is. is;
   of = λ order of atoms. (of, atoms);
   fits = λ columns t all_fit. (t, all_fit);
   others = λ b h. h;
@@ -98,6 +106,7 @@ one_joined all rest a others p q r e h one =
           no_more_then (partition_atoms r ++ others) ((partition_atoms q ++ a ∷ []) ++ others) (partition_atoms p ++ all)
           (no_more_kept (partition_atoms r) (partition_atoms q ++ a ∷ []) others (one.no_more order (m.of order of atoms).0))
           (subst (λ l. SaysNoMore l (partition_atoms p ++ all)) (sym (append_assoc (partition_atoms q) (a ∷ []) others)) (m.no_more order of atoms));
+      some = λ order of atoms is. let (now, left) = m.of order of atoms in there_more (partition_atoms r) others (one.some order now left.0);
       joined = λ order of atoms.
           let (now, left) = m.of order of atoms in
           same_then (join_laws.kept (partition_atoms r) (partition_atoms q ++ a ∷ []) others (one.joined order now left.0))
@@ -116,6 +125,7 @@ all_joined all rest p q e h =
     let m : Joining all [] p q = subst (λ l. Joining all l p q) e h in
     record {
       no_more = λ order of atoms. subst (λ l. SaysNoMore l (partition_atoms p ++ all)) (append-nil (partition_atoms q)) (m.no_more order of atoms);
+      some = λ order of atoms is. subst IsThere (append-nil (partition_atoms q)) (m.some order of atoms is);
       joined = λ order of atoms. subst (λ l. Same l (partition_atoms p ++ all)) (append-nil (partition_atoms q)) (m.joined order of atoms);
       of = λ order of atoms. (m.of order of atoms).0;
       fits = λ columns t all_fit. (m.fits columns t all_fit).0;

@@ -70,6 +70,10 @@ module _ (order : List Ordered) where
   total : IsTotalOrder (point_cmp order)
   total = (point_laws.orders order).total
 
+  -- a low cut and a high one, as keys
+  pub keys_below : (lo hi : Cut) → lo.order ≡ order → hi.order ≡ order → cut_cmp lo hi ≡ Less → key_cmp (key_of lo) (key_of hi) ≡ Less
+  keys_below lo hi e f below = as_points lo hi e f ∙ sym (point_laws.cuts lo hi ∙ ap (λ o. point_cmp o (cut_point lo) (cut_point hi)) e) ∙ below
+
   turn : (k l : Cut) → at k l ≡ ordering_reverse (at l k)
   turn k l = total.antisymm (cut_point k) (cut_point l)
 

@@ -48,11 +48,13 @@ use Rattle.cas_streams.specs.declared.fragment.Fragment.{Fragment}
 use Rattle.cas_streams.proofs.OwnRows.{Only, not_of_row, none_given}
 use Rattle.cas_streams.proofs.Joining.{Alike, alike_then, alike_both}
 use Rattle.cas_streams.proofs.Merges.{merge_is_join, merge_ordered}
+use Rattle.cas_streams.proofs.Weaves.{all_and, all_of}
+use Rattle.cas_streams.proofs.Something.{No, there_if, none_made, Silent, silent_own, Still, still_ranges, stream_silent, merge_says_something}
 use Rattle.cas_merge.specs.Told.{told_first, streams_told}
 use Rattle.cas_partition.specs.Ranges.{key_of, clipped}
 use Rattle.cas_partition.specs.Spots.{spot_cmp, piece}
 use Rattle.cas_partition.specs.Partitions.{said_at, partition_atoms, marker, IsOf, IsRowOf, AreIn, AreAtCuts}
-use Rattle.cas_partition.specs.Slices.{grouped_from, meet, Halves, both, pieces_in, rows_by, AreRowsOf, Shows, slice_pieces, slice_streams, SlicesShow}
+use Rattle.cas_partition.specs.Slices.{grouped_from, meet, Halves, both, pieces_in, rows_by, AreRowsOf, IsAll, Shows, slice_pieces, slice_streams, SlicesShow}
 use Rattle.cas_partition.specs.Ranged.{piece_of, spot_at, below_rows, statics_of, rows_between}
 use Rattle.cas_partition.specs.declared.spot.Spot.{Spot}
 use Rattle.cas_partition.specs.declared.spot.Content.{Content}
@@ -66,6 +68,7 @@ use Rattle.cas_streams.proofs.Formed.{Tabled}
 use Rattle.cas_streams.specs.Slices.{cut_to}
 use Rattle.cas_streams.proofs.Cutting.{cut_keeps_the_slice}
 use Rattle.cas_partition.proofs.Clipping.{clipped_is_cut}
+use Rattle.cas_partition.proofs.Whole.{halves_silent, cut_still}
 use Rattle.cas_partition.proofs.Forming.{pieces_have, kept_in_table, rows_have, markers_have, merge_forms}
 
 abbrev Entries : Type 0
@@ -298,6 +301,30 @@ meet_none (h ∷ front) f = meet_last front h f [] ∙ ap (λ l. h ∷ l) (meet_
 pub in_both : (all front back left right : List Fragment) → front ++ back ≡ all → AreRowsOf front left → AreRowsOf back right → AreRowsOf all (meet left right)
 in_both all front back left right e a b = (both a.0 b.0, (λ i. a.1 i ++ b.1 i) ∙ e, (λ i. meet (a.2 i) (b.2 i)))
 
+-- nothing is said at any of these spots
+abbrev AreSilent : Entries → Type 0
+AreSilent es = AllByRecursion Silent (map piece_of es)
+
+-- what is said of the static row and of rows, in a slice where all rows are inside
+parts_silent : (order : List Ordered) (s : Slice) → s.lo.order ≡ order → s.hi.order ≡ order → ((c : List (List ℕ)) → is_inside s.lo s.hi c ≡ true) → (es : Entries) → Rows order es
+    → AreSilent (statics_of es) → AreSilent (rows_between s.lo s.hi es) → No (said_at es)
+parts_silent order s low high inside [] rows a b = tt
+parts_silent order s low high inside (e ∷ es) rows a b = go (parts_silent order s low high inside es rows.1) e.0.row refl
+  where
+    S : Entries
+    S = statics_of es
+
+    B : Entries
+    B = rows_between s.lo s.hi es
+
+    go : (AreSilent S → AreSilent B → No (said_at es)) → (r : Option MapKey) → e.0.row ≡ r → No (said_at (e ∷ es))
+    go ih None is =
+        let (f, x) = subst (λ t. AreSilent (cond t (e ∷ S) S)) (static_kept e.0.row (rest e.0) is) a in
+        all_and (λ a. ⊥) (own (piece_of e)) (said_at es) (silent_own (piece_of e) f) (ih x (subst (λ t. AreSilent (cond t (e ∷ B) B)) (static_left s e.0.row (rest e.0) is) b))
+    go ih (Some k) is =
+        let (f, y) = subst (λ t. AreSilent (cond t (e ∷ B) B)) (kept_row order s e.0.row (rest e.0) k low high is rows.0 ∙ inside k.values) b in
+        all_and (λ a. ⊥) (own (piece_of e)) (said_at es) (silent_own (piece_of e) f) (ih (subst (λ t. AreSilent (cond t (e ∷ S) S)) (kept_static order e.0.row (rest e.0) k is rows.0) a) y)
+
 -- ---- both streams
 
 no_own : (ms : List Change) → flat_map own (map marker ms) ≡ []
@@ -309,6 +336,10 @@ pub shows : (s : Slice) (p : Partition) (rows : List Fragment) (top : Option Del
 shows s p rows top fs sorted are t f = subst (λ d. Shows s p d fs) (sym t) (subst (λ l. Shows s p (merged ss).top l) (sym f) (record {
   ordered = λ order of low high. merge_ordered order ss (each_ordered order of low high);
   no_more = λ order of. slice_no_more s p rows are (closes order p.ranges of.marks);
+  some = λ order of all is.
+      let low : s.lo.order ≡ order = ap (λ (c : Cut). c.order) all.0 in
+      let high : s.hi.order ≡ order = ap (λ (c : Cut). c.order) all.1 in
+      merge_says_something order ss (each_ordered order of low high) (there_if (partition_atoms p) (flats ss) (all_silent order of low high all) is);
   same = λ order of low high. chained (merge_is_join order ss (each_ordered order of low high)) (in_slice order of low high);
   formed = λ columns t low high. merge_forms columns ss (each_ordered (clustering_order columns) t.of low high)
       (subst (AllByRecursion (Tabled columns)) are.2 (rows_in_table columns s.lo s.hi p.spots.entries are.0 are.1 t.entries), (markers_have columns (clipped s p.ranges), tt));
@@ -378,6 +409,28 @@ shows s p rows top fs sorted are t f = subst (λ d. Shows s p d fs) (sym t) (sub
 
     in_slice : (order : List Ordered) → IsOf order p → s.lo.order ≡ order → s.hi.order ≡ order → SameWhere (is_in s) (flats ss) (partition_atoms p)
     in_slice order of low high = then_in (cut_says order of low high) (in_same s (flats (with_markers p.ranges)) (partition_atoms p) (all_say order of low high))
+
+    -- of a slice from end to end, both streams are silent only where the partition is
+    all_silent : (order : List Ordered) → IsOf order p → s.lo.order ≡ order → s.hi.order ≡ order → IsAll order s → No (flats ss) → No (partition_atoms p)
+    all_silent order of low high all n =
+        let C : List Change = clipped s p.ranges in
+        let A : List Atom = flat p.top rows in
+        let M : List Atom = flat None (map marker C) in
+        let (first, others) = all_of (λ a. ⊥) A (M ++ []) n in
+        let (top, said) = stream_silent (record { top = p.top; fragments = rows }) (in_rows order of).0.closed first in
+        let marks : AllByRecursion Silent (map marker C) =
+        (stream_silent (record { top = None; fragments = map marker C }) (each_ordered order of low high).1.0.closed (subst No (append-nil M) others)).1 in
+        let still : Still p.ranges =
+        cut_still order p.ranges (rising order p.ranges of.marks) (closes order p.ranges of.marks)
+        (subst (λ t. AllByRecursion Silent (cut_to t (map marker p.ranges))) (λ i. record { lo = all.0 i; hi = all.1 i }) (subst (AllByRecursion Silent) (cut order of low high) marks)) in
+        let S : Entries = statics_of p.spots.entries in
+        let B : Entries = rows_between s.lo s.hi p.spots.entries in
+        let pieces : AllByRecursion Silent (map piece_of S ++ map piece_of B) =
+        subst (AllByRecursion Silent) (are.1 ∙ append_pieces S B) (halves_silent are.0 (subst (AllByRecursion Silent) (sym are.2) said)) in
+        let (statics, inside) = all_of Silent (map piece_of S) (map piece_of B) pieces in
+        all_and (λ a. ⊥) (atom_of PartitionDeletion p.top) (ranges p.ranges ++ said_at p.spots.entries) (none_made PartitionDeletion p.top top)
+        (all_and (λ a. ⊥) (ranges p.ranges) (said_at p.spots.entries) (still_ranges p.ranges still)
+        (parts_silent order s low high (λ c i. is_inside (all.0 i) (all.1 i) c) p.spots.entries of.rows statics inside))
 
 pub slices_show : SlicesShow
 slices_show s p rows sorted are = shows s p rows _ _ sorted are refl refl

@@ -28,12 +28,13 @@ use Rattle.cas_atoms.proofs.GreatestLemmas.{greater_none, greatest-append}
 use Rattle.cas_laws.proofs.JoinProofs.{cover_joins}
 use Rattle.cas_streams.specs.Places.{place_cmp, place_of}
 use Rattle.cas_streams.specs.Flat.{Change, atom_of, own, changes, ranges, at_end}
-use Rattle.cas_streams.specs.Streams.{IsOf as IsFragmentOf, IsOrdered}
+use Rattle.cas_streams.specs.Streams.{IsOf as IsFragmentOf, IsOrdered, IsThere}
 use Rattle.cas_streams.specs.NoMore.{SaysNoMore}
 use Rattle.cas_streams.proofs.InOrder.{Rise, changes_rise}
 use Rattle.cas_streams.proofs.NoMore.{no_more_itself}
 use Rattle.cas_streams.proofs.Ranges.{ranges_give}
 use Rattle.cas_streams.proofs.Joining.{Alike, alike_both, alike_same}
+use Rattle.cas_streams.proofs.Something.{No}
 use Rattle.cas_partition.specs.Ranges.{lies, raised, has_cut, with_cut}
 use Rattle.cas_partition.specs.Spots.{spot_cmp, joined_content, said}
 use Rattle.cas_partition.specs.Placed.{wanted, given}
@@ -45,10 +46,11 @@ use Rattle.cas_partition.specs.declared.spot.Room.TheVariants as wants
 use Rattle.cas_partition.specs.declared.spot.Addition.{Addition}
 use Rattle.cas_partition.specs.declared.spot.Addition.TheVariants as gives
 use Rattle.cas_partition.specs.declared.partition.Partition.{Partition}
-use Rattle.cas_partition.proofs.Raising.{raised_rise, raised_closed, raised_covers, with_cut_rise, with_cut_closed, with_cut_covers, raised_has, with_cut_has, with_cut_itself}
+use Rattle.cas_partition.proofs.Raising.{raised_rise, raised_closed, raised_covers, with_cut_rise, with_cut_closed, with_cut_covers, raised_has, with_cut_has, with_cut_itself, keys_below}
 use Rattle.cas_partition.proofs.AtCuts.{with_cut_at, raised_at}
 use Rattle.cas_partition.proofs.Spots.{alike_itself, alike_is, in_front, at_back, set_said, with_spot_says, with_spot_there, with_spot_kept, set_kept, Rows, set_rows, with_spot_rows}
 use Rattle.cas_partition.proofs.NoMore.{one_cut_no_more, both_cuts_no_more, one_spot_no_more, whole_no_more, range_no_more, spot_no_more}
+use Rattle.cas_partition.proofs.Something.{with_cut_ranges, ranges_there, top_there, raised_there, set_there}
 use Rattle.cas_partition.proofs.Tabling.{fits_of, wanted_in, given_in, set_in, with_spot_in}
 
 pub on_ok_too : {A E : Type 0} (r : Result A E) (P Q : Type 0) → (P → Q) → OnOk r P → OnOk r Q
@@ -147,6 +149,7 @@ pub nothing_made : (a : Atom) (p : Partition) → MakesPlace a p p
 nothing_made a p = record {
   same = λ order of atom. alike_same (alike_itself (partition_atoms p));
   no_more = λ order of. no_more_itself (partition_atoms p);
+  some = λ is. is;
   of = λ order of atom. of;
   fits = λ columns t f. t;
   others = λ b e. e;
@@ -159,11 +162,12 @@ with_ranges p ns = record { top = p.top; ranges = ns; spots = p.spots }
 with_changes : (a : Atom) (p : Partition) (ns : List Change)
     → ((order : List Ordered) → IsAtomOf order a → Rise order p.ranges → at_end None p.ranges ≡ None
     → Rise order ns × (at_end None ns ≡ None) × ((x : Coordinate) → cover (ranges ns) x ≡ cover (ranges p.ranges) x))
-    → ((order : List Ordered) → IsOf order p → SaysNoMore (partition_atoms (with_ranges p ns)) (partition_atoms p))
+    → ((order : List Ordered) → IsOf order p → SaysNoMore (partition_atoms (with_ranges p ns)) (partition_atoms p)) → (No (ranges ns) → No (ranges p.ranges))
     → ((columns : List Column) → Fits columns a → AreAtCuts columns p.ranges → AreAtCuts columns ns)
     → ((c : Cut) → has_cut c p.ranges ≡ true → has_cut c ns ≡ true) → MakesPlace a p (with_ranges p ns)
-with_changes a p ns h no_more at kept = record {
+with_changes a p ns h no_more some at kept = record {
   no_more = no_more;
+  some = ranges_there p.top p.ranges ns p.spots.entries some;
   same = λ order of atom.
       let (rise, closed, covers) = h order atom (rising order p.ranges of.marks) (closes order p.ranges of.marks) in
       alike_same (alike_both (alike_itself (atom_of PartitionDeletion p.top)) (alike_both (same_ranges p.ranges ns covers) (alike_itself (said_at p.spots.entries))));
@@ -224,7 +228,7 @@ one_cut a p ns lo hi w e =
     (λ order atom rise closed.
     let (l, h) = cuts_of order a lo hi w atom in
     (with_cut_rise order lo l p.ranges rise, with_cut_closed order lo l p.ranges rise closed, λ x. with_cut_covers order lo l p.ranges rise closed x (row_of x) refl))
-    (λ order of. one_cut_no_more p lo (closes order p.ranges of.marks))
+    (λ order of. one_cut_no_more p lo (closes order p.ranges of.marks)) (with_cut_ranges lo p.ranges)
     (λ columns f all. with_cut_at (FitsCut (clustering_order columns)) lo p.ranges (cuts_fit columns a lo hi w f).0 all)
     (λ c. with_cut_has c lo p.ranges))
 
@@ -240,7 +244,7 @@ both_cuts a p ns lo hi w e =
       with_cut_closed order hi h (with_cut lo p.ranges) first ends,
       λ x. with_cut_covers order hi h (with_cut lo p.ranges) first ends x (row_of x) refl ∙ with_cut_covers order lo l p.ranges rise closed x (row_of x) refl,
     ))
-    (λ order of. both_cuts_no_more p lo hi (closes order p.ranges of.marks))
+    (λ order of. both_cuts_no_more p lo hi (closes order p.ranges of.marks)) (λ n. with_cut_ranges lo p.ranges (with_cut_ranges hi (with_cut lo p.ranges) n))
     (λ columns f all.
     let Allowed : Cut → Type 0 = FitsCut (clustering_order columns) in
     let (l, h) = cuts_fit columns a lo hi w f in
@@ -257,7 +261,7 @@ cuts_there a p ns lo hi w e =
 pub same_changes : (a : Atom) (p : Partition) (ns : List Change) → ns ≡ p.ranges → MakesPlace a p (with_ranges p ns)
 same_changes a p ns e =
     subst (λ l. MakesPlace a p (with_ranges p l)) (sym e)
-    (with_changes a p p.ranges (λ order atom rise closed. (rise, closed, λ x. refl)) (λ order of. no_more_itself (partition_atoms p)) (λ columns f all. all) (λ c has. has))
+    (with_changes a p p.ranges (λ order atom rise closed. (rise, closed, λ x. refl)) (λ order of. no_more_itself (partition_atoms p)) (λ n. n) (λ columns f all. all) (λ c has. has))
 
 -- one more spot
 abbrev with_spots : Partition → BTreeMap Spot Content → Partition
@@ -286,6 +290,7 @@ pub one_spot : (a : Atom) (p : Partition) (m : BTreeMap Spot Content) (s : Spot)
 one_spot a p m s tag w e = record {
   no_more = λ order of.
       subst (λ l. SaysNoMore (atoms_with p.top p.ranges l) (partition_atoms p)) (sym e) (one_spot_no_more p s tag (closes order p.ranges of.marks));
+  some = subst (λ l. IsThere (atom_of PartitionDeletion p.top ++ (ranges p.ranges ++ l))) (sym (ap said_at e ∙ with_spot_says s tag p.spots.entries));
   same = λ order of atom.
       alike_same (alike_is (partition_atoms (with_spots p m)) (partition_atoms p)
       (ap (λ l. atom_of PartitionDeletion p.top ++ (ranges p.ranges ++ l)) (ap said_at e ∙ with_spot_says s tag p.spots.entries)));
@@ -311,6 +316,7 @@ spot_there a p m s tag w e = ap (is_there p.ranges m.entries) w ∙ ap (has_spot
 pub same_spots : (a : Atom) (p : Partition) (m : BTreeMap Spot Content) → m.entries ≡ p.spots.entries → MakesPlace a p (with_spots p m)
 same_spots a p m e = record {
   no_more = λ order of. subst (λ l. SaysNoMore (atoms_with p.top p.ranges l) (partition_atoms p)) (sym e) (no_more_itself (partition_atoms p));
+  some = subst (λ l. IsThere (atoms_with p.top p.ranges l)) (sym e);
   same = λ order of atom. alike_same (alike_is (partition_atoms (with_spots p m)) (partition_atoms p) (ap (λ l. atom_of PartitionDeletion p.top ++ (ranges p.ranges ++ said_at l)) e));
   of = λ order of atom. record { marks = of.marks; rows = subst (Rows order) (sym e) of.rows };
   fits = λ columns t f. record {
@@ -333,6 +339,7 @@ whole_joins a p top d g e = record {
   no_more = λ order of.
       subst (λ l. SaysNoMore (atoms_with top p.ranges p.spots.entries) (partition_atoms p ++ l)) (whole_is a d g)
       (subst (λ t. SaysNoMore (atoms_with t p.ranges p.spots.entries) (partition_atoms p ++ PartitionDeletion d ∷ [])) (sym e) (whole_no_more p d (closes order p.ranges of.marks)));
+  some = λ order of atom. subst (λ t. IsThere (atoms_with t p.ranges p.spots.entries)) (sym e) (top_there p.top d (ranges p.ranges ++ said_at p.spots.entries));
   joined = λ order of atom.
       subst (λ l. Same (atoms_with top p.ranges p.spots.entries) (partition_atoms p ++ l)) (whole_is a d g)
       (subst (λ t. Same (atoms_with t p.ranges p.spots.entries) (partition_atoms p ++ PartitionDeletion d ∷ [])) (sym e)
@@ -385,6 +392,12 @@ module _ (a : Atom) (lo hi : Cut) (d : Deletion) (g : given a ≡ gives.Range lo
         no_more = λ order of.
             subst (λ b. SaysNoMore (atoms_with p.top ns p.spots.entries) (partition_atoms p ++ b ∷ [])) range_is
             (subst (λ l. SaysNoMore (atoms_with p.top l p.spots.entries) (partition_atoms p ++ RangeDeletion lo hi d ∷ [])) (sym e) (range_no_more p lo hi d (closes order p.ranges of.marks)));
+        some = λ order of atom.
+            let (lo_of, hi_of, below) = subst (IsAtomOf order) (sym range_is) atom in
+            let rise : Rise order p.ranges = rising order p.ranges of.marks in
+            let closed : at_end None p.ranges ≡ None = closes order p.ranges of.marks in
+            subst (λ l. IsThere (atoms_with p.top l p.spots.entries)) (sym e)
+            (raised_there p.top lo hi d p.ranges p.spots.entries (keys_below order lo hi lo_of hi_of below) low (raised_closed order lo hi d p.ranges lo_of hi_of below low high rise closed));
         joined = λ order of atom.
             let (lo_of, hi_of, below) = subst (IsAtomOf order) (sym range_is) atom in
             let rise : Rise order p.ranges = rising order p.ranges of.marks in
@@ -471,6 +484,7 @@ module _ (a : Atom) (s : Spot) (c : Content) (g : given a ≡ gives.At s c) wher
         no_more = λ order of.
             subst (λ l. SaysNoMore (atoms_with p.top p.ranges m.entries) (partition_atoms p ++ l)) spot_is
             (subst (λ l. SaysNoMore (atoms_with p.top p.ranges l) (partition_atoms p ++ own (said s c))) (sym e) (spot_no_more p s old c is (closes order p.ranges of.marks)));
+        some = λ order of atom. subst (λ l. IsThere (atoms_with p.top p.ranges l)) (sym e) (set_there p.top p.ranges s old c p.spots.entries is a spot_is);
         joined = λ order of atom.
             subst (λ l. Same (atoms_with p.top p.ranges m.entries) (partition_atoms p ++ l)) spot_is
             (alike_same (at_back (atom_of PartitionDeletion p.top) (ranges p.ranges ++ said_at m.entries) (ranges p.ranges ++ said_at p.spots.entries) (own (said s c))

@@ -22,7 +22,7 @@ use Rattle.cas_atoms.specs.declared.atom.Atom.TheVariants.{PartitionDeletion, Ra
 use Rattle.cas_atoms.specs.declared.atom.Atom.TheVariants.{Live, Write, StaticWrite, StaticCollectionDeletion}
 use Rattle.cas_streams.specs.Flat.{Change, atom_of, own, ranges}
 use Rattle.cas_streams.specs.NoMore.{SaysNoMore}
-use Rattle.cas_streams.specs.Streams.{IsOrdered}
+use Rattle.cas_streams.specs.Streams.{IsOrdered, IsThere}
 use Rattle.cas_streams.specs.declared.fragment.Fragment.{Fragment}
 use Rattle.cas_streams.specs.declared.fragment.Fragment.TheVariants as fragment
 use Rattle.cas_partition.specs.Ranges.{has_cut}
@@ -134,18 +134,21 @@ with_spot s tag es = if has_spot s es then es else insert_entry spot_cmp es s (b
 
 -- ---- what calls do
 
--- place was made for an atom, which says nothing yet: for each table and order of its rows; nothing is invented, and each other atom keeps its place
+-- place was made for an atom, which says nothing yet: for each table and order of its rows; nothing is invented, something is still said if something
+-- was, and each other atom keeps its place
 pub record MakesPlace (a : Atom) (p q : Partition) : Type 0 where
   pub same : (order : List Ordered) → IsOf order p → IsAtomOf order a → Same (partition_atoms q) (partition_atoms p)
   pub no_more : (order : List Ordered) → IsOf order p → SaysNoMore (partition_atoms q) (partition_atoms p)
+  pub some : IsThere (partition_atoms p) → IsThere (partition_atoms q)
   pub of : (order : List Ordered) → IsOf order p → IsAtomOf order a → IsOf order q
   pub fits : (columns : List Column) → IsOfTable columns p → Fits columns a → IsOfTable columns q
   pub others : (b : Atom) → HasPlace p b → HasPlace q b
 
--- the atom was joined, nothing else was invented, and each atom keeps its place
+-- the atom was joined, nothing else was invented, something is said now, also by a range deletion that covers no row, and each atom keeps its place
 pub record Joins (a : Atom) (p q : Partition) : Type 0 where
   pub joined : (order : List Ordered) → IsOf order p → IsAtomOf order a → Same (partition_atoms q) (partition_atoms p ++ a ∷ [])
   pub no_more : (order : List Ordered) → IsOf order p → SaysNoMore (partition_atoms q) (partition_atoms p ++ a ∷ [])
+  pub some : (order : List Ordered) → IsOf order p → IsAtomOf order a → IsThere (partition_atoms q)
   pub of : (order : List Ordered) → IsOf order p → IsAtomOf order a → IsOf order q
   pub fits : (columns : List Column) → IsOfTable columns p → Fits columns a → IsOfTable columns q
   pub others : (b : Atom) → HasPlace p b → HasPlace q b
@@ -168,6 +171,7 @@ HavePlaces p atoms = AllByRecursion (HasPlace p) atoms
 pub record MakesPlaces (atoms : List Atom) (p q : Partition) : Type 0 where
   pub same : (order : List Ordered) → IsOf order p → AreAtomsOf order atoms → Same (partition_atoms q) (partition_atoms p)
   pub no_more : (order : List Ordered) → IsOf order p → AreAtomsOf order atoms → SaysNoMore (partition_atoms q) (partition_atoms p)
+  pub some : IsThere (partition_atoms p) → IsThere (partition_atoms q)
   pub of : (order : List Ordered) → IsOf order p → AreAtomsOf order atoms → IsOf order q
   pub fits : (columns : List Column) → IsOfTable columns p → AllFit columns atoms → IsOfTable columns q
   pub others : (b : Atom) → HasPlace p b → HasPlace q b
@@ -176,6 +180,7 @@ pub record MakesPlaces (atoms : List Atom) (p q : Partition) : Type 0 where
 pub record JoinsAll (atoms : List Atom) (p q : Partition) : Type 0 where
   pub joined : (order : List Ordered) → IsOf order p → AreAtomsOf order atoms → Same (partition_atoms q) (partition_atoms p ++ atoms)
   pub no_more : (order : List Ordered) → IsOf order p → AreAtomsOf order atoms → SaysNoMore (partition_atoms q) (partition_atoms p ++ atoms)
+  pub some : (order : List Ordered) → IsOf order p → AreAtomsOf order atoms → IsThere (partition_atoms p ++ atoms) → IsThere (partition_atoms q)
   pub of : (order : List Ordered) → IsOf order p → AreAtomsOf order atoms → IsOf order q
   pub fits : (columns : List Column) → IsOfTable columns p → AllFit columns atoms → IsOfTable columns q
   pub others : (b : Atom) → HasPlace p b → HasPlace q b

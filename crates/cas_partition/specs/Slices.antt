@@ -1,6 +1,6 @@
 -- A partition in memory as a stream of fragments: what is said of rows, row by row, and the markers of its range deletions.
 -- Cassandra documentation, "Storage engine: memtables"; CQL documentation, "Data manipulation: SELECT; WHERE".
-use Rattle.std.specs.Prelude.{◌≡◌, Option, None, Some, List, [], ◌∷◌, ◌++◌, map, if◌then◌else◌}
+use Rattle.std.specs.Prelude.{◌≡◌, true, false, Option, None, Some, List, [], ◌∷◌, ◌++◌, map, if◌then◌else◌}
 use Rattle.std.specs.List.Sorted.{IsStrictlySortedBy}
 use Rattle.std.specs.Map.{keys_of}
 use Rattle.std.specs.Ordering.{is_eq}
@@ -13,7 +13,7 @@ use Rattle.cas_atoms.specs.Fits.{FitsCut}
 use Rattle.cas_laws.specs.Inside.{SameIn}
 use Rattle.cas_streams.specs.Flat.{changes, flat}
 use Rattle.cas_streams.specs.NoMore.{SaysNoMore}
-use Rattle.cas_streams.specs.Streams.{IsOrdered, WellFormed}
+use Rattle.cas_streams.specs.Streams.{IsOrdered, IsThere, WellFormed}
 use Rattle.cas_streams.specs.Joined.{joined_fragment, fragment_cmp, Stream}
 use Rattle.cas_streams.specs.Merged.{merged}
 use Rattle.cas_streams.specs.declared.fragment.Fragment.{Fragment}
@@ -34,12 +34,18 @@ grouped (Some f) gs = grouped_from f gs
 grouped None [] = []
 grouped None (g ∷ gs) = grouped_from g gs
 
+-- the slice reaches from one end of a partition to the other: from before all rows of a table that orders them so, to after all of them
+abbrev pub IsAll : List Ordered → Slice → Type 0
+IsAll order s = (s.lo ≡ record { prefix = []; after = false; order = order }) × (s.hi ≡ record { prefix = []; after = true; order = order })
+
 -- a stream that tells these fragments under that deletion says in the slice what the partition says, and nowhere more: its fragments are in order, and
--- well formed where the partition is of a table with these columns; its markers then stand at cuts that the table may have, if the slice's own are
+-- well formed where the partition is of a table with these columns; its markers then stand at cuts that the table may have, if the slice's own are. Where
+-- the slice is all of the partition and something is said in that, something is in the stream, also where it says the same as no atoms
 pub record Shows (s : Slice) (p : Partition) (top : Option Deletion) (fs : List Fragment) : Type 0 where
   pub ordered : (order : List Ordered) → IsOf order p → s.lo.order ≡ order → s.hi.order ≡ order → IsOrdered order fs
   pub same : (order : List Ordered) → IsOf order p → s.lo.order ≡ order → s.hi.order ≡ order → SameIn s (flat top fs) (partition_atoms p)
   pub no_more : (order : List Ordered) → IsOf order p → SaysNoMore (flat top fs) (partition_atoms p)
+  pub some : (order : List Ordered) → IsOf order p → IsAll order s → IsThere (partition_atoms p) → IsThere (flat top fs)
   pub formed : (columns : List Column) → IsOfTable columns p → s.lo.order ≡ clustering_order columns → s.hi.order ≡ clustering_order columns
       → WellFormed columns fs
   pub cuts : (columns : List Column) → IsOfTable columns p → FitsCut (clustering_order columns) s.lo → FitsCut (clustering_order columns) s.hi
