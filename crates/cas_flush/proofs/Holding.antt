@@ -25,9 +25,11 @@ use Rattle.cas_streams.specs.declared.fragment.Fragment.TheVariants as fragment
 use Rattle.cas_streams.proofs.Formed.{merge_is_well_formed}
 use Rattle.cas_streams.proofs.Merges.{merge_is_join}
 use Rattle.cas_streams.proofs.NoMore.{merge_says_no_more, no_more_then}
+use Rattle.cas_streams.proofs.Something.{merge_says_something}
 use Rattle.cas_fragments.specs.Allowed.{HasSpelling}
 use Rattle.cas_fragments.specs.Blocks.{behind_statics}
 use Rattle.cas_partition.specs.Partitions.{AllFit, AreAtCuts}
+use Rattle.cas_partition.specs.Slices.{IsAll}
 use Rattle.cas_partition.proofs.AtCuts.{merge_at}
 use Rattle.cas_memtable.specs.Memtables.{least_of, least_with}
 use Rattle.cas_memtable.specs.declared.memtable.MemPart.{MemPart}
@@ -62,6 +64,9 @@ module _ (columns : List Column) where
 
     high_allowed : FitsCut (clustering_order columns) s.hi
     high_allowed = subst (FitsCut (clustering_order columns)) (sym w.hi) (ends_allowed true)
+
+    from_end_to_end : IsAll (clustering_order columns) s
+    from_end_to_end = (w.lo, w.hi)
 
     everywhere : (r : RowKey) → is_in s r ≡ true
     everywhere static_row = refl
@@ -155,6 +160,9 @@ module _ {M : Type 0} (tells : M → Option (List Fragment)) (tops : M → Optio
       no_more_then (flat_of (merged shows.streams)) (flats shows.streams) (atoms_under key (all_of wss))
       (merge_says_no_more (clustering_order columns) shows.streams shows.ordered) shows.no_more
 
+  merge_some : IsThere (atoms_under key (all_of wss)) → IsThere (flat_of (merged shows.streams))
+  merge_some there = merge_says_something (clustering_order columns) shows.streams shows.ordered (shows.said (from_end_to_end columns s w) there)
+
   -- whichever mutations these are, the sources tell the same streams
   module _ (streams : List Stream) (told : streams_told tells tops xs ≡ Some streams) where
     are_told : shows.streams ≡ streams
@@ -165,6 +173,9 @@ module _ {M : Type 0} (tells : M → Option (List Fragment)) (tops : M → Optio
 
     pub told_no_more : SaysNoMore (flat_of (merged streams)) (atoms_under key (all_of wss))
     told_no_more = subst (λ ss. SaysNoMore (flat_of (merged ss)) (atoms_under key (all_of wss))) are_told merge_no_more
+
+    pub told_some : IsThere (atoms_under key (all_of wss)) → IsThere (flat_of (merged streams))
+    told_some there = subst (λ ss. IsThere (flat_of (merged ss))) are_told (merge_some there)
 
   module _ (hold : HoldMutations columns ms wss) where
     pub merge_formed : WellFormed columns (merged shows.streams).fragments

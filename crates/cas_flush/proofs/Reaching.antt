@@ -153,7 +153,7 @@ where_both R A B X Y e f r = subst (λ Z. R A Z) (sym f) (subst (λ Z. R Z Y) (s
 -- ---- one key after another
 
 pub none_reached : (ws : List Mutation) → AreOf (is_reached None) ws []
-none_reached ws = record { same = λ key e. absurd (true≢false (sym e)); no_more = λ key e. absurd (true≢false (sym e)); written = tt; within = tt }
+none_reached ws = record { same = λ key e. absurd (true≢false (sym e)); no_more = λ key e. absurd (true≢false (sym e)); all = λ key e. absurd (true≢false (sym e)); written = tt; within = tt }
 
 module _ (order : List Ordered) (ms : List MemPart) (wss : List (List Mutation)) (each : StandInEach order ms wss) (after : Option (List ℕ)) where
   abbrev Now : List ℕ → List Atom
@@ -203,10 +203,12 @@ module _ (order : List Ordered) (ms : List MemPart) (wss : List (List Mutation))
                     (no_other key above (not_true (is_lt (bytes_cmp next key)) reached) (λ same. true≢false (sym (ap (same_bytes next) (sym same) ∙ own next) ∙ e)))) (self [])
               ] refl
 
-      pub reached_next : Same (flat top fs) (Now next) → SaysNoMore (flat top fs) (Now next) → AreOf (is_reached (Some next)) (all_of wss) (ps ++ partition_of next top fs)
-      reached_next same no_more = record {
+      pub reached_next : Same (flat top fs) (Now next) → SaysNoMore (flat top fs) (Now next) → (IsThere (Now next) → IsThere (flat top fs))
+          → AreOf (is_reached (Some next)) (all_of wss) (ps ++ partition_of next top fs)
+      reached_next same no_more some = record {
         same = at_each Same (λ A. same_is A A refl) are.same same;
         no_more = at_each SaysNoMore no_more_itself are.no_more no_more;
+        all = at_each (λ A B. IsThere B → IsThere A) (λ A there. there) are.all some;
         written = all_both (λ p. IsThere (Now p.key)) ps (partition_of next top fs) are.written
             (one_of (λ p. IsThere (Now p.key)) next top fs (λ p e. subst (λ k. IsThere (Now k)) (sym e) (has_there order next ms wss each is.1)));
         within = all_both (λ p. is_reached (Some next) p.key ≡ true) ps (partition_of next top fs)
@@ -227,6 +229,7 @@ module _ (order : List Ordered) (ms : List MemPart) (wss : List (List Mutation))
     all_below ps are = record {
       same = λ key low. at_each Same (λ A. same_is A A refl) are.same key low;
       no_more = λ key low. at_each SaysNoMore no_more_itself are.no_more key low;
+      all = λ key low. at_each (λ A B. IsThere B → IsThere A) (λ A there. there) are.all key low;
       written = are.written;
       within = all_on (λ p. is_reached after p.key ≡ true) (λ p. is_below next p.key ≡ true) ps (λ p. reached_below after next p.key is.0) are.within;
     }
@@ -245,6 +248,7 @@ module _ (order : List Ordered) (ms : List MemPart) (wss : List (List Mutation))
   all_reached none ps are = record {
     same = λ key e. at_each Same (λ A. same_is A A refl) are.same key;
     no_more = λ key e. at_each SaysNoMore no_more_itself are.no_more key;
+    all = λ key e. at_each (λ A B. IsThere B → IsThere A) (λ A there. there) are.all key;
     written = are.written;
     within = all_on (λ p. is_reached after p.key ≡ true) (λ p. any p.key ≡ true) ps (λ p h. refl) are.within;
   }

@@ -40,11 +40,12 @@ said_at key p = if same_bytes p.key key then flat_of p.stream else []
 abbrev pub said_under : List ℕ → List Partition → List Atom
 said_under key ps = flat_map (said_at key) ps
 
--- Partitions are those of mutations at the keys that pass a test: under each they say the same as the mutations, and no more; and each is of such a key,
--- under which something was written.
+-- Partitions are those of mutations at the keys that pass a test: under each they say the same as the mutations, and no more, and something where an atom
+-- was written, be it one that covers no row; and each is of such a key, under which something was written.
 pub record AreOf (passes : List ℕ → Bool) (ws : List Mutation) (ps : List Partition) : Type 0 where
   pub same : (key : List ℕ) → passes key ≡ true → Same (said_under key ps) (atoms_under key ws)
   pub no_more : (key : List ℕ) → passes key ≡ true → SaysNoMore (said_under key ps) (atoms_under key ws)
+  pub all : (key : List ℕ) → passes key ≡ true → IsThere (atoms_under key ws) → IsThere (said_under key ps)
   pub written : AllByRecursion (λ p. IsThere (atoms_under p.key ws)) ps
   pub within : AllByRecursion (λ p. passes p.key ≡ true) ps
 

@@ -19,6 +19,7 @@ use Rattle.cas_atoms.specs.declared.atom.Atom.{Atom}
 use Rattle.cas_atoms.specs.declared.atom.Mutation.{Mutation}
 use Rattle.cas_laws.proofs.JoinProofs.{join_laws}
 use Rattle.cas_streams.specs.NoMore.{SaysNoMore}
+use Rattle.cas_streams.specs.Streams.{IsThere}
 use Rattle.cas_streams.proofs.NoMore.{no_more_itself, no_more_kept, no_more_then}
 use Rattle.cas_partition.specs.Partitions.{AreAtomsOf}
 use Rattle.cas_memtable.specs.Memtables.{held_at, atoms_held, atoms_of, least_held, least_of, least_with, bytes_with, IsOfColumns, MakesPlaces, Joins}
@@ -36,6 +37,23 @@ then_same A B C a b = record { covers = λ x. a.covers x ∙ b.covers x; lives =
 pub least_both : (xs : List Atom) (o : Option ℤ) (ys : List Atom) → least_with o (xs ++ ys) ≡ least_with (least_with o xs) ys
 least_both [] o ys = refl
 least_both (x ∷ xs) o ys = least_both xs _ ys
+
+-- an atom of the first list or of the second
+pub either_there : (A B : List Atom) → IsThere (A ++ B) → IsThere A ⊎ IsThere B
+either_there [] B there = inr there
+either_there (a ∷ A) B there = inl tt
+
+pub there_front : (A B : List Atom) → IsThere A → IsThere (A ++ B)
+there_front [] B there = absurd there
+there_front (a ∷ A) B there = tt
+
+pub there_back : (A B : List Atom) → IsThere B → IsThere (A ++ B)
+there_back [] B there = there
+there_back (a ∷ A) B there = tt
+
+there_first : (A B C : List Atom) → (IsThere A → IsThere B) → IsThere (A ++ C) → IsThere (B ++ C)
+there_first [] B C goes there = there_back B C there
+there_first (a ∷ A) B C goes there = there_front B C (goes tt)
 
 -- ---- keys
 
@@ -80,6 +98,7 @@ none_stands order m none bytes = record {
   of = λ key h is. absurd (none-some h (sym (none key) ∙ is));
   same = λ key. subst (λ o. Same (atoms_held o) []) (sym (none key)) (same_same []);
   no_more = λ key. subst (λ o. SaysNoMore (atoms_held o) []) (sym (none key)) (no_more_itself []);
+  some = λ key there. absurd there;
   least = λ key. ap least_held (none key);
   bytes = bytes;
 }
@@ -92,6 +111,7 @@ made_stands order w m n ws stands are makes = record {
   of = makes.of order stands.of are;
   same = λ key. then_same (atoms_of n key) (atoms_of m key) (atoms_under key ws) (makes.same order stands.of are key) (stands.same key);
   no_more = λ key. no_more_then (atoms_of n key) (atoms_of m key) (atoms_under key ws) (makes.no_more order stands.of are key) (stands.no_more key);
+  some = λ key there. makes.some key (stands.some key there);
   least = λ key. makes.least key ∙ stands.least key;
   bytes = makes.bytes ∙ stands.bytes;
 }
@@ -132,6 +152,15 @@ module _ (order : List Ordered) (w : Mutation) (m n : MemPart) (ws : List Mutati
   no_more_at key (inl e) = subst (λ q. SaysNoMore (atoms_of n q) (Now q)) (sym e.0) (own_no_more (subst (λ q. same_bytes w.key q ≡ true) e.0 e.1))
   no_more_at key (inr h) = subst (λ o. SaysNoMore (atoms_held o) (Now key)) (sym (joins.others key h.0)) (subst (SaysNoMore (atoms_of m key)) (other key h.1) (stands.no_more key))
 
+  own_some : same_bytes w.key w.key ≡ true → IsThere (Now w.key) → IsThere (atoms_of n w.key)
+  own_some e there =
+      joins.some order stands.of are
+      (there_first (atoms_under w.key ws) (atoms_of m w.key) w.atoms (stands.some w.key) (subst IsThere (sym (own w.key e)) there))
+
+  some_at : (key : List ℕ) → Found key → IsThere (Now key) → IsThere (atoms_of n key)
+  some_at key (inl e) = subst (λ q. IsThere (Now q) → IsThere (atoms_of n q)) (sym e.0) (own_some (subst (λ q. same_bytes w.key q ≡ true) e.0 e.1))
+  some_at key (inr h) = λ there. subst (λ o. IsThere (atoms_held o)) (sym (joins.others key h.0)) (stands.some key (subst IsThere (sym (other key h.1)) there))
+
   least_at : (key : List ℕ) → Found key → least_of n key ≡ least_with None (Now key)
   least_at key (inl e) = subst (λ q. least_of n q ≡ least_with None (Now q)) (sym e.0) (own_least (subst (λ q. same_bytes w.key q ≡ true) e.0 e.1))
   least_at key (inr h) = ap least_held (joins.others key h.0) ∙ stands.least key ∙ ap (least_with None) (other key h.1)
@@ -141,6 +170,7 @@ module _ (order : List Ordered) (w : Mutation) (m n : MemPart) (ws : List Mutati
     of = joins.of order stands.of are;
     same = λ key. same_at key (same_key w.key key);
     no_more = λ key. no_more_at key (same_key w.key key);
+    some = λ key. some_at key (same_key w.key key);
     least = λ key. least_at key (same_key w.key key);
     bytes = joins.bytes ∙ ap (λ b. bytes_with b w) stands.bytes ∙ sym (bytes_more 0 ws w);
   }

@@ -14,6 +14,7 @@ use Rattle.cas_atoms.specs.Winners.{Same}
 use Rattle.cas_atoms.specs.declared.atom.Atom.{Atom}
 use Rattle.cas_atoms.specs.declared.atom.Mutation.{Mutation}
 use Rattle.cas_streams.specs.NoMore.{SaysNoMore}
+use Rattle.cas_streams.specs.Streams.{IsThere}
 use Rattle.cas_streams.proofs.NoMore.{no_more_itself}
 use Rattle.cas_partition.specs.Partitions.{partition_atoms, IsOf, HavePlaces, JoinsAll}
 use Rattle.cas_partition.specs.Partitions.{MakesPlaces as MakesIn, IsOfTable as IsPartitionOf}
@@ -158,6 +159,7 @@ module _ {E : Type 0} (w : Mutation) (m n : MemPart) (mid : Look) (result : Resu
   only_blank same = record {
     same = λ order of atoms q. same_is (atoms_of n q) (atoms_of m q) (ap atoms_held (same q) ∙ stays_atoms (held_at m q) (mid q) (kept q));
     no_more = λ order of atoms q. no_more_is (atoms_of n q) (atoms_of m q) (ap atoms_held (same q) ∙ stays_atoms (held_at m q) (mid q) (kept q));
+    some = λ q there. subst IsThere (sym (ap atoms_held (same q) ∙ stays_atoms (held_at m q) (mid q) (kept q))) there;
     of = λ order of atoms q g is. stays_fact (IsOf order) (λ h b. b.of order) (held_at m q) (mid q) (kept q) (of q) g (sym (same q) ∙ is);
     fits = λ columns t fit q g is. stays_fact (IsPartitionOf columns) (λ h b. b.table columns) (held_at m q) (mid q) (kept q) (t q) g (sym (same q) ∙ is);
     least = λ q. ap least_held (same q) ∙ stays_least (held_at m q) (mid q) (kept q);
@@ -198,6 +200,13 @@ module _ {E : Type 0} (w : Mutation) (m n : MemPart) (mid : Look) (result : Resu
                 subst (λ B. SaysNoMore (atoms_of n q) B) (sym before)
                 (subst (λ A. SaysNoMore A (partition_atoms h.partition)) (sym (ap atoms_held hit.1)) (r.makes.no_more order (of_mid order of w.key h is) atoms))
             | inr miss ↦ no_more_is (atoms_of n q) (atoms_of m q) (ap atoms_held miss.1 ∙ stays_atoms (held_at m q) (mid q) (kept q))
+          ];
+          some = λ q there. elim (at_key w.key q r.held mid (held_at n) r.puts) [
+            | inl hit ↦
+                let k : w.key ≡ q = equal_keys w.key q hit.0 in
+                let before : atoms_of m q ≡ partition_atoms h.partition = sym (stays_atoms (held_at m q) (mid q) (kept q)) ∙ ap (λ z. atoms_held (mid z)) (sym k) ∙ ap atoms_held is in
+                subst IsThere (sym (ap atoms_held hit.1)) (r.makes.some (subst IsThere before there))
+            | inr miss ↦ subst IsThere (sym (ap atoms_held miss.1 ∙ stays_atoms (held_at m q) (mid q) (kept q))) there
           ];
           of = λ order of atoms q g e. elim (at_key w.key q r.held mid (held_at n) r.puts) [
             | inl hit ↦ subst (λ k. IsOf order k.partition) (ap (λ o. unwrap_or o g) (sym hit.1 ∙ e)) (r.makes.of order (of_mid order of w.key h is) atoms)
@@ -257,6 +266,9 @@ joins_all w m n places applied bytes =
       no_more = λ order of atoms.
           subst (λ B. SaysNoMore (atoms_of n w.key) (B ++ w.atoms)) (sym (ap atoms_held is))
           (subst (λ A. SaysNoMore A (partition_atoms h.partition ++ w.atoms)) (sym (ap atoms_held now)) (r.joins.no_more order (of w.key h is) atoms));
+      some = λ order of atoms there.
+          subst IsThere (sym (ap atoms_held now))
+          (r.joins.some order (of w.key h is) atoms (subst (λ B. IsThere (B ++ w.atoms)) (ap atoms_held is) there));
       of = λ order of atoms q g e. elim (at_key w.key q r.held (held_at m) (held_at n) r.puts) [
         | inl hit ↦ subst (λ k. IsOf order k.partition) (ap (λ o. unwrap_or o g) (sym hit.1 ∙ e)) (r.joins.of order (of w.key h is) atoms)
         | inr miss ↦ of q g (sym miss.1 ∙ e)

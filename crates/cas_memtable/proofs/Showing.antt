@@ -1,5 +1,5 @@
 -- What the sources of a table's memtables show of a partition, and the least timestamp of it.
-use Rattle.std.proofs.Common.{◌≡◌, inl, inr, ℕ, ℤ, Bool, true, false, Option, None, Some, List, [], ◌∷◌, ◌++◌, refl, sym, ap, ◌∙◌, subst, arith, append-nil, append_assoc, Result, Ok, Err, IfOk}
+use Rattle.std.proofs.Common.{◌≡◌, inl, inr, ⊎_elim, ℕ, ℤ, Bool, true, false, Option, None, Some, List, [], ◌∷◌, ◌++◌, refl, sym, ap, ◌∙◌, subst, arith, append-nil, append_assoc, Result, Ok, Err, IfOk}
 use Rattle.std.specs.Prelude.{map, is_some, int_lt, if◌then◌else◌, fold}
 use Rattle.std.specs.Option.{option_to_list}
 use Rattle.std.proofs.lemmas.Bool.{true≢false}
@@ -16,6 +16,7 @@ use Rattle.cas_laws.proofs.JoinProofs.{same_where_joins}
 use Rattle.cas_streams.specs.Flat.{flat}
 use Rattle.cas_streams.specs.Merged.{flats}
 use Rattle.cas_streams.specs.NoMore.{SaysNoMore}
+use Rattle.cas_streams.specs.Streams.{IsThere}
 use Rattle.cas_streams.specs.declared.fragment.Fragment.{Fragment}
 use Rattle.cas_streams.proofs.NoMore.{no_more_itself, no_more_kept, no_more_then}
 use Rattle.cas_merge.specs.Told.{streams_told, told_first}
@@ -27,7 +28,7 @@ use Rattle.cas_memtable.specs.declared.memtable.MemPart.{MemPart}
 use Rattle.cas_memtable.specs.Inner.Gathered.{Gathers, GathersBehind}
 use Rattle.cas_memtable.specs.Inner.Least.{earlier_of, least_in}
 use Rattle.cas_memtable.specs.Kept.{ShowPartition, StandIn, StandInEach, all_of, atoms_under}
-use Rattle.cas_memtable.proofs.Keeping.{least_both, more_under}
+use Rattle.cas_memtable.proofs.Keeping.{either_there, least_both, more_under, there_back, there_front}
 
 pub if_ok_too : {A E : Type 0} (r : Result A E) (P Q : A → Type 0) → ((x : A) → P x → Q x) → IfOk r P → IfOk r Q
 if_ok_too (Ok x) P Q h p = h x p
@@ -93,6 +94,7 @@ module _ {M : Type 0} (tells : M → Option (List Fragment)) (tops : M → Optio
         ordered = shown.ordered;
         same = subst (SameIn s (flats shown.streams)) (sym same) shown.same;
         no_more = subst (SaysNoMore (flats shown.streams)) (sym same) shown.no_more;
+        said = λ all there. shown.said all (subst IsThere same there);
         formed = λ columns is each. shown.formed columns is each.1;
         cuts = λ columns is each lo hi. shown.cuts columns is each.1 lo hi;
         none = λ e. same ∙ shown.none e;
@@ -118,6 +120,11 @@ module _ {M : Type 0} (tells : M → Option (List Fragment)) (tops : M → Optio
         no_more = subst (SaysNoMore (flat (tops x) fs ++ flats shown.streams)) (sym both)
             (no_more_both (flat (tops x) fs) (atoms_under key ws) (flats shown.streams) (atoms_under key rest)
             (no_more_then (flat (tops x) fs) (partition_atoms h.partition) (atoms_under key ws) (shows.no_more order (stands.of key h is)) no_more) shown.no_more);
+        said = λ all there. ⊎_elim
+            (λ own. there_front (flat (tops x) fs) (flats shown.streams)
+            (shows.some order (stands.of key h is) all (subst (λ o. IsThere (atoms_held o)) is (stands.some key own))))
+            (λ others. there_back (flat (tops x) fs) (flats shown.streams) (shown.said all others))
+            (either_there (atoms_under key ws) (atoms_under key rest) (subst IsThere both there));
         formed = λ columns are each.
             (shows.formed columns (each.0 key h is) (low ∙ sym are) (high ∙ sym are), shown.formed columns are each.1);
         cuts = λ columns are each lo hi. (shows.cuts columns (each.0 key h is) lo hi, shown.cuts columns are each.1 lo hi);
@@ -138,6 +145,7 @@ module _ {M : Type 0} (tells : M → Option (List Fragment)) (tops : M → Optio
     ordered = tt;
     same = record { covers = λ x i. refl; lives = λ r i. refl; cells = λ x i. refl };
     no_more = no_more_itself [];
+    said = λ all there. absurd there;
     formed = λ columns are each. tt;
     cuts = λ columns are each lo hi. tt;
     none = λ e. refl;

@@ -149,6 +149,7 @@ stands_for_none order m ws none stand =
       of = stand.of;
       same = λ key. subst (Same (atoms_of m key)) (nothing key) (stand.same key);
       no_more = λ key. subst (SaysNoMore (atoms_of m key)) (nothing key) (stand.no_more key);
+      some = λ key there. absurd there;
       least = λ key. stand.least key ∙ ap (least_with None) (nothing key);
       bytes = none;
     }

@@ -11,6 +11,7 @@ use Rattle.cas_atoms.specs.declared.atom.Mutation.{Mutation}
 use Rattle.cas_streams.specs.Flat.{flat}
 use Rattle.cas_streams.specs.Joined.{Stream}
 use Rattle.cas_streams.specs.NoMore.{SaysNoMore}
+use Rattle.cas_streams.specs.Streams.{IsThere}
 use Rattle.cas_streams.specs.declared.fragment.Fragment.{Fragment}
 use Rattle.cas_memtable.specs.Memtables.{is_above}
 use Rattle.cas_memtable.specs.declared.memtable.MemPart.{MemPart}
@@ -76,6 +77,8 @@ pub record WritesKey {D E : Type 0} (number_of : D → ℕ) (written : D → Lis
   pub fragments : List Fragment
   pub same : (wss : List (List Mutation)) → StandInEach (clustering_order columns) ms wss → Same (flat top fragments) (atoms_under under (all_of wss))
   pub no_more : (wss : List (List Mutation)) → StandInEach (clustering_order columns) ms wss → SaysNoMore (flat top fragments) (atoms_under under (all_of wss))
+  pub some : (wss : List (List Mutation)) → StandInEach (clustering_order columns) ms wss → IsThere (atoms_under under (all_of wss))
+      → IsThere (flat top fragments)
   pub writes : Writes number_of written columns w (ps ++ partition_of under top fragments)
 
 -- the keys up to that one, or none

@@ -35,7 +35,8 @@ loop-key-preserved g c =
           let (ps, are, writes) = c.loop-key.invariant.written columns wss hold whole w in
           let one = c.in_ok-write_key.ensures.written columns wss ps hold whole writes in (
             ps ++ partition_of key one.top one.fragments,
-            λ vss stand. reached_next (clustering_order columns) ms vss stand after key is ps one.top one.fragments (are vss stand) (one.same vss stand) (one.no_more vss stand),
+            λ vss stand. reached_next (clustering_order columns) ms vss stand after key is ps one.top one.fragments (are vss stand) (one.same vss stand) (one.no_more vss stand)
+                (one.some vss stand),
             one.writes,
           );
       count = record { kept = omega (arith, c.loop-key.invariant.count.kept, c.write_key.ensures.count.kept); rose = λ never. absurd never };
