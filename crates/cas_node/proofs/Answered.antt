@@ -197,6 +197,7 @@ with_clock h s n d stands = record {
       files = lasts.files;
       changes = lasts.changes;
       frontiers = lasts.frontiers;
+      trimmed = lasts.trimmed;
     },
     λ openings explained.
         explains_still openings h (record h { clock = n }) found s (record s { clock = n }) d d told (λ k. goes_nowhere (shard_at h k)) refl refl (keep_files_none told d)

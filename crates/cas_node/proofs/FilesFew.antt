@@ -1,5 +1,5 @@
 -- How many table files come along a run, and how many numbers are given to them.
-use Rattle.std.proofs.Common.{◌≡◌, inl, inr, ◌≤◌, ◌+◌, ◌*◌, ℕ, zero, suc, ℤ, List, [], ◌∷◌, ◌++◌, length, map, length-append, Option, None, Some, Result, Ok, Err, refl, sym, ap, ◌∙◌, subst, arith}
+use Rattle.std.proofs.Common.{◌≡◌, inl, inr, ◌≤◌, ◌+◌, ◌*◌, ℕ, zero, suc, ℤ, false, List, [], ◌∷◌, ◌++◌, length, map, length-append, Option, None, Some, Result, Ok, Err, refl, sym, ap, ◌∙◌, subst, arith}
 use Rattle.std.proofs.Math.Nat.{suc-mul}
 use Rattle.std.specs.List.{fold}
 use Rattle.cas_types.specs.declared.schema.TableSchema.{TableSchema}
@@ -135,6 +135,7 @@ module _ (h : History) (t : TableSchema) (changes : List (Option Change)) (e : D
         unflushed = without_flushed t.number changes h.unflushed;
         filled = without_begun t.number begun h.filled;
         changes = fold changes_by h.changes changes;
+        trimmed = false;
         disk = e;
       } → Few h after
   few_flushed begun r after ends is =

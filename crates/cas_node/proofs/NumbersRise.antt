@@ -1,5 +1,5 @@
 -- Along a run the mutations of each shard are numbered upwards.
-use Rattle.std.proofs.Common.{◌≡◌, ◌≤◌, ◌<◌, ◌+◌, inl, inr, ⊎_elim, ℕ, zero, suc, ℤ, List, [], ◌∷◌, ◌++◌, length, map, refl, sym, ap, ◌∙◌, subst, arith, append-nil, Option, None, Some, Result, Ok, Err}
+use Rattle.std.proofs.Common.{◌≡◌, ◌≤◌, ◌<◌, ◌+◌, inl, inr, ⊎_elim, ℕ, zero, suc, ℤ, false, List, [], ◌∷◌, ◌++◌, length, map, refl, sym, ap, ◌∙◌, subst, arith, append-nil, Option, None, Some, Result, Ok, Err}
 use Rattle.std.specs.List.{fold}
 use Rattle.std.specs.Prelude.{slice_set, slice_index_or, ◌⊎◌}
 use Rattle.cas_history.specs.Hands.{numbers}
@@ -121,7 +121,7 @@ does_keeps kind Gives h (Ok (bound.Read q)) r t a all =
 
 -- a flush enters nothing
 abbrev Flushed : History → History → (ℕ → ℕ → List Mutation) → (ℕ → ℕ → ℕ) → List Change → DiskState → Type 0
-Flushed h t left full changes e = t ≡ record h { unflushed = left; filled = full; changes = changes; disk = e }
+Flushed h t left full changes e = t ≡ record h { unflushed = left; filled = full; changes = changes; trimmed = false; disk = e }
 
 begun_keeps : (h t : History) (left : ℕ → ℕ → List Mutation) (full : ℕ → ℕ → ℕ) (changes : List Change) (e : DiskState) → Flushed h t left full changes e → AllRise h → AllRise t
 begun_keeps h t left full changes e same all = subst AllRise (sym same) all

@@ -364,8 +364,8 @@ module _ (h : History) (d e : DiskState) where
       record {
         replies = one.done ∙ sym two.done;
         stores =
-            ap (λ (k : History). on k u.disk) f ∙ ap (λ (j : DiskState). record h { tables = tables; disk = j }) (ap (λ (k : History). k.disk) g)
-            ∙ ap (λ (ts : List TableSchema). record h { tables = ts; disk = s }) (one.are ∙ sym two.are) ∙ sym g;
+            ap (λ (k : History). on k u.disk) f ∙ ap (λ (j : DiskState). record h { tables = tables; trimmed = false; disk = j }) (ap (λ (k : History). k.disk) g)
+            ∙ ap (λ (ts : List TableSchema). record h { tables = ts; trimmed = false; disk = s }) (one.are ∙ sym two.are) ∙ sym g;
         one_goes = ap (λ (k : History). k.disk.stopped) f ∙ one.goes;
         other_goes = ap (λ (k : History). k.disk.stopped) g ∙ two.goes;
       }

@@ -173,6 +173,7 @@ IsBegun h t r after =
       unflushed = without_flushed t.number changes h.unflushed;
       filled = without_begun t.number begun h.filled;
       changes = fold changes_by h.changes changes;
+      trimmed = false;
       disk = e;
     })
 

@@ -8,7 +8,7 @@ use Rattle.cas_changes.specs.Saying.{said_by}
 use Rattle.cas_changes.specs.declared.entry.Entry.{Entry}
 use Rattle.cas_history.specs.declared.item.Item.{Item}
 use Rattle.cas_history.specs.declared.item.Item.TheVariants.{Wrote}
-use Rattle.cas_journal.specs.Stores.{Told, MadeRoom, took}
+use Rattle.cas_journal.specs.Stores.{Found, Told, MadeRoom, took}
 use Rattle.cas_journal.specs.Journals.{Lasts}
 use Rattle.cas_journal.specs.declared.journal.Journal.{Journal}
 use Rattle.cas_room.specs.declared.event.Event.{Event}
@@ -38,6 +38,7 @@ has_room found accepted said t u has made =
     subst (λ (es : List Entry). SaysAs (said_by t.entries) (said_by es)) (sym made.entries) (as_named t.entries made.numbers) in
     let first : take u.leaving u.taken ≡ take t.leaving t.taken = λ i. take (made.leaving i) (made.taken i) in
     record {
+      origin = ap (λ (f : Found). f.mutations) made.found ∙ has.origin;
       dropped = has.dropped;
       all = ap (λ (ms : List Mutation). has.dropped ++ ms) made.taken ∙ has.all;
       committed = omega (arith, has.committed, made.committed);
@@ -54,6 +55,7 @@ has_one_more found accepted said t u m has made =
     let got = has_room found accepted said t u has made in
     let few : u.leaving ≤ length u.taken = got.few in
     record {
+      origin = got.origin;
       dropped = got.dropped;
       all = sym (append_assoc got.dropped u.taken (m ∷ [])) ∙ ap (λ (ms : List Mutation). ms ++ m ∷ []) got.all ∙ append_assoc found accepted (m ∷ []);
       committed = got.committed;

@@ -4,3 +4,4 @@ pub mod Standing
 pub mod Tables
 pub mod Settling
 pub mod Shrinking
+pub mod Trimmed

@@ -6,14 +6,14 @@ use Rattle.std.proofs.lemmas.List.{append-nil, length-drop, length-take-le, take
 use Rattle.cas_disk.specs.Disk.{Image, Disk, During}
 use Rattle.cas_disk.proofs.Moments.{reworded}
 use Rattle.cas_atoms.specs.declared.atom.Mutation.{Mutation}
-use Rattle.cas_changes.specs.Saying.{Saying, no_part, part_of, place_in, said_by}
+use Rattle.cas_changes.specs.Saying.{Saying, frontiers_in, no_part, part_of, place_in, said_by}
 use Rattle.cas_changes.specs.declared.said.Part.{Part}
 use Rattle.cas_changes.specs.declared.entry.Entry.{Entry}
 use Rattle.cas_changes.specs.declared.entry.Entry.TheVariants.{DropSegment}
 use Rattle.cas_history.specs.declared.item.Item.{Item}
 use Rattle.cas_journal.specs.Ends.{LastsDropped}
 use Rattle.cas_journal.specs.Journals.{Goes, Lasts}
-use Rattle.cas_journal.specs.Stores.{Told, Dropped, Holds, HoldsDropped, MayList, may_be_without, without}
+use Rattle.cas_journal.specs.Stores.{Found, Told, Dropped, Holds, HoldsDropped, MayList, may_be_without, without}
 use Rattle.cas_journal.specs.declared.fault.JournalFault.{JournalFault}
 use Rattle.cas_journal.specs.declared.fault.JournalFault.TheVariants.{TooLarge, TooMany, Stopped, Failed, Mem}
 use Rattle.cas_journal.specs.declared.journal.Journal.{Journal}
@@ -21,7 +21,7 @@ use Rattle.cas_journal.proofs.Holding.{committed_few}
 use Rattle.cas_mutations.specs.Allowed.{FitsRecord}
 use Rattle.cas_replay.specs.Reading.{frontier_of}
 use Rattle.cas_room.specs.declared.event.Event.{Event}
-use Rattle.cas_room.specs.Dropping.{AreFrontiers, Drops, FailedToDrop, StandsDropped}
+use Rattle.cas_room.specs.Dropping.{Drops, FailedToDrop, StandsDropped}
 use Rattle.cas_room.specs.Keeping.{AreFlushed, HasTaken, IsFlushed, Keeps, MayFail}
 use Rattle.cas_room.specs.Rooms.{accepted_in}
 use Rattle.cas_room.proofs.Flushed.{SaysAs, all_both, as_dropped, flushed_alike, may_fail_alike}
@@ -40,8 +40,8 @@ get_within (y ∷ xs) zero x there = omega arith
 get_within (y ∷ xs) (suc n) x there = let low = get_within xs n x there in omega (arith, low)
 
 -- a mutation of one of the tables that is at or below these frontiers stands in table files
-module _ (s : Saying) (shards : ℕ) (frontiers : List ℕ) (are : AreFrontiers frontiers s) (many : shards ≡ s.shards) where
-  frontier_is : (table shard : ℕ) → frontier_of shards frontiers table shard ≡ (part_of s table shard).frontier
+module _ (s : Saying) (shards : ℕ) (frontiers : List ℕ) (are : frontiers ≡ frontiers_in s) (many : shards ≡ s.shards) where
+  pub frontier_is : (table shard : ℕ) → frontier_of shards frontiers table shard ≡ (part_of s table shard).frontier
   frontier_is table shard =
       (λ i. unwrap_or (slice_get (are i) (table * many i + shard)) 0) ∙ mapped_at s.parts (place_in s table shard)
 
@@ -70,7 +70,7 @@ all_rest P (suc a) b (suc n) (m ∷ ms) is all = all_rest P a b n ms (omega (ari
 -- ---- what the room keeps
 
 module _ (found accepted : List Mutation) (said : ℕ) (j : Journal) (disk : Disk) (t : Told) (has : HasTaken found accepted said t) (goes : Goes j disk t) (frontiers : List ℕ)
-    (are : AreFrontiers frontiers (said_by t.entries)) where
+    (are : frontiers ≡ frontiers_in (said_by t.entries)) where
   abbrev shards : ℕ
   shards = j.notes.shards
 
@@ -110,6 +110,7 @@ module _ (found accepted : List Mutation) (said : ℕ) (j : Journal) (disk : Dis
     has_less : (failed : List Entry) (leaving : ℕ) → MayFail (said_by u.entries) failed → leaving ≤ length u.taken → AreFlushed u.entries (take leaving u.taken)
         → HasTaken found accepted said (record u { failed = failed; leaving = leaving })
     has_less failed leaving may few flushed = record {
+      origin = ap (λ (f : Found). f.mutations) dropped.found ∙ has.origin;
       dropped = has.dropped ++ take dropped.many t.taken;
       all = append_assoc has.dropped (take dropped.many t.taken) u.taken
           ∙ ap (λ (ms : List Mutation). has.dropped ++ (take dropped.many t.taken ++ ms)) dropped.taken
@@ -168,7 +169,7 @@ module _ (found accepted : List Mutation) (said : ℕ) (j : Journal) (disk : Dis
 
 -- what it keeps, once some are dropped
 pub drops_keep : (j k : Journal) (before disk : Disk) (list : List (Item Event)) (said : ℕ) (found : List Mutation) (t : Told) → HasTaken found (accepted_in list) said t → Goes j before t
-    → (frontiers : List ℕ) → AreFrontiers frontiers (said_by t.entries) → (r : Result ℕ JournalFault)
+    → (frontiers : List ℕ) → frontiers ≡ frontiers_in (said_by t.entries) → (r : Result ℕ JournalFault)
     → MatchResult r (λ count. (u : Told) × (d : Dropped j.notes.shards frontiers t u) × (length d.numbers ≡ count) × Lasts k disk u)
     (λ f. LastsDropped f k disk j.notes.shards frontiers t)
     → (u : Told) × Drops t u × Keeps k disk list said found u
@@ -192,7 +193,7 @@ drops_keep j k before disk list said found t has goes frontiers are r lasts = by
     by (Err (Stopped first)) (u, dropped, lasts) = some u dropped lasts
 
 pub leaves_dropped : (j : Journal) (before disk : Disk) (list : List (Item Event)) (said : ℕ) (found : List Mutation) (t : Told) → HasTaken found (accepted_in list) said t → Goes j before t
-    → (frontiers : List ℕ) → AreFrontiers frontiers (said_by t.entries) → During (λ _ c. HoldsDropped j.notes.shards frontiers t c) before disk
+    → (frontiers : List ℕ) → frontiers ≡ frontiers_in (said_by t.entries) → During (λ _ c. HoldsDropped j.notes.shards frontiers t c) before disk
     → During (λ _ c. StandsDropped t found (accepted_in list) said c) before disk
 leaves_dropped j before disk list said found t has goes frontiers are call =
     reworded (λ _ c. HoldsDropped j.notes.shards frontiers t c) (λ _ c. StandsDropped t found (accepted_in list) said c) before disk call

@@ -96,7 +96,7 @@ pub settled_stands : (t : Told) (e : Entry) (found accepted : List Mutation) (sa
 settled_stands t e found accepted said a z has fits told call =
     let long : length has.dropped + length t.taken ≡ length found + length accepted =
     sym (length-append has.dropped t.taken) ∙ ap length has.all ∙ length-append found accepted in
-    let all : HasTaken found accepted (length accepted) (committed_all t) = has_said found accepted said (length accepted) t (committed_all t) has refl refl refl refl (omega (arith, long)) in
+    let all : HasTaken found accepted (length accepted) (committed_all t) = has_said found accepted said (length accepted) t (committed_all t) has refl refl refl refl refl (omega (arith, long)) in
     reworded (λ _ c. HoldsSettled t e c) (λ _ c. StandsAmid t e found accepted said c) a z call
     (λ d c was settled. ⊎_elim (λ holds. inl (holds_front t found accepted said c has holds))
     (λ holds. inr (holds_front (failed_at e (committed_all t)) found accepted (length accepted) c (has_failed found accepted (length accepted) (committed_all t) e all fits told) holds)) settled)

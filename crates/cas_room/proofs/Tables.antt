@@ -10,7 +10,7 @@ use Rattle.cas_changes.specs.declared.entry.Entry.{Entry}
 use Rattle.cas_history.specs.declared.item.Item.{Item}
 use Rattle.cas_history.specs.declared.item.Item.TheVariants.{Drew}
 use Rattle.cas_history.specs.Last.{holds}
-use Rattle.cas_journal.specs.Stores.{Told, appended, committed_all, failed_at}
+use Rattle.cas_journal.specs.Stores.{Found, Told, appended, committed_all, failed_at}
 use Rattle.cas_gates.specs.declared.first.First.{First}
 use Rattle.cas_journal.proofs.Telling.{none_where_ok}
 use Rattle.cas_journal.specs.Ends.{Ends, IsTold, told_after}
@@ -33,9 +33,11 @@ table_keeps n change old new call j list said found t keeps =
     record { lasts = table_lasts n change old new call j t keeps.lasts; has = keeps.has }
 
 -- more is said to be committed, and is
-pub has_said : (found accepted : List Mutation) (before now : ℕ) (t u : Told) → (has : HasTaken found accepted before t) → u.entries ≡ t.entries → u.failed ≡ t.failed
+pub has_said : (found accepted : List Mutation) (before now : ℕ) (t u : Told) → (has : HasTaken found accepted before t) → u.found ≡ t.found → u.entries ≡ t.entries
+    → u.failed ≡ t.failed
     → u.taken ≡ t.taken → u.leaving ≡ t.leaving → length found + now ≤ length has.dropped + u.committed → HasTaken found accepted now u
-has_said found accepted before now t u has entries failed taken leaving committed = record {
+has_said found accepted before now t u has origin entries failed taken leaving committed = record {
+  origin = ap (λ (f : Found). f.mutations) origin ∙ has.origin;
   dropped = has.dropped;
   all = ap (λ (ms : List Mutation). has.dropped ++ ms) taken ∙ has.all;
   committed = committed;
@@ -53,9 +55,9 @@ pub commit_keeps : (k : Journal) (disk : Disk) (list : List (Item Event)) (befor
 commit_keeps k disk list before now accepted found t (Ok x) lasts has few done undone =
     let all : length has.dropped + length t.taken ≡ length found + length (accepted_in list) =
     sym (length-append has.dropped t.taken) ∙ ap length has.all ∙ length-append found (accepted_in list) in
-    record { lasts = lasts; has = has_said found (accepted_in list) before now t (committed_all t) has refl refl refl refl (omega (arith, done, few, all)) }
+    record { lasts = lasts; has = has_said found (accepted_in list) before now t (committed_all t) has refl refl refl refl refl (omega (arith, done, few, all)) }
 commit_keeps k disk list before now accepted found t (Err fault) lasts has few done undone =
-    record { lasts = lasts; has = has_said found (accepted_in list) before now t t has refl refl refl refl (omega (arith, undone, has.committed)) }
+    record { lasts = lasts; has = has_said found (accepted_in list) before now t t has refl refl refl refl refl (omega (arith, undone, has.committed)) }
 
 -- an entry was told, or may be there
 pub has_told : (found accepted : List Mutation) (said : ℕ) (t : Told) (e : Entry) → HasTaken found accepted said t → FitsEntry (said_by t.entries) e → IsTold e
@@ -63,6 +65,7 @@ pub has_told : (found accepted : List Mutation) (said : ℕ) (t : Told) (e : Ent
 has_told found accepted said t e has fits told failing =
     let may = told_may_fail (said_by t.entries) e fits told in
     record {
+      origin = has.origin;
       dropped = has.dropped;
       all = has.all;
       committed = has.committed;
@@ -75,6 +78,7 @@ has_told found accepted said t e has fits told failing =
 pub has_failed : (found accepted : List Mutation) (said : ℕ) (t : Told) (e : Entry) → HasTaken found accepted said t → FitsEntry (said_by t.entries) e → IsTold e
     → HasTaken found accepted said (failed_at e t)
 has_failed found accepted said t e has fits told = record {
+  origin = has.origin;
   dropped = has.dropped;
   all = has.all;
   committed = has.committed;

@@ -46,6 +46,7 @@ MayFail s (e ∷ other ∷ others) = ⊥
 -- What a journal was told are the mutations that the opening found, and then those that were accepted, each in its order; but for some at the front, whose
 -- segments were dropped. At least as many are committed as the room said. Those that leave with an entry that failed stand in table files too.
 pub record HasTaken (found accepted : List Mutation) (said : ℕ) (t : Told) : Type 0 where
+  pub origin : t.found.mutations ≡ found
   pub dropped : List Mutation
   pub all : dropped ++ t.taken ≡ found ++ accepted
   pub committed : length found + said ≤ length dropped + t.committed

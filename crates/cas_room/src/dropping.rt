@@ -1,17 +1,17 @@
 //! Drops segments of the log.
 
 ghost use mathlib.Core.List.{IsPrefix};
-ghost use Rattle.std.specs.Prelude.{◌≡◌, ◌≤◌, ℕ, List, Err, OnOk, MatchResult};
+ghost use Rattle.std.specs.Prelude.{◌≡◌, ◌≤◌, ◌++◌, ℕ, List, Err, OnOk, MatchResult};
 ghost use Rattle.cas_disk.specs.Disk.{During, Leaves};
 ghost use Rattle.cas_atoms.specs.declared.atom.Mutation.{Mutation as MutationOf};
-ghost use Rattle.cas_changes.specs.Saying.{said_by};
+ghost use Rattle.cas_changes.specs.Saying.{frontiers_in, said_by};
 ghost use Rattle.cas_changes.specs.declared.entry.Entry.TheVariants.{DropSegment};
 ghost use Rattle.cas_journal.specs.Ends.{Ends, IsLowestNeeded};
 ghost use Rattle.cas_journal.specs.Journals.{Lasts};
 ghost use Rattle.cas_journal.specs.Reach.{reach_of, reach_dropped, IsOver};
 ghost use Rattle.cas_journal.specs.Stores.{Told, SameTables};
 ghost use Rattle.cas_history.specs.Items.{listed, log_list, faults_list};
-ghost use Rattle.cas_room.specs.Dropping.{AreFrontiers, Drops, StandsDropped};
+ghost use Rattle.cas_room.specs.Dropping.{Drops, IsTrimmed, StandsDropped};
 ghost use Rattle.cas_room.specs.Keeping.{Keeps};
 ghost use Rattle.cas_room.specs.Rooms.{accepted_in, first_number, Knows};
 
@@ -34,16 +34,20 @@ impl<F: Folder, J: Store> Room<F, J> {
     ) -> Result<u64, JournalFault>
         ensures kept { (found : List MutationOf) (t : Told)
             → Keeps self.old.journal (F.disk self.old.folder) (listed log_list self.old.log.pass.saw) self.old.faults.committed found t
-            → AreFrontiers frontiers.now (said_by t.entries) → (u : Told) × Drops t u
+            → frontiers.now ≡ frontiers_in (said_by t.entries) → (u : Told) × Drops t u
             × Keeps self.new.journal (F.disk self.new.folder) (listed log_list self.new.log.pass.saw) self.new.faults.committed found u }
         ensures crash { (found : List MutationOf) (t : Told)
             → Keeps self.old.journal (F.disk self.old.folder) (listed log_list self.old.log.pass.saw) self.old.faults.committed found t
-            → AreFrontiers frontiers.now (said_by t.entries)
+            → frontiers.now ≡ frontiers_in (said_by t.entries)
             → Leaves (λ c. StandsDropped t found (accepted_in (listed log_list self.old.log.pass.saw)) self.old.faults.committed c)
             (F.disk self.old.folder) (F.disk self.new.folder) }
         ensures tables { During SameTables (F.disk self.old.folder) (F.disk self.new.folder) }
         ensures stays { OnOk result ((t : Told) → Lasts self.new.journal (F.disk self.new.folder) t
             → IsLowestNeeded self.new.journal.notes.shards frontiers.now t (F.disk self.new.folder) (said_by t.entries).segments) }
+        ensures trimmed { OnOk result ((found : List MutationOf) (t : Told)
+            → Keeps self.new.journal (F.disk self.new.folder) (listed log_list self.new.log.pass.saw) self.new.faults.committed found t
+            → frontiers.now ≡ frontiers_in (said_by t.entries)
+            → IsTrimmed (said_by t.entries) (found ++ accepted_in (listed log_list self.new.log.pass.saw))) }
         ensures log { self.new.log ≡ self.old.log }
         ensures session { (session.new.list ≡ session.old.list) × (session.new.calls ≡ session.old.calls)
             × (listed session.old.list session.new.pass.saw ≡ listed session.old.list session.old.pass.saw)

@@ -56,7 +56,7 @@ use Rattle.cas_sessions.proofs.Filing.{files_still}
 use Rattle.cas_sessions.proofs.Filled.{as_entry, filled_more}
 use Rattle.cas_sessions.proofs.Moving.{none_more, one_more, with_entries, raised_is, stands_write}
 use Rattle.cas_sessions.proofs.Remembering.{all_entered, all_still, just_with, with_entry, with_none}
-use Rattle.cas_sessions.proofs.Lasting.{lasts_still, may_be_taken, lasts_with_room, lasts_taken}
+use Rattle.cas_sessions.proofs.Lasting.{lasts_still, may_be_taken, lasts_with_room, lasts_taken, untrimmed}
 
 -- ---- places
 
@@ -207,7 +207,7 @@ module _ (s : State) (w : BoundWrite) (reading : ℤ) (x y : ShardState) (result
             told,
             lasts_still h after found s (prepared_only s w.shard y) d d told w.shard x y (omega (arith, quiet)) refl (there s w reading x y result asked) refl asked.number
                 (λ l el c ec keeps. subst (λ j. Keeps s.journal d l j found told) (sym ec) (subst (λ j. Keeps s.journal d j s.committed found told) (sym el) keeps))
-                refl refl refl refl refl (λ on. on) refl refl (files_still s.shards w.shard x y (there s w reading x y result asked) asked.files) refl lasts,
+                refl refl refl refl refl (λ on. on) refl refl (files_still s.shards w.shard x y (there s w reading x y result asked) asked.files) refl untrimmed lasts,
             still_explained s w reading x y result asked h stands r [] (prepared_only s w.shard y) d d told refl (disk_of (prepared_only s w.shard y)) refl refl refl (keep_files_none told d)
                 (raised_further reading (shard_at h w.shard)) found,
           );
@@ -402,7 +402,7 @@ module _ (s : State) (w : BoundWrite) (reading : ℤ) (x y : ShardState) (result
                     lasts_with_room h after found s t d e was got.0 w.shard x y (omega (arith, quiet f)) refl at left.shards asked.number got.1 got.2 left.list left.committed
                         left.tables left.limits left.accepted
                         (going_since f s.journal.first t.journal.first s.faults t.faults (record_length m) (s.journal.size / 2) left.ends short_for) left.last_file left.live
-                        (ap files_in left.shards ∙ files_still s.shards w.shard x y at asked.files) left.frontiers lasts,
+                        (ap files_in left.shards ∙ files_still s.shards w.shard x y at asked.files) left.frontiers refl lasts,
                     λ openings explained.
                         explains_named openings after found t e was got.0 got.1.numbers got.1.entries got.1.failed got.1.taken (λ i leaves. got.1.committed)
                         (still_explained s w reading x y result asked h stands (reply_for f) [] t d e was left.shards (disk_of t) left.tables (ap accepted_in left.list) refl
@@ -642,7 +642,7 @@ module _ (s : State) (w : BoundWrite) (reading : ℤ) (x y : ShardState) (result
                 lasts_taken h after found s t d e was got.0 got.1 m x z (subst (λ (k : ℕ). slice_get s.shards k ≡ Some x) (sym ready.shard) at_x)
                     (subst (λ (k : ℕ). t.shards ≡ slice_set s.shards k z) (sym ready.shard) shards_now) (next s w reading x y result asked m is prepared ready) left.number
                     got.2 got.3 got.4 lasts s.session (s.calls + 1) left.list left.tables left.limits left.accepted left.few got.7
-                    (omega (arith, one)) (acked h after either refl) going left.last_file left.live same_files.0 left.frontiers refl,
+                    (omega (arith, one)) (acked h after either refl) going left.last_file left.live same_files.0 left.frontiers refl refl,
                 explains h stands after refl both.1 found was got.1 lasts got.0 got.2 got.3 got.4 got.5 got.6 got.7,
               );
         },

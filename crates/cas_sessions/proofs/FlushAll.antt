@@ -16,7 +16,7 @@ use Rattle.cas_journal.specs.Reach.{Reach}
 use Rattle.cas_journal.specs.Stores.{Told}
 use Rattle.cas_shard.specs.declared.entry.ShardOpening.{ShardOpening}
 use Rattle.cas_shard.specs.Shards.{ShardHistory, all_entries}
-use Rattle.cas_shard.specs.Stands.{SaySame, ShardState, mutations_of}
+use Rattle.cas_shard.specs.Stands.{ShardState, mutations_of}
 use Rattle.cas_sstread.specs.Loading.{Held}
 use Rattle.cas_bind.specs.Tables.{AreInPlace}
 use Rattle.cas_terms.specs.Columns.{is_local, table_named}
@@ -37,7 +37,8 @@ use Rattle.cas_sessions.specs.Inner.Flushing.{AreStood, FlushesFirst, FlushesNoF
 use Rattle.cas_sessions.proofs.Explaining.{explains_still, goes_nowhere, keep_files_none}
 use Rattle.cas_sessions.proofs.Filled.{begun_more, begun_none, filled_are, stands_filled}
 use Rattle.cas_sessions.proofs.FlushShard.{quiet_still}
-use Rattle.cas_sessions.proofs.FlushSteps.{amid_then, amid_with, beside_then, lasts_as, quiet_beside, quiet_goes, quiet_stands, stands_with, with_state}
+use Rattle.cas_sessions.proofs.FlushSteps.{amid_then, amid_with, beside_then, quiet_beside, quiet_goes, quiet_stands, stands_with, with_state}
+use Rattle.cas_sessions.proofs.Lasting.{lasts_as}
 
 -- ---- lists with one more
 
@@ -110,23 +111,23 @@ none_flushed table before = λ i k j. at (j == table) k j i
 
 -- in a history that tells other changes, and has other things in no file
 with_changes : (openings : ℕ → ShardOpening) (h : History) (left : ℕ → ℕ → List Mutation) (changes : List Change) (found : List Mutation) (u : State) (e : Disk) (told : Told)
-    → Explains openings h found u e told → Explains openings (record h { unflushed = left; changes = changes }) found u e told
+    → Explains openings h found u e told → Explains openings (record h { unflushed = left; changes = changes; trimmed = false }) found u e told
 with_changes openings h left changes found u e told was =
-    explains_still openings h (record h { unflushed = left; changes = changes }) found u u e e told (λ n. goes_nowhere (shard_at h n)) refl refl (keep_files_none told e)
+    explains_still openings h (record h { unflushed = left; changes = changes; trimmed = false }) found u u e e told (λ n. goes_nowhere (shard_at h n)) refl refl (keep_files_none told e)
     (λ ms have. have) was
 
 without_changes : (openings : ℕ → ShardOpening) (h : History) (left : ℕ → ℕ → List Mutation) (changes : List Change) (found : List Mutation) (u : State) (e : Disk) (told : Told)
-    → Explains openings (record h { unflushed = left; changes = changes }) found u e told → Explains openings h found u e told
+    → Explains openings (record h { unflushed = left; changes = changes; trimmed = false }) found u e told → Explains openings h found u e told
 without_changes openings h left changes found u e told was =
-    explains_still openings (record h { unflushed = left; changes = changes }) h found u u e e told (λ n. goes_nowhere (shard_at h n)) refl refl (keep_files_none told e)
+    explains_still openings (record h { unflushed = left; changes = changes; trimmed = false }) h found u u e e told (λ n. goes_nowhere (shard_at h n)) refl refl (keep_files_none told e)
     (λ ms have. have) was
 
 -- one part of a flush explains it, and then the next
 both_explain : (h : History) (left : ℕ → ℕ → List Mutation) (so_far : List Change) (found : List Mutation) (s u v : State) (d e f : Disk) (was now later : Told) → (TellsReads d → TellsReads e)
     → (TellsReads d → AreStood h s → AreStood (record h { unflushed = left }) u)
     → (TellsReads d → AreStood h s → (openings : ℕ → ShardOpening) → Explains openings h found s d was → Explains openings h found u e now)
-    → (TellsReads e → AreStood (record h { unflushed = left; changes = so_far }) u → (openings : ℕ → ShardOpening)
-    → Explains openings (record h { unflushed = left; changes = so_far }) found u e now → Explains openings (record h { unflushed = left; changes = so_far }) found v f later)
+    → (TellsReads e → AreStood (record h { unflushed = left; changes = so_far; trimmed = false }) u → (openings : ℕ → ShardOpening)
+    → Explains openings (record h { unflushed = left; changes = so_far; trimmed = false }) found u e now → Explains openings (record h { unflushed = left; changes = so_far; trimmed = false }) found v f later)
     → TellsReads d → AreStood h s → (openings : ℕ → ShardOpening) → Explains openings h found s d was → Explains openings h found v f later
 both_explain h left so_far found s u v d e f was now later tells stands first second telling stood openings before =
     without_changes openings h left so_far found v f later
@@ -137,7 +138,7 @@ both_explain h left so_far found s u v d e f was now later tells stands first se
 
 module _ (h : History) (t : TableSchema) (changes : List (Option Change)) (c : Option Change) (k : ℕ) (u v : DiskState) (at : length changes ≡ k) (first : Flushed h t changes u)
     (one : FlushedOne t k (shard_at h k) c u v) (number : AscendTo u.last_file (numbers_in c) v.last_file) (said : IfSome c (λ x. SaySomething (h.unflushed k t.number)))
-    (unsaid : c ≡ None → SaySame [] (h.unflushed k t.number))
+    (unsaid : c ≡ None → SaySomething (h.unflushed k t.number) → ⊥)
     (faults : u.faults ≤ v.faults) (reads : u.reads ≤ v.reads) (last : u.last_file ≤ v.last_file)
     (next : v.last_file ≤ h.disk.last_file + length changes + 2) where
   apart : (n j : ℕ) → n ≢ k → v.files n j ≡ u.files n j
@@ -175,9 +176,9 @@ module _ (h : History) (t : TableSchema) (changes : List (Option Change)) (c : O
       subst (λ (i : ℕ). SaySomething (h.unflushed i t.number)) (sym here) (subst (λ (o : Option Change). IfSome o (λ y. SaySomething (h.unflushed k t.number))) its said)
   says n x is (inr other) = first.some n x (sym (change_before changes c n (λ same. other (same ∙ at))) ∙ is)
 
-  says_none : (n : ℕ) → n < length (changes ++ c ∷ []) → change_of (changes ++ c ∷ []) n ≡ None → (n ≡ k) ⊎ (n ≢ k) → SaySame [] (h.unflushed n t.number)
+  says_none : (n : ℕ) → n < length (changes ++ c ∷ []) → change_of (changes ++ c ∷ []) n ≡ None → (n ≡ k) ⊎ (n ≢ k) → SaySomething (h.unflushed n t.number) → ⊥
   says_none n lt is (inl here) =
-      subst (λ (i : ℕ). SaySame [] (h.unflushed i t.number)) (sym here) (unsaid (sym (change_last changes c n (here ∙ sym at)) ∙ is))
+      subst (λ (i : ℕ). SaySomething (h.unflushed i t.number) → ⊥) (sym here) (unsaid (sym (change_last changes c n (here ∙ sym at)) ∙ is))
   says_none n lt is (inr other) =
       first.none n (omega (arith, lt, length-append changes (c ∷ []), other, at)) (sym (change_before changes c n (λ same. other (same ∙ at))) ∙ is)
 
@@ -213,8 +214,8 @@ as_before h table k changes at =
     ∙ ap (λ (b : Bool). if b then [] else h.unflushed k table) (and-false (table == table))
 
 none_before : (h : History) (table k : ℕ) (changes : List (Option Change)) (o : Option ℕ) (c : Option Change) → length changes ≡ k
-    → SaysNone (Ok o) c (without_flushed table changes h.unflushed k table) → c ≡ None → SaySame [] (h.unflushed k table)
-none_before h table k changes o None at says is = subst (SaySame []) (as_before h table k changes at) says
+    → SaysNone (Ok o) c (without_flushed table changes h.unflushed k table) → c ≡ None → SaySomething (h.unflushed k table) → ⊥
+none_before h table k changes o None at says is = subst (λ (ws : List Mutation). SaySomething ws → ⊥) (as_before h table k changes at) says
 none_before h table k changes o (Some c) at says is = absurd cc
 
 said_before : (h : History) (table k : ℕ) (changes : List (Option Change)) (c : Option Change) → length changes ≡ k
@@ -234,13 +235,14 @@ first_more t k told o s u v d e f first one = record {
       let (now, amid) = first.lasts h found was tables lasts in
       let so_far : List Change = fold changes_by h.changes first.changes in
       let left : ℕ → ℕ → List Mutation = without_flushed t.number first.changes h.unflushed in
-      let amidst : History = record h { unflushed = left; changes = so_far } in
+      let amidst : History = record h { unflushed = left; changes = so_far; trimmed = false } in
       let (later, more) =
-      one.lasts amidst found now.0 (tables ∙ sym first.beside.tables) (lasts_as (record h { changes = so_far }) amidst found u e now.0 refl refl now.1) in (
+      one.lasts amidst found now.0 (tables ∙ sym first.beside.tables) (lasts_as (record h { changes = so_far; trimmed = false }) amidst found u e now.0 refl refl (λ on. on) now.1) in (
         (
           later.0,
-          lasts_as (record amidst { changes = changes_by so_far one.change }) (record h { changes = fold changes_by h.changes (first.changes ++ one.change ∷ []) }) found v f later.0
-              refl (fold_push changes_by h.changes first.changes one.change) later.1,
+          lasts_as (record amidst { changes = changes_by so_far one.change; trimmed = false })
+              (record h { changes = fold changes_by h.changes (first.changes ++ one.change ∷ []); trimmed = false }) found v f later.0 refl
+              (fold_push changes_by h.changes first.changes one.change) (λ on. on) later.1,
           both_explain h left so_far found s u v d e f was now.0 later.0 (λ tells. first.beside.tells tells.0 tells.1) (λ tells stood. (first.moves tells.0 tells.1 (with_state h s) stood).0) now.2 later.2,
         ),
         amid_then h found s u d e f first.beside.list amid (amid_with h left so_far found u.list e f more),
@@ -379,7 +381,7 @@ still_flushed h t changes u v first files reach faults reads live last next = re
 
 -- the history goes on so
 abbrev went_on : History → ℕ → List (Option Change) → State → History
-went_on h table changes u = record h { unflushed = without_flushed table changes h.unflushed; changes = fold changes_by h.changes changes; filled = filled_of u; disk = disk_of u }
+went_on h table changes u = record h { unflushed = without_flushed table changes h.unflushed; changes = fold changes_by h.changes changes; trimmed = false; filled = filled_of u; disk = disk_of u }
 
 -- so far the disk keeps what some history says for which the store stands
 first_lasts_for_one : (t : TableSchema) (k : ℕ) (told : List ℕ) (s u : State) (d e : Disk) → FlushesFirst t k told s u d e → (c : Image) → d.reads c → LastsForOne s d
@@ -392,7 +394,7 @@ first_lasts_for_one t k told s u d e first c reads (h, found, was, stands, lasts
       found,
       later.0,
       stands_with (record h { unflushed = without_flushed t.number first.changes h.unflushed; filled = filled_of u; disk = disk_of u }) so_far u now,
-      lasts_as (record h { changes = so_far }) (went_on h t.number first.changes u) found u e later.0 refl refl later.1,
+      lasts_as (record h { changes = so_far; trimmed = false }) (went_on h t.number first.changes u) found u e later.0 refl refl (λ on. on) later.1,
     )
 
 -- how many shards got a new memtable
@@ -427,13 +429,13 @@ no_further t k told x s u v d e f first one few = record {
       let (now, amid) = first.lasts h found was tables lasts in
       let so_far : List Change = fold changes_by h.changes first.changes in
       let left : ℕ → ℕ → List Mutation = without_flushed t.number first.changes h.unflushed in
-      let amidst : History = record h { unflushed = left; changes = so_far } in
+      let amidst : History = record h { unflushed = left; changes = so_far; trimmed = false } in
       let (later, more) =
-      one.lasts amidst found now.0 (tables ∙ sym first.beside.tables) (lasts_as (record h { changes = so_far }) amidst found u e now.0 refl refl now.1) in (
+      one.lasts amidst found now.0 (tables ∙ sym first.beside.tables) (lasts_as (record h { changes = so_far; trimmed = false }) amidst found u e now.0 refl refl (λ on. on) now.1) in (
         (
           later.0,
-          lasts_as (record amidst { changes = changes_by so_far one.change }) (record h { changes = so_far }) found v f later.0 refl
-              (ap (λ (c : Option Change). changes_by so_far c) (sym one.answer)) later.1,
+          lasts_as (record amidst { changes = changes_by so_far one.change; trimmed = false }) (record h { changes = so_far; trimmed = false }) found v f later.0 refl
+              (ap (λ (c : Option Change). changes_by so_far c) (sym one.answer)) (λ on. on) later.1,
           both_explain h left so_far found s u v d e f was now.0 later.0 (λ tells. first.beside.tells tells.0 tells.1) (λ tells stood. (first.moves tells.0 tells.1 (with_state h s) stood).0) now.2 later.2,
         ),
         amid_then h found s u d e f first.beside.list amid (amid_with h left so_far found u.list e f more),
@@ -496,15 +498,15 @@ as_it_stands h s stands = record {
 pub went_to : (h : History) (left : ℕ → ℕ → List Mutation) (full : ℕ → ℕ → ℕ) (changes : List Change) (s u : State) (d e : Disk) → TellsReads d → StandsFor h s
     → StandsFor (record h { unflushed = left; filled = filled_of u; disk = disk_of u }) u → AreFilled full u.shards
     → ((found : List Mutation) (told : Told) → LastsFor h found s d told → GoesOn (TellsReads d) h changes found told s u d e)
-    → GoesOnTo h (record h { unflushed = left; filled = full; changes = changes; disk = disk_of u }) s u d e
+    → GoesOnTo h (record h { unflushed = left; filled = full; changes = changes; trimmed = false; disk = disk_of u }) s u d e
 went_to h left full changes s u d e tells before stands filled lasts = record {
-  stands = stands_filled (record h { unflushed = left; changes = changes; filled = filled_of u; disk = disk_of u }) full u filled
+  stands = stands_filled (record h { unflushed = left; changes = changes; trimmed = false; filled = filled_of u; disk = disk_of u }) full u filled
       (stands_with (record h { unflushed = left; filled = filled_of u; disk = disk_of u }) changes u stands);
   lasts = λ found told was.
       let (later, amid) = lasts found told was in
-      let after : History = record h { unflushed = left; filled = full; changes = changes; disk = disk_of u } in (
+      let after : History = record h { unflushed = left; filled = full; changes = changes; trimmed = false; disk = disk_of u } in (
         later.0,
-        lasts_as (record h { changes = changes }) after found u e later.0 refl refl later.1,
+        lasts_as (record h { changes = changes; trimmed = false }) after found u e later.0 refl refl (λ on. on) later.1,
         λ openings explained.
             explains_still openings h after found u u e e later.0 (λ n. goes_nowhere (shard_at h n)) refl refl (keep_files_none later.0 e) (λ ms have. have)
             (later.2 tells (as_it_stands h s before) openings explained),
@@ -522,6 +524,7 @@ flushed_to h table changes begun u = record h {
   unflushed = without_flushed table changes h.unflushed;
   filled = without_begun table begun h.filled;
   changes = fold changes_by h.changes changes;
+  trimmed = false;
   disk = disk_of u;
 }
 

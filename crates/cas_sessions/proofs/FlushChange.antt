@@ -37,7 +37,7 @@ use Rattle.cas_sessions.specs.Inner.Flushing.{AddsFile, AreStood, GoesOn, Lists,
 use Rattle.cas_sessions.proofs.Files.{list_changed, list_same, told_more}
 use Rattle.cas_sessions.proofs.Parts.{has_parts, one_shard}
 use Rattle.cas_sessions.proofs.Tables.{goes_before, said_still}
-use Rattle.cas_sessions.proofs.Lasting.{still_in_order, still_next}
+use Rattle.cas_sessions.proofs.Lasting.{still_in_order, still_next, untrimmed}
 use Rattle.cas_sessions.proofs.Frontiers.{frontiers_changed}
 
 -- ---- numbers
@@ -268,7 +268,7 @@ module _ (s t : State) (d e : Disk) (place number : ℕ) (c : Change) (count : l
           (subst (λ (k : ℕ). k < (said_by told.entries).shards) (sym adds.is.of_shard) (no_shard_more h found s d told count lasts place adds.x adds.there))
           adds.is.removed here others lasts.files
 
-      keeps_on : LastsFor (record h { changes = h.changes ++ c ∷ [] }) found (record t { shards = ys }) e (appended (change_entry c) (committed_all told))
+      keeps_on : LastsFor (record h { changes = h.changes ++ c ∷ []; trimmed = false }) found (record t { shards = ys }) e (appended (change_entry c) (committed_all told))
       keeps_on = record {
         keeps = lists.keeps found told lasts.keeps fits;
         tables = ap (λ (sy : Saying). sy.tables) said ∙ lasts.tables ∙ sym lists.tables;
@@ -297,6 +297,7 @@ module _ (s t : State) (d e : Disk) (place number : ℕ) (c : Change) (count : l
         files = subst (λ (sy : Saying). ListFiles sy (files_in ys)) (sym said) files;
         changes = told_more told.entries c ∙ ap (λ cs. cs ++ c ∷ []) lasts.changes;
         frontiers = lists.frontiers ∙ frontiers_changed (said_by told.entries) c s.frontiers s.limits.shards lasts.frontiers (sym lasts.shards) ∙ ap frontiers_in (sym said);
+        trimmed = untrimmed;
       }
 
   -- it failed
@@ -339,6 +340,7 @@ module _ (s t : State) (d e : Disk) (place number : ℕ) (c : Change) (count : l
                 (list_same (said_by told.entries) (files_in s.shards) (files_in t.shards) (ap files_in lists.shards) lasts.files);
             changes = ap changes_told entries ∙ lasts.changes;
             frontiers = lists.frontiers ∙ lasts.frontiers ∙ ap (λ es. frontiers_in (said_by es)) (sym entries);
+            trimmed = untrimmed;
           },
           explains u may,
         ),

@@ -73,26 +73,23 @@ last_of order (f ∷ fs) a (ws ∷ wss) stand =
     let rest = last_of order fs a wss stand.1 in
     record { before = ws ∷ rest.before; last = rest.last; all = ap (λ (l : List (List Mutation)). ws ∷ l) rest.all; stand = (stand.0, rest.stand); stands = rest.stands }
 
--- whichever mutations stand in them, they say nothing
+-- whichever mutations stand in them, they have no atom
 abbrev pub SayNothing : List Ordered → List MemPart → Type 0
-SayNothing order ms = (wss : List (List Mutation)) → StandInEach order ms wss → SaySame [] (all_of wss)
+SayNothing order ms = (wss : List (List Mutation)) → StandInEach order ms wss → (key : List ℕ) → atoms_under key (all_of wss) ≡ []
 
 with_last : (order : List Ordered) (fs : List MemPart) (a : MemPart) → a.bytes ≡ 0 → SayNothing order fs → SayNothing order (fs ++ a ∷ [])
-with_last order fs a none says wss stand =
+with_last order fs a none says wss stand key =
     let l = last_of order fs a wss stand in
-    let last : SaySame [] l.last = nothing_says l.last (nothing_written 0 l.last (sym l.stands.bytes ∙ none)).1 in
-    let front : SaySame [] (all_of l.before) = says l.before l.stand in
-    let more : SaySame (all_of l.before) (all_of l.before ++ l.last) =
-    subst (λ (us : List Mutation). SaySame us (all_of l.before ++ l.last)) (append-nil (all_of l.before)) (say_behind (all_of l.before) [] l.last last) in
-    let is : all_of l.before ++ l.last ≡ all_of wss =
-    ap (λ (us : List Mutation). all_of l.before ++ us) (sym (append-nil l.last)) ∙ sym (all_append l.before (l.last ∷ [])) ∙ ap all_of (sym l.all) in
-    subst (λ (us : List Mutation). SaySame [] us) is (say_then [] (all_of l.before) (all_of l.before ++ l.last) front more)
+    let last : atoms_under key l.last ≡ [] = (nothing_written 0 l.last (sym l.stands.bytes ∙ none)).1 key in
+    let is : all_of wss ≡ all_of l.before ++ l.last =
+    ap all_of l.all ∙ all_append l.before (l.last ∷ []) ∙ ap (λ (us : List Mutation). all_of l.before ++ us) (append-nil l.last) in
+    ap (atoms_under key) is ∙ more_under key (all_of l.before) l.last ∙ (λ i. says l.before l.stand key i ++ last i)
 
 none_stand : (order : List Ordered) → SayNothing order []
-none_stand order [] stand = say_alike [] [] refl
-none_stand order (ws ∷ wss) stand = absurd stand
+none_stand order [] stand key = refl
+none_stand order (ws ∷ wss) stand key = absurd stand
 
--- where nothing was written since memtables were frozen that say nothing, memory says nothing
+-- where nothing was written since memtables were frozen that have no atom, memory has none
 pub memory_says_nothing : (order : List Ordered) (o : Option StoredTable) → bytes_at o ≡ 0 → SayNothing order (frozen_at o) → SayNothing order (memtables_at o)
 memory_says_nothing order None none says = none_stand order
 memory_says_nothing order (Some p) none says = with_last order (map arc_value p.parts.frozen.items) p.parts.active none says
@@ -104,8 +101,11 @@ no_frozen order (m ∷ ms) none = absurd (omega (arith, none))
 -- a file without partitions would say what they do
 pub holds_nothing : (columns : List Column) (ms : List MemPart) → SayWhatIsHeld columns ms any [] → SayNothing (clustering_order columns) ms
 holds_nothing columns ms says wss stand =
-    let are = says wss stand in
-    record { same = λ key. are.same key refl; no_more = λ key. are.no_more key refl }
+    λ key. none_there (atoms_under key (all_of wss)) ((says wss stand).all key refl)
+  where
+    none_there : (atoms : List Atom) → (IsThere atoms → ⊥) → atoms ≡ []
+    none_there [] none = refl
+    none_there (a ∷ atoms) none = absurd (none tt)
 
 all_but_last : {X : Type 0} (xs : List X) (x : X) → drop (length xs) (xs ++ x ∷ []) ≡ x ∷ []
 all_but_last [] x = refl
@@ -171,7 +171,7 @@ in_files order None ws holds says =
 in_files order (Some t) ws holds says =
     let p = parted order t.files (memtables_of t.parts) holds.places holds.holds in
     let more : SaySame (all_of p.front) (all_of p.front ++ all_of p.rest) =
-    subst (λ (us : List Mutation). SaySame us (all_of p.front ++ all_of p.rest)) (append-nil (all_of p.front)) (say_behind (all_of p.front) [] (all_of p.rest) (says p.rest p.memory)) in
+    subst (λ (us : List Mutation). SaySame us (all_of p.front ++ all_of p.rest)) (append-nil (all_of p.front)) (say_behind (all_of p.front) [] (all_of p.rest) (nothing_says (all_of p.rest) (says p.rest p.memory))) in
     record {
       places = p.front;
       stand = p.files;

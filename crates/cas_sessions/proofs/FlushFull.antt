@@ -87,6 +87,7 @@ module _ (t : TableSchema) (n table : ℕ) (r : Result (Option ℕ) Fault) (s u 
         unflushed = rest_with t.number n one.change h.unflushed;
         filled = filled_with t.number n one.begun h.filled;
         changes = changes_by h.changes one.change;
+        trimmed = false;
         disk = disk_of u;
       } in
       let began : h.disk ≡ disk_of s = stands.disk in

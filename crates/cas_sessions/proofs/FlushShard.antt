@@ -28,13 +28,14 @@ use Rattle.cas_journal.specs.declared.fault.Counted.TheVariants.{Segments, Manif
 use Rattle.cas_journal.specs.declared.fault.JournalFault.{JournalFault}
 use Rattle.cas_journal.specs.declared.fault.JournalFault.TheVariants as journal
 use Rattle.cas_manifest.specs.Manifests.{place_of as manifest_place}
-use Rattle.cas_memtable.specs.Kept.{HoldJust}
+use Rattle.cas_memtable.specs.Kept.{HoldJust, atoms_under}
 use Rattle.cas_memtable.proofs.Keeping.{mapped_more}
 use Rattle.cas_memtable.specs.declared.memtable.MemPart.{MemPart}
 use Rattle.cas_shard.specs.Flushing.{HasInMemory, KeepsBytes, SaysWhatTheyDo, bytes_at, frozen_at, memtables_at}
 use Rattle.cas_shard.specs.Shards.{ShardHistory, all_entries}
-use Rattle.cas_shard.specs.Stands.{Holds, SaySame, ShardState, Stands, files_at, mutations_of, order_at, order_of}
+use Rattle.cas_shard.specs.Stands.{Holds, ShardState, Stands, files_at, mutations_of, order_at, order_of}
 use Rattle.cas_sstread.specs.Loading.{Held}
+use Rattle.cas_streams.specs.Streams.{IsThere}
 use Rattle.cas_view.specs.Views.{File}
 use Rattle.cas_room.specs.declared.table_files.TheConstants.{LIVE_LIMIT}
 use Rattle.cas_recovery.proofs.Places.{get_here, get_other, is_other, is_same, length_set, same_place}
@@ -52,7 +53,8 @@ use Rattle.cas_sessions.proofs.Filled.{filled_still}
 use Rattle.cas_sessions.proofs.FlushChange.{below_next, lists_done, lists_failed}
 use Rattle.cas_sessions.proofs.FlushExplains.{explains_told, explains_untold}
 use Rattle.cas_sessions.proofs.FlushFiles.{SayNothing, in_files, memory_says_nothing, rest_says_nothing}
-use Rattle.cas_sessions.proofs.FlushSteps.{amid_then, beside_then, files_again, lasts_as, one_goes_on, quiet_amid, quiet_beside, quiet_explains, quiet_goes, quiet_lasts}
+use Rattle.cas_sessions.proofs.FlushSteps.{amid_then, beside_then, files_again, one_goes_on, quiet_amid, quiet_beside, quiet_explains, quiet_goes, quiet_lasts}
+use Rattle.cas_sessions.proofs.Lasting.{lasts_as}
 use Rattle.cas_sessions.proofs.FlushSteps.{quiet_stands, same_shards, stands_again, with_state}
 use Rattle.cas_sessions.proofs.Listing.{up_to_same}
 use Rattle.cas_sessions.proofs.Remembering.{some_of_just}
@@ -131,8 +133,9 @@ all_in_files h u t n y stands table there nothing =
 
 -- what is just in memory says nothing, where that says nothing
 just_says_none : (t : TableSchema) (ws : List Mutation) (y : ShardState) → SayNothing (clustering_order t.columns) (memtables_at (slice_get y.stores t.number))
-    → HoldJust t.columns (memtables_at (slice_get y.stores t.number)) ws → SaySame [] ws
-just_says_none t ws y says has = subst (SaySame []) has.all (says has.places has.held.stand)
+    → HoldJust t.columns (memtables_at (slice_get y.stores t.number)) ws → SaySomething ws → ⊥
+just_says_none t ws y says has (key, there) =
+    subst IsThere (ap (atoms_under key) (sym has.all) ∙ says has.places has.held.stand key) there
 
 module _ (t : TableSchema) (n : ℕ) (s u : State) (d e : Disk) (quiet : Quiet s u d e) (going : s.journal.first ≡ None) where
   still_going : u.journal.first ≡ None
@@ -618,7 +621,7 @@ where_failed (Err f) goes one = goes one
 -- the disk still keeps what some history says for which the store stands
 pub quiet_lasts_for_one : (s m : State) (d e : Disk) → Quiet s m d e → LastsForOne s d → LastsForOne m e
 quiet_lasts_for_one s m d e quiet (h, found, told, stands, lasts) =
-    (with_state h m, found, told, quiet_stands s m d e quiet h stands, lasts_as h (with_state h m) found m e told refl refl (quiet_lasts s m d e quiet h found told lasts))
+    (with_state h m, found, told, quiet_stands s m d e quiet h stands, lasts_as h (with_state h m) found m e told refl refl (λ on. on) (quiet_lasts s m d e quiet h found told lasts))
 
 -- it got a new memtable
 pub all_begun : (r : Result (Option ℕ) Fault) → IsBegun r true

@@ -24,7 +24,7 @@ use Rattle.cas_sessions.specs.History.{History, shard_at}
 use Rattle.cas_sessions.specs.Entered.{IsLeftAmid, entries_in}
 use Rattle.cas_sessions.specs.Listing.{SameUpTo}
 use Rattle.cas_recovery.specs.Restored.{Remember}
-use Rattle.cas_sessions.proofs.Lasting.{still_in_order, still_next}
+use Rattle.cas_sessions.proofs.Lasting.{lasts_as, still_in_order, still_next, still_trimmed, untrimmed}
 use Rattle.cas_sessions.specs.Nodes.{Explains, RememberJust, State, StandsFor, LastsFor, all_in, disk_of, filled_of, files_in, files_of}
 use Rattle.cas_sessions.specs.Inner.Flushing.{AllGoOn, GoesOn, GoesOnAs, IsBeside, Quiet, SameNumbers}
 use Rattle.cas_sessions.proofs.Crashing.{holds_amid}
@@ -104,8 +104,9 @@ all_below a b (k ∷ ks) le all = (omega (arith, le, all.0), all_below a b ks le
 pub lasts_again : (h : History) (found : List Mutation) (s t : State) (d e : Disk) (told : Told) → LastsFor h found s d told → Keeps t.journal e t.list t.committed found told
     → t.tables ≡ s.tables → t.limits ≡ s.limits → t.list ≡ s.list → t.accepted ≡ s.accepted → t.committed ≡ s.committed
     → (is_some t.journal.first ≡ false → is_some s.journal.first ≡ false) → SameNumbers s.shards t.shards → s.last_file ≤ t.last_file → t.live ≡ s.live
-    → ((n table : ℕ) → files_in t.shards n table ≡ files_in s.shards n table) → t.frontiers ≡ s.frontiers → LastsFor h found t e told
-lasts_again h found s t d e told lasts keeps tables limits list accepted committed going shards last live files frontiers = record {
+    → ((n table : ℕ) → files_in t.shards n table ≡ files_in s.shards n table) → t.frontiers ≡ s.frontiers → (is_some s.journal.first ≡ false → is_some t.journal.first ≡ false)
+    → LastsFor h found t e told
+lasts_again h found s t d e told lasts keeps tables limits list accepted committed going shards last live files frontiers on = record {
   keeps = keeps;
   tables = lasts.tables ∙ sym tables;
   shards = lasts.shards ∙ ap (λ l. l.shards) (sym limits);
@@ -128,29 +129,11 @@ lasts_again h found s t d e told lasts keeps tables limits list accepted committ
   files = list_still (said_by told.entries) (files_in s.shards) (files_in t.shards) files lasts.files;
   changes = lasts.changes;
   frontiers = frontiers ∙ lasts.frontiers;
+  trimmed = still_trimmed h h found s t told list (λ was. (was, on)) lasts.trimmed;
 }
 
--- another history that tells the same changes, and of as many mutations that they were acknowledged
-pub lasts_as : (h k : History) (found : List Mutation) (s : State) (d : Disk) (told : Told) → k.acknowledged ≡ h.acknowledged → k.changes ≡ h.changes → LastsFor h found s d told
-    → LastsFor k found s d told
-lasts_as h k found s d told acks changes lasts = record {
-  keeps = lasts.keeps;
-  tables = lasts.tables;
-  shards = lasts.shards;
-  few = lasts.few;
-  ordered = lasts.ordered;
-  next = lasts.next;
-  counted = lasts.counted;
-  acknowledged = (omega (arith, lasts.acknowledged.0, acks), omega (arith, lasts.acknowledged.1, acks));
-  whole = lasts.whole;
-  behind = lasts.behind;
-  files = lasts.files;
-  changes = lasts.changes ∙ sym changes;
-  frontiers = lasts.frontiers;
-}
-
--- memory says nothing of changes
-pub stands_with : (h : History) (changes : List Change) (s : State) → StandsFor h s → StandsFor (record h { changes = changes }) s
+-- memory says nothing of changes, nor whether the log is trimmed
+pub stands_with : (h : History) (changes : List Change) (s : State) → StandsFor h s → StandsFor (record h { changes = changes; trimmed = false }) s
 stands_with h changes s stands = record {
   limits = stands.limits;
   tables = stands.tables;
@@ -224,7 +207,7 @@ module _ (s t : State) (d e : Disk) (quiet : Quiet s t d e) where
   quiet_lasts h found told lasts =
       lasts_again h found s t d e told lasts (quiet.keeps found told lasts.keeps) quiet.tables quiet.limits quiet.list quiet.accepted quiet.committed
       (λ on. ap (λ j. is_some j.first) (sym quiet.journal) ∙ on) same_numbers quiet.last quiet.live
-      (files_again s.shards t.shards quiet.shards) quiet.frontiers
+      (files_again s.shards t.shards quiet.shards) quiet.frontiers (λ off. ap (λ j. is_some j.first) quiet.journal ∙ off)
 
   pub quiet_amid : (h : History) (found : List Mutation) (told : Told) → h.tables ≡ s.tables → LastsFor h found s d told → Leaves (IsLeftAmid found s.list h) d e
   quiet_amid h found told tables lasts =
@@ -238,7 +221,7 @@ module _ (s t : State) (d e : Disk) (quiet : Quiet s t d e) where
   quiet_goes Left h found told tables lasts explains = (
     (
       told,
-      lasts_as h (record h { changes = h.changes }) found t e told refl refl (quiet_lasts h found told lasts),
+      lasts_as h (record h { changes = h.changes; trimmed = false }) found t e told refl refl untrimmed (quiet_lasts h found told lasts),
       λ left stood openings. explains openings,
     ),
     quiet_amid h found told tables lasts,
@@ -306,9 +289,9 @@ beside_then s t u d e f first second = record {
 
 -- what a crash leaves, in the words of a history with other changes
 pub amid_with : (h : History) (left : ℕ → ℕ → List Mutation) (changes : List Change) (found : List Mutation) (list : List (Item Event)) (d e : Disk)
-    → Leaves (IsLeftAmid found list (record h { unflushed = left; changes = changes })) d e → Leaves (IsLeftAmid found list h) d e
+    → Leaves (IsLeftAmid found list (record h { unflushed = left; changes = changes; trimmed = false })) d e → Leaves (IsLeftAmid found list h) d e
 amid_with h left changes found list d e leaves =
-    reworded (λ _ c. IsLeftAmid found list (record h { unflushed = left; changes = changes }) c) (λ _ c. IsLeftAmid found list h c) d e leaves
+    reworded (λ _ c. IsLeftAmid found list (record h { unflushed = left; changes = changes; trimmed = false }) c) (λ _ c. IsLeftAmid found list h c) d e leaves
     (λ b c was left. record {
       entries = left.entries;
       told = left.told;

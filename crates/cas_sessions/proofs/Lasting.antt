@@ -1,5 +1,5 @@
 -- A store's disk keeps what the history says after a step.
-use Rattle.std.proofs.Common.{◌≡◌, ◌≢◌, ◌<◌, ◌≤◌, ◌+◌, ◌-◌, ◌^◌, min, inl, inr, ⊎_elim, ℕ, false, List, [], ◌∷◌, ◌++◌, length, map, Some, is_some, refl, sym, ap, ◌∙◌, subst, arith, append_assoc, length-append}
+use Rattle.std.proofs.Common.{◌≡◌, ◌≢◌, ◌<◌, ◌≤◌, ◌+◌, ◌-◌, ◌^◌, min, inl, inr, ⊎_elim, Bool, true, false, ℕ, List, [], ◌∷◌, ◌++◌, length, map, Some, is_some, refl, sym, ap, ◌∙◌, subst, arith, append_assoc, length-append}
 use Rattle.std.specs.Prelude.{slice_set, slice_get, ◌⊎◌}
 use Rattle.std.proofs.lemmas.List.{flat_map_more}
 use Rattle.std.proofs.lemmas.Option.{same_Some}
@@ -20,6 +20,7 @@ use Rattle.cas_journal.specs.Journals.{MayTake}
 use Rattle.cas_journal.proofs.Taking.{may_take, next_in_order, next_after}
 use Rattle.cas_room.specs.declared.event.Event.{Event}
 use Rattle.cas_room.specs.declared.event.Event.TheVariants as event
+use Rattle.cas_room.specs.Dropping.{IsTrimmed}
 use Rattle.cas_room.specs.Keeping.{Keeps}
 use Rattle.cas_room.proofs.Flushed.{as_named}
 use Rattle.cas_room.specs.Rooms.{accepted_in, mutation_of}
@@ -27,7 +28,7 @@ use Rattle.cas_shard.specs.Stands.{ShardState}
 use Rattle.define_laws.proofs.Telling.{named_segments_define_nothing}
 use Rattle.cas_sessions.specs.History.{History, changes_told}
 use Rattle.cas_sessions.specs.Entered.{ListFiles}
-use Rattle.cas_sessions.specs.Nodes.{State, LastsFor, all_in, files_in}
+use Rattle.cas_sessions.specs.Nodes.{State, StandsFor, LastsFor, all_in, files_in}
 use Rattle.cas_sessions.proofs.Behind.{behind_named, behind_with}
 use Rattle.cas_sessions.proofs.Dropped.{next_behind, ordered_behind}
 use Rattle.cas_sessions.proofs.Files.{list_named, list_same, told_named}
@@ -80,6 +81,61 @@ same_next s t n x y told there shards same next k z got = ⊎_elim here elsewher
     elsewhere : k ≢ n → AscendByOne (numbers_of k told ++ (z.number + 1) ∷ [])
     elsewhere other = next k z (sym (get_other s.shards n k y other) ∙ got_set)
 
+-- ---- a log that is trimmed
+
+pub not_both : (b : Bool) → b ≡ true → b ≡ false → ⊥
+not_both b on off = cc
+
+-- a history that doesn't say that its log is trimmed
+pub untrimmed : {X : Type 0} → false ≡ true → X
+untrimmed e = absurd (not_both false e refl)
+
+-- what the history says of it stays, where the same is told, and nothing is accepted
+pub still_trimmed : (h k : History) (found : List Mutation) (s t : State) (told : Told) → t.list ≡ s.list
+    → (k.trimmed ≡ true → (h.trimmed ≡ true) × (is_some s.journal.first ≡ false → is_some t.journal.first ≡ false))
+    → (h.trimmed ≡ true → (is_some s.journal.first ≡ false) × IsTrimmed (said_by told.entries) (all_in found s))
+    → k.trimmed ≡ true → (is_some t.journal.first ≡ false) × IsTrimmed (said_by told.entries) (all_in found t)
+still_trimmed h k found s t told list trimmed was on =
+    let (before, going) = trimmed on in
+    let (off, is) = was before in
+    (going off, subst (λ (l : List (Item Event)). IsTrimmed (said_by told.entries) (found ++ accepted_in l)) (sym list) is)
+
+-- another history that tells the same changes, and of as many mutations that they were acknowledged; nor that its log is trimmed, where the first didn't
+pub lasts_as : (h k : History) (found : List Mutation) (s : State) (d : Disk) (told : Told) → k.acknowledged ≡ h.acknowledged → k.changes ≡ h.changes
+    → (k.trimmed ≡ true → h.trimmed ≡ true) → LastsFor h found s d told → LastsFor k found s d told
+lasts_as h k found s d told acks changes trimmed lasts = record {
+  keeps = lasts.keeps;
+  tables = lasts.tables;
+  shards = lasts.shards;
+  few = lasts.few;
+  ordered = lasts.ordered;
+  next = lasts.next;
+  counted = lasts.counted;
+  acknowledged = (omega (arith, lasts.acknowledged.0, acks), omega (arith, lasts.acknowledged.1, acks));
+  whole = lasts.whole;
+  behind = lasts.behind;
+  files = lasts.files;
+  changes = lasts.changes ∙ sym changes;
+  frontiers = lasts.frontiers;
+  trimmed = λ on. lasts.trimmed (trimmed on);
+}
+
+-- memory doesn't say whether the log is trimmed
+pub stands_untrimmed : (h : History) (s : State) → StandsFor h s → StandsFor (record h { trimmed = false }) s
+stands_untrimmed h s stands = record {
+  limits = stands.limits;
+  tables = stands.tables;
+  clock = stands.clock;
+  session = stands.session;
+  calls = stands.calls;
+  disk = stands.disk;
+  count = stands.count;
+  shards = stands.shards;
+  entered = stands.entered;
+  memory = stands.memory;
+  filled = stands.filled;
+}
+
 -- ---- a step that enters nothing, and leaves the room alone
 
 pub lasts_still : (h k : History) (found : List Mutation) (s t : State) (d e : Disk) (told : Told) (n : ℕ) (x y : ShardState) → k.acknowledged ≡ h.acknowledged
@@ -87,8 +143,9 @@ pub lasts_still : (h k : History) (found : List Mutation) (s t : State) (d e : D
     → ((l : List (Item Event)) → l ≡ s.list → (c : ℕ) → c ≡ s.committed → Keeps s.journal d s.list s.committed found told → Keeps t.journal e l c found told)
     → t.list ≡ s.list → t.committed ≡ s.committed → t.tables ≡ s.tables → t.limits ≡ s.limits → t.accepted ≡ s.accepted
     → (is_some t.journal.first ≡ false → is_some s.journal.first ≡ false) → t.last_file ≡ s.last_file → t.live ≡ s.live
-    → files_in t.shards ≡ files_in s.shards → t.frontiers ≡ s.frontiers → LastsFor h found s d told → LastsFor k found t e told
-lasts_still h k found s t d e told n x y acks changes there shards same keeps list committed tables limits accepted going last live files frontiers lasts = record {
+    → files_in t.shards ≡ files_in s.shards → t.frontiers ≡ s.frontiers
+    → (k.trimmed ≡ true → (h.trimmed ≡ true) × (is_some s.journal.first ≡ false → is_some t.journal.first ≡ false)) → LastsFor h found s d told → LastsFor k found t e told
+lasts_still h k found s t d e told n x y acks changes there shards same keeps list committed tables limits accepted going last live files frontiers trimmed lasts = record {
   keeps = keeps t.list list t.committed committed lasts.keeps;
   tables = lasts.tables ∙ sym tables;
   shards = lasts.shards ∙ ap (λ l. l.shards) (sym limits);
@@ -102,6 +159,7 @@ lasts_still h k found s t d e told n x y acks changes there shards same keeps li
   files = list_same (said_by told.entries) (files_in s.shards) (files_in t.shards) files lasts.files;
   changes = lasts.changes ∙ sym changes;
   frontiers = frontiers ∙ lasts.frontiers;
+  trimmed = still_trimmed h k found s t told list trimmed lasts.trimmed;
 }
 
 -- ---- a mutation that may be taken
@@ -134,8 +192,8 @@ pub lasts_with_room : (h k : History) (found : List Mutation) (s t : State) (d e
     → k.changes ≡ h.changes → slice_get s.shards n ≡ Some x → t.shards ≡ slice_set s.shards n y → y.number ≡ x.number → MadeRoom told u → Keeps t.journal e t.list t.committed found u
     → t.list ≡ s.list → t.committed ≡ s.committed → t.tables ≡ s.tables → t.limits ≡ s.limits → t.accepted ≡ s.accepted
     → (is_some t.journal.first ≡ false → is_some s.journal.first ≡ false) → t.last_file ≡ s.last_file → t.live ≡ s.live
-    → files_in t.shards ≡ files_in s.shards → t.frontiers ≡ s.frontiers → LastsFor h found s d told → LastsFor k found t e u
-lasts_with_room h k found s t d e told u n x y acks changes there shards same made keeps list committed tables limits accepted going last live files frontiers lasts =
+    → files_in t.shards ≡ files_in s.shards → t.frontiers ≡ s.frontiers → k.trimmed ≡ false → LastsFor h found s d told → LastsFor k found t e u
+lasts_with_room h k found s t d e told u n x y acks changes there shards same made keeps list committed tables limits accepted going last live files frontiers untrimmed lasts =
     let defined = named_segments_define_nothing told.entries made.numbers in
     record {
       keeps = keeps;
@@ -155,6 +213,7 @@ lasts_with_room h k found s t d e told u n x y acks changes there shards same ma
           (list_named told.entries made.numbers (files_in t.shards) (list_same (said_by told.entries) (files_in s.shards) (files_in t.shards) files lasts.files));
       changes = ap changes_told made.entries ∙ told_named told.entries made.numbers ∙ lasts.changes ∙ sym changes;
       frontiers = frontiers ∙ lasts.frontiers ∙ sym (named_frontiers told.entries made.numbers) ∙ ap (λ es. frontiers_in (said_by es)) (sym made.entries);
+      trimmed = λ on. absurd (not_both k.trimmed on untrimmed);
     }
 
 -- ---- a mutation that was taken
@@ -195,8 +254,8 @@ module _ (h k : History) (found : List Mutation) (s t : State) (d e : Disk) (tol
       → t.accepted ≡ min (s.accepted + 1) (2 ^ 64 - 1) → s.accepted + 1 < 2 ^ 64 → Keeps t.journal e t.list t.committed found v
       → k.acknowledged ≤ h.acknowledged + 1 → (k.acknowledged ≤ h.acknowledged) × (s.committed ≤ t.committed) ⊎ (t.committed ≡ t.accepted)
       → (is_some t.journal.first ≡ false → t.committed ≡ t.accepted) → t.last_file ≡ s.last_file → t.live ≡ s.live
-      → files_in t.shards ≡ files_in s.shards → t.frontiers ≡ s.frontiers → k.changes ≡ h.changes → LastsFor k found t e v
-  lasts_taken session call list tables limits accepted room keeps acks either going last live files frontiers changes =
+      → files_in t.shards ≡ files_in s.shards → t.frontiers ≡ s.frontiers → k.changes ≡ h.changes → k.trimmed ≡ false → LastsFor k found t e v
+  lasts_taken session call list tables limits accepted room keeps acks either going last live files frontiers changes untrimmed =
       let defined = named_segments_define_nothing told.entries made.numbers in
       let longer : length (accepted_in t.list) ≡ length (accepted_in s.list) + 1 = ap (λ l. length (accepted_in l)) list ∙ one_accepted s.list m session call in
       let all : all_in found t ≡ before ++ m ∷ [] = ap (λ l. found ++ accepted_in l) list ∙ all_with_one found s.list m session call in
@@ -221,6 +280,7 @@ module _ (h k : History) (found : List Mutation) (s t : State) (d e : Disk) (tol
             (list_named told.entries made.numbers (files_in t.shards) (list_same (said_by told.entries) (files_in s.shards) (files_in t.shards) files lasts.files));
         changes = ap changes_told (entries ∙ made.entries) ∙ told_named told.entries made.numbers ∙ lasts.changes ∙ sym changes;
         frontiers = frontiers ∙ lasts.frontiers ∙ sym (named_frontiers told.entries made.numbers) ∙ ap (λ es. frontiers_in (said_by es)) (sym (entries ∙ made.entries));
+        trimmed = λ on. absurd (not_both k.trimmed on untrimmed);
       }
     where
       acks_by : (k.acknowledged ≤ h.acknowledged) × (s.committed ≤ t.committed) ⊎ (t.committed ≡ t.accepted)

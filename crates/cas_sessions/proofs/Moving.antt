@@ -215,7 +215,7 @@ moves_look s d q x y reading reads r there number keeps more raises shows stores
           lasts_still h (after_read h q.shard reading reads) found s (with_looked s q.shard y reads) d d told q.shard x y refl refl there refl number
               (λ l same c count keeps.
               subst (λ (ls : List (Item Event)). Keeps s.journal d ls c found told) (sym same) (subst (λ (k : ℕ). Keeps s.journal d s.list k found told) (sym count) keeps))
-              refl refl refl refl refl (λ on. on) refl refl (files_still s.shards q.shard x y there keeps) refl lasts,
+              refl refl refl refl refl (λ on. on) refl refl (files_still s.shards q.shard x y there keeps) refl (λ on. (on, λ off. off)) lasts,
           λ openings explained. explains_still openings h (after_read h q.shard reading reads) found s (with_looked s q.shard y reads) d d told
               (further_at h q.shard (after_entries reading [] (shard_at h q.shard)) (subst (λ (k : ℕ). q.shard < k) (sym stands.count) (get_within s.shards q.shard x there))
               (raised_further reading (shard_at h q.shard)))

@@ -1,5 +1,5 @@
 -- A run over a store that was opened, from its beginning to what a crash leaves of it.
-use Rattle.std.proofs.Common.{◌≡◌, ◌<◌, ◌≤◌, ◌+◌, ℕ, ℤ, zero, suc, pos, inl, inr, false, List, [], ◌∷◌, ◌++◌, length, map, Option, Some, None, is_some, refl, sym, ap, ◌∙◌, subst, arith, append-nil, take}
+use Rattle.std.proofs.Common.{◌≡◌, ◌<◌, ◌≤◌, ◌+◌, ℕ, ℤ, zero, suc, pos, inl, inr, true, false, List, [], ◌∷◌, ◌++◌, length, map, Option, Some, None, is_some, refl, sym, ap, ◌∙◌, subst, arith, append-nil, take}
 use Rattle.std.specs.Prelude.{◌⊎◌, ◌≤ℤ◌, slice_get, slice_index_or}
 use Rattle.std.specs.Int.{int_max}
 use Rattle.std.proofs.lemmas.Int.{clamps, ints}
@@ -15,10 +15,11 @@ use Rattle.cas_changes.specs.declared.entry.Entry.{Entry as ManifestEntry}
 use Rattle.cas_changes.specs.declared.said.Part.{Part}
 use Rattle.cas_history.specs.declared.item.Item.{Item}
 use Rattle.cas_journal.specs.Journals.{Lasts}
-use Rattle.cas_journal.specs.Stores.{MayList, Told}
+use Rattle.cas_journal.specs.Stores.{Found, MayList, Told}
 use Rattle.cas_opening.specs.Opening.{IsOfBytes}
 use Rattle.cas_journal.specs.declared.journal.Journal.{Journal}
 use Rattle.cas_replay.specs.Grammar.{AreInOrder, AscendByOne, numbers_of}
+use Rattle.cas_room.specs.Dropping.{IsTrimmed}
 use Rattle.cas_room.specs.Keeping.{AreFlushed, MayFail, StandsFor as ImageStands}
 use Rattle.cas_room.specs.Rooms.{accepted_in}
 use Rattle.cas_room.specs.declared.event.Event.{Event}
@@ -43,6 +44,7 @@ use Rattle.cas_recovery.proofs.Places.{get_within}
 use Rattle.cas_sessions.proofs.Behind.{behind_said}
 use Rattle.cas_sessions.proofs.Explaining.{explains_named}
 use Rattle.cas_sessions.proofs.Files.{list_said, told_named}
+use Rattle.cas_sessions.proofs.Lasting.{untrimmed}
 use Rattle.cas_sessions.proofs.Parts.{no_more, said_few, there_at}
 use Rattle.cas_sessions.proofs.Dropped.{opening_behind}
 use Rattle.cas_room.proofs.Standing.{front_lacks, holds_front}
@@ -182,6 +184,7 @@ module _ (given : Limits) (entries : List ManifestEntry) (mutations : List Mutat
     keeps = record {
       lasts = lasts;
       has = record {
+        origin = ap (λ (f : Found). f.mutations) told.found;
         dropped = [];
         all = told.taken ∙ sym whole_list;
         committed = omega (arith, told.committed, committed);
@@ -205,6 +208,7 @@ module _ (given : Limits) (entries : List ManifestEntry) (mutations : List Mutat
     files = list_said (said_by entries) (said_by t.entries) (files_in s.shards) told.shards told.parts memory.files;
     changes = ap changes_told told.begun.1 ∙ told_named entries told.begun.0;
     frontiers = memory.frontiers_are ∙ ap (λ (parts : List Part). map (λ (p : Part). p.frontier) parts) (sym told.parts);
+    trimmed = untrimmed;
   }
     where
       none : (n : ℕ) → length (accepted_in s.list) ≤ n
@@ -274,6 +278,11 @@ not_first : (first : Option First) → is_some first ≡ false → first ≡ Non
 not_first None e = refl
 not_first (Some first) e = cc
 
+-- an image lists what was told, where nothing had failed
+just_told : (t : Told) (entries : List ManifestEntry) → t.failed ≡ [] → MayList t entries → entries ≡ t.entries
+just_told t entries none (inl same) = same
+just_told t entries none (inr more) = more ∙ ap (λ (es : List ManifestEntry). t.entries ++ es) none ∙ append-nil t.entries
+
 module _ (final : History) (mutations : List Mutation) (s : State) (d : Disk) (t : Told) (stands : StandsFor final s) (lasts : LastsFor final mutations s d t) where
   going : final.disk.stopped ≡ false → s.journal.first ≡ None
   going on = not_first s.journal.first (ap (λ disk. disk.stopped) (sym stands.disk) ∙ on)
@@ -303,6 +312,13 @@ module _ (final : History) (mutations : List Mutation) (s : State) (d : Disk) (t
     none = λ on. (lasts.keeps.lasts.goes (going on)).none_failed;
   }
 
+  -- where its log is trimmed, nothing had failed, so that the image lists just what was told
+  its_trimmed : final.trimmed ≡ true → (entries : List ManifestEntry) → MayList t entries → IsTrimmed (said_by entries) (mutations ++ accepted_in s.list)
+  its_trimmed on entries may =
+      let (off, is) = lasts.trimmed on in
+      let none : t.failed ≡ [] = (lasts.keeps.lasts.goes (not_first s.journal.first off)).none_failed in
+      subst (λ (es : List ManifestEntry). IsTrimmed (said_by es) (mutations ++ accepted_in s.list)) (sym (just_told t entries none may)) is
+
   pub is_left : (i : Image) → ImageStands (MayList t) mutations (accepted_in s.list) s.committed i → IsLeft mutations s.list final i
   is_left i image = record {
     entries = image.entries;
@@ -312,6 +328,7 @@ module _ (final : History) (mutations : List Mutation) (s : State) (d : Disk) (t
     most = image.most;
     all = λ on. let whole = lasts.whole (ap (λ disk. disk.stopped) (sym stands.disk) ∙ on) in omega (arith, whole, image.least, image.most);
     store = image.store;
+    trimmed = λ on. its_trimmed on image.entries image.may;
   }
 
   -- it explains the history to the next run

@@ -1,7 +1,7 @@
 -- Segments are dropped, in the words of the history.
-use Rattle.std.proofs.Common.{◌≡◌, ℕ, ◌≤◌, false, List, [], ◌∷◌, ◌++◌, length, map, Option, None, Some, Result, Ok, Err, is_some, refl, sym, ap, ◌∙◌, subst, arith, append-nil}
+use Rattle.std.proofs.Common.{◌≡◌, Bool, true, false, ℕ, ◌≤◌, List, [], ◌∷◌, ◌++◌, length, map, Option, None, Some, Result, Ok, Err, is_some, refl, sym, ap, ◌∙◌, subst, arith, append-nil}
 use Rattle.std.proofs.lemmas.Grind.{flat_map-append}
-use Rattle.std.specs.Prelude.{slice_get}
+use Rattle.std.specs.Prelude.{is_ok, slice_get}
 use Rattle.cas_types.specs.declared.schema.TableSchema.{TableSchema}
 use Rattle.cas_disk.specs.Disk.{Disk, During}
 use Rattle.cas_atoms.specs.declared.atom.Mutation.{Mutation}
@@ -19,7 +19,7 @@ use Rattle.cas_journal.specs.declared.fault.Counted.TheVariants.{Segments, Manif
 use Rattle.cas_journal.specs.declared.fault.JournalFault.{JournalFault}
 use Rattle.cas_journal.specs.declared.fault.JournalFault.TheVariants as journal
 use Rattle.cas_journal.specs.declared.journal.Journal.{Journal}
-use Rattle.cas_room.specs.Dropping.{Drops as DropsOfRoom}
+use Rattle.cas_room.specs.Dropping.{Drops as DropsOfRoom, IsTrimmed}
 use Rattle.cas_room.specs.Keeping.{Keeps}
 use Rattle.cas_room.specs.Rooms.{accepted_in}
 use Rattle.cas_room.proofs.Flushed.{as_dropped}
@@ -28,13 +28,13 @@ use Rattle.cas_sessions.specs.declared.answer.Fault.{Fault}
 use Rattle.cas_sessions.specs.Dropping.{Drops, DropsSegments, EndsAfter, NoneMayGo, WhyNoMore}
 use Rattle.cas_sessions.specs.Entered.{entries_in, ListFiles}
 use Rattle.cas_sessions.specs.History.{DiskState, History, change_told, changes_told, shard_at}
-use Rattle.cas_sessions.specs.Nodes.{LastsFor, Moves, RememberJust, AreFilled, State, StandsFor, disk_of, files_in, Explains}
+use Rattle.cas_sessions.specs.Nodes.{LastsFor, Moves, all_in, RememberJust, AreFilled, State, StandsFor, disk_of, files_in, Explains}
 use Rattle.cas_sessions.specs.Inner.Faults.{fault_for}
 use Rattle.cas_sessions.proofs.Behind.{behind_said}
 use Rattle.cas_sessions.proofs.Crashing.{few_dropped}
 use Rattle.cas_sessions.proofs.Explaining.{explains_dropped, explains_still, goes_nowhere, keep_files}
 use Rattle.cas_sessions.proofs.Files.{list_said}
-use Rattle.cas_sessions.proofs.Lasting.{still_in_order, still_next}
+use Rattle.cas_sessions.proofs.Lasting.{still_in_order, still_next, untrimmed}
 use Rattle.cas_sessions.proofs.Tables.{goes_before}
 use Rattle.cas_recovery.specs.Restored.{IsBehind, RememberAll}
 use Rattle.cas_shard.specs.declared.entry.ShardOpening.{ShardOpening}
@@ -97,14 +97,22 @@ told_dropped : (entries : List ManifestEntry) (numbers : List ℕ) → changes_t
 told_dropped entries numbers =
     flat_map-append change_told entries (map DropSegment numbers) ∙ ap (λ cs. changes_told entries ++ cs) (none_changed numbers) ∙ append-nil (changes_told entries)
 
+-- no write failed, and of whatever was told no segment may go
+abbrev pub Trims : State → Disk → Type 0
+Trims t e =
+    (is_some t.journal.first ≡ false)
+    × ((found : List Mutation) (told : Told) → Keeps t.journal e t.list t.committed found told → t.frontiers ≡ frontiers_in (said_by told.entries)
+    → IsTrimmed (said_by told.entries) (all_in found t))
+
 module _ (s t : State) (d e : Disk) (r : Result ℕ JournalFault) (beside : IsBesideLog s t)
     (outcome : Ends {T = ℕ} s.journal.first t.journal.first s.faults t.faults r) (during : During SameTables d e)
     (kept : (found : List Mutation) (told : Told) → Keeps s.journal d s.list s.committed found told → s.frontiers ≡ frontiers_in (said_by told.entries)
-    → (u : Told) × DropsOfRoom told u × Keeps t.journal e t.list t.committed found u) where
-  after_of : History → History
-  after_of h = record h { disk = disk_of t }
+    → (u : Told) × DropsOfRoom told u × Keeps t.journal e t.list t.committed found u) (b : Bool) (good : b ≡ true → Trims t e) where
+  -- the history then
+  abbrev after_of : History → History
+  after_of h = record h { trimmed = b; disk = disk_of t }
 
-  stands_dropped : (h : History) → StandsFor h s → StandsFor (record h { disk = disk_of t }) t
+  stands_dropped : (h : History) → StandsFor h s → StandsFor (after_of h) t
   stands_dropped h stands = record {
     limits = stands.limits ∙ sym beside.limits;
     tables = stands.tables ∙ sym beside.tables;
@@ -120,8 +128,13 @@ module _ (s t : State) (d e : Disk) (r : Result ℕ JournalFault) (beside : IsBe
     filled = subst (AreFilled h.filled) (sym beside.shards) stands.filled;
   }
 
+  frontiers_now : (h : History) (found : List Mutation) (told u : Told) → LastsFor h found s d told → DropsOfRoom told u → t.frontiers ≡ frontiers_in (said_by u.entries)
+  frontiers_now h found told u lasts drops =
+      beside.frontiers ∙ lasts.frontiers ∙ ap (λ (parts : List Part). map (λ (p : Part). p.frontier) parts) (sym (as_dropped told.entries drops.numbers).parts)
+      ∙ ap (λ es. frontiers_in (said_by es)) (sym drops.entries)
+
   lasts_dropped : (h : History) (found : List Mutation) (told u : Told) → LastsFor h found s d told → DropsOfRoom told u → Keeps t.journal e t.list t.committed found u
-      → LastsFor (record h { disk = disk_of t }) found t e u
+      → LastsFor (after_of h) found t e u
   lasts_dropped h found told u lasts drops keeps =
       let alike = as_dropped told.entries drops.numbers in
       record {
@@ -147,15 +160,15 @@ module _ (s t : State) (d e : Disk) (r : Result ℕ JournalFault) (beside : IsBe
             (list_said (said_by told.entries) (said_by (told.entries ++ map DropSegment drops.numbers)) (files_in t.shards) alike.shards alike.parts
             (subst (λ (xs : List ShardState). ListFiles (said_by told.entries) (files_in xs)) (sym beside.shards) lasts.files));
         changes = ap changes_told drops.entries ∙ told_dropped told.entries drops.numbers ∙ lasts.changes;
-        frontiers = beside.frontiers ∙ lasts.frontiers ∙ ap (λ (parts : List Part). map (λ (p : Part). p.frontier) parts) (sym alike.parts)
-            ∙ ap (λ es. frontiers_in (said_by es)) (sym drops.entries);
+        frontiers = frontiers_now h found told u lasts drops;
+        trimmed = λ on. ((good on).0, (good on).1 found u keeps (frontiers_now h found told u lasts drops));
       }
 
   explains : (h : History) (found : List Mutation) (told u : Told) → DropsOfRoom told u → (openings : ℕ → ShardOpening) → Explains openings h found s d told
-      → Explains openings (record h { disk = disk_of t }) found t e u
+      → Explains openings (after_of h) found t e u
   explains h found told u drops openings explained =
-      explains_dropped openings (record h { disk = disk_of t }) found t e told u drops
-      (explains_still openings h (record h { disk = disk_of t }) found s t d e told (λ n. goes_nowhere (shard_at h n)) refl (ap accepted_in beside.list) (keep_files told d e during)
+      explains_dropped openings (after_of h) found t e told u drops
+      (explains_still openings h (after_of h) found s t d e told (λ n. goes_nowhere (shard_at h n)) refl (ap accepted_in beside.list) (keep_files told d e during)
       (λ ms have. subst (λ (xs : List ShardState). RememberAll t.tables ms xs) (sym beside.shards) (subst (λ (ts : List TableSchema). RememberAll ts ms s.shards) (sym beside.tables) have)) explained)
 
   same_files : (disk_of t).files ≡ (disk_of s).files
@@ -164,16 +177,16 @@ module _ (s t : State) (d e : Disk) (r : Result ℕ JournalFault) (beside : IsBe
   drops_so : (count : ℕ) → reach_of t.journal ≡ reach_dropped count (reach_of s.journal) → Drops count (disk_of s) (disk_of t)
   drops_so count reach = record { reach = reach; faults = beside.faults; files = (same_files, beside.reads, beside.last_file, beside.live) }
 
-  moves_so : (x : Result ℕ Fault) (count : ℕ) → reach_of t.journal ≡ reach_dropped count (reach_of s.journal) → EndsAfter count x (disk_of s) (disk_of t)
+  moves_so : (x : Result ℕ Fault) → is_ok x ≡ b → (count : ℕ) → reach_of t.journal ≡ reach_dropped count (reach_of s.journal) → EndsAfter count x (disk_of s) (disk_of t)
       → Moves (λ h after. DropsSegments h x after) s t d e
-  moves_so x count reach ends h stands = (
-    record h { disk = disk_of t },
+  moves_so x same count reach ends h stands = (
+    after_of h,
     record {
       disk = disk_of t;
       count = count;
       drops = subst (λ (k : DiskState). Drops count k (disk_of t)) (sym stands.disk) (drops_so count reach);
       ends = subst (λ (k : DiskState). EndsAfter count x k (disk_of t)) (sym stands.disk) ends;
-      follows = refl;
+      follows = ap (λ (y : Bool). record h { trimmed = y; disk = disk_of t }) (sym same);
     },
     record {
       stands = stands_dropped h stands;
@@ -186,10 +199,12 @@ module _ (s t : State) (d e : Disk) (r : Result ℕ JournalFault) (beside : IsBe
 pub moves_dropped : (s t : State) (d e : Disk) (count : ℕ) → IsBesideLog s t → Ends {T = ℕ} s.journal.first t.journal.first s.faults t.faults (Ok count) → During SameTables d e
     → ((found : List Mutation) (told : Told) → Keeps s.journal d s.list s.committed found told → s.frontiers ≡ frontiers_in (said_by told.entries)
     → (u : Told) × DropsOfRoom told u × Keeps t.journal e t.list t.committed found u)
+    → ((found : List Mutation) (told : Told) → Keeps t.journal e t.list t.committed found told → t.frontiers ≡ frontiers_in (said_by told.entries)
+    → IsTrimmed (said_by told.entries) (all_in found t))
     → reach_of t.journal ≡ reach_dropped count (reach_of s.journal) → Moves (λ h after. DropsSegments h (Ok count) after) s t d e
-moves_dropped s t d e count beside outcome during kept reach =
+moves_dropped s t d e count beside outcome during kept trims reach =
     let both = ended_ok s t s.journal.first refl count outcome in
-    moves_so s t d e (Ok count) beside outcome during kept (Ok count) count reach (refl, both.0, both.1)
+    moves_so s t d e (Ok count) beside outcome during kept true (λ on. (both.1, trims)) (Ok count) refl count reach (refl, both.0, both.1)
 
 pub moves_dropped_less : (s t : State) (d e : Disk) (f : JournalFault) (x : Fault) → x ≡ fault_for f → IsBesideLog s t
     → Ends {T = ℕ} s.journal.first t.journal.first s.faults t.faults (Err f) → During SameTables d e
@@ -200,7 +215,7 @@ pub moves_dropped_less : (s t : State) (d e : Disk) (f : JournalFault) (x : Faul
     → Moves (λ h after. DropsSegments h (Err x) after) s t d e
 moves_dropped_less s t d e f x is beside outcome during kept reach full =
     subst (λ (y : Fault). Moves (λ h after. DropsSegments h (Err y) after) s t d e) (sym is)
-    (moves_so s t d e (Err f) beside outcome during kept (Err (fault_for f)) reach.0 reach.1 (ended s t s.journal.first refl f outcome full))
+    (moves_so s t d e (Err f) beside outcome during kept false untrimmed (Err (fault_for f)) refl reach.0 reach.1 (ended s t s.journal.first refl f outcome full))
 
 -- the lowest is needed
 pub none_may_go : (t : State) (e : Disk) → t.journal.first ≡ None

@@ -51,7 +51,7 @@ use Rattle.cas_sessions.proofs.Behind.{behind_defined, still_behind}
 use Rattle.cas_sessions.proofs.Explaining.{explains_still, explains_wider, goes_nowhere as goes_further, keep_files, keep_files_none}
 use Rattle.cas_sessions.proofs.Files.{Files, list_defined, list_same, told_defined}
 use Rattle.cas_sessions.proofs.Parts.{said_few}
-use Rattle.cas_sessions.proofs.Lasting.{still_in_order, still_next}
+use Rattle.cas_sessions.proofs.Lasting.{lasts_as, not_both, stands_untrimmed, still_in_order, still_next, untrimmed}
 
 -- ---- a shard under more tables
 
@@ -157,7 +157,7 @@ adds_no_keys ts a may =
 -- its memory stands for the history with these tables
 pub stands_defined : (h : History) (s t : State) → StandsFor h s → t.limits ≡ s.limits → t.clock ≡ s.clock → t.session ≡ s.session → t.calls ≡ s.calls
     → t.list ≡ s.list → t.shards ≡ s.shards → ((q : ShardHistory) (x : ShardState) → Stands h.tables q x → Stands t.tables q x)
-    → RememberJust t.tables h.unflushed s.shards → StandsFor (record h { tables = t.tables; disk = disk_of t }) t
+    → RememberJust t.tables h.unflushed s.shards → StandsFor (record h { tables = t.tables; trimmed = false; disk = disk_of t }) t
 stands_defined h s t stands limits clock session calls list shards under remembers = record {
   limits = stands.limits ∙ sym limits;
   tables = refl;
@@ -173,13 +173,13 @@ stands_defined h s t stands limits clock session calls list shards under remembe
 }
 
 -- its disk keeps that, by what the journal is told then
-pub lasts_defined : (h k : History) (found : List Mutation) (s t : State) (d e : Disk) (told now : Told) → LastsFor h found s d told → k.acknowledged ≡ h.acknowledged
+pub lasts_defined : (h k : History) (found : List Mutation) (s t : State) (d e : Disk) (told now : Told) → LastsFor h found s d told → k.acknowledged ≡ h.acknowledged → k.trimmed ≡ false
     → Keeps t.journal e t.list t.committed found now → length now.failed ≤ 1 → (said_by now.entries).tables ≡ t.tables
     → (said_by now.entries).shards ≡ (said_by told.entries).shards
     → t.limits ≡ s.limits → t.list ≡ s.list → t.shards ≡ s.shards → t.accepted ≡ s.accepted → t.committed ≡ s.committed
     → (is_some t.journal.first ≡ false → is_some s.journal.first ≡ false) → IsBehind (said_by now.entries) t.shards t.last_file t.live
     → ListFiles (said_by now.entries) (files_in t.shards) → changes_told now.entries ≡ k.changes → t.frontiers ≡ frontiers_in (said_by now.entries) → LastsFor k found t e now
-lasts_defined h k found s t d e told now lasts acks keeps few tables said limits list shards accepted committed going behind files changes frontiers = record {
+lasts_defined h k found s t d e told now lasts acks off keeps few tables said limits list shards accepted committed going behind files changes frontiers = record {
   keeps = keeps;
   tables = tables;
   shards = said ∙ lasts.shards ∙ ap (λ l. l.shards) (sym limits);
@@ -193,6 +193,7 @@ lasts_defined h k found s t d e told now lasts acks keeps few tables said limits
   files = files;
   changes = changes;
   frontiers = frontiers;
+  trimmed = λ on. absurd (not_both k.trimmed on off);
 }
 
 -- ---- how a definition ends
@@ -321,9 +322,17 @@ pub record IsRest (s t : State) : Type 0 where
 -- where memory runs out before the room is asked nothing changes
 pub moves_nowhere : (s : State) (d : Disk) (x : ManifestEntry) (b : Bound) → Moves (λ h after. Changes h x b (reply.Failed failure.Memory) after) s s d d
 moves_nowhere s d x b h stands = (
-  h,
+  record h { trimmed = false },
   (h.tables, h.disk, (refl, record { stopped = refl; faults = omega arith; reach = goes_nowhere h.disk.reach h.disk.reach refl; files = (refl, refl, refl, refl) }), refl),
-  record { stands = stands; lasts = λ found told lasts. (told, lasts, λ openings explained. explained) },
+  record {
+    stands = stands_untrimmed h s stands;
+    lasts = λ found told lasts. (
+      told,
+      lasts_as h (record h { trimmed = false }) found s d told refl refl untrimmed lasts,
+      λ openings explained.
+          explains_still openings h (record h { trimmed = false }) found s s d d told (λ n. goes_further (shard_at h n)) refl refl (keep_files_none told d) (λ ms have. have) explained,
+    );
+  },
 )
 
 -- the same where the lists of its tables and of its frontiers got places more
@@ -348,9 +357,9 @@ module _ (s t : State) (d e : Disk) (x : ManifestEntry) (b : Bound) (may : MayBe
 
   -- what a crash may leave explains it still
   goes_on : (openings : ℕ → ShardOpening) (h : History) (found : List Mutation) (now : Told) → During SameTables d e → Explains openings h found t d now
-      → Explains openings (record h { tables = t.tables; disk = disk_of t }) found t e now
+      → Explains openings (record h { tables = t.tables; trimmed = false; disk = disk_of t }) found t e now
   goes_on openings h found now during was =
-      explains_still openings h (record h { tables = t.tables; disk = disk_of t }) found t t d e now (λ n. goes_further (shard_at h n)) refl refl (keep_files now d e during) (λ ms have. have) was
+      explains_still openings h (record h { tables = t.tables; trimmed = false; disk = disk_of t }) found t t d e now (λ n. goes_further (shard_at h n)) refl refl (keep_files now d e during) (λ ms have. have) was
 
   told_one : s.journal.first ≡ None → (openings : ℕ → ShardOpening) (h : History) (found : List Mutation) (told now : Told) → LastsFor h found s d told → IsDefinition x → FitsEntry (said_by told.entries) x
       → ((entries : List ManifestEntry) → MayList now entries → (entries ≡ told.entries) ⊎ (entries ≡ told.entries ++ x ∷ [])) → now.committed ≡ told.committed
@@ -384,7 +393,7 @@ module _ (s t : State) (d e : Disk) (x : ManifestEntry) (b : Bound) (may : MayBe
       → Keeps t.journal e t.list t.committed found (told_after fault x told)) → t.frontiers ≡ s.frontiers
       → Moves (λ h after. Changes h x b answer after) s t d e
   moves_not answer fault during defines is same short ends reach full kept frontiers h stands = (
-    record h { tables = t.tables; disk = disk_of t },
+    record h { tables = t.tables; trimmed = false; disk = disk_of t },
     (
       t.tables,
       disk_of t,
@@ -403,7 +412,7 @@ module _ (s t : State) (d e : Disk) (x : ManifestEntry) (b : Bound) (may : MayBe
       lasts = λ found told lasts.
           let still = said_still fault x told lasts.few in (
             told_after fault x told,
-            lasts_defined h (record h { tables = t.tables; disk = disk_of t }) found s t d e told (told_after fault x told) lasts refl
+            lasts_defined h (record h { tables = t.tables; trimmed = false; disk = disk_of t }) found s t d e told (told_after fault x told) lasts refl refl
                 (kept found told lasts.keeps (tells h found told lasts).fits) still.few (ap (λ es. (said_by es).tables) still.entries ∙ lasts.tables ∙ sym same)
                 (ap (λ es. (said_by es).shards) still.entries) rest.limits rest.list rest.shards rest.accepted rest.committed
                 (goes_before {T = Unit {0}} s.journal.first t.journal.first s.faults t.faults (Err fault) ends)
@@ -426,7 +435,7 @@ module _ (s t : State) (d e : Disk) (x : ManifestEntry) (b : Bound) (may : MayBe
       → ((said : Saying) → s.frontiers ≡ frontiers_in said → s.limits.shards ≡ said.shards → t.frontiers ≡ frontiers_in (after said x))
       → Moves (λ h after. Changes h x b reply.Done after) s t d e
   moves_done during is new under remembers all ends reach kept frontiers h stands = (
-    record h { tables = t.tables; disk = disk_of t },
+    record h { tables = t.tables; trimmed = false; disk = disk_of t },
     (
       t.tables,
       disk_of t,
@@ -444,7 +453,7 @@ module _ (s t : State) (d e : Disk) (x : ManifestEntry) (b : Bound) (may : MayBe
           let more = tells h found told lasts in
           let said = said_more told.entries x in (
             appended x told,
-            lasts_defined h (record h { tables = t.tables; disk = disk_of t }) found s t d e told (appended x told) lasts refl
+            lasts_defined h (record h { tables = t.tables; trimmed = false; disk = disk_of t }) found s t d e told (appended x told) lasts refl refl
                 (kept found told lasts.keeps more.fits) lasts.few (ap (λ (sy : Saying). sy.tables) said ∙ more.tells ∙ sym new)
                 (ap (λ (sy : Saying). sy.shards) said ∙ same_shards (said_by told.entries) x is) rest.limits rest.list rest.shards rest.accepted rest.committed
                 (goes_before s.journal.first t.journal.first s.faults t.faults (Ok tt) ends)

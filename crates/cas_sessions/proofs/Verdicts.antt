@@ -30,7 +30,8 @@ use Rattle.cas_sessions.specs.Inner.Verifying.{AddVerdicts, AreNarrow, AreNarrow
 use Rattle.cas_sessions.proofs.FlushMaking.{quiet_reads}
 use Rattle.cas_sessions.proofs.Explaining.{explains_still, goes_nowhere, keep_files_none}
 use Rattle.cas_sessions.proofs.Filled.{stands_filled}
-use Rattle.cas_sessions.proofs.FlushSteps.{lasts_as, quiet_lasts, quiet_stands, with_disk, with_state}
+use Rattle.cas_sessions.proofs.FlushSteps.{quiet_lasts, quiet_stands, with_disk, with_state}
+use Rattle.cas_sessions.proofs.Lasting.{lasts_as}
 
 -- ---- narrow files
 
@@ -131,7 +132,7 @@ verifies_table name t s d reads r is le ends h stands =
         stands = stands_filled (with_state h u) h.filled u stands.filled (quiet_stands s u d d quiet h stands);
         lasts = λ found told lasts. (
           told,
-          lasts_as h (with_disk h u) found u d told refl refl (quiet_lasts s u d d quiet h found told lasts),
+          lasts_as h (with_disk h u) found u d told refl refl (λ on. on) (quiet_lasts s u d d quiet h found told lasts),
           λ openings explained.
               explains_still openings h (with_disk h u) found s u d d told (λ n. goes_nowhere (shard_at h n)) refl refl (keep_files_none told d) (λ ms have. have) explained,
         );

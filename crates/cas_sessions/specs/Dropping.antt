@@ -1,6 +1,6 @@
 -- Segments of the log are dropped that no table needs any more. No mutation is lost by it, and no SELECT shows more or less.
 -- Cassandra documentation, "Storage engine: commit log"; how far the manifest comes by it is own.
-use Rattle.std.specs.Prelude.{◌≡◌, ℕ, ◌≤◌, true, false, List, None, Some, Result, Ok, Err}
+use Rattle.std.specs.Prelude.{◌≡◌, ℕ, ◌≤◌, true, false, List, None, Some, Result, Ok, Err, is_ok}
 use Rattle.cas_io.specs.Causes.{Rose}
 use Rattle.cas_atoms.specs.declared.atom.Mutation.{Mutation}
 use Rattle.cas_changes.specs.Saying.{said_by}
@@ -36,13 +36,13 @@ abbrev pub EndsAfter : ℕ → Result ℕ Fault → DiskState → DiskState → 
 EndsAfter count (Ok told) d e = (told ≡ count) × (d.stopped ≡ false) × (e.stopped ≡ false)
 EndsAfter count (Err f) d e = WhyNoMore d e f
 
--- Of a history nothing changes but how its disk stands.
+-- Of a history nothing changes but how its disk stands, and that its log is trimmed, where there was no fault.
 pub record DropsSegments (h : History) (r : Result ℕ Fault) (after : History) : Type 0 where
   pub disk : DiskState
   pub count : ℕ
   pub drops : Drops count h.disk disk
   pub ends : EndsAfter count r h.disk disk
-  pub follows : after ≡ record h { disk = disk }
+  pub follows : after ≡ record h { trimmed = is_ok r; disk = disk }
 
 -- No segment is left that may go: the lowest is the last, or has a mutation above the frontier of its table and shard.
 abbrev pub NoneMayGo : State → Disk → Type 0

@@ -1,5 +1,5 @@
 -- What the history of a run has of each shard, and what a crash leaves of it. Own.
-use Rattle.std.specs.Prelude.{◌≡◌, ℕ, ◌<◌, ◌≤◌, ◌==◌, false, if◌then◌else◌, List, [], ◌∷◌, ◌++◌, length, map, take}
+use Rattle.std.specs.Prelude.{◌≡◌, ℕ, ◌<◌, ◌≤◌, ◌==◌, true, false, if◌then◌else◌, List, [], ◌∷◌, ◌++◌, length, map, take}
 use Rattle.std.specs.List.{flat_map}
 use Rattle.cas_disk.specs.Disk.{Image}
 use Rattle.cas_atoms.specs.declared.atom.Mutation.{Mutation}
@@ -7,6 +7,7 @@ use Rattle.cas_changes.specs.declared.entry.Entry.{Entry as ManifestEntry}
 use Rattle.cas_changes.specs.Saying.{Saying, part_of, said_by}
 use Rattle.cas_history.specs.declared.item.Item.{Item}
 use Rattle.cas_history.specs.declared.item.Item.TheVariants.{Wrote}
+use Rattle.cas_room.specs.Dropping.{IsTrimmed}
 use Rattle.cas_room.specs.Keeping.{Stores}
 use Rattle.cas_room.specs.declared.event.Event.{Event}
 use Rattle.cas_room.specs.declared.event.Event.TheVariants as event
@@ -54,7 +55,8 @@ pub record HasTables (h : History) (entries : List ManifestEntry) : Type 0 where
 
 -- What a crash leaves of a run that began with these mutations and accepted those of the list: a store that has all that began, and behind it a front
 -- of what was accepted, each whole, every one acknowledged by an `ok` among them; and where no write failed all of them: in the log, or at or below the
--- frontier of their table and shard, where their segment was dropped. Its manifest tells of the run's tables and lists the run's files.
+-- frontier of their table and shard, where their segment was dropped. Its manifest tells of the run's tables and lists the run's files; and where the log is
+-- trimmed, it lists one segment at most, or one of the mutations stands in no table file.
 pub record IsLeft (found : List Mutation) (list : List (Item Event)) (h : History) (c : Image) : Type 0 where
   pub entries : List ManifestEntry
   pub tables : HasTables h entries
@@ -63,6 +65,7 @@ pub record IsLeft (found : List Mutation) (list : List (Item Event)) (h : Histor
   pub most : count ≤ length (accepted_in list)
   pub all : h.disk.stopped ≡ false → count ≡ length (accepted_in list)
   pub store : Stores entries (found ++ take count (accepted_in list)) c
+  pub trimmed : h.trimmed ≡ true → IsTrimmed (said_by entries) (found ++ accepted_in list)
 
 -- What a crash leaves while a call is under way, of a store that stood for this history before it, and by whose end this list was accepted: a store with
 -- all that the store was opened with, and behind it a front of that list, each mutation whole, every one acknowledged before the call among them; its

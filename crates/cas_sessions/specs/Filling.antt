@@ -7,7 +7,7 @@ use Rattle.cas_bounds.specs.ClusteringOrder.{clustering_order}
 use Rattle.cas_atoms.specs.declared.atom.Mutation.{Mutation}
 use Rattle.cas_changes.specs.declared.entry.Change.{Change}
 use Rattle.cas_shard.specs.Shards.{ShardHistory, all_entries}
-use Rattle.cas_shard.specs.Stands.{SaySame, mutations_of}
+use Rattle.cas_shard.specs.Stands.{mutations_of}
 use Rattle.cas_sessions.specs.declared.answer.Fault.{Fault}
 use Rattle.cas_sessions.specs.declared.answer.Fault.TheVariants.{Mem, Stopped}
 use Rattle.cas_sessions.specs.Flushes.{AreInFiles, AscendTo, Grows, SaySomething, WhyNoFurther, changes_by, numbers_in, reach_by}
@@ -48,7 +48,7 @@ TellsIt c (Err f) = c ≡ None
 
 -- where nothing failed and nothing was listed, what stood in no file says nothing
 abbrev pub SaysNone : Result (Option ℕ) Fault → Option Change → List Mutation → Type 0
-SaysNone (Ok told) None ws = SaySame [] ws
+SaysNone (Ok told) None ws = SaySomething ws → ⊥
 SaysNone (Ok told) (Some c) ws = Unit {0}
 SaysNone (Err f) c ws = Unit {0}
 
@@ -87,6 +87,7 @@ pub record FlushesIn (h : History) (t : TableSchema) (n : ℕ) (result : Result 
     unflushed = rest_with t.number n change h.unflushed;
     filled = filled_with t.number n begun h.filled;
     changes = changes_by h.changes change;
+    trimmed = false;
     disk = disk;
   }
 

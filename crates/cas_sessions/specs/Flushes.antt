@@ -57,7 +57,7 @@ pub record AreInFiles (order : List Ordered) (files : List (File Held)) (ws : Li
   pub stand : HoldEach order files [] places
   pub says : SaySame (all_of places) ws
 
--- the mutations say something: an atom of one of them stands under a key
+-- the mutations say something: an atom of one of them stands under a key, which may be a range that covers no row
 abbrev pub SaySomething : List Mutation → Type 0
 SaySomething ws = (key : List ℕ) × IsThere (atoms_under key ws)
 
@@ -99,15 +99,15 @@ AscendTo n [] last = n ≤ last
 AscendTo n (k ∷ ks) last = (n < k) × AscendTo k ks last
 
 -- The first shards were flushed, with these changes, one of each: all that was written to the table in them stands in its files. No other file is touched.
--- There is a change only where something stood in no file yet, and none only where that says nothing. The new files' numbers ascend, from above the last; one
--- number at most was given to a file in each shard, and in the next one.
+-- There is a change just where an atom stood in no file yet, be it one that covers no row. The new files' numbers ascend, from above the last; one number at
+-- most was given to a file in each shard, and in the next one.
 pub record Flushed (h : History) (t : TableSchema) (changes : List (Option Change)) (e : DiskState) : Type 0 where
   pub files : (n : ℕ) → Grows t.number n (shard_at h n) (change_of changes n) (h.disk.files n t.number) (e.files n t.number)
   pub others : (n k : ℕ) → (k ≡ t.number → ⊥) → e.files n k ≡ h.disk.files n k
   pub all : (n : ℕ) → n < length changes
       → AreInFiles (clustering_order t.columns) (e.files n t.number) (mutations_of t.number (all_entries (shard_at h n)))
   pub some : (n : ℕ) (c : Change) → change_of changes n ≡ Some c → SaySomething (h.unflushed n t.number)
-  pub none : (n : ℕ) → n < length changes → change_of changes n ≡ None → SaySame [] (h.unflushed n t.number)
+  pub none : (n : ℕ) → n < length changes → change_of changes n ≡ None → SaySomething (h.unflushed n t.number) → ⊥
   pub numbers : AscendTo h.disk.last_file (numbers_added changes) e.last_file
   pub reach : e.reach ≡ fold reach_by h.disk.reach changes
   pub faults : h.disk.faults ≤ e.faults
@@ -166,6 +166,7 @@ FlushesTable h t r after = (changes : List (Option Change)) × (begun : ℕ) × 
       unflushed = without_flushed t.number changes h.unflushed;
       filled = without_begun t.number begun h.filled;
       changes = fold changes_by h.changes changes;
+      trimmed = false;
       disk = e;
     })
 

@@ -57,7 +57,8 @@ pub record DiskState : Type 0 where
 -- The limits of the store, its tables, its shards, and the seconds that the last `\clock` set; the number of the session that runs the lines, how
 -- many mutations were accepted of it, and how many of these were acknowledged by an `ok`; what was written to a table in a shard and stands in no table file
 -- yet, by the shard's number and the table's, and how many bytes of records the memtable has that is written to; the changes of table files that the manifest
--- tells, in order, those that were found first; and how the disk stands.
+-- tells, in order, those that were found first; whether segments of the log were dropped until none was left that may go, and nothing was written since; and how
+-- the disk stands.
 pub record History : Type 0 where
   pub limits : Limits
   pub tables : List TableSchema
@@ -69,6 +70,7 @@ pub record History : Type 0 where
   pub unflushed : ℕ → ℕ → List Mutation
   pub filled : ℕ → ℕ → ℕ
   pub changes : List Change
+  pub trimmed : Bool
   pub disk : DiskState
 
 -- the changes of table files that entries of the manifest tell, in order
@@ -181,6 +183,7 @@ after_write h n reading r entries e =
       acknowledged = h.acknowledged + acknowledges r;
       unflushed = with_unflushed n entries h.unflushed;
       filled = with_filled n entries h.filled;
+      trimmed = false;
       disk = e;
     }
 
@@ -251,7 +254,7 @@ Defines x old new d _ tables e = ⊥
 abbrev pub Changes : History → ManifestEntry → Bound → Reply → History → Type 0
 Changes h x b r after =
     (tables : List TableSchema) × (e : DiskState) × Defines x h.tables (tables_after h.tables b) h.disk r tables e
-    × (after ≡ record h { tables = tables; disk = e })
+    × (after ≡ record h { tables = tables; trimmed = false; disk = e })
 
 -- ---- a statement
 

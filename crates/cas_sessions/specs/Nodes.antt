@@ -1,5 +1,5 @@
 -- What a store that is open stands for, and how it goes on (own).
-use Rattle.std.specs.Prelude.{◌≡◌, ◌⊎◌, ◌≤◌, ◌<◌, ◌+◌, ◌^◌, ℕ, ℤ, List, [], ◌∷◌, ◌++◌, length, false, Option, None, Some, is_some, slice_get, take}
+use Rattle.std.specs.Prelude.{◌≡◌, ◌⊎◌, ◌≤◌, ◌<◌, ◌+◌, ◌^◌, ℕ, ℤ, List, [], ◌∷◌, ◌++◌, length, true, false, Option, None, Some, is_some, slice_get, take}
 use Rattle.cas_types.specs.declared.schema.TableSchema.{TableSchema}
 use Rattle.cas_disk.specs.Disk.{Disk, Image, Leaves}
 use Rattle.cas_atoms.specs.declared.atom.Mutation.{Mutation}
@@ -17,6 +17,7 @@ use Rattle.cas_render.specs.declared.reply.Failure.TheVariants as failure
 use Rattle.cas_render.specs.declared.reply.Reply.{Reply}
 use Rattle.cas_render.specs.declared.reply.Reply.TheVariants as reply
 use Rattle.cas_room.specs.declared.event.Event.{Event}
+use Rattle.cas_room.specs.Dropping.{IsTrimmed}
 use Rattle.cas_room.specs.Keeping.{Keeps}
 use Rattle.cas_room.specs.Rooms.{accepted_in}
 use Rattle.cas_shard.specs.declared.entry.ShardOpening.{ShardOpening}
@@ -119,7 +120,8 @@ all_in found s = found ++ accepted_in s.list
 
 -- A store's disk keeps what its history says. What the journal was told are the mutations that were found and then all that was accepted (`Keeps`), by which
 -- each shard's next number goes on; the manifest tells of the tables, lists just the table files that there are, by the history's changes, tells the store's
--- frontiers, and is not ahead of memory. Each mutation that was acknowledged was said to be committed, and where no write failed all were.
+-- frontiers, and is not ahead of memory. Each mutation that was acknowledged was said to be committed, and where no write failed all were. Where the history says
+-- that the log is trimmed, no write failed, and no segment may go.
 pub record LastsFor (h : History) (found : List Mutation) (s : State) (disk : Disk) (t : Told) : Type 0 where
   pub keeps : Keeps s.journal disk s.list s.committed found t
   pub tables : (said_by t.entries).tables ≡ s.tables
@@ -134,6 +136,7 @@ pub record LastsFor (h : History) (found : List Mutation) (s : State) (disk : Di
   pub files : ListFiles (said_by t.entries) (files_in s.shards)
   pub changes : changes_told t.entries ≡ h.changes
   pub frontiers : s.frontiers ≡ frontiers_in (said_by t.entries)
+  pub trimmed : h.trimmed ≡ true → (is_some s.journal.first ≡ false) × IsTrimmed (said_by t.entries) (all_in found s)
 
 -- What a crash may leave of a store explains to the next run what its shards have been, which were so before this one. No shard's history is behind that with all
 -- that was accepted; in whatever a crash leaves, whichever of the entries that were told the manifest has, each shard may have been just that, with a front of what

@@ -50,6 +50,7 @@ start l entries mutations openings session disk = record {
   unflushed = unflushed_in entries mutations;
   filled = filled_in entries mutations;
   changes = changes_told entries;
+  trimmed = false;
   disk = disk;
 }
 

@@ -13,8 +13,9 @@ pub fn sessions_share<F: Folder>(folder: &F)
     let _folder = folder;
 }
 
-/// What a crash leaves of a store explains its history: for the next run, which finds just that, each shard may have been what it was before, with the front
-/// of what was accepted behind; so the next run begins with that, its table files among it.
+/// What a crash leaves of a store of which no segment was dropped explains its history: for the next run, which finds
+/// just that, each shard may have been what it was before, with the front of what was accepted behind; so the next run
+/// begins with that, its table files among it.
 pub fn left_explains<F: Folder>(before: &F)
     ensures { LeftExplains (F.disk before.now) }
 {

@@ -1,5 +1,5 @@
 -- The steps of a flush of a table in a shard (own).
-use Rattle.std.specs.Prelude.{◌≡◌, ◌⊎◌, ℕ, ◌+◌, ◌*◌, ◌≤◌, ◌<◌, Bool}
+use Rattle.std.specs.Prelude.{◌≡◌, ◌⊎◌, ℕ, ◌+◌, ◌*◌, ◌≤◌, ◌<◌, Bool, false}
 use Rattle.std.specs.Prelude.{Option, None, Some, IfSome, Result, Err, IfOk, IfErr, MatchResult, List, [], ◌∷◌, ◌++◌, length, slice_get, slice_set}
 use Rattle.std.specs.List.{AllByRecursion, fold}
 use Rattle.std.specs.Int.{int_max}
@@ -268,7 +268,7 @@ StandsSo t n told o disk =
 -- where that explained the history before.
 abbrev pub GoesOn : Type 0 → History → List Change → List Mutation → Told → State → State → Disk → Disk → Type 0
 GoesOn Left h changes found told s u d e =
-    ((now : Told) × LastsFor (record h { changes = changes }) found u e now
+    ((now : Told) × LastsFor (record h { changes = changes; trimmed = false }) found u e now
     × (Left → AreStood h s → (openings : ℕ → ShardOpening) → Explains openings h found s d told → Explains openings h found u e now))
     × Leaves (IsLeftAmid found s.list h) d e
 

@@ -30,5 +30,6 @@ returns g c h s session calls stands = (
     files = lasts.files;
     changes = lasts.changes;
     frontiers = lasts.frontiers;
+    trimmed = lasts.trimmed;
   },
 )

@@ -26,7 +26,8 @@ returns-in-Ok-clause-drops g c = λ clock h stands.
       faults = c.drop_covered.ensures.count;
     })
     c.in-Ok.ensures.outcome c.drop_covered.ensures.tables
-    (λ found told keeps are. c.drop_covered.ensures.kept found told keeps (c.deref.ensures.value ∙ are)) c.in-Ok.ensures.reach h stands
+    (λ found told keeps are. c.drop_covered.ensures.kept found told keeps (c.deref.ensures.value ∙ are))
+    (λ found told keeps are. c.in-Ok.ensures.trimmed found told keeps (c.deref.ensures.value ∙ are)) c.in-Ok.ensures.reach h stands
 
 pub returns-in-Err-clause-drops : goal.returns-in-Err-clause-drops
 returns-in-Err-clause-drops g c = λ clock h stands.
