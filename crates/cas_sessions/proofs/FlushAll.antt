@@ -231,6 +231,7 @@ first_more t k told o s u v d e f first one = record {
   changes = first.changes ++ one.change ∷ [];
   many = length-append first.changes (one.change ∷ []) ∙ ap (λ (n : ℕ). n + 1) first.many;
   added = (λ i. first.added i ++ sym one.answer i) ∙ flat_map_more numbers_in [] first.changes one.change;
+  drawn = omega (arith, first.drawn, one.drawn, length-append told (listed_of o));
   lasts = λ h found was tables lasts.
       let (now, amid) = first.lasts h found was tables lasts in
       let so_far : List Change = fold changes_by h.changes first.changes in
@@ -276,6 +277,7 @@ first_none t s d = record {
   changes = [];
   many = refl;
   added = refl;
+  drawn = omega arith;
   lasts = λ h found was tables lasts. quiet_goes s s d d (quiet_still s d) (TellsReads d) h found was tables lasts (λ openings explained. explained);
   fills = λ before full. begun_none t.number before s.shards full;
   moves = λ c reads h stands. (
@@ -540,7 +542,7 @@ flushes_all name t told s u d e is going on first c reads h stands =
         disk_of u,
         ap (λ (x : DiskState). x.stopped) stands.disk ∙ ap is_some going,
         so,
-        (first.many ∙ sym stands.count, first.added, ap is_some on, sym first.many),
+        (first.many ∙ sym stands.count, first.added, ap is_some on, sym first.many, omega (arith, first.drawn, ap (λ (x : DiskState). x.last_file) stands.disk)),
         refl,
       ),
       went_to h (without_flushed t.number first.changes h.unflushed) (without_begun t.number (length s.shards) h.filled) (fold changes_by h.changes first.changes) s u d e (c, reads) stands now

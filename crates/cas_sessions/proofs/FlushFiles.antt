@@ -1,6 +1,11 @@
 -- What stands in a table's files once memory has nothing of it that says more.
-use Rattle.std.proofs.Common.{◌≡◌, ◌≤◌, ℕ, zero, suc, Bool, true, false, if◌then◌else◌, List, [], ◌∷◌, ◌++◌, length, map, drop, Option, None, Some, refl, sym, ap, ◌∙◌, subst, arith, append-nil, append_assoc}
+use Rattle.std.proofs.Common.{◌≡◌, ◌≤◌, ℕ, zero, suc, Bool, true, false, if◌then◌else◌, List, [], ◌∷◌, ◌++◌, length, map, drop, Option, None, Some, is_some, refl, sym, ap, ◌∙◌, subst, arith, append-nil, append_assoc}
+use denote.Ref.{Bor}
+use Rattle.std.specs.Prelude.{slice_get}
 use Rattle.std.specs.Arc.{arc_value}
+use Rattle.std.specs.Option.{option_copied}
+use Rattle.std.proofs.lemmas.Bool.{true≢false}
+use Rattle.std.proofs.lemmas.Option.{same_Some}
 use Rattle.cas_types.specs.declared.schema.Column.{Column}
 use Rattle.cas_bounds.specs.ClusteringOrder.{clustering_order}
 use Rattle.cas_bounds.specs.declared.order.Ordered.{Ordered}
@@ -10,12 +15,14 @@ use Rattle.cas_atoms.specs.Winners.{Same}
 use Rattle.cas_atoms.specs.declared.atom.Atom.{Atom}
 use Rattle.cas_atoms.specs.declared.atom.Mutation.{Mutation}
 use Rattle.cas_flush.specs.Flushed.{AreOf, SayWhatIsHeld, any}
-use Rattle.cas_memtable.specs.Kept.{HoldJust, StandIn, StandInEach, all_of, atoms_under, bytes_of, memtables_of}
+use Rattle.cas_flush.proofs.Holding.{has_there}
+use Rattle.cas_flush.proofs.Reaching.{all_reached, none_reached}
+use Rattle.cas_memtable.specs.Kept.{HoldJust, IsNextKey, StandIn, StandInEach, all_of, atoms_under, bytes_of, has_key, memtables_of}
 use Rattle.cas_memtable.specs.Memtables.{added, bytes_with}
 use Rattle.cas_memtable.specs.declared.memtable.MemPart.{MemPart}
 use Rattle.cas_memtable.proofs.Keeping.{more_under}
 use Rattle.cas_shard.specs.Flushing.{bytes_at, frozen_at, memtables_at}
-use Rattle.cas_shard.specs.Stands.{Holds, SaySame, files_at}
+use Rattle.cas_shard.specs.Stands.{Holds, SaySame, ShardState, files_at}
 use Rattle.cas_shard.proofs.Memory.{say_alike, say_behind, say_then}
 use Rattle.cas_sstread.specs.Loading.{Held}
 use Rattle.cas_stored.specs.Stored.{HoldEach, StoredTable}
@@ -106,6 +113,33 @@ holds_nothing columns ms says wss stand =
     none_there : (atoms : List Atom) → (IsThere atoms → ⊥) → atoms ≡ []
     none_there [] none = refl
     none_there (a ∷ atoms) none = absurd (none tt)
+
+-- a memtable with a key has an atom, so that a file of it has a partition
+pub never_none : (columns : List Column) (o : Option StoredTable) (key : List ℕ) (ws : List Mutation) → HoldJust columns (memtables_at o) ws → SayWhatIsHeld columns (frozen_at o) any []
+    → has_key (frozen_at o) key ≡ true → ⊥
+never_none columns None key ws has says there = true≢false (sym there)
+never_none columns (Some p) key ws has says there =
+    let fs : List MemPart = map arc_value p.parts.frozen.items in
+    let l = last_of (clustering_order columns) fs p.parts.active has.places has.held.stand in
+    (says l.before l.stand).all key refl (has_there (clustering_order columns) key fs l.before l.stand there)
+
+-- memtables without a first key have none
+no_first : (ms : List MemPart) (o : Option (Bor (List ℕ))) → is_some o ≡ false → IsNextKey ms None (option_copied o) → IsNextKey ms None None
+no_first ms None none is = is
+no_first ms (Some k) none is = absurd (true≢false none)
+
+pub some_first : (ms : List MemPart) (o : Option (Bor (List ℕ))) → is_some o ≡ true → IsNextKey ms None (option_copied o) → (key : List ℕ) × (has_key ms key ≡ true)
+some_first ms None some is = absurd (true≢false (sym some))
+some_first ms (Some k) some is = (k.now, is.1)
+
+-- so a file without partitions says what they hold
+pub nothing_frozen : (columns : List Column) (xs : List ShardState) (place table : ℕ) (x y : ShardState) (ms : List MemPart) (o : Option (Bor (List ℕ))) → slice_get xs place ≡ Some x
+    → slice_get xs place ≡ Some y → ms ≡ frozen_at (slice_get x.stores table) → is_some o ≡ false → IsNextKey ms None (option_copied o)
+    → SayWhatIsHeld columns (frozen_at (slice_get y.stores table)) any []
+nothing_frozen columns xs place table x y ms o at_x at_y are none is =
+    subst (λ (l : List MemPart). SayWhatIsHeld columns l any [])
+    (are ∙ ap (λ (z : ShardState). frozen_at (slice_get z.stores table)) (same_Some x y (sym at_x ∙ at_y)))
+    (λ vss stand. all_reached (clustering_order columns) ms vss stand None (no_first ms o none is) [] (none_reached (all_of vss)))
 
 all_but_last : {X : Type 0} (xs : List X) (x : X) → drop (length xs) (xs ++ x ∷ []) ≡ x ∷ []
 all_but_last [] x = refl

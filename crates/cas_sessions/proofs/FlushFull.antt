@@ -1,6 +1,6 @@
 -- A flush of one shard, where its memtable is full.
-use Rattle.std.proofs.Common.{◌≡◌, ◌<◌, ◌≤◌, ℕ, true, false, List, length, Option, None, Some, Result, Ok, Err, is_some, refl, sym, ap, ◌∙◌, subst, arith}
-use Rattle.std.specs.Prelude.{slice_get, IfErr, IfSome}
+use Rattle.std.proofs.Common.{◌≡◌, ◌<◌, ◌≤◌, ◌+◌, ℕ, true, false, List, length, Option, None, Some, Result, Ok, Err, is_some, refl, sym, ap, ◌∙◌, subst, arith}
+use Rattle.std.specs.Prelude.{slice_get, IfOk, IfErr, IfSome}
 use Rattle.std.proofs.lemmas.Bool.{le-ltb, lt-ltb}
 use Rattle.cas_types.specs.declared.schema.TableSchema.{TableSchema}
 use Rattle.cas_disk.specs.Disk.{Disk, Image, Leaves}
@@ -10,7 +10,7 @@ use Rattle.cas_sessions.specs.declared.answer.Fault.{Fault}
 use Rattle.cas_sessions.specs.declared.answer.Fault.TheVariants.{Refused, Stopped, Disk as Failed, Read, BadBlock, Mem}
 use Rattle.cas_sessions.specs.Calls.{IsTrueOf}
 use Rattle.cas_sessions.specs.Entered.{IsLeftAmid}
-use Rattle.cas_sessions.specs.Filling.{EndsIn, FlushesFull, FlushesIf, FlushesIn, Settles, filled_with, is_full, rest_with}
+use Rattle.cas_sessions.specs.Filling.{EndsIn, FlushesFull, FlushesIf, FlushesIn, Settles, filled_with, is_full, listed_of, rest_with}
 use Rattle.cas_sessions.specs.Flushes.{AscendTo, SaySomething, changes_by, numbers_in}
 use Rattle.cas_sessions.specs.History.{DiskState, History, shard_at}
 use Rattle.cas_sessions.specs.Nodes.{GoesOnTo, KeepsAll, LastsForOne, Moves, State, StandsFor, disk_of, filled_of}
@@ -103,6 +103,7 @@ module _ (t : TableSchema) (n table : ℕ) (r : Result (Option ℕ) Fault) (s u 
         begins = one.begins;
         numbers = subst (λ (x : DiskState). AscendTo x.last_file (numbers_in one.change) u.last_file) (sym began) one.numbered;
         last_file = omega (arith, one.numbers, ap (λ (x : DiskState). x.last_file) began);
+        drawn = subst (λ (x : DiskState). IfOk r (λ told. u.last_file ≡ x.last_file + length (listed_of told))) (sym began) one.drawn;
         faults = omega (arith, one.beside.faults, ap (λ (x : DiskState). x.faults) began);
         reads = omega (arith, one.beside.reads, ap (λ (x : DiskState). x.reads) began);
         follows = refl;

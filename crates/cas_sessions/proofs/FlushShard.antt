@@ -47,7 +47,7 @@ use Rattle.cas_sessions.specs.Listing.{SameUpTo}
 use Rattle.cas_sessions.specs.History.{History, DiskState, shard_at}
 use Rattle.cas_sessions.specs.Nodes.{AreFilled, RememberJust, State, StandsFor, LastsFor, LastsForOne, disk_of, files_in, files_of, filled_of}
 use Rattle.cas_sessions.specs.Inner.Faults.{fault_for}
-use Rattle.cas_sessions.specs.Filling.{EndsIn, FlushedOne, IsBegun, SaysNone, TellsIt, filled_with, rest_with}
+use Rattle.cas_sessions.specs.Filling.{EndsIn, FlushedOne, IsBegun, SaysNone, TellsIt, filled_with, listed_of, rest_with}
 use Rattle.cas_sessions.specs.Inner.Flushing.{AddsFile, Fills, FlushesOne, GoesOn, GoesOnAs, IsChangeFor, IsOwn, Lists, Moved, NewFile, Quiet, SaysSo, StandsSo, TakesFile, TellsReads, WhyNotMade}
 use Rattle.cas_sessions.proofs.Filled.{filled_still}
 use Rattle.cas_sessions.proofs.FlushChange.{below_next, lists_done, lists_failed}
@@ -658,6 +658,7 @@ flushes_then t n number last Says Left r s m u d e f quiet during going takes le
       );
   begun = true;
   begins = all_begun r;
+  drawn = drawn_so r takes.change takes.answer takes.numbered;
   fills = λ before full. takes.fills (filled_with t.number n true before) (fills before full);
   moves = λ c reads one h stands.
       let (now, ends) =
@@ -677,6 +678,13 @@ flushes_then t n number last Says Left r s m u d e f quiet during going takes le
     one_number (Ok told) c answer is = subst (λ ns. AscendTo s.last_file ns u.last_file) (sym is) (omega (arith, low, above), omega (arith, up, takes.numbers))
     one_number (Err f) c answer is = subst (λ x. AscendTo s.last_file (numbers_in x) u.last_file) (sym answer) (omega (arith, quiet.last, takes.numbers))
 
+    drawn_so : (r : Result (Option ℕ) Fault) (c : Option Change) → TellsIt c r → IfOk r (λ told. numbers_in c ≡ number ∷ [])
+        → IfOk r (λ told. u.last_file ≡ s.last_file + length (listed_of told))
+    drawn_so (Ok told) c answer is =
+        let one : length (listed_of told) ≡ 1 = ap length (sym answer ∙ is) in
+        omega (arith, one, low, above, up, next, takes.numbers)
+    drawn_so (Err f) c answer is = tt
+
     listed_or_failed : (r : Result (Option ℕ) Fault) (c : Option Change) (ws : List Mutation) → IfOk r (λ told. numbers_in c ≡ number ∷ []) → SaysNone r c ws
     listed_or_failed (Ok told) None ws is = absurd cc
     listed_or_failed (Ok told) (Some c) ws is = tt
@@ -691,8 +699,9 @@ pub flushes_quietly : (t : TableSchema) (n : ℕ) (r : Result (Option ℕ) Fault
     → s.journal.first ≡ None → u.last_file ≤ s.last_file + 1
     → ((c : Image) → d.reads c → Remember s.tables s.shards → Moved (rest_with t.number n None)
     (λ h before now. EndsIn t n (shard_at h n) None r before now × SaysNone r None (h.unflushed n t.number)) s u) → IfErr r IsOwn
-    → TellsIt None r → (begun : Bool) → IsBegun r begun → Fills (filled_with t.number n begun) s u → FlushesOne t n r s u d e
-flushes_quietly t n r s u d e quiet during going next moves own answer begun begins fills = record {
+    → TellsIt None r → (begun : Bool) → IsBegun r begun → Fills (filled_with t.number n begun) s u
+    → IfOk r (λ told. u.last_file ≡ s.last_file + length (listed_of told)) → FlushesOne t n r s u d e
+flushes_quietly t n r s u d e quiet during going next moves own answer begun begins fills drawn = record {
   beside = quiet_beside s u d e quiet during;
   numbers = next;
   change = None;
@@ -702,6 +711,7 @@ flushes_quietly t n r s u d e quiet during going next moves own answer begun beg
   lasts = λ h found told tables lasts. quiet_goes s u d e quiet (TellsReads d) h found told tables lasts (quiet_explains s u d e quiet during going h found told lasts);
   begun = begun;
   begins = begins;
+  drawn = drawn;
   fills = fills;
   moves = λ c reads one h stands. moves c reads (some_of_just s.tables h.unflushed s.shards stands.memory) h stands;
   own = own;

@@ -1,7 +1,7 @@
 -- A flush of one shard, which no line tells: a memtable that has grown over its limit is flushed.
 -- Cassandra documentation, "Storage engine: memtables"; the limit in bytes of records is own.
 use Rattle.std.specs.Prelude.{◌≡◌, ℕ, ◌+◌, ◌≤◌, ◌==◌, ◌&&◌, nat_lt, if◌then◌else◌, Bool, true, false, Option, None, Some, Result, Ok, Err}
-use Rattle.std.specs.Prelude.{IfSome, List, [], ◌∷◌, length, slice_get}
+use Rattle.std.specs.Prelude.{IfOk, IfSome, List, [], ◌∷◌, length, slice_get}
 use Rattle.cas_types.specs.declared.schema.TableSchema.{TableSchema}
 use Rattle.cas_bounds.specs.ClusteringOrder.{clustering_order}
 use Rattle.cas_atoms.specs.declared.atom.Mutation.{Mutation}
@@ -81,6 +81,7 @@ pub record FlushesIn (h : History) (t : TableSchema) (n : ℕ) (result : Result 
   pub begins : IsBegun result begun
   pub numbers : AscendTo h.disk.last_file (numbers_in change) disk.last_file
   pub last_file : disk.last_file ≤ h.disk.last_file + 1
+  pub drawn : IfOk result (λ told. disk.last_file ≡ h.disk.last_file + length (listed_of told))
   pub faults : h.disk.faults ≤ disk.faults
   pub reads : h.disk.reads ≤ disk.reads
   pub follows : after ≡ record h {

@@ -42,6 +42,7 @@ use cas_history::Store;
 use cas_info::TableInfo;
 use cas_journal::JournalFault;
 use cas_lifecycle::frontiers_stand;
+use cas_memtable::next_key;
 use cas_room::FreshFault;
 use cas_shard::Shard;
 use cas_sstread::{Table, TableFault};
@@ -256,7 +257,8 @@ impl<F: Folder, J: Store> Node<F, J> {
     }
 
     // Writes what a shard has frozen of a table to a new file, which the folder gets, and opens that: gives what is
-    // told of it, and the view with it. None where nothing is frozen that says anything. No manifest lists it yet.
+    // told of it, and the view with it. None, and no number is drawn, where nothing is frozen that has an atom. No
+    // manifest lists it yet.
     fn make_file(
         &mut self,
         alloc: Global,
@@ -281,6 +283,7 @@ impl<F: Folder, J: Store> Node<F, J> {
             × (is_live (at self.new.book.refs m.0.number) ≡ true) × (self.new.live < LIVE_LIMIT)
             × (m.0.number ≤ self.new.room.numbers.last))) }
         ensures next { self.new.room.numbers.last ≤ self.old.room.numbers.last + 1 }
+        ensures idle { IfOk result (λ o. IfNone o (self.new.room.numbers.last ≡ self.old.room.numbers.last)) }
         ensures why { IfErr result (λ f. (c : Image) → (⟦<Node<F, J> as Stored>⟧.disk self.old).reads c
             → Remember self.old.tables.items self.old.shards.items → (t : _) (x : ShardState) → slice_get self.old.tables.items table ≡ Some t
             → slice_get self.old.shards.items place ≡ Some x
@@ -291,6 +294,9 @@ impl<F: Folder, J: Store> Node<F, J> {
         ensures same { (self.new.shards ≡ self.old.shards) × (self.new.limits ≡ self.old.limits) × (self.new.tables ≡ self.old.tables) }
         ensures sessions { ⟦<Node<F, J> as Stored>⟧.sessions self.new ≡ ⟦<Node<F, J> as Stored>⟧.sessions self.old }
     {
+        if next_key(self.shards[place as usize].frozen(table), None).is_none() {
+            return Ok(None);
+        }
         let (number, draft) = match self.begin_file() {
             Ok(begun) => begun,
             Err(fault) => return Err(fault_of_fresh(fault)),

@@ -51,7 +51,7 @@ use Rattle.cas_tables.specs.declared.header.Version.TheVariants.{Second}
 use Rattle.cas_view.specs.Views.{File}
 use Rattle.cas_sessions.specs.declared.answer.Fault.{Fault}
 use Rattle.cas_sessions.specs.declared.answer.Fault.TheVariants.{Refused, Stopped, Disk as Failed, Read, BadBlock, Mem}
-use Rattle.cas_sessions.specs.Filling.{EndsIn, IsBegun, SaysNone, TellsIt, filled_with, rest_with}
+use Rattle.cas_sessions.specs.Filling.{EndsIn, IsBegun, SaysNone, TellsIt, filled_with, listed_of, rest_with}
 use Rattle.cas_sessions.specs.Flushes.{AreBegun, AscendTo, Flushed, SaySomething, WhyNoFurther}
 use Rattle.cas_sessions.specs.Flushes.{changes_by, numbers_added, numbers_in, without_begun, without_flushed}
 use Rattle.cas_sessions.specs.History.{History, DiskState, shard_at}
@@ -311,6 +311,7 @@ pub record FlushesOne (t : TableSchema) (n : ℕ) (result : Result (Option ℕ) 
       → GoesOn (TellsReads d) h (changes_by h.changes change) found told s u d e
   pub begun : Bool
   pub begins : IsBegun result begun
+  pub drawn : IfOk result (λ told. u.last_file ≡ s.last_file + length (listed_of told))
   pub fills : Fills (filled_with t.number n begun) s u
   pub moves : (c : Image) → d.reads c → IfErr result (λ f. LastsForOne s d) → Moved (rest_with t.number n change)
       (λ h before now. EndsIn t n (shard_at h n) change result before now × SaysNone result change (h.unflushed n t.number)) s u
@@ -323,6 +324,7 @@ pub record FlushesFirst (t : TableSchema) (count : ℕ) (told : List ℕ) (s u :
   pub changes : List (Option Change)
   pub many : length changes ≡ count
   pub added : told ≡ numbers_added changes
+  pub drawn : u.last_file ≡ s.last_file + length told
   pub lasts : (h : History) (found : List Mutation) (told : Told) → h.tables ≡ s.tables → LastsFor h found s d told
       → GoesOn (TellsReads d) h (fold changes_by h.changes changes) found told s u d e
   pub fills : Fills (without_begun t.number count) s u

@@ -32,13 +32,14 @@ returns-in-Ok-eq0-clause-flushes g c = λ clock t at_t.
     quiet_none_at t c.args.place _ _ _ _ (c.freeze.ensures.quiet _ _ clock) c.requires.going y c.args.table number at_t here.1 frozen.1
     (λ kept. no_frozen (clustering_order t.columns) (frozen_at (slice_get y.stores c.args.table)) (omega (arith, frozen.0)))) tt refl true refl
     (λ before full. subst (λ (k : ℕ). AreFilled (filled_with k c.args.place true before) f.shards.items) (sym number) (c.in-Ok-eq0.ensures.begun before full))
+    (omega (arith, ap (λ r. r.numbers.last) c.freeze.ensures.room.0))
 
 pub returns-in-Err-clause-flushes : goal.returns-in-Err-clause-flushes
 returns-in-Err-clause-flushes g c = λ clock t at_t.
     flushes_quietly t c.args.place _ _ _ _ _ (c.freeze.ensures.quiet _ _ clock) c.freeze.ensures.tables c.requires.going
     (omega (arith, ap (λ r. r.numbers.last) c.freeze.ensures.room.0))
     (λ image reads have. quiet_starves t c.args.place _ _ _ _ (c.freeze.ensures.quiet _ _ clock) c.requires.going) tt refl false tt
-    (λ before full. c.in-Err.ensures.stays before full)
+    (λ before full. c.in-Err.ensures.stays before full) tt
 
 pub returns-in-Ok-None-clause-flushes : goal.returns-in-Ok-None-clause-flushes
 returns-in-Ok-None-clause-flushes g c = λ clock t at_t.
@@ -69,6 +70,7 @@ returns-in-Ok-None-clause-flushes g c = λ clock t at_t.
     (λ before full.
     subst (λ xs. AreFilled (filled_with t.number c.args.place true before) xs.items) (sym c.make_file.ensures.same.0)
     (subst (λ (k : ℕ). AreFilled (filled_with k c.args.place true before) f.shards.items) (sym number) (c.in-Ok.ensures.begun before full)))
+    (let idle = (rw c.in-Ok-None.field-0-is at c.in-Ok-None.ensures.idle) in omega (arith, ap (λ r. r.numbers.last) c.freeze.ensures.room.0, idle))
 
 pub returns-in-Ok-None-clause-going : goal.returns-in-Ok-None-clause-going
 returns-in-Ok-None-clause-going g c =
@@ -97,6 +99,7 @@ returns-in-Err-make_file-clause-flushes g c = λ clock t at_t.
     (λ before full.
     subst (λ xs. AreFilled (filled_with t.number c.args.place true before) xs.items) (sym c.make_file.ensures.same.0)
     (subst (λ (k : ℕ). AreFilled (filled_with k c.args.place true before) f.shards.items) (sym number) (c.in-Ok.ensures.begun before full)))
+    tt
 
 pub take_file-requires-clause-going : goal.take_file-requires-clause-going
 take_file-requires-clause-going g c =

@@ -1,15 +1,20 @@
-use Rattle.std.proofs.Common.{◌≡◌, inl, inr, ◌<◌, ◌∙◌, ℕ, pos, true, List, [], length, None, Some, Err, refl, sym, ap, subst, arith}
-use Rattle.std.proofs.Math.Logic.{∥∥₁_map}
+use Rattle.std.proofs.Common.{◌≡◌, inl, inr, ◌<◌, ◌∙◌, ℕ, pos, true, not, List, [], length, map, None, Some, Err, refl, sym, ap, subst, arith}
+use mathlib.Core.HLevel.{⊥_prop}
+use Rattle.std.proofs.Math.Logic.{∥∥₁_elim, ∥∥₁_map}
+use Rattle.std.specs.Arc.{arc_value}
 use Rattle.std.specs.Prelude.{slice_get}
-use Rattle.std.proofs.lemmas.Option.{slice_get_read}
+use Rattle.std.proofs.lemmas.Option.{same_Some, slice_get_read}
 use Rattle.cas_atoms.specs.declared.atom.Mutation.{Mutation}
 use Rattle.cas_flushing.specs.Flushed.{Flushes, head_of}
 use Rattle.cas_history.specs.Items.{listed}
 use Rattle.cas_history.specs.Last.{holds}
 use Rattle.cas_lifecycle.specs.Books.{is_live}
-use Rattle.cas_memtable.specs.Kept.{HoldJust}
+use Rattle.cas_memtable.specs.Kept.{HoldJust, has_key}
+use Rattle.cas_memtable.specs.declared.memtable.MemPart.{MemPart}
 use Rattle.cas_refs.specs.Counts.{at}
 use Rattle.cas_shard.specs.Flushing.{frozen_at, memtables_at}
+use Rattle.cas_shard.specs.Stands.{ShardState}
+use Rattle.cas_sessions.proofs.FlushFiles.{never_none, nothing_frozen, some_first}
 use Rattle.cas_sessions.proofs.FlushMaking.{for_table, hold_too_much, is_made, its_number, more_since, never_bad, one_in_memory, quiet_reads, stands_for, told_fits, why_not_begun}
 use Rattle.cas_sessions.proofs.FlushMaking.{why_not_written}
 use Rattle.cas_sessions.proofs.FlushShard.{not_made_since}
@@ -45,6 +50,38 @@ returns-in-Ok-None-clause-nothing g c = λ t x at_t at_x.
     (subst (λ r. (ws : List Mutation) → HoldJust sch.columns (memtables_at (slice_get sh.stores sch.number)) ws → g.F.Draft.Draft.number c.in-Ok.begun.1 ≡ c.in-Ok.begun.0
     → ((b : List ℕ) → g.F.Draft.Draft.written c.in-Ok.begun.1 b → b ≡ []) → Flushes g.F.Draft.Draft.number g.F.Draft.Draft.written sch c.args.place c.in-Ok.begun.0 (frozen_at (slice_get sh.stores sch.number)) r)
     c.in-Ok-None.field-0-is c.in-Ok-None.ensures.written)
+
+pub returns-then-is_none-clause-nothing : goal.returns-then-is_none-clause-nothing
+returns-then-is_none-clause-nothing g c = λ t x at_t at_x ws has.
+    let n = c.args.self.now in
+    let sh = c.index.result.now in
+    let at_sh : slice_get n.shards.items c.args.place ≡ Some sh = slice_get_read n.shards.items n.limits.shards c.args.place sh (sym n.sound.count) c.requires.within.1 c.index.ensures in
+    nothing_frozen t.columns n.shards.items c.args.place c.args.table sh x (map arc_value c.frozen.result.now) c.next_key.result at_sh at_x c.frozen.ensures
+    (c.is_none.ensures ∙ ap not c.if-is_none.true) c.next_key.ensures
+
+pub returns-in-Ok-None-clause-idle : goal.returns-in-Ok-None-clause-idle
+returns-in-Ok-None-clause-idle g c =
+    let o = c.args.self.now in
+    let n = c.begin_file.new.self in
+    let was = c.index.result.now in
+    let sch = c.index-schema.result.now in
+    let sh = c.index-shard.result.now in
+    let low_t : c.args.table < length n.tables.items = subst (λ ts. c.args.table < length ts.items) (sym c.begin_file.ensures.same.2) c.requires.within.0 in
+    let low_n : c.args.place < n.limits.shards = subst (λ l. c.args.place < l.shards) (sym c.begin_file.ensures.same.1) c.requires.within.1 in
+    let at_sch : slice_get n.tables.items c.args.table ≡ Some sch = slice_get_read n.tables.items (length n.tables.items) c.args.table sch refl low_t c.index-schema.ensures in
+    let at_sh : slice_get n.shards.items c.args.place ≡ Some sh = slice_get_read n.shards.items n.limits.shards c.args.place sh (sym n.sound.count) low_n c.index-shard.ensures in
+    let at_was : slice_get o.shards.items c.args.place ≡ Some was = slice_get_read o.shards.items o.limits.shards c.args.place was (sym o.sound.count) c.requires.within.1 c.index.ensures in
+    let same : was ≡ sh = same_Some was sh (sym at_was ∙ ap (λ xs. slice_get xs.items c.args.place) (sym c.begin_file.ensures.same.0) ∙ at_sh) in
+    let its = its_number n.tables.items n.shards.items sch sch sh sh c.args.table c.args.place at_sch at_sch at_sh at_sh n.sound.tables.numbered in
+    let there : slice_get n.tables.items sch.number ≡ Some sch = ap (λ (k : ℕ). slice_get n.tables.items k) its ∙ at_sch in
+    let (key, found) = some_first (map arc_value c.frozen.result.now) c.next_key.result (c.is_none.ensures ∙ ap not c.if-is_none.false) c.next_key.ensures in
+    let here : has_key (frozen_at (slice_get sh.stores c.args.table)) key ≡ true =
+    subst (λ (ms : List MemPart). has_key ms key ≡ true) (c.frozen.ensures ∙ ap (λ (z : ShardState). frozen_at (slice_get z.stores c.args.table)) same) found in
+    let says = returns-in-Ok-None-clause-nothing g c sch sh (ap (λ ts. slice_get ts.items c.args.table) (sym c.begin_file.ensures.same.2) ∙ at_sch)
+    (ap (λ xs. slice_get xs.items c.args.place) (sym c.begin_file.ensures.same.0) ∙ at_sh) in
+    absurd (∥∥₁_elim (n.kept c.args.place sch.number sh at_sh) ⊥_prop (λ k.
+    let has = subst (λ (j : ℕ). HoldJust sch.columns (memtables_at (slice_get sh.stores j)) k.0) its (one_in_memory n.tables.items sch k.0 sh there k.1) in
+    never_none sch.columns (slice_get sh.stores c.args.table) key k.0 has (says k.0 has) here))
 
 pub open_file-requires-clause-fits : goal.open_file-requires-clause-fits
 open_file-requires-clause-fits g c =
