@@ -15,7 +15,8 @@ use cas_flush::flush_parts;
 use cas_info::TableInfo;
 use cas_shard::Shard;
 use cas_sstwrite::WriteFault;
-use cas_tables::{Header, Version};
+use cas_fragments::Version;
+use cas_tables::Header;
 use cas_types::TableSchema;
 use std::alloc::Global;
 

@@ -13,7 +13,7 @@ use crate::parts::read_part;
 use cas_bounds::{RowOrder, clustering_order};
 use cas_disk::Sealed;
 use cas_info::TableInfo;
-use cas_tables::Version;
+use cas_fragments::Version;
 use cas_types::{Column, List, TableSchema};
 use std::alloc::{AllocError, Global};
 use std::marker::Model;
