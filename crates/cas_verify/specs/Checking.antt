@@ -1,6 +1,6 @@
 -- A whole table file that is checked: what `whole_at` finds in the bytes of a file that was loaded.
 -- Own format. The place of a refusal is that of the refused field's first byte; what several fields say together is refused at the first that is wrong.
-use Rattle.std.specs.Prelude.{◌≡◌, ℕ, ◌-◌, List, ◌++◌, length, map, None, Result}
+use Rattle.std.specs.Prelude.{◌≡◌, ℕ, ◌-◌, List, ◌++◌, length, map, None, Result, Ok}
 use Rattle.cas_types.specs.declared.schema.Column.{Column}
 use Rattle.cas_bounds.specs.ClusteringOrder.{clustering_order}
 use Rattle.cas_codec.specs.declared.fault.ReadFault.{ReadFault}

@@ -183,6 +183,18 @@ fn flushed(rt: &impl Abort, alloc: Global, plan: FaultPlan) -> MemFolder {
     folder
 }
 
+// Where the manifest tells the length of the table file, in its last byte.
+const LENGTH_PLACE: u64 = 147;
+
+/// The folder with a table file of these bytes, which is listed with so many.
+pub(crate) fn listing(rt: &impl Abort, alloc: Global, bytes: &[u8], long: u8) -> MemFolder {
+    let mut folder = MemFolder::new(alloc, FaultPlan::none(alloc));
+    assert!(rt; put(&mut folder, Name::Manifest, &MANIFEST));
+    assert!(rt; folder.write_at(Name::Manifest, LENGTH_PLACE, &[long]).is_ok());
+    assert!(rt; put(&mut folder, Name::Table(1), bytes));
+    folder
+}
+
 /// The folder, whose table file fails at the read of this number.
 pub(crate) fn failing(rt: &impl Abort, alloc: Global, read: u64) -> MemFolder {
     let plan = FaultPlan {
