@@ -23,7 +23,6 @@ use Rattle.cas_codec.proofs.Exactness.{bind_ok, test_ok, ok_is, exact_checked, A
 use Rattle.cas_codec.proofs.FieldLengths.{bytes16_long}
 use Rattle.cas_records.specs.Reading.{key_at, deletion_at}
 use Rattle.cas_records.specs.Spelling.{deletion_bytes}
-use Rattle.cas_records.specs.declared.columns.Wanted.TheVariants.{Static}
 use Rattle.cas_records.proofs.CellLaws.{key_exact}
 use Rattle.cas_streams.specs.Flat.{Change, changes, at_end, ranges, own, atom_of}
 use Rattle.cas_streams.specs.Merged.{flat_of}

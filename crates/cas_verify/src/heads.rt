@@ -124,7 +124,8 @@ pub(crate) fn read_head_at<F: Sealed>(
 ) -> Result<(Head, u64), TableFault>
     requires narrow { IsNarrow table.now.columns }
     requires within { place ≤ FILE_LIMIT }
-    ensures told { (b : List ℕ) → table.now.contents ≡ Some b → Ends (λ h p. IsHead table.now.kept.version table.now.kept.end b place h.0 h.1 p) table.now.info.number result
+    ensures told { (b : List ℕ) → table.now.contents ≡ Some b
+        → Ends (λ h p. IsHead table.now.kept.version table.now.kept.end b place h.0 h.1 p) table.now.info.number result
         (next_head_at table.now.kept.version table.now.columns (option_copied before.entry) (left_at b table.now.kept.end place)) }
     ensures key { IfOk result (λ p. length p.0.key < 2 ^ 16) }
     ensures count { Counted (F.Tally.number tally.old) (F.Tally.number tally.new) (IsErrOf result TableFault.ReadFault) }

@@ -28,7 +28,8 @@ next_head_at version columns before left = do
   head_at version columns left
 
 -- the head that was read, and where it ends
-pub record IsHead (version : Version) (end : ℕ) (file : List ℕ) (place : ℕ) (h : Head) (behind : ℕ) (p : (List ℕ × Option Deletion × List RowColumn) × Left) : Type 0 where
+pub record IsHead (version : Version) (end : ℕ) (file : List ℕ) (place : ℕ) (h : Head) (behind : ℕ)
+    (p : (List ℕ × Option Deletion × List RowColumn) × Left) : Type 0 where
   pub head : p.0 ≡ (h.key, h.top, h.columns)
   pub left : p.1 ≡ left_at file end behind
   pub long : behind ≡ place + length (head_bytes version h.key h.top h.columns)
