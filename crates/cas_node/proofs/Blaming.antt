@@ -135,12 +135,12 @@ shown files before now s reading q (reply.Failed (failure.Block n at)) t = inl (
 
 -- ---- more files
 
-has_front : {X : Type 0} (xs ys : List X) (x : X) → Has xs x → Has (xs ++ ys) x
+pub has_front : {X : Type 0} (xs ys : List X) (x : X) → Has xs x → Has (xs ++ ys) x
 has_front [] ys x has = absurd has
 has_front (y ∷ xs) ys x (inl same) = inl same
 has_front (y ∷ xs) ys x (inr more) = inr (has_front xs ys x more)
 
-still_bad : (fs gs : List (File Held)) (key : List ℕ) (s : Slice) (n at : ℕ) → (more : List (File Held)) × (gs ≡ fs ++ more) → IsBadFile fs key s n at → IsBadFile gs key s n at
+pub still_bad : (fs gs : List (File Held)) (key : List ℕ) (s : Slice) (n at : ℕ) → (more : List (File Held)) × (gs ≡ fs ++ more) → IsBadFile fs key s n at → IsBadFile gs key s n at
 still_bad fs gs key s n at (more, are) bad = (bad.0, subst (λ hs. Has hs bad.0) (sym are) (has_front fs more bad.0 bad.1), bad.2)
 
 -- a file that is bad is bad also where there are more

@@ -130,6 +130,13 @@ module _ (h : History) (t : TableSchema) (changes : List (Option Change)) (e : D
   its_shards begun (Ok told) ends = omega (arith, ends.0)
   its_shards begun (Err f) ends = omega (arith, ends.0)
 
+  -- a number at most for each of them
+  pub numbers_few : length (numbers_added changes) ≤ length changes
+  numbers_few =
+      few_added changes (λ n c at.
+      one_added t.number n (shard_at h n) c (h.disk.files n t.number) (e.files n t.number)
+      (subst (λ (o : Option Change). Grows t.number n (shard_at h n) o (h.disk.files n t.number) (e.files n t.number)) at (so.files n)))
+
   few_flushed : (begun : ℕ) (r : Result (List ℕ) Fault) (after : History) → EndsSo h t changes begun r e
       → after ≡ record h {
         unflushed = without_flushed t.number changes h.unflushed;
@@ -140,12 +147,8 @@ module _ (h : History) (t : TableSchema) (changes : List (Option Change)) (e : D
       } → Few h after
   few_flushed begun r after ends is =
       let many : length changes ≤ length h.shards = its_shards begun r ends in
-      let added : length (numbers_added changes) ≤ length changes =
-      few_added changes (λ n c at.
-      one_added t.number n (shard_at h n) c (h.disk.files n t.number) (e.files n t.number)
-      (subst (λ (o : Option Change). Grows t.number n (shard_at h n) o (h.disk.files n t.number) (e.files n t.number)) at (so.files n))) in
       subst (Few h) (sym is)
-      (record { shards = refl; last = omega (arith, so.last_file.1, many); live = omega (arith, so.live, added, many) })
+      (record { shards = refl; last = omega (arith, so.last_file.1, many); live = omega (arith, so.live, numbers_few, many) })
 
 few_table : (h : History) (t : TableSchema) (r : Result (List ℕ) Fault) (after : History) → FlushesTable h t r after → Few h after
 few_table h t (Ok told) after a = few_flushed h t a.0 a.2 a.4 a.1 (Ok told) after a.5 a.6

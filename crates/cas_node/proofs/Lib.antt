@@ -1,12 +1,14 @@
 mod Answered
-mod Settling
-mod Stopping
-mod Verified
-mod FilesFew
 mod Blaming
-mod Staying
-mod RunLemmas
+mod Carrying
+mod EntryRoom
+mod FilesFew
+mod FlushedAlike
 mod NumbersRise
 mod OneOutcome
+mod RunLemmas
+mod Settling
+mod Staying
+mod Stopping
+mod Verified
 pub mod SessionLemmas
-mod Carrying

@@ -1,208 +1,106 @@
 -- Under the manual clock a script has one outcome.
-use Rattle.std.proofs.Common.{◌≡◌, ◌≤◌, ◌+◌, ℕ, ℤ, Bool, true, false, List, [], ◌∷◌, length, Option, Some, None, Result, Ok, Err, refl, sym, ap, ◌∙◌, subst, inl, inr, arith}
-use Rattle.std.specs.Prelude.{◌⊎◌}
-use Rattle.std.specs.List.{list_any}
+use Rattle.std.proofs.Common.{◌≡◌, ◌≤◌, ◌<◌, ◌+◌, ◌⊎◌, inl, inr, ℕ, ℤ, Bool, true, false, List, [], ◌∷◌, ◌++◌, length, map, flat_map, Option, Some, None, Result, Ok, Err, is_ok, refl, sym, ap, ◌∙◌, subst, arith}
+use Rattle.std.specs.Prelude.{◌||◌, slice_get}
+use Rattle.std.specs.List.{list_any, range_with_len}
 use Rattle.std.proofs.Math.Logic.{∥∥₁_elim}
 use Rattle.std.proofs.lemmas.Bool.{true≢false, or_parts}
+use Rattle.std.proofs.lemmas.List.{map-append}
+use Rattle.std.proofs.lemmas.Option.{same_Some}
 use mathlib.Core.HLevel.{⊥_prop}
 use Rattle.cas_io.specs.Causes.{Rose}
 use Rattle.cas_types.specs.declared.schema.TableSchema.{TableSchema}
 use Rattle.cas_atoms.specs.declared.atom.Mutation.{Mutation}
 use Rattle.cas_bind.specs.declared.bound.Bound.{Bound}
 use Rattle.cas_bind.specs.declared.bound.Bound.TheVariants as bound
+use Rattle.cas_bind.specs.declared.bound.BoundRead.{BoundRead}
 use Rattle.cas_bind.specs.Meaning.{meaning}
 use Rattle.cas_bind.specs.Tables.{tables_after}
+use Rattle.cas_changes.specs.declared.entry.Change.{Change}
 use Rattle.cas_changes.specs.declared.entry.Entry.{Entry as ManifestEntry}
 use Rattle.cas_changes.specs.declared.entry.Entry.TheVariants.{Schema, AddColumns}
+use Rattle.cas_effects.specs.declared.effect.BoundWrite.{BoundWrite}
 use Rattle.cas_effects.specs.declared.refusal.Refusal.{Refusal}
 use Rattle.cas_effects.specs.declared.refusal.TheConstants.{TOO_MANY}
 use Rattle.cas_journal.specs.Reach.{Reach, IsFull}
+use Rattle.cas_laws.specs.Given.{Has}
+use Rattle.cas_lines.specs.declared.line.Line.{Line}
+use Rattle.cas_lines.specs.declared.line.Line.TheVariants as line
+use Rattle.cas_lines.specs.Lines.{Says}
+use Rattle.cas_lines.proofs.OneLine.{one_line as says_one}
 use Rattle.cas_manifest.specs.Manifests.{room_of}
-use Rattle.cas_bind.specs.declared.bound.BoundRead.{BoundRead}
-use Rattle.cas_effects.specs.declared.effect.BoundWrite.{BoundWrite}
 use Rattle.cas_render.specs.Listing.{status_of}
 use Rattle.cas_render.specs.declared.reply.Failure.TheVariants as failure
 use Rattle.cas_render.specs.declared.reply.Reply.{Reply}
 use Rattle.cas_render.specs.declared.reply.Reply.TheVariants as reply
 use Rattle.cas_render.specs.declared.reply.Verdict.{Verdict}
-use Rattle.cas_lines.specs.declared.line.Line.{Line}
-use Rattle.cas_lines.specs.declared.line.Line.TheVariants as line
-use Rattle.cas_lines.specs.Lines.{Says}
-use Rattle.cas_lines.proofs.OneLine.{one_line}
 use Rattle.cas_shard.specs.declared.entry.Entry.{Entry}
-use Rattle.cas_shard.specs.Shards.{ShardHistory, look_at, take_refusal, mutation_at}
+use Rattle.cas_shard.specs.Shards.{ShardHistory, look_at, mutation_at, take_refusal}
 use Rattle.cas_sstread.specs.Loading.{Held}
 use Rattle.cas_terms.specs.Columns.{table_named}
 use Rattle.cas_view.specs.Views.{File}
+use Rattle.cas_words.specs.declared.words.ClockKind.{ClockKind}
 use Rattle.cas_words.specs.declared.words.ClockKind.TheVariants as clock
-use Rattle.cas_sessions.specs.History.{History, DiskState, Takes, Shows, Stays, Stops, SameFiles, Defines, Changes, Does, ReadsAt, WritesAt, after_read, after_write, entry_of, rows_reply, shard_at, tells_want}
-use Rattle.cas_sessions.specs.Status.{file_numbers, status}
-use Rattle.cas_sessions.specs.Verifying.{EndsVerified, VerifiesNamed, table_files}
+use Rattle.cql_parse.specs.declared.syntax.TableName.{TableName}
 use Rattle.cas_sessions.specs.declared.answer.Fault.{Fault}
 use Rattle.cas_sessions.specs.declared.answer.Fault.TheVariants as fault
-use Rattle.cql_parse.specs.declared.syntax.Statement.{Statement}
+use Rattle.cas_sessions.specs.Dropping.{DropsSegments, EndsAfter}
+use Rattle.cas_sessions.specs.Filling.{FlushesFull, FlushesIf, FlushesIn, NotFlushed, Settles, is_full}
+use Rattle.cas_sessions.specs.Flushes.{FlushesNamed, FlushesTable, WhyNoFurther, WhyTooMany, numbers_added}
+use Rattle.cas_sessions.specs.History.{History, DiskState, Takes, Shows, Defines, Changes, Does, ReadsAt, SameFiles, WritesAt, after_read, after_write, entry_of, rows_reply, shard_at, tells_want}
+use Rattle.cas_sessions.specs.Status.{file_numbers, status}
+use Rattle.cas_sessions.specs.Verifying.{EndsVerified, VerifiesNamed, table_files}
 use Rattle.cas_node.specs.declared.upshot.Upshot.{Upshot}
-use Rattle.cas_node.specs.Lines.{Answered, Answers, FlushesNone, LeavesRoom, NoneFlushes, Runs, is_starved, reply_of_verify, replied}
+use Rattle.cas_node.specs.Lines.{Answered, Answers, DropsBehind, FlushesNone, FlushesAndDrops, IsCarriedOut, LeavesRoom, NoneFlushes, Runs, SettlesAndDrops, SettlesBehind, is_starved, is_want, lists_any, lists_one, replied, reply_of_flush, reply_of_verify, says_want}
 use Rattle.cas_node.specs.Ran.{AreGood}
-use Rattle.cas_node.specs.Laws.{OneOutcome, SameStore, IsRoomy, StaysWell}
-use Rattle.cas_node.proofs.Settling.{room_behind}
-use Rattle.cas_node.proofs.Verified.{all_good, are_good, in_some_shard}
+use Rattle.cas_node.specs.Laws.{FitsBehind, FitsFiles, FlushFits, FlushesFit, IsRoomy, NoFlushFits, OneOutcome, SameStore, StaysWell}
+use Rattle.cas_node.proofs.Blaming.{has_front, still_bad}
+use Rattle.cas_node.proofs.FilesFew.{numbers_few}
+use Rattle.cas_node.proofs.EntryRoom.{room_for_change, room_for_drop}
+use Rattle.cas_node.proofs.FlushedAlike.{Agree, agreeing, as_one, at_both, flushed_alike, on, one_alike, one_told, told_alike}
+use Rattle.cas_node.proofs.Stopping as stopping
+use Rattle.cas_node.proofs.Stopping.{AreMore, Counts, IsBegun, IsFurther}
+use Rattle.cas_node.proofs.Verified.{all_good, are_good, in_some_shard, told_of}
 
--- ---- the disk along a run
+-- ---- a disk that is well
 
--- nothing falls
-record Grows (d e : DiskState) : Type 0 where
-  faults : d.faults ≤ e.faults
-  segment : d.reach.segment ≤ e.reach.segment
-  manifest : d.reach.manifest ≤ e.reach.manifest
-  reads : d.reads ≤ e.reads
-  files : e.files ≡ d.files
+-- from a disk that isn't stopped to one that has room and no bad file, without a fault
+abbrev Well : DiskState → DiskState → Type 0
+Well d e = StaysWell d e
 
-still : (d : DiskState) → Grows d d
-still d = record { faults = omega arith; segment = omega arith; manifest = omega arith; reads = omega arith; files = refl }
-
-read_on : (d : DiskState) (n : ℕ) → d.reads ≤ n → Grows d (record d { reads = n })
-read_on d n le = record { faults = omega arith; segment = omega arith; manifest = omega arith; reads = le; files = refl }
-
-then_on : (d e f : DiskState) → Grows d e → Grows e f → Grows d f
-then_on d e f a b = record {
-  faults = omega (arith, a.faults, b.faults);
-  segment = omega (arith, a.segment, b.segment);
-  manifest = omega (arith, a.manifest, b.manifest);
-  reads = omega (arith, a.reads, b.reads);
-  files = b.files ∙ a.files;
+good_before : (before after : ℕ → ℕ → List (File Held)) → AreMore before after → AreGood after → AreGood before
+good_before before after more good = record {
+  slices = λ shard number at q bad.
+      good.slices shard number at q (still_bad (before shard q.table) (after shard q.table) q.key q.slice number at (more shard q.table) bad);
+  wholes = λ shard table number at found.
+      let (f, has, is, bad) = found in
+      let (others, are) = more shard table in
+      good.wholes shard table number at (f, subst (λ hs. Has hs f) (sym are) (has_front (before shard table) others f has), is, bad);
 }
 
 rose_on : (a b c d : ℕ) → a ≤ b → Rose b c → c ≤ d → Rose a d
 rose_on a b c d le rose more = omega (arith, le, rose, more)
 
--- what becomes of the disk in a step, of any kind
-of_stays : (d e : DiskState) → Stays d e → Grows d e
-of_stays d e s = record { faults = s.faults; segment = s.reach.segment; manifest = s.reach.manifest; reads = omega (arith, s.files.1); files = s.files.0 }
+roomy_before : (r s : Reach) → IsFurther r s → IsRoomy s → IsRoomy r
+roomy_before r s far room = (omega (arith, far.segment, room.0), omega (arith, far.manifest, room.1))
 
-of_stops : (d e : DiskState) → Stops d e → Grows d e
-of_stops d e s = record { faults = s.faults; segment = s.reach.segment; manifest = s.reach.manifest; reads = omega (arith, s.files.1); files = s.files.0 }
-
-taken_grows : (segment : ℕ) (m : Mutation) (x : Entry) (d : DiskState) (r : Reply) (entries : List Entry) (e : DiskState) → Takes segment m x d r entries e → Grows d e
-taken_grows segment m x d reply.Done entries e t = absurd t
-taken_grows segment m x d (reply.Wrote number) entries e t = of_stays d e t.3.1
-taken_grows segment m x d (reply.Rows rows shard front now) entries e t = absurd t
-taken_grows segment m x d (reply.Flushed files) entries e t = absurd t
-taken_grows segment m x d (reply.Verified files) entries e t = absurd t
-taken_grows segment m x d (reply.Status tables) entries e t = absurd t
-taken_grows segment m x d (reply.Refused why) entries e t = of_stays d e t.2
-taken_grows segment m x d (reply.Failed failure.Memory) entries e t = of_stays d e t.1
-taken_grows segment m x d (reply.Failed failure.Stopped) entries e t = of_stays d e t.2.1
-taken_grows segment m x d (reply.Failed failure.Disk) entries e t = of_stops d e t.2
-taken_grows segment m x d (reply.Failed failure.Read) entries e t = absurd t
-taken_grows segment m x d (reply.Failed (failure.Block n at)) entries e t = absurd t
-
-with_entry : (d e : DiskState) (x : ManifestEntry) → (e.reach.segment ≡ d.reach.segment) × (e.reach.manifest ≡ d.reach.manifest + room_of x) → d.faults ≤ e.faults → SameFiles d e
-    → Grows d e
-with_entry d e x same le files = record { faults = le; segment = omega (arith, same.0); manifest = omega (arith, same.1); reads = omega (arith, files.1); files = files.0 }
-
-defined_grows : (x : ManifestEntry) (old new : List TableSchema) (d : DiskState) (r : Reply) (tables : List TableSchema) (e : DiskState) → Defines x old new d r tables e → Grows d e
-defined_grows x old new d reply.Done tables e t = with_entry d e x (ap (λ q. q.segment) t.2.reach, ap (λ q. q.manifest) t.2.reach) t.2.faults t.2.files
-defined_grows x old new d (reply.Wrote number) tables e t = absurd t
-defined_grows x old new d (reply.Rows rows shard front now) tables e t = absurd t
-defined_grows x old new d (reply.Flushed files) tables e t = absurd t
-defined_grows x old new d (reply.Verified files) tables e t = absurd t
-defined_grows x old new d (reply.Status listed) tables e t = absurd t
-defined_grows x old new d (reply.Refused why) tables e t = of_stays d e t.4.1
-defined_grows x old new d (reply.Failed failure.Memory) tables e t = of_stays d e t.1
-defined_grows x old new d (reply.Failed failure.Stopped) tables e t = of_stays d e t.1.1
-defined_grows x old new d (reply.Failed failure.Disk) tables e t = of_stops d e t.1
-defined_grows x old new d (reply.Failed failure.Read) tables e t = absurd t
-defined_grows x old new d (reply.Failed (failure.Block n at)) tables e t = absurd t
-
-at_disk : (h t : History) (e : DiskState) → t.disk ≡ e → Grows h.disk e → Grows h.disk t.disk
-at_disk h t e is grows = subst (Grows h.disk) (sym is) grows
-
-deed_grows : (Gives : ℤ → Type 0) (h : History) (m : Result Bound Refusal) (r : Reply) (t : History) → Does clock.Manual Gives h m r t → Grows h.disk t.disk
-deed_grows Gives h (Err x) r t a = at_disk h t h.disk (ap (λ (k : History). k.disk) a.1) (still h.disk)
-deed_grows Gives h (Ok (bound.Create x)) r t a = at_disk h t a.1 (ap (λ (k : History). k.disk) a.3) (defined_grows _ _ _ _ r a.0 a.1 a.2)
-deed_grows Gives h (Ok (bound.Alter x)) r t a = at_disk h t a.1 (ap (λ (k : History). k.disk) a.3) (defined_grows _ _ _ _ r a.0 a.1 a.2)
-deed_grows Gives h (Ok (bound.Write w)) r t a = at_disk h t a.2.1 (ap (λ (k : History). k.disk) a.2.3) (taken_grows _ _ _ _ r a.2.0 a.2.1 a.2.2)
-deed_grows Gives h (Ok (bound.Read q)) r t a = at_disk h t (record h.disk { reads = a.2.0 }) (ap (λ (k : History). k.disk) a.2.3) (read_on h.disk a.2.0 a.2.1)
-
--- a line that flushes nothing, from there
-abbrev IsNoFlush : (ℤ → Type 0) → History → Line → Type 0
-IsNoFlush Gives h (line.Flush name) = ⊥
-IsNoFlush Gives h (line.Statement s) =
-    (answer : Reply) (after : History) → Does clock.Manual Gives h (meaning h.limits.shards h.tables s) answer after
-    → LeavesRoom (meaning h.limits.shards h.tables s) answer after
-IsNoFlush Gives h _ = Unit {0}
-
-no_flush : (Gives : ℤ → Type 0) (h : History) (text : List ℕ) (l : Line) → Says text l → FlushesNone clock.Manual Gives h text → IsNoFlush Gives h l
-no_flush Gives h text line.Blank says none = tt
-no_flush Gives h text line.Syntax says none = tt
-no_flush Gives h text (line.Clock n) says none = tt
-no_flush Gives h text (line.Flush name) says none = none.0 name says
-no_flush Gives h text (line.Verify name) says none = tt
-no_flush Gives h text line.Status says none = tt
-no_flush Gives h text (line.Statement s) says none = none.1 s says
-
--- what comes of a statement then
-quietly : (Gives : ℤ → Type 0) (h : History) (s : Statement) (o : Upshot) (t : History) → IsNoFlush Gives h (line.Statement s) → Answered clock.Manual Gives h (line.Statement s) o t
-    → (answer : Reply) × (o ≡ replied (Some answer)) × Does clock.Manual Gives h (meaning h.limits.shards h.tables s) answer t
-quietly Gives h s o t none a =
-    let b = meaning h.limits.shards h.tables s in
-    let (want, same) = room_behind b a.0 o.want a.1 t (none a.0 a.1 a.3) a.4 in
-    (a.0, (λ i. record { reply = a.2 i; want = want i }), subst (Does clock.Manual Gives h b a.0) (sym same) a.3)
-
-verify_grows : (h : History) (o : Option TableSchema) (r : Result (List Verdict) Fault) (t : History) → VerifiesNamed h o r t → Grows h.disk t.disk
-verify_grows h None r t a = at_disk h t h.disk (ap (λ (k : History). k.disk) a.1) (still h.disk)
-verify_grows h (Some x) r t a = at_disk h t (record h.disk { reads = a.0 }) (ap (λ (k : History). k.disk) a.3) (read_on h.disk a.0 a.1)
-
-answered_grows : (Gives : ℤ → Type 0) (h : History) (l : Line) (o : Upshot) (t : History) → IsNoFlush Gives h l → Answered clock.Manual Gives h l o t → Grows h.disk t.disk
-answered_grows Gives h line.Blank o t none a = at_disk h t h.disk (ap (λ (k : History). k.disk) a.1) (still h.disk)
-answered_grows Gives h line.Syntax o t none a = at_disk h t h.disk (ap (λ (k : History). k.disk) a.1) (still h.disk)
-answered_grows Gives h (line.Clock n) o t none a = at_disk h t h.disk (ap (λ (k : History). k.disk) a.2.1) (still h.disk)
-answered_grows Gives h (line.Flush name) o t none a = absurd none
-answered_grows Gives h (line.Verify name) o t none a = verify_grows h (table_named h.tables name) a.0 t a.2
-answered_grows Gives h line.Status o t none a = at_disk h t h.disk (ap (λ (k : History). k.disk) a.1) (still h.disk)
-answered_grows Gives h (line.Statement s) o t none a =
-    let q = quietly Gives h s o t none a in deed_grows Gives h (meaning h.limits.shards h.tables s) q.0 t q.2
-
-line_grows : (Gives : ℤ → Type 0) (h : History) (text : List ℕ) (o : Upshot) (t : History) → FlushesNone clock.Manual Gives h text → Answers clock.Manual Gives h text o t
-    → Grows h.disk t.disk
-line_grows Gives h text o t none (inl x) = at_disk h t h.disk (ap (λ (k : History). k.disk) x.1) (still h.disk)
-line_grows Gives h text o t none (inr x) = answered_grows Gives h x.0 o t (no_flush Gives h text x.0 x.1 none) x.2
-
-run_grows : (Gives : ℤ → Type 0) (h : History) (ls : List (List ℕ)) (rs : List Upshot) (t : History) → NoneFlushes clock.Manual Gives h ls → Runs clock.Manual Gives h ls rs t
-    → Grows h.disk t.disk
-run_grows Gives h [] [] t none x = at_disk h t h.disk (ap (λ (k : History). k.disk) x) (still h.disk)
-run_grows Gives h [] (r ∷ rs) t none x = absurd x
-run_grows Gives h (l ∷ ls) [] t none x = absurd x
-run_grows Gives h (l ∷ ls) (r ∷ rs) t none x =
-    then_on h.disk x.0.disk t.disk (line_grows Gives h l r x.0 none.0 x.1) (run_grows Gives x.0 ls rs t (none.1 r x.0 x.1) x.2)
-
--- ---- one step, where the disk is well
-
--- from a disk that isn't stopped, and has no bad file, to one that has room, without a fault
-abbrev Well : DiskState → DiskState → Type 0
-Well d e = StaysWell d e
-
-roomy_before : (e f : DiskState) → Grows e f → IsRoomy f.reach → IsRoomy e.reach
-roomy_before e f grows room = (omega (arith, grows.segment, room.0), omega (arith, grows.manifest, room.1))
-
-first_well : (d e f : DiskState) → Grows d e → Grows e f → Well d f → Well d e
-first_well d e f a b well = (
+-- up to some disk on the way
+first_well : (d e f : DiskState) → Counts e f → Well d f → Well d e
+first_well d e f counts well = (
   well.0,
-  λ rose. well.1 (rose_on d.faults d.faults e.faults f.faults (omega arith) rose b.faults),
-  roomy_before e f b well.2,
-  λ rose. well.3 (rose_on d.reads d.reads e.reads f.reads (omega arith) rose b.reads),
-  well.4,
+  λ rose. well.1 (rose_on d.faults d.faults e.faults f.faults (omega arith) rose counts.faults),
+  roomy_before e.reach f.reach counts.reach well.2,
+  λ rose. well.3 (rose_on d.reads d.reads e.reads f.reads (omega arith) rose counts.reads),
+  good_before e.files f.files counts.files well.4,
 )
 
 -- and from there to the end
-rest_well : (d e f : DiskState) → Grows d e → Grows e f → Well d f → e.stopped ≡ false → Well e f
-rest_well d e f a b well goes = (
+rest_well : (d e f : DiskState) → Counts d e → Well d f → e.stopped ≡ false → Well e f
+rest_well d e f counts well goes = (
   goes,
-  λ rose. well.1 (rose_on d.faults e.faults f.faults f.faults a.faults rose (omega arith)),
+  λ rose. well.1 (rose_on d.faults e.faults f.faults f.faults counts.faults rose (omega arith)),
   well.2,
-  λ rose. well.3 (rose_on d.reads e.reads f.reads f.reads a.reads rose (omega arith)),
-  subst AreGood (sym a.files) well.4,
+  λ rose. well.3 (rose_on d.reads e.reads f.reads f.reads counts.reads rose (omega arith)),
+  well.4,
 )
 
 not_full : (r : Reach) → IsRoomy r → IsFull r → ⊥
@@ -211,6 +109,8 @@ not_full r room (inr manifest) = absurd (omega (arith, room.1, manifest))
 
 no_true : (b : Bool) → b ≡ false → b ≡ true → ⊥
 no_true b f t = true≢false (sym t ∙ f)
+
+-- ---- one step, where the disk is well
 
 -- what a write answers then, and takes
 abbrev answer_of : Option ℕ → Mutation → Reply
@@ -221,24 +121,26 @@ abbrev entries_of : Option ℕ → Entry → List Entry
 entries_of None x = x ∷ []
 entries_of (Some why) x = []
 
-record Settled (refusal : Option ℕ) (m : Mutation) (x : Entry) (r : Reply) (entries : List Entry) (e : DiskState) : Type 0 where
+record Settled (refusal : Option ℕ) (m : Mutation) (x : Entry) (d : DiskState) (r : Reply) (entries : List Entry) (e : DiskState) : Type 0 where
   reply_is : r ≡ answer_of refusal m
   entries_are : entries ≡ entries_of refusal x
   goes : e.stopped ≡ false
+  files : SameFiles d e
 
-by_refusal : (o p : Option ℕ) (m : Mutation) (x : Entry) (r : Reply) (entries : List Entry) (e : DiskState) → o ≡ p → r ≡ answer_of p m → entries ≡ entries_of p x → e.stopped ≡ false
-    → Settled o m x r entries e
-by_refusal o p m x r entries e same is are goes = record {
+by_refusal : (o p : Option ℕ) (m : Mutation) (x : Entry) (d : DiskState) (r : Reply) (entries : List Entry) (e : DiskState) → o ≡ p → r ≡ answer_of p m → entries ≡ entries_of p x
+    → e.stopped ≡ false → SameFiles d e → Settled o m x d r entries e
+by_refusal o p m x d r entries e same is are goes files = record {
   reply_is = is ∙ ap (λ q. answer_of q m) (sym same);
   entries_are = are ∙ ap (λ q. entries_of q x) (sym same);
   goes = goes;
+  files = files;
 }
 
 settled : (segment : ℕ) (m : Mutation) (x : Entry) (d : DiskState) (r : Reply) (entries : List Entry) (e : DiskState) → Takes segment m x d r entries e → tells_want r ≡ false → Well d e
-    → Settled (take_refusal segment m) m x r entries e
+    → Settled (take_refusal segment m) m x d r entries e
 settled segment m x d reply.Done entries e t v well = absurd t
 settled segment m x d (reply.Wrote number) entries e t v well =
-    by_refusal (take_refusal segment m) None m x _ entries e t.0 (ap (λ n. reply.Wrote n) t.1) t.2 (t.3.1.stopped ∙ t.3.0)
+    by_refusal (take_refusal segment m) None m x d _ entries e t.0 (ap (λ n. reply.Wrote n) t.1) t.2 (t.3.1.stopped ∙ t.3.0) t.3.1.files
 settled segment m x d (reply.Rows rows shard front now) entries e t v well = absurd t
 settled segment m x d (reply.Flushed files) entries e t v well = absurd t
 settled segment m x d (reply.Verified files) entries e t v well = absurd t
@@ -246,8 +148,8 @@ settled segment m x d (reply.Status tables) entries e t v well = absurd t
 settled segment m x d (reply.Refused why) entries e t v well = by t.0
   where
     by : (take_refusal segment m ≡ Some why) ⊎ ((take_refusal segment m ≡ None) × (d.stopped ≡ false) × (why ≡ TOO_MANY) × IsFull e.reach)
-        → Settled (take_refusal segment m) m x (reply.Refused why) entries e
-    by (inl some) = by_refusal (take_refusal segment m) (Some why) m x _ entries e some refl t.1 (t.2.stopped ∙ well.0)
+        → Settled (take_refusal segment m) m x d (reply.Refused why) entries e
+    by (inl some) = by_refusal (take_refusal segment m) (Some why) m x d _ entries e some refl t.1 (t.2.stopped ∙ well.0) t.2.files
     by (inr full) = absurd (not_full e.reach well.2 full.3)
 settled segment m x d (reply.Failed failure.Memory) entries e t v well = absurd (true≢false v)
 settled segment m x d (reply.Failed failure.Stopped) entries e t v well = absurd (no_true d.stopped well.0 t.2.0)
@@ -255,14 +157,15 @@ settled segment m x d (reply.Failed failure.Disk) entries e t v well = absurd (w
 settled segment m x d (reply.Failed failure.Read) entries e t v well = absurd t
 settled segment m x d (reply.Failed (failure.Block n at)) entries e t v well = absurd t
 
-record Agreed (new tables : List TableSchema) (r : Reply) (e : DiskState) : Type 0 where
+record Agreed (new tables : List TableSchema) (d : DiskState) (r : Reply) (e : DiskState) : Type 0 where
   done : r ≡ reply.Done
   are : tables ≡ new
   goes : e.stopped ≡ false
+  files : SameFiles d e
 
 agreed : (x : ManifestEntry) (old new : List TableSchema) (d : DiskState) (r : Reply) (tables : List TableSchema) (e : DiskState) → Defines x old new d r tables e → tells_want r ≡ false
-    → Well d e → Agreed new tables r e
-agreed x old new d reply.Done tables e t v well = record { done = refl; are = t.0; goes = t.2.stopped ∙ t.1 }
+    → Well d e → Agreed new tables d r e
+agreed x old new d reply.Done tables e t v well = record { done = refl; are = t.0; goes = t.2.stopped ∙ t.1; files = t.2.files }
 agreed x old new d (reply.Wrote number) tables e t v well = absurd t
 agreed x old new d (reply.Rows rows shard front now) tables e t v well = absurd t
 agreed x old new d (reply.Flushed files) tables e t v well = absurd t
@@ -309,141 +212,501 @@ is_verified files shards table before now (Err fault.Read) a v none good = absur
 is_verified files shards table before now (Err (fault.BadBlock number at)) a v none good = absurd a
 is_verified files shards table before now (Err fault.Mem) a v none good = absurd (true≢false v)
 
+-- of files of the same numbers that is the same
+good_numbers : (fs : List (File Held)) → all_good fs ≡ map (λ n. told_of n None) (map (λ f. f.info.number) fs)
+good_numbers [] = refl
+good_numbers (f ∷ fs) = ap (λ (vs : List Verdict). told_of f.info.number None ∷ vs) (good_numbers fs)
+
+numbers_through : (at : ℕ → List (File Held)) (ns : List ℕ) → map (λ f. f.info.number) (flat_map at ns) ≡ flat_map (λ n. map (λ f. f.info.number) (at n)) ns
+numbers_through at [] = refl
+numbers_through at (n ∷ ns) =
+    map-append (λ (f : File Held). f.info.number) (at n) (flat_map at ns) ∙ ap (λ (ks : List ℕ). map (λ f. f.info.number) (at n) ++ ks) (numbers_through at ns)
+
+by_shard : (files : ℕ → ℕ → List (File Held)) (shards table : ℕ)
+    → all_good (table_files files shards table) ≡ map (λ n. told_of n None) (flat_map (λ n. file_numbers files n table) (range_with_len 0 shards))
+by_shard files shards table =
+    good_numbers (table_files files shards table) ∙ ap (λ (ns : List ℕ). map (λ n. told_of n None) ns) (numbers_through (λ n. files n table) (range_with_len 0 shards))
+
+same_good : (fs gs : ℕ → ℕ → List (File Held)) (shards table : ℕ) → file_numbers fs ≡ file_numbers gs → all_good (table_files fs shards table) ≡ all_good (table_files gs shards table)
+same_good fs gs shards table same =
+    by_shard fs shards table ∙ ap (λ (at : ℕ → ℕ → List ℕ). map (λ n. told_of n None) (flat_map (λ n. at n table) (range_with_len 0 shards))) same
+    ∙ sym (by_shard gs shards table)
+
+-- ---- a flush, where the disk is well
+
+-- there isn't too much of anything
+fits : (h : History) (t : TableSchema) (n count more : ℕ) (e : DiskState) → FitsFiles h t → IsRoomy e.reach → e.live ≡ h.disk.live + more → more ≤ count → count ≤ length h.shards
+    → e.last_file ≤ h.disk.last_file + count + 1 → WhyTooMany t n (shard_at h n) e → ⊥
+fits h t n count more e fit room live few many last (inl (inl full)) = absurd (omega (arith, fit.live, live, few, many, full))
+fits h t n count more e fit room live few many last (inl (inr full)) = absurd (omega (arith, fit.numbers, last, many, full))
+fits h t n count more e fit room live few many last (inr (inl entry)) =
+    room_for_change t.number n (shard_at h n) entry.file entry.change e.reach entry.lists entry.fits room entry.full
+fits h t n count more e fit room live few many last (inr (inr much)) = fit.no_more n much
+
+-- why a flush went no further is none of these, but that memory ran out
+no_fault : (t : TableSchema) (n : ℕ) (q : ShardHistory) (d e : DiskState) (f : Fault) → WhyNoFurther t n q d e f → (WhyTooMany t n q e → ⊥) → Well d e → (f ≡ fault.Mem → ⊥) → ⊥
+no_fault t n q d e (fault.Refused why) w few well fed = few w.2
+no_fault t n q d e (fault.Stopped first) w few well fed = w
+no_fault t n q d e (fault.Disk None) w few well fed = by w
+  where
+    by : Rose d.faults e.faults ⊎ ((e.stopped ≡ false) × Rose d.reads e.reads) → ⊥
+    by (inl rose) = well.1 rose
+    by (inr other) = well.3 other.1
+no_fault t n q d e (fault.Disk (Some number)) w few well fed = w
+no_fault t n q d e fault.Read w few well fed = well.3 w.1
+no_fault t n q d e (fault.BadBlock number at) w few well fed = w
+no_fault t n q d e fault.Mem w few well fed = fed refl
+
+begun_well : (h : History) (t : TableSchema) (f : Fault) (after : History) → IsBegun h t (Err f) after → FitsFiles h t → Well h.disk after.disk → (f ≡ fault.Mem → ⊥) → ⊥
+begun_well h t f after a fit well fed =
+    let here : Well h.disk a.2 = subst (Well h.disk) (ap (λ (k : History). k.disk) a.6) well in
+    no_fault t (length a.0) (shard_at h (length a.0)) h.disk a.2 f a.5.1
+    (fits h t (length a.0) (length a.0) (length (numbers_added a.0)) a.2 fit here.2 a.4.live (numbers_few h t a.0 a.2 a.4) (omega (arith, a.5.0)) a.4.last_file.1) here fed
+
+fed_flush : (f : Fault) → tells_want (reply_of_flush (Err f)) ≡ false → f ≡ fault.Mem → ⊥
+fed_flush f v is = true≢false (ap (λ (g : Fault). tells_want (reply_of_flush (Err g))) (sym is) ∙ v)
+
+table_flushed : (h : History) (t : TableSchema) (r : Result (List ℕ) Fault) (after : History) → FlushesTable h t r after → tells_want (reply_of_flush r) ≡ false → FitsFiles h t
+    → Well h.disk after.disk → (told : List ℕ) × (r ≡ Ok told)
+table_flushed h t (Ok told) after a v fit well = (told, refl)
+table_flushed h t (Err (fault.Stopped first)) after a v fit well = absurd (no_true h.disk.stopped well.0 a.0)
+table_flushed h t (Err (fault.Refused why)) after a v fit well = absurd (begun_well h t (fault.Refused why) after a fit well (fed_flush (fault.Refused why) v))
+table_flushed h t (Err (fault.Disk number)) after a v fit well = absurd (begun_well h t (fault.Disk number) after a fit well (fed_flush (fault.Disk number) v))
+table_flushed h t (Err fault.Read) after a v fit well = absurd (begun_well h t fault.Read after a fit well (fed_flush fault.Read v))
+table_flushed h t (Err (fault.BadBlock number at)) after a v fit well =
+    absurd (begun_well h t (fault.BadBlock number at) after a fit well (fed_flush (fault.BadBlock number at) v))
+table_flushed h t (Err fault.Mem) after a v fit well = absurd (true≢false v)
+
+one_well : (h : History) (t : TableSchema) (n : ℕ) (f : Fault) (after : History) → FlushesIn h t n (Err f) after → FitsFiles h t → Well h.disk after.disk → (f ≡ fault.Mem → ⊥) → ⊥
+one_well h t n f after a fit well fed =
+    let here : Well h.disk a.disk = subst (Well h.disk) (ap (λ (k : History). k.disk) a.follows) well in
+    no_fault t n (shard_at h n) h.disk a.disk f a.ends.why
+    (fits h t n 0 0 a.disk fit here.2 (omega (arith, a.ends.live)) (omega arith) (omega arith) (omega (arith, a.last_file))) here fed
+
+fed_full : (f : Fault) → is_want {T = Option ℕ} (Err f) ≡ false → f ≡ fault.Mem → ⊥
+fed_full f v is = true≢false (ap (λ (g : Fault). is_want {T = Option ℕ} (Err g)) (sym is) ∙ v)
+
+full_flushed : (h : History) (n table : ℕ) (r : Result (Option ℕ) Fault) (after : History) → FlushesFull h n table r after → is_want r ≡ false
+    → ((t : TableSchema) → slice_get h.tables table ≡ Some t → FitsFiles h t) → Well h.disk after.disk → (told : Option ℕ) × (r ≡ Ok told)
+full_flushed h n table (Ok told) after a v fit well = (told, refl)
+full_flushed h n table (Err (fault.Stopped first)) after a v fit well = absurd (no_true h.disk.stopped well.0 a.0)
+full_flushed h n table (Err (fault.Refused why)) after a v fit well =
+    absurd (one_well h a.0 n (fault.Refused why) after a.3 (fit a.0 a.1) well (fed_full (fault.Refused why) v))
+full_flushed h n table (Err (fault.Disk number)) after a v fit well = absurd (one_well h a.0 n (fault.Disk number) after a.3 (fit a.0 a.1) well (fed_full (fault.Disk number) v))
+full_flushed h n table (Err fault.Read) after a v fit well = absurd (one_well h a.0 n fault.Read after a.3 (fit a.0 a.1) well (fed_full fault.Read v))
+full_flushed h n table (Err (fault.BadBlock number at)) after a v fit well =
+    absurd (one_well h a.0 n (fault.BadBlock number at) after a.3 (fit a.0 a.1) well (fed_full (fault.BadBlock number at) v))
+full_flushed h n table (Err fault.Mem) after a v fit well = absurd (true≢false v)
+
+-- and segments are dropped, none but for memory
+record Dropped (r : Result ℕ Fault) (e : DiskState) : Type 0 where
+  well : is_ok r ≡ true
+  goes : e.stopped ≡ false
+
+dropped_well : (count : ℕ) (r : Result ℕ Fault) (d e : DiskState) → EndsAfter count r d e → is_want r ≡ false → Well d e → Dropped r e
+dropped_well count (Ok told) d e ends v well = record { well = refl; goes = ends.2 }
+dropped_well count (Err (fault.Refused why)) d e ends v well = absurd (room_for_drop ends.2.0 e.reach well.2 ends.2.1)
+dropped_well count (Err (fault.Stopped first)) d e ends v well = absurd (no_true d.stopped well.0 ends.0)
+dropped_well count (Err (fault.Disk None)) d e ends v well = absurd (well.1 ends.1)
+dropped_well count (Err (fault.Disk (Some number))) d e ends v well = absurd ends
+dropped_well count (Err fault.Read) d e ends v well = absurd ends
+dropped_well count (Err (fault.BadBlock number at)) d e ends v well = absurd ends
+dropped_well count (Err fault.Mem) d e ends v well = absurd (true≢false v)
+
 -- ---- two runs
 
--- a history, with its disk in another state
-abbrev on : History → DiskState → History
-on h d = record h { disk = d }
-
--- both steps are answered in one way and leave one store, which goes on
-record Same {A : Type 0} (r q : A) (t u : History) : Type 0 where
-  replies : r ≡ q
+-- both have come to one store, which goes on
+record Both (t u : History) : Type 0 where
   stores : SameStore t u
   one_goes : t.disk.stopped ≡ false
   other_goes : u.disk.stopped ≡ false
 
-module _ (h : History) (d e : DiskState) where
-  one_write : (w : BoundWrite) (a : ℤ) (xs ys : List Entry) (p s : DiskState) (r q : Reply) (t u : History)
-      → Takes h.limits.segment (mutation_at a (shard_at h w.shard) w) (entry_of h (mutation_at a (shard_at h w.shard) w)) d r xs p
-      → Takes h.limits.segment (mutation_at a (shard_at h w.shard) w) (entry_of h (mutation_at a (shard_at h w.shard) w)) e q ys s
-      → t ≡ after_write h w.shard a r xs p → u ≡ after_write h w.shard a q ys s → tells_want r ≡ false → tells_want q ≡ false → Well d t.disk → Well e u.disk → Same r q t u
-  one_write w a xs ys p s r q t u x y f g v z well good =
+-- by steps that are answered in one way
+record Same {A : Type 0} (r q : A) (t u : History) : Type 0 where
+  replies : r ≡ q
+  both : Both t u
+
+both_at : (t k u j : History) → t ≡ k → u ≡ j → Both k j → Both t u
+both_at t k u j x y b = subst (λ i. Both i u) (sym x) (subst (Both k) (sym y) b)
+
+keep : (c d : List Change) (p q e f : DiskState) → Agree c d p q → SameFiles p e → SameFiles q f → Agree c d e f
+keep c d p q e f a x y = record {
+  changes = a.changes;
+  files = ap (λ (fs : ℕ → ℕ → List (File Held)). file_numbers fs) x.0 ∙ a.files ∙ sym (ap (λ (fs : ℕ → ℕ → List (File Held)). file_numbers fs) y.0);
+  last_file = x.2 ∙ a.last_file ∙ sym y.2;
+  live = x.3 ∙ a.live ∙ sym y.3;
+}
+
+-- of a line: what it flushes fits
+abbrev LineFits : (ℤ → Type 0) → History → Line → Type 0
+LineFits Gives h (line.Flush name) = (t : TableSchema) → table_named h.tables name ≡ Some t → FitsFiles h t
+LineFits Gives h (line.Statement s) =
+    (answer : Reply) (after : History) → Does clock.Manual Gives h (meaning h.limits.shards h.tables s) answer after
+    → FitsBehind (meaning h.limits.shards h.tables s) answer after
+LineFits Gives h line.Blank = Unit {0}
+LineFits Gives h line.Syntax = Unit {0}
+LineFits Gives h (line.Clock n) = Unit {0}
+LineFits Gives h (line.Verify name) = Unit {0}
+LineFits Gives h line.Status = Unit {0}
+
+line_fits : (Gives : ℤ → Type 0) (h : History) (text : List ℕ) (l : Line) → Says text l → FlushFits clock.Manual Gives h text → LineFits Gives h l
+line_fits Gives h text line.Blank says fit = tt
+line_fits Gives h text line.Syntax says fit = tt
+line_fits Gives h text (line.Clock n) says fit = tt
+line_fits Gives h text (line.Flush name) says fit = λ t named. fit.0 name t says named
+line_fits Gives h text (line.Verify name) says fit = tt
+line_fits Gives h text line.Status says fit = tt
+line_fits Gives h text (line.Statement s) says fit = fit.1 s says
+
+module _ (h : History) (c d : List Change) (p q : DiskState) (agree : Agree c d p q) where
+  -- ---- a statement
+
+  one_write : (w : BoundWrite) (a : ℤ) (xs ys : List Entry) (e f : DiskState) (r s : Reply) (t u : History)
+      → Takes h.limits.segment (mutation_at a (shard_at h w.shard) w) (entry_of h (mutation_at a (shard_at h w.shard) w)) p r xs e
+      → Takes h.limits.segment (mutation_at a (shard_at h w.shard) w) (entry_of h (mutation_at a (shard_at h w.shard) w)) q s ys f
+      → t ≡ after_write (on h c p) w.shard a r xs e → u ≡ after_write (on h d q) w.shard a s ys f → tells_want r ≡ false → tells_want s ≡ false → Well p t.disk → Well q u.disk
+      → Same r s t u
+  one_write w a xs ys e f r s t u x y k j v z well good =
       let m = mutation_at a (shard_at h w.shard) w in
-      let one = settled h.limits.segment m (entry_of h m) d r xs p x v (subst (Well d) (ap (λ (k : History). k.disk) f) well) in
-      let two = settled h.limits.segment m (entry_of h m) e q ys s y z (subst (Well e) (ap (λ (k : History). k.disk) g) good) in
-      let replies : r ≡ q = one.reply_is ∙ sym two.reply_is in
+      let one = settled h.limits.segment m (entry_of h m) p r xs e x v (subst (Well p) (ap (λ (i : History). i.disk) k) well) in
+      let two = settled h.limits.segment m (entry_of h m) q s ys f y z (subst (Well q) (ap (λ (i : History). i.disk) j) good) in
+      let replies : r ≡ s = one.reply_is ∙ sym two.reply_is in
       let entries : xs ≡ ys = one.entries_are ∙ sym two.entries_are in
+      let now = keep c d p q e f agree one.files two.files in
       record {
         replies = replies;
-        stores =
-            ap (λ (k : History). on k u.disk) f ∙ ap (λ (j : DiskState). after_write h w.shard a r xs j) (ap (λ (k : History). k.disk) g)
-            ∙ ap (λ (k : Reply). after_write h w.shard a k xs s) replies ∙ ap (λ (zs : List Entry). after_write h w.shard a q zs s) entries ∙ sym g;
-        one_goes = ap (λ (k : History). k.disk.stopped) f ∙ one.goes;
-        other_goes = ap (λ (k : History). k.disk.stopped) g ∙ two.goes;
+        both =
+            both_at t (after_write (on h c p) w.shard a r xs e) u (after_write (on h d q) w.shard a s ys f) k j
+            (record {
+              stores =
+                  record {
+                    same = λ i. after_write (on h d q) w.shard a (replies i) (entries i) f;
+                    changes = now.changes;
+                    files = now.files;
+                    last_file = now.last_file;
+                    live = now.live;
+                  };
+              one_goes = one.goes;
+              other_goes = two.goes;
+            });
       }
 
-  one_read : (x : BoundRead) (a : ℤ) (j k : ℕ) (r q : Reply) (t u : History) → Shows (d.files x.shard x.query.table) d.reads j (shard_at h x.shard) a x r
-      → Shows (e.files x.shard x.query.table) e.reads k (shard_at h x.shard) a x q → t ≡ after_read (on h d) x.shard a j → u ≡ after_read (on h e) x.shard a k
-      → tells_want r ≡ false → tells_want q ≡ false → Well d t.disk → Well e u.disk → Same r q t u
-  one_read x a j k r q t u m n f g v z well good = record {
-    replies =
-        is_shown d.files d.reads j (shard_at h x.shard) a x r m v (λ rose. well.3 (subst (Rose d.reads) (sym (ap (λ (i : History). i.disk.reads) f)) rose)) well.4
-        ∙ sym (is_shown e.files e.reads k (shard_at h x.shard) a x q n z (λ rose. good.3 (subst (Rose e.reads) (sym (ap (λ (i : History). i.disk.reads) g)) rose)) good.4);
-    stores = ap (λ (i : History). on i u.disk) f ∙ ap (λ (i : DiskState). on (after_read (on h e) x.shard a k) i) (ap (λ (i : History). i.disk) g) ∙ sym g;
-    one_goes = ap (λ (k : History). k.disk.stopped) f ∙ well.0;
-    other_goes = ap (λ (k : History). k.disk.stopped) g ∙ good.0;
-  }
+  one_read : (x : BoundRead) (a : ℤ) (m n : ℕ) (r s : Reply) (t u : History) → Shows (p.files x.shard x.query.table) p.reads m (shard_at h x.shard) a x r
+      → Shows (q.files x.shard x.query.table) q.reads n (shard_at h x.shard) a x s → t ≡ after_read (on h c p) x.shard a m → u ≡ after_read (on h d q) x.shard a n
+      → tells_want r ≡ false → tells_want s ≡ false → Well p t.disk → Well q u.disk → Same r s t u
+  one_read x a m n r s t u k j f g v z well good =
+      let here : Well p (record p { reads = m }) = subst (Well p) (ap (λ (i : History). i.disk) f) well in
+      let there : Well q (record q { reads = n }) = subst (Well q) (ap (λ (i : History). i.disk) g) good in
+      record {
+        replies =
+            is_shown p.files p.reads m (shard_at h x.shard) a x r k v here.3 here.4
+            ∙ sym (is_shown q.files q.reads n (shard_at h x.shard) a x s j z there.3 there.4);
+        both =
+            both_at t (after_read (on h c p) x.shard a m) u (after_read (on h d q) x.shard a n) f g
+            (record {
+              stores = record { same = refl; changes = agree.changes; files = agree.files; last_file = agree.last_file; live = agree.live };
+              one_goes = well.0;
+              other_goes = good.0;
+            });
+      }
 
-  one_change : (x : ManifestEntry) (b : Bound) (r q : Reply) (t u : History) → Changes (on h d) x b r t → Changes (on h e) x b q u → tells_want r ≡ false → tells_want q ≡ false
-      → Well d t.disk → Well e u.disk → Same r q t u
-  one_change x b r q t u a c v z well good =
-      let (tables, p, defines, f) = a in
-      let (others, s, defined, g) = c in
-      let one = agreed x h.tables (tables_after h.tables b) d r tables p defines v (subst (Well d) (ap (λ (k : History). k.disk) f) well) in
-      let two = agreed x h.tables (tables_after h.tables b) e q others s defined z (subst (Well e) (ap (λ (k : History). k.disk) g) good) in
+  one_change : (x : ManifestEntry) (b : Bound) (r s : Reply) (t u : History) → Changes (on h c p) x b r t → Changes (on h d q) x b s u → tells_want r ≡ false → tells_want s ≡ false
+      → Well p t.disk → Well q u.disk → Same r s t u
+  one_change x b r s t u k j v z well good =
+      let (tables, e, defines, f) = k in
+      let (others, i, defined, g) = j in
+      let one = agreed x h.tables (tables_after h.tables b) p r tables e defines v (subst (Well p) (ap (λ (m : History). m.disk) f) well) in
+      let two = agreed x h.tables (tables_after h.tables b) q s others i defined z (subst (Well q) (ap (λ (m : History). m.disk) g) good) in
+      let now = keep c d p q e i agree one.files two.files in
       record {
         replies = one.done ∙ sym two.done;
-        stores =
-            ap (λ (k : History). on k u.disk) f ∙ ap (λ (j : DiskState). record h { tables = tables; trimmed = false; disk = j }) (ap (λ (k : History). k.disk) g)
-            ∙ ap (λ (ts : List TableSchema). record h { tables = ts; trimmed = false; disk = s }) (one.are ∙ sym two.are) ∙ sym g;
-        one_goes = ap (λ (k : History). k.disk.stopped) f ∙ one.goes;
-        other_goes = ap (λ (k : History). k.disk.stopped) g ∙ two.goes;
+        both =
+            both_at t (record (on h c p) { tables = tables; trimmed = false; disk = e }) u (record (on h d q) { tables = others; trimmed = false; disk = i }) f g
+            (record {
+              stores =
+                  record {
+                    same = λ m. record (on h d q) { tables = (one.are ∙ sym two.are) m; trimmed = false; disk = i };
+                    changes = now.changes;
+                    files = now.files;
+                    last_file = now.last_file;
+                    live = now.live;
+                  };
+              one_goes = one.goes;
+              other_goes = two.goes;
+            });
       }
 
   -- a step that leaves the disk
-  left : {A : Type 0} (r q v : A) (k t u : History) → r ≡ v → q ≡ v → t ≡ on k d → u ≡ on k e → Well d t.disk → Well e u.disk → Same r q t u
-  left r q v k t u x y f g well good = record {
+  left : {A : Type 0} (r s v : A) (t u : History) → r ≡ v → s ≡ v → t ≡ on h c p → u ≡ on h d q → Well p t.disk → Well q u.disk → Same r s t u
+  left r s v t u x y f g well good = record {
     replies = x ∙ sym y;
-    stores = ap (λ (j : History). on j u.disk) f ∙ ap (λ (j : DiskState). on k j) (ap (λ (j : History). j.disk) g) ∙ sym g;
-    one_goes = ap (λ (j : History). j.disk.stopped) f ∙ well.0;
-    other_goes = ap (λ (j : History). j.disk.stopped) g ∙ good.0;
+    both = both_at t (on h c p) u (on h d q) f g (record { stores = as_one h c d p q agree; one_goes = well.0; other_goes = good.0 });
   }
 
-  one_check : (o : Option TableSchema) (r q : Result (List Verdict) Fault) (t u : History) → d.files ≡ e.files → VerifiesNamed (on h d) o r t
-      → VerifiesNamed (on h e) o q u → tells_want (reply_of_verify r) ≡ false → tells_want (reply_of_verify q) ≡ false → Well d t.disk → Well e u.disk
-      → Same (reply_of_verify r) (reply_of_verify q) t u
-  one_check None r q t u same a b v z well good =
-      left (reply_of_verify r) (reply_of_verify q) _ h t u (ap reply_of_verify a.0) (ap reply_of_verify b.0) a.1 b.1 well good
-  one_check (Some x) r q t u same a b v z well good =
-      let (j, more, m, f) = a in
-      let (k, also, n, g) = b in
+  one_check : (o : Option TableSchema) (r s : Result (List Verdict) Fault) (t u : History) → VerifiesNamed (on h c p) o r t → VerifiesNamed (on h d q) o s u
+      → tells_want (reply_of_verify r) ≡ false → tells_want (reply_of_verify s) ≡ false → Well p t.disk → Well q u.disk
+      → Same (reply_of_verify r) (reply_of_verify s) t u
+  one_check None r s t u a b v z well good = left (reply_of_verify r) (reply_of_verify s) _ t u (ap reply_of_verify a.0) (ap reply_of_verify b.0) a.1 b.1 well good
+  one_check (Some x) r s t u a b v z well good =
+      let (m, more, k, f) = a in
+      let (n, also, j, g) = b in
+      let here : Well p (record p { reads = m }) = subst (Well p) (ap (λ (i : History). i.disk) f) well in
+      let there : Well q (record q { reads = n }) = subst (Well q) (ap (λ (i : History). i.disk) g) good in
       record {
         replies =
-            is_verified d.files (length h.shards) x.number d.reads j r m v
-            (λ rose. well.3 (subst (Rose d.reads) (sym (ap (λ (i : History). i.disk.reads) f)) rose)) well.4
-            ∙ ap (λ files. reply.Verified (all_good (table_files files (length h.shards) x.number))) same
-            ∙ sym (is_verified e.files (length h.shards) x.number e.reads k q n z
-            (λ rose. good.3 (subst (Rose e.reads) (sym (ap (λ (i : History). i.disk.reads) g)) rose)) good.4);
-        stores = ap (λ (i : History). on i u.disk) f ∙ ap (λ (i : DiskState). on h i) (ap (λ (i : History). i.disk) g) ∙ sym g;
-        one_goes = ap (λ (i : History). i.disk.stopped) f ∙ well.0;
-        other_goes = ap (λ (i : History). i.disk.stopped) g ∙ good.0;
+            is_verified p.files (length h.shards) x.number p.reads m r k v here.3 here.4
+            ∙ ap (λ (vs : List Verdict). reply.Verified vs) (same_good p.files q.files (length h.shards) x.number agree.files)
+            ∙ sym (is_verified q.files (length h.shards) x.number q.reads n s j z there.3 there.4);
+        both =
+            both_at t (on h c (record p { reads = m })) u (on h d (record q { reads = n })) f g
+            (record {
+              stores = record { same = refl; changes = agree.changes; files = agree.files; last_file = agree.last_file; live = agree.live };
+              one_goes = well.0;
+              other_goes = good.0;
+            });
       }
 
-  one_deed : (Gives : ℤ → Type 0) (m : Result Bound Refusal) (r q : Reply) (t u : History) → Does clock.Manual Gives (on h d) m r t → Does clock.Manual Gives (on h e) m q u
-      → tells_want r ≡ false → tells_want q ≡ false → Well d t.disk → Well e u.disk → Same r q t u
-  one_deed Gives (Err x) r q t u a b v w well good = left r q _ h t u a.0 b.0 a.1 b.1 well good
-  one_deed Gives (Ok (bound.Create x)) r q t u a b v w well good = one_change (Schema x) (bound.Create x) r q t u a b v w well good
-  one_deed Gives (Ok (bound.Alter x)) r q t u a b v w well good = one_change (AddColumns x.table x.columns) (bound.Alter x) r q t u a b v w well good
-  one_deed Gives (Ok (bound.Write x)) r q t u a b v w well good =
+  one_deed : (Gives : ℤ → Type 0) (m : Result Bound Refusal) (r s : Reply) (t u : History) → Does clock.Manual Gives (on h c p) m r t → Does clock.Manual Gives (on h d q) m s u
+      → tells_want r ≡ false → tells_want s ≡ false → Well p t.disk → Well q u.disk → Same r s t u
+  one_deed Gives (Err x) r s t u a b v w well good = left r s _ t u a.0 b.0 a.1 b.1 well good
+  one_deed Gives (Ok (bound.Create x)) r s t u a b v w well good = one_change (Schema x) (bound.Create x) r s t u a b v w well good
+  one_deed Gives (Ok (bound.Alter x)) r s t u a b v w well good = one_change (AddColumns x.table x.columns) (bound.Alter x) r s t u a b v w well good
+  one_deed Gives (Ok (bound.Write x)) r s t u a b v w well good =
       let same : b.0 ≡ a.0 = b.1 ∙ sym a.1 in
-      let other = subst (λ (k : ℤ). WritesAt (on h e) k x q u) same b.2 in
-      one_write x a.0 a.2.0 other.0 a.2.1 other.1 r q t u a.2.2 other.2 a.2.3 other.3 v w well good
-  one_deed Gives (Ok (bound.Read x)) r q t u a b v w well good =
+      let other = subst (λ (k : ℤ). WritesAt (on h d q) k x s u) same b.2 in
+      one_write x a.0 a.2.0 other.0 a.2.1 other.1 r s t u a.2.2 other.2 a.2.3 other.3 v w well good
+  one_deed Gives (Ok (bound.Read x)) r s t u a b v w well good =
       let same : b.0 ≡ a.0 = b.1 ∙ sym a.1 in
-      let other = subst (λ (k : ℤ). ReadsAt (on h e) k x q u) same b.2 in
-      one_read x a.0 a.2.0 other.0 r q t u a.2.2 other.2 a.2.3 other.3 v w well good
+      let other = subst (λ (k : ℤ). ReadsAt (on h d q) k x s u) same b.2 in
+      one_read x a.0 a.2.0 other.0 r s t u a.2.2 other.2 a.2.3 other.3 v w well good
 
-  -- what comes of lines is the same where their replies are
-  shown : (a b : Reply) (o p : Upshot) (t u : History) → o ≡ replied (Some a) → p ≡ replied (Some b) → Same a b t u → Same o p t u
-  shown a b o p t u x y same = record {
-    replies = x ∙ ap (λ (k : Reply). replied (Some k)) same.replies ∙ sym y;
-    stores = same.stores;
-    one_goes = same.one_goes;
-    other_goes = same.other_goes;
+  -- ---- a flush
+
+  one_table : (x : TableSchema) (r s : Result (List ℕ) Fault) (t u : History) → FlushesTable (on h c p) x r t → FlushesTable (on h d q) x s u
+      → tells_want (reply_of_flush r) ≡ false → tells_want (reply_of_flush s) ≡ false → FitsFiles (on h c p) x → FitsFiles (on h d q) x → Well p t.disk → Well q u.disk
+      → Same r s t u
+  one_table x r s t u a b v w fit fat well good =
+      let (told, is) = table_flushed (on h c p) x r t a v fit well in
+      let (says, are) = table_flushed (on h d q) x s u b w fat good in
+      let one : IsBegun (on h c p) x (Ok told) t = subst (λ (k : Result (List ℕ) Fault). FlushesTable (on h c p) x k t) is a in
+      let two : IsBegun (on h d q) x (Ok says) u = subst (λ (k : Result (List ℕ) Fault). FlushesTable (on h d q) x k u) are b in
+      record {
+        replies =
+            is
+            ∙ ap (λ (ns : List ℕ). Ok ns) (told_alike h c d p q agree x one.0 two.0 one.2 two.2 one.1 two.1 told says one.4 two.4 one.5 two.5)
+            ∙ sym are;
+        both =
+            both_at t _ u _ one.6 two.6
+            (record {
+              stores = flushed_alike h c d p q agree x one.0 two.0 one.2 two.2 one.1 two.1 told says one.4 two.4 one.5 two.5;
+              one_goes = one.5.2;
+              other_goes = two.5.2;
+            });
+      }
+
+  one_named : (o : Option TableSchema) (r s : Result (List ℕ) Fault) (t u : History) → FlushesNamed (on h c p) o r t → FlushesNamed (on h d q) o s u
+      → tells_want (reply_of_flush r) ≡ false → tells_want (reply_of_flush s) ≡ false → ((x : TableSchema) → o ≡ Some x → FitsFiles (on h c p) x)
+      → ((x : TableSchema) → o ≡ Some x → FitsFiles (on h d q) x) → Well p t.disk → Well q u.disk → Same r s t u
+  one_named None r s t u a b v w fit fat well good = left r s _ t u a.0 b.0 a.1 b.1 well good
+  one_named (Some x) r s t u a b v w fit fat well good = one_table x r s t u a b v w (fit x refl) (fat x refl) well good
+
+  one_flushed : (n : ℕ) (x : TableSchema) (told says : Option ℕ) (t u : History) → FlushesIn (on h c p) x n (Ok told) t → FlushesIn (on h d q) x n (Ok says) u
+      → Same told says t u
+  one_flushed n x told says t u a b = record {
+    replies = one_told h c d p q agree x n told says t u a b;
+    both =
+        record {
+          stores = one_alike h c d p q agree x n told says t u a b;
+          one_goes = ap (λ (k : History). k.disk.stopped) a.follows ∙ a.ends.stopped;
+          other_goes = ap (λ (k : History). k.disk.stopped) b.follows ∙ b.ends.stopped;
+        };
   }
 
-  -- and so is that memory didn't run out
-  fed : (a : Reply) (o : Upshot) → o ≡ replied (Some a) → is_starved o ≡ false → tells_want a ≡ false
-  fed a o is quiet = (or_parts (tells_want a) false (ap is_starved (sym is) ∙ quiet)).0
+  one_shard : (n table : ℕ) (told says : Option ℕ) (t u : History) → FlushesFull (on h c p) n table (Ok told) t → FlushesFull (on h d q) n table (Ok says) u → Same told says t u
+  one_shard n table told says t u a b =
+      one_flushed n a.0 told says t u a.3
+      (subst (λ (x : TableSchema). FlushesIn (on h d q) x n (Ok says) u) (same_Some b.0 a.0 (sym b.1 ∙ a.1)) b.3)
 
-  one_answered : (Gives : ℤ → Type 0) (l : Line) (o p : Upshot) (t u : History) → d.files ≡ e.files → IsNoFlush Gives (on h d) l → IsNoFlush Gives (on h e) l
-      → Answered clock.Manual Gives (on h d) l o t → Answered clock.Manual Gives (on h e) l p u → is_starved o ≡ false → is_starved p ≡ false → Well d t.disk → Well e u.disk → Same o p t u
-  one_answered Gives line.Blank o p t u same none quiet a b v w well good = left o p _ h t u a.0 b.0 a.1 b.1 well good
-  one_answered Gives line.Syntax o p t u same none quiet a b v w well good = left o p _ h t u a.0 b.0 a.1 b.1 well good
-  one_answered Gives (line.Clock n) o p t u same none quiet a b v w well good =
-      shown a.0 b.0 o p t u a.1 b.1 (left a.0 b.0 reply.Done (record h { clock = n }) t u a.2.0 b.2.0 a.2.1 b.2.1 well good)
-  one_answered Gives (line.Flush name) o p t u same none quiet a b v w well good = absurd none
-  one_answered Gives (line.Verify name) o p t u same none quiet a b v w well good =
-      shown (reply_of_verify a.0) (reply_of_verify b.0) o p t u a.1 b.1
-      (one_check (table_named h.tables name) a.0 b.0 t u same a.2 b.2 (fed (reply_of_verify a.0) o a.1 v) (fed (reply_of_verify b.0) p b.1 w) well good)
-  one_answered Gives line.Status o p t u same none quiet a b v w well good =
-      left o p (replied (Some (reply.Status (status (on h d))))) h t u a.0
-      (b.0 ∙ ap (λ files. replied (Some (reply.Status (status_of h.tables h.limits.shards (file_numbers files))))) (sym same)) a.1 b.1 well good
-  one_answered Gives (line.Statement s) o p t u same none quiet a b v w well good =
-      let x = quietly Gives (on h d) s o t none a in
-      let y = quietly Gives (on h e) s p u quiet b in
-      shown x.0 y.0 o p t u x.1 y.1
-      (one_deed Gives (meaning h.limits.shards h.tables s) x.0 y.0 t u x.2 y.2 (fed x.0 o x.1 v) (fed y.0 p y.1 w) well good)
+  one_full : (n table : ℕ) (r s : Result (Option ℕ) Fault) (t u : History) → FlushesFull (on h c p) n table r t → FlushesFull (on h d q) n table s u
+      → is_want r ≡ false → is_want s ≡ false → ((x : TableSchema) → slice_get h.tables table ≡ Some x → FitsFiles (on h c p) x)
+      → ((x : TableSchema) → slice_get h.tables table ≡ Some x → FitsFiles (on h d q) x) → Well p t.disk → Well q u.disk → Same r s t u
+  one_full n table r s t u a b v w fit fat well good =
+      let (told, is) = full_flushed (on h c p) n table r t a v fit well in
+      let (says, are) = full_flushed (on h d q) n table s u b w fat good in
+      let same : Same told says t u =
+      one_shard n table told says t u (subst (λ (k : Result (Option ℕ) Fault). FlushesFull (on h c p) n table k t) is a)
+      (subst (λ (k : Result (Option ℕ) Fault). FlushesFull (on h d q) n table k u) are b) in
+      record { replies = is ∙ ap (λ (x : Option ℕ). Ok x) same.replies ∙ sym are; both = same.both }
+
+  one_if_full : (b : Bool) (n table : ℕ) (r s : Result (Option ℕ) Fault) (t u : History) → FlushesIf b (on h c p) n table r t → FlushesIf b (on h d q) n table s u
+      → is_want r ≡ false → is_want s ≡ false → (b ≡ true → (x : TableSchema) → slice_get h.tables table ≡ Some x → FitsFiles (on h c p) x)
+      → (b ≡ true → (x : TableSchema) → slice_get h.tables table ≡ Some x → FitsFiles (on h d q) x) → Well p t.disk → Well q u.disk → Same r s t u
+  one_if_full false n table r s t u a b v w fit fat well good = left r s _ t u a.0 b.0 a.1 b.1 well good
+  one_if_full true n table r s t u a b v w fit fat well good = one_full n table r s t u a b v w (fit refl) (fat refl) well good
+
+  -- segments are dropped behind it
+  one_drop : (r s : Result ℕ Fault) (t u : History) → DropsSegments (on h c p) r t → DropsSegments (on h d q) s u → is_want r ≡ false → is_want s ≡ false
+      → Well p t.disk → Well q u.disk → Both t u
+  one_drop r s t u a b v w well good =
+      let one = dropped_well a.count r p a.disk a.ends v (subst (Well p) (ap (λ (k : History). k.disk) a.follows) well) in
+      let two = dropped_well b.count s q b.disk b.ends w (subst (Well q) (ap (λ (k : History). k.disk) b.follows) good) in
+      let now = keep c d p q a.disk b.disk agree a.drops.files b.drops.files in
+      both_at t (record (on h c p) { trimmed = is_ok r; disk = a.disk }) u (record (on h d q) { trimmed = is_ok s; disk = b.disk }) a.follows b.follows
+      (record {
+        stores =
+            record {
+              same = λ i. record (on h d q) { trimmed = (one.well ∙ sym two.well) i; disk = b.disk };
+              changes = now.changes;
+              files = now.files;
+              last_file = now.last_file;
+              live = now.live;
+            };
+        one_goes = one.goes;
+        other_goes = two.goes;
+      })
+
+  one_behind : (listed want wont : Bool) (t u : History) → DropsBehind listed want (on h c p) t → DropsBehind listed wont (on h d q) u → want ≡ false → wont ≡ false
+      → Well p t.disk → Well q u.disk → Both t u
+  one_behind false want wont t u a b v w well good =
+      both_at t (on h c p) u (on h d q) a.1 b.1 (record { stores = as_one h c d p q agree; one_goes = well.0; other_goes = good.0 })
+  one_behind true want wont t u a b v w well good = one_drop a.0 b.0 t u a.2 b.2 (sym a.1 ∙ v) (sym b.1 ∙ w) well good
+
+-- what is behind a step of both
+behind_both : (k j t u : History) (listed want wont : Bool) → Both k j → DropsBehind listed want k t → DropsBehind listed wont j u → want ≡ false → wont ≡ false
+    → Well k.disk t.disk → Well j.disk u.disk → Both t u
+behind_both k j t u listed want wont both a b v w well good =
+    one_behind k k.changes j.changes k.disk j.disk (agreeing k j both.stores) listed want wont t u a
+    (subst (λ (i : History). DropsBehind listed wont i u) (sym both.stores.same) b) v w well good
+
+module _ (h : History) (c d : List Change) (p q : DiskState) (agree : Agree c d p q) where
+  -- ---- behind a statement
+
+  one_settles : (n table : ℕ) (want wont : Bool) (t u : History) → SettlesAndDrops n table want (on h c p) t → SettlesAndDrops n table wont (on h d q) u → want ≡ false → wont ≡ false
+      → (is_full h n table ≡ true → (x : TableSchema) → slice_get h.tables table ≡ Some x → FitsFiles (on h c p) x)
+      → (is_full h n table ≡ true → (x : TableSchema) → slice_get h.tables table ≡ Some x → FitsFiles (on h d q) x) → Well p t.disk → Well q u.disk → Both t u
+  one_settles n table want wont t u a b v w fit fat well good =
+      let (told, mid, starved, is, settles, drops) = a in
+      let (says, other, hungry, are, also, falls) = b in
+      let one_fed = or_parts (is_want told) starved (sym is ∙ v) in
+      let two_fed = or_parts (is_want says) hungry (sym are ∙ w) in
+      let one_on = stopping.dropped_counts (lists_one told) starved mid t drops in
+      let two_on = stopping.dropped_counts (lists_one says) hungry other u falls in
+      let flushed : Same told says mid other =
+      one_if_full h c d p q agree (is_full h n table) n table told says mid other settles also one_fed.0 two_fed.0 fit fat (first_well p mid.disk t.disk one_on well)
+      (first_well q other.disk u.disk two_on good) in
+      behind_both mid other t u (lists_one told) starved hungry flushed.both drops
+      (subst (λ (k : Result (Option ℕ) Fault). DropsBehind (lists_one k) hungry other u) (sym flushed.replies) falls) one_fed.1 two_fed.1
+      (rest_well p mid.disk t.disk (stopping.settle_counts (on h c p) n table told mid settles) well flushed.both.one_goes)
+      (rest_well q other.disk u.disk (stopping.settle_counts (on h d q) n table says other also) good flushed.both.other_goes)
+
+  stays : (want wont : Bool) (t u : History) → (want ≡ false) × (t ≡ on h c p) → (wont ≡ false) × (u ≡ on h d q) → Well p t.disk → Well q u.disk → Both t u
+  stays want wont t u a b well good =
+      both_at t (on h c p) u (on h d q) a.1 b.1 (record { stores = as_one h c d p q agree; one_goes = well.0; other_goes = good.0 })
+
+  one_written : (x : BoundWrite) (r : Reply) (want wont : Bool) (t u : History) → SettlesBehind (Ok (bound.Write x)) r want (on h c p) t
+      → SettlesBehind (Ok (bound.Write x)) r wont (on h d q) u → want ≡ false → wont ≡ false → FitsBehind (Ok (bound.Write x)) r (on h c p)
+      → FitsBehind (Ok (bound.Write x)) r (on h d q) → Well p t.disk → Well q u.disk → Both t u
+  one_written x (reply.Wrote number) want wont t u a b v w fit fat well good = one_settles x.shard x.table want wont t u a b v w fit fat well good
+  one_written x reply.Done want wont t u a b v w fit fat well good = stays want wont t u a b well good
+  one_written x (reply.Rows rows shard front now) want wont t u a b v w fit fat well good = stays want wont t u a b well good
+  one_written x (reply.Flushed files) want wont t u a b v w fit fat well good = stays want wont t u a b well good
+  one_written x (reply.Verified files) want wont t u a b v w fit fat well good = stays want wont t u a b well good
+  one_written x (reply.Status tables) want wont t u a b v w fit fat well good = stays want wont t u a b well good
+  one_written x (reply.Refused why) want wont t u a b v w fit fat well good = stays want wont t u a b well good
+  one_written x (reply.Failed f) want wont t u a b v w fit fat well good = stays want wont t u a b well good
+
+  behind_deed : (m : Result Bound Refusal) (r : Reply) (want wont : Bool) (t u : History) → SettlesBehind m r want (on h c p) t → SettlesBehind m r wont (on h d q) u
+      → want ≡ false → wont ≡ false → FitsBehind m r (on h c p) → FitsBehind m r (on h d q) → Well p t.disk → Well q u.disk → Both t u
+  behind_deed (Err x) r want wont t u a b v w fit fat well good = stays want wont t u a b well good
+  behind_deed (Ok (bound.Create x)) r want wont t u a b v w fit fat well good = stays want wont t u a b well good
+  behind_deed (Ok (bound.Alter x)) r want wont t u a b v w fit fat well good = stays want wont t u a b well good
+  behind_deed (Ok (bound.Write x)) r want wont t u a b v w fit fat well good = one_written x r want wont t u a b v w fit fat well good
+  behind_deed (Ok (bound.Read x)) r want wont t u a b v w fit fat well good = stays want wont t u a b well good
+
+-- behind a deed of both
+deed_both : (k j t u : History) (m : Result Bound Refusal) (r : Reply) (want wont : Bool) → Both k j → SettlesBehind m r want k t → SettlesBehind m r wont j u → want ≡ false
+    → wont ≡ false → FitsBehind m r k → FitsBehind m r j → Well k.disk t.disk → Well j.disk u.disk → Both t u
+deed_both k j t u m r want wont both a b v w fit fat well good =
+    behind_deed k k.changes j.changes k.disk j.disk (agreeing k j both.stores) m r want wont t u a
+    (subst (λ (i : History). SettlesBehind m r wont i u) (sym both.stores.same) b) v w fit (subst (FitsBehind m r) (sym both.stores.same) fat) well good
+
+-- memory ran out for neither of the two
+fed : (o : Upshot) (r : Reply) → o.reply ≡ Some r → is_starved o ≡ false → (tells_want r ≡ false) × (o.want ≡ false)
+fed o r is quiet = let both = or_parts _ o.want quiet in (ap (λ (x : Option Reply). says_want x) (sym is) ∙ both.0, both.1)
+
+one_upshot : (o s : Upshot) (r q : Reply) → o.reply ≡ Some r → s.reply ≡ Some q → r ≡ q → o.want ≡ false → s.want ≡ false → o ≡ s
+one_upshot o s r q x y same v w = λ i. record { reply = (x ∙ ap (λ (k : Reply). Some k) same ∙ sym y) i; want = (v ∙ sym w) i }
+
+module _ (Gives : ℤ → Type 0) (h : History) (c d : List Change) (p q : DiskState) (agree : Agree c d p q) where
+  -- ---- a line
+
+  one_statement : (m : Result Bound Refusal) (o s : Upshot) (t u : History) → IsCarriedOut clock.Manual Gives (on h c p) m o t → IsCarriedOut clock.Manual Gives (on h d q) m s u
+      → is_starved o ≡ false → is_starved s ≡ false
+      → ((answer : Reply) (after : History) → Does clock.Manual Gives (on h c p) m answer after → FitsBehind m answer after)
+      → ((answer : Reply) (after : History) → Does clock.Manual Gives (on h d q) m answer after → FitsBehind m answer after) → Well p t.disk → Well q u.disk → Same o s t u
+  one_statement m o s t u a b v w fit fat well good =
+      let (r, mid, says, does, behind) = a in
+      let (e, other, tells, did, after) = b in
+      let one_fed = fed o r says v in
+      let two_fed = fed s e tells w in
+      let one_on = stopping.behind_counts m r o.want mid t behind in
+      let two_on = stopping.behind_counts m e s.want other u after in
+      let deed : Same r e mid other =
+      one_deed h c d p q agree Gives m r e mid other does did one_fed.0 two_fed.0 (first_well p mid.disk t.disk one_on well) (first_well q other.disk u.disk two_on good) in
+      record {
+        replies = one_upshot o s r e says tells deed.replies one_fed.1 two_fed.1;
+        both =
+            deed_both mid other t u m r o.want s.want deed.both behind
+            (subst (λ (k : Reply). SettlesBehind m k s.want other u) (sym deed.replies) after) one_fed.1 two_fed.1 (fit r mid does)
+            (subst (λ (k : Reply). FitsBehind m k other) (sym deed.replies) (fat e other did))
+            (rest_well p mid.disk t.disk (stopping.deed clock.Manual Gives (on h c p) m r mid does) well deed.both.one_goes)
+            (rest_well q other.disk u.disk (stopping.deed clock.Manual Gives (on h d q) m e other did) good deed.both.other_goes);
+      }
+
+  one_flush : (name : TableName) (o s : Upshot) (t u : History) → FlushesAndDrops (on h c p) name o t → FlushesAndDrops (on h d q) name s u → is_starved o ≡ false → is_starved s ≡ false
+      → LineFits Gives (on h c p) (line.Flush name) → LineFits Gives (on h d q) (line.Flush name) → Well p t.disk → Well q u.disk → Same o s t u
+  one_flush name o s t u a b v w fit fat well good =
+      let (r, mid, says, flushes, drops) = a in
+      let (e, other, tells, flushed, falls) = b in
+      let one_fed = fed o (reply_of_flush r) says v in
+      let two_fed = fed s (reply_of_flush e) tells w in
+      let one_on = stopping.dropped_counts (lists_any r) o.want mid t drops in
+      let two_on = stopping.dropped_counts (lists_any e) s.want other u falls in
+      let flush : Same r e mid other =
+      one_named h c d p q agree (table_named h.tables name) r e mid other flushes flushed one_fed.0 two_fed.0 fit fat (first_well p mid.disk t.disk one_on well)
+      (first_well q other.disk u.disk two_on good) in
+      record {
+        replies = one_upshot o s (reply_of_flush r) (reply_of_flush e) says tells (ap reply_of_flush flush.replies) one_fed.1 two_fed.1;
+        both =
+            behind_both mid other t u (lists_any r) o.want s.want flush.both drops
+            (subst (λ (k : Result (List ℕ) Fault). DropsBehind (lists_any k) s.want other u) (sym flush.replies) falls) one_fed.1 two_fed.1
+            (rest_well p mid.disk t.disk (stopping.named_counts (on h c p) (table_named h.tables name) r mid flushes) well flush.both.one_goes)
+            (rest_well q other.disk u.disk (stopping.named_counts (on h d q) (table_named h.tables name) e other flushed) good flush.both.other_goes);
+      }
+
+  -- what comes of lines is the same where their replies are
+  shown : (a b : Reply) (o s : Upshot) (t u : History) → o ≡ replied (Some a) → s ≡ replied (Some b) → Same a b t u → Same o s t u
+  shown a b o s t u x y same = record { replies = x ∙ ap (λ (k : Reply). replied (Some k)) same.replies ∙ sym y; both = same.both }
+
+  quiet : (a : Reply) (o : Upshot) → o ≡ replied (Some a) → is_starved o ≡ false → tells_want a ≡ false
+  quiet a o is v = (fed o a (ap (λ (x : Upshot). x.reply) is) v).0
+
+  one_line : (l : Line) (o s : Upshot) (t u : History) → LineFits Gives (on h c p) l → LineFits Gives (on h d q) l
+      → Answered clock.Manual Gives (on h c p) l o t → Answered clock.Manual Gives (on h d q) l s u → is_starved o ≡ false → is_starved s ≡ false → Well p t.disk → Well q u.disk
+      → Same o s t u
+  one_line line.Blank o s t u fit fat a b v w well good = left h c d p q agree o s _ t u a.0 b.0 a.1 b.1 well good
+  one_line line.Syntax o s t u fit fat a b v w well good = left h c d p q agree o s _ t u a.0 b.0 a.1 b.1 well good
+  one_line (line.Clock n) o s t u fit fat a b v w well good =
+      shown a.0 b.0 o s t u a.1 b.1 (left (record h { clock = n }) c d p q agree a.0 b.0 reply.Done t u a.2.0 b.2.0 a.2.1 b.2.1 well good)
+  one_line (line.Flush name) o s t u fit fat a b v w well good = one_flush name o s t u a b v w fit fat well good
+  one_line (line.Verify name) o s t u fit fat a b v w well good =
+      shown (reply_of_verify a.0) (reply_of_verify b.0) o s t u a.1 b.1
+      (one_check h c d p q agree (table_named h.tables name) a.0 b.0 t u a.2 b.2 (quiet (reply_of_verify a.0) o a.1 v) (quiet (reply_of_verify b.0) s b.1 w) well good)
+  one_line line.Status o s t u fit fat a b v w well good =
+      left h c d p q agree o s (replied (Some (reply.Status (status (on h c p))))) t u a.0
+      (b.0 ∙ ap (λ (files : ℕ → ℕ → List ℕ). replied (Some (reply.Status (status_of h.tables h.limits.shards files)))) (sym agree.files)) a.1 b.1 well good
+  one_line (line.Statement x) o s t u fit fat a b v w well good =
+      one_statement (meaning h.limits.shards h.tables x) o s t u a b v w fit fat well good
 
 -- what comes of a line is of what it says
 of_line : (Gives : ℤ → Type 0) (h : History) (text : List ℕ) (o : Upshot) (t : History) → Answers clock.Manual Gives h text o t → is_starved o ≡ false
@@ -451,44 +714,74 @@ of_line : (Gives : ℤ → Type 0) (h : History) (text : List ℕ) (o : Upshot) 
 of_line Gives h text o t (inl x) v = absurd (true≢false (ap is_starved (sym x.0) ∙ v))
 of_line Gives h text o t (inr x) v = x
 
-one_answer : (Gives : ℤ → Type 0) (h : History) (d e : DiskState) (text : List ℕ) (o p : Upshot) (t u : History) → d.files ≡ e.files
-    → FlushesNone clock.Manual Gives (on h d) text → FlushesNone clock.Manual Gives (on h e) text
-    → Answers clock.Manual Gives (on h d) text o t → Answers clock.Manual Gives (on h e) text p u → is_starved o ≡ false → is_starved p ≡ false
-    → Well d t.disk → Well e u.disk → Same o p t u
-one_answer Gives h d e text o p t u files none quiet x y v w well good =
-    let a = of_line Gives (on h d) text o t x v in
-    let b = of_line Gives (on h e) text p u y w in
-    let same = one_line text b.0 a.0 b.1 a.1 in
-    one_answered h d e Gives a.0 o p t u files (no_flush Gives (on h d) text a.0 a.1 none) (no_flush Gives (on h e) text a.0 a.1 quiet) a.2
-    (subst (λ l. Answered clock.Manual Gives (on h e) l p u) same b.2) v w well good
+module _ (Gives : ℤ → Type 0) where
+  one_answer : (h : History) (c d : List Change) (p q : DiskState) (text : List ℕ) (o s : Upshot) (t u : History) → Agree c d p q
+      → FlushFits clock.Manual Gives (on h c p) text → FlushFits clock.Manual Gives (on h d q) text
+      → Answers clock.Manual Gives (on h c p) text o t → Answers clock.Manual Gives (on h d q) text s u → is_starved o ≡ false → is_starved s ≡ false
+      → Well p t.disk → Well q u.disk → Same o s t u
+  one_answer h c d p q text o s t u agree fit fat x y v w well good =
+      let a = of_line Gives (on h c p) text o t x v in
+      let b = of_line Gives (on h d q) text s u y w in
+      let same = says_one text b.0 a.0 b.1 a.1 in
+      one_line Gives h c d p q agree a.0 o s t u (line_fits Gives (on h c p) text a.0 a.1 fit) (line_fits Gives (on h d q) text a.0 a.1 fat) a.2
+      (subst (λ l. Answered clock.Manual Gives (on h d q) l s u) same b.2) v w well good
 
-runs_agree : (Gives : ℤ → Type 0) (h : History) (d e : DiskState) (ls : List (List ℕ)) (rs ss : List Upshot) (t u : History) → d.files ≡ e.files
-    → NoneFlushes clock.Manual Gives (on h d) ls → NoneFlushes clock.Manual Gives (on h e) ls
-    → Runs clock.Manual Gives (on h d) ls rs t → Runs clock.Manual Gives (on h e) ls ss u → list_any is_starved rs ≡ false → list_any is_starved ss ≡ false
-    → Well d t.disk → Well e u.disk → (rs ≡ ss) × SameStore t u
-runs_agree Gives h d e [] [] [] t u files none quiet x y v w well good =
-    (refl, ap (λ (j : History). on j u.disk) x ∙ ap (λ (j : DiskState). on h j) (ap (λ (j : History). j.disk) y) ∙ sym y)
-runs_agree Gives h d e [] [] (s ∷ ss) t u files none quiet x y v w well good = absurd y
-runs_agree Gives h d e [] (r ∷ rs) ss t u files none quiet x y v w well good = absurd x
-runs_agree Gives h d e (l ∷ ls) [] ss t u files none quiet x y v w well good = absurd x
-runs_agree Gives h d e (l ∷ ls) (r ∷ rs) [] t u files none quiet x y v w well good = absurd y
-runs_agree Gives h d e (l ∷ ls) (r ∷ rs) (s ∷ ss) t u files none quiet x y v w well good =
-    let left = or_parts (is_starved r) (list_any is_starved rs) v in
-    let right = or_parts (is_starved s) (list_any is_starved ss) w in
-    let one_more = line_grows Gives (on h d) l r x.0 none.0 x.1 in
-    let other_more = line_grows Gives (on h e) l s y.0 quiet.0 y.1 in
-    let none_rest : NoneFlushes clock.Manual Gives x.0 ls = none.1 r x.0 x.1 in
-    let quiet_rest : NoneFlushes clock.Manual Gives y.0 ls = quiet.1 s y.0 y.1 in
-    let one_rest = run_grows Gives x.0 ls rs t none_rest x.2 in
-    let other_rest = run_grows Gives y.0 ls ss u quiet_rest y.2 in
-    let one =
-    one_answer Gives h d e l r s x.0 y.0 files none.0 quiet.0 x.1 y.1 left.0 right.0 (first_well d x.0.disk t.disk one_more one_rest well)
-    (first_well e y.0.disk u.disk other_more other_rest good) in
-    let rest =
-    runs_agree Gives x.0 x.0.disk y.0.disk ls rs ss t u (one_more.files ∙ files ∙ sym other_more.files) none_rest
-    (subst (λ k. NoneFlushes clock.Manual Gives k ls) (sym one.stores) quiet_rest) x.2 (subst (λ k. Runs clock.Manual Gives k ls ss u) (sym one.stores) y.2) left.1 right.1
-    (rest_well d x.0.disk t.disk one_more one_rest well one.one_goes) (rest_well e y.0.disk u.disk other_more other_rest good one.other_goes) in
-    (λ i. one.replies i ∷ rest.0 i, rest.1)
+  runs_agree : (h : History) (c d : List Change) (p q : DiskState) (ls : List (List ℕ)) (rs ss : List Upshot) (t u : History) → Agree c d p q
+      → FlushesFit clock.Manual Gives (on h c p) ls → FlushesFit clock.Manual Gives (on h d q) ls
+      → Runs clock.Manual Gives (on h c p) ls rs t → Runs clock.Manual Gives (on h d q) ls ss u → list_any is_starved rs ≡ false → list_any is_starved ss ≡ false
+      → Well p t.disk → Well q u.disk → (rs ≡ ss) × SameStore t u
+  runs_agree h c d p q [] [] [] t u agree fit fat x y v w well good = (refl, at_both t (on h c p) u (on h d q) x y (as_one h c d p q agree))
+  runs_agree h c d p q [] [] (s ∷ ss) t u agree fit fat x y v w well good = absurd y
+  runs_agree h c d p q [] (r ∷ rs) ss t u agree fit fat x y v w well good = absurd x
+  runs_agree h c d p q (l ∷ ls) [] ss t u agree fit fat x y v w well good = absurd x
+  runs_agree h c d p q (l ∷ ls) (r ∷ rs) [] t u agree fit fat x y v w well good = absurd y
+  runs_agree h c d p q (l ∷ ls) (r ∷ rs) (s ∷ ss) t u agree fit fat x y v w well good =
+      let one_fed = or_parts (is_starved r) (list_any is_starved rs) v in
+      let two_fed = or_parts (is_starved s) (list_any is_starved ss) w in
+      let one_more = stopping.one_line clock.Manual Gives (on h c p) l r x.0 x.1 in
+      let two_more = stopping.one_line clock.Manual Gives (on h d q) l s y.0 y.1 in
+      let fit_rest : FlushesFit clock.Manual Gives x.0 ls = fit.1 r x.0 x.1 in
+      let fat_rest : FlushesFit clock.Manual Gives y.0 ls = fat.1 s y.0 y.1 in
+      let one_rest = stopping.all_lines clock.Manual Gives x.0 ls rs t x.2 in
+      let two_rest = stopping.all_lines clock.Manual Gives y.0 ls ss u y.2 in
+      let one =
+      one_answer h c d p q l r s x.0 y.0 agree fit.0 fat.0 x.1 y.1 one_fed.0 two_fed.0 (first_well p x.0.disk t.disk one_rest well) (first_well q y.0.disk u.disk two_rest good) in
+      let back = sym one.both.stores.same in
+      let rest =
+      runs_agree x.0 x.0.changes y.0.changes x.0.disk y.0.disk ls rs ss t u (agreeing x.0 y.0 one.both.stores) fit_rest
+      (subst (λ k. FlushesFit clock.Manual Gives k ls) back fat_rest) x.2 (subst (λ k. Runs clock.Manual Gives k ls ss u) back y.2) one_fed.1 two_fed.1
+      (rest_well p x.0.disk t.disk one_more well one.both.one_goes) (rest_well q y.0.disk u.disk two_more good one.both.other_goes) in
+      (λ i. one.replies i ∷ rest.0 i, rest.1)
 
-pub one_outcome : (Gives : ℤ → Type 0) → OneOutcome Gives
-one_outcome Gives h ls rs ss t u x y none v w well good = runs_agree Gives h h.disk h.disk ls rs ss t u refl none none x y v w well good
+  pub one_outcome : OneOutcome Gives
+  one_outcome h ls rs ss t u x y fit v w well good =
+      runs_agree h h.changes h.changes h.disk h.disk ls rs ss t u (record { changes = refl; files = refl; last_file = refl; live = refl }) fit fit x y v w well good
+
+-- ---- lines that flush nothing
+
+no_write_fits : (x : BoundWrite) (r : Reply) (after : History) → LeavesRoom (Ok (bound.Write x)) r after → FitsBehind (Ok (bound.Write x)) r after
+no_write_fits x (reply.Wrote number) after room = λ full t got. absurd (no_true (is_full after x.shard x.table) room full)
+no_write_fits x reply.Done after room = tt
+no_write_fits x (reply.Rows rows shard front now) after room = tt
+no_write_fits x (reply.Flushed files) after room = tt
+no_write_fits x (reply.Verified files) after room = tt
+no_write_fits x (reply.Status tables) after room = tt
+no_write_fits x (reply.Refused why) after room = tt
+no_write_fits x (reply.Failed f) after room = tt
+
+none_fits : (b : Result Bound Refusal) (r : Reply) (after : History) → LeavesRoom b r after → FitsBehind b r after
+none_fits (Err x) r after room = tt
+none_fits (Ok (bound.Create x)) r after room = tt
+none_fits (Ok (bound.Alter x)) r after room = tt
+none_fits (Ok (bound.Write x)) r after room = no_write_fits x r after room
+none_fits (Ok (bound.Read x)) r after room = tt
+
+no_line_fits : (kind : ClockKind) (Gives : ℤ → Type 0) (h : History) (text : List ℕ) → FlushesNone kind Gives h text → FlushFits kind Gives h text
+no_line_fits kind Gives h text none = (
+  λ name t says named. absurd (none.0 name says),
+  λ s says answer after does. none_fits (meaning h.limits.shards h.tables s) answer after (none.1 s says answer after does),
+)
+
+pub no_flush_fits : (Gives : ℤ → Type 0) → NoFlushFits Gives
+no_flush_fits Gives kind h [] none = tt
+no_flush_fits Gives kind h (l ∷ ls) none = (no_line_fits kind Gives h l none.0, λ o after answers. no_flush_fits Gives kind after ls (none.1 o after answers))

@@ -40,7 +40,7 @@ module _ (P : History → History → Type 0) (dropped : (h k after : History) (
 module _ (P : History → History → Type 0) (same : (h after : History) → after ≡ h → P h after)
     (flushed : (h after : History) (t : TableSchema) (n : ℕ) (r : Result (Option ℕ) Fault) → FlushesIn h t n r after → P h after)
     (dropped : (h k after : History) (r : Result ℕ Fault) → P h k → DropsSegments k r after → P h after) where
-  settled : (h : History) (n table : ℕ) (r : Result (Option ℕ) Fault) (after : History) → Settles h n table r after → P h after
+  pub settled : (h : History) (n table : ℕ) (r : Result (Option ℕ) Fault) (after : History) → Settles h n table r after → P h after
   settled h n table r after so = by (either h n table r after so)
     where
       by : (after ≡ h) ⊎ ((t : TableSchema) × FlushesIn h t n r after) → P h after

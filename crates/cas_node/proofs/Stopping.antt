@@ -1,5 +1,6 @@
--- Along a run the disk is stopped only where the folder failed, which its count tells; its table files stay, and others come behind them.
-use Rattle.std.proofs.Common.{◌≡◌, ◌≤◌, ◌⊎◌, inl, inr, ⊎_elim, ℕ, zero, suc, ℤ, List, [], ◌∷◌, ◌++◌, length, append-nil, append_assoc, true, false, Option, None, Some, Result, Ok, Err, refl, sym, ap, ◌∙◌, subst, arith}
+-- Along a run the disk is stopped only where the folder failed, which its count tells; its counts and its files don't fall back, its table files stay, and others
+-- come behind them.
+use Rattle.std.proofs.Common.{◌≡◌, ◌≤◌, ◌⊎◌, inl, inr, ⊎_elim, ℕ, zero, suc, ℤ, Bool, List, [], ◌∷◌, ◌++◌, length, append-nil, append_assoc, true, false, Option, None, Some, Result, Ok, Err, refl, sym, ap, ◌∙◌, subst, arith}
 use Rattle.std.specs.List.{fold}
 use Rattle.std.proofs.lemmas.Bool.{true≢false}
 use Rattle.cas_types.specs.declared.schema.TableSchema.{TableSchema}
@@ -13,6 +14,7 @@ use Rattle.cas_changes.specs.declared.entry.Entry.{Entry as ManifestEntry}
 use Rattle.cas_effects.specs.declared.refusal.Refusal.{Refusal}
 use Rattle.cas_shard.specs.declared.entry.Entry.{Entry}
 use Rattle.cas_shard.specs.Shards.{ShardHistory}
+use Rattle.cas_journal.specs.Reach.{GoesOn, Reach}
 use Rattle.cas_lines.specs.declared.line.Line.{Line}
 use Rattle.cas_lines.specs.declared.line.Line.TheVariants as line
 use Rattle.cas_render.specs.declared.reply.Failure.TheVariants as failure
@@ -27,13 +29,13 @@ use Rattle.cas_view.specs.Views.{File}
 use Rattle.cas_sessions.specs.declared.answer.Fault.{Fault}
 use Rattle.cas_sessions.specs.declared.answer.Fault.TheVariants as fault
 use Rattle.cas_sessions.specs.Dropping.{DropsSegments, EndsAfter}
-use Rattle.cas_sessions.specs.Flushes.{EndsSo, Flushed, FlushesNamed, FlushesTable, Grows, WhyNoFurther, change_of, changes_by, without_begun, without_flushed}
-use Rattle.cas_sessions.specs.Filling.{EndsIn, FlushesIn}
+use Rattle.cas_sessions.specs.Flushes.{EndsSo, Flushed, FlushesNamed, FlushesTable, Grows, WhyNoFurther, change_of, changes_by, reach_by, without_begun, without_flushed}
+use Rattle.cas_sessions.specs.Filling.{EndsIn, FlushesIn, Settles}
 use Rattle.cas_sessions.specs.History.{History, DiskState, Takes, Defines, Does, Stays, Stops, shard_at}
 use Rattle.cas_sessions.specs.Verifying.{VerifiesNamed}
 use Rattle.cas_node.specs.declared.upshot.Upshot.{Upshot}
-use Rattle.cas_node.specs.Lines.{Answered, Answers, Runs, SetsClock, lists_any}
-use Rattle.cas_node.proofs.Settling.{behind, then_dropped}
+use Rattle.cas_node.specs.Lines.{Answered, Answers, DropsBehind, Runs, SetsClock, SettlesBehind, lists_any}
+use Rattle.cas_node.proofs.Settling.{behind, settled, then_dropped}
 
 -- ---- table files
 
@@ -50,20 +52,45 @@ more_twice a b c one two n table =
     let second = two n table in
     (first.0 ++ second.0, second.1 ∙ ap (λ (l : List (File Held)). l ++ second.0) first.1 ∙ append_assoc (a n table) first.0 second.0)
 
+-- ---- how far the files have come
+
+pub record IsFurther (r s : Reach) : Type 0 where
+  pub segment : r.segment ≤ s.segment
+  pub manifest : r.manifest ≤ s.manifest
+
+as_far : (r s : Reach) → s ≡ r → IsFurther r s
+as_far r s same = subst (IsFurther r) (sym same) (record { segment = omega arith; manifest = omega arith })
+
+further_on : (r s : Reach) → GoesOn r s → IsFurther r s
+further_on r s goes = record { segment = goes.segment; manifest = goes.manifest }
+
+by_one : (r : Reach) (c : Option Change) → IsFurther r (reach_by r c)
+by_one r None = record { segment = omega arith; manifest = omega arith }
+by_one r (Some c) = record { segment = omega arith; manifest = omega arith }
+
+further_twice : (r s t : Reach) → IsFurther r s → IsFurther s t → IsFurther r t
+further_twice r s t a b = record { segment = omega (arith, a.segment, b.segment); manifest = omega (arith, a.manifest, b.manifest) }
+
+by_all : (r : Reach) (cs : List (Option Change)) → IsFurther r (fold reach_by r cs)
+by_all r [] = record { segment = omega arith; manifest = omega arith }
+by_all r (c ∷ cs) = further_twice r (reach_by r c) (fold reach_by (reach_by r c) cs) (by_one r c) (by_all (reach_by r c) cs)
+
 -- ---- a disk
 
--- its count doesn't fall, and rises where the disk is stopped; and its table files stay
+-- its counts don't fall, and that of faults rises where the disk is stopped; its log and its manifest come further, and its table files stay
 pub record Counts (d e : DiskState) : Type 0 where
   pub faults : d.faults ≤ e.faults
+  pub reads : d.reads ≤ e.reads
+  pub reach : IsFurther d.reach e.reach
   pub stops : d.stopped ≡ false → (e.stopped ≡ false) ⊎ Rose d.faults e.faults
   pub files : AreMore d.files e.files
 
 still : (d : DiskState) → Counts d d
-still d = record { faults = omega arith; stops = λ on. inl on; files = no_more d.files d.files refl }
+still d = record { faults = omega arith; reads = omega arith; reach = as_far d.reach d.reach refl; stops = λ on. inl on; files = no_more d.files d.files refl }
 
 -- some reads of its table files failed
-read_on : (d : DiskState) (n : ℕ) → Counts d (record d { reads = n })
-read_on d n = record { faults = omega arith; stops = λ on. inl on; files = no_more d.files d.files refl }
+read_on : (d : DiskState) (n : ℕ) → d.reads ≤ n → Counts d (record d { reads = n })
+read_on d n more = record { faults = omega arith; reads = more; reach = as_far d.reach d.reach refl; stops = λ on. inl on; files = no_more d.files d.files refl }
 
 rose_before : (a b c : ℕ) → Rose a b → b ≤ c → Rose a c
 rose_before a b c rose le = omega (arith, rose, le)
@@ -74,6 +101,8 @@ rose_after a b c le rose = omega (arith, le, rose)
 then_on : (d e f : DiskState) → Counts d e → Counts e f → Counts d f
 then_on d e f a b = record {
   faults = omega (arith, a.faults, b.faults);
+  reads = omega (arith, a.reads, b.reads);
+  reach = further_twice d.reach e.reach f.reach a.reach b.reach;
   stops = λ on.
       ⊎_elim (λ still_on. ⊎_elim (λ goes. inl goes) (λ rose. inr (rose_after d.faults e.faults f.faults a.faults rose)) (b.stops still_on))
       (λ rose. inr (rose_before d.faults e.faults f.faults rose b.faults)) (a.stops on);
@@ -83,10 +112,10 @@ then_on d e f a b = record {
 -- ---- a step, of any kind
 
 of_stays : (d e : DiskState) → Stays d e → Counts d e
-of_stays d e s = record { faults = s.faults; stops = λ on. inl (s.stopped ∙ on); files = no_more d.files e.files s.files.0 }
+of_stays d e s = record { faults = s.faults; reads = omega (arith, s.files.1); reach = further_on d.reach e.reach s.reach; stops = λ on. inl (s.stopped ∙ on); files = no_more d.files e.files s.files.0 }
 
 of_stops : (d e : DiskState) → Stops d e → Counts d e
-of_stops d e s = record { faults = s.faults; stops = λ on. inr s.rose; files = no_more d.files e.files s.files.0 }
+of_stops d e s = record { faults = s.faults; reads = omega (arith, s.files.1); reach = further_on d.reach e.reach s.reach; stops = λ on. inr s.rose; files = no_more d.files e.files s.files.0 }
 
 taken : (segment : ℕ) (m : Mutation) (x : Entry) (d : DiskState) (r : Reply) (entries : List Entry) (e : DiskState) → Takes segment m x d r entries e → Counts d e
 taken segment m x d reply.Done entries e t = absurd t
@@ -104,7 +133,13 @@ taken segment m x d (reply.Failed (failure.Block n at)) entries e t = absurd t
 
 defined : (x : ManifestEntry) (old new : List TableSchema) (d : DiskState) (r : Reply) (tables : List TableSchema) (e : DiskState) → Defines x old new d r tables e → Counts d e
 defined x old new d reply.Done tables e t =
-    record { faults = t.2.faults; stops = λ on. inl (t.2.stopped ∙ on); files = no_more d.files e.files t.2.files.0 }
+    record {
+      faults = t.2.faults;
+      reads = omega (arith, t.2.files.1);
+      reach = subst (IsFurther d.reach) (sym t.2.reach) (record { segment = omega arith; manifest = omega arith });
+      stops = λ on. inl (t.2.stopped ∙ on);
+      files = no_more d.files e.files t.2.files.0;
+    }
 defined x old new d (reply.Wrote number) tables e t = absurd t
 defined x old new d (reply.Rows rows shard front now) tables e t = absurd t
 defined x old new d (reply.Flushed files) tables e t = absurd t
@@ -125,7 +160,7 @@ unchanged h t same = at_disk h t h.disk (ap (λ (k : History). k.disk) same) (st
 
 -- ---- a flush
 
-same_or_not : (n m : ℕ) → (n ≡ m) ⊎ (n ≡ m → ⊥)
+pub same_or_not : (n m : ℕ) → (n ≡ m) ⊎ (n ≡ m → ⊥)
 same_or_not zero zero = inl refl
 same_or_not zero (suc m) = inr (λ e. absurd (omega (arith, e)))
 same_or_not (suc n) zero = inr (λ e. absurd (omega (arith, e)))
@@ -162,11 +197,17 @@ module _ (h : History) (t : TableSchema) (changes : List (Option Change)) (e : D
   ended begun (Ok told) ends = inl ends.2
   ended begun (Err f) ends = further t (length changes) (shard_at h (length changes)) h.disk e f ends.1
 
-  pub flushed_counts : (begun : ℕ) (r : Result (List ℕ) Fault) → EndsSo h t changes begun r e → Counts h.disk e
-  flushed_counts begun r ends = record { faults = so.faults; stops = λ on. ended begun r ends; files = flushed_more }
+  flushed_counts : (begun : ℕ) (r : Result (List ℕ) Fault) → EndsSo h t changes begun r e → Counts h.disk e
+  flushed_counts begun r ends = record {
+    faults = so.faults;
+    reads = so.reads;
+    reach = subst (IsFurther h.disk.reach) (sym so.reach) (by_all h.disk.reach changes);
+    stops = λ on. ended begun r ends;
+    files = flushed_more;
+  }
 
 -- a flush that an earlier fault didn't stop
-abbrev IsBegun : History → TableSchema → Result (List ℕ) Fault → History → Type 0
+abbrev pub IsBegun : History → TableSchema → Result (List ℕ) Fault → History → Type 0
 IsBegun h t r after =
     (changes : List (Option Change)) × (begun : ℕ) × (e : DiskState) × (h.disk.stopped ≡ false) × Flushed h t changes e × EndsSo h t changes begun r e
     × (after ≡ record h {
@@ -189,7 +230,7 @@ flush_counts h t (Err fault.Read) after a = begun_counts h t (Err fault.Read) af
 flush_counts h t (Err (fault.BadBlock number at)) after a = begun_counts h t (Err (fault.BadBlock number at)) after a
 flush_counts h t (Err fault.Mem) after a = begun_counts h t (Err fault.Mem) after a
 
-named_counts : (h : History) (o : Option TableSchema) (r : Result (List ℕ) Fault) (after : History) → FlushesNamed h o r after → Counts h.disk after.disk
+pub named_counts : (h : History) (o : Option TableSchema) (r : Result (List ℕ) Fault) (after : History) → FlushesNamed h o r after → Counts h.disk after.disk
 named_counts h None r after a = unchanged h after a.1
 named_counts h (Some t) r after a = flush_counts h t r after a
 
@@ -212,11 +253,18 @@ ends_on : (t : TableSchema) (n : ℕ) (q : ShardHistory) (c : Option Change) (r 
 ends_on t n q c (Ok told) d e one = inl one.stopped
 ends_on t n q c (Err f) d e none = further t n q d e f none.why
 
+-- how far the files have come by it
+far_in : (t : TableSchema) (n : ℕ) (q : ShardHistory) (c : Option Change) (r : Result (Option ℕ) Fault) (d e : DiskState) → EndsIn t n q c r d e → IsFurther d.reach e.reach
+far_in t n q c (Ok told) d e one = subst (IsFurther d.reach) (sym one.reach) (by_one d.reach c)
+far_in t n q c (Err f) d e none = as_far d.reach e.reach none.reach
+
 one_counts : (h after : History) (t : TableSchema) (n : ℕ) (r : Result (Option ℕ) Fault) → FlushesIn h t n r after → Counts h.disk after.disk
 one_counts h after t n r a =
     at_disk h after a.disk (ap (λ (k : History). k.disk) a.follows)
     (record {
       faults = a.faults;
+      reads = a.reads;
+      reach = far_in t n (shard_at h n) a.change r h.disk a.disk a.ends;
       stops = λ on. ends_on t n (shard_at h n) a.change r h.disk a.disk a.ends;
       files = more_in t n (shard_at h n) a.change r h.disk a.disk a.ends;
     })
@@ -235,26 +283,43 @@ ends_dropped count (Err fault.Mem) d e ends on = inl ends
 drop_counts : (h after : History) (r : Result ℕ Fault) → DropsSegments h r after → Counts h.disk after.disk
 drop_counts h after r a =
     at_disk h after a.disk (ap (λ (k : History). k.disk) a.follows)
-    (record { faults = a.drops.faults; stops = ends_dropped a.count r h.disk a.disk a.ends; files = no_more h.disk.files a.disk.files a.drops.files.0 })
+    (record {
+      faults = a.drops.faults;
+      reads = omega (arith, a.drops.files.1);
+      reach = subst (IsFurther h.disk.reach) (sym a.drops.reach) (record { segment = omega arith; manifest = omega arith });
+      stops = ends_dropped a.count r h.disk a.disk a.ends;
+      files = no_more h.disk.files a.disk.files a.drops.files.0;
+    })
 
 more_dropped : (h k after : History) (r : Result ℕ Fault) → Counts h.disk k.disk → DropsSegments k r after → Counts h.disk after.disk
 more_dropped h k after r so drops = then_on h.disk k.disk after.disk so (drop_counts k after r drops)
+
+pub dropped_counts : (listed want : Bool) (k after : History) → DropsBehind listed want k after → Counts k.disk after.disk
+dropped_counts listed want k after drops = then_dropped (λ (a b : History). Counts a.disk b.disk) more_dropped listed want k k after (still k.disk) drops
+
+-- ---- a memtable that is full
+
+pub settle_counts : (h : History) (n table : ℕ) (r : Result (Option ℕ) Fault) (after : History) → Settles h n table r after → Counts h.disk after.disk
+settle_counts h n table r after so = settled (λ (k j : History). Counts k.disk j.disk) unchanged one_counts more_dropped h n table r after so
+
+pub behind_counts : (b : Result Bound Refusal) (r : Reply) (want : Bool) (h after : History) → SettlesBehind b r want h after → Counts h.disk after.disk
+behind_counts b r want h after so = behind (λ (k j : History). Counts k.disk j.disk) unchanged one_counts more_dropped b r want h after so
 
 -- ---- a check
 
 verified_counts : (h : History) (o : Option TableSchema) (r : Result (List Verdict) Fault) (t : History) → VerifiesNamed h o r t → Counts h.disk t.disk
 verified_counts h None r t a = unchanged h t a.1
-verified_counts h (Some x) r t a = at_disk h t (record h.disk { reads = a.0 }) (ap (λ (k : History). k.disk) a.3) (read_on h.disk a.0)
+verified_counts h (Some x) r t a = at_disk h t (record h.disk { reads = a.0 }) (ap (λ (k : History). k.disk) a.3) (read_on h.disk a.0 a.1)
 
 -- ---- a line
 
 module _ (kind : ClockKind) (Gives : ℤ → Type 0) where
-  deed : (h : History) (m : Result Bound Refusal) (r : Reply) (t : History) → Does kind Gives h m r t → Counts h.disk t.disk
+  pub deed : (h : History) (m : Result Bound Refusal) (r : Reply) (t : History) → Does kind Gives h m r t → Counts h.disk t.disk
   deed h (Err x) r t a = unchanged h t a.1
   deed h (Ok (bound.Create x)) r t a = at_disk h t a.1 (ap (λ (k : History). k.disk) a.3) (defined _ _ _ _ r a.0 a.1 a.2)
   deed h (Ok (bound.Alter x)) r t a = at_disk h t a.1 (ap (λ (k : History). k.disk) a.3) (defined _ _ _ _ r a.0 a.1 a.2)
   deed h (Ok (bound.Write w)) r t a = at_disk h t a.2.1 (ap (λ (k : History). k.disk) a.2.3) (taken _ _ _ _ r a.2.0 a.2.1 a.2.2)
-  deed h (Ok (bound.Read q)) r t a = at_disk h t (record h.disk { reads = a.2.0 }) (ap (λ (k : History). k.disk) a.2.3) (read_on h.disk a.2.0)
+  deed h (Ok (bound.Read q)) r t a = at_disk h t (record h.disk { reads = a.2.0 }) (ap (λ (k : History). k.disk) a.2.3) (read_on h.disk a.2.0 a.2.1)
 
   answered : (h : History) (l : Line) (r : Upshot) (t : History) → Answered kind Gives h l r t → Counts h.disk t.disk
   answered h line.Blank r t a = unchanged h t a.1
@@ -270,14 +335,13 @@ module _ (kind : ClockKind) (Gives : ℤ → Type 0) where
   answered h line.Status r t a = unchanged h t a.1
   answered h (line.Statement s) r t a =
       let b = meaning h.limits.shards h.tables s in
-      then_on h.disk a.1.disk t.disk (deed h b a.0 a.1 a.3)
-      (behind (λ (k j : History). Counts k.disk j.disk) unchanged one_counts more_dropped b a.0 r.want a.1 t a.4)
+      then_on h.disk a.1.disk t.disk (deed h b a.0 a.1 a.3) (behind_counts b a.0 r.want a.1 t a.4)
 
   pub one_line : (h : History) (text : List ℕ) (r : Upshot) (t : History) → Answers kind Gives h text r t → Counts h.disk t.disk
   one_line h text r t (inl x) = unchanged h t x.1
   one_line h text r t (inr x) = answered h x.0 r t x.2
 
-  all_lines : (h : History) (ls : List (List ℕ)) (rs : List Upshot) (t : History) → Runs kind Gives h ls rs t → Counts h.disk t.disk
+  pub all_lines : (h : History) (ls : List (List ℕ)) (rs : List Upshot) (t : History) → Runs kind Gives h ls rs t → Counts h.disk t.disk
   all_lines h [] [] t x = unchanged h t x
   all_lines h [] (r ∷ rs) t x = absurd x
   all_lines h (l ∷ ls) [] t x = absurd x

@@ -1,21 +1,40 @@
 -- What holds of every run of a script, and of every open store (own).
-use Rattle.std.specs.Prelude.{◌≡◌, ◌<◌, ◌≤◌, ◌+◌, ◌*◌, ◌^◌, ℕ, ℤ, false, List, length}
+use Rattle.std.specs.Prelude.{◌≡◌, ◌<◌, ◌≤◌, ◌+◌, ◌*◌, ◌^◌, ℕ, ℤ, true, false, Some, Result, Ok, List, [], ◌∷◌, length, map, slice_get}
 use Rattle.std.specs.List.{list_any}
 use Rattle.cas_io.specs.Causes.{Rose}
 use Rattle.cas_disk.specs.Disk.{Disk}
 use Rattle.cas_atoms.specs.declared.atom.Mutation.{Mutation}
+use Rattle.cas_types.specs.declared.schema.TableSchema.{TableSchema}
+use Rattle.cas_bind.specs.Meaning.{meaning}
+use Rattle.cas_bind.specs.declared.bound.Bound.{Bound}
+use Rattle.cas_bind.specs.declared.bound.Bound.TheVariants as bound
 use Rattle.cas_bind.specs.declared.bound.Limits.{Limits}
+use Rattle.cas_changes.specs.declared.entry.Change.{Change}
 use Rattle.cas_changes.specs.declared.entry.Entry.{Entry as ManifestEntry}
 use Rattle.cas_changes.specs.declared.said.TheConstants.{SEGMENT_LIMIT, FILE_LIMIT}
+use Rattle.cas_effects.specs.declared.refusal.Refusal.{Refusal}
+use Rattle.cas_info.specs.declared.info.TheConstants.{FILE_NUMBER_LIMIT}
 use Rattle.cas_journal.specs.Reach.{Reach}
-use Rattle.cas_shard.specs.Shards.{ShardHistory}
-use Rattle.cas_shard.specs.Stands.{NumbersRise, AreShown}
+use Rattle.cas_lines.specs.declared.line.Line.TheVariants as line
+use Rattle.cas_lines.specs.Lines.{Says}
+use Rattle.cas_render.specs.declared.reply.Reply.{Reply}
+use Rattle.cas_render.specs.declared.reply.Reply.TheVariants as reply
+use Rattle.cas_room.specs.Changing.{added_by}
+use Rattle.cas_room.specs.declared.table_files.TheConstants.{LIVE_LIMIT}
+use Rattle.cas_shard.specs.Shards.{ShardHistory, all_entries}
+use Rattle.cas_shard.specs.Stands.{NumbersRise, AreShown, mutations_of}
+use Rattle.cas_terms.specs.Columns.{table_named}
+use Rattle.cql_parse.specs.declared.syntax.Statement.{Statement}
+use Rattle.cql_parse.specs.declared.syntax.TableName.{TableName}
+use Rattle.cas_sessions.specs.Filling.{is_full}
+use Rattle.cas_sessions.specs.Status.{file_numbers}
+use Rattle.cas_sessions.specs.TooMuch.{IsTooMuch}
 use Rattle.cas_words.specs.declared.words.ClockKind.{ClockKind}
 use Rattle.cas_words.specs.declared.words.ClockKind.TheVariants as clock
-use Rattle.cas_sessions.specs.History.{History, DiskState, shard_at}
+use Rattle.cas_sessions.specs.History.{History, DiskState, Does, shard_at}
 use Rattle.cas_shard.specs.declared.entry.ShardOpening.{ShardOpening}
 use Rattle.cas_node.specs.declared.upshot.Upshot.{Upshot}
-use Rattle.cas_node.specs.Lines.{NoneFlushes, Runs, is_starved}
+use Rattle.cas_node.specs.Lines.{Answers, NoneFlushes, Runs, is_starved}
 use Rattle.cas_node.specs.Ran.{AreGood}
 use Rattle.cas_recovery.specs.Found.{AreOfAStore}
 use Rattle.cas_recovery.specs.Openings.{AreOpenings}
@@ -25,22 +44,60 @@ use Rattle.cas_sessions.specs.Starts.{start}
 abbrev pub IsRoomy : Reach → Type 0
 IsRoomy r = (r.segment < SEGMENT_LIMIT) × (r.manifest + 2 ^ 32 + 10 ≤ FILE_LIMIT)
 
--- along a run the disk is well: no write was stopped, neither the folder nor a read of a table file fails, there is room in its files, and no table file
--- is bad
+-- along a run the disk is well: no write was stopped, neither the folder nor a read of a table file fails, there is room in its files, and of the table files
+-- that are there at its end none is bad
 abbrev pub StaysWell : DiskState → DiskState → Type 0
-StaysWell d e = (d.stopped ≡ false) × (Rose d.faults e.faults → ⊥) × IsRoomy e.reach × (Rose d.reads e.reads → ⊥) × AreGood d.files
+StaysWell d e = (d.stopped ≡ false) × (Rose d.faults e.faults → ⊥) × IsRoomy e.reach × (Rose d.reads e.reads → ⊥) × AreGood e.files
 
--- how the disk stands aside, one store is the other
-abbrev pub SameStore : History → History → Type 0
-SameStore t u = record t { disk = u.disk } ≡ u
+-- there may be a table file more for each shard, and one, and numbers for them; and what was written to the table is in no shard too much for one file
+pub record FitsFiles (h : History) (t : TableSchema) : Type 0 where
+  pub live : h.disk.live + (length h.shards + 1) ≤ LIVE_LIMIT
+  pub numbers : h.disk.last_file + (length h.shards + 1) < FILE_NUMBER_LIMIT
+  pub no_more : (n : ℕ) → IsTooMuch t n (mutations_of t.number (all_entries (shard_at h n))) → ⊥
 
--- under the manual clock lines that flush nothing are answered in one way and leave one store, as long as memory doesn't run out and the disk is well
+-- so it is of the table of a memtable that a statement leaves full that is to do this, and is answered so
+abbrev pub FitsBehind : Result Bound Refusal → Reply → History → Type 0
+FitsBehind (Ok (bound.Write w)) (reply.Wrote number) after =
+    is_full after w.shard w.table ≡ true → (t : TableSchema) → slice_get after.tables w.table ≡ Some t → FitsFiles after t
+FitsBehind b r after = Unit {0}
+
+-- of a table that the line tells to flush, and of one whose memtable it makes full, whatever it is answered
+abbrev pub FlushFits : ClockKind → (ℤ → Type 0) → History → List ℕ → Type 0
+FlushFits kind Gives h text =
+    ((name : TableName) (t : TableSchema) → Says text (line.Flush name) → table_named h.tables name ≡ Some t → FitsFiles h t)
+    × ((s : Statement) → Says text (line.Statement s) → (answer : Reply) (after : History)
+    → Does kind Gives h (meaning h.limits.shards h.tables s) answer after → FitsBehind (meaning h.limits.shards h.tables s) answer after)
+
+-- each flush of these lines fits, whatever comes of those before it; of lines that flush nothing that is so
+abbrev pub FlushesFit : ClockKind → (ℤ → Type 0) → History → List (List ℕ) → Type 0
+FlushesFit kind Gives h [] = Unit {0}
+FlushesFit kind Gives h (l ∷ ls) =
+    FlushFits kind Gives h l × ((o : Upshot) (after : History) → Answers kind Gives h l o after → FlushesFit kind Gives after ls)
+
+-- a change of table files, those that it adds by their numbers alone
+abbrev pub by_numbers : Change → Change × List ℕ
+by_numbers c = (record c { added = [] }, added_by c)
+
+-- One store is the other, but for how its disk stands and for what is told of table files beside their numbers: these are the same, by shard and table, and
+-- so is the last that was given.
+pub record SameStore (t u : History) : Type 0 where
+  pub same : record t { changes = u.changes; disk = u.disk } ≡ u
+  pub changes : map by_numbers t.changes ≡ map by_numbers u.changes
+  pub files : file_numbers t.disk.files ≡ file_numbers u.disk.files
+  pub last_file : t.disk.last_file ≡ u.disk.last_file
+  pub live : t.disk.live ≡ u.disk.live
+
+-- under the manual clock lines are answered in one way and leave one store, as long as memory doesn't run out, the disk is well, and what they flush fits
 abbrev pub OneOutcome : (ℤ → Type 0) → Type 0
 OneOutcome Gives =
     (h : History) (lines : List (List ℕ)) (rs ss : List Upshot) (t u : History)
     → Runs clock.Manual Gives h lines rs t → Runs clock.Manual Gives h lines ss u
-    → NoneFlushes clock.Manual Gives h lines → list_any is_starved rs ≡ false → list_any is_starved ss ≡ false
+    → FlushesFit clock.Manual Gives h lines → list_any is_starved rs ≡ false → list_any is_starved ss ≡ false
     → StaysWell h.disk t.disk → StaysWell h.disk u.disk → (rs ≡ ss) × SameStore t u
+
+-- of lines that flush nothing it is so in any store
+abbrev pub NoFlushFits : (ℤ → Type 0) → Type 0
+NoFlushFits Gives = (kind : ClockKind) (h : History) (lines : List (List ℕ)) → NoneFlushes kind Gives h lines → FlushesFit kind Gives h lines
 
 -- each shard's mutations are numbered upwards, those since the run began by one
 abbrev pub AllRise : History → Type 0

@@ -1,14 +1,16 @@
 //! What holds of every run of a script.
 
-ghost use Rattle.cas_node.specs.Laws.{AllAreRead, FilesAreFew, FoundRise, NumbersStay, OneOutcome};
+ghost use Rattle.cas_node.specs.Laws.{AllAreRead, FilesAreFew, FoundRise, NoFlushFits, NumbersStay, OneOutcome};
 
 use cas_disk::Folder;
 use cas_io::Clock;
 
-/// Under the manual clock a script prints one output, as long as memory doesn't run out and the disk is
-/// well: its lines have one list of answers, and leave one store.
+/// Under the manual clock a script prints one output, as long as memory doesn't run out, the disk is well,
+/// and what it flushes fits into table files: its lines have one list of answers, and leave one store.
+/// A script that flushes nothing always fits.
 pub fn one_outcome<C: Clock>()
-    ensures { (clock : C) → OneOutcome (C.may_give clock) }
+    ensures one { (clock : C) → OneOutcome (C.may_give clock) }
+    ensures none { (clock : C) → NoFlushFits (C.may_give clock) }
 {}
 
 /// Along a run the mutations of each shard are numbered upwards, those of the run by one, so that a SELECT
