@@ -9,7 +9,7 @@ ghost use Rattle.cas_recovery.specs.Inner.Filling.{AreFilled, AreGiven, IsBadIn,
 use crate::fault::{RecoveryFault, of_listed};
 use crate::memory::NONE_DRAWN;
 use cas_changes::{Said, ShardTimes};
-use cas_disk::{Count, Folder, Name, Sealed};
+use cas_disk::{Count, Folder};
 use cas_listed::load_listed;
 use cas_shard::Shard;
 use cas_types::{Mem, TableSchema};

@@ -1,6 +1,8 @@
 //! A table file of the format's first version by hand: the partitions of `by_hand.rt`, in whose heads nothing stands for static
 //! columns. It is loaded, nothing wrong is found in it, and its row is read.
 
+ghost use Rattle.std.specs.Prelude.{◌<◌};
+
 use crate::by_hand::{FILE, load, load_listed};
 use crate::reads::{Told, is_readable, read_from};
 use cas_disk::{Count, FaultCount, MemSealed};
