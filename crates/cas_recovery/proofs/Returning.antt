@@ -27,7 +27,7 @@ use Rattle.cas_sstread.specs.Loading.{Held}
 use Rattle.cas_view.specs.Views.{File}
 use Rattle.cas_listed.specs.Listed.{AreLoaded}
 use Rattle.cas_stored.specs.Reading.{AreReadIn}
-use Rattle.cas_stored.specs.Stored.{HoldEach, StoredTable}
+use Rattle.cas_stored.specs.Stored.{HoldEach, IsFileOf, StoredTable}
 use Rattle.cas_shard.specs.declared.entry.ShardOpening.{ShardOpening}
 use Rattle.cas_shard.specs.Shards.{found_shard}
 use Rattle.cas_shard.specs.Stands.{HasNoFiles, Holds, ShardState, Stands, files_at, mutations_of}

@@ -6,8 +6,8 @@ use cas_bounds::{Clustering, Ordered, RowOrder, Values};
 use cas_cell::{Cell, Liveness};
 use cas_disk::{Count, Draft, FaultCount, FaultPlan, Folder, MemDraft, MemFolder, MemSealed, Name};
 use cas_flush::flush_parts;
-use cas_stored::TableStore;
 use cas_fragments::Version;
+use cas_stored::TableStore;
 use cas_tables::Header;
 use cas_types::{Bytes, Column, Kind, List, Shape, Text, TypeTag};
 use std::alloc::Global;
@@ -190,7 +190,11 @@ const LENGTH_PLACE: u64 = 147;
 pub(crate) fn listing(rt: &impl Abort, alloc: Global, bytes: &[u8], long: u8) -> MemFolder {
     let mut folder = MemFolder::new(alloc, FaultPlan::none(alloc));
     assert!(rt; put(&mut folder, Name::Manifest, &MANIFEST));
-    assert!(rt; folder.write_at(Name::Manifest, LENGTH_PLACE, &[long]).is_ok());
+    assert!(rt;
+        folder
+            .write_at(Name::Manifest, LENGTH_PLACE, &[long])
+            .is_ok()
+    );
     assert!(rt; put(&mut folder, Name::Table(1), bytes));
     folder
 }
