@@ -150,8 +150,7 @@ alike n (Some c ∷ cs) (Some d ∷ ds) long near a b =
     let one : IsNext n (k ∷ numbers_added cs) = subst (λ ks. IsNext n (ks ++ numbers_added cs)) is a in
     let two : IsNext n (l ∷ numbers_added ds) = subst (λ ks. IsNext n (ks ++ numbers_added ds)) are b in
     let first : k ≡ l = the_next n k (numbers_added cs) one ∙ sym (the_next n l (numbers_added ds) two) in
-    let numbers : added_by c ≡ added_by d = is ∙ ap (λ m. m ∷ []) first ∙ sym are in
-    (
+    let numbers : added_by c ≡ added_by d = is ∙ ap (λ m. m ∷ []) first ∙ sym are in (
       λ i. (here.told i, numbers i),
       alike k cs ds (omega (arith, long)) (λ m low. near (suc m) (omega (arith, low))) (the_rest n k (numbers_added cs) one)
           (subst (λ m. IsNext m (numbers_added ds)) (sym first) (the_rest n l (numbers_added ds) two)),
