@@ -1,18 +1,16 @@
 -- Two flushes of one store that end well, whatever its disk was asked before, list files in the same shards, of the same numbers.
-use Rattle.std.proofs.Common.{◌≡◌, ◌⊎◌, ⊎_elim, ◌<◌, ◌≤◌, ◌+◌, ℕ, zero, suc, Bool, true, false, List, [], ◌∷◌, ◌++◌, length, map, append-nil, Option, None, Some, is_some, Result, Ok, refl, sym, ap, ◌∙◌, subst, arith}
+use Rattle.std.proofs.Common.{◌≡◌, ◌⊎◌, ⊎_elim, ◌<◌, ◌≤◌, ◌+◌, ℕ, zero, suc, List, [], ◌∷◌, ◌++◌, length, map, append-nil, Option, None, Some, is_some, Ok, refl, sym, ap, ◌∙◌, subst, arith}
 use Rattle.std.specs.Prelude.{◌==◌, ◌&&◌, if◌then◌else◌, IfSome}
 use Rattle.std.specs.List.{fold}
 use Rattle.std.proofs.lemmas.Bool.{true≢false}
 use Rattle.std.proofs.lemmas.List.{map-append}
 use Rattle.cas_types.specs.declared.schema.TableSchema.{TableSchema}
-use Rattle.cas_atoms.specs.declared.atom.Mutation.{Mutation}
 use Rattle.cas_changes.specs.declared.entry.Change.{Change}
 use Rattle.cas_info.specs.declared.info.TableInfo.{TableInfo}
 use Rattle.cas_room.specs.Changing.{added_by}
 use Rattle.cas_shard.specs.Shards.{ShardHistory}
 use Rattle.cas_sstread.specs.Loading.{Held}
 use Rattle.cas_view.specs.Views.{File}
-use Rattle.cas_sessions.specs.declared.answer.Fault.{Fault}
 use Rattle.cas_sessions.specs.Filling.{FlushesIn, SaysNone, filled_with, listed_of, rest_with}
 use Rattle.cas_sessions.specs.Flushes.{AscendTo, EndsSo, Flushed, Grows, ListsOne, SaySomething, change_of, changes_by, numbers_added, numbers_in, without_begun, without_flushed}
 use Rattle.cas_sessions.specs.History.{History, DiskState, shard_at}
@@ -22,7 +20,7 @@ use Rattle.cas_node.proofs.Stopping.{same_or_not}
 
 -- ---- changes that are the same by the numbers of their files
 
-abbrev pub Alike : Option Change → Option Change → Type 0
+abbrev Alike : Option Change → Option Change → Type 0
 Alike None None = Unit {0}
 Alike (Some c) (Some d) = by_numbers c ≡ by_numbers d
 Alike None (Some d) = ⊥
@@ -152,8 +150,7 @@ alike n (Some c ∷ cs) (Some d ∷ ds) long near a b =
     let one : IsNext n (k ∷ numbers_added cs) = subst (λ ks. IsNext n (ks ++ numbers_added cs)) is a in
     let two : IsNext n (l ∷ numbers_added ds) = subst (λ ks. IsNext n (ks ++ numbers_added ds)) are b in
     let first : k ≡ l = the_next n k (numbers_added cs) one ∙ sym (the_next n l (numbers_added ds) two) in
-    let numbers : added_by c ≡ added_by d = is ∙ ap (λ m. m ∷ []) first ∙ sym are in
-    (
+    let numbers : added_by c ≡ added_by d = is ∙ ap (λ m. m ∷ []) first ∙ sym are in (
       λ i. (here.told i, numbers i),
       alike k cs ds (omega (arith, long)) (λ m low. near (suc m) (omega (arith, low))) (the_rest n k (numbers_added cs) one)
           (subst (λ m. IsNext m (numbers_added ds)) (sym first) (the_rest n l (numbers_added ds) two)),

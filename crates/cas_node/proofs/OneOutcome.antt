@@ -1,6 +1,6 @@
 -- Under the manual clock a script has one outcome.
-use Rattle.std.proofs.Common.{◌≡◌, ◌≤◌, ◌<◌, ◌+◌, ◌⊎◌, inl, inr, ℕ, ℤ, Bool, true, false, List, [], ◌∷◌, ◌++◌, length, map, flat_map, Option, Some, None, Result, Ok, Err, is_ok, refl, sym, ap, ◌∙◌, subst, arith}
-use Rattle.std.specs.Prelude.{◌||◌, slice_get}
+use Rattle.std.proofs.Common.{◌≡◌, ◌≤◌, ◌+◌, ◌⊎◌, inl, inr, ℕ, ℤ, Bool, true, false, List, [], ◌∷◌, ◌++◌, length, map, flat_map, Option, Some, None, Result, Ok, Err, is_ok, refl, sym, ap, ◌∙◌, subst, arith}
+use Rattle.std.specs.Prelude.{slice_get}
 use Rattle.std.specs.List.{list_any, range_with_len}
 use Rattle.std.proofs.Math.Logic.{∥∥₁_elim}
 use Rattle.std.proofs.lemmas.Bool.{true≢false, or_parts}
@@ -27,7 +27,6 @@ use Rattle.cas_lines.specs.declared.line.Line.{Line}
 use Rattle.cas_lines.specs.declared.line.Line.TheVariants as line
 use Rattle.cas_lines.specs.Lines.{Says}
 use Rattle.cas_lines.proofs.OneLine.{one_line as says_one}
-use Rattle.cas_manifest.specs.Manifests.{room_of}
 use Rattle.cas_render.specs.Listing.{status_of}
 use Rattle.cas_render.specs.declared.reply.Failure.TheVariants as failure
 use Rattle.cas_render.specs.declared.reply.Reply.{Reply}
@@ -44,13 +43,13 @@ use Rattle.cql_parse.specs.declared.syntax.TableName.{TableName}
 use Rattle.cas_sessions.specs.declared.answer.Fault.{Fault}
 use Rattle.cas_sessions.specs.declared.answer.Fault.TheVariants as fault
 use Rattle.cas_sessions.specs.Dropping.{DropsSegments, EndsAfter}
-use Rattle.cas_sessions.specs.Filling.{FlushesFull, FlushesIf, FlushesIn, NotFlushed, Settles, is_full}
+use Rattle.cas_sessions.specs.Filling.{FlushesFull, FlushesIf, FlushesIn, is_full}
 use Rattle.cas_sessions.specs.Flushes.{FlushesNamed, FlushesTable, WhyNoFurther, WhyTooMany, numbers_added}
 use Rattle.cas_sessions.specs.History.{History, DiskState, Takes, Shows, Defines, Changes, Does, ReadsAt, SameFiles, WritesAt, after_read, after_write, entry_of, rows_reply, shard_at, tells_want}
 use Rattle.cas_sessions.specs.Status.{file_numbers, status}
 use Rattle.cas_sessions.specs.Verifying.{EndsVerified, VerifiesNamed, table_files}
 use Rattle.cas_node.specs.declared.upshot.Upshot.{Upshot}
-use Rattle.cas_node.specs.Lines.{Answered, Answers, DropsBehind, FlushesNone, FlushesAndDrops, IsCarriedOut, LeavesRoom, NoneFlushes, Runs, SettlesAndDrops, SettlesBehind, is_starved, is_want, lists_any, lists_one, replied, reply_of_flush, reply_of_verify, says_want}
+use Rattle.cas_node.specs.Lines.{Answered, Answers, DropsBehind, FlushesNone, FlushesAndDrops, IsCarriedOut, LeavesRoom, Runs, SettlesAndDrops, SettlesBehind, is_starved, is_want, lists_any, lists_one, replied, reply_of_flush, reply_of_verify, says_want}
 use Rattle.cas_node.specs.Ran.{AreGood}
 use Rattle.cas_node.specs.Laws.{FitsBehind, FitsFiles, FlushFits, FlushesFit, IsRoomy, NoFlushFits, OneOutcome, SameStore, StaysWell}
 use Rattle.cas_node.proofs.Blaming.{has_front, still_bad}
