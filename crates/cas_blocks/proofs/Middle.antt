@@ -24,6 +24,8 @@ use Rattle.cas_facts.specs.declared.facts.Facts.{Facts}
 use Rattle.cas_fragments.specs.Spelling.{block_bytes}
 use Rattle.cas_fragments.specs.Blocks.{nowhere, past_all, statics_in, behind_statics, blocks_bytes, says_head}
 use Rattle.cas_fragments.specs.Reading.{head_at}
+use Rattle.cas_fragments.specs.declared.heads.Version.{Version}
+use Rattle.cas_fragments.specs.declared.heads.Version.TheVariants.{Second}
 use Rattle.cas_streams.specs.Streams.{IsThere}
 use Rattle.cas_fragments.specs.Laws.{static_of, joined, Stand}
 use Rattle.cas_fragments.proofs.FragmentLaws.{head_exact}
@@ -62,28 +64,28 @@ Serves columns file end p s (Some at) = BlockServes columns file end p s at
 -- ---- where a partition stands
 
 -- a partition among others, and its entry
-record Standing (place : ℕ) (ps : List Partition) (p : Partition) (e : PartitionEntry) : Type 0 where
+record Standing (version : Version) (place : ℕ) (ps : List Partition) (p : Partition) (e : PartitionEntry) : Type 0 where
   pub before : List ℕ
   pub after : List ℕ
-  pub there : flat_map text_of ps ≡ before ++ (text_of p ++ after)
+  pub there : flat_map (text_of version) ps ≡ before ++ (text_of version p ++ after)
   pub place_is : e.place ≡ place + length before
-  pub blocks_are : e.blocks ≡ block_entries (e.place + length (head_of p)) None (blocks p)
+  pub blocks_are : e.blocks ≡ block_entries (e.place + length (head_of version p)) None (blocks p)
   pub key : e.key ≡ p.key
 
-entry_for : ℕ → Partition → PartitionEntry
-entry_for place p = record { key = p.key; place = place; blocks = block_entries (place + length (head_of p)) None (blocks p) }
+entry_for : Version → ℕ → Partition → PartitionEntry
+entry_for version place p = record { key = p.key; place = place; blocks = block_entries (place + length (head_of version p)) None (blocks p) }
 
-first_stands : (place : ℕ) (q : Partition) (ps : List Partition) → Standing place (q ∷ ps) q (entry_for place q)
+first_stands : (version : Version) (place : ℕ) (q : Partition) (ps : List Partition) → Standing version place (q ∷ ps) q (entry_for version place q)
 unfolding entry_for
-first_stands place q ps = record { before = []; after = flat_map text_of ps; there = refl; place_is = omega arith; blocks_are = refl; key = refl }
+first_stands version place q ps = record { before = []; after = flat_map (text_of version) ps; there = refl; place_is = omega arith; blocks_are = refl; key = refl }
 
-later_stands : (place : ℕ) (q : Partition) (ps : List Partition) (p : Partition) (e : PartitionEntry) → Standing (place + length (text_of q)) ps p e
-    → Standing place (q ∷ ps) p e
-later_stands place q ps p e s = record {
-  before = text_of q ++ s.before;
+later_stands : (version : Version) (place : ℕ) (q : Partition) (ps : List Partition) (p : Partition) (e : PartitionEntry) → Standing version (place + length (text_of version q)) ps p e
+    → Standing version place (q ∷ ps) p e
+later_stands version place q ps p e s = record {
+  before = text_of version q ++ s.before;
   after = s.after;
-  there = ap (λ (t : List ℕ). text_of q ++ t) s.there ∙ sym (append_assoc (text_of q) s.before (text_of p ++ s.after));
-  place_is = omega (arith, s.place_is, length-append (text_of q) s.before);
+  there = ap (λ (t : List ℕ). text_of version q ++ t) s.there ∙ sym (append_assoc (text_of version q) s.before (text_of version p ++ s.after));
+  place_is = omega (arith, s.place_is, length-append (text_of version q) s.before);
   blocks_are = s.blocks_are;
   key = s.key;
 }
@@ -91,20 +93,20 @@ later_stands place q ps p e s = record {
 some_same : {X : Type 0} (o : Option X) (x y : X) → o ≡ Some x → o ≡ Some y → x ≡ y
 some_same o x y a b = cc
 
-standing : (place : ℕ) (ps : List Partition) (i : ℕ) (p : Partition) (e : PartitionEntry) → slice_get ps i ≡ Some p → slice_get (entries place ps) i ≡ Some e
-    → Standing place ps p e
+standing : (version : Version) (place : ℕ) (ps : List Partition) (i : ℕ) (p : Partition) (e : PartitionEntry) → slice_get ps i ≡ Some p → slice_get (entries version place ps) i ≡ Some e
+    → Standing version place ps p e
 unfolding entry_for
-standing place [] i p e is at = absurd cc
-standing place (q ∷ ps) zero p e is at =
+standing version place [] i p e is at = absurd cc
+standing version place (q ∷ ps) zero p e is at =
     let same : q ≡ p = some_same (Some q) q p refl is in
-    let told : entry_for place q ≡ e = some_same (Some (entry_for place q)) (entry_for place q) e refl at in
-    subst (λ (x : PartitionEntry). Standing place (q ∷ ps) p x) told (subst (λ (x : Partition). Standing place (q ∷ ps) x (entry_for place q)) same (first_stands place q ps))
-standing place (q ∷ ps) (suc i) p e is at = later_stands place q ps p e (standing (place + length (text_of q)) ps i p e is at)
+    let told : entry_for version place q ≡ e = some_same (Some (entry_for version place q)) (entry_for version place q) e refl at in
+    subst (λ (x : PartitionEntry). Standing version place (q ∷ ps) p x) told (subst (λ (x : Partition). Standing version place (q ∷ ps) x (entry_for version place q)) same (first_stands version place q ps))
+standing version place (q ∷ ps) (suc i) p e is at = later_stands version place q ps p e (standing version (place + length (text_of version q)) ps i p e is at)
 
-fits_at : (columns : List Column) (ps : List Partition) (i : ℕ) (p : Partition) → slice_get ps i ≡ Some p → AllByRecursion (FitsPartition columns) ps → FitsPartition columns p
-fits_at columns [] i p is all = absurd cc
-fits_at columns (q ∷ ps) zero p is all = subst (FitsPartition columns) (some_same (Some q) q p refl is) all.0
-fits_at columns (q ∷ ps) (suc i) p is all = fits_at columns ps i p is all.1
+fits_at : (P : Partition → Type 0) (ps : List Partition) (i : ℕ) (p : Partition) → slice_get ps i ≡ Some p → AllByRecursion P ps → P p
+fits_at P [] i p is all = absurd cc
+fits_at P (q ∷ ps) zero p is all = subst P (some_same (Some q) q p refl is) all.0
+fits_at P (q ∷ ps) (suc i) p is all = fits_at P ps i p is all.1
 
 -- what stands behind some bytes of what is in front
 cut_left : (xs ys tail file front : List ℕ) (place : ℕ) → file ≡ front ++ tail → front ≡ xs ++ ys → place ≡ length xs
@@ -133,7 +135,7 @@ module _ (columns : List Column) (narrow : IsNarrow columns) (p : Partition) (fi
   rest = behind_statics p.stream.fragments
 
   stand : Stand columns (says_head (p.key, p.stream.top, statics_in p.stream.fragments)) true nowhere (blocks p)
-  stand = (is_partition columns p fit).1
+  stand = (is_partition Second columns p fit (λ first. absurd cc)).1
 
   whole : joined (blocks p) ≡ rest
   whole = blocks_are_partitions.whole rest
@@ -202,68 +204,69 @@ module _ (columns : List Column) (narrow : IsNarrow columns) (c : Contents) (f :
   abbrev tail : List ℕ
   tail = index_bytes (index_of c) ++ (filter_bytes (key_filter c) ++ (info_bytes (info_of c f) ++ footer_bytes (footer_of c)))
 
-  stands : Standing (length (header_bytes c.header)) c.partitions p e
-  stands = standing (length (header_bytes c.header)) c.partitions i p e is.partition is.entry
+  stands : Standing c.header.version (length (header_bytes c.header)) c.partitions p e
+  stands = standing c.header.version (length (header_bytes c.header)) c.partitions i p e is.partition is.entry
 
   fit-p : FitsPartition columns p
-  fit-p = fits_at columns c.partitions i p is.partition fits.each
+  fit-p = fits_at (FitsPartition columns) c.partitions i p is.partition fits.each
 
-  front_is : front_bytes c ≡ (header_bytes c.header ++ stands.before) ++ (text_of p ++ stands.after)
+  front_is : front_bytes c ≡ (header_bytes c.header ++ stands.before) ++ (text_of c.header.version p ++ stands.after)
   front_is =
       ap (λ (t : List ℕ). header_bytes c.header ++ t) stands.there
-      ∙ sym (append_assoc (header_bytes c.header) stands.before (text_of p ++ stands.after))
+      ∙ sym (append_assoc (header_bytes c.header) stands.before (text_of c.header.version p ++ stands.after))
 
   place_is : e.place ≡ length (header_bytes c.header ++ stands.before)
   place_is = stands.place_is ∙ sym (length-append (header_bytes c.header) stands.before)
 
-  head_stands : HeadStands columns (table_bytes c f) (index_place c) p e
+  head_stands : HeadStands c.header.version columns (table_bytes c f) (index_place c) p e
   head_stands =
-      let head : List ℕ = head_of p in
+      let head : List ℕ = head_of c.header.version p in
       let more : List ℕ = blocks_bytes (blocks p) ++ stands.after in
-      let at = cut_left (header_bytes c.header ++ stands.before) (text_of p ++ stands.after) tail (table_bytes c f) (front_bytes c) e.place refl front_is place_is in
+      let at = cut_left (header_bytes c.header ++ stands.before) (text_of c.header.version p ++ stands.after) tail (table_bytes c f) (front_bytes c) e.place refl front_is place_is in
       record {
         key = stands.key;
         left = read_left more (e.place + length head);
-        read = ap (head_at columns) (at ∙ ap (λ (t : List ℕ). read_left t e.place) (append_assoc head (blocks_bytes (blocks p)) stands.after))
-            ∙ (head_exact columns narrow).again (p.key, p.stream.top, statics_in p.stream.fragments) more e.place (head_of_fits columns p fit-p);
+        read = ap (head_at c.header.version columns) (at ∙ ap (λ (t : List ℕ). read_left t e.place) (append_assoc head (blocks_bytes (blocks p)) stands.after))
+            ∙ (head_exact c.header.version columns narrow).again (p.key, p.stream.top, statics_in p.stream.fragments) more e.place (head_of_fits c.header.version columns p fit-p
+            (λ first. fits_at (λ q. statics_in q.stream.fragments ≡ []) c.partitions i p is.partition (fits.statics first)));
       }
 
   module _ (s : Slice) (slice : IsSliceOf (clustering_order columns) s) where
-    found_serves : (at : BlockAt) → Found (clustering_order columns) s (e.place + length (head_of p)) None (blocks p) at → stands_before s.lo s.hi ≡ true
+    found_serves : (at : BlockAt) → Found (clustering_order columns) s (e.place + length (head_of c.header.version p)) None (blocks p) at → stands_before s.lo s.hi ≡ true
         → BlockServes columns (table_bytes c f) (index_place c) p s at
     found_serves at found some =
         let front : List ℕ = flat_map block_bytes found.front in
         let blocks-on : List (List Fragment) = (found.first ∷ found.others) ∷ found.rest in
         let base : List ℕ = header_bytes c.header ++ stands.before in
-        let xs : List ℕ = (base ++ head_of p) ++ front in
+        let xs : List ℕ = (base ++ head_of c.header.version p) ++ front in
         let ys : List ℕ = blocks_bytes blocks-on ++ stands.after in
-        let text : text_of p ++ stands.after ≡ head_of p ++ (front ++ ys) =
-        append_assoc (head_of p) (blocks_bytes (blocks p)) stands.after
-        ∙ ap (λ (t : List ℕ). head_of p ++ t) (ap (λ (t : List ℕ). t ++ stands.after) (spelled columns narrow p fit-p s slice (e.place + length (head_of p)) at found)
+        let text : text_of c.header.version p ++ stands.after ≡ head_of c.header.version p ++ (front ++ ys) =
+        append_assoc (head_of c.header.version p) (blocks_bytes (blocks p)) stands.after
+        ∙ ap (λ (t : List ℕ). head_of c.header.version p ++ t) (ap (λ (t : List ℕ). t ++ stands.after) (spelled columns narrow p fit-p s slice (e.place + length (head_of c.header.version p)) at found)
         ∙ append_assoc front (blocks_bytes blocks-on) stands.after) in
         let whole : front_bytes c ≡ xs ++ ys =
         front_is ∙ ap (λ (t : List ℕ). base ++ t) text
-        ∙ sym (append_assoc base (head_of p) (front ++ ys)) ∙ sym (append_assoc (base ++ head_of p) front ys) in
+        ∙ sym (append_assoc base (head_of c.header.version p) (front ++ ys)) ∙ sym (append_assoc (base ++ head_of c.header.version p) front ys) in
         let place : at.place ≡ length xs =
-        omega (arith, found.place_is, place_is, length-append (base ++ head_of p) front, length-append base (head_of p)) in
+        omega (arith, found.place_is, place_is, length-append (base ++ head_of c.header.version p) front, length-append base (head_of c.header.version p)) in
         record {
           fragments = joined blocks-on;
           read =
               ap (fragments_on (clustering_order columns) columns false true (at_block at.in_force)) (cut_left xs ys tail (table_bytes c f) (front_bytes c) at.place refl whole place)
               ∙ read_from columns narrow at.in_force blocks-on stands.after at.place
-              (stand_on columns narrow p fit-p s slice (e.place + length (head_of p)) at found);
+              (stand_on columns narrow p fit-p s slice (e.place + length (head_of c.header.version p)) at found);
           same =
               cut_is columns narrow p fit-p s slice some
               ∙ ap (λ (gs : List Fragment). static_of (statics_in p.stream.fragments) ++ gs)
-              (cut_on columns narrow p fit-p s slice (e.place + length (head_of p)) at found);
+              (cut_on columns narrow p fit-p s slice (e.place + length (head_of c.header.version p)) at found);
         }
 
-    serves : (answer : Option BlockAt) → IsBlockFor s (block_entries (e.place + length (head_of p)) None (blocks p)) answer
+    serves : (answer : Option BlockAt) → IsBlockFor s (block_entries (e.place + length (head_of c.header.version p)) None (blocks p)) answer
         → Serves columns (table_bytes c f) (index_place c) p s answer
-    serves None first = nothing_meets columns narrow p fit-p s slice (e.place + length (head_of p)) first
+    serves None first = nothing_meets columns narrow p fit-p s slice (e.place + length (head_of c.header.version p)) first
     serves (Some at) first =
         let some : stands_before s.lo s.hi ≡ true = (and_parts (is_lt (cut_cmp s.lo s.hi)) _ first.0.1).0 in
-        found_serves at (find (clustering_order columns) s slice some (blocks p) (e.place + length (head_of p)) None at.number at refl
+        found_serves at (find (clustering_order columns) s slice some (blocks p) (e.place + length (head_of c.header.version p)) None at.number at refl
         (there columns narrow p fit-p) (rows columns narrow p fit-p) (up columns narrow p fit-p) first.0 first.1).0 some
 
 -- what serves a slice is what is read of it

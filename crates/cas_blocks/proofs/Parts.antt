@@ -22,6 +22,8 @@ use Rattle.cas_streams.proofs.Weaves.{Ascend}
 use Rattle.cas_fragments.specs.Allowed.{FitsFragment, FitsHead}
 use Rattle.cas_fragments.specs.Spelling.{body_bytes, block_bytes}
 use Rattle.cas_fragments.specs.Blocks.{Reached, past, past_all, is_change, may_follow, is_full, statics_in, behind_statics, blocks_bytes, says_head}
+use Rattle.cas_fragments.specs.declared.heads.Version.{Version}
+use Rattle.cas_fragments.specs.declared.heads.Version.TheVariants.{First, Second}
 use Rattle.cas_fragments.specs.Laws.{static_of, IsBlock, joined, Stand, IsPartition}
 use Rattle.cas_fragments.proofs.WholeLaws.{partitions_are_exact}
 use Rattle.cas_tables.specs.Contents.{Partition}
@@ -88,13 +90,16 @@ says_rest columns key (Some d) (fragment.Static (c ∷ cs) ∷ fs) w there e = a
 says_rest columns key top (fragment.Row r ∷ fs) w there e = tt
 says_rest columns key top (fragment.Marker k d ∷ fs) w there e = tt
 
-pub head_of_fits : (columns : List Column) (p : Partition) → FitsPartition columns p → FitsHead columns (p.key, p.stream.top, statics_in p.stream.fragments)
-head_of_fits columns p fit = (fit.key, fit.top, fit.statics)
+pub head_of_fits : (version : Version) (columns : List Column) (p : Partition) → FitsPartition columns p → (version ≡ First → statics_in p.stream.fragments ≡ [])
+    → FitsHead version columns (p.key, p.stream.top, statics_in p.stream.fragments)
+head_of_fits First columns p fit none = (fit.key, fit.top, none refl)
+head_of_fits Second columns p fit none = (fit.key, fit.top, fit.statics)
 
-pub is_partition : (columns : List Column) (p : Partition) → FitsPartition columns p
-    → IsPartition columns ((p.key, p.stream.top, statics_in p.stream.fragments), blocks p)
-is_partition columns p fit =
-    partitions_are_exact.whole columns (p.key, p.stream.top, statics_in p.stream.fragments) (behind_statics p.stream.fragments) (head_of_fits columns p fit) fit.rest
+pub is_partition : (version : Version) (columns : List Column) (p : Partition) → FitsPartition columns p → (version ≡ First → statics_in p.stream.fragments ≡ [])
+    → IsPartition version columns ((p.key, p.stream.top, statics_in p.stream.fragments), blocks p)
+is_partition version columns p fit none =
+    partitions_are_exact.whole version columns (p.key, p.stream.top, statics_in p.stream.fragments) (behind_statics p.stream.fragments)
+    (head_of_fits version columns p fit none) fit.rest
     (subst (WellFormed columns) (sym (parts_joined columns p.stream.fragments fit.well_formed)) fit.well_formed)
     (says_rest columns p.key p.stream.top p.stream.fragments fit.well_formed fit.said) fit.room
 

@@ -12,6 +12,7 @@ use Rattle.cas_streams.specs.declared.fragment.Fragment.{Fragment}
 use Rattle.cas_facts.specs.declared.facts.Facts.{Facts}
 use Rattle.cas_fragments.specs.Blocks.{statics_in}
 use Rattle.cas_fragments.specs.Reading.{head_at}
+use Rattle.cas_fragments.specs.declared.heads.Version.{Version}
 use Rattle.cas_index.specs.Searches.{IsBlockFor}
 use Rattle.cas_index.specs.declared.entries.BlockAt.{BlockAt}
 use Rattle.cas_index.specs.declared.entries.PartitionEntry.{PartitionEntry}
@@ -34,16 +35,16 @@ pub record IsEntry (c : Contents) (i : ℕ) (p : Partition) (e : PartitionEntry)
   pub entry : slice_get (index_of c) i ≡ Some e
 
 -- the head of a partition stands where the index tells
-pub record HeadStands (columns : List Column) (file : List ℕ) (end : ℕ) (p : Partition) (e : PartitionEntry) : Type 0 where
+pub record HeadStands (version : Version) (columns : List Column) (file : List ℕ) (end : ℕ) (p : Partition) (e : PartitionEntry) : Type 0 where
   pub key : e.key ≡ p.key
   pub left : Left
-  pub read : head_at columns (left_at file end e.place) ≡ Ok ((p.key, p.stream.top, statics_in p.stream.fragments), left)
+  pub read : head_at version columns (left_at file end e.place) ≡ Ok ((p.key, p.stream.top, statics_in p.stream.fragments), left)
 
 -- in the file of contents that a table may have, each partition's head is read where its entry tells, and each slice of it, which is the partition's
 -- stream cut to the slice, from the block on that the index finds
 pub record TablesAreRead : Type 0 where
   pub head : (columns : List Column) → IsNarrow columns → (c : Contents) (f : Facts) → FitsContents columns c
-      → (i : ℕ) (p : Partition) (e : PartitionEntry) → IsEntry c i p e → HeadStands columns (table_bytes c f) (index_place c) p e
+      → (i : ℕ) (p : Partition) (e : PartitionEntry) → IsEntry c i p e → HeadStands c.header.version columns (table_bytes c f) (index_place c) p e
   pub slice : (columns : List Column) → IsNarrow columns → (c : Contents) (f : Facts) → FitsContents columns c
       → (i : ℕ) (p : Partition) (e : PartitionEntry) → IsEntry c i p e → (s : Slice) → IsSliceOf (clustering_order columns) s
       → (answer : Option BlockAt) → IsBlockFor s e.blocks answer

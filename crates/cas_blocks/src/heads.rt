@@ -24,11 +24,11 @@ fn parse_head<F: Sealed>(
     bytes: &[u8],
 ) -> Result<Option<Head>, TableFault>
     requires { place ≤ 2 ^ 62 }
-    ensures told { FrontAnswers file.now.columns.now (record { bytes = bytes.now; at = place }) result }
+    ensures told { FrontAnswers file.now.version file.now.columns.now (record { bytes = bytes.now; at = place }) result }
     ensures no_read { IsErrOf result TableFault.Read → ⊥ }
 {
     let mut reader = Reader::new(bytes, place);
-    match read_head(file.alloc, &mut reader, file.columns) {
+    match read_head(file.alloc, &mut reader, file.version, file.columns) {
         Ok(head) => Ok(Some(head)),
         Err(ReadFault::Mem) => Err(TableFault::Mem),
         Err(_) => Ok(None),
@@ -44,7 +44,7 @@ fn read_front<F: Sealed>(
 ) -> Result<Option<Head>, TableFault>
     requires { place + count ≤ 2 ^ 62 }
     ensures told { (b : ListOf ℕ) → F.contents file.now.sealed.now ≡ Some b
-        → FrontAnswers file.now.columns.now (record { bytes = take count (drop place b); at = place }) result }
+        → FrontAnswers file.now.version file.now.columns.now (record { bytes = take count (drop place b); at = place }) result }
     ensures count { Counted (F.Tally.number tally.old) (F.Tally.number tally.new) (IsErrOf result TableFault.Read) }
 {
     match read_range(file.alloc, file.sealed, place, count as usize, tally) {
@@ -62,7 +62,7 @@ pub fn read_head_at<F: Sealed>(
 ) -> Result<Head, TableFault>
     requires { place ≤ file.now.end }
     ensures told { (b : ListOf ℕ) → F.contents file.now.sealed.now ≡ Some b
-        → HeadAnswers file.now.columns.now file.now.number (left_at b file.now.end place) result }
+        → HeadAnswers file.now.version file.now.columns.now file.now.number (left_at b file.now.end place) result }
     ensures count { Counted (F.Tally.number tally.old) (F.Tally.number tally.new) (IsErrOf result TableFault.Read) }
 {
     let room = file.end - place;

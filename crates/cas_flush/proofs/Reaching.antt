@@ -26,6 +26,7 @@ use Rattle.cas_index.specs.declared.entries.PartitionEntry.{PartitionEntry}
 use Rattle.cas_memtable.specs.Memtables.{is_above}
 use Rattle.cas_memtable.specs.declared.memtable.MemPart.{MemPart}
 use Rattle.cas_memtable.specs.Kept.{StandInEach, IsNextKey, all_of, atoms_under, has_key}
+use Rattle.cas_fragments.specs.declared.heads.Version.{Version}
 use Rattle.cas_tables.specs.Contents.{Partition}
 use Rattle.cas_tables.specs.Places.{head_of, text_of, blocks, block_entries, entries}
 use Rattle.cas_sstwrite.specs.Writers.{partition_of}
@@ -263,14 +264,14 @@ module _ (order : List Ordered) (ms : List MemPart) (wss : List (List Mutation))
 
 -- ---- keys in order
 
-abbrev entry_at : ℕ → Partition → PartitionEntry
-entry_at place p = record { key = p.key; place = place; blocks = block_entries (place + length (head_of p)) None (blocks p) }
+abbrev entry_at : Version → ℕ → Partition → PartitionEntry
+entry_at version place p = record { key = p.key; place = place; blocks = block_entries (place + length (head_of version p)) None (blocks p) }
 
-last_below : (place : ℕ) (before : PartitionEntry) (ps : List Partition) (key : List ℕ) → is_lt (bytes_cmp before.key key) ≡ true
-    → AllByRecursion (λ p. is_below key p.key ≡ true) ps → is_next_key (last_or (Some before) (entries place ps)) key ≡ true
-last_below place before [] key low all = low
-last_below place before (p ∷ ps) key low all = last_below (place + length (text_of p)) (entry_at place p) ps key all.0 all.1
+last_below : (version : Version) (place : ℕ) (before : PartitionEntry) (ps : List Partition) (key : List ℕ) → is_lt (bytes_cmp before.key key) ≡ true
+    → AllByRecursion (λ p. is_below key p.key ≡ true) ps → is_next_key (last_or (Some before) (entries version place ps)) key ≡ true
+last_below version place before [] key low all = low
+last_below version place before (p ∷ ps) key low all = last_below version (place + length (text_of version p)) (entry_at version place p) ps key all.0 all.1
 
-pub next_in_order : (place : ℕ) (ps : List Partition) (key : List ℕ) → AllByRecursion (λ p. is_below key p.key ≡ true) ps → is_next_key (last_or None (entries place ps)) key ≡ true
-next_in_order place [] key all = refl
-next_in_order place (p ∷ ps) key all = last_below (place + length (text_of p)) (entry_at place p) ps key all.0 all.1
+pub next_in_order : (version : Version) (place : ℕ) (ps : List Partition) (key : List ℕ) → AllByRecursion (λ p. is_below key p.key ≡ true) ps → is_next_key (last_or None (entries version place ps)) key ≡ true
+next_in_order version place [] key all = refl
+next_in_order version place (p ∷ ps) key all = last_below version (place + length (text_of version p)) (entry_at version place p) ps key all.0 all.1

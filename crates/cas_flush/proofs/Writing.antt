@@ -108,7 +108,7 @@ in_order : (columns : List Column) (header : Header) (level : ℕ) (ms : List Me
     → AllByRecursion (λ p. is_below key p.key ≡ true) ps
     → Refuses columns (record { header = header; level = level; partitions = ps }) key ms e → e ≡ Order → ⊥
 in_order columns header level ms ps key e within why is =
-    true≢false (sym (next_in_order (length (header_bytes header)) ps key within)
+    true≢false (sym (next_in_order header.version (length (header_bytes header)) ps key within)
     ∙ subst (λ f. Causes (index_of (record { header = header; level = level; partitions = ps }))
     (length (front_bytes (record { header = header; level = level; partitions = ps }))) key why.stream.top why.stream.fragments f) is why.causes)
 

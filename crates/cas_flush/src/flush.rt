@@ -7,7 +7,7 @@ ghost use Rattle.cas_atoms.specs.declared.atom.Mutation.{Mutation as Wrote};
 ghost use Rattle.cas_disk.specs.Counts.{Counted};
 ghost use Rattle.cas_tables.specs.Allowed.{FitsHeader};
 ghost use Rattle.cas_tables.specs.Contents.{Partition as PartitionOf};
-ghost use Rattle.cas_tables.specs.declared.header.Version.TheVariants.{Second};
+ghost use Rattle.cas_fragments.specs.declared.heads.Version.TheVariants.{Second};
 ghost use Rattle.cas_memtable.specs.Kept.{HoldMutations, has_key};
 ghost use Rattle.cas_sstwrite.specs.Writers.{Writes, fault_of as fault_in};
 ghost use Rattle.cas_sstwrite.specs.Finished.{Finishes};

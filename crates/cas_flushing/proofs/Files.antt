@@ -1,5 +1,5 @@
 -- The file of a flush: what stands in it, as it stands in an image and as it is opened.
-use Rattle.std.proofs.Common.{◌≡◌, inl, inr, ℕ, List, [], ◌∷◌, Some, Ok, refl, sym, ap, ◌∙◌, subst}
+use Rattle.std.proofs.Common.{◌≡◌, ℕ, List, [], ◌∷◌, Some, refl, sym, ap, ◌∙◌, subst}
 use Rattle.std.specs.Prelude.{slice_get}
 use Rattle.std.proofs.lemmas.Option.{same_Some}
 use Rattle.cas_types.specs.declared.schema.TableSchema.{TableSchema}
@@ -14,15 +14,13 @@ use Rattle.cas_info.specs.declared.info.TableInfo.{TableInfo}
 use Rattle.cas_memtable.specs.Kept.{StandInEach, all_of}
 use Rattle.cas_memtable.specs.declared.memtable.MemPart.{MemPart}
 use Rattle.cas_tables.specs.Contents.{Contents, atoms_of}
-use Rattle.cas_tables.specs.Files.{info_of, table_bytes}
+use Rattle.cas_tables.specs.Files.{table_bytes}
 use Rattle.cas_tables.proofs.InfoFits.{info_fits}
 use Rattle.cas_flush.specs.Flushed.{at_level_0}
 use Rattle.cas_sstread.specs.declared.fault.TableFault.{TableFault}
 use Rattle.cas_sstread.specs.declared.fault.TableFault.TheVariants.{ReadFault as Unread, BadBlock, Mem}
-use Rattle.cas_sstread.specs.Laws.{kept_for}
-use Rattle.cas_sstread.specs.Loading.{Held, IsNoBlock}
+use Rattle.cas_sstread.specs.Loading.{Held, IsBadAt, IsNoBlock}
 use Rattle.cas_sstread.specs.Reading.{loaded_at}
-use Rattle.cas_sstread.proofs.ContentsLoad.{tables_load}
 use Rattle.cas_view.specs.Views.{File}
 use Rattle.cas_stored.specs.Stored.{StandInFile}
 use Rattle.cas_listed.specs.Listed.{IsFileIn, IsLoaded, StandIn}
@@ -31,7 +29,7 @@ use Rattle.cas_flushed.specs.Written.{written_in}
 use Rattle.cas_flushed.proofs.Standing.{flushed_say_the_same, listed_contents_stand}
 use Rattle.cas_shard.specs.Flushing.{SaysWhatTheyDo}
 use Rattle.cas_shard.specs.Stands.{order_at, order_of}
-use Rattle.cas_flushing.specs.Flushed.{IsFlushed, IsOldAt, IsOpened, IsUnfitAt, WhyUnopened, head_of}
+use Rattle.cas_flushing.specs.Flushed.{IsFlushed, IsOpened, WhyUnopened, head_of}
 use Rattle.cas_flushing.specs.Laws.{FlushStands, SayTheSame, StandsForThem}
 use Rattle.cas_flushing.proofs.Frozen.{in_memory}
 
@@ -94,18 +92,8 @@ module _ {D : Type 0} (number_of : D → ℕ) (wrote : D → List ℕ → Type 0
           says = λ wss stand. says wss (subst (λ (l : List Ordered). StandInEach l ms wss) order stand);
         }
 
-    loads : loaded_at (clustering_order t.columns) t.number shard told b ≡ Ok (kept_for own)
-    loads =
-        let table = is.file.table b w in
-        let same = same_Some is.file.facts table.facts (facts_are_one.one (atoms_of own) (Some is.file.facts) (Some table.facts) is.file.of_atoms table.of_atoms) in
-        subst (λ (i : TableInfo). loaded_at (clustering_order t.columns) t.number shard i b ≡ Ok (kept_for own)) (sym (is.file.info ∙ ap (info_of own) same))
-        (tables_load.loads t.columns own b is.file.fits table)
-
-    not_old : (at : ℕ) → IsOldAt t shard told b at → ⊥
-    not_old at (k, read, first, place) = let e = loads in cc
-
-    fit : (n at : ℕ) → n ≡ told.number → IsUnfitAt t shard told b at → ⊥
-    fit n at is_own (inl bad) =
+    fit : (n at : ℕ) → n ≡ told.number → IsBadAt (loaded_at (clustering_order t.columns) t.number shard told b) at → ⊥
+    fit n at is_own bad =
         files_are_never_bad t shard image (told ∷ []) (ws ∷ []) n at (stand_there, tt)
         (record {
           before = [];
@@ -115,7 +103,6 @@ module _ {D : Type 0} (number_of : D → ℕ) (wrote : D → List ℕ → Type 0
           others = tt;
           bad = record { number_is = is_own; bad = bad };
         })
-    fit n at is_own (inr old) = not_old at old
 
     whole : (e : TableFault) → WhyUnopened t shard told (Some b) e → IsNoBlock e
     whole Unread why = tt

@@ -1,5 +1,5 @@
 -- Why a file isn't opened that isn't loaded.
-use Rattle.std.proofs.Common.{◌≡◌, ℕ, inl, List, Option, Some, Err}
+use Rattle.std.proofs.Common.{◌≡◌, ℕ, List, Option, Some, Err}
 use Rattle.cas_types.specs.declared.schema.TableSchema.{TableSchema}
 use Rattle.cas_bounds.specs.ClusteringOrder.{clustering_order}
 use Rattle.cas_info.specs.declared.info.TableInfo.{TableInfo}
@@ -13,5 +13,5 @@ pub unloaded : (t : TableSchema) (shard : ℕ) (told : TableInfo) (bytes : Optio
     → ((b : List ℕ) → bytes ≡ Some b → Answers (λ (h : Held). h.kept) told.number (Err e) (loaded_at (clustering_order t.columns) t.number shard told b))
     → WhyUnopened t shard told bytes e
 unloaded t shard told bytes Unread answers = tt
-unloaded t shard told bytes (BadBlock n at) answers = λ b is. ((answers b is).0, inl (answers b is).1)
+unloaded t shard told bytes (BadBlock n at) answers = answers
 unloaded t shard told bytes Mem answers = tt

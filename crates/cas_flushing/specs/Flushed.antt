@@ -1,21 +1,20 @@
 -- What a flush of a table in a shard writes, and the file that is opened of it.
 -- Cassandra documentation, "Storage engine: memtables, SSTables"; own.
-use Rattle.std.specs.Prelude.{◌≡◌, ◌⊎◌, ℕ, List, [], Option, None, Some, Ok}
+use Rattle.std.specs.Prelude.{◌≡◌, ℕ, List, [], Option, None, Some, Ok}
 use Rattle.cas_types.specs.declared.schema.TableSchema.{TableSchema}
 use Rattle.cas_bounds.specs.ClusteringOrder.{clustering_order}
 use Rattle.cas_info.specs.declared.info.TableInfo.{TableInfo}
 use Rattle.cas_memtable.specs.declared.memtable.MemPart.{MemPart}
 use Rattle.cas_tables.specs.declared.header.Header.{Header}
-use Rattle.cas_tables.specs.declared.header.Version.TheVariants.{First, Second}
+use Rattle.cas_fragments.specs.declared.heads.Version.TheVariants.{Second}
 use Rattle.cas_tables.specs.Contents.{Partition}
 use Rattle.cas_sstwrite.specs.Finished.{IsFinished}
 use Rattle.cas_flush.specs.Flushed.{SayWhatIsHeld, any, at_level_0}
 use Rattle.cas_sstread.specs.declared.fault.TableFault.{TableFault}
 use Rattle.cas_sstread.specs.declared.fault.TableFault.TheVariants.{ReadFault as Unread, BadBlock, Mem}
 use Rattle.cas_sstread.specs.Loading.{Held, IsBadAt}
-use Rattle.cas_sstread.specs.Reading.{Loaded, loaded_at}
+use Rattle.cas_sstread.specs.Reading.{loaded_at}
 use Rattle.cas_view.specs.Views.{File}
-use Rattle.cas_flushing.specs.declared.view.TheConstants.{VERSION_PLACE}
 
 -- ---- the file that is written
 
@@ -43,20 +42,12 @@ pub record IsOpened (t : TableSchema) (shard : ℕ) (told : TableInfo) (bytes : 
   pub columns : f.table.columns ≡ t.columns
   pub info : f.info ≡ told
   pub own_info : f.table.info ≡ told
-  pub version : f.table.kept.version ≡ Second
   pub kept : (b : List ℕ) → bytes ≡ Some b → loaded_at (clustering_order t.columns) t.number shard told b ≡ Ok f.table.kept
 
--- the file loads, but is of the format's first version, whose partitions can't be read in slices; the place is that of its version
-abbrev pub IsOldAt : TableSchema → ℕ → TableInfo → List ℕ → ℕ → Type 0
-IsOldAt t shard told b at =
-    (k : Loaded) × (loaded_at (clustering_order t.columns) t.number shard told b ≡ Ok k) × (k.version ≡ First) × (at ≡ VERSION_PLACE)
-
--- at that place the bytes aren't as they must be or as they are listed, or they are those of an old file
-abbrev pub IsUnfitAt : TableSchema → ℕ → TableInfo → List ℕ → ℕ → Type 0
-IsUnfitAt t shard told b at = IsBadAt (loaded_at (clustering_order t.columns) t.number shard told b) at ⊎ IsOldAt t shard told b at
-
--- why the file isn't opened: it wasn't read; the bytes of the file of that number, where they are told, are unfit at that place; or memory ran out
+-- why the file isn't opened: it wasn't read; the bytes of the file of that number, where they are told, aren't as they must be or as they are listed at
+-- that place; or memory ran out
 abbrev pub WhyUnopened : TableSchema → ℕ → TableInfo → Option (List ℕ) → TableFault → Type 0
 WhyUnopened t shard told bytes Unread = Unit {0}
-WhyUnopened t shard told bytes (BadBlock n at) = (b : List ℕ) → bytes ≡ Some b → (n ≡ told.number) × IsUnfitAt t shard told b at
+WhyUnopened t shard told bytes (BadBlock n at) =
+    (b : List ℕ) → bytes ≡ Some b → (n ≡ told.number) × IsBadAt (loaded_at (clustering_order t.columns) t.number shard told b) at
 WhyUnopened t shard told bytes Mem = Unit {0}

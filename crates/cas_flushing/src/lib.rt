@@ -7,5 +7,5 @@ mod view;
 mod write;
 
 pub use laws::{added_columns_stay, flush_stands, new_tables_hold_nothing};
-pub use view::{VERSION_PLACE, view_of_flush};
+pub use view::view_of_flush;
 pub use write::write_frozen;

@@ -13,14 +13,10 @@ use cas_disk::Sealed;
 use cas_info::TableInfo;
 use cas_shard::Shard;
 use cas_sstread::{Table, TableFault};
-use cas_tables::Version;
 use cas_types::{Mem, TableSchema};
 use cas_view::{OpenFile, View};
 use std::alloc::{AllocError, Global};
 use std::sync::Arc;
-
-/// The place of the version in a table file, behind the word of eight bytes that tells one.
-pub const VERSION_PLACE: u64 = 8;
 
 // The table as an open file, with what is told of it.
 fn opened<S: Sealed>(
@@ -54,12 +50,6 @@ pub fn view_of_flush<S: Sealed>(
     ensures count { Counted (S.Tally.number tally.old) (S.Tally.number tally.new) (IsErrOf result TableFault.ReadFault) }
 {
     let loaded = Table::load(alloc, file, table, index, info, tally)?;
-    if let Version::First = loaded.version() {
-        return Err(TableFault::BadBlock {
-            number: info.number,
-            at: VERSION_PLACE,
-        });
-    }
     let file = opened(alloc, loaded, info)?;
     match shard.view_with(alloc, table.number, file) {
         Ok(view) => Ok(view),

@@ -12,10 +12,11 @@ ghost use Rattle.cas_flushing.specs.Flushed.{Flushes, head_of};
 
 use cas_disk::{Draft, Sealed};
 use cas_flush::flush_parts;
+use cas_fragments::Version;
 use cas_info::TableInfo;
 use cas_shard::Shard;
 use cas_sstwrite::WriteFault;
-use cas_tables::{Header, Version};
+use cas_tables::Header;
 use cas_types::TableSchema;
 use std::alloc::Global;
 

@@ -16,7 +16,7 @@ use Rattle.cas_bounds.specs.declared.cuts.Cut.{Cut}
 use Rattle.cas_codec.specs.Reading.{Left, checked, u8_at, maybe_at}
 use Rattle.cas_codec.specs.Fields.{u8, bytes16, maybe}
 use Rattle.cas_codec.specs.Exact.{AreBytes, Begins, IsExact}
-use Rattle.cas_codec.proofs.Exactness.{read_left, exact_then, exact_checked, exact_map}
+use Rattle.cas_codec.proofs.Exactness.{read_left, exact_then, exact_checked, exact_done, exact_map}
 use Rattle.cas_codec.proofs.FieldLaws.{u8_field, maybe_exact}
 use Rattle.cas_codec.proofs.Sequences.{exact_two, exact_three, exact_four}
 use Rattle.cas_atoms.specs.Fits.{FitsKey, FitsDeletion, FitsLive, FitsClustering, FitsCut}
@@ -32,9 +32,11 @@ use Rattle.cas_streams.specs.Streams.{IsThere}
 use Rattle.cas_streams.specs.declared.fragment.Fragment.{Fragment}
 use Rattle.cas_streams.specs.declared.fragment.Fragment.TheVariants as fragment
 use Rattle.cas_fragments.specs.Spelling.{columns_bytes, row_bytes, marker_bytes, fragment_bytes}
-use Rattle.cas_fragments.specs.Blocks.{head_bytes}
-use Rattle.cas_fragments.specs.Reading.{columns_at, least_columns, row_at, row_fragment_at, marker_at, tagged_at, fragment_at, head_at}
-use Rattle.cas_fragments.specs.Allowed.{FitsColumn, FitColumns, FitsRow, FitsFragment, FitsHead}
+use Rattle.cas_fragments.specs.Blocks.{statics_bytes, head_bytes}
+use Rattle.cas_fragments.specs.declared.heads.Version.{Version}
+use Rattle.cas_fragments.specs.declared.heads.Version.TheVariants.{First, Second}
+use Rattle.cas_fragments.specs.Reading.{columns_at, least_columns, row_at, row_fragment_at, marker_at, tagged_at, fragment_at, statics_at, head_at}
+use Rattle.cas_fragments.specs.Allowed.{FitsColumn, FitsRow, FitsFragment, FitStatics, FitsHead}
 use Rattle.cas_fragments.proofs.ColumnLaws.{AreAtLeast, at_least_exact, columns_exact}
 
 -- ---- rows
@@ -191,14 +193,21 @@ fragment_exact columns narrow =
 
 -- ---- the head of a partition
 
-pub head_exact : (columns : List Column) → IsNarrow columns → IsExact (FitsHead columns) (λ h. head_bytes h.0 h.1 h.2) (head_at columns)
+statics_exact : (version : Version) (columns : List Column) → IsNarrow columns
+    → IsExact (FitStatics version columns) (statics_bytes version) (statics_at version columns)
+unfolding statics_at
+statics_exact First columns narrow = exact_done (FitStatics First columns) (statics_bytes First) [] refl (λ cs none. (none, refl))
+statics_exact Second columns narrow = columns_exact is_static Static (λ column. refl) columns narrow
+
+pub head_exact : (version : Version) (columns : List Column) → IsNarrow columns
+    → IsExact (FitsHead version columns) (λ h. head_bytes version h.0 h.1 h.2) (head_at version columns)
 unfolding head_at
-head_exact columns narrow =
+head_exact version columns narrow =
     exact_three FitsKey bytes16 key_at (λ key top. IfSome top FitsDeletion) (maybe deletion_bytes) (λ key. maybe_at deletion_at)
-    (λ key top cs. FitColumns is_static columns cs) columns_bytes (λ key top. columns_at Static 0 columns)
-    (FitsHead columns) (λ h. head_bytes h.0 h.1 h.2) (λ key top cs. (key, top, cs))
+    (λ key top cs. FitStatics version columns cs) (statics_bytes version) (λ key top. statics_at version columns)
+    (FitsHead version columns) (λ h. head_bytes version h.0 h.1 h.2) (λ key top cs. (key, top, cs))
     key_exact
     (λ key fit. maybe_exact FitsDeletion deletion_bytes deletion_at deletion_exact)
-    (λ key top fit-k fit-t. columns_exact is_static Static (λ column. refl) columns narrow)
+    (λ key top fit-k fit-t. statics_exact version columns narrow)
     (λ key top cs fit-k fit-t fit-c. ((fit-k, fit-t, fit-c), refl))
     (λ h fit. (h.0, h.1, h.2, fit.0, fit.1, fit.2, refl))

@@ -2,9 +2,11 @@
 use Rattle.std.proofs.Common.{◌≡◌, ℕ, zero, suc, ◌+◌, ◌<◌, ◌^◌, ◌++◌, Bool, true, false, cond, eqb, Option, None, Some, List, [], ◌∷◌, length, Result, Ok, Err, refl, sym, ap, subst, ◌∙◌, append_assoc, arith}
 use Rattle.std.specs.Prelude.{is_none}
 use Rattle.std.specs.List.{AllByRecursion, flat_map}
+use Rattle.std.specs.List.Sorted.{IsStrictlySortedBy}
 use Rattle.std.proofs.lemmas.Bool.{eqb-true, ne_eqb}
 use Rattle.std.proofs.lemmas.List.{append-nil, length-append}
 use Rattle.cas_types.specs.Limits.{IsNarrow}
+use Rattle.cas_types.specs.Schemas.{is_static}
 use Rattle.cas_types.specs.declared.schema.Column.{Column}
 use Rattle.cas_cell.specs.declared.deletion.Deletion.{Deletion}
 use Rattle.cas_bounds.specs.ClusteringOrder.{clustering_order}
@@ -23,7 +25,9 @@ use Rattle.cas_streams.specs.declared.fragment.Fragment.TheVariants as fragment
 use Rattle.cas_fragments.specs.Spelling.{body_bytes, block_bytes}
 use Rattle.cas_fragments.specs.Blocks.{Reached, nowhere, past, past_all, is_full, blocks_of, statics_in, behind_statics, head_bytes, blocks_bytes, says_head, partition_bytes}
 use Rattle.cas_fragments.specs.Reading.{body_at, either_way, next_block_at, blocks_at, head_at, partition_at}
-use Rattle.cas_fragments.specs.Allowed.{FitsFragment, FitsHead}
+use Rattle.cas_fragments.specs.Allowed.{FitColumns, FitsFragment, FitStatics, FitsHead}
+use Rattle.cas_fragments.specs.declared.heads.Version.{Version}
+use Rattle.cas_fragments.specs.declared.heads.Version.TheVariants.{First, Second}
 use Rattle.cas_fragments.specs.Laws.{IsBlock, static_of, IsWhole, AreBlocks, joined, Stand, IsPartition, part_bytes, PartitionsAreExact}
 use Rattle.cas_fragments.proofs.FragmentLaws.{head_exact}
 use Rattle.cas_fragments.proofs.BlockLaws.{blocks_exact, some_bytes, body_longer}
@@ -220,29 +224,30 @@ blocks_few (b ∷ bs) =
       blocks_few bs,
     )
 
-partition_exact : (columns : List Column) → IsNarrow columns → IsExact (IsPartition columns) part_bytes (partition_at (clustering_order columns) columns)
+partition_exact : (version : Version) (columns : List Column) → IsNarrow columns
+    → IsExact (IsPartition version columns) (part_bytes version) (partition_at version (clustering_order columns) columns)
 unfolding partition_at
-partition_exact columns narrow = record {
+partition_exact version columns narrow = record {
   found = λ old new p are e.
-      let h = bind_ok (head_at columns old) (λ (head : (List ℕ × Option Deletion × List RowColumn) × Left).
+      let h = bind_ok (head_at version columns old) (λ (head : (List ℕ × Option Deletion × List RowColumn) × Left).
       blocks_at (clustering_order columns) columns (length head.1.bytes) (says_head head.0) true nowhere head.1
       >>= λ (blocks : List (List Fragment) × Left). Ok ((head.0, blocks.0), blocks.1)) (p, new) e in
-      let f = (head_exact columns narrow).found old h.0.1 h.0.0 are h.1 in
+      let f = (head_exact version columns narrow).found old h.0.1 h.0.0 are h.1 in
       let b = bind_ok (blocks_at (clustering_order columns) columns (length h.0.1.bytes) (says_head h.0.0) true nowhere h.0.1)
       (λ (blocks : List (List Fragment) × Left). Ok ((h.0.0, blocks.0), blocks.1)) (p, new) h.2 in
       let g = (blocks_are columns narrow (length h.0.1.bytes) (says_head h.0.0) true nowhere).found h.0.1 b.0.1 b.0.0 (AreBytes-rest _ _ _ are f.1.bytes) b.1 in
-      subst (λ (y : ((List ℕ × Option Deletion × List RowColumn) × List (List Fragment)) × Left). IsPartition columns y.0 × Begins (part_bytes y.0) old y.1)
+      subst (λ (y : ((List ℕ × Option Deletion × List RowColumn) × List (List Fragment)) × Left). IsPartition version columns y.0 × Begins (part_bytes version y.0) old y.1)
       (ok_is ((h.0.0, b.0.0), b.0.1) (p, new) b.2) ((f.0, g.0.0), Begins-then _ _ _ _ _ f.1 g.1);
   again = λ p rest at fit.
-      let head = head_bytes p.0.0 p.0.1 p.0.2 in
-      let whole : part_bytes p ++ rest ≡ head ++ (blocks_bytes p.1 ++ rest) = append_assoc head (blocks_bytes p.1) rest in
-      let front = (head_exact columns narrow).again p.0 (blocks_bytes p.1 ++ rest) at fit.0 in
+      let head = head_bytes version p.0.0 p.0.1 p.0.2 in
+      let whole : part_bytes version p ++ rest ≡ head ++ (blocks_bytes p.1 ++ rest) = append_assoc head (blocks_bytes p.1) rest in
+      let front = (head_exact version columns narrow).again p.0 (blocks_bytes p.1 ++ rest) at fit.0 in
       let more = length-append (blocks_bytes p.1) rest in
       let few : length p.1 < length (blocks_bytes p.1 ++ rest) = omega (arith, blocks_few p.1) in
       let back = (blocks_are columns narrow (length (blocks_bytes p.1 ++ rest)) (says_head p.0) true nowhere).again p.1 rest (at + length head) (fit.1, few) in
       let long = length-append head (blocks_bytes p.1) in
-      let place : at + length head + length (blocks_bytes p.1) ≡ at + length (part_bytes p) = omega arith in
-      ap (λ (xs : List ℕ). partition_at (clustering_order columns) columns (read_left xs at)) whole
+      let place : at + length head + length (blocks_bytes p.1) ≡ at + length (part_bytes version p) = omega arith in
+      ap (λ (xs : List ℕ). partition_at version (clustering_order columns) columns (read_left xs at)) whole
       ∙ rw (front, back) (ap (λ (n : ℕ). done (p, read_left rest n)) place);
 }
 
@@ -269,9 +274,9 @@ stand_closed columns (b ∷ bs) ends goes_on r closed stand =
     ap (λ (q : Reached). q.force) (past_both r b (joined bs))
     ∙ stand_closed columns bs (is_none (past_all r b).force) (is_full b) (past_all r b) (λ e. none_is (past_all r b).force e) stand.1
 
-partition_whole : (columns : List Column) (p : (List ℕ × Option Deletion × List RowColumn) × List (List Fragment)) → IsPartition columns p
+partition_whole : (version : Version) (columns : List Column) (p : (List ℕ × Option Deletion × List RowColumn) × List (List Fragment)) → IsPartition version columns p
     → IsWhole columns (joined p.1)
-partition_whole columns p fit =
+partition_whole version columns p fit =
     let are = stand_are columns p.1 (says_head p.0) true nowhere fit.1 in record {
       fit = fits_all columns nowhere p.1 are;
       follow = follows_all columns nowhere p.1 are;
@@ -289,14 +294,14 @@ parts_are : (columns : List Column) (cs : List RowColumn) (fs : List Fragment) �
 parts_are columns [] fs fit = behind_is columns fs fit
 parts_are columns (c ∷ cs) fs fit = (refl, refl)
 
-partition_spelled : (columns : List Column) (p : (List ℕ × Option Deletion × List RowColumn) × List (List Fragment)) → IsPartition columns p
-    → partition_bytes p.0.0 p.0.1 (static_of p.0.2 ++ joined p.1) ≡ part_bytes p
-partition_spelled columns p fit =
+partition_spelled : (version : Version) (columns : List Column) (p : (List ℕ × Option Deletion × List RowColumn) × List (List Fragment)) → IsPartition version columns p
+    → partition_bytes version p.0.0 p.0.1 (static_of p.0.2 ++ joined p.1) ≡ part_bytes version p
+partition_spelled version columns p fit =
     let are = stand_are columns p.1 (says_head p.0) true nowhere fit.1 in
     let parts = parts_are columns p.0.2 (joined p.1) (fits_all columns nowhere p.1 are) in
-    ap (λ (cs : List RowColumn). head_bytes p.0.0 p.0.1 cs ++ blocks_bytes (blocks_of (behind_statics (static_of p.0.2 ++ joined p.1)))) parts.0
-    ∙ ap (λ (fs : List Fragment). head_bytes p.0.0 p.0.1 p.0.2 ++ blocks_bytes (blocks_of fs)) parts.1
-    ∙ ap (λ (bs : List (List Fragment)). head_bytes p.0.0 p.0.1 p.0.2 ++ blocks_bytes bs) (one_way columns nowhere p.1 are)
+    ap (λ (cs : List RowColumn). head_bytes version p.0.0 p.0.1 cs ++ blocks_bytes (blocks_of (behind_statics (static_of p.0.2 ++ joined p.1)))) parts.0
+    ∙ ap (λ (fs : List Fragment). head_bytes version p.0.0 p.0.1 p.0.2 ++ blocks_bytes (blocks_of fs)) parts.1
+    ∙ ap (λ (bs : List (List Fragment)). head_bytes version p.0.0 p.0.1 p.0.2 ++ blocks_bytes bs) (one_way columns nowhere p.1 are)
 
 -- ---- and the other way
 
@@ -332,10 +337,10 @@ ends_there columns h fs said e = elim (says_head h) as (λ b. says_head h ≡ b 
   | false ↦ λ is. absurd (no_blocks fs e (said is))
 ] refl
 
-stream_partition : (columns : List Column) (h : List ℕ × Option Deletion × List RowColumn) (fs : List Fragment) → FitsHead columns h
+stream_partition : (version : Version) (columns : List Column) (h : List ℕ × Option Deletion × List RowColumn) (fs : List Fragment) → FitsHead version columns h
     → AllByRecursion (FitsFragment columns) fs → WellFormed columns (static_of h.2 ++ fs) → (says_head h ≡ false → IsThere fs)
-    → AllByRecursion (λ b. length (body_bytes b) < 2 ^ 32) (blocks_of fs) → IsPartition columns (h, blocks_of fs)
-stream_partition columns h fs head fit formed said short =
+    → AllByRecursion (λ b. length (body_bytes b) < 2 ^ 32) (blocks_of fs) → IsPartition version columns (h, blocks_of fs)
+stream_partition version columns h fs head fit formed said short =
     let w = stream_whole columns h.2 fs fit formed in (
       head,
       are_stand columns (blocks_of fs) (says_head h) true nowhere (blocks_are_partitions.cut columns nowhere fs fit w.follow) short
@@ -343,10 +348,16 @@ stream_partition columns h fs head fit formed said short =
           (ap (λ (xs : List Fragment). (past_all nowhere xs).force) (blocks_are_partitions.whole fs) ∙ w.closed),
     )
 
+-- in each version they may be static columns of the table
+pub statics_fit : (version : Version) (columns : List Column) (cs : List RowColumn) → FitStatics version columns cs → FitColumns is_static columns cs
+unfolding IsStrictlySortedBy
+statics_fit First columns cs none = subst (FitColumns is_static columns) (sym none) (record { ascend = tt; each = tt; few = omega arith })
+statics_fit Second columns cs fit = fit
+
 pub partitions_are_exact : PartitionsAreExact
 partitions_are_exact = record {
   exact = partition_exact;
-  stream = λ columns p fit. whole_stream columns p.0.2 (joined p.1) fit.0.2 (partition_whole columns p fit);
+  stream = λ version columns p fit. whole_stream columns p.0.2 (joined p.1) (statics_fit version columns p.0.2 fit.0.2) (partition_whole version columns p fit);
   spelled = partition_spelled;
   whole = stream_partition;
 }

@@ -1,7 +1,7 @@
 -- Which columns, rows and fragments a table file holds: those that a stream of the table may have, of values that a table may hold, whose numbers and
 -- lengths their fields can tell.
 -- CQL documentation, "Data types: collections" and "Data definition: static columns"; own.
-use Rattle.std.specs.Prelude.{◌^◌, ◌<◌, ℕ, Bool, List, length, map, Option, IfSome}
+use Rattle.std.specs.Prelude.{◌≡◌, ◌^◌, ◌<◌, ℕ, Bool, List, [], length, map, Option, IfSome}
 use Rattle.std.specs.List.{AllByRecursion}
 use Rattle.std.specs.List.Sorted.{IsStrictlySortedBy}
 use Rattle.std.specs.Ordering.{nat_cmp}
@@ -20,6 +20,8 @@ use Rattle.cas_streams.specs.Flat.{own}
 use Rattle.cas_streams.specs.Streams.{IsThere, IsColumn}
 use Rattle.cas_streams.specs.declared.fragment.Fragment.{Fragment}
 use Rattle.cas_streams.specs.declared.fragment.Fragment.TheVariants as fragment
+use Rattle.cas_fragments.specs.declared.heads.Version.{Version}
+use Rattle.cas_fragments.specs.declared.heads.Version.TheVariants.{First, Second}
 
 -- a cell of the column at one of its paths
 abbrev pub FitsPathCell : Column → PathCell → Type 0
@@ -52,9 +54,14 @@ FitsFragment columns (fragment.Static cs) = ⊥
 FitsFragment columns (fragment.Row r) = FitsRow columns r
 FitsFragment columns (fragment.Marker cut d) = FitsCut (clustering_order columns) cut × IfSome d FitsDeletion
 
--- the head of a partition of the table: a key, perhaps the DELETE of all of it, and static columns, or none
-abbrev pub FitsHead : List Column → List ℕ × Option Deletion × List RowColumn → Type 0
-FitsHead columns h = FitsKey h.0 × IfSome h.1 FitsDeletion × FitColumns is_static columns h.2
+-- the static columns of a partition, or none; in the format's first version there are none
+abbrev pub FitStatics : Version → List Column → List RowColumn → Type 0
+FitStatics First columns cs = cs ≡ []
+FitStatics Second columns cs = FitColumns is_static columns cs
+
+-- the head of a partition of the table: a key, perhaps the DELETE of all of it, and static columns
+abbrev pub FitsHead : Version → List Column → List ℕ × Option Deletion × List RowColumn → Type 0
+FitsHead version columns h = FitsKey h.0 × IfSome h.1 FitsDeletion × FitStatics version columns h.2
 
 -- ---- what has room in its fields
 

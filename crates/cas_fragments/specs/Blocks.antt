@@ -16,6 +16,8 @@ use Rattle.cas_records.specs.Spelling.{deletion_bytes}
 use Rattle.cas_codec.specs.Fields.{u32, bytes16, maybe}
 use Rattle.cas_fragments.specs.Spelling.{columns_bytes, fragment_bytes, body_bytes, block_bytes}
 use Rattle.cas_fragments.specs.declared.blocks.TheConstants.{BLOCK_LEAST}
+use Rattle.cas_fragments.specs.declared.heads.Version.{Version}
+use Rattle.cas_fragments.specs.declared.heads.Version.TheVariants.{First, Second}
 
 -- ---- what may stand behind what
 
@@ -99,9 +101,14 @@ behind_statics (fragment.Static cs ∷ fs) = fs
 behind_statics (fragment.Row r ∷ fs) = fragment.Row r ∷ fs
 behind_statics (fragment.Marker cut d ∷ fs) = fragment.Marker cut d ∷ fs
 
+-- static columns in a head; in the format's first version there are none, and nothing stands for them
+abbrev pub statics_bytes : Version → List RowColumn → List ℕ
+statics_bytes First cs = []
+statics_bytes Second cs = columns_bytes cs
+
 -- the head of a partition: its key, perhaps the DELETE of all of it, and its static columns
-abbrev pub head_bytes : List ℕ → Option Deletion → List RowColumn → List ℕ
-head_bytes key top cs = bytes16 key ++ (maybe deletion_bytes top ++ columns_bytes cs)
+abbrev pub head_bytes : Version → List ℕ → Option Deletion → List RowColumn → List ℕ
+head_bytes version key top cs = bytes16 key ++ (maybe deletion_bytes top ++ statics_bytes version cs)
 
 -- the blocks, and a length of 0
 abbrev pub blocks_bytes : List (List Fragment) → List ℕ
@@ -112,5 +119,5 @@ abbrev pub says_head : List ℕ × Option Deletion × List RowColumn → Bool
 says_head h = is_some h.1 || nat_lt 0 (length h.2)
 
 -- a partition: its head, and the blocks of its rows and markers
-abbrev pub partition_bytes : List ℕ → Option Deletion → List Fragment → List ℕ
-partition_bytes key top fs = head_bytes key top (statics_in fs) ++ blocks_bytes (blocks_of (behind_statics fs))
+abbrev pub partition_bytes : Version → List ℕ → Option Deletion → List Fragment → List ℕ
+partition_bytes version key top fs = head_bytes version key top (statics_in fs) ++ blocks_bytes (blocks_of (behind_statics fs))

@@ -13,6 +13,7 @@ use Rattle.cas_atoms.specs.declared.row.RowColumn.{RowColumn}
 use Rattle.cas_streams.specs.Streams.{IsThere, WellFormed}
 use Rattle.cas_streams.specs.declared.fragment.Fragment.{Fragment}
 use Rattle.cas_streams.specs.declared.fragment.Fragment.TheVariants as fragment
+use Rattle.cas_fragments.specs.declared.heads.Version.{Version}
 use Rattle.cas_fragments.specs.Spelling.{body_bytes}
 use Rattle.cas_fragments.specs.Blocks.{Reached, nowhere, past_all, Follow, is_full, BeginEarly, blocks_of, head_bytes, blocks_bytes, says_head, partition_bytes}
 use Rattle.cas_fragments.specs.Reading.{body_at, partition_at}
@@ -84,21 +85,23 @@ Stand columns ends goes_on r (b ∷ bs) =
     ((goes_on ≡ true) × IsBlock columns r b × (length (body_bytes b) < 2 ^ 32)) × Stand columns (is_none (past_all r b).force) (is_full b) (past_all r b) bs
 
 -- a head and blocks that are a partition of the table
-abbrev pub IsPartition : List Column → (List ℕ × Option Deletion × List RowColumn) × List (List Fragment) → Type 0
-IsPartition columns p = FitsHead columns p.0 × Stand columns (says_head p.0) true nowhere p.1
+abbrev pub IsPartition : Version → List Column → (List ℕ × Option Deletion × List RowColumn) × List (List Fragment) → Type 0
+IsPartition version columns p = FitsHead version columns p.0 × Stand columns (says_head p.0) true nowhere p.1
 
 -- their bytes
-abbrev pub part_bytes : (List ℕ × Option Deletion × List RowColumn) × List (List Fragment) → List ℕ
-part_bytes p = head_bytes p.0.0 p.0.1 p.0.2 ++ blocks_bytes p.1
+abbrev pub part_bytes : Version → (List ℕ × Option Deletion × List RowColumn) × List (List Fragment) → List ℕ
+part_bytes version p = head_bytes version p.0.0 p.0.1 p.0.2 ++ blocks_bytes p.1
 
 -- partitions are read where they stand and nowhere else; their static columns and fragments are a well-formed stream, and they are spelled as its partition
 -- is; and each well-formed stream is a partition, if its fragments fit, no block is too long, and something is said
 pub record PartitionsAreExact : Type 0 where
-  pub exact : (columns : List Column) → IsNarrow columns → IsExact (IsPartition columns) part_bytes (partition_at (clustering_order columns) columns)
-  pub stream : (columns : List Column) (p : (List ℕ × Option Deletion × List RowColumn) × List (List Fragment)) → IsPartition columns p
+  pub exact : (version : Version) (columns : List Column) → IsNarrow columns
+      → IsExact (IsPartition version columns) (part_bytes version) (partition_at version (clustering_order columns) columns)
+  pub stream : (version : Version) (columns : List Column) (p : (List ℕ × Option Deletion × List RowColumn) × List (List Fragment))
+      → IsPartition version columns p
       → WellFormed columns (static_of p.0.2 ++ joined p.1)
-  pub spelled : (columns : List Column) (p : (List ℕ × Option Deletion × List RowColumn) × List (List Fragment)) → IsPartition columns p
-      → partition_bytes p.0.0 p.0.1 (static_of p.0.2 ++ joined p.1) ≡ part_bytes p
-  pub whole : (columns : List Column) (h : List ℕ × Option Deletion × List RowColumn) (fs : List Fragment) → FitsHead columns h
+  pub spelled : (version : Version) (columns : List Column) (p : (List ℕ × Option Deletion × List RowColumn) × List (List Fragment))
+      → IsPartition version columns p → partition_bytes version p.0.0 p.0.1 (static_of p.0.2 ++ joined p.1) ≡ part_bytes version p
+  pub whole : (version : Version) (columns : List Column) (h : List ℕ × Option Deletion × List RowColumn) (fs : List Fragment) → FitsHead version columns h
       → AllByRecursion (FitsFragment columns) fs → WellFormed columns (static_of h.2 ++ fs) → (says_head h ≡ false → IsThere fs)
-      → AllByRecursion (λ b. length (body_bytes b) < 2 ^ 32) (blocks_of fs) → IsPartition columns (h, blocks_of fs)
+      → AllByRecursion (λ b. length (body_bytes b) < 2 ^ 32) (blocks_of fs) → IsPartition version columns (h, blocks_of fs)

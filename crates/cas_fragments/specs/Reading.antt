@@ -25,6 +25,8 @@ use Rattle.cas_streams.specs.declared.fragment.Fragment.{Fragment}
 use Rattle.cas_streams.specs.declared.fragment.Fragment.TheVariants as fragment
 use Rattle.cas_fragments.specs.Blocks.{Reached, nowhere, past, past_all, may_follow, is_full, says_head}
 use Rattle.cas_fragments.specs.declared.blocks.TheConstants.{BLOCK_LEAST}
+use Rattle.cas_fragments.specs.declared.heads.Version.{Version}
+use Rattle.cas_fragments.specs.declared.heads.Version.TheVariants.{First, Second}
 
 -- ---- what ascends
 
@@ -157,12 +159,17 @@ body_at order columns r left = fragments_at order columns (length left.bytes) (l
 
 -- ---- partitions
 
+-- the static columns of a head; in the format's first version there are none, and nothing is read
+unfoldable pub statics_at : Version → List Column → Left → Read (List RowColumn)
+statics_at First columns left = Ok ([], left)
+statics_at Second columns left = columns_at Static 0 columns left
+
 -- the head of a partition
-unfoldable pub head_at : List Column → Left → Read (List ℕ × Option Deletion × List RowColumn)
-head_at columns left = do
+unfoldable pub head_at : Version → List Column → Left → Read (List ℕ × Option Deletion × List RowColumn)
+head_at version columns left = do
   key ← key_at left
   top ← maybe_at deletion_at key.1
-  statics ← columns_at Static 0 columns top.1
+  statics ← statics_at version columns top.1
   Ok ((key.0, top.0, statics.0), statics.1)
 
 -- what follows is read by what was found, if anything was, and else is this
@@ -188,8 +195,8 @@ blocks_at order columns (suc n) ends goes_on r left = do
       (Ok ([], next.1))
 
 -- a partition: its head and its blocks, of which there are fewer than bytes; one of which its head says nothing has a block
-unfoldable pub partition_at : List Ordered → List Column → Left → Read ((List ℕ × Option Deletion × List RowColumn) × List (List Fragment))
-partition_at order columns left = do
-  head ← head_at columns left
+unfoldable pub partition_at : Version → List Ordered → List Column → Left → Read ((List ℕ × Option Deletion × List RowColumn) × List (List Fragment))
+partition_at version order columns left = do
+  head ← head_at version columns left
   blocks ← blocks_at order columns (length head.1.bytes) (says_head head.0) true nowhere head.1
   Ok ((head.0, blocks.0), blocks.1)

@@ -13,6 +13,7 @@ ghost use Rattle.cas_fragments.specs.Reading.{columns_at, row_at, fragment_at, h
 ghost use Rattle.cas_fragments.specs.Allowed.{FitColumns, FitsRow, FitsFragment, FitsHead, HasSpelling};
 ghost use Rattle.cas_fragments.specs.Blocks.{head_bytes};
 ghost use Rattle.cas_fragments.specs.Lengths.{fragment_length};
+ghost use Rattle.cas_fragments.specs.declared.heads.Version.{Version};
 ghost use Rattle.cas_fragments.specs.Laws.{BlocksAreExact, WholesAreStreams, BlocksArePartitions, PartitionsAreExact};
 
 /// The columns of a row, and those of the static row, are read where their spelling stands and
@@ -22,14 +23,15 @@ pub fn columns_are_exact()
     ensures in_static_row { (columns : List Column) → IsNarrow columns → IsExact (FitColumns is_static columns) columns_bytes (columns_at Static 0 columns) }
 {}
 
-/// Rows, fragments and the heads of partitions of a table are read where their spelling stands and
-/// nowhere else, whatever follows it; so no spelling begins another one. Fragments are as long as
+/// Rows, fragments and the heads of partitions of a table, these in either version, are read where
+/// their spelling stands and nowhere else, whatever follows it; so no spelling begins another one. Fragments are as long as
 /// they are counted, and each that fits has a spelling.
 pub fn fragments_are_exact()
     ensures row { (columns : List Column) → IsNarrow columns → IsExact (FitsRow columns) row_bytes (row_at (clustering_order columns) columns) }
     ensures fragment { (columns : List Column) → IsNarrow columns
         → IsExact (FitsFragment columns) fragment_bytes (fragment_at (clustering_order columns) columns) }
-    ensures head { (columns : List Column) → IsNarrow columns → IsExact (FitsHead columns) (λ h. head_bytes h.0 h.1 h.2) (head_at columns) }
+    ensures head { (version : Version) (columns : List Column) → IsNarrow columns
+        → IsExact (FitsHead version columns) (λ h. head_bytes version h.0 h.1 h.2) (head_at version columns) }
     ensures alone { (columns : List Column) → IsNarrow columns → IsPrefixFree (FitsFragment columns) fragment_bytes }
     ensures length { (f : Fragment) → length (fragment_bytes f) ≡ fragment_length f }
     ensures spelled { (columns : List Column) (f : Fragment) → FitsFragment columns f → HasSpelling f }

@@ -13,7 +13,7 @@ mod writing;
 pub use blocks::{BLOCK_LEAST, Block, read_block};
 pub use columns::read_columns;
 pub use fragments::{read_fragment, read_row};
-pub use heads::{Head, put_head, read_head};
+pub use heads::{Head, Version, put_head, read_head};
 pub use laws::{
     blocks_are_exact, blocks_are_partitions, columns_are_exact, fragments_are_exact,
     partitions_are_exact, wholes_are_streams,

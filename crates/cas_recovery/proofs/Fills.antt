@@ -1,10 +1,9 @@
 -- Shards that are given what a store has of them, table by table and shard by shard.
-use Rattle.std.proofs.Common.{◌≡◌, ◌≢◌, ◌⊎◌, inl, inr, ◌<◌, ◌≤◌, ◌+◌, max, ℕ, zero, suc, List, [], ◌∷◌, ◌++◌, get_or, length, map, Option, Some, refl, sym, ap, ◌∙◌, subst, arith}
+use Rattle.std.proofs.Common.{◌≡◌, ◌≢◌, ◌⊎◌, inl, inr, ◌<◌, ◌≤◌, ◌+◌, max, ℕ, zero, suc, List, [], ◌∷◌, ◌++◌, length, map, Option, Some, refl, sym, ap, ◌∙◌, subst, arith}
 use native.Mathlib.Numerals.{unary_clauses}
 use Rattle.std.specs.Prelude.{slice_get, slice_set}
 use Rattle.std.specs.Int.{int_max}
 use Rattle.std.specs.List.{AllByRecursion}
-use Rattle.cas_types.specs.declared.schema.Column.{Column}
 use Rattle.cas_types.specs.declared.schema.TableSchema.{TableSchema}
 use Rattle.cas_info.specs.declared.info.TableInfo.{TableInfo}
 use Rattle.cas_disk.specs.Disk.{Disk, During, Follows, Image, Same}
@@ -12,11 +11,8 @@ use Rattle.cas_disk.specs.declared.name.Name.TheVariants.{Import as import_name,
 use Rattle.cas_disk.proofs.Moments.{reads_on}
 use Rattle.cas_memtable.specs.Kept.{HoldJust, all_of}
 use Rattle.cas_changes.specs.Saying.{Saying, part_of}
-use Rattle.cas_laws.specs.Given.{Has}
-use Rattle.cas_tables.specs.declared.header.Version.TheVariants.{Second}
 use Rattle.cas_sstread.specs.Loading.{Held}
-use Rattle.cas_view.specs.Views.{File, file_of, files_of}
-use Rattle.cas_view.specs.declared.view.OpenFile.{OpenFile}
+use Rattle.cas_view.specs.Views.{File}
 use Rattle.cas_stored.specs.Stored.{HoldEach, IsFileOf, StoredTable}
 use Rattle.cas_listed.proofs.Behind.{bad_as}
 use Rattle.cas_listed.specs.Listed.{AreLoaded, IsBadFile, Loads}
@@ -26,9 +22,7 @@ use Rattle.cas_shard.specs.Flushing.{KeepsBytes, bytes_at, memtables_at}
 use Rattle.cas_shard.specs.Stands.{ShardState, TakesFiles, files_at}
 use Rattle.cas_shard.proofs.Memory.{same_number}
 use Rattle.cas_recovery.specs.Openings.{greatest_frontier, times_of}
-use Rattle.cas_recovery.specs.Recovered.{IsOldFile, IsUnfitFile}
-use Rattle.cas_recovery.specs.declared.filling.TheConstants.{VERSION_PLACE}
-use Rattle.cas_recovery.specs.Inner.Filling.{AreFilled, AreGiven, HasOld, HasStayed, HasTaken, IsOwn, IsBadIn, IsBadOf, IsBadOfShard, IsFilled, IsGiven, KeepsMemory}
+use Rattle.cas_recovery.specs.Inner.Filling.{AreFilled, AreGiven, HasStayed, HasTaken, IsBadIn, IsBadOf, IsBadOfShard, IsFilled, IsGiven, KeepsMemory}
 use Rattle.cas_recovery.specs.Inner.Faults.{of_listed}
 use Rattle.cas_recovery.specs.declared.fault.RecoveryFault.{RecoveryFault}
 use Rattle.cas_recovery.specs.declared.fault.RecoveryFault.TheVariants as fault
@@ -73,7 +67,7 @@ remembers x m y same keeps tables table ws has =
 -- from what a shard's call says
 pub is_given : (s : Saying) (disk : Disk) (shard : ℕ) (t : TableSchema) (files : List (File Held)) (x m y : ShardState) → m.stores ≡ x.stores
     → TakesFiles t.number files m.stores y.stores → ((c : Image) → disk.reads c → AreLoaded t shard c (part_of s t.number shard).listed files)
-    → map (λ f. f.info) files ≡ (part_of s t.number shard).listed → AllByRecursion (IsOwn t.columns) files → y.number ≡ max x.number (part_of s t.number shard).frontier → y.drawn ≡ x.drawn → y.moment ≡ x.moment → KeepsMemory m y
+    → map (λ f. f.info) files ≡ (part_of s t.number shard).listed → AllByRecursion (IsFileOf t.columns) files → y.number ≡ max x.number (part_of s t.number shard).frontier → y.drawn ≡ x.drawn → y.moment ≡ x.moment → KeepsMemory m y
     → KeepsBytes m y → IsGiven s disk shard t x y
 is_given s disk shard t files x m y same takes loaded infos own number drawn moment memory bytes =
     let took : TakesFiles t.number files x.stores y.stores = subst (λ ps. TakesFiles t.number files ps y.stores) same takes in
@@ -81,7 +75,7 @@ is_given s disk shard t files x m y same takes loaded infos own number drawn mom
       taken = record {
         loaded = λ c read. subst (AreLoaded t shard c (part_of s t.number shard).listed) (sym took.files_are) (loaded c read);
         infos = ap (map (λ f. f.info)) took.files_are ∙ infos;
-        own = subst (AllByRecursion (IsOwn t.columns)) (sym took.files_are) own;
+        own = subst (AllByRecursion (IsFileOf t.columns)) (sym took.files_are) own;
         holds = λ order vss ws none each h. took.holds order vss ws none (subst (λ fs. HoldEach order fs [] vss) took.files_are each) h;
       };
       stayed = λ table apart. record { holds = λ order ws h. took.others table order ws apart h; files = took.other_files table apart };
@@ -103,7 +97,7 @@ taken_then : (t : TableSchema) (disk : Disk) (shard : ℕ) (infos : List TableIn
 taken_then t disk shard infos a b c first next = record {
   loaded = λ i read. subst (AreLoaded t shard i infos) (sym next.files) (first.loaded i read);
   infos = ap (map (λ f. f.info)) next.files ∙ first.infos;
-  own = subst (AllByRecursion (IsOwn t.columns)) (sym next.files) first.own;
+  own = subst (AllByRecursion (IsFileOf t.columns)) (sym next.files) first.own;
   holds = λ order vss ws none each h. next.holds order (all_of vss ++ ws) (first.holds order vss ws none (subst (λ fs. HoldEach order fs [] vss) next.files each) h);
 }
 
@@ -233,7 +227,7 @@ pub bad_of : (s : Saying) (c : Image) (t : TableSchema) (shard : ℕ) (infos : L
     → ((number at : ℕ) → f ≡ listed.Bad number at → IsBadFile t shard c infos number at) → IsBadOf s c t shard (of_listed f)
 bad_of s c t shard infos listed.Failed are bad = tt
 bad_of s c t shard infos listed.Read are bad = tt
-bad_of s c t shard infos (listed.Bad number at) are bad = inl (subst (λ is. IsBadFile t shard c is number at) are (bad number at refl))
+bad_of s c t shard infos (listed.Bad number at) are bad = subst (λ is. IsBadFile t shard c is number at) are (bad number at refl)
 bad_of s c t shard infos listed.Mem are bad = tt
 
 all_load : (t : TableSchema) (shard : ℕ) (c d : Image) (infos : List TableInfo) → Same c d → AllByRecursion (Loads t shard d) infos → AllByRecursion (Loads t shard c) infos
@@ -252,71 +246,9 @@ bad_alike t shard c d infos number at same is = record {
   bad = bad_as t shard c d is.info number at (same (table_name is.info.number)) is.bad;
 }
 
-old_alike : (t : TableSchema) (shard : ℕ) (c d : Image) (infos : List TableInfo) (number at : ℕ) → Same c d → IsOldFile t shard d infos number at → IsOldFile t shard c infos number at
-old_alike t shard c d infos number at same is = record {
-  info = is.info;
-  is_listed = is.is_listed;
-  number_is = is.number_is;
-  bytes = is.bytes;
-  there = sym (same (table_name is.info.number)) ∙ is.there;
-  kept = is.kept;
-  loads = is.loads;
-  old = is.old;
-  place = is.place;
-}
-
-unfit_alike : (t : TableSchema) (shard : ℕ) (c d : Image) (infos : List TableInfo) (number at : ℕ) → Same c d → IsUnfitFile t shard d infos number at
-    → IsUnfitFile t shard c infos number at
-unfit_alike t shard c d infos number at same (inl bad) = inl (bad_alike t shard c d infos number at same bad)
-unfit_alike t shard c d infos number at same (inr old) = inr (old_alike t shard c d infos number at same old)
-
--- one of the files that were loaded is of the first version
-pub old_of : (t : TableSchema) (shard : ℕ) (c : Image) (infos : List TableInfo) (fs : List (File Held)) (number : ℕ) → AreLoaded t shard c infos fs → HasOld fs number
-    → IsOldFile t shard c infos number VERSION_PLACE
-old_of t shard c [] [] number are (f, has, is, old) = absurd has
-old_of t shard c [] (g ∷ fs) number are old = absurd are
-old_of t shard c (i ∷ infos) [] number are old = absurd are
-old_of t shard c (i ∷ infos) (g ∷ fs) number are (f, inl here, is, old) =
-    let own : number ≡ i.number = sym is ∙ ap (λ (h : File Held). h.info.number) (sym here) ∙ ap (λ (j : TableInfo). j.number) are.0.info in
-    record {
-      info = i;
-      is_listed = inl refl;
-      number_is = own;
-      bytes = are.0.bytes;
-      there = are.0.there;
-      kept = g.table.kept;
-      loads = are.0.kept;
-      old = ap (λ (h : File Held). h.table.kept.version) here ∙ old;
-      place = refl;
-    }
-old_of t shard c (i ∷ infos) (g ∷ fs) number are (f, inr more, is, old) =
-    let rest = old_of t shard c infos fs number are.1 (f, more, is, old) in
-    record {
-      info = rest.info;
-      is_listed = inr rest.is_listed;
-      number_is = rest.number_is;
-      bytes = rest.bytes;
-      there = rest.there;
-      kept = rest.kept;
-      loads = rest.loads;
-      old = rest.old;
-      place = rest.place;
-    }
-
--- the first of files that are open
-pub first_has : {T : Type 0} (fs : List (OpenFile T)) (f : OpenFile T) → 1 ≤ length fs → f ≡ get_or fs 0 f → Has (files_of fs) (file_of f)
-first_has [] f few is = absurd (omega (arith, few))
-first_has (g ∷ fs) f few is = inl (ap file_of (sym is))
-
--- the files of a view, each of the table's columns and of the second version
-pub all_own : (columns : List Column) (fs : List (File Held)) → AllByRecursion (IsFileOf columns) fs → AllByRecursion (λ f. f.table.kept.version ≡ Second) fs
-    → AllByRecursion (IsOwn columns) fs
-all_own columns [] of second = tt
-all_own columns (f ∷ fs) of second = ((of.0, second.0), all_own columns fs of.1 second.1)
-
 -- the same of any image that is the same
 pub bad_same : (s : Saying) (c d : Image) (t : TableSchema) (shard : ℕ) (f : RecoveryFault) → Same c d → IsBadOf s d t shard f → IsBadOf s c t shard f
-bad_same s c d t shard (fault.Bad (table_name number) at) same bad = unfit_alike t shard c d (part_of s t.number shard).listed number at same bad
+bad_same s c d t shard (fault.Bad (table_name number) at) same bad = bad_alike t shard c d (part_of s t.number shard).listed number at same bad
 bad_same s c d t shard (fault.Bad manifest_name at) same bad = bad
 bad_same s c d t shard (fault.Bad (log_name number) at) same bad = bad
 bad_same s c d t shard (fault.Bad (import_name number) at) same bad = bad

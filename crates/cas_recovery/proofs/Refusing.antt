@@ -1,9 +1,7 @@
 -- Why a store isn't read back: a listed table file that isn't as it must be.
-use Rattle.std.proofs.Common.{◌≡◌, inl, inr, ℕ, List, [], ◌∷◌, ◌++◌, Some, Ok, refl, sym, ap, ◌∙◌, subst}
+use Rattle.std.proofs.Common.{◌≡◌, inl, inr, ℕ, List, [], ◌∷◌, ◌++◌, refl, sym, ap, ◌∙◌, subst}
 use Rattle.std.specs.List.{AllByRecursion}
 use Rattle.cas_types.specs.declared.schema.TableSchema.{TableSchema}
-use Rattle.cas_bounds.specs.ClusteringOrder.{clustering_order}
-use Rattle.cas_laws.specs.Given.{Has}
 use Rattle.cas_info.specs.declared.info.TableInfo.{TableInfo}
 use Rattle.cas_disk.specs.Disk.{Disk, During, Image}
 use Rattle.cas_disk.specs.declared.name.Name.{Name}
@@ -13,13 +11,7 @@ use Rattle.cas_changes.specs.declared.entry.Entry.{Entry}
 use Rattle.cas_changes.specs.declared.said.Part.{Part}
 use Rattle.cas_changes.specs.Saying.{Saying, no_part, part_of, said_by}
 use Rattle.cas_manifest.specs.Loading.{IsNew}
-use Rattle.cas_tables.specs.Contents.{Contents}
-use Rattle.cas_tables.specs.Files.{table_bytes}
-use Rattle.cas_tables.specs.declared.header.Version.TheVariants.{Second}
-use Rattle.cas_sstread.specs.Laws.{kept_for}
-use Rattle.cas_sstread.specs.Reading.{Loaded, loaded_at}
-use Rattle.cas_sstread.proofs.ContentsLoad.{tables_load}
-use Rattle.cas_listed.specs.Listed.{IsBadFile, IsFileIn, Loads, StandIn, StandInFiles}
+use Rattle.cas_listed.specs.Listed.{IsBadFile, Loads}
 use Rattle.cas_listed.proofs.Behind.{bad_as}
 use Rattle.cas_listed.proofs.Holding.{files_are_never_bad}
 use Rattle.cas_opening.specs.Opening.{IsReadWith, MayBeMadeNew, MayBeOpened, OpensAs}
@@ -27,27 +19,13 @@ use Rattle.cas_opening.specs.declared.opened.OpenStore.{OpenStore}
 use Rattle.cas_journal.specs.Stores.{IsStore}
 use Rattle.cas_shard.specs.declared.entry.ShardOpening.{ShardOpening}
 use Rattle.cas_recovery.specs.Openings.{AreOpenings, MayHaveBeen}
-use Rattle.cas_recovery.specs.Recovered.{IsBadTable, IsOldFile, IsUnfitFile}
+use Rattle.cas_recovery.specs.Recovered.{IsBadTable}
 use Rattle.cas_recovery.specs.Inner.Filling.{IsBadOf, IsBadOfShard}
 use Rattle.cas_recovery.specs.declared.fault.RecoveryFault.TheVariants as fault
 use Rattle.cas_recovery.proofs.Places.{get_within}
 use Rattle.cas_recovery.proofs.Returning.{no_table, no_tables, said_is}
 use Rattle.cas_recovery.proofs.Standing.{AreAlike, all_listed, left_before, own_file}
 use Rattle.cas_recovery.proofs.Within.{within}
-
--- ---- what stands in a file
-
--- the file of contents that a table may have is of the second version
-of_second : (t : TableSchema) (shard : ℕ) (c : Image) (i : TableInfo) (bytes : List ℕ) (kept : Loaded) (x : Contents) → IsFileIn t shard c i x
-    → c (table_name i.number) ≡ Some bytes → loaded_at (clustering_order t.columns) t.number shard i bytes ≡ Ok kept → kept.version ≡ Second
-of_second t shard c i bytes kept x file there loads =
-    let own = tables_load.loads t.columns x (table_bytes x file.facts) file.fits (record { facts = file.facts; of_atoms = file.of_atoms; spelled = refl }) in
-    let stands = file.there in
-    let table = file.table_is in
-    let its = file.shard_is in
-    let listed = file.listed in
-    let same : kept ≡ kept_for x = cc in
-    ap (λ (k : Loaded). k.version) same ∙ file.fits.version
 
 -- ---- images that are the same in the listed files
 
@@ -79,34 +57,10 @@ bad_before t shard d c infos number at alike is =
       bad = bad_as t shard d c is.info number at (here_alike d c is.before is.info is.behind parts) is.bad;
     }
 
-listed_alike : (d c : Image) (infos : List TableInfo) (i : TableInfo) → AreAlike d c infos → Has infos i → c (table_name i.number) ≡ d (table_name i.number)
-listed_alike d c [] i alike has = absurd has
-listed_alike d c (j ∷ infos) i alike (inl here) = ap (λ (k : TableInfo). c (table_name k.number)) (sym here) ∙ alike.0 ∙ ap (λ (k : TableInfo). d (table_name k.number)) here
-listed_alike d c (j ∷ infos) i alike (inr more) = listed_alike d c infos i alike.1 more
-
-old_before : (t : TableSchema) (shard : ℕ) (d c : Image) (infos : List TableInfo) (number at : ℕ) → AreAlike d c infos → IsOldFile t shard c infos number at
-    → IsOldFile t shard d infos number at
-old_before t shard d c infos number at alike is = record {
-  info = is.info;
-  is_listed = is.is_listed;
-  number_is = is.number_is;
-  bytes = is.bytes;
-  there = sym (listed_alike d c infos is.info alike is.is_listed) ∙ is.there;
-  kept = is.kept;
-  loads = is.loads;
-  old = is.old;
-  place = is.place;
-}
-
-unfit_before : (t : TableSchema) (shard : ℕ) (d c : Image) (infos : List TableInfo) (number at : ℕ) → AreAlike d c infos → IsUnfitFile t shard c infos number at
-    → IsUnfitFile t shard d infos number at
-unfit_before t shard d c infos number at alike (inl bad) = inl (bad_before t shard d c infos number at alike bad)
-unfit_before t shard d c infos number at alike (inr old) = inr (old_before t shard d c infos number at alike old)
-
 -- ---- which file it is
 
 one_number : (s : Saying) (name : Name) (at : ℕ) (c : Image) (t : TableSchema) (shard : ℕ) → IsBadOf s c t shard (fault.Bad name at)
-    → (number : ℕ) × (name ≡ table_name number) × IsUnfitFile t shard c (part_of s t.number shard).listed number at
+    → (number : ℕ) × (name ≡ table_name number) × IsBadFile t shard c (part_of s t.number shard).listed number at
 one_number s (table_name number) at c t shard bad = (number, refl, bad)
 one_number s manifest_name at c t shard bad = absurd bad
 one_number s (log_name number) at c t shard bad = absurd bad
@@ -132,7 +86,7 @@ module _ (entries : List Entry) (mutations handed : List Mutation) (o : OpenStor
       let (number, own, file) = one_number s name at c t n is in
       let (d, left, stay) = left_before entries mutations old mid image reads call c now in
       let place : t.number ≡ table = (within entries read.follow).numbers table t there in
-      let here : IsUnfitFile t n c (part_of s table n).listed number at = subst (λ (k : ℕ). IsUnfitFile t n c (part_of s k n).listed number at) place file in
+      let here : IsBadFile t n c (part_of s table n).listed number at = subst (λ (k : ℕ). IsBadFile t n c (part_of s k n).listed number at) place file in
       let infos = (part_of s table n).listed in
       record {
         number = number;
@@ -144,7 +98,7 @@ module _ (entries : List Entry) (mutations handed : List Mutation) (o : OpenStor
         within = low;
         image = d;
         left = left;
-        bad = unfit_before t n d c infos number at (all_listed s d c table n infos (get_within s.tables table t there) low stay (own_file infos infos (λ k h. h))) here;
+        bad = bad_before t n d c infos number at (all_listed s d c table n infos (get_within s.tables table t there) low stay (own_file infos infos (λ k h. h))) here;
       }
   bad_table shards old mid image name at reads (inr (new, first, empty)) stays made bad =
       let (c, now) = (made new).tells image reads in
@@ -154,31 +108,12 @@ module _ (entries : List Entry) (mutations handed : List Mutation) (o : OpenStor
 
 -- ---- a store that some shards explain isn't refused for its files
 
-none_bad : (t : TableSchema) (shard : ℕ) (c : Image) (number at : ℕ) → IsUnfitFile t shard c [] number at → ⊥
-none_bad t shard c number at (inl bad) = nothing_behind bad.before bad.info bad.behind bad.place
+none_bad : (t : TableSchema) (shard : ℕ) (c : Image) (number at : ℕ) → IsBadFile t shard c [] number at → ⊥
+none_bad t shard c number at bad = nothing_behind bad.before bad.info bad.behind bad.place
   where
     nothing_behind : (before : List TableInfo) (i : TableInfo) (behind : List TableInfo) → [] ≡ before ++ i ∷ behind → ⊥
     nothing_behind [] i behind e = cc
     nothing_behind (j ∷ before) i behind e = cc
-none_bad t shard c number at (inr old) = old.is_listed
-
-second_stands : (t : TableSchema) (shard : ℕ) (c : Image) (infos : List TableInfo) (wss : List (List Mutation)) (i : TableInfo) (bytes : List ℕ) (kept : Loaded)
-    → StandInFiles t shard c infos wss → Has infos i → c (table_name i.number) ≡ Some bytes → loaded_at (clustering_order t.columns) t.number shard i bytes ≡ Ok kept
-    → kept.version ≡ Second
-second_stands t shard c [] wss i bytes kept stand has there loads = absurd has
-second_stands t shard c (j ∷ infos) [] i bytes kept stand has there loads = absurd stand
-second_stands t shard c (j ∷ infos) (ws ∷ wss) i bytes kept stand (inl here) there loads =
-    let own : StandIn t shard c i ws = subst (λ (k : TableInfo). StandIn t shard c k ws) here stand.0 in
-    of_second t shard c i bytes kept own.contents own.file there loads
-second_stands t shard c (j ∷ infos) (ws ∷ wss) i bytes kept stand (inr more) there loads = second_stands t shard c infos wss i bytes kept stand.1 more there loads
-
-not_unfit : (t : TableSchema) (shard : ℕ) (c : Image) (infos : List TableInfo) (wss : List (List Mutation)) (number at : ℕ) → StandInFiles t shard c infos wss
-    → IsUnfitFile t shard c infos number at → ⊥
-not_unfit t shard c infos wss number at stand (inl bad) = files_are_never_bad t shard c infos wss number at stand bad
-not_unfit t shard c infos wss number at stand (inr old) =
-    let second = second_stands t shard c infos wss old.info old.bytes old.kept stand old.is_listed old.there old.loads in
-    let first = old.old in
-    cc
 
 pub never_bad : (entries : List Entry) (mutations : List Mutation) (folder : Disk) (openings : ℕ → ShardOpening) (name : Name) (at : ℕ)
     → AreOpenings entries mutations folder openings → IsBadTable entries folder name at → ⊥
@@ -187,8 +122,8 @@ never_bad entries mutations folder openings name at may bad = by (may bad.shard 
     by : MayHaveBeen (said_by entries) mutations folder bad.shard (openings bad.shard) → ⊥
     by (inl (tells, is)) =
         let say = is.says bad.table bad.schema bad.there in
-        not_unfit bad.schema bad.shard bad.image (part_of (said_by entries) bad.table bad.shard).listed say.written bad.number at (say.stand bad.image bad.left) bad.bad
+        files_are_never_bad bad.schema bad.shard bad.image (part_of (said_by entries) bad.table bad.shard).listed say.written bad.number at (say.stand bad.image bad.left) bad.bad
     by (inr (none, e)) =
         let part : part_of (said_by entries) bad.table bad.shard ≡ no_part = none.parts bad.table bad.shard (get_within (said_by entries).tables bad.table bad.schema bad.there) bad.within in
         none_bad bad.schema bad.shard bad.image bad.number at
-        (subst (λ (p : Part). IsUnfitFile bad.schema bad.shard bad.image p.listed bad.number at) part bad.bad)
+        (subst (λ (p : Part). IsBadFile bad.schema bad.shard bad.image p.listed bad.number at) part bad.bad)

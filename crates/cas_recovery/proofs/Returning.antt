@@ -27,7 +27,7 @@ use Rattle.cas_sstread.specs.Loading.{Held}
 use Rattle.cas_view.specs.Views.{File}
 use Rattle.cas_listed.specs.Listed.{AreLoaded}
 use Rattle.cas_stored.specs.Reading.{AreReadIn}
-use Rattle.cas_stored.specs.Stored.{HoldEach, StoredTable}
+use Rattle.cas_stored.specs.Stored.{HoldEach, IsFileOf, StoredTable}
 use Rattle.cas_shard.specs.declared.entry.ShardOpening.{ShardOpening}
 use Rattle.cas_shard.specs.Shards.{found_shard}
 use Rattle.cas_shard.specs.Stands.{HasNoFiles, Holds, ShardState, Stands, files_at, mutations_of}
@@ -36,7 +36,7 @@ use Rattle.cas_recovery.specs.Found.{IsUnflushed, found_in}
 use Rattle.cas_recovery.specs.Openings.{MayHaveBeen, SayAll, greatest_frontier, unflushed_of}
 use Rattle.cas_recovery.specs.Recovered.{IsRecovered}
 use Rattle.cas_recovery.specs.Restored.{AreFilledBy, HaveNoMore, IsBehind, IsTold, MayBeRead, RememberAll, greatest_of}
-use Rattle.cas_recovery.specs.Inner.Filling.{HasTaken, IsBroughtBack, IsFilled, IsOwn, IsWithin}
+use Rattle.cas_recovery.specs.Inner.Filling.{HasTaken, IsBroughtBack, IsFilled, IsWithin}
 use Rattle.cas_recovery.specs.Inner.Restoring.{MayBeGiven}
 use Rattle.cas_recovery.proofs.Afterwards.{still_lasts}
 use Rattle.cas_recovery.proofs.Founding.{log_given, some_given}
@@ -47,14 +47,13 @@ use Rattle.cas_recovery.proofs.Within.{named_alone, within}
 
 -- ---- files that may be read
 
-all_read : (t : TableSchema) (fs : List (File Held)) → IsNarrow t.columns → AllByRecursion (IsOwn t.columns) fs → (q : Slice) → IsSliceOf (clustering_order t.columns) q
+all_read : (t : TableSchema) (fs : List (File Held)) → IsNarrow t.columns → AllByRecursion (IsFileOf t.columns) fs → (q : Slice) → IsSliceOf (clustering_order t.columns) q
     → AreReadIn q fs
 all_read t [] narrow own q is = tt
 all_read t (f ∷ fs) narrow own q is = (
   record {
-    narrow = subst IsNarrow (sym own.0.0) narrow;
-    version = own.0.1;
-    slice = subst (λ columns. IsSliceOf (clustering_order columns) q) (sym own.0.0) is;
+    narrow = subst IsNarrow (sym own.0) narrow;
+    slice = subst (λ columns. IsSliceOf (clustering_order columns) q) (sym own.0) is;
   },
   all_read t fs narrow own.1 q is,
 )

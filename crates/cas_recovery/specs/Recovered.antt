@@ -1,13 +1,10 @@
 -- What a store is that was read back into memory, with its table files (own).
-use Rattle.std.specs.Prelude.{◌≡◌, ◌⊎◌, ◌<◌, ◌≤◌, ℕ, List, length, slice_get, Some, Ok}
+use Rattle.std.specs.Prelude.{◌≡◌, ◌⊎◌, ◌<◌, ◌≤◌, ℕ, List, length, slice_get, Some}
 use Rattle.cas_types.specs.declared.schema.TableSchema.{TableSchema}
-use Rattle.cas_bounds.specs.ClusteringOrder.{clustering_order}
 use Rattle.cas_disk.specs.Disk.{Disk, Image}
 use Rattle.cas_disk.specs.declared.name.Name.{Name}
 use Rattle.cas_disk.specs.declared.name.Name.TheVariants.{Table as table_name}
 use Rattle.cas_atoms.specs.declared.atom.Mutation.{Mutation}
-use Rattle.cas_laws.specs.Given.{Has}
-use Rattle.cas_info.specs.declared.info.TableInfo.{TableInfo}
 use Rattle.cas_bind.specs.Tables.{AreTables}
 use Rattle.cas_bind.specs.declared.bound.Limits.{Limits}
 use Rattle.cas_changes.specs.Saying.{frontiers_in, part_of, said_by}
@@ -16,8 +13,6 @@ use Rattle.cas_journal.specs.Stores.{Told}
 use Rattle.cas_journal.specs.Journals.{Lasts}
 use Rattle.cas_journal.specs.declared.journal.Journal.{Journal}
 use Rattle.cas_opening.specs.Opening.{IsOfBytes, IsRefused, OpensAs, next_segment}
-use Rattle.cas_tables.specs.declared.header.Version.TheVariants.{First}
-use Rattle.cas_sstread.specs.Reading.{Loaded, loaded_at}
 use Rattle.cas_listed.specs.Listed.{AreLoaded, IsBadFile}
 use Rattle.cas_shard.specs.declared.entry.ShardOpening.{ShardOpening}
 use Rattle.cas_shard.specs.Shards.{found_shard}
@@ -25,7 +20,6 @@ use Rattle.cas_shard.specs.Stands.{ShardState, Stands, files_at}
 use Rattle.cas_recovery.specs.Found.{IsFound}
 use Rattle.cas_recovery.specs.Openings.{MayHaveBeen, unflushed_of}
 use Rattle.cas_recovery.specs.Restored.{AreFilledBy, AreListed, HaveNoMore, IsBehind, IsTold, RememberAll, greatest_of}
-use Rattle.cas_recovery.specs.declared.filling.TheConstants.{VERSION_PLACE}
 
 -- The store of a folder was read back: its limits and tables are what the manifest's entries say, each shard stands for whatever it may have been before,
 -- its tables have the files that are listed, in memory are just the log's mutations above the frontiers, and its journal goes on behind the log's, which
@@ -55,23 +49,6 @@ pub record IsRecovered (given limits : Limits) (tables : List TableSchema) (shar
   pub lasts : (c : Image) → old.reads c → IsOfBytes c → (t : Told) × IsTold entries mutations t × Lasts journal new t
   pub filled : AreFilledBy (unflushed_of (said_by entries) mutations) shards
 
--- The listed file of that number is as it must be and as it is listed, but of the format's first version, whose partitions can't be read in slices yet. The
--- place is that of its version.
-pub record IsOldFile (t : TableSchema) (shard : ℕ) (c : Image) (listed : List TableInfo) (number at : ℕ) : Type 0 where
-  pub info : TableInfo
-  pub is_listed : Has listed info
-  pub number_is : number ≡ info.number
-  pub bytes : List ℕ
-  pub there : c (table_name info.number) ≡ Some bytes
-  pub kept : Loaded
-  pub loads : loaded_at (clustering_order t.columns) t.number shard info bytes ≡ Ok kept
-  pub old : kept.version ≡ First
-  pub place : at ≡ VERSION_PLACE
-
--- that file isn't loaded: it is the first that isn't as it must be, or as it is listed; or all are, and it is of the first version
-abbrev pub IsUnfitFile : TableSchema → ℕ → Image → List TableInfo → ℕ → ℕ → Type 0
-IsUnfitFile t shard c listed number at = IsBadFile t shard c listed number at ⊎ IsOldFile t shard c listed number at
-
 -- A listed table file of these entries, as a crash may leave it, isn't loaded, for what stands at this place.
 pub record IsBadTable (entries : List ManifestEntry) (folder : Disk) (name : Name) (at : ℕ) : Type 0 where
   pub number : ℕ
@@ -83,7 +60,7 @@ pub record IsBadTable (entries : List ManifestEntry) (folder : Disk) (name : Nam
   pub within : shard < (said_by entries).shards
   pub image : Image
   pub left : folder.may_leave image
-  pub bad : IsUnfitFile schema shard image (part_of (said_by entries) table shard).listed number at
+  pub bad : IsBadFile schema shard image (part_of (said_by entries) table shard).listed number at
 
 -- Why a folder isn't read back: the bytes of the manifest or of a segment aren't as they must be at this place, or those of a listed table file.
 abbrev pub IsUnreadable : ℕ → Disk → Name → ℕ → Image → Type 0

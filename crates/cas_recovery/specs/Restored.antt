@@ -16,8 +16,7 @@ use Rattle.cas_shard.specs.Stands.{ShardState, files_at, mutations_of}
 use Rattle.cas_stored.specs.Reading.{AreReadIn}
 use Rattle.cas_recovery.specs.Found.{found_in}
 
--- the files of each table may be read in each slice of the table: they are of the format's second version, of at most 256 columns, and order their
--- rows as it does
+-- the files of each table may be read in each slice of the table: they are of a table of at most 256 columns, and order their rows as it does
 abbrev pub MayBeRead : List TableSchema → List ShardState → Type 0
 MayBeRead tables shards = (n : ℕ) (x : ShardState) → slice_get shards n ≡ Some x → (table : ℕ) (t : TableSchema) → slice_get tables table ≡ Some t
     → (s : Slice) → IsSliceOf (clustering_order t.columns) s → AreReadIn s (files_at (slice_get x.stores table))

@@ -1,29 +1,19 @@
 //! Gives shards what a store has of them beside its log: the listed files, and what the manifest tells.
 
-ghost use Rattle.std.specs.Prelude.{◌≡◌, ◌<◌, ◌≤◌, ℕ, length, slice_get, IfErr, IfSome, IsErrOf, None, OnOk, Some};
-ghost use Rattle.std.specs.List.{AllByRecursion};
+ghost use Rattle.std.specs.Prelude.{◌≡◌, ◌<◌, ◌≤◌, length, IfErr, IsErrOf, None, OnOk, Some};
 ghost use Rattle.cas_disk.specs.Counts.{Counted};
 ghost use Rattle.cas_disk.specs.Disk.{During, Follows, Image, Same};
-ghost use Rattle.cas_tables.specs.declared.header.Version.TheVariants.{Second};
-ghost use Rattle.cas_sstread.specs.Loading.{Held};
-ghost use Rattle.cas_view.specs.Views.{files_of};
 ghost use Rattle.cas_recovery.specs.Openings.{times_of};
-ghost use Rattle.cas_recovery.specs.Inner.Filling.{AreFilled, AreGiven, HasOld, IsBadIn, IsBadOf, IsBadOfShard, IsFilled, IsGiven, IsWithin};
+ghost use Rattle.cas_recovery.specs.Inner.Filling.{AreFilled, AreGiven, IsBadIn, IsBadOf, IsBadOfShard, IsFilled, IsGiven, IsWithin};
 
 use crate::fault::{RecoveryFault, of_listed};
 use crate::memory::NONE_DRAWN;
 use cas_changes::{Said, ShardTimes};
-use cas_disk::{Count, Folder, Name, Sealed};
+use cas_disk::{Count, Folder};
 use cas_listed::load_listed;
 use cas_shard::Shard;
-use cas_sstread::Table;
-use cas_tables::Version;
 use cas_types::{Mem, TableSchema};
-use cas_view::OpenFile;
 use std::alloc::Global;
-
-/// The place of the version in a table file, behind the word of eight bytes that tells one.
-pub const VERSION_PLACE: u64 = 8;
 
 // The moment and the last drawn timestamp that the manifest tells of a shard.
 fn times_of(said: &Said, shard: u8) -> ShardTimes
@@ -34,20 +24,6 @@ fn times_of(said: &Said, shard: u8) -> ShardTimes
         None => ShardTimes {
             moment: 0,
             drawn: NONE_DRAWN,
-        },
-    }
-}
-
-// The number of the first of the files that is of the format's first version.
-fn old_file<S: Sealed>(files: &[OpenFile<Table<S>>]) -> Option<u64>
-    ensures none { result ≡ None → AllByRecursion (λ f. f.table.kept.version ≡ Second) (files_of {T = Held} files.now) }
-    ensures some { IfSome result (HasOld (files_of files.now)) }
-{
-    match files {
-        [] => None,
-        [file, others @ ..] => match file.table.version() {
-            Version::First => Some(file.info.number),
-            Version::Second => old_file(others),
         },
     }
 }
@@ -75,12 +51,6 @@ fn fill_table<F: Folder>(
         Ok(view) => view,
         Err(fault) => return Err(of_listed(fault)),
     };
-    if let Some(number) = old_file(view.files()) {
-        return Err(RecoveryFault::Bad {
-            name: Name::Table(number),
-            at: VERSION_PLACE,
-        });
-    }
     filled.tell_number(said.frontier(table.number, shard));
     match filled.adopt(alloc, table.number, view) {
         Ok(()) => Ok(()),

@@ -10,7 +10,6 @@ mod memory;
 mod recovering;
 
 pub use fault::RecoveryFault;
-pub use filling::VERSION_PLACE;
 pub use laws::{explained_is_taken, log_explains};
 pub use memory::Started;
 pub use recovering::recover;

@@ -187,7 +187,7 @@ module _ {D : Type 0} (number_of : D → ℕ) (wrote : D → List ℕ → Type 0
       (above : last < told.number) where
     pub is_made : IsMade t o Tells last told files
     is_made = record {
-      new = record { fits = fits; file = more.file; are = more.are; info = more.opened.info; columns = more.opened.columns; version = more.opened.version };
+      new = record { fits = fits; file = more.file; are = more.are; info = more.opened.info; columns = more.opened.columns };
       above = above;
       some = λ ws has.
           let flushed = written ws has in

@@ -81,7 +81,6 @@ module _ (ts : List TableSchema) (xs : List ShardState) (n count : ℕ) (x y : S
           let was : AreReadIn s (files_at (slice_get x.stores t.number)) = are n x there t.number t table s its in
           let one : IsReadIn s new.file = record {
             narrow = subst (λ cs. IsNarrow cs) (sym new.columns) narrow;
-            version = new.version;
             slice = subst (λ cs. IsSliceOf (clustering_order cs) s) (sym new.columns) its;
           } in
           subst (λ (j : ℕ). AreReadIn s (files_at (slice_get y.stores j))) (sym here)

@@ -17,6 +17,7 @@ use Rattle.cas_flush.specs.Flushed.{at_level_0}
 use Rattle.cas_flushing.specs.Flushed.{head_of}
 use Rattle.cas_fragments.specs.Blocks.{blocks_bytes, head_bytes, partition_bytes}
 use Rattle.cas_fragments.specs.Spelling.{columns_bytes}
+use Rattle.cas_fragments.specs.declared.heads.Version.TheVariants.{Second}
 use Rattle.cas_info.specs.declared.info.TheConstants.{FILE_LIMIT, PARTITION_LIMIT}
 use Rattle.cas_records.specs.Spelling.{deletion_bytes}
 use Rattle.cas_sstwrite.specs.Causes.{IsUnfit, TooMuch}
@@ -117,10 +118,10 @@ no_deletion : length (maybe deletion_bytes None) ≡ 1
 unfolding u8
 no_deletion = refl
 
-head_short : (key : List ℕ) → length (partition_bytes key None []) ≡ length key + 9
+head_short : (key : List ℕ) → length (partition_bytes Second key None []) ≡ length key + 9
 head_short key =
-    let whole : length (partition_bytes key None []) ≡ length (head_bytes key None []) + length (blocks_bytes []) = length-append (head_bytes key None []) (blocks_bytes []) in
-    let head : length (head_bytes key None []) ≡ length (bytes16 key) + length (maybe deletion_bytes None ++ columns_bytes []) =
+    let whole : length (partition_bytes Second key None []) ≡ length (head_bytes Second key None []) + length (blocks_bytes []) = length-append (head_bytes Second key None []) (blocks_bytes []) in
+    let head : length (head_bytes Second key None []) ≡ length (bytes16 key) + length (maybe deletion_bytes None ++ columns_bytes []) =
     length-append (bytes16 key) (maybe deletion_bytes None ++ columns_bytes []) in
     let rest : length (maybe deletion_bytes None ++ columns_bytes []) ≡ length (maybe deletion_bytes None) + length (columns_bytes []) =
     length-append (maybe deletion_bytes None) (columns_bytes []) in

@@ -31,6 +31,7 @@ use Rattle.cas_stored.specs.Stored.{StoredTable}
 use Rattle.cas_streams.specs.Merged.{flat_of}
 use Rattle.cas_streams.specs.NoMore.{SaysNoMore}
 use Rattle.cas_streams.proofs.NoMore.{no_more_then, says_no_more}
+use Rattle.cas_fragments.specs.declared.heads.Version.TheVariants.{Second}
 use Rattle.cas_tables.specs.Contents.{Partition}
 use Rattle.cas_tables.specs.Files.{front_bytes}
 use Rattle.cas_tables.specs.Spelling.{header_bytes}
@@ -140,7 +141,7 @@ module _ (t : TableSchema) (shard : ℕ) (ms : List MemPart) (ws : List Mutation
       (inl (
         what,
         subst (λ (k : ℕ). TooMuch what k (length (front_bytes (at_level_0 (head_of t shard number) h.before))) h.key h.stream.top h.stream.fragments)
-            (entries_long (length (header_bytes (head_of t shard number))) h.before) h.causes.1,
+            (entries_long Second (length (header_bytes (head_of t shard number))) h.before) h.causes.1,
       ))
 
   at_the_end : (what : Measure) (limit : ℕ) → EndsLong t.columns (head_of t shard number) ms what limit → AllIsTooMuch t shard ws

@@ -29,8 +29,8 @@ use Rattle.cas_index.specs.declared.footer.Footer.{Footer}
 use Rattle.cas_index.specs.declared.entries.PartitionEntry.{PartitionEntry}
 use Rattle.cas_index.proofs.IndexLaws.{index_exact, footer_exact}
 use Rattle.cas_tables.specs.declared.header.TheConstants.{HEADER_LENGTH}
-use Rattle.cas_tables.specs.declared.header.Version.{Version}
-use Rattle.cas_tables.specs.declared.header.Version.TheVariants.{Second}
+use Rattle.cas_fragments.specs.declared.heads.Version.{Version}
+use Rattle.cas_fragments.specs.declared.heads.Version.TheVariants.{Second}
 use Rattle.cas_tables.specs.Allowed.{FitsHeader}
 use Rattle.cas_tables.specs.Reading.{header_of_at}
 use Rattle.cas_tables.specs.Spelling.{header_bytes}

@@ -21,8 +21,8 @@ use Rattle.cas_index.specs.declared.footer.Footer.{Footer}
 use Rattle.cas_index.specs.declared.entries.PartitionEntry.{PartitionEntry}
 use Rattle.cas_tables.specs.declared.header.TheConstants.{HEADER_LENGTH}
 use Rattle.cas_tables.specs.declared.header.Header.{Header}
-use Rattle.cas_tables.specs.declared.header.Version.{Version}
-use Rattle.cas_tables.specs.declared.header.Version.TheVariants.{Second}
+use Rattle.cas_fragments.specs.declared.heads.Version.{Version}
+use Rattle.cas_fragments.specs.declared.heads.Version.TheVariants.{Second}
 use Rattle.cas_tables.specs.Allowed.{FitsHeader}
 use Rattle.cas_tables.specs.Contents.{Partition, Contents, keys}
 use Rattle.cas_tables.specs.Files.{index_of, key_filter, index_place, info_of, table_bytes, IsTable}
@@ -96,9 +96,9 @@ pub record StandsThere (c : Contents) (f : Facts) (key : List ℕ) (n : ℕ) : T
   pub one : slice_get c.partitions n ≡ Some partition
   pub told : slice_get (index_of c) n ≡ Some entry
   pub key_is : partition.key ≡ key
-  pub text : StandsAt (table_bytes c f) entry.place (text_of partition)
+  pub text : StandsAt (table_bytes c f) entry.place (text_of c.header.version partition)
   pub blocks_stand : BlocksStand (table_bytes c f) (blocks partition) entry.blocks
-  pub behind : place_or (index_place c) (slice_get (index_of c) (n + 1)) ≡ entry.place + length (text_of partition)
+  pub behind : place_or (index_place c) (slice_get (index_of c) (n + 1)) ≡ entry.place + length (text_of c.header.version partition)
 
 -- what is found of a key in the index of contents is what the contents have
 pub record PartitionsAreFound : Type 0 where

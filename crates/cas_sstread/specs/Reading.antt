@@ -19,7 +19,7 @@ use Rattle.cas_index.specs.declared.footer.TheConstants.{FOOTER_LENGTH}
 use Rattle.cas_index.specs.declared.footer.Footer.{Footer}
 use Rattle.cas_index.specs.declared.entries.PartitionEntry.{PartitionEntry}
 use Rattle.cas_tables.specs.declared.header.TheConstants.{HEADER_LENGTH}
-use Rattle.cas_tables.specs.declared.header.Version.{Version}
+use Rattle.cas_fragments.specs.declared.heads.Version.{Version}
 use Rattle.cas_tables.specs.Reading.{header_of_at}
 
 -- ---- parts of a file

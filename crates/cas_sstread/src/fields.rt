@@ -13,8 +13,9 @@ ghost use Rattle.cas_sstread.specs.Inner.Ends.{Ends};
 use cas_bounds::RowOrder;
 use cas_codec::{ReadFault, Reader};
 use cas_filter::{Filter, KEY_BITS, LEAST_BITS, read_filter};
+use cas_fragments::Version;
 use cas_index::{BlockEntry, Footer, PartitionEntry, PartitionIndex, read_footer, read_index};
-use cas_tables::{HEADER_LENGTH, Version, read_header_of};
+use cas_tables::{HEADER_LENGTH, read_header_of};
 use std::alloc::Global;
 
 /// Whether a part is read to its end.

@@ -19,9 +19,10 @@ use cas_bounds::RowOrder;
 use cas_codec::ReadFault;
 use cas_disk::Sealed;
 use cas_filter::Filter;
+use cas_fragments::Version;
 use cas_index::{FOOTER_LENGTH, Footer, PartitionEntry, PartitionIndex};
 use cas_info::TableInfo;
-use cas_tables::{HEADER_LENGTH, Version};
+use cas_tables::HEADER_LENGTH;
 use std::alloc::Global;
 
 // What is answered of such a fault in the file of that number.

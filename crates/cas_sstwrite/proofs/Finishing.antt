@@ -20,6 +20,8 @@ use Rattle.cas_filter.specs.Spelling.{filter_bytes}
 use Rattle.cas_info.specs.Spelling.{info_bytes}
 use Rattle.cas_index.specs.Spelling.{index_bytes, footer_bytes}
 use Rattle.cas_index.specs.declared.entries.PartitionEntry.{PartitionEntry}
+use Rattle.cas_fragments.specs.declared.heads.Version.{Version}
+use Rattle.cas_fragments.specs.declared.heads.Version.TheVariants.{First, Second}
 use Rattle.cas_tables.specs.Contents.{Partition, Contents, atoms_of}
 use Rattle.cas_tables.specs.Places.{text_of, entries}
 use Rattle.cas_tables.specs.Files.{front_bytes, index_of, index_place, key_filter, footer_of, with_info, first_key, last_key, told_of, info_of, table_bytes}
@@ -41,21 +43,21 @@ pub last_told : (e : PartitionEntry) (es : List PartitionEntry) (l : PartitionEn
 last_told e [] l is = let same : e ≡ l = cc in ap (λ x. x.key) same
 last_told e (x ∷ es) l is = last_told x es l is
 
-keys_same : (place : ℕ) (ps : List Partition) → map (λ e. e.key) (entries place ps) ≡ map (λ p. p.key) ps
-keys_same place [] = refl
-keys_same place (p ∷ ps) = ap (λ (ks : List (List ℕ)). p.key ∷ ks) (keys_same (place + length (text_of p)) ps)
+keys_same : (version : Version) (place : ℕ) (ps : List Partition) → map (λ e. e.key) (entries version place ps) ≡ map (λ p. p.key) ps
+keys_same version place [] = refl
+keys_same version place (p ∷ ps) = ap (λ (ks : List (List ℕ)). p.key ∷ ks) (keys_same version (place + length (text_of version p)) ps)
 
-long_same : (place : ℕ) (ps : List Partition) → length (entries place ps) ≡ length ps
-long_same place [] = refl
-long_same place (p ∷ ps) = let e = long_same (place + length (text_of p)) ps in omega (arith, e)
+long_same : (version : Version) (place : ℕ) (ps : List Partition) → length (entries version place ps) ≡ length ps
+long_same version place [] = refl
+long_same version place (p ∷ ps) = let e = long_same version (place + length (text_of version p)) ps in omega (arith, e)
 
 there_long : {X : Type 0} (xs : List X) → IsThere xs → 1 ≤ length xs
 there_long [] there = absurd there
 there_long (x ∷ xs) there = omega arith
 
-none_written : (place : ℕ) (ps : List Partition) → entries place ps ≡ [] → ps ≡ []
-none_written place [] e = refl
-none_written place (p ∷ ps) e = absurd (cc)
+none_written : (version : Version) (place : ℕ) (ps : List Partition) → entries version place ps ≡ [] → ps ≡ []
+none_written version place [] e = refl
+none_written version place (p ∷ ps) e = absurd (cc)
 
 none_seen : (columns : List Column) (ps : List Partition) → AllByRecursion (FitsPartition columns) ps → flats (map (λ p. p.stream) ps) ≡ [] → ps ≡ []
 none_seen columns [] fit e = refl
@@ -67,7 +69,7 @@ none_seen columns (p ∷ ps) fit e = absurd (front (flat_of p.stream) (flats (ma
 
 pub none_told : {D E : Type 0} (number_of : D → ℕ) (written : D → List ℕ → Type 0) (columns : List Column) (w : TableWriter D E) (ps : List Partition)
     → Writes number_of written columns w ps → IsTold w.header.number w.level w.entries.items w.seen.facts None → ps ≡ []
-none_told number_of written columns w ps writes (inl none) = none_written _ ps (sym writes.entries ∙ none)
+none_told number_of written columns w ps writes (inl none) = none_written w.header.version _ ps (sym writes.entries ∙ none)
 none_told number_of written columns w ps writes (inr none) = none_seen columns ps writes.each (subst (λ f. AreFactsSoFar (atoms_of (contents_of w ps)) f) none writes.facts)
 
 -- ---- the file
@@ -78,7 +80,7 @@ whole c i =
     (append_assoc (index_bytes (index_of c)) (filter_bytes (key_filter c)) (info_bytes i ++ footer_bytes (footer_of c)))
 
 filter_same : (c : Contents) → filter_at (index_of c) ≡ key_filter c
-filter_same c = cc (ap bits_for (long_same _ c.partitions), keys_same _ c.partitions)
+filter_same c = cc (ap bits_for (long_same c.header.version _ c.partitions), keys_same c.header.version _ c.partitions)
 
 -- what stands behind the partitions, by the contents
 tail_same : {D E : Type 0} (number_of : D → ℕ) (written : D → List ℕ → Type 0) (columns : List Column) (w : TableWriter D E) (ps : List Partition) (i : TableInfo)
@@ -108,8 +110,8 @@ told_same : {D E : Type 0} (number_of : D → ℕ) (written : D → List ℕ →
 told_same number_of written columns w ps f writes =
     ap (λ (es : List PartitionEntry). info_at w.header.number w.level (length es) (first_key (map (λ e. e.key) es)) (last_key (map (λ e. e.key) es)) f 0) writes.entries
     ∙ ap (λ n. info_at w.header.number w.level n (first_key (map (λ e. e.key) (index_of (contents_of w ps)))) (last_key (map (λ e. e.key) (index_of (contents_of w ps)))) f 0)
-    (long_same _ ps)
-    ∙ ap (λ (ks : List (List ℕ)). info_at w.header.number w.level (length ps) (first_key ks) (last_key ks) f 0) (keys_same _ ps)
+    (long_same w.header.version _ ps)
+    ∙ ap (λ (ks : List (List ℕ)). info_at w.header.number w.level (length ps) (first_key ks) (last_key ks) f 0) (keys_same w.header.version _ ps)
 
 info_same : {D E : Type 0} (number_of : D → ℕ) (written : D → List ℕ → Type 0) (columns : List Column) (w : TableWriter D E) (ps : List Partition) (f : Facts) (i j : TableInfo)
     → Writes number_of written columns w ps → i ≡ told_of (contents_of w ps) f 0
@@ -122,6 +124,10 @@ info_same number_of written columns w ps f i j writes is made =
 same_facts : (c : Contents) (f g : Facts) → AreFacts (atoms_of c) f → AreFacts (atoms_of c) g → f ≡ g
 same_facts c f g a b = let e : Some f ≡ Some g = facts_are_one.one (atoms_of c) (Some f) (Some g) a b in cc
 
+-- the versions differ
+first_second : First ≡ Second → ⊥
+first_second e = cc
+
 pub finished : {D E : Type 0} (number_of : D → ℕ) (written : D → List ℕ → Type 0) (columns : List Column) (w : TableWriter D E) (ps : List Partition) (t : Sink D) (i j : TableInfo)
     → Writes number_of written columns w ps → IsTold w.header.number w.level w.entries.items w.seen.facts (Some i)
     → j ≡ with_bytes i (w.sink.place + length (tail_at w.sink.place w.entries.items (filter_at w.entries.items) i))
@@ -133,16 +139,16 @@ finished number_of written columns w ps t i j writes told made took few low =
     let f : Facts = told.0 in
     let facts : AreFacts (atoms_of c) f = subst (λ x. AreFactsSoFar (atoms_of c) x) told.1 writes.facts in
     let info : j ≡ info_of c f = info_same number_of written columns w ps f i j writes (told.3 ∙ told_same number_of written columns w ps f writes) made in
-    let count : length w.entries.items ≡ length ps = ap length writes.entries ∙ long_same _ ps in
+    let count : length w.entries.items ≡ length ps = ap length writes.entries ∙ long_same w.header.version _ ps in
     let long : t.place ≡ length (table_bytes c f) = took.place ∙ file_long number_of written columns w ps j writes ∙ ap (λ x. length (with_info c x)) info in
     record {
       fits = record {
         header = writes.header;
-        version = writes.version;
         level = writes.level;
         few = (omega (arith, there_long w.entries.items told.2), omega arith);
         ascend = writes.ascend;
         each = writes.each;
+        statics = λ first. absurd (first_second (sym first ∙ writes.version));
         short = λ g are. subst (λ x. length (table_bytes c x) ≤ FILE_LIMIT) (same_facts c f g facts are) (omega arith);
       };
       facts = f;

@@ -13,6 +13,7 @@ use Rattle.cas_facts.specs.declared.facts.Facts.{Facts}
 use Rattle.cas_fragments.specs.Allowed.{HaveRoom}
 use Rattle.cas_tables.specs.Places.{block_entries}
 use Rattle.cas_fragments.specs.Blocks.{blocks_of, blocks_bytes, statics_in, behind_statics, head_bytes}
+use Rattle.cas_fragments.specs.declared.heads.Version.TheVariants.{Second}
 use Rattle.cas_sstwrite.specs.declared.fault.Measure.TheVariants.{FileBytes, BlockBytes, Partitions}
 use Rattle.cas_sstwrite.specs.declared.fault.WriteFault.{WriteFault}
 use Rattle.cas_sstwrite.specs.declared.fault.WriteFault.TheVariants.{Failed, Order, TooMany, Unfit, Mem}
@@ -57,7 +58,7 @@ says_begin (Some f) told fs says = (says.0, says.2)
 
 pub partition_written : {D : Type 0} (number_of : D → ℕ) (written : D → List ℕ → Type 0) (key : List ℕ) (top : Option Deletion) (first : Option Fragment)
     (before : Option Facts) (s t u : Sink D) (p q : Part) (told : Option (List Fragment)) → length key < 2 ^ 16 → HaveRoom (statics_in (option_to_list first))
-    → Took number_of written (head_bytes key top (statics_in (option_to_list first))) s t
+    → Took number_of written (head_bytes Second key top (statics_in (option_to_list first))) s t
     → ((start : ℕ) → Taken start before top [] p [])
     → ((start : ℕ) (before : Option Facts) (top : Option Deletion) (text : List ℕ) → Taken start before top [] p text → t.place ≡ start + length text
     → WroteRows number_of written start before top first t u q text told)
@@ -65,11 +66,11 @@ pub partition_written : {D : Type 0} (number_of : D → ℕ) (written : D → Li
 partition_written number_of written key top first before s t u p q told short room head none rows =
     let w = rows t.place before top [] (none t.place) (let e : t.place ≡ t.place + 0 = omega arith in e) in
     let same : statics_in (option_to_list first) ≡ statics_in w.given = statics_first first w.given w.front in
-    let headed : Took number_of written (head_bytes key top (statics_in w.given)) s t = subst (λ (cs : List RowColumn). Took number_of written (head_bytes key top cs) s t) same head in
+    let headed : Took number_of written (head_bytes Second key top (statics_in w.given)) s t = subst (λ (cs : List RowColumn). Took number_of written (head_bytes Second key top cs) s t) same head in
     record {
       given = w.given;
-      took = subst (λ (xs : List ℕ). Took number_of written (head_bytes key top (statics_in w.given) ++ xs) s u) w.ends.whole
-          (took_both number_of written (head_bytes key top (statics_in w.given)) w.ends.more s t u headed w.ends.took);
+      took = subst (λ (xs : List ℕ). Took number_of written (head_bytes Second key top (statics_in w.given) ++ xs) s u) w.ends.whole
+          (took_both number_of written (head_bytes Second key top (statics_in w.given)) w.ends.more s t u headed w.ends.took);
       entries = w.ends.entries ∙ ap (λ n. block_entries n None (blocks_of (behind_statics w.given))) headed.place;
       few = w.ends.few;
       short = w.ends.short;
@@ -83,7 +84,7 @@ partition_written number_of written key top first before s t u p q told short ro
 
 -- why it isn't
 
-pub head_long : (place n : ℕ) (key : List ℕ) (top : Option Deletion) (cs : List RowColumn) (e : WriteFault) → n ≡ length (head_bytes key top cs) → LongFault place n e
+pub head_long : (place n : ℕ) (key : List ℕ) (top : Option Deletion) (cs : List RowColumn) (e : WriteFault) → n ≡ length (head_bytes Second key top cs) → LongFault place n e
     → HeadFault place key top cs e
 head_long place n key top cs Failed same why = tt
 head_long place n key top cs Order same why = absurd why
@@ -106,8 +107,8 @@ head_stops place key top first told fs e says why =
       omega (
         arith,
         why.1,
-        ap (λ (xs : List RowColumn). length (head_bytes key top xs)) same,
-        length-append (head_bytes key top (statics_in fs)) (blocks_bytes (blocks_of (behind_statics fs))),
+        ap (λ (xs : List RowColumn). length (head_bytes Second key top xs)) same,
+        length-append (head_bytes Second key top (statics_in fs)) (blocks_bytes (blocks_of (behind_statics fs))),
       ),
     )
     of cs same (TooMany BlockBytes limit) why = absurd why
@@ -116,7 +117,7 @@ head_stops place key top first told fs e says why =
     of cs same Mem why = tt
 
 pub rows_stop : (E : Type 0) (place start : ℕ) (key : List ℕ) (top : Option Deletion) (fs : List Fragment) (e : PartitionFault E)
-    → start ≡ place + length (head_bytes key top (statics_in fs)) → RowsFault start (behind_statics fs) e → PartFault place key top fs e
+    → start ≡ place + length (head_bytes Second key top (statics_in fs)) → RowsFault start (behind_statics fs) e → PartFault place key top fs e
 rows_stop E place start key top fs (Source e) at why = tt
 rows_stop E place start key top fs (Write e) at why = of e why
   where
@@ -124,14 +125,14 @@ rows_stop E place start key top fs (Write e) at why = of e why
     of Failed why = tt
     of Order why = absurd why
     of (TooMany FileBytes limit) why =
-        (why.0, omega (arith, why.1, at, length-append (head_bytes key top (statics_in fs)) (blocks_bytes (blocks_of (behind_statics fs)))))
+        (why.0, omega (arith, why.1, at, length-append (head_bytes Second key top (statics_in fs)) (blocks_bytes (blocks_of (behind_statics fs)))))
     of (TooMany BlockBytes limit) why = why
     of (TooMany Partitions limit) why = absurd why
     of Unfit why = λ fit. why fit.2
     of Mem why = tt
 
 pub head_place : {D : Type 0} (number_of : D → ℕ) (written : D → List ℕ → Type 0) (key : List ℕ) (top : Option Deletion) (first : Option Fragment) (told : Option (List Fragment))
-    (fs : List Fragment) (s t : Sink D) → Says first told fs → Took number_of written (head_bytes key top (statics_in (option_to_list first))) s t
-    → t.place ≡ s.place + length (head_bytes key top (statics_in fs))
+    (fs : List Fragment) (s t : Sink D) → Says first told fs → Took number_of written (head_bytes Second key top (statics_in (option_to_list first))) s t
+    → t.place ≡ s.place + length (head_bytes Second key top (statics_in fs))
 head_place number_of written key top first told fs s t says took =
-    took.place ∙ ap (λ (cs : List RowColumn). s.place + length (head_bytes key top cs)) (statics_first first fs (says_begin first told fs says))
+    took.place ∙ ap (λ (cs : List RowColumn). s.place + length (head_bytes Second key top cs)) (statics_first first fs (says_begin first told fs says))

@@ -25,7 +25,8 @@ use Rattle.cas_fragments.specs.Blocks.{partition_bytes}
 use Rattle.cas_index.specs.Entries.{is_next_key}
 use Rattle.cas_index.specs.declared.entries.PartitionEntry.{PartitionEntry}
 use Rattle.cas_tables.specs.declared.header.Header.{Header}
-use Rattle.cas_tables.specs.declared.header.Version.TheVariants.{Second}
+use Rattle.cas_fragments.specs.declared.heads.Version.TheVariants.{First, Second}
+use Rattle.cas_fragments.specs.declared.heads.Version.{Version}
 use Rattle.cas_tables.specs.Allowed.{FitsHeader}
 use Rattle.cas_tables.specs.Spelling.{header_bytes}
 use Rattle.cas_tables.specs.Contents.{Partition}
@@ -106,32 +107,33 @@ all_further : (k j : List ℕ) (ks : List (List ℕ)) → bytes_cmp k j ≡ Less
 all_further k j [] e all = tt
 all_further k j (i ∷ ks) e all = (nat_list_cmp_total.trans k j i e all.0, all_further k j ks e all.1)
 
-next_sorted : (before : PartitionEntry) (place : ℕ) (ps : List Partition) (key : List ℕ) → IsStrictlySortedBy bytes_cmp (before.key ∷ map (λ p. p.key) ps)
-    → is_next_key (last_or (Some before) (entries place ps)) key ≡ true → IsStrictlySortedBy bytes_cmp (before.key ∷ (map (λ p. p.key) ps ++ key ∷ []))
+next_sorted : (version : Version) (before : PartitionEntry) (place : ℕ) (ps : List Partition) (key : List ℕ) → IsStrictlySortedBy bytes_cmp (before.key ∷ map (λ p. p.key) ps)
+    → is_next_key (last_or (Some before) (entries version place ps)) key ≡ true → IsStrictlySortedBy bytes_cmp (before.key ∷ (map (λ p. p.key) ps ++ key ∷ []))
 unfolding IsStrictlySortedBy
-next_sorted before place [] key sorted next = ((lt_less (bytes_cmp before.key key) next, tt), (tt, tt))
-next_sorted before place (p ∷ ps) key sorted next =
-    let entry : PartitionEntry = record { key = p.key; place = place; blocks = block_entries (place + length (head_of p)) None (blocks p) } in
-    let rest = next_sorted entry (place + length (text_of p)) ps key sorted.1 next in
+next_sorted version before place [] key sorted next = ((lt_less (bytes_cmp before.key key) next, tt), (tt, tt))
+next_sorted version before place (p ∷ ps) key sorted next =
+    let entry : PartitionEntry = record { key = p.key; place = place; blocks = block_entries (place + length (head_of version p)) None (blocks p) } in
+    let rest = next_sorted version entry (place + length (text_of version p)) ps key sorted.1 next in
     ((sorted.0.0, all_further before.key p.key (map (λ p. p.key) ps ++ key ∷ []) sorted.0.0 rest.0), rest)
 
-sorted_next : (place : ℕ) (ps : List Partition) (key : List ℕ) → IsStrictlySortedBy bytes_cmp (map (λ p. p.key) ps)
-    → is_next_key (last_or None (entries place ps)) key ≡ true → IsStrictlySortedBy bytes_cmp (map (λ p. p.key) ps ++ key ∷ [])
+sorted_next : (version : Version) (place : ℕ) (ps : List Partition) (key : List ℕ) → IsStrictlySortedBy bytes_cmp (map (λ p. p.key) ps)
+    → is_next_key (last_or None (entries version place ps)) key ≡ true → IsStrictlySortedBy bytes_cmp (map (λ p. p.key) ps ++ key ∷ [])
 unfolding IsStrictlySortedBy
-sorted_next place [] key sorted next = (tt, tt)
-sorted_next place (p ∷ ps) key sorted next =
-    next_sorted (record { key = p.key; place = place; blocks = block_entries (place + length (head_of p)) None (blocks p) })
-    (place + length (text_of p)) ps key sorted next
+sorted_next version place [] key sorted next = (tt, tt)
+sorted_next version place (p ∷ ps) key sorted next =
+    next_sorted version (record { key = p.key; place = place; blocks = block_entries (place + length (head_of version p)) None (blocks p) })
+    (place + length (text_of version p)) ps key sorted next
 
-entries_snoc : (place : ℕ) (ps : List Partition) (key : List ℕ) (top : Option Deletion) (fs : List Fragment)
-    → entries place (ps ++ made key top fs ∷ []) ≡ entries place ps ++ partition_entry key top fs (place + length (flat_map text_of ps)) ∷ []
-entries_snoc place [] key top fs = ap (λ n. partition_entry key top fs n ∷ []) (let e : place ≡ place + 0 = omega arith in e)
-entries_snoc place (p ∷ ps) key top fs =
-    let long : (place + length (text_of p)) + length (flat_map text_of ps) ≡ place + length (text_of p ++ flat_map text_of ps) =
-    omega (arith, length-append (text_of p) (flat_map text_of ps)) in
-    ap (λ (es : List PartitionEntry). record { key = p.key; place = place; blocks = block_entries (place + length (head_of p)) None (blocks p) } ∷ es)
-    (entries_snoc (place + length (text_of p)) ps key top fs
-    ∙ ap (λ n. entries (place + length (text_of p)) ps ++ partition_entry key top fs n ∷ []) long)
+entries_snoc : (version : Version) (place : ℕ) (ps : List Partition) (key : List ℕ) (top : Option Deletion) (fs : List Fragment) → version ≡ Second
+    → entries version place (ps ++ made key top fs ∷ []) ≡ entries version place ps ++ partition_entry key top fs (place + length (flat_map (text_of version) ps)) ∷ []
+entries_snoc First place ps key top fs second = absurd cc
+entries_snoc Second place [] key top fs second = ap (λ n. partition_entry key top fs n ∷ []) (let e : place ≡ place + 0 = omega arith in e)
+entries_snoc Second place (p ∷ ps) key top fs second =
+    let long : (place + length (text_of Second p)) + length (flat_map (text_of Second) ps) ≡ place + length (text_of Second p ++ flat_map (text_of Second) ps) =
+    omega (arith, length-append (text_of Second p) (flat_map (text_of Second) ps)) in
+    ap (λ (es : List PartitionEntry). record { key = p.key; place = place; blocks = block_entries (place + length (head_of Second p)) None (blocks p) } ∷ es)
+    (entries_snoc Second (place + length (text_of Second p)) ps key top fs refl
+    ∙ ap (λ n. entries Second (place + length (text_of Second p)) ps ++ partition_entry key top fs n ∷ []) long)
 
 all_snoc : {X : Type 0} (P : X → Type 0) (xs : List X) (x : X) → AllByRecursion P xs → P x → AllByRecursion P (xs ++ x ∷ [])
 all_snoc P [] x all one = (one, tt)
@@ -139,12 +141,14 @@ all_snoc P (y ∷ xs) x all one = (all.0, all_snoc P xs x all.1 one)
 
 -- ---- one more
 
-front_more : (h : Header) (ps : List Partition) (key : List ℕ) (top : Option Deletion) (fs : List Fragment)
-    → (header_bytes h ++ flat_map text_of ps) ++ partition_bytes key top fs ≡ header_bytes h ++ flat_map text_of (ps ++ made key top fs ∷ [])
-front_more h ps key top fs =
-    append_assoc (header_bytes h) (flat_map text_of ps) (partition_bytes key top fs)
-    ∙ ap (λ (t : List ℕ). header_bytes h ++ t)
-    (ap (λ (t : List ℕ). flat_map text_of ps ++ t) (sym (append-nil (partition_bytes key top fs))) ∙ sym (flat_map-append text_of ps (made key top fs ∷ [])))
+front_more : (version : Version) (front : List ℕ) (ps : List Partition) (key : List ℕ) (top : Option Deletion) (fs : List Fragment) → version ≡ Second
+    → (front ++ flat_map (text_of version) ps) ++ partition_bytes Second key top fs ≡ front ++ flat_map (text_of version) (ps ++ made key top fs ∷ [])
+front_more First front ps key top fs second = absurd cc
+front_more Second front ps key top fs second =
+    append_assoc front (flat_map (text_of Second) ps) (partition_bytes Second key top fs)
+    ∙ ap (λ (t : List ℕ). front ++ t)
+    (ap (λ (t : List ℕ). flat_map (text_of Second) ps ++ t) (sym (append-nil (partition_bytes Second key top fs)))
+    ∙ sym (flat_map-append (text_of Second) ps (made key top fs ∷ [])))
 
 atoms_more : (ps : List Partition) (key : List ℕ) (top : Option Deletion) (fs : List Fragment)
     → flats (map (λ p. p.stream) ps) ++ flat top fs ≡ flats (map (λ p. p.stream) (ps ++ made key top fs ∷ []))
@@ -164,20 +168,21 @@ writes_more number_of written columns old new ps key top fs w a fit said next = 
   number = a.took.number ∙ w.number ∙ ap (λ h. h.number) (sym a.header);
   text = λ bytes h. texts bytes (a.took.text bytes h);
   place = a.took.place
-      ∙ (let e : old.sink.place + length (partition_bytes key top fs) ≡ length ((header_bytes old.header ++ flat_map text_of ps) ++ partition_bytes key top fs) =
-      omega (arith, w.place, length-append (header_bytes old.header ++ flat_map text_of ps) (partition_bytes key top fs)) in e)
-      ∙ ap length (front_more old.header ps key top fs)
-      ∙ ap (λ h. length (header_bytes h ++ flat_map text_of (ps ++ made key top fs ∷ []))) (sym a.header);
+      ∙ (let e : old.sink.place + length (partition_bytes Second key top fs) ≡ length ((header_bytes old.header ++ flat_map (text_of old.header.version) ps) ++ partition_bytes Second key top fs) =
+      omega (arith, w.place, length-append (header_bytes old.header ++ flat_map (text_of old.header.version) ps) (partition_bytes Second key top fs)) in e)
+      ∙ ap length (front_more old.header.version (header_bytes old.header) ps key top fs w.version)
+      ∙ ap (λ (h : Header). length (header_bytes h ++ flat_map (text_of h.version) (ps ++ made key top fs ∷ []))) (sym a.header);
   entries = a.entries
       ∙ ap (λ (es : List PartitionEntry). es ++ partition_entry key top fs old.sink.place ∷ []) w.entries
-      ∙ ap (λ n. entries (length (header_bytes old.header)) ps ++ partition_entry key top fs n ∷ []) (w.place ∙ length-append (header_bytes old.header) (flat_map text_of ps))
-      ∙ sym (entries_snoc (length (header_bytes old.header)) ps key top fs)
-      ∙ ap (λ h. entries (length (header_bytes h)) (ps ++ made key top fs ∷ [])) (sym a.header);
+      ∙ ap (λ n. entries old.header.version (length (header_bytes old.header)) ps ++ partition_entry key top fs n ∷ [])
+      (w.place ∙ length-append (header_bytes old.header) (flat_map (text_of old.header.version) ps))
+      ∙ sym (entries_snoc old.header.version (length (header_bytes old.header)) ps key top fs w.version)
+      ∙ ap (λ (h : Header). entries h.version (length (header_bytes h)) (ps ++ made key top fs ∷ [])) (sym a.header);
   facts = subst (λ (xs : List Atom). AreFactsSoFar xs new.seen.facts) (atoms_more ps key top fs)
       ((streams_tell_their_facts (flats (map (λ p. p.stream) ps)) new.seen.facts top fs fit.well_formed.ordered.closed).0
       (a.facts (flats (map (λ p. p.stream) ps)) w.facts));
   ascend = subst (IsStrictlySortedBy bytes_cmp) (sym (map-append (λ p. p.key) ps (made key top fs ∷ [])))
-      (sorted_next (length (header_bytes old.header)) ps key w.ascend (ap (λ es. is_next_key (last_or None es) key) (sym w.entries) ∙ next));
+      (sorted_next old.header.version (length (header_bytes old.header)) ps key w.ascend (ap (λ es. is_next_key (last_or None es) key) (sym w.entries) ∙ next));
   each = all_snoc (FitsPartition columns) ps (made key top fs) w.each (record {
     key = fit.key;
     top = fit.top;
@@ -189,11 +194,11 @@ writes_more number_of written columns old new ps key top fs w a fit said next = 
   });
 }
   where
-    texts : (bytes : List ℕ) → (b : List ℕ) × written old.sink.draft b × (bytes ≡ b ++ partition_bytes key top fs)
-        → bytes ≡ header_bytes new.header ++ flat_map text_of (ps ++ made key top fs ∷ [])
+    texts : (bytes : List ℕ) → (b : List ℕ) × written old.sink.draft b × (bytes ≡ b ++ partition_bytes Second key top fs)
+        → bytes ≡ header_bytes new.header ++ flat_map (text_of new.header.version) (ps ++ made key top fs ∷ [])
     texts bytes b =
-        b.2 ∙ ap (λ (t : List ℕ). t ++ partition_bytes key top fs) (w.text b.0 b.1) ∙ front_more old.header ps key top fs
-        ∙ ap (λ h. header_bytes h ++ flat_map text_of (ps ++ made key top fs ∷ [])) (sym a.header)
+        b.2 ∙ ap (λ (t : List ℕ). t ++ partition_bytes Second key top fs) (w.text b.0 b.1) ∙ front_more old.header.version (header_bytes old.header) ps key top fs w.version
+        ∙ ap (λ (h : Header). header_bytes h ++ flat_map (text_of h.version) (ps ++ made key top fs ∷ [])) (sym a.header)
 
 -- one more, or none, where nothing is said
 pub writes_on : {D E : Type 0} (number_of : D → ℕ) (written : D → List ℕ → Type 0) (columns : List Column) (old new : TableWriter D E) (ps : List Partition)

@@ -8,6 +8,7 @@ use Rattle.cas_streams.specs.declared.fragment.Fragment.{Fragment}
 use Rattle.cas_fragments.specs.Allowed.{HaveRoom}
 use Rattle.cas_fragments.specs.Spelling.{body_bytes}
 use Rattle.cas_fragments.specs.Blocks.{blocks_of, statics_in, behind_statics, partition_bytes}
+use Rattle.cas_fragments.specs.declared.heads.Version.TheVariants.{Second}
 use Rattle.cas_index.specs.Entries.{is_next_key}
 use Rattle.cas_index.specs.declared.entries.PartitionEntry.{PartitionEntry}
 use Rattle.cas_sstwrite.specs.Rooms.{IsHeld}
@@ -32,7 +33,7 @@ IsUnfit key fs = (length key < 2 ^ 16) × HaveRoom (statics_in fs) × AllByRecur
 
 -- What there was too much of, where so many partitions stand in so many bytes, and one of that key and stream is to stand behind them.
 abbrev pub TooMuch : Measure → ℕ → ℕ → List ℕ → Option Deletion → List Fragment → Type 0
-TooMuch FileBytes partitions place key top fs = FILE_LIMIT < place + length (partition_bytes key top fs)
+TooMuch FileBytes partitions place key top fs = FILE_LIMIT < place + length (partition_bytes Second key top fs)
 TooMuch BlockBytes partitions place key top fs = AllByRecursion (λ b. length (body_bytes b) < 2 ^ 32) (blocks_of (behind_statics fs)) → ⊥
 TooMuch Partitions partitions place key top fs = PARTITION_LIMIT ≤ partitions
 

@@ -14,7 +14,7 @@ use Rattle.cas_streams.specs.declared.fragment.Fragment.{Fragment}
 use Rattle.cas_facts.specs.Facts.{AreFactsSoFar}
 use Rattle.cas_fragments.specs.Allowed.{FitColumns, FitsFragment}
 use Rattle.cas_fragments.specs.Blocks.{statics_in, behind_statics}
-use Rattle.cas_tables.specs.declared.header.Version.TheVariants.{Second}
+use Rattle.cas_fragments.specs.declared.heads.Version.TheVariants.{Second}
 use Rattle.cas_tables.specs.Allowed.{FitsHeader}
 use Rattle.cas_tables.specs.Contents.{Partition, Contents, keys, atoms_of}
 use Rattle.cas_tables.specs.Files.{front_bytes, index_of}

@@ -6,6 +6,7 @@ ghost use Rattle.cas_streams.specs.declared.fragment.Fragment.{Fragment as Fragm
 ghost use Rattle.cas_disk.specs.Counts.{Counted};
 ghost use Rattle.cas_fragments.specs.Allowed.{HaveRoom};
 ghost use Rattle.cas_fragments.specs.Blocks.{head_bytes, statics_in};
+ghost use Rattle.cas_fragments.specs.declared.heads.Version.TheVariants.{Second};
 ghost use Rattle.cas_sstwrite.specs.Inner.Sinks.{Took};
 ghost use Rattle.cas_sstwrite.specs.Causes.{IsOwn};
 ghost use Rattle.cas_sstwrite.specs.Inner.Parts.{IsOfRows, Taken, Says};
@@ -45,7 +46,7 @@ fn write_head<D: Draft>(
     columns: &[RowColumn],
     tally: &mut D::Tally,
 ) -> Result<(), WriteFault>
-    ensures took { OnOk result (Took D.number D.written (head_bytes key.now top columns.now) sink.old sink.new) }
+    ensures took { OnOk result (Took D.number D.written (head_bytes Second key.now top columns.now) sink.old sink.new) }
     ensures key { OnOk result (length key.now < 2 ^ 16) }
     ensures room { OnOk result (HaveRoom columns.now) }
     ensures count { Counted (D.Tally.number tally.old) (D.Tally.number tally.new) (IsErrOf result WriteFault.Failed) }

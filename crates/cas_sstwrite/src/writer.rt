@@ -12,7 +12,7 @@ ghost use Rattle.cas_index.specs.Entries.{is_next_key};
 ghost use Rattle.cas_index.specs.Allowed.{HasRoom, HasRooms};
 ghost use Rattle.cas_tables.specs.Allowed.{FitsHeader};
 ghost use Rattle.cas_tables.specs.Contents.{Partition as PartitionOf};
-ghost use Rattle.cas_tables.specs.declared.header.Version.TheVariants.{Second};
+ghost use Rattle.cas_fragments.specs.declared.heads.Version.TheVariants.{Second};
 ghost use Rattle.cas_sstwrite.specs.Writers.{Writes, FitsStream, partition_of, fault_of, entries_of, place_of, Repeats};
 ghost use Rattle.cas_sstwrite.specs.Rooms.{AreHeld};
 ghost use Rattle.cas_sstwrite.specs.Causes.{WhyNot, IsOwn};

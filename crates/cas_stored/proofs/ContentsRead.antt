@@ -9,6 +9,7 @@ use Rattle.cas_atoms.specs.declared.row.RowColumn.{RowColumn}
 use Rattle.cas_streams.specs.declared.fragment.Fragment.{Fragment}
 use Rattle.cas_facts.specs.declared.facts.Facts.{Facts}
 use Rattle.cas_fragments.specs.Blocks.{statics_in}
+use Rattle.cas_fragments.specs.declared.heads.Version.{Version}
 use Rattle.cas_index.specs.Searches.{IsSliceOf}
 use Rattle.cas_index.specs.declared.entries.PartitionEntry.{PartitionEntry}
 use Rattle.cas_tables.specs.Contents.{Partition, Contents}
@@ -36,6 +37,9 @@ module _ (t : Held) (narrow : IsNarrow t.columns) (c : Contents) (f : Facts) (of
   end_is : t.kept.end ≡ index_place c
   end_is = ap (λ (k : Loaded). k.end) of.kept
 
+  version_is : t.kept.version ≡ c.header.version
+  version_is = ap (λ (k : Loaded). k.version) of.kept
+
   -- ---- none
 
   none : IsFound t.kept key None → HasNone c key
@@ -59,23 +63,24 @@ module _ (t : Held) (narrow : IsNarrow t.columns) (c : Contents) (f : Facts) (of
     abbrev statics-own : List RowColumn
     statics-own = statics_in own.stream.fragments
 
-    head : IsHead t.columns (left_at file t.kept.end e.place) key own.stream.top statics-own
+    head : IsHead t.kept.version t.columns (left_at file t.kept.end e.place) key own.stream.top statics-own
     head =
         let stood = tables_are_read.head t.columns narrow c f of.fits told.number own e is in
-        subst (λ (k : List ℕ). IsHead t.columns (left_at file t.kept.end e.place) k own.stream.top statics-own) stands.key_is
-        (subst (λ (n : ℕ). IsHead t.columns (left_at file n e.place) own.key own.stream.top statics-own) (sym end_is)
-        (record { rest = stood.left; read = stood.read }))
+        subst (λ (k : List ℕ). IsHead t.kept.version t.columns (left_at file t.kept.end e.place) k own.stream.top statics-own) stands.key_is
+        (subst (λ (n : ℕ). IsHead t.kept.version t.columns (left_at file n e.place) own.key own.stream.top statics-own) (sym end_is)
+        (subst (λ (v : Version). IsHead v t.columns (left_at file (index_place c) e.place) own.key own.stream.top statics-own) (sym version_is)
+        (record { rest = stood.left; read = stood.read })))
 
     bad : (n at : ℕ) → IsBadHead t key e n at → ⊥
     bad n at b = (b file of.contents).2 own.stream.top statics-own head
 
     module _ (s : Slice) (one : IsSliceOf (clustering_order t.columns) s) (top : Option Deletion) (to_come : Option (List Fragment))
         (slice : IsSlice t key s e top to_come) where
-      read : IsHead t.columns (left_at file t.kept.end e.place) key top slice.statics
+      read : IsHead t.kept.version t.columns (left_at file t.kept.end e.place) key top slice.statics
       read = slice.head file of.contents
 
       same : ◌≡◌ {A = Found} ((key, top, slice.statics), read.rest) ((key, own.stream.top, statics-own), head.rest)
-      same = one_head t.columns (left_at file t.kept.end e.place) ((key, top, slice.statics), read.rest) ((key, own.stream.top, statics-own), head.rest)
+      same = one_head t.kept.version t.columns (left_at file t.kept.end e.place) ((key, top, slice.statics), read.rest) ((key, own.stream.top, statics-own), head.rest)
           read.read head.read
 
       cut : IsCut c key s top to_come

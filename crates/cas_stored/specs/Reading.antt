@@ -8,17 +8,15 @@ use Rattle.cas_bounds.specs.declared.cuts.Slice.{Slice}
 use Rattle.cas_laws.specs.Given.{Has}
 use Rattle.cas_index.specs.Searches.{IsSliceOf}
 use Rattle.cas_index.specs.declared.entries.PartitionEntry.{PartitionEntry}
-use Rattle.cas_tables.specs.declared.header.Version.TheVariants.{Second}
 use Rattle.cas_blocks.specs.declared.fault.TableFault.{TableFault}
 use Rattle.cas_blocks.specs.declared.fault.TableFault.TheVariants as table_fault
 use Rattle.cas_sstread.specs.Loading.{Held}
 use Rattle.cas_stored.specs.Slices.{IsTold, IsBadHead, IsBadBlock}
 use Rattle.cas_view.specs.Views.{File, may_hold}
 
--- a slice of the file can be read: it is of the format's second version, of a table with at most 256 columns, and orders its rows as the slice does
+-- a slice of the file can be read: it is of a table with at most 256 columns, and orders its rows as the slice does
 pub record IsReadIn (s : Slice) (f : File Held) : Type 0 where
   pub narrow : IsNarrow f.table.columns
-  pub version : f.table.kept.version ≡ Second
   pub slice : IsSliceOf (clustering_order f.table.columns) s
 
 -- of each of the files

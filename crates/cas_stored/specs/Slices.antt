@@ -9,6 +9,7 @@ use Rattle.cas_atoms.specs.declared.row.RowColumn.{RowColumn}
 use Rattle.cas_codec.specs.Reading.{Left}
 use Rattle.cas_streams.specs.declared.fragment.Fragment.{Fragment}
 use Rattle.cas_fragments.specs.Reading.{head_at}
+use Rattle.cas_fragments.specs.declared.heads.Version.{Version}
 use Rattle.cas_index.specs.Searches.{IsBlockFor}
 use Rattle.cas_index.specs.declared.entries.BlockAt.{BlockAt}
 use Rattle.cas_index.specs.declared.entries.PartitionEntry.{PartitionEntry}
@@ -26,20 +27,20 @@ pub record IsTold (k : Loaded) (key : List ℕ) (e : PartitionEntry) : Type 0 wh
   pub there : slice_get k.partitions number ≡ Some e
   pub key_is : e.key ≡ key
 
--- there stands the head of a partition that has the key: the deletion of the whole and the static columns
-pub record IsHead (columns : List Column) (left : Left) (key : List ℕ) (top : Option Deletion) (statics : List RowColumn) : Type 0 where
+-- there stands, in a file of this version, the head of a partition that has the key: the deletion of the whole and the static columns
+pub record IsHead (version : Version) (columns : List Column) (left : Left) (key : List ℕ) (top : Option Deletion) (statics : List RowColumn) : Type 0 where
   pub rest : Left
-  pub read : head_at columns left ≡ Ok ((key, top, statics), rest)
+  pub read : head_at version columns left ≡ Ok ((key, top, statics), rest)
 
 -- there stands none
-abbrev pub HasNoHead : List Column → Left → List ℕ → Type 0
-HasNoHead columns left key = (top : Option Deletion) (statics : List RowColumn) → IsHead columns left key top statics → ⊥
+abbrev pub HasNoHead : Version → List Column → Left → List ℕ → Type 0
+HasNoHead version columns left key = (top : Option Deletion) (statics : List RowColumn) → IsHead version columns left key top statics → ⊥
 
 -- A slice of the partition of which the index tells this, by the deletion of the whole and by what is to come: the head is as the file has it, where the file
 -- tells its bytes, and behind the static row comes what is read from the block on that the index finds.
 pub record IsSlice (t : Held) (key : List ℕ) (s : Slice) (e : PartitionEntry) (top : Option Deletion) (to_come : Option (List Fragment)) : Type 0 where
   pub statics : List RowColumn
-  pub head : (file : List ℕ) → t.contents ≡ Some file → IsHead t.columns (left_at file t.kept.end e.place) key top statics
+  pub head : (file : List ℕ) → t.contents ≡ Some file → IsHead t.kept.version t.columns (left_at file t.kept.end e.place) key top statics
   pub block : Option BlockAt
   pub first : IsBlockFor s e.blocks block
   pub comes : to_come ≡ slice_of (clustering_order t.columns) t.columns t.contents t.kept.end statics s block
@@ -47,7 +48,7 @@ pub record IsSlice (t : Held) (key : List ℕ) (s : Slice) (e : PartitionEntry) 
 -- at the partition's place, which this is, the file of that number has no head of a partition that has the key, where it tells its bytes
 abbrev pub IsBadHead : Held → List ℕ → PartitionEntry → ℕ → ℕ → Type 0
 IsBadHead t key e n at =
-    (file : List ℕ) → t.contents ≡ Some file → (n ≡ t.info.number) × (at ≡ e.place) × HasNoHead t.columns (left_at file t.kept.end e.place) key
+    (file : List ℕ) → t.contents ≡ Some file → (n ≡ t.info.number) × (at ≡ e.place) × HasNoHead t.kept.version t.columns (left_at file t.kept.end e.place) key
 
 -- behind the head, the blocks from the one on that the index finds for the slice lead to that place, where none stands that may, if the file tells its bytes
 pub record IsBadBlock (t : Held) (s : Slice) (e : PartitionEntry) (n at : ℕ) : Type 0 where

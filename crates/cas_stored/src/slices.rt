@@ -11,7 +11,6 @@ ghost use Rattle.cas_facts.specs.declared.facts.Facts.{Facts};
 ghost use Rattle.cas_index.specs.Searches.{IsSliceOf};
 ghost use Rattle.cas_index.specs.declared.entries.PartitionEntry.{PartitionEntry};
 ghost use Rattle.cas_tables.specs.Contents.{Contents};
-ghost use Rattle.cas_tables.specs.declared.header.Version.TheVariants.{Second};
 ghost use Rattle.cas_blocks.specs.Reading.{left_at};
 ghost use Rattle.cas_blocks.specs.Heads.{IsHeadAt};
 ghost use Rattle.cas_blocks.specs.Inner.Pieces.{MayBeBad};
@@ -33,6 +32,7 @@ fn file_of<'a, F: Sealed>(alloc: Global, table: &'a Table<F>) -> TableFile<'a, F
     requires { IsNarrow table.now.columns }
     ensures contents { F.contents result.sealed.now ≡ table.now.contents }
     ensures number { result.number ≡ table.now.info.number }
+    ensures version { result.version ≡ table.now.kept.version }
     ensures end { result.end ≡ table.now.kept.end }
     ensures order { result.order.now ≡ clustering_order table.now.columns }
     ensures columns { result.columns.now ≡ table.now.columns }
@@ -41,6 +41,7 @@ fn file_of<'a, F: Sealed>(alloc: Global, table: &'a Table<F>) -> TableFile<'a, F
         alloc,
         table.file(),
         table.info().number,
+        table.version(),
         table.end(),
         table.order(),
         table.columns(),
@@ -63,8 +64,8 @@ fn own_head<F: Sealed>(
     head: Head,
 ) -> Result<Head, TableFault>
     requires { number ≡ file.now.number }
-    ensures told { (left : Left) → left.at ≡ place → IsHeadAt file.now.columns.now left head
-        → HeadAnswers file.now.columns.now file.now.number left key.now result }
+    ensures told { (left : Left) → left.at ≡ place → IsHeadAt file.now.version file.now.columns.now left head
+        → HeadAnswers file.now.version file.now.columns.now file.now.number left key.now result }
     ensures no_read { IsErrOf result TableFault.Read → ⊥ }
 {
     if has_key(&head, key) {
@@ -84,7 +85,7 @@ fn head_for<F: Sealed>(
     requires place { place ≤ file.now.end }
     requires number { number ≡ file.now.number }
     ensures told { (b : ListOf ℕ) → F.contents file.now.sealed.now ≡ Some b
-        → HeadAnswers file.now.columns.now file.now.number (left_at b file.now.end place) key.now result }
+        → HeadAnswers file.now.version file.now.columns.now file.now.number (left_at b file.now.end place) key.now result }
     ensures count { Counted (F.Tally.number tally.old) (F.Tally.number tally.new) (IsErrOf result TableFault.Read) }
 {
     match read_head_at(file, place, tally) {
@@ -171,7 +172,6 @@ pub fn read_slice<'a, F: Sealed>(
     tally: &mut F::Tally,
 ) -> Result<Option<Blocks<'a, F>>, TableFault>
     requires narrow { IsNarrow table.now.columns }
-    requires version { table.now.kept.version ≡ Second }
     requires one { IsSliceOf (clustering_order table.now.columns) slice.now }
     ensures told { Answers table.now key.now slice.now ⟦<Blocks<'a, F> as FragmentSource>⟧.over_all ⟦<Blocks<'a, F> as FragmentSource>⟧.to_come result }
     ensures contents { (c : Contents) (f : Facts) → IsOf table.now c f

@@ -10,8 +10,8 @@ use Rattle.cas_codec.proofs.FieldLaws.{u8_field, u16_field, u64_field}
 use Rattle.cas_codec.proofs.Sequences.{exact_two, exact_four}
 use Rattle.cas_info.specs.declared.info.TheConstants.{FILE_NUMBER_LIMIT}
 use Rattle.cas_tables.specs.declared.header.TheConstants.{START_WORD, FIRST_VERSION, LAST_VERSION, LAST_SHARD}
-use Rattle.cas_tables.specs.declared.header.Version.{Version}
-use Rattle.cas_tables.specs.declared.header.Version.TheVariants.{First, Second}
+use Rattle.cas_fragments.specs.declared.heads.Version.{Version}
+use Rattle.cas_fragments.specs.declared.heads.Version.TheVariants.{First, Second}
 use Rattle.cas_tables.specs.declared.header.Header.{Header}
 use Rattle.cas_tables.specs.Versions.{version_number, version_of}
 use Rattle.cas_tables.specs.Spelling.{start_bytes, header_bytes}

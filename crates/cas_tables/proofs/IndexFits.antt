@@ -1,5 +1,5 @@
 -- The index of contents that a table may have is one that a table file may have.
-use Rattle.std.proofs.Common.{◌≡◌, ℕ, suc, ◌+◌, ◌*◌, ◌<◌, ◌≤◌, ◌^◌, ◌++◌, Bool, true, false, cond, not, List, [], ◌∷◌, map, length, take, Option, None, Some, refl, sym, ap, subst, ◌∙◌, arith, append_assoc}
+use Rattle.std.proofs.Common.{◌≡◌, ℕ, suc, ◌+◌, ◌*◌, ◌<◌, ◌≤◌, ◌++◌, Bool, true, false, cond, not, List, [], ◌∷◌, map, length, take, Option, None, Some, refl, sym, ap, subst, ◌∙◌, arith}
 use Rattle.std.specs.Prelude.{IfSome}
 use Rattle.std.specs.List.{AllByRecursion, flat_map, last_or}
 use Rattle.std.specs.List.Sorted.{IsStrictlySortedBy}
@@ -20,31 +20,32 @@ use Rattle.cas_bounds.specs.declared.cuts.Cut.{Cut}
 use Rattle.cas_bounds.specs.declared.map_key.End.{End}
 use Rattle.cas_bounds.specs.declared.map_key.End.TheVariants.{Before, Row, After}
 use Rattle.cas_bounds.proofs.CutLaws.{point_laws}
-use Rattle.cas_atoms.specs.Fits.{FitsKey, FitsCut, FitsValues, FitsDeletion}
+use Rattle.cas_atoms.specs.Fits.{FitsCut, FitsValues, FitsDeletion}
 use Rattle.cas_codec.specs.Fields.{u32, bytes16, maybe}
 use Rattle.cas_codec.proofs.FieldLengths.{u32_long, bytes16_long, bytes32_long}
 use Rattle.cas_records.specs.Spelling.{deletion_bytes}
 use Rattle.cas_records.proofs.BoundLaws.{values_count}
-use Rattle.cas_info.specs.declared.info.TheConstants.{FILE_LIMIT, PARTITION_LIMIT}
+use Rattle.cas_info.specs.declared.info.TheConstants.{FILE_LIMIT}
 use Rattle.cas_streams.specs.Flat.{changes, at_end}
 use Rattle.cas_streams.specs.Places.{Place, place_of, place_cmp}
-use Rattle.cas_streams.specs.Streams.{IsThere, WellFormed}
+use Rattle.cas_streams.specs.Streams.{IsThere}
 use Rattle.cas_streams.specs.declared.fragment.Fragment.{Fragment}
 use Rattle.cas_streams.specs.declared.fragment.Fragment.TheVariants as fragment
 use Rattle.cas_fragments.specs.Allowed.{FitsFragment}
-use Rattle.cas_fragments.specs.Spelling.{body_bytes, block_bytes, columns_bytes}
-use Rattle.cas_fragments.specs.Blocks.{is_full, last_block, blocks_from, blocks_of, statics_in, behind_statics}
+use Rattle.cas_fragments.specs.Spelling.{body_bytes, block_bytes}
+use Rattle.cas_fragments.specs.Blocks.{is_full, last_block, blocks_from, statics_in, behind_statics, statics_bytes}
 use Rattle.cas_fragments.specs.Laws.{joined}
 use Rattle.cas_fragments.specs.declared.blocks.TheConstants.{BLOCK_LEAST}
+use Rattle.cas_fragments.specs.declared.heads.Version.{Version}
 use Rattle.cas_fragments.proofs.CutLaws.{blocks_are_partitions}
 use Rattle.cas_index.specs.Entries.{is_next_cut, is_next_key, block_place, last_place}
-use Rattle.cas_index.specs.Allowed.{Chain, IsNextBlock, IsNextPartition, AreEntries, FitsIndex}
+use Rattle.cas_index.specs.Allowed.{Chain, IsNextBlock, IsNextPartition, FitsIndex}
 use Rattle.cas_index.specs.declared.entries.BlockEntry.{BlockEntry}
 use Rattle.cas_index.specs.declared.entries.PartitionEntry.{PartitionEntry}
 use Rattle.cas_tables.specs.Spelling.{header_bytes}
-use Rattle.cas_tables.specs.Contents.{Partition, Contents, keys}
+use Rattle.cas_tables.specs.Contents.{Partition, Contents}
 use Rattle.cas_tables.specs.Places.{head_of, blocks, text_of, first_cut, block_entries, entries}
-use Rattle.cas_tables.specs.Files.{front_bytes, index_of, index_place, table_bytes}
+use Rattle.cas_tables.specs.Files.{front_bytes, index_of, index_place}
 use Rattle.cas_tables.specs.Fitting.{FitsPartition, FitsContents}
 use Rattle.cas_tables.proofs.Lengths.{header_long, parts_long, tables_are_one}
 use Rattle.cas_tables.proofs.Standing.{blocks_there}
@@ -242,13 +243,13 @@ last_behind start at now last ((f ∷ fs) ∷ bs) below =
 
 -- ---- partitions
 
-text_long : (p : Partition) → length (text_of p) ≡ length (head_of p) + (length (flat_map block_bytes (blocks p)) + 4)
-text_long p =
-    omega (arith, length-append (head_of p) (flat_map block_bytes (blocks p) ++ u32 0), length-append (flat_map block_bytes (blocks p)) (u32 0), u32_long 0)
+text_long : (version : Version) (p : Partition) → length (text_of version p) ≡ length (head_of version p) + (length (flat_map block_bytes (blocks p)) + 4)
+text_long version p =
+    omega (arith, length-append (head_of version p) (flat_map block_bytes (blocks p) ++ u32 0), length-append (flat_map block_bytes (blocks p)) (u32 0), u32_long 0)
 
-head_some : (p : Partition) → 2 ≤ length (head_of p)
-head_some p =
-    omega (arith, length-append (bytes16 p.key) (maybe deletion_bytes p.stream.top ++ columns_bytes (statics_in p.stream.fragments)), bytes16_long p.key)
+head_some : (version : Version) (p : Partition) → 2 ≤ length (head_of version p)
+head_some version p =
+    omega (arith, length-append (bytes16 p.key) (maybe deletion_bytes p.stream.top ++ statics_bytes version (statics_in p.stream.fragments)), bytes16_long p.key)
 
 rest_sorted : (order : List Ordered) (fs : List Fragment) → IsStrictlySortedBy (place_cmp order) (map place_of fs)
     → IsStrictlySortedBy (place_cmp order) (map place_of (behind_statics fs))
@@ -258,16 +259,16 @@ rest_sorted order (fragment.Static cs ∷ fs) sorted = sorted.1
 rest_sorted order (fragment.Row r ∷ fs) sorted = sorted
 rest_sorted order (fragment.Marker cut d ∷ fs) sorted = sorted
 
-partition_blocks : (columns : List Column) (p : Partition) (place : ℕ) → FitsPartition columns p → place + length (text_of p) ≤ FILE_LIMIT
-    → Chain (IsNextBlock (clustering_order columns) place) None (block_entries (place + length (head_of p)) None (blocks p))
-partition_blocks columns p place fits short =
+partition_blocks : (version : Version) (columns : List Column) (p : Partition) (place : ℕ) → FitsPartition columns p → place + length (text_of version p) ≤ FILE_LIMIT
+    → Chain (IsNextBlock (clustering_order columns) place) None (block_entries (place + length (head_of version p)) None (blocks p))
+partition_blocks version columns p place fits short =
     let fs : List Fragment = behind_statics p.stream.fragments in
     let whole : joined (blocks p) ≡ fs = blocks_are_partitions.whole fs in
-    blocks_chain columns place (place + length (head_of p)) None None (blocks p) (blocks_there [] fs)
+    blocks_chain columns place (place + length (head_of version p)) None None (blocks p) (blocks_there [] fs)
     (subst (AllByRecursion (FitsFragment columns)) (sym whole) fits.rest)
     (subst (λ (l : List Fragment). IsStrictlySortedBy (place_cmp (clustering_order columns)) (map place_of l)) (sym whole)
     (rest_sorted (clustering_order columns) p.stream.fragments fits.well_formed.ordered.places))
-    tt tt (omega (arith, head_some p)) (omega (arith, text_long p))
+    tt tt (omega (arith, head_some version p)) (omega (arith, text_long version p))
 
 -- the last partition that there is has a key below all these keys, and ends before that place
 abbrev IsPassed : Option PartitionEntry → ℕ → List Partition → Type 0
@@ -282,46 +283,46 @@ next_place : (last : Option PartitionEntry) (place : ℕ) (p : Partition) (ps : 
 next_place None place p ps passed = passed
 next_place (Some e) place p ps passed = passed.0
 
-partitions_chain : (columns : List Column) (place : ℕ) (last : Option PartitionEntry) (ps : List Partition) → AllByRecursion (FitsPartition columns) ps
-    → IsStrictlySortedBy bytes_cmp (map (λ p. p.key) ps) → IsPassed last place ps → place + length (flat_map text_of ps) ≤ FILE_LIMIT
-    → Chain (IsNextPartition (clustering_order columns)) last (entries place ps)
+partitions_chain : (version : Version) (columns : List Column) (place : ℕ) (last : Option PartitionEntry) (ps : List Partition) → AllByRecursion (FitsPartition columns) ps
+    → IsStrictlySortedBy bytes_cmp (map (λ p. p.key) ps) → IsPassed last place ps → place + length (flat_map (text_of version) ps) ≤ FILE_LIMIT
+    → Chain (IsNextPartition (clustering_order columns)) last (entries version place ps)
 unfolding IsStrictlySortedBy
-partitions_chain columns place last [] all sorted passed short = tt
-partitions_chain columns place last (p ∷ ps) all sorted passed short =
-    let long = length-append (text_of p) (flat_map text_of ps) in
-    let here : place + length (text_of p) ≤ FILE_LIMIT = omega arith in
-    let head : ℕ = length (head_of p) in
-    let some : place < place + head = omega (arith, head_some p) in
-    let end : last_place (Some (record { key = p.key; place = place; blocks = block_entries (place + head) None (blocks p) })) < place + length (text_of p) =
-    omega (arith, last_behind place (place + head) None None (blocks p) some, text_long p) in (
+partitions_chain version columns place last [] all sorted passed short = tt
+partitions_chain version columns place last (p ∷ ps) all sorted passed short =
+    let long = length-append (text_of version p) (flat_map (text_of version) ps) in
+    let here : place + length (text_of version p) ≤ FILE_LIMIT = omega arith in
+    let head : ℕ = length (head_of version p) in
+    let some : place < place + head = omega (arith, head_some version p) in
+    let end : last_place (Some (record { key = p.key; place = place; blocks = block_entries (place + head) None (blocks p) })) < place + length (text_of version p) =
+    omega (arith, last_behind place (place + head) None None (blocks p) some, text_long version p) in (
       record {
         key = all.0.key;
         above = next_key last place p ps passed;
         behind = (next_place last place p ps passed, omega arith);
-        few = omega (arith, entries_few (place + head) None (blocks p), count_blocks (behind_statics p.stream.fragments) [], text_long p);
-        blocks = partition_blocks columns p place all.0 here;
+        few = omega (arith, entries_few (place + head) None (blocks p), count_blocks (behind_statics p.stream.fragments) [], text_long version p);
+        blocks = partition_blocks version columns p place all.0 here;
       },
-      partitions_chain columns (place + length (text_of p)) (Some (record { key = p.key; place = place; blocks = block_entries (place + head) None (blocks p) })) ps
+      partitions_chain version columns (place + length (text_of version p)) (Some (record { key = p.key; place = place; blocks = block_entries (place + head) None (blocks p) })) ps
           all.1 sorted.1 (end, sorted.0) (omega arith),
     )
 
-pub entries_long : (place : ℕ) (ps : List Partition) → length (entries place ps) ≡ length ps
-entries_long place [] = refl
-entries_long place (p ∷ ps) = ap (λ (n : ℕ). suc n) (entries_long (place + length (text_of p)) ps)
+pub entries_long : (version : Version) (place : ℕ) (ps : List Partition) → length (entries version place ps) ≡ length ps
+entries_long version place [] = refl
+entries_long version place (p ∷ ps) = ap (λ (n : ℕ). suc n) (entries_long version (place + length (text_of version p)) ps)
 
 -- the last place stands before the end of the partitions
-last_before : (place : ℕ) (last : Option PartitionEntry) (ps : List Partition) → last_place last < place
-    → last_place (last_or last (entries place ps)) < place + length (flat_map text_of ps)
-last_before place last [] below = omega arith
-last_before place last (p ∷ ps) below =
-    let head : ℕ = length (head_of p) in
-    let some : place < place + head = omega (arith, head_some p) in
-    let own : last_place (Some (record { key = p.key; place = place; blocks = block_entries (place + head) None (blocks p) })) < place + length (text_of p) =
-    omega (arith, last_behind place (place + head) None None (blocks p) some, text_long p) in
+last_before : (version : Version) (place : ℕ) (last : Option PartitionEntry) (ps : List Partition) → last_place last < place
+    → last_place (last_or last (entries version place ps)) < place + length (flat_map (text_of version) ps)
+last_before version place last [] below = omega arith
+last_before version place last (p ∷ ps) below =
+    let head : ℕ = length (head_of version p) in
+    let some : place < place + head = omega (arith, head_some version p) in
+    let own : last_place (Some (record { key = p.key; place = place; blocks = block_entries (place + head) None (blocks p) })) < place + length (text_of version p) =
+    omega (arith, last_behind place (place + head) None None (blocks p) some, text_long version p) in
     omega (
       arith,
-      length-append (text_of p) (flat_map text_of ps),
-      last_before (place + length (text_of p))
+      length-append (text_of version p) (flat_map (text_of version) ps),
+      last_before version (place + length (text_of version p))
           (Some (record { key = p.key; place = place; blocks = block_entries (place + head) None (blocks p) })) ps own,
     )
 
@@ -329,8 +330,8 @@ pub last_within : (c : Contents) → last_place (last_or None (index_of c)) < in
 last_within c =
     omega (
       arith,
-      last_before (length (header_bytes c.header)) None c.partitions (omega (arith, header_long c.header)),
-      length-append (header_bytes c.header) (flat_map text_of c.partitions),
+      last_before c.header.version (length (header_bytes c.header)) None c.partitions (omega (arith, header_long c.header)),
+      length-append (header_bytes c.header) (flat_map (text_of c.header.version) c.partitions),
     )
 
 -- the front of a file is no longer than it
@@ -342,11 +343,11 @@ front_short columns c fit =
 pub index_fits : (columns : List Column) (c : Contents) → FitsContents columns c → FitsIndex (clustering_order columns) (index_of c)
 index_fits columns c fit =
     let place : ℕ = length (header_bytes c.header) in
-    let long : length (index_of c) ≡ length c.partitions = entries_long place c.partitions in (
+    let long : length (index_of c) ≡ length c.partitions = entries_long c.header.version place c.partitions in (
       omega (arith, fit.few.0),
       record {
         few = omega (arith, fit.few.1);
-        each = partitions_chain columns place None c.partitions fit.each fit.ascend (omega (arith, header_long c.header))
-            (omega (arith, front_short columns c fit, length-append (header_bytes c.header) (flat_map text_of c.partitions)));
+        each = partitions_chain c.header.version columns place None c.partitions fit.each fit.ascend (omega (arith, header_long c.header))
+            (omega (arith, front_short columns c fit, length-append (header_bytes c.header) (flat_map (text_of c.header.version) c.partitions)));
       },
     )

@@ -1,9 +1,8 @@
 -- The filter, what is told and the footer of contents that a table may have are such as a table file may have.
-use Rattle.std.proofs.Common.{◌≡◌, ℕ, ℤ, ◌+◌, ◌*◌, ◌<◌, ◌≤◌, ◌^◌, ◌++◌, Bool, List, [], ◌∷◌, map, length, Option, None, Some, inl, inr, refl, sym, ap, subst, ◌∙◌, arith}
+use Rattle.std.proofs.Common.{ℤ, ◌≤◌, ◌++◌, Bool, List, [], ◌∷◌, map, length, Option, None, Some, inl, inr, subst, arith}
 use Rattle.std.specs.Prelude.{IfSome, FitsSigned}
 use Rattle.std.specs.Int.{w64}
 use Rattle.std.specs.List.{AllByRecursion, flat_map}
-use Rattle.std.proofs.lemmas.List.{length-append}
 use Rattle.cas_types.specs.Schemas.{is_static, is_regular}
 use Rattle.cas_types.specs.declared.schema.Column.{Column}
 use Rattle.cas_types.specs.declared.schema.Kind.{Kind}
@@ -14,10 +13,10 @@ use Rattle.cas_cell.specs.declared.liveness.Liveness.{Liveness}
 use Rattle.cas_cell.specs.declared.liveness.Liveness.TheVariants as live
 use Rattle.cas_bounds.specs.declared.cuts.Clustering.{Clustering}
 use Rattle.cas_atoms.specs.Coordinates.{atom_at}
-use Rattle.cas_atoms.specs.Fits.{FitsKey, FitsTimestamp, FitsDeletion, FitsLive, FitsCell}
+use Rattle.cas_atoms.specs.Fits.{FitsKey, FitsTimestamp, FitsDeletion, FitsLive}
 use Rattle.cas_atoms.specs.declared.atom.Atom.{Atom}
-use Rattle.cas_atoms.specs.declared.atom.Atom.TheVariants.{PartitionDeletion, RangeDeletion, RowDeletion, CollectionDeletion}
-use Rattle.cas_atoms.specs.declared.atom.Atom.TheVariants.{Live, Write, StaticWrite, StaticCollectionDeletion}
+use Rattle.cas_atoms.specs.declared.atom.Atom.TheVariants.{PartitionDeletion, RangeDeletion, RowDeletion}
+use Rattle.cas_atoms.specs.declared.atom.Atom.TheVariants.{Live, Write, StaticWrite}
 use Rattle.cas_atoms.specs.declared.atom.ColumnRef.{ColumnRef}
 use Rattle.cas_atoms.specs.declared.row.PathCell.{PathCell}
 use Rattle.cas_atoms.specs.declared.row.RowColumn.{RowColumn}
@@ -39,7 +38,7 @@ use Rattle.cas_filter.specs.Allowed.{FitsFilter}
 use Rattle.cas_filter.proofs.FilterLaws.{length_of}
 use Rattle.cas_index.specs.Allowed.{FitsFooter}
 use Rattle.cas_tables.specs.Contents.{Partition, Contents, keys, atoms_of}
-use Rattle.cas_tables.specs.Files.{front_bytes, index_of, key_filter, footer_of, first_key, last_key, info_of, table_bytes}
+use Rattle.cas_tables.specs.Files.{key_filter, footer_of, first_key, last_key, info_of, table_bytes}
 use Rattle.cas_tables.specs.Fitting.{FitsPartition, FitsContents}
 use Rattle.cas_tables.proofs.Lengths.{tables_are_one, length_is_told, parts_long}
 

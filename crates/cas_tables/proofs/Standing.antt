@@ -10,6 +10,7 @@ use Rattle.cas_streams.specs.declared.fragment.Fragment.{Fragment}
 use Rattle.cas_info.specs.Spelling.{info_bytes}
 use Rattle.cas_filter.specs.Spelling.{filter_bytes}
 use Rattle.cas_fragments.specs.Spelling.{block_bytes}
+use Rattle.cas_fragments.specs.declared.heads.Version.{Version}
 use Rattle.cas_fragments.specs.Blocks.{is_full, last_block, blocks_from, behind_statics}
 use Rattle.cas_index.specs.Spelling.{index_bytes, footer_bytes}
 use Rattle.cas_tables.specs.Spelling.{header_bytes}
@@ -60,24 +61,24 @@ blocks_stand file before rest place now ((f ∷ fs) ∷ bs) there e long =
           (later file before block (others ++ rest) here) (further before block place long),
     )
 
-partitions_stand : (file before rest : List ℕ) (place : ℕ) (ps : List Partition)
-    → file ≡ before ++ (flat_map text_of ps ++ rest) → length before ≡ place → PartitionsStand file ps (entries place ps)
-partitions_stand file before rest place [] e long = tt
-partitions_stand file before rest place (p ∷ ps) e long =
-    let whole : List ℕ = text_of p in
+partitions_stand : (version : Version) (file before rest : List ℕ) (place : ℕ) (ps : List Partition)
+    → file ≡ before ++ (flat_map (text_of version) ps ++ rest) → length before ≡ place → PartitionsStand version file ps (entries version place ps)
+partitions_stand version file before rest place [] e long = tt
+partitions_stand version file before rest place (p ∷ ps) e long =
+    let whole : List ℕ = text_of version p in
     let body : List ℕ = flat_map block_bytes (blocks p) in
-    let others : List ℕ = flat_map text_of ps in
+    let others : List ℕ = flat_map (text_of version) ps in
     let here : file ≡ before ++ (whole ++ (others ++ rest)) = e ∙ ap (λ t. before ++ t) (append_assoc whole others rest) in
-    let headed : file ≡ before ++ (head_of p ++ ((body ++ u32 0) ++ (others ++ rest))) =
-    here ∙ ap (λ t. before ++ t) (append_assoc (head_of p) (body ++ u32 0) (others ++ rest)) in
-    let in_body : file ≡ (before ++ head_of p) ++ (body ++ (u32 0 ++ (others ++ rest))) =
-    later file before (head_of p) ((body ++ u32 0) ++ (others ++ rest)) headed
-    ∙ ap (λ t. (before ++ head_of p) ++ t) (append_assoc body (u32 0) (others ++ rest)) in (
+    let headed : file ≡ before ++ (head_of version p ++ ((body ++ u32 0) ++ (others ++ rest))) =
+    here ∙ ap (λ t. before ++ t) (append_assoc (head_of version p) (body ++ u32 0) (others ++ rest)) in
+    let in_body : file ≡ (before ++ head_of version p) ++ (body ++ (u32 0 ++ (others ++ rest))) =
+    later file before (head_of version p) ((body ++ u32 0) ++ (others ++ rest)) headed
+    ∙ ap (λ t. (before ++ head_of version p) ++ t) (append_assoc body (u32 0) (others ++ rest)) in (
       refl,
       record { before = before; after = others ++ rest; there = here; behind = long },
-      blocks_stand file (before ++ head_of p) (u32 0 ++ (others ++ rest)) (place + length (head_of p)) None (blocks p)
-          (blocks_there [] (behind_statics p.stream.fragments)) in_body (further before (head_of p) place long),
-      partitions_stand file (before ++ whole) rest (place + length whole) ps (later file before whole (others ++ rest) here) (further before whole place long),
+      blocks_stand file (before ++ head_of version p) (u32 0 ++ (others ++ rest)) (place + length (head_of version p)) None (blocks p)
+          (blocks_there [] (behind_statics p.stream.fragments)) in_body (further before (head_of version p) place long),
+      partitions_stand version file (before ++ whole) rest (place + length whole) ps (later file before whole (others ++ rest) here) (further before whole place long),
     )
 
 pub places_are_right : PlacesAreRight
@@ -88,14 +89,14 @@ places_are_right c f =
     let filter : List ℕ = filter_bytes (key_filter c) in
     let info : List ℕ = info_bytes (info_of c f) in
     let footer : List ℕ = footer_bytes (footer_of c) in
-    let body : List ℕ = flat_map text_of c.partitions in
+    let body : List ℕ = flat_map (text_of c.header.version) c.partitions in
     let at_index : file ≡ front ++ (index ++ (filter ++ (info ++ footer))) = refl in
     let at_filter : file ≡ (front ++ index) ++ (filter ++ (info ++ footer)) = later file front index (filter ++ (info ++ footer)) at_index in
     let at_info : file ≡ ((front ++ index) ++ filter) ++ (info ++ footer) = later file (front ++ index) filter (info ++ footer) at_filter in
     let at_footer : file ≡ (((front ++ index) ++ filter) ++ info) ++ footer = later file ((front ++ index) ++ filter) info footer at_info in
     let filter_long : length (front ++ index) ≡ (footer_of c).filter = length-append front index in
     record {
-      partitions = partitions_stand file (header_bytes c.header) (index ++ (filter ++ (info ++ footer))) (length (header_bytes c.header)) c.partitions
+      partitions = partitions_stand c.header.version file (header_bytes c.header) (index ++ (filter ++ (info ++ footer))) (length (header_bytes c.header)) c.partitions
           (append_assoc (header_bytes c.header) body (index ++ (filter ++ (info ++ footer)))) refl;
       index = record { before = front; after = filter ++ (info ++ footer); there = at_index; behind = refl };
       filter = record { before = front ++ index; after = info ++ footer; there = at_filter; behind = filter_long };

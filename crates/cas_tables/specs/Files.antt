@@ -19,11 +19,11 @@ use Rattle.cas_tables.specs.Places.{text_of, entries}
 
 -- the header and the partitions, one after another
 abbrev pub front_bytes : Contents → List ℕ
-front_bytes c = header_bytes c.header ++ flat_map text_of c.partitions
+front_bytes c = header_bytes c.header ++ flat_map (text_of c.header.version) c.partitions
 
 -- the index tells of each partition where it stands behind the header
 abbrev pub index_of : Contents → List PartitionEntry
-index_of c = entries (length (header_bytes c.header)) c.partitions
+index_of c = entries c.header.version (length (header_bytes c.header)) c.partitions
 
 -- the filter is that of the keys
 abbrev pub key_filter : Contents → List ℕ

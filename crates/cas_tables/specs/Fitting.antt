@@ -1,6 +1,6 @@
 -- Which contents a table file may have.
 -- CQL documentation, "Data definition: partition key"; own.
-use Rattle.std.specs.Prelude.{◌≡◌, ◌<◌, ◌≤◌, ◌^◌, List, length, IfSome}
+use Rattle.std.specs.Prelude.{◌≡◌, ◌<◌, ◌≤◌, ◌^◌, List, [], length, IfSome}
 use Rattle.std.specs.List.{AllByRecursion}
 use Rattle.std.specs.List.Sorted.{IsStrictlySortedBy}
 use Rattle.cas_types.specs.Values.{bytes_cmp}
@@ -15,7 +15,7 @@ use Rattle.cas_facts.specs.declared.facts.Facts.{Facts}
 use Rattle.cas_fragments.specs.Allowed.{FitColumns, FitsFragment}
 use Rattle.cas_fragments.specs.Spelling.{body_bytes}
 use Rattle.cas_fragments.specs.Blocks.{statics_in, behind_statics}
-use Rattle.cas_tables.specs.declared.header.Version.TheVariants.{Second}
+use Rattle.cas_fragments.specs.declared.heads.Version.TheVariants.{First}
 use Rattle.cas_tables.specs.Allowed.{FitsHeader}
 use Rattle.cas_tables.specs.Contents.{Partition, Contents, keys, atoms_of}
 use Rattle.cas_tables.specs.Places.{blocks}
@@ -32,12 +32,12 @@ pub record FitsPartition (columns : List Column) (p : Partition) : Type 0 where
   pub room : AllByRecursion (λ b. length (body_bytes b) < 2 ^ 32) (blocks p)
   pub said : IsThere (flat_of p.stream)
 
--- from 1 to 2^28 partitions, by ascending keys, in a file of at most 2^40 bytes; the second version is written
+-- from 1 to 2^28 partitions, by ascending keys, in a file of at most 2^40 bytes; in the format's first version they have no static columns
 pub record FitsContents (columns : List Column) (c : Contents) : Type 0 where
   pub header : FitsHeader c.header
-  pub version : c.header.version ≡ Second
   pub level : c.level ≤ LAST_LEVEL
   pub few : (1 ≤ length c.partitions) × (length c.partitions ≤ PARTITION_LIMIT)
   pub ascend : IsStrictlySortedBy bytes_cmp (keys c)
   pub each : AllByRecursion (FitsPartition columns) c.partitions
+  pub statics : c.header.version ≡ First → AllByRecursion (λ p. statics_in p.stream.fragments ≡ []) c.partitions
   pub short : (f : Facts) → AreFacts (atoms_of c) f → length (table_bytes c f) ≤ FILE_LIMIT

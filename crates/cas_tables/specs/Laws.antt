@@ -10,6 +10,7 @@ use Rattle.cas_facts.specs.declared.facts.Facts.{Facts}
 use Rattle.cas_filter.specs.Allowed.{FitsFilter}
 use Rattle.cas_filter.specs.Spelling.{filter_bytes}
 use Rattle.cas_fragments.specs.Spelling.{block_bytes}
+use Rattle.cas_fragments.specs.declared.heads.Version.{Version}
 use Rattle.cas_index.specs.Allowed.{FitsIndex, FitsFooter}
 use Rattle.cas_index.specs.Spelling.{index_bytes, footer_bytes}
 use Rattle.cas_index.specs.declared.entries.BlockEntry.{BlockEntry}
@@ -52,16 +53,16 @@ BlocksStand file [] (e ∷ es) = ⊥
 BlocksStand file (b ∷ bs) [] = ⊥
 
 -- so do partitions, under their keys, and their blocks
-abbrev pub PartitionsStand : List ℕ → List Partition → List PartitionEntry → Type 0
-PartitionsStand file [] [] = Unit {0}
-PartitionsStand file (p ∷ ps) (e ∷ es) =
-    (e.key ≡ p.key) × StandsAt file e.place (text_of p) × BlocksStand file (blocks p) e.blocks × PartitionsStand file ps es
-PartitionsStand file [] (e ∷ es) = ⊥
-PartitionsStand file (p ∷ ps) [] = ⊥
+abbrev pub PartitionsStand : Version → List ℕ → List Partition → List PartitionEntry → Type 0
+PartitionsStand version file [] [] = Unit {0}
+PartitionsStand version file (p ∷ ps) (e ∷ es) =
+    (e.key ≡ p.key) × StandsAt file e.place (text_of version p) × BlocksStand file (blocks p) e.blocks × PartitionsStand version file ps es
+PartitionsStand version file [] (e ∷ es) = ⊥
+PartitionsStand version file (p ∷ ps) [] = ⊥
 
 -- the parts of a table file stand where its footer and its index tell; the footer stands at its end
 pub record PartsStand (c : Contents) (f : Facts) : Type 0 where
-  pub partitions : PartitionsStand (table_bytes c f) c.partitions (index_of c)
+  pub partitions : PartitionsStand c.header.version (table_bytes c f) c.partitions (index_of c)
   pub index : StandsAt (table_bytes c f) (footer_of c).index (index_bytes (index_of c))
   pub filter : StandsAt (table_bytes c f) (footer_of c).filter (filter_bytes (key_filter c))
   pub info : StandsAt (table_bytes c f) (footer_of c).info (info_bytes (info_of c f))

@@ -8,6 +8,7 @@ use Rattle.cas_streams.specs.declared.fragment.Fragment.{Fragment}
 use Rattle.cas_streams.specs.declared.fragment.Fragment.TheVariants as fragment
 use Rattle.cas_fragments.specs.Spelling.{block_bytes}
 use Rattle.cas_fragments.specs.Blocks.{blocks_of, statics_in, behind_statics, head_bytes, partition_bytes}
+use Rattle.cas_fragments.specs.declared.heads.Version.{Version}
 use Rattle.cas_index.specs.declared.entries.BlockEntry.{BlockEntry}
 use Rattle.cas_index.specs.declared.entries.PartitionEntry.{PartitionEntry}
 use Rattle.cas_tables.specs.Contents.{Partition}
@@ -15,16 +16,16 @@ use Rattle.cas_tables.specs.Contents.{Partition}
 -- ---- a partition
 
 -- what stands before its blocks: its key, perhaps the deletion of the whole, and the columns of the static row
-abbrev pub head_of : Partition → List ℕ
-head_of p = head_bytes p.key p.stream.top (statics_in p.stream.fragments)
+abbrev pub head_of : Version → Partition → List ℕ
+head_of version p = head_bytes version p.key p.stream.top (statics_in p.stream.fragments)
 
 -- the blocks, in which its rows and markers stand
 abbrev pub blocks : Partition → List (List Fragment)
 blocks p = blocks_of (behind_statics p.stream.fragments)
 
 -- all of it
-abbrev pub text_of : Partition → List ℕ
-text_of p = partition_bytes p.key p.stream.top p.stream.fragments
+abbrev pub text_of : Version → Partition → List ℕ
+text_of version p = partition_bytes version p.key p.stream.top p.stream.fragments
 
 -- ---- what the index tells
 
@@ -43,8 +44,8 @@ block_entries place now ((f ∷ fs) ∷ bs) =
     ∷ block_entries (place + length (block_bytes (f ∷ fs))) (at_end now (changes (f ∷ fs))) bs
 
 -- partitions from a place on
-abbrev pub entries : ℕ → List Partition → List PartitionEntry
-entries place [] = []
-entries place (p ∷ ps) =
-    record { key = p.key; place = place; blocks = block_entries (place + length (head_of p)) None (blocks p) }
-    ∷ entries (place + length (text_of p)) ps
+abbrev pub entries : Version → ℕ → List Partition → List PartitionEntry
+entries version place [] = []
+entries version place (p ∷ ps) =
+    record { key = p.key; place = place; blocks = block_entries (place + length (head_of version p)) None (blocks p) }
+    ∷ entries version (place + length (text_of version p)) ps

@@ -3,7 +3,7 @@
 use Rattle.std.specs.Prelude.{ℕ, List, ◌++◌}
 use Rattle.cas_codec.specs.Fields.{u8, u16, u64}
 use Rattle.cas_tables.specs.declared.header.TheConstants.{START_WORD}
-use Rattle.cas_tables.specs.declared.header.Version.{Version}
+use Rattle.cas_fragments.specs.declared.heads.Version.{Version}
 use Rattle.cas_tables.specs.declared.header.Header.{Header}
 use Rattle.cas_tables.specs.Versions.{version_number}
 

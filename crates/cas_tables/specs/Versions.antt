@@ -2,8 +2,8 @@
 -- Own format.
 use Rattle.std.specs.Prelude.{ℕ, ◌==◌, if◌then◌else◌}
 use Rattle.cas_tables.specs.declared.header.TheConstants.{FIRST_VERSION, LAST_VERSION}
-use Rattle.cas_tables.specs.declared.header.Version.{Version}
-use Rattle.cas_tables.specs.declared.header.Version.TheVariants.{First, Second}
+use Rattle.cas_fragments.specs.declared.heads.Version.{Version}
+use Rattle.cas_fragments.specs.declared.heads.Version.TheVariants.{First, Second}
 
 -- each has a number: the first, in which partitions have no static columns, is 1, and the second 2
 abbrev pub version_number : Version → ℕ

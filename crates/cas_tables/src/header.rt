@@ -9,6 +9,7 @@ ghost use Rattle.cas_tables.specs.Spelling.{header_bytes};
 ghost use Rattle.cas_tables.specs.Reading.{version_at, start_at, header_at, header_of_at};
 
 use cas_codec::{ReadFault, Reader, put_u8, put_u16, put_u64};
+use cas_fragments::Version;
 use cas_info::FILE_NUMBER_LIMIT;
 use cas_types::{Mem, SHARD_LIMIT};
 
@@ -26,13 +27,6 @@ pub const LAST_SHARD: u8 = SHARD_LIMIT - 1;
 
 /// The bytes of a header.
 pub const HEADER_LENGTH: u64 = 21;
-
-/// The versions of the format. In the first, partitions have no static columns.
-#[derive(Clone, Copy)]
-pub enum Version {
-    First,
-    Second,
-}
 
 /// What a table file begins with: its version, the number of the table, the shard and the number of
 /// the file.

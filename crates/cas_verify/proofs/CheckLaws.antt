@@ -44,8 +44,8 @@ use Rattle.cas_index.specs.declared.entries.PartitionEntry.{PartitionEntry}
 use Rattle.cas_index.specs.declared.footer.TheConstants.{FOOTER_LENGTH}
 use Rattle.cas_index.proofs.IndexLaws.{index_exact}
 use Rattle.cas_tables.specs.declared.header.TheConstants.{HEADER_LENGTH}
-use Rattle.cas_tables.specs.declared.header.Version.{Version}
-use Rattle.cas_tables.specs.declared.header.Version.TheVariants.{First, Second}
+use Rattle.cas_fragments.specs.declared.heads.Version.{Version}
+use Rattle.cas_fragments.specs.declared.heads.Version.TheVariants.{First, Second}
 use Rattle.cas_tables.specs.Allowed.{FitsHeader}
 use Rattle.cas_tables.specs.Contents.{Partition, Contents, keys, atoms_of}
 use Rattle.cas_tables.specs.Files.{index_of, key_filter, index_place, footer_of, with_info, told_of, info_of, table_bytes, IsTable, first_key, last_key}
@@ -62,24 +62,24 @@ use Rattle.cas_sstread.specs.Reading.{part, Loaded, loaded_at}
 use Rattle.cas_sstread.proofs.LoadLaws.{loads_found}
 use Rattle.cas_sstread.proofs.ContentsLoad.{tables_load}
 use Rattle.cas_verify.specs.Partitions.{Part, partitions_at, stream_of, as_partition, atoms_in, entries_for}
-use Rattle.cas_verify.specs.Checking.{version_at, own_partitions_at, own_rest_at, filter_for, info_for, fields_for, whole_at, AreFactsOf}
+use Rattle.cas_verify.specs.Checking.{own_partitions_at, own_rest_at, filter_for, info_for, fields_for, whole_at, AreFactsOf}
 use Rattle.cas_verify.specs.Laws.{IsFileOf, CheckingIsExact, ThereAreFacts}
 use Rattle.cas_verify.proofs.FieldsLaws.{filled_found, filled_again, spelled}
-use Rattle.cas_verify.proofs.Parts.{Ascend, AreParts, part_fits, all_fit, entries_are, texts_are, parts_found, parts_again}
+use Rattle.cas_verify.proofs.Parts.{Ascend, AreParts, part_fits, all_fit, none_static, entries_are, texts_are, parts_found, parts_again}
 
 -- ---- lists of partitions
 
 abbrev key_in : Part → List ℕ
 key_in p = p.0.0
 
-chain_of : (columns : List Column) (before : Option (List ℕ)) (ps : List Part) → AllByRecursion (IsPartition columns) ps → Ascend before ps
-    → AreChained key_in bytes_cmp (IsPartition columns) before ps
-chain_of columns before [] fit up = tt
-chain_of columns before (p ∷ ps) fit up = ((fit.0, up.0), chain_of columns (Some p.0.0) ps fit.1 up.1)
+chain_of : (version : Version) (columns : List Column) (before : Option (List ℕ)) (ps : List Part) → AllByRecursion (IsPartition version columns) ps → Ascend before ps
+    → AreChained key_in bytes_cmp (IsPartition version columns) before ps
+chain_of version columns before [] fit up = tt
+chain_of version columns before (p ∷ ps) fit up = ((fit.0, up.0), chain_of version columns (Some p.0.0) ps fit.1 up.1)
 
-ascend_of : (columns : List Column) (before : Option (List ℕ)) (ps : List Part) → AreChained key_in bytes_cmp (IsPartition columns) before ps → Ascend before ps
-ascend_of columns before [] chain = tt
-ascend_of columns before (p ∷ ps) chain = (chain.0.1, ascend_of columns (Some p.0.0) ps chain.1)
+ascend_of : (version : Version) (columns : List Column) (before : Option (List ℕ)) (ps : List Part) → AreChained key_in bytes_cmp (IsPartition version columns) before ps → Ascend before ps
+ascend_of version columns before [] chain = tt
+ascend_of version columns before (p ∷ ps) chain = (chain.0.1, ascend_of version columns (Some p.0.0) ps chain.1)
 
 keys_are : (ps : List Part) → map (λ (p : Partition). p.key) (map as_partition ps) ≡ map key_in ps
 keys_are [] = refl
@@ -111,15 +111,11 @@ piece : (before x after file : List ℕ) (at count : ℕ) → file ≡ before ++
 piece before x after file at count is long own =
     ap (λ (l : List ℕ). take count (drop at l)) is ∙ ap (take count) (drop_at before (x ++ after) at long) ∙ take_at x after count own
 
-is_second : (v : Version) → version_at v ≡ Ok tt → v ≡ Second
-is_second First e = absurd cc
-is_second Second e = refl
-
 told_is : (ps : List PartitionEntry) (c : Contents) (info : TableInfo) (f : Facts) → ps ≡ index_of c → c.header.number ≡ info.number → c.level ≡ info.level
     → info_for ps info f ≡ told_of c f info.bytes
 told_is ps c info f is number level =
     let ks : map (λ (p : PartitionEntry). p.key) ps ≡ keys c = ap (map (λ (p : PartitionEntry). p.key)) is ∙ tables_load.keys c in
-    let long : length ps ≡ length c.partitions = ap length is ∙ entries_long (length (header_bytes c.header)) c.partitions in
+    let long : length ps ≡ length c.partitions = ap length is ∙ entries_long c.header.version (length (header_bytes c.header)) c.partitions in
     λ i. record {
       number = sym number i;
       bytes = info.bytes;
@@ -177,19 +173,19 @@ module _ (columns : List Column) (narrow : IsNarrow columns) (table shard : ℕ)
   rest_is : take (info.bytes - FOOTER_LENGTH - k.end) (drop k.end file) ≡ tail
   rest_is = piece (header_text ++ l.body) tail (footer_bytes (footer_for k)) file k.end (info.bytes - FOOTER_LENGTH - k.end) in_two front_long (omega (arith, whole_long))
 
-  parts_are : (ps : List Part) → own_partitions_at columns k file ≡ Ok ps → AreParts columns PARTITION_LIMIT None l.body ps
+  parts_are : (ps : List Part) → own_partitions_at columns k file ≡ Ok ps → AreParts k.version columns PARTITION_LIMIT None l.body ps
   parts_are ps e =
-      subst (λ (t : List ℕ). AreParts columns PARTITION_LIMIT None t ps) body_is
-      (parts_found columns narrow k.end PARTITION_LIMIT None (left_at file k.end HEADER_LENGTH) ps (are_piece HEADER_LENGTH (k.end - HEADER_LENGTH) file are)
+      subst (λ (t : List ℕ). AreParts k.version columns PARTITION_LIMIT None t ps) body_is
+      (parts_found k.version columns narrow k.end PARTITION_LIMIT None (left_at file k.end HEADER_LENGTH) ps (are_piece HEADER_LENGTH (k.end - HEADER_LENGTH) file are)
       (omega (arith, ap length body_is, l.end)) e)
 
   facts_there : (r : Result (List Part) ReadFault) → own_partitions_at columns k file ≡ r → (f : Facts) × AreFactsOf columns k file f
   facts_there (Err e) is = (record { least = pos 0; greatest = pos 0; dead = None }, λ ps there. absurd (let no = sym is ∙ there in cc))
   facts_there (Ok ps) is = of_facts (facts_are_one.some (atoms_in ps)).0 (facts_are_one.some (atoms_in ps)).1
     where
-      some_atoms : (qs : List Part) → IsThere qs → AllByRecursion (IsPartition columns) qs → IsThere (atoms_in qs)
+      some_atoms : (qs : List Part) → IsThere qs → AllByRecursion (IsPartition k.version columns) qs → IsThere (atoms_in qs)
       some_atoms [] there fits = absurd there
-      some_atoms (q ∷ qs) there fits = there_before (flat_of (stream_of q)) (atoms_in qs) (part_fits columns q fits.0).said
+      some_atoms (q ∷ qs) there fits = there_before (flat_of (stream_of q)) (atoms_in qs) (part_fits k.version columns q fits.0).said
 
       ok_same : (xs ys : List Part) → (let r : Result (List Part) ReadFault = Ok xs in r) ≡ Ok ys → xs ≡ ys
       ok_same xs ys e = ok_is xs ys e
@@ -198,27 +194,27 @@ module _ (columns : List Column) (narrow : IsNarrow columns) (table shard : ℕ)
       of_facts None e = absurd (subst IsThere e (some_atoms ps (parts_are ps is).some (parts_are ps is).fit))
       of_facts (Some f) h = (f, λ qs there. subst (λ (xs : List Part). AreFacts (atoms_in xs) f) (ok_same ps qs (sym is ∙ there)) h)
 
-  module _ (f : Facts) (ps : List Part) (second : k.version ≡ Second) (found : own_partitions_at columns k file ≡ Ok ps) (facts : AreFacts (atoms_in ps) f)
-      (rest : own_rest_at (entries_for HEADER_LENGTH ps) info f k.end file ≡ Ok tt) where
+  module _ (f : Facts) (ps : List Part) (found : own_partitions_at columns k file ≡ Ok ps) (facts : AreFacts (atoms_in ps) f)
+      (rest : own_rest_at (entries_for k.version HEADER_LENGTH ps) info f k.end file ≡ Ok tt) where
     abbrev contents : Contents
-    contents = record { header = head_for table shard info.number Second; level = info.level; partitions = map as_partition ps }
+    contents = record { header = head_for table shard info.number k.version; level = info.level; partitions = map as_partition ps }
 
     abbrev own : List PartitionEntry
-    own = entries_for HEADER_LENGTH ps
+    own = entries_for k.version HEADER_LENGTH ps
 
     abbrev told : TableInfo
     told = info_for own info f
 
-    are_parts : AreParts columns PARTITION_LIMIT None l.body ps
+    are_parts : AreParts k.version columns PARTITION_LIMIT None l.body ps
     are_parts = parts_are ps found
 
     own_is : own ≡ index_of contents
     own_is =
-        entries_are columns HEADER_LENGTH ps are_parts.fit
-        ∙ ap (λ n. entries n (map as_partition ps)) (sym (header_long (head_for table shard info.number Second)))
+        entries_are k.version columns HEADER_LENGTH ps are_parts.fit
+        ∙ ap (λ n. entries k.version n (map as_partition ps)) (sym (header_long (head_for table shard info.number k.version)))
 
-    text : flat_map text_of contents.partitions ≡ l.body
-    text = texts_are columns ps are_parts.fit ∙ sym are_parts.spelled
+    text : flat_map (text_of k.version) contents.partitions ≡ l.body
+    text = texts_are k.version columns ps are_parts.fit ∙ sym are_parts.spelled
 
     told_as : told ≡ told_of contents f info.bytes
     told_as = told_is own contents info f own_is refl refl
@@ -236,7 +232,7 @@ module _ (columns : List Column) (narrow : IsNarrow columns) (table shard : ℕ)
     place =
         omega (
           arith,
-          length-append (header_bytes contents.header) (flat_map text_of contents.partitions),
+          length-append (header_bytes contents.header) (flat_map (text_of k.version) contents.partitions),
           header_long contents.header,
           ap length text,
           l.end,
@@ -260,13 +256,13 @@ module _ (columns : List Column) (narrow : IsNarrow columns) (table shard : ℕ)
 
     fits : FitsContents columns contents
     fits = record {
-      header = head;
-      version = refl;
+      header = record { table = head.table; shard = head.shard; number = head.number };
       level = fit.level;
       few = (omega (arith, parts_count ps, there_long ps are_parts.some), omega (arith, parts_count ps, are_parts.few));
       ascend = subst (IsStrictlySortedBy bytes_cmp) (sym (keys_are ps))
-          (chain_sorted key_in bytes_cmp (IsPartition columns) nat_list_cmp_total None ps (chain_of columns None ps are_parts.fit are_parts.ascend));
-      each = all_fit columns ps are_parts.fit;
+          (chain_sorted key_in bytes_cmp (IsPartition k.version columns) nat_list_cmp_total None ps (chain_of k.version columns None ps are_parts.fit are_parts.ascend));
+      each = all_fit k.version columns ps are_parts.fit;
+      statics = none_static k.version columns ps are_parts.fit;
       short = λ g of. let same : f ≡ g = one_fact f g of_atoms of in omega (arith, ap (λ h. length (table_bytes contents h)) same, table_long, fit.bytes);
     }
       where
@@ -304,10 +300,10 @@ module _ (columns : List Column) (narrow : IsNarrow columns) (table shard : ℕ)
     is_table : file ≡ table_bytes contents f
     is_table =
         l.spelled ∙ sym (append_assoc header_text l.body _)
-        ∙ λ i. (header_bytes (head_for table shard info.number (second i)) ++ sym text i)
+        ∙ λ i. (header_text ++ sym text i)
         ++ (index_bytes (index_same.0 i) ++ (filter_bytes (filter_same.0 i) ++ (info_bytes (info_same i) ++ footer_bytes (footer_same i))))
 
-    nothing_found : (c : Contents) × IsFileOf columns table shard info file c
+    nothing_found : (c : Contents) × IsFileOf columns table shard k.version info file c
     nothing_found = (
       contents,
       record {
@@ -321,13 +317,12 @@ module _ (columns : List Column) (narrow : IsNarrow columns) (table shard : ℕ)
 check_found : (columns : List Column) → IsNarrow columns → (table shard : ℕ) (info : TableInfo) (file : List ℕ) (k : Loaded) (f : Facts)
     → FitsHeader (head_for table shard info.number Second) → FitsInfo info → AreBytes file
     → loaded_at (clustering_order columns) table shard info file ≡ Ok k → AreFactsOf columns k file f → whole_at columns info k f file ≡ Ok tt
-    → (c : Contents) × IsFileOf columns table shard info file c
+    → (c : Contents) × IsFileOf columns table shard k.version info file c
 unfolding whole_at
 check_found columns narrow table shard info file k f head fit are loaded facts e =
     let l = loads_found (clustering_order columns) table shard info file k head fit are loaded in
-    let one = bind_ok (version_at k.version) (λ v. own_partitions_at columns k file >>= λ ps. own_rest_at (entries_for HEADER_LENGTH ps) info f k.end file) tt e in
-    let two = bind_ok (own_partitions_at columns k file) (λ ps. own_rest_at (entries_for HEADER_LENGTH ps) info f k.end file) tt one.2 in
-    nothing_found columns narrow table shard info file k head fit are l f two.0 (is_second k.version one.1) two.1 (facts two.0 two.1) two.2
+    let two = bind_ok (own_partitions_at columns k file) (λ ps. own_rest_at (entries_for k.version HEADER_LENGTH ps) info f k.end file) tt e in
+    nothing_found columns narrow table shard info file k head fit are l f two.0 two.1 (facts two.0 two.1) two.2
 
 -- ---- contents
 
@@ -345,13 +340,15 @@ all_back : (columns : List Column) (ps : List Partition) → AllByRecursion (Fit
 all_back columns [] fit = refl
 all_back columns (p ∷ ps) fit = λ i. back columns p fit.0 i ∷ all_back columns ps fit.1 i
 
-all_are : (columns : List Column) (ps : List Partition) → AllByRecursion (FitsPartition columns) ps → AllByRecursion (IsPartition columns) (map part_of ps)
-all_are columns [] fit = tt
-all_are columns (p ∷ ps) fit = (is_partition columns p fit.0, all_are columns ps fit.1)
+all_are : (version : Version) (columns : List Column) (ps : List Partition) → AllByRecursion (FitsPartition columns) ps
+    → (version ≡ First → AllByRecursion (λ p. statics_in p.stream.fragments ≡ []) ps) → AllByRecursion (IsPartition version columns) (map part_of ps)
+all_are version columns [] fit none = tt
+all_are version columns (p ∷ ps) fit none =
+    (is_partition version columns p fit.0 (λ first. (none first).0), all_are version columns ps fit.1 (λ first. (none first).1))
 
-texts_back : (ps : List Partition) → flat_map part_bytes (map part_of ps) ≡ flat_map text_of ps
-texts_back [] = refl
-texts_back (p ∷ ps) = ap (λ t. text_of p ++ t) (texts_back ps)
+texts_back : (version : Version) (ps : List Partition) → flat_map (part_bytes version) (map part_of ps) ≡ flat_map (text_of version) ps
+texts_back version [] = refl
+texts_back version (p ∷ ps) = ap (λ t. text_of version p ++ t) (texts_back version ps)
 
 keys_back : (ps : List Partition) → map key_in (map part_of ps) ≡ map (λ (p : Partition). p.key) ps
 keys_back [] = refl
@@ -373,18 +370,18 @@ module _ (columns : List Column) (narrow : IsNarrow columns) (c : Contents) (f :
   head_text = header_bytes c.header
 
   abbrev body : List ℕ
-  body = flat_map part_bytes parts
+  body = flat_map (part_bytes c.header.version) parts
 
   abbrev middle : List ℕ
   middle = index_bytes (index_of c) ++ (filter_bytes (key_filter c) ++ info_bytes (info_of c f))
 
   place_long : index_place c ≡ HEADER_LENGTH + length body
-  place_long = omega (arith, length-append head_text (flat_map text_of c.partitions), header_long c.header, ap length (texts_back c.partitions))
+  place_long = omega (arith, length-append head_text (flat_map (text_of c.header.version) c.partitions), header_long c.header, ap length (texts_back c.header.version c.partitions))
 
   table_is : table_bytes c f ≡ head_text ++ (body ++ (middle ++ footer_bytes (footer_of c)))
   table_is =
-      append_assoc head_text (flat_map text_of c.partitions) _
-      ∙ λ i. head_text ++ (sym (texts_back c.partitions) i
+      append_assoc head_text (flat_map (text_of c.header.version) c.partitions) _
+      ∙ λ i. head_text ++ (sym (texts_back c.header.version c.partitions) i
       ++ tail_is (index_bytes (index_of c)) (filter_bytes (key_filter c)) (info_bytes (info_of c f)) (footer_bytes (footer_of c)) i)
 
   body_there : take (index_place c - HEADER_LENGTH) (drop HEADER_LENGTH (table_bytes c f)) ≡ body
@@ -408,20 +405,20 @@ module _ (columns : List Column) (narrow : IsNarrow columns) (c : Contents) (f :
 
   partitions_there : own_partitions_at columns (kept_for c) (table_bytes c f) ≡ Ok parts
   partitions_there =
-      ap (λ (t : List ℕ). partitions_at (clustering_order columns) columns (index_place c) PARTITION_LIMIT None (read_left t HEADER_LENGTH)) body_there
-      ∙ parts_again columns narrow (index_place c) PARTITION_LIMIT HEADER_LENGTH None parts (sym place_long) (there_back c.partitions fit.few.0)
-      (omega (arith, count_back c.partitions, fit.few.1)) (all_are columns c.partitions fit.each)
-      (ascend_of columns None parts (sorted_chain key_in bytes_cmp (IsPartition columns) nat_list_cmp_total parts (all_are columns c.partitions fit.each)
+      ap (λ (t : List ℕ). partitions_at c.header.version (clustering_order columns) columns (index_place c) PARTITION_LIMIT None (read_left t HEADER_LENGTH)) body_there
+      ∙ parts_again c.header.version columns narrow (index_place c) PARTITION_LIMIT HEADER_LENGTH None parts (sym place_long) (there_back c.partitions fit.few.0)
+      (omega (arith, count_back c.partitions, fit.few.1)) (all_are c.header.version columns c.partitions fit.each fit.statics)
+      (ascend_of c.header.version columns None parts (sorted_chain key_in bytes_cmp (IsPartition c.header.version columns) nat_list_cmp_total parts (all_are c.header.version columns c.partitions fit.each fit.statics)
       (subst (IsStrictlySortedBy bytes_cmp) (sym (keys_back c.partitions)) fit.ascend)))
 
-  own_there : entries_for HEADER_LENGTH parts ≡ index_of c
+  own_there : entries_for c.header.version HEADER_LENGTH parts ≡ index_of c
   own_there =
-      entries_are columns HEADER_LENGTH parts (all_are columns c.partitions fit.each)
-      ∙ λ i. entries (sym (header_long c.header) i) (all_back columns c.partitions fit.each i)
+      entries_are c.header.version columns HEADER_LENGTH parts (all_are c.header.version columns c.partitions fit.each fit.statics)
+      ∙ λ i. entries c.header.version (sym (header_long c.header) i) (all_back columns c.partitions fit.each i)
 
-  rest_there : own_rest_at (entries_for HEADER_LENGTH parts) (info_of c f) f (index_place c) (table_bytes c f) ≡ Ok tt
+  rest_there : own_rest_at (entries_for c.header.version HEADER_LENGTH parts) (info_of c f) f (index_place c) (table_bytes c f) ≡ Ok tt
   rest_there =
-      let own : List PartitionEntry = entries_for HEADER_LENGTH parts in
+      let own : List PartitionEntry = entries_for c.header.version HEADER_LENGTH parts in
       let told : TableInfo = info_for own (info_of c f) f in
       let same : told ≡ info_of c f = told_is own c (info_of c f) f own_there refl refl in
       filled_again (fields_for own told) (take ((info_of c f).bytes - FOOTER_LENGTH - index_place c) (drop (index_place c) (table_bytes c f))) (index_place c)
@@ -435,9 +432,7 @@ module _ (columns : List Column) (narrow : IsNarrow columns) (c : Contents) (f :
   whole_there : whole_at columns (info_of c f) (kept_for c) f (table_bytes c f) ≡ Ok tt
   unfolding whole_at
   whole_there =
-      ap (λ (v : Version). version_at v >>= λ (u : Unit {0}). own_partitions_at columns (kept_for c) (table_bytes c f) >>= λ (ps : List Part). own_rest_at (entries_for HEADER_LENGTH ps)
-      (info_of c f) f (index_place c) (table_bytes c f)) fit.version
-      ∙ ap (λ (r : Result (List Part) ReadFault). r >>= λ (ps : List Part). own_rest_at (entries_for HEADER_LENGTH ps) (info_of c f) f (index_place c) (table_bytes c f)) partitions_there
+      ap (λ (r : Result (List Part) ReadFault). r >>= λ (ps : List Part). own_rest_at (entries_for c.header.version HEADER_LENGTH ps) (info_of c f) f (index_place c) (table_bytes c f)) partitions_there
       ∙ rest_there
 
 check_again : (columns : List Column) → IsNarrow columns → (c : Contents) (file : List ℕ) → FitsContents columns c → (t : IsTable c file)

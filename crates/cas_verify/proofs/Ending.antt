@@ -17,7 +17,7 @@ use Rattle.cas_sstread.specs.Reading.{Loaded}
 use Rattle.cas_sstread.specs.declared.fault.TableFault.{TableFault}
 use Rattle.cas_sstread.specs.declared.fault.TableFault.TheVariants as table_fault
 use Rattle.cas_verify.specs.Partitions.{Part, atoms_in, entries_for}
-use Rattle.cas_verify.specs.Checking.{version_at, own_partitions_at, own_rest_at, whole_at, AreFactsOf}
+use Rattle.cas_verify.specs.Checking.{own_partitions_at, own_rest_at, whole_at, AreFactsOf}
 use Rattle.cas_verify.specs.Inner.Ends.{Ends, Settles, fault_in}
 use Rattle.cas_verify.specs.Inner.Scans.{IsSeen}
 use Rattle.cas_verify.specs.declared.partitions.Scan.{Scan}
@@ -32,42 +32,34 @@ compared number Mem read is = tt
 
 module _ (columns : List Column) (info : TableInfo) (k : Loaded) (b : List ℕ) (f : Facts) where
   abbrev Rest : List Part → Result (Unit {0}) ReadFault
-  Rest ps = own_rest_at (entries_for HEADER_LENGTH ps) info f k.end b
+  Rest ps = own_rest_at (entries_for k.version HEADER_LENGTH ps) info f k.end b
 
-  pub version_bad : (number : ℕ) (e : TableFault) → Answers (λ (u : Unit {0}). u) number (let r : Result (Unit {0}) TableFault = Err e in r) (version_at k.version)
-      → Answers (λ (u : Unit {0}). u) number (let r : Result (Unit {0}) TableFault = Err e in r) (whole_at columns info k f b)
+  whole_is : whole_at columns info k f b ≡ (own_partitions_at columns k b >>= Rest)
   unfolding whole_at
-  version_bad number table_fault.ReadFault is = tt
-  version_bad number (table_fault.BadBlock n at) is = (is.0, bad_then (version_at k.version) (λ (u : Unit {0}). own_partitions_at columns k b >>= Rest) at is.1)
-  version_bad number table_fault.Mem is = tt
+  whole_is = refl
 
-  module _ (version : version_at k.version ≡ Ok tt) where
-    whole_is : whole_at columns info k f b ≡ (own_partitions_at columns k b >>= Rest)
-    unfolding whole_at
-    whole_is = ap (λ (r : Result (Unit {0}) ReadFault). r >>= λ (u : Unit {0}). own_partitions_at columns k b >>= Rest) version
+  pub parts_bad : (number : ℕ) (e : TableFault) → Ends (IsSeen k.version) number (let r : Result Scan TableFault = Err e in r) (own_partitions_at columns k b)
+      → Answers (λ (u : Unit {0}). u) number (let r : Result (Unit {0}) TableFault = Err e in r) (whole_at columns info k f b)
+  parts_bad number table_fault.ReadFault is = tt
+  parts_bad number (table_fault.BadBlock n at) is =
+      (is.0, bad_is (own_partitions_at columns k b >>= Rest) (whole_at columns info k f b) at (sym whole_is) (bad_then (own_partitions_at columns k b) Rest at is.1))
+  parts_bad number table_fault.Mem is = tt
 
-    pub parts_bad : (number : ℕ) (e : TableFault) → Ends IsSeen number (let r : Result Scan TableFault = Err e in r) (own_partitions_at columns k b)
-        → Answers (λ (u : Unit {0}). u) number (let r : Result (Unit {0}) TableFault = Err e in r) (whole_at columns info k f b)
-    parts_bad number table_fault.ReadFault is = tt
-    parts_bad number (table_fault.BadBlock n at) is =
-        (is.0, bad_is (own_partitions_at columns k b >>= Rest) (whole_at columns info k f b) at (sym whole_is) (bad_then (own_partitions_at columns k b) Rest at is.1))
-    parts_bad number table_fault.Mem is = tt
+  module _ (scan : Scan) (ps : List Part) (there : own_partitions_at columns k b ≡ Ok ps) (seen : IsSeen k.version scan ps) (facts : AreFactsOf columns k b f) where
+    pub no_facts : scan.seen.facts ≡ None → ⊥
+    no_facts none =
+        let empty : atoms_in ps ≡ [] = subst (AreFactsSoFar (atoms_in ps)) none seen.facts in
+        subst (λ (xs : List Atom). Has (map atom_at xs) f.least) empty (facts ps there).least.one
 
-    module _ (scan : Scan) (ps : List Part) (there : own_partitions_at columns k b ≡ Ok ps) (seen : IsSeen scan ps) (facts : AreFactsOf columns k b f) where
-      pub no_facts : scan.seen.facts ≡ None → ⊥
-      no_facts none =
-          let empty : atoms_in ps ≡ [] = subst (AreFactsSoFar (atoms_in ps)) none seen.facts in
-          subst (λ (xs : List Atom). Has (map atom_at xs) f.least) empty (facts ps there).least.one
+    same_fact : (a g : Facts) → Some a ≡ Some g → a ≡ g
+    same_fact a g e = cc
 
-      same_fact : (a g : Facts) → Some a ≡ Some g → a ≡ g
-      same_fact a g e = cc
-
-      pub rest_then : (g : Facts) (number : ℕ) (r : Result (Unit {0}) TableFault) → scan.seen.facts ≡ Some g
-          → Answers (λ (u : Unit {0}). u) number r (own_rest_at scan.entries.items info g k.end b)
-          → Answers (λ (u : Unit {0}). u) number r (whole_at columns info k f b)
-      rest_then g number r some is =
-          let have : AreFacts (atoms_in ps) g = subst (AreFactsSoFar (atoms_in ps)) some seen.facts in
-          let same : g ≡ f = same_fact g f (facts_are_one.one (atoms_in ps) (Some g) (Some f) have (facts ps there)) in
-          let all : own_rest_at scan.entries.items info g k.end b ≡ whole_at columns info k f b =
-          (λ i. own_rest_at (seen.entries i) info (same i) k.end b) ∙ sym (whole_is ∙ ap (λ x. x >>= Rest) there) in
-          subst (λ (read : Result (Unit {0}) ReadFault). Answers (λ (u : Unit {0}). u) number r read) all is
+    pub rest_then : (g : Facts) (number : ℕ) (r : Result (Unit {0}) TableFault) → scan.seen.facts ≡ Some g
+        → Answers (λ (u : Unit {0}). u) number r (own_rest_at scan.entries.items info g k.end b)
+        → Answers (λ (u : Unit {0}). u) number r (whole_at columns info k f b)
+    rest_then g number r some is =
+        let have : AreFacts (atoms_in ps) g = subst (AreFactsSoFar (atoms_in ps)) some seen.facts in
+        let same : g ≡ f = same_fact g f (facts_are_one.one (atoms_in ps) (Some g) (Some f) have (facts ps there)) in
+        let all : own_rest_at scan.entries.items info g k.end b ≡ whole_at columns info k f b =
+        (λ i. own_rest_at (seen.entries i) info (same i) k.end b) ∙ sym (whole_is ∙ ap (λ x. x >>= Rest) there) in
+        subst (λ (read : Result (Unit {0}) ReadFault). Answers (λ (u : Unit {0}). u) number r read) all is

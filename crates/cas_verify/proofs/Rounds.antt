@@ -27,6 +27,7 @@ use Rattle.cas_fragments.specs.Laws.{static_of, joined, part_bytes}
 use Rattle.cas_fragments.specs.Reading.{is_above, head_at, blocks_at, partition_at}
 use Rattle.cas_fragments.specs.declared.heads.Head.{Head}
 use Rattle.cas_fragments.proofs.ChainLaws.{last_pushed}
+use Rattle.cas_fragments.specs.declared.heads.Version.{Version}
 use Rattle.cas_index.specs.declared.entries.BlockEntry.{BlockEntry}
 use Rattle.cas_index.specs.declared.entries.PartitionEntry.{PartitionEntry}
 use Rattle.cas_tables.specs.Places.{block_entries}
@@ -77,7 +78,7 @@ sees_stream s t u h bs a b closed A is =
 
 -- ---- a partition
 
-module _ (order : List Ordered) (columns : List Column) (before : Option (List ℕ)) (left : Left) where
+module _ (version : Version) (order : List Ordered) (columns : List Column) (before : Option (List ℕ)) (left : Left) where
   abbrev KeyOf : Read (List ℕ)
   KeyOf = checked (is_above bytes_cmp before) key_at left
 
@@ -85,33 +86,33 @@ module _ (order : List Ordered) (columns : List Column) (before : Option (List �
   abbrev PartFrom : HeadOf × Left → Read Part
   PartFrom head = blocks_at order columns (length head.1.bytes) (says_head head.0) true nowhere head.1 >>= λ blocks. Ok ((head.0, blocks.0), blocks.1)
 
-  pub head_bad : (at : ℕ) → IsBadAt (next_head_at columns before left) at → IsBadAt (next_partition_at order columns before left) at
+  pub head_bad : (at : ℕ) → IsBadAt (next_head_at version columns before left) at → IsBadAt (next_partition_at version order columns before left) at
   unfolding next_head_at next_partition_at partition_at
   head_bad at bad = go KeyOf bad
     where
-      go : (r : Read (List ℕ)) → IsBadAt (r >>= λ (key : List ℕ × Left). head_at columns left) at → IsBadAt (r >>= λ (key : List ℕ × Left). (head_at columns left >>= PartFrom)) at
-      go (Ok p) is = bad_then (head_at columns left) PartFrom at is
+      go : (r : Read (List ℕ)) → IsBadAt (r >>= λ (key : List ℕ × Left). head_at version columns left) at → IsBadAt (r >>= λ (key : List ℕ × Left). (head_at version columns left >>= PartFrom)) at
+      go (Ok p) is = bad_then (head_at version columns left) PartFrom at is
       go (Err f) is = bad_then (let r : Read HeadOf = Err f in r) PartFrom at is
 
-  part_is : (h : HeadOf) (new : Left) → next_head_at columns before left ≡ Ok (h, new) → next_partition_at order columns before left ≡ PartFrom (h, new)
+  part_is : (h : HeadOf) (new : Left) → next_head_at version columns before left ≡ Ok (h, new) → next_partition_at version order columns before left ≡ PartFrom (h, new)
   unfolding next_head_at next_partition_at partition_at
   part_is h new e =
-      let one = bind_ok KeyOf (λ (key : List ℕ × Left). head_at columns left) (h, new) e in
-      ap (λ r. r >>= λ (key : List ℕ × Left). (head_at columns left >>= PartFrom)) one.1 ∙ ap (λ r. r >>= PartFrom) one.2
+      let one = bind_ok KeyOf (λ (key : List ℕ × Left). head_at version columns left) (h, new) e in
+      ap (λ r. r >>= λ (key : List ℕ × Left). (head_at version columns left >>= PartFrom)) one.1 ∙ ap (λ r. r >>= PartFrom) one.2
 
 -- a partition that was read, or its blocks weren't
-module _ (order : List Ordered) (columns : List Column) (end : ℕ) (file : List ℕ) (number : ℕ) where
+module _ (version : Version) (order : List Ordered) (columns : List Column) (end : ℕ) (file : List ℕ) (number : ℕ) where
   abbrev NextOf : Scan → Read Part
-  NextOf s = next_partition_at order columns (key_before s) (left_at file end s.place)
+  NextOf s = next_partition_at version order columns (key_before s) (left_at file end s.place)
 
-  module _ (s : Scan) (h : Head) (behind : ℕ) (w : Walk) (p : HeadOf × Left) (next : next_head_at columns (key_before s) (left_at file end s.place) ≡ Ok p)
-      (head : IsHead end file s.place h behind p) (begun : IsBegun h behind w.seen w) where
+  module _ (s : Scan) (h : Head) (behind : ℕ) (w : Walk) (p : HeadOf × Left) (next : next_head_at version columns (key_before s) (left_at file end s.place) ≡ Ok p)
+      (head : IsHead version end file s.place h behind p) (begun : IsBegun h behind w.seen w) where
     abbrev key_of : HeadOf
     key_of = (h.key, h.top, h.columns)
 
-    part_of : NextOf s ≡ PartFrom order columns (key_before s) (left_at file end s.place) (key_of, left_at file end behind)
+    part_of : NextOf s ≡ PartFrom version order columns (key_before s) (left_at file end s.place) (key_of, left_at file end behind)
     part_of =
-        part_is order columns (key_before s) (left_at file end s.place) key_of (left_at file end behind)
+        part_is version order columns (key_before s) (left_at file end s.place) key_of (left_at file end behind)
         (next ∙ λ i. Ok (head.head i, head.left i))
 
     blocks_is : (n : ℕ) → n ≡ length (left_at file end behind).bytes
@@ -122,7 +123,7 @@ module _ (order : List Ordered) (columns : List Column) (end : ℕ) (file : List
     pub part_bad : (at : ℕ) → IsBadAt (blocks_at order columns (length (left_at file end behind).bytes) w.ends w.goes_on (reached w) (left_at file end w.place)) at
         → IsBadAt (NextOf s) at
     part_bad at bad =
-        bad_is (PartFrom order columns (key_before s) (left_at file end s.place) (key_of, left_at file end behind)) (NextOf s) at (sym part_of)
+        bad_is (PartFrom version order columns (key_before s) (left_at file end s.place) (key_of, left_at file end behind)) (NextOf s) at (sym part_of)
         (bad_then (blocks_at order columns (length (left_at file end behind).bytes) (says_head key_of) true nowhere (left_at file end behind))
         (λ blocks. Ok ((key_of, blocks.0), blocks.1)) at
         (bad_is (blocks_at order columns (length (left_at file end behind).bytes) w.ends w.goes_on (reached w) (left_at file end w.place)) _ at
@@ -133,7 +134,7 @@ module _ (order : List Ordered) (columns : List Column) (end : ℕ) (file : List
         → Went end file w x blocks → Sees s.seen (all_told h.top (static_of h.columns)) w.seen
         → t.place ≡ x.place → t.seen ≡ x.seen
         → t.entries.items ≡ s.entries.items ++ record { key = h.key; place = s.place; blocks = x.entries.items } ∷ []
-        → (q : Part × Left) × (NextOf s ≡ Ok q) × Adds end file s t q
+        → (q : Part × Left) × (NextOf s ≡ Ok q) × Adds version end file s t q
     part_read x t blocks e went seen place same entries = (
       ((key_of, blocks.0), blocks.1),
       part_of ∙ ap (λ r. r >>= λ (b : List (List Fragment) × Left). Ok ((key_of, b.0), b.1)) (sym (blocks_is (length (left_at file end behind).bytes) refl) ∙ e),
@@ -145,7 +146,7 @@ module _ (order : List Ordered) (columns : List Column) (end : ℕ) (file : List
           went.place,
           begun.place_is,
           head.long,
-          length-append (head_bytes h.key h.top h.columns) (blocks_bytes blocks.0),
+          length-append (head_bytes version h.key h.top h.columns) (blocks_bytes blocks.0),
         );
         entries = entries ∙ ap (λ (es : List BlockEntry). s.entries.items ++ record { key = h.key; place = s.place; blocks = es } ∷ []) all_entries;
         seen = subst (λ (y : Tally). Sees s.seen (flat_of (stream_of (key_of, blocks.0))) y) (sym same)
@@ -153,7 +154,7 @@ module _ (order : List Ordered) (columns : List Column) (end : ℕ) (file : List
       },
     )
       where
-        all_entries : x.entries.items ≡ block_entries (s.place + length (head_bytes h.key h.top h.columns)) None blocks.0
+        all_entries : x.entries.items ≡ block_entries (s.place + length (head_bytes version h.key h.top h.columns)) None blocks.0
         all_entries =
             went.entries ∙ (λ i. begun.entries i ++ block_entries ((begun.place_is ∙ head.long) i) (ap (λ (r : Reached). r.force) begun.reached_is i) blocks.0)
 
@@ -167,42 +168,42 @@ module _ (order : List Ordered) (columns : List Column) (end : ℕ) (file : List
         fault_then number f (blocks_at order columns (length (left_at file end behind).bytes) w.ends w.goes_on (reached w) (left_at file end w.place)) (NextOf s) part_bad is
 
   pub head_refused : (s : Scan) (before : Option (List ℕ)) (f : TableFault) → before ≡ key_before s
-      → IsFault number f (next_head_at columns before (left_at file end s.place)) → IsFault number f (NextOf s)
+      → IsFault number f (next_head_at version columns before (left_at file end s.place)) → IsFault number f (NextOf s)
   head_refused s before f same is =
-      fault_then number f (next_head_at columns before (left_at file end s.place)) (NextOf s)
-      (λ at bad. head_bad order columns (key_before s) (left_at file end s.place) at
-      (bad_is (next_head_at columns before (left_at file end s.place)) (next_head_at columns (key_before s) (left_at file end s.place)) at
-      (λ i. next_head_at columns (same i) (left_at file end s.place)) bad)) is
+      fault_then number f (next_head_at version columns before (left_at file end s.place)) (NextOf s)
+      (λ at bad. head_bad version order columns (key_before s) (left_at file end s.place) at
+      (bad_is (next_head_at version columns before (left_at file end s.place)) (next_head_at version columns (key_before s) (left_at file end s.place)) at
+      (λ i. next_head_at version columns (same i) (left_at file end s.place)) bad)) is
 
   -- ---- all partitions
 
   abbrev AllOf : ℕ → Scan → Result (List Part) ReadFault
-  AllOf n s = partitions_at order columns end n (key_before s) (left_at file end s.place)
+  AllOf n s = partitions_at version order columns end n (key_before s) (left_at file end s.place)
 
-  scanned_then : (s t x : Scan) (p : Part × Left) (ps : List Part) → Adds end file s t p → Scanned t x ps → Scanned s x (p.0 ∷ ps)
+  scanned_then : (s t x : Scan) (p : Part × Left) (ps : List Part) → Adds version end file s t p → Scanned version t x ps → Scanned version s x (p.0 ∷ ps)
   scanned_then s t x p ps adds is = record {
-    entries = is.entries ∙ (λ i. adds.entries i ++ entries_for (adds.place i) ps)
-        ∙ append_assoc s.entries.items (entry_for s.place p.0 ∷ []) (entries_for (s.place + length (part_bytes p.0)) ps);
+    entries = is.entries ∙ (λ i. adds.entries i ++ entries_for version (adds.place i) ps)
+        ∙ append_assoc s.entries.items (entry_for version s.place p.0 ∷ []) (entries_for version (s.place + length (part_bytes version p.0)) ps);
     seen = sees_both s.seen t.seen x.seen (flat_of (stream_of p.0)) (atoms_in ps) adds.seen is.seen;
   }
 
-  scanned_one : (s t : Scan) (p : Part × Left) → Adds end file s t p → Scanned s t (p.0 ∷ [])
+  scanned_one : (s t : Scan) (p : Part × Left) → Adds version end file s t p → Scanned version s t (p.0 ∷ [])
   scanned_one s t p adds = record {
     entries = adds.entries;
     seen = subst (λ (atoms : List Atom). Sees s.seen atoms t.seen) (sym (append-nil (flat_of (stream_of p.0)))) adds.seen;
   }
 
-  key_then : (s t : Scan) (p : Part × Left) → Adds end file s t p → key_before t ≡ Some p.0.0.0
+  key_then : (s t : Scan) (p : Part × Left) → Adds version end file s t p → key_before t ≡ Some p.0.0.0
   key_then s t p adds =
       ap (λ (es : List PartitionEntry). last_key (λ (e : PartitionEntry). e.key) es) adds.entries
-      ∙ last_pushed (λ (e : PartitionEntry). e.key) s.entries.items (entry_for s.place p.0)
+      ∙ last_pushed (λ (e : PartitionEntry). e.key) s.entries.items (entry_for version s.place p.0)
 
-  module _ (n : ℕ) (s t : Scan) (p : Part × Left) (next : NextOf s ≡ Ok p) (adds : Adds end file s t p) where
+  module _ (n : ℕ) (s t : Scan) (p : Part × Left) (next : NextOf s ≡ Ok p) (adds : Adds version end file s t p) where
     at_is : p.1.at ≡ t.place
     at_is = ap (λ (l : Left). l.at) adds.left
 
     -- the last one
-    pub round_last : t.place ≡ end → (ps : List Part) × (AllOf (suc n) s ≡ Ok ps) × Scanned s t ps
+    pub round_last : t.place ≡ end → (ps : List Part) × (AllOf (suc n) s ≡ Ok ps) × Scanned version s t ps
     unfolding partitions_at
     round_last there = (p.0 ∷ [], rw (next, eq-eqb p.1.at end (at_is ∙ there)) refl, scanned_one s t p adds)
 
@@ -211,10 +212,10 @@ module _ (order : List Ordered) (columns : List Column) (end : ℕ) (file : List
     unfolding partitions_at
     more_is not_there =
         rw (next, ne_eqb p.1.at end (λ e. not_there (sym at_is ∙ e)))
-        (λ i. partitions_at order columns end n (sym (key_then s t p adds) i) (adds.left i) >>= λ others. Ok (p.0 ∷ others))
+        (λ i. partitions_at version order columns end n (sym (key_then s t p adds) i) (adds.left i) >>= λ others. Ok (p.0 ∷ others))
 
     pub round_more : (t.place ≡ end → ⊥) → (r : Result (Unit {0}) TableFault) (x : Scan)
-        → Ends (λ (u : Unit {0}). Scanned t x) number r (AllOf n t) → Ends (λ (u : Unit {0}). Scanned s x) number r (AllOf (suc n) s)
+        → Ends (λ (u : Unit {0}). Scanned version t x) number r (AllOf n t) → Ends (λ (u : Unit {0}). Scanned version s x) number r (AllOf (suc n) s)
     round_more not_there (Ok u) x is = (
       p.0 ∷ is.0,
       more_is not_there ∙ ap (λ r. r >>= λ (others : List Part). Ok (p.0 ∷ others)) is.1,
@@ -229,7 +230,7 @@ module _ (order : List Ordered) (columns : List Column) (end : ℕ) (file : List
   unfolding partitions_at
   round_bad n at s bad =
       bad_then (NextOf s)
-      (λ (first : Part × Left). cond (eqb first.1.at end) (Ok (first.0 ∷ [])) (partitions_at order columns end n (Some first.0.0.0) first.1 >>= λ (others : List Part). Ok (first.0 ∷ others)))
+      (λ (first : Part × Left). cond (eqb first.1.at end) (Ok (first.0 ∷ [])) (partitions_at version order columns end n (Some first.0.0.0) first.1 >>= λ (others : List Part). Ok (first.0 ∷ others)))
       at bad
 
   pub round_none : (s : Scan) → IsBadAt (AllOf 0 s) s.place
@@ -249,28 +250,28 @@ goes_beyond place end b is e = eqb-false place end (sym is ∙ e)
 
 -- ---- from the beginning
 
-pub seen_all : (s t : Scan) (ps : List Part) → s.entries.items ≡ [] → s.place ≡ HEADER_LENGTH → AreFactsSoFar [] s.seen.facts → Scanned s t ps → IsSeen t ps
-seen_all s t ps none place facts is = record {
-  entries = is.entries ∙ (λ i. none i ++ entries_for (place i) ps);
+pub seen_all : (version : Version) (s t : Scan) (ps : List Part) → s.entries.items ≡ [] → s.place ≡ HEADER_LENGTH → AreFactsSoFar [] s.seen.facts → Scanned version s t ps → IsSeen version t ps
+seen_all version s t ps none place facts is = record {
+  entries = is.entries ∙ (λ i. none i ++ entries_for version (place i) ps);
   facts = is.seen [] facts;
 }
 
-pub begins : (order : List Ordered) (columns : List Column) (end : ℕ) (file : List ℕ) (number n : ℕ) (s x : Scan) (r : Result (Unit {0}) TableFault)
+pub begins : (version : Version) (order : List Ordered) (columns : List Column) (end : ℕ) (file : List ℕ) (number n : ℕ) (s x : Scan) (r : Result (Unit {0}) TableFault)
     → s.entries.items ≡ [] → s.place ≡ HEADER_LENGTH → AreFactsSoFar [] s.seen.facts
-    → Ends (λ (u : Unit {0}). Scanned s x) number r (partitions_at order columns end n (key_before s) (left_at file end s.place))
-    → Ends (λ (u : Unit {0}). IsSeen x) number r (partitions_at order columns end n None (left_at file end HEADER_LENGTH))
-begins order columns end file number n s x r none place facts is = go r is
+    → Ends (λ (u : Unit {0}). Scanned version s x) number r (partitions_at version order columns end n (key_before s) (left_at file end s.place))
+    → Ends (λ (u : Unit {0}). IsSeen version x) number r (partitions_at version order columns end n None (left_at file end HEADER_LENGTH))
+begins version order columns end file number n s x r none place facts is = go r is
   where
-    same : partitions_at order columns end n (key_before s) (left_at file end s.place) ≡ partitions_at order columns end n None (left_at file end HEADER_LENGTH)
-    same = λ i. partitions_at order columns end n (last_key (λ (e : PartitionEntry). e.key) (none i)) (left_at file end (place i))
+    same : partitions_at version order columns end n (key_before s) (left_at file end s.place) ≡ partitions_at version order columns end n None (left_at file end HEADER_LENGTH)
+    same = λ i. partitions_at version order columns end n (last_key (λ (e : PartitionEntry). e.key) (none i)) (left_at file end (place i))
 
     go : (r : Result (Unit {0}) TableFault)
-        → Ends (λ (u : Unit {0}). Scanned s x) number r (partitions_at order columns end n (key_before s) (left_at file end s.place))
-        → Ends (λ (u : Unit {0}). IsSeen x) number r (partitions_at order columns end n None (left_at file end HEADER_LENGTH))
-    go (Ok u) is = (is.0, sym same ∙ is.1, seen_all s x is.0 none place facts is.2)
+        → Ends (λ (u : Unit {0}). Scanned version s x) number r (partitions_at version order columns end n (key_before s) (left_at file end s.place))
+        → Ends (λ (u : Unit {0}). IsSeen version x) number r (partitions_at version order columns end n None (left_at file end HEADER_LENGTH))
+    go (Ok u) is = (is.0, sym same ∙ is.1, seen_all version s x is.0 none place facts is.2)
     go (Err table_fault.ReadFault) is = tt
     go (Err (table_fault.BadBlock k at)) is = (
       is.0,
-      bad_is (partitions_at order columns end n (key_before s) (left_at file end s.place)) (partitions_at order columns end n None (left_at file end HEADER_LENGTH)) at same is.1,
+      bad_is (partitions_at version order columns end n (key_before s) (left_at file end s.place)) (partitions_at version order columns end n None (left_at file end HEADER_LENGTH)) at same is.1,
     )
     go (Err table_fault.Mem) is = tt

@@ -1,10 +1,9 @@
 -- A whole table file that is checked: what `whole_at` finds in the bytes of a file that was loaded.
 -- Own format. The place of a refusal is that of the refused field's first byte; what several fields say together is refused at the first that is wrong.
-use Rattle.std.specs.Prelude.{◌≡◌, ℕ, ◌-◌, List, ◌++◌, length, map, None, Result, Ok, Err}
+use Rattle.std.specs.Prelude.{◌≡◌, ℕ, ◌-◌, List, ◌++◌, length, map, None, Result, Ok}
 use Rattle.cas_types.specs.declared.schema.Column.{Column}
 use Rattle.cas_bounds.specs.ClusteringOrder.{clustering_order}
 use Rattle.cas_codec.specs.declared.fault.ReadFault.{ReadFault}
-use Rattle.cas_codec.specs.declared.fault.ReadFault.TheVariants.{Bad}
 use Rattle.cas_codec.specs.Reading.{◌>>=◌}
 use Rattle.cas_info.specs.declared.info.TableInfo.{TableInfo}
 use Rattle.cas_info.specs.declared.info.TheConstants.{PARTITION_LIMIT}
@@ -15,11 +14,8 @@ use Rattle.cas_index.specs.declared.entries.PartitionEntry.{PartitionEntry}
 use Rattle.cas_index.specs.declared.footer.TheConstants.{FOOTER_LENGTH}
 use Rattle.cas_tables.specs.Files.{first_key, last_key}
 use Rattle.cas_tables.specs.declared.header.TheConstants.{HEADER_LENGTH}
-use Rattle.cas_tables.specs.declared.header.Version.{Version}
-use Rattle.cas_tables.specs.declared.header.Version.TheVariants.{First, Second}
 use Rattle.cas_blocks.specs.Reading.{left_at}
 use Rattle.cas_sstread.specs.Reading.{part, filled_at, Loaded}
-use Rattle.cas_verify.specs.declared.whole.TheConstants.{VERSION_PLACE}
 use Rattle.cas_verify.specs.Partitions.{Part, partitions_at, atoms_in, entries_for}
 use Rattle.cas_verify.specs.Fields.{fields_at, index_fields, filter_fields, info_fields}
 
@@ -49,14 +45,9 @@ fields_for ps info = index_fields ps ++ (filter_fields (filter_for ps) ++ info_f
 
 -- ---- the file
 
--- a version whose files are checked: the second, which is written
-abbrev pub version_at : Version → Result (Unit {0}) ReadFault
-version_at First = Err (Bad VERSION_PLACE)
-version_at Second = Ok tt
-
 -- the partitions of a file that was loaded
 abbrev pub own_partitions_at : List Column → Loaded → List ℕ → Result (List Part) ReadFault
-own_partitions_at columns k file = partitions_at (clustering_order columns) columns k.end PARTITION_LIMIT None (left_at file k.end HEADER_LENGTH)
+own_partitions_at columns k file = partitions_at k.version (clustering_order columns) columns k.end PARTITION_LIMIT None (left_at file k.end HEADER_LENGTH)
 
 -- what stands between the partitions and the footer
 abbrev pub own_rest_at : List PartitionEntry → TableInfo → Facts → ℕ → List ℕ → Result (Unit {0}) ReadFault
@@ -65,9 +56,8 @@ own_rest_at ps info f end file = filled_at (fields_at (fields_for ps (info_for p
 -- the file that was loaded so, of which that is listed, by the facts of its atoms
 unfoldable pub whole_at : List Column → TableInfo → Loaded → Facts → List ℕ → Result (Unit {0}) ReadFault
 whole_at columns info k f file = do
-  version ← version_at k.version
   ps ← own_partitions_at columns k file
-  own_rest_at (entries_for HEADER_LENGTH ps) info f k.end file
+  own_rest_at (entries_for k.version HEADER_LENGTH ps) info f k.end file
 
 -- the facts of the atoms in the file's partitions, where these are read
 abbrev pub AreFactsOf : List Column → Loaded → List ℕ → Facts → Type 0

@@ -17,6 +17,7 @@ use Rattle.cas_streams.specs.declared.fragment.Fragment.{Fragment}
 use Rattle.cas_fragments.specs.Blocks.{head_bytes}
 use Rattle.cas_fragments.specs.Reading.{is_above, partition_at}
 use Rattle.cas_fragments.specs.Laws.{static_of, joined, part_bytes}
+use Rattle.cas_fragments.specs.declared.heads.Version.{Version}
 use Rattle.cas_index.specs.declared.entries.PartitionEntry.{PartitionEntry}
 use Rattle.cas_tables.specs.Contents.{Partition}
 use Rattle.cas_tables.specs.Places.{block_entries}
@@ -28,18 +29,18 @@ abbrev pub Part : Type 0
 Part = (List ℕ × Option Deletion × List RowColumn) × List (List Fragment)
 
 -- a partition whose key stands above the one before it: its key is tested before the rest is read
-unfoldable pub next_partition_at : List Ordered → List Column → Option (List ℕ) → Left → Read Part
-next_partition_at order columns before left = do
+unfoldable pub next_partition_at : Version → List Ordered → List Column → Option (List ℕ) → Left → Read Part
+next_partition_at version order columns before left = do
   key ← checked (is_above bytes_cmp before) key_at left
-  partition_at order columns left
+  partition_at version order columns left
 
 -- partitions up to that place, at most so many; one more isn't allowed where it begins
-unfoldable pub partitions_at : List Ordered → List Column → ℕ → ℕ → Option (List ℕ) → Left → Result (List Part) ReadFault
-partitions_at order columns end zero before left = Err (Bad left.at)
-partitions_at order columns end (suc n) before left = do
-  first ← next_partition_at order columns before left
+unfoldable pub partitions_at : Version → List Ordered → List Column → ℕ → ℕ → Option (List ℕ) → Left → Result (List Part) ReadFault
+partitions_at version order columns end zero before left = Err (Bad left.at)
+partitions_at version order columns end (suc n) before left = do
+  first ← next_partition_at version order columns before left
   if first.1.at == end then Ok (first.0 ∷ []) else
-      (partitions_at order columns end n (Some first.0.0.0) first.1 >>= λ others. Ok (first.0 ∷ others))
+      (partitions_at version order columns end n (Some first.0.0.0) first.1 >>= λ others. Ok (first.0 ∷ others))
 
 -- ---- what they come to
 
@@ -56,10 +57,10 @@ abbrev pub atoms_in : List Part → List Atom
 atoms_in ps = flats (map stream_of ps)
 
 -- what the index is to tell of a partition that stands at that place: its blocks stand behind its head
-abbrev pub entry_for : ℕ → Part → PartitionEntry
-entry_for place p = record { key = p.0.0; place = place; blocks = block_entries (place + length (head_bytes p.0.0 p.0.1 p.0.2)) None p.1 }
+abbrev pub entry_for : Version → ℕ → Part → PartitionEntry
+entry_for version place p = record { key = p.0.0; place = place; blocks = block_entries (place + length (head_bytes version p.0.0 p.0.1 p.0.2)) None p.1 }
 
 -- and of partitions from that place on
-abbrev pub entries_for : ℕ → List Part → List PartitionEntry
-entries_for place [] = []
-entries_for place (p ∷ ps) = entry_for place p ∷ entries_for (place + length (part_bytes p)) ps
+abbrev pub entries_for : Version → ℕ → List Part → List PartitionEntry
+entries_for version place [] = []
+entries_for version place (p ∷ ps) = entry_for version place p ∷ entries_for version (place + length (part_bytes version p)) ps

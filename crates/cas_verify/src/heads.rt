@@ -18,7 +18,7 @@ ghost use Rattle.cas_verify.specs.Inner.Scans.{next_head_at, IsHead};
 use crate::faults::fault_in;
 use cas_codec::{ReadFault, Reader};
 use cas_disk::Sealed;
-use cas_fragments::{Head, read_head};
+use cas_fragments::{Head, Version, read_head};
 use cas_records::read_key;
 use cas_sstread::{Table, TableFault};
 use cas_types::{Bytes, Column, compare_bytes};
@@ -59,20 +59,22 @@ fn read_key_above(
 fn read_next_head(
     alloc: Global,
     reader: &mut Reader<'_>,
+    version: Version,
     columns: &[Column],
     before: Option<&[u8]>,
 ) -> Result<Head, ReadFault>
     requires { reader.old.at + length reader.old.bytes < 2 ^ 64 }
-    ensures { Gives (λ h. (h.key, h.top, h.columns)) result reader.new (next_head_at columns.now (option_copied before.entry) reader.old) }
+    ensures { Gives (λ h. (h.key, h.top, h.columns)) result reader.new (next_head_at version columns.now (option_copied before.entry) reader.old) }
 {
     let mut ahead = Reader::new(reader.left(), reader.at());
     read_key_above(alloc, &mut ahead, before)?;
-    read_head(alloc, reader, columns)
+    read_head(alloc, reader, version, columns)
 }
 
 // The head with which these bytes begin, the first of which stands at a place, and where it ends.
 fn parse_front(
     alloc: Global,
+    version: Version,
     columns: &[Column],
     place: u64,
     bytes: &[u8],
@@ -80,11 +82,11 @@ fn parse_front(
 ) -> Result<(Head, u64), ReadFault>
     requires narrow { IsNarrow columns.now }
     requires room { place + length bytes.now < 2 ^ 64 }
-    ensures told { FrontTells columns.now (option_copied before.entry) (record { bytes = bytes.now; at = place }) result }
+    ensures told { FrontTells version columns.now (option_copied before.entry) (record { bytes = bytes.now; at = place }) result }
     ensures key { IfOk result (λ p. length p.0.key < 2 ^ 16) }
 {
     let mut reader = Reader::new(bytes, place);
-    let head = read_next_head(alloc, &mut reader, columns, before)?;
+    let head = read_next_head(alloc, &mut reader, version, columns, before)?;
     Ok((head, reader.at()))
 }
 
@@ -100,13 +102,15 @@ fn read_front<F: Sealed>(
     requires narrow { IsNarrow table.now.columns }
     requires room { place + count < 2 ^ 63 }
     ensures told { IfOk result (λ r. (b : List ℕ) → table.now.contents ≡ Some b
-        → FrontTells table.now.columns (option_copied before.entry) (record { bytes = take count (drop place b); at = place }) r) }
+        → FrontTells table.now.kept.version table.now.columns (option_copied before.entry) (record { bytes = take count (drop place b); at = place }) r) }
     ensures key { IfOk result (λ r. IfOk r (λ p. length p.0.key < 2 ^ 16)) }
     ensures count { Counted (F.Tally.number tally.old) (F.Tally.number tally.new) (IsErrOf result TableFault.ReadFault) }
     ensures why { IfErr result IsNoBlock }
 {
     let bytes = table.read(alloc, place, count as usize, tally)?;
-    Ok(parse_front(alloc, table.columns(), place, &bytes, before))
+    let version = table.version();
+    let columns = table.columns();
+    Ok(parse_front(alloc, version, columns, place, &bytes, before))
 }
 
 /// Reads the head of the partition at a place, whose key is to stand above the one before it, and tells
@@ -120,8 +124,9 @@ pub(crate) fn read_head_at<F: Sealed>(
 ) -> Result<(Head, u64), TableFault>
     requires narrow { IsNarrow table.now.columns }
     requires within { place ≤ FILE_LIMIT }
-    ensures told { (b : List ℕ) → table.now.contents ≡ Some b → Ends (λ h p. IsHead table.now.kept.end b place h.0 h.1 p) table.now.info.number result
-        (next_head_at table.now.columns (option_copied before.entry) (left_at b table.now.kept.end place)) }
+    ensures told { (b : List ℕ) → table.now.contents ≡ Some b
+        → Ends (λ h p. IsHead table.now.kept.version table.now.kept.end b place h.0 h.1 p) table.now.info.number result
+        (next_head_at table.now.kept.version table.now.columns (option_copied before.entry) (left_at b table.now.kept.end place)) }
     ensures key { IfOk result (λ p. length p.0.key < 2 ^ 16) }
     ensures count { Counted (F.Tally.number tally.old) (F.Tally.number tally.new) (IsErrOf result TableFault.ReadFault) }
 {

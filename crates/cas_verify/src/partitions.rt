@@ -99,8 +99,9 @@ impl Scan {
         requires within { self.old.place ≤ FILE_LIMIT }
         requires rooms { All HasRooms self.old.entries.items }
         ensures told { (b : ListOf ℕ) → table.now.contents ≡ Some b
-            → Ends (λ (u : Unit {0}) p. Adds table.now.kept.end b self.old self.new p) table.now.info.number result
-            (next_partition_at (clustering_order table.now.columns) table.now.columns (key_before self.old) (left_at b table.now.kept.end self.old.place)) }
+            → Ends (λ (u : Unit {0}) p. Adds table.now.kept.version table.now.kept.end b self.old self.new p) table.now.info.number result
+            (next_partition_at table.now.kept.version (clustering_order table.now.columns) table.now.columns (key_before self.old)
+            (left_at b table.now.kept.end self.old.place)) }
         ensures rooms { OnOk result (All HasRooms self.new.entries.items) }
         ensures long { OnOk result (vec_len self.new.entries ≡ vec_len self.old.entries + 1) }
         ensures within { OnOk result (self.new.place ≤ FILE_LIMIT) }
@@ -145,7 +146,7 @@ pub(crate) fn read_partitions<F: Sealed>(
 ) -> Result<Scan, TableFault>
     requires { IsNarrow table.now.columns }
     ensures told { (b : ListOf ℕ) → table.now.contents ≡ Some b
-        → Ends IsSeen table.now.info.number result (own_partitions_at table.now.columns table.now.kept b) }
+        → Ends (IsSeen table.now.kept.version) table.now.info.number result (own_partitions_at table.now.columns table.now.kept b) }
     ensures rooms { IfOk result (λ s. All HasRooms s.entries.items) }
     ensures few { IfOk result (λ s. vec_len s.entries ≤ PARTITION_LIMIT) }
     ensures count { Counted (F.Tally.number tally.old) (F.Tally.number tally.new) (IsErrOf result TableFault.ReadFault) }

@@ -6,29 +6,14 @@ ghost use Rattle.cas_disk.specs.Counts.{Counted};
 ghost use Rattle.cas_facts.specs.declared.facts.Facts.{Facts};
 ghost use Rattle.cas_info.specs.declared.info.TheConstants.{FILE_LIMIT};
 ghost use Rattle.cas_sstread.specs.Loading.{Answers};
-ghost use Rattle.cas_verify.specs.Checking.{version_at, AreFactsOf, whole_at};
+ghost use Rattle.cas_verify.specs.Checking.{AreFactsOf, whole_at};
 
 use crate::faults::bad;
 use crate::partitions::read_partitions;
 use crate::rest::check_rest;
 use cas_disk::Sealed;
 use cas_sstread::{Table, TableFault};
-use cas_tables::Version;
 use std::alloc::Global;
-
-/// Where a file tells its version: behind the word.
-pub(crate) const VERSION_PLACE: u64 = 8;
-
-// Whether files of the table's version are checked.
-fn check_version<F: Sealed>(table: &Table<F>) -> Result<(), TableFault>
-    ensures version { Answers (λ u. u) table.now.info.number result (version_at table.now.kept.version) }
-    ensures no_read { IsErrOf result TableFault.ReadFault → ⊥ }
-{
-    match table.version() {
-        Version::First => Err(bad(table, VERSION_PLACE)),
-        Version::Second => Ok(()),
-    }
-}
 
 /// Reads a table file that is loaded to its end, and tells the first thing in it that isn't as it must
 /// be: of the partitions, each field in its turn; and then of index, filter and info the first field
@@ -44,7 +29,6 @@ pub fn check<F: Sealed>(
         → Answers (λ u. u) table.now.info.number result (whole_at table.now.columns table.now.info table.now.kept f b) }
     ensures count { Counted (F.Tally.number tally.old) (F.Tally.number tally.new) (IsErrOf result TableFault.ReadFault) }
 {
-    check_version(table)?;
     let scan = read_partitions(alloc, table, tally)?;
     let Some(facts) = scan.seen.facts else {
         return Err(bad(table, table.end()));

@@ -91,10 +91,10 @@ module _ (columns more : List Column) (added : AreAdded more) where
 pub contents_stay : ContentsStay
 contents_stay columns more c added fits = record {
   header = fits.header;
-  version = fits.version;
   level = fits.level;
   few = fits.few;
   ascend = fits.ascend;
   each = all_so (FitsPartition columns) (FitsPartition (columns ++ more)) (partition_fits columns more added) c.partitions fits.each;
+  statics = fits.statics;
   short = fits.short;
 }

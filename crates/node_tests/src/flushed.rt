@@ -6,8 +6,9 @@ use cas_bounds::{Clustering, Ordered, RowOrder, Values};
 use cas_cell::{Cell, Liveness};
 use cas_disk::{Count, Draft, FaultCount, FaultPlan, Folder, MemDraft, MemFolder, MemSealed, Name};
 use cas_flush::flush_parts;
+use cas_fragments::Version;
 use cas_stored::TableStore;
-use cas_tables::{Header, Version};
+use cas_tables::Header;
 use cas_types::{Bytes, Column, Kind, List, Shape, Text, TypeTag};
 use std::alloc::Global;
 use std::process::Abort;
@@ -179,6 +180,22 @@ fn flushed(rt: &impl Abort, alloc: Global, plan: FaultPlan) -> MemFolder {
     let store = frozen(rt, alloc);
     let columns = columns(rt, alloc);
     assert!(rt; is_flushed(alloc, &mut folder, &store, &columns));
+    folder
+}
+
+// Where the manifest tells the length of the table file, in its last byte.
+const LENGTH_PLACE: u64 = 147;
+
+/// The folder with a table file of these bytes, which is listed with so many.
+pub(crate) fn listing(rt: &impl Abort, alloc: Global, bytes: &[u8], long: u8) -> MemFolder {
+    let mut folder = MemFolder::new(alloc, FaultPlan::none(alloc));
+    assert!(rt; put(&mut folder, Name::Manifest, &MANIFEST));
+    assert!(rt;
+        folder
+            .write_at(Name::Manifest, LENGTH_PLACE, &[long])
+            .is_ok()
+    );
+    assert!(rt; put(&mut folder, Name::Table(1), bytes));
     folder
 }
 

@@ -103,7 +103,7 @@ fn tells(rt: &impl Abort, alloc: Global, place: u64, byte: u8, refused: Option<u
 fn another_byte_is_found(rt: HostRuntime) {
     let alloc = rt.alloc();
     tells(&rt, alloc, 9, 2, None); // as it is
-    tells(&rt, alloc, 9, 1, Some(8)); // of the first version
+    tells(&rt, alloc, 9, 1, None); // of the first version
     tells(&rt, alloc, 7, 0x32, Some(0)); // another word
     tells(&rt, alloc, 9, 3, Some(8)); // no such version
     tells(&rt, alloc, 11, 1, Some(10)); // of another table

@@ -89,12 +89,14 @@ fn table(alloc: Global) -> Result<TableSchema, AllocError> {
     })
 }
 
-fn info(alloc: Global) -> Result<TableInfo, AllocError>
+// What is told of a file of so many bytes with these partitions.
+fn info(alloc: Global, bytes: u64) -> Result<TableInfo, AllocError>
+    requires { bytes ≤ FILE_LIMIT }
     ensures { IfOk result (λ i. i.bytes ≤ FILE_LIMIT) }
 {
     Ok(TableInfo {
         number: 255,
-        bytes: 221,
+        bytes,
         first: Bytes::copy_of(alloc, &[1])?,
         last: Bytes::copy_of(alloc, &[2])?,
         least: 5,
@@ -118,9 +120,12 @@ fn sealed(alloc: Global, bytes: &[u8]) -> Option<MemSealed> {
     folder.admit(draft).ok()
 }
 
-// The file of these bytes, loaded, or the place where it is refused.
-pub(crate) fn load(alloc: Global, bytes: &[u8]) -> Result<Table<MemSealed>, u64> {
-    let (Ok(table), Ok(info), Some(file)) = (table(alloc), info(alloc), sealed(alloc, bytes)) else {
+/// The file of these bytes, listed with so many, loaded, or the place where it is refused.
+pub(crate) fn load_listed(alloc: Global, bytes: &[u8], long: u64) -> Result<Table<MemSealed>, u64>
+    requires { long ≤ FILE_LIMIT }
+{
+    let told = info(alloc, long);
+    let (Ok(table), Ok(info), Some(file)) = (table(alloc), told, sealed(alloc, bytes)) else {
         return Err(1000);
     };
     let mut tally = FaultCount::fresh();
@@ -129,6 +134,11 @@ pub(crate) fn load(alloc: Global, bytes: &[u8]) -> Result<Table<MemSealed>, u64>
         Err(TableFault::BadBlock { at, .. }) => Err(at),
         Err(_) => Err(1000),
     }
+}
+
+// The same, listed with the bytes of the file by hand.
+pub(crate) fn load(alloc: Global, bytes: &[u8]) -> Result<Table<MemSealed>, u64> {
+    load_listed(alloc, bytes, 221)
 }
 
 // What is answered where the byte at that place is this one.

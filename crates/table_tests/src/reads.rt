@@ -1,10 +1,9 @@
 //! Slices that are read of the table file by hand.
 
-ghost use Rattle.std.specs.Prelude.{◌≡◌, IsTrue, IfOk};
+ghost use Rattle.std.specs.Prelude.{IsTrue, IfOk};
 ghost use Rattle.cas_types.specs.Limits.{IsNarrow};
 ghost use Rattle.cas_bounds.specs.ClusteringOrder.{clustering_order};
 ghost use Rattle.cas_index.specs.Searches.{IsSliceOf};
-ghost use Rattle.cas_tables.specs.declared.header.Version.TheVariants.{Second};
 
 use crate::by_hand::{FILE, load};
 use cas_blocks::Blocks;
@@ -13,33 +12,23 @@ use cas_disk::{Count, FaultCount, MemSealed};
 use cas_sstread::Table;
 use cas_stored::read_slice;
 use cas_streams::{Fragment, FragmentSource};
-use cas_tables::Version;
 use cas_types::{Bytes, COLUMN_LIMIT};
 use std::alloc::{AllocError, Global};
 
-// What is read of a key: nothing, or the timestamp of the partition's deletion, the last byte of the
-// first row's place, and whether there is nothing behind it.
+/// What is read of a key: nothing, or the timestamp of the partition's deletion, the last byte of the
+/// first row's place, and whether there is nothing behind it.
 #[derive(Clone, Copy, Debug, PartialEq, Eq)]
-enum Told {
+pub(crate) enum Told {
     Nothing,
     Partition(Option<i64>, Option<u8>, bool),
     Failed,
 }
 
-fn is_second(table: &Table<MemSealed>) -> bool
-    ensures { IsTrue result → table.now.kept.version ≡ Second }
+/// Whether slices can be read of the table.
+pub(crate) fn is_readable(table: &Table<MemSealed>) -> bool
+    ensures { IsTrue result → IsNarrow table.now.columns }
 {
-    match table.version() {
-        Version::First => false,
-        Version::Second => true,
-    }
-}
-
-// Whether slices can be read of the table.
-fn is_readable(table: &Table<MemSealed>) -> bool
-    ensures { IsTrue result → (table.now.kept.version ≡ Second) × IsNarrow table.now.columns }
-{
-    is_second(table) && table.columns().len() as u64 <= COLUMN_LIMIT
+    table.columns().len() as u64 <= COLUMN_LIMIT
 }
 
 // The rows from the one at this value on, or those behind it.
@@ -98,7 +87,6 @@ fn drawn(source: Blocks<'_, MemSealed>) -> Told {
 // What is read of a key in a slice.
 fn read(alloc: Global, table: &Table<MemSealed>, key: u8, slice: &Slice) -> Told
     requires narrow { IsNarrow table.now.columns }
-    requires version { table.now.kept.version ≡ Second }
     requires one { IsSliceOf (clustering_order table.now.columns) slice.now }
 {
     let mut tally = FaultCount::fresh();
@@ -109,8 +97,14 @@ fn read(alloc: Global, table: &Table<MemSealed>, key: u8, slice: &Slice) -> Told
     }
 }
 
-// What is read of a key, from a row on.
-fn read_from(alloc: Global, table: &Table<MemSealed>, key: u8, value: u8, after: bool) -> Told {
+/// What is read of a key, from a row on.
+pub(crate) fn read_from(
+    alloc: Global,
+    table: &Table<MemSealed>,
+    key: u8,
+    value: u8,
+    after: bool,
+) -> Told {
     if !is_readable(table) {
         return Told::Failed;
     }

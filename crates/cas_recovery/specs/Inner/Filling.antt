@@ -4,7 +4,6 @@ use Rattle.std.specs.Int.{int_max}
 use Rattle.std.specs.List.{AllByRecursion}
 use Rattle.cas_types.specs.Limits.{IsMoment}
 use Rattle.cas_types.specs.declared.limits.TheConstants.{LAST_DRAWN, MUTATION_LIMIT}
-use Rattle.cas_types.specs.declared.schema.Column.{Column}
 use Rattle.cas_types.specs.declared.schema.TableSchema.{TableSchema}
 use Rattle.cas_bounds.specs.declared.order.Ordered.{Ordered}
 use Rattle.cas_atoms.specs.declared.atom.Mutation.{Mutation}
@@ -14,18 +13,13 @@ use Rattle.cas_disk.specs.Disk.{Disk, Image}
 use Rattle.cas_disk.specs.declared.name.Name.TheVariants.{Table as table_name}
 use Rattle.cas_memtable.specs.Kept.{all_of}
 use Rattle.cas_changes.specs.Saying.{Saying, part_of}
-use Rattle.cas_laws.specs.Given.{Has}
-use Rattle.cas_tables.specs.declared.header.Version.TheVariants.{First, Second}
-use Rattle.cas_sstread.specs.Loading.{Held}
-use Rattle.cas_view.specs.Views.{File}
 use Rattle.cas_stored.specs.Stored.{HoldEach, IsFileOf, StoredTable}
-use Rattle.cas_listed.specs.Listed.{AreLoaded}
+use Rattle.cas_listed.specs.Listed.{AreLoaded, IsBadFile}
 use Rattle.cas_shard.specs.Flushing.{HasInMemory, KeepsBytes}
 use Rattle.cas_shard.specs.Stands.{Holds, ShardState, files_at}
 use Rattle.cas_recovery.specs.declared.fault.RecoveryFault.{RecoveryFault}
 use Rattle.cas_recovery.specs.declared.fault.RecoveryFault.TheVariants as fault
 use Rattle.cas_recovery.specs.Openings.{greatest_frontier, times_of}
-use Rattle.cas_recovery.specs.Recovered.{IsUnfitFile}
 use Rattle.cas_recovery.specs.Inner.Restoring.{HaveRestored}
 use Rattle.cas_bind.specs.declared.bound.Limits.{Limits}
 
@@ -38,19 +32,11 @@ pub record IsWithin (s : Saying) : Type 0 where
   pub moments : (shard : ℕ) → IsMoment (times_of s shard).moment
   pub drawn : (shard : ℕ) → (times_of s shard).drawn ≤ℤ LAST_DRAWN
 
--- the file is of a table with these columns, and of the format's second version
-abbrev pub IsOwn : List Column → File Held → Type 0
-IsOwn columns f = IsFileOf columns f × (f.table.kept.version ≡ Second)
-
--- one of the files has that number, and is of the first version
-abbrev pub HasOld : List (File Held) → ℕ → Type 0
-HasOld fs number = (f : File Held) × Has fs f × (f.info.number ≡ number) × (f.table.kept.version ≡ First)
-
 -- A table that had no file was given those that are listed, as the folder has them: it holds what stands in them, and what it held.
 pub record HasTaken (t : TableSchema) (disk : Disk) (shard : ℕ) (listed : List TableInfo) (old new : Option StoredTable) : Type 0 where
   pub loaded : (c : Image) → disk.reads c → AreLoaded t shard c listed (files_at new)
   pub infos : map (λ f. f.info) (files_at new) ≡ listed
-  pub own : AllByRecursion (IsOwn t.columns) (files_at new)
+  pub own : AllByRecursion (IsFileOf t.columns) (files_at new)
   pub holds : (order : List Ordered) (vss : List (List Mutation)) (ws : List Mutation) → files_at old ≡ [] → HoldEach order (files_at new) [] vss
       → Holds order old ws → Holds order new (all_of vss ++ ws)
 
@@ -105,7 +91,7 @@ pub record AreFilled (s : Saying) (disk : Disk) (count : ℕ) (xs ys : List Shar
 
 -- the fault tells a listed file of a table that isn't loaded, if it tells that a file is bad
 abbrev pub IsBadOf : Saying → Image → TableSchema → ℕ → RecoveryFault → Type 0
-IsBadOf s c t shard (fault.Bad (table_name number) at) = IsUnfitFile t shard c (part_of s t.number shard).listed number at
+IsBadOf s c t shard (fault.Bad (table_name number) at) = IsBadFile t shard c (part_of s t.number shard).listed number at
 IsBadOf s c t shard (fault.Bad _ at) = ⊥
 IsBadOf s c t shard fault.Failed = Unit {0}
 IsBadOf s c t shard fault.Read = Unit {0}

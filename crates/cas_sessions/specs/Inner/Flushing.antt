@@ -47,7 +47,6 @@ use Rattle.cas_sstread.specs.declared.fault.TableFault.TheVariants as load
 use Rattle.cas_sstwrite.specs.declared.fault.WriteFault.{WriteFault}
 use Rattle.cas_sstwrite.specs.declared.fault.WriteFault.TheVariants as write
 use Rattle.cas_stored.specs.Stored.{StoredTable}
-use Rattle.cas_tables.specs.declared.header.Version.TheVariants.{Second}
 use Rattle.cas_view.specs.Views.{File}
 use Rattle.cas_sessions.specs.declared.answer.Fault.{Fault}
 use Rattle.cas_sessions.specs.declared.answer.Fault.TheVariants.{Refused, Stopped, Disk as Failed, Read, BadBlock, Mem}
@@ -161,7 +160,6 @@ pub record NewFile (t : TableSchema) (o : Option StoredTable) (told : TableInfo)
   pub are : files ≡ files_at o ++ file ∷ []
   pub info : file.info ≡ told
   pub columns : file.table.columns ≡ t.columns
-  pub version : file.table.kept.version ≡ Second
 
 -- the file says what the frozen memtables do
 abbrev pub SaysSo : TableSchema → Option StoredTable → File Held → Type 0

@@ -9,6 +9,7 @@ use Rattle.cas_facts.specs.Told.{all_told}
 use Rattle.cas_fragments.specs.Allowed.{HaveRoom}
 use Rattle.cas_fragments.specs.Spelling.{body_bytes}
 use Rattle.cas_fragments.specs.Blocks.{blocks_of, statics_in, behind_statics, head_bytes, partition_bytes}
+use Rattle.cas_fragments.specs.declared.heads.Version.TheVariants.{Second}
 use Rattle.cas_index.specs.declared.entries.PartitionEntry.{PartitionEntry}
 use Rattle.cas_tables.specs.Places.{block_entries}
 use Rattle.cas_sstwrite.specs.Rooms.{IsHeld}
@@ -27,13 +28,13 @@ abbrev pub partition_entry : List ℕ → Option Deletion → List Fragment → 
 partition_entry key top fs place = record {
   key = key;
   place = place;
-  blocks = block_entries (place + length (head_bytes key top (statics_in fs))) None (blocks_of (behind_statics fs));
+  blocks = block_entries (place + length (head_bytes Second key top (statics_in fs))) None (blocks_of (behind_statics fs));
 }
 
 -- that partition stands behind those that were written
 pub record AddsOne {D E : Type 0} (number_of : D → ℕ) (written : D → List ℕ → Type 0) (under : List ℕ) (top : Option Deletion) (fs : List Fragment)
     (old new : TableWriter D E) : Type 0 where
-  pub took : Took number_of written (partition_bytes under top fs) old.sink new.sink
+  pub took : Took number_of written (partition_bytes Second under top fs) old.sink new.sink
   pub entries : new.entries.items ≡ old.entries.items ++ partition_entry under top fs old.sink.place ∷ []
   pub short : AllByRecursion (λ b. length (body_bytes b) < 2 ^ 32) (blocks_of (behind_statics fs))
   pub statics : HaveRoom (statics_in fs)

@@ -12,6 +12,7 @@ use Rattle.cas_facts.specs.declared.facts.Facts.{Facts}
 use Rattle.cas_fragments.specs.Allowed.{HaveRoom}
 use Rattle.cas_fragments.specs.Spelling.{body_bytes}
 use Rattle.cas_fragments.specs.Blocks.{blocks_of, statics_in, behind_statics, head_bytes, partition_bytes}
+use Rattle.cas_fragments.specs.declared.heads.Version.TheVariants.{Second}
 use Rattle.cas_tables.specs.Places.{block_entries}
 use Rattle.cas_sstwrite.specs.Causes.{IsUnfit, TooMuch, limit_of}
 use Rattle.cas_sstwrite.specs.declared.fault.Measure.TheVariants.{FileBytes, BlockBytes, Partitions}
@@ -29,7 +30,7 @@ use Rattle.cas_sstwrite.specs.Inner.Parts.{BeginWith, Says}
 abbrev pub HeadFault : ℕ → List ℕ → Option Deletion → List RowColumn → WriteFault → Type 0
 HeadFault place key top cs Failed = Unit {0}
 HeadFault place key top cs Order = ⊥
-HeadFault place key top cs (TooMany FileBytes limit) = (limit ≡ FILE_LIMIT) × (FILE_LIMIT < place + length (head_bytes key top cs))
+HeadFault place key top cs (TooMany FileBytes limit) = (limit ≡ FILE_LIMIT) × (FILE_LIMIT < place + length (head_bytes Second key top cs))
 HeadFault place key top cs (TooMany BlockBytes limit) = ⊥
 HeadFault place key top cs (TooMany Partitions limit) = ⊥
 HeadFault place key top cs Unfit = (length key < 2 ^ 16) × HaveRoom cs → ⊥
@@ -40,8 +41,8 @@ pub record WrotePartition {D : Type 0} (number_of : D → ℕ) (written : D → 
     (first : Option Fragment)
     (before : Option Facts) (s t : Sink D) (new : Part) (told : Option (List Fragment)) : Type 0 where
   pub given : List Fragment
-  pub took : Took number_of written (partition_bytes under top given) s t
-  pub entries : new.entries.items ≡ block_entries (s.place + length (head_bytes under top (statics_in given))) None (blocks_of (behind_statics given))
+  pub took : Took number_of written (partition_bytes Second under top given) s t
+  pub entries : new.entries.items ≡ block_entries (s.place + length (head_bytes Second under top (statics_in given))) None (blocks_of (behind_statics given))
   pub few : length new.entries.items < 2 ^ 32
   pub short : AllByRecursion (λ b. length (body_bytes b) < 2 ^ 32) (blocks_of (behind_statics given))
   pub facts : (A : List Atom) → AreFactsSoFar A before → AreFactsSoFar (A ++ all_told top given) new.seen.facts

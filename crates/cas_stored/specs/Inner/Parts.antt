@@ -6,6 +6,7 @@ use Rattle.cas_bounds.specs.declared.cuts.Slice.{Slice}
 use Rattle.cas_codec.specs.Reading.{Left}
 use Rattle.cas_streams.specs.declared.fragment.Fragment.{Fragment}
 use Rattle.cas_fragments.specs.declared.heads.Head.{Head}
+use Rattle.cas_fragments.specs.declared.heads.Version.{Version}
 use Rattle.cas_index.specs.declared.entries.PartitionEntry.{PartitionEntry}
 use Rattle.cas_blocks.specs.declared.fault.TableFault.{TableFault}
 use Rattle.cas_blocks.specs.declared.fault.TableFault.TheVariants as table_fault
@@ -13,11 +14,11 @@ use Rattle.cas_sstread.specs.Loading.{Held}
 use Rattle.cas_stored.specs.Slices.{IsHead, HasNoHead, IsSlice, IsTold, IsBadHead, IsBadBlock}
 
 -- the head that stands there, or that in the file of that number none of the key does
-abbrev pub HeadAnswers : List Column → ℕ → Left → List ℕ → Result Head TableFault → Type 0
-HeadAnswers columns number left key (Ok h) = IsHead columns left key h.top h.columns
-HeadAnswers columns number left key (Err table_fault.Read) = Unit {0}
-HeadAnswers columns number left key (Err (table_fault.BadBlock n at)) = (n ≡ number) × (at ≡ left.at) × HasNoHead columns left key
-HeadAnswers columns number left key (Err table_fault.Mem) = Unit {0}
+abbrev pub HeadAnswers : Version → List Column → ℕ → Left → List ℕ → Result Head TableFault → Type 0
+HeadAnswers version columns number left key (Ok h) = IsHead version columns left key h.top h.columns
+HeadAnswers version columns number left key (Err table_fault.Read) = Unit {0}
+HeadAnswers version columns number left key (Err (table_fault.BadBlock n at)) = (n ≡ number) × (at ≡ left.at) × HasNoHead version columns left key
+HeadAnswers version columns number left key (Err table_fault.Mem) = Unit {0}
 
 -- why the partition of which the index tells this isn't read
 abbrev pub IsFault : Held → List ℕ → PartitionEntry → TableFault → Type 0

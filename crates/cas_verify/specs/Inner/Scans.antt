@@ -12,6 +12,7 @@ use Rattle.cas_fragments.specs.Inner.Lasts.{last_key}
 use Rattle.cas_fragments.specs.Laws.{part_bytes}
 use Rattle.cas_fragments.specs.Reading.{is_above, head_at}
 use Rattle.cas_fragments.specs.declared.heads.Head.{Head}
+use Rattle.cas_fragments.specs.declared.heads.Version.{Version}
 use Rattle.cas_index.specs.declared.entries.PartitionEntry.{PartitionEntry}
 use Rattle.cas_blocks.specs.Reading.{left_at}
 use Rattle.cas_tables.specs.declared.header.TheConstants.{HEADER_LENGTH}
@@ -21,16 +22,17 @@ use Rattle.cas_verify.specs.Inner.Walks.{Sees}
 use Rattle.cas_verify.specs.declared.partitions.Scan.{Scan}
 
 -- the head of a partition whose key stands above the one before it
-unfoldable pub next_head_at : List Column → Option (List ℕ) → Left → Read (List ℕ × Option Deletion × List RowColumn)
-next_head_at columns before left = do
+unfoldable pub next_head_at : Version → List Column → Option (List ℕ) → Left → Read (List ℕ × Option Deletion × List RowColumn)
+next_head_at version columns before left = do
   key ← checked (is_above bytes_cmp before) key_at left
-  head_at columns left
+  head_at version columns left
 
 -- the head that was read, and where it ends
-pub record IsHead (end : ℕ) (file : List ℕ) (place : ℕ) (h : Head) (behind : ℕ) (p : (List ℕ × Option Deletion × List RowColumn) × Left) : Type 0 where
+pub record IsHead (version : Version) (end : ℕ) (file : List ℕ) (place : ℕ) (h : Head) (behind : ℕ)
+    (p : (List ℕ × Option Deletion × List RowColumn) × Left) : Type 0 where
   pub head : p.0 ≡ (h.key, h.top, h.columns)
   pub left : p.1 ≡ left_at file end behind
-  pub long : behind ≡ place + length (head_bytes h.key h.top h.columns)
+  pub long : behind ≡ place + length (head_bytes version h.key h.top h.columns)
 
 -- the last key that was read
 abbrev pub key_before : Scan → Option (List ℕ)
@@ -42,18 +44,18 @@ key_or None = []
 key_or (Some p) = p.key
 
 -- a partition further
-pub record Adds (end : ℕ) (file : List ℕ) (s t : Scan) (p : Part × Left) : Type 0 where
+pub record Adds (version : Version) (end : ℕ) (file : List ℕ) (s t : Scan) (p : Part × Left) : Type 0 where
   pub left : p.1 ≡ left_at file end t.place
-  pub place : t.place ≡ s.place + length (part_bytes p.0)
-  pub entries : t.entries.items ≡ s.entries.items ++ entry_for s.place p.0 ∷ []
+  pub place : t.place ≡ s.place + length (part_bytes version p.0)
+  pub entries : t.entries.items ≡ s.entries.items ++ entry_for version s.place p.0 ∷ []
   pub seen : Sees s.seen (flat_of (stream_of p.0)) t.seen
 
 -- all partitions
-pub record Scanned (s t : Scan) (ps : List Part) : Type 0 where
-  pub entries : t.entries.items ≡ s.entries.items ++ entries_for s.place ps
+pub record Scanned (version : Version) (s t : Scan) (ps : List Part) : Type 0 where
+  pub entries : t.entries.items ≡ s.entries.items ++ entries_for version s.place ps
   pub seen : Sees s.seen (atoms_in ps) t.seen
 
 -- what the index is to tell of the partitions behind the header, and the facts of their atoms
-pub record IsSeen (t : Scan) (ps : List Part) : Type 0 where
-  pub entries : t.entries.items ≡ entries_for HEADER_LENGTH ps
+pub record IsSeen (version : Version) (t : Scan) (ps : List Part) : Type 0 where
+  pub entries : t.entries.items ≡ entries_for version HEADER_LENGTH ps
   pub facts : AreFactsSoFar (atoms_in ps) t.seen.facts

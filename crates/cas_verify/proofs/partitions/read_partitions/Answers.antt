@@ -22,7 +22,7 @@ pub loop-done-init : goal.loop-done-init
 loop-done-init g c = record {
   on = λ b is r x e.
       let cols = c.args.table.now.columns in
-      begins (clustering_order cols) cols c.args.table.now.kept.end b c.args.table.now.info.number PARTITION_LIMIT
+      begins c.args.table.now.kept.version (clustering_order cols) cols c.args.table.now.kept.end b c.args.table.now.info.number PARTITION_LIMIT
       (record { place = HEADER_LENGTH; entries = c.new.result; seen = c.new-2.result }) x r c.new.ensures.items refl c.new-2.ensures e;
   rooms = subst (λ (es : List PartitionEntry). All HasRooms es) (sym c.new.ensures.items) (All-nil HasRooms);
   long = c.new.ensures.len;
@@ -44,8 +44,8 @@ loop-done-preserved g c =
       on = λ b is r x e.
           let told = c.in_ok-read_partition.ensures.told b is in
           c.loop-done.invariant.on b is r x
-          (subst (λ (m : ℕ). Ends (λ (u : Unit {0}). Scanned s x) number r (partitions_at order cols end m (key_before s) (left_at b end s.place))) left
-          (round_more order cols end b number (PARTITION_LIMIT - (done + 1)) s t told.0 told.1 told.2
+          (subst (λ (m : ℕ). Ends (λ (u : Unit {0}). Scanned c.args.table.now.kept.version s x) number r (partitions_at c.args.table.now.kept.version order cols end m (key_before s) (left_at b end s.place))) left
+          (round_more c.args.table.now.kept.version order cols end b number (PARTITION_LIMIT - (done + 1)) s t told.0 told.1 told.2
           (goes_beyond t.place end c.end_at.result c.end_at.ensures c.if-end_at.false) r x e));
       rooms = c.in_ok-read_partition.ensures.rooms;
       long = omega (arith, c.in_ok-read_partition.ensures.long, c.loop-done.invariant.long);
@@ -65,8 +65,8 @@ returns-then-end_at-clause-told g c = λ b is.
     let left = one_less PARTITION_LIMIT done c.loop-done-test.true in
     let told = c.in_ok-read_partition.ensures.told b is in
     c.loop-done.invariant.on b is (Ok tt) t
-    (subst (λ (m : ℕ). Ends (λ (u : Unit {0}). Scanned s t) number (Ok tt) (partitions_at order cols end m (key_before s) (left_at b end s.place))) left
-    (round_last order cols end b number (PARTITION_LIMIT - (done + 1)) s t told.0 told.1 told.2 (ends_there t.place end c.end_at.result c.end_at.ensures c.if-end_at.true)))
+    (subst (λ (m : ℕ). Ends (λ (u : Unit {0}). Scanned c.args.table.now.kept.version s t) number (Ok tt) (partitions_at c.args.table.now.kept.version order cols end m (key_before s) (left_at b end s.place))) left
+    (round_last c.args.table.now.kept.version order cols end b number (PARTITION_LIMIT - (done + 1)) s t told.0 told.1 told.2 (ends_there t.place end c.end_at.result c.end_at.ensures c.if-end_at.true)))
 
 pub returns-in_err-read_partition-clause-told : goal.returns-in_err-read_partition-clause-told
 returns-in_err-read_partition-clause-told g c = λ b is.
@@ -80,8 +80,8 @@ returns-in_err-read_partition-clause-told g c = λ b is.
     let left = one_less PARTITION_LIMIT done c.loop-done-test.true in
     let p = err_from_is_err_and c.from_residual.result c.from_residual.ensures.1 in
     rw (p.1, p.2) (c.loop-done.invariant.on b is (Err f) s
-    (subst (λ (m : ℕ). IsFault number f (partitions_at order cols end m (key_before s) (left_at b end s.place))) left
-    (round_refused order cols end b number (PARTITION_LIMIT - (done + 1)) s f (c.in_err-read_partition.ensures.told b is))))
+    (subst (λ (m : ℕ). IsFault number f (partitions_at c.args.table.now.kept.version order cols end m (key_before s) (left_at b end s.place))) left
+    (round_refused c.args.table.now.kept.version order cols end b number (PARTITION_LIMIT - (done + 1)) s f (c.in_err-read_partition.ensures.told b is))))
 
 pub returns-clause-told : goal.returns-clause-told
 returns-clause-told g c = λ b is.
@@ -93,5 +93,5 @@ returns-clause-told g c = λ b is.
     let none : 0 ≡ PARTITION_LIMIT - c.loop-done._done = omega (arith, c.loop-done-test.false) in
     rw c.bad.ensures
     (c.loop-done.invariant.on b is (Err (table_fault.BadBlock number s.place)) s
-    (subst (λ (m : ℕ). IsFault number (table_fault.BadBlock number s.place) (partitions_at order cols end m (key_before s) (left_at b end s.place))) none
-    (refl, round_none order cols end b number s)))
+    (subst (λ (m : ℕ). IsFault number (table_fault.BadBlock number s.place) (partitions_at c.args.table.now.kept.version order cols end m (key_before s) (left_at b end s.place))) none
+    (refl, round_none c.args.table.now.kept.version order cols end b number s)))

@@ -15,10 +15,10 @@ use Rattle.cas_verify.proofs.partitions.read_partitions.Given as goal
 abbrev pub invariant-loop-done : goal.invariant-loop-done
 invariant-loop-done g l = record {
   on : (b : List ℕ) → l.table.contents ≡ Some b → (r : Result (Unit {0}) TableFault) (x : Scan)
-      → Ends (λ (u : Unit {0}). Scanned l.scan x) l.table.info.number r
-      (partitions_at (clustering_order l.table.columns) l.table.columns l.table.kept.end (PARTITION_LIMIT - l._done) (key_before l.scan)
+      → Ends (λ (u : Unit {0}). Scanned l.table.kept.version l.scan x) l.table.info.number r
+      (partitions_at l.table.kept.version (clustering_order l.table.columns) l.table.columns l.table.kept.end (PARTITION_LIMIT - l._done) (key_before l.scan)
       (left_at b l.table.kept.end l.scan.place))
-      → Ends (λ (u : Unit {0}). IsSeen x) l.table.info.number r (own_partitions_at l.table.columns l.table.kept b);
+      → Ends (λ (u : Unit {0}). IsSeen l.table.kept.version x) l.table.info.number r (own_partitions_at l.table.columns l.table.kept b);
   rooms : All HasRooms l.scan.entries.items;
   long : vec_len l.scan.entries ≡ l._done;
   within : l.scan.place ≤ FILE_LIMIT;

@@ -25,7 +25,7 @@ returns-in_err-head-clause-told g c = λ b is.
     let s = c.args.self.now in
     let same : option_copied c.last_key-before.result ≡ key_before s = c.last_key-before.ensures ∙ ap (last_key (λ (e : PartitionEntry). e.key)) c.deref.ensures.value in
     let p = err_from_is_err_and c.from_residual.result c.from_residual.ensures.1 in
-    rw (p.1, p.2) (head_refused (clustering_order cols) cols c.args.table.now.kept.end b c.args.table.now.info.number s (option_copied c.last_key-before.result)
+    rw (p.1, p.2) (head_refused c.args.table.now.kept.version (clustering_order cols) cols c.args.table.now.kept.end b c.args.table.now.info.number s (option_copied c.last_key-before.result)
     c.in_err-head.field-0.0 same (c.in_err-head.ensures.told b is))
 
 pub returns-in-Err-clause-told : goal.returns-in-Err-clause-told
@@ -45,8 +45,8 @@ returns-in-Err-clause-told g c = λ b is.
     let t = c.in_ok-head.ensures.told b is in
     let n : ℕ = length (left_at b end behind).bytes in
     let few : length (left_at b end w.place).bytes ≤ n = omega (arith, ap (λ (place : ℕ). length (left_at b end place).bytes) begun.place_is) in
-    part_refused (clustering_order cols) cols end b c.args.table.now.info.number s h behind w t.0
-    (ap (λ k. next_head_at cols k (left_at b end s.place)) (sym same) ∙ t.1) t.2 now c.in-Err.fault
+    part_refused c.args.table.now.kept.version (clustering_order cols) cols end b c.args.table.now.info.number s h behind w t.0
+    (ap (λ k. next_head_at c.args.table.now.kept.version cols k (left_at b end s.place)) (sym same) ∙ t.1) t.2 now c.in-Err.fault
     (c.in-Err.ensures.told b is n few)
 
 pub returns-clause-told : goal.returns-clause-told
@@ -71,8 +71,8 @@ returns-clause-told g c = λ b is.
     let went = c.in-Ok.ensures.told b is n few in
     let sees : Sees s.seen (all_told h.top (static_of h.columns)) w.seen =
     subst (λ (y : Tally). Sees y (all_told h.top (static_of h.columns)) w.seen) begun.seen_is c.see_head.ensures in
-    part_read (clustering_order cols) cols end b c.args.table.now.info.number s h behind w t.0
-    (ap (λ k. next_head_at cols k (left_at b end s.place)) (sym same) ∙ t.1) t.2 now x u went.0 went.1 went.2 sees refl refl
+    part_read c.args.table.now.kept.version (clustering_order cols) cols end b c.args.table.now.info.number s h behind w t.0
+    (ap (λ k. next_head_at c.args.table.now.kept.version cols k (left_at b end s.place)) (sym same) ∙ t.1) t.2 now x u went.0 went.1 went.2 sees refl refl
     (subst (λ (es : List BlockEntry). u.entries.items ≡ s.entries.items ++ record { key = h.key; place = s.place; blocks = es } ∷ []) c.from_vec.ensures
     c.in_ok-push.ensures.items)
 
