@@ -8,6 +8,7 @@ ghost use Rattle.cas_blocks.specs.Inner.Pieces.{left_of, room_of, told_on, IsBad
 
 use crate::fault::TableFault;
 use crate::file::TableFile;
+use crate::origin::Origin;
 use crate::steps::{Onward, next_block};
 use cas_bounds::Cut;
 use cas_disk::Sealed;
@@ -25,13 +26,14 @@ pub struct Pieces<'a> {
 
 impl<'a> Pieces<'a> {
     // The next block's first fragment, where nothing is left of the one at hand.
-    fn next_in_block<F: Sealed>(
+    fn next_in_block<F: Sealed, O: Origin<F>>(
         &mut self,
         file: &TableFile<'a, F>,
         low: Option<&Cut>,
-        tally: &mut F::Tally,
+        state: &mut O::State,
     ) -> Result<Option<Fragment>, TableFault>
-        requires { self.old.rest ≡ [] }
+        requires behind { self.old.rest ≡ [] }
+        requires fits { O.fits (F.contents file.now.sealed.now) file.now.end state.old }
         ensures first { (fs : ListOf Fragment) →
             left_of file.now.order.now file.now.columns.now file.now.end (F.contents file.now.sealed.now) self.old ≡ Some fs
             → TakesFirst fs (left_of file.now.order.now file.now.columns.now file.now.end (F.contents file.now.sealed.now) self.new) result }
@@ -39,7 +41,9 @@ impl<'a> Pieces<'a> {
             left_of file.now.order.now file.now.columns.now file.now.end (F.contents file.now.sealed.now) self.old ≡ Some fs
             → IfBad (λ n at. ⊥) result }
         ensures ends { Shrinks (room_of file.now.end self.old) (room_of file.now.end self.new) result }
-        ensures count { Counted (F.Tally.number tally.old) (F.Tally.number tally.new) (IsErrOf result TableFault.Read) }
+        ensures count { Counted (O.faults state.old) (O.faults state.new) (IsErrOf result TableFault.Read) }
+        ensures fits { O.fits (F.contents file.now.sealed.now) file.now.end state.new }
+        ensures leads { O.leads state.old state.new }
         ensures bad { IfBad (IsBadBlock file.now.order.now file.now.columns.now file.now.number file.now.end (F.contents file.now.sealed.now)
             self.new.onward) result }
         ensures narrows { FindsNoMore file.now.order.now file.now.columns.now file.now.number file.now.end (F.contents file.now.sealed.now)
@@ -48,7 +52,7 @@ impl<'a> Pieces<'a> {
         let Some(at) = &self.onward else {
             return Ok(None);
         };
-        match next_block(file, at, low, tally) {
+        match next_block::<F, O>(file, at, low, state) {
             Ok(None) => {
                 drop(mem::replace(&mut self.onward, None));
                 Ok(None)
@@ -64,12 +68,13 @@ impl<'a> Pieces<'a> {
 
     /// The next fragment; none at the partition's end. Where those behind a cut are looked for next,
     /// that is told.
-    pub fn next<F: Sealed>(
+    pub fn next<F: Sealed, O: Origin<F>>(
         &mut self,
         file: &TableFile<'a, F>,
         low: Option<&Cut>,
-        tally: &mut F::Tally,
+        state: &mut O::State,
     ) -> Result<Option<Fragment>, TableFault>
+        requires fits { O.fits (F.contents file.now.sealed.now) file.now.end state.old }
         ensures first { (fs : ListOf Fragment) →
             left_of file.now.order.now file.now.columns.now file.now.end (F.contents file.now.sealed.now) self.old ≡ Some fs
             → TakesFirst fs (left_of file.now.order.now file.now.columns.now file.now.end (F.contents file.now.sealed.now) self.new) result }
@@ -77,7 +82,9 @@ impl<'a> Pieces<'a> {
             left_of file.now.order.now file.now.columns.now file.now.end (F.contents file.now.sealed.now) self.old ≡ Some fs
             → IfBad (λ n at. ⊥) result }
         ensures ends { Shrinks (room_of file.now.end self.old) (room_of file.now.end self.new) result }
-        ensures count { Counted (F.Tally.number tally.old) (F.Tally.number tally.new) (IsErrOf result TableFault.Read) }
+        ensures count { Counted (O.faults state.old) (O.faults state.new) (IsErrOf result TableFault.Read) }
+        ensures fits { O.fits (F.contents file.now.sealed.now) file.now.end state.new }
+        ensures leads { O.leads state.old state.new }
         ensures bad { IfBad (IsBadBlock file.now.order.now file.now.columns.now file.now.number file.now.end (F.contents file.now.sealed.now)
             self.new.onward) result }
         ensures narrows { FindsNoMore file.now.order.now file.now.columns.now file.now.number file.now.end (F.contents file.now.sealed.now)
@@ -85,7 +92,7 @@ impl<'a> Pieces<'a> {
     {
         match self.rest.next(file.alloc)? {
             Some(fragment) => Ok(Some(fragment)),
-            None => self.next_in_block(file, low, tally),
+            None => self.next_in_block::<F, O>(file, low, state),
         }
     }
 }

@@ -11,6 +11,7 @@ ghost use Rattle.cas_blocks.specs.Inner.Windows.{Begun, Comes, GoesOn};
 use crate::cutting::{is_before, is_behind, opened};
 use crate::fault::TableFault;
 use crate::file::TableFile;
+use crate::origin::Origin;
 use crate::pieces::Pieces;
 use cas_bounds::Slice;
 use cas_cell::Deletion;
@@ -19,20 +20,23 @@ use cas_streams::Fragment;
 
 // The next fragment behind those of the block at hand that don't stand behind the slice's low cut,
 // which are passed over.
-fn next_beyond<'a, F: Sealed>(
+fn next_beyond<'a, F: Sealed, O: Origin<F>>(
     file: &TableFile<'a, F>,
     pieces: &mut Pieces<'a>,
     slice: &Slice,
     force: &mut Option<Deletion>,
-    tally: &mut F::Tally,
+    state: &mut O::State,
 ) -> Result<Option<Fragment>, TableFault>
+    requires fits { O.fits (F.contents file.now.sealed.now) file.now.end state.old }
     ensures told { (fs : ListOf Fragment) → left_of file.now.order.now file.now.columns.now file.now.end (F.contents file.now.sealed.now) pieces.old ≡ Some fs
         → IfOk result (λ next. Comes file.now.order.now slice.now force.old force.new fs next
         (left_of file.now.order.now file.now.columns.now file.now.end (F.contents file.now.sealed.now) pieces.new)) }
     ensures sound { (fs : ListOf Fragment) → left_of file.now.order.now file.now.columns.now file.now.end (F.contents file.now.sealed.now) pieces.old ≡ Some fs
         → IfBad (λ n at. ⊥) result }
     ensures ends { Shrinks (room_of file.now.end pieces.old) (room_of file.now.end pieces.new) result }
-    ensures count { Counted (F.Tally.number tally.old) (F.Tally.number tally.new) (IsErrOf result TableFault.Read) }
+    ensures count { Counted (O.faults state.old) (O.faults state.new) (IsErrOf result TableFault.Read) }
+    ensures fits { O.fits (F.contents file.now.sealed.now) file.now.end state.new }
+    ensures leads { O.leads state.old state.new }
     ensures bad { IfBad (IsBadBlock file.now.order.now file.now.columns.now file.now.number file.now.end (F.contents file.now.sealed.now)
         pieces.new.onward) result }
     ensures narrows { FindsNoMore file.now.order.now file.now.columns.now file.now.number file.now.end (F.contents file.now.sealed.now)
@@ -40,30 +44,33 @@ fn next_beyond<'a, F: Sealed>(
 {
     let now = pieces.rest.skip(file.alloc, file.order, &slice.lo, *force)?;
     *force = now;
-    pieces.next(file, Some(&slice.lo), tally)
+    pieces.next::<F, O>(file, Some(&slice.lo), state)
 }
 
 // Goes up to the first fragment behind the slice's low cut; none where the partition ends before.
-pub(crate) fn seek<'a, F: Sealed>(
+pub(crate) fn seek<'a, F: Sealed, O: Origin<F>>(
     file: &TableFile<'a, F>,
     pieces: &mut Pieces<'a>,
     slice: &Slice,
     force: &mut Option<Deletion>,
-    tally: &mut F::Tally,
+    state: &mut O::State,
 ) -> Result<Option<Fragment>, TableFault>
+    requires fits { O.fits (F.contents file.now.sealed.now) file.now.end state.old }
     ensures told { (fs : ListOf Fragment) → left_of file.now.order.now file.now.columns.now file.now.end (F.contents file.now.sealed.now) pieces.old ≡ Some fs
         → IfOk result (λ ahead. Begun file.now.order.now slice.now force.old force.new fs ahead
         (left_of file.now.order.now file.now.columns.now file.now.end (F.contents file.now.sealed.now) pieces.new)) }
     ensures sound { (fs : ListOf Fragment) → left_of file.now.order.now file.now.columns.now file.now.end (F.contents file.now.sealed.now) pieces.old ≡ Some fs
         → IfBad (λ n at. ⊥) result }
     ensures room { IfOk result (λ ahead. length (option_to_list ahead) + room_of file.now.end pieces.new ≤ room_of file.now.end pieces.old) }
-    ensures count { Counted (F.Tally.number tally.old) (F.Tally.number tally.new) (IsErrOf result TableFault.Read) }
+    ensures count { Counted (O.faults state.old) (O.faults state.new) (IsErrOf result TableFault.Read) }
+    ensures fits { O.fits (F.contents file.now.sealed.now) file.now.end state.new }
+    ensures leads { O.leads state.old state.new }
     ensures bad { IfBad (IsBadBlock file.now.order.now file.now.columns.now file.now.number file.now.end (F.contents file.now.sealed.now)
         pieces.new.onward) result }
     ensures narrows { FindsNoMore file.now.order.now file.now.columns.now file.now.number file.now.end (F.contents file.now.sealed.now)
         pieces.old.onward pieces.new.onward }
 {
-    while let Some(fragment) = next_beyond(file, pieces, slice, force, tally)? {
+    while let Some(fragment) = next_beyond::<F, O>(file, pieces, slice, force, state)? {
         if is_behind(file.order, &slice.lo, &fragment) {
             return Ok(Some(fragment));
         }
@@ -74,19 +81,22 @@ pub(crate) fn seek<'a, F: Sealed>(
 }
 
 // The next fragment, of which one may have been read ahead.
-fn draw<'a, F: Sealed>(
+fn draw<'a, F: Sealed, O: Origin<F>>(
     file: &TableFile<'a, F>,
     pieces: &mut Pieces<'a>,
     ahead: Option<Fragment>,
-    tally: &mut F::Tally,
+    state: &mut O::State,
 ) -> Result<Option<Fragment>, TableFault>
+    requires fits { O.fits (F.contents file.now.sealed.now) file.now.end state.old }
     ensures first { (fs : ListOf Fragment) → left_of file.now.order.now file.now.columns.now file.now.end (F.contents file.now.sealed.now) pieces.old ≡ Some fs
         → TakesFirst (option_to_list ahead ++ fs)
         (left_of file.now.order.now file.now.columns.now file.now.end (F.contents file.now.sealed.now) pieces.new) result }
     ensures sound { (fs : ListOf Fragment) → left_of file.now.order.now file.now.columns.now file.now.end (F.contents file.now.sealed.now) pieces.old ≡ Some fs
         → IfBad (λ n at. ⊥) result }
     ensures ends { Shrinks (length (option_to_list ahead) + room_of file.now.end pieces.old) (room_of file.now.end pieces.new) result }
-    ensures count { Counted (F.Tally.number tally.old) (F.Tally.number tally.new) (IsErrOf result TableFault.Read) }
+    ensures count { Counted (O.faults state.old) (O.faults state.new) (IsErrOf result TableFault.Read) }
+    ensures fits { O.fits (F.contents file.now.sealed.now) file.now.end state.new }
+    ensures leads { O.leads state.old state.new }
     ensures bad { IfBad (IsBadBlock file.now.order.now file.now.columns.now file.now.number file.now.end (F.contents file.now.sealed.now)
         pieces.new.onward) result }
     ensures narrows { FindsNoMore file.now.order.now file.now.columns.now file.now.number file.now.end (F.contents file.now.sealed.now)
@@ -94,19 +104,20 @@ fn draw<'a, F: Sealed>(
 {
     match ahead {
         Some(fragment) => Ok(Some(fragment)),
-        None => pieces.next(file, None, tally),
+        None => pieces.next::<F, O>(file, None, state),
     }
 }
 
 // The next fragment before the slice's high cut; none where there is none.
-pub(crate) fn next_inside<'a, F: Sealed>(
+pub(crate) fn next_inside<'a, F: Sealed, O: Origin<F>>(
     file: &TableFile<'a, F>,
     pieces: &mut Pieces<'a>,
     slice: &Slice,
     force: &mut Option<Deletion>,
     ahead: Option<Fragment>,
-    tally: &mut F::Tally,
+    state: &mut O::State,
 ) -> Result<Option<Fragment>, TableFault>
+    requires fits { O.fits (F.contents file.now.sealed.now) file.now.end state.old }
     ensures told { (fs : ListOf Fragment) → left_of file.now.order.now file.now.columns.now file.now.end (F.contents file.now.sealed.now) pieces.old ≡ Some fs
         → IfOk result (λ next. GoesOn file.now.order.now slice.now force.old force.new (option_to_list ahead ++ fs) next
         (left_of file.now.order.now file.now.columns.now file.now.end (F.contents file.now.sealed.now) pieces.new)) }
@@ -114,13 +125,15 @@ pub(crate) fn next_inside<'a, F: Sealed>(
         → IfBad (λ n at. ⊥) result }
     ensures room { IfOk result (λ next. length (option_to_list next) + room_of file.now.end pieces.new
         ≤ length (option_to_list ahead) + room_of file.now.end pieces.old) }
-    ensures count { Counted (F.Tally.number tally.old) (F.Tally.number tally.new) (IsErrOf result TableFault.Read) }
+    ensures count { Counted (O.faults state.old) (O.faults state.new) (IsErrOf result TableFault.Read) }
+    ensures fits { O.fits (F.contents file.now.sealed.now) file.now.end state.new }
+    ensures leads { O.leads state.old state.new }
     ensures bad { IfBad (IsBadBlock file.now.order.now file.now.columns.now file.now.number file.now.end (F.contents file.now.sealed.now)
         pieces.new.onward) result }
     ensures narrows { FindsNoMore file.now.order.now file.now.columns.now file.now.number file.now.end (F.contents file.now.sealed.now)
         pieces.old.onward pieces.new.onward }
 {
-    let Some(fragment) = draw(file, pieces, ahead, tally)? else {
+    let Some(fragment) = draw::<F, O>(file, pieces, ahead, state)? else {
         return Ok(None);
     };
     if is_before(file.order, &slice.hi, &fragment) {

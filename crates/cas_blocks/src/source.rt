@@ -1,16 +1,17 @@
 //! A slice of a partition in a table's file, as a stream.
 
-ghost use Rattle.std.specs.Prelude.{◌≡◌, ℕ, ◌+◌, List as ListOf, Some, None, true, false, length, IsErrOf};
+ghost use Rattle.std.specs.Prelude.{◌≡◌, ℕ, ◌+◌, List as ListOf, Some, None, true, false, length, IsErrOf, IsSome};
 ghost use Rattle.cas_disk.specs.Counts.{Counted};
 ghost use Rattle.cas_streams.specs.Sources.{TakesFirst, Shrinks, KeepsFault};
 ghost use Rattle.cas_streams.specs.declared.fragment.Fragment.{Fragment};
 ghost use Rattle.cas_fragments.specs.Laws.{static_of};
 ghost use Rattle.cas_blocks.specs.Reading.{slice_of, IsBadBehind};
-ghost use Rattle.cas_blocks.specs.Inner.Pieces.{IsBadBlock, MayBeBad, IfBad};
+ghost use Rattle.cas_blocks.specs.Inner.Pieces.{IsBadBlock, MayBeBad, FindsNoMore, IfBad};
 ghost use Rattle.cas_blocks.specs.Inner.Windows.{slice_left, slice_room, static_part, behind_static};
 
 use crate::fault::TableFault;
 use crate::file::TableFile;
+use crate::origin::{FromFile, Origin};
 use crate::pieces::Pieces;
 use crate::steps::Onward;
 use crate::window::{Phase, Window};
@@ -59,6 +60,81 @@ fn onward_from(block: BlockAt) -> Onward
     }
 }
 
+// The next fragment of a slice that isn't broken: its static columns, and then those behind them.
+fn advance<'a, F: Sealed, O: Origin<F>>(
+    file: &TableFile<'a, F>,
+    statics: &mut Option<List<RowColumn>>,
+    window: &mut Window<'a>,
+    state: &mut O::State,
+) -> Result<Option<Fragment>, TableFault>
+    requires fits { O.fits (F.contents file.now.sealed.now) file.now.end state.old }
+    ensures first { (fs : ListOf Fragment) → behind_static statics.old
+        (slice_left file.now.order.now file.now.columns.now file.now.end (F.contents file.now.sealed.now) window.old) ≡ Some fs
+        → TakesFirst fs (behind_static statics.new
+        (slice_left file.now.order.now file.now.columns.now file.now.end (F.contents file.now.sealed.now) window.new)) result }
+    ensures sound { (fs : ListOf Fragment) → behind_static statics.old
+        (slice_left file.now.order.now file.now.columns.now file.now.end (F.contents file.now.sealed.now) window.old) ≡ Some fs
+        → IfBad (λ n at. ⊥) result }
+    ensures ends { Shrinks (length (static_part statics.old) + slice_room file.now.end window.old)
+        (length (static_part statics.new) + slice_room file.now.end window.new) result }
+    ensures count { Counted (O.faults state.old) (O.faults state.new) (IsErrOf result TableFault.Read) }
+    ensures fits { O.fits (F.contents file.now.sealed.now) file.now.end state.new }
+    ensures leads { O.leads state.old state.new }
+    ensures bad { IfBad (IsBadBlock file.now.order.now file.now.columns.now file.now.number file.now.end (F.contents file.now.sealed.now)
+        window.new.pieces.onward) result }
+    ensures narrows { FindsNoMore file.now.order.now file.now.columns.now file.now.number file.now.end (F.contents file.now.sealed.now)
+        window.old.pieces.onward window.new.pieces.onward }
+    ensures tells { IfBad (MayBeBad file.now.order.now file.now.columns.now file.now.number file.now.end (F.contents file.now.sealed.now)
+        window.old.pieces.onward) result }
+{
+    match statics.take() {
+        Some(columns) => Ok(Some(Fragment::Static(columns))),
+        None => window.next::<F, O>(file, state),
+    }
+}
+
+// The next fragment of a slice, which may be broken; where it isn't, a fault breaks it.
+fn answer<'a, F: Sealed, O: Origin<F>>(
+    file: &TableFile<'a, F>,
+    statics: &mut Option<List<RowColumn>>,
+    window: &mut Window<'a>,
+    fault: &mut Option<TableFault>,
+    state: &mut O::State,
+) -> Result<Option<Fragment>, TableFault>
+    requires fits { O.fits (F.contents file.now.sealed.now) file.now.end state.old }
+    ensures first { (fs : ListOf Fragment) → behind_static statics.old
+        (slice_left file.now.order.now file.now.columns.now file.now.end (F.contents file.now.sealed.now) window.old) ≡ Some fs
+        → TakesFirst fs (behind_static statics.new
+        (slice_left file.now.order.now file.now.columns.now file.now.end (F.contents file.now.sealed.now) window.new)) result }
+    ensures sound { fault.old ≡ None → (fs : ListOf Fragment) → behind_static statics.old
+        (slice_left file.now.order.now file.now.columns.now file.now.end (F.contents file.now.sealed.now) window.old) ≡ Some fs
+        → IfBad (λ n at. ⊥) result }
+    ensures ends { Shrinks (length (static_part statics.old) + slice_room file.now.end window.old)
+        (length (static_part statics.new) + slice_room file.now.end window.new) result }
+    ensures faults { KeepsFault fault.old fault.new result }
+    ensures count { Counted (O.faults state.old) (O.faults state.new) ((fault.old ≡ None) × IsErrOf result TableFault.Read) }
+    ensures fits { O.fits (F.contents file.now.sealed.now) file.now.end state.new }
+    ensures leads { O.leads state.old state.new }
+    ensures broken { IsSome fault.old → state.new ≡ state.old }
+    ensures bad { fault.old ≡ None → IfBad (IsBadBlock file.now.order.now file.now.columns.now file.now.number file.now.end
+        (F.contents file.now.sealed.now) window.new.pieces.onward) result }
+    ensures narrows { FindsNoMore file.now.order.now file.now.columns.now file.now.number file.now.end (F.contents file.now.sealed.now)
+        window.old.pieces.onward window.new.pieces.onward }
+    ensures tells { fault.old ≡ None → IfBad (MayBeBad file.now.order.now file.now.columns.now file.now.number file.now.end
+        (F.contents file.now.sealed.now) window.old.pieces.onward) result }
+{
+    if let Some(why) = *fault {
+        return Err(why);
+    }
+    match advance::<F, O>(file, statics, window, state) {
+        Ok(fragment) => Ok(fragment),
+        Err(why) => {
+            *fault = Some(why);
+            Err(why)
+        }
+    }
+}
+
 impl<'a, F: Sealed> Blocks<'a, F> {
     /// The slice of a partition whose head tells this deletion of the whole and these static
     /// columns, from the block on that the index finds for the slice, or without rows where it finds
@@ -76,6 +152,7 @@ impl<'a, F: Sealed> Blocks<'a, F> {
         ensures top { ⟦<Blocks<'a, F> as FragmentSource>⟧.over_all result ≡ top }
         ensures sound { ⟦<Blocks<'a, F> as FragmentSource>⟧.broken_by result ≡ None }
         ensures tally { result.tally ≡ tally }
+        ensures file { (F.contents result.file.sealed.now ≡ F.contents file.entry.sealed.now) × (result.file.end ≡ file.entry.end) }
         ensures narrows { (n at : ℕ) → MayBeBad result.file.order.now result.file.columns.now result.file.number result.file.end
             (F.contents result.file.sealed.now) result.window.pieces.onward n at → IsBadBehind file.entry.order.now file.entry.columns.now
             file.entry.number file.entry.end (F.contents file.entry.sealed.now) block n at }
@@ -102,27 +179,41 @@ impl<'a, F: Sealed> Blocks<'a, F> {
         }
     }
 
-    // The next fragment, of a source that isn't broken.
-    fn advance(&mut self) -> Result<Option<Fragment>, TableFault>
-        ensures top { self.new.top ≡ self.old.top }
-        ensures fault { self.new.fault ≡ self.old.fault }
+    /// The next fragment, where the blocks come from another origin: the same fragments as those of `next`.
+    /// The faults are counted there, and the tally that was handed in stays as it is.
+    pub fn next_by<O: Origin<F>>(
+        &mut self,
+        state: &mut O::State,
+    ) -> Result<Option<Fragment>, TableFault>
+        requires fits { O.fits (F.contents self.old.file.sealed.now) self.old.file.end state.old }
+        ensures same_top { ⟦<Blocks<'a, F> as FragmentSource>⟧.over_all self.new ≡ ⟦<Blocks<'a, F> as FragmentSource>⟧.over_all self.old }
         ensures first { (fs : ListOf Fragment) → ⟦<Blocks<'a, F> as FragmentSource>⟧.to_come self.old ≡ Some fs
             → TakesFirst fs (⟦<Blocks<'a, F> as FragmentSource>⟧.to_come self.new) result }
-        ensures sound { (fs : ListOf Fragment) → ⟦<Blocks<'a, F> as FragmentSource>⟧.to_come self.old ≡ Some fs → IfBad (λ n at. ⊥) result }
         ensures ends { Shrinks (⟦<Blocks<'a, F> as FragmentSource>⟧.at_most self.old) (⟦<Blocks<'a, F> as FragmentSource>⟧.at_most self.new) result }
-        ensures count { Counted (F.Tally.number self.old.tally) (F.Tally.number self.new.tally) (IsErrOf result TableFault.Read) }
-        ensures bad { IfBad (IsBadBlock self.old.file.order.now self.old.file.columns.now self.old.file.number self.old.file.end
-            (F.contents self.old.file.sealed.now) self.new.window.pieces.onward) result }
+        ensures faults { KeepsFault (⟦<Blocks<'a, F> as FragmentSource>⟧.broken_by self.old) (⟦<Blocks<'a, F> as FragmentSource>⟧.broken_by self.new) result }
+        ensures sound { self.old.fault ≡ None → (fs : ListOf Fragment) → ⟦<Blocks<'a, F> as FragmentSource>⟧.to_come self.old ≡ Some fs
+            → IfBad (λ n at. ⊥) result }
+        ensures file { (F.contents self.new.file.sealed.now ≡ F.contents self.old.file.sealed.now) × (self.new.file.end ≡ self.old.file.end) }
+        ensures tally { self.new.tally ≡ self.old.tally }
+        ensures fits { O.fits (F.contents self.old.file.sealed.now) self.old.file.end state.new }
+        ensures leads { O.leads state.old state.new }
+        ensures broken { IsSome self.old.fault → state.new ≡ state.old }
+        ensures count { Counted (O.faults state.old) (O.faults state.new) ((self.old.fault ≡ None) × IsErrOf result TableFault.Read) }
+        ensures bad { self.old.fault ≡ None → IfBad (IsBadBlock self.old.file.order.now self.old.file.columns.now self.old.file.number
+            self.old.file.end (F.contents self.old.file.sealed.now) self.new.window.pieces.onward) result }
         ensures narrows { (n at : ℕ) → MayBeBad self.new.file.order.now self.new.file.columns.now self.new.file.number self.new.file.end
             (F.contents self.new.file.sealed.now) self.new.window.pieces.onward n at → MayBeBad self.old.file.order.now self.old.file.columns.now
             self.old.file.number self.old.file.end (F.contents self.old.file.sealed.now) self.old.window.pieces.onward n at }
-        ensures tells { IfBad (MayBeBad self.old.file.order.now self.old.file.columns.now self.old.file.number
+        ensures tells { self.old.fault ≡ None → IfBad (MayBeBad self.old.file.order.now self.old.file.columns.now self.old.file.number
             self.old.file.end (F.contents self.old.file.sealed.now) self.old.window.pieces.onward) result }
     {
-        match self.statics.take() {
-            Some(columns) => Ok(Some(Fragment::Static(columns))),
-            None => self.window.next(&self.file, &mut self.tally),
-        }
+        answer::<F, O>(
+            &self.file,
+            &mut self.statics,
+            &mut self.window,
+            &mut self.fault,
+            state,
+        )
     }
 
     /// The tally that was handed in, with the faults of the reads.
@@ -173,15 +264,12 @@ impl<'a, F: Sealed> FragmentSource for Blocks<'a, F> {
         ensures tells { self.old.fault ≡ None → IfBad (MayBeBad self.old.file.order.now self.old.file.columns.now self.old.file.number
             self.old.file.end (F.contents self.old.file.sealed.now) self.old.window.pieces.onward) result }
     {
-        if let Some(fault) = self.fault {
-            return Err(fault);
-        }
-        match self.advance() {
-            Ok(fragment) => Ok(fragment),
-            Err(fault) => {
-                self.fault = Some(fault);
-                Err(fault)
-            }
-        }
+        answer::<F, FromFile>(
+            &self.file,
+            &mut self.statics,
+            &mut self.window,
+            &mut self.fault,
+            &mut self.tally,
+        )
     }
 }

@@ -11,6 +11,7 @@ ghost use Rattle.cas_blocks.specs.Inner.Steps.{reached, IsStep, Parses, Answers,
 
 use crate::fault::TableFault;
 use crate::file::TableFile;
+use crate::origin::Origin;
 use crate::reading::read_range;
 use cas_bounds::Cut;
 use cas_cell::Deletion;
@@ -59,8 +60,8 @@ fn read_length<F: Sealed>(
     }
 }
 
-// The bytes behind the length that is told at a place; none where they don't stand before the end.
-fn read_body<F: Sealed>(
+/// The bytes behind the length that is told at a place; none where they don't stand before the end.
+pub(crate) fn read_body<F: Sealed>(
     file: &TableFile<'_, F>,
     place: u64,
     tally: &mut F::Tally,
@@ -174,18 +175,21 @@ fn judge<'a, F: Sealed>(
 
 /// The next block of a partition; none at its end. Where its fragments behind a cut are looked for
 /// next, that is told.
-pub(crate) fn next_block<'a, F: Sealed>(
+pub(crate) fn next_block<'a, F: Sealed, O: Origin<F>>(
     file: &TableFile<'a, F>,
     at: &Onward,
     low: Option<&Cut>,
-    tally: &mut F::Tally,
+    state: &mut O::State,
 ) -> Result<Option<Step<'a>>, TableFault>
+    requires fits { O.fits (F.contents file.now.sealed.now) file.now.end state.old }
     ensures told { (b : ListOf ℕ) → F.contents file.now.sealed.now ≡ Some b
         → Answers file.now.order.now file.now.columns.now file.now.number file.now.end b at.now result }
     ensures shorter { IfOk result (λ o. IfSome o (IsShorter file.now.end at.now)) }
-    ensures count { Counted (F.Tally.number tally.old) (F.Tally.number tally.new) (IsErrOf result TableFault.Read) }
+    ensures count { Counted (O.faults state.old) (O.faults state.new) (IsErrOf result TableFault.Read) }
+    ensures fits { O.fits (F.contents file.now.sealed.now) file.now.end state.new }
+    ensures leads { O.leads state.old state.new }
 {
-    match read_body(file, at.place, tally) {
+    match O::body(file, at.place, state) {
         Ok(Some(body)) => judge(file, at, low, body),
         Ok(None) => Err(file.bad_block(at.place)),
         Err(fault) => Err(TableFault::from(fault)),

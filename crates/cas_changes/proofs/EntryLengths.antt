@@ -31,7 +31,8 @@ use Rattle.cas_types.specs.declared.limits.TheConstants.{COLUMN_LIMIT}
 
 -- ---- what is told of files
 
-info_long : (i : TableInfo) → FitsInfo i → length (info_bytes i) ≤ 131120
+-- what is told of one file
+pub info_long : (i : TableInfo) → FitsInfo i → length (info_bytes i) ≤ 131120
 info_long i fit =
     let first : length i.first ≤ KEY_LIMIT = fit.first.1 in
     let last : length i.last ≤ KEY_LIMIT = fit.last.1 in

@@ -6,14 +6,15 @@ ghost use Rattle.std.specs.List.{find, filter_map};
 ghost use Rattle.std.specs.Str.{bytes_eq};
 ghost use Rattle.cas_types.specs.Keys.{key_of};
 ghost use Rattle.cas_terms.specs.Columns.{partition_columns, clustering_columns};
-ghost use Rattle.cas_keys.specs.Inner.Sources.{terms_of, KeyGives};
+ghost use Rattle.cas_terms.specs.Terms.{term_value};
+ghost use Rattle.cas_keys.specs.Inner.Sources.{terms_of, KeyGives, has_bytes};
 ghost use Rattle.cas_keys.specs.KeyTerms.{is_equal, term_in_where, term_in_insert, value_of_term, value_in};
 ghost use Rattle.cas_keys.specs.Keys.{sole_column};
 ghost use Rattle.cas_keys.specs.KeyTerms.{is_missing, first_missing, prefix_values, partition_key};
 
 use cas_effects::{BindFault, Refusal, one_too_large};
-use cas_terms::{has_value, same_name, term_value};
-use cas_types::{Bytes, Column, KEY_LIMIT, KeyBuilder, KeyFault, Mem, Text};
+use cas_terms::{has_value, same_name, spell_term, term_value};
+use cas_types::{Bytes, Column, KEY_LIMIT, KeyBuilder, KeyFault, Mem, Text, TypeTag};
 use cql_parse::{Operator, Relation, Term};
 use std::alloc::{AllocError, Global};
 
@@ -95,7 +96,8 @@ fn value_of_term(
     }
 }
 
-fn value_in(
+/// The value that the column is given, where it is given one of its type.
+pub fn value_in(
     alloc: Global,
     terms: KeyTerms<'_>,
     column: &Column,
@@ -110,6 +112,25 @@ fn term_has_value(column: &Column, term: Option<&Term>) -> bool
 {
     match term {
         Some(term) => has_value(column.tag, term),
+        None => false,
+    }
+}
+
+fn is_value_with_bytes(tag: TypeTag, term: &Term) -> bool
+    ensures { result ≡ has_bytes (term_value tag term.now) }
+{
+    match spell_term(tag, term) {
+        Some(value) => !value.as_slice().is_empty(),
+        None => false,
+    }
+}
+
+/// Whether the column is given a value, and one with bytes.
+pub fn is_given_bytes(terms: KeyTerms<'_>, column: &Column) -> bool
+    ensures { result ≡ has_bytes (value_in (terms_of terms.entry) column.now) }
+{
+    match term_of(terms, column.name.as_str()) {
+        Some(term) => is_value_with_bytes(column.tag, term),
         None => false,
     }
 }
@@ -154,6 +175,26 @@ fn push_prefix(
                     push_prefix(alloc, terms, rest, values)
                 }
                 None => Ok(()),
+            }
+        }
+    }
+}
+
+/// The clustering column, where there is only one.
+#[tactic(auto, unfolding(crate::specs::Keys::sole_column))]
+pub fn sole_clustering(columns: &[Column]) -> Option<&Column>
+    ensures { option_copied result ≡ sole_column (clustering_columns columns.now) }
+{
+    match columns {
+        [] => None,
+        [column, rest @ ..] => {
+            if !column.kind.is_clustering() {
+                return sole_clustering(rest);
+            }
+            if clustering_count(rest) == 0 {
+                Some(column)
+            } else {
+                None
             }
         }
     }

@@ -6,7 +6,10 @@ mod key_terms;
 mod keys;
 mod laws;
 
-pub use key_terms::{KeyTerms, first_missing, is_equal, partition_key, prefix_values, sole_column};
+pub use key_terms::{
+    KeyTerms, first_missing, is_equal, is_given_bytes, partition_key, prefix_values,
+    sole_clustering, sole_column, value_in,
+};
 pub use keys::{
     compares_key_with_null, is_given_empty, lacks_clustering, lacks_partition, restricts_to_empty,
 };

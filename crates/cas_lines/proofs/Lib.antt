@@ -4,3 +4,4 @@ pub mod OneLine
 pub mod Feeds
 pub mod FlushLines
 pub mod StatusLines
+pub mod Ascii

@@ -1,4 +1,4 @@
--- What a line can't say where its text has no tokens, or tokens that spell no statement.
+-- What a line can't say where its text means nothing.
 use Rattle.std.proofs.Common.{◌≡◌, List, [], ◌∷◌, ℕ, ℤ, Bool, true, false, cond, ◌&&◌, Option, None, Some, refl, sym, ap, ◌∙◌, subst, arith}
 use Rattle.std.specs.Prelude.{IsUtf8}
 use Rattle.std.proofs.lemmas.Bool.{true≢false}
@@ -11,11 +11,10 @@ use Rattle.std.proofs.lemmas.Slice.Eq.{bytes_eq-Decides}
 use Rattle.std.specs.Prelude.{codes}
 use Rattle.std.specs.Str.{bytes_eq, str_eq_ignore_ascii_case, str_to_ascii_lowercase}
 use Rattle.cql_lex.specs.declared.token.Token.{Token}
-use Rattle.cql_lex.specs.Lexes.{Lexes, IsRefused}
+use Rattle.cql_lex.specs.Lexes.{Lexes}
 use Rattle.cql_lex.proofs.Backslash.{refused}
-use Rattle.cql_lex.proofs.Spans.{one_reading}
 use Rattle.cql_parse.specs.declared.syntax.Statement.{Statement}
-use Rattle.cql_parse.specs.Means.{Means}
+use Rattle.cql_parse.specs.Means.{LineMeans}
 use Rattle.cas_lines.specs.declared.line.Line.{Line}
 use Rattle.cas_lines.specs.declared.line.Line.TheVariants as line
 use Rattle.cql_parse.specs.declared.syntax.TableName.{TableName}
@@ -188,23 +187,14 @@ no_tables c text t e s = true≢false (sym (tells_by_command c text t s) ∙ e)
 no_status : (text : List ℕ) → is_command text ≡ false → asks_status text ≡ true → ⊥
 no_status text e s = true≢false (sym (asks_by_command text s) ∙ e)
 
-pub no_tokens : (text : List ℕ) → is_command text ≡ false → IsRefused text → (l : Line) → Spells text l → ⊥
-no_tokens text c h line.Blank s = h [] s.1
-no_tokens text c h (line.Statement st) s = h s.1.0 s.1.1
-no_tokens text c h (line.Clock n) s = not_set text n c s
-no_tokens text c h (line.Flush t) s = no_tables (codes "\\flush") text t c s
-no_tokens text c h (line.Verify t) s = no_tables (codes "\\verify") text t c s
-no_tokens text c h line.Status s = no_status text c s
-no_tokens text c h line.Syntax s = s
-
-pub no_statement : (text : List ℕ) (tokens : List Token) → is_command text ≡ false → Lexes text tokens → (tokens ≡ [] → ⊥) → ((s : Statement) → Means text tokens s → ⊥) → (l : Line) → Spells text l → ⊥
-no_statement text tokens c lexed some h line.Blank s = some (one_reading text tokens [] lexed s.1)
-no_statement text tokens c lexed some h (line.Statement st) s = h st (subst (λ ts. Means text ts st) (one_reading text s.1.0 tokens s.1.1 lexed) s.1.2)
-no_statement text tokens c lexed some h (line.Clock n) s = not_set text n c s
-no_statement text tokens c lexed some h (line.Flush t) s = no_tables (codes "\\flush") text t c s
-no_statement text tokens c lexed some h (line.Verify t) s = no_tables (codes "\\verify") text t c s
-no_statement text tokens c lexed some h line.Status s = no_status text c s
-no_statement text tokens c lexed some h line.Syntax s = s
+pub no_meaning : (text : List ℕ) → is_command text ≡ false → ((read : Option Statement) → LineMeans text read → ⊥) → (l : Line) → Spells text l → ⊥
+no_meaning text c h line.Blank s = h None s.1
+no_meaning text c h (line.Statement st) s = h (Some st) s.1
+no_meaning text c h (line.Clock n) s = not_set text n c s
+no_meaning text c h (line.Flush t) s = no_tables (codes "\\flush") text t c s
+no_meaning text c h (line.Verify t) s = no_tables (codes "\\verify") text t c s
+no_meaning text c h line.Status s = no_status text c s
+no_meaning text c h line.Syntax s = s
 
 pub not_utf8 : (text : List ℕ) → is_command text ≡ false → (IsUtf8 text → ⊥) → (l : Line) → Spells text l → ⊥
 not_utf8 text c h line.Blank s = h s.0

@@ -1,17 +1,16 @@
 //! What a line of a script says.
 
-ghost use Rattle.std.specs.Prelude.{◌≡◌, [], false, true, codes, map, option_map, IfOk, IsTrue, IsUtf8, Some};
-ghost use Rattle.cql_lex.specs.Lexes.{Lexes};
+ghost use Rattle.std.specs.Prelude.{◌≡◌, ◌≤◌, false, true, codes, map, option_map, IfOk, IsTrue, IsUtf8, Some};
 ghost use Rattle.cql_lex.specs.Gaps.{is_blank};
 ghost use Rattle.cas_lines.specs.Lines.{Says, clock_by, clock_in, has_bytes, is_command, seconds_in, words_of};
 ghost use Rattle.cas_lines.specs.Lines.{names_status, status_in, word_by, word_in, word_of};
 ghost use Rattle.cas_lines.specs.Inner.Flushing.{NamesTable};
 
 use cas_types::{LAST_SECOND, Mem};
-use cql_lex::{LexFault, Token, number_of, tokens};
-use cql_parse::{ParseFault, Statement, TableName, statement, table_name};
+use cql_lex::number_of;
+use cql_parse::{ParseFault, Statement, TableName, line_statement, table_name};
 use std::alloc::{AllocError, Global};
-use std::str::from_utf8;
+use std::str::{from_utf8, from_utf8_unchecked};
 
 /// What a line says.
 #[derive(Drop)]
@@ -185,33 +184,38 @@ fn read_command(alloc: Global, text: &[u8]) -> Result<Line, Mem>
     }
 }
 
-fn read_tokens(alloc: Global, text: &str, tokens: &[Token]) -> Result<Line, Mem>
-    requires utf8 { IsUtf8 text.now }
-    requires command { is_command text.now ≡ false }
-    requires lexed { Lexes text.now tokens.now }
-    requires some { tokens.now ≡ [] → ⊥ }
-    ensures { IfOk result (λ l. Says text.now l) }
-{
-    match statement(alloc, tokens, text) {
-        Ok(statement) => Ok(Line::Statement(statement)),
-        Err(ParseFault::Syntax) => Ok(Line::Syntax),
-        Err(ParseFault::Mem) => Err(Mem),
-    }
-}
-
 fn read_text(alloc: Global, text: &str) -> Result<Line, Mem>
     requires utf8 { IsUtf8 text.now }
     requires command { is_command text.now ≡ false }
     ensures { IfOk result (λ l. Says text.now l) }
 {
-    match tokens(alloc, text) {
-        Ok(tokens) => match tokens.as_slice() {
-            [] => Ok(Line::Blank),
-            [_first, ..] => read_tokens(alloc, text, &tokens),
-        },
-        Err(LexFault::Syntax) => Ok(Line::Syntax),
-        Err(LexFault::Mem) => Err(Mem),
+    match line_statement(alloc, text) {
+        Ok(Some(statement)) => Ok(Line::Statement(statement)),
+        Ok(None) => Ok(Line::Blank),
+        Err(ParseFault::Syntax) => Ok(Line::Syntax),
+        Err(ParseFault::Mem) => Err(Mem),
     }
+}
+
+// The greater of two bytes.
+fn greater(a: u8, b: u8) -> u8
+    ensures first { a ≤ result }
+    ensures second { b ≤ result }
+{
+    if a < b { b } else { a }
+}
+
+// Whether all bytes are of ASCII, by the greatest of them: no branch hangs on a byte, so that many
+// are looked at together.
+#[tactic(auto, using(crate::proofs::Ascii::ascii_more))]
+fn is_ascii(text: &[u8]) -> bool
+    ensures { IsTrue result → IsUtf8 text.now }
+{
+    let mut most = 0;
+    for byte in text {
+        most = greater(most, *byte);
+    }
+    most < 128
 }
 
 /// What the line says.
@@ -221,6 +225,11 @@ pub fn read_line(alloc: Global, line: &[u8]) -> Result<Line, Mem>
 {
     if is_command(line) {
         return read_command(alloc, line);
+    }
+    if is_ascii(line) {
+        // A byte of ASCII is a character of UTF-8.
+        let text = unsafe { from_utf8_unchecked(line) };
+        return read_text(alloc, text);
     }
     match from_utf8(line) {
         Ok(text) => read_text(alloc, text),

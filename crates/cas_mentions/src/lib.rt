@@ -11,4 +11,4 @@ mod twice;
 pub use change::RowChange;
 pub use fitting::uses_another_type;
 pub use parts::{has_other_count, picked_name, picks_in, relations_of, shown_by};
-pub use twice::changes_twice;
+pub use twice::{changes_twice, named_twice};

@@ -237,7 +237,8 @@ fn repeats_among_many(alloc: Global, names: &[Text]) -> Result<bool, AllocError>
     any_two(spots(alloc, &[], names)?)
 }
 
-fn named_twice(alloc: Global, names: &[Text]) -> Result<bool, AllocError>
+/// Whether a name stands twice.
+pub fn named_twice(alloc: Global, names: &[Text]) -> Result<bool, AllocError>
     ensures { IfOk result (λ b. b ≡ stands_twice names.now) }
 {
     if names.len() <= FEW {

@@ -1,14 +1,14 @@
 -- In a manifest with some 2^32 bytes left there is room for the entry that lists a file, and for one that drops a segment.
 use Rattle.std.proofs.Common.{ℕ, ◌≤◌, ◌+◌, List, [], ◌∷◌, ◌++◌, length, ap, arith, length-append}
 use Rattle.std.specs.List.{flat_map}
-use Rattle.cas_types.specs.declared.limits.TheConstants.{KEY_LIMIT}
-use Rattle.cas_codec.specs.Fields.{u8, u16, u32, u64, i64, bytes16, maybe}
-use Rattle.cas_codec.proofs.FieldLengths.{u8_long, u16_long, u32_long, u64_long, i64_long, bytes16_long, maybe_long}
+use Rattle.cas_codec.specs.Fields.{u8, u16, u64, i64}
+use Rattle.cas_codec.proofs.FieldLengths.{u8_long, u16_long, u64_long, i64_long}
 use Rattle.cas_info.specs.declared.info.TableInfo.{TableInfo}
 use Rattle.cas_info.specs.Allowed.{FitsInfo}
-use Rattle.cas_info.specs.Spelling.{sizes_bytes, range_bytes, times_bytes, rest_bytes, info_bytes}
+use Rattle.cas_info.specs.Spelling.{info_bytes}
 use Rattle.cas_changes.specs.declared.entry.Change.{Change}
 use Rattle.cas_changes.specs.declared.entry.Entry.TheVariants as entry
+use Rattle.cas_changes.proofs.EntryLengths.{info_long}
 use Rattle.cas_changes.specs.Spelling.{where_bytes, marks_bytes, removed_bytes, added_bytes, change_bytes, entry_bytes}
 use Rattle.cas_journal.specs.Reach.{Reach, HasNoPlace}
 use Rattle.cas_sstread.specs.Loading.{Held}
@@ -16,41 +16,6 @@ use Rattle.cas_view.specs.Views.{File}
 use Rattle.cas_shard.specs.Shards.{ShardHistory}
 use Rattle.cas_sessions.specs.Flushes.{ListsOne}
 use Rattle.cas_node.specs.Laws.{IsRoomy}
-
-info_long : (i : TableInfo) → FitsInfo i → length (info_bytes i) ≤ 131120
-info_long i fit =
-    let first : length i.first ≤ KEY_LIMIT = fit.first.1 in
-    let last : length i.last ≤ KEY_LIMIT = fit.last.1 in
-    let sizes = length-append (u64 i.number) (u64 i.bytes) in
-    let range = length-append (bytes16 i.first) (bytes16 i.last) in
-    let times = length-append (i64 i.least) (i64 i.greatest ++ maybe i64 i.dead) in
-    let later = length-append (i64 i.greatest) (maybe i64 i.dead) in
-    let rest = length-append (u8 i.level) (u32 i.keys) in
-    let a = length-append (sizes_bytes i.number i.bytes) (range_bytes i.first i.last ++ (times_bytes i.least i.greatest i.dead ++ rest_bytes i.level i.keys)) in
-    let b = length-append (range_bytes i.first i.last) (times_bytes i.least i.greatest i.dead ++ rest_bytes i.level i.keys) in
-    let c = length-append (times_bytes i.least i.greatest i.dead) (rest_bytes i.level i.keys) in
-    omega (
-      arith,
-      a,
-      b,
-      c,
-      sizes,
-      range,
-      times,
-      later,
-      rest,
-      u64_long i.number,
-      u64_long i.bytes,
-      bytes16_long i.first,
-      bytes16_long i.last,
-      i64_long i.least,
-      i64_long i.greatest,
-      maybe_long i.dead,
-      u8_long i.level,
-      u32_long i.keys,
-      first,
-      last,
-    )
 
 one_added : (i : TableInfo) → FitsInfo i → length (added_bytes (i ∷ [])) ≤ 131122
 one_added i fit =

@@ -1,3 +1,4 @@
 pub mod Used
 pub mod UsingLemmas
 pub mod StaticNames
+pub mod PlainInserts

@@ -1,1 +1,2 @@
 pub use Rattle.cas_mentions.specs.Inner.Borrowed
+pub mod PlainInserts

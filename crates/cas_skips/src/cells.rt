@@ -11,6 +11,7 @@ use cas_records::read_timestamp;
 use cas_types::{Column, LIST_PATH, Shape, TTL_LIMIT, check};
 
 #[tactic(auto, unfolding(cas_records::specs::Reading::ttl_at))]
+#[inline(always)]
 fn read_ttl(reader: &mut Reader<'_>) -> Result<u32, ReadFault>
     ensures { Gives (λ ttl. ttl) result reader.new (ttl_at reader.old) }
 {
@@ -19,6 +20,7 @@ fn read_ttl(reader: &mut Reader<'_>) -> Result<u32, ReadFault>
 
 // What a cell of the column may hold.
 #[tactic(auto, unfolding(cas_records::specs::Reading::may_hold))]
+#[inline(always)]
 fn may_hold(column: &Column, bytes: &[u8]) -> bool
     ensures { result ≡ may_hold column.now bytes.now }
 {
@@ -32,6 +34,7 @@ fn may_hold(column: &Column, bytes: &[u8]) -> bool
 
 // The bytes of a cell.
 #[tactic(auto, unfolding(cas_records::specs::Reading::content_at))]
+#[inline(always)]
 fn see_content<'a>(reader: &mut Reader<'a>, column: &Column) -> Result<&'a [u8], ReadFault>
     ensures { Gives (λ b. b.now) result reader.new (content_at (may_hold column.now) reader.old) }
 {
@@ -45,6 +48,7 @@ fn see_content<'a>(reader: &mut Reader<'a>, column: &Column) -> Result<&'a [u8],
 
 /// Passes over a cell of the column.
 #[tactic(auto, unfolding(cas_records::specs::Reading::cell_at))]
+#[inline(always)]
 pub(crate) fn skip_cell(reader: &mut Reader<'_>, column: &Column) -> Result<(), ReadFault>
     ensures { Gives (λ done. tt) result reader.new (passed (cell_at (may_hold column.now) reader.old)) }
 {
@@ -70,6 +74,7 @@ pub(crate) fn skip_cell(reader: &mut Reader<'_>, column: &Column) -> Result<(), 
 
 // Whether a cell of the column may stand at that path.
 #[tactic(auto, unfolding(cas_records::specs::Columns::has_path))]
+#[inline(always)]
 fn has_path(column: &Column, bytes: &[u8]) -> bool
     ensures { result ≡ has_path column.now bytes.now }
 {
@@ -83,6 +88,7 @@ fn has_path(column: &Column, bytes: &[u8]) -> bool
 
 /// The path of a cell of the column.
 #[tactic(auto, unfolding(cas_records::specs::Columns::path_at))]
+#[inline(always)]
 pub(crate) fn see_path<'a>(reader: &mut Reader<'a>, column: &Column) -> Result<&'a [u8], ReadFault>
     ensures { Gives (λ b. b.now) result reader.new (path_at column.now reader.old) }
 {

@@ -22,6 +22,7 @@ use cas_types::Column;
 
 /// A deletion that may be there.
 #[tactic(auto, unfolding(cas_codec::specs::Reading::maybe_at))]
+#[inline(always)]
 pub(crate) fn read_maybe_deletion(reader: &mut Reader<'_>) -> Result<Option<Deletion>, ReadFault>
     ensures { Gives (λ d. d) result reader.new (maybe_at deletion_at reader.old) }
 {
@@ -32,6 +33,7 @@ pub(crate) fn read_maybe_deletion(reader: &mut Reader<'_>) -> Result<Option<Dele
 }
 
 // Whether a path stands above the one before it.
+#[inline(always)]
 fn is_next_path(column: &Column, before: Option<&[u8]>, path: &[u8]) -> bool
     ensures { result ≡ is_above (path_cmp (path_type column.now.shape column.now.tag)) (option_map (λ p. p.now) before.entry) path.now }
 {
@@ -43,6 +45,7 @@ fn is_next_path(column: &Column, before: Option<&[u8]>, path: &[u8]) -> bool
 
 // The path of a cell behind that one.
 #[tactic(auto, unfolding(cas_fragments::specs::Reading::next_path_at, cas_codec::specs::Reading::checked))]
+#[inline(always)]
 fn see_next_path<'a>(
     reader: &mut Reader<'a>,
     column: &Column,
@@ -60,6 +63,7 @@ fn see_next_path<'a>(
 
 // The path of a cell behind that one, which is passed over.
 #[tactic(auto, unfolding(cas_fragments::specs::Reading::path_cell_at))]
+#[inline(always)]
 fn skip_path_cell<'a>(
     reader: &mut Reader<'a>,
     column: &Column,
@@ -73,6 +77,7 @@ fn skip_path_cell<'a>(
 }
 
 // So many cells.
+#[inline(always)]
 fn skip_each_cell(reader: &mut Reader<'_>, column: &Column, count: u32) -> Result<(), ReadFault>
     ensures { Gives (λ done. tt) result reader.new (passed (chain_at (λ c. c.path) (path_cell_at column.now) count None reader.old)) }
 {
@@ -88,6 +93,7 @@ fn skip_each_cell(reader: &mut Reader<'_>, column: &Column, count: u32) -> Resul
 
 // How many cells the column has.
 #[tactic(auto, unfolding(cas_fragments::specs::Inner::Counts::cell_count_at, cas_codec::specs::Reading::checked))]
+#[inline(always)]
 fn read_cell_count(
     reader: &mut Reader<'_>,
     column: &Column,
@@ -105,6 +111,7 @@ fn read_cell_count(
 
 // The cells of a column.
 #[tactic(auto, unfolding(cas_fragments::specs::Reading::cells_at, cas_fragments::specs::Inner::Counts::cell_count_at))]
+#[inline(always)]
 fn skip_cells(
     reader: &mut Reader<'_>,
     column: &Column,
@@ -118,6 +125,7 @@ fn skip_cells(
 
 // No deletion.
 #[tactic(auto, unfolding(cas_fragments::specs::Reading::none_at, cas_codec::specs::Reading::checked))]
+#[inline(always)]
 fn read_none(reader: &mut Reader<'_>) -> Result<Option<Deletion>, ReadFault>
     ensures { Gives (λ d. d) result reader.new (none_at reader.old) }
 {
@@ -130,6 +138,7 @@ fn read_none(reader: &mut Reader<'_>) -> Result<Option<Deletion>, ReadFault>
 
 // The deletion of all of the column, if there is one.
 #[tactic(auto, unfolding(cas_fragments::specs::Reading::emptied_at))]
+#[inline(always)]
 fn read_emptied(reader: &mut Reader<'_>, column: &Column) -> Result<Option<Deletion>, ReadFault>
     ensures { Gives (λ d. d) result reader.new (emptied_at column.now reader.old) }
 {
@@ -141,6 +150,7 @@ fn read_emptied(reader: &mut Reader<'_>, column: &Column) -> Result<Option<Delet
 }
 
 // Whether a column's number is above the one before it.
+#[inline(always)]
 fn is_next_number(before: Option<u16>, number: u16) -> bool
     ensures { result ≡ is_above nat_cmp before number }
 {
@@ -152,6 +162,7 @@ fn is_next_number(before: Option<u16>, number: u16) -> bool
 
 // A column of rows, behind that one.
 #[tactic(auto, unfolding(cas_fragments::specs::Reading::next_column_at, cas_codec::specs::Reading::checked))]
+#[inline(always)]
 fn read_next_column<'a>(
     reader: &mut Reader<'_>,
     columns: &'a [Column],
@@ -169,6 +180,7 @@ fn read_next_column<'a>(
 
 // The number of a column behind that one, of which all is passed over.
 #[tactic(auto, unfolding(cas_fragments::specs::Reading::row_column_at))]
+#[inline(always)]
 fn skip_row_column(
     reader: &mut Reader<'_>,
     columns: &[Column],
@@ -183,6 +195,7 @@ fn skip_row_column(
 }
 
 // So many columns.
+#[inline(always)]
 fn skip_each_column(
     reader: &mut Reader<'_>,
     columns: &[Column],
@@ -202,6 +215,7 @@ fn skip_each_column(
 
 // The number of columns, at least so many.
 #[tactic(auto, unfolding(cas_fragments::specs::Inner::Counts::column_count_at, cas_codec::specs::Reading::checked))]
+#[inline(always)]
 fn read_column_count(reader: &mut Reader<'_>, least: u16) -> Result<u16, ReadFault>
     ensures { Gives (λ n. n) result reader.new (column_count_at least reader.old) }
 {
@@ -215,6 +229,7 @@ fn read_column_count(reader: &mut Reader<'_>, least: u16) -> Result<u16, ReadFau
 
 /// Passes over what there is of a row's columns, at least so many.
 #[tactic(auto, unfolding(cas_fragments::specs::Reading::columns_at, cas_fragments::specs::Inner::Counts::column_count_at))]
+#[inline(always)]
 pub(crate) fn skip_columns(
     reader: &mut Reader<'_>,
     columns: &[Column],

@@ -27,6 +27,7 @@ pub struct Passed {
 
 // What an `INSERT` left of a row, which may be there.
 #[tactic(auto, unfolding(cas_codec::specs::Reading::maybe_at))]
+#[inline(always)]
 fn read_maybe_live(reader: &mut Reader<'_>) -> Result<Option<Liveness>, ReadFault>
     ensures { Gives (λ l. l) result reader.new (maybe_at live_at reader.old) }
 {
@@ -37,6 +38,7 @@ fn read_maybe_live(reader: &mut Reader<'_>) -> Result<Option<Liveness>, ReadFaul
 }
 
 // How many columns a row has at least.
+#[inline(always)]
 fn least_columns(deletion: Option<Deletion>, live: Option<Liveness>) -> u16
     ensures { result ≡ least_columns deletion live }
 {
@@ -49,6 +51,7 @@ fn least_columns(deletion: Option<Deletion>, live: Option<Liveness>) -> u16
 
 // The values of a row's place; the row is passed over.
 #[tactic(auto, unfolding(cas_fragments::specs::Reading::row_at))]
+#[inline(always)]
 fn skip_row<'a>(
     reader: &mut Reader<'a>,
     order: &RowOrder,
@@ -64,6 +67,7 @@ fn skip_row<'a>(
 }
 
 #[tactic(auto, unfolding(cas_fragments::specs::Reading::row_fragment_at))]
+#[inline(always)]
 fn skip_row_fragment<'a>(
     reader: &mut Reader<'a>,
     order: &RowOrder,
@@ -87,6 +91,7 @@ pub(crate) fn end_of(after: bool) -> End
 }
 
 #[tactic(auto, unfolding(cas_fragments::specs::Reading::marker_at))]
+#[inline(always)]
 fn skip_marker<'a>(
     reader: &mut Reader<'a>,
     order: &RowOrder,
@@ -105,6 +110,7 @@ fn skip_marker<'a>(
 /// Passes over a fragment of a table with these columns, which orders its rows so. Of its place the
 /// values are told by reference.
 #[tactic(auto, unfolding(cas_fragments::specs::Reading::fragment_at))]
+#[inline(always)]
 pub(crate) fn skip_fragment<'a>(
     reader: &mut Reader<'a>,
     order: &RowOrder,

@@ -16,6 +16,7 @@ use std::cmp::Ordering;
 
 // A value of the type.
 #[tactic(auto, unfolding(cas_records::specs::Reading::value_at))]
+#[inline(always)]
 fn see_value<'a>(reader: &mut Reader<'a>, tag: TypeTag) -> Result<&'a [u8], ReadFault>
     ensures { Gives (λ b. b.now) result reader.new (value_at tag reader.old) }
 {
@@ -29,6 +30,7 @@ fn see_value<'a>(reader: &mut Reader<'a>, tag: TypeTag) -> Result<&'a [u8], Read
 
 // A value of each of the columns, after those that were read.
 #[tactic(auto, using(cas_records::proofs::BoundLaws::values_none, cas_records::proofs::BoundLaws::values_more, cas_records::proofs::BoundLaws::values_fault))]
+#[inline(always)]
 fn see_values<'a>(
     reader: &mut Reader<'a>,
     order: &[Ordered],
@@ -36,18 +38,18 @@ fn see_values<'a>(
 ) -> Result<(), ReadFault>
     ensures { Gives (λ done. seen values.new.items) result reader.new (after_values (seen values.old.items) (values_at order.now reader.old)) }
 {
-    match order {
-        [] => Ok(()),
-        [first, others @ ..] => {
-            let value = see_value(reader, first.tag)?;
-            values.push(value)?;
-            see_values(reader, others, values)
-        }
+    let mut rest = order;
+    while let [first, others @ ..] = rest {
+        let value = see_value(reader, first.tag)?;
+        values.push(value)?;
+        rest = others;
     }
+    Ok(())
 }
 
 // A value of each of the columns.
 #[tactic(auto, using(cas_records::proofs::BoundLaws::values_from_none))]
+#[inline(always)]
 fn see_each<'a>(
     reader: &mut Reader<'a>,
     order: &[Ordered],
@@ -61,6 +63,7 @@ fn see_each<'a>(
 
 // How many values there are, from least to greatest.
 #[tactic(auto, unfolding(cas_codec::specs::Reading::checked))]
+#[inline(always)]
 fn read_count(reader: &mut Reader<'_>, least: usize, greatest: usize) -> Result<u8, ReadFault>
     ensures exact { Gives (λ n. n) result reader.new (checked (is_in_range least greatest) u8_at reader.old) }
     ensures within { IfOk result (λ n. (least ≤ n) × (n ≤ greatest)) }
@@ -75,6 +78,7 @@ fn read_count(reader: &mut Reader<'_>, least: usize, greatest: usize) -> Result<
 
 /// The values of the place of a row.
 #[tactic(auto, unfolding(cas_records::specs::Reading::clustering_at))]
+#[inline(always)]
 pub(crate) fn see_clustering<'a>(
     reader: &mut Reader<'a>,
     order: &RowOrder,
@@ -89,6 +93,7 @@ pub(crate) fn see_clustering<'a>(
 
 /// The prefix of a cut, and whether the cut stands after it.
 #[tactic(auto, unfolding(cas_records::specs::Reading::cut_at))]
+#[inline(always)]
 pub(crate) fn see_cut<'a>(
     reader: &mut Reader<'a>,
     order: &RowOrder,

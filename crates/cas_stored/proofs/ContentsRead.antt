@@ -25,10 +25,10 @@ use Rattle.cas_sstread.specs.Laws.{kept_for, StandsThere}
 use Rattle.cas_sstread.specs.Searches.{IsFound}
 use Rattle.cas_sstread.proofs.ContentsLoad.{tables_load}
 use Rattle.cas_sstread.proofs.PartitionsFound.{partitions_are_found}
-use Rattle.cas_stored.specs.Slices.{IsTold, IsHead, IsSlice, IsBadHead, Answers}
+use Rattle.cas_reading.specs.Slices.{IsTold, IsHead, IsSlice, IsBadHead, Answers}
 use Rattle.cas_stored.specs.Contents.{IsOf, HasNone, IsCut, AnswersOf}
 use Rattle.cas_stored.proofs.Told.{is_among, has_none}
-use Rattle.cas_stored.proofs.Heads.{Found, one_head}
+use Rattle.cas_reading.proofs.Heads.{Found, one_head}
 
 module _ (t : Held) (narrow : IsNarrow t.columns) (c : Contents) (f : Facts) (of : IsOf t c f) (key : List ℕ) where
   abbrev file : List ℕ

@@ -11,7 +11,7 @@ use Rattle.cas_blocks.specs.declared.fault.TableFault.{TableFault}
 use Rattle.cas_blocks.specs.declared.fault.TableFault.TheVariants as table_fault
 use Rattle.cas_sstread.specs.Loading.{Held}
 use Rattle.cas_stored.specs.Contents.{AnswersOf, IsOf}
-use Rattle.cas_stored.specs.Slices.{Answers, IsTold, IsBadHead}
+use Rattle.cas_reading.specs.Slices.{Answers, IsTold, IsBadHead}
 use Rattle.cas_view.specs.Views.{File, may_hold}
 use Rattle.cas_stored.specs.Reading.{IsWhyNot}
 use Rattle.cas_stored.specs.Inner.Files.{FileAnswers, FilesGive, FilesGiveBehind}

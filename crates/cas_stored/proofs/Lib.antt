@@ -1,5 +1,4 @@
 pub mod Told
-pub mod Heads
 pub mod ContentsRead
 pub mod LoadedLaws
 pub mod Lists

@@ -8,7 +8,7 @@ use Rattle.cas_blocks.specs.declared.fault.TableFault.TheVariants as table_fault
 use Rattle.cas_sstread.specs.Loading.{Held}
 use Rattle.cas_view.specs.Views.{File, may_hold}
 use Rattle.cas_stored.specs.Reading.{IsBadIn, IsBadFor, IsBadFile, IsFaultOf, IsWhyNot}
-use Rattle.cas_stored.specs.Inner.Parts.{IsBadSlice}
+use Rattle.cas_reading.specs.Inner.Parts.{IsBadSlice}
 
 module _ (key : List ℕ) (s : Slice) (n at : ℕ) where
   -- behind the head of a partition a block is bad

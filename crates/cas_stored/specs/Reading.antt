@@ -11,7 +11,7 @@ use Rattle.cas_index.specs.declared.entries.PartitionEntry.{PartitionEntry}
 use Rattle.cas_blocks.specs.declared.fault.TableFault.{TableFault}
 use Rattle.cas_blocks.specs.declared.fault.TableFault.TheVariants as table_fault
 use Rattle.cas_sstread.specs.Loading.{Held}
-use Rattle.cas_stored.specs.Slices.{IsTold, IsBadHead, IsBadBlock}
+use Rattle.cas_reading.specs.Slices.{IsTold, IsBadHead, IsBadBlock}
 use Rattle.cas_view.specs.Views.{File, may_hold}
 
 -- a slice of the file can be read: it is of a table with at most 256 columns, and orders its rows as the slice does

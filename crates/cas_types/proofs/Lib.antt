@@ -3,3 +3,4 @@ pub mod Fronts
 pub mod Totals
 pub mod Utf8
 pub mod Padded
+pub mod Ascii

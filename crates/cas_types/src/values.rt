@@ -75,10 +75,17 @@ pub fn compare(tag: TypeTag, a: &[u8], b: &[u8]) -> Ordering
 fn is_ascii(bytes: &[u8]) -> bool
     ensures { result ≡ is_ascii_text bytes.now }
 {
-    bytes.iter().all(|byte| *byte < 128)
+    bytes.is_ascii()
 }
 
+// Most texts are ASCII, which is tested eight bytes at a time.
 fn is_text(bytes: &[u8]) -> bool
+    ensures { result ≡ is_utf8 bytes.now }
+{
+    bytes.is_ascii() || is_utf8(bytes)
+}
+
+fn is_utf8(bytes: &[u8]) -> bool
     ensures { result ≡ is_utf8 bytes.now }
 {
     std::str::from_utf8(bytes).is_ok()

@@ -1,6 +1,10 @@
 -- Effects of changes that are made of other things.
-use Rattle.std.proofs.Common.{◌≡◌, ℕ, ◌+◌, ◌<◌, List, [], ◌∷◌, ◌++◌, length, take, get_or, map, refl, ap, ◌∙◌, append_assoc}
+use Rattle.std.proofs.Common.{◌≡◌, ℕ, ◌+◌, ◌<◌, List, [], ◌∷◌, ◌++◌, length, take, get_or, map, Some, refl, ap, ◌∙◌, append_assoc}
 use Rattle.std.specs.List.{flat_map, zip}
+use Rattle.cas_types.specs.declared.schema.Column.{Column}
+use Rattle.cas_keys.specs.KeyTerms.{TermOf, in_front, value_in, prefix_values}
+use Rattle.cas_keys.specs.Keys.{sole_column}
+use Rattle.cas_keys.proofs.KeyLemmas.{sole_is}
 use Rattle.cql_parse.specs.declared.syntax.AlterTable.{AlterTable}
 use Rattle.cql_parse.specs.declared.syntax.CreateTable.{CreateTable}
 use Rattle.cql_parse.specs.declared.syntax.Delete.{Delete}
@@ -18,6 +22,13 @@ flat_map_map g f (x ∷ xs) = ap (λ l. g (f x) ++ l) (flat_map_map g f xs)
 pub and_nothing : {X : Type 0} (xs : List X) → xs ≡ xs ++ []
 and_nothing [] = refl
 and_nothing (x ∷ xs) = ap (λ l. x ∷ l) (and_nothing xs)
+
+-- ---- the values of clustering columns
+
+-- of one column there is one value at most
+pub sole_prefix : (terms : TermOf) (cs : List Column) (c : Column) → sole_column cs ≡ Some c → prefix_values terms cs ≡ in_front (value_in terms c) []
+unfolding prefix_values
+sole_prefix terms cs c e = ap (prefix_values terms) (sole_is cs c e)
 
 -- ---- what a statement changes
 

@@ -1,11 +1,12 @@
 //! What INSERT, UPDATE and DELETE do to rows and columns.
 
-ghost use Rattle.std.specs.Prelude.{◌≡◌, ◌++◌, map, IfOk, OnOk};
+ghost use Rattle.std.specs.Prelude.{◌≡◌, ◌++◌, [], map, IfOk, OnOk};
 ghost use Rattle.std.specs.List.{flat_map, zip};
 ghost use Rattle.cas_types.specs.Limits.{IsNarrow};
 ghost use Rattle.cas_keys.specs.Inner.Sources.{terms_of};
+ghost use Rattle.cas_keys.specs.KeyTerms.{in_front, value_in, prefix_values};
 ghost use Rattle.cas_effects.specs.declared.effect.Effect.TheVariants as effects;
-ghost use Rattle.cas_terms.specs.Columns.{column_ref};
+ghost use Rattle.cas_terms.specs.Columns.{column_ref, clustering_columns};
 ghost use Rattle.cas_writes.specs.Changes.{row_for, whole_effect, assigned_effect, deleted_effect, column_effect, change_effects};
 ghost use Rattle.cas_writes.specs.Changes.{clustered_row, deletion_effect, live_effect, deletion_effects, row_effects, effects_of};
 ghost use Rattle.cas_mentions.specs.Inner.Borrowed.{change_in};
@@ -14,6 +15,7 @@ ghost use Rattle.cas_reasons.specs.Statements.{key_terms_of};
 
 use cas_bounds::{Clustering, Values, clustering_order};
 use cas_effects::{Effect, Elements};
+use cas_keys::{sole_clustering, value_in};
 use cas_reasons::{RowChange, inserts_static, key_terms_of};
 use cas_terms::{
     column_ref, constant_bytes, entry_elements, given_elements, located, prepended_elements,
@@ -26,7 +28,28 @@ use std::alloc::{AllocError, Global};
 use std::mem::drop;
 
 /// Room for the effects of most statements.
-const USUAL: usize = 4;
+pub(crate) const USUAL: usize = 4;
+
+// The value of the only clustering column, if there is one.
+fn sole_value(alloc: Global, terms: KeyTerms<'_>, column: &Column) -> Result<Values, AllocError>
+    ensures { IfOk result (λ v. v ≡ in_front (value_in (terms_of terms.entry) column.now) []) }
+{
+    match value_in(alloc, terms, column)? {
+        Some(value) => Ok(Values::one(value)),
+        None => Ok(Values::from_vec(Vec::new(alloc))),
+    }
+}
+
+// The values of the clustering columns. That of a sole one isn't put into a list first.
+#[tactic(auto, using(crate::proofs::EffectLemmas::sole_prefix))]
+fn row_values(alloc: Global, terms: KeyTerms<'_>, columns: &[Column]) -> Result<Values, AllocError>
+    ensures { IfOk result (λ v. v ≡ prefix_values (terms_of terms.entry) (clustering_columns columns.now)) }
+{
+    match sole_clustering(columns) {
+        Some(column) => sole_value(alloc, terms, column),
+        None => Ok(Values::from_vec(prefix_values(alloc, terms, columns)?)),
+    }
+}
 
 /// The row with the values of the clustering columns.
 pub(crate) fn clustered_row(
@@ -37,7 +60,7 @@ pub(crate) fn clustered_row(
     ensures { IfOk result (λ r. r ≡ clustered_row (terms_of terms.entry) columns.now) }
 {
     Ok(Clustering {
-        values: Values::from_vec(prefix_values(alloc, terms, columns)?),
+        values: row_values(alloc, terms, columns)?,
         order: clustering_order(alloc, columns)?,
     })
 }
@@ -53,7 +76,7 @@ fn row_for(row: &Clustering, column: &Column) -> Result<Option<Clustering>, Allo
 }
 
 #[tactic(auto, unfolding(crate::specs::Changes::whole_effect))]
-fn whole_effect(
+pub(crate) fn whole_effect(
     alloc: Global,
     row: &Clustering,
     number: u16,
@@ -307,7 +330,7 @@ fn deletion_effect(
     Ok(Effect::Range(slice.lo, slice.hi))
 }
 
-fn with_live(
+pub(crate) fn with_live(
     is_static: bool,
     row: Clustering,
     effects: Vec<Effect>,

@@ -3,7 +3,9 @@
 #![tactic(auto)]
 
 mod effects;
+mod inserts;
 mod laws;
+mod unbound;
 mod writes;
 
 pub use laws::changes_its_names;

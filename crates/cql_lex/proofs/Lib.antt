@@ -2,7 +2,9 @@ pub mod Rests
 pub mod Fronts
 pub mod Symbols
 pub mod Sizes
+pub mod Firsts
 pub mod Spelled
+pub mod Words
 pub mod Turns
 pub mod RoundTrip
 pub mod Inner

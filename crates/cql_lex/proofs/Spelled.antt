@@ -1,12 +1,11 @@
 -- What is UTF-8, a name or a uuid.
-use Rattle.std.proofs.Common.{◌≡◌, ◌≢◌, ℕ, ◌<◌, Bool, true, false, cond, List, [], ◌∷◌, length, map, take, drop, not, ◌++◌, subst, Option, Some, None, refl, sym, ap, ◌∙◌, arith, ◌&&◌}
+use Rattle.std.proofs.Common.{◌≡◌, ◌≢◌, ℕ, ◌<◌, ◌+◌, get_or, set, ap₂, Bool, true, false, cond, List, [], ◌∷◌, length, map, take, drop, not, ◌++◌, subst, Option, Some, None, refl, sym, ap, ◌∙◌, arith, ◌&&◌}
 use Rattle.std.specs.Prelude.{is_some, IsUtf8, IsAscii}
 use Rattle.std.specs.Str.{is_utf8}
-use Rattle.std.specs.List.{list_all, refill}
+use Rattle.std.specs.List.{list_all}
 use Rattle.std.specs.Char.{is_ascii_alphabetic, to_ascii_lowercase}
 use Rattle.std.proofs.lemmas.Str.{IsUtf8-from_is_utf8, is_utf8-from_IsUtf8, IsUtf8-from_ascii}
-use Rattle.std.proofs.lemmas.List.{length-take, length-map}
-use Rattle.std.proofs.Math.Seq.{take-append_seam}
+use Rattle.std.proofs.lemmas.List.{length-take, map-append, take_more, take_more_set}
 use Rattle.std.proofs.lemmas.Option.{none-some}
 use Rattle.std.proofs.lemmas.Str.Ascii.{IsAscii-nil, IsAscii-cons}
 use Rattle.std.proofs.lemmas.Bool.{ne_eqb, and_parts}
@@ -15,6 +14,17 @@ use Rattle.uuid.specs.Text.{parsed, parsed_hyphenated, parsed_simple, digits_of,
 use Rattle.cql_lex.specs.Characters.{is_word, first_is}
 use Rattle.cql_lex.specs.Constants.{is_name, uuid_value}
 use Rattle.cql_lex.specs.Rules.{begins_uuid}
+
+-- one letter more, where they are lowered one after another
+pub one_lowered : (text places : List ℕ) (i n c : ℕ) → n ≡ i + 1 → i < length places → i < length text → c ≡ to_ascii_lowercase (get_or text i 0) → take i places ≡ map to_ascii_lowercase (take i text)
+    → take n (set places i c) ≡ map to_ascii_lowercase (take n text)
+one_lowered text places i n c e h k same before =
+    let more : take (i + 1) text ≡ take i text ++ get_or text i 0 ∷ [] = take_more text i 0 k in
+    ap (λ m. take m (set places i c)) e
+    ∙ take_more_set places i c h
+    ∙ ap₂ (λ front x. front ++ x ∷ []) before same
+    ∙ sym (map-append to_ascii_lowercase (take i text) (get_or text i 0 ∷ []))
+    ∙ ap (map to_ascii_lowercase) (sym more ∙ ap (λ m. take m text) (sym e))
 
 pub is_text : (bs : List ℕ) → IsUtf8 bs → Some bs ≡ cond (is_utf8 bs) (Some bs) None
 is_text bs h = ap (λ b. cond b (Some bs) None) (sym (is_utf8-from_IsUtf8 bs h))
@@ -35,18 +45,8 @@ names_ascii (c ∷ cs) e =
     let h = and_parts (is_word c) (list_all is_word cs) e in
     IsAscii-cons (to_ascii_lowercase c) (map to_ascii_lowercase cs) (lowered c h.0) (names_ascii cs h.1)
 
-name_is_text : (text : List ℕ) → is_name text ≡ true → IsUtf8 (map to_ascii_lowercase text)
+pub name_is_text : (text : List ℕ) → is_name text ≡ true → IsUtf8 (map to_ascii_lowercase text)
 name_is_text text e = IsUtf8-from_ascii _ (names_ascii text (and_parts (first_is is_ascii_alphabetic text) (list_all is_word text) e).1)
-
-refilled : (xs ws : List ℕ) → length ws ≡ length xs → refill (length xs) xs ws ≡ ws
-refilled xs ws e = ap (λ n. take n (ws ++ drop (length ws) xs)) (sym e) ∙ take-append_seam ws (drop (length ws) xs)
-
--- the letters that stand in a name's place, once they are lowered there
-pub name_kept : (text xs now ws : List ℕ) → is_name text ≡ true → xs ≡ text → now ≡ xs → ws ≡ map to_ascii_lowercase now → IsUtf8 (refill (length xs) xs ws)
-name_kept text xs now ws e same is low =
-    let lowered : ws ≡ map to_ascii_lowercase xs = low ∙ ap (map to_ascii_lowercase) is in
-    let long : length ws ≡ length xs = ap length lowered ∙ length-map xs to_ascii_lowercase in
-    subst IsUtf8 (sym (refilled xs ws long ∙ lowered ∙ ap (map to_ascii_lowercase) same)) (name_is_text text e)
 
 pub is_none : {X : Type 0} (o : Option X) → (((u : X) × (o ≡ Some u)) → ⊥) → None ≡ o
 is_none None h = refl

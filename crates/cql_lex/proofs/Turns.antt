@@ -3,9 +3,10 @@ use Rattle.std.proofs.Common.{◌≡◌, ◌≢◌, ℕ, suc, ◌+◌, ◌<◌, 
 use Rattle.std.specs.Option.{option_map}
 use Rattle.std.specs.List.{position_or_len}
 use Rattle.std.proofs.lemmas.List.{drop_more, drop_all}
+use Rattle.std.proofs.lemmas.List.Sums.{passes_at_first}
 use Rattle.std.proofs.lemmas.Bool.Decides.{nat_tests}
 use Rattle.cql_lex.specs.Quotes.{closing_size, closed}
-use Rattle.std.proofs.lemmas.Bool.{false≢true}
+use Rattle.std.proofs.lemmas.Bool.{false≢true, eqb-true}
 use Rattle.cql_lex.specs.Characters.{begins_pair}
 use Rattle.cql_lex.specs.Gaps.{close_size}
 
@@ -120,6 +121,12 @@ closed_last q xs i front total h e t =
     ap (λ f. Some f) (sym (append-nil front))
     ∙ ap (option_map (λ rest. front ++ rest)) (sym (ap (closed q) last ∙ ap (λ b. cond b (Some []) None) (equal _ _ e)))
     ∙ t
+
+-- a text whose first quote is its end is what stands before it
+pub plain_closed : (q : ℕ) (xs : List ℕ) (n : ℕ) → n ≡ position_or_len (λ d. eqb d q) xs → n + 1 ≡ length xs → closed q xs ≡ Some (take n xs)
+plain_closed q xs n e h =
+    let here : get_or xs n 0 ≡ q = eqb-true _ _ (ap (λ k. eqb (get_or xs k 0) q) e ∙ passes_at_first (λ d. eqb d q) xs 0 (omega arith)) in
+    sym (closed_last q xs n (take n xs) (closed q xs) h here (plain_begun q xs n (take n xs) refl e))
 
 -- the closing quote is not the end
 pub closed_early : (q : ℕ) (xs : List ℕ) (i : ℕ) (front : List ℕ) (total : Option (List ℕ)) → i + 1 < length xs → get_or xs i 0 ≡ q → get_or xs (i + 1) 0 ≢ q → option_map (λ rest. front ++ rest) (closed q (drop i xs)) ≡ total → None ≡ total

@@ -4,5 +4,7 @@ pub mod Quotes
 pub mod Constants
 pub mod Gaps
 pub mod Rules
+pub mod Names
 pub mod Lexes
 pub mod Laws
+pub mod Inner

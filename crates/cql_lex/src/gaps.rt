@@ -31,6 +31,7 @@ fn close_size(text: &[u8]) -> Option<usize>
 }
 
 /// The size of the blank or the comment that the text begins with.
+#[inline(always)]
 pub(crate) fn gap_size(text: &[u8]) -> Option<usize>
     ensures found { result ≡ gap_size text.now }
     ensures size { IfSome result (λ n. (0 < n) × (n ≤ length text.now)) }

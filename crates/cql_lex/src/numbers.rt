@@ -41,6 +41,7 @@ fn long_magnitude(digits: &[u8]) -> u128
 }
 
 /// The number that digits write; 2^128 - 1 stands for all that is greater. Most numbers are small.
+#[inline(always)]
 fn magnitude(digits: &[u8]) -> u128
     ensures { result ≡ min (decimal_value digits.now) (2 ^ 128 - 1) }
 {
@@ -54,6 +55,7 @@ fn magnitude(digits: &[u8]) -> u128
     u128::from(total)
 }
 
+#[inline(always)]
 fn signed(negative: bool, magnitude: u128) -> Option<i128>
     ensures { result ≡ signed negative magnitude }
 {
@@ -72,6 +74,7 @@ fn signed(negative: bool, magnitude: u128) -> Option<i128>
     }
 }
 
+#[inline(always)]
 fn is_digits(text: &[u8]) -> bool
     ensures { result ≡ is_digits text.now }
 {
@@ -80,6 +83,7 @@ fn is_digits(text: &[u8]) -> bool
 
 /// The whole number that a token's text writes, where it is one of at most 128 bits: of `-12` it
 /// is -12. The text is the bytes of the token's span.
+#[inline(always)]
 pub fn number_of(text: &[u8]) -> Option<i128>
     ensures { result ≡ number_value text.now }
 {

@@ -5,7 +5,7 @@ use crate::token::TokenKind;
 /// What stands at one place of a line: a token of a kind, or a blank or a comment, and its size in
 /// bytes.
 #[derive(Clone, Copy)]
-pub(crate) struct Piece {
-    pub(crate) kind: Option<TokenKind>,
-    pub(crate) size: usize,
+pub struct Piece {
+    pub kind: Option<TokenKind>,
+    pub size: usize,
 }

@@ -3,8 +3,9 @@
 ghost use Rattle.std.specs.Prelude.{◌≡◌, ◌≤◌, ◌==◌, IfOk, length, option_map};
 ghost use Rattle.std.specs.List.{position_or_len};
 ghost use Rattle.cql_lex.specs.Quotes.{quoted_text, name_quote, string_quote, closed};
+ghost use Rattle.cql_lex.specs.Inner.Fronts.{closed_text};
 
-use crate::texts::text_of;
+use crate::texts::{text_in, text_of};
 use cas_types::{Mem, Text};
 use std::alloc::{AllocError, Global};
 
@@ -40,14 +41,27 @@ fn read_closed(alloc: Global, quote: u8, text: &[u8]) -> Result<Option<Vec<u8>>,
     Ok(None)
 }
 
+/// The text that follows an opening quote, up to its closing quote. Most have no quote within.
+#[inline(always)]
+fn inner_text(alloc: Global, quote: u8, text: &[u8]) -> Result<Option<Text>, Mem>
+    ensures { IfOk result (λ inner. inner ≡ closed_text quote text.now) }
+{
+    let plain = plain_size(quote, text);
+    if plain + 1 == text.len() {
+        return text_in(alloc, &text[..plain]);
+    }
+    match read_closed(alloc, quote, text)? {
+        Some(bytes) => Ok(text_of(bytes)),
+        None => Ok(None),
+    }
+}
+
+#[inline(always)]
 fn quoted_of(alloc: Global, quote: u8, text: &[u8]) -> Result<Option<Text>, Mem>
     ensures { IfOk result (λ inner. inner ≡ quoted_text quote text.now) }
 {
     match text {
-        [first, rest @ ..] if *first == quote => match read_closed(alloc, quote, rest)? {
-            Some(bytes) => Ok(text_of(bytes)),
-            None => Ok(None),
-        },
+        [first, rest @ ..] if *first == quote => inner_text(alloc, quote, rest),
         _ => Ok(None),
     }
 }
@@ -62,6 +76,7 @@ pub fn quoted_name_of(alloc: Global, text: &[u8]) -> Result<Option<Text>, Mem>
 
 /// The text that a token's text writes in single quotes, where `''` is one of them. The text is
 /// the bytes of the token's span; it is none where that isn't so written, or isn't UTF-8.
+#[inline(always)]
 pub fn string_of(alloc: Global, text: &[u8]) -> Result<Option<Text>, Mem>
     ensures { IfOk result (λ string. string ≡ quoted_text string_quote text.now) }
 {

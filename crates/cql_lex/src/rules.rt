@@ -2,6 +2,9 @@
 
 ghost use Rattle.std.specs.Prelude.{◌≡◌, ◌<◌, ◌≤◌, length, Some, IfSome};
 ghost use Rattle.cql_lex.specs.Rules.{token, token_at, piece_at, begins_uuid, begins_number, whole_size, fraction_size, number_of_sizes};
+ghost use Rattle.cql_lex.specs.Characters.{first_is};
+ghost use Rattle.cql_lex.specs.Inner.Fronts.{is_plain};
+ghost use Rattle.cql_lex.specs.Names.{IsPlainMarkAt};
 ghost use Rattle.cql_lex.specs.Rules.{number_at, quoted_at, symbol, symbol_at, single_at};
 
 use crate::characters::{
@@ -15,6 +18,7 @@ use crate::numbers::{is_negative, number_of, unsigned};
 use crate::piece::Piece;
 use crate::token::{Mark, TokenKind};
 
+#[inline(always)]
 fn token(kind: TokenKind, size: usize) -> Option<Piece>
     ensures { result ≡ Some (token kind size) }
 {
@@ -25,7 +29,7 @@ fn token(kind: TokenKind, size: usize) -> Option<Piece>
 }
 
 /// Whether the text begins with a uuid that no letter, digit or `_` follows.
-fn begins_uuid(text: &[u8]) -> bool
+pub(crate) fn begins_uuid(text: &[u8]) -> bool
     ensures { result ≡ begins_uuid text.now }
 {
     if text.len() < 36 {
@@ -73,6 +77,7 @@ fn fraction_size(text: &[u8]) -> usize
 }
 
 /// The number or ratio that the text begins with, unless it is refused.
+#[inline(always)]
 fn number_at(text: &[u8]) -> Option<Piece>
     ensures { result ≡ number_at text.now }
 {
@@ -90,6 +95,7 @@ fn number_at(text: &[u8]) -> Option<Piece>
 }
 
 /// The text in quotes that begins the text, up to the closing one.
+#[inline(always)]
 fn quoted_at(kind: TokenKind, quote: u8, text: &[u8]) -> Option<Piece>
     ensures { result ≡ quoted_at kind quote text.now }
 {
@@ -102,6 +108,7 @@ fn quoted_at(kind: TokenKind, quote: u8, text: &[u8]) -> Option<Piece>
     }
 }
 
+#[inline(always)]
 fn symbol(byte: u8) -> Option<Mark>
     ensures { result ≡ symbol byte }
 {
@@ -126,6 +133,7 @@ fn symbol(byte: u8) -> Option<Mark>
     }
 }
 
+#[inline(always)]
 fn single_at(text: &[u8]) -> Option<Piece>
     ensures { result ≡ single_at text.now }
 {
@@ -138,6 +146,7 @@ fn single_at(text: &[u8]) -> Option<Piece>
     }
 }
 
+#[inline(always)]
 fn symbol_at(text: &[u8]) -> Option<Piece>
     ensures { result ≡ symbol_at text.now }
 {
@@ -150,19 +159,47 @@ fn symbol_at(text: &[u8]) -> Option<Piece>
     }
 }
 
-/// The token that the text begins with: the first rule that it begins as decides.
-#[tactic(auto, unfolding(crate::specs::Rules::token_at))]
+/// Whether the text begins with one of `( ) * + ,`, which begin nothing longer.
+fn begins_plain(text: &[u8]) -> bool
+    ensures { result ≡ first_is is_plain text.now }
+{
+    match text {
+        [byte, _rest @ ..] => b'(' <= *byte && *byte <= b',',
+        _ => false,
+    }
+}
+
+/// The mark that the text begins with, where it is one of `( ) * + ,`.
+#[inline(always)]
+pub fn plain_mark_at(text: &[u8]) -> Option<Mark>
+    ensures { IfSome result (λ mark. IsPlainMarkAt text.now mark) }
+{
+    if !begins_plain(text) || begins_uuid(text) {
+        return None;
+    }
+    match text {
+        [byte, _rest @ ..] => symbol(*byte),
+        _ => None,
+    }
+}
+
+/// The token that the text begins with: the first rule that it begins as decides. What is most
+/// frequent, a name or one of a few marks, is tried before what it can't begin as.
+#[tactic(auto, unfolding(crate::specs::Rules::token_at), using(crate::proofs::Firsts::letter_first, crate::proofs::Firsts::plain_first))]
+#[inline(always)]
 fn token_at(text: &[u8]) -> Option<Piece>
     ensures { result ≡ token_at text.now }
 {
     if begins_uuid(text) {
         token(TokenKind::Uuid, 36)
+    } else if begins_letter(text) {
+        token(TokenKind::Name, word_size(text))
+    } else if begins_plain(text) {
+        single_at(text)
     } else if begins_blob(text) {
         token(TokenKind::Blob, 2 + hex_pairs_size(&text[2..]))
     } else if begins_number(text) {
         number_at(text)
-    } else if begins_letter(text) {
-        token(TokenKind::Name, word_size(text))
     } else if begins_byte(text, b'"') {
         quoted_at(TokenKind::QuotedName, b'"', text)
     } else if begins_byte(text, b'\'') {
@@ -174,7 +211,8 @@ fn token_at(text: &[u8]) -> Option<Piece>
 
 /// The blank, the comment or the token that the text begins with.
 #[tactic(auto, unfolding(crate::specs::Rules::piece_at))]
-pub(crate) fn piece_at(text: &[u8]) -> Option<Piece>
+#[inline(always)]
+pub fn piece_at(text: &[u8]) -> Option<Piece>
     ensures piece { result ≡ piece_at text.now }
     ensures size { IfSome result (λ p. (0 < p.size) × (p.size ≤ length text.now)) }
 {

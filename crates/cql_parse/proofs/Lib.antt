@@ -1,2 +1,3 @@
 pub mod SelectAgree
 pub mod StatementAgree
+pub mod LineAgree

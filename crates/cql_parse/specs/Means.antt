@@ -1,5 +1,6 @@
 -- What the tokens of a source mean.
-use Rattle.std.specs.Prelude.{◌≡◌, ℕ, List, Some}
+use Rattle.std.specs.Prelude.{◌≡◌, ℕ, List, [], Option, None, Some}
+use Rattle.cql_lex.specs.Lexes.{Lexes}
 use Rattle.cql_lex.specs.declared.token.Token.{Token}
 use Rattle.cql_phrases.specs.declared.lexeme.Lexeme.{Lexeme}
 use Rattle.cql_parse.specs.declared.syntax.Statement.{Statement}
@@ -12,6 +13,11 @@ pub record Means (source : List ℕ) (tokens : List Token) (statement : Statemen
   pub lexemes : List Lexeme
   pub meanings : lexemes_of source tokens ≡ Some lexemes
   pub grammar : IsStatement statement lexemes
+
+-- a line means a statement, which its tokens spell; or nothing, where it has none
+abbrev pub LineMeans : List ℕ → Option Statement → Type 0
+LineMeans source None = Lexes source []
+LineMeans source (Some s) = (tokens : List Token) × Lexes source tokens × Means source tokens s
 
 -- no tokens spell two statements
 abbrev pub OneStatement : Type 0

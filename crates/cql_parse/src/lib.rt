@@ -12,7 +12,7 @@ pub mod term;
 pub use cql_phrases::tokens_have_lexemes;
 pub use cql_tables::{one_table, table_name};
 pub use fault::ParseFault;
-pub use parse::{one_statement, statement};
+pub use parse::{line_statement, one_statement, statement};
 pub use syntax::{
     AddedColumn, AlterTable, Assigned, Assignment, ColumnOrder, ColumnType, CreateTable,
     DefinedColumn, Delete, Insert, Item, NamedOption, Operator, OptionValue, Pick, Picks,

@@ -1,9 +1,10 @@
 //! A whole statement.
 
-ghost use Rattle.std.specs.Prelude.{◌≡◌, IfOk};
+ghost use Rattle.std.specs.Prelude.{◌≡◌, Err, IfOk, Option};
 ghost use Rattle.cql_phrases.specs.Inner.Reading.{Gives};
 ghost use Rattle.cql_parse.specs.Inner.StatementReading.{definition_at, change_at, statement_at, semicolon_at, whole_statement, statement_of};
-ghost use Rattle.cql_parse.specs.Means.{Means, IsAnswer, OneStatement};
+ghost use Rattle.cql_parse.specs.Means.{Means, IsAnswer, LineMeans, OneStatement};
+ghost use Rattle.cql_phrases.specs.declared.fault.ParseFault.TheVariants as faults;
 ghost use Rattle.cql_parse.specs.declared.syntax.Statement.{Statement};
 
 use crate::select::select;
@@ -11,7 +12,7 @@ use crate::syntax::Statement;
 use cql_changes::changes::{delete, insert, update};
 use cql_lex::{Mark, Token};
 use cql_phrases::front::{after_mark, after_word};
-use cql_phrases::lexemes::lexemes;
+use cql_phrases::lexemes::{lexemes, line_lexemes};
 use cql_phrases::{Keyword, Lexeme, ParseFault};
 use cql_tables::define::{alter, create};
 use std::alloc::Global;
@@ -106,6 +107,20 @@ pub fn statement(alloc: Global, tokens: &[Token], source: &str) -> Result<Statem
     ensures only { (s : Statement) → Means source.now tokens.now s → IsAnswer s result }
 {
     parsed(alloc, tokens, source)
+}
+
+/// The statement that a line spells; none where it has no tokens.
+pub fn line_statement(alloc: Global, source: &str) -> Result<Option<Statement>, ParseFault>
+    // What is read is what the line means,
+    ensures found { IfOk result (λ read. LineMeans source.now read) }
+    // and a line that is refused means nothing.
+    ensures refused { result ≡ Err faults.Syntax → (read : Option Statement) → LineMeans source.now read → ⊥ }
+{
+    let lexemes = line_lexemes(alloc, source)?;
+    match lexemes.as_slice() {
+        [] => Ok(None),
+        [_first, ..] => Ok(Some(whole_statement(alloc, &lexemes)?)),
+    }
 }
 
 /// Tokens spell at most one statement.

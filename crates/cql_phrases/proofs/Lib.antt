@@ -8,3 +8,4 @@ pub mod Nesting
 pub mod TermAgree
 pub mod Reserved
 pub mod LineLexemes
+pub mod LineReading

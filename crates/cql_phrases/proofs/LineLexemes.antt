@@ -13,7 +13,7 @@ mapped : {A B : Type 0} (f : A → B) (o : Option A) → IsTrue (is_some o) → 
 mapped f None h = h
 mapped f (Some x) h = h
 
-of_kind : (k : TokenKind) (start end : ℕ) (text : List ℕ) → HasForm k text → IsTrue (is_some (lexeme_of k start end text))
+pub of_kind : (k : TokenKind) (start end : ℕ) (text : List ℕ) → HasForm k text → IsTrue (is_some (lexeme_of k start end text))
 unfolding lexeme_of
 of_kind kind.Uuid start end text h = mapped _ _ h
 of_kind kind.Blob start end text h = mapped _ _ h

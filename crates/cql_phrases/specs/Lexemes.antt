@@ -1,5 +1,5 @@
 -- What each token is to the grammar, by its kind and its text.
-use Rattle.std.specs.Prelude.{ℕ, ◌&&◌, nat_le, List, [], ◌∷◌, length, slice_range, Option, None, Some, option_map, option_and_then}
+use Rattle.std.specs.Prelude.{◌≡◌, ℕ, ◌&&◌, nat_le, List, [], ◌∷◌, length, slice_range, Option, None, Some, option_map, option_and_then}
 use Rattle.std.specs.Prelude.{is_some, IsTrue, IsUtf8, if◌then◌else◌}
 use Rattle.cql_lex.specs.Constants.{name_value, uuid_value, blob_value}
 use Rattle.cql_lex.specs.Numbers.{number_value, ratio_value}
@@ -43,6 +43,10 @@ lexeme_at source t =
 unfoldable pub lexemes_of : List ℕ → List Token → Option (List Lexeme)
 lexemes_of source [] = Some []
 lexemes_of source (t ∷ ts) = option_and_then (λ x. option_map (λ xs. x ∷ xs) (lexemes_of source ts)) (lexeme_at source t)
+
+-- the lexemes of a line
+abbrev pub AreLexemes : List ℕ → List Lexeme → Type 0
+AreLexemes source found = (tokens : List Token) × Lexes source tokens × (lexemes_of source tokens ≡ Some found)
 
 -- each token of a line is a lexeme, so that a line is refused for its tokens or by the grammar, and for nothing between
 abbrev pub TokensHaveLexemes : Type 0

@@ -16,6 +16,7 @@ use cql_lex::{Mark, Name};
 use std::alloc::Global;
 
 /// Whether the name is the word.
+#[inline(always)]
 pub fn is_spelt(name: &Name, keyword: Keyword) -> bool
     ensures { result ≡ bytes_eq name.now (spelling keyword) }
 {
@@ -77,6 +78,7 @@ pub fn is_reserved(name: &Name) -> bool
 
 /// What follows the word, where it stands first.
 #[tactic(auto, unfolding(crate::specs::Inner::Reading::after_word))]
+#[inline(always)]
 pub fn after_word(input: &[Lexeme], keyword: Keyword) -> Option<&[Lexeme]>
     ensures { option_map (λ r. r.now) result ≡ after_word keyword input.now }
 {
@@ -107,6 +109,7 @@ fn is_same(a: Mark, b: Mark) -> bool
 
 /// What follows the mark, where it stands first.
 #[tactic(auto, unfolding(crate::specs::Inner::Reading::after_mark))]
+#[inline(always)]
 pub fn after_mark(input: &[Lexeme], mark: Mark) -> Option<&[Lexeme]>
     ensures { option_map (λ r. r.now) result ≡ after_mark mark input.now }
 {
@@ -117,6 +120,7 @@ pub fn after_mark(input: &[Lexeme], mark: Mark) -> Option<&[Lexeme]>
 }
 
 /// The word, which must stand here.
+#[inline(always)]
 pub fn word(input: &[Lexeme], keyword: Keyword) -> Result<&[Lexeme], ParseFault>
     ensures { Gives (λ r. (tt, r.now)) result (word_at keyword input.now) }
 {
@@ -127,6 +131,7 @@ pub fn word(input: &[Lexeme], keyword: Keyword) -> Result<&[Lexeme], ParseFault>
 }
 
 /// The mark, which must stand here.
+#[inline(always)]
 pub fn mark(input: &[Lexeme], mark: Mark) -> Result<&[Lexeme], ParseFault>
     ensures { Gives (λ r. (tt, r.now)) result (mark_at mark input.now) }
 {

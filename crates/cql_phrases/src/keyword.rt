@@ -60,6 +60,7 @@ pub enum Keyword {
 
 /// How a word is written, in small letters.
 #[tactic(auto, unfolding(crate::specs::Symbols::spelling))]
+#[inline(always)]
 pub fn spelling(keyword: Keyword) -> &'static str
     ensures { result.now ≡ spelling keyword }
 {

@@ -80,6 +80,7 @@ pub fn list_from<X: Part + Drop>(
 }
 
 /// The thing alone.
+#[inline(always)]
 pub fn only<X: Drop>(alloc: Global, thing: X) -> Result<Vec<X>, Mem>
     ensures { IfOk result (λ v. v.items ≡ thing ∷ []) }
 {
@@ -90,6 +91,7 @@ pub fn only<X: Drop>(alloc: Global, thing: X) -> Result<Vec<X>, Mem>
 
 /// One thing or more, with the separator between.
 #[tactic(auto, unfolding(crate::specs::Inner::Reading::list_at))]
+#[inline(always)]
 pub fn list<X: Part + Drop>(
     alloc: Global,
     separator: Separator,

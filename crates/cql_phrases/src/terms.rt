@@ -34,6 +34,7 @@ fn truth_of(name: &Name) -> Option<bool>
 
 /// A constant.
 #[tactic(auto, unfolding(crate::specs::Inner::TermReading::constant_at))]
+#[inline(always)]
 pub fn constant(alloc: Global, input: &[Lexeme]) -> Result<(Constant, &[Lexeme]), ParseFault>
     ensures { Gives (λ x. (x.0, x.1.now)) result (constant_at input.now) }
 {
@@ -52,6 +53,7 @@ pub fn constant(alloc: Global, input: &[Lexeme]) -> Result<(Constant, &[Lexeme])
 
 /// Whether a literal begins here.
 #[tactic(auto, unfolding(crate::specs::Inner::TermReading::opens))]
+#[inline(always)]
 pub fn opens(input: &[Lexeme]) -> bool
     ensures { result ≡ opens input.now }
 {
@@ -183,6 +185,7 @@ impl Part for Term {
     ghost reads = { term_at };
 
     #[tactic(auto, unfolding(crate::specs::Inner::TermReading::term_at))]
+    #[inline(always)]
     fn read(alloc: Global, input: &[Lexeme]) -> Result<(Self, &[Lexeme]), ParseFault> {
         if let Some(rest) = after_word(input, Keyword::Null) {
             return Ok((Term::Null, rest));

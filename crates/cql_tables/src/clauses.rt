@@ -13,6 +13,7 @@ use std::alloc::Global;
 
 /// A table, perhaps with its keyspace.
 #[tactic(auto, unfolding(crate::specs::Inner::TableReading::table_at))]
+#[inline(always)]
 pub fn table(alloc: Global, input: &[Lexeme]) -> Result<(TableName, &[Lexeme]), ParseFault>
     ensures { Gives (λ x. (x.0, x.1.now)) result (table_at input.now) }
 {

@@ -7,4 +7,6 @@ mod by_hand;
 #[cfg(test)]
 mod first_version;
 #[cfg(test)]
+mod readings;
+#[cfg(test)]
 mod reads;

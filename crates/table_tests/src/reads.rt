@@ -31,8 +31,8 @@ pub(crate) fn is_readable(table: &Table<MemSealed>) -> bool
     table.columns().len() as u64 <= COLUMN_LIMIT
 }
 
-// The rows from the one at this value on, or those behind it.
-fn rows_from(
+/// The rows from the one at this value on, or those behind it.
+pub(crate) fn rows_from(
     alloc: Global,
     table: &Table<MemSealed>,
     value: u8,
@@ -54,8 +54,8 @@ fn rows_from(
     Ok(Slice { lo, hi })
 }
 
-// The last byte of a row's place.
-fn place_of(fragment: &Fragment) -> Option<u8> {
+/// The last byte of a row's place.
+pub(crate) fn place_of(fragment: &Fragment) -> Option<u8> {
     match fragment {
         Fragment::Row(row) => match row.clustering.values.as_slice().first() {
             Some(value) => value.as_slice().last().copied(),

@@ -1,5 +1,5 @@
 -- Where the code finds the terms that a statement gives its columns, and how it answers with a key.
-use Rattle.std.specs.Prelude.{◌≡◌, ℕ, List, ◌∷◌, Some, Result, Ok, Err}
+use Rattle.std.specs.Prelude.{◌≡◌, ℕ, Bool, true, false, List, [], ◌∷◌, Option, None, Some, Result, Ok, Err}
 use Rattle.cas_effects.specs.TooLarge.{too_large}
 use Rattle.cas_effects.specs.declared.refusal.BindFault.{BindFault}
 use Rattle.cas_effects.specs.declared.refusal.BindFault.TheVariants as fault
@@ -17,3 +17,9 @@ abbrev pub KeyGives : Result (List ℕ) BindFault → List ℕ → Type 0
 KeyGives (Ok k) key = k ≡ key
 KeyGives (Err (fault.Refused r)) key = (others : List (List ℕ)) → too_large (key ∷ others) ≡ Some r
 KeyGives (Err fault.Mem) key = Unit {0}
+
+-- a value that is there, with bytes
+abbrev pub has_bytes : Option (List ℕ) → Bool
+has_bytes None = false
+has_bytes (Some []) = false
+has_bytes (Some (b ∷ bs)) = true

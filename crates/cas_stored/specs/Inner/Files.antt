@@ -9,7 +9,7 @@ use Rattle.cas_tables.specs.Contents.{Contents}
 use Rattle.cas_blocks.specs.declared.fault.TableFault.{TableFault}
 use Rattle.cas_sstread.specs.Loading.{Held}
 use Rattle.cas_stored.specs.Contents.{AnswersOf, IsOf}
-use Rattle.cas_stored.specs.Slices.{Answers}
+use Rattle.cas_reading.specs.Slices.{Answers}
 use Rattle.cas_view.specs.Views.{File, may_hold}
 
 -- what is answered of a file: none where its range denies the key, and else what filter, index and bytes tell, which is what its contents have

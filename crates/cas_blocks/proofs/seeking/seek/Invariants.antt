@@ -11,7 +11,9 @@ invariant-loop-fragment g l = record {
       (left_of l.file.order.now l.file.columns.now l.file.end (g.F.Sealed.contents l.file.sealed.now) l.pieces);
   room : room_of l.file.end l.pieces ≤ room_of l.file.end l.fn.pieces;
   narrows : FindsNoMore l.file.order.now l.file.columns.now l.file.number l.file.end (g.F.Sealed.contents l.file.sealed.now) l.fn.pieces.onward l.pieces.onward;
-  faults : g.F.Tally.Count.number l.fn.tally ≤ g.F.Tally.Count.number l.tally;
+  faults : g.O.Origin.faults l.fn.state ≤ g.O.Origin.faults l.state;
+  fits : g.O.Origin.fits (g.F.Sealed.contents l.file.sealed.now) l.file.end l.state;
+  leads : g.O.Origin.leads l.fn.state l.state;
 }
 
 abbrev pub decreases-loop-fragment : goal.decreases-loop-fragment

@@ -1,6 +1,6 @@
-use Rattle.std.proofs.Common.{◌∙◌}
-use Rattle.cas_types.proofs.Utf8.{told}
+use Rattle.std.proofs.Common.{◌∙◌, sym}
+use Rattle.std.proofs.lemmas.Str.{IsUtf8-from_ascii, is_utf8-from_IsUtf8}
 use Rattle.cas_types.proofs.values.is_text.Goals as goal
 
-pub returns : goal.returns
-returns c = c.is_ok.ensures.value ∙ told c.args.bytes.now _ _ c.from_utf8.result c.from_utf8.ensures.cases
+pub returns-then-is_ascii : goal.returns-then-is_ascii
+returns-then-is_ascii c = c.if-is_ascii.true ∙ sym (is_utf8-from_IsUtf8 c.args.bytes.now (IsUtf8-from_ascii c.args.bytes.now c.if-is_ascii.ensures.cases))

@@ -12,12 +12,12 @@ pub returns-in-Ok-None-clause-first : goal.returns-in-Ok-None-clause-first
 returns-in-Ok-None-clause-first g c = λ fs told.
     let answers = rw c.in-Ok-None.field-0-is at c.in-Ok-None.ensures.told in
     let on = told_there c.args.file.now.order.now c.args.file.now.columns.now c.args.file.now.end (g.F.Sealed.contents c.args.file.now.sealed.now)
-    c.args.self.now.onward c.in-Some.at c.args.self.now.rest fs c.in-Some.is c.requires told in (
+    c.args.self.now.onward c.in-Some.at c.args.self.now.rest fs c.in-Some.is c.requires.behind told in (
       piece_end c.args.file.now.order.now c.args.file.now.columns.now c.args.file.now.number c.args.file.now.end
           (g.F.Sealed.contents c.args.file.now.sealed.now) c.in-Some.at fs on answers,
       ap (λ (o : Option Onward). pieces_left c.args.file.now.order.now c.args.file.now.columns.now c.args.file.now.end
           (g.F.Sealed.contents c.args.file.now.sealed.now) o c.args.self.now.rest) c.replace.ensures.after
-          ∙ ap (λ (xs : List Fragment). Some xs) c.requires,
+          ∙ ap (λ (xs : List Fragment). Some xs) c.requires.behind,
     )
 
 pub returns-in_ok-next-in-Ok-Some-clause-first : goal.returns-in_ok-next-in-Ok-Some-clause-first
@@ -25,7 +25,7 @@ returns-in_ok-next-in-Ok-Some-clause-first g c = λ fs told.
     let answers = rw c.in-Ok-Some.field-0-is at c.in-Ok-Some.ensures.told in
     let shorter = rw c.in-Ok-Some.field-0-is at c.in-Ok-Some.ensures.shorter in
     let on = told_there c.args.file.now.order.now c.args.file.now.columns.now c.args.file.now.end (g.F.Sealed.contents c.args.file.now.sealed.now)
-    c.args.self.now.onward c.in-Some.at c.args.self.now.rest fs c.in-Some.is c.requires told in
+    c.args.self.now.onward c.in-Some.at c.args.self.now.rest fs c.in-Some.is c.requires.behind told in
     let there = piece_block c.args.file.now.order.now c.args.file.now.columns.now c.args.file.now.number c.args.file.now.end
     (g.F.Sealed.contents c.args.file.now.sealed.now) c.in-Some.at fs c.in-Ok-Some.step on answers in
     let given : Result (Option Fragment) TableFault = Ok c.in_ok-next-in-Ok-Some.field-0 in
@@ -47,7 +47,7 @@ returns-in-Err-clause-bad g c =
 pub returns-in-Err-clause-sound : goal.returns-in-Err-clause-sound
 returns-in-Err-clause-sound g c = λ fs told.
     let on = told_there c.args.file.now.order.now c.args.file.now.columns.now c.args.file.now.end (g.F.Sealed.contents c.args.file.now.sealed.now)
-    c.args.self.now.onward c.in-Some.at c.args.self.now.rest fs c.in-Some.is c.requires told in
+    c.args.self.now.onward c.in-Some.at c.args.self.now.rest fs c.in-Some.is c.requires.behind told in
     piece_sound c.args.file.now.order.now c.args.file.now.columns.now c.args.file.now.number c.args.file.now.end
     (g.F.Sealed.contents c.args.file.now.sealed.now) c.in-Some.at c.in-Err.fault fs on c.in-Err.ensures.told
 

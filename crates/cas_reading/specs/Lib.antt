@@ -1,0 +1,3 @@
+pub mod Slices
+pub mod Caching
+pub mod Inner
