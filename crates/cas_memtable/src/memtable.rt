@@ -13,9 +13,8 @@ ghost use Rattle.cas_memtable.specs.Inner.Steps.{ReservesIn, AppliesAt, first_ke
 
 use cas_atoms::{Atom, Mutation, length};
 use cas_bounds::Slice;
-use cas_merge::Merger;
-use cas_partition::Partition;
-use cas_streams::{FragmentSource, Part};
+use cas_partition::{Partition, PartitionStream};
+use cas_streams::FragmentSource;
 use cas_types::{Bytes, List};
 use std::alloc::{AllocError, Global};
 use std::collections::BTreeMap;
@@ -205,9 +204,13 @@ impl MemPart {
 
     /// The partition of the key as a stream, in the slice and of the static row; none exactly where
     /// no atom was joined to it.
-    pub fn part(&self, key: &Bytes, slice: &Slice) -> Result<Option<Merger<Part>>, AllocError>
-        ensures { IfOk result (λ part. GivesPart slice.now (held_at self.now key.now) ⟦<Merger<Part> as FragmentSource>⟧.to_come
-            ⟦<Merger<Part> as FragmentSource>⟧.over_all part) }
+    pub fn part<'a>(
+        &'a self,
+        key: &Bytes,
+        slice: &Slice,
+    ) -> Result<Option<PartitionStream<'a>>, AllocError>
+        ensures { IfOk result (λ part. GivesPart slice.now (held_at self.now key.now) ⟦<PartitionStream<'a> as FragmentSource>⟧.to_come
+            ⟦<PartitionStream<'a> as FragmentSource>⟧.over_all part) }
     {
         match self.partitions.get(key) {
             None => Ok(None),

@@ -8,8 +8,8 @@ use crate::MemPart;
 use crate::sources::gathered;
 use cas_atoms::Mutation;
 use cas_bounds::Slice;
-use cas_merge::Merger;
-use cas_streams::{FragmentSource, Part};
+use cas_partition::PartitionStream;
+use cas_streams::FragmentSource;
 use cas_types::{Bytes, Mem};
 use std::alloc::{AllocError, Global};
 use std::mem;
@@ -90,15 +90,15 @@ impl Parts {
 
     /// The sources of a partition in a slice, one of each memtable that has something under the key.
     /// Their merge is the partition.
-    pub fn sources(
-        &self,
+    pub fn sources<'a>(
+        &'a self,
         alloc: Global,
         key: &Bytes,
         slice: &Slice,
-    ) -> Result<Vec<Merger<Part>>, AllocError>
+    ) -> Result<Vec<PartitionStream<'a>>, AllocError>
         ensures { IfOk result (λ v. (order : ListOf Order) (wss : ListOf (ListOf Wrote)) → Keeps order self.now wss
             → slice.now.lo.order ≡ order → slice.now.hi.order ≡ order
-            → ShowPartition ⟦<Merger<Part> as FragmentSource>⟧.to_come ⟦<Merger<Part> as FragmentSource>⟧.over_all
+            → ShowPartition ⟦<PartitionStream<'a> as FragmentSource>⟧.to_come ⟦<PartitionStream<'a> as FragmentSource>⟧.over_all
             order slice.now key.now (memtables_of self.now) (all_of wss) v.items) }
     {
         gathered(alloc, &self.frozen, &self.active, key, slice)

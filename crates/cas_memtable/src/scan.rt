@@ -11,8 +11,8 @@ ghost use Rattle.cas_memtable.specs.Inner.Next.{first_of};
 use crate::MemPart;
 use crate::sources::gathered_of;
 use cas_bounds::Slice;
-use cas_merge::Merger;
-use cas_streams::{FragmentSource, Part};
+use cas_partition::PartitionStream;
+use cas_streams::FragmentSource;
 use cas_types::{Bytes, compare_bytes};
 use std::alloc::{AllocError, Global};
 use std::sync::Arc;
@@ -50,15 +50,15 @@ pub fn next_key<'a>(
 
 /// The sources of a partition in a slice, one of each memtable that has something under the key.
 /// Their merge is the partition.
-pub fn sources_of(
+pub fn sources_of<'a>(
     alloc: Global,
-    memtables: &[Arc<MemPart, Global>],
+    memtables: &'a [Arc<MemPart, Global>],
     key: &Bytes,
     slice: &Slice,
-) -> Result<Vec<Merger<Part>>, AllocError>
+) -> Result<Vec<PartitionStream<'a>>, AllocError>
     ensures { IfOk result (λ v. (order : ListOf Order) (wss : ListOf (ListOf Wrote)) → StandInEach order (map arc_value memtables.now) wss
         → slice.now.lo.order ≡ order → slice.now.hi.order ≡ order
-        → ShowPartition ⟦<Merger<Part> as FragmentSource>⟧.to_come ⟦<Merger<Part> as FragmentSource>⟧.over_all
+        → ShowPartition ⟦<PartitionStream<'a> as FragmentSource>⟧.to_come ⟦<PartitionStream<'a> as FragmentSource>⟧.over_all
         order slice.now key.now (map arc_value memtables.now) (all_of wss) v.items) }
 {
     gathered_of(alloc, memtables, key, slice)

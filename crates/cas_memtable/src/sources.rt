@@ -8,15 +8,18 @@ ghost use Rattle.cas_memtable.specs.Inner.Gathered.{Gathers, GathersBehind};
 
 use crate::MemPart;
 use cas_bounds::Slice;
-use cas_merge::Merger;
-use cas_streams::{FragmentSource, Part};
+use cas_partition::PartitionStream;
+use cas_streams::FragmentSource;
 use cas_types::Bytes;
 use std::alloc::{AllocError, Global};
 use std::sync::Arc;
 
 // Puts a source behind the others, if there is one.
-fn put(sources: &mut Vec<Merger<Part>>, source: Option<Merger<Part>>) -> Result<(), AllocError>
-    ensures { OnOk result (sources.new.items ≡ sources.old.items ++ option_to_list source) }
+fn put<'a>(
+    sources: &mut Vec<PartitionStream<'a>>,
+    source: Option<PartitionStream<'a>>,
+) -> Result<(), AllocError>
+    ensures { OnOk result (sources.new.items ≡ sources.old.items ++ option_to_list source.entry) }
 {
     if let Some(source) = source {
         sources.push(source)?;
@@ -25,13 +28,13 @@ fn put(sources: &mut Vec<Merger<Part>>, source: Option<Merger<Part>>) -> Result<
 }
 
 // Puts the sources of frozen memtables behind the others.
-fn put_frozen(
-    sources: &mut Vec<Merger<Part>>,
-    frozen: &[Arc<MemPart, Global>],
+fn put_frozen<'a>(
+    sources: &mut Vec<PartitionStream<'a>>,
+    frozen: &'a [Arc<MemPart, Global>],
     key: &Bytes,
     slice: &Slice,
 ) -> Result<(), AllocError>
-    ensures { OnOk result (GathersBehind ⟦<Merger<Part> as FragmentSource>⟧.to_come ⟦<Merger<Part> as FragmentSource>⟧.over_all
+    ensures { OnOk result (GathersBehind ⟦<PartitionStream<'a> as FragmentSource>⟧.to_come ⟦<PartitionStream<'a> as FragmentSource>⟧.over_all
         slice.now key.now (map arc_value frozen.now) sources.old.items sources.new.items) }
 {
     match frozen {
@@ -44,13 +47,13 @@ fn put_frozen(
 }
 
 /// The sources of these memtables.
-pub(crate) fn gathered_of(
+pub(crate) fn gathered_of<'a>(
     alloc: Global,
-    memtables: &[Arc<MemPart, Global>],
+    memtables: &'a [Arc<MemPart, Global>],
     key: &Bytes,
     slice: &Slice,
-) -> Result<Vec<Merger<Part>>, AllocError>
-    ensures { IfOk result (λ v. Gathers ⟦<Merger<Part> as FragmentSource>⟧.to_come ⟦<Merger<Part> as FragmentSource>⟧.over_all
+) -> Result<Vec<PartitionStream<'a>>, AllocError>
+    ensures { IfOk result (λ v. Gathers ⟦<PartitionStream<'a> as FragmentSource>⟧.to_come ⟦<PartitionStream<'a> as FragmentSource>⟧.over_all
         slice.now key.now (map arc_value memtables.now) v.items) }
 {
     let mut sources = Vec::new(alloc);
@@ -59,14 +62,14 @@ pub(crate) fn gathered_of(
 }
 
 /// The sources of all memtables: the frozen ones, and the one that is written to.
-pub(crate) fn gathered(
+pub(crate) fn gathered<'a>(
     alloc: Global,
-    frozen: &[Arc<MemPart, Global>],
-    active: &MemPart,
+    frozen: &'a [Arc<MemPart, Global>],
+    active: &'a MemPart,
     key: &Bytes,
     slice: &Slice,
-) -> Result<Vec<Merger<Part>>, AllocError>
-    ensures { IfOk result (λ v. Gathers ⟦<Merger<Part> as FragmentSource>⟧.to_come ⟦<Merger<Part> as FragmentSource>⟧.over_all
+) -> Result<Vec<PartitionStream<'a>>, AllocError>
+    ensures { IfOk result (λ v. Gathers ⟦<PartitionStream<'a> as FragmentSource>⟧.to_come ⟦<PartitionStream<'a> as FragmentSource>⟧.over_all
         slice.now key.now (map arc_value frozen.now ++ active.now ∷ []) v.items) }
 {
     let mut sources = gathered_of(alloc, frozen, key, slice)?;

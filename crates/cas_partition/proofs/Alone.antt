@@ -1,16 +1,16 @@
 -- Rows among which there are markers, or none.
 use Rattle.std.proofs.Common.{◌≡◌, ℕ, ◌==◌, Bool, true, Option, None, Some, List, [], ◌∷◌, length, refl, sym, ap, ◌∙◌, arith}
 use Rattle.std.proofs.lemmas.Bool.{eqb-true}
-use Rattle.cas_cell.specs.declared.deletion.Deletion.{Deletion}
 use Rattle.cas_cell.proofs.OrderLaws.{deletion_laws}
+use Rattle.cas_cell.specs.declared.deletion.Deletion.{Deletion}
 use Rattle.cas_atoms.proofs.GreatestLemmas.{greater_none}
 use Rattle.cas_streams.specs.Weaving.{woven}
 use Rattle.cas_streams.specs.Joined.{raised, opened, by_place}
+use Rattle.cas_streams.specs.Merged.{merged}
 use Rattle.cas_streams.specs.Settled.{settled}
 use Rattle.cas_streams.specs.declared.fragment.Fragment.{Fragment}
 use Rattle.cas_streams.specs.declared.fragment.Fragment.TheVariants as fragment
 use Rattle.cas_merge.specs.Told.{told_first, streams_told}
-use Rattle.cas_partition.specs.Inner.Sources.{TellMerge, SettleAlike}
 
 pub no_items : {X : Type 0} (b : Bool) (n : ℕ) (xs : List X) → b ≡ (n == 0) → n ≡ length xs → b ≡ true → xs ≡ []
 no_items b n [] e l t = refl
@@ -25,12 +25,13 @@ pub woven_none : (now : Option Deletion) (fs : List Fragment) → woven by_place
 woven_none now [] = refl
 woven_none now (f ∷ fs) = λ i. raised_none f i ∷ woven_none (opened now f) fs i
 
--- one source of which the same is left as of both streams woven
-pub one_tells : {I : Type 0} (tells : I → Option (List Fragment)) (tops : I → Option Deletion) (a : I) (parts : List I) (rows marks fragments : List Fragment) (top : Option Deletion)
-    → parts ≡ a ∷ [] → tells a ≡ Some fragments → tops a ≡ top → SettleAlike top rows marks fragments → TellMerge tells tops top rows marks parts
-one_tells tells tops a parts rows marks fragments top e f g both = (
-  record { top = top; fragments = fragments } ∷ [],
-  ap (streams_told tells tops) e ∙ (λ j. told_first (g j) (f j) (Some [])),
-  (λ i. record { top = top; fragments = both i })
-      ∙ (λ i. settled (record { top = sym (greater_none deletion_laws.orders top) i; fragments = woven by_place (record { left = None; right = None }) rows marks })),
-)
+-- one source of them
+pub one_told : {I : Type 0} (tells : I → Option (List Fragment)) (tops : I → Option Deletion) (a : I) (parts : List I) (fragments : List Fragment) (top : Option Deletion)
+    → parts ≡ a ∷ [] → tells a ≡ Some fragments → tops a ≡ top → streams_told tells tops parts ≡ Some (record { top = top; fragments = fragments } ∷ [])
+one_told tells tops a parts fragments top e f g = ap (streams_told tells tops) e ∙ (λ j. told_first (g j) (f j) (Some []))
+
+-- rows under a deletion and markers woven: what is left of them is the merge of both
+pub both_streams : (top : Option Deletion) (rows marks : List Fragment)
+    → settled (record { top = top; fragments = woven by_place (record { left = None; right = None }) rows marks })
+    ≡ merged (record { top = top; fragments = rows } ∷ record { top = None; fragments = marks } ∷ [])
+both_streams top rows marks = λ i. settled (record { top = sym (greater_none deletion_laws.orders top) i; fragments = woven by_place (record { left = None; right = None }) rows marks })

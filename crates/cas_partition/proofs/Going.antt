@@ -1,5 +1,5 @@
 -- A row that goes on with a further spot.
-use Rattle.std.proofs.Common.{◌≡◌, ℕ, true, false, ◌==◌, nat_lt, cond, Option, None, Some, IsSome, List, [], ◌∷◌, ◌++◌, length, length-append, fold, map, ◌+◌, ◌-◌, ◌<◌, arith, slice_get, get_or, Bool, refl, sym, ap, ◌∙◌, subst}
+use Rattle.std.proofs.Common.{◌≡◌, ℕ, true, false, ◌==◌, nat_lt, cond, Option, None, Some, IsSome, List, [], ◌∷◌, ◌++◌, length, map, ◌-◌, ◌<◌, arith, slice_get, get_or, Bool, refl, sym, ap, ◌∙◌, subst}
 use Rattle.std.proofs.lemmas.Bool.{true≢false}
 use Rattle.std.proofs.lemmas.Option.{none-some}
 use Rattle.std.specs.Option.{unwrap_or}
@@ -117,33 +117,6 @@ took_at [] n l h g false e p t = refl
 took_at (f ∷ fs) n l h g taken e p t =
     let k : n - 1 ≡ length fs = omega (arith, e) in
     subst (λ m. TakesLast taken (f ∷ fs) g (slice_set (f ∷ fs) m h)) (sym k) (put_at f fs l h g taken (p ∙ ap (λ m. get_or (f ∷ fs) m l) k ∙ get_last f fs l) t)
-
--- ---- a row that is filled where it stands
-
-set_last : (front : List Fragment) (f h : Fragment) → slice_set (front ++ f ∷ []) (length front) h ≡ front ++ h ∷ []
-set_last [] f h = refl
-set_last (k ∷ front) f h = ap (λ l. k ∷ l) (set_last front f h)
-
-get_behind : (front : List Fragment) (f d : Fragment) → get_or (front ++ f ∷ []) (length front) d ≡ f
-get_behind [] f d = refl
-get_behind (k ∷ front) f d = get_behind front f d
-
-one_longer : (front : List Fragment) (f : Fragment) → length (front ++ f ∷ []) ≡ length front + 1
-one_longer front f = length-append front (f ∷ [])
-
-pub filled : (rows front : List Fragment) (n : ℕ) (f l h : Fragment) (ps : List Fragment) → n ≡ length rows → l ≡ get_or rows (n - 1) l → h ≡ fold joined_fragment l ps
-    → rows ≡ front ++ f ∷ [] → slice_set rows (n - 1) h ≡ front ++ fold joined_fragment f ps ∷ []
-filled rows front n f l h ps size is taken e =
-    let long : n ≡ length front + 1 = size ∙ ap length e ∙ one_longer front f in
-    let k : n - 1 ≡ length front = omega (arith, long) in
-    let last : l ≡ f = is ∙ (λ i. get_or (e i) (k i) l) ∙ get_behind front f l in
-    (λ i. slice_set (e i) (k i) h) ∙ set_last front f h ∙ ap (λ r. front ++ r ∷ []) (taken ∙ ap (λ r. fold joined_fragment r ps) last)
-
-pub none_before : (rows front : List Fragment) (f : Fragment) → rows ≡ [] → rows ≡ front ++ f ∷ [] → ⊥
-none_before rows front f none e =
-    let long : length rows ≡ length front + 1 = ap length e ∙ one_longer front f in
-    let empty : length rows ≡ 0 = ap length none in
-    omega (arith, long, empty)
 
 -- rows with pieces to come, where the first is of the last row
 behind_takes : (f : Fragment) (fs : List Fragment) (g : Fragment) (gs : List Fragment) → is_eq (fragment_cmp (last_of f fs) g) ≡ true

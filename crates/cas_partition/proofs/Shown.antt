@@ -442,6 +442,10 @@ if_ok_too (Ok x) P Q h p = h x p
 if_ok_too (Err e) P Q h p = tt
 
 -- what holds in any case holds where a call answers Ok
+pub if_ok_with : {A E : Type 0} (r : Result A E) (S : Type 0) (P Q : A → Type 0) → ((x : A) → S → P x → Q x) → OnOk r S → IfOk r P → IfOk r Q
+if_ok_with (Ok x) S P Q h s p = h x s p
+if_ok_with (Err e) S P Q h s p = tt
+
 pub on_ok_as_ever : {A E : Type 0} (r : Result A E) (P : Type 0) → P → OnOk r P
 on_ok_as_ever (Ok x) P p = p
 on_ok_as_ever (Err e) P p = tt

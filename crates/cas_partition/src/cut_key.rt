@@ -6,10 +6,11 @@ ghost use Rattle.std.specs.Cmp.{eq_by_cmp_equiv, partial_equiv_from_equiv, parti
 ghost use Rattle.cas_bounds.specs.Keys.{key_cmp};
 ghost use Rattle.cas_bounds.specs.Inner.KeyLaws.{key_total};
 ghost use Rattle.cas_partition.specs.Inner.Fronts.{front_at};
+ghost use Rattle.cas_partition.specs.Inner.Slots.{cut_of};
 ghost use Rattle.cas_partition.specs.Ranges.{key_of};
 
 use crate::front::{Front, front_at};
-use cas_bounds::{Cut, MapKey};
+use cas_bounds::{Cut, End, MapKey};
 use std::cmp::Ordering;
 use std::marker::Model;
 
@@ -50,6 +51,22 @@ impl CutKey {
         ensures { result.now ≡ self.now }
     {
         &self.key
+    }
+
+    /// The cut.
+    pub(crate) fn into_cut(self) -> Cut
+        ensures { result ≡ cut_of self }
+    {
+        let MapKey { values, end, order } = self.key;
+        let after = match end {
+            End::Before | End::Row => false,
+            End::After => true,
+        };
+        Cut {
+            prefix: values,
+            after,
+            order,
+        }
     }
 
     /// The number of its prefix.

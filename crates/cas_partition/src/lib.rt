@@ -11,6 +11,7 @@ mod ranges;
 mod slice;
 mod spot;
 mod spot_key;
+mod stream;
 mod weaving;
 
 pub use cut_key::CutKey;
@@ -20,3 +21,4 @@ pub use partition::Partition;
 pub use ranges::Ranges;
 pub use spot::{Addition, Content, Room, Spot};
 pub use spot_key::SpotKey;
+pub use stream::{OneOf, PartitionStream, Passing};

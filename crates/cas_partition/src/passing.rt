@@ -1,18 +1,17 @@
-//! Entries and marks as one stream, without rows of which nothing would be left.
+//! Entries and marks on their way into one stream, without rows of which nothing would be left.
 
-ghost use Rattle.std.specs.Prelude.{◌≡◌, ◌≤◌, ◌++◌, ◌∷◌, [], List as ListOf, None, IfOk, OnOk, length, take, drop, fold, map};
-ghost use Rattle.std.specs.Option.{option_to_list};
+ghost use Rattle.std.specs.Prelude.{◌≡◌, ◌≤◌, ◌++◌, ◌∷◌, [], List as ListOf, None, Some, Option, IfOk, OnOk, length, take, drop, fold, map};
+ghost use Rattle.std.specs.Vec.Iter.{into_iter_items};
+ghost use Rattle.cas_cell.specs.declared.deletion.Deletion.{Deletion};
 ghost use Rattle.cas_streams.specs.Joined.{joined_fragment};
-ghost use Rattle.cas_streams.specs.Settled.{same_force, left_of, settled_from};
+ghost use Rattle.cas_streams.specs.Settled.{same_force, left_of};
+ghost use Rattle.cas_streams.specs.Sources.{TakesFirst, Shrinks};
 ghost use Rattle.cas_partition.specs.Spots.{said};
-ghost use Rattle.cas_partition.specs.Slices.{grouped};
 ghost use Rattle.cas_partition.specs.Inner.Entries.{lent_piece};
-ghost use Rattle.cas_partition.specs.Inner.Passing.{lent_marker, are_of_one, count_of, is_first, is_cell_hidden, is_hidden, all_hidden, row_left};
-ghost use Rattle.cas_partition.specs.Inner.Passing.{marks_before, force_after};
-ghost use Rattle.cas_partition.specs.Inner.Slots.{cut_of};
-ghost use Rattle.cas_partition.specs.Inner.Sources.{SettleAlike};
-ghost use Rattle.cas_streams.specs.declared.fragment.Fragment.{Fragment};
-ghost use Rattle.cas_streams.specs.declared.fragment.Fragment.TheVariants as fragment;
+ghost use Rattle.cas_partition.specs.Inner.Firsts.{with_first};
+ghost use Rattle.cas_partition.specs.Inner.Passing.{lent_marker, own_marker, are_of_one, count_of, is_first, is_mark_next, is_cell_hidden};
+ghost use Rattle.cas_partition.specs.Inner.Passing.{is_hidden, all_hidden, row_of, left_to_come};
+ghost use Rattle.cas_partition.specs.Inner.Steps.{marks_in, room_left, Steps};
 
 use crate::cut_key::CutKey;
 use crate::ranges::{Mark, cut_of};
@@ -22,12 +21,16 @@ use crate::spot_key::SpotKey;
 use cas_atoms::{greater_deletion, standing_live};
 use cas_bounds::{End, MapKey, compare_points};
 use cas_cell::{Cell, Deletion, covers};
-use cas_merge::joined_fragment;
+use cas_merge::{joined_fragment, left_of};
 use cas_streams::Fragment;
 use cas_types::List;
 use std::alloc::{AllocError, Global};
 use std::mem;
 use std::mem::drop;
+use std::vec::IntoIter;
+
+/// The key of a cut, and what is in force from it on.
+pub(crate) type Change = (CutKey, Option<Deletion>);
 
 // Whether both spots are of one row.
 fn are_of_one(spot: &SpotKey, other: &SpotKey) -> bool
@@ -191,40 +194,6 @@ fn take_in_all(
     Ok(())
 }
 
-// So does the last of the rows, where it stands.
-fn take_in_last(
-    alloc: Global,
-    rows: &mut Vec<Fragment>,
-    others: &[(&SpotKey, &Content)],
-) -> Result<(), AllocError>
-    ensures { OnOk result ((front : ListOf Fragment) (f : Fragment) → rows.old.items ≡ front ++ f ∷ []
-        → rows.new.items ≡ front ++ fold joined_fragment f (map lent_piece others.now) ∷ []) }
-{
-    match rows.last_mut() {
-        Some(last) => take_in_all(alloc, last, others),
-        None => Ok(()),
-    }
-}
-
-// The row of these entries behind the others, where something of it would be left.
-fn add_row(
-    alloc: Global,
-    out: &mut Vec<Fragment>,
-    over: Option<Deletion>,
-    spot: &Spot,
-    content: &Content,
-    others: &[(&SpotKey, &Content)],
-) -> Result<(), AllocError>
-    ensures { OnOk result (out.new.items ≡ out.old.items ++ row_left over spot.now content.now others.now) }
-{
-    if spot.row.is_some() && is_hidden(over, content) && all_hidden(over, others) {
-        return Ok(());
-    }
-    out.push(piece(alloc, spot, content)?)?;
-    take_in_last(alloc, out, others)?;
-    Ok(())
-}
-
 fn same_force(a: Option<Deletion>, b: Option<Deletion>) -> bool
     ensures { result ≡ same_force a b }
 {
@@ -235,99 +204,173 @@ fn same_force(a: Option<Deletion>, b: Option<Deletion>) -> bool
     }
 }
 
-// The mark behind the others, where it changes what is in force.
-fn add_mark(
-    out: &mut Vec<Fragment>,
-    now: Option<Deletion>,
-    key: &CutKey,
-    then: Option<Deletion>,
-) -> Result<(), AllocError>
-    ensures { OnOk result (out.new.items ≡ out.old.items ++ option_to_list (left_of None now (fragment.Marker (cut_of key.now) then))) }
+// A mark is passed: it is given where it changes what is in force.
+fn pass_mark(now: &mut Option<Deletion>, mark: Change) -> Option<Fragment>
+    ensures left { (top : Option Deletion) → result ≡ left_of top now.old (own_marker mark) }
+    ensures force { now.new ≡ mark.1 }
 {
-    if !same_force(now, then) {
-        out.push(Fragment::Marker(cut_of(key.key())?, then))?;
+    let (key, then) = mark;
+    let before = *now;
+    *now = then;
+    if !same_force(before, then) {
+        return Some(Fragment::Marker(key.into_cut(), then));
     }
-    Ok(())
+    None
 }
 
-// So all of these; what is in force behind them.
-fn add_marks(
-    out: &mut Vec<Fragment>,
+// A row is passed: what is left of it.
+fn pass_row(
+    alloc: Global,
+    top: Option<Deletion>,
     now: Option<Deletion>,
-    marks: &[Mark<'_>],
-) -> Result<Option<Deletion>, AllocError>
-    ensures added { OnOk result (out.new.items ≡ out.old.items ++ settled_from None now (map lent_marker marks.now)) }
-    ensures force { IfOk result (λ d. d ≡ force_after now marks.now) }
+    spot: &Spot,
+    content: &Content,
+    others: &[(&SpotKey, &Content)],
+) -> Result<Option<Fragment>, AllocError>
+    ensures { IfOk result (λ f. f ≡ left_of top now (row_of spot.now content.now others.now)) }
 {
-    let mut last = now;
-    let mut rest = marks;
-    while let [(key, then), others @ ..] = rest {
-        add_mark(out, last, key, *then)?;
-        last = *then;
-        rest = others;
+    let over = greater_deletion(top, now);
+    if spot.row.is_some() && is_hidden(over, content) && all_hidden(over, others) {
+        return Ok(None);
     }
-    Ok(last)
+    let mut row = piece(alloc, spot, content)?;
+    take_in_all(alloc, &mut row, others)?;
+    left_of(alloc, top, now, row)
 }
 
-/// All of these as markers.
-pub(crate) fn markers(alloc: Global, marks: &[Mark<'_>]) -> Result<Vec<Fragment>, AllocError>
-    ensures { IfOk result (λ v. v.items ≡ map lent_marker marks.now) }
+/// Marks one after another, the first of which can be looked at.
+#[derive(Drop)]
+pub(crate) struct Marks {
+    first: Option<Change>,
+    others: IntoIter<Change>,
+}
+
+// The next mark, and the others stay.
+fn first_mark(rest: &mut IntoIter<Change>) -> Option<Change>
+    ensures { with_first result (into_iter_items rest.new) ≡ into_iter_items rest.old }
+{
+    rest.next()
+}
+
+impl Marks {
+    pub(crate) fn of(changes: Vec<Change>) -> Self
+        ensures { marks_in result ≡ changes.items }
+    {
+        let mut others = changes.into_iter();
+        Marks {
+            first: first_mark(&mut others),
+            others,
+        }
+    }
+
+    // The first of them, which then is passed.
+    fn next(&mut self) -> Option<Change>
+        ensures { with_first result (marks_in self.new) ≡ marks_in self.old }
+    {
+        let next = first_mark(&mut self.others);
+        mem::replace(&mut self.first, next)
+    }
+}
+
+// Whether a mark comes next, and no row.
+fn is_mark_next(marks: &Marks, entries: &[(&SpotKey, &Content)]) -> bool
+    ensures { result ≡ is_mark_next (marks_in marks.now) entries.now }
+{
+    match (&marks.first, entries) {
+        (None, _) => false,
+        (Some(_), []) => true,
+        (Some((key, _)), [(spot, _), ..]) => is_first(key, spot),
+    }
+}
+
+// What comes of one step.
+#[derive(Drop)]
+enum Step {
+    // Nothing is left.
+    End,
+    // A mark or a row was passed, of which something is left or not.
+    Passed(Option<Fragment>),
+}
+
+// The next mark or row.
+fn pass_next(
+    alloc: Global,
+    top: Option<Deletion>,
+    now: &mut Option<Deletion>,
+    entries: &[(&SpotKey, &Content)],
+    at: &mut usize,
+    marks: &mut Marks,
+) -> Result<Step, AllocError>
+    requires { at.old ≤ length entries.now }
+    ensures within { at.new ≤ length entries.now }
+    ensures steps { IfOk result (λ s. Steps s
+        (left_to_come top now.old (drop at.old entries.now) (map own_marker (marks_in marks.old)))
+        (left_to_come top now.new (drop at.new entries.now) (map own_marker (marks_in marks.new)))
+        (room_left (drop at.old entries.now) (marks_in marks.old)) (room_left (drop at.new entries.now) (marks_in marks.new))) }
+{
+    let rest = behind(entries, *at);
+    if is_mark_next(marks, rest) {
+        return match marks.next() {
+            Some(mark) => Ok(Step::Passed(pass_mark(now, mark))),
+            None => Ok(Step::End),
+        };
+    }
+    match rest {
+        [] => Ok(Step::End),
+        [(spot, content), others @ ..] => {
+            let count = count_of(spot, others);
+            *at += 1 + count;
+            let left = pass_row(alloc, top, *now, spot.spot(), content, first(others, count))?;
+            Ok(Step::Passed(left))
+        }
+    }
+}
+
+/// The next fragment of the rows of entries, from one of them on, and of marks: of rows what neither
+/// the deletion of the whole covers nor the one in force, and marks that change what is in force.
+pub(crate) fn next_left(
+    alloc: Global,
+    top: Option<Deletion>,
+    now: &mut Option<Deletion>,
+    entries: &[(&SpotKey, &Content)],
+    at: &mut usize,
+    marks: &mut Marks,
+) -> Result<Option<Fragment>, AllocError>
+    requires { at.old ≤ length entries.now }
+    ensures within { at.new ≤ length entries.now }
+    ensures first { TakesFirst (left_to_come top now.old (drop at.old entries.now) (map own_marker (marks_in marks.old)))
+        (Some (left_to_come top now.new (drop at.new entries.now) (map own_marker (marks_in marks.new)))) result }
+    ensures ends { Shrinks (room_left (drop at.old entries.now) (marks_in marks.old)) (room_left (drop at.new entries.now) (marks_in marks.new)) result }
+{
+    while let Step::Passed(left) = pass_next(alloc, top, now, entries, at, marks)? {
+        if left.is_some() {
+            return Ok(left);
+        }
+    }
+    Ok(None)
+}
+
+/// All of these, each with its cut's copy.
+pub(crate) fn changes(alloc: Global, marks: &[Mark<'_>]) -> Result<Vec<Change>, AllocError>
+    ensures { IfOk result (λ v. map own_marker v.items ≡ map lent_marker marks.now) }
 {
     let mut out = Vec::with_capacity(alloc, marks.len())?;
     let mut rest = marks;
     while let [(key, then), others @ ..] = rest {
-        out.push(Fragment::Marker(cut_of(key.key())?, *then))?;
+        out.push((CutKey::of(cut_of(key.key())?), *then))?;
         rest = others;
     }
     Ok(out)
 }
 
-// How many marks come first that stand before the row of the spot.
-fn count_before(marks: &[Mark<'_>], spot: &SpotKey) -> usize
-    ensures count { result ≡ length (marks_before marks.now spot.now.row) }
-    ensures most { result ≤ length marks.now }
+/// All of these as markers.
+pub(crate) fn markers(alloc: Global, changes: Vec<Change>) -> Result<Vec<Fragment>, AllocError>
+    ensures { IfOk result (λ v. v.items ≡ map own_marker changes.items) }
 {
-    let mut count = 0;
-    let mut rest = marks;
-    while let [(key, _), others @ ..] = rest {
-        if !is_first(key, spot) {
-            return count;
-        }
-        count += 1;
-        rest = others;
+    let mut out = Vec::with_capacity(alloc, changes.len())?;
+    let mut rest = changes.into_iter();
+    while let Some((key, then)) = first_mark(&mut rest) {
+        out.push(Fragment::Marker(key.into_cut(), then))?;
     }
-    count
-}
-
-/// The rows of these entries and the markers among them, but for rows of which nothing would be left
-/// under the deletion of the whole and the one in force there, and markers that change nothing.
-pub(crate) fn passed(
-    alloc: Global,
-    top: Option<Deletion>,
-    entries: &[(&SpotKey, &Content)],
-    marks: &[Mark<'_>],
-) -> Result<Vec<Fragment>, AllocError>
-    ensures { IfOk result (λ v. SettleAlike top (grouped None (map lent_piece entries.now)) (map lent_marker marks.now) v.items) }
-{
-    let mut out = Vec::with_capacity(alloc, entries.len() / 2)?;
-    let mut now = None;
-    let mut rest = entries;
-    let mut later = marks;
-    while let [(spot, content), others @ ..] = rest {
-        let passed = count_before(later, spot);
-        now = add_marks(&mut out, now, first(later, passed))?;
-        later = behind(later, passed);
-        let count = count_of(spot, others);
-        add_row(
-            alloc,
-            &mut out,
-            greater_deletion(top, now),
-            spot.spot(),
-            content,
-            first(others, count),
-        )?;
-        rest = behind(others, count);
-    }
-    add_marks(&mut out, now, later)?;
     Ok(out)
 }

@@ -8,19 +8,20 @@ ghost use Rattle.cas_streams.specs.declared.fragment.Fragment.{Fragment};
 ghost use Rattle.cas_streams.specs.Joined.{joined_fragment};
 ghost use Rattle.cas_partition.specs.Spots.{spot_cmp, column_at, columns_at, cells_at, said, row_piece};
 ghost use Rattle.cas_partition.specs.Slices.{grouped, grouped_from, meet, AreRowsOf, Shows};
-ghost use Rattle.cas_partition.specs.Ranges.{key_of};
+ghost use Rattle.cas_partition.specs.Partitions.{marker};
+ghost use Rattle.cas_partition.specs.Ranges.{clipped, key_of};
 ghost use Rattle.cas_partition.specs.Ranged.{piece_of, spot_at, spots_between, statics_of, rows_between};
 ghost use Rattle.cas_partition.specs.Inner.Entries.{lent_piece, GoesOn, EndsIn, Takes, TakesLast, grouped_on, ends_as, are_below};
-ghost use Rattle.cas_partition.specs.Inner.Passing.{lent_marker};
-ghost use Rattle.cas_partition.specs.Inner.Sources.{TellMerge, Settles, SettleAlike};
+ghost use Rattle.cas_partition.specs.Inner.Passing.{own_marker};
+ghost use Rattle.cas_partition.specs.Inner.Sources.{StreamsOf};
 ghost use Rattle.cas_streams.specs.declared.fragment.Fragment.TheVariants as fragment;
 
 use crate::cut_key::CutKey;
 use crate::partition::Partition;
-use crate::passing::{markers, passed};
-use crate::ranges::Mark;
+use crate::passing::{Change, changes, markers};
 use crate::spot::{Content, Spot};
 use crate::spot_key::SpotKey;
+use crate::stream::{OneOf, PartitionStream, Passing};
 use crate::weaving::{first_of, woven};
 use cas_atoms::{ColumnRef, PathCell, Row, RowColumn};
 use cas_bounds::{Clustering, Cut, End, MapKey, RowOrder, Slice, Values, compare_points};
@@ -487,20 +488,24 @@ fn rows_of(alloc: Global, entries: &[(&SpotKey, &Content)]) -> Result<Vec<Fragme
 }
 
 // The entries as rows, and the marks among them.
-fn fragments_of(
+fn stream_of<'a>(
     alloc: Global,
     top: Option<Deletion>,
-    entries: &[(&SpotKey, &Content)],
-    marks: &[Mark<'_>],
-) -> Result<Vec<Fragment>, AllocError>
-    ensures { IfOk result (λ v. Settles top (map lent_piece entries.now) (map lent_marker marks.now) v.items) }
+    entries: Vec<(&'a SpotKey, &'a Content)>,
+    marks: Vec<Change>,
+) -> Result<PartitionStream<'a>, AllocError>
+    ensures { IfOk result (λ m. StreamsOf ⟦<PartitionStream<'a> as FragmentSource>⟧.to_come ⟦<PartitionStream<'a> as FragmentSource>⟧.over_all top
+        (map lent_piece entries.entry.items) (map own_marker marks.items) m) }
 {
-    if are_plain(entries) {
-        return passed(alloc, top, entries, marks);
+    if are_plain(&entries) {
+        return Ok(OneOf::Passing(Passing::new(alloc, top, entries, marks)));
     }
-    let rows = rows_of(alloc, entries)?;
+    let rows = rows_of(alloc, &entries)?;
     let told = markers(alloc, marks)?;
-    woven(alloc, rows, told)
+    let fragments = woven(alloc, rows, told)?;
+    let mut sources = Vec::with_capacity(alloc, 1)?;
+    sources.push(Part::new(top, fragments))?;
+    Ok(OneOf::Woven(Merger::new(sources)))
 }
 
 // The key of a cut's copy, as a spot.
@@ -542,81 +547,58 @@ fn add_rows<'a>(
 }
 
 // What is said of the static row and of the rows of the slice, and the marks among them.
-fn fragments_in(
+fn stream_in<'a>(
     alloc: Global,
     top: Option<Deletion>,
-    spots: &BTreeMap<SpotKey, Content>,
+    spots: &'a BTreeMap<SpotKey, Content>,
     slice: &Slice,
-    marks: &[Mark<'_>],
-) -> Result<Vec<Fragment>, AllocError>
-    ensures rows { IfOk result (λ v. Settles top (map piece_of (statics_of spots.now.entries
-        ++ rows_between slice.now.lo slice.now.hi spots.now.entries)) (map lent_marker marks.now) v.items) }
+    marks: Vec<Change>,
+) -> Result<PartitionStream<'a>, AllocError>
+    ensures rows { IfOk result (λ m. StreamsOf ⟦<PartitionStream<'a> as FragmentSource>⟧.to_come ⟦<PartitionStream<'a> as FragmentSource>⟧.over_all top
+        (map piece_of (statics_of spots.now.entries ++ rows_between slice.now.lo slice.now.hi spots.now.entries)) (map own_marker marks.items) m) }
     ensures sorted { OnOk result (IsStrictlySortedBy spot_cmp (keys_of spots.now.entries)) }
 {
     let mut entries = Vec::new(alloc);
     add_static(&mut entries, spots)?;
     add_rows(&mut entries, spots, slice)?;
-    fragments_of(alloc, top, &entries, marks)
-}
-
-// What a slice shows, as one source under the deletion of the whole.
-fn source(
-    alloc: Global,
-    top: Option<Deletion>,
-    fragments: Vec<Fragment>,
-) -> Result<Vec<Part>, AllocError>
-    ensures { IfOk result (λ v. (rows marks : ListOf Fragment) → SettleAlike top rows marks fragments.items
-        → TellMerge ⟦<Part as FragmentSource>⟧.to_come ⟦<Part as FragmentSource>⟧.over_all top rows marks v.items) }
-{
-    let mut sources = Vec::with_capacity(alloc, 1)?;
-    sources.push(Part::new(top, fragments))?;
-    Ok(sources)
+    stream_of(alloc, top, entries, marks)
 }
 
 impl Partition {
     /// The partition as a stream, in the slice and of the static row. What is covered is left out.
-    pub fn slice(&self, alloc: Global, slice: &Slice) -> Result<Merger<Part>, AllocError>
-        ensures { IfOk result (λ m. (fs : ListOf Fragment) × (⟦<Merger<Part> as FragmentSource>⟧.to_come m ≡ Some fs)
-            × Shows slice.now self.now (⟦<Merger<Part> as FragmentSource>⟧.over_all m) fs) }
+    pub fn slice<'a>(
+        &'a self,
+        alloc: Global,
+        slice: &Slice,
+    ) -> Result<PartitionStream<'a>, AllocError>
+        ensures { IfOk result (λ m. (fs : ListOf Fragment) × (⟦<PartitionStream<'a> as FragmentSource>⟧.to_come m ≡ Some fs)
+            × Shows slice.now self.now (⟦<PartitionStream<'a> as FragmentSource>⟧.over_all m) fs) }
+    {
+        let marks = self.marks_in(alloc, slice)?;
+        self.slice_among(alloc, slice, marks)
+    }
+
+    // The marks of the slice.
+    fn marks_in(&self, alloc: Global, slice: &Slice) -> Result<Vec<Change>, AllocError>
+        ensures { IfOk result (λ v. map own_marker v.items ≡ map marker (clipped slice.now self.now.ranges)) }
     {
         let low = CutKey::of(slice.lo.copied()?);
-        let shown = self.slice_from(alloc, slice, &low);
-        drop(low);
-        shown
-    }
-
-    // So from the key of its beginning.
-    fn slice_from(
-        &self,
-        alloc: Global,
-        slice: &Slice,
-        low: &CutKey,
-    ) -> Result<Merger<Part>, AllocError>
-        requires { low.now ≡ key_of slice.now.lo }
-        ensures { IfOk result (λ m. (fs : ListOf Fragment) × (⟦<Merger<Part> as FragmentSource>⟧.to_come m ≡ Some fs)
-            × Shows slice.now self.now (⟦<Merger<Part> as FragmentSource>⟧.over_all m) fs) }
-    {
         let high = CutKey::of(slice.hi.copied()?);
-        let shown = self.slice_between(alloc, slice, low, &high);
-        drop(high);
-        shown
+        let marks = self.ranges.marks(alloc, &low, &high)?;
+        changes(alloc, &marks)
     }
 
-    // So between the keys of both its cuts.
-    fn slice_between(
-        &self,
+    // The slice with these marks.
+    fn slice_among<'a>(
+        &'a self,
         alloc: Global,
         slice: &Slice,
-        low: &CutKey,
-        high: &CutKey,
-    ) -> Result<Merger<Part>, AllocError>
-        requires low { low.now ≡ key_of slice.now.lo }
-        requires high { high.now ≡ key_of slice.now.hi }
-        ensures { IfOk result (λ m. (fs : ListOf Fragment) × (⟦<Merger<Part> as FragmentSource>⟧.to_come m ≡ Some fs)
-            × Shows slice.now self.now (⟦<Merger<Part> as FragmentSource>⟧.over_all m) fs) }
+        marks: Vec<Change>,
+    ) -> Result<PartitionStream<'a>, AllocError>
+        requires { map own_marker marks.items ≡ map marker (clipped slice.now self.now.ranges) }
+        ensures { IfOk result (λ m. (fs : ListOf Fragment) × (⟦<PartitionStream<'a> as FragmentSource>⟧.to_come m ≡ Some fs)
+            × Shows slice.now self.now (⟦<PartitionStream<'a> as FragmentSource>⟧.over_all m) fs) }
     {
-        let marks = self.ranges.marks(alloc, low, high)?;
-        let fragments = fragments_in(alloc, self.top, &self.spots, slice, &marks)?;
-        Ok(Merger::new(source(alloc, self.top, fragments)?))
+        stream_in(alloc, self.top, &self.spots, slice, marks)
     }
 }

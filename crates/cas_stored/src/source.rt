@@ -10,8 +10,8 @@ use crate::places::BadPlaces;
 use cas_blocks::TableFault;
 use cas_cell::Deletion;
 use cas_disk::{Count, Sealed};
-use cas_merge::Merger;
-use cas_streams::{Fragment, FragmentSource, Part};
+use cas_partition::PartitionStream;
+use cas_streams::{Fragment, FragmentSource};
 use std::alloc::AllocError;
 
 /// One source of a partition: of a memtable, or of a table's file.
@@ -22,7 +22,7 @@ pub enum StoredSource<M, F> {
 }
 
 /// What a table has stored of a partition in one place; in its files places of B may be told bad.
-pub type Source<'a, S, B> = StoredSource<Merger<Part>, FileSource<'a, S, B>>;
+pub type Source<'a, S, B> = StoredSource<PartitionStream<'a>, FileSource<'a, S, B>>;
 
 impl<M: Drop, F> StoredSource<M, F> {
     // That of a file, where it is one.

@@ -3,8 +3,8 @@
 use crate::writes::{Statement, key, mutation, slice};
 use cas_atoms::{Row, RowColumn};
 use cas_memtable::MemPart;
-use cas_merge::Merger;
-use cas_streams::{Fragment, FragmentSource, Part};
+use cas_partition::PartitionStream;
+use cas_streams::{Fragment, FragmentSource};
 use cas_types::{Bytes, List};
 use std::alloc::{AllocError, Global};
 use std::test::Fail;
@@ -85,7 +85,7 @@ fn short(fragment: &Fragment) -> Short {
     }
 }
 
-fn first_seven(mut source: Merger<Part>) -> Result<[Short; 7], AllocError> {
+fn first_seven(mut source: PartitionStream<'_>) -> Result<[Short; 7], AllocError> {
     let mut found = [NOTHING; 7];
     for i in 0..7 {
         if let Some(fragment) = source.next()? {

@@ -1,5 +1,5 @@
--- Entries and marks on their way into one stream: which entries are of one row, and where nothing would be left of it (own).
-use Rattle.std.specs.Prelude.{ℕ, Bool, true, false, not, is_some, is_none, ◌&&◌, Option, None, Some, List, [], ◌∷◌, map, fold, if◌then◌else◌}
+-- Entries and marks on their way into one stream: which entries are of one row, and what is left of it (own).
+use Rattle.std.specs.Prelude.{ℕ, Bool, true, false, not, is_some, is_none, ◌&&◌, Option, None, Some, List, [], ◌∷◌, map, fold}
 use Rattle.std.specs.List.{list_all, prefix_len}
 use Rattle.std.specs.Ordering.{is_eq, is_gt}
 use denote.Ref.{Bor}
@@ -10,11 +10,13 @@ use Rattle.cas_cell.specs.declared.deletion.Deletion.{Deletion}
 use Rattle.cas_bounds.specs.Points.{point_cmp, row_point, cut_point}
 use Rattle.cas_bounds.specs.declared.map_key.MapKey.{MapKey}
 use Rattle.cas_atoms.specs.Winners.{standing}
-use Rattle.cas_streams.specs.Joined.{joined_fragment}
-use Rattle.cas_streams.specs.Settled.{is_bare}
+use Rattle.cas_streams.specs.Joined.{by_place, joined_fragment}
+use Rattle.cas_streams.specs.Settled.{is_bare, settled_from}
+use Rattle.cas_streams.specs.Weaving.{woven}
 use Rattle.cas_streams.specs.declared.fragment.Fragment.{Fragment}
 use Rattle.cas_streams.specs.declared.fragment.Fragment.TheVariants as fragment
 use Rattle.cas_partition.specs.Spots.{said}
+use Rattle.cas_partition.specs.Slices.{grouped}
 use Rattle.cas_partition.specs.Inner.Slots.{cut_of}
 use Rattle.cas_partition.specs.Inner.Entries.{lent_piece}
 use Rattle.cas_partition.specs.declared.spot.Spot.{Spot}
@@ -42,24 +44,23 @@ are_of_one (Some k) (Some l) = is_eq (point_cmp k.order (row_point k.values) (ro
 abbrev pub count_of : Option MapKey → List Lent → ℕ
 count_of k es = prefix_len (λ e. are_of_one k e.0.now.row) es
 
+-- a mark whose key is kept; as a marker
+abbrev pub OwnMark : Type 0
+OwnMark = MapKey × Option Deletion
+
+abbrev pub own_marker : OwnMark → Fragment
+own_marker m = fragment.Marker (cut_of m.0) m.1
+
 -- the cut stands before the row; nothing does before the static row
 abbrev pub is_first : MapKey → Option MapKey → Bool
 is_first m None = false
 is_first m (Some k) = is_gt (point_cmp k.order (row_point k.values) (cut_point (cut_of m)))
 
--- the marks that stand before the row, one after another; and the others
-abbrev pub marks_before : List LentMark → Option MapKey → List LentMark
-marks_before [] k = []
-marks_before (m ∷ ms) k = if is_first m.0.now k then m ∷ marks_before ms k else []
-
-abbrev pub marks_behind : List LentMark → Option MapKey → List LentMark
-marks_behind [] k = []
-marks_behind (m ∷ ms) k = if is_first m.0.now k then marks_behind ms k else m ∷ ms
-
--- what is in force behind marks
-abbrev pub force_after : Option Deletion → List LentMark → Option Deletion
-force_after now [] = now
-force_after now (m ∷ ms) = force_after m.1 ms
+-- a mark comes next, and no row
+abbrev pub is_mark_next : List OwnMark → List Lent → Bool
+is_mark_next [] es = false
+is_mark_next (m ∷ ms) [] = true
+is_mark_next (m ∷ ms) (e ∷ es) = is_first m.0 e.0.now.row
 
 -- ---- what would be left
 
@@ -86,6 +87,6 @@ is_row_hidden over k c es = is_some k && (is_hidden over c && all_hidden over es
 abbrev pub row_of : Spot → Content → List Lent → Fragment
 row_of s c es = fold joined_fragment (said s c) (map lent_piece es)
 
--- it, where something of it would be left
-abbrev pub row_left : Option Deletion → Spot → Content → List Lent → List Fragment
-row_left over s c es = if is_row_hidden over s.row c es then [] else row_of s c es ∷ []
+-- the rows of these entries and the markers among them, where that is in force: what is left of them
+abbrev pub left_to_come : Option Deletion → Option Deletion → List Lent → List Fragment → List Fragment
+left_to_come top now es ms = settled_from top now (woven by_place (record { left = None; right = now }) (grouped None (map lent_piece es)) ms)

@@ -1,9 +1,10 @@
 use Rattle.std.proofs.Common.{◌≡◌, ◌++◌, map, length}
-use Rattle.cas_partition.specs.Inner.Passing.{lent_marker}
+use Rattle.std.specs.Vec.Iter.{into_iter_items}
+use Rattle.cas_partition.specs.Inner.Passing.{own_marker}
 use Rattle.cas_partition.proofs.passing.markers.Given as goal
 
-abbrev pub invariant-loop-rest : goal.invariant-loop-rest
-invariant-loop-rest l = l.out.items ++ map lent_marker l.rest ≡ map lent_marker l.fn.marks
+abbrev pub invariant-loop-key : goal.invariant-loop-key
+invariant-loop-key l = l.out.items ++ map own_marker (into_iter_items l.rest) ≡ map own_marker l.fn.changes.items
 
-abbrev pub decreases-loop-rest : goal.decreases-loop-rest
-decreases-loop-rest l = length l.rest
+abbrev pub decreases-loop-key : goal.decreases-loop-key
+decreases-loop-key l = length (into_iter_items l.rest)
