@@ -154,10 +154,10 @@ with_more fs gs more cause.Disk so = tt
 with_more fs gs more cause.Mem so = tt
 with_more fs gs more (cause.TooLong taken) so = tt
 with_more fs gs more (cause.Bad (file.Table number) at) (inl so) =
-    inl (so.0, so.1, ∥∥₁_map so.2 (still_bad (fs so.0 so.1.table) (gs so.0 so.1.table) so.1.key so.1.slice number at (more so.0 so.1.table)))
+    inl (so.0, so.1, ∥∥₁_map so.2 (still_bad (fs so.0 so.1.table) (gs so.0 so.1.table) so.1.key so.1.slice number at ((more so.0 so.1.table).0, (more so.0 so.1.table).1)))
 with_more fs gs more (cause.Bad (file.Table number) at) (inr so) =
     let (shard, table, (f, has, is, found)) = so in
-    let (others, are) = more shard table in
+    let (others, are, stand) = more shard table in
     inr (shard, table, (f, subst (λ hs. Has hs f) (sym are) (has_front (fs shard table) others f has), is, found))
 with_more fs gs more (cause.Bad file.Manifest at) so = so
 with_more fs gs more (cause.Bad (file.Log number) at) so = so

@@ -8,6 +8,7 @@ mod NumbersRise
 mod OneOutcome
 mod RunLemmas
 mod Settling
+mod Standing
 mod Staying
 mod Stopping
 mod Verified

@@ -185,7 +185,7 @@ numbers_stay Gives kind h after (l ∷ ls) (r ∷ rs) all x = numbers_stay Gives
 
 -- ---- the beginning, and what is read
 
-below_or_past : (n m : ℕ) → (n < m) ⊎ (m ≤ n)
+pub below_or_past : (n m : ℕ) → (n < m) ⊎ (m ≤ n)
 below_or_past n zero = inr (omega arith)
 below_or_past zero (suc m) = inl (omega arith)
 below_or_past (suc n) (suc m) = next (below_or_past n m)

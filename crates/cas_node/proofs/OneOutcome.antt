@@ -69,10 +69,10 @@ Well d e = StaysWell d e
 good_before : (before after : ℕ → ℕ → List (File Held)) → AreMore before after → AreGood after → AreGood before
 good_before before after more good = record {
   slices = λ shard number at q bad.
-      good.slices shard number at q (still_bad (before shard q.table) (after shard q.table) q.key q.slice number at (more shard q.table) bad);
+      good.slices shard number at q (still_bad (before shard q.table) (after shard q.table) q.key q.slice number at ((more shard q.table).0, (more shard q.table).1) bad);
   wholes = λ shard table number at found.
       let (f, has, is, bad) = found in
-      let (others, are) = more shard table in
+      let (others, are, stand) = more shard table in
       good.wholes shard table number at (f, subst (λ hs. Has hs f) (sym are) (has_front (before shard table) others f has), is, bad);
 }
 

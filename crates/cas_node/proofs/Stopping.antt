@@ -1,9 +1,11 @@
 -- Along a run the disk is stopped only where the folder failed, which its count tells; its counts and its files don't fall back, its table files stay, and others
--- come behind them.
-use Rattle.std.proofs.Common.{◌≡◌, ◌≤◌, ◌⊎◌, inl, inr, ⊎_elim, ℕ, zero, suc, ℤ, Bool, List, [], ◌∷◌, ◌++◌, length, append-nil, append_assoc, true, false, Option, None, Some, Result, Ok, Err, refl, sym, ap, ◌∙◌, subst, arith}
-use Rattle.std.specs.List.{fold}
+-- come behind them, in which mutations stand.
+use Rattle.std.proofs.Common.{◌≡◌, ◌≤◌, ◌⊎◌, inl, inr, ⊎_elim, ℕ, zero, suc, ℤ, Bool, List, [], ◌∷◌, ◌++◌, length, ◌<◌, append-nil, append_assoc, true, false, Option, None, Some, Result, Ok, Err, refl, sym, ap, ◌∙◌, subst, arith}
+use Rattle.std.specs.List.{AllByRecursion, fold}
 use Rattle.std.proofs.lemmas.Bool.{true≢false}
 use Rattle.cas_types.specs.declared.schema.TableSchema.{TableSchema}
+use Rattle.cas_bounds.specs.ClusteringOrder.{clustering_order}
+use Rattle.cas_bounds.specs.declared.order.Ordered.{Ordered}
 use Rattle.cas_io.specs.Causes.{Rose}
 use Rattle.cas_atoms.specs.declared.atom.Mutation.{Mutation}
 use Rattle.cas_bind.specs.Meaning.{meaning}
@@ -24,12 +26,14 @@ use Rattle.cas_render.specs.declared.reply.Verdict.{Verdict}
 use Rattle.cas_words.specs.declared.words.ClockKind.{ClockKind}
 use Rattle.cas_words.specs.declared.words.ClockKind.TheVariants as clock
 use Rattle.cas_sstread.specs.Loading.{Held}
+use Rattle.cas_stored.specs.Stored.{HoldEach, StandInFile}
+use Rattle.cas_streams.proofs.Weaves.{all_and, all_of}
 use Rattle.cas_terms.specs.Columns.{table_named}
 use Rattle.cas_view.specs.Views.{File}
 use Rattle.cas_sessions.specs.declared.answer.Fault.{Fault}
 use Rattle.cas_sessions.specs.declared.answer.Fault.TheVariants as fault
 use Rattle.cas_sessions.specs.Dropping.{DropsSegments, EndsAfter}
-use Rattle.cas_sessions.specs.Flushes.{EndsSo, Flushed, FlushesNamed, FlushesTable, Grows, WhyNoFurther, change_of, changes_by, reach_by, without_begun, without_flushed}
+use Rattle.cas_sessions.specs.Flushes.{AreInFiles, EndsSo, Flushed, FlushesNamed, FlushesTable, Grows, WhyNoFurther, change_of, changes_by, reach_by, without_begun, without_flushed}
 use Rattle.cas_sessions.specs.Filling.{EndsIn, FlushesIn, Settles}
 use Rattle.cas_sessions.specs.History.{History, DiskState, Takes, Defines, Does, Stays, Stops, shard_at}
 use Rattle.cas_sessions.specs.Verifying.{VerifiesNamed}
@@ -39,18 +43,31 @@ use Rattle.cas_node.proofs.Settling.{behind, settled, then_dropped}
 
 -- ---- table files
 
--- each table has in each shard the files that it had, and maybe more behind them
+-- some mutations stand in the file
+abbrev pub IsStanding : File Held → Type 0
+IsStanding f = (order : List Ordered) × (ws : List Mutation) × StandInFile order f ws
+
+-- in each of these files, where files hold mutations
+pub each_stands : (order : List Ordered) (fs : List (File Held)) (wss : List (List Mutation)) → HoldEach order fs [] wss → AllByRecursion IsStanding fs
+each_stands order [] wss h = tt
+each_stands order (f ∷ fs) [] h = absurd h
+each_stands order (f ∷ fs) (ws ∷ wss) h = ((order, ws, h.0), each_stands order fs wss h.1)
+
+-- each table has in each shard the files that it had, and maybe more behind them, in which mutations stand
 abbrev pub AreMore : (ℕ → ℕ → List (File Held)) → (ℕ → ℕ → List (File Held)) → Type 0
-AreMore before after = (n table : ℕ) → (more : List (File Held)) × (after n table ≡ before n table ++ more)
+AreMore before after = (n table : ℕ) → (more : List (File Held)) × (after n table ≡ before n table ++ more) × AllByRecursion IsStanding more
 
 no_more : (before after : ℕ → ℕ → List (File Held)) → after ≡ before → AreMore before after
-no_more before after same n table = ([], ap (λ (k : ℕ → ℕ → List (File Held)). k n table) same ∙ sym (append-nil (before n table)))
+no_more before after same n table = ([], ap (λ (k : ℕ → ℕ → List (File Held)). k n table) same ∙ sym (append-nil (before n table)), tt)
 
 more_twice : (a b c : ℕ → ℕ → List (File Held)) → AreMore a b → AreMore b c → AreMore a c
 more_twice a b c one two n table =
     let first = one n table in
-    let second = two n table in
-    (first.0 ++ second.0, second.1 ∙ ap (λ (l : List (File Held)). l ++ second.0) first.1 ∙ append_assoc (a n table) first.0 second.0)
+    let second = two n table in (
+      first.0 ++ second.0,
+      second.1 ∙ ap (λ (l : List (File Held)). l ++ second.0) first.1 ∙ append_assoc (a n table) first.0 second.0,
+      all_and IsStanding first.0 second.0 first.2 second.2,
+    )
 
 -- ---- how far the files have come
 
@@ -171,9 +188,19 @@ same_or_not (suc n) (suc m) = next (same_or_not n m)
     next (inr other) = inr (λ e. other (omega (arith, e)))
 
 grown : (table shard : ℕ) (s : ShardHistory) (c : Option Change) (before after : List (File Held)) → Grows table shard s c before after
-    → (more : List (File Held)) × (after ≡ before ++ more)
-grown table shard s None before after g = ([], g ∙ sym (append-nil before))
-grown table shard s (Some c) before after g = (g.0 ∷ [], g.1)
+    → ((d : Change) → c ≡ Some d → AllByRecursion IsStanding after) → (more : List (File Held)) × (after ≡ before ++ more) × AllByRecursion IsStanding more
+grown table shard s None before after g stand = ([], g ∙ sym (append-nil before), tt)
+grown table shard s (Some c) before after g stand =
+    (g.0 ∷ [], g.1, (all_of IsStanding before (g.0 ∷ []) (subst (AllByRecursion IsStanding) g.1 (stand c refl))).1)
+
+-- only shards that were flushed have a change
+changed_within : (changes : List (Option Change)) (n : ℕ) (c : Change) → change_of changes n ≡ Some c → n < length changes
+changed_within [] n c is = absurd cc
+changed_within (x ∷ xs) zero c is = omega arith
+changed_within (x ∷ xs) (suc n) c is = let within = changed_within xs n c is in omega (arith, within)
+
+stand_there : (order : List Ordered) (files : List (File Held)) (ws : List Mutation) → AreInFiles order files ws → AllByRecursion IsStanding files
+stand_there order files ws are = each_stands order files are.places are.stand
 
 further : (t : TableSchema) (n : ℕ) (q : ShardHistory) (d e : DiskState) (f : Fault) → WhyNoFurther t n q d e f → (e.stopped ≡ false) ⊎ Rose d.faults e.faults
 further t n q d e (fault.Refused why) w = inl w.1
@@ -186,12 +213,13 @@ further t n q d e fault.Mem w = inl w
 
 module _ (h : History) (t : TableSchema) (changes : List (Option Change)) (e : DiskState) (so : Flushed h t changes e) where
   flushed_more : AreMore h.disk.files e.files
-  flushed_more n table = ⊎_elim here (λ other. ([], so.others n table other ∙ sym (append-nil (h.disk.files n table)))) (same_or_not table t.number)
+  flushed_more n table = ⊎_elim here (λ other. ([], so.others n table other ∙ sym (append-nil (h.disk.files n table)), tt)) (same_or_not table t.number)
     where
-      here : table ≡ t.number → (more : List (File Held)) × (e.files n table ≡ h.disk.files n table ++ more)
+      here : table ≡ t.number → (more : List (File Held)) × (e.files n table ≡ h.disk.files n table ++ more) × AllByRecursion IsStanding more
       here same =
-          subst (λ k. (more : List (File Held)) × (e.files n k ≡ h.disk.files n k ++ more)) (sym same)
-          (grown t.number n _ (change_of changes n) (h.disk.files n t.number) (e.files n t.number) (so.files n))
+          subst (λ k. (more : List (File Held)) × (e.files n k ≡ h.disk.files n k ++ more) × AllByRecursion IsStanding more) (sym same)
+          (grown t.number n _ (change_of changes n) (h.disk.files n t.number) (e.files n t.number) (so.files n)
+          (λ c is. stand_there (clustering_order t.columns) (e.files n t.number) _ (so.all n (changed_within changes n c is))))
 
   ended : (begun : ℕ) (r : Result (List ℕ) Fault) → EndsSo h t changes begun r e → (e.stopped ≡ false) ⊎ Rose h.disk.faults e.faults
   ended begun (Ok told) ends = inl ends.2
@@ -236,17 +264,18 @@ named_counts h (Some t) r after a = flush_counts h t r after a
 
 -- of one shard
 more_in : (t : TableSchema) (n : ℕ) (q : ShardHistory) (c : Option Change) (r : Result (Option ℕ) Fault) (d e : DiskState) → EndsIn t n q c r d e → AreMore d.files e.files
-more_in t n q c (Err f) d e none k j = ([], none.files k j ∙ sym (append-nil (d.files k j)))
+more_in t n q c (Err f) d e none k j = ([], none.files k j ∙ sym (append-nil (d.files k j)), tt)
 more_in t n q c (Ok told) d e one k j = ⊎_elim (λ here. ⊎_elim (λ of_it. own here of_it) (λ apart. other (λ both. apart both.1)) (same_or_not j t.number)) (λ apart. other (λ both. apart both.0)) (same_or_not k n)
   where
-    other : ((k ≡ n) × (j ≡ t.number) → ⊥) → (more : List (File Held)) × (e.files k j ≡ d.files k j ++ more)
-    other apart = ([], one.others k j apart ∙ sym (append-nil (d.files k j)))
+    other : ((k ≡ n) × (j ≡ t.number) → ⊥) → (more : List (File Held)) × (e.files k j ≡ d.files k j ++ more) × AllByRecursion IsStanding more
+    other apart = ([], one.others k j apart ∙ sym (append-nil (d.files k j)), tt)
 
-    own : k ≡ n → j ≡ t.number → (more : List (File Held)) × (e.files k j ≡ d.files k j ++ more)
+    own : k ≡ n → j ≡ t.number → (more : List (File Held)) × (e.files k j ≡ d.files k j ++ more) × AllByRecursion IsStanding more
     own here of_it =
-        subst (λ i. (more : List (File Held)) × (e.files i j ≡ d.files i j ++ more)) (sym here)
-        (subst (λ i. (more : List (File Held)) × (e.files n i ≡ d.files n i ++ more)) (sym of_it)
-        (grown t.number n q c (d.files n t.number) (e.files n t.number) one.files))
+        subst (λ i. (more : List (File Held)) × (e.files i j ≡ d.files i j ++ more) × AllByRecursion IsStanding more) (sym here)
+        (subst (λ i. (more : List (File Held)) × (e.files n i ≡ d.files n i ++ more) × AllByRecursion IsStanding more) (sym of_it)
+        (grown t.number n q c (d.files n t.number) (e.files n t.number) one.files
+        (λ c is. stand_there (clustering_order t.columns) (e.files n t.number) _ one.all)))
 
 ends_on : (t : TableSchema) (n : ℕ) (q : ShardHistory) (c : Option Change) (r : Result (Option ℕ) Fault) (d e : DiskState) → EndsIn t n q c r d e
     → (e.stopped ≡ false) ⊎ Rose d.faults e.faults

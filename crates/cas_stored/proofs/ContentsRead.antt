@@ -31,10 +31,10 @@ use Rattle.cas_stored.proofs.Told.{is_among, has_none}
 use Rattle.cas_reading.proofs.Heads.{Found, one_head}
 
 module _ (t : Held) (narrow : IsNarrow t.columns) (c : Contents) (f : Facts) (of : IsOf t c f) (key : List ℕ) where
-  abbrev file : List ℕ
+  abbrev pub file : List ℕ
   file = table_bytes c f
 
-  end_is : t.kept.end ≡ index_place c
+  pub end_is : t.kept.end ≡ index_place c
   end_is = ap (λ (k : Loaded). k.end) of.kept
 
   version_is : t.kept.version ≡ c.header.version
@@ -51,13 +51,13 @@ module _ (t : Held) (narrow : IsNarrow t.columns) (c : Contents) (f : Facts) (of
     there : slice_get (index_of c) told.number ≡ Some e
     there = sym (ap (λ (k : Loaded). slice_get k.partitions told.number) of.kept) ∙ told.there
 
-    stands : StandsThere c f key told.number
+    pub stands : StandsThere c f key told.number
     stands = partitions_are_found.found c f key told.number (e, there, told.key_is)
 
-    abbrev own : Partition
+    abbrev pub own : Partition
     own = stands.partition
 
-    is : IsEntry c told.number own e
+    pub is : IsEntry c told.number own e
     is = record { partition = stands.one; entry = there }
 
     abbrev statics-own : List RowColumn
@@ -71,7 +71,7 @@ module _ (t : Held) (narrow : IsNarrow t.columns) (c : Contents) (f : Facts) (of
         (subst (λ (v : Version). IsHead v t.columns (left_at file (index_place c) e.place) own.key own.stream.top statics-own) (sym version_is)
         (record { rest = stood.left; read = stood.read })))
 
-    bad : (n at : ℕ) → IsBadHead t key e n at → ⊥
+    pub bad : (n at : ℕ) → IsBadHead t key e n at → ⊥
     bad n at b = (b file of.contents).2 own.stream.top statics-own head
 
     module _ (s : Slice) (one : IsSliceOf (clustering_order t.columns) s) (top : Option Deletion) (to_come : Option (List Fragment))

@@ -13,3 +13,4 @@ pub mod WhyNot
 pub mod Inside
 pub mod Looking
 pub mod Loaded
+pub mod WellRead

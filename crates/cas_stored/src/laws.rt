@@ -1,6 +1,6 @@
-//! Which tables are those of given contents, and when mutations stand in a file that is loaded.
+//! Which tables are those of given contents, when mutations stand in a file that is loaded, and how such a file is read.
 
-ghost use Rattle.cas_stored.specs.Laws.{LoadedIsOf, LoadedStands};
+ghost use Rattle.cas_stored.specs.Laws.{FilesAreRead, LoadedIsOf, LoadedStands};
 
 /// A table that was loaded of the file of contents is of these.
 pub fn loaded_is_of()
@@ -11,4 +11,9 @@ pub fn loaded_is_of()
 /// say what was written.
 pub fn loaded_stands()
     ensures { LoadedStands }
+{}
+
+/// A file in which mutations stand is never found bad by a read.
+pub fn files_are_read()
+    ensures { FilesAreRead }
 {}

@@ -12,7 +12,7 @@ mod source;
 mod table;
 
 pub use file::FileSource;
-pub use laws::{loaded_is_of, loaded_stands};
+pub use laws::{files_are_read, loaded_is_of, loaded_stands};
 pub use places::BadPlaces;
 pub use slices::read_slice;
 pub use source::{Source, StoredSource};

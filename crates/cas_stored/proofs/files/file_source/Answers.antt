@@ -19,4 +19,4 @@ pub new-requires-clause-finds : goal.new-requires-clause-finds
 new-requires-clause-finds g c n at may =
     let held : may_hold c.args.file.now.info c.args.key.now ≡ true = first_of (search rules, grind (arith, common_steps)) in
     let finds = rw c.in-Ok-Some.field-0-is at c.in-Ok-Some.ensures.finds in
-    merely (c.requires.told n at (bad_behind c.args.key.now c.args.slice.now n at (file_of c.args.file.now) c.deref.result.now c.deref.ensures held (finds n at may)))
+    merely (c.requires.told n at (bad_behind c.args.key.now c.args.slice.now n at (file_of c.args.file.now) c.deref.result.now c.requires.reads c.deref.ensures held (finds n at may)))

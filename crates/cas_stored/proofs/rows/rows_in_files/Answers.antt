@@ -23,4 +23,4 @@ returns-in-Ok-clause-why g c =
 
 pub returns-in-Err-clause-why : goal.returns-in-Err-clause-why
 returns-in-Err-clause-why g c =
-    not_given g.B.BadPlaces.told c.args.store.now.files c.args.query.key c.args.query.slice c.in-Err.fault c.requires.told c.in-Err.ensures.why
+    not_given g.B.BadPlaces.told c.args.store.now.files c.args.query.key c.args.query.slice c.in-Err.fault c.requires.reads c.requires.told c.in-Err.ensures.why
