@@ -210,7 +210,7 @@ IfBad _ P = Unit {0}
 abbrev pub AreWhole : (ℕ → ℕ → List (File Held)) → Type 0
 AreWhole files = (shard table number at : ℕ) → IsFoundBad (files shard table) number at → ⊥
 
--- nor is a place in one of them bad for a query
+-- the same, and no place in one of them is bad for a query
 pub record AreGood (files : ℕ → ℕ → List (File Held)) : Type 0 where
   pub slices : (shard number at : ℕ) (q : Query) → IsBadFile (files shard q.table) q.key q.slice number at → ⊥
   pub wholes : AreWhole files

@@ -29,6 +29,6 @@ LoadedStands = (f : File Held) (c : Contents) (facts : Facts) (ws : List Mutatio
     → ((p : Partition) → Contains c.partitions p → SaysWhatIsWritten ws p) → ((key : List ℕ) → HasNone c key → atoms_under key ws ≡ [])
     → StandInFile (clustering_order f.table.columns) f ws
 
--- a file in which mutations stand is bad for no slice of no key's partition
+-- a file in which mutations stand is bad for no slice of any key's partition
 abbrev pub FilesAreRead : Type 0
 FilesAreRead = (order : List Ordered) (f : File Held) (ws : List Mutation) (key : List ℕ) (s : Slice) (n at : ℕ) → StandInFile order f ws → IsBadFor key s n at f → ⊥
