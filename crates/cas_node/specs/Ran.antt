@@ -98,8 +98,8 @@ reply_cause (Some (reply.Failed f)) = failure_cause f
 reply_cause (Some (reply.Verified verdicts)) = verdicts_cause verdicts
 reply_cause _ = cause.Good
 
--- what came of a line says this: its reply does, or memory ran out for a flush behind it, or for dropping segments behind one. That these failed for the disk or a
--- read, the counts tell; and that there was too much of something counts for nothing.
+-- what came of a line says this: its reply does, or memory ran out for a flush behind it, or for dropping segments behind one. That these failed for the disk
+-- or a read, the counts tell; and that there was too much of something counts for nothing.
 abbrev pub upshot_cause : Upshot → Cause
 upshot_cause o = if o.want then worse (reply_cause o.reply) cause.Mem else reply_cause o.reply
 
@@ -228,11 +228,11 @@ abbrev pub IsBadForOne : (ℕ → ℕ → List (File Held)) → Name → ℕ →
 IsBadForOne files (file.Table number) at = IsBadForQuery files number at ⊎ IsBadWhole files number at
 IsBadForOne files _ at = ⊥
 
--- A run of the command over a script, by what the shards of its store were before, and by its table files: from there the script's lines were run; what
--- they entered is the list that is handed back; and whatever a crash leaves of the folder handed back has all that was acknowledged. The next run, which finds
--- just that, begins with what the shards were and the front of what was accepted that is left, also behind flushes; where no line flushes anything, the manifest
--- lists the table files that were found and no others. A write was stopped only where the folder's count of faults rose, so that otherwise all that was accepted
--- is left; and a file is called bad only where it is, of those that were found or flushed.
+-- A run of the command over a script, by what the shards of its store were before, and by its table files: from there the script's lines were run; what they
+-- entered is the list that is handed back; and whatever a crash leaves of the folder handed back has all that was acknowledged. The next run, which finds just
+-- that, begins with what the shards were and the front of what was accepted that is left, also behind flushes; where no line flushes anything, the manifest
+-- lists the table files that were found and no others. A write was stopped only where the folder's count of faults rose, so that otherwise all that was
+-- accepted is left; and a file is called bad only where it is, of those that were found or flushed.
 pub record RanOn (c : Command) (Gives : ℤ → Type 0) (script : List ℕ) (before after : Outside) (reads : ℕ) (list : List (Item Event)) (why : Cause)
     (entries : List ManifestEntry) (mutations : List Mutation) (openings : ℕ → ShardOpening) (files : ℕ → ℕ → List (File Held)) : Type 0 where
   pub first : History
@@ -242,8 +242,10 @@ pub record RanOn (c : Command) (Gives : ℤ → Type 0) (script : List ℕ) (bef
   pub ran : RanFrom first c.clock Gives script before.taken after.taken final told
   pub entered : AreEntered list final
   pub crash : (d : Image) → before.folder.reads d → IsOfBytes d → (i : Image) → after.folder.may_leave i → IsLeft mutations list final i
-  pub lists : NoneFlushes c.clock Gives first (lines script) → (d : Image) → before.folder.reads d → IsOfBytes d → (i : Image) → after.folder.may_leave i → HasBehind entries i
-  pub next : (d : Image) → before.folder.reads d → IsOfBytes d → (i : Image) → after.folder.may_leave i → IsOfBytes i → IsExplained mutations list final openings i
+  pub lists : NoneFlushes c.clock Gives first (lines script) → (d : Image) → before.folder.reads d → IsOfBytes d
+      → (i : Image) → after.folder.may_leave i → HasBehind entries i
+  pub next : (d : Image) → before.folder.reads d → IsOfBytes d
+      → (i : Image) → after.folder.may_leave i → IsOfBytes i → IsExplained mutations list final openings i
   pub faults : final.disk.faults ≡ after.folder_faults
   pub reads_are : final.disk.reads ≡ reads
   pub counted : final.disk.stopped ≡ true → Rose before.folder_faults after.folder_faults

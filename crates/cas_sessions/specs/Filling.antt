@@ -67,8 +67,8 @@ abbrev pub IsBegun : Result (Option ℕ) Fault → Bool → Type 0
 IsBegun (Err Mem) begun = Unit {0}
 IsBegun r begun = begun ≡ true
 
--- A flush of the table in the shard is answered so. The manifest tells this change, if there was anything that stood in no file; all but the disk, and what memory
--- says of it, is as it was. The counts of the disk don't fall, and one number at most was given to a file.
+-- A flush of the table in the shard is answered so. The manifest tells this change, if there was anything that stood in no file; all but the disk, and what
+-- memory says of it, is as it was. The counts of the disk don't fall, and one number at most was given to a file.
 pub record FlushesIn (h : History) (t : TableSchema) (n : ℕ) (result : Result (Option ℕ) Fault) (after : History) : Type 0 where
   pub change : Option Change
   pub disk : DiskState

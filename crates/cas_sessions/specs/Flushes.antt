@@ -149,8 +149,8 @@ abbrev pub AreBegun : Fault → ℕ → ℕ → Type 0
 AreBegun Mem flushed begun = (begun ≡ flushed) ⊎ (begun ≡ flushed + 1)
 AreBegun f flushed begun = begun ≡ flushed + 1
 
--- how a flush ends that no earlier fault stopped, where so many shards got a new memtable: all shards are flushed, and the new files' numbers are told, which are just the next ones; or only the
--- first ones are, and why the next one isn't
+-- how a flush ends that no earlier fault stopped, where so many shards got a new memtable: all shards are flushed, and the new files' numbers are told, which
+-- are just the next ones; or only the first ones are, and why the next one isn't
 abbrev pub EndsSo : History → TableSchema → List (Option Change) → ℕ → Result (List ℕ) Fault → DiskState → Type 0
 EndsSo h t changes begun (Ok told) e =
     (length changes ≡ length h.shards) × (told ≡ numbers_added changes) × (e.stopped ≡ false) × (begun ≡ length changes)

@@ -54,11 +54,11 @@ pub record DiskState : Type 0 where
   pub last_file : ℕ
   pub live : ℕ
 
--- The limits of the store, its tables, its shards, and the seconds that the last `\clock` set; the number of the session that runs the lines, how
--- many mutations were accepted of it, and how many of these were acknowledged by an `ok`; what was written to a table in a shard and stands in no table file
--- yet, by the shard's number and the table's, and how many bytes of records the memtable has that is written to; the changes of table files that the manifest
--- tells, in order, those that were found first; whether segments of the log were dropped until none was left that may go, and nothing was written since; and how
--- the disk stands.
+-- The limits of the store, its tables, its shards, and the seconds that the last `\clock` set; the number of the session that runs the lines, how many
+-- mutations were accepted of it, and how many of these were acknowledged by an `ok`; what was written to a table in a shard and stands in no table file yet, by
+-- the shard's number and the table's, and how many bytes of records the memtable has that is written to; the changes of table files that the manifest tells, in
+-- order, those that were found first; whether segments of the log were dropped until none was left that may go, and nothing was written since; and how the disk
+-- stands.
 pub record History : Type 0 where
   pub limits : Limits
   pub tables : List TableSchema

@@ -44,4 +44,5 @@ WasTried r = Unit {0}
 
 -- behind it the memtable isn't full any more, also where the disk failed: so a memtable is flushed for being full once, and not again at each write
 abbrev pub FullNoMore : Type 0
-FullNoMore = (h : History) (n table : ℕ) (r : Result (Option ℕ) Fault) (after : History) → Settles h n table r after → WasTried r → is_full after n table ≡ false
+FullNoMore = (h : History) (n table : ℕ) (r : Result (Option ℕ) Fault) (after : History) → Settles h n table r after
+    → WasTried r → is_full after n table ≡ false

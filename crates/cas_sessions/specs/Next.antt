@@ -22,16 +22,16 @@ abbrev pub front_left : (found : List Mutation) (list : List (Item Event)) (h : 
 front_left found list h i left = take left.count (accepted_in list)
 
 -- An image that a crash left of a run is what the run's promise says; and for the next run, which finds just this image and what its log has, each shard may
--- have been what it was before the run, with the front of what the run accepted behind; and its moment and its last drawn timestamp are those that the manifest tells, where a
--- flush told greater ones.
+-- have been what it was before the run, with the front of what the run accepted behind; and its moment and its last drawn timestamp are those that the manifest
+-- tells, where a flush told greater ones.
 pub record IsExplained (found : List Mutation) (list : List (Item Event)) (h : History) (openings : ℕ → ShardOpening) (i : Image) : Type 0 where
   pub left : IsLeft found list h i
   pub next : AreOpenings left.entries left.store.logged (only i)
       (λ n. as_told (said_by left.entries) n (with_more n (front_left found list h i left) (openings n)))
 
--- What is left explains the history. Where the shards of a store may have been these before a run, and an image that a crash left has what the run's
--- promise says (a front of what it accepted, all of it in the log, the table files that were listed, all of their bytes, and a manifest that lists no others), then for the next
--- run, which finds just this image, the shards may have been these with that front behind. The new mutations of a shard are numbered on from its last;
+-- What is left explains the history. Where the shards of a store may have been these before a run, and an image that a crash left has what the run's promise
+-- says (a front of what it accepted, all of it in the log, the table files that were listed, all of their bytes, and a manifest that lists no others), then for
+-- the next run, which finds just this image, the shards may have been these with that front behind. The new mutations of a shard are numbered on from its last;
 -- where the log had some of it before the run, the image's own order tells that.
 abbrev pub LeftExplains : Disk → Type 0
 LeftExplains before =

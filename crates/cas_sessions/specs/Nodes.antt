@@ -120,8 +120,8 @@ all_in found s = found ++ accepted_in s.list
 
 -- A store's disk keeps what its history says. What the journal was told are the mutations that were found and then all that was accepted (`Keeps`), by which
 -- each shard's next number goes on; the manifest tells of the tables, lists just the table files that there are, by the history's changes, tells the store's
--- frontiers, and is not ahead of memory. Each mutation that was acknowledged was said to be committed, and where no write failed all were. Where the history says
--- that the log is trimmed, no write failed, and no segment may go.
+-- frontiers, and is not ahead of memory. Each mutation that was acknowledged was said to be committed, and where no write failed all were. Where the history
+-- says that the log is trimmed, no write failed, and no segment may go.
 pub record LastsFor (h : History) (found : List Mutation) (s : State) (disk : Disk) (t : Told) : Type 0 where
   pub keeps : Keeps s.journal disk s.list s.committed found t
   pub tables : (said_by t.entries).tables ≡ s.tables
@@ -138,9 +138,9 @@ pub record LastsFor (h : History) (found : List Mutation) (s : State) (disk : Di
   pub frontiers : s.frontiers ≡ frontiers_in (said_by t.entries)
   pub trimmed : h.trimmed ≡ true → (is_some s.journal.first ≡ false) × IsTrimmed (said_by t.entries) (all_in found s)
 
--- What a crash may leave of a store explains to the next run what its shards have been, which were so before this one. No shard's history is behind that with all
--- that was accepted; in whatever a crash leaves, whichever of the entries that were told the manifest has, each shard may have been just that, with a front of what
--- was accepted that lacks no more than what wasn't committed; and in memory is just what was written above the frontiers.
+-- What a crash may leave of a store explains to the next run what its shards have been, which were so before this one. No shard's history is behind that with
+-- all that was accepted; in whatever a crash leaves, whichever of the entries that were told the manifest has, each shard may have been just that, with a front
+-- of what was accepted that lacks no more than what wasn't committed; and in memory is just what was written above the frontiers.
 pub record Explains (openings : ℕ → ShardOpening) (h : History) (found : List Mutation) (s : State) (disk : Disk) (t : Told) : Type 0 where
   pub behind : (n : ℕ) → n < length h.shards → IsNotAhead (shard_at h n) (with_more n (accepted_in s.list) (openings n))
   pub opens : (i : Image) → disk.may_leave i → (entries : List ManifestEntry) → MayList t entries → (count : ℕ)

@@ -31,4 +31,5 @@ LoadedStands = (f : File Held) (c : Contents) (facts : Facts) (ws : List Mutatio
 
 -- a file in which mutations stand is bad for no slice of any key's partition
 abbrev pub FilesAreRead : Type 0
-FilesAreRead = (order : List Ordered) (f : File Held) (ws : List Mutation) (key : List ℕ) (s : Slice) (n at : ℕ) → StandInFile order f ws → IsBadFor key s n at f → ⊥
+FilesAreRead = (order : List Ordered) (f : File Held) (ws : List Mutation) (key : List ℕ) (s : Slice) (n at : ℕ)
+    → StandInFile order f ws → IsBadFor key s n at f → ⊥

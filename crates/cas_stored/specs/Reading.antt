@@ -36,8 +36,8 @@ IsWhyNot fs key table_fault.Read = Unit {0}
 IsWhyNot fs key (table_fault.BadBlock n at) = (f : File Held) × Has fs f × IsBadIn key n at f
 IsWhyNot fs key table_fault.Mem = Unit {0}
 
--- of the key's partition, which the file's range, filter and index have, that place of the file of that number is bad for a slice in which the file can be read:
--- no head stands there, or behind the head no block that may
+-- of the key's partition, which the file's range, filter and index have, that place of the file of that number is bad for a slice in which the file can be
+-- read: no head stands there, or behind the head no block that may
 pub record IsBadFor (key : List ℕ) (s : Slice) (n at : ℕ) (f : File Held) : Type 0 where
   pub reads : IsReadIn s f
   pub entry : PartitionEntry

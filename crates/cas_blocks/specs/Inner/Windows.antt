@@ -53,7 +53,8 @@ pub record Begun (order : List Ordered) (s : Slice) (force now : Option Deletion
 -- what comes next on a way to the slice's beginning, where the deletion in force by then is told
 abbrev pub Comes : List Ordered → Slice → Option Deletion → Option Deletion → List Fragment → Option Fragment → Option (List Fragment) → Type 0
 Comes order s force now fs next left =
-    (gs : List Fragment) × (cut_from order s force fs ≡ cut_from order s now gs) × TakesFirst gs left (let r : Result (Option Fragment) TableFault = Ok next in r)
+    (gs : List Fragment) × (cut_from order s force fs ≡ cut_from order s now gs)
+    × TakesFirst gs left (let r : Result (Option Fragment) TableFault = Ok next in r)
 
 -- what a way into the slice gave, and what is to come behind that
 pub record Enters (fs : List Fragment) (given : Option Fragment) (left : Option (List Fragment)) : Type 0 where

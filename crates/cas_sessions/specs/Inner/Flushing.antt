@@ -116,7 +116,8 @@ pub record Lists {T : Type 0} (c : Change) (result : Result T JournalFault) (s t
   pub reads : t.reads ≡ s.reads
   pub faults : s.faults ≤ t.faults
   pub live : MatchResult result (λ x. t.live ≡ s.live + 1) (λ f. t.live ≡ s.live)
-  pub frontiers : MatchResult result (λ x. t.frontiers ≡ slice_set s.frontiers (c.table * s.limits.shards + c.shard) c.frontier) (λ f. t.frontiers ≡ s.frontiers)
+  pub frontiers : MatchResult result (λ x. t.frontiers ≡ slice_set s.frontiers (c.table * s.limits.shards + c.shard) c.frontier)
+      (λ f. t.frontiers ≡ s.frontiers)
   pub all : MatchResult result (λ x. t.committed ≡ s.accepted) (λ f. Unit {0})
   pub keeps : (found : List Mutation) (told : Told) → Keeps s.journal d s.list s.committed found told → FitsEntry (said_by told.entries) (change_entry c)
       → MatchResult result (λ x. Keeps t.journal e t.list t.committed found (appended (change_entry c) (committed_all told)))
@@ -262,8 +263,8 @@ StandsSo t n told o disk =
     (ws : List Mutation) → HoldJust t.columns (memtables_at o) ws → (i : Image) → disk.may_leave i
     → (vs : List Mutation) × StandIn t n i told vs × SayTheSame t.columns (frozen_at o) vs
 
--- Its disk keeps what it kept, with these changes told, and a crash in between leaves what it must; and under this condition what a crash may leave explains it,
--- where that explained the history before.
+-- Its disk keeps what it kept, with these changes told, and a crash in between leaves what it must; and under this condition what a crash may leave explains
+-- it, where that explained the history before.
 abbrev pub GoesOn : Type 0 → History → List Change → List Mutation → Told → State → State → Disk → Disk → Type 0
 GoesOn Left h changes found told s u d e =
     ((now : Told) × LastsFor (record h { changes = changes; trimmed = false }) found u e now

@@ -22,4 +22,5 @@ IsPieceAdded source from (Some k) size old new = IsAdded (lexeme_of k from (from
 
 -- what the piece at this place is to the grammar was added; it has this size
 abbrev pub IsNextAdded : List ℕ → ℕ → ℕ → List Lexeme → List Lexeme → Type 0
-IsNextAdded source at size old new = (p : Piece) × (piece_at (drop at source) ≡ Some p) × (p.size ≡ size) × (at + size ≤ length source) × IsPieceAdded source at p.kind p.size old new
+IsNextAdded source at size old new =
+    (p : Piece) × (piece_at (drop at source) ≡ Some p) × (p.size ≡ size) × (at + size ≤ length source) × IsPieceAdded source at p.kind p.size old new
