@@ -6,6 +6,7 @@ use Rattle.cas_types.specs.declared.schema.Column.{Column}
 use Rattle.cas_cell.specs.declared.deletion.Deletion.{Deletion}
 use Rattle.cas_bounds.specs.ClusteringOrder.{clustering_order}
 use Rattle.cas_bounds.specs.Cuts.{is_inside}
+use Rattle.cas_bounds.specs.declared.cuts.Cut.{Cut}
 use Rattle.cas_bounds.specs.declared.cuts.Slice.{Slice}
 use Rattle.cas_bounds.specs.declared.order.Ordered.{Ordered}
 use Rattle.cas_atoms.specs.Coordinates.{RowKey, clustered, static_row, row_of, same_bytes}
@@ -17,7 +18,7 @@ use Rattle.cas_laws.specs.Inside.{SameIn, is_in}
 use Rattle.cas_laws.proofs.ShownProofs.{equal_bytes}
 use Rattle.cas_streams.specs.Flat.{changes}
 use Rattle.cas_streams.specs.Joined.{Stream}
-use Rattle.cas_streams.specs.Merged.{merged, flat_of, flats}
+use Rattle.cas_streams.specs.Merged.{draw, joined_all, merged, flat_of, flats}
 use Rattle.cas_streams.specs.NoMore.{SaysNoMore}
 use Rattle.cas_streams.specs.Streams.{IsThere, WellFormed}
 use Rattle.cas_streams.specs.declared.fragment.Fragment.{Fragment}
@@ -25,12 +26,15 @@ use Rattle.cas_streams.specs.declared.fragment.Fragment.TheVariants as fragment
 use Rattle.cas_streams.proofs.Formed.{merge_is_well_formed}
 use Rattle.cas_streams.proofs.Merges.{merge_is_join}
 use Rattle.cas_streams.proofs.NoMore.{merge_says_no_more, no_more_then}
+use Rattle.cas_streams.proofs.Settling.{settled_differ}
 use Rattle.cas_streams.proofs.Something.{merge_says_something}
 use Rattle.cas_fragments.specs.Allowed.{HasSpelling}
 use Rattle.cas_fragments.specs.Blocks.{behind_statics}
+use Rattle.cas_partition.specs.Ends.{AllAtEnds, IsEnd}
 use Rattle.cas_partition.specs.Partitions.{AllFit, AreAtCuts}
 use Rattle.cas_partition.specs.Slices.{IsAll}
 use Rattle.cas_partition.proofs.AtCuts.{merge_at}
+use Rattle.cas_partition.proofs.Ends.{all_at, merge_moves}
 use Rattle.cas_memtable.specs.Memtables.{least_of, least_with}
 use Rattle.cas_memtable.specs.declared.memtable.MemPart.{MemPart}
 use Rattle.cas_memtable.specs.Kept.{HoldMutations, MayHold, StandInEach, ShowPartition, all_of, atoms_at, atoms_under, has_key}
@@ -163,6 +167,13 @@ module _ {M : Type 0} (tells : M → Option (List Fragment)) (tops : M → Optio
   merge_some : IsThere (atoms_under key (all_of wss)) → IsThere (flat_of (merged shows.streams))
   merge_some there = merge_says_something (clustering_order columns) shows.streams shows.ordered (shows.said (from_end_to_end columns s w) there)
 
+  merge_ends : AllAtEnds (atoms_under key (all_of wss)) (changes (merged shows.streams).fragments)
+  merge_ends =
+      let P : Cut → Type 0 = IsEnd (atoms_under key (all_of wss)) in
+      let j : Stream = joined_all (draw shows.streams) in
+      all_at P None (changes (merged shows.streams).fragments) (settled_differ j.top None j.fragments)
+      (merge_moves P (clustering_order columns) shows.streams shows.ordered (shows.ends (from_end_to_end columns s w)))
+
   -- whichever mutations these are, the sources tell the same streams
   module _ (streams : List Stream) (told : streams_told tells tops xs ≡ Some streams) where
     are_told : shows.streams ≡ streams
@@ -176,6 +187,9 @@ module _ {M : Type 0} (tells : M → Option (List Fragment)) (tops : M → Optio
 
     pub told_some : IsThere (atoms_under key (all_of wss)) → IsThere (flat_of (merged streams))
     told_some there = subst (λ ss. IsThere (flat_of (merged ss))) are_told (merge_some there)
+
+    pub told_ends : AllAtEnds (atoms_under key (all_of wss)) (changes (merged streams).fragments)
+    told_ends = subst (λ ss. AllAtEnds (atoms_under key (all_of wss)) (changes (merged ss).fragments)) are_told merge_ends
 
   module _ (hold : HoldMutations columns ms wss) where
     pub merge_formed : WellFormed columns (merged shows.streams).fragments

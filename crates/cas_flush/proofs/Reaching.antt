@@ -16,11 +16,12 @@ use Rattle.cas_atoms.specs.Winners.{Same}
 use Rattle.cas_atoms.specs.declared.atom.Atom.{Atom}
 use Rattle.cas_atoms.specs.declared.atom.Mutation.{Mutation}
 use Rattle.cas_laws.proofs.ShownProofs.{equal_bytes}
-use Rattle.cas_streams.specs.Flat.{flat}
+use Rattle.cas_streams.specs.Flat.{changes, flat}
 use Rattle.cas_streams.specs.NoMore.{SaysNoMore}
 use Rattle.cas_streams.specs.Streams.{IsThere}
 use Rattle.cas_streams.specs.declared.fragment.Fragment.{Fragment}
 use Rattle.cas_streams.proofs.NoMore.{no_more_itself}
+use Rattle.cas_partition.specs.Ends.{AllAtEnds}
 use Rattle.cas_index.specs.Entries.{is_next_key}
 use Rattle.cas_index.specs.declared.entries.PartitionEntry.{PartitionEntry}
 use Rattle.cas_memtable.specs.Memtables.{is_above}
@@ -133,6 +134,13 @@ one_of P next None [] h = tt
 one_of P next None (f ∷ fs) h = (h (record { key = next; stream = record { top = None; fragments = f ∷ fs } }) refl, tt)
 one_of P next (Some d) fs h = (h (record { key = next; stream = record { top = Some d; fragments = fs } }) refl, tt)
 
+-- the ends of its markers
+one_at_ends : (B : List ℕ → List Atom) (next : List ℕ) (top : Option Deletion) (fs : List Fragment) → AllAtEnds (B next) (changes fs)
+    → AllByRecursion (λ p. AllAtEnds (B p.key) (changes p.stream.fragments)) (partition_of next top fs)
+one_at_ends B next None [] at = tt
+one_at_ends B next None (f ∷ fs) at = (at, tt)
+one_at_ends B next (Some d) fs at = (at, tt)
+
 all_both : (P : Partition → Type 0) (ps qs : List Partition) → AllByRecursion P ps → AllByRecursion P qs → AllByRecursion P (ps ++ qs)
 all_both P [] qs a b = b
 all_both P (p ∷ ps) qs a b = (a.0, all_both P ps qs a.1 b)
@@ -154,7 +162,7 @@ where_both R A B X Y e f r = subst (λ Z. R A Z) (sym f) (subst (λ Z. R Z Y) (s
 -- ---- one key after another
 
 pub none_reached : (ws : List Mutation) → AreOf (is_reached None) ws []
-none_reached ws = record { same = λ key e. absurd (true≢false (sym e)); no_more = λ key e. absurd (true≢false (sym e)); all = λ key e. absurd (true≢false (sym e)); written = tt; within = tt }
+none_reached ws = record { same = λ key e. absurd (true≢false (sym e)); no_more = λ key e. absurd (true≢false (sym e)); all = λ key e. absurd (true≢false (sym e)); written = tt; ends = tt; within = tt }
 
 module _ (order : List Ordered) (ms : List MemPart) (wss : List (List Mutation)) (each : StandInEach order ms wss) (after : Option (List ℕ)) where
   abbrev Now : List ℕ → List Atom
@@ -204,14 +212,15 @@ module _ (order : List Ordered) (ms : List MemPart) (wss : List (List Mutation))
                     (no_other key above (not_true (is_lt (bytes_cmp next key)) reached) (λ same. true≢false (sym (ap (same_bytes next) (sym same) ∙ own next) ∙ e)))) (self [])
               ] refl
 
-      pub reached_next : Same (flat top fs) (Now next) → SaysNoMore (flat top fs) (Now next) → (IsThere (Now next) → IsThere (flat top fs))
+      pub reached_next : Same (flat top fs) (Now next) → SaysNoMore (flat top fs) (Now next) → (IsThere (Now next) → IsThere (flat top fs)) → AllAtEnds (Now next) (changes fs)
           → AreOf (is_reached (Some next)) (all_of wss) (ps ++ partition_of next top fs)
-      reached_next same no_more some = record {
+      reached_next same no_more some at = record {
         same = at_each Same (λ A. same_is A A refl) are.same same;
         no_more = at_each SaysNoMore no_more_itself are.no_more no_more;
         all = at_each (λ A B. IsThere B → IsThere A) (λ A there. there) are.all some;
         written = all_both (λ p. IsThere (Now p.key)) ps (partition_of next top fs) are.written
             (one_of (λ p. IsThere (Now p.key)) next top fs (λ p e. subst (λ k. IsThere (Now k)) (sym e) (has_there order next ms wss each is.1)));
+        ends = all_both (λ p. AllAtEnds (Now p.key) (changes p.stream.fragments)) ps (partition_of next top fs) are.ends (one_at_ends Now next top fs at);
         within = all_both (λ p. is_reached (Some next) p.key ≡ true) ps (partition_of next top fs)
             (all_on (λ p. is_reached after p.key ≡ true) (λ p. is_reached (Some next) p.key ≡ true) ps (λ p. reached_on after next p.key is.0) are.within)
             (one_of (λ p. is_reached (Some next) p.key ≡ true) next top fs (λ p e. ap (is_reached (Some next)) e ∙ next_reached next));
@@ -232,6 +241,7 @@ module _ (order : List Ordered) (ms : List MemPart) (wss : List (List Mutation))
       no_more = λ key low. at_each SaysNoMore no_more_itself are.no_more key low;
       all = λ key low. at_each (λ A B. IsThere B → IsThere A) (λ A there. there) are.all key low;
       written = are.written;
+      ends = are.ends;
       within = all_on (λ p. is_reached after p.key ≡ true) (λ p. is_below next p.key ≡ true) ps (λ p. reached_below after next p.key is.0) are.within;
     }
       where
@@ -251,6 +261,7 @@ module _ (order : List Ordered) (ms : List MemPart) (wss : List (List Mutation))
     no_more = λ key e. at_each SaysNoMore no_more_itself are.no_more key;
     all = λ key e. at_each (λ A B. IsThere B → IsThere A) (λ A there. there) are.all key;
     written = are.written;
+    ends = are.ends;
     within = all_on (λ p. is_reached after p.key ≡ true) (λ p. any p.key ≡ true) ps (λ p h. refl) are.within;
   }
     where

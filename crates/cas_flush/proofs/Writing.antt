@@ -29,7 +29,7 @@ use Rattle.cas_sstwrite.specs.Rooms.{AreHeld}
 use Rattle.cas_sstwrite.specs.Writers.{Writes, FitsStream, contents_of, partition_of}
 use Rattle.cas_flush.specs.Flushed.{any, is_below, at_level_0, FlushFault, Hinders, MayStand, SayWhatIsHeld, SaysWhatIsUnder}
 use Rattle.cas_flush.specs.Inner.Keys.{IsWhole, told, Refuses, KeyFault, Stops, StopsAt, WritesKey}
-use Rattle.cas_flush.proofs.Holding.{has_there, key_fits, merge_at_cuts, merge_fits, merge_formed, told_same, told_no_more, told_some}
+use Rattle.cas_flush.proofs.Holding.{has_there, key_fits, merge_at_cuts, merge_fits, merge_formed, told_same, told_no_more, told_some, told_ends}
 use Rattle.cas_flush.proofs.Reaching.{next_in_order}
 
 -- ---- a key
@@ -55,6 +55,7 @@ key_written number_of written tells tops columns s whole key given ms wss hold x
       same = λ vss stand. told_same tells tops columns s whole key ms vss xs (each vss stand) shows.streams shows.told;
       no_more = λ vss stand. told_no_more tells tops columns s whole key ms vss xs (each vss stand) shows.streams shows.told;
       some = λ vss stand. told_some tells tops columns s whole key ms vss xs (each vss stand) shows.streams shows.told;
+      ends = λ vss stand. told_ends tells tops columns s whole key ms vss xs (each vss stand) shows.streams shows.told;
       writes = subst (λ q. Writes number_of written columns new (ps ++ partition_of q m.top m.fragments)) same
           (subst (λ d. Writes number_of written columns new (ps ++ partition_of given d m.fragments)) top_is
           (goes columns ps m.fragments w tells_all
@@ -98,6 +99,7 @@ key_refused number_of written tells tops columns s whole key given ms wss hold x
       cuts = merge_at_cuts tells tops columns s whole key ms wss xs shows hold;
       same = λ vss stand. told_same tells tops columns s whole key ms vss xs (each vss stand) shows.streams shows.told;
       no_more = λ vss stand. told_no_more tells tops columns s whole key ms vss xs (each vss stand) shows.streams shows.told;
+      ends = λ vss stand. told_ends tells tops columns s whole key ms vss xs (each vss stand) shows.streams shows.told;
     } in
     key_fault number_of written columns w ps key ms m e writes says
     (subst (λ q. WhyNot w.entries.items w.sink.place q m.top m.fragments e) same

@@ -17,6 +17,7 @@ use Rattle.cas_streams.specs.Joined.{Stream}
 use Rattle.cas_streams.specs.Merged.{flat_of}
 use Rattle.cas_streams.specs.NoMore.{SaysNoMore}
 use Rattle.cas_streams.specs.Streams.{IsThere, WellFormed}
+use Rattle.cas_partition.specs.Ends.{AllAtEnds}
 use Rattle.cas_partition.specs.Partitions.{AreAtCuts}
 use Rattle.cas_memtable.specs.declared.memtable.MemPart.{MemPart}
 use Rattle.cas_memtable.specs.Kept.{StandInEach, all_of, atoms_under}
@@ -41,12 +42,14 @@ abbrev pub said_under : List ℕ → List Partition → List Atom
 said_under key ps = flat_map (said_at key) ps
 
 -- Partitions are those of mutations at the keys that pass a test: under each they say the same as the mutations, and no more, and something where an atom
--- was written, be it one that covers no row; and each is of such a key, under which something was written.
+-- was written, be it one that covers no row; and each is of such a key, under which something was written, and has markers only at ends of range deletions
+-- that were.
 pub record AreOf (passes : List ℕ → Bool) (ws : List Mutation) (ps : List Partition) : Type 0 where
   pub same : (key : List ℕ) → passes key ≡ true → Same (said_under key ps) (atoms_under key ws)
   pub no_more : (key : List ℕ) → passes key ≡ true → SaysNoMore (said_under key ps) (atoms_under key ws)
   pub all : (key : List ℕ) → passes key ≡ true → IsThere (atoms_under key ws) → IsThere (said_under key ps)
   pub written : AllByRecursion (λ p. IsThere (atoms_under p.key ws)) ps
+  pub ends : AllByRecursion (λ p. AllAtEnds (atoms_under p.key ws) (changes p.stream.fragments)) ps
   pub within : AllByRecursion (λ p. passes p.key ≡ true) ps
 
 -- the partitions say what memtables of a table with these columns hold, at the keys that pass: they are those of whichever mutations stand in these
@@ -73,13 +76,14 @@ pub record MayStand (columns : List Column) (ps : List Partition) : Type 0 where
   pub ascend : IsStrictlySortedBy bytes_cmp (map (λ p. p.key) ps)
 
 -- a well-formed stream, whose markers stand at cuts that the table may have, says what memtables hold under a key: it says the same as whichever mutations
--- stand in these, and no more
+-- stand in these, and no more, and each of its markers stands at an end of one of their range deletions
 pub record SaysWhatIsUnder (columns : List Column) (ms : List MemPart) (key : List ℕ) (s : Stream) : Type 0 where
   pub key_fits : FitsKey key
   pub formed : WellFormed columns s.fragments
   pub cuts : AreAtCuts columns (changes s.fragments)
   pub same : (wss : List (List Mutation)) → StandInEach (clustering_order columns) ms wss → Same (flat_of s) (atoms_under key (all_of wss))
   pub no_more : (wss : List (List Mutation)) → StandInEach (clustering_order columns) ms wss → SaysNoMore (flat_of s) (atoms_under key (all_of wss))
+  pub ends : (wss : List (List Mutation)) → StandInEach (clustering_order columns) ms wss → AllAtEnds (atoms_under key (all_of wss)) (changes s.fragments)
 
 -- at a key the writer answered that fault: behind the partitions of the keys below it, to a stream that says what the memtables hold there
 pub record Hinders (columns : List Column) (header : Header) (ms : List MemPart) (e : WriteFault) : Type 0 where

@@ -11,6 +11,7 @@ use Rattle.cas_atoms.specs.Coordinates.{same_bytes}
 use Rattle.cas_atoms.specs.Winners.{Same}
 use Rattle.cas_atoms.specs.declared.atom.Atom.{Atom}
 use Rattle.cas_laws.proofs.ShownProofs.{equal_bytes}
+use Rattle.cas_partition.specs.Ends.{IsEnd}
 use Rattle.cas_memtable.specs.Kept.{atoms_under}
 use Rattle.cas_streams.specs.Merged.{flat_of}
 use Rattle.cas_streams.specs.NoMore.{SaysNoMore}
@@ -26,6 +27,7 @@ use Rattle.cas_stored.proofs.Lists.{each_one}
 use Rattle.cas_stored.proofs.Loaded.{loaded_stands}
 use Rattle.cas_flushed.specs.Laws.{ContentsStand, FlushedSayTheSame, ListedContentsStand}
 use Rattle.cas_flushed.specs.Written.{written_in}
+use Rattle.cas_flushed.proofs.Ending.{told_ends}
 
 -- ---- what is told under a key
 
@@ -118,4 +120,5 @@ pub flushed_say_the_same : FlushedSayTheSame
 flushed_say_the_same = record {
   same = λ ws ps are key. subst (λ (l : List Atom). Same l (atoms_under key ws)) (sym (under_is key ps)) (are.same key refl);
   no_more = λ ws ps are key. subst (λ (l : List Atom). SaysNoMore l (atoms_under key ws)) (sym (under_is key ps)) (are.no_more key refl);
+  ends = λ ws ps are key c at. told_ends ws ps are.ends key c (subst (λ (l : List Atom). IsEnd l c) (under_is key ps) at);
 }

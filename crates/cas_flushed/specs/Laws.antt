@@ -2,11 +2,13 @@
 use Rattle.std.specs.Prelude.{◌≡◌, ℕ, List}
 use Rattle.cas_types.specs.declared.schema.TableSchema.{TableSchema}
 use Rattle.cas_bounds.specs.ClusteringOrder.{clustering_order}
+use Rattle.cas_bounds.specs.declared.cuts.Cut.{Cut}
 use Rattle.cas_atoms.specs.Winners.{Same}
 use Rattle.cas_atoms.specs.declared.atom.Mutation.{Mutation}
 use Rattle.cas_disk.specs.Disk.{Image}
 use Rattle.cas_info.specs.declared.info.TableInfo.{TableInfo}
 use Rattle.cas_streams.specs.NoMore.{SaysNoMore}
+use Rattle.cas_partition.specs.Ends.{IsEnd}
 use Rattle.cas_memtable.specs.Kept.{atoms_under}
 use Rattle.cas_facts.specs.declared.facts.Facts.{Facts}
 use Rattle.cas_tables.specs.Contents.{Contents, Partition}
@@ -29,8 +31,11 @@ abbrev pub ListedContentsStand : Type 0
 ListedContentsStand =
     (t : TableSchema) (shard : ℕ) (d : Image) (i : TableInfo) (c : Contents) → IsFileIn t shard d i c → StandIn t shard d i (written_in c.partitions)
 
--- where partitions are those of mutations, as a flush writes them, what they tell says the same under each key as the mutations did, and no more
+-- where partitions are those of mutations, as a flush writes them, what they tell says the same under each key as the mutations did, and no more; and its
+-- range deletions begin and end where theirs do
 pub record FlushedSayTheSame : Type 0 where
   pub same : (ws : List Mutation) (ps : List Partition) → AreOf any ws ps → (key : List ℕ) → Same (atoms_under key (written_in ps)) (atoms_under key ws)
   pub no_more : (ws : List Mutation) (ps : List Partition) → AreOf any ws ps
       → (key : List ℕ) → SaysNoMore (atoms_under key (written_in ps)) (atoms_under key ws)
+  pub ends : (ws : List Mutation) (ps : List Partition) → AreOf any ws ps
+      → (key : List ℕ) (c : Cut) → IsEnd (atoms_under key (written_in ps)) c → IsEnd (atoms_under key ws) c

@@ -67,6 +67,7 @@ module _ {D : Type 0} (number_of : D → ℕ) (wrote : D → List ℕ → Type 0
       record {
         same = flushed_say_the_same.same (all_of wss) is.partitions are;
         no_more = flushed_say_the_same.no_more (all_of wss) is.partitions are;
+        ends = flushed_say_the_same.ends (all_of wss) is.partitions are;
       }
 
   module _ (b : List ℕ) (w : wrote draft b) where

@@ -14,6 +14,7 @@ use Rattle.cas_memtable.specs.Kept.{HoldJust, HoldMutations, MayHold, StandInEac
 use Rattle.cas_memtable.specs.Memtables.{IsOfColumns, added, bytes_with}
 use Rattle.cas_memtable.specs.declared.memtable.MemPart.{MemPart}
 use Rattle.cas_memtable.proofs.Keeping.{more_under}
+use Rattle.cas_partition.specs.Ends.{IsEnd}
 use Rattle.cas_streams.specs.NoMore.{SaysNoMore}
 use Rattle.cas_stored.specs.Stored.{StoredTable}
 use Rattle.cas_shard.specs.Flushing.{bytes_at, frozen_at, memtables_at}
@@ -85,6 +86,7 @@ say_more : (vs ws others : List Mutation) → SaySame vs ws → ((key : List ℕ
 say_more vs ws others says none = record {
   same = λ key. subst (Same (atoms_under key vs)) (more key) (says.same key);
   no_more = λ key. subst (SaysNoMore (atoms_under key vs)) (more key) (says.no_more key);
+  ends = λ key c at. subst (λ l. IsEnd l c) (more key) (says.ends key c at);
 }
   where
     more : (key : List ℕ) → atoms_under key ws ≡ atoms_under key (ws ++ others)

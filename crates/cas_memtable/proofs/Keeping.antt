@@ -21,8 +21,9 @@ use Rattle.cas_laws.proofs.JoinProofs.{join_laws}
 use Rattle.cas_streams.specs.NoMore.{SaysNoMore}
 use Rattle.cas_streams.specs.Streams.{IsThere}
 use Rattle.cas_streams.proofs.NoMore.{no_more_itself, no_more_kept, no_more_then}
+use Rattle.cas_partition.specs.Ends.{AreAtEnds}
 use Rattle.cas_partition.specs.Partitions.{AreAtomsOf}
-use Rattle.cas_memtable.specs.Memtables.{held_at, atoms_held, atoms_of, least_held, least_of, least_with, bytes_with, IsOfColumns, MakesPlaces, Joins}
+use Rattle.cas_memtable.specs.Memtables.{held_at, atoms_held, atoms_of, changes_held, changes_of, least_held, least_of, least_with, bytes_with, IsOfColumns, MakesPlaces, Joins}
 use Rattle.cas_memtable.specs.declared.memtable.MemPart.{MemPart}
 use Rattle.cas_memtable.specs.Kept.{atoms_at, atoms_under, bytes_of, StandIn, StandInEach, with_one, begun, all_of}
 
@@ -99,6 +100,7 @@ none_stands order m none bytes = record {
   same = λ key. subst (λ o. Same (atoms_held o) []) (sym (none key)) (same_same []);
   no_more = λ key. subst (λ o. SaysNoMore (atoms_held o) []) (sym (none key)) (no_more_itself []);
   some = λ key there. absurd there;
+  ends = λ key. subst (λ o. AreAtEnds [] (changes_held o)) (sym (none key)) tt;
   least = λ key. ap least_held (none key);
   bytes = bytes;
 }
@@ -112,6 +114,7 @@ made_stands order w m n ws stands are makes = record {
   same = λ key. then_same (atoms_of n key) (atoms_of m key) (atoms_under key ws) (makes.same order stands.of are key) (stands.same key);
   no_more = λ key. no_more_then (atoms_of n key) (atoms_of m key) (atoms_under key ws) (makes.no_more order stands.of are key) (stands.no_more key);
   some = λ key there. makes.some key (stands.some key there);
+  ends = λ key. makes.ends key (atoms_under key ws) (stands.ends key);
   least = λ key. makes.least key ∙ stands.least key;
   bytes = makes.bytes ∙ stands.bytes;
 }
@@ -161,6 +164,13 @@ module _ (order : List Ordered) (w : Mutation) (m n : MemPart) (ws : List Mutati
   some_at key (inl e) = subst (λ q. IsThere (Now q) → IsThere (atoms_of n q)) (sym e.0) (own_some (subst (λ q. same_bytes w.key q ≡ true) e.0 e.1))
   some_at key (inr h) = λ there. subst (λ o. IsThere (atoms_held o)) (sym (joins.others key h.0)) (stands.some key (subst IsThere (sym (other key h.1)) there))
 
+  own_ends : same_bytes w.key w.key ≡ true → AreAtEnds (Now w.key) (changes_of n w.key)
+  own_ends e = subst (λ l. AreAtEnds l (changes_of n w.key)) (own w.key e) (joins.ends order stands.of are (atoms_under w.key ws) (stands.ends w.key))
+
+  ends_at : (key : List ℕ) → Found key → AreAtEnds (Now key) (changes_of n key)
+  ends_at key (inl e) = subst (λ q. AreAtEnds (Now q) (changes_of n q)) (sym e.0) (own_ends (subst (λ q. same_bytes w.key q ≡ true) e.0 e.1))
+  ends_at key (inr h) = subst (λ o. AreAtEnds (Now key) (changes_held o)) (sym (joins.others key h.0)) (subst (λ l. AreAtEnds l (changes_of m key)) (other key h.1) (stands.ends key))
+
   least_at : (key : List ℕ) → Found key → least_of n key ≡ least_with None (Now key)
   least_at key (inl e) = subst (λ q. least_of n q ≡ least_with None (Now q)) (sym e.0) (own_least (subst (λ q. same_bytes w.key q ≡ true) e.0 e.1))
   least_at key (inr h) = ap least_held (joins.others key h.0) ∙ stands.least key ∙ ap (least_with None) (other key h.1)
@@ -171,6 +181,7 @@ module _ (order : List Ordered) (w : Mutation) (m n : MemPart) (ws : List Mutati
     same = λ key. same_at key (same_key w.key key);
     no_more = λ key. no_more_at key (same_key w.key key);
     some = λ key. some_at key (same_key w.key key);
+    ends = λ key. ends_at key (same_key w.key key);
     least = λ key. least_at key (same_key w.key key);
     bytes = joins.bytes ∙ ap (λ b. bytes_with b w) stands.bytes ∙ sym (bytes_more 0 ws w);
   }

@@ -16,10 +16,11 @@ use Rattle.cas_atoms.specs.declared.atom.Mutation.{Mutation}
 use Rattle.cas_streams.specs.NoMore.{SaysNoMore}
 use Rattle.cas_streams.specs.Streams.{IsThere}
 use Rattle.cas_streams.proofs.NoMore.{no_more_itself}
+use Rattle.cas_partition.specs.Ends.{AreAtEnds}
 use Rattle.cas_partition.specs.Partitions.{partition_atoms, IsOf, HavePlaces, JoinsAll}
 use Rattle.cas_partition.specs.Partitions.{MakesPlaces as MakesIn, IsOfTable as IsPartitionOf}
 use Rattle.cas_partition.specs.declared.partition.Partition.{Partition}
-use Rattle.cas_memtable.specs.Memtables.{held_at, atoms_held, atoms_of, least_held, least_with, bytes_with, IsOfTable, IsOfColumns, PlacesIn, HasPlaces, MakesPlaces, Joins}
+use Rattle.cas_memtable.specs.Memtables.{held_at, atoms_held, atoms_of, changes_held, changes_of, least_held, least_with, bytes_with, IsOfTable, IsOfColumns, PlacesIn, HasPlaces, MakesPlaces, Joins}
 use Rattle.cas_memtable.specs.Inner.Steps.{IsBlank, StaysOrBlank, Puts, ReservesAt, ReservesIn, AppliesAt}
 use Rattle.cas_memtable.specs.declared.memtable.Held.{Held}
 use Rattle.cas_memtable.specs.declared.memtable.MemPart.{MemPart}
@@ -63,6 +64,11 @@ stays_atoms : (o p : Option Held) → StaysOrBlank o p → atoms_held p ≡ atom
 stays_atoms (Some h) p e = ap atoms_held e
 stays_atoms None p (inl e) = ap atoms_held e
 stays_atoms None p (inr b) = ap atoms_held b.1 ∙ b.2.empty
+
+stays_ends : (ws : List Atom) (o p : Option Held) → StaysOrBlank o p → AreAtEnds ws (changes_held o) → AreAtEnds ws (changes_held p)
+stays_ends ws (Some h) p e moves = subst (λ q. AreAtEnds ws (changes_held q)) (sym e) moves
+stays_ends ws None p (inl e) moves = subst (λ q. AreAtEnds ws (changes_held q)) (sym e) moves
+stays_ends ws None p (inr b) moves = subst (λ q. AreAtEnds ws (changes_held q)) (sym b.1) (b.2.ends ws)
 
 stays_least : (o p : Option Held) → StaysOrBlank o p → least_held p ≡ least_held o
 stays_least (Some h) p e = ap least_held e
@@ -160,6 +166,7 @@ module _ {E : Type 0} (w : Mutation) (m n : MemPart) (mid : Look) (result : Resu
     same = λ order of atoms q. same_is (atoms_of n q) (atoms_of m q) (ap atoms_held (same q) ∙ stays_atoms (held_at m q) (mid q) (kept q));
     no_more = λ order of atoms q. no_more_is (atoms_of n q) (atoms_of m q) (ap atoms_held (same q) ∙ stays_atoms (held_at m q) (mid q) (kept q));
     some = λ q there. subst IsThere (sym (ap atoms_held (same q) ∙ stays_atoms (held_at m q) (mid q) (kept q))) there;
+    ends = λ q ws moves. subst (λ o. AreAtEnds ws (changes_held o)) (sym (same q)) (stays_ends ws (held_at m q) (mid q) (kept q) moves);
     of = λ order of atoms q g is. stays_fact (IsOf order) (λ h b. b.of order) (held_at m q) (mid q) (kept q) (of q) g (sym (same q) ∙ is);
     fits = λ columns t fit q g is. stays_fact (IsPartitionOf columns) (λ h b. b.table columns) (held_at m q) (mid q) (kept q) (t q) g (sym (same q) ∙ is);
     least = λ q. ap least_held (same q) ∙ stays_least (held_at m q) (mid q) (kept q);
@@ -208,6 +215,14 @@ module _ {E : Type 0} (w : Mutation) (m n : MemPart) (mid : Look) (result : Resu
                 subst IsThere (sym (ap atoms_held hit.1)) (r.makes.some (subst IsThere before there))
             | inr miss ↦ subst IsThere (sym (ap atoms_held miss.1 ∙ stays_atoms (held_at m q) (mid q) (kept q))) there
           ];
+          ends = λ q ws moves.
+              let before : AreAtEnds ws (changes_held (mid q)) = stays_ends ws (held_at m q) (mid q) (kept q) moves in
+              elim (at_key w.key q r.held mid (held_at n) r.puts) [
+                | inl hit ↦
+                    let there : mid q ≡ Some h = sym (ap mid (equal_keys w.key q hit.0)) ∙ is in
+                    subst (λ o. AreAtEnds ws (changes_held o)) (sym hit.1) (r.makes.ends ws (subst (λ o. AreAtEnds ws (changes_held o)) there before))
+                | inr miss ↦ subst (λ o. AreAtEnds ws (changes_held o)) (sym miss.1) before
+              ];
           of = λ order of atoms q g e. elim (at_key w.key q r.held mid (held_at n) r.puts) [
             | inl hit ↦ subst (λ k. IsOf order k.partition) (ap (λ o. unwrap_or o g) (sym hit.1 ∙ e)) (r.makes.of order (of_mid order of w.key h is) atoms)
             | inr miss ↦ of_mid order of q g (sym miss.1 ∙ e)
@@ -269,6 +284,9 @@ joins_all w m n places applied bytes =
       some = λ order of atoms there.
           subst IsThere (sym (ap atoms_held now))
           (r.joins.some order (of w.key h is) atoms (subst (λ B. IsThere (B ++ w.atoms)) (ap atoms_held is) there));
+      ends = λ order of atoms ws moves.
+          subst (λ o. AreAtEnds (ws ++ w.atoms) (changes_held o)) (sym now)
+          (r.joins.ends order (of w.key h is) atoms ws (subst (λ o. AreAtEnds ws (changes_held o)) is moves));
       of = λ order of atoms q g e. elim (at_key w.key q r.held (held_at m) (held_at n) r.puts) [
         | inl hit ↦ subst (λ k. IsOf order k.partition) (ap (λ o. unwrap_or o g) (sym hit.1 ∙ e)) (r.joins.of order (of w.key h is) atoms)
         | inr miss ↦ of q g (sym miss.1 ∙ e)

@@ -1,6 +1,7 @@
 -- What the sources of a table's memtables show of a partition, and the least timestamp of it.
 use Rattle.std.proofs.Common.{◌≡◌, inl, inr, ⊎_elim, ℕ, ℤ, Bool, true, false, Option, None, Some, List, [], ◌∷◌, ◌++◌, refl, sym, ap, ◌∙◌, subst, arith, append-nil, append_assoc, Result, Ok, Err, IfOk}
 use Rattle.std.specs.Prelude.{map, is_some, int_lt, if◌then◌else◌, fold}
+use Rattle.std.specs.List.{AllByRecursion}
 use Rattle.std.specs.Option.{option_to_list}
 use Rattle.std.proofs.lemmas.Bool.{true≢false}
 use Rattle.cas_cell.specs.declared.deletion.Deletion.{Deletion}
@@ -13,16 +14,20 @@ use Rattle.cas_atoms.specs.declared.atom.Mutation.{Mutation}
 use Rattle.cas_laws.specs.Given.{Gives}
 use Rattle.cas_laws.specs.Inside.{SameIn}
 use Rattle.cas_laws.proofs.JoinProofs.{same_where_joins}
-use Rattle.cas_streams.specs.Flat.{flat}
+use Rattle.cas_streams.specs.Flat.{changes, flat}
+use Rattle.cas_streams.specs.Joined.{Stream}
 use Rattle.cas_streams.specs.Merged.{flats}
 use Rattle.cas_streams.specs.NoMore.{SaysNoMore}
 use Rattle.cas_streams.specs.Streams.{IsThere}
 use Rattle.cas_streams.specs.declared.fragment.Fragment.{Fragment}
 use Rattle.cas_streams.proofs.NoMore.{no_more_itself, no_more_kept, no_more_then}
+use Rattle.cas_streams.proofs.Weaves.{all_so}
 use Rattle.cas_merge.specs.Told.{streams_told, told_first}
+use Rattle.cas_partition.specs.Ends.{AreAtEnds}
 use Rattle.cas_partition.specs.Partitions.{partition_atoms}
 use Rattle.cas_partition.specs.Slices.{Shows}
-use Rattle.cas_memtable.specs.Memtables.{GivesPart, atoms_held, earlier, held_at, least_held, least_of, least_with}
+use Rattle.cas_partition.proofs.Ends.{ends_before, ends_behind}
+use Rattle.cas_memtable.specs.Memtables.{GivesPart, atoms_held, changes_held, earlier, held_at, least_held, least_of, least_with}
 use Rattle.cas_memtable.specs.declared.memtable.Held.{Held}
 use Rattle.cas_memtable.specs.declared.memtable.MemPart.{MemPart}
 use Rattle.cas_memtable.specs.Inner.Gathered.{Gathers, GathersBehind}
@@ -95,6 +100,7 @@ module _ {M : Type 0} (tells : M → Option (List Fragment)) (tops : M → Optio
         same = subst (SameIn s (flats shown.streams)) (sym same) shown.same;
         no_more = subst (SaysNoMore (flats shown.streams)) (sym same) shown.no_more;
         said = λ all there. shown.said all (subst IsThere same there);
+        ends = λ all. subst (λ (l : List Atom). AllByRecursion (λ (x : Stream). AreAtEnds l (changes x.fragments)) shown.streams) (sym same) (shown.ends all);
         formed = λ columns is each. shown.formed columns is each.1;
         cuts = λ columns is each lo hi. shown.cuts columns is each.1 lo hi;
         none = λ e. same ∙ shown.none e;
@@ -125,6 +131,14 @@ module _ {M : Type 0} (tells : M → Option (List Fragment)) (tops : M → Optio
             (shows.some order (stands.of key h is) all (subst (λ o. IsThere (atoms_held o)) is (stands.some key own))))
             (λ others. there_back (flat (tops x) fs) (flats shown.streams) (shown.said all others))
             (either_there (atoms_under key ws) (atoms_under key rest) (subst IsThere both there));
+        ends = λ all.
+            let A : List Atom = atoms_under key ws in
+            let B : List Atom = atoms_under key rest in
+            subst (λ (l : List Atom). AllByRecursion (λ (x : Stream). AreAtEnds l (changes x.fragments)) (record { top = tops x; fragments = fs } ∷ shown.streams)) (sym both) (
+              ends_before A B (changes fs) (shows.ends order (stands.of key h is) all A (subst (λ o. AreAtEnds A (changes_held o)) is (stands.ends key))),
+              all_so (λ (x : Stream). AreAtEnds B (changes x.fragments)) (λ (x : Stream). AreAtEnds (A ++ B) (changes x.fragments)) (λ x at. ends_behind A B (changes x.fragments) at)
+                  shown.streams (shown.ends all),
+            );
         formed = λ columns are each.
             (shows.formed columns (each.0 key h is) (low ∙ sym are) (high ∙ sym are), shown.formed columns are each.1);
         cuts = λ columns are each lo hi. (shows.cuts columns (each.0 key h is) lo hi, shown.cuts columns are each.1 lo hi);
@@ -146,6 +160,7 @@ module _ {M : Type 0} (tells : M → Option (List Fragment)) (tops : M → Optio
     same = record { covers = λ x i. refl; lives = λ r i. refl; cells = λ x i. refl };
     no_more = no_more_itself [];
     said = λ all there. absurd there;
+    ends = λ all. tt;
     formed = λ columns are each. tt;
     cuts = λ columns are each lo hi. tt;
     none = λ e. refl;

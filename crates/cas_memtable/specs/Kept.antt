@@ -24,8 +24,9 @@ use Rattle.cas_streams.specs.NoMore.{SaysNoMore}
 use Rattle.cas_streams.specs.Streams.{IsOrdered, IsThere, WellFormed}
 use Rattle.cas_streams.specs.declared.fragment.Fragment.{Fragment}
 use Rattle.cas_partition.specs.Partitions.{AllFit, AreAtCuts}
+use Rattle.cas_partition.specs.Ends.{AreAtEnds}
 use Rattle.cas_partition.specs.Slices.{IsAll}
-use Rattle.cas_memtable.specs.Memtables.{atoms_of, is_above, least_of, least_with, bytes_with, IsOfColumns}
+use Rattle.cas_memtable.specs.Memtables.{atoms_of, changes_of, is_above, least_of, least_with, bytes_with, IsOfColumns}
 use Rattle.cas_memtable.specs.Memtables.{IsOfTable as IsOrderedBy}
 use Rattle.cas_memtable.specs.declared.memtable.MemPart.{MemPart}
 use Rattle.cas_memtable.specs.declared.parts.Parts.{Parts}
@@ -47,13 +48,14 @@ bytes_of bytes (w ∷ ws) = bytes_of (bytes_with bytes w) ws
 
 -- ---- memtables
 
--- These mutations stand in the memtable: under each key it says the same as they together, and no more, and has an atom where one of them has; it tells the
--- least of their timestamps, and how long their records are.
+-- These mutations stand in the memtable: under each key it says the same as they together, and no more, and has an atom where one of them has; what is in
+-- force changes only at ends of their range deletions; it tells the least of their timestamps, and how long their records are.
 pub record StandIn (order : List Ordered) (m : MemPart) (ws : List Mutation) : Type 0 where
   pub of : IsOrderedBy order m
   pub same : (key : List ℕ) → Same (atoms_of m key) (atoms_under key ws)
   pub no_more : (key : List ℕ) → SaysNoMore (atoms_of m key) (atoms_under key ws)
   pub some : (key : List ℕ) → IsThere (atoms_under key ws) → IsThere (atoms_of m key)
+  pub ends : (key : List ℕ) → AreAtEnds (atoms_under key ws) (changes_of m key)
   pub least : (key : List ℕ) → least_of m key ≡ least_with None (atoms_under key ws)
   pub bytes : m.bytes ≡ bytes_of 0 ws
 
@@ -125,7 +127,8 @@ begun wss = wss ++ [] ∷ []
 
 -- Sources that show a partition: what they tell are streams in order, and well formed where the memory is of a table with some columns, whose markers then
 -- stand at cuts that the table may have, if the slice's own are; in the slice they say the same as the mutations together, and nowhere more. There is none
--- exactly where nothing was written under the key; and where something was, a slice from end to end has an atom, be it one that covers no row.
+-- exactly where nothing was written under the key; and where something was, a slice from end to end has an atom, be it one that covers no row. In such a
+-- slice each stream changes what is in force only at ends of range deletions of these mutations.
 pub record ShowPartition {M : Type 0} (tells : M → Option (List Fragment)) (tops : M → Option Deletion) (order : List Ordered) (s : Slice)
     (key : List ℕ) (ms : List MemPart) (ws : List Mutation) (sources : List M) : Type 0 where
   pub streams : List Stream
@@ -134,6 +137,7 @@ pub record ShowPartition {M : Type 0} (tells : M → Option (List Fragment)) (to
   pub same : SameIn s (flats streams) (atoms_under key ws)
   pub no_more : SaysNoMore (flats streams) (atoms_under key ws)
   pub said : IsAll order s → IsThere (atoms_under key ws) → IsThere (flats streams)
+  pub ends : IsAll order s → AllByRecursion (λ x. AreAtEnds (atoms_under key ws) (changes x.fragments)) streams
   pub formed : (columns : List Column) → clustering_order columns ≡ order → AllByRecursion (IsOfColumns columns) ms
       → AllByRecursion (λ x. WellFormed columns x.fragments) streams
   pub cuts : (columns : List Column) → clustering_order columns ≡ order → AllByRecursion (IsOfColumns columns) ms

@@ -13,9 +13,11 @@ use Rattle.cas_atoms.specs.Coordinates.{atom_at}
 use Rattle.cas_atoms.specs.LogLength.{record_length}
 use Rattle.cas_atoms.specs.declared.atom.Atom.{Atom}
 use Rattle.cas_atoms.specs.declared.atom.Mutation.{Mutation}
+use Rattle.cas_streams.specs.Flat.{Change}
 use Rattle.cas_streams.specs.NoMore.{SaysNoMore}
 use Rattle.cas_streams.specs.Streams.{IsThere}
 use Rattle.cas_streams.specs.declared.fragment.Fragment.{Fragment}
+use Rattle.cas_partition.specs.Ends.{AreAtEnds}
 use Rattle.cas_partition.specs.Slices.{Shows}
 use Rattle.cas_partition.specs.Partitions.{partition_atoms, IsOf, AreAtomsOf, AllFit, HavePlaces}
 use Rattle.cas_partition.specs.Partitions.{IsOfTable as IsPartitionOf}
@@ -34,6 +36,15 @@ atoms_held (Some h) = partition_atoms h.partition
 -- what the memtable says under a key
 abbrev pub atoms_of : MemPart → List ℕ → List Atom
 atoms_of m key = atoms_held (held_at m key)
+
+-- where what is in force changes in it
+abbrev pub changes_held : Option Held → List Change
+changes_held None = []
+changes_held (Some h) = h.partition.ranges
+
+-- where it does under a key
+abbrev pub changes_of : MemPart → List ℕ → List Change
+changes_of m key = changes_held (held_at m key)
 
 -- the least timestamp of all that was joined to it; none where nothing was
 abbrev pub least_held : Option Held → Option ℤ
@@ -96,22 +107,25 @@ PlacesIn (Some h) atoms = HavePlaces h.partition atoms
 abbrev pub HasPlaces : MemPart → Mutation → Type 0
 HasPlaces m w = PlacesIn (held_at m w.key) w.atoms
 
--- place was made: no partition says more or less, whatever was made, and one that has atoms still has some
+-- place was made: no partition says more or less, whatever was made, and one that has atoms still has some; and what is in force changes at no more cuts
 pub record MakesPlaces (w : Mutation) (m n : MemPart) : Type 0 where
   pub same : (order : List Ordered) → IsOfTable order m → AreAtomsOf order w.atoms → (key : List ℕ) → Same (atoms_of n key) (atoms_of m key)
   pub no_more : (order : List Ordered) → IsOfTable order m → AreAtomsOf order w.atoms → (key : List ℕ) → SaysNoMore (atoms_of n key) (atoms_of m key)
   pub some : (key : List ℕ) → IsThere (atoms_of m key) → IsThere (atoms_of n key)
+  pub ends : (key : List ℕ) (ws : List Atom) → AreAtEnds ws (changes_of m key) → AreAtEnds ws (changes_of n key)
   pub of : (order : List Ordered) → IsOfTable order m → AreAtomsOf order w.atoms → IsOfTable order n
   pub fits : (columns : List Column) → IsOfColumns columns m → AllFit columns w.atoms → IsOfColumns columns n
   pub least : (key : List ℕ) → least_of n key ≡ least_of m key
   pub bytes : n.bytes ≡ m.bytes
 
 -- the mutation was joined: its partition says the same as before together with its atoms, and each thing in it was said before or is one of them; it has an
--- atom, if it had one or the mutation has; the others say what they said
+-- atom, if it had one or the mutation has, and what is in force changes besides at most at ends of these atoms; the others say what they said
 pub record Joins (w : Mutation) (m n : MemPart) : Type 0 where
   pub joined : (order : List Ordered) → IsOfTable order m → AreAtomsOf order w.atoms → Same (atoms_of n w.key) (atoms_of m w.key ++ w.atoms)
   pub no_more : (order : List Ordered) → IsOfTable order m → AreAtomsOf order w.atoms → SaysNoMore (atoms_of n w.key) (atoms_of m w.key ++ w.atoms)
   pub some : (order : List Ordered) → IsOfTable order m → AreAtomsOf order w.atoms → IsThere (atoms_of m w.key ++ w.atoms) → IsThere (atoms_of n w.key)
+  pub ends : (order : List Ordered) → IsOfTable order m → AreAtomsOf order w.atoms → (ws : List Atom) → AreAtEnds ws (changes_of m w.key)
+      → AreAtEnds (ws ++ w.atoms) (changes_of n w.key)
   pub of : (order : List Ordered) → IsOfTable order m → AreAtomsOf order w.atoms → IsOfTable order n
   pub fits : (columns : List Column) → IsOfColumns columns m → AllFit columns w.atoms → IsOfColumns columns n
   pub least : least_of n w.key ≡ least_with (least_of m w.key) w.atoms

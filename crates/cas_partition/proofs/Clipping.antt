@@ -43,10 +43,10 @@ turned Equal = refl
 turned Greater = refl
 
 module _ (order : List Ordered) where
-  above_is : (k c : Cut) → k.order ≡ order → c.order ≡ order → is_above k c ≡ stands_before k c
+  pub above_is : (k c : Cut) → k.order ≡ order → c.order ≡ order → is_above k c ≡ stands_before k c
   above_is k c e f = ap is_lt (keys_are_points (key_of k) (key_of c) (e ∙ sym f) ∙ sym (point_laws.cuts k c))
 
-  below_is : (k c : Cut) → k.order ≡ order → c.order ≡ order → is_below k c ≡ stands_before c k
+  pub below_is : (k c : Cut) → k.order ≡ order → c.order ≡ order → is_below k c ≡ stands_before c k
   below_is k c e f =
       ap (λ r. not (is_le r)) (keys_are_points (key_of k) (key_of c) (e ∙ sym f) ∙ ap (λ o. point_cmp o (cut_point k) (cut_point c)) e)
       ∙ turned (point_cmp order (cut_point k) (cut_point c))

@@ -1,6 +1,7 @@
 pub mod Slots
 pub mod Raising
 pub mod AtCuts
+pub mod Ends
 pub mod Spots
 pub mod Tabling
 pub mod Taking
@@ -18,3 +19,4 @@ pub mod NoMore
 pub mod Fronts
 pub mod Something
 pub mod Whole
+pub mod EndToEnd

@@ -9,6 +9,7 @@ use Rattle.cas_laws.proofs.JoinProofs.{join_laws}
 use Rattle.cas_streams.specs.NoMore.{SaysNoMore}
 use Rattle.cas_streams.specs.Streams.{IsThere}
 use Rattle.cas_streams.proofs.NoMore.{no_more_itself, no_more_then, no_more_kept}
+use Rattle.cas_partition.specs.Ends.{AreAtEnds}
 use Rattle.cas_partition.specs.Partitions.{partition_atoms, IsOf, HasPlace, MakesPlace, Joins, AreAtomsOf, IsOfTable, AllFit, HavePlaces, MakesPlaces, JoinsAll}
 use Rattle.cas_partition.specs.declared.partition.Partition.{Partition}
 use Rattle.cas_partition.proofs.Something.{there_more}
@@ -26,6 +27,7 @@ pub record Making (all rest : List Atom) (p q : Partition) : Type 0 where
   pub same : (order : List Ordered) → IsOf order p → AreAtomsOf order all → Same (partition_atoms q) (partition_atoms p)
   pub no_more : (order : List Ordered) → IsOf order p → AreAtomsOf order all → SaysNoMore (partition_atoms q) (partition_atoms p)
   pub some : IsThere (partition_atoms p) → IsThere (partition_atoms q)
+  pub ends : (ws : List Atom) → AreAtEnds ws p.ranges → AreAtEnds ws q.ranges
   pub of : (order : List Ordered) → IsOf order p → AreAtomsOf order all → IsOf order q × AreAtomsOf order rest
   pub fits : (columns : List Column) → IsOfTable columns p → AllFit columns all → IsOfTable columns q × AllFit columns rest
   pub others : (b : Atom) → HasPlace p b → HasPlace q b
@@ -36,6 +38,7 @@ making all p = record {
   same = λ order of atoms. same_itself (partition_atoms p);
   no_more = λ order of atoms. no_more_itself (partition_atoms p);
   some = λ is. is;
+  ends = λ ws moves. moves;
   of = λ order of atoms. (of, atoms);
   fits = λ columns t all_fit. (t, all_fit);
   others = λ b h. h;
@@ -48,6 +51,7 @@ one_made all a rest p q r m one there = record {
   no_more = λ order of atoms.
       no_more_then (partition_atoms r) (partition_atoms q) (partition_atoms p) (one.no_more order (m.of order of atoms).0) (m.no_more order of atoms);
   some = λ is. one.some (m.some is);
+  ends = λ ws moves. one.ends ws (m.ends ws moves);
   of = λ order of atoms. let (now, left) = m.of order of atoms in (one.of order now left.0, left.1);
   fits = λ columns t all_fit. let (now, left) = m.fits columns t all_fit in (one.fits columns now left.0, left.1);
   others = λ b h. one.others b (m.others b h);
@@ -55,7 +59,7 @@ one_made all a rest p q r m one there = record {
 }
 
 pub all_made : (all : List Atom) (p q : Partition) → Making all [] p q → MakesPlaces all p q
-all_made all p q m = record { same = m.same; no_more = m.no_more; some = m.some; of = λ order of atoms. (m.of order of atoms).0; fits = λ columns t all_fit. (m.fits columns t all_fit).0; others = m.others }
+all_made all p q m = record { same = m.same; no_more = m.no_more; some = m.some; ends = m.ends; of = λ order of atoms. (m.of order of atoms).0; fits = λ columns t all_fit. (m.fits columns t all_fit).0; others = m.others }
 
 pub all_there : (all : List Atom) (p q : Partition) → Making all [] p q → HavePlaces q all
 all_there all p q m = m.made q (λ b h. h) tt
@@ -66,6 +70,7 @@ some_made all a rest p q r m one = record {
   no_more = λ order of atoms.
       no_more_then (partition_atoms r) (partition_atoms q) (partition_atoms p) (one.no_more order (m.of order of atoms).0) (m.no_more order of atoms);
   some = λ is. one.some (m.some is);
+  ends = λ ws moves. one.ends ws (m.ends ws moves);
   of = λ order of atoms. let (now, left) = m.of order of atoms in one.of order now left.0;
   fits = λ columns t all_fit. let (now, left) = m.fits columns t all_fit in one.fits columns now left.0;
   others = λ b h. one.others b (m.others b h);
@@ -78,6 +83,9 @@ pub record Joining (all rest : List Atom) (p q : Partition) : Type 0 where
   pub joined : (order : List Ordered) → IsOf order p → AreAtomsOf order all → Same (partition_atoms q ++ rest) (partition_atoms p ++ all)
   pub no_more : (order : List Ordered) → IsOf order p → AreAtomsOf order all → SaysNoMore (partition_atoms q ++ rest) (partition_atoms p ++ all)
   pub some : (order : List Ordered) → IsOf order p → AreAtomsOf order all → IsThere (partition_atoms p ++ all) → IsThere (partition_atoms q ++ rest)
+  pub first : List Atom
+  pub first_are : all ≡ first ++ rest
+  pub ends : (order : List Ordered) → IsOf order p → AreAtomsOf order all → (ws : List Atom) → AreAtEnds ws p.ranges → AreAtEnds (ws ++ first) q.ranges
   pub of : (order : List Ordered) → IsOf order p → AreAtomsOf order all → IsOf order q × AreAtomsOf order rest
   pub fits : (columns : List Column) → IsOfTable columns p → AllFit columns all → IsOfTable columns q × AllFit columns rest
   pub others : (b : Atom) → HasPlace p b → HasPlace q b
@@ -85,6 +93,9 @@ pub record Joining (all rest : List Atom) (p q : Partition) : Type 0 where
 
 pub joining : (all rest : List Atom) (p : Partition) → rest ≡ all → HavePlaces p all → Joining all rest p p
 joining all rest p e there = subst (λ l. Joining all l p p) (sym e) (record {
+  first = [];
+  first_are = refl;
+  ends = λ order of atoms ws moves. subst (λ l. AreAtEnds l p.ranges) (sym (append-nil ws)) moves;
   joined = λ order of atoms. same_itself (partition_atoms p ++ all);
   no_more = λ order of atoms. no_more_itself (partition_atoms p ++ all);
   some = λ order of atoms is. is;
@@ -107,6 +118,11 @@ one_joined all rest a others p q r e h one =
           (no_more_kept (partition_atoms r) (partition_atoms q ++ a ∷ []) others (one.no_more order (m.of order of atoms).0))
           (subst (λ l. SaysNoMore l (partition_atoms p ++ all)) (sym (append_assoc (partition_atoms q) (a ∷ []) others)) (m.no_more order of atoms));
       some = λ order of atoms is. let (now, left) = m.of order of atoms in there_more (partition_atoms r) others (one.some order now left.0);
+      first = m.first ++ a ∷ [];
+      first_are = m.first_are ∙ sym (append_assoc m.first (a ∷ []) others);
+      ends = λ order of atoms ws moves.
+          let (now, left) = m.of order of atoms in
+          subst (λ l. AreAtEnds l r.ranges) (append_assoc ws m.first (a ∷ [])) (one.ends order now left.0 (ws ++ m.first) (m.ends order of atoms ws moves));
       joined = λ order of atoms.
           let (now, left) = m.of order of atoms in
           same_then (join_laws.kept (partition_atoms r) (partition_atoms q ++ a ∷ []) others (one.joined order now left.0))
@@ -126,6 +142,7 @@ all_joined all rest p q e h =
     record {
       no_more = λ order of atoms. subst (λ l. SaysNoMore l (partition_atoms p ++ all)) (append-nil (partition_atoms q)) (m.no_more order of atoms);
       some = λ order of atoms is. subst IsThere (append-nil (partition_atoms q)) (m.some order of atoms is);
+      ends = λ order of atoms ws moves. subst (λ l. AreAtEnds (ws ++ l) q.ranges) (sym (m.first_are ∙ append-nil m.first)) (m.ends order of atoms ws moves);
       joined = λ order of atoms. subst (λ l. Same l (partition_atoms p ++ all)) (append-nil (partition_atoms q)) (m.joined order of atoms);
       of = λ order of atoms. (m.of order of atoms).0;
       fits = λ columns t all_fit. (m.fits columns t all_fit).0;

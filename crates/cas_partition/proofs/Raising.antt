@@ -57,47 +57,47 @@ module _ (order : List Ordered) where
   at k l = point_cmp order (cut_point k) (cut_point l)
 
   -- one of the changes stands there
-  pub Stands : Cut → List Change → Type 0
+  unfoldable pub Stands : Cut → List Change → Type 0
   Stands k [] = ⊥
   Stands k (m ∷ ms) = (at k m.at ≡ Equal) ⊎ Stands k ms
 
-  abbrev Over : Cut → List Change → Type 0
+  abbrev pub Over : Cut → List Change → Type 0
   Over k ms = AllByRecursion (λ m. at k m.at ≡ Less) ms
 
-  as_points : (k l : Cut) → k.order ≡ order → l.order ≡ order → key_cmp (key_of k) (key_of l) ≡ at k l
+  pub as_points : (k l : Cut) → k.order ≡ order → l.order ≡ order → key_cmp (key_of k) (key_of l) ≡ at k l
   as_points k l e f = keys_are_points (key_of k) (key_of l) (e ∙ sym f) ∙ ap (λ o. point_cmp o (cut_point k) (cut_point l)) e
 
-  total : IsTotalOrder (point_cmp order)
+  pub total : IsTotalOrder (point_cmp order)
   total = (point_laws.orders order).total
 
   -- a low cut and a high one, as keys
   pub keys_below : (lo hi : Cut) → lo.order ≡ order → hi.order ≡ order → cut_cmp lo hi ≡ Less → key_cmp (key_of lo) (key_of hi) ≡ Less
   keys_below lo hi e f below = as_points lo hi e f ∙ sym (point_laws.cuts lo hi ∙ ap (λ o. point_cmp o (cut_point lo) (cut_point hi)) e) ∙ below
 
-  turn : (k l : Cut) → at k l ≡ ordering_reverse (at l k)
+  pub turn : (k l : Cut) → at k l ≡ ordering_reverse (at l k)
   turn k l = total.antisymm (cut_point k) (cut_point l)
 
-  chain : (k l m : Cut) → at k l ≡ Less → at l m ≡ Less → at k m ≡ Less
+  pub chain : (k l m : Cut) → at k l ≡ Less → at l m ≡ Less → at k m ≡ Less
   chain k l m e f = total.trans (cut_point k) (cut_point l) (cut_point m) e f
 
-  tie : (k l m : Cut) → at k l ≡ Equal → at k m ≡ at l m
+  pub tie : (k l m : Cut) → at k l ≡ Equal → at k m ≡ at l m
   tie k l m e = total.congr (cut_point k) (cut_point l) (cut_point m) e
 
-  ties : (k l : Cut) → at k l ≡ Equal → cut_point k ≡ cut_point l
+  pub ties : (k l : Cut) → at k l ≡ Equal → cut_point k ≡ cut_point l
   ties k l e = (point_laws.orders order).ties (cut_point k) (cut_point l) e
 
   -- nothing stands at a cut below all
-  over_none : (k : Cut) (ms : List Change) → Over k ms → Stands k ms → ⊥
+  pub over_none : (k : Cut) (ms : List Change) → Over k ms → Stands k ms → ⊥
   unfolding Stands
   over_none k [] over none = none
   over_none k (m ∷ ms) over (inl e) = absurd (true≢false (ap is_lt (sym over.0 ∙ e)))
   over_none k (m ∷ ms) over (inr s) = over_none k ms over.1 s
 
-  over_too : (k l : Cut) (ms : List Change) → at k l ≡ Less → Over l ms → Over k ms
+  pub over_too : (k l : Cut) (ms : List Change) → at k l ≡ Less → Over l ms → Over k ms
   over_too k l [] e over = tt
   over_too k l (m ∷ ms) e over = (chain k l m.at e over.0, over_too k l ms e over.1)
 
-  tied_over : (k l : Cut) (ms : List Change) → at k l ≡ Equal → Over l ms → Over k ms
+  pub tied_over : (k l : Cut) (ms : List Change) → at k l ≡ Equal → Over l ms → Over k ms
   tied_over k l [] e over = tt
   tied_over k l (m ∷ ms) e over = (tie k l m.at e ∙ over.0, tied_over k l ms e over.1)
 

@@ -51,6 +51,7 @@ use Rattle.cas_streams.proofs.Merges.{merge_is_join, merge_ordered}
 use Rattle.cas_streams.proofs.Weaves.{all_and, all_of}
 use Rattle.cas_streams.proofs.Something.{No, there_if, none_made, Silent, silent_own, Still, still_ranges, stream_silent, merge_says_something}
 use Rattle.cas_merge.specs.Told.{told_first, streams_told}
+use Rattle.cas_partition.specs.Ends.{IsEnd, AreAtEnds}
 use Rattle.cas_partition.specs.Ranges.{key_of, clipped}
 use Rattle.cas_partition.specs.Spots.{spot_cmp, piece}
 use Rattle.cas_partition.specs.Partitions.{said_at, partition_atoms, marker, IsOf, IsRowOf, AreIn, AreAtCuts}
@@ -61,6 +62,8 @@ use Rattle.cas_partition.specs.declared.spot.Content.{Content}
 use Rattle.cas_partition.specs.declared.partition.Partition.{Partition}
 use Rattle.cas_partition.proofs.Spots.{alike_itself, alike_is, in_front, Rows}
 use Rattle.cas_partition.proofs.AtCuts.{merge_at, clipped_at}
+use Rattle.cas_partition.proofs.Ends.{merge_moves}
+use Rattle.cas_partition.proofs.EndToEnd.{clipped_moves}
 use Rattle.cas_partition.proofs.Taking.{marked, rising, closes}
 use Rattle.cas_partition.proofs.NoMore.{slice_no_more}
 use Rattle.cas_partition.proofs.Slicing.{halves_alike, halves_ordered, Weak, OfRow, pieces_of, kept_rows, kept_weak, cross, no_key, past_key}
@@ -340,6 +343,17 @@ shows s p rows top fs sorted are t f = subst (λ d. Shows s p d fs) (sym t) (sub
       let low : s.lo.order ≡ order = ap (λ (c : Cut). c.order) all.0 in
       let high : s.hi.order ≡ order = ap (λ (c : Cut). c.order) all.1 in
       merge_says_something order ss (each_ordered order of low high) (there_if (partition_atoms p) (flats ss) (all_silent order of low high all) is);
+  ends = λ order of all ws moves.
+      let low : s.lo.order ≡ order = ap (λ (c : Cut). c.order) all.0 in
+      let high : s.hi.order ≡ order = ap (λ (c : Cut). c.order) all.1 in
+      merge_moves (IsEnd ws) order ss (each_ordered order of low high) (
+        subst (AreAtEnds ws) (sym (in_rows order of).1) tt,
+        (
+          subst (AreAtEnds ws) (sym (marked (clipped s p.ranges)))
+              (clipped_moves order (IsEnd ws) s p.ranges all (rising order p.ranges of.marks) (closes order p.ranges of.marks) moves),
+          tt,
+        ),
+      );
   same = λ order of low high. chained (merge_is_join order ss (each_ordered order of low high)) (in_slice order of low high);
   formed = λ columns t low high. merge_forms columns ss (each_ordered (clustering_order columns) t.of low high)
       (subst (AllByRecursion (Tabled columns)) are.2 (rows_in_table columns s.lo s.hi p.spots.entries are.0 are.1 t.entries), (markers_have columns (clipped s p.ranges), tt));

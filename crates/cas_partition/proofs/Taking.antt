@@ -1,5 +1,5 @@
 -- What places that are made, and atoms that are joined, do to a partition.
-use Rattle.std.proofs.Common.{◌≡◌, ℕ, Bool, true, false, ◌&&◌, Option, None, Some, is_some, List, [], ◌∷◌, ◌++◌, map, Result, Ok, Err, OnOk, OnErr, refl, sym, ap, ◌∙◌, subst}
+use Rattle.std.proofs.Common.{◌≡◌, ℕ, Bool, true, false, ◌&&◌, Option, None, Some, is_some, List, [], ◌∷◌, ◌++◌, map, Result, Ok, Err, OnOk, OnErr, inl, inr, refl, sym, ap, ◌∙◌, subst}
 use Rattle.std.proofs.lemmas.Bool.{true≢false}
 use Rattle.std.specs.List.{AllByRecursion}
 use Rattle.std.specs.List.Sorted.{IsStrictlySortedBy}
@@ -35,6 +35,7 @@ use Rattle.cas_streams.proofs.NoMore.{no_more_itself}
 use Rattle.cas_streams.proofs.Ranges.{ranges_give}
 use Rattle.cas_streams.proofs.Joining.{Alike, alike_both, alike_same}
 use Rattle.cas_streams.proofs.Something.{No}
+use Rattle.cas_partition.specs.Ends.{IsEnd, AreAtEnds}
 use Rattle.cas_partition.specs.Ranges.{lies, raised, has_cut, with_cut}
 use Rattle.cas_partition.specs.Spots.{spot_cmp, joined_content, said}
 use Rattle.cas_partition.specs.Placed.{wanted, given}
@@ -46,8 +47,9 @@ use Rattle.cas_partition.specs.declared.spot.Room.TheVariants as wants
 use Rattle.cas_partition.specs.declared.spot.Addition.{Addition}
 use Rattle.cas_partition.specs.declared.spot.Addition.TheVariants as gives
 use Rattle.cas_partition.specs.declared.partition.Partition.{Partition}
-use Rattle.cas_partition.proofs.Raising.{raised_rise, raised_closed, raised_covers, with_cut_rise, with_cut_closed, with_cut_covers, raised_has, with_cut_has, with_cut_itself, keys_below}
+use Rattle.cas_partition.proofs.Raising.{raised_rise, raised_closed, raised_covers, with_cut_rise, with_cut_closed, with_cut_covers, raised_has, with_cut_has, with_cut_itself, keys_below, as_points, has_stands}
 use Rattle.cas_partition.proofs.AtCuts.{with_cut_at, raised_at}
+use Rattle.cas_partition.proofs.Ends.{end_behind, ends_before, with_cut_moves, raised_moves}
 use Rattle.cas_partition.proofs.Spots.{alike_itself, alike_is, in_front, at_back, set_said, with_spot_says, with_spot_there, with_spot_kept, set_kept, Rows, set_rows, with_spot_rows}
 use Rattle.cas_partition.proofs.NoMore.{one_cut_no_more, both_cuts_no_more, one_spot_no_more, whole_no_more, range_no_more, spot_no_more}
 use Rattle.cas_partition.proofs.Something.{with_cut_ranges, ranges_there, top_there, raised_there, set_there}
@@ -145,11 +147,15 @@ empty_of order p none nobody = record {
 pub empty_of_table : (columns : List Column) (p : Partition) → p.ranges ≡ [] → p.spots.entries ≡ [] → IsOfTable columns p
 empty_of_table columns p none nobody = record { of = empty_of (clustering_order columns) p none nobody; cuts = subst (AreAtCuts columns) (sym none) tt; entries = subst (AreIn columns) (sym nobody) tt }
 
+pub empty_at_ends : (ws : List Atom) (ms : List Change) → ms ≡ [] → AreAtEnds ws ms
+empty_at_ends ws ms none = subst (AreAtEnds ws) (sym none) tt
+
 pub nothing_made : (a : Atom) (p : Partition) → MakesPlace a p p
 nothing_made a p = record {
   same = λ order of atom. alike_same (alike_itself (partition_atoms p));
   no_more = λ order of. no_more_itself (partition_atoms p);
   some = λ is. is;
+  ends = λ ws moves. moves;
   of = λ order of atom. of;
   fits = λ columns t f. t;
   others = λ b e. e;
@@ -163,11 +169,12 @@ with_changes : (a : Atom) (p : Partition) (ns : List Change)
     → ((order : List Ordered) → IsAtomOf order a → Rise order p.ranges → at_end None p.ranges ≡ None
     → Rise order ns × (at_end None ns ≡ None) × ((x : Coordinate) → cover (ranges ns) x ≡ cover (ranges p.ranges) x))
     → ((order : List Ordered) → IsOf order p → SaysNoMore (partition_atoms (with_ranges p ns)) (partition_atoms p)) → (No (ranges ns) → No (ranges p.ranges))
-    → ((columns : List Column) → Fits columns a → AreAtCuts columns p.ranges → AreAtCuts columns ns)
+    → ((ws : List Atom) → AreAtEnds ws p.ranges → AreAtEnds ws ns) → ((columns : List Column) → Fits columns a → AreAtCuts columns p.ranges → AreAtCuts columns ns)
     → ((c : Cut) → has_cut c p.ranges ≡ true → has_cut c ns ≡ true) → MakesPlace a p (with_ranges p ns)
-with_changes a p ns h no_more some at kept = record {
+with_changes a p ns h no_more some ends at kept = record {
   no_more = no_more;
   some = ranges_there p.top p.ranges ns p.spots.entries some;
+  ends = ends;
   same = λ order of atom.
       let (rise, closed, covers) = h order atom (rising order p.ranges of.marks) (closes order p.ranges of.marks) in
       alike_same (alike_both (alike_itself (atom_of PartitionDeletion p.top)) (alike_both (same_ranges p.ranges ns covers) (alike_itself (said_at p.spots.entries))));
@@ -229,6 +236,7 @@ one_cut a p ns lo hi w e =
     let (l, h) = cuts_of order a lo hi w atom in
     (with_cut_rise order lo l p.ranges rise, with_cut_closed order lo l p.ranges rise closed, λ x. with_cut_covers order lo l p.ranges rise closed x (row_of x) refl))
     (λ order of. one_cut_no_more p lo (closes order p.ranges of.marks)) (with_cut_ranges lo p.ranges)
+    (λ ws moves. with_cut_moves (IsEnd ws) lo p.ranges moves)
     (λ columns f all. with_cut_at (FitsCut (clustering_order columns)) lo p.ranges (cuts_fit columns a lo hi w f).0 all)
     (λ c. with_cut_has c lo p.ranges))
 
@@ -245,6 +253,7 @@ both_cuts a p ns lo hi w e =
       λ x. with_cut_covers order hi h (with_cut lo p.ranges) first ends x (row_of x) refl ∙ with_cut_covers order lo l p.ranges rise closed x (row_of x) refl,
     ))
     (λ order of. both_cuts_no_more p lo hi (closes order p.ranges of.marks)) (λ n. with_cut_ranges lo p.ranges (with_cut_ranges hi (with_cut lo p.ranges) n))
+    (λ ws moves. with_cut_moves (IsEnd ws) hi (with_cut lo p.ranges) (with_cut_moves (IsEnd ws) lo p.ranges moves))
     (λ columns f all.
     let Allowed : Cut → Type 0 = FitsCut (clustering_order columns) in
     let (l, h) = cuts_fit columns a lo hi w f in
@@ -261,7 +270,7 @@ cuts_there a p ns lo hi w e =
 pub same_changes : (a : Atom) (p : Partition) (ns : List Change) → ns ≡ p.ranges → MakesPlace a p (with_ranges p ns)
 same_changes a p ns e =
     subst (λ l. MakesPlace a p (with_ranges p l)) (sym e)
-    (with_changes a p p.ranges (λ order atom rise closed. (rise, closed, λ x. refl)) (λ order of. no_more_itself (partition_atoms p)) (λ n. n) (λ columns f all. all) (λ c has. has))
+    (with_changes a p p.ranges (λ order atom rise closed. (rise, closed, λ x. refl)) (λ order of. no_more_itself (partition_atoms p)) (λ n. n) (λ ws moves. moves) (λ columns f all. all) (λ c has. has))
 
 -- one more spot
 abbrev with_spots : Partition → BTreeMap Spot Content → Partition
@@ -291,6 +300,7 @@ one_spot a p m s tag w e = record {
   no_more = λ order of.
       subst (λ l. SaysNoMore (atoms_with p.top p.ranges l) (partition_atoms p)) (sym e) (one_spot_no_more p s tag (closes order p.ranges of.marks));
   some = subst (λ l. IsThere (atom_of PartitionDeletion p.top ++ (ranges p.ranges ++ l))) (sym (ap said_at e ∙ with_spot_says s tag p.spots.entries));
+  ends = λ ws moves. moves;
   same = λ order of atom.
       alike_same (alike_is (partition_atoms (with_spots p m)) (partition_atoms p)
       (ap (λ l. atom_of PartitionDeletion p.top ++ (ranges p.ranges ++ l)) (ap said_at e ∙ with_spot_says s tag p.spots.entries)));
@@ -317,6 +327,7 @@ pub same_spots : (a : Atom) (p : Partition) (m : BTreeMap Spot Content) → m.en
 same_spots a p m e = record {
   no_more = λ order of. subst (λ l. SaysNoMore (atoms_with p.top p.ranges l) (partition_atoms p)) (sym e) (no_more_itself (partition_atoms p));
   some = subst (λ l. IsThere (atoms_with p.top p.ranges l)) (sym e);
+  ends = λ ws moves. moves;
   same = λ order of atom. alike_same (alike_is (partition_atoms (with_spots p m)) (partition_atoms p) (ap (λ l. atom_of PartitionDeletion p.top ++ (ranges p.ranges ++ said_at l)) e));
   of = λ order of atom. record { marks = of.marks; rows = subst (Rows order) (sym e) of.rows };
   fits = λ columns t f. record {
@@ -340,6 +351,7 @@ whole_joins a p top d g e = record {
       subst (λ l. SaysNoMore (atoms_with top p.ranges p.spots.entries) (partition_atoms p ++ l)) (whole_is a d g)
       (subst (λ t. SaysNoMore (atoms_with t p.ranges p.spots.entries) (partition_atoms p ++ PartitionDeletion d ∷ [])) (sym e) (whole_no_more p d (closes order p.ranges of.marks)));
   some = λ order of atom. subst (λ t. IsThere (atoms_with t p.ranges p.spots.entries)) (sym e) (top_there p.top d (ranges p.ranges ++ said_at p.spots.entries));
+  ends = λ order of atom ws moves. ends_before ws (a ∷ []) p.ranges moves;
   joined = λ order of atom.
       subst (λ l. Same (atoms_with top p.ranges p.spots.entries) (partition_atoms p ++ l)) (whole_is a d g)
       (subst (λ t. Same (atoms_with t p.ranges p.spots.entries) (partition_atoms p ++ PartitionDeletion d ∷ [])) (sym e)
@@ -408,6 +420,14 @@ module _ (a : Atom) (lo hi : Cut) (d : Deletion) (g : given a ≡ gives.Range lo
             (in_front (ranges (raised (lies lo hi) d p.ranges)) (ranges p.ranges) (RangeDeletion lo hi d ∷ []) (said_at p.spots.entries)
             (more_ranges p.ranges (raised (lies lo hi) d p.ranges) lo hi d
             (λ x. raised_covers order lo hi d p.ranges lo_of hi_of below low high rise closed x (row_of x) refl))))));
+        ends = λ order of atom ws moves.
+            let (lo_of, hi_of, below) = subst (IsAtomOf order) (sym range_is) atom in
+            let rise : Rise order p.ranges = rising order p.ranges of.marks in
+            subst (AreAtEnds (ws ++ a ∷ [])) (sym e)
+            (raised_moves order lo hi lo_of hi_of (sym (as_points order lo hi lo_of hi_of) ∙ keys_below order lo hi lo_of hi_of below) (IsEnd (ws ++ a ∷ []))
+            (end_behind ws (a ∷ []) lo (record { lo = lo; hi = hi; deletion = d; has = inl (sym range_is); at = inl refl }))
+            (end_behind ws (a ∷ []) hi (record { lo = lo; hi = hi; deletion = d; has = inl (sym range_is); at = inr refl })) d p.ranges
+            (has_stands order lo lo_of p.ranges rise low) (has_stands order hi hi_of p.ranges rise high) rise (ends_before ws (a ∷ []) p.ranges moves));
         of = in_order low high;
         fits = λ columns t f. record {
           of = in_order low high (clustering_order columns) t.of (fits_of columns a f);
@@ -485,6 +505,7 @@ module _ (a : Atom) (s : Spot) (c : Content) (g : given a ≡ gives.At s c) wher
             subst (λ l. SaysNoMore (atoms_with p.top p.ranges m.entries) (partition_atoms p ++ l)) spot_is
             (subst (λ l. SaysNoMore (atoms_with p.top p.ranges l) (partition_atoms p ++ own (said s c))) (sym e) (spot_no_more p s old c is (closes order p.ranges of.marks)));
         some = λ order of atom. subst (λ l. IsThere (atoms_with p.top p.ranges l)) (sym e) (set_there p.top p.ranges s old c p.spots.entries is a spot_is);
+        ends = λ order of atom ws moves. ends_before ws (a ∷ []) p.ranges moves;
         joined = λ order of atom.
             subst (λ l. Same (atoms_with p.top p.ranges m.entries) (partition_atoms p ++ l)) spot_is
             (alike_same (at_back (atom_of PartitionDeletion p.top) (ranges p.ranges ++ said_at m.entries) (ranges p.ranges ++ said_at p.spots.entries) (own (said s c))

@@ -1,4 +1,5 @@
 pub mod Ranges
+pub mod Ends
 pub mod Spots
 pub mod Placed
 pub mod Partitions

@@ -26,6 +26,7 @@ use Rattle.cas_streams.specs.Streams.{IsOrdered, IsThere}
 use Rattle.cas_streams.specs.declared.fragment.Fragment.{Fragment}
 use Rattle.cas_streams.specs.declared.fragment.Fragment.TheVariants as fragment
 use Rattle.cas_partition.specs.Ranges.{has_cut}
+use Rattle.cas_partition.specs.Ends.{AreAtEnds}
 use Rattle.cas_partition.specs.Spots.{spot_cmp, said, blank}
 use Rattle.cas_partition.specs.Placed.{wanted}
 use Rattle.cas_partition.specs.declared.spot.Spot.{Spot}
@@ -135,20 +136,23 @@ with_spot s tag es = if has_spot s es then es else insert_entry spot_cmp es s (b
 -- ---- what calls do
 
 -- place was made for an atom, which says nothing yet: for each table and order of its rows; nothing is invented, something is still said if something
--- was, and each other atom keeps its place
+-- was, what is in force changes at no more cuts, and each other atom keeps its place
 pub record MakesPlace (a : Atom) (p q : Partition) : Type 0 where
   pub same : (order : List Ordered) → IsOf order p → IsAtomOf order a → Same (partition_atoms q) (partition_atoms p)
   pub no_more : (order : List Ordered) → IsOf order p → SaysNoMore (partition_atoms q) (partition_atoms p)
   pub some : IsThere (partition_atoms p) → IsThere (partition_atoms q)
+  pub ends : (ws : List Atom) → AreAtEnds ws p.ranges → AreAtEnds ws q.ranges
   pub of : (order : List Ordered) → IsOf order p → IsAtomOf order a → IsOf order q
   pub fits : (columns : List Column) → IsOfTable columns p → Fits columns a → IsOfTable columns q
   pub others : (b : Atom) → HasPlace p b → HasPlace q b
 
--- the atom was joined, nothing else was invented, something is said now, also by a range deletion that covers no row, and each atom keeps its place
+-- the atom was joined, nothing else was invented, something is said now, also by a range deletion that covers no row; what is in force changes besides
+-- at most at the atom's own ends; and each atom keeps its place
 pub record Joins (a : Atom) (p q : Partition) : Type 0 where
   pub joined : (order : List Ordered) → IsOf order p → IsAtomOf order a → Same (partition_atoms q) (partition_atoms p ++ a ∷ [])
   pub no_more : (order : List Ordered) → IsOf order p → SaysNoMore (partition_atoms q) (partition_atoms p ++ a ∷ [])
   pub some : (order : List Ordered) → IsOf order p → IsAtomOf order a → IsThere (partition_atoms q)
+  pub ends : (order : List Ordered) → IsOf order p → IsAtomOf order a → (ws : List Atom) → AreAtEnds ws p.ranges → AreAtEnds (ws ++ a ∷ []) q.ranges
   pub of : (order : List Ordered) → IsOf order p → IsAtomOf order a → IsOf order q
   pub fits : (columns : List Column) → IsOfTable columns p → Fits columns a → IsOfTable columns q
   pub others : (b : Atom) → HasPlace p b → HasPlace q b
@@ -172,6 +176,7 @@ pub record MakesPlaces (atoms : List Atom) (p q : Partition) : Type 0 where
   pub same : (order : List Ordered) → IsOf order p → AreAtomsOf order atoms → Same (partition_atoms q) (partition_atoms p)
   pub no_more : (order : List Ordered) → IsOf order p → AreAtomsOf order atoms → SaysNoMore (partition_atoms q) (partition_atoms p)
   pub some : IsThere (partition_atoms p) → IsThere (partition_atoms q)
+  pub ends : (ws : List Atom) → AreAtEnds ws p.ranges → AreAtEnds ws q.ranges
   pub of : (order : List Ordered) → IsOf order p → AreAtomsOf order atoms → IsOf order q
   pub fits : (columns : List Column) → IsOfTable columns p → AllFit columns atoms → IsOfTable columns q
   pub others : (b : Atom) → HasPlace p b → HasPlace q b
@@ -181,6 +186,7 @@ pub record JoinsAll (atoms : List Atom) (p q : Partition) : Type 0 where
   pub joined : (order : List Ordered) → IsOf order p → AreAtomsOf order atoms → Same (partition_atoms q) (partition_atoms p ++ atoms)
   pub no_more : (order : List Ordered) → IsOf order p → AreAtomsOf order atoms → SaysNoMore (partition_atoms q) (partition_atoms p ++ atoms)
   pub some : (order : List Ordered) → IsOf order p → AreAtomsOf order atoms → IsThere (partition_atoms p ++ atoms) → IsThere (partition_atoms q)
+  pub ends : (order : List Ordered) → IsOf order p → AreAtomsOf order atoms → (ws : List Atom) → AreAtEnds ws p.ranges → AreAtEnds (ws ++ atoms) q.ranges
   pub of : (order : List Ordered) → IsOf order p → AreAtomsOf order atoms → IsOf order q
   pub fits : (columns : List Column) → IsOfTable columns p → AllFit columns atoms → IsOfTable columns q
   pub others : (b : Atom) → HasPlace p b → HasPlace q b

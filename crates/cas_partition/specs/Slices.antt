@@ -10,6 +10,7 @@ use Rattle.cas_bounds.specs.ClusteringOrder.{clustering_order}
 use Rattle.cas_bounds.specs.declared.order.Ordered.{Ordered}
 use Rattle.cas_bounds.specs.declared.cuts.Slice.{Slice}
 use Rattle.cas_atoms.specs.Fits.{FitsCut}
+use Rattle.cas_atoms.specs.declared.atom.Atom.{Atom}
 use Rattle.cas_laws.specs.Inside.{SameIn}
 use Rattle.cas_streams.specs.Flat.{changes, flat}
 use Rattle.cas_streams.specs.NoMore.{SaysNoMore}
@@ -18,6 +19,7 @@ use Rattle.cas_streams.specs.Joined.{joined_fragment, fragment_cmp, Stream}
 use Rattle.cas_streams.specs.Merged.{merged}
 use Rattle.cas_streams.specs.declared.fragment.Fragment.{Fragment}
 use Rattle.cas_partition.specs.Ranges.{clipped}
+use Rattle.cas_partition.specs.Ends.{AreAtEnds}
 use Rattle.cas_partition.specs.Spots.{spot_cmp}
 use Rattle.cas_partition.specs.Partitions.{partition_atoms, marker, IsOf, AreAtCuts, IsOfTable}
 use Rattle.cas_partition.specs.Ranged.{piece_of, statics_of, rows_between}
@@ -40,12 +42,14 @@ IsAll order s = (s.lo ≡ record { prefix = []; after = false; order = order }) 
 
 -- a stream that tells these fragments under that deletion says in the slice what the partition says, and nowhere more: its fragments are in order, and
 -- well formed where the partition is of a table with these columns; its markers then stand at cuts that the table may have, if the slice's own are. Where
--- the slice is all of the partition and something is said in that, something is in the stream, also where it says the same as no atoms
+-- the slice is all of the partition and something is said in that, something is in the stream, also where it says the same as no atoms; and there the
+-- markers change what is in force only at ends of range deletions, if the partition's changes do
 pub record Shows (s : Slice) (p : Partition) (top : Option Deletion) (fs : List Fragment) : Type 0 where
   pub ordered : (order : List Ordered) → IsOf order p → s.lo.order ≡ order → s.hi.order ≡ order → IsOrdered order fs
   pub same : (order : List Ordered) → IsOf order p → s.lo.order ≡ order → s.hi.order ≡ order → SameIn s (flat top fs) (partition_atoms p)
   pub no_more : (order : List Ordered) → IsOf order p → SaysNoMore (flat top fs) (partition_atoms p)
   pub some : (order : List Ordered) → IsOf order p → IsAll order s → IsThere (partition_atoms p) → IsThere (flat top fs)
+  pub ends : (order : List Ordered) → IsOf order p → IsAll order s → (ws : List Atom) → AreAtEnds ws p.ranges → AreAtEnds ws (changes fs)
   pub formed : (columns : List Column) → IsOfTable columns p → s.lo.order ≡ clustering_order columns → s.hi.order ≡ clustering_order columns
       → WellFormed columns fs
   pub cuts : (columns : List Column) → IsOfTable columns p → FitsCut (clustering_order columns) s.lo → FitsCut (clustering_order columns) s.hi

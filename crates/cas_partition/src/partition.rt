@@ -7,6 +7,8 @@ ghost use Rattle.std.specs.Vec.Iter.{into_iter_items};
 ghost use Rattle.cas_types.specs.declared.tag.TypeTag.{TypeTag};
 ghost use Rattle.cas_types.specs.declared.schema.Column.{Column};
 ghost use Rattle.cas_bounds.specs.declared.order.Ordered.{Ordered};
+ghost use Rattle.cas_atoms.specs.declared.atom.Atom.{Atom as AtomOf};
+ghost use Rattle.cas_partition.specs.Ends.{AreAtEnds};
 ghost use Rattle.cas_partition.specs.Ranges.{with_cut};
 ghost use Rattle.cas_partition.specs.Spots.{spot_cmp, joined_content};
 ghost use Rattle.cas_partition.specs.Partitions.{partition_atoms, IsOf, IsOfTable, HasPlace, HavePlaces, with_spot, MakesPlace, MakesPlaces, Joins, JoinsAll};
@@ -84,6 +86,7 @@ impl Partition {
         ensures empty { partition_atoms result ≡ [] }
         ensures of { (order : ListOf Ordered) → IsOf order result }
         ensures table { (columns : ListOf Column) → IsOfTable columns result }
+        ensures ends { (ws : ListOf AtomOf) → AreAtEnds ws result.ranges }
     {
         Partition {
             top: None,

@@ -55,6 +55,7 @@ nothing_says ws none =
     record {
       same = λ key. subst (λ (atoms : List Atom). Same [] atoms) (sym (none key)) (itself.same key);
       no_more = λ key. subst (λ (atoms : List Atom). SaysNoMore [] atoms) (sym (none key)) (itself.no_more key);
+      ends = λ key c at. absurd at.has;
     }
 
 -- ---- a memtable without bytes, behind others that say nothing

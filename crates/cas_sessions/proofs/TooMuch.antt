@@ -9,6 +9,7 @@ use Rattle.std.specs.Prelude.{slice_get}
 use Rattle.cas_types.proofs.OrderLaws.{bytes_orders}
 use Rattle.cas_types.specs.declared.schema.TableSchema.{TableSchema}
 use Rattle.cas_bounds.specs.ClusteringOrder.{clustering_order}
+use Rattle.cas_bounds.specs.declared.cuts.Cut.{Cut}
 use Rattle.cas_bounds.specs.declared.order.Ordered.{Ordered}
 use Rattle.cas_atoms.specs.Coordinates.{same_bytes}
 use Rattle.cas_atoms.specs.declared.atom.Atom.{Atom}
@@ -19,6 +20,8 @@ use Rattle.cas_flushing.specs.Flushed.{head_of}
 use Rattle.cas_memtable.specs.Kept.{StandInEach, all_of, atoms_under, memtables_of}
 use Rattle.cas_memtable.specs.declared.memtable.MemPart.{MemPart}
 use Rattle.cas_memtable.proofs.Keeping.{more_under}
+use Rattle.cas_partition.specs.Ends.{AllAtEnds, IsEnd}
+use Rattle.cas_partition.proofs.Ends.{end_before, end_behind}
 use Rattle.cas_shard.specs.Flushing.{frozen_at}
 use Rattle.cas_shard.specs.Shards.{ShardHistory, all_entries}
 use Rattle.cas_shard.specs.Stands.{Holds, ShardState, Stands, mutations_of, order_of}
@@ -28,9 +31,11 @@ use Rattle.cas_sstwrite.specs.declared.fault.Measure.TheVariants.{FileBytes, Blo
 use Rattle.cas_sstwrite.specs.declared.fault.WriteFault.{WriteFault}
 use Rattle.cas_sstwrite.specs.declared.fault.WriteFault.TheVariants as write
 use Rattle.cas_stored.specs.Stored.{StoredTable}
+use Rattle.cas_streams.specs.Flat.{Change, changes}
 use Rattle.cas_streams.specs.Merged.{flat_of}
 use Rattle.cas_streams.specs.NoMore.{SaysNoMore}
 use Rattle.cas_streams.proofs.NoMore.{no_more_then, says_no_more}
+use Rattle.cas_streams.proofs.Weaves.{all_so}
 use Rattle.cas_fragments.specs.declared.heads.Version.TheVariants.{Second}
 use Rattle.cas_tables.specs.Contents.{Partition}
 use Rattle.cas_tables.specs.Files.{front_bytes}
@@ -79,32 +84,56 @@ each_among passes B front (p ∷ ps) says within = (
       (λ key passed. subst (λ (qs : List Partition). SaysNoMore (said_under key qs) (B key)) (sym (append_assoc front (p ∷ []) ps)) (says key passed)) within.1,
 )
 
+-- ---- ends of range deletions
+
+-- ends among some mutations are ends among others
+abbrev Ending : List Mutation → List Mutation → Type 0
+Ending vs ws = (key : List ℕ) (c : Cut) → IsEnd (atoms_under key vs) c → IsEnd (atoms_under key ws) c
+
+all_ending : (vs ws : List Mutation) → Ending vs ws → (key : List ℕ) (ms : List Change) → AllAtEnds (atoms_under key vs) ms → AllAtEnds (atoms_under key ws) ms
+all_ending vs ws goes key ms at = all_so (λ m. IsEnd (atoms_under key vs) m.at) (λ m. IsEnd (atoms_under key ws) m.at) (λ m e. goes key m.at e) ms at
+
+each_ending : (vs ws : List Mutation) → Ending vs ws → (ps : List Partition) → AllByRecursion (λ p. AllAtEnds (atoms_under p.key vs) (changes p.stream.fragments)) ps
+    → AllByRecursion (λ p. AllAtEnds (atoms_under p.key ws) (changes p.stream.fragments)) ps
+each_ending vs ws goes ps at =
+    all_so (λ p. AllAtEnds (atoms_under p.key vs) (changes p.stream.fragments)) (λ p. AllAtEnds (atoms_under p.key ws) (changes p.stream.fragments))
+    (λ p e. all_ending vs ws goes p.key (changes p.stream.fragments) e) ps at
+
 -- ---- what frozen memtables hold
 
--- Mutations that stand in them, which say no more than these.
+-- Mutations that stand in them, which say no more than these, and whose range deletions begin and end where theirs do.
 record HeldOf (order : List Ordered) (ms : List MemPart) (ws : List Mutation) : Type 0 where
   places : List (List Mutation)
   stand : StandInEach order ms places
   no_more : (key : List ℕ) → SaysNoMore (atoms_under key (all_of places)) (atoms_under key ws)
+  ends : Ending (all_of places) ws
 
 -- of all that a table holds in a shard some stand there
 held_of : (order : List Ordered) (o : Option StoredTable) (ws : List Mutation) → Holds order o ws → HeldOf order (frozen_at o) ws
-held_of order None ws holds = record { places = []; stand = tt; no_more = λ key. part_says [] [] (atoms_under key ws) (atoms_under key ws) refl }
+held_of order None ws holds = record { places = []; stand = tt; no_more = λ key. part_says [] [] (atoms_under key ws) (atoms_under key ws) refl; ends = λ key c at. absurd at.has }
 held_of order (Some t) ws holds =
     let fs : List MemPart = map arc_value t.parts.frozen.items in
     let p : Parted order t.files (memtables_of t.parts) holds.places = parted order t.files (memtables_of t.parts) holds.places holds.holds in
     let l : LastOf order fs t.parts.active p.rest = last_of order fs t.parts.active p.rest p.memory in
     let all : all_of holds.places ≡ all_of p.front ++ (all_of l.before ++ all_of (l.last ∷ [])) =
     ap all_of p.all ∙ all_append p.front p.rest ∙ ap (λ (ws : List Mutation). all_of p.front ++ ws) (ap all_of l.all ∙ all_append l.before (l.last ∷ [])) in
+    let parts : (key : List ℕ) → atoms_under key (all_of holds.places)
+    ≡ atoms_under key (all_of p.front) ++ (atoms_under key (all_of l.before) ++ atoms_under key (all_of (l.last ∷ []))) =
+    λ key.
+    ap (atoms_under key) all ∙ more_under key (all_of p.front) (all_of l.before ++ all_of (l.last ∷ []))
+    ∙ ap (λ (more : List Atom). atoms_under key (all_of p.front) ++ more) (more_under key (all_of l.before) (all_of (l.last ∷ []))) in
     record {
       places = l.before;
       stand = l.stand;
       no_more = λ key.
           no_more_then (atoms_under key (all_of l.before)) (atoms_under key (all_of holds.places)) (atoms_under key ws)
           (part_says (atoms_under key (all_of p.front)) (atoms_under key (all_of l.before)) (atoms_under key (all_of (l.last ∷ []))) (atoms_under key (all_of holds.places))
-          (ap (atoms_under key) all ∙ more_under key (all_of p.front) (all_of l.before ++ all_of (l.last ∷ []))
-          ∙ ap (λ (more : List Atom). atoms_under key (all_of p.front) ++ more) (more_under key (all_of l.before) (all_of (l.last ∷ [])))))
-          (holds.says.no_more key);
+          (parts key)) (holds.says.no_more key);
+      ends = λ key c at.
+          let front : List Atom = atoms_under key (all_of p.front) in
+          let own : List Atom = atoms_under key (all_of l.before) in
+          let last : List Atom = atoms_under key (all_of (l.last ∷ [])) in
+          holds.says.ends key c (subst (λ (atoms : List Atom). IsEnd atoms c) (sym (parts key)) (end_behind front (own ++ last) c (end_before own last c at)));
     }
 
 -- ---- what is too much
@@ -124,6 +153,7 @@ module _ (t : TableSchema) (shard : ℕ) (ms : List MemPart) (ws : List Mutation
           no_more = each_among (is_below h.key) (λ key. atoms_under key ws) [] h.before
               (λ key passed. no_more_then (said_under key h.before) (atoms_under key (all_of held.places)) (atoms_under key ws) (are.no_more key passed) (held.no_more key))
               are.within;
+          ends = each_ending (all_of held.places) ws held.ends h.before are.ends;
         };
         key = h.key;
         key_fits = h.says.key_fits;
@@ -132,6 +162,7 @@ module _ (t : TableSchema) (shard : ℕ) (ms : List MemPart) (ws : List Mutation
         cuts = h.says.cuts;
         no_more =
             no_more_then (flat_of h.stream) (atoms_under h.key (all_of held.places)) (atoms_under h.key ws) (h.says.no_more held.places held.stand) (held.no_more h.key);
+        ends = all_ending (all_of held.places) ws held.ends h.key (changes h.stream.fragments) (h.says.ends held.places held.stand);
         why = why;
       }
 
@@ -155,6 +186,7 @@ module _ (t : TableSchema) (shard : ℕ) (ms : List MemPart) (ws : List Mutation
           no_more = each_among any (λ key. atoms_under key ws) [] l.partitions
               (λ key passed. no_more_then (said_under key l.partitions) (atoms_under key (all_of held.places)) (atoms_under key ws) (are.no_more key passed) (held.no_more key))
               are.within;
+          ends = each_ending (all_of held.places) ws held.ends l.partitions are.ends;
         };
         facts = l.why.1.0;
         of_atoms = l.why.1.1;

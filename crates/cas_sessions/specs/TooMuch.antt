@@ -12,6 +12,7 @@ use Rattle.cas_flush.specs.Flushed.{MayStand, at_level_0}
 use Rattle.cas_flushing.specs.Flushed.{head_of}
 use Rattle.cas_info.specs.declared.info.TheConstants.{FILE_LIMIT}
 use Rattle.cas_memtable.specs.Kept.{atoms_under}
+use Rattle.cas_partition.specs.Ends.{AllAtEnds}
 use Rattle.cas_partition.specs.Partitions.{AreAtCuts}
 use Rattle.cas_sstwrite.specs.Causes.{IsUnfit, TooMuch}
 use Rattle.cas_sstwrite.specs.declared.fault.Measure.{Measure}
@@ -23,10 +24,12 @@ use Rattle.cas_streams.specs.Streams.{WellFormed}
 use Rattle.cas_tables.specs.Contents.{Partition, atoms_of}
 use Rattle.cas_tables.specs.Files.{front_bytes, table_bytes}
 
--- partitions that a file of the table may have, by ascending keys, each of which says no more than these mutations do under its key
+-- Partitions that a file of the table may have, by ascending keys, each of which says no more than these mutations do under its key; and each of its markers
+-- stands at an end of a range deletion that they wrote there.
 pub record SayNoMore (columns : List Column) (ws : List Mutation) (ps : List Partition) : Type 0 where
   pub stand : MayStand columns ps
   pub no_more : AllByRecursion (λ p. SaysNoMore (flat_of p.stream) (atoms_under p.key ws)) ps
+  pub ends : AllByRecursion (λ p. AllAtEnds (atoms_under p.key ws) (changes p.stream.fragments)) ps
 
 -- One more such partition, behind such others, is too much for the file: 2^28 are there, or its bytes would be more than 2^40, or those of a block 2^32 or
 -- more; or a number or a length has no room in its field, as that of 2^32 cells of a collection.
@@ -40,6 +43,7 @@ pub record OneIsTooMuch (t : TableSchema) (shard : ℕ) (ws : List Mutation) : T
   pub formed : WellFormed t.columns stream.fragments
   pub cuts : AreAtCuts t.columns (changes stream.fragments)
   pub no_more : SaysNoMore (flat_of stream) (atoms_under key ws)
+  pub ends : AllAtEnds (atoms_under key ws) (changes stream.fragments)
   pub why : ((what : Measure)
       × TooMuch what (length before) (length (front_bytes (at_level_0 (head_of t shard number) before))) key stream.top stream.fragments)
       ⊎ IsUnfit key stream.fragments

@@ -12,7 +12,9 @@ use Rattle.cas_laws.specs.Given.{Gives}
 use Rattle.cas_laws.proofs.JoinProofs.{join_laws}
 use Rattle.cas_streams.specs.NoMore.{SaysNoMore, deletion_of}
 use Rattle.cas_streams.proofs.NoMore.{no_more_itself, no_more_kept, no_more_then}
+use Rattle.cas_partition.specs.Ends.{IsEnd}
 use Rattle.cas_partition.specs.Partitions.{AreAtomsOf}
+use Rattle.cas_partition.proofs.Ends.{ends_both}
 use Rattle.cas_memtable.specs.Memtables.{HasPlaces, bytes_with}
 use Rattle.cas_memtable.specs.Kept.{HoldJust, MayHold, all_of, atoms_under, begun, with_one}
 use Rattle.cas_memtable.proofs.Keeping.{all_begun, more_under}
@@ -63,6 +65,7 @@ pub say_alike : (vs ws : List Mutation) → vs ≡ ws → SaySame vs ws
 say_alike vs ws e = subst (SaySame vs) e (record {
   same = λ key. record { covers = λ x. refl; lives = λ r. refl; cells = λ x. refl };
   no_more = λ key. no_more_itself (atoms_under key vs);
+  ends = λ key c at. at;
 })
 
 -- so they do with these behind both
@@ -76,6 +79,10 @@ say_before us vs ws says = record {
       let more : List Atom = atoms_under key us in
       subst (λ l. SaysNoMore l (atoms_under key (ws ++ us))) (sym (more_under key vs us))
       (subst (SaysNoMore (atoms_under key vs ++ more)) (sym (more_under key ws us)) (no_more_kept (atoms_under key vs) (atoms_under key ws) more (says.no_more key)));
+  ends = λ key c at.
+      let more : List Atom = atoms_under key us in
+      subst (λ l. IsEnd l c) (sym (more_under key ws us))
+      (ends_both (atoms_under key vs) more (atoms_under key ws) more (says.ends key) (λ k e. e) c (subst (λ l. IsEnd l c) (more_under key vs us) at));
 }
 
 -- a table that has nothing stored says nothing
@@ -219,6 +226,10 @@ say_behind us vs ws says = record {
       subst (λ l. SaysNoMore l (atoms_under key (us ++ ws))) (sym (more_under key us vs))
       (subst (SaysNoMore (atoms_under key us ++ atoms_under key vs)) (sym (more_under key us ws))
       (no_more_behind (atoms_under key us) (atoms_under key vs) (atoms_under key ws) (says.no_more key)));
+  ends = λ key c at.
+      let own : List Atom = atoms_under key us in
+      subst (λ l. IsEnd l c) (sym (more_under key us ws))
+      (ends_both own (atoms_under key vs) own (atoms_under key ws) (λ k e. e) (says.ends key) c (subst (λ l. IsEnd l c) (more_under key us vs) at));
 }
   where
     turned : (own A B : List Atom) → Same (A ++ own) (B ++ own) → Same (own ++ A) (own ++ B)
@@ -252,6 +263,7 @@ say_then us vs ws a b = record {
     cells = λ x. (a.same key).cells x ∙ (b.same key).cells x;
   };
   no_more = λ key. no_more_then (atoms_under key us) (atoms_under key vs) (atoms_under key ws) (a.no_more key) (b.no_more key);
+  ends = λ key c at. b.ends key c (a.ends key c at);
 }
 
 -- so whoever holds mutations holds all that say the same

@@ -14,7 +14,8 @@ use Rattle.cas_atoms.specs.Winners.{Same}
 use Rattle.cas_atoms.specs.declared.atom.Atom.{Atom}
 use Rattle.cas_atoms.specs.declared.atom.Mutation.{Mutation}
 use Rattle.cas_streams.specs.NoMore.{SaysNoMore}
-use Rattle.cas_memtable.specs.Memtables.{IsOfColumns, added, atoms_of, bytes_with, least_of, least_with}
+use Rattle.cas_partition.specs.Ends.{AreAtEnds}
+use Rattle.cas_memtable.specs.Memtables.{IsOfColumns, added, atoms_of, bytes_with, changes_of, least_of, least_with}
 use Rattle.cas_memtable.specs.declared.memtable.MemPart.{MemPart}
 use Rattle.cas_memtable.specs.Kept.{HoldJust, StandIn, StandInEach, all_of, atoms_under, bytes_of, memtables_of}
 use Rattle.cas_memtable.proofs.Keeping.{mapped_count, rest_before}
@@ -150,6 +151,7 @@ stands_for_none order m ws none stand =
       same = λ key. subst (Same (atoms_of m key)) (nothing key) (stand.same key);
       no_more = λ key. subst (SaysNoMore (atoms_of m key)) (nothing key) (stand.no_more key);
       some = λ key there. absurd there;
+      ends = λ key. subst (λ l. AreAtEnds l (changes_of m key)) (nothing key) (stand.ends key);
       least = λ key. stand.least key ∙ ap (least_with None) (nothing key);
       bytes = none;
     }

@@ -6,6 +6,7 @@ use Rattle.std.specs.List.{flat_map}
 use Rattle.cas_types.specs.declared.limits.TheConstants.{LAST_DRAWN, MUTATION_LIMIT}
 use Rattle.cas_types.specs.declared.schema.TableSchema.{TableSchema}
 use Rattle.cas_bounds.specs.ClusteringOrder.{clustering_order}
+use Rattle.cas_bounds.specs.declared.cuts.Cut.{Cut}
 use Rattle.cas_bounds.specs.declared.order.Ordered.{Ordered}
 use Rattle.cas_atoms.specs.Fits.{FitsMutation, FitsQuery}
 use Rattle.cas_atoms.specs.LogLength.{record_length}
@@ -15,6 +16,7 @@ use Rattle.cas_atoms.specs.declared.atom.Mutation.{Mutation}
 use Rattle.cas_atoms.specs.declared.query.Query.{Query}
 use Rattle.cas_effects.specs.FitsBound.{FitsBound}
 use Rattle.cas_effects.specs.declared.effect.BoundWrite.{BoundWrite}
+use Rattle.cas_partition.specs.Ends.{IsEnd}
 use Rattle.cas_memtable.specs.Memtables.{HasPlaces}
 use Rattle.cas_memtable.specs.Kept.{all_of, atoms_under}
 use Rattle.cas_sstread.specs.Loading.{Held}
@@ -95,10 +97,11 @@ abbrev pub HoldsIn : List Ordered → Option StoredTable → List (List Mutation
 HoldsIn order None wss = wss ≡ []
 HoldsIn order (Some t) wss = HoldsEach order t wss
 
--- under each key these mutations say the same as those, and no more
+-- under each key these mutations say the same as those, and no more, and their range deletions begin and end only where those of the others do
 pub record SaySame (vs ws : List Mutation) : Type 0 where
   pub same : (key : List ℕ) → Same (atoms_under key vs) (atoms_under key ws)
   pub no_more : (key : List ℕ) → SaysNoMore (atoms_under key vs) (atoms_under key ws)
+  pub ends : (key : List ℕ) (c : Cut) → IsEnd (atoms_under key vs) c → IsEnd (atoms_under key ws) c
 
 -- What a table that orders its rows so has stored says the same as these mutations, and no more. Which of them wrote it can't be seen in a file.
 pub record Holds (order : List Ordered) (stored : Option StoredTable) (ws : List Mutation) : Type 0 where

@@ -8,11 +8,12 @@ use Rattle.cas_bounds.specs.declared.cuts.Slice.{Slice}
 use Rattle.cas_bounds.specs.declared.order.Ordered.{Ordered}
 use Rattle.cas_atoms.specs.Winners.{Same}
 use Rattle.cas_atoms.specs.declared.atom.Mutation.{Mutation}
-use Rattle.cas_streams.specs.Flat.{flat}
+use Rattle.cas_streams.specs.Flat.{changes, flat}
 use Rattle.cas_streams.specs.Joined.{Stream}
 use Rattle.cas_streams.specs.NoMore.{SaysNoMore}
 use Rattle.cas_streams.specs.Streams.{IsThere}
 use Rattle.cas_streams.specs.declared.fragment.Fragment.{Fragment}
+use Rattle.cas_partition.specs.Ends.{AllAtEnds}
 use Rattle.cas_memtable.specs.Memtables.{is_above}
 use Rattle.cas_memtable.specs.declared.memtable.MemPart.{MemPart}
 use Rattle.cas_memtable.specs.Kept.{StandInEach, all_of, atoms_under}
@@ -79,6 +80,7 @@ pub record WritesKey {D E : Type 0} (number_of : D → ℕ) (written : D → Lis
   pub no_more : (wss : List (List Mutation)) → StandInEach (clustering_order columns) ms wss → SaysNoMore (flat top fragments) (atoms_under under (all_of wss))
   pub some : (wss : List (List Mutation)) → StandInEach (clustering_order columns) ms wss → IsThere (atoms_under under (all_of wss))
       → IsThere (flat top fragments)
+  pub ends : (wss : List (List Mutation)) → StandInEach (clustering_order columns) ms wss → AllAtEnds (atoms_under under (all_of wss)) (changes fragments)
   pub writes : Writes number_of written columns w (ps ++ partition_of under top fragments)
 
 -- the keys up to that one, or none

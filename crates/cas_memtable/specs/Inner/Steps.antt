@@ -5,6 +5,7 @@ use Rattle.cas_types.specs.Values.{bytes_cmp}
 use Rattle.cas_types.specs.declared.schema.Column.{Column}
 use Rattle.cas_bounds.specs.declared.order.Ordered.{Ordered}
 use Rattle.cas_atoms.specs.declared.atom.Atom.{Atom}
+use Rattle.cas_partition.specs.Ends.{AreAtEnds}
 use Rattle.cas_partition.specs.Partitions.{partition_atoms, IsOf, IsOfTable, HavePlaces, MakesPlaces, JoinsAll}
 use Rattle.cas_memtable.specs.Memtables.{least_with}
 use Rattle.cas_memtable.specs.declared.memtable.Held.{Held}
@@ -15,6 +16,7 @@ pub record IsBlank (h : Held) : Type 0 where
   pub least : h.least ≡ None
   pub of : (order : List Ordered) → IsOf order h.partition
   pub table : (columns : List Column) → IsOfTable columns h.partition
+  pub ends : (ws : List Atom) → AreAtEnds ws h.partition.ranges
 
 -- what is held at a key stays; where nothing was, a blank partition may be
 abbrev pub StaysOrBlank : Option Held → Option Held → Type 0

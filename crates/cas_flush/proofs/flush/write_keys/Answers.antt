@@ -36,7 +36,7 @@ loop-key-preserved g c =
           let one = c.in_ok-write_key.ensures.written columns wss ps hold whole writes in (
             ps ++ partition_of key one.top one.fragments,
             λ vss stand. reached_next (clustering_order columns) ms vss stand after key is ps one.top one.fragments (are vss stand) (one.same vss stand) (one.no_more vss stand)
-                (one.some vss stand),
+                (one.some vss stand) (one.ends vss stand),
             one.writes,
           );
       count = record { kept = omega (arith, c.loop-key.invariant.count.kept, c.write_key.ensures.count.kept); rose = λ never. absurd never };

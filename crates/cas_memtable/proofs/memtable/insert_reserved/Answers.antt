@@ -20,5 +20,5 @@ pub returns : goal.returns
 returns c =
     reserves_new c.args.key.now c.in_ok-copy.copy c.args.atoms.now c.new-partition.result c.reserve_all.new.self (get bytes_cmp c.args.partitions.now)
     (get bytes_cmp c.insert.new.self) _ c.in_ok-copy.ensures.cases c.requires
-    (record { empty = c.new-partition.ensures.empty; least = refl; of = c.new-partition.ensures.of; table = c.new-partition.ensures.table })
+    (record { empty = c.new-partition.ensures.empty; least = refl; of = c.new-partition.ensures.of; table = c.new-partition.ensures.table; ends = c.new-partition.ensures.ends })
     c.reserve_all.ensures.makes c.in_ok-reserve_all.ensures.places c.in_ok-insert.ensures.updates.0
