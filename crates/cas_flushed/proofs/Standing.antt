@@ -103,8 +103,8 @@ module _ (columns : List Column) (c : Contents) (fits : FitsContents columns c) 
   each_says p there = says c in_order p there (each_one (FitsPartition columns) c.partitions p fits.each there).said
 
 pub contents_stand : ContentsStand
-contents_stand f c facts of listed =
-    loaded_stands f c facts (written_in c.partitions) of listed (each_says f.table.columns c of.fits) (none c (in_order f.table.columns c of.fits))
+contents_stand f c facts of of_atoms own listed =
+    loaded_stands f c facts (written_in c.partitions) of of_atoms own listed (each_says f.table.columns c of.fits) (none c (in_order f.table.columns c of.fits))
 
 pub listed_contents_stand : ListedContentsStand
 listed_contents_stand t shard d i c file = record {

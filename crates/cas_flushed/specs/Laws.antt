@@ -10,8 +10,9 @@ use Rattle.cas_info.specs.declared.info.TableInfo.{TableInfo}
 use Rattle.cas_streams.specs.NoMore.{SaysNoMore}
 use Rattle.cas_partition.specs.Ends.{IsEnd}
 use Rattle.cas_memtable.specs.Kept.{atoms_under}
+use Rattle.cas_facts.specs.Facts.{AreFacts}
 use Rattle.cas_facts.specs.declared.facts.Facts.{Facts}
-use Rattle.cas_tables.specs.Contents.{Contents, Partition}
+use Rattle.cas_tables.specs.Contents.{Contents, Partition, atoms_of}
 use Rattle.cas_tables.specs.Files.{info_of}
 use Rattle.cas_flush.specs.Flushed.{AreOf, any}
 use Rattle.cas_sstread.specs.Loading.{Held}
@@ -23,8 +24,8 @@ use Rattle.cas_flushed.specs.Written.{written_in}
 
 -- In the file of contents, loaded and listed as it tells of itself, the mutations stand that its partitions tell. So in each such file some do.
 abbrev pub ContentsStand : Type 0
-ContentsStand = (f : File Held) (c : Contents) (facts : Facts) → IsOf f.table c facts → f.info ≡ info_of c facts
-    → StandInFile (clustering_order f.table.columns) f (written_in c.partitions)
+ContentsStand = (f : File Held) (c : Contents) (facts : Facts) → IsOf f.table c facts → AreFacts (atoms_of c) facts → f.table.info ≡ info_of c facts
+    → f.info ≡ info_of c facts → StandInFile (clustering_order f.table.columns) f (written_in c.partitions)
 
 -- and in the one that stands in an image, as it is listed
 abbrev pub ListedContentsStand : Type 0

@@ -81,7 +81,7 @@ module _ {D : Type 0} (number_of : D → ℕ) (wrote : D → List ℕ → Type 0
     stands : (f : File Held) → IsOpened t shard told (Some b) f → StandInFile (clustering_order t.columns) f ws
     stands f o =
         let loaded : IsLoaded t shard image told f
-        = record { bytes = b; there = refl; contents = o.contents; columns = o.columns; info = o.info; kept = o.kept b refl } in
+        = record { bytes = b; there = refl; contents = o.contents; columns = o.columns; info = o.info; own_info = o.own_info; kept = o.kept b refl } in
         (listed_files_hold t shard image (told ∷ []) (f ∷ []) (ws ∷ []) (loaded, tt) (stand_there, tt)).0
 
     opened : (tables : List TableSchema) (f : File Held) → slice_get tables t.number ≡ Some t → IsOpened t shard told (Some b) f → SaysWhatTheyDo (order_at tables t.number) ms f

@@ -28,7 +28,7 @@ module _ (start now : Disk) (during : During Same start now) (reads : Follows Sa
   loaded_before f loaded =
       let (d, still, same) = reads_on start now during reads c read in
       let l = loaded d still in
-      record { bytes = l.bytes; there = sym (same (table_name i.number)) ∙ l.there; contents = l.contents; columns = l.columns; info = l.info; kept = l.kept }
+      record { bytes = l.bytes; there = sym (same (table_name i.number)) ∙ l.there; contents = l.contents; columns = l.columns; info = l.info; own_info = l.own_info; kept = l.kept }
 
   pub bad_before : (number at : ℕ) → ((d : Image) → now.reads d → IsBadListed t shard d i number at) → IsBadListed t shard c i number at
   bad_before number at bad =

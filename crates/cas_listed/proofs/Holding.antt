@@ -47,7 +47,7 @@ module _ (t : TableSchema) (shard : ℕ) (c : Image) (i : TableInfo) where
   stands : (ws : List Mutation) (f : File Held) → StandIn t shard c i ws → IsLoaded t shard c i f → StandInFile (clustering_order t.columns) f ws
   stands ws f s l =
       subst (λ (columns : List Column). StandInFile (clustering_order columns) f ws) l.columns
-      (loaded_stands f s.contents s.file.facts ws of (l.info ∙ s.file.listed) s.says s.none)
+      (loaded_stands f s.contents s.file.facts ws of s.file.of_atoms (l.own_info ∙ s.file.listed) (l.info ∙ s.file.listed) s.says s.none)
     where
       of : IsOf f.table s.contents s.file.facts
       of = record {

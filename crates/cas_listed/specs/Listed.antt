@@ -48,13 +48,15 @@ StandInFiles t shard c (i ∷ infos) [] = ⊥
 
 -- ---- files that are loaded
 
--- the file that is open is the listed one of that table and that shard, loaded: its bytes are those that stand in the image under its number
+-- The file that is open is the listed one of that table and that shard, loaded: its bytes are those that stand in the image under its number, and what it was
+-- loaded by is what is listed of it.
 pub record IsLoaded (t : TableSchema) (shard : ℕ) (c : Image) (i : TableInfo) (f : File Held) : Type 0 where
   pub bytes : List ℕ
   pub there : c (table_name i.number) ≡ Some bytes
   pub contents : f.table.contents ≡ Some bytes
   pub columns : f.table.columns ≡ t.columns
   pub info : f.info ≡ i
+  pub own_info : f.table.info ≡ i
   pub kept : loaded_at (clustering_order t.columns) t.number shard i bytes ≡ Ok f.table.kept
 
 -- each of these is, in the order in which they are listed

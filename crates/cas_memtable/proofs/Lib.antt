@@ -3,3 +3,4 @@ mod Scanning
 pub mod Showing
 pub mod Keys
 pub mod Nexts
+pub mod Gathering

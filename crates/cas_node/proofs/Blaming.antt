@@ -1,5 +1,5 @@
 -- A run calls a table file bad only where it is bad for a query, or was found bad.
-use Rattle.std.proofs.Common.{◌≡◌, inl, inr, ℕ, ℤ, List, [], ◌∷◌, ◌++◌, length, Bool, None, true, false, Option, Some, Result, Ok, Err, sym, ap, subst}
+use Rattle.std.proofs.Common.{◌≡◌, ◌⊎◌, inl, inr, ⊎_elim, ℕ, ℤ, List, [], ◌∷◌, ◌++◌, length, Bool, None, true, false, Option, Some, Result, Ok, Err, sym, ap, subst}
 use Rattle.std.specs.Prelude.{if◌then◌else◌, ◌||◌}
 use Rattle.std.specs.List.{fold}
 use Rattle.cas_types.specs.declared.schema.TableSchema.{TableSchema}
@@ -139,6 +139,11 @@ pub has_front : {X : Type 0} (xs ys : List X) (x : X) → Has xs x → Has (xs +
 has_front [] ys x has = absurd has
 has_front (y ∷ xs) ys x (inl same) = inl same
 has_front (y ∷ xs) ys x (inr more) = inr (has_front xs ys x more)
+
+pub has_either : {X : Type 0} (xs ys : List X) (x : X) → Has (xs ++ ys) x → Has xs x ⊎ Has ys x
+has_either [] ys x has = inr has
+has_either (y ∷ xs) ys x (inl same) = inl (inl same)
+has_either (y ∷ xs) ys x (inr has) = ⊎_elim (λ front. inl (inr front)) (λ back. inr back) (has_either xs ys x has)
 
 pub still_bad : (fs gs : List (File Held)) (key : List ℕ) (s : Slice) (n at : ℕ) → (more : List (File Held)) × (gs ≡ fs ++ more) → IsBadFile fs key s n at → IsBadFile gs key s n at
 still_bad fs gs key s n at (more, are) bad = (bad.0, subst (λ hs. Has hs bad.0) (sym are) (has_front fs more bad.0 bad.1), bad.2)

@@ -1,9 +1,13 @@
+mod Along
 mod Answered
 mod Blaming
 mod Carrying
 mod EntryRoom
 mod FilesFew
 mod FlushedAlike
+mod HeldFound
+mod HeldStay
+mod LittleFits
 mod NumbersRise
 mod OneOutcome
 mod RunLemmas

@@ -1,6 +1,5 @@
 -- Along a run the mutations of each shard are numbered upwards.
-use Rattle.std.proofs.Common.{◌≡◌, ◌≤◌, ◌<◌, ◌+◌, inl, inr, ⊎_elim, ℕ, zero, suc, ℤ, false, List, [], ◌∷◌, ◌++◌, length, map, refl, sym, ap, ◌∙◌, subst, arith, append-nil, Option, None, Some, Result, Ok, Err}
-use Rattle.std.specs.List.{fold}
+use Rattle.std.proofs.Common.{◌≡◌, ◌≤◌, ◌<◌, ◌+◌, inl, inr, ⊎_elim, ℕ, zero, suc, ℤ, List, [], ◌∷◌, ◌++◌, length, map, refl, sym, ap, ◌∙◌, subst, arith, append-nil, Result, Ok, Err}
 use Rattle.std.specs.Prelude.{slice_set, slice_index_or, ◌⊎◌}
 use Rattle.cas_history.specs.Hands.{numbers}
 use Rattle.cas_atoms.specs.declared.atom.Mutation.{Mutation}
@@ -15,31 +14,16 @@ use Rattle.cas_effects.specs.declared.refusal.Refusal.{Refusal}
 use Rattle.cas_effects.specs.AtomsOf.{mutation_of}
 use Rattle.cas_shard.specs.declared.entry.Entry.{Entry}
 use Rattle.cas_shard.specs.declared.entry.Entry.TheVariants as entry
-use Rattle.cas_lines.specs.declared.line.Line.{Line}
-use Rattle.cas_lines.specs.declared.line.Line.TheVariants as line
 use Rattle.cas_render.specs.declared.reply.Failure.TheVariants as failure
 use Rattle.cas_render.specs.declared.reply.Reply.{Reply}
 use Rattle.cas_render.specs.declared.reply.Reply.TheVariants as reply
-use Rattle.cas_render.specs.declared.reply.Verdict.{Verdict}
 use Rattle.cas_shard.specs.declared.entry.ShardOpening.{ShardOpening}
 use Rattle.cas_shard.specs.Shards.{ShardHistory, empty_shard, found_shard, moment_at, mutation_at, number_of}
 use Rattle.cas_shard.specs.Stands.{NumbersRise}
 use Rattle.cas_shard.proofs.Numbering.{all_stand, one_entered}
 use Rattle.cas_words.specs.declared.words.ClockKind.{ClockKind}
-use Rattle.cas_words.specs.declared.words.ClockKind.TheVariants as clock
-use Rattle.cas_terms.specs.Columns.{table_named}
-use Rattle.cas_types.specs.declared.schema.TableSchema.{TableSchema}
-use Rattle.cas_sessions.specs.declared.answer.Fault.{Fault}
-use Rattle.cas_sessions.specs.declared.answer.Fault.TheVariants as fault
-use Rattle.cas_changes.specs.declared.entry.Change.{Change}
-use Rattle.cas_sessions.specs.Dropping.{DropsSegments}
-use Rattle.cas_sessions.specs.Filling.{FlushesIn, filled_with, rest_with}
-use Rattle.cas_sessions.specs.Flushes.{FlushesNamed, FlushesTable, changes_by, without_begun, without_flushed}
 use Rattle.cas_sessions.specs.History.{History, DiskState, Does, Takes, shard_at, after_entries, with_shard}
-use Rattle.cas_sessions.specs.Verifying.{VerifiesNamed}
-use Rattle.cas_node.specs.declared.upshot.Upshot.{Upshot}
-use Rattle.cas_node.specs.Lines.{SetsClock, Answered, Answers, lists_any}
-use Rattle.cas_node.proofs.Settling.{behind, then_dropped}
+use Rattle.cas_node.proofs.Along.{along}
 use Rattle.cas_recovery.specs.Found.{AreOfAStore}
 use Rattle.cas_recovery.specs.Openings.{AreOpenings}
 use Rattle.cas_recovery.proofs.Explained.{as_opening}
@@ -90,7 +74,7 @@ module _ (reading : ℤ) (s : ShardHistory) (session call : ℕ) (m : Mutation) 
 
 -- ---- a history
 
-at_place : {X : Type 0} (P : X → Type 0) (xs : List X) (n m : ℕ) (y d : X) → P y → P (slice_index_or xs m d) → P (slice_index_or (slice_set xs n y) m d)
+pub at_place : {X : Type 0} (P : X → Type 0) (xs : List X) (n m : ℕ) (y d : X) → P y → P (slice_index_or xs m d) → P (slice_index_or (slice_set xs n y) m d)
 at_place P [] n m y d p q = q
 at_place P (x ∷ xs) zero zero y d p q = p
 at_place P (x ∷ xs) zero (suc m) y d p q = q
@@ -99,10 +83,6 @@ at_place P (x ∷ xs) (suc n) (suc m) y d p q = at_place P xs n m y d p q
 
 shard_keeps : (h : History) (n : ℕ) (s : ShardHistory) → AllRise h → NumbersRise s → AllRise (with_shard h n s)
 shard_keeps h n s all new m = at_place NumbersRise h.shards n m s (found_shard empty_shard) new (all m)
-
-sets_keeps : (kind : ClockKind) (h : History) (n : ℤ) (r : Reply) (t : History) → SetsClock kind h n r t → AllRise h → AllRise t
-sets_keeps clock.Manual h n r t e all = subst AllRise (sym e.1) all
-sets_keeps clock.System h n r t e all = subst AllRise (sym e.1) all
 
 does_keeps : (kind : ClockKind) (Gives : ℤ → Type 0) (h : History) (m : Result Bound Refusal) (r : Reply) (t : History) → Does kind Gives h m r t → AllRise h → AllRise t
 does_keeps kind Gives h (Err x) r t a all = subst AllRise (sym a.1) all
@@ -119,69 +99,10 @@ does_keeps kind Gives h (Ok (bound.Read q)) r t a all =
     subst AllRise (sym after)
     (shard_keeps h q.shard (after_entries reading [] (shard_at h q.shard)) all (raised_rise (shard_at h q.shard) (moment_at reading (shard_at h q.shard)) (all q.shard)))
 
--- a flush enters nothing
-abbrev Flushed : History → History → (ℕ → ℕ → List Mutation) → (ℕ → ℕ → ℕ) → List Change → DiskState → Type 0
-Flushed h t left full changes e = t ≡ record h { unflushed = left; filled = full; changes = changes; trimmed = false; disk = e }
-
-begun_keeps : (h t : History) (left : ℕ → ℕ → List Mutation) (full : ℕ → ℕ → ℕ) (changes : List Change) (e : DiskState) → Flushed h t left full changes e → AllRise h → AllRise t
-begun_keeps h t left full changes e same all = subst AllRise (sym same) all
-
-table_keeps : (h : History) (x : TableSchema) (t : History) (changes : List (Option Change)) (begun : ℕ) (e : DiskState)
-    → Flushed h t (without_flushed x.number changes h.unflushed) (without_begun x.number begun h.filled) (fold changes_by h.changes changes) e → AllRise h → AllRise t
-table_keeps h x t changes begun e is all =
-    begun_keeps h t (without_flushed x.number changes h.unflushed) (without_begun x.number begun h.filled) (fold changes_by h.changes changes) e is all
-
-flush_keeps : (h : History) (x : TableSchema) (r : Result (List ℕ) Fault) (t : History) → FlushesTable h x r t → AllRise h → AllRise t
-flush_keeps h x (Ok told) t a all = table_keeps h x t a.0 a.1 a.2 a.6 all
-flush_keeps h x (Err (fault.Stopped first)) t a all = subst AllRise (sym a.1) all
-flush_keeps h x (Err (fault.Refused why)) t a all = table_keeps h x t a.0 a.1 a.2 a.6 all
-flush_keeps h x (Err (fault.Disk number)) t a all = table_keeps h x t a.0 a.1 a.2 a.6 all
-flush_keeps h x (Err fault.Read) t a all = table_keeps h x t a.0 a.1 a.2 a.6 all
-flush_keeps h x (Err (fault.BadBlock number at)) t a all = table_keeps h x t a.0 a.1 a.2 a.6 all
-flush_keeps h x (Err fault.Mem) t a all = table_keeps h x t a.0 a.1 a.2 a.6 all
-
--- nor does one of one shard
-one_keeps : (h after : History) (t : TableSchema) (n : ℕ) (r : Result (Option ℕ) Fault) → FlushesIn h t n r after → AllRise h → AllRise after
-one_keeps h after t n r a all =
-    begun_keeps h after (rest_with t.number n a.change h.unflushed) (filled_with t.number n a.begun h.filled) (changes_by h.changes a.change) a.disk a.follows all
-
--- nor does dropping segments
-drop_keeps : (h after : History) (r : Result ℕ Fault) → DropsSegments h r after → AllRise h → AllRise after
-drop_keeps h after r a all = subst AllRise (sym a.follows) all
-
-then_keeps : (h k after : History) (r : Result ℕ Fault) → (AllRise h → AllRise k) → DropsSegments k r after → AllRise h → AllRise after
-then_keeps h k after r so drops all = drop_keeps k after r drops (so all)
-
-named_keeps : (h : History) (o : Option TableSchema) (r : Result (List ℕ) Fault) (t : History) → FlushesNamed h o r t → AllRise h → AllRise t
-named_keeps h None r t a all = subst AllRise (sym a.1) all
-named_keeps h (Some x) r t a all = flush_keeps h x r t a all
-
--- a check changes no shard
-verify_keeps : (h : History) (o : Option TableSchema) (r : Result (List Verdict) Fault) (t : History) → VerifiesNamed h o r t → AllRise h → AllRise t
-verify_keeps h None r t a all = subst AllRise (sym a.1) all
-verify_keeps h (Some x) r t a all = subst AllRise (sym a.3) all
-
-answered_keeps : (kind : ClockKind) (Gives : ℤ → Type 0) (h : History) (l : Line) (r : Upshot) (t : History) → Answered kind Gives h l r t → AllRise h → AllRise t
-answered_keeps kind Gives h line.Blank r t a all = subst AllRise (sym a.1) all
-answered_keeps kind Gives h line.Syntax r t a all = subst AllRise (sym a.1) all
-answered_keeps kind Gives h (line.Clock n) r t a all = sets_keeps kind h n a.0 t a.2 all
-answered_keeps kind Gives h (line.Flush name) r t a all =
-    then_dropped (λ (k j : History). AllRise k → AllRise j) then_keeps (lists_any a.0) r.want h a.1 t (named_keeps h (table_named h.tables name) a.0 a.1 a.3) a.4 all
-answered_keeps kind Gives h (line.Verify name) r t a all = verify_keeps h (table_named h.tables name) a.0 t a.2 all
-answered_keeps kind Gives h line.Status r t a all = subst AllRise (sym a.1) all
-answered_keeps kind Gives h (line.Statement s) r t a all =
-    behind (λ (k j : History). AllRise k → AllRise j) (λ k j same rise. subst AllRise (sym same) rise) one_keeps then_keeps (meaning h.limits.shards h.tables s) a.0 r.want a.1 t a.4
-    (does_keeps kind Gives h (meaning h.limits.shards h.tables s) a.0 a.1 a.3 all)
-
-answer_keeps : (kind : ClockKind) (Gives : ℤ → Type 0) (h : History) (text : List ℕ) (r : Upshot) (t : History) → Answers kind Gives h text r t → AllRise h → AllRise t
-answer_keeps kind Gives h text r t (inl x) all = subst AllRise (sym x.1) all
-answer_keeps kind Gives h text r t (inr x) all = answered_keeps kind Gives h x.0 r t x.2 all
-
 pub numbers_stay : (Gives : ℤ → Type 0) → NumbersStay Gives
-numbers_stay Gives kind h after [] [] all x = subst AllRise (sym x) all
-numbers_stay Gives kind h after [] (r ∷ rs) all x = absurd x
-numbers_stay Gives kind h after (l ∷ ls) [] all x = absurd x
-numbers_stay Gives kind h after (l ∷ ls) (r ∷ rs) all x = numbers_stay Gives kind x.0 after ls rs (answer_keeps kind Gives h l r x.0 x.1 all) x.2
+numbers_stay Gives kind h after ls os all runs =
+    along kind Gives AllRise (λ h left full changes trimmed e so. so) (λ h seconds when so. so)
+    (λ h s answer after spelled does so. does_keeps kind Gives h (meaning h.limits.shards h.tables s) answer after does so) h after ls os runs all
 
 -- ---- the beginning, and what is read
 
@@ -194,13 +115,13 @@ below_or_past (suc n) (suc m) = next (below_or_past n m)
     next (inl lt) = inl (omega (arith, lt))
     next (inr le) = inr (omega (arith, le))
 
-past : {X : Type 0} (xs : List X) (n : ℕ) (d : X) → length xs ≤ n → slice_index_or xs n d ≡ d
+pub past : {X : Type 0} (xs : List X) (n : ℕ) (d : X) → length xs ≤ n → slice_index_or xs n d ≡ d
 past [] n d le = refl
 past (x ∷ xs) zero d le = absurd (omega (arith, le))
 past (x ∷ xs) (suc n) d le = past xs n d (omega (arith, le))
 
 -- each of the shards that a history begins with
-abbrev first_shards : List ManifestEntry → (ℕ → ShardOpening) → List ShardHistory
+abbrev pub first_shards : List ManifestEntry → (ℕ → ShardOpening) → List ShardHistory
 first_shards entries openings = map (λ (k : ℕ). found_shard (openings k)) (numbers 0 (said_by entries).shards)
 
 first_rise : (entries : List ManifestEntry) (mutations : List Mutation) (folder : Disk) (openings : ℕ → ShardOpening) → AreOfAStore entries mutations

@@ -51,11 +51,12 @@ use Rattle.cas_sessions.specs.Verifying.{EndsVerified, VerifiesNamed, table_file
 use Rattle.cas_node.specs.declared.upshot.Upshot.{Upshot}
 use Rattle.cas_node.specs.Lines.{Answered, Answers, DropsBehind, FlushesNone, FlushesAndDrops, IsCarriedOut, LeavesRoom, Runs, SettlesAndDrops, SettlesBehind, is_starved, is_want, lists_any, lists_one, replied, reply_of_flush, reply_of_verify, says_want}
 use Rattle.cas_node.specs.Ran.{AreGood}
-use Rattle.cas_node.specs.Laws.{FitsBehind, FitsFiles, FlushFits, FlushesFit, IsRoomy, NoFlushFits, OneOutcome, SameStore, StaysWell}
+use Rattle.cas_node.specs.Laws.{FindsBehind, FitsFiles, FlushFinds, FlushesFit, IsRoomy, NoFlushFits, OneOutcome, SameStore, StaysWell}
 use Rattle.cas_node.proofs.Blaming.{has_front, still_bad}
 use Rattle.cas_node.proofs.FilesFew.{numbers_few}
 use Rattle.cas_node.proofs.EntryRoom.{room_for_change, room_for_drop}
 use Rattle.cas_node.proofs.FlushedAlike.{Agree, agreeing, as_one, at_both, flushed_alike, on, one_alike, one_told, told_alike}
+use Rattle.cas_node.proofs.Standing.{still_good}
 use Rattle.cas_node.proofs.Stopping as stopping
 use Rattle.cas_node.proofs.Stopping.{AreMore, Counts, IsBegun, IsFurther}
 use Rattle.cas_node.proofs.Verified.{all_good, are_good, in_some_shard, told_of}
@@ -64,7 +65,11 @@ use Rattle.cas_node.proofs.Verified.{all_good, are_good, in_some_shard, told_of}
 
 -- from a disk that isn't stopped to one that has room and no bad file, without a fault
 abbrev Well : DiskState → DiskState → Type 0
-Well d e = StaysWell d e
+Well d e = (d.stopped ≡ false) × (Rose d.faults e.faults → ⊥) × IsRoomy e.reach × (Rose d.reads e.reads → ⊥) × AreGood e.files
+
+-- files of flushes are good
+all_well : (d e : DiskState) → Counts d e → AreGood d.files → StaysWell d e → Well d e
+all_well d e counts good well = (well.0, well.1, well.2, well.3, still_good d.files e.files counts.files good)
 
 good_before : (before after : ℕ → ℕ → List (File Held)) → AreMore before after → AreGood after → AreGood before
 good_before before after more good = record {
@@ -341,14 +346,14 @@ abbrev LineFits : (ℤ → Type 0) → History → Line → Type 0
 LineFits Gives h (line.Flush name) = (t : TableSchema) → table_named h.tables name ≡ Some t → FitsFiles h t
 LineFits Gives h (line.Statement s) =
     (answer : Reply) (after : History) → Does clock.Manual Gives h (meaning h.limits.shards h.tables s) answer after
-    → FitsBehind (meaning h.limits.shards h.tables s) answer after
+    → FindsBehind FitsFiles (meaning h.limits.shards h.tables s) answer after
 LineFits Gives h line.Blank = Unit {0}
 LineFits Gives h line.Syntax = Unit {0}
 LineFits Gives h (line.Clock n) = Unit {0}
 LineFits Gives h (line.Verify name) = Unit {0}
 LineFits Gives h line.Status = Unit {0}
 
-line_fits : (Gives : ℤ → Type 0) (h : History) (text : List ℕ) (l : Line) → Says text l → FlushFits clock.Manual Gives h text → LineFits Gives h l
+line_fits : (Gives : ℤ → Type 0) (h : History) (text : List ℕ) (l : Line) → Says text l → FlushFinds FitsFiles clock.Manual Gives h text → LineFits Gives h l
 line_fits Gives h text line.Blank says fit = tt
 line_fits Gives h text line.Syntax says fit = tt
 line_fits Gives h text (line.Clock n) says fit = tt
@@ -603,8 +608,8 @@ module _ (h : History) (c d : List Change) (p q : DiskState) (agree : Agree c d 
       both_at t (on h c p) u (on h d q) a.1 b.1 (record { stores = as_one h c d p q agree; one_goes = well.0; other_goes = good.0 })
 
   one_written : (x : BoundWrite) (r : Reply) (want wont : Bool) (t u : History) → SettlesBehind (Ok (bound.Write x)) r want (on h c p) t
-      → SettlesBehind (Ok (bound.Write x)) r wont (on h d q) u → want ≡ false → wont ≡ false → FitsBehind (Ok (bound.Write x)) r (on h c p)
-      → FitsBehind (Ok (bound.Write x)) r (on h d q) → Well p t.disk → Well q u.disk → Both t u
+      → SettlesBehind (Ok (bound.Write x)) r wont (on h d q) u → want ≡ false → wont ≡ false → FindsBehind FitsFiles (Ok (bound.Write x)) r (on h c p)
+      → FindsBehind FitsFiles (Ok (bound.Write x)) r (on h d q) → Well p t.disk → Well q u.disk → Both t u
   one_written x (reply.Wrote number) want wont t u a b v w fit fat well good = one_settles x.shard x.table want wont t u a b v w fit fat well good
   one_written x reply.Done want wont t u a b v w fit fat well good = stays want wont t u a b well good
   one_written x (reply.Rows rows shard front now) want wont t u a b v w fit fat well good = stays want wont t u a b well good
@@ -615,7 +620,7 @@ module _ (h : History) (c d : List Change) (p q : DiskState) (agree : Agree c d 
   one_written x (reply.Failed f) want wont t u a b v w fit fat well good = stays want wont t u a b well good
 
   behind_deed : (m : Result Bound Refusal) (r : Reply) (want wont : Bool) (t u : History) → SettlesBehind m r want (on h c p) t → SettlesBehind m r wont (on h d q) u
-      → want ≡ false → wont ≡ false → FitsBehind m r (on h c p) → FitsBehind m r (on h d q) → Well p t.disk → Well q u.disk → Both t u
+      → want ≡ false → wont ≡ false → FindsBehind FitsFiles m r (on h c p) → FindsBehind FitsFiles m r (on h d q) → Well p t.disk → Well q u.disk → Both t u
   behind_deed (Err x) r want wont t u a b v w fit fat well good = stays want wont t u a b well good
   behind_deed (Ok (bound.Create x)) r want wont t u a b v w fit fat well good = stays want wont t u a b well good
   behind_deed (Ok (bound.Alter x)) r want wont t u a b v w fit fat well good = stays want wont t u a b well good
@@ -624,10 +629,10 @@ module _ (h : History) (c d : List Change) (p q : DiskState) (agree : Agree c d 
 
 -- behind a deed of both
 deed_both : (k j t u : History) (m : Result Bound Refusal) (r : Reply) (want wont : Bool) → Both k j → SettlesBehind m r want k t → SettlesBehind m r wont j u → want ≡ false
-    → wont ≡ false → FitsBehind m r k → FitsBehind m r j → Well k.disk t.disk → Well j.disk u.disk → Both t u
+    → wont ≡ false → FindsBehind FitsFiles m r k → FindsBehind FitsFiles m r j → Well k.disk t.disk → Well j.disk u.disk → Both t u
 deed_both k j t u m r want wont both a b v w fit fat well good =
     behind_deed k k.changes j.changes k.disk j.disk (agreeing k j both.stores) m r want wont t u a
-    (subst (λ (i : History). SettlesBehind m r wont i u) (sym both.stores.same) b) v w fit (subst (FitsBehind m r) (sym both.stores.same) fat) well good
+    (subst (λ (i : History). SettlesBehind m r wont i u) (sym both.stores.same) b) v w fit (subst (FindsBehind FitsFiles m r) (sym both.stores.same) fat) well good
 
 -- memory ran out for neither of the two
 fed : (o : Upshot) (r : Reply) → o.reply ≡ Some r → is_starved o ≡ false → (tells_want r ≡ false) × (o.want ≡ false)
@@ -641,8 +646,8 @@ module _ (Gives : ℤ → Type 0) (h : History) (c d : List Change) (p q : DiskS
 
   one_statement : (m : Result Bound Refusal) (o s : Upshot) (t u : History) → IsCarriedOut clock.Manual Gives (on h c p) m o t → IsCarriedOut clock.Manual Gives (on h d q) m s u
       → is_starved o ≡ false → is_starved s ≡ false
-      → ((answer : Reply) (after : History) → Does clock.Manual Gives (on h c p) m answer after → FitsBehind m answer after)
-      → ((answer : Reply) (after : History) → Does clock.Manual Gives (on h d q) m answer after → FitsBehind m answer after) → Well p t.disk → Well q u.disk → Same o s t u
+      → ((answer : Reply) (after : History) → Does clock.Manual Gives (on h c p) m answer after → FindsBehind FitsFiles m answer after)
+      → ((answer : Reply) (after : History) → Does clock.Manual Gives (on h d q) m answer after → FindsBehind FitsFiles m answer after) → Well p t.disk → Well q u.disk → Same o s t u
   one_statement m o s t u a b v w fit fat well good =
       let (r, mid, says, does, behind) = a in
       let (e, other, tells, did, after) = b in
@@ -657,7 +662,7 @@ module _ (Gives : ℤ → Type 0) (h : History) (c d : List Change) (p q : DiskS
         both =
             deed_both mid other t u m r o.want s.want deed.both behind
             (subst (λ (k : Reply). SettlesBehind m k s.want other u) (sym deed.replies) after) one_fed.1 two_fed.1 (fit r mid does)
-            (subst (λ (k : Reply). FitsBehind m k other) (sym deed.replies) (fat e other did))
+            (subst (λ (k : Reply). FindsBehind FitsFiles m k other) (sym deed.replies) (fat e other did))
             (rest_well p mid.disk t.disk (stopping.deed clock.Manual Gives (on h c p) m r mid does) well deed.both.one_goes)
             (rest_well q other.disk u.disk (stopping.deed clock.Manual Gives (on h d q) m e other did) good deed.both.other_goes);
       }
@@ -715,7 +720,7 @@ of_line Gives h text o t (inr x) v = x
 
 module _ (Gives : ℤ → Type 0) where
   one_answer : (h : History) (c d : List Change) (p q : DiskState) (text : List ℕ) (o s : Upshot) (t u : History) → Agree c d p q
-      → FlushFits clock.Manual Gives (on h c p) text → FlushFits clock.Manual Gives (on h d q) text
+      → FlushFinds FitsFiles clock.Manual Gives (on h c p) text → FlushFinds FitsFiles clock.Manual Gives (on h d q) text
       → Answers clock.Manual Gives (on h c p) text o t → Answers clock.Manual Gives (on h d q) text s u → is_starved o ≡ false → is_starved s ≡ false
       → Well p t.disk → Well q u.disk → Same o s t u
   one_answer h c d p q text o s t u agree fit fat x y v w well good =
@@ -753,12 +758,14 @@ module _ (Gives : ℤ → Type 0) where
       (λ i. one.replies i ∷ rest.0 i, rest.1)
 
   pub one_outcome : OneOutcome Gives
-  one_outcome h ls rs ss t u x y fit v w well good =
-      runs_agree h h.changes h.changes h.disk h.disk ls rs ss t u (record { changes = refl; files = refl; last_file = refl; live = refl }) fit fit x y v w well good
+  one_outcome h ls rs ss t u x y fit v w files well good =
+      runs_agree h h.changes h.changes h.disk h.disk ls rs ss t u (record { changes = refl; files = refl; last_file = refl; live = refl }) fit fit x y v w
+      (all_well h.disk t.disk (stopping.all_lines clock.Manual Gives h ls rs t x) files well)
+      (all_well h.disk u.disk (stopping.all_lines clock.Manual Gives h ls ss u y) files good)
 
 -- ---- lines that flush nothing
 
-no_write_fits : (x : BoundWrite) (r : Reply) (after : History) → LeavesRoom (Ok (bound.Write x)) r after → FitsBehind (Ok (bound.Write x)) r after
+no_write_fits : (x : BoundWrite) (r : Reply) (after : History) → LeavesRoom (Ok (bound.Write x)) r after → FindsBehind FitsFiles (Ok (bound.Write x)) r after
 no_write_fits x (reply.Wrote number) after room = λ full t got. absurd (no_true (is_full after x.shard x.table) room full)
 no_write_fits x reply.Done after room = tt
 no_write_fits x (reply.Rows rows shard front now) after room = tt
@@ -768,14 +775,14 @@ no_write_fits x (reply.Status tables) after room = tt
 no_write_fits x (reply.Refused why) after room = tt
 no_write_fits x (reply.Failed f) after room = tt
 
-none_fits : (b : Result Bound Refusal) (r : Reply) (after : History) → LeavesRoom b r after → FitsBehind b r after
+none_fits : (b : Result Bound Refusal) (r : Reply) (after : History) → LeavesRoom b r after → FindsBehind FitsFiles b r after
 none_fits (Err x) r after room = tt
 none_fits (Ok (bound.Create x)) r after room = tt
 none_fits (Ok (bound.Alter x)) r after room = tt
 none_fits (Ok (bound.Write x)) r after room = no_write_fits x r after room
 none_fits (Ok (bound.Read x)) r after room = tt
 
-no_line_fits : (kind : ClockKind) (Gives : ℤ → Type 0) (h : History) (text : List ℕ) → FlushesNone kind Gives h text → FlushFits kind Gives h text
+no_line_fits : (kind : ClockKind) (Gives : ℤ → Type 0) (h : History) (text : List ℕ) → FlushesNone kind Gives h text → FlushFinds FitsFiles kind Gives h text
 no_line_fits kind Gives h text none = (
   λ name t says named. absurd (none.0 name says),
   λ s says answer after does. none_fits (meaning h.limits.shards h.tables s) answer after (none.1 s says answer after does),

@@ -49,7 +49,7 @@ use Rattle.cas_node.specs.Lines.{NoneFlushes, Runs, Tells}
 use Rattle.cas_sstread.specs.Loading.{Held}
 use Rattle.cas_view.specs.Views.{File}
 use Rattle.cas_sessions.specs.Starts.{AreExplained, AreItsFiles, Begins, start, BeginsAs, IsInMemory, IsOpenedAs, IsStarted}
-use Rattle.cas_node.specs.Ran.{AllWell, AreGood, Ended, GoodOrMem, IfBad, IfUnread, IsBadForOne, IsGranted, IsKnown, IsNotRun, Outside, Ran, RanAll, RanFrom, RanOn, StaysWhole}
+use Rattle.cas_node.specs.Ran.{AllWell, AreGood, Ended, GoodOrMem, IfBad, IfUnread, IsBadForOne, IsGranted, IsKnown, IsNotRun, Outside, Ran, RanAll, RanFrom, RanOn}
 use Rattle.cas_node.specs.Ran.{Stop, WriteRose}
 use Rattle.cas_node.proofs.Standing.{all_stand, standing_good}
 use Rattle.cas_node.specs.Ran.{at_the_end, at_the_sink, for_memory, has_risen, reply_cause, upshot_cause, verdicts_cause, weight, with_faults, worse, worst}
@@ -533,13 +533,10 @@ module _ (words : List (List ℕ)) (Gives : ℤ → Type 0) (before after : Outs
       (subst (λ (l : List ℕ). IsGranted ran.first well.command.clock Gives l) (sym text) (well.granted files its_own ran.first begun)) in
       let is : why ≡ ran.told = ran.ended ∙ calm before.folder_faults after.folder_faults reads ran.told well.no_folder_fault well.no_table_fault in
       let r = ran.ran in
-      let stays : StaysWhole ran.first c.clock Gives script =
-      subst (λ (k : Command). StaysWhole ran.first k.clock Gives script) same
-      (subst (λ (l : List ℕ). StaysWhole ran.first well.command.clock Gives l) (sym text) (well.whole files its_own ran.first begun)) in
       let good : AreGood ran.final.disk.files =
       standing_good ran.final.disk.files
       (all_stand well.entries well.mutations before.folder well.openings files its_own well.explained well.image well.reads well.of_bytes well.command.limits before.folder_faults ran.first
-      begun c.clock Gives r.run r.upshots ran.final r.steps) (stays r.run r.rest r.upshots ran.final r.cut r.steps) in
+      begun c.clock Gives r.run r.upshots ran.final r.steps) in
       let sound : IfBad ran.told (λ name at. ⊥) = subst (λ (w : Cause). IfBad w (λ name at. ⊥)) is (none_blamed ran.final.disk.files why good ran.bad) in
       subst GoodOrMem (sym is)
       (stops_well ran.first c.clock Gives script before.taken after.taken ran.final ran.told granted (λ e. well.no_write_fault (write (is ∙ e))) sound r.stop r.run r.rest r.upshots r.cut

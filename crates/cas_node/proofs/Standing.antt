@@ -1,4 +1,4 @@
--- In the table files of a run mutations stand, so that no SELECT finds one bad.
+-- In the table files of a run mutations stand, so that no SELECT and no check finds one bad.
 use Rattle.std.proofs.Common.{◌≡◌, ◌<◌, ◌≤◌, ◌⊎◌, inl, inr, ⊎_elim, ℕ, ℤ, Option, None, Some, List, [], ◌∷◌, length, refl, sym, ap, ◌∙◌, subst, arith}
 use Rattle.std.specs.List.{AllByRecursion}
 use Rattle.std.specs.Prelude.{slice_get}
@@ -11,6 +11,7 @@ use Rattle.cas_changes.specs.Saying.{part_of, said_by}
 use Rattle.cas_changes.specs.declared.entry.Entry.{Entry as ManifestEntry}
 use Rattle.cas_disk.specs.Disk.{Disk, Image}
 use Rattle.cas_info.specs.declared.info.TableInfo.{TableInfo}
+use Rattle.cas_laws.specs.Given.{Has}
 use Rattle.cas_listed.specs.Listed.{AreLoaded}
 use Rattle.cas_listed.proofs.Holding.{listed_files_hold}
 use Rattle.cas_opening.specs.Opening.{IsOfBytes}
@@ -19,6 +20,8 @@ use Rattle.cas_recovery.specs.Openings.{AreOpenings}
 use Rattle.cas_recovery.proofs.Standing.{past}
 use Rattle.cas_sessions.specs.History.{History}
 use Rattle.cas_sessions.specs.Starts.{AreItsFiles, Begins, start}
+use Rattle.cas_sessions.specs.Verifying.{IsFoundBad}
+use Rattle.cas_sessions.proofs.StandWhole.{files_are_whole}
 use Rattle.cas_shard.specs.declared.entry.ShardOpening.{ShardOpening}
 use Rattle.cas_sstread.specs.Loading.{Held}
 use Rattle.cas_stored.specs.Reading.{IsBadFile}
@@ -28,10 +31,11 @@ use Rattle.cas_streams.proofs.Winning.{all_have}
 use Rattle.cas_view.specs.Views.{File}
 use Rattle.cas_words.specs.declared.words.ClockKind.{ClockKind}
 use Rattle.cas_node.specs.Lines.{Runs}
-use Rattle.cas_node.specs.Ran.{AreGood, AreWhole}
+use Rattle.cas_node.specs.Ran.{AreGood}
 use Rattle.cas_node.specs.declared.upshot.Upshot.{Upshot}
+use Rattle.cas_node.proofs.Blaming.{has_either}
 use Rattle.cas_node.proofs.NumbersRise.{below_or_past}
-use Rattle.cas_node.proofs.Stopping.{IsStanding, all_lines, each_stands}
+use Rattle.cas_node.proofs.Stopping.{AreMore, IsStanding, all_lines, each_stands}
 
 -- ---- the files that were found
 
@@ -88,6 +92,30 @@ read_well fs stand number at q bad =
     let (order, ws, stands) = all_have IsStanding fs bad.0 stand bad.1 in
     files_are_read order bad.0 ws q.key q.slice number at stands bad.2
 
--- files in which mutations stand are good, if none is found bad that is read to its end
-pub standing_good : (files : ℕ → ℕ → List (File Held)) → ((n k : ℕ) → AllByRecursion IsStanding (files n k)) → AreWhole files → AreGood files
-standing_good files stand whole = record { slices = λ shard number at q bad. read_well (files shard q.table) (stand shard q.table) number at q bad; wholes = whole }
+whole : (fs : List (File Held)) → AllByRecursion IsStanding fs → (number at : ℕ) → IsFoundBad fs number at → ⊥
+whole fs stand number at found =
+    let (f, has, is, bad) = found in
+    let (order, ws, stands) = all_have IsStanding fs f stand has in
+    files_are_whole order f ws at stands bad
+
+-- files in which mutations stand are good
+pub standing_good : (files : ℕ → ℕ → List (File Held)) → ((n k : ℕ) → AllByRecursion IsStanding (files n k)) → AreGood files
+standing_good files stand = record {
+  slices = λ shard number at q bad. read_well (files shard q.table) (stand shard q.table) number at q bad;
+  wholes = λ shard table number at found. whole (files shard table) (stand shard table) number at found;
+}
+
+-- Good files stay good where others come behind them in which mutations stand.
+pub still_good : (before after : ℕ → ℕ → List (File Held)) → AreMore before after → AreGood before → AreGood after
+still_good before after more good = record {
+  slices = λ shard number at q bad.
+      let (others, are, stand) = more shard q.table in
+      let (f, has, fault) = bad in
+      ⊎_elim (λ own. good.slices shard number at q (f, own, fault)) (λ other. read_well others stand number at q (f, other, fault))
+      (has_either (before shard q.table) others f (subst (λ fs. Has fs f) are has));
+  wholes = λ shard table number at found.
+      let (others, are, stand) = more shard table in
+      let (f, has, is, bad) = found in
+      ⊎_elim (λ own. good.wholes shard table number at (f, own, is, bad)) (λ other. whole others stand number at (f, other, is, bad))
+      (has_either (before shard table) others f (subst (λ fs. Has fs f) are has));
+}

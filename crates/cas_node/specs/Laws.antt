@@ -1,9 +1,11 @@
 -- What holds of every run of a script, and of every open store (own).
-use Rattle.std.specs.Prelude.{◌≡◌, ◌<◌, ◌≤◌, ◌+◌, ◌*◌, ◌^◌, ℕ, ℤ, true, false, Some, Result, Ok, List, [], ◌∷◌, length, map, slice_get}
-use Rattle.std.specs.List.{list_any}
+use Rattle.std.specs.Prelude.{◌≡◌, ◌<◌, ◌≤◌, ◌+◌, ◌*◌, ◌^◌, ℕ, ℤ, true, false, Some, Result, Ok, List, [], ◌∷◌, length, map, slice_get, slice_index_or}
+use Rattle.std.specs.List.{AllByRecursion, list_any, sum_by}
 use Rattle.cas_io.specs.Causes.{Rose}
 use Rattle.cas_disk.specs.Disk.{Disk}
+use Rattle.cas_atoms.specs.LogLength.{record_length}
 use Rattle.cas_atoms.specs.declared.atom.Mutation.{Mutation}
+use Rattle.cas_types.specs.Limits.{IsMoment}
 use Rattle.cas_types.specs.declared.schema.TableSchema.{TableSchema}
 use Rattle.cas_bind.specs.Meaning.{meaning}
 use Rattle.cas_bind.specs.declared.bound.Bound.{Bound}
@@ -12,6 +14,9 @@ use Rattle.cas_bind.specs.declared.bound.Limits.{Limits}
 use Rattle.cas_changes.specs.declared.entry.Change.{Change}
 use Rattle.cas_changes.specs.declared.entry.Entry.{Entry as ManifestEntry}
 use Rattle.cas_changes.specs.declared.said.TheConstants.{SEGMENT_LIMIT, FILE_LIMIT}
+use Rattle.cas_changes.specs.Saying.{nothing, said_by}
+use Rattle.cas_manifest.specs.File.{MayFollow}
+use Rattle.cas_memtable.specs.Kept.{MayHold}
 use Rattle.cas_effects.specs.declared.refusal.Refusal.{Refusal}
 use Rattle.cas_info.specs.declared.info.TheConstants.{FILE_NUMBER_LIMIT}
 use Rattle.cas_journal.specs.Reach.{Reach}
@@ -21,7 +26,7 @@ use Rattle.cas_render.specs.declared.reply.Reply.{Reply}
 use Rattle.cas_render.specs.declared.reply.Reply.TheVariants as reply
 use Rattle.cas_room.specs.Changing.{added_by}
 use Rattle.cas_room.specs.declared.table_files.TheConstants.{LIVE_LIMIT}
-use Rattle.cas_shard.specs.Shards.{ShardHistory, all_entries}
+use Rattle.cas_shard.specs.Shards.{ShardHistory, all_entries, empty_shard, found_shard}
 use Rattle.cas_shard.specs.Stands.{NumbersRise, AreShown, mutations_of}
 use Rattle.cas_terms.specs.Columns.{table_named}
 use Rattle.cql_parse.specs.declared.syntax.Statement.{Statement}
@@ -36,18 +41,19 @@ use Rattle.cas_shard.specs.declared.entry.ShardOpening.{ShardOpening}
 use Rattle.cas_node.specs.declared.upshot.Upshot.{Upshot}
 use Rattle.cas_node.specs.Lines.{Answers, NoneFlushes, Runs, is_starved}
 use Rattle.cas_node.specs.Ran.{AreGood}
-use Rattle.cas_recovery.specs.Found.{AreOfAStore}
+use Rattle.cas_recovery.specs.Found.{AreOfAStore, found_in}
 use Rattle.cas_recovery.specs.Openings.{AreOpenings}
-use Rattle.cas_sessions.specs.Starts.{start}
+use Rattle.cas_sessions.specs.Starts.{Begins, start}
+use Rattle.cas_sstread.specs.Loading.{Held}
+use Rattle.cas_view.specs.Views.{File}
 
 -- a segment's number is left, and place for the longest entry in the manifest
 abbrev pub IsRoomy : Reach → Type 0
 IsRoomy r = (r.segment < SEGMENT_LIMIT) × (r.manifest + 2 ^ 32 + 10 ≤ FILE_LIMIT)
 
--- along a run the disk is well: no write was stopped, neither the folder nor a read of a table file fails, there is room in its files, and of the table files
--- that are there at its end none is bad
+-- along a run the disk is well: no write was stopped, neither the folder nor a read of a table file fails, and there is room in its files
 abbrev pub StaysWell : DiskState → DiskState → Type 0
-StaysWell d e = (d.stopped ≡ false) × (Rose d.faults e.faults → ⊥) × IsRoomy e.reach × (Rose d.reads e.reads → ⊥) × AreGood e.files
+StaysWell d e = (d.stopped ≡ false) × (Rose d.faults e.faults → ⊥) × IsRoomy e.reach × (Rose d.reads e.reads → ⊥)
 
 -- there may be a table file more for each shard, and one, and numbers for them; and what was written to the table is in no shard too much for one file
 pub record FitsFiles (h : History) (t : TableSchema) : Type 0 where
@@ -55,24 +61,28 @@ pub record FitsFiles (h : History) (t : TableSchema) : Type 0 where
   pub numbers : h.disk.last_file + (length h.shards + 1) < FILE_NUMBER_LIMIT
   pub no_more : (n : ℕ) → IsTooMuch t n (mutations_of t.number (all_entries (shard_at h n))) → ⊥
 
--- so it is of the table of a memtable that a statement leaves full that is to do this, and is answered so
-abbrev pub FitsBehind : Result Bound Refusal → Reply → History → Type 0
-FitsBehind (Ok (bound.Write w)) (reply.Wrote number) after =
-    is_full after w.shard w.table ≡ true → (t : TableSchema) → slice_get after.tables w.table ≡ Some t → FitsFiles after t
-FitsBehind b r after = Unit {0}
+-- this holds of the table of a memtable that a statement leaves full that is to do this, and is answered so
+abbrev pub FindsBehind : (History → TableSchema → Type 0) → Result Bound Refusal → Reply → History → Type 0
+FindsBehind Finds (Ok (bound.Write w)) (reply.Wrote number) after =
+    is_full after w.shard w.table ≡ true → (t : TableSchema) → slice_get after.tables w.table ≡ Some t → Finds after t
+FindsBehind Finds b r after = Unit {0}
 
 -- of a table that the line tells to flush, and of one whose memtable it makes full, whatever it is answered
-abbrev pub FlushFits : ClockKind → (ℤ → Type 0) → History → List ℕ → Type 0
-FlushFits kind Gives h text =
-    ((name : TableName) (t : TableSchema) → Says text (line.Flush name) → table_named h.tables name ≡ Some t → FitsFiles h t)
+abbrev pub FlushFinds : (History → TableSchema → Type 0) → ClockKind → (ℤ → Type 0) → History → List ℕ → Type 0
+FlushFinds Finds kind Gives h text =
+    ((name : TableName) (t : TableSchema) → Says text (line.Flush name) → table_named h.tables name ≡ Some t → Finds h t)
     × ((s : Statement) → Says text (line.Statement s) → (answer : Reply) (after : History)
-    → Does kind Gives h (meaning h.limits.shards h.tables s) answer after → FitsBehind (meaning h.limits.shards h.tables s) answer after)
+    → Does kind Gives h (meaning h.limits.shards h.tables s) answer after → FindsBehind Finds (meaning h.limits.shards h.tables s) answer after)
 
--- each flush of these lines fits, whatever comes of those before it; of lines that flush nothing that is so
+-- each flush of these lines finds its table so, whatever comes of those before it; of lines that flush nothing that is so
+abbrev pub FlushesFind : (History → TableSchema → Type 0) → ClockKind → (ℤ → Type 0) → History → List (List ℕ) → Type 0
+FlushesFind Finds kind Gives h [] = Unit {0}
+FlushesFind Finds kind Gives h (l ∷ ls) =
+    FlushFinds Finds kind Gives h l × ((o : Upshot) (after : History) → Answers kind Gives h l o after → FlushesFind Finds kind Gives after ls)
+
+-- each flush of these lines fits
 abbrev pub FlushesFit : ClockKind → (ℤ → Type 0) → History → List (List ℕ) → Type 0
-FlushesFit kind Gives h [] = Unit {0}
-FlushesFit kind Gives h (l ∷ ls) =
-    FlushFits kind Gives h l × ((o : Upshot) (after : History) → Answers kind Gives h l o after → FlushesFit kind Gives after ls)
+FlushesFit kind Gives h lines = FlushesFind FitsFiles kind Gives h lines
 
 -- a change of table files, those that it adds by their numbers alone
 abbrev pub by_numbers : Change → Change × List ℕ
@@ -87,13 +97,14 @@ pub record SameStore (t u : History) : Type 0 where
   pub last_file : t.disk.last_file ≡ u.disk.last_file
   pub live : t.disk.live ≡ u.disk.live
 
--- under the manual clock lines are answered in one way and leave one store, as long as memory doesn't run out, the disk is well, and what they flush fits
+-- under the manual clock lines are answered in one way and leave one store, as long as memory doesn't run out, the disk is well, and what they flush fits, if none
+-- of the table files is bad that are there before the first line; those of flushes never are
 abbrev pub OneOutcome : (ℤ → Type 0) → Type 0
 OneOutcome Gives =
     (h : History) (lines : List (List ℕ)) (rs ss : List Upshot) (t u : History)
     → Runs clock.Manual Gives h lines rs t → Runs clock.Manual Gives h lines ss u
     → FlushesFit clock.Manual Gives h lines → list_any is_starved rs ≡ false → list_any is_starved ss ≡ false
-    → StaysWell h.disk t.disk → StaysWell h.disk u.disk → (rs ≡ ss) × SameStore t u
+    → AreGood h.disk.files → StaysWell h.disk t.disk → StaysWell h.disk u.disk → (rs ≡ ss) × SameStore t u
 
 -- of lines that flush nothing it is so in any store
 abbrev pub NoFlushFits : (ℤ → Type 0) → Type 0
@@ -125,3 +136,67 @@ FilesAreFew Gives =
     (kind : ClockKind) (h after : History) (lines : List (List ℕ)) (rs : List Upshot) → Runs kind Gives h lines rs after
     → (after.disk.last_file ≤ h.disk.last_file + length lines * (length h.shards + 1))
     × (after.disk.live ≤ h.disk.live + length lines * (length h.shards + 1))
+
+-- ---- what is little fits
+
+-- Each mutation of a shard is one that its table may hold, and there is none of a table that isn't there; its moment is one that a mutation may have.
+pub record IsHeld (tables : List TableSchema) (s : ShardHistory) : Type 0 where
+  pub may : (table : ℕ) (t : TableSchema) → slice_get tables table ≡ Some t → AllByRecursion (MayHold t.columns) (mutations_of table (all_entries s))
+  pub none : (table : ℕ) → length tables ≤ table → mutations_of table (all_entries s) ≡ []
+  pub moment : IsMoment s.moment
+
+-- tables as a manifest may tell them, in a store with so many shards
+pub record MayBeSaid (tables : List TableSchema) (shards : ℕ) : Type 0 where
+  pub entries : List ManifestEntry
+  pub follow : MayFollow nothing entries
+  pub made : 1 ≤ (said_by entries).shards
+  pub tables_are : (said_by entries).tables ≡ tables
+  pub shards_are : (said_by entries).shards ≡ shards
+
+-- so it is of all shards, of tables as CREATE TABLE and ALTER TABLE make them, where the clock was set to a moment
+pub record AreHeld (shards : ℕ) (tables : List TableSchema) (histories : List ShardHistory) (seconds : ℤ) : Type 0 where
+  pub said : MayBeSaid tables shards
+  pub each : (n : ℕ) → IsHeld tables (slice_index_or histories n (found_shard empty_shard))
+  pub clock : IsMoment seconds
+
+-- the shards, the tables and the clock of a history are so
+abbrev pub AllHeld : History → Type 0
+AllHeld h = AreHeld h.limits.shards h.tables h.shards h.clock
+
+-- each mutation that a shard may have had before the run is one that its table may hold
+abbrev pub WereHeld : List ManifestEntry → (ℕ → ShardOpening) → Type 0
+WereHeld entries openings =
+    (n table : ℕ) (t : TableSchema) → n < (said_by entries).shards → slice_get (said_by entries).tables table ≡ Some t
+    → AllByRecursion (MayHold t.columns) (mutations_of table (openings n).entries)
+
+-- where that is so of what the shards were before the run, it is so before the first line, whatever store of a folder the run began with
+abbrev pub FoundHeld : Disk → Type 0
+FoundHeld folder =
+    (l : Limits) (entries : List ManifestEntry) (mutations : List Mutation) (openings : ℕ → ShardOpening) (files : ℕ → ℕ → List (File Held)) (faults : ℕ)
+    (h : History) → AreOfAStore entries mutations → AreOpenings entries mutations folder openings → WereHeld entries openings
+    → Begins l entries mutations openings files faults h → AllHeld h
+
+-- and it is so of what the log has
+abbrev pub LogIsHeld : Type 0
+LogIsHeld = (entries : List ManifestEntry) (mutations : List Mutation) → AreOfAStore entries mutations → WereHeld entries (λ n. found_in n mutations)
+
+-- along a run it stays so, under either clock and whatever is answered
+abbrev pub HeldStay : (ℤ → Type 0) → Type 0
+HeldStay Gives =
+    (kind : ClockKind) (h after : History) (lines : List (List ℕ)) (rs : List Upshot) → AllHeld h → Runs kind Gives h lines rs after → AllHeld after
+
+-- what was written to the table has short records in each shard, together at most 2^28 bytes; and there may be a table file more for each, and one, and numbers
+-- for them
+pub record IsLittle (h : History) (t : TableSchema) : Type 0 where
+  pub live : h.disk.live + (length h.shards + 1) ≤ LIVE_LIMIT
+  pub numbers : h.disk.last_file + (length h.shards + 1) < FILE_NUMBER_LIMIT
+  pub short : (n : ℕ) → sum_by record_length (mutations_of t.number (all_entries (shard_at h n))) ≤ 2 ^ 28
+
+-- so a table to which little was written fits into table files
+abbrev pub LittleFits : Type 0
+LittleFits = (h : History) (table : ℕ) (t : TableSchema) → AllHeld h → slice_get h.tables table ≡ Some t → IsLittle h t → FitsFiles h t
+
+-- and lines whose flushes find little flush what fits
+abbrev pub LittleFlushesFit : (ℤ → Type 0) → Type 0
+LittleFlushesFit Gives =
+    (kind : ClockKind) (h : History) (lines : List (List ℕ)) → AllHeld h → FlushesFind IsLittle kind Gives h lines → FlushesFit kind Gives h lines

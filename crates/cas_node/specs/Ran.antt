@@ -321,15 +321,8 @@ count_taken None new = None
 count_taken (Some xs) None = None
 count_taken (Some xs) (Some ys) = Some (length xs - length ys)
 
--- Along each run of some of the script's lines, from the first on, no table file is found bad by a check that reads it to its end: none of those that were
--- found, and none that was flushed.
-abbrev pub StaysWhole : History → ClockKind → (ℤ → Type 0) → List ℕ → Type 0
-StaysWhole first kind Gives script =
-    (run rest : List (List ℕ)) (upshots : List Upshot) (final : History) → run ++ rest ≡ lines script → Runs kind Gives first run upshots final
-    → AreWhole final.disk.files
-
--- All is well: the words are the command's; the folder tells a store, with what its shards may have been before, of whose table files none is found bad by a
--- check; the source tells a script within the limit of which no line is refused from there; and no count rises, the one of reads from 0.
+-- All is well: the words are the command's; the folder tells a store, with what its shards may have been before; the source tells a script within the limit of
+-- which no line is refused from there; and no count rises, the one of reads from 0.
 pub record AllWell (words : List (List ℕ)) (Gives : ℤ → Type 0) (before after : Outside) (table_reads : ℕ) : Type 0 where
   pub command : Command
   pub words_are : command_of words ≡ Some command
@@ -344,8 +337,6 @@ pub record AllWell (words : List (List ℕ)) (Gives : ℤ → Type 0) (before af
   pub opens : OpensAs command.limits.shards entries mutations image
   pub openings : ℕ → ShardOpening
   pub explained : AreOpenings entries mutations before.folder openings
-  pub whole : (files : ℕ → ℕ → List (File Held)) → AreItsFiles entries before.folder files → (first : History)
-      → Begins command.limits entries mutations openings files before.folder_faults first → StaysWhole first command.clock Gives script
   pub granted : (files : ℕ → ℕ → List (File Held)) → AreItsFiles entries before.folder files → (first : History)
       → Begins command.limits entries mutations openings files before.folder_faults first → IsGranted first command.clock Gives script
   pub no_read_fault : ReadRose before after → ⊥

@@ -1,13 +1,14 @@
 //! What holds of every run of a script.
 
-ghost use Rattle.cas_node.specs.Laws.{AllAreRead, FilesAreFew, FoundRise, NoFlushFits, NumbersStay, OneOutcome};
+ghost use Rattle.cas_node.specs.Laws.{AllAreRead, FilesAreFew, FoundHeld, FoundRise, HeldStay, LittleFits, LittleFlushesFit, LogIsHeld, NoFlushFits, NumbersStay, OneOutcome};
 
 use cas_disk::Folder;
 use cas_io::Clock;
+use cas_sessions::little_is_never_too_much;
 
 /// Under the manual clock a script prints one output, as long as memory doesn't run out, the disk is well,
-/// and what it flushes fits into table files: its lines have one list of answers, and leave one store.
-/// A script that flushes nothing always fits.
+/// no table file is bad that was there before it, and what it flushes fits into table files: its lines have
+/// one list of answers, and leave one store. A script that flushes nothing always fits.
 pub fn one_outcome<C: Clock>()
     ensures one { (clock : C) → OneOutcome (C.may_give clock) }
     ensures none { (clock : C) → NoFlushFits (C.may_give clock) }
@@ -27,3 +28,17 @@ pub fn numbers_rise<C: Clock, F: Folder>(folder: &F)
 pub fn files_are_few<C: Clock>()
     ensures { (clock : C) → FilesAreFew (C.may_give clock) }
 {}
+
+/// Along a run the mutations of each table in each shard are ones that the table may hold, if those were so that
+/// the shards had before, as those of the log are. So what is flushed of a table to which little was written fits into
+/// table files.
+pub fn little_fits<C: Clock, F: Folder>(folder: &F)
+    ensures begin { FoundHeld (F.disk folder.now) }
+    ensures log { LogIsHeld }
+    ensures stay { (clock : C) → HeldStay (C.may_give clock) }
+    ensures fits { LittleFits }
+    ensures flushes { (clock : C) → LittleFlushesFit (C.may_give clock) }
+{
+    let _folder = folder;
+    little_is_never_too_much();
+}

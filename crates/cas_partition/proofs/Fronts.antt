@@ -4,9 +4,8 @@ use Rattle.std.proofs.lemmas.Cmp.{tied_itself}
 use Rattle.std.proofs.lemmas.Option.{none-some}
 use Rattle.std.proofs.Math.IntN.{ -ℤ_one}
 use Rattle.std.specs.Option.{option_cmp}
-use Rattle.std.specs.Cmp.Lexicographic.{options_total}
 use Rattle.std.specs.FinMap.{int_cmp-IsAntisymmetric}
-use Rattle.std.specs.Ordering.{int_cmp, ordering_then, is_eq, is_gt}
+use Rattle.std.specs.Ordering.{int_cmp, ordering_then, is_gt}
 use Rattle.std.specs.declared.cmp.Ordering.{Ordering}
 use Rattle.std.specs.declared.cmp.Ordering.TheVariants.{Less, Equal, Greater}
 use Rattle.cas_types.specs.Values.{value_cmp}
@@ -15,17 +14,16 @@ use Rattle.cas_types.specs.declared.tag.TypeTag.TheVariants.{Ascii, BigInt, Blob
 use Rattle.cas_bounds.specs.Orders.{column_cmp}
 use Rattle.cas_bounds.specs.Points.{ends_cmp, side}
 use Rattle.cas_bounds.specs.Keys.{key_cmp}
-use Rattle.cas_bounds.specs.Inner.KeyLaws.{key_total, keys_are_points}
+use Rattle.cas_bounds.specs.Inner.KeyLaws.{keys_are_points}
 use Rattle.cas_bounds.specs.declared.map_key.End.{End}
 use Rattle.cas_bounds.specs.declared.map_key.End.TheVariants.{Row}
 use Rattle.cas_bounds.specs.declared.map_key.MapKey.{MapKey}
 use Rattle.cas_bounds.specs.declared.order.Ordered.{Ordered}
-use Rattle.cas_partition.specs.Spots.{spot_cmp, within}
-use Rattle.cas_partition.specs.Inner.Fronts.{HaveSameValues, plain_number, kind_of, turned, no_front, front_by, front_at, front_of}
-use Rattle.cas_partition.specs.Inner.Passing.{are_of_one, is_first}
+use Rattle.cas_partition.specs.Spots.{row_cmp}
+use Rattle.cas_partition.specs.Inner.Fronts.{row_total, HaveSameValues, plain_number, kind_of, turned, no_front, front_by, front_at, front_of}
+use Rattle.cas_partition.specs.Inner.Passing.{is_first}
 use Rattle.cas_partition.specs.Inner.Slots.{is_after}
 use Rattle.cas_partition.specs.declared.front.Front.{Front}
-use Rattle.cas_partition.specs.declared.spot.Spot.{Spot}
 
 decided : (r s : Ordering) → (r ≡ Equal → ⊥) → ordering_then r s ≡ r
 decided Less s n = refl
@@ -189,14 +187,12 @@ fronts_decide s t a b (inr f) (inl q) k n =
     absurd (no_kind f.order f.value f.number f.has (sym (ap (λ z. z.kind) f.front) ∙ k ∙ ap (λ z. z.kind) q))
 fronts_decide s t a b (inr f) (inr g) k n = both_fronts s t a b f g k n
 
--- ---- spots
+-- ---- rows
 
-pub numbers_decide : (s t : Spot) (a b : Front) → a ≡ front_of s.row → b ≡ front_of t.row → a.kind ≡ b.kind → (a.number ≡ b.number → ⊥)
-    → int_cmp a.number b.number ≡ spot_cmp s t
+pub numbers_decide : (s t : Option MapKey) (a b : Front) → a ≡ front_of s → b ≡ front_of t → a.kind ≡ b.kind → (a.number ≡ b.number → ⊥)
+    → int_cmp a.number b.number ≡ row_cmp s t
 numbers_decide s t a b p q k n =
-    sym (ap (λ c. ordering_then c (within s t)) (fronts_decide s.row t.row a b (subst (λ f. (f ≡ no_front) ⊎ HasFront s.row f) (sym p) (row_front s.row))
-    (subst (λ f. (f ≡ no_front) ⊎ HasFront t.row f) (sym q) (row_front t.row)) k n)
-    ∙ differ a.number b.number (within s t) n)
+    sym (fronts_decide s t a b (subst (λ f. (f ≡ no_front) ⊎ HasFront s f) (sym p) (row_front s)) (subst (λ f. (f ≡ no_front) ⊎ HasFront t f) (sym q) (row_front t)) k n)
 
 both_same : (s t : Option MapKey) (a b : Front) → HasFront s a → HasFront t b → a.kind ≡ b.kind → HaveSameValues s t → s ≡ t
 both_same s t a b f g k one =
@@ -212,13 +208,10 @@ fronts_same s t a b (inl p) g k n one = absurd (n (ap (λ z. z.kind) p))
 fronts_same s t a b (inr f) (inl q) k n one = absurd (n (k ∙ ap (λ z. z.kind) q))
 fronts_same s t a b (inr f) (inr g) k n one = both_same s t a b f g k one
 
-pub one_row : (s t : Spot) (a b : Front) → a ≡ front_of s.row → b ≡ front_of t.row → a.kind ≡ b.kind → (a.kind ≡ 0 → ⊥) → HaveSameValues s.row t.row
-    → within s t ≡ spot_cmp s t
+pub one_row : (s t : Option MapKey) (a b : Front) → a ≡ front_of s → b ≡ front_of t → a.kind ≡ b.kind → (a.kind ≡ 0 → ⊥) → HaveSameValues s t → Equal ≡ row_cmp s t
 one_row s t a b p q k n one =
-    let same : s.row ≡ t.row = fronts_same s.row t.row a b (subst (λ f. (f ≡ no_front) ⊎ HasFront s.row f) (sym p) (row_front s.row))
-    (subst (λ f. (f ≡ no_front) ⊎ HasFront t.row f) (sym q) (row_front t.row)) k n one in
-    sym (ap (λ r. ordering_then (option_cmp key_cmp s.row r) (within s t)) (sym same)
-    ∙ ap (λ c. ordering_then c (within s t)) (tied_itself (options_total key_total) s.row))
+    let same : s ≡ t = fronts_same s t a b (subst (λ f. (f ≡ no_front) ⊎ HasFront s f) (sym p) (row_front s)) (subst (λ f. (f ≡ no_front) ⊎ HasFront t f) (sym q) (row_front t)) k n one in
+    sym (ap (row_cmp s) (sym same) ∙ tied_itself row_total s)
 
 -- ---- cuts
 
@@ -272,20 +265,6 @@ are_beside s t a b (inr f) (inr g) k n = both_beside s t a b f g k n
 beside : (s t : Option MapKey) (a b : Front) → a ≡ front_of s → b ≡ front_of t → a.kind ≡ b.kind → (a.number ≡ b.number → ⊥) → Beside s t a b
 beside s t a b p q k n =
     are_beside s t a b (subst (λ f. (f ≡ no_front) ⊎ HasFront s f) (sym p) (row_front s)) (subst (λ f. (f ≡ no_front) ⊎ HasFront t f) (sym q) (row_front t)) k n
-
-not_equal : (r : Ordering) → (r ≡ Equal → ⊥) → is_eq r ≡ false
-not_equal Less n = refl
-not_equal Equal n = absurd (n refl)
-not_equal Greater n = refl
-
-pub rows_differ : (s t : Option MapKey) (a b : Front) → a ≡ front_of s → b ≡ front_of t → a.kind ≡ b.kind → (a.number ≡ b.number → ⊥) → false ≡ are_of_one s t
-rows_differ s t a b p q k n =
-    let w : Beside s t a b = beside s t a b p q k n in
-    let end = ends_cmp [] Row [] Row [] in
-    sym ((λ i. are_of_one (w.first i) (w.second i))
-    ∙ ap (λ c. is_eq (ordering_then c end)) w.decides
-    ∙ ap is_eq (differ a.number b.number end n)
-    ∙ not_equal (int_cmp a.number b.number) (λ e. n (int_cmp-IsAntisymmetric a.number b.number e)))
 
 -- the same for a cut that may be none
 abbrev first_at : Option MapKey → Option MapKey → Bool

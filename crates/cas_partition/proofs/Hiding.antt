@@ -1,5 +1,5 @@
 -- A row of which nothing is left.
-use Rattle.std.proofs.Common.{◌≡◌, ℕ, Bool, true, false, cond, not, is_none, ◌&&◌, Option, None, Some, List, [], ◌∷◌, ◌++◌, map, filter, fold, refl, sym, ap, ◌∙◌}
+use Rattle.std.proofs.Common.{◌≡◌, ℕ, Bool, true, false, cond, not, is_none, is_some, ◌&&◌, Option, None, Some, List, [], ◌∷◌, ◌++◌, map, filter, fold, refl, sym, ap, ◌∙◌}
 use Rattle.std.proofs.lemmas.Bool.{true≢false}
 use Rattle.std.specs.List.{AllByRecursion, cons_option, flat_map}
 use Rattle.std.specs.Ordering.{nat_cmp, is_lt}
@@ -27,10 +27,11 @@ use Rattle.cas_streams.specs.declared.fragment.Fragment.{Fragment}
 use Rattle.cas_streams.specs.declared.fragment.Fragment.TheVariants as fragment
 use Rattle.cas_streams.proofs.Weaves.{woven_all}
 use Rattle.cas_partition.specs.Spots.{cells_at, piece}
-use Rattle.cas_partition.specs.Inner.Entries.{lent_piece}
-use Rattle.cas_partition.specs.Inner.Passing.{Lent, is_cell_hidden, is_hidden, all_hidden, is_row_hidden, row_of}
-use Rattle.cas_partition.specs.declared.spot.Spot.{Spot}
+use Rattle.cas_partition.specs.Inner.Rows.{Said}
+use Rattle.cas_partition.specs.Inner.Pieces.{said_in, joined_pieces, joined_both, fragment_of}
+use Rattle.cas_partition.specs.Inner.Passing.{is_cell_hidden, is_hidden, all_hidden, left_in}
 use Rattle.cas_partition.specs.declared.spot.Content.{Content}
+use Rattle.cas_partition.proofs.RowFragments.{in_fragment}
 use Rattle.cas_partition.proofs.Taking.{both_true}
 
 none_is : {X : Type 0} (o : Option X) → is_none o ≡ true → o ≡ None
@@ -85,10 +86,6 @@ module _ (over : Option Deletion) where
       at None d l cells = (d, l, tt)
       at (Some n) d l cells = (refl, none_stands over, ((d, cells), tt))
 
-  may_be_blank : (k : Option MapKey) (column : Option ℕ) (path : Option (List ℕ)) (c : Content) → is_hidden over c ≡ true → MayBeBlank (piece k column path c)
-  may_be_blank None column path c e = tt
-  may_be_blank (Some k) column path c e = piece_blank k column path c e
-
   -- ---- joined
 
   cell_covered : (p q : PathCell) → IsCovered p → IsCovered q → IsCovered (joined_cell p q)
@@ -111,18 +108,36 @@ module _ (over : Option Deletion) where
   joined_blank (fragment.Row r) (fragment.Marker cut d) h k = h
   joined_blank (fragment.Marker cut d) g h k = absurd h
 
-  row_blank : (f : Fragment) (es : List Lent) → IsBlankIn f → all_hidden over es ≡ true → IsBlankIn (fold joined_fragment f (map lent_piece es))
-  row_blank f [] h all = h
-  row_blank f (e ∷ es) h all =
-      let (one, others) = both_true (is_hidden over e.1.now) (all_hidden over es) all in
-      row_blank (joined_fragment f (lent_piece e)) es (joined_blank f (lent_piece e) h (may_be_blank e.0.now.row e.0.now.column e.0.now.path e.1.now one)) others
+  -- a row, if there is one
+  abbrev BlankIfThere : Option Fragment → Type 0
+  BlankIfThere None = Unit {0}
+  BlankIfThere (Some f) = IsBlankIn f
 
-  hidden_blank : (k : Option MapKey) (column : Option ℕ) (path : Option (List ℕ)) (c : Content) (es : List Lent) → is_row_hidden over k c es ≡ true
-      → IsBlankIn (fold joined_fragment (piece k column path c) (map lent_piece es))
-  hidden_blank None column path c es e = absurd (true≢false (sym e))
-  hidden_blank (Some k) column path c es e =
-      let (first, others) = both_true (is_hidden over c) (all_hidden over es) e in
-      row_blank (piece (Some k) column path c) es (piece_blank k column path c first) others
+  as_part : (f : Fragment) → IsBlankIn f → MayBeBlank f
+  as_part (fragment.Static cs) h = absurd h
+  as_part (fragment.Row r) h = h
+  as_part (fragment.Marker cut d) h = absurd h
+
+  fold_blank : (f : Fragment) (fs : List Fragment) → IsBlankIn f → AllByRecursion IsBlankIn fs → IsBlankIn (fold joined_fragment f fs)
+  fold_blank f [] h all = h
+  fold_blank f (g ∷ fs) h all = fold_blank (joined_fragment f g) fs (joined_blank f g h (as_part g all.0)) all.1
+
+  pieces_blank : (fs : List Fragment) → AllByRecursion IsBlankIn fs → BlankIfThere (joined_pieces fs)
+  pieces_blank [] all = tt
+  pieces_blank (f ∷ fs) all = fold_blank f fs all.0 all.1
+
+  both_blank : (a b : Option Fragment) → BlankIfThere a → BlankIfThere b → BlankIfThere (joined_both a b)
+  both_blank None b x y = y
+  both_blank (Some f) None x y = x
+  both_blank (Some f) (Some g) x y = joined_blank f g x (as_part g y)
+
+  said_blank : (k : MapKey) (es : Said) → all_hidden over es ≡ true → AllByRecursion IsBlankIn (map (said_in (Some k)) es)
+  said_blank k [] all = tt
+  said_blank k (e ∷ es) all =
+      let (one, others) = both_true (is_hidden over e.1) (all_hidden over es) all in (piece_blank k e.0.column e.0.path e.1 one, said_blank k es others)
+
+  hidden_blank : (k : MapKey) (es : Said) → all_hidden over es ≡ true → BlankIfThere (fragment_of (Some k) es)
+  hidden_blank k es all = in_fragment IsBlankIn BlankIfThere pieces_blank both_blank (Some k) es (said_blank k es all)
 
   -- ---- what is left
 
@@ -153,6 +168,11 @@ blank_left top now (fragment.Static cs) h = absurd h
 blank_left top now (fragment.Row r) h = ap (λ l. if_said l (fragment.Row (bare_row (greater deletion_cmp top now) r))) (no_row (greater deletion_cmp top now) r h)
 blank_left top now (fragment.Marker cut d) h = absurd h
 
-pub nothing_left_of : (top now : Option Deletion) (s : Spot) (c : Content) (es : List Lent) → is_row_hidden (greater deletion_cmp top now) s.row c es ≡ true
-    → left_of top now (row_of s c es) ≡ None
-nothing_left_of top now s c es e = blank_left top now (row_of s c es) (hidden_blank (greater deletion_cmp top now) s.row s.column s.path c es e)
+none_left : (top now : Option Deletion) (o : Option Fragment) → BlankIfThere (greater deletion_cmp top now) o → left_in top now o ≡ None
+none_left top now None h = refl
+none_left top now (Some f) h = blank_left top now f h
+
+pub nothing_left_of : (top now : Option Deletion) (row : Option MapKey) (es : Said) → is_some row ≡ true → all_hidden (greater deletion_cmp top now) es ≡ true
+    → left_in top now (fragment_of row es) ≡ None
+nothing_left_of top now None es is all = absurd (true≢false (sym is))
+nothing_left_of top now (Some k) es is all = none_left top now (fragment_of (Some k) es) (hidden_blank (greater deletion_cmp top now) k es all)

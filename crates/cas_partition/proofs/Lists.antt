@@ -1,8 +1,10 @@
 -- Lists of atoms, for which place is made and which are joined one after another.
-use Rattle.std.proofs.Common.{◌≡◌, List, [], ◌∷◌, ◌++◌, refl, sym, ◌∙◌, subst, append_assoc}
+use Rattle.std.proofs.Common.{◌≡◌, ◌<◌, List, [], ◌∷◌, ◌++◌, length, refl, sym, ◌∙◌, subst, append_assoc, arith}
 use Rattle.std.proofs.lemmas.List.{append-nil}
+use Rattle.std.specs.List.{AllByRecursion}
 use Rattle.cas_types.specs.declared.schema.Column.{Column}
 use Rattle.cas_bounds.specs.declared.order.Ordered.{Ordered}
+use Rattle.cas_atoms.specs.Fits.{Fits}
 use Rattle.cas_atoms.specs.Winners.{Same}
 use Rattle.cas_atoms.specs.declared.atom.Atom.{Atom}
 use Rattle.cas_laws.proofs.JoinProofs.{join_laws}
@@ -10,7 +12,8 @@ use Rattle.cas_streams.specs.NoMore.{SaysNoMore}
 use Rattle.cas_streams.specs.Streams.{IsThere}
 use Rattle.cas_streams.proofs.NoMore.{no_more_itself, no_more_then, no_more_kept}
 use Rattle.cas_partition.specs.Ends.{AreAtEnds}
-use Rattle.cas_partition.specs.Partitions.{partition_atoms, IsOf, HasPlace, MakesPlace, Joins, AreAtomsOf, IsOfTable, AllFit, HavePlaces, MakesPlaces, JoinsAll}
+use Rattle.cas_partition.specs.Partitions.{partition_atoms, IsOf, IsAtomOf, HasPlace, MakesPlace, Joins, AreAtomsOf, IsOfTable, AllFit, HavePlaces, MakesPlaces, JoinsAll}
+use Rattle.cas_partition.specs.Inner.Made.{MadePlaces}
 use Rattle.cas_partition.specs.declared.partition.Partition.{Partition}
 use Rattle.cas_partition.proofs.Something.{there_more}
 
@@ -64,17 +67,73 @@ all_made all p q m = record { same = m.same; no_more = m.no_more; some = m.some;
 pub all_there : (all : List Atom) (p q : Partition) → Making all [] p q → HavePlaces q all
 all_there all p q m = m.made q (λ b h. h) tt
 
-pub some_made : (all : List Atom) (a : Atom) (rest : List Atom) (p q r : Partition) → Making all (a ∷ rest) p q → MakesPlace a q r → MakesPlaces all p r
-some_made all a rest p q r m one = record {
-  same = λ order of atoms. let (now, left) = m.of order of atoms in same_then (one.same order now left.0) (m.same order of atoms);
+pub some_made : (all run : List Atom) (p q r : Partition) → Making all run p q → MakesPlaces run q r → MakesPlaces all p r
+some_made all run p q r m one = record {
+  same = λ order of atoms. let (now, left) = m.of order of atoms in same_then (one.same order now left) (m.same order of atoms);
   no_more = λ order of atoms.
-      no_more_then (partition_atoms r) (partition_atoms q) (partition_atoms p) (one.no_more order (m.of order of atoms).0) (m.no_more order of atoms);
+      let (now, left) = m.of order of atoms in
+      no_more_then (partition_atoms r) (partition_atoms q) (partition_atoms p) (one.no_more order now left) (m.no_more order of atoms);
   some = λ is. one.some (m.some is);
   ends = λ ws moves. one.ends ws (m.ends ws moves);
-  of = λ order of atoms. let (now, left) = m.of order of atoms in one.of order now left.0;
-  fits = λ columns t all_fit. let (now, left) = m.fits columns t all_fit in one.fits columns now left.0;
+  of = λ order of atoms. let (now, left) = m.of order of atoms in one.of order now left;
+  fits = λ columns t all_fit. let (now, left) = m.fits columns t all_fit in one.fits columns now left;
   others = λ b h. one.others b (m.others b h);
 }
+
+-- ---- several at once
+
+parted : (P : Atom → Type 0) (A B : List Atom) → AllByRecursion P (A ++ B) → AllByRecursion P A × AllByRecursion P B
+parted P [] B all = (tt, all)
+parted P (a ∷ A) B all = let (left, right) = parted P A B all.1 in ((all.0, left), right)
+
+met : (P : Atom → Type 0) (A B : List Atom) → AllByRecursion P A → AllByRecursion P B → AllByRecursion P (A ++ B)
+met P [] B left right = right
+met P (a ∷ A) B left right = (left.0, met P A B left.1 right)
+
+kept_places : (q r : Partition) (atoms : List Atom) → ((b : Atom) → HasPlace q b → HasPlace r b) → HavePlaces q atoms → HavePlaces r atoms
+kept_places q r [] h there = tt
+kept_places q r (a ∷ atoms) h there = (h a there.0, kept_places q r atoms h there.1)
+
+pub run_made : (all run rest : List Atom) (p q r : Partition) → Making all (run ++ rest) p q → MadePlaces run q r → Making all rest p r
+run_made all run rest p q r m (one, there) = record {
+  same = λ order of atoms. let (now, left) = m.of order of atoms in same_then (one.same order now (parted (IsAtomOf order) run rest left).0) (m.same order of atoms);
+  no_more = λ order of atoms.
+      let (now, left) = m.of order of atoms in
+      no_more_then (partition_atoms r) (partition_atoms q) (partition_atoms p) (one.no_more order now (parted (IsAtomOf order) run rest left).0) (m.no_more order of atoms);
+  some = λ is. one.some (m.some is);
+  ends = λ ws moves. one.ends ws (m.ends ws moves);
+  of = λ order of atoms. let (now, left) = m.of order of atoms in let (mine, others) = parted (IsAtomOf order) run rest left in (one.of order now mine, others);
+  fits = λ columns t all_fit. let (now, left) = m.fits columns t all_fit in let (mine, others) = parted (Fits columns) run rest left in (one.fits columns now mine, others);
+  others = λ b h. one.others b (m.others b h);
+  made = λ s kept h. m.made s (λ b g. kept b (one.others b g)) (met (HasPlace s) run rest (kept_places r s run kept there) h);
+}
+
+-- what was made for some first ones
+pub made_more : (first later : List Atom) (p q : Partition) → MakesPlaces first p q → MakesPlaces (first ++ later) p q
+made_more first later p q one = record {
+  same = λ order of atoms. one.same order of (parted (IsAtomOf order) first later atoms).0;
+  no_more = λ order of atoms. one.no_more order of (parted (IsAtomOf order) first later atoms).0;
+  some = one.some;
+  ends = one.ends;
+  of = λ order of atoms. one.of order of (parted (IsAtomOf order) first later atoms).0;
+  fits = λ columns t all_fit. one.fits columns t (parted (Fits columns) first later all_fit).0;
+  others = one.others;
+}
+
+pub single_made : (a : Atom) (p q : Partition) → MakesPlace a p q → HasPlace q a → MadePlaces (a ∷ []) p q
+single_made a p q one there =
+    let m : Making (a ∷ []) [] p q = one_made (a ∷ []) a [] p p q (making (a ∷ []) p) one there in (all_made (a ∷ []) p q m, all_there (a ∷ []) p q m)
+
+pub first_made : (a : Atom) (others : List Atom) (p q : Partition) → MakesPlace a p q → MakesPlaces (a ∷ others) p q
+first_made a others p q one = made_more (a ∷ []) others p q (record {
+  same = λ order of atoms. one.same order of atoms.0;
+  no_more = λ order of atoms. one.no_more order of;
+  some = one.some;
+  ends = one.ends;
+  of = λ order of atoms. one.of order of atoms.0;
+  fits = λ columns t all_fit. one.fits columns t all_fit.0;
+  others = one.others;
+})
 
 -- ---- joins
 
@@ -105,10 +164,6 @@ joining all rest p e there = subst (λ l. Joining all l p p) (sym e) (record {
   there = there;
 })
 
-kept_places : (q r : Partition) (atoms : List Atom) → ((b : Atom) → HasPlace q b → HasPlace r b) → HavePlaces q atoms → HavePlaces r atoms
-kept_places q r [] h there = tt
-kept_places q r (a ∷ atoms) h there = (h a there.0, kept_places q r atoms h there.1)
-
 pub one_joined : (all rest : List Atom) (a : Atom) (others : List Atom) (p q r : Partition) → rest ≡ a ∷ others → Joining all rest p q → Joins a q r → Joining all others p r
 one_joined all rest a others p q r e h one =
     let m : Joining all (a ∷ others) p q = subst (λ l. Joining all l p q) e h in
@@ -133,9 +188,6 @@ one_joined all rest a others p q r e h one =
       there = kept_places q r others one.others m.there.1;
     }
 
-pub first_there : (all rest : List Atom) (a : Atom) (others : List Atom) (p q : Partition) → rest ≡ a ∷ others → Joining all rest p q → HasPlace q a
-first_there all rest a others p q e m = (subst (HavePlaces q) e m.there).0
-
 pub all_joined : (all rest : List Atom) (p q : Partition) → rest ≡ [] → Joining all rest p q → JoinsAll all p q
 all_joined all rest p q e h =
     let m : Joining all [] p q = subst (λ l. Joining all l p q) e h in
@@ -148,3 +200,48 @@ all_joined all rest p q e h =
       fits = λ columns t all_fit. (m.fits columns t all_fit).0;
       others = m.others;
     }
+
+-- several at once
+there_behind : (R : List Atom) (a : Atom) (others : List Atom) → IsThere (R ++ a ∷ others)
+there_behind [] a others = tt
+there_behind (b ∷ R) a others = tt
+
+more_there : (run Q R others : List Atom) → (IsThere (Q ++ run) → IsThere R) → IsThere (Q ++ (run ++ others)) → IsThere (R ++ others)
+more_there run Q R [] h is = subst IsThere (sym (append-nil R)) (h (subst (λ l. IsThere (Q ++ l)) (append-nil run) is))
+more_there run Q R (a ∷ others) h is = there_behind R a others
+
+pub run_joined : (all run others : List Atom) (p q r : Partition) → Joining all (run ++ others) p q → JoinsAll run q r → Joining all others p r
+run_joined all run others p q r m one = record {
+  no_more = λ order of atoms.
+      let (now, left) = m.of order of atoms in
+      no_more_then (partition_atoms r ++ others) ((partition_atoms q ++ run) ++ others) (partition_atoms p ++ all)
+      (no_more_kept (partition_atoms r) (partition_atoms q ++ run) others (one.no_more order now (parted (IsAtomOf order) run others left).0))
+      (subst (λ l. SaysNoMore l (partition_atoms p ++ all)) (sym (append_assoc (partition_atoms q) run others)) (m.no_more order of atoms));
+  some = λ order of atoms is.
+      let (now, left) = m.of order of atoms in
+      more_there run (partition_atoms q) (partition_atoms r) others (one.some order now (parted (IsAtomOf order) run others left).0) (m.some order of atoms is);
+  first = m.first ++ run;
+  first_are = m.first_are ∙ sym (append_assoc m.first run others);
+  ends = λ order of atoms ws moves.
+      let (now, left) = m.of order of atoms in
+      subst (λ l. AreAtEnds l r.ranges) (append_assoc ws m.first run) (one.ends order now (parted (IsAtomOf order) run others left).0 (ws ++ m.first) (m.ends order of atoms ws moves));
+  joined = λ order of atoms.
+      let (now, left) = m.of order of atoms in
+      same_then (join_laws.kept (partition_atoms r) (partition_atoms q ++ run) others (one.joined order now (parted (IsAtomOf order) run others left).0))
+      (subst (λ l. Same l (partition_atoms p ++ all)) (sym (append_assoc (partition_atoms q) run others)) (m.joined order of atoms));
+  of = λ order of atoms. let (now, left) = m.of order of atoms in let (mine, rest) = parted (IsAtomOf order) run others left in (one.of order now mine, rest);
+  fits = λ columns t all_fit. let (now, left) = m.fits columns t all_fit in let (mine, rest) = parted (Fits columns) run others left in (one.fits columns now mine, rest);
+  others = λ b g. one.others b (m.others b g);
+  there = kept_places q r others one.others (parted (HasPlace q) run others m.there).1;
+}
+
+pub single_joined : (a : Atom) (p q : Partition) → HasPlace p a → Joins a p q → JoinsAll (a ∷ []) p q
+single_joined a p q there one = all_joined (a ∷ []) [] p q refl (one_joined (a ∷ []) (a ∷ []) a [] p p q refl (joining (a ∷ []) (a ∷ []) p refl (there, tt)) one)
+
+-- some first ones have their places
+pub first_there : (run later : List Atom) (p : Partition) → HavePlaces p (run ++ later) → HavePlaces p run
+first_there run later p there = (parted (HasPlace p) run later there).0
+
+pub none_left : (all rest : List Atom) (p q : Partition) → length rest < 1 → Making all rest p q → Making all [] p q
+none_left all [] p q few m = m
+none_left all (a ∷ rest) p q few m = absurd (omega arith)

@@ -32,7 +32,7 @@ use Rattle.cas_partition.specs.Slices.{AreRowsOf, slice_pieces, slice_streams}
 use Rattle.cas_partition.specs.declared.spot.Spot.{Spot}
 use Rattle.cas_partition.specs.declared.spot.Content.{Content}
 use Rattle.cas_partition.specs.declared.partition.Partition.{Partition}
-use Rattle.cas_partition.proofs.Spots.{Entries, spot_ties, pieces_join, twin_pieces, nothing}
+use Rattle.cas_partition.proofs.Saying.{Entries, spot_ties, pieces_join, twin_pieces, nothing}
 use Rattle.cas_partition.proofs.Slicing.{halves_each}
 
 module _ (Q : Atom → Type 0) (q : ByPlace Q) where
@@ -176,13 +176,13 @@ module _ (Q : Atom → Type 0) (q : ByPlace Q) where
   markers_say [] all = tt
   markers_say (m ∷ ms) all = (all.0, markers_say ms all.1)
 
-  slice_says : (s : Slice) (p : Partition) (rows : List Fragment) → AreRowsOf (slice_pieces s p) rows → Parts p.top p.ranges p.spots.entries → All (flat_of (merged (slice_streams s p rows)))
+  slice_says : (s : Slice) (p : Partition) (rows : List Fragment) → AreRowsOf (slice_pieces s p) rows → Parts p.top p.ranges p.spots → All (flat_of (merged (slice_streams s p rows)))
   slice_says s p rows are parts =
-      let S : Entries = statics_of p.spots.entries in
-      let B : Entries = rows_between s.lo s.hi p.spots.entries in
+      let S : Entries = statics_of p.spots in
+      let B : Entries = rows_between s.lo s.hi p.spots in
       let pieces : AllByRecursion (Says Q q) (slice_pieces s p) =
-      pieces_say (S ++ B) (all_and Entry S B (all_filter Entry (λ e. true && not (is_le (spot_cmp (spot_at below_rows) e.0))) p.spots.entries parts.spots)
-      (all_filter Entry (λ e. is_le (spot_cmp (spot_at (key_of s.lo)) e.0) && not (is_le (spot_cmp (spot_at (key_of s.hi)) e.0))) p.spots.entries parts.spots)) in
+      pieces_say (S ++ B) (all_and Entry S B (all_filter Entry (λ e. true && not (is_le (spot_cmp (spot_at below_rows) e.0))) p.spots parts.spots)
+      (all_filter Entry (λ e. is_le (spot_cmp (spot_at (key_of s.lo)) e.0) && not (is_le (spot_cmp (spot_at (key_of s.hi)) e.0))) p.spots parts.spots)) in
       holds_merged Q q (slice_streams s p rows) (
         (parts.whole, subst (AllByRecursion (Says Q q)) are.2 (halves_each (Says Q q) (joined_says Q q) are.0 (subst (AllByRecursion (Says Q q)) (sym are.1) pieces))),
         ((tt, markers_say (clipped s p.ranges) (clipped_forces s p.ranges parts.forces)), tt),
@@ -192,50 +192,50 @@ module _ (Q : Atom → Type 0) (q : ByPlace Q) where
 
 -- where each fact of that kind stays, the partition says no more than it did
 pub same_no_more : (p : Partition) (top : Option Deletion) (ms : List Change) (es : Entries) → at_end None p.ranges ≡ None
-    → ((Q : Atom → Type 0) (q : ByPlace Q) → Parts Q q p.top p.ranges p.spots.entries → Parts Q q top ms es) → SaysNoMore (atoms_with top ms es) (partition_atoms p)
+    → ((Q : Atom → Type 0) (q : ByPlace Q) → Parts Q q p.top p.ranges p.spots → Parts Q q top ms es) → SaysNoMore (atoms_with top ms es) (partition_atoms p)
 same_no_more p top ms es closed h =
-    says_no_more (atoms_with top ms es) (partition_atoms p) (λ Q q a. of_parts Q q top ms es (h Q q (in_parts Q q p.top p.ranges p.spots.entries closed a)))
+    says_no_more (atoms_with top ms es) (partition_atoms p) (λ Q q a. of_parts Q q top ms es (h Q q (in_parts Q q p.top p.ranges p.spots closed a)))
 
 -- no more than it did, and an atom
 pub joined_no_more : (p : Partition) (A : List Atom) (top : Option Deletion) (ms : List Change) (es : Entries) → at_end None p.ranges ≡ None
-    → ((Q : Atom → Type 0) (q : ByPlace Q) → Parts Q q p.top p.ranges p.spots.entries → AllByRecursion Q A → Parts Q q top ms es) → SaysNoMore (atoms_with top ms es) (partition_atoms p ++ A)
+    → ((Q : Atom → Type 0) (q : ByPlace Q) → Parts Q q p.top p.ranges p.spots → AllByRecursion Q A → Parts Q q top ms es) → SaysNoMore (atoms_with top ms es) (partition_atoms p ++ A)
 joined_no_more p A top ms es closed h =
     says_no_more (atoms_with top ms es) (partition_atoms p ++ A)
-    (λ Q q a. let (b, c) = all_of Q (partition_atoms p) A a in of_parts Q q top ms es (h Q q (in_parts Q q p.top p.ranges p.spots.entries closed b) c))
+    (λ Q q a. let (b, c) = all_of Q (partition_atoms p) A a in of_parts Q q top ms es (h Q q (in_parts Q q p.top p.ranges p.spots closed b) c))
 
-pub one_cut_no_more : (p : Partition) (lo : Cut) → at_end None p.ranges ≡ None → SaysNoMore (atoms_with p.top (with_cut lo p.ranges) p.spots.entries) (partition_atoms p)
+pub one_cut_no_more : (p : Partition) (lo : Cut) → at_end None p.ranges ≡ None → SaysNoMore (atoms_with p.top (with_cut lo p.ranges) p.spots) (partition_atoms p)
 one_cut_no_more p lo closed =
-    same_no_more p p.top (with_cut lo p.ranges) p.spots.entries closed (λ Q q b. record { whole = b.whole; forces = with_cut_forces Q q lo p.ranges b.forces; spots = b.spots })
+    same_no_more p p.top (with_cut lo p.ranges) p.spots closed (λ Q q b. record { whole = b.whole; forces = with_cut_forces Q q lo p.ranges b.forces; spots = b.spots })
 
-pub both_cuts_no_more : (p : Partition) (lo hi : Cut) → at_end None p.ranges ≡ None → SaysNoMore (atoms_with p.top (with_cut hi (with_cut lo p.ranges)) p.spots.entries) (partition_atoms p)
+pub both_cuts_no_more : (p : Partition) (lo hi : Cut) → at_end None p.ranges ≡ None → SaysNoMore (atoms_with p.top (with_cut hi (with_cut lo p.ranges)) p.spots) (partition_atoms p)
 both_cuts_no_more p lo hi closed =
-    same_no_more p p.top (with_cut hi (with_cut lo p.ranges)) p.spots.entries closed
+    same_no_more p p.top (with_cut hi (with_cut lo p.ranges)) p.spots closed
     (λ Q q b. record { whole = b.whole; forces = with_cut_forces Q q hi (with_cut lo p.ranges) (with_cut_forces Q q lo p.ranges b.forces); spots = b.spots })
 
 pub one_spot_no_more : (p : Partition) (s : Spot) (tag : Option TypeTag) → at_end None p.ranges ≡ None
-    → SaysNoMore (atoms_with p.top p.ranges (with_spot s tag p.spots.entries)) (partition_atoms p)
+    → SaysNoMore (atoms_with p.top p.ranges (with_spot s tag p.spots)) (partition_atoms p)
 one_spot_no_more p s tag closed =
-    same_no_more p p.top p.ranges (with_spot s tag p.spots.entries) closed (λ Q q b. record { whole = b.whole; forces = b.forces; spots = with_spot_entries Q q s tag p.spots.entries b.spots })
+    same_no_more p p.top p.ranges (with_spot s tag p.spots) closed (λ Q q b. record { whole = b.whole; forces = b.forces; spots = with_spot_entries Q q s tag p.spots b.spots })
 
 pub whole_no_more : (p : Partition) (d : Deletion) → at_end None p.ranges ≡ None
-    → SaysNoMore (atoms_with (greater deletion_cmp p.top (Some d)) p.ranges p.spots.entries) (partition_atoms p ++ PartitionDeletion d ∷ [])
+    → SaysNoMore (atoms_with (greater deletion_cmp p.top (Some d)) p.ranges p.spots) (partition_atoms p ++ PartitionDeletion d ∷ [])
 whole_no_more p d closed =
-    joined_no_more p (PartitionDeletion d ∷ []) (greater deletion_cmp p.top (Some d)) p.ranges p.spots.entries closed
+    joined_no_more p (PartitionDeletion d ∷ []) (greater deletion_cmp p.top (Some d)) p.ranges p.spots closed
     (λ Q q b c. record { whole = all_greater Q q deletion_cmp PartitionDeletion p.top (Some d) b.whole c; forces = b.forces; spots = b.spots })
 
 pub range_no_more : (p : Partition) (lo hi : Cut) (d : Deletion) → at_end None p.ranges ≡ None
-    → SaysNoMore (atoms_with p.top (raised (lies lo hi) d p.ranges) p.spots.entries) (partition_atoms p ++ RangeDeletion lo hi d ∷ [])
+    → SaysNoMore (atoms_with p.top (raised (lies lo hi) d p.ranges) p.spots) (partition_atoms p ++ RangeDeletion lo hi d ∷ [])
 range_no_more p lo hi d closed =
-    joined_no_more p (RangeDeletion lo hi d ∷ []) p.top (raised (lies lo hi) d p.ranges) p.spots.entries closed
+    joined_no_more p (RangeDeletion lo hi d ∷ []) p.top (raised (lies lo hi) d p.ranges) p.spots closed
     (λ Q q b c. record { whole = b.whole; forces = raised_forces Q q (lies lo hi) d (λ k l. (q.ranges lo hi k l d c.0, tt)) p.ranges b.forces; spots = b.spots })
 
-pub spot_no_more : (p : Partition) (s : Spot) (old c : Content) → lookup (is_at (spot_cmp s)) p.spots.entries ≡ Some old → at_end None p.ranges ≡ None
-    → SaysNoMore (atoms_with p.top p.ranges (set_value (is_at (spot_cmp s)) p.spots.entries (joined_content old c))) (partition_atoms p ++ own (said s c))
+pub spot_no_more : (p : Partition) (s : Spot) (old c : Content) → lookup (is_at (spot_cmp s)) p.spots ≡ Some old → at_end None p.ranges ≡ None
+    → SaysNoMore (atoms_with p.top p.ranges (set_value (is_at (spot_cmp s)) p.spots (joined_content old c))) (partition_atoms p ++ own (said s c))
 spot_no_more p s old c there closed =
-    joined_no_more p (own (said s c)) p.top p.ranges (set_value (is_at (spot_cmp s)) p.spots.entries (joined_content old c)) closed
-    (λ Q q b a. record { whole = b.whole; forces = b.forces; spots = set_entries Q q s old c p.spots.entries there (added_entry Q q s c a) b.spots })
+    joined_no_more p (own (said s c)) p.top p.ranges (set_value (is_at (spot_cmp s)) p.spots (joined_content old c)) closed
+    (λ Q q b a. record { whole = b.whole; forces = b.forces; spots = set_entries Q q s old c p.spots there (added_entry Q q s c a) b.spots })
 
 pub slice_no_more : (s : Slice) (p : Partition) (rows : List Fragment) → AreRowsOf (slice_pieces s p) rows → at_end None p.ranges ≡ None
     → SaysNoMore (flat_of (merged (slice_streams s p rows))) (partition_atoms p)
 slice_no_more s p rows are closed =
-    says_no_more (flat_of (merged (slice_streams s p rows))) (partition_atoms p) (λ Q q a. slice_says Q q s p rows are (in_parts Q q p.top p.ranges p.spots.entries closed a))
+    says_no_more (flat_of (merged (slice_streams s p rows))) (partition_atoms p) (λ Q q a. slice_says Q q s p rows are (in_parts Q q p.top p.ranges p.spots closed a))

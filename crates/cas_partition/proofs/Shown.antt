@@ -1,5 +1,5 @@
 -- A slice of a partition says in the slice what the partition says.
-use Rattle.std.proofs.Common.{◌≡◌, ℕ, true, false, cond, not, ◌&&◌, Option, None, Some, List, [], ◌∷◌, ◌++◌, map, filter, Result, Ok, Err, IfOk, OnOk, refl, sym, ap, ◌∙◌, subst, append_assoc}
+use Rattle.std.proofs.Common.{◌≡◌, ℕ, true, false, cond, not, ◌&&◌, Option, None, Some, List, [], ◌∷◌, ◌++◌, map, Result, Ok, Err, IfOk, refl, sym, ap, ◌∙◌, subst, append_assoc}
 use Rattle.std.proofs.lemmas.Bool.{true≢false}
 use Rattle.std.proofs.lemmas.List.{append-nil}
 use Rattle.std.specs.Option.{option_cmp}
@@ -8,11 +8,7 @@ use Rattle.std.specs.List.Sorted.{IsStrictlySortedBy}
 use Rattle.std.specs.Map.{keys_of}
 use Rattle.std.specs.declared.cmp.Ordering.{Ordering}
 use Rattle.cas_types.specs.Values.{bytes_cmp}
-use Rattle.std.specs.Ordering.{nat_cmp, is_le, is_lt, ordering_then, ordering_reverse}
-use Rattle.std.specs.declared.cmp.Ordering.TheVariants.{Less, Equal, Greater}
-use Rattle.std.specs.Cmp.{IsTotalOrder, then_total, on_total, nat_cmp_total}
-use Rattle.std.specs.Cmp.Lexicographic.{options_total}
-use Rattle.cas_types.proofs.OrderLaws.{bytes_orders}
+use Rattle.std.specs.Ordering.{nat_cmp, is_le, ordering_then}
 use Rattle.cas_types.specs.Orders.{Orders}
 use Rattle.cas_types.specs.declared.schema.Column.{Column}
 use Rattle.cas_cell.specs.Deletions.{deletion_cmp}
@@ -23,7 +19,6 @@ use Rattle.cas_cell.proofs.OrderLaws.{deletion_laws, live_laws, cell_laws}
 use Rattle.cas_bounds.specs.ClusteringOrder.{clustering_order}
 use Rattle.cas_bounds.specs.Cuts.{is_inside}
 use Rattle.cas_bounds.specs.Keys.{key_cmp}
-use Rattle.cas_bounds.specs.Inner.KeyLaws.{key_total}
 use Rattle.cas_bounds.specs.declared.order.Ordered.{Ordered}
 use Rattle.cas_bounds.specs.declared.cuts.Cut.{Cut}
 use Rattle.cas_bounds.specs.declared.cuts.Slice.{Slice}
@@ -50,17 +45,16 @@ use Rattle.cas_streams.proofs.Joining.{Alike, alike_then, alike_both}
 use Rattle.cas_streams.proofs.Merges.{merge_is_join, merge_ordered}
 use Rattle.cas_streams.proofs.Weaves.{all_and, all_of}
 use Rattle.cas_streams.proofs.Something.{No, there_if, none_made, Silent, silent_own, Still, still_ranges, stream_silent, merge_says_something}
-use Rattle.cas_merge.specs.Told.{told_first, streams_told}
 use Rattle.cas_partition.specs.Ends.{IsEnd, AreAtEnds}
 use Rattle.cas_partition.specs.Ranges.{key_of, clipped}
 use Rattle.cas_partition.specs.Spots.{spot_cmp, piece}
 use Rattle.cas_partition.specs.Partitions.{said_at, partition_atoms, marker, IsOf, IsRowOf, AreIn, AreAtCuts}
-use Rattle.cas_partition.specs.Slices.{grouped_from, meet, Halves, both, pieces_in, rows_by, AreRowsOf, IsAll, Shows, slice_pieces, slice_streams, SlicesShow}
+use Rattle.cas_partition.specs.Slices.{meet, Halves, both, pieces_in, rows_by, AreRowsOf, IsAll, Shows, slice_pieces, slice_streams, SlicesShow}
 use Rattle.cas_partition.specs.Ranged.{piece_of, spot_at, below_rows, statics_of, rows_between}
 use Rattle.cas_partition.specs.declared.spot.Spot.{Spot}
 use Rattle.cas_partition.specs.declared.spot.Content.{Content}
 use Rattle.cas_partition.specs.declared.partition.Partition.{Partition}
-use Rattle.cas_partition.proofs.Spots.{alike_itself, alike_is, in_front, Rows}
+use Rattle.cas_partition.proofs.Saying.{alike_itself, alike_is, in_front, Rows}
 use Rattle.cas_partition.proofs.AtCuts.{merge_at, clipped_at}
 use Rattle.cas_partition.proofs.Ends.{merge_moves}
 use Rattle.cas_partition.proofs.EndToEnd.{clipped_moves}
@@ -265,42 +259,6 @@ rows_in_table columns lo hi es h e all =
     (append_in columns S B (kept_in_table columns (λ e. true && not (is_le (spot_cmp (spot_at below_rows) e.0))) es all)
     (kept_in_table columns (λ e. is_le (spot_cmp (spot_at (key_of lo)) e.0) && not (is_le (spot_cmp (spot_at (key_of hi)) e.0))) es all))))
 
--- ---- what the program gathers
-
-spot_total : IsTotalOrder spot_cmp
-spot_total = then_total (on_total (λ (s : Spot). s.row) (options_total key_total)) (then_total (on_total (λ (s : Spot). s.column) (options_total nat_cmp_total)) (on_total (λ (s : Spot). s.path) (options_total bytes_orders.total)))
-
-pub none_between : (from to : Spot) → is_lt (spot_cmp from to) ≡ false → (es : Entries) → filter (λ e. is_le (spot_cmp from e.0) && not (is_le (spot_cmp to e.0))) es ≡ []
-none_between from to low [] = refl
-none_between from to low (e ∷ es) =
-    ap (λ b. cond b (e ∷ filter (λ f. is_le (spot_cmp from f.0) && not (is_le (spot_cmp to f.0))) es) (filter (λ f. is_le (spot_cmp from f.0) && not (is_le (spot_cmp to f.0))) es))
-    (never (spot_cmp from e.0) (spot_cmp to e.0) refl refl) ∙ none_between from to low es
-  where
-    never : (r s : Ordering) → spot_cmp from e.0 ≡ r → spot_cmp to e.0 ≡ s → (is_le r && not (is_le s)) ≡ false
-    never Greater s a b = refl
-    never Less Less a b = refl
-    never Less Equal a b = refl
-    never Equal Less a b = refl
-    never Equal Equal a b = refl
-    never Less Greater a b = absurd (true≢false (sym (ap is_lt (spot_total.trans from e.0 to a (spot_total.antisymm e.0 to ∙ ap ordering_reverse b))) ∙ low))
-    never Equal Greater a b = absurd (true≢false (sym (ap is_lt (spot_total.congr from e.0 to a ∙ spot_total.antisymm e.0 to ∙ ap ordering_reverse b)) ∙ low))
-
-pub all_pieces : (S B : Entries) (first then : List Fragment) → first ≡ map piece_of S → then ≡ first ++ map piece_of B → then ≡ map piece_of (S ++ B)
-all_pieces S B first then e f = f ∙ ap (λ l. l ++ map piece_of B) e ∙ sym (append_pieces S B)
-
--- rows that end at a last one, and others
-meet_last : (front : List Fragment) (h f : Fragment) (gs : List Fragment) → meet (h ∷ front ++ f ∷ []) gs ≡ h ∷ meet (front ++ f ∷ []) gs
-meet_last [] h f gs = refl
-meet_last (k ∷ front) h f gs = refl
-
-pub meet_next : (front : List Fragment) (f g : Fragment) (gs : List Fragment) → meet (front ++ f ∷ []) (g ∷ gs) ≡ front ++ (grouped_from f (g ∷ []) ++ gs)
-meet_next [] f g gs = refl
-meet_next (h ∷ front) f g gs = meet_last front h f (g ∷ gs) ∙ ap (λ l. h ∷ l) (meet_next front f g gs)
-
-pub meet_none : (front : List Fragment) (f : Fragment) → meet (front ++ f ∷ []) [] ≡ front ++ f ∷ []
-meet_none [] f = refl
-meet_none (h ∷ front) f = meet_last front h f [] ∙ ap (λ l. h ∷ l) (meet_none front f)
-
 pub in_both : (all front back left right : List Fragment) → front ++ back ≡ all → AreRowsOf front left → AreRowsOf back right → AreRowsOf all (meet left right)
 in_both all front back left right e a b = (both a.0 b.0, (λ i. a.1 i ++ b.1 i) ∙ e, (λ i. meet (a.2 i) (b.2 i)))
 
@@ -334,7 +292,7 @@ no_own : (ms : List Change) → flat_map own (map marker ms) ≡ []
 no_own [] = refl
 no_own (m ∷ ms) = no_own ms
 
-pub shows : (s : Slice) (p : Partition) (rows : List Fragment) (top : Option Deletion) (fs : List Fragment) → IsStrictlySortedBy spot_cmp (keys_of p.spots.entries)
+pub shows : (s : Slice) (p : Partition) (rows : List Fragment) (top : Option Deletion) (fs : List Fragment) → IsStrictlySortedBy spot_cmp (keys_of p.spots)
     → AreRowsOf (slice_pieces s p) rows → top ≡ (merged (slice_streams s p rows)).top → fs ≡ (merged (slice_streams s p rows)).fragments → Shows s p top fs
 shows s p rows top fs sorted are t f = subst (λ d. Shows s p d fs) (sym t) (subst (λ l. Shows s p (merged ss).top l) (sym f) (record {
   ordered = λ order of low high. merge_ordered order ss (each_ordered order of low high);
@@ -356,7 +314,7 @@ shows s p rows top fs sorted are t f = subst (λ d. Shows s p d fs) (sym t) (sub
       );
   same = λ order of low high. chained (merge_is_join order ss (each_ordered order of low high)) (in_slice order of low high);
   formed = λ columns t low high. merge_forms columns ss (each_ordered (clustering_order columns) t.of low high)
-      (subst (AllByRecursion (Tabled columns)) are.2 (rows_in_table columns s.lo s.hi p.spots.entries are.0 are.1 t.entries), (markers_have columns (clipped s p.ranges), tt));
+      (subst (AllByRecursion (Tabled columns)) are.2 (rows_in_table columns s.lo s.hi p.spots are.0 are.1 t.entries), (markers_have columns (clipped s p.ranges), tt));
   cuts = λ columns t low high. merge_at (FitsCut (clustering_order columns)) ss (
     subst (AreAtCuts columns) (sym (in_rows (clustering_order columns) t.of).1) tt,
     (subst (AreAtCuts columns) (sym (marked (clipped s p.ranges))) (clipped_at (FitsCut (clustering_order columns)) s p.ranges low high t.cuts), tt),
@@ -370,7 +328,7 @@ shows s p rows top fs sorted are t f = subst (λ d. Shows s p d fs) (sym t) (sub
     ss = with_markers (clipped s p.ranges)
 
     in_rows : (order : List Ordered) → IsOf order p → IsOrdered order rows × (changes rows ≡ [])
-    in_rows order of = subst (λ l. IsOrdered order l × (changes l ≡ [])) are.2 (rows_ordered order s.lo s.hi p.spots.entries are.0 are.1 sorted of.rows)
+    in_rows order of = subst (λ l. IsOrdered order l × (changes l ≡ [])) are.2 (rows_ordered order s.lo s.hi p.spots are.0 are.1 sorted of.rows)
 
     cut : (order : List Ordered) → IsOf order p → s.lo.order ≡ order → s.hi.order ≡ order → map marker (clipped s p.ranges) ≡ cut_to s (map marker p.ranges)
     cut order of low high = clipped_is_cut order s low high p.ranges (rising order p.ranges of.marks)
@@ -417,9 +375,9 @@ shows s p rows top fs sorted are t f = subst (λ d. Shows s p d fs) (sym t) (sub
         ∙ ap (λ l. (T ++ G) ++ (l ++ [])) (append-nil R) ∙ regroup T G R in
         in_then s (flats (with_markers p.ranges)) (T ++ (R ++ G)) (partition_atoms p)
         (everywhere s (flats (with_markers p.ranges)) (T ++ (R ++ G)) (alike_then (alike_is (flats (with_markers p.ranges)) (T ++ (G ++ R)) flat_rows) (alike_both (alike_itself T) (swap G R))))
-        (behind_same s T (R ++ G) (R ++ said_at p.spots.entries)
-        (behind_same s R G (said_at p.spots.entries)
-        (subst (λ l. AlikeIn s (flat_map own l) (said_at p.spots.entries)) are.2 (rows_say order s p.spots.entries are.0 are.1 low high of.rows))))
+        (behind_same s T (R ++ G) (R ++ said_at p.spots)
+        (behind_same s R G (said_at p.spots)
+        (subst (λ l. AlikeIn s (flat_map own l) (said_at p.spots)) are.2 (rows_say order s p.spots are.0 are.1 low high of.rows))))
 
     in_slice : (order : List Ordered) → IsOf order p → s.lo.order ≡ order → s.hi.order ≡ order → SameWhere (is_in s) (flats ss) (partition_atoms p)
     in_slice order of low high = then_in (cut_says order of low high) (in_same s (flats (with_markers p.ranges)) (partition_atoms p) (all_say order of low high))
@@ -437,14 +395,14 @@ shows s p rows top fs sorted are t f = subst (λ d. Shows s p d fs) (sym t) (sub
         let still : Still p.ranges =
         cut_still order p.ranges (rising order p.ranges of.marks) (closes order p.ranges of.marks)
         (subst (λ t. AllByRecursion Silent (cut_to t (map marker p.ranges))) (λ i. record { lo = all.0 i; hi = all.1 i }) (subst (AllByRecursion Silent) (cut order of low high) marks)) in
-        let S : Entries = statics_of p.spots.entries in
-        let B : Entries = rows_between s.lo s.hi p.spots.entries in
+        let S : Entries = statics_of p.spots in
+        let B : Entries = rows_between s.lo s.hi p.spots in
         let pieces : AllByRecursion Silent (map piece_of S ++ map piece_of B) =
         subst (AllByRecursion Silent) (are.1 ∙ append_pieces S B) (halves_silent are.0 (subst (AllByRecursion Silent) (sym are.2) said)) in
         let (statics, inside) = all_of Silent (map piece_of S) (map piece_of B) pieces in
-        all_and (λ a. ⊥) (atom_of PartitionDeletion p.top) (ranges p.ranges ++ said_at p.spots.entries) (none_made PartitionDeletion p.top top)
-        (all_and (λ a. ⊥) (ranges p.ranges) (said_at p.spots.entries) (still_ranges p.ranges still)
-        (parts_silent order s low high (λ c i. is_inside (all.0 i) (all.1 i) c) p.spots.entries of.rows statics inside))
+        all_and (λ a. ⊥) (atom_of PartitionDeletion p.top) (ranges p.ranges ++ said_at p.spots) (none_made PartitionDeletion p.top top)
+        (all_and (λ a. ⊥) (ranges p.ranges) (said_at p.spots) (still_ranges p.ranges still)
+        (parts_silent order s low high (λ c i. is_inside (all.0 i) (all.1 i) c) p.spots of.rows statics inside))
 
 pub slices_show : SlicesShow
 slices_show s p rows sorted are = shows s p rows _ _ sorted are refl refl
@@ -454,21 +412,3 @@ slices_show s p rows sorted are = shows s p rows _ _ sorted are refl refl
 pub if_ok_too : {A E : Type 0} (r : Result A E) (P Q : A → Type 0) → ((x : A) → P x → Q x) → IfOk r P → IfOk r Q
 if_ok_too (Ok x) P Q h p = h x p
 if_ok_too (Err e) P Q h p = tt
-
--- what holds in any case holds where a call answers Ok
-pub if_ok_with : {A E : Type 0} (r : Result A E) (S : Type 0) (P Q : A → Type 0) → ((x : A) → S → P x → Q x) → OnOk r S → IfOk r P → IfOk r Q
-if_ok_with (Ok x) S P Q h s p = h x s p
-if_ok_with (Err e) S P Q h s p = tt
-
-pub on_ok_as_ever : {A E : Type 0} (r : Result A E) (P : Type 0) → P → OnOk r P
-on_ok_as_ever (Ok x) P p = p
-on_ok_as_ever (Err e) P p = tt
-
-pub on_ok_too : {A E : Type 0} (r : Result A E) (P Q : Type 0) → (P → Q) → OnOk r P → OnOk r Q
-on_ok_too (Ok x) P Q h p = h p
-on_ok_too (Err e) P Q h p = tt
-
-pub two_told : {I : Type 0} (tells : I → Option (List Fragment)) (tops : I → Option Deletion) (a b : I) (parts : List I) (x y : List Fragment) (t u : Option Deletion) → parts ≡ a ∷ b ∷ []
-    → tells a ≡ Some x → tells b ≡ Some y → tops a ≡ t → tops b ≡ u → streams_told tells tops parts ≡ Some (record { top = t; fragments = x } ∷ record { top = u; fragments = y } ∷ [])
-two_told tells tops a b parts x y t u e f g h i =
-    ap (streams_told tells tops) e ∙ (λ j. told_first (h j) (f j) (told_first (i j) (g j) (Some [])))

@@ -40,7 +40,7 @@ use Rattle.cas_partition.specs.Slices.{grouped_from, grouped, meet_from, meet, H
 use Rattle.cas_partition.specs.Ranged.{piece_of, below_rows}
 use Rattle.cas_partition.specs.declared.spot.Spot.{Spot}
 use Rattle.cas_partition.specs.declared.spot.Content.{Content}
-use Rattle.cas_partition.proofs.Spots.{alike_itself, alike_is, Rows}
+use Rattle.cas_partition.proofs.Saying.{alike_itself, alike_is, Rows}
 
 -- ---- what they say
 
@@ -318,7 +318,7 @@ module _ (order : List Ordered) where
   as_row : (k : MapKey) → k.end ≡ Row → key_point k ≡ row_point k.values
   as_row k e = λ i. record { end = e i; values = k.values }
 
-  key_rows : (k l : MapKey) → IsRowOf order (Some k) → IsRowOf order (Some l) → key_cmp k l ≡ point_cmp order (row_point k.values) (row_point l.values)
+  pub key_rows : (k l : MapKey) → IsRowOf order (Some k) → IsRowOf order (Some l) → key_cmp k l ≡ point_cmp order (row_point k.values) (row_point l.values)
   key_rows k l a b = keys_are_points k l (a.1 ∙ sym b.1) ∙ (λ i. point_cmp (a.1 i) (as_row k a.0 i) (as_row l b.0 i))
 
   then_less : (r o : Ordering) → ordering_then r o ≡ Less → is_gt r ≡ false

@@ -26,7 +26,7 @@ use Rattle.cas_partition.specs.Spots.{spot_cmp, joined_content, piece, said}
 use Rattle.cas_partition.specs.Partitions.{said_at, atoms_with}
 use Rattle.cas_partition.specs.declared.spot.Spot.{Spot}
 use Rattle.cas_partition.specs.declared.spot.Content.{Content}
-use Rattle.cas_partition.proofs.Spots.{Entries, spot_ties, pieces_join, twin_pieces}
+use Rattle.cas_partition.proofs.Saying.{Entries, spot_ties, pieces_join, twin_pieces}
 
 -- a list that can't be empty has something
 pub there_not : {X : Type 0} (xs : List X) → (No xs → ⊥) → IsThere xs

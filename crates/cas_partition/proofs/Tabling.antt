@@ -26,7 +26,7 @@ use Rattle.cas_partition.specs.declared.spot.Room.{Room}
 use Rattle.cas_partition.specs.declared.spot.Room.TheVariants as wants
 use Rattle.cas_partition.specs.declared.spot.Addition.{Addition}
 use Rattle.cas_partition.specs.declared.spot.Addition.TheVariants as gives
-use Rattle.cas_partition.proofs.Spots.{spot_ties}
+use Rattle.cas_partition.proofs.Saying.{spot_ties}
 
 abbrev Entries : Type 0
 Entries = List (Spot × Content)

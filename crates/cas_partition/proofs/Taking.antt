@@ -4,7 +4,7 @@ use Rattle.std.proofs.lemmas.Bool.{true≢false}
 use Rattle.std.specs.List.{AllByRecursion}
 use Rattle.std.specs.List.Sorted.{IsStrictlySortedBy}
 use Rattle.std.specs.Map.{lookup, set_value}
-use Rattle.std.specs.BTreeMap.{BTreeMap, is_at}
+use Rattle.std.specs.BTreeMap.{is_at}
 use Rattle.std.specs.declared.cmp.Ordering.TheVariants.{Less}
 use Rattle.cas_types.specs.declared.tag.TypeTag.{TypeTag}
 use Rattle.cas_types.specs.declared.schema.Column.{Column}
@@ -50,7 +50,7 @@ use Rattle.cas_partition.specs.declared.partition.Partition.{Partition}
 use Rattle.cas_partition.proofs.Raising.{raised_rise, raised_closed, raised_covers, with_cut_rise, with_cut_closed, with_cut_covers, raised_has, with_cut_has, with_cut_itself, keys_below, as_points, has_stands}
 use Rattle.cas_partition.proofs.AtCuts.{with_cut_at, raised_at}
 use Rattle.cas_partition.proofs.Ends.{end_behind, ends_before, with_cut_moves, raised_moves}
-use Rattle.cas_partition.proofs.Spots.{alike_itself, alike_is, in_front, at_back, set_said, with_spot_says, with_spot_there, with_spot_kept, set_kept, Rows, set_rows, with_spot_rows}
+use Rattle.cas_partition.proofs.Saying.{alike_itself, alike_is, in_front, at_back, set_said, with_spot_says, with_spot_there, with_spot_kept, set_kept, Rows, set_rows, with_spot_rows}
 use Rattle.cas_partition.proofs.NoMore.{one_cut_no_more, both_cuts_no_more, one_spot_no_more, whole_no_more, range_no_more, spot_no_more}
 use Rattle.cas_partition.proofs.Something.{with_cut_ranges, ranges_there, top_there, raised_there, set_there}
 use Rattle.cas_partition.proofs.Tabling.{fits_of, wanted_in, given_in, set_in, with_spot_in}
@@ -62,6 +62,10 @@ on_ok_too (Err e) P Q h p = tt
 pub either_way : {A E : Type 0} (r : Result A E) (P Q G : Type 0) → OnOk r P → OnErr r Q → (P → G) → (Q → G) → G
 either_way (Ok x) P Q G p q h k = h p
 either_way (Err e) P Q G p q h k = k q
+
+pub on_err_too : {A E : Type 0} (r : Result A E) (P Q : Type 0) → (P → Q) → OnErr r P → OnErr r Q
+on_err_too (Ok x) P Q h p = tt
+on_err_too (Err e) P Q h p = h p
 
 -- ---- markers
 
@@ -138,13 +142,13 @@ spots_kept ms es fs h wants.Whole e = refl
 spots_kept ms es fs h (wants.Cuts lo hi) e = e
 spots_kept ms es fs h (wants.At s tag) e = h s e
 
-pub empty_of : (order : List Ordered) (p : Partition) → p.ranges ≡ [] → p.spots.entries ≡ [] → IsOf order p
+pub empty_of : (order : List Ordered) (p : Partition) → p.ranges ≡ [] → p.spots ≡ [] → IsOf order p
 empty_of order p none nobody = record {
   marks = subst (λ l. IsOrdered order (map marker l)) (sym none) (in_marks order [] tt refl);
   rows = subst (Rows order) (sym nobody) tt;
 }
 
-pub empty_of_table : (columns : List Column) (p : Partition) → p.ranges ≡ [] → p.spots.entries ≡ [] → IsOfTable columns p
+pub empty_of_table : (columns : List Column) (p : Partition) → p.ranges ≡ [] → p.spots ≡ [] → IsOfTable columns p
 empty_of_table columns p none nobody = record { of = empty_of (clustering_order columns) p none nobody; cuts = subst (AreAtCuts columns) (sym none) tt; entries = subst (AreIn columns) (sym nobody) tt }
 
 pub empty_at_ends : (ws : List Atom) (ms : List Change) → ms ≡ [] → AreAtEnds ws ms
@@ -173,14 +177,14 @@ with_changes : (a : Atom) (p : Partition) (ns : List Change)
     → ((c : Cut) → has_cut c p.ranges ≡ true → has_cut c ns ≡ true) → MakesPlace a p (with_ranges p ns)
 with_changes a p ns h no_more some ends at kept = record {
   no_more = no_more;
-  some = ranges_there p.top p.ranges ns p.spots.entries some;
+  some = ranges_there p.top p.ranges ns p.spots some;
   ends = ends;
   same = λ order of atom.
       let (rise, closed, covers) = h order atom (rising order p.ranges of.marks) (closes order p.ranges of.marks) in
-      alike_same (alike_both (alike_itself (atom_of PartitionDeletion p.top)) (alike_both (same_ranges p.ranges ns covers) (alike_itself (said_at p.spots.entries))));
+      alike_same (alike_both (alike_itself (atom_of PartitionDeletion p.top)) (alike_both (same_ranges p.ranges ns covers) (alike_itself (said_at p.spots))));
   of = in_order;
   fits = λ columns t f. record { of = in_order (clustering_order columns) t.of (fits_of columns a f); cuts = at columns f t.cuts; entries = t.entries };
-  others = λ b e. cuts_kept p.ranges ns p.spots.entries kept (wanted b) e;
+  others = λ b e. cuts_kept p.ranges ns p.spots kept (wanted b) e;
 }
   where
     in_order : (order : List Ordered) → IsOf order p → IsAtomOf order a → IsOf order (with_ranges p ns)
@@ -262,7 +266,7 @@ both_cuts a p ns lo hi w e =
 
 pub cuts_there : (a : Atom) (p : Partition) (ns : List Change) (lo hi : Cut) → wanted a ≡ wants.Cuts lo hi → ns ≡ with_cut hi (with_cut lo p.ranges) → HasPlace (with_ranges p ns) a
 cuts_there a p ns lo hi w e =
-    ap (is_there ns p.spots.entries) w
+    ap (is_there ns p.spots) w
     ∙ ap (λ l. has_cut lo l && has_cut hi l) e
     ∙ and_true (has_cut lo (with_cut hi (with_cut lo p.ranges))) (has_cut hi (with_cut hi (with_cut lo p.ranges)))
     (with_cut_has lo hi (with_cut lo p.ranges) (with_cut_itself lo p.ranges)) (with_cut_itself hi (with_cut lo p.ranges))
@@ -273,8 +277,8 @@ same_changes a p ns e =
     (with_changes a p p.ranges (λ order atom rise closed. (rise, closed, λ x. refl)) (λ order of. no_more_itself (partition_atoms p)) (λ n. n) (λ ws moves. moves) (λ columns f all. all) (λ c has. has))
 
 -- one more spot
-abbrev with_spots : Partition → BTreeMap Spot Content → Partition
-with_spots p m = record { top = p.top; ranges = p.ranges; spots = m }
+abbrev pub with_spots : Partition → List (Spot × Content) → Partition
+with_spots p es = record { top = p.top; ranges = p.ranges; spots = es }
 
 spot_row : (order : List Ordered) (a : Atom) (s : Spot) (tag : Option TypeTag) → wanted a ≡ wants.At s tag → IsAtomOf order a → IsRowOf order s.row
 spot_row order a s tag w of = subst (InRow order) w (own_row a of)
@@ -294,36 +298,36 @@ spot_row order a s tag w of = subst (InRow order) w (own_row a of)
     own_row (StaticWrite ref q v) of = tt
     own_row (StaticCollectionDeletion ref d) of = tt
 
-pub one_spot : (a : Atom) (p : Partition) (m : BTreeMap Spot Content) (s : Spot) (tag : Option TypeTag) → wanted a ≡ wants.At s tag → m.entries ≡ with_spot s tag p.spots.entries
+pub one_spot : (a : Atom) (p : Partition) (m : List (Spot × Content)) (s : Spot) (tag : Option TypeTag) → wanted a ≡ wants.At s tag → m ≡ with_spot s tag p.spots
     → MakesPlace a p (with_spots p m)
 one_spot a p m s tag w e = record {
   no_more = λ order of.
       subst (λ l. SaysNoMore (atoms_with p.top p.ranges l) (partition_atoms p)) (sym e) (one_spot_no_more p s tag (closes order p.ranges of.marks));
-  some = subst (λ l. IsThere (atom_of PartitionDeletion p.top ++ (ranges p.ranges ++ l))) (sym (ap said_at e ∙ with_spot_says s tag p.spots.entries));
+  some = subst (λ l. IsThere (atom_of PartitionDeletion p.top ++ (ranges p.ranges ++ l))) (sym (ap said_at e ∙ with_spot_says s tag p.spots));
   ends = λ ws moves. moves;
   same = λ order of atom.
       alike_same (alike_is (partition_atoms (with_spots p m)) (partition_atoms p)
-      (ap (λ l. atom_of PartitionDeletion p.top ++ (ranges p.ranges ++ l)) (ap said_at e ∙ with_spot_says s tag p.spots.entries)));
+      (ap (λ l. atom_of PartitionDeletion p.top ++ (ranges p.ranges ++ l)) (ap said_at e ∙ with_spot_says s tag p.spots)));
   of = in_order;
   fits = λ columns t f. record {
     of = in_order (clustering_order columns) t.of (fits_of columns a f);
     cuts = t.cuts;
-    entries = subst (AreIn columns) (sym e) (with_spot_in columns s tag p.spots.entries (wanted_in columns a s tag w f) t.entries);
+    entries = subst (AreIn columns) (sym e) (with_spot_in columns s tag p.spots (wanted_in columns a s tag w f) t.entries);
   };
-  others = λ b h. spots_kept p.ranges p.spots.entries m.entries (λ t there. ap (has_spot t) e ∙ with_spot_kept t s tag p.spots.entries there) (wanted b) h;
+  others = λ b h. spots_kept p.ranges p.spots m (λ t there. ap (has_spot t) e ∙ with_spot_kept t s tag p.spots there) (wanted b) h;
 }
   where
     in_order : (order : List Ordered) → IsOf order p → IsAtomOf order a → IsOf order (with_spots p m)
     in_order order of atom = record {
       marks = of.marks;
-      rows = subst (Rows order) (sym e) (with_spot_rows order s tag p.spots.entries (spot_row order a s tag w atom) of.rows);
+      rows = subst (Rows order) (sym e) (with_spot_rows order s tag p.spots (spot_row order a s tag w atom) of.rows);
     }
 
-pub spot_there : (a : Atom) (p : Partition) (m : BTreeMap Spot Content) (s : Spot) (tag : Option TypeTag) → wanted a ≡ wants.At s tag → m.entries ≡ with_spot s tag p.spots.entries
+pub spot_there : (a : Atom) (p : Partition) (m : List (Spot × Content)) (s : Spot) (tag : Option TypeTag) → wanted a ≡ wants.At s tag → m ≡ with_spot s tag p.spots
     → HasPlace (with_spots p m) a
-spot_there a p m s tag w e = ap (is_there p.ranges m.entries) w ∙ ap (has_spot s) e ∙ with_spot_there s tag p.spots.entries
+spot_there a p m s tag w e = ap (is_there p.ranges m) w ∙ ap (has_spot s) e ∙ with_spot_there s tag p.spots
 
-pub same_spots : (a : Atom) (p : Partition) (m : BTreeMap Spot Content) → m.entries ≡ p.spots.entries → MakesPlace a p (with_spots p m)
+pub same_spots : (a : Atom) (p : Partition) (m : List (Spot × Content)) → m ≡ p.spots → MakesPlace a p (with_spots p m)
 same_spots a p m e = record {
   no_more = λ order of. subst (λ l. SaysNoMore (atoms_with p.top p.ranges l) (partition_atoms p)) (sym e) (no_more_itself (partition_atoms p));
   some = subst (λ l. IsThere (atoms_with p.top p.ranges l)) (sym e);
@@ -348,15 +352,15 @@ pub whole_joins : (a : Atom) (p : Partition) (top : Option Deletion) (d : Deleti
     → Joins a p (record { top = top; ranges = p.ranges; spots = p.spots })
 whole_joins a p top d g e = record {
   no_more = λ order of.
-      subst (λ l. SaysNoMore (atoms_with top p.ranges p.spots.entries) (partition_atoms p ++ l)) (whole_is a d g)
-      (subst (λ t. SaysNoMore (atoms_with t p.ranges p.spots.entries) (partition_atoms p ++ PartitionDeletion d ∷ [])) (sym e) (whole_no_more p d (closes order p.ranges of.marks)));
-  some = λ order of atom. subst (λ t. IsThere (atoms_with t p.ranges p.spots.entries)) (sym e) (top_there p.top d (ranges p.ranges ++ said_at p.spots.entries));
+      subst (λ l. SaysNoMore (atoms_with top p.ranges p.spots) (partition_atoms p ++ l)) (whole_is a d g)
+      (subst (λ t. SaysNoMore (atoms_with t p.ranges p.spots) (partition_atoms p ++ PartitionDeletion d ∷ [])) (sym e) (whole_no_more p d (closes order p.ranges of.marks)));
+  some = λ order of atom. subst (λ t. IsThere (atoms_with t p.ranges p.spots)) (sym e) (top_there p.top d (ranges p.ranges ++ said_at p.spots));
   ends = λ order of atom ws moves. ends_before ws (a ∷ []) p.ranges moves;
   joined = λ order of atom.
-      subst (λ l. Same (atoms_with top p.ranges p.spots.entries) (partition_atoms p ++ l)) (whole_is a d g)
-      (subst (λ t. Same (atoms_with t p.ranges p.spots.entries) (partition_atoms p ++ PartitionDeletion d ∷ [])) (sym e)
+      subst (λ l. Same (atoms_with top p.ranges p.spots) (partition_atoms p ++ l)) (whole_is a d g)
+      (subst (λ t. Same (atoms_with t p.ranges p.spots) (partition_atoms p ++ PartitionDeletion d ∷ [])) (sym e)
       (alike_same (in_front (atom_of PartitionDeletion (greater deletion_cmp p.top (Some d))) (atom_of PartitionDeletion p.top) (PartitionDeletion d ∷ [])
-      (ranges p.ranges ++ said_at p.spots.entries) (raised_top p.top d))));
+      (ranges p.ranges ++ said_at p.spots) (raised_top p.top d))));
   of = λ order of atom. record { marks = of.marks; rows = of.rows };
   fits = λ columns t f. record { of = record { marks = t.of.marks; rows = t.of.rows }; cuts = t.cuts; entries = t.entries };
   others = λ b h. h;
@@ -399,25 +403,25 @@ module _ (a : Atom) (lo hi : Cut) (d : Deletion) (g : given a ≡ gives.Range lo
 
   pub range_joins : (p : Partition) (ns : List Change) → ns ≡ raised (lies lo hi) d p.ranges → HasPlace p a → Joins a p (with_ranges p ns)
   range_joins p ns e there =
-      let (low, high) = both_true (has_cut lo p.ranges) (has_cut hi p.ranges) (ap (λ b. is_there p.ranges p.spots.entries (wanted b)) range_is ∙ there) in
+      let (low, high) = both_true (has_cut lo p.ranges) (has_cut hi p.ranges) (ap (λ b. is_there p.ranges p.spots (wanted b)) range_is ∙ there) in
       record {
         no_more = λ order of.
-            subst (λ b. SaysNoMore (atoms_with p.top ns p.spots.entries) (partition_atoms p ++ b ∷ [])) range_is
-            (subst (λ l. SaysNoMore (atoms_with p.top l p.spots.entries) (partition_atoms p ++ RangeDeletion lo hi d ∷ [])) (sym e) (range_no_more p lo hi d (closes order p.ranges of.marks)));
+            subst (λ b. SaysNoMore (atoms_with p.top ns p.spots) (partition_atoms p ++ b ∷ [])) range_is
+            (subst (λ l. SaysNoMore (atoms_with p.top l p.spots) (partition_atoms p ++ RangeDeletion lo hi d ∷ [])) (sym e) (range_no_more p lo hi d (closes order p.ranges of.marks)));
         some = λ order of atom.
             let (lo_of, hi_of, below) = subst (IsAtomOf order) (sym range_is) atom in
             let rise : Rise order p.ranges = rising order p.ranges of.marks in
             let closed : at_end None p.ranges ≡ None = closes order p.ranges of.marks in
-            subst (λ l. IsThere (atoms_with p.top l p.spots.entries)) (sym e)
-            (raised_there p.top lo hi d p.ranges p.spots.entries (keys_below order lo hi lo_of hi_of below) low (raised_closed order lo hi d p.ranges lo_of hi_of below low high rise closed));
+            subst (λ l. IsThere (atoms_with p.top l p.spots)) (sym e)
+            (raised_there p.top lo hi d p.ranges p.spots (keys_below order lo hi lo_of hi_of below) low (raised_closed order lo hi d p.ranges lo_of hi_of below low high rise closed));
         joined = λ order of atom.
             let (lo_of, hi_of, below) = subst (IsAtomOf order) (sym range_is) atom in
             let rise : Rise order p.ranges = rising order p.ranges of.marks in
             let closed : at_end None p.ranges ≡ None = closes order p.ranges of.marks in
-            subst (λ b. Same (atoms_with p.top ns p.spots.entries) (partition_atoms p ++ b ∷ [])) range_is
-            (subst (λ l. Same (atoms_with p.top l p.spots.entries) (partition_atoms p ++ RangeDeletion lo hi d ∷ [])) (sym e)
-            (alike_same (at_back (atom_of PartitionDeletion p.top) (ranges (raised (lies lo hi) d p.ranges) ++ said_at p.spots.entries) (ranges p.ranges ++ said_at p.spots.entries) (RangeDeletion lo hi d ∷ [])
-            (in_front (ranges (raised (lies lo hi) d p.ranges)) (ranges p.ranges) (RangeDeletion lo hi d ∷ []) (said_at p.spots.entries)
+            subst (λ b. Same (atoms_with p.top ns p.spots) (partition_atoms p ++ b ∷ [])) range_is
+            (subst (λ l. Same (atoms_with p.top l p.spots) (partition_atoms p ++ RangeDeletion lo hi d ∷ [])) (sym e)
+            (alike_same (at_back (atom_of PartitionDeletion p.top) (ranges (raised (lies lo hi) d p.ranges) ++ said_at p.spots) (ranges p.ranges ++ said_at p.spots) (RangeDeletion lo hi d ∷ [])
+            (in_front (ranges (raised (lies lo hi) d p.ranges)) (ranges p.ranges) (RangeDeletion lo hi d ∷ []) (said_at p.spots)
             (more_ranges p.ranges (raised (lies lo hi) d p.ranges) lo hi d
             (λ x. raised_covers order lo hi d p.ranges lo_of hi_of below low high rise closed x (row_of x) refl))))));
         ends = λ order of atom ws moves.
@@ -434,7 +438,7 @@ module _ (a : Atom) (lo hi : Cut) (d : Deletion) (g : given a ≡ gives.Range lo
           cuts = subst (AreAtCuts columns) (sym e) (raised_at (FitsCut (clustering_order columns)) (lies lo hi) d p.ranges t.cuts);
           entries = t.entries;
         };
-        others = λ b h. cuts_kept p.ranges ns p.spots.entries (λ c has. ap (has_cut c) e ∙ raised_has c (lies lo hi) d p.ranges ∙ has) (wanted b) h;
+        others = λ b h. cuts_kept p.ranges ns p.spots (λ c has. ap (has_cut c) e ∙ raised_has c (lies lo hi) d p.ranges ∙ has) (wanted b) h;
       }
     where
       in_order : has_cut lo p.ranges ≡ true → has_cut hi p.ranges ≡ true → (order : List Ordered) → IsOf order p → IsAtomOf order a → IsOf order (with_ranges p ns)
@@ -494,28 +498,28 @@ module _ (a : Atom) (s : Spot) (c : Content) (g : given a ≡ gives.At s c) wher
       go None e h = absurd (true≢false (sym h))
       go (Some old) e h = (old, e)
 
-  pub spot_joins : (p : Partition) (m : BTreeMap Spot Content)
-      → ((old : Content) → lookup (is_at (spot_cmp s)) p.spots.entries ≡ Some old → m.entries ≡ set_value (is_at (spot_cmp s)) p.spots.entries (joined_content old c))
+  pub spot_joins : (p : Partition) (m : List (Spot × Content))
+      → ((old : Content) → lookup (is_at (spot_cmp s)) p.spots ≡ Some old → m ≡ set_value (is_at (spot_cmp s)) p.spots (joined_content old c))
       → HasPlace p a → Joins a p (with_spots p m)
   spot_joins p m writes there =
-      let (old, is) = found p.spots.entries (spot_seen p.ranges p.spots.entries there) in
-      let e : m.entries ≡ set_value (is_at (spot_cmp s)) p.spots.entries (joined_content old c) = writes old is in
+      let (old, is) = found p.spots (spot_seen p.ranges p.spots there) in
+      let e : m ≡ set_value (is_at (spot_cmp s)) p.spots (joined_content old c) = writes old is in
       record {
         no_more = λ order of.
-            subst (λ l. SaysNoMore (atoms_with p.top p.ranges m.entries) (partition_atoms p ++ l)) spot_is
+            subst (λ l. SaysNoMore (atoms_with p.top p.ranges m) (partition_atoms p ++ l)) spot_is
             (subst (λ l. SaysNoMore (atoms_with p.top p.ranges l) (partition_atoms p ++ own (said s c))) (sym e) (spot_no_more p s old c is (closes order p.ranges of.marks)));
-        some = λ order of atom. subst (λ l. IsThere (atoms_with p.top p.ranges l)) (sym e) (set_there p.top p.ranges s old c p.spots.entries is a spot_is);
+        some = λ order of atom. subst (λ l. IsThere (atoms_with p.top p.ranges l)) (sym e) (set_there p.top p.ranges s old c p.spots is a spot_is);
         ends = λ order of atom ws moves. ends_before ws (a ∷ []) p.ranges moves;
         joined = λ order of atom.
-            subst (λ l. Same (atoms_with p.top p.ranges m.entries) (partition_atoms p ++ l)) spot_is
-            (alike_same (at_back (atom_of PartitionDeletion p.top) (ranges p.ranges ++ said_at m.entries) (ranges p.ranges ++ said_at p.spots.entries) (own (said s c))
-            (at_back (ranges p.ranges) (said_at m.entries) (said_at p.spots.entries) (own (said s c))
-            (subst (λ l. Alike (said_at l) (said_at p.spots.entries ++ own (said s c))) (sym e) (set_said s old c p.spots.entries is)))));
-        of = λ order of atom. record { marks = of.marks; rows = subst (Rows order) (sym e) (set_rows order (is_at (spot_cmp s)) (joined_content old c) p.spots.entries of.rows) };
+            subst (λ l. Same (atoms_with p.top p.ranges m) (partition_atoms p ++ l)) spot_is
+            (alike_same (at_back (atom_of PartitionDeletion p.top) (ranges p.ranges ++ said_at m) (ranges p.ranges ++ said_at p.spots) (own (said s c))
+            (at_back (ranges p.ranges) (said_at m) (said_at p.spots) (own (said s c))
+            (subst (λ l. Alike (said_at l) (said_at p.spots ++ own (said s c))) (sym e) (set_said s old c p.spots is)))));
+        of = λ order of atom. record { marks = of.marks; rows = subst (Rows order) (sym e) (set_rows order (is_at (spot_cmp s)) (joined_content old c) p.spots of.rows) };
         fits = λ columns t f. record {
-          of = record { marks = t.of.marks; rows = subst (Rows (clustering_order columns)) (sym e) (set_rows (clustering_order columns) (is_at (spot_cmp s)) (joined_content old c) p.spots.entries t.of.rows) };
+          of = record { marks = t.of.marks; rows = subst (Rows (clustering_order columns)) (sym e) (set_rows (clustering_order columns) (is_at (spot_cmp s)) (joined_content old c) p.spots t.of.rows) };
           cuts = t.cuts;
-          entries = subst (AreIn columns) (sym e) (set_in columns s old c p.spots.entries is (given_in columns a s c g f) t.entries);
+          entries = subst (AreIn columns) (sym e) (set_in columns s old c p.spots is (given_in columns a s c g f) t.entries);
         };
-        others = λ b h. spots_kept p.ranges p.spots.entries m.entries (λ t has. ap (has_spot t) e ∙ set_kept t (is_at (spot_cmp s)) (joined_content old c) p.spots.entries has) (wanted b) h;
+        others = λ b h. spots_kept p.ranges p.spots m (λ t has. ap (has_spot t) e ∙ set_kept t (is_at (spot_cmp s)) (joined_content old c) p.spots has) (wanted b) h;
       }

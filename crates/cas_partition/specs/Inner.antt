@@ -1,8 +1,10 @@
 pub mod Slots
 pub mod Firsts
-pub mod Sides
-pub mod Entries
+pub mod Rows
+pub mod Runs
+pub mod Made
+pub mod Lent
+pub mod Pieces
 pub mod Passing
 pub mod Steps
-pub mod Sources
 pub mod Fronts

@@ -47,7 +47,7 @@ atoms_with top ms es = atom_of PartitionDeletion top ++ (ranges ms ++ said_at es
 
 -- what the partition says
 abbrev pub partition_atoms : Partition → List Atom
-partition_atoms p = atoms_with p.top p.ranges p.spots.entries
+partition_atoms p = atoms_with p.top p.ranges p.spots
 
 -- ---- of which table
 
@@ -63,7 +63,7 @@ marker m = fragment.Marker m.at m.to
 -- cuts one after another in the table's order, at the last of which no deletion stays in force; and rows of that order
 pub record IsOf (order : List Ordered) (p : Partition) : Type 0 where
   pub marks : IsOrdered order (map marker p.ranges)
-  pub rows : AllByRecursion (λ e. IsRowOf order e.0.row) p.spots.entries
+  pub rows : AllByRecursion (λ e. IsRowOf order e.0.row) p.spots
 
 -- an atom of the table: its rows and cuts are in the table's order, and a range has its low cut below the high one
 abbrev pub IsAtomOf : List Ordered → Atom → Type 0
@@ -111,7 +111,7 @@ AreAtCuts columns ms = AllByRecursion (λ m. FitsCut (clustering_order columns) 
 pub record IsOfTable (columns : List Column) (p : Partition) : Type 0 where
   pub of : IsOf (clustering_order columns) p
   pub cuts : AreAtCuts columns p.ranges
-  pub entries : AreIn columns p.spots.entries
+  pub entries : AreIn columns p.spots
 
 -- ---- places
 
@@ -127,7 +127,7 @@ is_there ms es (At s tag) = has_spot s es
 
 -- the partition has the place that the atom wants
 abbrev pub HasPlace : Partition → Atom → Type 0
-HasPlace p a = is_there p.ranges p.spots.entries (wanted a) ≡ true
+HasPlace p a = is_there p.ranges p.spots (wanted a) ≡ true
 
 -- the entries with one more at a spot, where nothing is said, if none is there
 abbrev pub with_spot : Spot → Option TypeTag → List (Spot × Content) → List (Spot × Content)

@@ -86,7 +86,7 @@ AreRowsOf pieces rows = (h : Halves) × (pieces_in h ≡ pieces) × (rows_by h �
 
 -- what is said of the static row and of the rows of the slice, piece by piece
 abbrev pub slice_pieces : Slice → Partition → List Fragment
-slice_pieces s p = map piece_of (statics_of p.spots.entries ++ rows_between s.lo s.hi p.spots.entries)
+slice_pieces s p = map piece_of (statics_of p.spots ++ rows_between s.lo s.hi p.spots)
 
 -- the rows under the deletion of the whole, and the range deletions in the slice
 abbrev pub slice_streams : Slice → Partition → List Fragment → List Stream
@@ -94,5 +94,5 @@ slice_streams s p rows = record { top = p.top; fragments = rows } ∷ record { t
 
 -- the merge of both is in order and well formed, and says in the slice what the partition says, and nowhere more
 abbrev pub SlicesShow : Type 0
-SlicesShow = (s : Slice) (p : Partition) (rows : List Fragment) → IsStrictlySortedBy spot_cmp (keys_of p.spots.entries) → AreRowsOf (slice_pieces s p) rows
+SlicesShow = (s : Slice) (p : Partition) (rows : List Fragment) → IsStrictlySortedBy spot_cmp (keys_of p.spots) → AreRowsOf (slice_pieces s p) rows
     → Shows s p (merged (slice_streams s p rows)).top (merged (slice_streams s p rows)).fragments

@@ -19,8 +19,17 @@ use Rattle.cas_atoms.specs.declared.row.RowColumn.{RowColumn}
 use Rattle.cas_atoms.specs.declared.row.PathCell.{PathCell}
 use Rattle.cas_streams.specs.declared.fragment.Fragment.{Fragment}
 use Rattle.cas_streams.specs.declared.fragment.Fragment.TheVariants as fragment
+use Rattle.cas_partition.specs.declared.spot.Place.{Place}
 use Rattle.cas_partition.specs.declared.spot.Spot.{Spot}
 use Rattle.cas_partition.specs.declared.spot.Content.{Content}
+
+-- rows in order, the static row first
+abbrev pub row_cmp : Option MapKey → Option MapKey → Ordering
+row_cmp r s = option_cmp key_cmp r s
+
+-- places within a row by the columns' numbers, and in a column by the bytes of the paths
+abbrev pub place_cmp : Place → Place → Ordering
+place_cmp p q = ordering_then (option_cmp nat_cmp p.column q.column) (option_cmp bytes_cmp p.path q.path)
 
 -- spots of one row by the columns' numbers, and in a column by the bytes of the paths
 abbrev pub within : Spot → Spot → Ordering

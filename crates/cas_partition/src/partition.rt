@@ -1,30 +1,26 @@
 //! One partition in memory.
 
-ghost use Rattle.std.specs.Prelude.{◌≡◌, Option, Some, List as ListOf, [], OnOk, OnErr, ◌⊎◌};
-ghost use Rattle.std.specs.Map.{lookup, set_value};
-ghost use Rattle.std.specs.BTreeMap.{is_at};
+ghost use Rattle.std.specs.Prelude.{◌≡◌, ◌≤◌, List as ListOf, [], ◌∷◌, IfOk, OnOk, OnErr, ◌⊎◌, length, take, drop};
 ghost use Rattle.std.specs.Vec.Iter.{into_iter_items};
-ghost use Rattle.cas_types.specs.declared.tag.TypeTag.{TypeTag};
 ghost use Rattle.cas_types.specs.declared.schema.Column.{Column};
 ghost use Rattle.cas_bounds.specs.declared.order.Ordered.{Ordered};
 ghost use Rattle.cas_atoms.specs.declared.atom.Atom.{Atom as AtomOf};
 ghost use Rattle.cas_partition.specs.Ends.{AreAtEnds};
 ghost use Rattle.cas_partition.specs.Ranges.{with_cut};
-ghost use Rattle.cas_partition.specs.Spots.{spot_cmp, joined_content};
-ghost use Rattle.cas_partition.specs.Partitions.{partition_atoms, IsOf, IsOfTable, HasPlace, HavePlaces, with_spot, MakesPlace, MakesPlaces, Joins, JoinsAll};
+ghost use Rattle.cas_partition.specs.Partitions.{partition_atoms, IsOf, IsOfTable, HasPlace, HavePlaces, MakesPlace, MakesPlaces, Joins, JoinsAll};
 ghost use Rattle.cas_partition.specs.Inner.Firsts.{with_first};
-ghost use Rattle.cas_partition.specs.declared.spot.Content.{Content};
+ghost use Rattle.cas_partition.specs.Inner.Made.{MadePlaces};
+ghost use Rattle.cas_partition.specs.Inner.Runs.{IsRun};
 
 use crate::ranges::Ranges;
-use crate::spot::{Addition, Content, Room, Spot, given, wanted};
-use crate::spot_key::SpotKey;
+use crate::runs::{count_in, first_of};
+use crate::spot::{Addition, Room, given, wanted};
+use crate::spots::Spots;
 use cas_atoms::{Atom, greater_deletion};
 use cas_bounds::Cut;
 use cas_cell::Deletion;
-use cas_types::{List, TypeTag};
+use cas_types::List;
 use std::alloc::{AllocError, Global};
-use std::collections::BTreeMap;
-use std::collections::btree_map::Entry;
 use std::vec::IntoIter;
 
 /// One partition in memory: its deletion as a whole, its range deletions, and what is said of its
@@ -33,35 +29,7 @@ use std::vec::IntoIter;
 pub struct Partition {
     pub(crate) top: Option<Deletion>,
     pub(crate) ranges: Ranges,
-    pub(crate) spots: BTreeMap<SpotKey, Content>,
-}
-
-// Makes place for what will be said at the spot.
-fn reserve_at(
-    spots: &mut BTreeMap<SpotKey, Content>,
-    spot: Spot,
-    tag: Option<TypeTag>,
-) -> Result<(), AllocError>
-    ensures ok { OnOk result (spots.new.entries ≡ with_spot spot tag spots.old.entries) }
-    ensures err { OnErr result (spots.new.entries ≡ spots.old.entries) }
-{
-    match spots.entry(SpotKey::of(spot))? {
-        Entry::Occupied(_) => {}
-        Entry::Vacant(place) => {
-            place.insert(Content::blank(tag));
-        }
-    }
-    Ok(())
-}
-
-// Joins what is said at the spot, if it is there.
-fn join_at(spots: &mut BTreeMap<SpotKey, Content>, spot: Spot, content: Content)
-    ensures { (c : Content) → lookup (is_at (spot_cmp spot)) spots.old.entries ≡ Some c
-        → spots.new.entries ≡ set_value (is_at (spot_cmp spot)) spots.old.entries (joined_content c content) }
-{
-    if let Some(there) = spots.get_mut(&SpotKey::of(spot)) {
-        there.join(content);
-    }
+    pub(crate) spots: Spots,
 }
 
 // Makes place for what will change at both cuts.
@@ -73,11 +41,20 @@ fn reserve_cuts(ranges: &mut Ranges, lo: Cut, hi: Cut) -> Result<(), AllocError>
     ranges.reserve(hi)
 }
 
-// The next atom, and the others stay.
-fn first_of(rest: &mut IntoIter<Atom>) -> Option<Atom>
-    ensures { with_first result (into_iter_items rest.new) ≡ into_iter_items rest.old }
+// The others of these.
+fn behind(atoms: &[Atom], count: usize) -> &[Atom]
+    requires { count ≤ length atoms.now }
+    ensures { result.now ≡ drop count atoms.now }
 {
-    rest.next()
+    atoms.split_at(count).1
+}
+
+// So many first ones.
+fn first(atoms: &[Atom], count: usize) -> &[Atom]
+    requires { count ≤ length atoms.now }
+    ensures { result.now ≡ take count atoms.now }
+{
+    atoms.split_at(count).0
 }
 
 impl Partition {
@@ -91,7 +68,27 @@ impl Partition {
         Partition {
             top: None,
             ranges: Ranges::new(alloc),
-            spots: BTreeMap::new(alloc),
+            spots: Spots::new(alloc),
+        }
+    }
+
+    // Makes place for an atom, and for those behind it that are of its row. Tells how many these are.
+    fn reserve_run(&mut self, atom: &Atom, others: &[Atom]) -> Result<usize, AllocError>
+        ensures within { IfOk result (λ n. n ≤ length others.now) }
+        ensures made { IfOk result (λ n. MadePlaces (atom.now ∷ take n others.now) self.old self.new) }
+        ensures err { OnErr result (MakesPlaces (atom.now ∷ others.now) self.old self.new) }
+    {
+        match wanted(atom)? {
+            Room::Whole => Ok(0),
+            Room::Cuts(lo, hi) => {
+                reserve_cuts(&mut self.ranges, lo, hi)?;
+                Ok(0)
+            }
+            Room::At(spot, tag) => {
+                let count = count_in(&spot.row, others);
+                self.spots.reserve(spot, tag, first(others, count))?;
+                Ok(count)
+            }
         }
     }
 
@@ -104,7 +101,7 @@ impl Partition {
         match wanted(atom)? {
             Room::Whole => Ok(()),
             Room::Cuts(lo, hi) => reserve_cuts(&mut self.ranges, lo, hi),
-            Room::At(spot, tag) => reserve_at(&mut self.spots, spot, tag),
+            Room::At(spot, tag) => self.spots.reserve(spot, tag, &[]),
         }
     }
 
@@ -116,7 +113,7 @@ impl Partition {
         match given(atom) {
             Addition::Whole(d) => self.top = greater_deletion(self.top, Some(d)),
             Addition::Range(lo, hi, d) => self.ranges.raise(lo, hi, d),
-            Addition::At(spot, content) => join_at(&mut self.spots, spot, content),
+            Addition::At(spot, content) => self.spots.join(spot, content),
         }
     }
 
@@ -126,10 +123,30 @@ impl Partition {
         ensures places { OnOk result (HavePlaces self.new atoms.now) }
         ensures makes { MakesPlaces atoms.now self.old self.new }
     {
-        for atom in atoms {
-            self.reserve(atom)?;
+        let mut rest = atoms;
+        while let [atom, others @ ..] = rest {
+            let count = self.reserve_run(atom, others)?;
+            rest = behind(others, count);
         }
         Ok(())
+    }
+
+    // Joins an atom, and those that come next and are of its row. The first one that isn't is handed out.
+    fn apply_run(&mut self, atom: Atom, rest: &mut IntoIter<Atom>) -> Option<Atom>
+        requires { HavePlaces self.old (atom ∷ into_iter_items rest.old) }
+        ensures { IsRun (into_iter_items rest.old) (with_first result (into_iter_items rest.new)) (λ run. JoinsAll (atom ∷ run) self.old self.new) }
+    {
+        match given(atom) {
+            Addition::Whole(d) => {
+                self.top = greater_deletion(self.top, Some(d));
+                first_of(rest)
+            }
+            Addition::Range(lo, hi, d) => {
+                self.ranges.raise(lo, hi, d);
+                first_of(rest)
+            }
+            Addition::At(spot, content) => self.spots.join_run(spot, content, rest),
+        }
     }
 
     /// Joins atoms that have their places.
@@ -138,8 +155,9 @@ impl Partition {
         ensures { JoinsAll atoms self.old self.new }
     {
         let mut rest = atoms.into_vec().into_iter();
-        while let Some(atom) = first_of(&mut rest) {
-            self.apply(atom);
+        let mut next = first_of(&mut rest);
+        while let Some(atom) = next {
+            next = self.apply_run(atom, &mut rest);
         }
     }
 }

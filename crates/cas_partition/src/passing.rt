@@ -1,121 +1,57 @@
-//! Entries and marks on their way into one stream, without rows of which nothing would be left.
+//! Rows and marks on their way into one stream, without rows of which nothing would be left.
 
-ghost use Rattle.std.specs.Prelude.{◌≡◌, ◌≤◌, ◌++◌, ◌∷◌, [], List as ListOf, None, Some, Option, IfOk, OnOk, length, take, drop, fold, map};
+ghost use Rattle.std.specs.Prelude.{◌≡◌, Some, Option, IfOk, map};
 ghost use Rattle.std.specs.Vec.Iter.{into_iter_items};
 ghost use Rattle.cas_cell.specs.declared.deletion.Deletion.{Deletion};
-ghost use Rattle.cas_streams.specs.Joined.{joined_fragment};
 ghost use Rattle.cas_streams.specs.Settled.{same_force, left_of};
 ghost use Rattle.cas_streams.specs.Sources.{TakesFirst, Shrinks};
-ghost use Rattle.cas_partition.specs.Spots.{said};
-ghost use Rattle.cas_partition.specs.Inner.Entries.{lent_piece};
 ghost use Rattle.cas_partition.specs.Inner.Firsts.{with_first};
-ghost use Rattle.cas_partition.specs.Inner.Passing.{lent_marker, own_marker, are_of_one, count_of, is_first, is_mark_next, is_cell_hidden};
-ghost use Rattle.cas_partition.specs.Inner.Passing.{is_hidden, all_hidden, row_of, left_to_come};
+ghost use Rattle.cas_partition.specs.Inner.Lent.{rows_in};
+ghost use Rattle.cas_partition.specs.Inner.Pieces.{fragment_of};
+ghost use Rattle.cas_partition.specs.Inner.Passing.{lent_marker, own_marker, is_first, is_mark_next};
+ghost use Rattle.cas_partition.specs.Inner.Passing.{is_cell_hidden, is_hidden, all_hidden, left_in, left_to_come};
 ghost use Rattle.cas_partition.specs.Inner.Steps.{marks_in, room_left, Steps};
 
+use crate::body::Body;
 use crate::cut_key::CutKey;
+use crate::lending::LentRows;
+use crate::pieces::fragment_of;
 use crate::ranges::{Mark, cut_of};
-use crate::slice::{piece, push_to};
-use crate::spot::{Content, Spot};
-use crate::spot_key::SpotKey;
+use crate::row_key::RowKey;
+use crate::spot::Content;
 use cas_atoms::{greater_deletion, standing_live};
 use cas_bounds::{End, MapKey, compare_points};
 use cas_cell::{Cell, Deletion, covers};
-use cas_merge::{joined_fragment, left_of};
+use cas_merge::left_of;
 use cas_streams::Fragment;
-use cas_types::List;
 use std::alloc::{AllocError, Global};
 use std::mem;
-use std::mem::drop;
 use std::vec::IntoIter;
 
 /// The key of a cut, and what is in force from it on.
 pub(crate) type Change = (CutKey, Option<Deletion>);
 
-// Whether both spots are of one row.
-fn are_of_one(spot: &SpotKey, other: &SpotKey) -> bool
-    ensures { result ≡ are_of_one spot.now.row other.now.row }
+// Whether the mark stands before the row.
+fn is_first(mark: &CutKey, key: &RowKey) -> bool
+    ensures { result ≡ is_first mark.now key.now }
 {
-    let mine = spot.front();
-    let next = other.front();
-    if mine.kind == next.kind && mine.number != next.number {
-        return false;
-    }
-    have_one_row(spot.spot(), other.spot())
-}
-
-// The same by the values of their rows.
-fn have_one_row(spot: &Spot, other: &Spot) -> bool
-    ensures { result ≡ are_of_one spot.now.row other.now.row }
-{
-    match (&spot.row, &other.row) {
-        (None, None) => true,
-        (Some(key), Some(next)) => compare_points(
-            key.order.as_slice(),
-            End::Row,
-            key.values.as_slice(),
-            End::Row,
-            next.values.as_slice(),
-        )
-        .is_eq(),
-        _ => false,
-    }
-}
-
-// How many of these come first that are of the row of the spot.
-fn count_of(spot: &SpotKey, entries: &[(&SpotKey, &Content)]) -> usize
-    ensures count { result ≡ count_of spot.now.row entries.now }
-    ensures most { result ≤ length entries.now }
-{
-    match entries {
-        [] => 0,
-        [(next, _), rest @ ..] => {
-            if are_of_one(spot, next) {
-                1 + count_of(spot, rest)
-            } else {
-                0
-            }
-        }
-    }
-}
-
-// So many first ones of these.
-fn first<X>(all: &[X], count: usize) -> &[X]
-    requires { count ≤ length all.now }
-    ensures { result.now ≡ take count all.now }
-{
-    all.split_at(count).0
-}
-
-// The others.
-fn behind<X>(all: &[X], count: usize) -> &[X]
-    requires { count ≤ length all.now }
-    ensures { result.now ≡ drop count all.now }
-{
-    all.split_at(count).1
-}
-
-// Whether the mark stands before the row of the spot.
-fn is_first(mark: &CutKey, spot: &SpotKey) -> bool
-    ensures { result ≡ is_first mark.now spot.now.row }
-{
-    let row = spot.front();
+    let row = key.front();
     let at = mark.front();
     if row.kind == at.kind && row.number != at.number {
         return row.number.cmp(&at.number).is_gt();
     }
-    stands_before(mark.key(), spot.spot())
+    stands_before(mark.key(), key.row())
 }
 
 // The same by the values of both.
-fn stands_before(mark: &MapKey, spot: &Spot) -> bool
-    ensures { result ≡ is_first mark.now spot.now.row }
+fn stands_before(mark: &MapKey, row: &Option<MapKey>) -> bool
+    ensures { result ≡ is_first mark.now row.now }
 {
     let end = match mark.end {
         End::Before | End::Row => End::Before,
         End::After => End::After,
     };
-    match &spot.row {
+    match row {
         None => false,
         Some(key) => compare_points(
             key.order.as_slice(),
@@ -148,50 +84,17 @@ fn is_hidden(over: Option<Deletion>, content: &Content) -> bool
         && is_cell_hidden(over, &content.cell)
 }
 
-// Whether that is so at all of these.
-fn all_hidden(over: Option<Deletion>, entries: &[(&SpotKey, &Content)]) -> bool
-    ensures { result ≡ all_hidden over entries.now }
+// Whether that is so at all places of a row.
+fn all_hidden(over: Option<Deletion>, body: &Body) -> bool
+    ensures { result ≡ all_hidden over body.now }
 {
-    match entries {
-        [] => true,
-        [(_, content), rest @ ..] => is_hidden(over, content) && all_hidden(over, rest),
+    let mut rest = body.iter();
+    while let Some((_, content)) = rest.next() {
+        if !is_hidden(over, content) {
+            return false;
+        }
     }
-}
-
-// A row takes in what is said at a further spot of it.
-fn take_in(
-    alloc: Global,
-    row: &mut Fragment,
-    spot: &Spot,
-    content: &Content,
-) -> Result<(), AllocError>
-    ensures { OnOk result (row.new ≡ joined_fragment row.old (said spot.now content.now)) }
-{
-    if spot.row.is_some() && push_to(alloc, row, spot, content)? {
-        return Ok(());
-    }
-    let piece = piece(alloc, spot, content)?;
-    let nothing = Fragment::Static(List::from_vec(Vec::new(alloc)));
-    let before = mem::replace(row, nothing);
-    let joined = joined_fragment(alloc, before, piece)?;
-    drop(mem::replace(row, joined));
-    Ok(())
-}
-
-// A row takes in what is said at further spots of it.
-fn take_in_all(
-    alloc: Global,
-    row: &mut Fragment,
-    others: &[(&SpotKey, &Content)],
-) -> Result<(), AllocError>
-    ensures { OnOk result (row.new ≡ fold joined_fragment row.old (map lent_piece others.now)) }
-{
-    let mut rest = others;
-    while let [(next, more), later @ ..] = rest {
-        take_in(alloc, row, next.spot(), more)?;
-        rest = later;
-    }
-    Ok(())
+    true
 }
 
 fn same_force(a: Option<Deletion>, b: Option<Deletion>) -> bool
@@ -223,19 +126,18 @@ fn pass_row(
     alloc: Global,
     top: Option<Deletion>,
     now: Option<Deletion>,
-    spot: &Spot,
-    content: &Content,
-    others: &[(&SpotKey, &Content)],
+    row: &Option<MapKey>,
+    body: &Body,
 ) -> Result<Option<Fragment>, AllocError>
-    ensures { IfOk result (λ f. f ≡ left_of top now (row_of spot.now content.now others.now)) }
+    ensures { IfOk result (λ f. f ≡ left_in top now (fragment_of row.now body.now)) }
 {
-    let over = greater_deletion(top, now);
-    if spot.row.is_some() && is_hidden(over, content) && all_hidden(over, others) {
+    if row.is_some() && all_hidden(greater_deletion(top, now), body) {
         return Ok(None);
     }
-    let mut row = piece(alloc, spot, content)?;
-    take_in_all(alloc, &mut row, others)?;
-    left_of(alloc, top, now, row)
+    match fragment_of(alloc, row, body)? {
+        None => Ok(None),
+        Some(fragment) => left_of(alloc, top, now, fragment),
+    }
 }
 
 /// Marks one after another, the first of which can be looked at.
@@ -273,13 +175,13 @@ impl Marks {
 }
 
 // Whether a mark comes next, and no row.
-fn is_mark_next(marks: &Marks, entries: &[(&SpotKey, &Content)]) -> bool
-    ensures { result ≡ is_mark_next (marks_in marks.now) entries.now }
+fn is_mark_next(marks: &Marks, rows: &LentRows<'_>) -> bool
+    ensures { result ≡ is_mark_next (marks_in marks.now) (rows_in rows.now) }
 {
-    match (&marks.first, entries) {
+    match (&marks.first, &rows.first) {
         (None, _) => false,
-        (Some(_), []) => true,
-        (Some((key, _)), [(spot, _), ..]) => is_first(key, spot),
+        (Some(_), None) => true,
+        (Some((mark, _)), Some((key, body))) => !body.is_empty() && is_first(mark, key),
     }
 }
 
@@ -297,52 +199,43 @@ fn pass_next(
     alloc: Global,
     top: Option<Deletion>,
     now: &mut Option<Deletion>,
-    entries: &[(&SpotKey, &Content)],
-    at: &mut usize,
+    rows: &mut LentRows<'_>,
     marks: &mut Marks,
 ) -> Result<Step, AllocError>
-    requires { at.old ≤ length entries.now }
-    ensures within { at.new ≤ length entries.now }
-    ensures steps { IfOk result (λ s. Steps s
-        (left_to_come top now.old (drop at.old entries.now) (map own_marker (marks_in marks.old)))
-        (left_to_come top now.new (drop at.new entries.now) (map own_marker (marks_in marks.new)))
-        (room_left (drop at.old entries.now) (marks_in marks.old)) (room_left (drop at.new entries.now) (marks_in marks.new))) }
+    ensures { IfOk result (λ s. Steps s
+        (left_to_come top now.old (rows_in rows.old) (map own_marker (marks_in marks.old)))
+        (left_to_come top now.new (rows_in rows.new) (map own_marker (marks_in marks.new)))
+        (room_left (rows_in rows.old) (marks_in marks.old)) (room_left (rows_in rows.new) (marks_in marks.new))) }
 {
-    let rest = behind(entries, *at);
-    if is_mark_next(marks, rest) {
+    if is_mark_next(marks, rows) {
         return match marks.next() {
             Some(mark) => Ok(Step::Passed(pass_mark(now, mark))),
             None => Ok(Step::End),
         };
     }
-    match rest {
-        [] => Ok(Step::End),
-        [(spot, content), others @ ..] => {
-            let count = count_of(spot, others);
-            *at += 1 + count;
-            let left = pass_row(alloc, top, *now, spot.spot(), content, first(others, count))?;
+    match rows.next() {
+        None => Ok(Step::End),
+        Some((key, body)) => {
+            let left = pass_row(alloc, top, *now, key.row(), body)?;
             Ok(Step::Passed(left))
         }
     }
 }
 
-/// The next fragment of the rows of entries, from one of them on, and of marks: of rows what neither
-/// the deletion of the whole covers nor the one in force, and marks that change what is in force.
+/// The next fragment of rows and marks: of rows what neither the deletion of the whole covers nor the
+/// one in force, and marks that change what is in force.
 pub(crate) fn next_left(
     alloc: Global,
     top: Option<Deletion>,
     now: &mut Option<Deletion>,
-    entries: &[(&SpotKey, &Content)],
-    at: &mut usize,
+    rows: &mut LentRows<'_>,
     marks: &mut Marks,
 ) -> Result<Option<Fragment>, AllocError>
-    requires { at.old ≤ length entries.now }
-    ensures within { at.new ≤ length entries.now }
-    ensures first { TakesFirst (left_to_come top now.old (drop at.old entries.now) (map own_marker (marks_in marks.old)))
-        (Some (left_to_come top now.new (drop at.new entries.now) (map own_marker (marks_in marks.new)))) result }
-    ensures ends { Shrinks (room_left (drop at.old entries.now) (marks_in marks.old)) (room_left (drop at.new entries.now) (marks_in marks.new)) result }
+    ensures first { TakesFirst (left_to_come top now.old (rows_in rows.old) (map own_marker (marks_in marks.old)))
+        (Some (left_to_come top now.new (rows_in rows.new) (map own_marker (marks_in marks.new)))) result }
+    ensures ends { Shrinks (room_left (rows_in rows.old) (marks_in marks.old)) (room_left (rows_in rows.new) (marks_in marks.new)) result }
 {
-    while let Step::Passed(left) = pass_next(alloc, top, now, entries, at, marks)? {
+    while let Step::Passed(left) = pass_next(alloc, top, now, rows, marks)? {
         if left.is_some() {
             return Ok(left);
         }
@@ -359,18 +252,6 @@ pub(crate) fn changes(alloc: Global, marks: &[Mark<'_>]) -> Result<Vec<Change>, 
     while let [(key, then), others @ ..] = rest {
         out.push((CutKey::of(cut_of(key.key())?), *then))?;
         rest = others;
-    }
-    Ok(out)
-}
-
-/// All of these as markers.
-pub(crate) fn markers(alloc: Global, changes: Vec<Change>) -> Result<Vec<Fragment>, AllocError>
-    ensures { IfOk result (λ v. v.items ≡ map own_marker changes.items) }
-{
-    let mut out = Vec::with_capacity(alloc, changes.len())?;
-    let mut rest = changes.into_iter();
-    while let Some((key, then)) = first_mark(&mut rest) {
-        out.push(Fragment::Marker(key.into_cut(), then))?;
     }
     Ok(out)
 }

@@ -14,13 +14,20 @@ use std::alloc::AllocError;
 use std::mem;
 
 /// A row or the static row itself, a column of it as a whole, or a cell of that column.
-#[derive(PartialEq, Eq, PartialOrd, Ord, Drop)]
+#[derive(Drop)]
 pub struct Spot {
     /// The row's place; the static row has none.
     pub row: Option<MapKey>,
     /// The column's number, if not the row itself is meant.
     pub column: Option<u16>,
     /// The cell's path, if not the whole of the column is meant.
+    pub path: Option<Bytes>,
+}
+
+/// A place within a row: the row itself, a column of it as a whole, or a cell of that column.
+#[derive(PartialEq, Eq, PartialOrd, Ord, Drop)]
+pub struct Place {
+    pub column: Option<u16>,
     pub path: Option<Bytes>,
 }
 

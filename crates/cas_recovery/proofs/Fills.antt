@@ -43,6 +43,7 @@ loaded_same t shard c d (i ∷ infos) (f ∷ fs) same are = (
     contents = are.0.contents;
     columns = are.0.columns;
     info = are.0.info;
+    own_info = are.0.own_info;
     kept = are.0.kept;
   },
   loaded_same t shard c d infos fs same are.1,

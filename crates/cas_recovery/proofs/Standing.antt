@@ -93,6 +93,7 @@ loaded_alike t shard d c (i ∷ infos) (f ∷ fs) alike are = (
     contents = are.0.contents;
     columns = are.0.columns;
     info = are.0.info;
+    own_info = are.0.own_info;
     kept = are.0.kept;
   },
   loaded_alike t shard d c infos fs alike.1 are.1,

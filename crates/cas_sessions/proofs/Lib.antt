@@ -31,7 +31,7 @@ mod FlushExplains
 mod FlushFiles
 mod TooMuch
 mod NothingMuch
-mod PartitionsFew
+mod LittleMuch
 mod FlushChange
 mod FlushShard
 mod FlushAll
@@ -41,3 +41,4 @@ mod FlushMaking
 mod FlushSound
 mod Statuses
 mod Verdicts
+pub mod StandWhole

@@ -143,19 +143,19 @@ one_isnt : (t : TableSchema) (shard : ℕ) → OneIsTooMuch t shard [] → ⊥
 one_isnt t shard m = by m.why
   where
     none : m.before ≡ []
-    none = none_stand t.columns m.before m.say.stand.each m.say.no_more
+    none = none_stand t.columns m.before m.say.each m.say.no_more
 
     silent : flat_of m.stream ≡ []
-    silent = nothing_said (flat_of m.stream) m.no_more
+    silent = nothing_said (flat_of m.stream) m.says.no_more
 
     top : m.stream.top ≡ None
     top = no_top m.stream.top m.stream.fragments silent
 
     fragments : m.stream.fragments ≡ []
-    fragments = no_fragments t.columns m.stream.top m.stream.fragments m.formed silent
+    fragments = no_fragments t.columns m.stream.top m.stream.fragments m.says.formed silent
 
     of : (what : Measure) → TooMuch what 0 (length (front_bytes (at_level_0 (head_of t shard m.number) []))) m.key None [] → ⊥
-    of FileBytes long = fits m.key m.key_fits.1 (omega (arith, long, front_short (head_of t shard m.number), head_short m.key))
+    of FileBytes long = fits m.key m.says.key_fits.1 (omega (arith, long, front_short (head_of t shard m.number), head_short m.key))
     of BlockBytes long = long tt
     of Partitions many = let limit : PARTITION_LIMIT ≡ 268435456 = refl in omega (arith, many, limit)
 
@@ -169,11 +169,11 @@ one_isnt t shard m = by m.why
         much)))
     by (inr unfit) =
         let key_limit : KEY_LIMIT ≡ 65535 = refl in
-        (subst (IsUnfit m.key) fragments unfit) (omega (arith, m.key_fits.1, key_limit), (omega arith, tt), tt)
+        (subst (IsUnfit m.key) fragments unfit) (omega (arith, m.says.key_fits.1, key_limit), (omega arith, tt), tt)
 
 all_isnt : (t : TableSchema) (shard : ℕ) → AllIsTooMuch t shard [] → ⊥
 all_isnt t shard m =
-    let none : m.partitions ≡ [] = none_stand t.columns m.partitions m.say.stand.each m.say.no_more in
+    let none : m.partitions ≡ [] = none_stand t.columns m.partitions m.say.each m.say.no_more in
     let facts : AreFacts [] m.facts = subst (λ (ps : List Partition). AreFacts (atoms_of (at_level_0 (head_of t shard m.number) ps)) m.facts) none m.of_atoms in
     facts.least.one
 

@@ -149,20 +149,24 @@ module _ (t : TableSchema) (shard : ℕ) (ms : List MemPart) (ws : List Mutation
         number = number;
         before = h.before;
         say = record {
-          stand = h.stand;
+          each = h.stand.each;
+          ascend = h.stand.ascend;
           no_more = each_among (is_below h.key) (λ key. atoms_under key ws) [] h.before
               (λ key passed. no_more_then (said_under key h.before) (atoms_under key (all_of held.places)) (atoms_under key ws) (are.no_more key passed) (held.no_more key))
               are.within;
           ends = each_ending (all_of held.places) ws held.ends h.before are.ends;
         };
         key = h.key;
-        key_fits = h.says.key_fits;
         stream = h.stream;
-        formed = h.says.formed;
-        cuts = h.says.cuts;
-        no_more =
-            no_more_then (flat_of h.stream) (atoms_under h.key (all_of held.places)) (atoms_under h.key ws) (h.says.no_more held.places held.stand) (held.no_more h.key);
-        ends = all_ending (all_of held.places) ws held.ends h.key (changes h.stream.fragments) (h.says.ends held.places held.stand);
+        says = record {
+          key_fits = h.says.key_fits;
+          formed = h.says.formed;
+          cuts = h.says.cuts;
+          no_more =
+              no_more_then (flat_of h.stream) (atoms_under h.key (all_of held.places)) (atoms_under h.key ws) (h.says.no_more held.places held.stand)
+              (held.no_more h.key);
+          ends = all_ending (all_of held.places) ws held.ends h.key (changes h.stream.fragments) (h.says.ends held.places held.stand);
+        };
         why = why;
       }
 
@@ -182,7 +186,8 @@ module _ (t : TableSchema) (shard : ℕ) (ms : List MemPart) (ws : List Mutation
         number = number;
         partitions = l.partitions;
         say = record {
-          stand = l.stand;
+          each = l.stand.each;
+          ascend = l.stand.ascend;
           no_more = each_among any (λ key. atoms_under key ws) [] l.partitions
               (λ key passed. no_more_then (said_under key l.partitions) (atoms_under key (all_of held.places)) (atoms_under key ws) (are.no_more key passed) (held.no_more key))
               are.within;

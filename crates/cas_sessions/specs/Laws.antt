@@ -1,7 +1,7 @@
 -- What holds of every open store (own).
-use Rattle.std.specs.Prelude.{◌≡◌, ◌≤◌, ℕ, false, Option, Result, Err, List, [], length}
-use Rattle.cas_types.specs.declared.schema.Column.{Column}
+use Rattle.std.specs.Prelude.{◌≡◌, ℕ, false, Option, Some, Result, Err, List, []}
 use Rattle.cas_types.specs.declared.schema.TableSchema.{TableSchema}
+use Rattle.cas_bounds.specs.declared.order.Ordered.{Ordered}
 use Rattle.cas_disk.specs.Disk.{Disk}
 use Rattle.cas_atoms.specs.declared.atom.Mutation.{Mutation}
 use Rattle.cas_journal.specs.Stores.{Told}
@@ -9,9 +9,13 @@ use Rattle.cas_sessions.specs.declared.answer.Fault.{Fault}
 use Rattle.cas_sessions.specs.declared.answer.Fault.TheVariants.{Mem, Stopped}
 use Rattle.cas_sessions.specs.Filling.{Settles, is_full}
 use Rattle.cas_sessions.specs.History.{History}
-use Rattle.cas_tables.specs.Contents.{Partition}
+use Rattle.cas_sstread.specs.Loading.{Held}
+use Rattle.cas_stored.specs.Stored.{StandInFile}
+use Rattle.cas_view.specs.Views.{File}
 use Rattle.cas_sessions.specs.Nodes.{State, StandsFor, LastsFor}
-use Rattle.cas_sessions.specs.TooMuch.{IsTooMuch, SayNoMore}
+use Rattle.cas_sessions.specs.TooMuch.{IsTooMuch}
+use Rattle.cas_sessions.specs.Verifying.{IsFoundSo}
+use Rattle.cas_sizes.specs.Little.{AreLittle}
 
 -- the history of a store in the eyes of another session, which wrote so often
 abbrev pub as_another : ℕ → ℕ → History → History
@@ -32,9 +36,9 @@ AllShare disk =
 abbrev pub NothingIsTooMuch : Type 0
 NothingIsTooMuch = (t : TableSchema) (shard : ℕ) → IsTooMuch t shard [] → ⊥
 
--- partitions that say no more than mutations do are no more than these: so there are too many of them for a file only where 2^28 mutations were written
-abbrev pub PartitionsAreFew : Type 0
-PartitionsAreFew = (columns : List Column) (ws : List Mutation) (ps : List Partition) → SayNoMore columns ws ps → length ps ≤ length ws
+-- where the records of what was written to a table in a shard are together at most 2^28 bytes long, that isn't too much for a file
+abbrev pub LittleIsNeverTooMuch : Type 0
+LittleIsNeverTooMuch = (t : TableSchema) (shard : ℕ) (ws : List Mutation) → AreLittle t.columns ws → IsTooMuch t shard ws → ⊥
 
 -- a flush that no earlier fault stopped, and that had the memory for its new memtable
 abbrev pub WasTried : Result (Option ℕ) Fault → Type 0
@@ -46,3 +50,7 @@ WasTried r = Unit {0}
 abbrev pub FullNoMore : Type 0
 FullNoMore = (h : History) (n table : ℕ) (r : Result (Option ℕ) Fault) (after : History) → Settles h n table r after
     → WasTried r → is_full after n table ≡ false
+
+-- a file in which mutations stand is found bad at no place by a check
+abbrev pub FilesAreWhole : Type 0
+FilesAreWhole = (order : List Ordered) (f : File Held) (ws : List Mutation) (at : ℕ) → StandInFile order f ws → IsFoundSo f.table (Some at) → ⊥

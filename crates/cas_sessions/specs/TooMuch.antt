@@ -1,49 +1,30 @@
 -- When what was written to a table is too much for one table file.
 -- Cassandra documentation, "Storage engine: SSTables"; the limits of a file are own.
 use Rattle.std.specs.Prelude.{◌<◌, ◌⊎◌, ℕ, List, length}
-use Rattle.std.specs.List.{AllByRecursion}
-use Rattle.cas_types.specs.declared.schema.Column.{Column}
 use Rattle.cas_types.specs.declared.schema.TableSchema.{TableSchema}
-use Rattle.cas_atoms.specs.Fits.{FitsKey}
 use Rattle.cas_atoms.specs.declared.atom.Mutation.{Mutation}
 use Rattle.cas_facts.specs.Facts.{AreFacts}
 use Rattle.cas_facts.specs.declared.facts.Facts.{Facts}
-use Rattle.cas_flush.specs.Flushed.{MayStand, at_level_0}
+use Rattle.cas_flush.specs.Flushed.{at_level_0}
 use Rattle.cas_flushing.specs.Flushed.{head_of}
 use Rattle.cas_info.specs.declared.info.TheConstants.{FILE_LIMIT}
-use Rattle.cas_memtable.specs.Kept.{atoms_under}
-use Rattle.cas_partition.specs.Ends.{AllAtEnds}
-use Rattle.cas_partition.specs.Partitions.{AreAtCuts}
+use Rattle.cas_sizes.specs.Little.{SaysUnder, SayUnder}
 use Rattle.cas_sstwrite.specs.Causes.{IsUnfit, TooMuch}
 use Rattle.cas_sstwrite.specs.declared.fault.Measure.{Measure}
-use Rattle.cas_streams.specs.Flat.{changes}
 use Rattle.cas_streams.specs.Joined.{Stream}
-use Rattle.cas_streams.specs.Merged.{flat_of}
-use Rattle.cas_streams.specs.NoMore.{SaysNoMore}
-use Rattle.cas_streams.specs.Streams.{WellFormed}
 use Rattle.cas_tables.specs.Contents.{Partition, atoms_of}
 use Rattle.cas_tables.specs.Files.{front_bytes, table_bytes}
 
--- Partitions that a file of the table may have, by ascending keys, each of which says no more than these mutations do under its key; and each of its markers
--- stands at an end of a range deletion that they wrote there.
-pub record SayNoMore (columns : List Column) (ws : List Mutation) (ps : List Partition) : Type 0 where
-  pub stand : MayStand columns ps
-  pub no_more : AllByRecursion (λ p. SaysNoMore (flat_of p.stream) (atoms_under p.key ws)) ps
-  pub ends : AllByRecursion (λ p. AllAtEnds (atoms_under p.key ws) (changes p.stream.fragments)) ps
-
--- One more such partition, behind such others, is too much for the file: 2^28 are there, or its bytes would be more than 2^40, or those of a block 2^32 or
--- more; or a number or a length has no room in its field, as that of 2^32 cells of a collection.
+-- A stream that says no more than these mutations do under its key is too much for the file, behind partitions that say no more under theirs: 2^28 of them
+-- are there, or its bytes would be more than 2^40, or those of a block 2^32 or more; or a number or a length has no room in its field, as that of 2^32 cells
+-- of a collection.
 pub record OneIsTooMuch (t : TableSchema) (shard : ℕ) (ws : List Mutation) : Type 0 where
   pub number : ℕ
   pub before : List Partition
-  pub say : SayNoMore t.columns ws before
+  pub say : SayUnder t.columns ws before
   pub key : List ℕ
-  pub key_fits : FitsKey key
   pub stream : Stream
-  pub formed : WellFormed t.columns stream.fragments
-  pub cuts : AreAtCuts t.columns (changes stream.fragments)
-  pub no_more : SaysNoMore (flat_of stream) (atoms_under key ws)
-  pub ends : AllAtEnds (atoms_under key ws) (changes stream.fragments)
+  pub says : SaysUnder t.columns ws key stream
   pub why : ((what : Measure)
       × TooMuch what (length before) (length (front_bytes (at_level_0 (head_of t shard number) before))) key stream.top stream.fragments)
       ⊎ IsUnfit key stream.fragments
@@ -52,7 +33,7 @@ pub record OneIsTooMuch (t : TableSchema) (shard : ℕ) (ws : List Mutation) : T
 pub record AllIsTooMuch (t : TableSchema) (shard : ℕ) (ws : List Mutation) : Type 0 where
   pub number : ℕ
   pub partitions : List Partition
-  pub say : SayNoMore t.columns ws partitions
+  pub say : SayUnder t.columns ws partitions
   pub facts : Facts
   pub of_atoms : AreFacts (atoms_of (at_level_0 (head_of t shard number) partitions)) facts
   pub long : FILE_LIMIT < length (table_bytes (at_level_0 (head_of t shard number) partitions) facts)

@@ -2,6 +2,7 @@
 -- Cassandra documentation, "nodetool verify"; own.
 use Rattle.std.specs.Prelude.{◌≡◌, ◌⊎◌, ℕ, ◌≤◌, ◌<◌, List, [], ◌∷◌, length, Option, None, Some, Result, Ok, Err}
 use Rattle.std.specs.List.{flat_map, range_with_len}
+use Rattle.cas_types.specs.Limits.{IsNarrow}
 use Rattle.cas_types.specs.declared.schema.TableSchema.{TableSchema}
 use Rattle.cas_io.specs.Causes.{Rose}
 use Rattle.cas_laws.specs.Given.{Has}
@@ -27,13 +28,14 @@ abbrev pub IsFirstBad : Option ℕ → Result (Unit {0}) ReadFault → Type 0
 IsFirstBad None read = read ≡ Ok tt
 IsFirstBad (Some at) read = IsBadAt read at
 
--- A file is found so, where it tells its bytes, by the facts that the atoms in its partitions have. One that is listed with more bytes than a file may have
--- isn't read, and is bad at its beginning.
+-- A file of a table with at most 256 columns is found so, where it tells its bytes, by the facts that the atoms in its partitions have. One that is listed with
+-- more bytes than a file may have isn't read, and is bad at its beginning.
 abbrev pub IsFoundSo : Held → Option ℕ → Type 0
 IsFoundSo t bad =
-    ((t.info.bytes ≤ FILE_LIMIT) × ((b : List ℕ) → t.contents ≡ Some b → (f : Facts) → AreFactsOf t.columns t.kept b f
+    IsNarrow t.columns
+    × (((t.info.bytes ≤ FILE_LIMIT) × ((b : List ℕ) → t.contents ≡ Some b → (f : Facts) → AreFactsOf t.columns t.kept b f
     → IsFirstBad bad (whole_at t.columns t.info t.kept f b)))
-    ⊎ ((FILE_LIMIT < t.info.bytes) × (bad ≡ Some 0))
+    ⊎ ((FILE_LIMIT < t.info.bytes) × (bad ≡ Some 0)))
 
 -- what is said of a file: its number, and what was found of it
 abbrev pub IsVerdict : File Held → Verdict → Type 0

@@ -1,6 +1,6 @@
 //! What holds of every open store.
 
-ghost use Rattle.cas_sessions.specs.Laws.{AllShare, FullNoMore, NothingIsTooMuch, PartitionsAreFew};
+ghost use Rattle.cas_sessions.specs.Laws.{AllShare, FilesAreWhole, FullNoMore, LittleIsNeverTooMuch, NothingIsTooMuch};
 ghost use Rattle.cas_sessions.specs.Next.{LeftExplains};
 
 use cas_disk::Folder;
@@ -27,12 +27,17 @@ pub fn nothing_is_too_much()
     ensures { NothingIsTooMuch }
 {}
 
-/// A flush makes no more partitions than mutations were written to the table in the shard.
-pub fn partitions_are_few()
-    ensures { PartitionsAreFew }
+/// Nor is it where what was written has short records: together at most 2^28 bytes.
+pub fn little_is_never_too_much()
+    ensures { LittleIsNeverTooMuch }
 {}
 
 /// A memtable is flushed for being full once: behind a flush that was tried it isn't full any more, whether the disk failed or not.
 pub fn full_no_more()
     ensures { FullNoMore }
+{}
+
+/// A table file in which mutations stand, one that was found or one of a flush, is never found bad by a check.
+pub fn files_are_whole()
+    ensures { FilesAreWhole }
 {}

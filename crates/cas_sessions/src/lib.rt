@@ -18,7 +18,8 @@ mod writing;
 
 pub use answer::{Answer, Fault, reply_of};
 pub use laws::{
-    full_no_more, left_explains, nothing_is_too_much, partitions_are_few, sessions_share,
+    files_are_whole, full_no_more, left_explains, little_is_never_too_much, nothing_is_too_much,
+    sessions_share,
 };
 pub use node::{Closed, Node, Pass, SESSION_LIMIT, Session, SessionFault, Stored};
 pub use opened::{Opened, start};

@@ -38,10 +38,12 @@ to_last (p ∷ []) a = (itself p.key, tt)
 to_last (p ∷ q ∷ ps) a = (at_last (λ k. reaches p.key k ≡ true) q ps (above p (q ∷ ps) a.0), to_last (q ∷ ps) a.1)
 
 pub loaded_stands : LoadedStands
-loaded_stands f c facts ws of listed says none = record {
+loaded_stands f c facts ws of of_atoms told listed says none = record {
   contents = c;
   facts = facts;
   of = of;
+  of_atoms = of_atoms;
+  told = told;
   ordered = refl;
   says = says;
   none = none;

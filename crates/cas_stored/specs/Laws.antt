@@ -25,7 +25,8 @@ LoadedIsOf = (t : Held) (c : Contents) (f : Facts) → FitsContents t.columns c 
 
 -- in the file of contents, loaded and listed as it tells of itself, the mutations stand of which these say what was written, and nothing else was
 abbrev pub LoadedStands : Type 0
-LoadedStands = (f : File Held) (c : Contents) (facts : Facts) (ws : List Mutation) → IsOf f.table c facts → f.info ≡ info_of c facts
+LoadedStands = (f : File Held) (c : Contents) (facts : Facts) (ws : List Mutation) → IsOf f.table c facts → AreFacts (atoms_of c) facts
+    → f.table.info ≡ info_of c facts → f.info ≡ info_of c facts
     → ((p : Partition) → Contains c.partitions p → SaysWhatIsWritten ws p) → ((key : List ℕ) → HasNone c key → atoms_under key ws ≡ [])
     → StandInFile (clustering_order f.table.columns) f ws
 

@@ -20,8 +20,10 @@ use Rattle.cas_memtable.specs.Memtables.{IsOfColumns}
 use Rattle.cas_memtable.specs.declared.memtable.MemPart.{MemPart}
 use Rattle.cas_memtable.specs.declared.parts.Parts.{Parts}
 use Rattle.cas_memtable.specs.Kept.{all_of, atoms_under, memtables_of, StandInEach}
+use Rattle.cas_facts.specs.Facts.{AreFacts}
 use Rattle.cas_facts.specs.declared.facts.Facts.{Facts}
-use Rattle.cas_tables.specs.Contents.{Contents, Partition}
+use Rattle.cas_tables.specs.Contents.{Contents, Partition, atoms_of}
+use Rattle.cas_tables.specs.Files.{info_of}
 use Rattle.cas_sstread.specs.Loading.{Held}
 use Rattle.cas_stored.specs.Contents.{HasNone, IsOf}
 use Rattle.cas_view.specs.Views.{File, may_hold}
@@ -34,12 +36,15 @@ pub record SaysWhatIsWritten (ws : List Mutation) (p : Partition) : Type 0 where
   pub no_more : SaysNoMore (flat_of p.stream) (atoms_under p.key ws)
   pub written : atoms_under p.key ws ≡ [] → ⊥
 
--- These mutations stand in the file, which is one of contents that its table may have: each partition says what they wrote under its key, and where there is
--- none they wrote nothing; the key of each lies from the first to the last that is told of the file. Of a file that doesn't tell its bytes none stand.
+-- These mutations stand in the file, which is one of contents that its table may have, loaded as it tells of itself: each partition says what they wrote under
+-- its key, and where there is none they wrote nothing; the key of each lies from the first to the last that is told of the file. Of a file that doesn't tell
+-- its bytes none stand.
 pub record StandInFile (order : List Ordered) (f : File Held) (ws : List Mutation) : Type 0 where
   pub contents : Contents
   pub facts : Facts
   pub of : IsOf f.table contents facts
+  pub of_atoms : AreFacts (atoms_of contents) facts
+  pub told : f.table.info ≡ info_of contents facts
   pub ordered : clustering_order f.table.columns ≡ order
   pub says : (p : Partition) → Contains contents.partitions p → SaysWhatIsWritten ws p
   pub none : (key : List ℕ) → HasNone contents key → atoms_under key ws ≡ []

@@ -31,7 +31,7 @@ module _ (columns more : List Column) (added : AreAdded more) where
   partition_stays p is = record {
     of = ordered_still columns more added (λ o. IsOf o p) is.of;
     cuts = at_cuts p.ranges is.cuts;
-    entries = are_in p.spots.entries is.entries;
+    entries = are_in p.spots is.entries;
   }
 
 pub memtables_stay : MemtablesStay

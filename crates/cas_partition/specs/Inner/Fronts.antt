@@ -1,8 +1,8 @@
--- A number by which most spots of one table are told apart, before all else is compared; and that their order is total (own).
+-- A number by which most rows of one table are told apart before all else is compared; and that the rows' order is total (own).
 use Rattle.std.specs.Prelude.{◌≡◌, ℕ, ◌+◌, ℤ, pos, negsuc, ◌-ℤ◌, Option, None, Some, List, [], ◌∷◌, if◌then◌else◌}
 use Rattle.std.specs.Int.{w8, w16, w32, w64}
-use Rattle.std.specs.Cmp.{IsTotalOrder, then_total, on_total, nat_cmp_total}
-use Rattle.std.specs.Cmp.Lexicographic.{options_total, nat_list_cmp_total}
+use Rattle.std.specs.Cmp.{IsTotalOrder}
+use Rattle.std.specs.Cmp.Lexicographic.{options_total}
 use Rattle.cas_types.specs.Values.{signed_number}
 use Rattle.cas_types.specs.declared.tag.TypeTag.{TypeTag}
 use Rattle.cas_types.specs.declared.tag.TypeTag.TheVariants.{Ascii, BigInt, Blob, Boolean, Date, Int, SmallInt, Text, Time, Timestamp, TimeUuid, TinyInt, Uuid}
@@ -10,9 +10,8 @@ use Rattle.cas_bounds.specs.Inner.KeyLaws.{key_total}
 use Rattle.cas_bounds.specs.declared.order.Ordered.{Ordered}
 use Rattle.cas_bounds.specs.declared.map_key.End.TheVariants.{Row}
 use Rattle.cas_bounds.specs.declared.map_key.MapKey.{MapKey}
-use Rattle.cas_partition.specs.Spots.{spot_cmp}
+use Rattle.cas_partition.specs.Spots.{row_cmp}
 use Rattle.cas_partition.specs.declared.front.Front.{Front}
-use Rattle.cas_partition.specs.declared.spot.Spot.{Spot}
 
 -- the number that a value of the type is, where the type has signed numbers
 abbrev pub plain_number : TypeTag → List ℕ → Option ℤ
@@ -78,7 +77,5 @@ abbrev pub HaveSameValues : Option MapKey → Option MapKey → Type 0
 HaveSameValues (Some k) (Some q) = (k.values ≡ q.values) × (k.end ≡ Row) × (q.end ≡ Row)
 HaveSameValues _ _ = ⊥
 
-pub spot_total : IsTotalOrder spot_cmp
-spot_total =
-    then_total (on_total (λ (s : Spot). s.row) (options_total key_total))
-    (then_total (on_total (λ (s : Spot). s.column) (options_total nat_cmp_total)) (on_total (λ (s : Spot). s.path) (options_total nat_list_cmp_total)))
+pub row_total : IsTotalOrder row_cmp
+row_total = options_total key_total

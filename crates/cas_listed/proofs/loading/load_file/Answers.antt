@@ -16,6 +16,7 @@ returns-in-Ok-load-clause-loaded g c image read =
       contents = c.in-Ok-load.ensures.contents ∙ told;
       columns = c.in-Ok-load.ensures.columns;
       info = c.in-Ok-load.ensures.infos.0;
+      own_info = c.in-Ok-load.ensures.infos.1;
       kept = c.in-Ok-load.ensures.loaded bytes told;
     }
 

@@ -1,4 +1,5 @@
 use Rattle.std.proofs.Common.{sym, ◌∙◌}
+use Rattle.cas_partition.proofs.RunLists.{spot_set}
 use Rattle.cas_partition.proofs.Taking.{whole_joins, range_joins, spot_joins}
 use Rattle.cas_partition.proofs.partition.Partition.apply.Goals as goal
 
@@ -10,4 +11,6 @@ returns-in-Range c =
     range_joins c.args.atom c.in-Range.lo c.in-Range.hi c.in-Range.d (sym c.given.ensures ∙ c.in-Range.is) c.args.self.now c.raise.new.self c.raise.ensures c.requires
 
 pub returns-in-At : goal.returns-in-At
-returns-in-At c = spot_joins c.args.atom c.in-At.spot c.in-At.content (sym c.given.ensures ∙ c.in-At.is) c.args.self.now c.join_at.new.spots c.join_at.ensures c.requires
+returns-in-At c =
+    spot_joins c.args.atom c.in-At.spot c.in-At.content (sym c.given.ensures ∙ c.in-At.is) c.args.self.now c.join.new.self
+    (λ old is. c.join.ensures ∙ spot_set c.in-At.spot old c.in-At.content c.args.self.now.spots is) c.requires

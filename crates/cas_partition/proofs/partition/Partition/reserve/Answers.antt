@@ -1,7 +1,8 @@
 use Rattle.std.proofs.Common.{◌≡◌, inl, inr, sym, ◌∙◌}
 use Rattle.cas_partition.specs.Placed.{wanted}
 use Rattle.cas_partition.specs.declared.spot.Room.TheVariants as wants
-use Rattle.cas_partition.proofs.Taking.{on_ok_too, either_way, same_changes, one_cut, both_cuts, cuts_there, one_spot, spot_there, same_spots}
+use Rattle.cas_partition.proofs.RunsKept.{none_partly}
+use Rattle.cas_partition.proofs.Taking.{on_ok_too, either_way, same_changes, one_cut, both_cuts, cuts_there, one_spot, spot_there}
 use Rattle.cas_partition.proofs.partition.Partition.reserve.Goals as goal
 
 pub returns-in-Cuts-clause-place : goal.returns-in-Cuts-clause-place
@@ -21,11 +22,11 @@ returns-in-Cuts-clause-makes c =
 
 pub returns-in-At-clause-place : goal.returns-in-At-clause-place
 returns-in-At-clause-place c =
-    on_ok_too c.reserve_at.result _ _
-    (spot_there c.args.atom.now c.args.self.now c.reserve_at.new.spots c.in-At.spot c.in-At.tag (sym c.in_ok-wanted.ensures ∙ c.in-At.is)) c.reserve_at.ensures.ok
+    on_ok_too c.reserve.result _ _
+    (spot_there c.args.atom.now c.args.self.now c.reserve.new.self c.in-At.spot c.in-At.tag (sym c.in_ok-wanted.ensures ∙ c.in-At.is)) c.reserve.ensures.made
 
 pub returns-in-At-clause-makes : goal.returns-in-At-clause-makes
 returns-in-At-clause-makes c =
-    either_way c.reserve_at.result _ _ _ c.reserve_at.ensures.ok c.reserve_at.ensures.err
-    (one_spot c.args.atom.now c.args.self.now c.reserve_at.new.spots c.in-At.spot c.in-At.tag (sym c.in_ok-wanted.ensures ∙ c.in-At.is))
-    (same_spots c.args.atom.now c.args.self.now c.reserve_at.new.spots)
+    either_way c.reserve.result _ _ _ c.reserve.ensures.made c.reserve.ensures.part
+    (one_spot c.args.atom.now c.args.self.now c.reserve.new.self c.in-At.spot c.in-At.tag (sym c.in_ok-wanted.ensures ∙ c.in-At.is))
+    (none_partly c.args.atom.now c.in-At.spot c.in-At.tag c.args.self.now c.reserve.new.self (sym c.in_ok-wanted.ensures ∙ c.in-At.is))

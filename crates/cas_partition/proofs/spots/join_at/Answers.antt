@@ -1,0 +1,13 @@
+use Rattle.std.proofs.Common.{sym, ap, ◌∙◌}
+use Rattle.std.specs.BTreeMap.{is_at}
+use Rattle.std.specs.Map.{lookup}
+use Rattle.cas_partition.specs.Spots.{row_cmp}
+use Rattle.cas_partition.specs.Inner.Fronts.{row_total}
+use Rattle.cas_partition.specs.Inner.Rows.{place_of, body_of, joined_place}
+use Rattle.cas_partition.proofs.RowLists.{set_none}
+use Rattle.cas_partition.proofs.spots.join_at.Goals as goal
+
+pub returns-in_default : goal.returns-in_default
+returns-in_default c =
+    ap (λ m. m.entries) c.get_mut-2.follows.holds-at-none
+    ∙ sym (set_none row_total c.args.spot.row (joined_place (place_of c.args.spot) c.args.content (body_of c.args.spot.row c.args.rows.now.entries)) c.args.rows.now.entries (ap (λ k. lookup (is_at (row_cmp k)) c.args.rows.now.entries) (sym c.of.ensures) ∙ sym c.in_default.ensures.value))

@@ -1,0 +1,13 @@
+pub mod Counting
+pub mod Lists
+pub mod Spots
+pub mod Itself
+pub mod Answered
+pub mod Shapes
+pub mod Markers
+pub mod Streams
+pub mod Blocks
+pub mod Rooms
+pub mod Keys
+pub mod Files
+pub mod Little
