@@ -97,8 +97,8 @@ pub record SameStore (t u : History) : Type 0 where
   pub last_file : t.disk.last_file ≡ u.disk.last_file
   pub live : t.disk.live ≡ u.disk.live
 
--- under the manual clock lines are answered in one way and leave one store, as long as memory doesn't run out, the disk is well, and what they flush fits, if none
--- of the table files is bad that are there before the first line; those of flushes never are
+-- under the manual clock lines are answered in one way and leave one store, as long as memory doesn't run out, the disk is well, and what they flush
+-- fits, if none of the table files is bad that are there before the first line; those of flushes never are
 abbrev pub OneOutcome : (ℤ → Type 0) → Type 0
 OneOutcome Gives =
     (h : History) (lines : List (List ℕ)) (rs ss : List Upshot) (t u : History)

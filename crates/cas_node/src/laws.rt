@@ -1,6 +1,7 @@
 //! What holds of every run of a script.
 
-ghost use Rattle.cas_node.specs.Laws.{AllAreRead, FilesAreFew, FoundHeld, FoundRise, HeldStay, LittleFits, LittleFlushesFit, LogIsHeld, NoFlushFits, NumbersStay, OneOutcome};
+ghost use Rattle.cas_node.specs.Laws.{AllAreRead, FilesAreFew, FoundHeld, FoundRise, HeldStay, LittleFits};
+ghost use Rattle.cas_node.specs.Laws.{LittleFlushesFit, LogIsHeld, NoFlushFits, NumbersStay, OneOutcome};
 
 use cas_disk::Folder;
 use cas_io::Clock;

@@ -23,9 +23,9 @@ use Rattle.cas_streams.specs.Merged.{flat_of}
 use Rattle.cas_streams.specs.NoMore.{Target, partition, range, one_row, one_column, deletion_of, SaysNoMore}
 use Rattle.cas_streams.specs.Streams.{WellFormed}
 use Rattle.cas_streams.proofs.Weaves.{all_and, all_of}
+use Rattle.cas_flush.proofs.Allowing.{where_true, same_itself, column_itself, at_itself}
 use Rattle.cas_sizes.proofs.Counting.{Answered, counted}
 use Rattle.cas_sizes.proofs.Spots.{Spot, spot_of, stream_apart}
-use Rattle.cas_sizes.proofs.Itself.{where_true, same_itself, column_itself, at_itself}
 
 -- ---- what is there only where a test holds
 

@@ -1,7 +1,6 @@
 pub mod Counting
 pub mod Lists
 pub mod Spots
-pub mod Itself
 pub mod Answered
 pub mod Shapes
 pub mod Markers
