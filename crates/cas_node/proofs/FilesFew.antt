@@ -164,16 +164,17 @@ few_named h None r after a = unchanged h after a.1
 few_named h (Some t) r after a = few_table h t r after a
 
 -- of one shard
-one_live : (t : TableSchema) (n : ℕ) (q : ShardHistory) (c : Option Change) (r : Result (Option ℕ) Fault) (d e : DiskState) → EndsIn t n q c r d e → e.live ≤ d.live + 1
-one_live t n q None (Ok told) d e one = omega (arith, one.live)
-one_live t n q (Some c) (Ok told) d e one =
+one_live : (t : TableSchema) (n : ℕ) (q : ShardHistory) (ws : List Mutation) (c : Option Change) (r : Result (Option ℕ) Fault) (d e : DiskState) → EndsIn t n q ws c r d e
+    → e.live ≤ d.live + 1
+one_live t n q ws None (Ok told) d e one = omega (arith, one.live)
+one_live t n q ws (Some c) (Ok told) d e one =
     let added = one_added t.number n q c (d.files n t.number) (e.files n t.number) one.files in
     omega (arith, one.live, added)
-one_live t n q c (Err f) d e none = omega (arith, none.live)
+one_live t n q ws c (Err f) d e none = omega (arith, none.live)
 
 few_one : (h after : History) (t : TableSchema) (n : ℕ) (r : Result (Option ℕ) Fault) → FlushesIn h t n r after → Few h after
 few_one h after t n r a =
-    let live = one_live t n (shard_at h n) a.change r h.disk a.disk a.ends in
+    let live = one_live t n (shard_at h n) (h.unflushed n t.number) a.change r h.disk a.disk a.ends in
     subst (Few h) (sym a.follows) (record { shards = refl; last = omega (arith, a.last_file); live = omega (arith, live) })
 
 -- segments are dropped

@@ -5,12 +5,11 @@ mod Carrying
 mod EntryRoom
 mod FilesFew
 mod FlushedAlike
-mod HeldFound
-mod HeldStay
 mod LittleFits
 mod NumbersRise
 mod OneOutcome
 mod RunLemmas
+mod SaidStay
 mod Settling
 mod Standing
 mod Staying

@@ -240,7 +240,7 @@ same_good fs gs shards table same =
 
 -- there isn't too much of anything
 fits : (h : History) (t : TableSchema) (n count more : ℕ) (e : DiskState) → FitsFiles h t → IsRoomy e.reach → e.live ≡ h.disk.live + more → more ≤ count → count ≤ length h.shards
-    → e.last_file ≤ h.disk.last_file + count + 1 → WhyTooMany t n (shard_at h n) e → ⊥
+    → e.last_file ≤ h.disk.last_file + count + 1 → WhyTooMany t n (shard_at h n) (h.unflushed n t.number) e → ⊥
 fits h t n count more e fit room live few many last (inl (inl full)) = absurd (omega (arith, fit.live, live, few, many, full))
 fits h t n count more e fit room live few many last (inl (inr full)) = absurd (omega (arith, fit.numbers, last, many, full))
 fits h t n count more e fit room live few many last (inr (inl entry)) =
@@ -248,23 +248,24 @@ fits h t n count more e fit room live few many last (inr (inl entry)) =
 fits h t n count more e fit room live few many last (inr (inr much)) = fit.no_more n much
 
 -- why a flush went no further is none of these, but that memory ran out
-no_fault : (t : TableSchema) (n : ℕ) (q : ShardHistory) (d e : DiskState) (f : Fault) → WhyNoFurther t n q d e f → (WhyTooMany t n q e → ⊥) → Well d e → (f ≡ fault.Mem → ⊥) → ⊥
-no_fault t n q d e (fault.Refused why) w few well fed = few w.2
-no_fault t n q d e (fault.Stopped first) w few well fed = w
-no_fault t n q d e (fault.Disk None) w few well fed = by w
+no_fault : (t : TableSchema) (n : ℕ) (q : ShardHistory) (ws : List Mutation) (d e : DiskState) (f : Fault) → WhyNoFurther t n q ws d e f → (WhyTooMany t n q ws e → ⊥) → Well d e
+    → (f ≡ fault.Mem → ⊥) → ⊥
+no_fault t n q ws d e (fault.Refused why) w few well fed = few w.2
+no_fault t n q ws d e (fault.Stopped first) w few well fed = w
+no_fault t n q ws d e (fault.Disk None) w few well fed = by w
   where
     by : Rose d.faults e.faults ⊎ ((e.stopped ≡ false) × Rose d.reads e.reads) → ⊥
     by (inl rose) = well.1 rose
     by (inr other) = well.3 other.1
-no_fault t n q d e (fault.Disk (Some number)) w few well fed = w
-no_fault t n q d e fault.Read w few well fed = well.3 w.1
-no_fault t n q d e (fault.BadBlock number at) w few well fed = w
-no_fault t n q d e fault.Mem w few well fed = fed refl
+no_fault t n q ws d e (fault.Disk (Some number)) w few well fed = w
+no_fault t n q ws d e fault.Read w few well fed = well.3 w.1
+no_fault t n q ws d e (fault.BadBlock number at) w few well fed = w
+no_fault t n q ws d e fault.Mem w few well fed = fed refl
 
 begun_well : (h : History) (t : TableSchema) (f : Fault) (after : History) → IsBegun h t (Err f) after → FitsFiles h t → Well h.disk after.disk → (f ≡ fault.Mem → ⊥) → ⊥
 begun_well h t f after a fit well fed =
     let here : Well h.disk a.2 = subst (Well h.disk) (ap (λ (k : History). k.disk) a.6) well in
-    no_fault t (length a.0) (shard_at h (length a.0)) h.disk a.2 f a.5.1
+    no_fault t (length a.0) (shard_at h (length a.0)) (h.unflushed (length a.0) t.number) h.disk a.2 f a.5.1
     (fits h t (length a.0) (length a.0) (length (numbers_added a.0)) a.2 fit here.2 a.4.live (numbers_few h t a.0 a.2 a.4) (omega (arith, a.5.0)) a.4.last_file.1) here fed
 
 fed_flush : (f : Fault) → tells_want (reply_of_flush (Err f)) ≡ false → f ≡ fault.Mem → ⊥
@@ -284,7 +285,7 @@ table_flushed h t (Err fault.Mem) after a v fit well = absurd (true≢false v)
 one_well : (h : History) (t : TableSchema) (n : ℕ) (f : Fault) (after : History) → FlushesIn h t n (Err f) after → FitsFiles h t → Well h.disk after.disk → (f ≡ fault.Mem → ⊥) → ⊥
 one_well h t n f after a fit well fed =
     let here : Well h.disk a.disk = subst (Well h.disk) (ap (λ (k : History). k.disk) a.follows) well in
-    no_fault t n (shard_at h n) h.disk a.disk f a.ends.why
+    no_fault t n (shard_at h n) (h.unflushed n t.number) h.disk a.disk f a.ends.why
     (fits h t n 0 0 a.disk fit here.2 (omega (arith, a.ends.live)) (omega arith) (omega arith) (omega (arith, a.last_file))) here fed
 
 fed_full : (f : Fault) → is_want {T = Option ℕ} (Err f) ≡ false → f ≡ fault.Mem → ⊥

@@ -202,14 +202,14 @@ changed_within (x ∷ xs) (suc n) c is = let within = changed_within xs n c is i
 stand_there : (order : List Ordered) (files : List (File Held)) (ws : List Mutation) → AreInFiles order files ws → AllByRecursion IsStanding files
 stand_there order files ws are = each_stands order files are.places are.stand
 
-further : (t : TableSchema) (n : ℕ) (q : ShardHistory) (d e : DiskState) (f : Fault) → WhyNoFurther t n q d e f → (e.stopped ≡ false) ⊎ Rose d.faults e.faults
-further t n q d e (fault.Refused why) w = inl w.1
-further t n q d e (fault.Stopped first) w = absurd w
-further t n q d e (fault.Disk None) w = ⊎_elim (λ rose. inr rose) (λ other. inl other.0) w
-further t n q d e (fault.Disk (Some number)) w = absurd w
-further t n q d e fault.Read w = inl w.0
-further t n q d e (fault.BadBlock number at) w = absurd w
-further t n q d e fault.Mem w = inl w
+further : (t : TableSchema) (n : ℕ) (q : ShardHistory) (ws : List Mutation) (d e : DiskState) (f : Fault) → WhyNoFurther t n q ws d e f → (e.stopped ≡ false) ⊎ Rose d.faults e.faults
+further t n q ws d e (fault.Refused why) w = inl w.1
+further t n q ws d e (fault.Stopped first) w = absurd w
+further t n q ws d e (fault.Disk None) w = ⊎_elim (λ rose. inr rose) (λ other. inl other.0) w
+further t n q ws d e (fault.Disk (Some number)) w = absurd w
+further t n q ws d e fault.Read w = inl w.0
+further t n q ws d e (fault.BadBlock number at) w = absurd w
+further t n q ws d e fault.Mem w = inl w
 
 module _ (h : History) (t : TableSchema) (changes : List (Option Change)) (e : DiskState) (so : Flushed h t changes e) where
   flushed_more : AreMore h.disk.files e.files
@@ -223,7 +223,7 @@ module _ (h : History) (t : TableSchema) (changes : List (Option Change)) (e : D
 
   ended : (begun : ℕ) (r : Result (List ℕ) Fault) → EndsSo h t changes begun r e → (e.stopped ≡ false) ⊎ Rose h.disk.faults e.faults
   ended begun (Ok told) ends = inl ends.2
-  ended begun (Err f) ends = further t (length changes) (shard_at h (length changes)) h.disk e f ends.1
+  ended begun (Err f) ends = further t (length changes) (shard_at h (length changes)) (h.unflushed (length changes) t.number) h.disk e f ends.1
 
   flushed_counts : (begun : ℕ) (r : Result (List ℕ) Fault) → EndsSo h t changes begun r e → Counts h.disk e
   flushed_counts begun r ends = record {
@@ -263,9 +263,10 @@ named_counts h None r after a = unchanged h after a.1
 named_counts h (Some t) r after a = flush_counts h t r after a
 
 -- of one shard
-more_in : (t : TableSchema) (n : ℕ) (q : ShardHistory) (c : Option Change) (r : Result (Option ℕ) Fault) (d e : DiskState) → EndsIn t n q c r d e → AreMore d.files e.files
-more_in t n q c (Err f) d e none k j = ([], none.files k j ∙ sym (append-nil (d.files k j)), tt)
-more_in t n q c (Ok told) d e one k j = ⊎_elim (λ here. ⊎_elim (λ of_it. own here of_it) (λ apart. other (λ both. apart both.1)) (same_or_not j t.number)) (λ apart. other (λ both. apart both.0)) (same_or_not k n)
+more_in : (t : TableSchema) (n : ℕ) (q : ShardHistory) (ws : List Mutation) (c : Option Change) (r : Result (Option ℕ) Fault) (d e : DiskState) → EndsIn t n q ws c r d e
+    → AreMore d.files e.files
+more_in t n q ws c (Err f) d e none k j = ([], none.files k j ∙ sym (append-nil (d.files k j)), tt)
+more_in t n q ws c (Ok told) d e one k j = ⊎_elim (λ here. ⊎_elim (λ of_it. own here of_it) (λ apart. other (λ both. apart both.1)) (same_or_not j t.number)) (λ apart. other (λ both. apart both.0)) (same_or_not k n)
   where
     other : ((k ≡ n) × (j ≡ t.number) → ⊥) → (more : List (File Held)) × (e.files k j ≡ d.files k j ++ more) × AllByRecursion IsStanding more
     other apart = ([], one.others k j apart ∙ sym (append-nil (d.files k j)), tt)
@@ -277,15 +278,15 @@ more_in t n q c (Ok told) d e one k j = ⊎_elim (λ here. ⊎_elim (λ of_it. o
         (grown t.number n q c (d.files n t.number) (e.files n t.number) one.files
         (λ c is. stand_there (clustering_order t.columns) (e.files n t.number) _ one.all)))
 
-ends_on : (t : TableSchema) (n : ℕ) (q : ShardHistory) (c : Option Change) (r : Result (Option ℕ) Fault) (d e : DiskState) → EndsIn t n q c r d e
+ends_on : (t : TableSchema) (n : ℕ) (q : ShardHistory) (ws : List Mutation) (c : Option Change) (r : Result (Option ℕ) Fault) (d e : DiskState) → EndsIn t n q ws c r d e
     → (e.stopped ≡ false) ⊎ Rose d.faults e.faults
-ends_on t n q c (Ok told) d e one = inl one.stopped
-ends_on t n q c (Err f) d e none = further t n q d e f none.why
+ends_on t n q ws c (Ok told) d e one = inl one.stopped
+ends_on t n q ws c (Err f) d e none = further t n q ws d e f none.why
 
 -- how far the files have come by it
-far_in : (t : TableSchema) (n : ℕ) (q : ShardHistory) (c : Option Change) (r : Result (Option ℕ) Fault) (d e : DiskState) → EndsIn t n q c r d e → IsFurther d.reach e.reach
-far_in t n q c (Ok told) d e one = subst (IsFurther d.reach) (sym one.reach) (by_one d.reach c)
-far_in t n q c (Err f) d e none = as_far d.reach e.reach none.reach
+far_in : (t : TableSchema) (n : ℕ) (q : ShardHistory) (ws : List Mutation) (c : Option Change) (r : Result (Option ℕ) Fault) (d e : DiskState) → EndsIn t n q ws c r d e → IsFurther d.reach e.reach
+far_in t n q ws c (Ok told) d e one = subst (IsFurther d.reach) (sym one.reach) (by_one d.reach c)
+far_in t n q ws c (Err f) d e none = as_far d.reach e.reach none.reach
 
 one_counts : (h after : History) (t : TableSchema) (n : ℕ) (r : Result (Option ℕ) Fault) → FlushesIn h t n r after → Counts h.disk after.disk
 one_counts h after t n r a =
@@ -293,9 +294,9 @@ one_counts h after t n r a =
     (record {
       faults = a.faults;
       reads = a.reads;
-      reach = far_in t n (shard_at h n) a.change r h.disk a.disk a.ends;
-      stops = λ on. ends_on t n (shard_at h n) a.change r h.disk a.disk a.ends;
-      files = more_in t n (shard_at h n) a.change r h.disk a.disk a.ends;
+      reach = far_in t n (shard_at h n) (h.unflushed n t.number) a.change r h.disk a.disk a.ends;
+      stops = λ on. ends_on t n (shard_at h n) (h.unflushed n t.number) a.change r h.disk a.disk a.ends;
+      files = more_in t n (shard_at h n) (h.unflushed n t.number) a.change r h.disk a.disk a.ends;
     })
 
 -- segments are dropped

@@ -1,11 +1,9 @@
 -- What holds of every run of a script, and of every open store (own).
-use Rattle.std.specs.Prelude.{◌≡◌, ◌<◌, ◌≤◌, ◌+◌, ◌*◌, ◌^◌, ℕ, ℤ, true, false, Some, Result, Ok, List, [], ◌∷◌, length, map, slice_get, slice_index_or}
-use Rattle.std.specs.List.{AllByRecursion, list_any, sum_by}
+use Rattle.std.specs.Prelude.{◌≡◌, ◌<◌, ◌≤◌, ◌+◌, ◌*◌, ◌^◌, ℕ, ℤ, true, false, Some, Result, Ok, List, [], ◌∷◌, length, map, slice_get}
+use Rattle.std.specs.List.{list_any}
 use Rattle.cas_io.specs.Causes.{Rose}
 use Rattle.cas_disk.specs.Disk.{Disk}
-use Rattle.cas_atoms.specs.LogLength.{record_length}
 use Rattle.cas_atoms.specs.declared.atom.Mutation.{Mutation}
-use Rattle.cas_types.specs.Limits.{IsMoment}
 use Rattle.cas_types.specs.declared.schema.TableSchema.{TableSchema}
 use Rattle.cas_bind.specs.Meaning.{meaning}
 use Rattle.cas_bind.specs.declared.bound.Bound.{Bound}
@@ -16,7 +14,7 @@ use Rattle.cas_changes.specs.declared.entry.Entry.{Entry as ManifestEntry}
 use Rattle.cas_changes.specs.declared.said.TheConstants.{SEGMENT_LIMIT, FILE_LIMIT}
 use Rattle.cas_changes.specs.Saying.{nothing, said_by}
 use Rattle.cas_manifest.specs.File.{MayFollow}
-use Rattle.cas_memtable.specs.Kept.{MayHold}
+use Rattle.cas_memtable.specs.Kept.{bytes_of}
 use Rattle.cas_effects.specs.declared.refusal.Refusal.{Refusal}
 use Rattle.cas_info.specs.declared.info.TheConstants.{FILE_NUMBER_LIMIT}
 use Rattle.cas_journal.specs.Reach.{Reach}
@@ -26,14 +24,14 @@ use Rattle.cas_render.specs.declared.reply.Reply.{Reply}
 use Rattle.cas_render.specs.declared.reply.Reply.TheVariants as reply
 use Rattle.cas_room.specs.Changing.{added_by}
 use Rattle.cas_room.specs.declared.table_files.TheConstants.{LIVE_LIMIT}
-use Rattle.cas_shard.specs.Shards.{ShardHistory, all_entries, empty_shard, found_shard}
-use Rattle.cas_shard.specs.Stands.{NumbersRise, AreShown, mutations_of}
+use Rattle.cas_shard.specs.Shards.{ShardHistory}
+use Rattle.cas_shard.specs.Stands.{NumbersRise, AreShown}
 use Rattle.cas_terms.specs.Columns.{table_named}
 use Rattle.cql_parse.specs.declared.syntax.Statement.{Statement}
 use Rattle.cql_parse.specs.declared.syntax.TableName.{TableName}
 use Rattle.cas_sessions.specs.Filling.{is_full}
 use Rattle.cas_sessions.specs.Status.{file_numbers}
-use Rattle.cas_sessions.specs.TooMuch.{IsTooMuch}
+use Rattle.cas_sessions.specs.TooMuch.{IsOverfull}
 use Rattle.cas_words.specs.declared.words.ClockKind.{ClockKind}
 use Rattle.cas_words.specs.declared.words.ClockKind.TheVariants as clock
 use Rattle.cas_sessions.specs.History.{History, DiskState, Does, shard_at}
@@ -41,7 +39,7 @@ use Rattle.cas_shard.specs.declared.entry.ShardOpening.{ShardOpening}
 use Rattle.cas_node.specs.declared.upshot.Upshot.{Upshot}
 use Rattle.cas_node.specs.Lines.{Answers, NoneFlushes, Runs, is_starved}
 use Rattle.cas_node.specs.Ran.{AreGood}
-use Rattle.cas_recovery.specs.Found.{AreOfAStore, found_in}
+use Rattle.cas_recovery.specs.Found.{AreOfAStore}
 use Rattle.cas_recovery.specs.Openings.{AreOpenings}
 use Rattle.cas_sessions.specs.Starts.{Begins, start}
 use Rattle.cas_sstread.specs.Loading.{Held}
@@ -55,11 +53,12 @@ IsRoomy r = (r.segment < SEGMENT_LIMIT) × (r.manifest + 2 ^ 32 + 10 ≤ FILE_LI
 abbrev pub StaysWell : DiskState → DiskState → Type 0
 StaysWell d e = (d.stopped ≡ false) × (Rose d.faults e.faults → ⊥) × IsRoomy e.reach × (Rose d.reads e.reads → ⊥)
 
--- there may be a table file more for each shard, and one, and numbers for them; and what was written to the table is in no shard too much for one file
+-- there may be a table file more for each shard, and one, and numbers for them; and what was written to the table and stands in no file yet is in no shard too
+-- much for one
 pub record FitsFiles (h : History) (t : TableSchema) : Type 0 where
   pub live : h.disk.live + (length h.shards + 1) ≤ LIVE_LIMIT
   pub numbers : h.disk.last_file + (length h.shards + 1) < FILE_NUMBER_LIMIT
-  pub no_more : (n : ℕ) → IsTooMuch t n (mutations_of t.number (all_entries (shard_at h n))) → ⊥
+  pub no_more : (n : ℕ) → IsOverfull t n (h.unflushed n t.number) → ⊥
 
 -- this holds of the table of a memtable that a statement leaves full that is to do this, and is answered so
 abbrev pub FindsBehind : (History → TableSchema → Type 0) → Result Bound Refusal → Reply → History → Type 0
@@ -139,12 +138,6 @@ FilesAreFew Gives =
 
 -- ---- what is little fits
 
--- Each mutation of a shard is one that its table may hold, and there is none of a table that isn't there; its moment is one that a mutation may have.
-pub record IsHeld (tables : List TableSchema) (s : ShardHistory) : Type 0 where
-  pub may : (table : ℕ) (t : TableSchema) → slice_get tables table ≡ Some t → AllByRecursion (MayHold t.columns) (mutations_of table (all_entries s))
-  pub none : (table : ℕ) → length tables ≤ table → mutations_of table (all_entries s) ≡ []
-  pub moment : IsMoment s.moment
-
 -- tables as a manifest may tell them, in a store with so many shards
 pub record MayBeSaid (tables : List TableSchema) (shards : ℕ) : Type 0 where
   pub entries : List ManifestEntry
@@ -153,50 +146,33 @@ pub record MayBeSaid (tables : List TableSchema) (shards : ℕ) : Type 0 where
   pub tables_are : (said_by entries).tables ≡ tables
   pub shards_are : (said_by entries).shards ≡ shards
 
--- so it is of all shards, of tables as CREATE TABLE and ALTER TABLE make them, where the clock was set to a moment
-pub record AreHeld (shards : ℕ) (tables : List TableSchema) (histories : List ShardHistory) (seconds : ℤ) : Type 0 where
-  pub said : MayBeSaid tables shards
-  pub each : (n : ℕ) → IsHeld tables (slice_index_or histories n (found_shard empty_shard))
-  pub clock : IsMoment seconds
+-- the tables of a history are so, as CREATE TABLE and ALTER TABLE make them
+abbrev pub AreSaid : History → Type 0
+AreSaid h = MayBeSaid h.tables h.limits.shards
 
--- the shards, the tables and the clock of a history are so
-abbrev pub AllHeld : History → Type 0
-AllHeld h = AreHeld h.limits.shards h.tables h.shards h.clock
-
--- each mutation that a shard may have had before the run is one that its table may hold
-abbrev pub WereHeld : List ManifestEntry → (ℕ → ShardOpening) → Type 0
-WereHeld entries openings =
-    (n table : ℕ) (t : TableSchema) → n < (said_by entries).shards → slice_get (said_by entries).tables table ≡ Some t
-    → AllByRecursion (MayHold t.columns) (mutations_of table (openings n).entries)
-
--- where that is so of what the shards were before the run, it is so before the first line, whatever store of a folder the run began with
-abbrev pub FoundHeld : Disk → Type 0
-FoundHeld folder =
+-- they are before the first line, whatever store of a folder the run began with
+abbrev pub FoundSaid : Type 0
+FoundSaid =
     (l : Limits) (entries : List ManifestEntry) (mutations : List Mutation) (openings : ℕ → ShardOpening) (files : ℕ → ℕ → List (File Held)) (faults : ℕ)
-    (h : History) → AreOfAStore entries mutations → AreOpenings entries mutations folder openings → WereHeld entries openings
-    → Begins l entries mutations openings files faults h → AllHeld h
+    (h : History) → AreOfAStore entries mutations → Begins l entries mutations openings files faults h → AreSaid h
 
--- and it is so of what the log has
-abbrev pub LogIsHeld : Type 0
-LogIsHeld = (entries : List ManifestEntry) (mutations : List Mutation) → AreOfAStore entries mutations → WereHeld entries (λ n. found_in n mutations)
+-- along a run they stay so, under either clock and whatever is answered
+abbrev pub SaidStay : (ℤ → Type 0) → Type 0
+SaidStay Gives =
+    (kind : ClockKind) (h after : History) (lines : List (List ℕ)) (rs : List Upshot) → AreSaid h → Runs kind Gives h lines rs after → AreSaid after
 
--- along a run it stays so, under either clock and whatever is answered
-abbrev pub HeldStay : (ℤ → Type 0) → Type 0
-HeldStay Gives =
-    (kind : ClockKind) (h after : History) (lines : List (List ℕ)) (rs : List Upshot) → AllHeld h → Runs kind Gives h lines rs after → AllHeld after
-
--- what was written to the table has short records in each shard, together at most 2^28 bytes; and there may be a table file more for each, and one, and numbers
--- for them
+-- what was written to the table and stands in no file yet has short records in each shard, together at most 2^28 bytes; and there may be a table file more for
+-- each, and one, and numbers for them
 pub record IsLittle (h : History) (t : TableSchema) : Type 0 where
   pub live : h.disk.live + (length h.shards + 1) ≤ LIVE_LIMIT
   pub numbers : h.disk.last_file + (length h.shards + 1) < FILE_NUMBER_LIMIT
-  pub short : (n : ℕ) → sum_by record_length (mutations_of t.number (all_entries (shard_at h n))) ≤ 2 ^ 28
+  pub short : (n : ℕ) → bytes_of 0 (h.unflushed n t.number) ≤ 2 ^ 28
 
--- so a table to which little was written fits into table files
+-- so a table of which little stands in no file fits into table files
 abbrev pub LittleFits : Type 0
-LittleFits = (h : History) (table : ℕ) (t : TableSchema) → AllHeld h → slice_get h.tables table ≡ Some t → IsLittle h t → FitsFiles h t
+LittleFits = (h : History) (table : ℕ) (t : TableSchema) → AreSaid h → slice_get h.tables table ≡ Some t → IsLittle h t → FitsFiles h t
 
 -- and lines whose flushes find little flush what fits
 abbrev pub LittleFlushesFit : (ℤ → Type 0) → Type 0
 LittleFlushesFit Gives =
-    (kind : ClockKind) (h : History) (lines : List (List ℕ)) → AllHeld h → FlushesFind IsLittle kind Gives h lines → FlushesFit kind Gives h lines
+    (kind : ClockKind) (h : History) (lines : List (List ℕ)) → AreSaid h → FlushesFind IsLittle kind Gives h lines → FlushesFit kind Gives h lines

@@ -1,7 +1,7 @@
 //! What holds of every run of a script.
 
-ghost use Rattle.cas_node.specs.Laws.{AllAreRead, FilesAreFew, FoundHeld, FoundRise, HeldStay, LittleFits};
-ghost use Rattle.cas_node.specs.Laws.{LittleFlushesFit, LogIsHeld, NoFlushFits, NumbersStay, OneOutcome};
+ghost use Rattle.cas_node.specs.Laws.{AllAreRead, FilesAreFew, FoundRise, FoundSaid, LittleFits};
+ghost use Rattle.cas_node.specs.Laws.{LittleFlushesFit, NoFlushFits, NumbersStay, OneOutcome, SaidStay};
 
 use cas_disk::Folder;
 use cas_io::Clock;
@@ -30,16 +30,13 @@ pub fn files_are_few<C: Clock>()
     ensures { (clock : C) → FilesAreFew (C.may_give clock) }
 {}
 
-/// Along a run the mutations of each table in each shard are ones that the table may hold, if those were so that
-/// the shards had before, as those of the log are. So what is flushed of a table to which little was written fits into
-/// table files.
-pub fn little_fits<C: Clock, F: Folder>(folder: &F)
-    ensures begin { FoundHeld (F.disk folder.now) }
-    ensures log { LogIsHeld }
-    ensures stay { (clock : C) → HeldStay (C.may_give clock) }
+/// Before the first line and along a run the tables are as a manifest may tell them. So what is flushed of a table
+/// of which little stands in memory fits into table files.
+pub fn little_fits<C: Clock>()
+    ensures begin { FoundSaid }
+    ensures stay { (clock : C) → SaidStay (C.may_give clock) }
     ensures fits { LittleFits }
     ensures flushes { (clock : C) → LittleFlushesFit (C.may_give clock) }
 {
-    let _folder = folder;
     little_is_never_too_much();
 }

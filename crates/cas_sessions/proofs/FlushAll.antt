@@ -346,16 +346,16 @@ named_there tables n t places e =
 
 -- ---- no shard more
 
-why_since : (t : TableSchema) (n : ℕ) (q : ShardHistory) (d m e : DiskState) (f : Fault) → d.faults ≤ m.faults → d.reads ≤ m.reads → WhyNoFurther t n q m e f
-    → WhyNoFurther t n q d e f
-why_since t n q d m e (Refused why) faults reads is = is
-why_since t n q d m e (Stopped first) faults reads is = is
-why_since t n q d m e (Failed None) faults reads (inl rose) = inl (omega (arith, faults, rose))
-why_since t n q d m e (Failed None) faults reads (inr rose) = inr (rose.0, omega (arith, reads, rose.1))
-why_since t n q d m e (Failed (Some number)) faults reads is = is
-why_since t n q d m e Read faults reads rose = (rose.0, omega (arith, reads, rose.1))
-why_since t n q d m e (BadBlock number at) faults reads is = is
-why_since t n q d m e Mem faults reads is = is
+why_since : (t : TableSchema) (n : ℕ) (q : ShardHistory) (ws : List Mutation) (d m e : DiskState) (f : Fault) → d.faults ≤ m.faults → d.reads ≤ m.reads
+    → WhyNoFurther t n q ws m e f → WhyNoFurther t n q ws d e f
+why_since t n q ws d m e (Refused why) faults reads is = is
+why_since t n q ws d m e (Stopped first) faults reads is = is
+why_since t n q ws d m e (Failed None) faults reads (inl rose) = inl (omega (arith, faults, rose))
+why_since t n q ws d m e (Failed None) faults reads (inr rose) = inr (rose.0, omega (arith, reads, rose.1))
+why_since t n q ws d m e (Failed (Some number)) faults reads is = is
+why_since t n q ws d m e Read faults reads rose = (rose.0, omega (arith, reads, rose.1))
+why_since t n q ws d m e (BadBlock number at) faults reads is = is
+why_since t n q ws d m e Mem faults reads is = is
 
 further : (n : ℕ) (ks : List ℕ) (last now : ℕ) → last ≤ now → AscendTo n ks last → AscendTo n ks now
 further n [] last now le up = omega (arith, up, le)
@@ -455,8 +455,9 @@ no_further t k told x s u v d e f first one few = record {
         (
           still_flushed h t first.changes (disk_of u) (disk_of v) so none.0.files none.0.reach one.beside.faults one.beside.reads none.0.live one.beside.last
               (omega (arith, began, first.numbers, first.many, one.numbers)),
-          subst (λ (j : ℕ). WhyNoFurther t j (shard_at h j) (disk_of s) (disk_of v) x) (sym first.many)
-              (why_since t k (shard_at h k) (disk_of s) (disk_of u) (disk_of v) x first.beside.faults first.beside.reads none.0.why),
+          subst (λ (j : ℕ). WhyNoFurther t j (shard_at h j) (h.unflushed j t.number) (disk_of s) (disk_of v) x) (sym first.many)
+              (subst (λ (ws : List Mutation). WhyNoFurther t k (shard_at h k) ws (disk_of s) (disk_of v) x) (as_before h t.number k first.changes first.many)
+              (why_since t k (shard_at h k) (left k t.number) (disk_of s) (disk_of u) (disk_of v) x first.beside.faults first.beside.reads none.0.why)),
         ),
       );
   own = one.own;
@@ -551,7 +552,8 @@ flushes_all name t told s u d e is going on first c reads h stands =
 
 -- a fault that isn't of an earlier one
 fails_by : (h : History) (t : TableSchema) (f : Fault) (changes : List (Option Change)) (begun : ℕ) (u : State) → h.disk.stopped ≡ false → Flushed h t changes (disk_of u)
-    → length changes < length h.shards → WhyNoFurther t (length changes) (shard_at h (length changes)) h.disk (disk_of u) f
+    → length changes < length h.shards
+    → WhyNoFurther t (length changes) (shard_at h (length changes)) (h.unflushed (length changes) t.number) h.disk (disk_of u) f
     → AreBegun f (length changes) begun → FlushesTable h t (Err f) (flushed_to h t.number changes begun u)
 fails_by h t (Refused why) changes begun u going flushed few is so = (changes, begun, disk_of u, going, flushed, (few, is, so), refl)
 fails_by h t (Stopped first) changes begun u going flushed few is so = absurd is
@@ -569,7 +571,7 @@ flushes_some name t f s u d e is going none c reads one h stands =
       after,
       named h s.tables name (Some t) (Err f) after stands.tables is
           (fails_by h t f none.changes none.begun u (ap (λ (x : DiskState). x.stopped) stands.disk ∙ ap is_some going) so.0 (omega (arith, none.few, stands.count))
-          (subst (λ (x : DiskState). WhyNoFurther t n (shard_at h n) x (disk_of u) f) (sym stands.disk) so.1) none.begins),
+          (subst (λ (x : DiskState). WhyNoFurther t n (shard_at h n) (h.unflushed n t.number) x (disk_of u) f) (sym stands.disk) so.1) none.begins),
       went_to h (without_flushed t.number none.changes h.unflushed) (without_begun t.number none.begun h.filled) (fold changes_by h.changes none.changes) s u d e (c, reads) stands now
           (none.fills h.filled stands.filled) (λ found was lasts. none.lasts h found was stands.tables lasts),
     )

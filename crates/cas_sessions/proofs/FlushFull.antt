@@ -96,7 +96,7 @@ module _ (t : TableSchema) (n table : ℕ) (r : Result (Option ℕ) Fault) (s u 
         disk = disk_of u;
         begun = one.begun;
         going = ap (λ (x : DiskState). x.stopped) began ∙ ap is_some going;
-        ends = subst (λ (x : DiskState). EndsIn t n (shard_at h n) one.change r x (disk_of u)) (sym began) ends;
+        ends = subst (λ (x : DiskState). EndsIn t n (shard_at h n) (h.unflushed n t.number) one.change r x (disk_of u)) (sym began) ends;
         tells = one.answer;
         some = if_said one.change s n t.number h one.some stands;
         none = none;

@@ -144,7 +144,7 @@ module _ (t : TableSchema) (n : ℕ) (s u : State) (d e : Disk) (quiet : Quiet s
   -- memory had nothing that says more
   pub quiet_none : (y : ShardState) → slice_get s.tables t.number ≡ Some t → slice_get u.shards n ≡ Some y
       → (Remember u.tables u.shards → SayNothing (clustering_order t.columns) (memtables_at (slice_get y.stores t.number)))
-      → Moved (rest_with t.number n None) (λ h before now. EndsIn t n (shard_at h n) None (Ok None) before now × SaysNone (Ok None) None (h.unflushed n t.number)) s u
+      → Moved (rest_with t.number n None) (λ h before now. EndsIn t n (shard_at h n) (h.unflushed n t.number) None (Ok None) before now × SaysNone (Ok None) None (h.unflushed n t.number)) s u
   quiet_none y table there nothing h stands =
       let now : StandsFor (with_state h u) u = quiet_stands s u d e quiet h stands in
       let at_t : slice_get u.tables t.number ≡ Some t = ap (λ (ts : List TableSchema). slice_get ts t.number) quiet.tables ∙ table in
@@ -167,7 +167,7 @@ module _ (t : TableSchema) (n : ℕ) (s u : State) (d e : Disk) (quiet : Quiet s
   -- the same, where the table is looked at by its place
   pub quiet_none_at : (y : ShardState) (k : ℕ) → t.number ≡ k → slice_get s.tables k ≡ Some t → slice_get u.shards n ≡ Some y → bytes_at (slice_get y.stores k) ≡ 0
       → (Remember u.tables u.shards → SayNothing (clustering_order t.columns) (frozen_at (slice_get y.stores k)))
-      → Moved (rest_with t.number n None) (λ h before now. EndsIn t n (shard_at h n) None (Ok None) before now × SaysNone (Ok None) None (h.unflushed n t.number)) s u
+      → Moved (rest_with t.number n None) (λ h before now. EndsIn t n (shard_at h n) (h.unflushed n t.number) None (Ok None) before now × SaysNone (Ok None) None (h.unflushed n t.number)) s u
   quiet_none_at y k same table there none says =
       quiet_none y (subst (λ (j : ℕ). slice_get s.tables j ≡ Some t) (sym same) table) there
       (λ have.
@@ -176,8 +176,8 @@ module _ (t : TableSchema) (n : ℕ) (s u : State) (d e : Disk) (quiet : Quiet s
 
   -- a fault came between
   pub quiet_fails : (Full : Type 0) (f : Fault) → WhyNotMade Full s.faults u.faults s.reads u.reads f
-      → ((h : History) → StandsFor h s → Full → WhyTooMany t n (shard_at h n) (disk_of u))
-      → Moved (rest_with t.number n None) (λ h before now. EndsIn t n (shard_at h n) None (Err f) before now × SaysNone (Err f) None (h.unflushed n t.number)) s u
+      → ((h : History) → StandsFor h s → Full → WhyTooMany t n (shard_at h n) (h.unflushed n t.number) (disk_of u))
+      → Moved (rest_with t.number n None) (λ h before now. EndsIn t n (shard_at h n) (h.unflushed n t.number) None (Err f) before now × SaysNone (Err f) None (h.unflushed n t.number)) s u
   quiet_fails Full f why full h stands = (
     quiet_stands s u d e quiet h stands,
     (
@@ -194,7 +194,7 @@ module _ (t : TableSchema) (n : ℕ) (s u : State) (d e : Disk) (quiet : Quiet s
       off : is_some u.journal.first ≡ false
       off = ap is_some still_going
 
-      by : (f : Fault) → WhyNotMade Full s.faults u.faults s.reads u.reads f → WhyNoFurther t n (shard_at h n) (disk_of s) (disk_of u) f
+      by : (f : Fault) → WhyNotMade Full s.faults u.faults s.reads u.reads f → WhyNoFurther t n (shard_at h n) (h.unflushed n t.number) (disk_of s) (disk_of u) f
       by (Refused why) is = (is.0, off, full h stands is.1)
       by (Stopped first) is = absurd is
       by (Failed None) (inl rose) = inl rose
@@ -206,7 +206,7 @@ module _ (t : TableSchema) (n : ℕ) (s u : State) (d e : Disk) (quiet : Quiet s
 
   -- memory ran out
   pub quiet_starves : Moved (rest_with t.number n None)
-      (λ h before now. EndsIn t n (shard_at h n) None (Err Mem) before now × SaysNone (Err Mem) None (h.unflushed n t.number)) s u
+      (λ h before now. EndsIn t n (shard_at h n) (h.unflushed n t.number) None (Err Mem) before now × SaysNone (Err Mem) None (h.unflushed n t.number)) s u
   quiet_starves = quiet_fails ⊥ Mem tt (λ h stands none. absurd none)
 
 rose_since : (a b c : ℕ) → a ≤ b → Rose b c → Rose a c
@@ -481,7 +481,7 @@ module _ (t : TableSchema) (n number : ℕ) (s m : State) (d e : Disk) (c : Chan
     (new : NewFile t (slice_get x.stores t.number) told files) (low : number ≤ s.last_file) (room : s.live < LIVE_LIMIT) where
   -- the manifest has no place
   no_place : (what : Counted) (most : ℕ) → Lists {T = Unit {0}} c (Err (journal.TooMany what most)) s m d e → IsOver what (change_entry c) s.journal
-      → LastsForOne s d → (h : History) → StandsFor h s → WhyTooMany t n (shard_at h n) (disk_of m)
+      → LastsForOne s d → (h : History) → StandsFor h s → WhyTooMany t n (shard_at h n) (h.unflushed n t.number) (disk_of m)
   no_place Manifest most lists over lasts h stands =
       inr (inl (record {
         file = new.file;
@@ -494,7 +494,7 @@ module _ (t : TableSchema) (n number : ℕ) (s m : State) (d e : Disk) (c : Chan
   no_place Segments most lists over lasts h stands = absurd over
 
   why_unlisted : (f : JournalFault) (first : Option First) → first ≡ None → Ends {T = Unit {0}} first m.journal.first s.faults m.faults (Err f)
-      → Lists {T = Unit {0}} c (Err f) s m d e → LastsForOne s d → (h : History) → StandsFor h s → WhyNoFurther t n (shard_at h n) (disk_of s) (disk_of m) (fault_for f)
+      → Lists {T = Unit {0}} c (Err f) s m d e → LastsForOne s d → (h : History) → StandsFor h s → WhyNoFurther t n (shard_at h n) (h.unflushed n t.number) (disk_of s) (disk_of m) (fault_for f)
   why_unlisted (journal.TooLarge long most) None none ends lists lasts h stands = absurd ends
   why_unlisted (journal.TooMany what most) None none ends lists lasts h stands =
       (refl, ap is_some ends, no_place what most lists (lists.full what most refl) lasts h stands)
@@ -590,9 +590,10 @@ takes_nothing t n number Says Left s d going = record {
 -- ---- all steps
 
 -- how it ends, since an earlier moment with the same files
-ends_since : (t : TableSchema) (n : ℕ) (q : ShardHistory) (c : Option Change) (r : Result (Option ℕ) Fault) (d m e : DiskState) → ((k j : ℕ) → m.files k j ≡ d.files k j) → m.reach ≡ d.reach
-    → m.live ≡ d.live → d.faults ≤ m.faults → d.reads ≤ m.reads → EndsIn t n q c r m e → EndsIn t n q c r d e
-ends_since t n q c (Ok told) d m e files reach live faults reads one = record {
+ends_since : (t : TableSchema) (n : ℕ) (q : ShardHistory) (ws : List Mutation) (c : Option Change) (r : Result (Option ℕ) Fault) (d m e : DiskState)
+    → ((k j : ℕ) → m.files k j ≡ d.files k j) → m.reach ≡ d.reach
+    → m.live ≡ d.live → d.faults ≤ m.faults → d.reads ≤ m.reads → EndsIn t n q ws c r m e → EndsIn t n q ws c r d e
+ends_since t n q ws c (Ok told) d m e files reach live faults reads one = record {
   files = subst (λ (fs : List (File Held)). Grows t.number n q c fs (e.files n t.number)) (files n t.number) one.files;
   others = λ k j other. one.others k j other ∙ files k j;
   all = one.all;
@@ -600,10 +601,10 @@ ends_since t n q c (Ok told) d m e files reach live faults reads one = record {
   live = one.live ∙ ap (λ (k : ℕ). k + length (numbers_in c)) live;
   stopped = one.stopped;
 }
-ends_since t n q c (Err f) d m e files reach live faults reads none =
+ends_since t n q ws c (Err f) d m e files reach live faults reads none =
     record { files = λ k j. none.files k j ∙ files k j; reach = none.reach ∙ reach; live = none.live ∙ live; why = by f none.why }
   where
-    by : (f : Fault) → WhyNoFurther t n q m e f → WhyNoFurther t n q d e f
+    by : (f : Fault) → WhyNoFurther t n q ws m e f → WhyNoFurther t n q ws d e f
     by (Refused why) is = is
     by (Stopped first) is = is
     by (Failed None) (inl rose) = inl (rose_since d.faults m.faults e.faults faults rose)
@@ -666,8 +667,8 @@ flushes_then t n number last Says Left r s m u d e f quiet during going takes le
       (quiet_stands s m d e quiet h stands) in (
         now,
         (
-          ends_since t n (shard_at h n) takes.change r (disk_of s) (disk_of m) (disk_of u) (λ k j. files_again s.shards m.shards quiet.shards k j) (ap reach_of quiet.journal) quiet.live quiet.faults
-              quiet.reads ends,
+          ends_since t n (shard_at h n) (h.unflushed n t.number) takes.change r (disk_of s) (disk_of m) (disk_of u) (λ k j. files_again s.shards m.shards quiet.shards k j)
+              (ap reach_of quiet.journal) quiet.live quiet.faults quiet.reads ends,
           listed_or_failed r takes.change (h.unflushed n t.number) takes.numbered,
         ),
       );
@@ -698,7 +699,7 @@ flushes_then t n number last Says Left r s m u d e f quiet during going takes le
 pub flushes_quietly : (t : TableSchema) (n : ℕ) (r : Result (Option ℕ) Fault) (s u : State) (d e : Disk) → Quiet s u d e → During (SameUpTo s.last_file) d e
     → s.journal.first ≡ None → u.last_file ≤ s.last_file + 1
     → ((c : Image) → d.reads c → Remember s.tables s.shards → Moved (rest_with t.number n None)
-    (λ h before now. EndsIn t n (shard_at h n) None r before now × SaysNone r None (h.unflushed n t.number)) s u) → IfErr r IsOwn
+    (λ h before now. EndsIn t n (shard_at h n) (h.unflushed n t.number) None r before now × SaysNone r None (h.unflushed n t.number)) s u) → IfErr r IsOwn
     → TellsIt None r → (begun : Bool) → IsBegun r begun → Fills (filled_with t.number n begun) s u
     → IfOk r (λ told. u.last_file ≡ s.last_file + length (listed_of told)) → FlushesOne t n r s u d e
 flushes_quietly t n r s u d e quiet during going next moves own answer begun begins fills drawn = record {

@@ -1,5 +1,5 @@
 -- What is too much for one table file, in the words of the history.
-use Rattle.std.proofs.Common.{◌≡◌, ◌⊎◌, inl, inr, ℕ, Bool, true, cond, List, [], ◌∷◌, ◌++◌, length, map, Option, None, Some, refl, sym, ap, ◌∙◌, subst, arith, append_assoc}
+use Rattle.std.proofs.Common.{◌≡◌, ◌⊎◌, inl, inr, ℕ, Bool, true, cond, List, [], ◌∷◌, ◌++◌, length, map, Option, None, Some, refl, sym, ap, ◌∙◌, subst, arith, append_assoc, append-nil}
 use Rattle.std.proofs.lemmas.Cmp.{tied_itself}
 use Rattle.std.proofs.lemmas.Grind.{flat_map-append}
 use Rattle.std.specs.Arc.{arc_value}
@@ -7,6 +7,7 @@ use Rattle.std.specs.List.{AllByRecursion}
 use Rattle.std.specs.Ordering.{is_eq}
 use Rattle.std.specs.Prelude.{slice_get}
 use Rattle.cas_types.proofs.OrderLaws.{bytes_orders}
+use Rattle.cas_types.specs.declared.schema.Column.{Column}
 use Rattle.cas_types.specs.declared.schema.TableSchema.{TableSchema}
 use Rattle.cas_bounds.specs.ClusteringOrder.{clustering_order}
 use Rattle.cas_bounds.specs.declared.cuts.Cut.{Cut}
@@ -17,14 +18,13 @@ use Rattle.cas_atoms.specs.declared.atom.Mutation.{Mutation}
 use Rattle.cas_disk.specs.Disk.{Disk}
 use Rattle.cas_flush.specs.Flushed.{AreOf, EndsLong, FlushFault, Hinders, any, at_level_0, is_below, said_at, said_under}
 use Rattle.cas_flushing.specs.Flushed.{head_of}
-use Rattle.cas_memtable.specs.Kept.{StandInEach, all_of, atoms_under, memtables_of}
+use Rattle.cas_memtable.specs.Kept.{HoldJust, MayHold, StandInEach, all_of, atoms_under}
 use Rattle.cas_memtable.specs.declared.memtable.MemPart.{MemPart}
 use Rattle.cas_memtable.proofs.Keeping.{more_under}
 use Rattle.cas_partition.specs.Ends.{AllAtEnds, IsEnd}
-use Rattle.cas_partition.proofs.Ends.{end_before, end_behind}
-use Rattle.cas_shard.specs.Flushing.{frozen_at}
-use Rattle.cas_shard.specs.Shards.{ShardHistory, all_entries}
-use Rattle.cas_shard.specs.Stands.{Holds, ShardState, Stands, mutations_of, order_of}
+use Rattle.cas_partition.proofs.Ends.{end_before}
+use Rattle.cas_shard.specs.Flushing.{frozen_at, memtables_at}
+use Rattle.cas_shard.specs.Stands.{ShardState}
 use Rattle.cas_sstwrite.specs.Causes.{IsUnfit, TooMuch}
 use Rattle.cas_sstwrite.specs.declared.fault.Measure.{Measure}
 use Rattle.cas_sstwrite.specs.declared.fault.Measure.TheVariants.{FileBytes, BlockBytes, Partitions}
@@ -44,9 +44,9 @@ use Rattle.cas_tables.proofs.IndexFits.{entries_long}
 use Rattle.cas_sessions.specs.Flushes.{WhyTooMany}
 use Rattle.cas_sessions.specs.History.{History, shard_at}
 use Rattle.cas_sessions.specs.Nodes.{State, StandsFor, disk_of}
-use Rattle.cas_sessions.specs.TooMuch.{AllIsTooMuch, IsTooMuch, OneIsTooMuch}
+use Rattle.cas_sessions.specs.TooMuch.{AllIsTooMuch, IsOverfull, IsTooMuch, OneIsTooMuch}
 use Rattle.cas_sessions.specs.Inner.Flushing.{HoldTooMuch, IsOfSize, Quiet, WhyNoFile}
-use Rattle.cas_sessions.proofs.FlushFiles.{LastOf, Parted, all_append, last_of, parted}
+use Rattle.cas_sessions.proofs.FlushFiles.{LastOf, all_append, last_of}
 use Rattle.cas_sessions.proofs.FlushSteps.{quiet_stands, with_state}
 
 -- ---- a part says no more than the whole
@@ -108,32 +108,20 @@ record HeldOf (order : List Ordered) (ms : List MemPart) (ws : List Mutation) : 
   no_more : (key : List ℕ) → SaysNoMore (atoms_under key (all_of places)) (atoms_under key ws)
   ends : Ending (all_of places) ws
 
--- of all that a table holds in a shard some stand there
-held_of : (order : List Ordered) (o : Option StoredTable) (ws : List Mutation) → Holds order o ws → HeldOf order (frozen_at o) ws
-held_of order None ws holds = record { places = []; stand = tt; no_more = λ key. part_says [] [] (atoms_under key ws) (atoms_under key ws) refl; ends = λ key c at. absurd at.has }
-held_of order (Some t) ws holds =
-    let fs : List MemPart = map arc_value t.parts.frozen.items in
-    let p : Parted order t.files (memtables_of t.parts) holds.places = parted order t.files (memtables_of t.parts) holds.places holds.holds in
-    let l : LastOf order fs t.parts.active p.rest = last_of order fs t.parts.active p.rest p.memory in
-    let all : all_of holds.places ≡ all_of p.front ++ (all_of l.before ++ all_of (l.last ∷ [])) =
-    ap all_of p.all ∙ all_append p.front p.rest ∙ ap (λ (ws : List Mutation). all_of p.front ++ ws) (ap all_of l.all ∙ all_append l.before (l.last ∷ [])) in
-    let parts : (key : List ℕ) → atoms_under key (all_of holds.places)
-    ≡ atoms_under key (all_of p.front) ++ (atoms_under key (all_of l.before) ++ atoms_under key (all_of (l.last ∷ []))) =
-    λ key.
-    ap (atoms_under key) all ∙ more_under key (all_of p.front) (all_of l.before ++ all_of (l.last ∷ []))
-    ∙ ap (λ (more : List Atom). atoms_under key (all_of p.front) ++ more) (more_under key (all_of l.before) (all_of (l.last ∷ []))) in
+-- of all that memory has of a table in a shard some stand there
+held_of : (columns : List Column) (o : Option StoredTable) (ws : List Mutation) → HoldJust columns (memtables_at o) ws → HeldOf (clustering_order columns) (frozen_at o) ws
+held_of columns None ws has = record { places = []; stand = tt; no_more = λ key. part_says [] [] (atoms_under key ws) (atoms_under key ws) refl; ends = λ key c at. absurd at.has }
+held_of columns (Some t) ws has =
+    let l : LastOf (clustering_order columns) (map arc_value t.parts.frozen.items) t.parts.active has.places =
+    last_of (clustering_order columns) (map arc_value t.parts.frozen.items) t.parts.active has.places has.held.stand in
+    let parts : (key : List ℕ) → atoms_under key ws ≡ atoms_under key (all_of l.before) ++ atoms_under key (all_of (l.last ∷ [])) =
+    λ key. ap (atoms_under key) (sym has.all ∙ ap all_of l.all ∙ all_append l.before (l.last ∷ [])) ∙ more_under key (all_of l.before) (all_of (l.last ∷ [])) in
     record {
       places = l.before;
       stand = l.stand;
-      no_more = λ key.
-          no_more_then (atoms_under key (all_of l.before)) (atoms_under key (all_of holds.places)) (atoms_under key ws)
-          (part_says (atoms_under key (all_of p.front)) (atoms_under key (all_of l.before)) (atoms_under key (all_of (l.last ∷ []))) (atoms_under key (all_of holds.places))
-          (parts key)) (holds.says.no_more key);
+      no_more = λ key. part_says [] (atoms_under key (all_of l.before)) (atoms_under key (all_of (l.last ∷ []))) (atoms_under key ws) (parts key);
       ends = λ key c at.
-          let front : List Atom = atoms_under key (all_of p.front) in
-          let own : List Atom = atoms_under key (all_of l.before) in
-          let last : List Atom = atoms_under key (all_of (l.last ∷ [])) in
-          holds.says.ends key c (subst (λ (atoms : List Atom). IsEnd atoms c) (sym (parts key)) (end_behind front (own ++ last) c (end_before own last c at)));
+          subst (λ (atoms : List Atom). IsEnd atoms c) (sym (parts key)) (end_before (atoms_under key (all_of l.before)) (atoms_under key (all_of (l.last ∷ []))) c at);
     }
 
 -- ---- what is too much
@@ -208,29 +196,29 @@ module _ (t : TableSchema) (shard : ℕ) (ms : List MemPart) (ws : List Mutation
   is_too_much write.Unfit of h = inl (one_is write.Unfit h (inr h.causes))
   is_too_much write.Mem of why = absurd of
 
--- memtables that hold too much, in a shard that stands for its history
-held_too_much : (tables : List TableSchema) (t : TableSchema) (n : ℕ) (q : ShardHistory) (y : ShardState) → Stands tables q y → slice_get tables t.number ≡ Some t
-    → HoldTooMuch t n (frozen_at (slice_get y.stores t.number)) → IsTooMuch t n (mutations_of t.number (all_entries q))
-held_too_much tables t n q y stands there (number, e, of, why) =
-    let ws : List Mutation = mutations_of t.number (all_entries q) in
-    let holds : Holds (clustering_order t.columns) (slice_get y.stores t.number) ws =
-    subst (λ (order : List Ordered). Holds order (slice_get y.stores t.number) ws) (ap order_of there) (stands.kept t.number) in
-    is_too_much t n (frozen_at (slice_get y.stores t.number)) ws (held_of (clustering_order t.columns) (slice_get y.stores t.number) ws holds) number e of why
+-- memtables that hold too much, in a shard that has just these mutations in memory
+held_too_much : (t : TableSchema) (n : ℕ) (y : ShardState) (ws : List Mutation) → HoldJust t.columns (memtables_at (slice_get y.stores t.number)) ws
+    → HoldTooMuch t n (frozen_at (slice_get y.stores t.number)) → IsOverfull t n ws
+held_too_much t n y ws has (number, e, of, why) = (
+  subst (AllByRecursion (MayHold t.columns)) has.all has.held.may,
+  is_too_much t n (frozen_at (slice_get y.stores t.number)) ws (held_of t.columns (slice_get y.stores t.number) ws has) number e of why,
+)
 
 -- why no file is begun or written, some quiet steps later
 why_full : (t : TableSchema) (n k : ℕ) (s u : State) (d e : Disk) (y : ShardState) → Quiet s u d e → slice_get s.tables k ≡ Some t → t.number ≡ k → slice_get s.shards n ≡ Some y
-    → (h : History) → StandsFor h s → WhyNoFile t n s.live s.last_file (frozen_at (slice_get y.stores k)) → WhyTooMany t n (shard_at h n) (disk_of u)
+    → (h : History) → StandsFor h s → WhyNoFile t n s.live s.last_file (frozen_at (slice_get y.stores k))
+    → WhyTooMany t n (shard_at h n) (h.unflushed n t.number) (disk_of u)
 why_full t n k s u d e y quiet table number at h stands (inl (inl live)) = inl (inl (omega (arith, live, quiet.live)))
 why_full t n k s u d e y quiet table number at h stands (inl (inr last)) = inl (inr (omega (arith, last, quiet.last)))
 why_full t n k s u d e y quiet table number at h stands (inr held) =
-    inr (inr (held_too_much s.tables t n (shard_at h n) y
-    (subst (λ (ts : List TableSchema). Stands ts (shard_at h n) y) stands.tables (stands.shards n y at))
-    (subst (λ (j : ℕ). slice_get s.tables j ≡ Some t) (sym number) table)
+    let at_t : slice_get s.tables t.number ≡ Some t = subst (λ (j : ℕ). slice_get s.tables j ≡ Some t) (sym number) table in
+    inr (inr (held_too_much t n y (h.unflushed n t.number)
+    (stands.memory n t.number y at [] t (ap (λ (ts : List TableSchema). slice_get ts t.number) (append-nil s.tables) ∙ at_t))
     (subst (λ (j : ℕ). HoldTooMuch t n (frozen_at (slice_get y.stores j))) (sym number) held)))
 
 -- the same, where other quiet steps were before
 pub why_full_then : (t : TableSchema) (n k : ℕ) (s m u : State) (c d e : Disk) (y : ShardState) → Quiet s m c d → Quiet m u d e → slice_get m.tables k ≡ Some t → t.number ≡ k
     → slice_get m.shards n ≡ Some y → (h : History) → StandsFor h s → WhyNoFile t n m.live m.last_file (frozen_at (slice_get y.stores k))
-    → WhyTooMany t n (shard_at h n) (disk_of u)
+    → WhyTooMany t n (shard_at h n) (h.unflushed n t.number) (disk_of u)
 why_full_then t n k s m u c d e y first second table number at h stands full =
     why_full t n k m u d e y second table number at (with_state h m) (quiet_stands s m c d first h stands) full

@@ -25,16 +25,16 @@ pub record FlushedOne (t : TableSchema) (n : ℕ) (q : ShardHistory) (c : Option
   pub stopped : e.stopped ≡ false
 
 -- it wasn't: no file is another
-pub record NotFlushed (t : TableSchema) (n : ℕ) (q : ShardHistory) (d e : DiskState) (f : Fault) : Type 0 where
+pub record NotFlushed (t : TableSchema) (n : ℕ) (q : ShardHistory) (ws : List Mutation) (d e : DiskState) (f : Fault) : Type 0 where
   pub files : (k table : ℕ) → e.files k table ≡ d.files k table
   pub reach : e.reach ≡ d.reach
   pub live : e.live ≡ d.live
-  pub why : WhyNoFurther t n q d e f
+  pub why : WhyNoFurther t n q ws d e f
 
--- how a flush in a shard ends, with this change
-abbrev pub EndsIn : TableSchema → ℕ → ShardHistory → Option Change → Result (Option ℕ) Fault → DiskState → DiskState → Type 0
-EndsIn t n q c (Ok told) d e = FlushedOne t n q c d e
-EndsIn t n q c (Err f) d e = NotFlushed t n q d e f
+-- how a flush in a shard ends, with this change, where these mutations stood in no file
+abbrev pub EndsIn : TableSchema → ℕ → ShardHistory → List Mutation → Option Change → Result (Option ℕ) Fault → DiskState → DiskState → Type 0
+EndsIn t n q ws c (Ok told) d e = FlushedOne t n q c d e
+EndsIn t n q ws c (Err f) d e = NotFlushed t n q ws d e f
 
 -- a number, if there is one
 abbrev pub listed_of : Option ℕ → List ℕ
@@ -74,7 +74,7 @@ pub record FlushesIn (h : History) (t : TableSchema) (n : ℕ) (result : Result 
   pub disk : DiskState
   pub begun : Bool
   pub going : h.disk.stopped ≡ false
-  pub ends : EndsIn t n (shard_at h n) change result h.disk disk
+  pub ends : EndsIn t n (shard_at h n) (h.unflushed n t.number) change result h.disk disk
   pub tells : TellsIt change result
   pub some : IfSome change (λ c. SaySomething (h.unflushed n t.number))
   pub none : SaysNone result change (h.unflushed n t.number)

@@ -31,7 +31,7 @@ use Rattle.cql_parse.specs.declared.syntax.TableName.{TableName}
 use Rattle.cas_sessions.specs.declared.answer.Fault.{Fault}
 use Rattle.cas_sessions.specs.declared.answer.Fault.TheVariants.{Refused, Stopped, Disk, Read, BadBlock, Mem}
 use Rattle.cas_sessions.specs.History.{History, DiskState, reach_with, shard_at}
-use Rattle.cas_sessions.specs.TooMuch.{IsTooMuch}
+use Rattle.cas_sessions.specs.TooMuch.{IsOverfull}
 
 -- ---- one shard
 
@@ -129,20 +129,20 @@ pub record HasNoEntry (table shard : ℕ) (s : ShardHistory) (e : DiskState) : T
   pub fits : FitsInfo file.info
   pub full : HasNoPlace (change_entry change) e.reach
 
--- there is too much of something: table files, bytes of the manifest, or what was written to the table in that shard
-abbrev pub WhyTooMany : TableSchema → ℕ → ShardHistory → DiskState → Type 0
-WhyTooMany t n s e = HasNoFile e ⊎ (HasNoEntry t.number n s e ⊎ IsTooMuch t n (mutations_of t.number (all_entries s)))
+-- there is too much of something: table files, bytes of the manifest, or what was written to the table in that shard and stands in no file yet
+abbrev pub WhyTooMany : TableSchema → ℕ → ShardHistory → List Mutation → DiskState → Type 0
+WhyTooMany t n s ws e = HasNoFile e ⊎ (HasNoEntry t.number n s e ⊎ IsOverfull t n ws)
 
 -- Why a flush goes no further than to that shard: there is too much of something; the folder failed, or writing a file, which is counted with the reads; or a
 -- read of the new file. Only a failed write stops all further ones. No file that was just written is bad.
-abbrev pub WhyNoFurther : TableSchema → ℕ → ShardHistory → DiskState → DiskState → Fault → Type 0
-WhyNoFurther t n s d e (Refused why) = (why ≡ TOO_MANY) × (e.stopped ≡ false) × WhyTooMany t n s e
-WhyNoFurther t n s d e (Stopped first) = ⊥
-WhyNoFurther t n s d e (Disk None) = Rose d.faults e.faults ⊎ ((e.stopped ≡ false) × Rose d.reads e.reads)
-WhyNoFurther t n s d e (Disk (Some number)) = ⊥
-WhyNoFurther t n s d e Read = (e.stopped ≡ false) × Rose d.reads e.reads
-WhyNoFurther t n s d e (BadBlock number at) = ⊥
-WhyNoFurther t n s d e Mem = e.stopped ≡ false
+abbrev pub WhyNoFurther : TableSchema → ℕ → ShardHistory → List Mutation → DiskState → DiskState → Fault → Type 0
+WhyNoFurther t n s ws d e (Refused why) = (why ≡ TOO_MANY) × (e.stopped ≡ false) × WhyTooMany t n s ws e
+WhyNoFurther t n s ws d e (Stopped first) = ⊥
+WhyNoFurther t n s ws d e (Disk None) = Rose d.faults e.faults ⊎ ((e.stopped ≡ false) × Rose d.reads e.reads)
+WhyNoFurther t n s ws d e (Disk (Some number)) = ⊥
+WhyNoFurther t n s ws d e Read = (e.stopped ≡ false) × Rose d.reads e.reads
+WhyNoFurther t n s ws d e (BadBlock number at) = ⊥
+WhyNoFurther t n s ws d e Mem = e.stopped ≡ false
 
 -- where so many shards are flushed and the next one isn't, so many got a new memtable: the next one did too, but where memory ran out it may not have
 abbrev pub AreBegun : Fault → ℕ → ℕ → Type 0
@@ -155,7 +155,8 @@ abbrev pub EndsSo : History → TableSchema → List (Option Change) → ℕ →
 EndsSo h t changes begun (Ok told) e =
     (length changes ≡ length h.shards) × (told ≡ numbers_added changes) × (e.stopped ≡ false) × (begun ≡ length changes)
     × (e.last_file ≡ h.disk.last_file + length told)
-EndsSo h t changes begun (Err f) e = (length changes < length h.shards) × WhyNoFurther t (length changes) (shard_at h (length changes)) h.disk e f
+EndsSo h t changes begun (Err f) e =
+    (length changes < length h.shards) × WhyNoFurther t (length changes) (shard_at h (length changes)) (h.unflushed (length changes) t.number) h.disk e f
     × AreBegun f (length changes) begun
 
 -- A flush of the table: an earlier fault stopped it, and nothing is done; or shards are flushed, from the first on, the manifest tells these changes, what they

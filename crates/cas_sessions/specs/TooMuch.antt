@@ -1,6 +1,7 @@
 -- When what was written to a table is too much for one table file.
 -- Cassandra documentation, "Storage engine: SSTables"; the limits of a file are own.
 use Rattle.std.specs.Prelude.{◌<◌, ◌⊎◌, ℕ, List, length}
+use Rattle.std.specs.List.{AllByRecursion}
 use Rattle.cas_types.specs.declared.schema.TableSchema.{TableSchema}
 use Rattle.cas_atoms.specs.declared.atom.Mutation.{Mutation}
 use Rattle.cas_facts.specs.Facts.{AreFacts}
@@ -8,6 +9,7 @@ use Rattle.cas_facts.specs.declared.facts.Facts.{Facts}
 use Rattle.cas_flush.specs.Flushed.{at_level_0}
 use Rattle.cas_flushing.specs.Flushed.{head_of}
 use Rattle.cas_info.specs.declared.info.TheConstants.{FILE_LIMIT}
+use Rattle.cas_memtable.specs.Kept.{MayHold}
 use Rattle.cas_sizes.specs.Little.{SaysUnder, SayUnder}
 use Rattle.cas_sstwrite.specs.Causes.{IsUnfit, TooMuch}
 use Rattle.cas_sstwrite.specs.declared.fault.Measure.{Measure}
@@ -41,3 +43,7 @@ pub record AllIsTooMuch (t : TableSchema) (shard : ℕ) (ws : List Mutation) : T
 -- what these mutations wrote to the table in the shard is too much for one file
 abbrev pub IsTooMuch : TableSchema → ℕ → List Mutation → Type 0
 IsTooMuch t shard ws = OneIsTooMuch t shard ws ⊎ AllIsTooMuch t shard ws
+
+-- so it is of mutations each of which the table may hold
+abbrev pub IsOverfull : TableSchema → ℕ → List Mutation → Type 0
+IsOverfull t shard ws = AllByRecursion (MayHold t.columns) ws × IsTooMuch t shard ws

@@ -96,7 +96,7 @@ shorter k (w ∷ ws) there = by (λ t. shorter k ws t) (same_bytes w.key k) ther
 
 -- ---- keys
 
-abbrev AllThere : List Mutation → List Partition → Type 0
+abbrev pub AllThere : List Mutation → List Partition → Type 0
 AllThere ws ps = AllByRecursion (λ p. IsThere (atoms_under p.key ws)) ps
 
 -- the keys stand above one

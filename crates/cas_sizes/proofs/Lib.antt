@@ -8,5 +8,6 @@ pub mod Streams
 pub mod Blocks
 pub mod Rooms
 pub mod Keys
+pub mod Having
 pub mod Files
 pub mod Little

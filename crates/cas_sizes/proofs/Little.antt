@@ -33,7 +33,8 @@ use Rattle.cas_sizes.specs.Little.{AreLittle, SaysUnder, SayUnder}
 use Rattle.cas_sizes.proofs.Answered.{weight}
 use Rattle.cas_sizes.proofs.Blocks.{head_and_rest, partition_small, short_blocks}
 use Rattle.cas_sizes.proofs.Files.{cost, file_small, front_and_index}
-use Rattle.cas_sizes.proofs.Keys.{all_written, atoms_fit, share, shares_small, under_small}
+use Rattle.cas_sizes.proofs.Having.{shares_little, under_little}
+use Rattle.cas_sizes.proofs.Keys.{all_written, atoms_fit, share}
 use Rattle.cas_sizes.proofs.Rooms.{HasRooms, NoneStatic, rows_behind, stream_room}
 use Rattle.cas_sizes.proofs.Shapes.{size}
 use Rattle.cas_sizes.proofs.Streams.{stream_small}
@@ -46,8 +47,7 @@ stream_taken columns ws key s little says =
     omega (
       arith,
       stream_small columns s (atoms_under key ws) says.formed says.no_more says.ends,
-      under_small key ws,
-      little.short,
+      under_little key ws little.short,
     )
 
 all_held : (fs : List Fragment) → NoneStatic fs → AllByRecursion HasSpelling fs → AllByRecursion IsHeld fs
@@ -90,8 +90,7 @@ all_cost columns ws ps little say =
     omega (
       arith,
       costs_small columns ws ps say.each say.no_more say.ends,
-      shares_small ps ws say.ascend (all_written columns ws ps say.each say.no_more),
-      little.short,
+      shares_little ps ws say.ascend (all_written columns ws ps say.each say.no_more) little.short,
     )
 
 few_shares : (ws : List Mutation) (ps : List Partition) → 38 * length ps ≤ sum_by (share ws) ps
@@ -100,7 +99,7 @@ few_shares ws (p ∷ ps) = omega (arith, sum_by-cons (share ws) p ps, few_shares
 
 few_partitions : (columns : List Column) (ws : List Mutation) (ps : List Partition) → AreLittle columns ws → SayUnder columns ws ps → 38 * length ps ≤ 2 ^ 28
 few_partitions columns ws ps little say =
-    omega (arith, few_shares ws ps, shares_small ps ws say.ascend (all_written columns ws ps say.each say.no_more), little.short)
+    omega (arith, few_shares ws ps, shares_little ps ws say.ascend (all_written columns ws ps say.each say.no_more) little.short)
 
 all_keys : (columns : List Column) (ps : List Partition) → AllByRecursion (FitsPartition columns) ps → AllByRecursion (λ p. FitsKey p.key) ps
 all_keys columns [] fit = tt

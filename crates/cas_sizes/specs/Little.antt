@@ -1,15 +1,14 @@
 -- What little comes to: mutations whose records in the log are short together, and what says no more than they do.
 -- Own.
 use Rattle.std.specs.Prelude.{◌≤◌, ◌^◌, ℕ, List, map}
-use Rattle.std.specs.List.{AllByRecursion, sum_by}
+use Rattle.std.specs.List.{AllByRecursion}
 use Rattle.std.specs.List.Sorted.{IsStrictlySortedBy}
 use Rattle.cas_types.specs.Limits.{IsNarrow}
 use Rattle.cas_types.specs.Values.{bytes_cmp}
 use Rattle.cas_types.specs.declared.schema.Column.{Column}
 use Rattle.cas_atoms.specs.Fits.{FitsKey}
-use Rattle.cas_atoms.specs.LogLength.{record_length}
 use Rattle.cas_atoms.specs.declared.atom.Mutation.{Mutation}
-use Rattle.cas_memtable.specs.Kept.{MayHold, atoms_under}
+use Rattle.cas_memtable.specs.Kept.{MayHold, atoms_under, bytes_of}
 use Rattle.cas_partition.specs.Ends.{AllAtEnds}
 use Rattle.cas_partition.specs.Partitions.{AreAtCuts}
 use Rattle.cas_streams.specs.Flat.{changes}
@@ -20,11 +19,11 @@ use Rattle.cas_streams.specs.Streams.{WellFormed}
 use Rattle.cas_tables.specs.Contents.{Partition}
 use Rattle.cas_tables.specs.Fitting.{FitsPartition}
 
--- mutations that a table with these columns, of which there are few enough, may hold, and whose records together are at most 2^28 bytes long
+-- mutations that a table with these columns, of which there are few enough, may hold, and of which those with atoms have records of at most 2^28 bytes
 pub record AreLittle (columns : List Column) (ws : List Mutation) : Type 0 where
   pub narrow : IsNarrow columns
   pub may : AllByRecursion (MayHold columns) ws
-  pub short : sum_by record_length ws ≤ 2 ^ 28
+  pub short : bytes_of 0 ws ≤ 2 ^ 28
 
 -- a stream of the table says no more under a key than these mutations do, and each of its markers stands at an end of a range deletion that they wrote there
 pub record SaysUnder (columns : List Column) (ws : List Mutation) (key : List ℕ) (s : Stream) : Type 0 where

@@ -295,7 +295,7 @@ pub record TakesFile (t : TableSchema) (n number : ℕ) (Says Left : Type 0) (re
       → AllByRecursion (λ k. k < number) (said_by told.entries).numbers → GoesOn Left h (changes_by h.changes change) found told s u d e
   pub numbered : IfOk result (λ told. numbers_in change ≡ number ∷ [])
   pub fills : Fills (λ before. before) s u
-  pub moves : Says → IfErr result (λ f. LastsForOne s d) → Moved (rest_with t.number n change) (λ h. EndsIn t n (shard_at h n) change result) s u
+  pub moves : Says → IfErr result (λ f. LastsForOne s d) → Moved (rest_with t.number n change) (λ h. EndsIn t n (shard_at h n) (h.unflushed n t.number) change result) s u
   pub own : IfErr result IsOwn
 
 -- a flush of a table in a shard; why it failed is known where the disk keeps what some history says for which the store stands
@@ -313,7 +313,7 @@ pub record FlushesOne (t : TableSchema) (n : ℕ) (result : Result (Option ℕ) 
   pub drawn : IfOk result (λ told. u.last_file ≡ s.last_file + length (listed_of told))
   pub fills : Fills (filled_with t.number n begun) s u
   pub moves : (c : Image) → d.reads c → IfErr result (λ f. LastsForOne s d) → Moved (rest_with t.number n change)
-      (λ h before now. EndsIn t n (shard_at h n) change result before now × SaysNone result change (h.unflushed n t.number)) s u
+      (λ h before now. EndsIn t n (shard_at h n) (h.unflushed n t.number) change result before now × SaysNone result change (h.unflushed n t.number)) s u
   pub own : IfErr result IsOwn
 
 -- so many shards were flushed, with these numbers of files
@@ -341,7 +341,7 @@ pub record FlushesNoFurther (t : TableSchema) (f : Fault) (s u : State) (d e : D
   pub fills : Fills (without_begun t.number begun) s u
   pub moves : (c : Image) → d.reads c → LastsForOne s d
       → Moved (without_flushed t.number changes)
-      (λ h before now. Flushed h t changes now × WhyNoFurther t (length changes) (shard_at h (length changes)) before now f) s u
+      (λ h before now. Flushed h t changes now × WhyNoFurther t (length changes) (shard_at h (length changes)) (h.unflushed (length changes) t.number) before now f) s u
   pub own : IsOwn f
 
 -- ---- faults

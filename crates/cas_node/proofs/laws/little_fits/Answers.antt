@@ -1,16 +1,12 @@
-use Rattle.cas_node.proofs.HeldFound.{found_held, log_is_held}
-use Rattle.cas_node.proofs.HeldStay.{held_stay}
 use Rattle.cas_node.proofs.LittleFits.{little_fits, little_flushes_fit}
+use Rattle.cas_node.proofs.SaidStay.{found_said, said_stay}
 use Rattle.cas_node.proofs.laws.little_fits.Goals as goal
 
 pub returns-clause-begin : goal.returns-clause-begin
-returns-clause-begin g c = found_held (g.F.Folder.disk c.args.folder.now)
-
-pub returns-clause-log : goal.returns-clause-log
-returns-clause-log g c = log_is_held
+returns-clause-begin g c = found_said
 
 pub returns-clause-stay : goal.returns-clause-stay
-returns-clause-stay g c clock = held_stay (g.C.Clock.may_give clock)
+returns-clause-stay g c clock = said_stay (g.C.Clock.may_give clock)
 
 pub returns-clause-fits : goal.returns-clause-fits
 returns-clause-fits g c = little_fits c.little_is_never_too_much.ensures
