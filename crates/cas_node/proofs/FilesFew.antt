@@ -41,10 +41,10 @@ use Rattle.cas_node.specs.Laws.{FilesAreFew}
 -- ---- a step
 
 -- as many shards as before; and one table file for each of them at most came, and one, and got a number
-record Few (h t : History) : Type 0 where
-  shards : length t.shards ≡ length h.shards
-  last : t.disk.last_file ≤ h.disk.last_file + (length h.shards + 1)
-  live : t.disk.live ≤ h.disk.live + (length h.shards + 1)
+pub record Few (h t : History) : Type 0 where
+  pub shards : length t.shards ≡ length h.shards
+  pub last : t.disk.last_file ≤ h.disk.last_file + (length h.shards + 1)
+  pub live : t.disk.live ≤ h.disk.live + (length h.shards + 1)
 
 unchanged : (h t : History) → t ≡ h → Few h t
 unchanged h t same = subst (Few h) (sym same) (record { shards = refl; last = omega arith; live = omega arith })
@@ -54,10 +54,10 @@ abbrev SameCounts : DiskState → DiskState → Type 0
 SameCounts d e = (e.last_file ≡ d.last_file) × (e.live ≡ d.live)
 
 -- as many shards as before, and no file more
-record NoMore (h t : History) : Type 0 where
-  shards : length t.shards ≡ length h.shards
-  last : t.disk.last_file ≡ h.disk.last_file
-  live : t.disk.live ≡ h.disk.live
+pub record NoMore (h t : History) : Type 0 where
+  pub shards : length t.shards ≡ length h.shards
+  pub last : t.disk.last_file ≡ h.disk.last_file
+  pub live : t.disk.live ≡ h.disk.live
 
 same_still : (h t : History) (e : DiskState) → t.disk ≡ e → SameCounts h.disk e → length t.shards ≡ length h.shards → NoMore h t
 same_still h t e disk same shards = record {
@@ -195,7 +195,7 @@ checked h (Some t) r after a =
 -- ---- a line
 
 module _ (kind : ClockKind) (Gives : ℤ → Type 0) where
-  deed : (h : History) (m : Result Bound Refusal) (r : Reply) (t : History) → Does kind Gives h m r t → NoMore h t
+  pub deed : (h : History) (m : Result Bound Refusal) (r : Reply) (t : History) → Does kind Gives h m r t → NoMore h t
   deed h (Err x) r t a = record { shards = ap (λ (k : History). length k.shards) a.1; last = ap (λ (k : History). k.disk.last_file) a.1; live = ap (λ (k : History). k.disk.live) a.1 }
   deed h (Ok (bound.Create x)) r t a =
       same_still h t a.1 (ap (λ (k : History). k.disk) a.3) (defined _ _ _ _ r a.0 a.1 a.2) (ap (λ (k : History). length k.shards) a.3)
@@ -224,7 +224,7 @@ module _ (kind : ClockKind) (Gives : ℤ → Type 0) where
       let b = meaning h.limits.shards h.tables s in
       few_then h a.1 t (deed h b a.0 a.1 a.3) (behind Few unchanged few_one few_dropped b a.0 r.want a.1 t a.4)
 
-  one_line : (h : History) (text : List ℕ) (r : Upshot) (t : History) → Answers kind Gives h text r t → Few h t
+  pub one_line : (h : History) (text : List ℕ) (r : Upshot) (t : History) → Answers kind Gives h text r t → Few h t
   one_line h text r t (inl x) = unchanged h t x.1
   one_line h text r t (inr x) = answered h x.0 r t x.2
 

@@ -6,6 +6,7 @@ mod EntryRoom
 mod FilesFew
 mod FlushedAlike
 mod LittleFits
+mod MemtablesFit
 mod NumbersRise
 mod OneOutcome
 mod RunLemmas
@@ -15,4 +16,5 @@ mod Standing
 mod Staying
 mod Stopping
 mod Verified
+mod WellDisk
 pub mod SessionLemmas

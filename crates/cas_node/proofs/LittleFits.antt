@@ -39,7 +39,7 @@ all_places P [] each = tt
 all_places P (t ∷ ts) each = (each 0 t refl, all_places P ts (λ i u there. each (suc i) u there))
 
 -- so it is of one that is named
-named_there : (h : History) → AreSaid h → (name : TableName) (t : TableSchema) → table_named h.tables name ≡ Some t → slice_get h.tables t.number ≡ Some t
+pub named_there : (h : History) → AreSaid h → (name : TableName) (t : TableSchema) → table_named h.tables name ≡ Some t → slice_get h.tables t.number ≡ Some t
 named_there h said name t named =
     subst (λ o. IfSome o Placed) named
     (named_holds Placed h.tables name (All-from_recursion Placed h.tables (all_places Placed h.tables (at_its_place h said))))
@@ -91,6 +91,6 @@ module _ (never : LittleIsNeverTooMuch) where
   little_flushes_fit Gives kind h [] said finds = tt
   little_flushes_fit Gives kind h (l ∷ ls) said finds = (
     line_fits kind Gives h l said finds.0,
-    λ o after answers.
-        little_flushes_fit Gives kind after ls (said_stay Gives kind h after (l ∷ []) (o ∷ []) said (after, answers, refl)) (finds.1 o after answers),
+    λ o after answers fed well.
+        little_flushes_fit Gives kind after ls (said_stay Gives kind h after (l ∷ []) (o ∷ []) said (after, answers, refl)) (finds.1 o after answers fed well),
   )

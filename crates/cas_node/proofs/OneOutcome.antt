@@ -59,17 +59,18 @@ use Rattle.cas_node.proofs.FlushedAlike.{Agree, agreeing, as_one, at_both, flush
 use Rattle.cas_node.proofs.Standing.{still_good}
 use Rattle.cas_node.proofs.Stopping as stopping
 use Rattle.cas_node.proofs.Stopping.{AreMore, Counts, IsBegun, IsFurther}
+use Rattle.cas_node.proofs.WellDisk.{agreed, dropped_well, first_stays, full_flushed, no_true, rest_stays, settled, table_flushed}
 use Rattle.cas_node.proofs.Verified.{all_good, are_good, in_some_shard, told_of}
 
 -- ---- a disk that is well
 
--- from a disk that isn't stopped to one that has room and no bad file, without a fault
+-- no bad file is there besides
 abbrev Well : DiskState → DiskState → Type 0
-Well d e = (d.stopped ≡ false) × (Rose d.faults e.faults → ⊥) × IsRoomy e.reach × (Rose d.reads e.reads → ⊥) × AreGood e.files
+Well d e = StaysWell d e × AreGood e.files
 
 -- files of flushes are good
 all_well : (d e : DiskState) → Counts d e → AreGood d.files → StaysWell d e → Well d e
-all_well d e counts good well = (well.0, well.1, well.2, well.3, still_good d.files e.files counts.files good)
+all_well d e counts good well = (well, still_good d.files e.files counts.files good)
 
 good_before : (before after : ℕ → ℕ → List (File Held)) → AreMore before after → AreGood after → AreGood before
 good_before before after more good = record {
@@ -81,106 +82,15 @@ good_before before after more good = record {
       good.wholes shard table number at (f, subst (λ hs. Has hs f) (sym are) (has_front (before shard table) others f has), is, bad);
 }
 
-rose_on : (a b c d : ℕ) → a ≤ b → Rose b c → c ≤ d → Rose a d
-rose_on a b c d le rose more = omega (arith, le, rose, more)
-
-roomy_before : (r s : Reach) → IsFurther r s → IsRoomy s → IsRoomy r
-roomy_before r s far room = (omega (arith, far.segment, room.0), omega (arith, far.manifest, room.1))
-
 -- up to some disk on the way
 first_well : (d e f : DiskState) → Counts e f → Well d f → Well d e
-first_well d e f counts well = (
-  well.0,
-  λ rose. well.1 (rose_on d.faults d.faults e.faults f.faults (omega arith) rose counts.faults),
-  roomy_before e.reach f.reach counts.reach well.2,
-  λ rose. well.3 (rose_on d.reads d.reads e.reads f.reads (omega arith) rose counts.reads),
-  good_before e.files f.files counts.files well.4,
-)
+first_well d e f counts well = (first_stays d e f counts well.0, good_before e.files f.files counts.files well.1)
 
 -- and from there to the end
 rest_well : (d e f : DiskState) → Counts d e → Well d f → e.stopped ≡ false → Well e f
-rest_well d e f counts well goes = (
-  goes,
-  λ rose. well.1 (rose_on d.faults e.faults f.faults f.faults counts.faults rose (omega arith)),
-  well.2,
-  λ rose. well.3 (rose_on d.reads e.reads f.reads f.reads counts.reads rose (omega arith)),
-  well.4,
-)
+rest_well d e f counts well goes = (rest_stays d e f counts well.0 goes, well.1)
 
-not_full : (r : Reach) → IsRoomy r → IsFull r → ⊥
-not_full r room (inl segment) = absurd (omega (arith, room.0, segment))
-not_full r room (inr manifest) = absurd (omega (arith, room.1, manifest))
-
-no_true : (b : Bool) → b ≡ false → b ≡ true → ⊥
-no_true b f t = true≢false (sym t ∙ f)
-
--- ---- one step, where the disk is well
-
--- what a write answers then, and takes
-abbrev answer_of : Option ℕ → Mutation → Reply
-answer_of None m = reply.Wrote m.number
-answer_of (Some why) m = reply.Refused why
-
-abbrev entries_of : Option ℕ → Entry → List Entry
-entries_of None x = x ∷ []
-entries_of (Some why) x = []
-
-record Settled (refusal : Option ℕ) (m : Mutation) (x : Entry) (d : DiskState) (r : Reply) (entries : List Entry) (e : DiskState) : Type 0 where
-  reply_is : r ≡ answer_of refusal m
-  entries_are : entries ≡ entries_of refusal x
-  goes : e.stopped ≡ false
-  files : SameFiles d e
-
-by_refusal : (o p : Option ℕ) (m : Mutation) (x : Entry) (d : DiskState) (r : Reply) (entries : List Entry) (e : DiskState) → o ≡ p → r ≡ answer_of p m → entries ≡ entries_of p x
-    → e.stopped ≡ false → SameFiles d e → Settled o m x d r entries e
-by_refusal o p m x d r entries e same is are goes files = record {
-  reply_is = is ∙ ap (λ q. answer_of q m) (sym same);
-  entries_are = are ∙ ap (λ q. entries_of q x) (sym same);
-  goes = goes;
-  files = files;
-}
-
-settled : (segment : ℕ) (m : Mutation) (x : Entry) (d : DiskState) (r : Reply) (entries : List Entry) (e : DiskState) → Takes segment m x d r entries e → tells_want r ≡ false → Well d e
-    → Settled (take_refusal segment m) m x d r entries e
-settled segment m x d reply.Done entries e t v well = absurd t
-settled segment m x d (reply.Wrote number) entries e t v well =
-    by_refusal (take_refusal segment m) None m x d _ entries e t.0 (ap (λ n. reply.Wrote n) t.1) t.2 (t.3.1.stopped ∙ t.3.0) t.3.1.files
-settled segment m x d (reply.Rows rows shard front now) entries e t v well = absurd t
-settled segment m x d (reply.Flushed files) entries e t v well = absurd t
-settled segment m x d (reply.Verified files) entries e t v well = absurd t
-settled segment m x d (reply.Status tables) entries e t v well = absurd t
-settled segment m x d (reply.Refused why) entries e t v well = by t.0
-  where
-    by : (take_refusal segment m ≡ Some why) ⊎ ((take_refusal segment m ≡ None) × (d.stopped ≡ false) × (why ≡ TOO_MANY) × IsFull e.reach)
-        → Settled (take_refusal segment m) m x d (reply.Refused why) entries e
-    by (inl some) = by_refusal (take_refusal segment m) (Some why) m x d _ entries e some refl t.1 (t.2.stopped ∙ well.0) t.2.files
-    by (inr full) = absurd (not_full e.reach well.2 full.3)
-settled segment m x d (reply.Failed failure.Memory) entries e t v well = absurd (true≢false v)
-settled segment m x d (reply.Failed failure.Stopped) entries e t v well = absurd (no_true d.stopped well.0 t.2.0)
-settled segment m x d (reply.Failed failure.Disk) entries e t v well = absurd (well.1 t.2.rose)
-settled segment m x d (reply.Failed failure.Read) entries e t v well = absurd t
-settled segment m x d (reply.Failed (failure.Block n at)) entries e t v well = absurd t
-
-record Agreed (new tables : List TableSchema) (d : DiskState) (r : Reply) (e : DiskState) : Type 0 where
-  done : r ≡ reply.Done
-  are : tables ≡ new
-  goes : e.stopped ≡ false
-  files : SameFiles d e
-
-agreed : (x : ManifestEntry) (old new : List TableSchema) (d : DiskState) (r : Reply) (tables : List TableSchema) (e : DiskState) → Defines x old new d r tables e → tells_want r ≡ false
-    → Well d e → Agreed new tables d r e
-agreed x old new d reply.Done tables e t v well = record { done = refl; are = t.0; goes = t.2.stopped ∙ t.1; files = t.2.files }
-agreed x old new d (reply.Wrote number) tables e t v well = absurd t
-agreed x old new d (reply.Rows rows shard front now) tables e t v well = absurd t
-agreed x old new d (reply.Flushed files) tables e t v well = absurd t
-agreed x old new d (reply.Verified files) tables e t v well = absurd t
-agreed x old new d (reply.Status listed) tables e t v well = absurd t
-agreed x old new d (reply.Refused why) tables e t v well = absurd (omega (arith, t.2, t.3, t.4.1.reach.manifest, well.2.1))
-agreed x old new d (reply.Failed failure.Memory) tables e t v well = absurd (true≢false v)
-agreed x old new d (reply.Failed failure.Stopped) tables e t v well = absurd (no_true d.stopped well.0 t.1.0)
-agreed x old new d (reply.Failed failure.Disk) tables e t v well = absurd (well.1 t.1.rose)
-agreed x old new d (reply.Failed failure.Read) tables e t v well = absurd t
-agreed x old new d (reply.Failed (failure.Block n at)) tables e t v well = absurd t
+-- ---- what is read, where no file is bad
 
 -- what a SELECT shows then
 is_shown : (files : ℕ → ℕ → List (File Held)) (before now : ℕ) (s : ShardHistory) (a : ℤ) (x : BoundRead) (r : Reply) → Shows (files x.shard x.query.table) before now s a x r
@@ -235,88 +145,6 @@ same_good : (fs gs : ℕ → ℕ → List (File Held)) (shards table : ℕ) → 
 same_good fs gs shards table same =
     by_shard fs shards table ∙ ap (λ (at : ℕ → ℕ → List ℕ). map (λ n. told_of n None) (flat_map (λ n. at n table) (range_with_len 0 shards))) same
     ∙ sym (by_shard gs shards table)
-
--- ---- a flush, where the disk is well
-
--- there isn't too much of anything
-fits : (h : History) (t : TableSchema) (n count more : ℕ) (e : DiskState) → FitsFiles h t → IsRoomy e.reach → e.live ≡ h.disk.live + more → more ≤ count → count ≤ length h.shards
-    → e.last_file ≤ h.disk.last_file + count + 1 → WhyTooMany t n (shard_at h n) (h.unflushed n t.number) e → ⊥
-fits h t n count more e fit room live few many last (inl (inl full)) = absurd (omega (arith, fit.live, live, few, many, full))
-fits h t n count more e fit room live few many last (inl (inr full)) = absurd (omega (arith, fit.numbers, last, many, full))
-fits h t n count more e fit room live few many last (inr (inl entry)) =
-    room_for_change t.number n (shard_at h n) entry.file entry.change e.reach entry.lists entry.fits room entry.full
-fits h t n count more e fit room live few many last (inr (inr much)) = fit.no_more n much
-
--- why a flush went no further is none of these, but that memory ran out
-no_fault : (t : TableSchema) (n : ℕ) (q : ShardHistory) (ws : List Mutation) (d e : DiskState) (f : Fault) → WhyNoFurther t n q ws d e f → (WhyTooMany t n q ws e → ⊥) → Well d e
-    → (f ≡ fault.Mem → ⊥) → ⊥
-no_fault t n q ws d e (fault.Refused why) w few well fed = few w.2
-no_fault t n q ws d e (fault.Stopped first) w few well fed = w
-no_fault t n q ws d e (fault.Disk None) w few well fed = by w
-  where
-    by : Rose d.faults e.faults ⊎ ((e.stopped ≡ false) × Rose d.reads e.reads) → ⊥
-    by (inl rose) = well.1 rose
-    by (inr other) = well.3 other.1
-no_fault t n q ws d e (fault.Disk (Some number)) w few well fed = w
-no_fault t n q ws d e fault.Read w few well fed = well.3 w.1
-no_fault t n q ws d e (fault.BadBlock number at) w few well fed = w
-no_fault t n q ws d e fault.Mem w few well fed = fed refl
-
-begun_well : (h : History) (t : TableSchema) (f : Fault) (after : History) → IsBegun h t (Err f) after → FitsFiles h t → Well h.disk after.disk → (f ≡ fault.Mem → ⊥) → ⊥
-begun_well h t f after a fit well fed =
-    let here : Well h.disk a.2 = subst (Well h.disk) (ap (λ (k : History). k.disk) a.6) well in
-    no_fault t (length a.0) (shard_at h (length a.0)) (h.unflushed (length a.0) t.number) h.disk a.2 f a.5.1
-    (fits h t (length a.0) (length a.0) (length (numbers_added a.0)) a.2 fit here.2 a.4.live (numbers_few h t a.0 a.2 a.4) (omega (arith, a.5.0)) a.4.last_file.1) here fed
-
-fed_flush : (f : Fault) → tells_want (reply_of_flush (Err f)) ≡ false → f ≡ fault.Mem → ⊥
-fed_flush f v is = true≢false (ap (λ (g : Fault). tells_want (reply_of_flush (Err g))) (sym is) ∙ v)
-
-table_flushed : (h : History) (t : TableSchema) (r : Result (List ℕ) Fault) (after : History) → FlushesTable h t r after → tells_want (reply_of_flush r) ≡ false → FitsFiles h t
-    → Well h.disk after.disk → (told : List ℕ) × (r ≡ Ok told)
-table_flushed h t (Ok told) after a v fit well = (told, refl)
-table_flushed h t (Err (fault.Stopped first)) after a v fit well = absurd (no_true h.disk.stopped well.0 a.0)
-table_flushed h t (Err (fault.Refused why)) after a v fit well = absurd (begun_well h t (fault.Refused why) after a fit well (fed_flush (fault.Refused why) v))
-table_flushed h t (Err (fault.Disk number)) after a v fit well = absurd (begun_well h t (fault.Disk number) after a fit well (fed_flush (fault.Disk number) v))
-table_flushed h t (Err fault.Read) after a v fit well = absurd (begun_well h t fault.Read after a fit well (fed_flush fault.Read v))
-table_flushed h t (Err (fault.BadBlock number at)) after a v fit well =
-    absurd (begun_well h t (fault.BadBlock number at) after a fit well (fed_flush (fault.BadBlock number at) v))
-table_flushed h t (Err fault.Mem) after a v fit well = absurd (true≢false v)
-
-one_well : (h : History) (t : TableSchema) (n : ℕ) (f : Fault) (after : History) → FlushesIn h t n (Err f) after → FitsFiles h t → Well h.disk after.disk → (f ≡ fault.Mem → ⊥) → ⊥
-one_well h t n f after a fit well fed =
-    let here : Well h.disk a.disk = subst (Well h.disk) (ap (λ (k : History). k.disk) a.follows) well in
-    no_fault t n (shard_at h n) (h.unflushed n t.number) h.disk a.disk f a.ends.why
-    (fits h t n 0 0 a.disk fit here.2 (omega (arith, a.ends.live)) (omega arith) (omega arith) (omega (arith, a.last_file))) here fed
-
-fed_full : (f : Fault) → is_want {T = Option ℕ} (Err f) ≡ false → f ≡ fault.Mem → ⊥
-fed_full f v is = true≢false (ap (λ (g : Fault). is_want {T = Option ℕ} (Err g)) (sym is) ∙ v)
-
-full_flushed : (h : History) (n table : ℕ) (r : Result (Option ℕ) Fault) (after : History) → FlushesFull h n table r after → is_want r ≡ false
-    → ((t : TableSchema) → slice_get h.tables table ≡ Some t → FitsFiles h t) → Well h.disk after.disk → (told : Option ℕ) × (r ≡ Ok told)
-full_flushed h n table (Ok told) after a v fit well = (told, refl)
-full_flushed h n table (Err (fault.Stopped first)) after a v fit well = absurd (no_true h.disk.stopped well.0 a.0)
-full_flushed h n table (Err (fault.Refused why)) after a v fit well =
-    absurd (one_well h a.0 n (fault.Refused why) after a.3 (fit a.0 a.1) well (fed_full (fault.Refused why) v))
-full_flushed h n table (Err (fault.Disk number)) after a v fit well = absurd (one_well h a.0 n (fault.Disk number) after a.3 (fit a.0 a.1) well (fed_full (fault.Disk number) v))
-full_flushed h n table (Err fault.Read) after a v fit well = absurd (one_well h a.0 n fault.Read after a.3 (fit a.0 a.1) well (fed_full fault.Read v))
-full_flushed h n table (Err (fault.BadBlock number at)) after a v fit well =
-    absurd (one_well h a.0 n (fault.BadBlock number at) after a.3 (fit a.0 a.1) well (fed_full (fault.BadBlock number at) v))
-full_flushed h n table (Err fault.Mem) after a v fit well = absurd (true≢false v)
-
--- and segments are dropped, none but for memory
-record Dropped (r : Result ℕ Fault) (e : DiskState) : Type 0 where
-  well : is_ok r ≡ true
-  goes : e.stopped ≡ false
-
-dropped_well : (count : ℕ) (r : Result ℕ Fault) (d e : DiskState) → EndsAfter count r d e → is_want r ≡ false → Well d e → Dropped r e
-dropped_well count (Ok told) d e ends v well = record { well = refl; goes = ends.2 }
-dropped_well count (Err (fault.Refused why)) d e ends v well = absurd (room_for_drop ends.2.0 e.reach well.2 ends.2.1)
-dropped_well count (Err (fault.Stopped first)) d e ends v well = absurd (no_true d.stopped well.0 ends.0)
-dropped_well count (Err (fault.Disk None)) d e ends v well = absurd (well.1 ends.1)
-dropped_well count (Err (fault.Disk (Some number))) d e ends v well = absurd ends
-dropped_well count (Err fault.Read) d e ends v well = absurd ends
-dropped_well count (Err (fault.BadBlock number at)) d e ends v well = absurd ends
-dropped_well count (Err fault.Mem) d e ends v well = absurd (true≢false v)
 
 -- ---- two runs
 
@@ -373,8 +201,8 @@ module _ (h : History) (c d : List Change) (p q : DiskState) (agree : Agree c d 
       → Same r s t u
   one_write w a xs ys e f r s t u x y k j v z well good =
       let m = mutation_at a (shard_at h w.shard) w in
-      let one = settled h.limits.segment m (entry_of h m) p r xs e x v (subst (Well p) (ap (λ (i : History). i.disk) k) well) in
-      let two = settled h.limits.segment m (entry_of h m) q s ys f y z (subst (Well q) (ap (λ (i : History). i.disk) j) good) in
+      let one = settled h.limits.segment m (entry_of h m) p r xs e x v (subst (Well p) (ap (λ (i : History). i.disk) k) well).0 in
+      let two = settled h.limits.segment m (entry_of h m) q s ys f y z (subst (Well q) (ap (λ (i : History). i.disk) j) good).0 in
       let replies : r ≡ s = one.reply_is ∙ sym two.reply_is in
       let entries : xs ≡ ys = one.entries_are ∙ sym two.entries_are in
       let now = keep c d p q e f agree one.files two.files in
@@ -404,14 +232,14 @@ module _ (h : History) (c d : List Change) (p q : DiskState) (agree : Agree c d 
       let there : Well q (record q { reads = n }) = subst (Well q) (ap (λ (i : History). i.disk) g) good in
       record {
         replies =
-            is_shown p.files p.reads m (shard_at h x.shard) a x r k v here.3 here.4
-            ∙ sym (is_shown q.files q.reads n (shard_at h x.shard) a x s j z there.3 there.4);
+            is_shown p.files p.reads m (shard_at h x.shard) a x r k v here.0.3 here.1
+            ∙ sym (is_shown q.files q.reads n (shard_at h x.shard) a x s j z there.0.3 there.1);
         both =
             both_at t (after_read (on h c p) x.shard a m) u (after_read (on h d q) x.shard a n) f g
             (record {
               stores = record { same = refl; changes = agree.changes; files = agree.files; last_file = agree.last_file; live = agree.live };
-              one_goes = well.0;
-              other_goes = good.0;
+              one_goes = well.0.0;
+              other_goes = good.0.0;
             });
       }
 
@@ -420,8 +248,8 @@ module _ (h : History) (c d : List Change) (p q : DiskState) (agree : Agree c d 
   one_change x b r s t u k j v z well good =
       let (tables, e, defines, f) = k in
       let (others, i, defined, g) = j in
-      let one = agreed x h.tables (tables_after h.tables b) p r tables e defines v (subst (Well p) (ap (λ (m : History). m.disk) f) well) in
-      let two = agreed x h.tables (tables_after h.tables b) q s others i defined z (subst (Well q) (ap (λ (m : History). m.disk) g) good) in
+      let one = agreed x h.tables (tables_after h.tables b) p r tables e defines v (subst (Well p) (ap (λ (m : History). m.disk) f) well).0 in
+      let two = agreed x h.tables (tables_after h.tables b) q s others i defined z (subst (Well q) (ap (λ (m : History). m.disk) g) good).0 in
       let now = keep c d p q e i agree one.files two.files in
       record {
         replies = one.done ∙ sym two.done;
@@ -445,7 +273,7 @@ module _ (h : History) (c d : List Change) (p q : DiskState) (agree : Agree c d 
   left : {A : Type 0} (r s v : A) (t u : History) → r ≡ v → s ≡ v → t ≡ on h c p → u ≡ on h d q → Well p t.disk → Well q u.disk → Same r s t u
   left r s v t u x y f g well good = record {
     replies = x ∙ sym y;
-    both = both_at t (on h c p) u (on h d q) f g (record { stores = as_one h c d p q agree; one_goes = well.0; other_goes = good.0 });
+    both = both_at t (on h c p) u (on h d q) f g (record { stores = as_one h c d p q agree; one_goes = well.0.0; other_goes = good.0.0 });
   }
 
   one_check : (o : Option TableSchema) (r s : Result (List Verdict) Fault) (t u : History) → VerifiesNamed (on h c p) o r t → VerifiesNamed (on h d q) o s u
@@ -459,15 +287,15 @@ module _ (h : History) (c d : List Change) (p q : DiskState) (agree : Agree c d 
       let there : Well q (record q { reads = n }) = subst (Well q) (ap (λ (i : History). i.disk) g) good in
       record {
         replies =
-            is_verified p.files (length h.shards) x.number p.reads m r k v here.3 here.4
+            is_verified p.files (length h.shards) x.number p.reads m r k v here.0.3 here.1
             ∙ ap (λ (vs : List Verdict). reply.Verified vs) (same_good p.files q.files (length h.shards) x.number agree.files)
-            ∙ sym (is_verified q.files (length h.shards) x.number q.reads n s j z there.3 there.4);
+            ∙ sym (is_verified q.files (length h.shards) x.number q.reads n s j z there.0.3 there.1);
         both =
             both_at t (on h c (record p { reads = m })) u (on h d (record q { reads = n })) f g
             (record {
               stores = record { same = refl; changes = agree.changes; files = agree.files; last_file = agree.last_file; live = agree.live };
-              one_goes = well.0;
-              other_goes = good.0;
+              one_goes = well.0.0;
+              other_goes = good.0.0;
             });
       }
 
@@ -491,8 +319,8 @@ module _ (h : History) (c d : List Change) (p q : DiskState) (agree : Agree c d 
       → tells_want (reply_of_flush r) ≡ false → tells_want (reply_of_flush s) ≡ false → FitsFiles (on h c p) x → FitsFiles (on h d q) x → Well p t.disk → Well q u.disk
       → Same r s t u
   one_table x r s t u a b v w fit fat well good =
-      let (told, is) = table_flushed (on h c p) x r t a v fit well in
-      let (says, are) = table_flushed (on h d q) x s u b w fat good in
+      let (told, is) = table_flushed (on h c p) x r t a v fit well.0 in
+      let (says, are) = table_flushed (on h d q) x s u b w fat good.0 in
       let one : IsBegun (on h c p) x (Ok told) t = subst (λ (k : Result (List ℕ) Fault). FlushesTable (on h c p) x k t) is a in
       let two : IsBegun (on h d q) x (Ok says) u = subst (λ (k : Result (List ℕ) Fault). FlushesTable (on h d q) x k u) are b in
       record {
@@ -536,8 +364,8 @@ module _ (h : History) (c d : List Change) (p q : DiskState) (agree : Agree c d 
       → is_want r ≡ false → is_want s ≡ false → ((x : TableSchema) → slice_get h.tables table ≡ Some x → FitsFiles (on h c p) x)
       → ((x : TableSchema) → slice_get h.tables table ≡ Some x → FitsFiles (on h d q) x) → Well p t.disk → Well q u.disk → Same r s t u
   one_full n table r s t u a b v w fit fat well good =
-      let (told, is) = full_flushed (on h c p) n table r t a v fit well in
-      let (says, are) = full_flushed (on h d q) n table s u b w fat good in
+      let (told, is) = full_flushed (on h c p) n table r t a v fit well.0 in
+      let (says, are) = full_flushed (on h d q) n table s u b w fat good.0 in
       let same : Same told says t u =
       one_shard n table told says t u (subst (λ (k : Result (Option ℕ) Fault). FlushesFull (on h c p) n table k t) is a)
       (subst (λ (k : Result (Option ℕ) Fault). FlushesFull (on h d q) n table k u) are b) in
@@ -553,8 +381,8 @@ module _ (h : History) (c d : List Change) (p q : DiskState) (agree : Agree c d 
   one_drop : (r s : Result ℕ Fault) (t u : History) → DropsSegments (on h c p) r t → DropsSegments (on h d q) s u → is_want r ≡ false → is_want s ≡ false
       → Well p t.disk → Well q u.disk → Both t u
   one_drop r s t u a b v w well good =
-      let one = dropped_well a.count r p a.disk a.ends v (subst (Well p) (ap (λ (k : History). k.disk) a.follows) well) in
-      let two = dropped_well b.count s q b.disk b.ends w (subst (Well q) (ap (λ (k : History). k.disk) b.follows) good) in
+      let one = dropped_well a.count r p a.disk a.ends v (subst (Well p) (ap (λ (k : History). k.disk) a.follows) well).0 in
+      let two = dropped_well b.count s q b.disk b.ends w (subst (Well q) (ap (λ (k : History). k.disk) b.follows) good).0 in
       let now = keep c d p q a.disk b.disk agree a.drops.files b.drops.files in
       both_at t (record (on h c p) { trimmed = is_ok r; disk = a.disk }) u (record (on h d q) { trimmed = is_ok s; disk = b.disk }) a.follows b.follows
       (record {
@@ -573,7 +401,7 @@ module _ (h : History) (c d : List Change) (p q : DiskState) (agree : Agree c d 
   one_behind : (listed want wont : Bool) (t u : History) → DropsBehind listed want (on h c p) t → DropsBehind listed wont (on h d q) u → want ≡ false → wont ≡ false
       → Well p t.disk → Well q u.disk → Both t u
   one_behind false want wont t u a b v w well good =
-      both_at t (on h c p) u (on h d q) a.1 b.1 (record { stores = as_one h c d p q agree; one_goes = well.0; other_goes = good.0 })
+      both_at t (on h c p) u (on h d q) a.1 b.1 (record { stores = as_one h c d p q agree; one_goes = well.0.0; other_goes = good.0.0 })
   one_behind true want wont t u a b v w well good = one_drop a.0 b.0 t u a.2 b.2 (sym a.1 ∙ v) (sym b.1 ∙ w) well good
 
 -- what is behind a step of both
@@ -606,7 +434,7 @@ module _ (h : History) (c d : List Change) (p q : DiskState) (agree : Agree c d 
 
   stays : (want wont : Bool) (t u : History) → (want ≡ false) × (t ≡ on h c p) → (wont ≡ false) × (u ≡ on h d q) → Well p t.disk → Well q u.disk → Both t u
   stays want wont t u a b well good =
-      both_at t (on h c p) u (on h d q) a.1 b.1 (record { stores = as_one h c d p q agree; one_goes = well.0; other_goes = good.0 })
+      both_at t (on h c p) u (on h d q) a.1 b.1 (record { stores = as_one h c d p q agree; one_goes = well.0.0; other_goes = good.0.0 })
 
   one_written : (x : BoundWrite) (r : Reply) (want wont : Bool) (t u : History) → SettlesBehind (Ok (bound.Write x)) r want (on h c p) t
       → SettlesBehind (Ok (bound.Write x)) r wont (on h d q) u → want ≡ false → wont ≡ false → FindsBehind FitsFiles (Ok (bound.Write x)) r (on h c p)
@@ -636,7 +464,7 @@ deed_both k j t u m r want wont both a b v w fit fat well good =
     (subst (λ (i : History). SettlesBehind m r wont i u) (sym both.stores.same) b) v w fit (subst (FindsBehind FitsFiles m r) (sym both.stores.same) fat) well good
 
 -- memory ran out for neither of the two
-fed : (o : Upshot) (r : Reply) → o.reply ≡ Some r → is_starved o ≡ false → (tells_want r ≡ false) × (o.want ≡ false)
+pub fed : (o : Upshot) (r : Reply) → o.reply ≡ Some r → is_starved o ≡ false → (tells_want r ≡ false) × (o.want ≡ false)
 fed o r is quiet = let both = or_parts _ o.want quiet in (ap (λ (x : Option Reply). says_want x) (sym is) ∙ both.0, both.1)
 
 one_upshot : (o s : Upshot) (r q : Reply) → o.reply ≡ Some r → s.reply ≡ Some q → r ≡ q → o.want ≡ false → s.want ≡ false → o ≡ s
@@ -745,12 +573,13 @@ module _ (Gives : ℤ → Type 0) where
       let two_fed = or_parts (is_starved s) (list_any is_starved ss) w in
       let one_more = stopping.one_line clock.Manual Gives (on h c p) l r x.0 x.1 in
       let two_more = stopping.one_line clock.Manual Gives (on h d q) l s y.0 y.1 in
-      let fit_rest : FlushesFit clock.Manual Gives x.0 ls = fit.1 r x.0 x.1 in
-      let fat_rest : FlushesFit clock.Manual Gives y.0 ls = fat.1 s y.0 y.1 in
       let one_rest = stopping.all_lines clock.Manual Gives x.0 ls rs t x.2 in
       let two_rest = stopping.all_lines clock.Manual Gives y.0 ls ss u y.2 in
-      let one =
-      one_answer h c d p q l r s x.0 y.0 agree fit.0 fat.0 x.1 y.1 one_fed.0 two_fed.0 (first_well p x.0.disk t.disk one_rest well) (first_well q y.0.disk u.disk two_rest good) in
+      let one_first : Well p x.0.disk = first_well p x.0.disk t.disk one_rest well in
+      let two_first : Well q y.0.disk = first_well q y.0.disk u.disk two_rest good in
+      let fit_rest : FlushesFit clock.Manual Gives x.0 ls = fit.1 r x.0 x.1 one_fed.0 one_first.0 in
+      let fat_rest : FlushesFit clock.Manual Gives y.0 ls = fat.1 s y.0 y.1 two_fed.0 two_first.0 in
+      let one = one_answer h c d p q l r s x.0 y.0 agree fit.0 fat.0 x.1 y.1 one_fed.0 two_fed.0 one_first two_first in
       let back = sym one.both.stores.same in
       let rest =
       runs_agree x.0 x.0.changes y.0.changes x.0.disk y.0.disk ls rs ss t u (agreeing x.0 y.0 one.both.stores) fit_rest
@@ -791,4 +620,7 @@ no_line_fits kind Gives h text none = (
 
 pub no_flush_fits : (Gives : ℤ → Type 0) → NoFlushFits Gives
 no_flush_fits Gives kind h [] none = tt
-no_flush_fits Gives kind h (l ∷ ls) none = (no_line_fits kind Gives h l none.0, λ o after answers. no_flush_fits Gives kind after ls (none.1 o after answers))
+no_flush_fits Gives kind h (l ∷ ls) none = (
+  no_line_fits kind Gives h l none.0,
+  λ o after answers fed well. no_flush_fits Gives kind after ls (none.1 o after answers),
+)

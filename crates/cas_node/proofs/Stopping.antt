@@ -194,7 +194,7 @@ grown table shard s (Some c) before after g stand =
     (g.0 ∷ [], g.1, (all_of IsStanding before (g.0 ∷ []) (subst (AllByRecursion IsStanding) g.1 (stand c refl))).1)
 
 -- only shards that were flushed have a change
-changed_within : (changes : List (Option Change)) (n : ℕ) (c : Change) → change_of changes n ≡ Some c → n < length changes
+pub changed_within : (changes : List (Option Change)) (n : ℕ) (c : Change) → change_of changes n ≡ Some c → n < length changes
 changed_within [] n c is = absurd cc
 changed_within (x ∷ xs) zero c is = omega arith
 changed_within (x ∷ xs) (suc n) c is = let within = changed_within xs n c is in omega (arith, within)

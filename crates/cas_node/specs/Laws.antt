@@ -41,7 +41,7 @@ use Rattle.cas_node.specs.Lines.{Answers, NoneFlushes, Runs, is_starved}
 use Rattle.cas_node.specs.Ran.{AreGood}
 use Rattle.cas_recovery.specs.Found.{AreOfAStore}
 use Rattle.cas_recovery.specs.Openings.{AreOpenings}
-use Rattle.cas_sessions.specs.Starts.{Begins, start}
+use Rattle.cas_sessions.specs.Starts.{Begins, start, unflushed_in}
 use Rattle.cas_sstread.specs.Loading.{Held}
 use Rattle.cas_view.specs.Views.{File}
 
@@ -73,11 +73,12 @@ FlushFinds Finds kind Gives h text =
     × ((s : Statement) → Says text (line.Statement s) → (answer : Reply) (after : History)
     → Does kind Gives h (meaning h.limits.shards h.tables s) answer after → FindsBehind Finds (meaning h.limits.shards h.tables s) answer after)
 
--- each flush of these lines finds its table so, whatever comes of those before it; of lines that flush nothing that is so
+-- each flush of these lines finds its table so, whatever comes of those before it but a failure or want of memory; of lines that flush nothing that is so
 abbrev pub FlushesFind : (History → TableSchema → Type 0) → ClockKind → (ℤ → Type 0) → History → List (List ℕ) → Type 0
 FlushesFind Finds kind Gives h [] = Unit {0}
 FlushesFind Finds kind Gives h (l ∷ ls) =
-    FlushFinds Finds kind Gives h l × ((o : Upshot) (after : History) → Answers kind Gives h l o after → FlushesFind Finds kind Gives after ls)
+    FlushFinds Finds kind Gives h l
+    × ((o : Upshot) (after : History) → Answers kind Gives h l o after → is_starved o ≡ false → StaysWell h.disk after.disk → FlushesFind Finds kind Gives after ls)
 
 -- each flush of these lines fits
 abbrev pub FlushesFit : ClockKind → (ℤ → Type 0) → History → List (List ℕ) → Type 0
@@ -176,3 +177,30 @@ LittleFits = (h : History) (table : ℕ) (t : TableSchema) → AreSaid h → sli
 abbrev pub LittleFlushesFit : (ℤ → Type 0) → Type 0
 LittleFlushesFit Gives =
     (kind : ClockKind) (h : History) (lines : List (List ℕ)) → AreSaid h → FlushesFind IsLittle kind Gives h lines → FlushesFit kind Gives h lines
+
+-- ---- memtables that are flushed before they get large
+
+-- A memtable may have records of at most 2^27 bytes before it is flushed. Of each table in each shard what stands in no file yet is no more, of records with
+-- atoms, and is all in the memtable that is written to.
+pub record KeepsLittle (h : History) : Type 0 where
+  pub segment : h.limits.segment ≤ 2 ^ 27
+  pub memtable : h.limits.memtable ≤ 2 ^ 27
+  pub filled : (n table : ℕ) → h.filled n table ≡ bytes_of 0 (h.unflushed n table)
+  pub short : (n table : ℕ) → bytes_of 0 (h.unflushed n table) ≤ 2 ^ 27
+
+-- so it is before the first line, whatever store of a folder the run began with, if what stood in no file was no more then
+abbrev pub BeginsLittle : Type 0
+BeginsLittle =
+    (l : Limits) (entries : List ManifestEntry) (mutations : List Mutation) (openings : ℕ → ShardOpening) (files : ℕ → ℕ → List (File Held)) (faults : ℕ)
+    (h : History) → Begins l entries mutations openings files faults h → h.limits.segment ≤ 2 ^ 27 → h.limits.memtable ≤ 2 ^ 27
+    → ((n table : ℕ) → bytes_of 0 (unflushed_in entries mutations n table) ≤ 2 ^ 27) → KeepsLittle h
+
+-- there may be table files more for so many lines, one for each shard and one, and numbers for them
+pub record AreFew (h : History) (lines : ℕ) : Type 0 where
+  pub live : h.disk.live + lines * (length h.shards + 1) ≤ LIVE_LIMIT
+  pub numbers : h.disk.last_file + lines * (length h.shards + 1) < FILE_NUMBER_LIMIT
+
+-- then each flush of the lines fits, under either clock
+abbrev pub MemtablesFit : (ℤ → Type 0) → Type 0
+MemtablesFit Gives =
+    (kind : ClockKind) (h : History) (lines : List (List ℕ)) → AreSaid h → KeepsLittle h → AreFew h (length lines) → FlushesFit kind Gives h lines

@@ -1,7 +1,7 @@
 //! What holds of every run of a script.
 
-ghost use Rattle.cas_node.specs.Laws.{AllAreRead, FilesAreFew, FoundRise, FoundSaid, LittleFits};
-ghost use Rattle.cas_node.specs.Laws.{LittleFlushesFit, NoFlushFits, NumbersStay, OneOutcome, SaidStay};
+ghost use Rattle.cas_node.specs.Laws.{AllAreRead, BeginsLittle, FilesAreFew, FoundRise, FoundSaid, LittleFits};
+ghost use Rattle.cas_node.specs.Laws.{LittleFlushesFit, MemtablesFit, NoFlushFits, NumbersStay, OneOutcome, SaidStay};
 
 use cas_disk::Folder;
 use cas_io::Clock;
@@ -37,6 +37,15 @@ pub fn little_fits<C: Clock>()
     ensures stay { (clock : C) → SaidStay (C.may_give clock) }
     ensures fits { LittleFits }
     ensures flushes { (clock : C) → LittleFlushesFit (C.may_give clock) }
+{
+    little_is_never_too_much();
+}
+
+/// Memtables that are flushed before they have more than 2^27 bytes of records fit into table files, each of them
+/// along a run, as long as the disk is well, memory doesn't run out, and the files are few enough.
+pub fn memtables_fit<C: Clock>()
+    ensures begin { BeginsLittle }
+    ensures fit { (clock : C) → MemtablesFit (C.may_give clock) }
 {
     little_is_never_too_much();
 }
