@@ -1,5 +1,5 @@
 -- In a manifest with some 2^32 bytes left there is room for the entry that lists a file, and for one that drops a segment.
-use Rattle.std.proofs.Common.{ℕ, ◌≤◌, ◌+◌, List, [], ◌∷◌, ◌++◌, length, ap, arith, length-append}
+use Rattle.std.proofs.Common.{ℕ, ◌≤◌, List, [], ◌∷◌, ◌++◌, length, ap, arith, length-append}
 use Rattle.std.specs.List.{flat_map}
 use Rattle.cas_codec.specs.Fields.{u8, u16, u64, i64}
 use Rattle.cas_codec.proofs.FieldLengths.{u8_long, u16_long, u64_long, i64_long}

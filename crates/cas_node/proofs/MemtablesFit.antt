@@ -1,14 +1,12 @@
 -- Memtables that are flushed before they get large fit into table files.
-use Rattle.std.proofs.Common.{◌≡◌, ◌⊎◌, inl, inr, ⊎_elim, ◌≤◌, ◌<◌, ◌+◌, ◌*◌, ◌/◌, ◌==◌, ◌&&◌, ◌^◌, ℕ, suc, ℤ, Bool, true, false, List, [], ◌∷◌, ◌++◌, length, Option, None, Some, Result, Ok, Err, is_ok, refl, sym, ap, ◌∙◌, subst, arith, append-nil}
+use Rattle.std.proofs.Common.{◌≡◌, inl, inr, ⊎_elim, ◌≤◌, ◌+◌, ◌*◌, ◌==◌, ◌&&◌, ◌^◌, ℕ, suc, ℤ, Bool, true, false, List, [], ◌∷◌, ◌++◌, length, Option, None, Some, Result, Ok, Err, is_ok, refl, sym, ap, ◌∙◌, subst, arith, append-nil}
 use Rattle.std.proofs.Math.Nat.{suc-mul}
 use Rattle.std.proofs.lemmas.Bool.{true≢false, and_parts, eqb-true, ltb-false, ltb-true, or_parts}
-use Rattle.std.proofs.lemmas.Bool.Decides.{nat_tests}
 use Rattle.std.proofs.lemmas.Cmp.{tied_itself}
 use Rattle.std.specs.Ordering.{is_eq}
-use Rattle.std.specs.Prelude.{if◌then◌else◌, is_some, nat_lt, slice_get, ◌||◌}
+use Rattle.std.specs.Prelude.{if◌then◌else◌, is_some, nat_lt, slice_get}
 use Rattle.cas_types.proofs.OrderLaws.{bytes_orders}
 use Rattle.cas_types.specs.declared.schema.TableSchema.{TableSchema}
-use Rattle.cas_atoms.specs.Coordinates.{same_bytes}
 use Rattle.cas_atoms.specs.LogLength.{record_length}
 use Rattle.cas_atoms.specs.declared.atom.Atom.{Atom}
 use Rattle.cas_atoms.specs.declared.atom.Mutation.{Mutation}
@@ -50,7 +48,7 @@ use Rattle.cas_sessions.specs.Verifying.{VerifiesNamed}
 use Rattle.cas_sessions.proofs.Answering.{says_spelled}
 use Rattle.cas_node.specs.declared.upshot.Upshot.{Upshot}
 use Rattle.cas_node.specs.Laws.{AreFew, AreSaid, BeginsLittle, FindsBehind, FitsFiles, FlushFinds, FlushesFit, KeepsLittle, StaysWell}
-use Rattle.cas_node.specs.Lines.{Answered, Answers, DropsBehind, FlushesAndDrops, IsCarriedOut, SetsClock, SettlesAndDrops, SettlesBehind, is_starved, is_want, lists_any, lists_one, reply_of_flush}
+use Rattle.cas_node.specs.Lines.{Answered, Answers, DropsBehind, IsCarriedOut, SetsClock, SettlesAndDrops, SettlesBehind, is_starved, is_want, lists_any, lists_one, reply_of_flush}
 use Rattle.cas_node.proofs.FilesFew as few
 use Rattle.cas_node.proofs.LittleFits.{little_fits, named_there}
 use Rattle.cas_node.proofs.OneOutcome.{fed}

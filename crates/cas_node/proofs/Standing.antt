@@ -1,5 +1,5 @@
 -- In the table files of a run mutations stand, so that no SELECT and no check finds one bad.
-use Rattle.std.proofs.Common.{◌≡◌, ◌<◌, ◌≤◌, ◌⊎◌, inl, inr, ⊎_elim, ℕ, ℤ, Option, None, Some, List, [], ◌∷◌, length, refl, sym, ap, ◌∙◌, subst, arith}
+use Rattle.std.proofs.Common.{◌≡◌, ◌<◌, inl, inr, ⊎_elim, ℕ, ℤ, Option, None, Some, List, [], ◌∷◌, length, refl, sym, ap, ◌∙◌, subst, arith}
 use Rattle.std.specs.List.{AllByRecursion}
 use Rattle.std.specs.Prelude.{slice_get}
 use Rattle.cas_types.specs.declared.schema.TableSchema.{TableSchema}
@@ -15,7 +15,6 @@ use Rattle.cas_laws.specs.Given.{Has}
 use Rattle.cas_listed.specs.Listed.{AreLoaded}
 use Rattle.cas_listed.proofs.Holding.{listed_files_hold}
 use Rattle.cas_opening.specs.Opening.{IsOfBytes}
-use Rattle.cas_recovery.specs.Found.{IsUnflushed}
 use Rattle.cas_recovery.specs.Openings.{AreOpenings}
 use Rattle.cas_recovery.proofs.Standing.{past}
 use Rattle.cas_sessions.specs.History.{History}

@@ -1,65 +1,29 @@
 -- What steps of a run come to, where the disk is well.
-use Rattle.std.proofs.Common.{◌≡◌, ◌≤◌, ◌+◌, ◌⊎◌, inl, inr, ℕ, ℤ, Bool, true, false, List, [], ◌∷◌, ◌++◌, length, map, flat_map, Option, Some, None, Result, Ok, Err, is_ok, refl, sym, ap, ◌∙◌, subst, arith}
+use Rattle.std.proofs.Common.{◌≡◌, ◌≤◌, ◌+◌, ◌⊎◌, inl, inr, ℕ, Bool, true, false, List, [], ◌∷◌, length, Option, Some, None, Result, Ok, Err, is_ok, refl, sym, ap, ◌∙◌, subst, arith}
 use Rattle.std.specs.Prelude.{slice_get}
-use Rattle.std.specs.List.{list_any, range_with_len}
-use Rattle.std.proofs.Math.Logic.{∥∥₁_elim}
-use Rattle.std.proofs.lemmas.Bool.{true≢false, or_parts}
-use Rattle.std.proofs.lemmas.List.{map-append}
-use Rattle.std.proofs.lemmas.Option.{same_Some}
-use mathlib.Core.HLevel.{⊥_prop}
+use Rattle.std.proofs.lemmas.Bool.{true≢false}
 use Rattle.cas_io.specs.Causes.{Rose}
 use Rattle.cas_types.specs.declared.schema.TableSchema.{TableSchema}
 use Rattle.cas_atoms.specs.declared.atom.Mutation.{Mutation}
-use Rattle.cas_bind.specs.declared.bound.Bound.{Bound}
-use Rattle.cas_bind.specs.declared.bound.Bound.TheVariants as bound
-use Rattle.cas_bind.specs.declared.bound.BoundRead.{BoundRead}
-use Rattle.cas_bind.specs.Meaning.{meaning}
-use Rattle.cas_bind.specs.Tables.{tables_after}
-use Rattle.cas_changes.specs.declared.entry.Change.{Change}
 use Rattle.cas_changes.specs.declared.entry.Entry.{Entry as ManifestEntry}
-use Rattle.cas_changes.specs.declared.entry.Entry.TheVariants.{Schema, AddColumns}
-use Rattle.cas_effects.specs.declared.effect.BoundWrite.{BoundWrite}
-use Rattle.cas_effects.specs.declared.refusal.Refusal.{Refusal}
 use Rattle.cas_effects.specs.declared.refusal.TheConstants.{TOO_MANY}
 use Rattle.cas_journal.specs.Reach.{Reach, IsFull}
-use Rattle.cas_laws.specs.Given.{Has}
-use Rattle.cas_lines.specs.declared.line.Line.{Line}
-use Rattle.cas_lines.specs.declared.line.Line.TheVariants as line
-use Rattle.cas_lines.specs.Lines.{Says}
-use Rattle.cas_lines.proofs.OneLine.{one_line as says_one}
-use Rattle.cas_render.specs.Listing.{status_of}
 use Rattle.cas_render.specs.declared.reply.Failure.TheVariants as failure
 use Rattle.cas_render.specs.declared.reply.Reply.{Reply}
 use Rattle.cas_render.specs.declared.reply.Reply.TheVariants as reply
-use Rattle.cas_render.specs.declared.reply.Verdict.{Verdict}
 use Rattle.cas_shard.specs.declared.entry.Entry.{Entry}
-use Rattle.cas_shard.specs.Shards.{ShardHistory, look_at, mutation_at, take_refusal}
-use Rattle.cas_sstread.specs.Loading.{Held}
-use Rattle.cas_terms.specs.Columns.{table_named}
-use Rattle.cas_view.specs.Views.{File}
-use Rattle.cas_words.specs.declared.words.ClockKind.{ClockKind}
-use Rattle.cas_words.specs.declared.words.ClockKind.TheVariants as clock
-use Rattle.cql_parse.specs.declared.syntax.TableName.{TableName}
+use Rattle.cas_shard.specs.Shards.{ShardHistory, take_refusal}
 use Rattle.cas_sessions.specs.declared.answer.Fault.{Fault}
 use Rattle.cas_sessions.specs.declared.answer.Fault.TheVariants as fault
-use Rattle.cas_sessions.specs.Dropping.{DropsSegments, EndsAfter}
-use Rattle.cas_sessions.specs.Filling.{FlushesFull, FlushesIf, FlushesIn, is_full}
-use Rattle.cas_sessions.specs.Flushes.{FlushesNamed, FlushesTable, WhyNoFurther, WhyTooMany, numbers_added}
-use Rattle.cas_sessions.specs.History.{History, DiskState, Takes, Shows, Defines, Changes, Does, ReadsAt, SameFiles, WritesAt, after_read, after_write, entry_of, rows_reply, shard_at, tells_want}
-use Rattle.cas_sessions.specs.Status.{file_numbers, status}
-use Rattle.cas_sessions.specs.Verifying.{EndsVerified, VerifiesNamed, table_files}
-use Rattle.cas_node.specs.declared.upshot.Upshot.{Upshot}
-use Rattle.cas_node.specs.Lines.{Answered, Answers, DropsBehind, FlushesNone, FlushesAndDrops, IsCarriedOut, LeavesRoom, Runs, SettlesAndDrops, SettlesBehind, is_starved, is_want, lists_any, lists_one, replied, reply_of_flush, reply_of_verify, says_want}
-use Rattle.cas_node.specs.Ran.{AreGood}
-use Rattle.cas_node.specs.Laws.{FindsBehind, FitsFiles, FlushFinds, FlushesFit, IsRoomy, NoFlushFits, OneOutcome, SameStore, StaysWell}
-use Rattle.cas_node.proofs.Blaming.{has_front, still_bad}
+use Rattle.cas_sessions.specs.Dropping.{EndsAfter}
+use Rattle.cas_sessions.specs.Filling.{FlushesFull, FlushesIn}
+use Rattle.cas_sessions.specs.Flushes.{FlushesTable, WhyNoFurther, WhyTooMany, numbers_added}
+use Rattle.cas_sessions.specs.History.{History, DiskState, Takes, Defines, SameFiles, shard_at, tells_want}
+use Rattle.cas_node.specs.Lines.{is_want, reply_of_flush}
+use Rattle.cas_node.specs.Laws.{FitsFiles, IsRoomy, StaysWell}
 use Rattle.cas_node.proofs.FilesFew.{numbers_few}
 use Rattle.cas_node.proofs.EntryRoom.{room_for_change, room_for_drop}
-use Rattle.cas_node.proofs.FlushedAlike.{Agree, agreeing, as_one, at_both, flushed_alike, on, one_alike, one_told, told_alike}
-use Rattle.cas_node.proofs.Standing.{still_good}
-use Rattle.cas_node.proofs.Stopping as stopping
-use Rattle.cas_node.proofs.Stopping.{AreMore, Counts, IsBegun, IsFurther}
-use Rattle.cas_node.proofs.Verified.{all_good, are_good, in_some_shard, told_of}
+use Rattle.cas_node.proofs.Stopping.{Counts, IsBegun, IsFurther}
 
 -- ---- a disk that is well
 
