@@ -49,7 +49,7 @@ use Rattle.cas_node.specs.Lines.{NoneFlushes, Runs, Tells}
 use Rattle.cas_sstread.specs.Loading.{Held}
 use Rattle.cas_view.specs.Views.{File}
 use Rattle.cas_sessions.specs.Starts.{AreExplained, AreItsFiles, Begins, start, BeginsAs, IsInMemory, IsOpenedAs, IsStarted}
-use Rattle.cas_node.specs.Ran.{AllWell, AreGood, Ended, GoodOrMem, IfBad, IfUnread, IsBadForOne, IsGranted, IsKnown, IsNotRun, Outside, Ran, RanAll, RanFrom, RanOn}
+use Rattle.cas_node.specs.Ran.{AllWell, AreGood, Ended, GoodOrMem, IfBad, IfUnread, IsBadForOne, IsCalm, IsGranted, IsKnown, IsNotRun, Outside, Ran, RanAll, RanFrom, RanOn}
 use Rattle.cas_node.specs.Ran.{Stop, WriteRose}
 use Rattle.cas_node.proofs.Standing.{all_stand, standing_good}
 use Rattle.cas_node.specs.Ran.{at_the_end, at_the_sink, for_memory, has_risen, reply_cause, upshot_cause, verdicts_cause, weight, with_faults, worse, worst}
@@ -479,15 +479,15 @@ uncut (cause.Bad name at) b = b
 uncut (cause.TooLong taken) b = tt
 
 stops_well : (first : History) (kind : ClockKind) (Gives : ℤ → Type 0) (script : List ℕ) (old new : Option (List ℕ)) (final : History) (why : Cause)
-    → IsGranted first kind Gives script → (why ≡ cause.Write → ⊥) → IfBad why (λ name at. ⊥) → (s : Stop) (run rest : List (List ℕ)) (upshots : List Upshot)
+    → IsGranted first kind Gives script → IsCalm first.disk final.disk → (why ≡ cause.Write → ⊥) → IfBad why (λ name at. ⊥) → (s : Stop) (run rest : List (List ℕ)) (upshots : List Upshot)
     → run ++ rest ≡ lines script → Runs kind Gives first run upshots final → Ended s rest old new upshots why → GoodOrMem why
-stops_well first kind Gives script old new final why granted fine sound at_the_end run rest upshots parts steps e =
+stops_well first kind Gives script old new final why granted calm fine sound at_the_end run rest upshots parts steps e =
     let all : run ≡ lines script = sym (append-nil run) ∙ ap (λ r. run ++ r) (sym e.all) ∙ parts in
-    subst GoodOrMem (sym e.told) (granted upshots final (subst (λ ls. Runs kind Gives first ls upshots final) all steps))
-stops_well first kind Gives script old new final why granted fine sound at_the_sink run rest upshots parts steps e =
+    subst GoodOrMem (sym e.told) (granted upshots final (subst (λ ls. Runs kind Gives first ls upshots final) all steps) calm)
+stops_well first kind Gives script old new final why granted calm fine sound at_the_sink run rest upshots parts steps e =
     subst GoodOrMem (sym e.told)
     (cut (worst upshots) (of_upshots cause.Good upshots tt) (λ x. fine (e.told ∙ x)) (uncut (worst upshots) (subst (λ w. IfBad w (λ name at. ⊥)) e.told sound)))
-stops_well first kind Gives script old new final why granted fine sound for_memory run rest upshots parts steps e = inr e.told
+stops_well first kind Gives script old new final why granted calm fine sound for_memory run rest upshots parts steps e = inr e.told
 
 -- what was read is all that was left
 all_read : (left new : Option (List ℕ)) (s bytes : List ℕ) → left ≡ Some s → ReadToEnd left new bytes → bytes ≡ s
@@ -531,6 +531,15 @@ module _ (words : List (List ℕ)) (Gives : ℤ → Type 0) (before after : Outs
       let granted : IsGranted ran.first c.clock Gives script =
       subst (λ (k : Command). IsGranted ran.first k.clock Gives script) same
       (subst (λ (l : List ℕ). IsGranted ran.first well.command.clock Gives l) (sym text) (well.granted files its_own ran.first begun)) in
+      let begins_at : ran.first.disk ≡ ran.begins.disk =
+      ap (λ (h : History). h.disk) ran.begins.history ∙ first_disk c.limits entries mutations well.openings ran.begins.session ran.begins.disk in
+      let stayed : IsCalm ran.first.disk ran.final.disk = (
+        ap (λ (d : DiskState). d.stopped) begins_at ∙ ran.begins.going,
+        λ rose.
+            well.no_folder_fault
+            (omega (arith, rose, ap (λ (d : DiskState). d.faults) begins_at, ran.begins.faults, ran.faults)),
+        λ rose. well.no_table_fault (omega (arith, rose, ran.reads_are)),
+      ) in
       let is : why ≡ ran.told = ran.ended ∙ calm before.folder_faults after.folder_faults reads ran.told well.no_folder_fault well.no_table_fault in
       let r = ran.ran in
       let good : AreGood ran.final.disk.files =
@@ -539,7 +548,7 @@ module _ (words : List (List ℕ)) (Gives : ℤ → Type 0) (before after : Outs
       begun c.clock Gives r.run r.upshots ran.final r.steps) in
       let sound : IfBad ran.told (λ name at. ⊥) = subst (λ (w : Cause). IfBad w (λ name at. ⊥)) is (none_blamed ran.final.disk.files why good ran.bad) in
       subst GoodOrMem (sym is)
-      (stops_well ran.first c.clock Gives script before.taken after.taken ran.final ran.told granted (λ e. well.no_write_fault (write (is ∙ e))) sound r.stop r.run r.rest r.upshots r.cut
+      (stops_well ran.first c.clock Gives script before.taken after.taken ran.final ran.told granted stayed (λ e. well.no_write_fault (write (is ∙ e))) sound r.stop r.run r.rest r.upshots r.cut
       r.steps r.ended)
 
   ran_well : (script : List ℕ) (list : List (Item Event)) (why : Cause) → ReadToEnd before.left after.left script → Ran c Gives script before after reads list why

@@ -1,6 +1,6 @@
 -- What steps of a run come to, where the disk is well.
 use Rattle.std.proofs.Common.{◌≡◌, ◌≤◌, ◌+◌, ◌⊎◌, inl, inr, ℕ, Bool, true, false, List, [], ◌∷◌, length, Option, Some, None, Result, Ok, Err, is_ok, refl, sym, ap, ◌∙◌, subst, arith}
-use Rattle.std.specs.Prelude.{slice_get}
+use Rattle.std.specs.Prelude.{IsOk, slice_get}
 use Rattle.std.proofs.lemmas.Bool.{true≢false}
 use Rattle.cas_io.specs.Causes.{Rose}
 use Rattle.cas_types.specs.declared.schema.TableSchema.{TableSchema}
@@ -20,7 +20,7 @@ use Rattle.cas_sessions.specs.Filling.{FlushesFull, FlushesIn}
 use Rattle.cas_sessions.specs.Flushes.{FlushesTable, WhyNoFurther, WhyTooMany, numbers_added}
 use Rattle.cas_sessions.specs.History.{History, DiskState, Takes, Defines, SameFiles, shard_at, tells_want}
 use Rattle.cas_node.specs.Lines.{is_want, reply_of_flush}
-use Rattle.cas_node.specs.Laws.{FitsFiles, IsRoomy, StaysWell}
+use Rattle.cas_node.specs.Laws.{FitsFiles, IsRoomy, StaysWell, WhatFitsIsFlushed}
 use Rattle.cas_node.proofs.FilesFew.{numbers_few}
 use Rattle.cas_node.proofs.EntryRoom.{room_for_change, room_for_drop}
 use Rattle.cas_node.proofs.Stopping.{Counts, IsBegun, IsFurther}
@@ -192,6 +192,25 @@ full_flushed h n table (Err fault.Read) after a v fit well = absurd (one_well h 
 full_flushed h n table (Err (fault.BadBlock number at)) after a v fit well =
     absurd (one_well h a.0 n (fault.BadBlock number at) after a.3 (fit a.0 a.1) well (fed_full (fault.BadBlock number at) v))
 full_flushed h n table (Err fault.Mem) after a v fit well = absurd (true≢false v)
+
+fed_table : (r : Result (List ℕ) Fault) → is_want r ≡ false → tells_want (reply_of_flush r) ≡ false
+fed_table (Ok told) v = refl
+fed_table (Err (fault.Refused why)) v = refl
+fed_table (Err (fault.Stopped first)) v = refl
+fed_table (Err (fault.Disk number)) v = refl
+fed_table (Err fault.Read) v = refl
+fed_table (Err (fault.BadBlock number at)) v = refl
+fed_table (Err fault.Mem) v = v
+
+pub what_fits_is_flushed : WhatFitsIsFlushed
+what_fits_is_flushed = record {
+  told = λ h t r after flushes fed fits well.
+      let (told, is) = table_flushed h t r after flushes (fed_table r fed) fits well in
+      subst IsOk (sym is) refl;
+  full = λ h n table r after flushes fed fits well.
+      let (told, is) = full_flushed h n table r after flushes fed fits well in
+      subst IsOk (sym is) refl;
+}
 
 -- and segments are dropped, none but for memory
 pub record Dropped (r : Result ℕ Fault) (e : DiskState) : Type 0 where

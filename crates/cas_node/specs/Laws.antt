@@ -1,5 +1,5 @@
 -- What holds of every run of a script, and of every open store (own).
-use Rattle.std.specs.Prelude.{◌≡◌, ◌<◌, ◌≤◌, ◌+◌, ◌*◌, ◌^◌, ℕ, ℤ, true, false, Some, Result, Ok, List, [], ◌∷◌, length, map, slice_get}
+use Rattle.std.specs.Prelude.{◌≡◌, ◌<◌, ◌≤◌, ◌+◌, ◌*◌, ◌^◌, ℕ, ℤ, true, false, Option, Some, Result, Ok, IsOk, List, [], ◌∷◌, length, map, slice_get}
 use Rattle.std.specs.List.{list_any}
 use Rattle.cas_io.specs.Causes.{Rose}
 use Rattle.cas_disk.specs.Disk.{Disk}
@@ -29,7 +29,9 @@ use Rattle.cas_shard.specs.Stands.{NumbersRise, AreShown}
 use Rattle.cas_terms.specs.Columns.{table_named}
 use Rattle.cql_parse.specs.declared.syntax.Statement.{Statement}
 use Rattle.cql_parse.specs.declared.syntax.TableName.{TableName}
-use Rattle.cas_sessions.specs.Filling.{is_full}
+use Rattle.cas_sessions.specs.declared.answer.Fault.{Fault}
+use Rattle.cas_sessions.specs.Filling.{FlushesFull, is_full}
+use Rattle.cas_sessions.specs.Flushes.{FlushesTable}
 use Rattle.cas_sessions.specs.Status.{file_numbers}
 use Rattle.cas_sessions.specs.TooMuch.{IsOverfull}
 use Rattle.cas_words.specs.declared.words.ClockKind.{ClockKind}
@@ -37,7 +39,7 @@ use Rattle.cas_words.specs.declared.words.ClockKind.TheVariants as clock
 use Rattle.cas_sessions.specs.History.{History, DiskState, Does, shard_at}
 use Rattle.cas_shard.specs.declared.entry.ShardOpening.{ShardOpening}
 use Rattle.cas_node.specs.declared.upshot.Upshot.{Upshot}
-use Rattle.cas_node.specs.Lines.{Answers, NoneFlushes, Runs, is_starved}
+use Rattle.cas_node.specs.Lines.{Answers, NoneFlushes, Runs, is_starved, is_want}
 use Rattle.cas_node.specs.Ran.{AreGood}
 use Rattle.cas_recovery.specs.Found.{AreOfAStore}
 use Rattle.cas_recovery.specs.Openings.{AreOpenings}
@@ -177,6 +179,13 @@ LittleFits = (h : History) (table : ℕ) (t : TableSchema) → AreSaid h → sli
 abbrev pub LittleFlushesFit : (ℤ → Type 0) → Type 0
 LittleFlushesFit Gives =
     (kind : ClockKind) (h : History) (lines : List (List ℕ)) → AreSaid h → FlushesFind IsLittle kind Gives h lines → FlushesFit kind Gives h lines
+
+-- a flush of what fits ends well, told by a line or of a full memtable, where the disk is well and memory doesn't run out: so it isn't refused
+pub record WhatFitsIsFlushed : Type 0 where
+  pub told : (h : History) (t : TableSchema) (r : Result (List ℕ) Fault) (after : History) → FlushesTable h t r after → is_want r ≡ false → FitsFiles h t
+      → StaysWell h.disk after.disk → IsOk r
+  pub full : (h : History) (n table : ℕ) (r : Result (Option ℕ) Fault) (after : History) → FlushesFull h n table r after → is_want r ≡ false
+      → ((t : TableSchema) → slice_get h.tables table ≡ Some t → FitsFiles h t) → StaysWell h.disk after.disk → IsOk r
 
 -- ---- memtables that are flushed before they get large
 

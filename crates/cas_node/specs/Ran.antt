@@ -32,7 +32,7 @@ use Rattle.cas_node.specs.declared.cause.Cause.{Cause}
 use Rattle.cas_node.specs.declared.cause.Cause.TheVariants as cause
 use Rattle.cas_node.specs.declared.program.TheConstants.{SCRIPT_LIMIT}
 use Rattle.cas_node.specs.declared.upshot.Upshot.{Upshot}
-use Rattle.cas_sessions.specs.History.{History, tells_want}
+use Rattle.cas_sessions.specs.History.{DiskState, History, tells_want}
 use Rattle.cas_node.specs.Lines.{NoneFlushes, Runs}
 use Rattle.cas_recovery.specs.Found.{IsFound}
 use Rattle.cas_recovery.specs.Openings.{AreOpenings}
@@ -293,10 +293,14 @@ RanAll words Gives before after reads (Some list) why =
 abbrev pub GoodOrMem : Cause → Type 0
 GoodOrMem why = (why ≡ cause.Good) ⊎ (why ≡ cause.Mem)
 
--- no line of the script is refused, whatever the clock reads, unless memory runs out
+-- between two states of the disk neither the folder failed nor a read of a table file, where no write had failed before
+abbrev pub IsCalm : DiskState → DiskState → Type 0
+IsCalm d e = (d.stopped ≡ false) × (Rose d.faults e.faults → ⊥) × (Rose d.reads e.reads → ⊥)
+
+-- no line of the script is refused, whatever the clock reads, in a run through which the disk is calm, unless memory runs out
 abbrev pub IsGranted : History → ClockKind → (ℤ → Type 0) → List ℕ → Type 0
 IsGranted first kind Gives script =
-    (upshots : List Upshot) (final : History) → Runs kind Gives first (lines script) upshots final → GoodOrMem (worst upshots)
+    (upshots : List Upshot) (final : History) → Runs kind Gives first (lines script) upshots final → IsCalm first.disk final.disk → GoodOrMem (worst upshots)
 
 -- this holds of the bytes that were taken, if the script is too long
 abbrev pub IfTooLong : Cause → (ℕ → Type 0) → Type 0
@@ -322,7 +326,7 @@ count_taken (Some xs) None = None
 count_taken (Some xs) (Some ys) = Some (length xs - length ys)
 
 -- All is well: the words are the command's; the folder tells a store, with what its shards may have been before; the source tells a script within the limit of
--- which no line is refused from there; and no count rises, the one of reads from 0.
+-- which no line is refused from there, as long as the disk is calm; and no count rises, the one of reads from 0.
 pub record AllWell (words : List (List ℕ)) (Gives : ℤ → Type 0) (before after : Outside) (table_reads : ℕ) : Type 0 where
   pub command : Command
   pub words_are : command_of words ≡ Some command

@@ -1,7 +1,7 @@
 //! What holds of every run of a script.
 
 ghost use Rattle.cas_node.specs.Laws.{AllAreRead, BeginsLittle, FilesAreFew, FoundRise, FoundSaid, LittleFits};
-ghost use Rattle.cas_node.specs.Laws.{LittleFlushesFit, MemtablesFit, NoFlushFits, NumbersStay, OneOutcome, SaidStay};
+ghost use Rattle.cas_node.specs.Laws.{LittleFlushesFit, MemtablesFit, NoFlushFits, NumbersStay, OneOutcome, SaidStay, WhatFitsIsFlushed};
 
 use cas_disk::Folder;
 use cas_io::Clock;
@@ -31,12 +31,13 @@ pub fn files_are_few<C: Clock>()
 {}
 
 /// Before the first line and along a run the tables are as a manifest may tell them. So what is flushed of a table
-/// of which little stands in memory fits into table files.
+/// of which little stands in memory fits into table files; and what fits is flushed.
 pub fn little_fits<C: Clock>()
     ensures begin { FoundSaid }
     ensures stay { (clock : C) → SaidStay (C.may_give clock) }
     ensures fits { LittleFits }
     ensures flushes { (clock : C) → LittleFlushesFit (C.may_give clock) }
+    ensures flushed { WhatFitsIsFlushed }
 {
     little_is_never_too_much();
 }
