@@ -92,15 +92,6 @@ record Behind (shard table : ℕ) (h : History) : Type 0 where
   loose : (n k : ℕ) → bytes_of 0 (h.unflushed n k) ≤ 2 ^ 28
   others : (n k : ℕ) → ((n ≡ shard) × (k ≡ table) → ⊥) → bytes_of 0 (h.unflushed n k) ≤ 2 ^ 27
 
-as_behind : (shard table : ℕ) (h : History) → KeepsLittle h → Behind shard table h
-as_behind shard table h so = record {
-  segment = so.segment;
-  memtable = so.memtable;
-  filled = so.filled;
-  loose = λ n k. let short : bytes_of 0 (h.unflushed n k) ≤ 2 ^ 27 = so.short n k in omega (arith, short);
-  others = λ n k other. so.short n k;
-}
-
 -- the record of a mutation that isn't refused is at most half a segment
 record_short : (segment : ℕ) (m : Mutation) → segment ≤ 2 ^ 27 → take_refusal segment m ≡ None → record_length m ≤ 2 ^ 26
 record_short segment m few none = omega (arith, is_short segment m none, few)
@@ -205,9 +196,6 @@ still h t limits unflushed filled so = record {
   filled = λ n k. ap (λ (f : ℕ → ℕ → ℕ). f n k) filled ∙ so.filled n k ∙ ap (λ (u : ℕ → ℕ → List Mutation). bytes_of 0 (u n k)) (sym unflushed);
   short = λ n k. subst (λ (u : ℕ → ℕ → List Mutation). bytes_of 0 (u n k) ≤ 2 ^ 27) (sym unflushed) (so.short n k);
 }
-
-by_parts : (h t k : History) → t ≡ k → k.limits ≡ h.limits → k.unflushed ≡ h.unflushed → k.filled ≡ h.filled → KeepsLittle h → KeepsLittle t
-by_parts h t k is limits unflushed filled so = subst KeepsLittle (sym is) (still h k limits unflushed filled so)
 
 module _ (kind : ClockKind) (Gives : ℤ → Type 0) where
   deed : (h : History) (m : Result Bound Refusal) (r : Reply) (t : History) → Does kind Gives h m r t → KeepsLittle h → StaysWell h.disk t.disk → Done m r t
