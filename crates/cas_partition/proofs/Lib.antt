@@ -5,6 +5,7 @@ pub mod Ends
 pub mod Saying
 pub mod RowLists
 pub mod RunLists
+pub mod FewPlaces
 pub mod Tabling
 pub mod Taking
 pub mod Lists

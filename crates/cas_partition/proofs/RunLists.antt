@@ -75,7 +75,7 @@ part_made_in s tag atoms rows new are all (inr (es, put, inr part)) =
           (put ∙ ap (insert_entry row_cmp rows s.row) part.is);
     })
 
-place_sorted : (w : Room) (b : Said) → AreSorted b → AreSorted (with_place (room_place w) (room_tag w) b)
+pub place_sorted : (w : Room) (b : Said) → AreSorted b → AreSorted (with_place (room_place w) (room_tag w) b)
 place_sorted w b sorted =
     elim (is_some (lookup (is_at (place_cmp (room_place w))) b)) as (λ t. IsStrictlySortedBy place_cmp (keys_of (cond t b (insert_entry place_cmp b (room_place w) (blank (room_tag w)))))) [
       | true ↦ sorted
@@ -148,7 +148,7 @@ all_joined_in s c atoms rows new are all e =
     ∙ sym (rooms_joined s.row rows are.sorted atoms (joined_place (place_of s) c (body_of s.row rows)) all)
     ∙ ap (joined_spots atoms) (sym (joined_in_row s.row (place_of s) c rows (body_of s.row rows) are.sorted) ∙ ap (joined_spot s c) (as_it_is s.row rows are.sorted))
 
-place_keys : (g : Addition) (b : Said) → keys_of (joined_by g b) ≡ keys_of b
+pub place_keys : (g : Addition) (b : Said) → keys_of (joined_by g b) ≡ keys_of b
 place_keys (gives.Whole d) b = refl
 place_keys (gives.Range lo hi d) b = refl
 place_keys (gives.At s c) [] = refl
