@@ -1,5 +1,5 @@
 -- A row's first places in a vector, and those behind them in a map.
-use Rattle.std.proofs.Common.{◌≡◌, ℕ, zero, suc, ◌+◌, ◌-◌, ◌<◌, ◌≤◌, ◌==◌, length, take, drop, get_or, arith, append_assoc, length-append, Option, None, Some, List, [], ◌∷◌, ◌++◌, true, false, cond, is_some, refl, sym, ap, ◌∙◌, subst}
+use Rattle.std.proofs.Common.{◌≡◌, ℕ, ◌+◌, ◌-◌, ◌≤◌, ◌==◌, length, take, drop, get_or, arith, append_assoc, length-append, Option, None, Some, [], ◌∷◌, ◌++◌, false, cond, is_some, refl, sym, ap, ◌∙◌, subst}
 use Rattle.std.proofs.lemmas.Bool.{false≢true}
 use Rattle.std.proofs.lemmas.List.{append-nil}
 use Rattle.std.specs.List.{AllByRecursion, insert}
@@ -8,7 +8,7 @@ use Rattle.std.specs.Map.{keys_of, lookup}
 use Rattle.std.specs.BTreeMap.{insert_entry, is_at}
 use Rattle.std.specs.Prelude.{slice_set, slice_index_or}
 use Rattle.std.specs.Ordering.{is_eq, match_ordering}
-use Rattle.std.specs.declared.cmp.Ordering.TheVariants.{Less, Equal, Greater}
+use Rattle.std.specs.declared.cmp.Ordering.TheVariants.{Less, Greater}
 use Rattle.cas_types.specs.declared.tag.TypeTag.{TypeTag}
 use Rattle.cas_partition.specs.Spots.{place_cmp, blank, joined_content}
 use Rattle.cas_partition.specs.Inner.Few.{AreBefore, BeginsBehind, StandsAt, FitsAt}
@@ -47,27 +47,6 @@ module _ (p : Place) (entries rest : Said) (e d : Place × Content) (at : ℕ) (
     many = let n : length (so_far.before ++ e ∷ []) ≡ length so_far.before + 1 = length-append so_far.before (e ∷ []) in omega (arith, so_far.many, n);
     past = one_more_before p so_far.before e so_far.past is;
   }
-
-  pub is_there : place_cmp p e.0 ≡ Equal → StandsAt p entries at
-  is_there is = record {
-    before = so_far.before;
-    there = e;
-    behind = later;
-    are = so_far.are ∙ ap (λ l. so_far.before ++ l) next_is;
-    many = so_far.many;
-    past = so_far.past;
-    same = is;
-  }
-
-  pub fits_there : place_cmp p e.0 ≡ Less → FitsAt p entries at
-  fits_there is = record { before = so_far.before; behind = e ∷ later; are = so_far.are ∙ ap (λ l. so_far.before ++ l) next_is; many = so_far.many; past = so_far.past; next = is }
-
-pub fits_behind : (p : Place) (entries rest : Said) (at : ℕ) → length rest < 1 → Seeking p entries rest at → FitsAt p entries at
-fits_behind p entries [] at none so_far = record { before = so_far.before; behind = []; are = so_far.are; many = so_far.many; past = so_far.past; next = tt }
-fits_behind p entries (e ∷ rest) at none so_far = absurd (omega (arith, none))
-
-pub seeks_all : (p : Place) (entries rest : Said) (at : ℕ) → rest ≡ entries → at ≡ 0 → Seeking p entries rest at
-seeks_all p entries rest at all none = record { before = []; are = sym all; many = none; past = tt }
 
 -- ---- lists in two parts
 

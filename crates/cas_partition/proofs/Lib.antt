@@ -7,6 +7,7 @@ pub mod RowLists
 pub mod RunLists
 pub mod FewPlaces
 pub mod Tabling
+pub mod OneAtom
 pub mod Taking
 pub mod Lists
 pub mod RunsKept

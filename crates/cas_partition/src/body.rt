@@ -111,10 +111,7 @@ fn put_at(
 }
 
 // Puts what is said at a place among the many. After an error it comes back.
-fn put(
-    many: &mut BTreeMap<Place, Content>,
-    entry: (Place, Content),
-) -> Result<(), (Place, Content)>
+fn put(many: &mut BTreeMap<Place, Content>, entry: (Place, Content)) -> Result<(), (Place, Content)>
     ensures ok { OnOk result (many.new.entries ≡ insert_entry place_cmp many.old.entries entry.0 entry.1) }
     ensures err { OnErr result (many.new.entries ≡ many.old.entries) }
     ensures back { IfErr result (λ e. e ≡ entry) }
@@ -190,6 +187,16 @@ impl Body {
             few: Vec::new(alloc),
             many: BTreeMap::new(alloc),
         }
+    }
+
+    /// Takes the room that so many places will want, if there are none yet and they are few.
+    pub(crate) fn expect(&mut self, places: usize) -> Result<(), AllocError>
+        ensures { self.new ≡ self.old }
+    {
+        if self.is_empty() && places <= FEW {
+            self.few.reserve_exact(places)?;
+        }
+        Ok(())
     }
 
     /// Makes a place for what will be said there.
