@@ -189,12 +189,12 @@ impl Body {
         }
     }
 
-    /// Takes the room that so many places will want, if there are none yet and they are few.
-    pub(crate) fn expect(&mut self, places: usize) -> Result<(), AllocError>
+    /// Takes the room that the first places of a row will want.
+    pub(crate) fn make_room(&mut self, places: usize) -> Result<(), AllocError>
         ensures { self.new ≡ self.old }
     {
-        if self.is_empty() && places <= FEW {
-            self.few.reserve_exact(places)?;
+        if self.is_empty() {
+            self.few.reserve_exact(places.min(FEW))?;
         }
         Ok(())
     }

@@ -60,7 +60,7 @@ fn reserve_in(
     ensures made { OnOk result (body.new ≡ with_places others.now (with_place place tag body.old)) }
     ensures part { OnErr result (PartlyMade with_places others.now body.old (with_place place tag body.old) body.new) }
 {
-    body.expect(others.len().saturating_add(1))?;
+    body.make_room(others.len().saturating_add(1))?;
     body.reserve(place, tag)?;
     let mut rest = others;
     while let [atom, later @ ..] = rest {
