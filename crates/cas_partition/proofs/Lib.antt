@@ -5,7 +5,9 @@ pub mod Ends
 pub mod Saying
 pub mod RowLists
 pub mod RunLists
+pub mod FewPlaces
 pub mod Tabling
+pub mod OneAtom
 pub mod Taking
 pub mod Lists
 pub mod RunsKept

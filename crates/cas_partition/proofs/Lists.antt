@@ -12,9 +12,10 @@ use Rattle.cas_streams.specs.NoMore.{SaysNoMore}
 use Rattle.cas_streams.specs.Streams.{IsThere}
 use Rattle.cas_streams.proofs.NoMore.{no_more_itself, no_more_then, no_more_kept}
 use Rattle.cas_partition.specs.Ends.{AreAtEnds}
-use Rattle.cas_partition.specs.Partitions.{partition_atoms, IsOf, IsAtomOf, HasPlace, MakesPlace, Joins, AreAtomsOf, IsOfTable, AllFit, HavePlaces, MakesPlaces, JoinsAll}
+use Rattle.cas_partition.specs.Partitions.{partition_atoms, IsOf, IsAtomOf, HasPlace, AreAtomsOf, IsOfTable, AllFit, HavePlaces, MakesPlaces, JoinsAll}
 use Rattle.cas_partition.specs.Inner.Made.{MadePlaces}
 use Rattle.cas_partition.specs.declared.partition.Partition.{Partition}
+use Rattle.cas_partition.proofs.OneAtom.{MakesPlace, Joins}
 use Rattle.cas_partition.proofs.Something.{there_more}
 
 same_itself : (A : List Atom) → Same A A

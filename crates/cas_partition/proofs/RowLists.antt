@@ -20,7 +20,7 @@ use Rattle.cas_bounds.specs.declared.map_key.MapKey.{MapKey}
 use Rattle.cas_partition.specs.Spots.{row_cmp, place_cmp, spot_cmp, blank, joined_content}
 use Rattle.cas_partition.specs.Partitions.{with_spot}
 use Rattle.cas_partition.specs.Inner.Fronts.{row_total}
-use Rattle.cas_partition.specs.Inner.Rows.{Said, RowsOf, spot_in, entry_in, flat, AreRows, place_of, body_of, with_place, joined_place}
+use Rattle.cas_partition.specs.Inner.Rows.{Said, RowsOf, spot_in, entry_in, flat, AreInOrder, AreRows, place_of, body_of, with_place, joined_place}
 use Rattle.cas_partition.specs.Inner.Runs.{joined_spot}
 use Rattle.cas_partition.specs.declared.spot.Place.{Place}
 use Rattle.cas_partition.specs.declared.spot.Spot.{Spot}
@@ -107,26 +107,23 @@ put_each P k b (r ∷ rows) p all =
       | Greater ↦ (all.0, put_each P k b rows p all.1)
     ]
 
-abbrev pub AreSorted : Said → Type 0
-AreSorted es = IsStrictlySortedBy place_cmp (keys_of es)
-
 -- the row with that said of it
-pub rows_put : (k : Option MapKey) (b : Said) (rows : RowsOf) → AreSorted b → AreRows rows → AreRows (insert_entry row_cmp rows k b)
-rows_put k b rows sorted are = record { sorted = put_sorted row_total k b rows are.sorted; places = put_each AreSorted k b rows sorted are.places }
+pub rows_put : (k : Option MapKey) (b : Said) (rows : RowsOf) → AreInOrder b → AreRows rows → AreRows (insert_entry row_cmp rows k b)
+rows_put k b rows sorted are = record { sorted = put_sorted row_total k b rows are.sorted; places = put_each AreInOrder k b rows sorted are.places }
 
-pub none_sorted : AreSorted []
+pub none_sorted : AreInOrder []
 unfolding IsStrictlySortedBy
 none_sorted = tt
 
-body_sorted : (k : Option MapKey) (rows : RowsOf) → AllByRecursion (λ r. AreSorted r.1) rows → AreSorted (body_of k rows)
+body_sorted : (k : Option MapKey) (rows : RowsOf) → AllByRecursion (λ r. AreInOrder r.1) rows → AreInOrder (body_of k rows)
 body_sorted k [] all = none_sorted
 body_sorted k (r ∷ rows) all =
-    elim (is_eq (row_cmp k r.0)) as (λ b. AreSorted (unwrap_or (cond b (Some r.1) (lookup (is_at (row_cmp k)) rows)) [])) [
+    elim (is_eq (row_cmp k r.0)) as (λ b. AreInOrder (unwrap_or (cond b (Some r.1) (lookup (is_at (row_cmp k)) rows)) [])) [
       | true ↦ all.0
       | false ↦ body_sorted k rows all.1
     ]
 
-pub sorted_body : (k : Option MapKey) (rows : RowsOf) → AreRows rows → AreSorted (body_of k rows)
+pub sorted_body : (k : Option MapKey) (rows : RowsOf) → AreRows rows → AreInOrder (body_of k rows)
 sorted_body k rows are = body_sorted k rows are.places
 
 keys_kept : (k : Option MapKey) (b : Said) (rows : RowsOf) → keys_of (set_value (is_at (row_cmp k)) rows b) ≡ keys_of rows
@@ -140,10 +137,10 @@ set_each P k b (r ∷ rows) p all =
       | false ↦ (all.0, set_each P k b rows p all.1)
     ]
 
-pub set_keeps_keys : (k : Option MapKey) (b : Said) (rows : RowsOf) → AreRows rows → AreSorted b → AreRows (set_value (is_at (row_cmp k)) rows b)
+pub set_keeps_keys : (k : Option MapKey) (b : Said) (rows : RowsOf) → AreRows rows → AreInOrder b → AreRows (set_value (is_at (row_cmp k)) rows b)
 set_keeps_keys k b rows are sorted = record {
   sorted = subst (IsStrictlySortedBy row_cmp) (sym (keys_kept k b rows)) are.sorted;
-  places = set_each AreSorted k b rows sorted are.places;
+  places = set_each AreInOrder k b rows sorted are.places;
 }
 
 -- ---- the entries of a row among those of all

@@ -17,7 +17,7 @@ use Rattle.cas_atoms.specs.declared.atom.Atom.TheVariants.{Live, Write, StaticWr
 use Rattle.cas_partition.specs.Spots.{row_cmp, place_cmp, spot_cmp, blank, joined_content}
 use Rattle.cas_partition.specs.Placed.{wanted, given}
 use Rattle.cas_partition.specs.Partitions.{with_spot}
-use Rattle.cas_partition.specs.Inner.Rows.{Said, RowsOf, spot_in, flat, AreRows, place_of, body_of, with_place, joined_place}
+use Rattle.cas_partition.specs.Inner.Rows.{Said, RowsOf, spot_in, flat, AreInOrder, AreRows, place_of, body_of, with_place, joined_place}
 use Rattle.cas_partition.specs.Inner.Runs.{room_row, room_place, room_tag, IsInRow, with_places, with_room, with_rooms, PartlyMade, RowPartlyMade}
 use Rattle.cas_partition.specs.Inner.Runs.{joined_by, joined_places, joined_spot, joined_at, joined_spots, JoinsRun}
 use Rattle.cas_partition.specs.declared.spot.Place.{Place}
@@ -27,7 +27,7 @@ use Rattle.cas_partition.specs.declared.spot.Room.{Room}
 use Rattle.cas_partition.specs.declared.spot.Room.TheVariants.{Whole, Cuts, At}
 use Rattle.cas_partition.specs.declared.spot.Addition.{Addition}
 use Rattle.cas_partition.specs.declared.spot.Addition.TheVariants as gives
-use Rattle.cas_partition.proofs.RowLists.{AreSorted, put_sorted, rows_put, sorted_body, made_in, joined_in_row, as_it_is, set_row, set_keeps_keys, place_total}
+use Rattle.cas_partition.proofs.RowLists.{put_sorted, rows_put, sorted_body, made_in, joined_in_row, as_it_is, set_row, set_keeps_keys, place_total}
 
 some_is : {X : Type 0} (x y : X) → Some x ≡ Some y → x ≡ y
 some_is x y e = ap (λ o. unwrap_or o x) e
@@ -75,18 +75,18 @@ part_made_in s tag atoms rows new are all (inr (es, put, inr part)) =
           (put ∙ ap (insert_entry row_cmp rows s.row) part.is);
     })
 
-place_sorted : (w : Room) (b : Said) → AreSorted b → AreSorted (with_place (room_place w) (room_tag w) b)
+pub place_sorted : (w : Room) (b : Said) → AreInOrder b → AreInOrder (with_place (room_place w) (room_tag w) b)
 place_sorted w b sorted =
     elim (is_some (lookup (is_at (place_cmp (room_place w))) b)) as (λ t. IsStrictlySortedBy place_cmp (keys_of (cond t b (insert_entry place_cmp b (room_place w) (blank (room_tag w)))))) [
       | true ↦ sorted
       | false ↦ put_sorted place_total (room_place w) (blank (room_tag w)) b sorted
     ]
 
-places_sorted : (atoms : List Atom) (b : Said) → AreSorted b → AreSorted (with_places atoms b)
+places_sorted : (atoms : List Atom) (b : Said) → AreInOrder b → AreInOrder (with_places atoms b)
 places_sorted [] b sorted = sorted
 places_sorted (a ∷ atoms) b sorted = places_sorted atoms (with_place (room_place (wanted a)) (room_tag (wanted a)) b) (place_sorted (wanted a) b sorted)
 
-made_sorted : (s : Spot) (tag : Option TypeTag) (atoms : List Atom) (rows : RowsOf) → AreRows rows → AreSorted (with_places atoms (with_place (place_of s) tag (body_of s.row rows)))
+made_sorted : (s : Spot) (tag : Option TypeTag) (atoms : List Atom) (rows : RowsOf) → AreRows rows → AreInOrder (with_places atoms (with_place (place_of s) tag (body_of s.row rows)))
 made_sorted s tag atoms rows are =
     places_sorted atoms (with_place (place_of s) tag (body_of s.row rows)) (place_sorted (At s tag) (body_of s.row rows) (sorted_body s.row rows are))
 
@@ -148,7 +148,7 @@ all_joined_in s c atoms rows new are all e =
     ∙ sym (rooms_joined s.row rows are.sorted atoms (joined_place (place_of s) c (body_of s.row rows)) all)
     ∙ ap (joined_spots atoms) (sym (joined_in_row s.row (place_of s) c rows (body_of s.row rows) are.sorted) ∙ ap (joined_spot s c) (as_it_is s.row rows are.sorted))
 
-place_keys : (g : Addition) (b : Said) → keys_of (joined_by g b) ≡ keys_of b
+pub place_keys : (g : Addition) (b : Said) → keys_of (joined_by g b) ≡ keys_of b
 place_keys (gives.Whole d) b = refl
 place_keys (gives.Range lo hi d) b = refl
 place_keys (gives.At s c) [] = refl

@@ -6,7 +6,7 @@ use Rattle.cas_types.specs.declared.tag.TypeTag.{TypeTag}
 use Rattle.cas_bounds.specs.declared.map_key.MapKey.{MapKey}
 use Rattle.cas_atoms.specs.declared.atom.Atom.{Atom}
 use Rattle.cas_partition.specs.Placed.{wanted, given}
-use Rattle.cas_partition.specs.Partitions.{HasPlace, HavePlaces, with_spot, MakesPlace, MakesPlaces, Joins, JoinsAll}
+use Rattle.cas_partition.specs.Partitions.{HasPlace, HavePlaces, with_spot, MakesPlaces, JoinsAll}
 use Rattle.cas_partition.specs.Inner.Made.{MadePlaces}
 use Rattle.cas_partition.specs.Inner.Runs.{room_row, IsInRow, with_room, with_rooms, PartlyMade, joined_spot, joined_at, joined_spots}
 use Rattle.cas_partition.specs.declared.spot.Spot.{Spot}
@@ -16,6 +16,7 @@ use Rattle.cas_partition.specs.declared.spot.Room.TheVariants.{Whole, Cuts, At}
 use Rattle.cas_partition.specs.declared.spot.Addition.{Addition}
 use Rattle.cas_partition.specs.declared.spot.Addition.TheVariants as gives
 use Rattle.cas_partition.specs.declared.partition.Partition.{Partition}
+use Rattle.cas_partition.proofs.OneAtom.{MakesPlace, Joins}
 use Rattle.cas_partition.proofs.RunLists.{given_row, same_row, spot_set}
 use Rattle.cas_partition.proofs.Taking.{with_spots, one_spot, spot_there, same_spots, spot_joins}
 use Rattle.cas_partition.proofs.Lists.{Making, making, one_made, all_made, all_there, first_made, made_more, Joining, joining, one_joined, all_joined}
@@ -82,13 +83,3 @@ run_is_joined a s c run p es g of e there =
     subst (λ l. JoinsAll (a ∷ run) p (with_spots p l)) (sym e)
     (all_joined (a ∷ run) [] p (with_spots q (joined_spots run q.spots)) refl
     (additions_join s.row (a ∷ run) run p q of (one_joined (a ∷ run) (a ∷ run) a run p p q refl (joining (a ∷ run) (a ∷ run) p refl there) one)))
-
--- place for an atom alone
-pub none_partly : (a : Atom) (s : Spot) (tag : Option TypeTag) (p : Partition) (es : List (Spot × Content)) → wanted a ≡ At s tag → PartlyMade with_rooms [] p.spots (with_spot s tag p.spots) es
-    → MakesPlace a p (with_spots p es)
-none_partly a s tag p es w (inl same) = same_spots a p es same
-none_partly a s tag p es w (inr part) = go part.first part.are part.is
-  where
-    go : (first : List Atom) → [] ≡ first ++ part.later → es ≡ with_rooms first (with_spot s tag p.spots) → MakesPlace a p (with_spots p es)
-    go [] none is = one_spot a p es s tag w is
-    go (b ∷ first) none is = cc

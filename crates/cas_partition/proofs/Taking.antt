@@ -39,7 +39,7 @@ use Rattle.cas_partition.specs.Ends.{IsEnd, AreAtEnds}
 use Rattle.cas_partition.specs.Ranges.{lies, raised, has_cut, with_cut}
 use Rattle.cas_partition.specs.Spots.{spot_cmp, joined_content, said}
 use Rattle.cas_partition.specs.Placed.{wanted, given}
-use Rattle.cas_partition.specs.Partitions.{said_at, atoms_with, partition_atoms, marker, IsOf, IsAtomOf, IsRowOf, AreIn, AreAtCuts, IsOfTable, has_spot, is_there, HasPlace, with_spot, MakesPlace, Joins}
+use Rattle.cas_partition.specs.Partitions.{said_at, atoms_with, partition_atoms, marker, IsOf, IsAtomOf, IsRowOf, AreIn, AreAtCuts, IsOfTable, has_spot, is_there, HasPlace, with_spot}
 use Rattle.cas_partition.specs.declared.spot.Spot.{Spot}
 use Rattle.cas_partition.specs.declared.spot.Content.{Content}
 use Rattle.cas_partition.specs.declared.spot.Room.{Room}
@@ -47,6 +47,7 @@ use Rattle.cas_partition.specs.declared.spot.Room.TheVariants as wants
 use Rattle.cas_partition.specs.declared.spot.Addition.{Addition}
 use Rattle.cas_partition.specs.declared.spot.Addition.TheVariants as gives
 use Rattle.cas_partition.specs.declared.partition.Partition.{Partition}
+use Rattle.cas_partition.proofs.OneAtom.{MakesPlace, Joins}
 use Rattle.cas_partition.proofs.Raising.{raised_rise, raised_closed, raised_covers, with_cut_rise, with_cut_closed, with_cut_covers, raised_has, with_cut_has, with_cut_itself, keys_below, as_points, has_stands}
 use Rattle.cas_partition.proofs.AtCuts.{with_cut_at, raised_at}
 use Rattle.cas_partition.proofs.Ends.{end_behind, ends_before, with_cut_moves, raised_moves}

@@ -1,6 +1,7 @@
 pub mod Slots
 pub mod Firsts
 pub mod Rows
+pub mod Few
 pub mod Runs
 pub mod Made
 pub mod Lent

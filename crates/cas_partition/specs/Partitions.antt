@@ -1,6 +1,6 @@
--- What a partition in memory says, as atoms; what one more atom does to it; and the places that are made for atoms beforehand.
+-- What a partition in memory says, as atoms; what more atoms do to it; and the places that are made for atoms beforehand.
 -- Cassandra documentation, "Storage engine: memtables"; own.
-use Rattle.std.specs.Prelude.{◌≡◌, ℕ, Bool, true, false, ◌&&◌, Option, None, Some, List, [], ◌∷◌, ◌++◌, map, is_some, if◌then◌else◌}
+use Rattle.std.specs.Prelude.{◌≡◌, ℕ, Bool, true, false, ◌&&◌, Option, None, Some, List, ◌++◌, map, is_some, if◌then◌else◌}
 use Rattle.std.specs.List.{AllByRecursion, flat_map}
 use Rattle.std.specs.Map.{lookup}
 use Rattle.std.specs.BTreeMap.{insert_entry, is_at}
@@ -133,30 +133,6 @@ HasPlace p a = is_there p.ranges p.spots (wanted a) ≡ true
 abbrev pub with_spot : Spot → Option TypeTag → List (Spot × Content) → List (Spot × Content)
 with_spot s tag es = if has_spot s es then es else insert_entry spot_cmp es s (blank tag)
 
--- ---- what calls do
-
--- place was made for an atom, which says nothing yet: for each table and order of its rows; nothing is invented, something is still said if something
--- was, what is in force changes at no more cuts, and each other atom keeps its place
-pub record MakesPlace (a : Atom) (p q : Partition) : Type 0 where
-  pub same : (order : List Ordered) → IsOf order p → IsAtomOf order a → Same (partition_atoms q) (partition_atoms p)
-  pub no_more : (order : List Ordered) → IsOf order p → SaysNoMore (partition_atoms q) (partition_atoms p)
-  pub some : IsThere (partition_atoms p) → IsThere (partition_atoms q)
-  pub ends : (ws : List Atom) → AreAtEnds ws p.ranges → AreAtEnds ws q.ranges
-  pub of : (order : List Ordered) → IsOf order p → IsAtomOf order a → IsOf order q
-  pub fits : (columns : List Column) → IsOfTable columns p → Fits columns a → IsOfTable columns q
-  pub others : (b : Atom) → HasPlace p b → HasPlace q b
-
--- the atom was joined, nothing else was invented, something is said now, also by a range deletion that covers no row; what is in force changes besides
--- at most at the atom's own ends; and each atom keeps its place
-pub record Joins (a : Atom) (p q : Partition) : Type 0 where
-  pub joined : (order : List Ordered) → IsOf order p → IsAtomOf order a → Same (partition_atoms q) (partition_atoms p ++ a ∷ [])
-  pub no_more : (order : List Ordered) → IsOf order p → SaysNoMore (partition_atoms q) (partition_atoms p ++ a ∷ [])
-  pub some : (order : List Ordered) → IsOf order p → IsAtomOf order a → IsThere (partition_atoms q)
-  pub ends : (order : List Ordered) → IsOf order p → IsAtomOf order a → (ws : List Atom) → AreAtEnds ws p.ranges → AreAtEnds (ws ++ a ∷ []) q.ranges
-  pub of : (order : List Ordered) → IsOf order p → IsAtomOf order a → IsOf order q
-  pub fits : (columns : List Column) → IsOfTable columns p → Fits columns a → IsOfTable columns q
-  pub others : (b : Atom) → HasPlace p b → HasPlace q b
-
 -- ---- lists of atoms
 
 -- each is of a table that orders its rows so
@@ -171,7 +147,10 @@ AllFit columns atoms = AllByRecursion (Fits columns) atoms
 abbrev pub HavePlaces : Partition → List Atom → Type 0
 HavePlaces p atoms = AllByRecursion (HasPlace p) atoms
 
--- the same for all atoms of a list: place was made for them, or for some first of them
+-- ---- what calls do
+
+-- place was made for these atoms, or for some first of them, which say nothing yet: for each table and order of its rows; nothing is invented, something
+-- is still said if something was, what is in force changes at no more cuts, and each other atom keeps its place
 pub record MakesPlaces (atoms : List Atom) (p q : Partition) : Type 0 where
   pub same : (order : List Ordered) → IsOf order p → AreAtomsOf order atoms → Same (partition_atoms q) (partition_atoms p)
   pub no_more : (order : List Ordered) → IsOf order p → AreAtomsOf order atoms → SaysNoMore (partition_atoms q) (partition_atoms p)
@@ -181,7 +160,8 @@ pub record MakesPlaces (atoms : List Atom) (p q : Partition) : Type 0 where
   pub fits : (columns : List Column) → IsOfTable columns p → AllFit columns atoms → IsOfTable columns q
   pub others : (b : Atom) → HasPlace p b → HasPlace q b
 
--- and all of them were joined
+-- these atoms were joined, nothing else was invented, something is said if something was or there is one of them, also a range deletion that covers no
+-- row; what is in force changes besides at most at the atoms' own ends; and each atom keeps its place
 pub record JoinsAll (atoms : List Atom) (p q : Partition) : Type 0 where
   pub joined : (order : List Ordered) → IsOf order p → AreAtomsOf order atoms → Same (partition_atoms q) (partition_atoms p ++ atoms)
   pub no_more : (order : List Ordered) → IsOf order p → AreAtomsOf order atoms → SaysNoMore (partition_atoms q) (partition_atoms p ++ atoms)

@@ -7,7 +7,7 @@ ghost use Rattle.cas_bounds.specs.declared.order.Ordered.{Ordered};
 ghost use Rattle.cas_atoms.specs.declared.atom.Atom.{Atom as AtomOf};
 ghost use Rattle.cas_partition.specs.Ends.{AreAtEnds};
 ghost use Rattle.cas_partition.specs.Ranges.{with_cut};
-ghost use Rattle.cas_partition.specs.Partitions.{partition_atoms, IsOf, IsOfTable, HasPlace, HavePlaces, MakesPlace, MakesPlaces, Joins, JoinsAll};
+ghost use Rattle.cas_partition.specs.Partitions.{partition_atoms, IsOf, IsOfTable, HavePlaces, MakesPlaces, JoinsAll};
 ghost use Rattle.cas_partition.specs.Inner.Firsts.{with_first};
 ghost use Rattle.cas_partition.specs.Inner.Made.{MadePlaces};
 ghost use Rattle.cas_partition.specs.Inner.Runs.{IsRun};
@@ -89,31 +89,6 @@ impl Partition {
                 self.spots.reserve(spot, tag, first(others, count))?;
                 Ok(count)
             }
-        }
-    }
-
-    /// Makes place for an atom, which `apply` then takes without memory. What the partition says
-    /// stays the same, also after an error.
-    pub fn reserve(&mut self, atom: &Atom) -> Result<(), AllocError>
-        ensures place { OnOk result (HasPlace self.new atom.now) }
-        ensures makes { MakesPlace atom.now self.old self.new }
-    {
-        match wanted(atom)? {
-            Room::Whole => Ok(()),
-            Room::Cuts(lo, hi) => reserve_cuts(&mut self.ranges, lo, hi),
-            Room::At(spot, tag) => self.spots.reserve(spot, tag, &[]),
-        }
-    }
-
-    /// Joins an atom that has its place.
-    pub fn apply(&mut self, atom: Atom)
-        requires { HasPlace self.old atom }
-        ensures { Joins atom self.old self.new }
-    {
-        match given(atom) {
-            Addition::Whole(d) => self.top = greater_deletion(self.top, Some(d)),
-            Addition::Range(lo, hi, d) => self.ranges.raise(lo, hi, d),
-            Addition::At(spot, content) => self.spots.join(spot, content),
         }
     }
 

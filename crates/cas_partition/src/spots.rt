@@ -60,6 +60,7 @@ fn reserve_in(
     ensures made { OnOk result (body.new ≡ with_places others.now (with_place place tag body.old)) }
     ensures part { OnErr result (PartlyMade with_places others.now body.old (with_place place tag body.old) body.new) }
 {
+    body.make_room(others.len().saturating_add(1))?;
     body.reserve(place, tag)?;
     let mut rest = others;
     while let [atom, later @ ..] = rest {
@@ -142,17 +143,6 @@ fn join_row(
     }
 }
 
-// Joins what is said at the spot alone.
-fn join_at(rows: &mut BTreeMap<RowKey, Body>, spot: Spot, content: Content)
-    ensures { rows.new.entries ≡ set_value (is_at (row_cmp spot.row)) rows.old.entries
-        (joined_place (place_of spot) content (body_of spot.row rows.old.entries)) }
-{
-    let Spot { row, column, path } = spot;
-    if let Some(body) = rows.get_mut(&RowKey::of(row)) {
-        body.join(Place { column, path }, content);
-    }
-}
-
 impl Spots {
     pub(crate) fn new(alloc: Global) -> Self
         ensures { result ≡ [] }
@@ -189,13 +179,6 @@ impl Spots {
             (λ run. self.new ≡ joined_spots run (joined_spot spot content self.old)) }
     {
         join_row(&mut self.rows, spot, content, rest)
-    }
-
-    /// Joins what is said at a spot.
-    pub(crate) fn join(&mut self, spot: Spot, content: Content)
-        ensures { self.new ≡ joined_spot spot content self.old }
-    {
-        join_at(&mut self.rows, spot, content);
     }
 
     /// The static row and the rows between two keys.

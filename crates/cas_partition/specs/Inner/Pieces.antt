@@ -1,5 +1,6 @@
 -- A row put together of what is said at its places (own).
-use Rattle.std.specs.Prelude.{◌≡◌, ℕ, zero, suc, nat_lt, ◌==◌, ◌/◌, Bool, true, false, ◌&&◌, Option, None, Some, List, [], ◌∷◌, map, fold, length, take, drop, if◌then◌else◌}
+use Rattle.std.specs.Prelude.{◌≡◌, ℕ, zero, suc, nat_lt, ◌==◌, ◌/◌, Bool, true, false, ◌&&◌, if◌then◌else◌}
+use Rattle.std.specs.Prelude.{Option, None, Some, List, [], ◌∷◌, map, fold, length, take, drop}
 use Rattle.std.specs.List.{list_all}
 use denote.Ref.{Bor}
 use Rattle.cas_bounds.specs.declared.map_key.End.TheVariants.{Row}
@@ -48,7 +49,8 @@ joined_both (Some f) (Some g) = Some (joined_fragment f g)
 -- many of them in halves, and those in halves again
 unfoldable pub joined_in : ℕ → List Fragment → Option Fragment
 joined_in zero fs = joined_pieces fs
-joined_in (suc n) fs = if nat_lt (length fs) 16 then joined_pieces fs else joined_both (joined_in n (take (length fs / 2) fs)) (joined_in n (drop (length fs / 2) fs))
+joined_in (suc n) fs = if nat_lt (length fs) 16 then joined_pieces fs
+    else joined_both (joined_in n (take (length fs / 2) fs)) (joined_in n (drop (length fs / 2) fs))
 
 -- the path of a plain column, or none
 abbrev pub is_short : Option (List ℕ) → Bool

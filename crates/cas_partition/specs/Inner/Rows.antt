@@ -34,10 +34,14 @@ abbrev pub flat : RowsOf → List (Spot × Content)
 flat [] = []
 flat (r ∷ rows) = map (entry_in r.0) r.1 ++ flat rows
 
+-- places in order
+abbrev pub AreInOrder : Said → Type 0
+AreInOrder es = IsStrictlySortedBy place_cmp (keys_of es)
+
 -- rows in order, and of each row its places
 pub record AreRows (rows : RowsOf) : Type 0 where
   pub sorted : IsStrictlySortedBy row_cmp (keys_of rows)
-  pub places : AllByRecursion (λ r. IsStrictlySortedBy place_cmp (keys_of r.1)) rows
+  pub places : AllByRecursion (λ r. AreInOrder r.1) rows
 
 -- the place of a spot within its row
 abbrev pub place_of : Spot → Place
