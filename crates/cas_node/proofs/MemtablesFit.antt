@@ -47,7 +47,7 @@ use Rattle.cas_sessions.specs.Starts.{start}
 use Rattle.cas_sessions.specs.Verifying.{VerifiesNamed}
 use Rattle.cas_sessions.proofs.Answering.{says_spelled}
 use Rattle.cas_node.specs.declared.upshot.Upshot.{Upshot}
-use Rattle.cas_node.specs.Laws.{AreFew, AreSaid, BeginsLittle, FindsBehind, FitsFiles, FlushFinds, FlushesFit, KeepsLittle, StaysWell}
+use Rattle.cas_node.specs.Laws.{AreFew, AreSaid, BeginsLittle, FindsBehind, FitsFiles, FlushFinds, FlushesFind, FlushesFit, HasFiles, KeepsLittle, StaysWell}
 use Rattle.cas_node.specs.Lines.{Answered, Answers, DropsBehind, IsCarriedOut, SetsClock, SettlesAndDrops, SettlesBehind, is_starved, is_want, lists_any, lists_one, reply_of_flush}
 use Rattle.cas_node.proofs.FilesFew as few
 use Rattle.cas_node.proofs.LittleFits.{little_fits, named_there}
@@ -399,47 +399,89 @@ module _ (kind : ClockKind) (Gives : ℤ → Type 0) (h : History) (so : KeepsLi
 
 module _ (never : LittleIsNeverTooMuch) (kind : ClockKind) (Gives : ℤ → Type 0) where
   -- behind a write that was answered with its number
-  wrote_fits : (h : History) (lines : ℕ) → AreFew h (suc lines) → KeepsLittle h → (w : BoundWrite) (number : ℕ) (after : History)
-      → (does : Does kind Gives h (Ok (bound.Write w)) (reply.Wrote number) after) → AreSaid after → FindsBehind FitsFiles (Ok (bound.Write w)) (reply.Wrote number) after
-  wrote_fits h lines enough so w number after does said full t there =
+  wrote_fits : (h : History) → KeepsLittle h → (w : BoundWrite) (number : ℕ) (after : History) → Does kind Gives h (Ok (bound.Write w)) (reply.Wrote number) after
+      → AreSaid after → FindsBehind HasFiles (Ok (bound.Write w)) (reply.Wrote number) after → FindsBehind FitsFiles (Ok (bound.Write w)) (reply.Wrote number) after
+  wrote_fits h so w number after does said has full t there =
       let (reading, given, (entries, e, takes, is)) = does in
       let behind : Behind w.shard w.table after =
       subst (Behind w.shard w.table) (sym is)
       (subst (λ (xs : List Entry). Behind w.shard w.table (after_write h w.shard reading (reply.Wrote number) xs e)) (sym takes.2)
       (entered h so w reading h.session (h.calls + 1) (reply.Wrote number) e takes.0)) in
-      let none : few.NoMore h after = few.deed kind Gives h (Ok (bound.Write w)) (reply.Wrote number) after does in
-      little_fits never after w.table t said there (record {
-        live = omega (arith, enough.live, suc-mul lines (length h.shards + 1), none.live, none.shards);
-        numbers = omega (arith, enough.numbers, suc-mul lines (length h.shards + 1), none.last, none.shards);
-        short = λ n. behind.loose n t.number;
-      })
+      let files : HasFiles after t = has full t there in
+      little_fits never after w.table t said there (record { live = files.live; numbers = files.numbers; short = λ n. behind.loose n t.number })
 
-  behind_fits : (h : History) (lines : ℕ) → AreFew h (suc lines) → KeepsLittle h → (m : Result Bound Refusal) (r : Reply) (after : History)
-      → (does : Does kind Gives h m r after) → AreSaid after → FindsBehind FitsFiles m r after
-  behind_fits h lines enough so (Err x) r after does said = tt
-  behind_fits h lines enough so (Ok (bound.Create x)) r after does said = tt
-  behind_fits h lines enough so (Ok (bound.Alter x)) r after does said = tt
-  behind_fits h lines enough so (Ok (bound.Read x)) r after does said = tt
-  behind_fits h lines enough so (Ok (bound.Write w)) (reply.Wrote number) after does said = wrote_fits h lines enough so w number after does said
-  behind_fits h lines enough so (Ok (bound.Write w)) reply.Done after does said = tt
-  behind_fits h lines enough so (Ok (bound.Write w)) (reply.Rows rows shard front now) after does said = tt
-  behind_fits h lines enough so (Ok (bound.Write w)) (reply.Flushed files) after does said = tt
-  behind_fits h lines enough so (Ok (bound.Write w)) (reply.Verified files) after does said = tt
-  behind_fits h lines enough so (Ok (bound.Write w)) (reply.Status listed) after does said = tt
-  behind_fits h lines enough so (Ok (bound.Write w)) (reply.Refused why) after does said = tt
-  behind_fits h lines enough so (Ok (bound.Write w)) (reply.Failed f) after does said = tt
+  behind_fits : (h : History) → KeepsLittle h → (m : Result Bound Refusal) (r : Reply) (after : History) → Does kind Gives h m r after → AreSaid after
+      → FindsBehind HasFiles m r after → FindsBehind FitsFiles m r after
+  behind_fits h so (Err x) r after does said has = tt
+  behind_fits h so (Ok (bound.Create x)) r after does said has = tt
+  behind_fits h so (Ok (bound.Alter x)) r after does said has = tt
+  behind_fits h so (Ok (bound.Read x)) r after does said has = tt
+  behind_fits h so (Ok (bound.Write w)) (reply.Wrote number) after does said has = wrote_fits h so w number after does said has
+  behind_fits h so (Ok (bound.Write w)) reply.Done after does said has = tt
+  behind_fits h so (Ok (bound.Write w)) (reply.Rows rows shard front now) after does said has = tt
+  behind_fits h so (Ok (bound.Write w)) (reply.Flushed files) after does said has = tt
+  behind_fits h so (Ok (bound.Write w)) (reply.Verified files) after does said has = tt
+  behind_fits h so (Ok (bound.Write w)) (reply.Status listed) after does said has = tt
+  behind_fits h so (Ok (bound.Write w)) (reply.Refused why) after does said has = tt
+  behind_fits h so (Ok (bound.Write w)) (reply.Failed f) after does said has = tt
 
-  line_fits : (h : History) (text : List ℕ) (lines : ℕ) → AreSaid h → KeepsLittle h → AreFew h (suc lines) → FlushFinds FitsFiles kind Gives h text
-  line_fits h text lines said so enough = (
+  line_fits : (h : History) (text : List ℕ) → AreSaid h → KeepsLittle h → FlushFinds HasFiles kind Gives h text → FlushFinds FitsFiles kind Gives h text
+  line_fits h text said so has = (
     λ name t says named.
+        let files : HasFiles h t = has.0 name t says named in
         little_fits never h t.number t said (named_there h said name t named) (record {
-          live = omega (arith, enough.live, suc-mul lines (length h.shards + 1));
-          numbers = omega (arith, enough.numbers, suc-mul lines (length h.shards + 1));
+          live = files.live;
+          numbers = files.numbers;
           short = λ n. let short : bytes_of 0 (h.unflushed n t.number) ≤ 2 ^ 27 = so.short n t.number in omega (arith, short);
         }),
     λ s says answer after does.
-        behind_fits h lines enough so (meaning h.limits.shards h.tables s) answer after does
-        (done_so kind Gives h s (says_spelled text (line.Statement s) s says refl) said (meaning h.limits.shards h.tables s) refl answer after does),
+        behind_fits h so (meaning h.limits.shards h.tables s) answer after does
+        (done_so kind Gives h s (says_spelled text (line.Statement s) s says refl) said (meaning h.limits.shards h.tables s) refl answer after does)
+        (has.1 s says answer after does),
+  )
+
+  pub memtables_fit : (h : History) (ls : List (List ℕ)) → AreSaid h → KeepsLittle h → FlushesFind HasFiles kind Gives h ls → FlushesFit kind Gives h ls
+  memtables_fit h [] said so has = tt
+  memtables_fit h (l ∷ ls) said so has =
+      let finds : FlushFinds FitsFiles kind Gives h l = line_fits h l said so has.0 in (
+        finds,
+        λ o after answers fed well.
+            memtables_fit after ls (said_stay Gives kind h after (l ∷ []) (o ∷ []) said (after, answers, refl)) (one_line kind Gives h so l finds o after answers fed well)
+            (has.1 o after answers fed well),
+      )
+
+-- ---- lines that aren't many
+
+module _ (kind : ClockKind) (Gives : ℤ → Type 0) where
+  wrote_has : (w : BoundWrite) (r : Reply) (after : History) → ((t : TableSchema) → HasFiles after t) → FindsBehind HasFiles (Ok (bound.Write w)) r after
+  wrote_has w (reply.Wrote number) after has = λ full t there. has t
+  wrote_has w reply.Done after has = tt
+  wrote_has w (reply.Rows rows shard front now) after has = tt
+  wrote_has w (reply.Flushed files) after has = tt
+  wrote_has w (reply.Verified files) after has = tt
+  wrote_has w (reply.Status listed) after has = tt
+  wrote_has w (reply.Refused why) after has = tt
+  wrote_has w (reply.Failed f) after has = tt
+
+  behind_has : (m : Result Bound Refusal) (r : Reply) (after : History) → ((t : TableSchema) → HasFiles after t) → FindsBehind HasFiles m r after
+  behind_has (Err x) r after has = tt
+  behind_has (Ok (bound.Create x)) r after has = tt
+  behind_has (Ok (bound.Alter x)) r after has = tt
+  behind_has (Ok (bound.Write w)) r after has = wrote_has w r after has
+  behind_has (Ok (bound.Read x)) r after has = tt
+
+  line_has : (h : History) (text : List ℕ) (lines : ℕ) → AreFew h (suc lines) → FlushFinds HasFiles kind Gives h text
+  line_has h text lines enough = (
+    λ name t says named. record {
+      live = omega (arith, enough.live, suc-mul lines (length h.shards + 1));
+      numbers = omega (arith, enough.numbers, suc-mul lines (length h.shards + 1));
+    },
+    λ s says answer after does.
+        let none : few.NoMore h after = few.deed kind Gives h (meaning h.limits.shards h.tables s) answer after does in
+        behind_has (meaning h.limits.shards h.tables s) answer after (λ t. record {
+          live = omega (arith, enough.live, suc-mul lines (length h.shards + 1), none.live, none.shards);
+          numbers = omega (arith, enough.numbers, suc-mul lines (length h.shards + 1), none.last, none.shards);
+        }),
   )
 
   fewer : (h after : History) (text : List ℕ) (o : Upshot) (lines : ℕ) → AreFew h (suc lines) → Answers kind Gives h text o after → AreFew after lines
@@ -451,15 +493,10 @@ module _ (never : LittleIsNeverTooMuch) (kind : ClockKind) (Gives : ℤ → Type
         numbers = omega (arith, enough.numbers, suc-mul lines (length h.shards + 1), one.last, same);
       }
 
-  pub memtables_fit : (h : History) (ls : List (List ℕ)) → AreSaid h → KeepsLittle h → AreFew h (length ls) → FlushesFit kind Gives h ls
-  memtables_fit h [] said so enough = tt
-  memtables_fit h (l ∷ ls) said so enough =
-      let finds : FlushFinds FitsFiles kind Gives h l = line_fits h l (length ls) said so enough in (
-        finds,
-        λ o after answers fed well.
-            memtables_fit after ls (said_stay Gives kind h after (l ∷ []) (o ∷ []) said (after, answers, refl)) (one_line kind Gives h so l finds o after answers fed well)
-            (fewer h after l o (length ls) enough answers),
-      )
+  pub few_have_files : (h : History) (ls : List (List ℕ)) → AreFew h (length ls) → FlushesFind HasFiles kind Gives h ls
+  few_have_files h [] enough = tt
+  few_have_files h (l ∷ ls) enough =
+      (line_has h l (length ls) enough, λ o after answers fed well. few_have_files after ls (fewer h after l o (length ls) enough answers))
 
 pub begins_little : BeginsLittle
 unfolding start

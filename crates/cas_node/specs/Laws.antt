@@ -204,12 +204,22 @@ BeginsLittle =
     (h : History) → Begins l entries mutations openings files faults h → h.limits.segment ≤ 2 ^ 27 → h.limits.memtable ≤ 2 ^ 27
     → ((n table : ℕ) → bytes_of 0 (unflushed_in entries mutations n table) ≤ 2 ^ 27) → KeepsLittle h
 
--- there may be table files more for so many lines, one for each shard and one, and numbers for them
+-- there may be a table file more for each shard, and one, and numbers for them, whichever table is flushed
+pub record HasFiles (h : History) (t : TableSchema) : Type 0 where
+  pub live : h.disk.live + (length h.shards + 1) ≤ LIVE_LIMIT
+  pub numbers : h.disk.last_file + (length h.shards + 1) < FILE_NUMBER_LIMIT
+
+-- then each flush of lines fits, under either clock, if each finds that there may be its files
+abbrev pub MemtablesFit : (ℤ → Type 0) → Type 0
+MemtablesFit Gives =
+    (kind : ClockKind) (h : History) (lines : List (List ℕ)) → AreSaid h → KeepsLittle h → FlushesFind HasFiles kind Gives h lines
+    → FlushesFit kind Gives h lines
+
+-- that each finds so, where there may be a file for each shard, and one, as often as there are lines
 pub record AreFew (h : History) (lines : ℕ) : Type 0 where
   pub live : h.disk.live + lines * (length h.shards + 1) ≤ LIVE_LIMIT
   pub numbers : h.disk.last_file + lines * (length h.shards + 1) < FILE_NUMBER_LIMIT
 
--- then each flush of the lines fits, under either clock
-abbrev pub MemtablesFit : (ℤ → Type 0) → Type 0
-MemtablesFit Gives =
-    (kind : ClockKind) (h : History) (lines : List (List ℕ)) → AreSaid h → KeepsLittle h → AreFew h (length lines) → FlushesFit kind Gives h lines
+abbrev pub FewHaveFiles : (ℤ → Type 0) → Type 0
+FewHaveFiles Gives =
+    (kind : ClockKind) (h : History) (lines : List (List ℕ)) → AreFew h (length lines) → FlushesFind HasFiles kind Gives h lines

@@ -1,6 +1,6 @@
 //! What holds of every run of a script.
 
-ghost use Rattle.cas_node.specs.Laws.{AllAreRead, BeginsLittle, FilesAreFew, FoundRise, FoundSaid, LittleFits};
+ghost use Rattle.cas_node.specs.Laws.{AllAreRead, BeginsLittle, FewHaveFiles, FilesAreFew, FoundRise, FoundSaid, LittleFits};
 ghost use Rattle.cas_node.specs.Laws.{LittleFlushesFit, MemtablesFit, NoFlushFits, NumbersStay, OneOutcome, SaidStay, WhatFitsIsFlushed};
 
 use cas_disk::Folder;
@@ -43,10 +43,11 @@ pub fn little_fits<C: Clock>()
 }
 
 /// Memtables that are flushed before they have more than 2^27 bytes of records fit into table files, each of them
-/// along a run, as long as the disk is well, memory doesn't run out, and the files are few enough.
+/// along a run, as long as the disk is well, memory doesn't run out, and there may be more files.
 pub fn memtables_fit<C: Clock>()
     ensures begin { BeginsLittle }
     ensures fit { (clock : C) → MemtablesFit (C.may_give clock) }
+    ensures few { (clock : C) → FewHaveFiles (C.may_give clock) }
 {
     little_is_never_too_much();
 }
