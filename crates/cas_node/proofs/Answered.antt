@@ -19,16 +19,16 @@ use Rattle.cql_parse.specs.declared.syntax.TableName.{TableName}
 use Rattle.cas_sessions.specs.declared.answer.Fault.{Fault}
 use Rattle.cas_sessions.specs.Dropping.{DropsSegments}
 use Rattle.cas_sessions.specs.Flushes.{Flushes}
-use Rattle.cas_sessions.specs.History.{History, shard_at}
-use Rattle.cas_sessions.specs.Status.{status}
+use Rattle.cas_lasting.specs.History.{History, shard_at}
+use Rattle.cas_lasting.specs.Status.{status}
 use Rattle.cas_sessions.specs.Verifying.{Verifies}
 use Rattle.cas_node.specs.declared.upshot.Upshot.{Upshot}
 use Rattle.cas_node.specs.Inner.Serving.{Knows, ListsIf, MovesIf, PerformsRoomily, PerformsSo}
 use Rattle.cas_node.specs.Lines.{Answers, DropsBehind, FlushesAndDrops, FlushesNone, SetsClock, is_want, lists_any, reply_of_flush, reply_of_verify, replied}
 use Rattle.cas_node.proofs.SessionLemmas.{on_from}
-use Rattle.cas_sessions.specs.Listing.{KeepsListing}
-use Rattle.cas_sessions.specs.Nodes.{State, StandsFor, GoesOnTo, Moves, OrWant}
-use Rattle.cas_sessions.proofs.Explaining.{explains_still, goes_nowhere, keep_files_none}
+use Rattle.cas_lasting.specs.Listing.{KeepsListing}
+use Rattle.cas_lasting.specs.Nodes.{State, StandsFor, GoesOnTo, Moves, OrWant}
+use Rattle.cas_lasting.proofs.Explaining.{explains_still, goes_nowhere, keep_files_none}
 use Rattle.cas_sessions.proofs.Answering.{moves_as}
 
 -- ---- a line

@@ -33,7 +33,7 @@ use Rattle.cas_words.specs.declared.words.ClockKind.TheVariants as clock
 use Rattle.cas_sessions.specs.declared.answer.Fault.{Fault}
 use Rattle.cas_sessions.specs.declared.answer.Fault.TheVariants as fault
 use Rattle.cas_sessions.specs.Flushes.{FlushesNamed, FlushesTable}
-use Rattle.cas_sessions.specs.History.{History, DiskState, Takes, Defines, Shows, Does, rows_reply}
+use Rattle.cas_lasting.specs.History.{History, DiskState, Takes, Defines, Shows, Does, rows_reply}
 use Rattle.cas_sessions.specs.Verifying.{VerifiesNamed, table_files}
 use Rattle.cas_node.specs.declared.cause.Cause.{Cause}
 use Rattle.cas_node.specs.declared.cause.Cause.TheVariants as cause

@@ -19,11 +19,11 @@ use Rattle.cas_sessions.specs.declared.answer.Fault.{Fault}
 use Rattle.cas_sessions.specs.declared.answer.Fault.TheVariants as fault
 use Rattle.cas_sessions.specs.Calls.{IsTrueOf, TellsPlace, reply_of}
 use Rattle.cas_sessions.specs.Filling.{FlushesIf, Settles, is_full}
-use Rattle.cas_sessions.specs.History.{Does, History}
-use Rattle.cas_sessions.specs.Listing.{KeepsListing}
-use Rattle.cas_sessions.specs.Nodes.{GoesOnTo, Moves, OrWant, State, StandsFor, filled_of}
+use Rattle.cas_lasting.specs.History.{Does, History}
+use Rattle.cas_lasting.specs.Listing.{KeepsListing}
+use Rattle.cas_lasting.specs.Nodes.{GoesOnTo, Moves, OrWant, State, StandsFor, filled_of}
 use Rattle.cas_sessions.proofs.FlushFull.{as_full}
-use Rattle.cas_sessions.proofs.Listing.{listing_twice, lists_nothing}
+use Rattle.cas_lasting.proofs.Listing.{listing_twice, lists_nothing}
 use Rattle.cas_node.specs.Inner.Serving.{HasRoomFor, Knows, ListsIf, MovesIf, PerformsRoomily, PerformsSo, SettledFor, place_of}
 use Rattle.cas_node.specs.Lines.{DropsBehind, LeavesRoom, SettlesAndDrops, SettlesBehind, Tells, is_want, lists_one}
 use Rattle.cas_node.proofs.SessionLemmas.{on_from}

@@ -14,7 +14,7 @@ use Rattle.cas_journal.specs.Reach.{Reach, HasNoPlace}
 use Rattle.cas_sstread.specs.Loading.{Held}
 use Rattle.cas_view.specs.Views.{File}
 use Rattle.cas_shard.specs.Shards.{ShardHistory}
-use Rattle.cas_sessions.specs.Flushes.{ListsOne}
+use Rattle.cas_lasting.specs.Flushed.{ListsOne}
 use Rattle.cas_node.specs.Laws.{IsRoomy}
 
 one_added : (i : TableInfo) → FitsInfo i → length (added_bytes (i ∷ [])) ≤ 131122

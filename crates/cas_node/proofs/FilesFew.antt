@@ -29,9 +29,10 @@ use Rattle.cas_words.specs.declared.words.ClockKind.TheVariants as clock
 use Rattle.cas_sessions.specs.declared.answer.Fault.{Fault}
 use Rattle.cas_sessions.specs.declared.answer.Fault.TheVariants as fault
 use Rattle.cas_sessions.specs.Dropping.{DropsSegments}
-use Rattle.cas_sessions.specs.Flushes.{EndsSo, Flushed, FlushesNamed, FlushesTable, Grows, change_of, changes_by, numbers_added, without_begun, without_flushed}
+use Rattle.cas_sessions.specs.Flushes.{EndsSo, FlushesNamed, FlushesTable}
+use Rattle.cas_lasting.specs.Flushed.{Flushed, Grows, change_of, changes_by, numbers_added, without_begun, without_flushed}
 use Rattle.cas_sessions.specs.Filling.{EndsIn, FlushesIn}
-use Rattle.cas_sessions.specs.History.{History, DiskState, Takes, Defines, Does, after_entries, shard_at}
+use Rattle.cas_lasting.specs.History.{History, DiskState, Takes, Defines, Does, after_entries, shard_at}
 use Rattle.cas_sessions.specs.Verifying.{VerifiesNamed}
 use Rattle.cas_node.specs.declared.upshot.Upshot.{Upshot}
 use Rattle.cas_node.specs.Lines.{Answered, Answers, Runs, SetsClock, lists_any}

@@ -11,10 +11,12 @@ use Rattle.cas_room.specs.Changing.{added_by}
 use Rattle.cas_shard.specs.Shards.{ShardHistory}
 use Rattle.cas_sstread.specs.Loading.{Held}
 use Rattle.cas_view.specs.Views.{File}
-use Rattle.cas_sessions.specs.Filling.{FlushesIn, SaysNone, filled_with, listed_of, rest_with}
-use Rattle.cas_sessions.specs.Flushes.{AscendTo, EndsSo, Flushed, Grows, ListsOne, SaySomething, change_of, changes_by, numbers_added, numbers_in, without_begun, without_flushed}
-use Rattle.cas_sessions.specs.History.{History, DiskState, shard_at}
-use Rattle.cas_sessions.specs.Status.{file_numbers}
+use Rattle.cas_sessions.specs.Filling.{FlushesIn, SaysNone, listed_of}
+use Rattle.cas_lasting.specs.Flushed.{filled_with, rest_with}
+use Rattle.cas_lasting.specs.Flushed.{AscendTo, Flushed, Grows, ListsOne, SaySomething, change_of, changes_by, numbers_added, numbers_in, without_begun, without_flushed}
+use Rattle.cas_sessions.specs.Flushes.{EndsSo}
+use Rattle.cas_lasting.specs.History.{History, DiskState, shard_at}
+use Rattle.cas_lasting.specs.Status.{file_numbers}
 use Rattle.cas_node.specs.Laws.{SameStore, by_numbers}
 use Rattle.cas_node.proofs.Stopping.{same_or_not}
 

@@ -18,8 +18,8 @@ use Rattle.cas_render.specs.declared.reply.Reply.TheVariants as reply
 use Rattle.cas_terms.specs.Columns.{table_named}
 use Rattle.cas_words.specs.declared.words.ClockKind.{ClockKind}
 use Rattle.cql_parse.specs.declared.syntax.TableName.{TableName}
-use Rattle.cas_sessions.specs.History.{History}
-use Rattle.cas_sessions.specs.Laws.{LittleIsNeverTooMuch}
+use Rattle.cas_lasting.specs.History.{History}
+use Rattle.cas_lasting.specs.Laws.{LittleIsNeverTooMuch}
 use Rattle.cas_sessions.proofs.Answering.{says_spelled}
 use Rattle.cas_node.specs.Laws.{AreSaid, FindsBehind, FitsFiles, FlushFinds, IsLittle, LittleFits, LittleFlushesFit}
 use Rattle.cas_node.proofs.SaidStay.{done_so, said_stay}

@@ -22,15 +22,15 @@ use Rattle.cas_shard.specs.Shards.{ShardHistory, empty_shard, found_shard, momen
 use Rattle.cas_shard.specs.Stands.{NumbersRise}
 use Rattle.cas_shard.proofs.Numbering.{all_stand, one_entered}
 use Rattle.cas_words.specs.declared.words.ClockKind.{ClockKind}
-use Rattle.cas_sessions.specs.History.{History, DiskState, Does, Takes, shard_at, after_entries, with_shard}
+use Rattle.cas_lasting.specs.History.{History, DiskState, Does, Takes, shard_at, after_entries, with_shard}
 use Rattle.cas_node.proofs.Along.{along}
 use Rattle.cas_recovery.specs.Found.{AreOfAStore}
 use Rattle.cas_recovery.specs.Openings.{AreOpenings}
 use Rattle.cas_recovery.proofs.Explained.{as_opening}
-use Rattle.cas_sessions.specs.Starts.{start}
+use Rattle.cas_lasting.specs.Starts.{start}
 use Rattle.cas_node.specs.Laws.{AllRise, FoundRise, NumbersStay, AllAreRead}
 use Rattle.cas_recovery.proofs.Founding.{none_read}
-use Rattle.cas_sessions.proofs.Serving.{numbered, many_mapped, many_numbers}
+use Rattle.cas_lasting.proofs.Serving.{numbered, many_mapped, many_numbers}
 
 -- ---- a shard
 

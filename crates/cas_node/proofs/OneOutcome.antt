@@ -42,8 +42,8 @@ use Rattle.cas_sessions.specs.declared.answer.Fault.TheVariants as fault
 use Rattle.cas_sessions.specs.Dropping.{DropsSegments}
 use Rattle.cas_sessions.specs.Filling.{FlushesFull, FlushesIf, FlushesIn, is_full}
 use Rattle.cas_sessions.specs.Flushes.{FlushesNamed, FlushesTable}
-use Rattle.cas_sessions.specs.History.{History, DiskState, Takes, Shows, Changes, Does, ReadsAt, SameFiles, WritesAt, after_read, after_write, entry_of, rows_reply, shard_at, tells_want}
-use Rattle.cas_sessions.specs.Status.{file_numbers, status}
+use Rattle.cas_lasting.specs.History.{History, DiskState, Takes, Shows, Changes, Does, ReadsAt, SameFiles, WritesAt, after_read, after_write, entry_of, rows_reply, shard_at, tells_want}
+use Rattle.cas_lasting.specs.Status.{file_numbers, status}
 use Rattle.cas_sessions.specs.Verifying.{EndsVerified, VerifiesNamed, table_files}
 use Rattle.cas_node.specs.declared.upshot.Upshot.{Upshot}
 use Rattle.cas_node.specs.Lines.{Answered, Answers, DropsBehind, FlushesNone, FlushesAndDrops, IsCarriedOut, LeavesRoom, Runs, SettlesAndDrops, SettlesBehind, is_starved, is_want, lists_any, lists_one, replied, reply_of_flush, reply_of_verify, says_want}

@@ -43,25 +43,25 @@ use Rattle.cas_words.specs.declared.words.Command.{Command}
 use Rattle.cas_node.specs.declared.cause.Cause.{Cause}
 use Rattle.cas_node.specs.declared.cause.Cause.TheVariants as cause
 use Rattle.cas_node.specs.declared.program.TheConstants.{SCRIPT_LIMIT}
-use Rattle.cas_sessions.specs.History.{History, DiskState}
+use Rattle.cas_lasting.specs.History.{History, DiskState}
 use Rattle.cas_node.specs.declared.upshot.Upshot.{Upshot}
 use Rattle.cas_node.specs.Lines.{NoneFlushes, Runs, Tells}
 use Rattle.cas_sstread.specs.Loading.{Held}
 use Rattle.cas_view.specs.Views.{File}
-use Rattle.cas_sessions.specs.Starts.{AreExplained, AreItsFiles, Begins, start, BeginsAs, IsInMemory, IsOpenedAs, IsStarted}
+use Rattle.cas_lasting.specs.Starts.{AreExplained, AreItsFiles, Begins, start, BeginsAs, IsInMemory, IsOpenedAs, IsStarted}
 use Rattle.cas_node.specs.Ran.{AllWell, AreGood, Ended, GoodOrMem, IfBad, IfUnread, IsBadForOne, IsCalm, IsGranted, IsKnown, IsNotRun, Outside, Ran, RanAll, RanFrom, RanOn}
 use Rattle.cas_node.specs.Ran.{Stop, WriteRose}
 use Rattle.cas_node.proofs.Standing.{all_stand, standing_good}
 use Rattle.cas_node.specs.Ran.{at_the_end, at_the_sink, for_memory, has_risen, reply_cause, upshot_cause, verdicts_cause, weight, with_faults, worse, worst}
 use Rattle.cas_node.specs.Inner.Serving.{EndsServed, IsKnownIn, IsKnownOn, ListsIf, MovesIf, Served, Serves}
-use Rattle.cas_sessions.specs.Entered.{IsLeft}
-use Rattle.cas_sessions.specs.Listing.{SameListed}
-use Rattle.cas_sessions.proofs.Listing.{lists_since}
-use Rattle.cas_sessions.proofs.Explaining.{opening_in}
-use Rattle.cas_sessions.proofs.Serving.{is_explained}
+use Rattle.cas_lasting.specs.Entered.{IsLeft}
+use Rattle.cas_lasting.specs.Listing.{SameListed}
+use Rattle.cas_lasting.proofs.Listing.{lists_since}
+use Rattle.cas_lasting.proofs.Explaining.{opening_in}
+use Rattle.cas_lasting.proofs.Serving.{is_explained}
 use Rattle.cas_recovery.proofs.Explained.{as_opening}
 use Rattle.cas_node.specs.Inner.Turns.{cause_of_opening, IsEnd}
-use Rattle.cas_sessions.specs.Nodes.{State, StandsFor, LastsFor, disk_of, files_in}
+use Rattle.cas_lasting.specs.Nodes.{State, StandsFor, LastsFor, disk_of, files_in}
 use Rattle.cas_node.proofs.Blaming.{blamed, of_both}
 use Rattle.cas_node.proofs.SessionLemmas.{told_ends, verdicts_told}
 use Rattle.cas_node.proofs.Staying.{AreUpTo, from_before}

@@ -23,10 +23,10 @@ use Rattle.define_laws.specs.Entries.{MayTell}
 use Rattle.define_laws.proofs.Telling.{defined_columns_may_be_told, defined_tables_may_be_told}
 use Rattle.define_laws.proofs.Told.{told_tables_are_tables}
 use Rattle.cas_sessions.specs.Calls.{IsSpelled}
-use Rattle.cas_sessions.specs.History.{History, Changes, Defines, DiskState, Does}
-use Rattle.cas_sessions.specs.Listing.{ListsNone}
-use Rattle.cas_sessions.specs.Starts.{start}
-use Rattle.cas_sessions.proofs.Next.{Grows, grows_after}
+use Rattle.cas_lasting.specs.History.{History, Changes, Defines, DiskState, Does}
+use Rattle.cas_lasting.specs.Listing.{ListsNone}
+use Rattle.cas_lasting.specs.Starts.{start}
+use Rattle.cas_lasting.proofs.Next.{Grows, grows_after}
 use Rattle.cas_node.specs.Laws.{AreSaid, FoundSaid, MayBeSaid, SaidStay}
 use Rattle.cas_node.proofs.Along.{along}
 

@@ -20,13 +20,13 @@ use Rattle.cas_node.specs.declared.cause.Cause.TheVariants as cause
 use Rattle.cas_node.specs.declared.script.PrintFault.{PrintFault}
 use Rattle.cas_node.specs.declared.script.PrintFault.TheVariants as print
 use Rattle.cas_disk.specs.Disk.{Disk, During, Image}
-use Rattle.cas_sessions.specs.History.{History}
+use Rattle.cas_lasting.specs.History.{History}
 use Rattle.cas_node.specs.declared.upshot.Upshot.{Upshot}
 use Rattle.cas_node.specs.Lines.{Answers, FlushesNone, NoneFlushes, Runs, Tells}
 use Rattle.cas_node.specs.Text.{output, line_text}
 use Rattle.cas_node.specs.Ran.{RanFrom, reply_cause, upshot_cause, verdict_cause, verdicts_cause, worse, worst, at_the_end, at_the_sink, for_memory}
-use Rattle.cas_sessions.specs.Nodes.{State, GoesOnTo}
-use Rattle.cas_sessions.proofs.Listing.{listing_twice, lists_nothing}
+use Rattle.cas_lasting.specs.Nodes.{State, GoesOnTo}
+use Rattle.cas_lasting.proofs.Listing.{listing_twice, lists_nothing}
 use Rattle.cas_node.specs.Inner.Serving.{IsKnownIn, Knows, ListsIf, MovesIf}
 use Rattle.cas_node.specs.Inner.Turns.{IsEnd, IsToldSo, Turned, Printed, PrintedReply, StopsFor}
 

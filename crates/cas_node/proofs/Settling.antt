@@ -12,7 +12,7 @@ use Rattle.cas_sessions.specs.declared.answer.Fault.{Fault}
 use Rattle.cas_sessions.specs.declared.answer.Fault.TheVariants as fault
 use Rattle.cas_sessions.specs.Dropping.{DropsSegments}
 use Rattle.cas_sessions.specs.Filling.{FlushesIf, FlushesIn, Settles, is_full}
-use Rattle.cas_sessions.specs.History.{History}
+use Rattle.cas_lasting.specs.History.{History}
 use Rattle.cas_node.specs.Lines.{DropsBehind, LeavesRoom, SettlesBehind, is_want, lists_one}
 
 -- nothing came of it, or a flush of one shard

@@ -17,8 +17,8 @@ use Rattle.cas_listed.proofs.Holding.{listed_files_hold}
 use Rattle.cas_opening.specs.Opening.{IsOfBytes}
 use Rattle.cas_recovery.specs.Openings.{AreOpenings}
 use Rattle.cas_recovery.proofs.Standing.{past}
-use Rattle.cas_sessions.specs.History.{History}
-use Rattle.cas_sessions.specs.Starts.{AreItsFiles, Begins, start}
+use Rattle.cas_lasting.specs.History.{History}
+use Rattle.cas_lasting.specs.Starts.{AreItsFiles, Begins, start}
 use Rattle.cas_sessions.specs.Verifying.{IsFoundBad}
 use Rattle.cas_sessions.proofs.StandWhole.{files_are_whole}
 use Rattle.cas_shard.specs.declared.entry.ShardOpening.{ShardOpening}

@@ -11,9 +11,9 @@ use Rattle.cas_changes.specs.declared.entry.Entry.{Entry as ManifestEntry}
 use Rattle.cas_manifest.specs.Loading.{IsNew, first_entries}
 use Rattle.cas_journal.specs.Stores.{IsStore}
 use Rattle.cas_opening.specs.Opening.{HasStayed, MayBeMadeNew, MayBeOpened, OpensAs}
-use Rattle.cas_sessions.specs.Listing.{SameListed, SameUpTo}
+use Rattle.cas_lasting.specs.Listing.{SameListed, SameUpTo}
 use Rattle.cas_node.specs.Lines.{Tells}
-use Rattle.cas_sessions.proofs.Numbered.{listed_low}
+use Rattle.cas_lasting.proofs.Numbered.{listed_low}
 
 -- ---- the same folder
 

@@ -33,9 +33,10 @@ use Rattle.cas_view.specs.Views.{File}
 use Rattle.cas_sessions.specs.declared.answer.Fault.{Fault}
 use Rattle.cas_sessions.specs.declared.answer.Fault.TheVariants as fault
 use Rattle.cas_sessions.specs.Dropping.{DropsSegments, EndsAfter}
-use Rattle.cas_sessions.specs.Flushes.{AreInFiles, EndsSo, Flushed, FlushesNamed, FlushesTable, Grows, WhyNoFurther, change_of, changes_by, reach_by, without_begun, without_flushed}
+use Rattle.cas_lasting.specs.Flushed.{AreInFiles, Flushed, Grows, change_of, changes_by, reach_by, without_begun, without_flushed}
+use Rattle.cas_sessions.specs.Flushes.{EndsSo, FlushesNamed, FlushesTable, WhyNoFurther}
 use Rattle.cas_sessions.specs.Filling.{EndsIn, FlushesIn, Settles}
-use Rattle.cas_sessions.specs.History.{History, DiskState, Takes, Defines, Does, Stays, Stops, shard_at}
+use Rattle.cas_lasting.specs.History.{History, DiskState, Takes, Defines, Does, Stays, Stops, shard_at}
 use Rattle.cas_sessions.specs.Verifying.{VerifiesNamed}
 use Rattle.cas_node.specs.declared.upshot.Upshot.{Upshot}
 use Rattle.cas_node.specs.Lines.{Answered, Answers, DropsBehind, Runs, SetsClock, SettlesBehind, lists_any}

@@ -17,8 +17,9 @@ use Rattle.cas_sessions.specs.declared.answer.Fault.{Fault}
 use Rattle.cas_sessions.specs.declared.answer.Fault.TheVariants as fault
 use Rattle.cas_sessions.specs.Dropping.{EndsAfter}
 use Rattle.cas_sessions.specs.Filling.{FlushesFull, FlushesIn}
-use Rattle.cas_sessions.specs.Flushes.{FlushesTable, WhyNoFurther, WhyTooMany, numbers_added}
-use Rattle.cas_sessions.specs.History.{History, DiskState, Takes, Defines, SameFiles, shard_at, tells_want}
+use Rattle.cas_sessions.specs.Flushes.{FlushesTable, WhyNoFurther}
+use Rattle.cas_lasting.specs.Flushed.{WhyTooMany, numbers_added}
+use Rattle.cas_lasting.specs.History.{History, DiskState, Takes, Defines, SameFiles, shard_at, tells_want}
 use Rattle.cas_node.specs.Lines.{is_want, reply_of_flush}
 use Rattle.cas_node.specs.Laws.{FitsFiles, IsRoomy, StaysWell, WhatFitsIsFlushed}
 use Rattle.cas_node.proofs.FilesFew.{numbers_few}

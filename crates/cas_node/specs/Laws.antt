@@ -32,18 +32,18 @@ use Rattle.cql_parse.specs.declared.syntax.TableName.{TableName}
 use Rattle.cas_sessions.specs.declared.answer.Fault.{Fault}
 use Rattle.cas_sessions.specs.Filling.{FlushesFull, is_full}
 use Rattle.cas_sessions.specs.Flushes.{FlushesTable}
-use Rattle.cas_sessions.specs.Status.{file_numbers}
-use Rattle.cas_sessions.specs.TooMuch.{IsOverfull}
+use Rattle.cas_lasting.specs.Status.{file_numbers}
+use Rattle.cas_lasting.specs.TooMuch.{IsOverfull}
 use Rattle.cas_words.specs.declared.words.ClockKind.{ClockKind}
 use Rattle.cas_words.specs.declared.words.ClockKind.TheVariants as clock
-use Rattle.cas_sessions.specs.History.{History, DiskState, Does, shard_at}
+use Rattle.cas_lasting.specs.History.{History, DiskState, Does, shard_at}
 use Rattle.cas_shard.specs.declared.entry.ShardOpening.{ShardOpening}
 use Rattle.cas_node.specs.declared.upshot.Upshot.{Upshot}
 use Rattle.cas_node.specs.Lines.{Answers, NoneFlushes, Runs, is_starved, is_want}
 use Rattle.cas_node.specs.Ran.{AreGood}
 use Rattle.cas_recovery.specs.Found.{AreOfAStore}
 use Rattle.cas_recovery.specs.Openings.{AreOpenings}
-use Rattle.cas_sessions.specs.Starts.{Begins, start, unflushed_in}
+use Rattle.cas_lasting.specs.Starts.{Begins, start, unflushed_in}
 use Rattle.cas_sstread.specs.Loading.{Held}
 use Rattle.cas_view.specs.Views.{File}
 

@@ -26,8 +26,8 @@ use Rattle.cas_sessions.specs.Calls.{reply_of}
 use Rattle.cas_sessions.specs.Dropping.{DropsSegments}
 use Rattle.cas_sessions.specs.Filling.{Settles, is_full}
 use Rattle.cas_sessions.specs.Flushes.{Flushes}
-use Rattle.cas_sessions.specs.History.{History, Does, tells_want}
-use Rattle.cas_sessions.specs.Status.{status}
+use Rattle.cas_lasting.specs.History.{History, Does, tells_want}
+use Rattle.cas_lasting.specs.Status.{status}
 use Rattle.cas_sessions.specs.Verifying.{Verifies}
 
 -- what comes of a line where memory didn't run out for what it doesn't tell: its reply, if there is one

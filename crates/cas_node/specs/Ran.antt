@@ -32,14 +32,14 @@ use Rattle.cas_node.specs.declared.cause.Cause.{Cause}
 use Rattle.cas_node.specs.declared.cause.Cause.TheVariants as cause
 use Rattle.cas_node.specs.declared.program.TheConstants.{SCRIPT_LIMIT}
 use Rattle.cas_node.specs.declared.upshot.Upshot.{Upshot}
-use Rattle.cas_sessions.specs.History.{DiskState, History, tells_want}
+use Rattle.cas_lasting.specs.History.{DiskState, History, tells_want}
 use Rattle.cas_node.specs.Lines.{NoneFlushes, Runs}
 use Rattle.cas_recovery.specs.Found.{IsFound}
 use Rattle.cas_recovery.specs.Openings.{AreOpenings}
-use Rattle.cas_sessions.specs.Starts.{AreItsFiles, Begins}
-use Rattle.cas_sessions.specs.Entered.{AreEntered, IsLeft}
-use Rattle.cas_sessions.specs.Listing.{HasBehind, SameListed}
-use Rattle.cas_sessions.specs.Next.{IsExplained}
+use Rattle.cas_lasting.specs.Starts.{AreItsFiles, Begins}
+use Rattle.cas_lasting.specs.Entered.{AreEntered, IsLeft}
+use Rattle.cas_lasting.specs.Listing.{HasBehind, SameListed}
+use Rattle.cas_lasting.specs.Next.{IsExplained}
 use Rattle.cas_sessions.specs.Verifying.{IsFoundBad}
 use Rattle.cas_node.specs.Text.{output}
 

@@ -5,7 +5,7 @@ ghost use Rattle.cas_node.specs.Laws.{LittleFlushesFit, MemtablesFit, NoFlushFit
 
 use cas_disk::Folder;
 use cas_io::Clock;
-use cas_sessions::little_is_never_too_much;
+use cas_lasting::little_is_never_too_much;
 
 /// Under the manual clock a script prints one output, as long as memory doesn't run out, the disk is well,
 /// no table file is bad that was there before it, and what it flushes fits into table files: its lines have

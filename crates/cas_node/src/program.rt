@@ -13,7 +13,7 @@ ghost use Rattle.cas_opening.specs.Opening.{IsOfBytes, MayBeOpened};
 ghost use Rattle.cas_recovery.specs.Recovered.{IsUnreadable};
 ghost use Rattle.cas_node.specs.Ran.{RanAll, IfBad, IfTooLong, IfUnread, AllWell, GoodOrMem, count_taken, has_risen, is_too_long, outside, status_of};
 ghost use Rattle.cas_node.specs.Ran.{weight, with_faults};
-ghost use Rattle.cas_sessions.specs.Listing.{SameUpTo};
+ghost use Rattle.cas_lasting.specs.Listing.{SameUpTo};
 ghost use Rattle.cas_node.specs.Inner.Serving.{EndsServed, Serves};
 ghost use Rattle.cas_node.specs.Inner.Turns.{cause_of_fault, cause_of_opening};
 

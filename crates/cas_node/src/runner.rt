@@ -8,11 +8,11 @@ ghost use Rattle.cas_node.specs.Inner.Serving.{HasRoomFor, KeepsCounts, Knows, L
 ghost use Rattle.cas_node.specs.Lines.{Answers, DropsBehind, FlushesAndDrops, FlushesNone, SetsClock, is_want, lists_any, lists_one, reply_of_verify};
 ghost use Rattle.cas_sessions.specs.Calls.{IsSpelled};
 ghost use Rattle.cas_sessions.specs.declared.answer.Fault.{Fault as FaultOf};
-ghost use Rattle.cas_sessions.specs.Listing.{KeepsListing, SameUpTo};
-ghost use Rattle.cas_sessions.specs.Nodes.{CountsOn, IsFew, Moves, OrWant, StandsFor, State};
-ghost use Rattle.cas_sessions.specs.Status.{status};
+ghost use Rattle.cas_lasting.specs.Listing.{KeepsListing, SameUpTo};
+ghost use Rattle.cas_lasting.specs.Nodes.{CountsOn, IsFew, Moves, OrWant, StandsFor, State};
+ghost use Rattle.cas_lasting.specs.Status.{status};
 ghost use Rattle.cas_sessions.specs.Verifying.{Verifies};
-ghost use Rattle.cas_sessions.specs.History.{History};
+ghost use Rattle.cas_lasting.specs.History.{History};
 ghost use Rattle.cas_render.specs.declared.reply.Reply.TheVariants as replies;
 ghost use Rattle.cas_render.specs.declared.reply.Verdict.{Verdict};
 

@@ -20,10 +20,10 @@ use Rattle.cas_words.specs.declared.words.ClockKind.{ClockKind}
 use Rattle.cas_words.specs.declared.words.ClockKind.TheVariants as clock
 use Rattle.cql_parse.specs.declared.syntax.Statement.{Statement}
 use Rattle.define_laws.proofs.Telling.{defined_tables_may_be_told, defined_columns_may_be_told}
-use Rattle.cas_sessions.specs.History.{History, Changes, Does, IsReading, ReadsAt, WritesAt}
+use Rattle.cas_lasting.specs.History.{History, Changes, Does, IsReading, ReadsAt, WritesAt}
 use Rattle.cas_sessions.specs.Calls.{StandsAt, IsSpelled}
-use Rattle.cas_sessions.specs.Inner.Definitions.{IsTold}
-use Rattle.cas_sessions.specs.Nodes.{State, StandsFor, Moves, OrWant}
+use Rattle.cas_lasting.specs.Inner.Definitions.{IsTold}
+use Rattle.cas_lasting.specs.Nodes.{State, StandsFor, Moves, OrWant}
 
 -- ---- moves
 

@@ -26,19 +26,22 @@ use Rattle.cas_recovery.proofs.Places.{is_other, is_same, same_place}
 use Rattle.cas_sessions.specs.declared.answer.Fault.{Fault}
 use Rattle.cas_sessions.specs.declared.answer.Fault.TheVariants.{Refused, Stopped, Disk as Failed, Read, BadBlock, Mem}
 use Rattle.cas_sessions.specs.Calls.{IsTrueOf}
-use Rattle.cas_sessions.specs.Entered.{IsLeftAmid}
-use Rattle.cas_sessions.specs.Listing.{SameUpTo}
-use Rattle.cas_sessions.specs.Flushes.{AreBegun, AreInFiles, AscendTo, Flushed, Flushes, FlushesNamed, FlushesTable, Grows, SaySomething, WhyNoFurther, change_of, changes_by, numbers_added}
-use Rattle.cas_sessions.specs.Flushes.{numbers_in, reach_by, without_begun, without_flushed}
-use Rattle.cas_sessions.specs.History.{History, DiskState, shard_at}
-use Rattle.cas_sessions.specs.Nodes.{AreFilled, Explains, State, StandsFor, LastsFor, LastsForOne, GoesOnTo, KeepsAll, Moves, disk_of, filled_of}
-use Rattle.cas_sessions.specs.Filling.{FlushedOne, IsBegun, SaysNone, filled_with, listed_of, rest_with}
-use Rattle.cas_sessions.specs.Inner.Flushing.{AreStood, FlushesFirst, FlushesNoFurther, FlushesOne, GoesOn, IsOwn, TellsReads}
-use Rattle.cas_sessions.proofs.Explaining.{explains_still, goes_nowhere, keep_files_none}
-use Rattle.cas_sessions.proofs.Filled.{begun_more, begun_none, filled_are, stands_filled}
+use Rattle.cas_lasting.specs.Entered.{IsLeftAmid}
+use Rattle.cas_lasting.specs.Listing.{SameUpTo}
+use Rattle.cas_sessions.specs.Flushes.{AreBegun, Flushes, FlushesNamed, FlushesTable, WhyNoFurther}
+use Rattle.cas_lasting.specs.Flushed.{AreInFiles, AscendTo, Flushed, Grows, SaySomething, change_of, changes_by, numbers_added}
+use Rattle.cas_lasting.specs.Flushed.{numbers_in, reach_by, without_begun, without_flushed}
+use Rattle.cas_lasting.specs.History.{History, DiskState, shard_at}
+use Rattle.cas_lasting.specs.Nodes.{AreFilled, Explains, State, StandsFor, LastsFor, LastsForOne, GoesOnTo, KeepsAll, Moves, disk_of, filled_of}
+use Rattle.cas_lasting.specs.Flushed.{FlushedOne, filled_with, rest_with}
+use Rattle.cas_sessions.specs.Filling.{IsBegun, SaysNone, listed_of}
+use Rattle.cas_lasting.specs.Inner.Going.{AreStood, GoesOn}
+use Rattle.cas_sessions.specs.Inner.Flushing.{FlushesFirst, FlushesNoFurther, FlushesOne, IsOwn, TellsReads}
+use Rattle.cas_lasting.proofs.Explaining.{explains_still, goes_nowhere, keep_files_none}
+use Rattle.cas_lasting.proofs.Filled.{begun_more, begun_none, filled_are, stands_filled}
 use Rattle.cas_sessions.proofs.FlushShard.{quiet_still}
-use Rattle.cas_sessions.proofs.FlushSteps.{amid_then, amid_with, beside_then, quiet_beside, quiet_goes, quiet_stands, stands_with, with_state}
-use Rattle.cas_sessions.proofs.Lasting.{lasts_as}
+use Rattle.cas_lasting.proofs.FlushSteps.{amid_then, amid_with, beside_then, quiet_beside, quiet_goes, quiet_stands, stands_with, with_state}
+use Rattle.cas_lasting.proofs.Lasting.{lasts_as}
 
 -- ---- lists with one more
 

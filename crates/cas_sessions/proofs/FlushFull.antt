@@ -9,15 +9,16 @@ use Rattle.cas_changes.specs.declared.entry.Change.{Change}
 use Rattle.cas_sessions.specs.declared.answer.Fault.{Fault}
 use Rattle.cas_sessions.specs.declared.answer.Fault.TheVariants.{Refused, Stopped, Disk as Failed, Read, BadBlock, Mem}
 use Rattle.cas_sessions.specs.Calls.{IsTrueOf}
-use Rattle.cas_sessions.specs.Entered.{IsLeftAmid}
-use Rattle.cas_sessions.specs.Filling.{EndsIn, FlushesFull, FlushesIf, FlushesIn, Settles, filled_with, is_full, listed_of, rest_with}
-use Rattle.cas_sessions.specs.Flushes.{AscendTo, SaySomething, changes_by, numbers_in}
-use Rattle.cas_sessions.specs.History.{DiskState, History, shard_at}
-use Rattle.cas_sessions.specs.Nodes.{GoesOnTo, KeepsAll, LastsForOne, Moves, State, StandsFor, disk_of, filled_of}
+use Rattle.cas_lasting.specs.Entered.{IsLeftAmid}
+use Rattle.cas_sessions.specs.Filling.{EndsIn, FlushesFull, FlushesIf, FlushesIn, Settles, is_full, listed_of}
+use Rattle.cas_lasting.specs.Flushed.{filled_with, rest_with}
+use Rattle.cas_lasting.specs.Flushed.{AscendTo, SaySomething, changes_by, numbers_in}
+use Rattle.cas_lasting.specs.History.{DiskState, History, shard_at}
+use Rattle.cas_lasting.specs.Nodes.{GoesOnTo, KeepsAll, LastsForOne, Moves, State, StandsFor, disk_of, filled_of}
 use Rattle.cas_sessions.specs.Inner.Flushing.{FlushesOne, IsOwn}
-use Rattle.cas_sessions.proofs.Filled.{filled_are}
+use Rattle.cas_lasting.proofs.Filled.{filled_are}
 use Rattle.cas_sessions.proofs.FlushAll.{true_of_flush, went_to}
-use Rattle.cas_sessions.proofs.Parts.{there_at}
+use Rattle.cas_lasting.proofs.Parts.{there_at}
 
 -- the bytes that the history tells are those of the memtable
 pub as_full : (h : History) (s : State) (n table : ℕ) → n < length s.shards → StandsFor h s → h.filled n table ≡ filled_of s n table

@@ -37,9 +37,10 @@ use Rattle.cas_tables.specs.declared.header.Header.{Header}
 use Rattle.cas_view.specs.Views.{File}
 use Rattle.cas_sessions.specs.declared.answer.Fault.{Fault}
 use Rattle.cas_sessions.specs.declared.answer.Fault.TheVariants.{Refused, Stopped, Disk as Failed, Read, BadBlock, Mem}
-use Rattle.cas_sessions.specs.Nodes.{State}
-use Rattle.cas_sessions.specs.Inner.Flushing.{HasOneMore, HoldTooMuch, IsMade, IsOfSize, IsOwn, Quiet, WhyNoneMore, WhyNotMade, fault_of_folder, fault_of_fresh, fault_of_load, fault_of_write}
-use Rattle.cas_sessions.proofs.FlushFiles.{held_something}
+use Rattle.cas_lasting.specs.Nodes.{State}
+use Rattle.cas_sessions.specs.Inner.Flushing.{HasOneMore, IsMade, IsOwn, WhyNoneMore, WhyNotMade, fault_of_folder, fault_of_fresh, fault_of_load, fault_of_write}
+use Rattle.cas_lasting.specs.Inner.Going.{HoldTooMuch, IsOfSize, Quiet}
+use Rattle.cas_lasting.proofs.FlushFiles.{held_something}
 use Rattle.cas_sessions.proofs.FlushShard.{quiet_still}
 use Rattle.cas_sessions.proofs.FlushSound.{numbered}
 

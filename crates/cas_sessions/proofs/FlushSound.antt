@@ -24,7 +24,7 @@ use Rattle.cas_view.specs.Views.{File}
 use Rattle.cas_recovery.specs.Restored.{HaveMemory, HaveNoMore, MayBeRead}
 use Rattle.cas_recovery.proofs.Places.{get_here, get_other, map_set_same, same_place}
 use Rattle.cas_sessions.specs.Inner.Flushing.{NewFile}
-use Rattle.cas_sessions.specs.Inner.Sound.{IsSound}
+use Rattle.cas_lasting.specs.Inner.Sound.{IsSound}
 use Rattle.cas_sessions.proofs.FlushShard.{Swapped}
 
 -- ---- a shard in another state

@@ -6,8 +6,9 @@ use Rattle.cas_types.specs.declared.schema.TableSchema.{TableSchema}
 use Rattle.cas_recovery.proofs.Places.{is_same}
 use Rattle.cas_sessions.specs.declared.answer.Fault.{Fault}
 use Rattle.cas_sessions.specs.declared.answer.Fault.TheVariants.{Refused, Stopped, Disk as Failed, Read, BadBlock, Mem}
-use Rattle.cas_sessions.specs.Filling.{FlushesIf, FlushesIn, filled_with, is_full}
-use Rattle.cas_sessions.specs.History.{History}
+use Rattle.cas_sessions.specs.Filling.{FlushesIf, FlushesIn, is_full}
+use Rattle.cas_lasting.specs.Flushed.{filled_with}
+use Rattle.cas_lasting.specs.History.{History}
 use Rattle.cas_sessions.specs.Laws.{FullNoMore, WasTried}
 
 new_is_empty : (table n : ℕ) (b : Bool) (before : ℕ → ℕ → ℕ) → b ≡ true → filled_with table n b before n table ≡ 0

@@ -7,8 +7,8 @@ use Rattle.cas_lines.specs.declared.line.Line.TheVariants as line
 use Rattle.cas_render.specs.declared.reply.Reply.{Reply}
 use Rattle.cas_words.specs.declared.words.ClockKind.TheVariants as clock
 use Rattle.cql_parse.specs.declared.syntax.Statement.{Statement}
-use Rattle.cas_sessions.specs.History.{History, Does}
-use Rattle.cas_sessions.specs.Nodes.{State, StandsFor, GoesOnTo, Moves, OrWant}
+use Rattle.cas_lasting.specs.History.{History, Does}
+use Rattle.cas_lasting.specs.Nodes.{State, StandsFor, GoesOnTo, Moves, OrWant}
 use Rattle.cas_sessions.specs.Calls.{IfTaken, IsSpelled, IsTrueOf, Performed, Performs, reply_of}
 use Rattle.cas_sessions.specs.declared.answer.Fault.{Fault}
 use Rattle.cas_sessions.specs.Inner.Texts.{Finds, Refuses}

@@ -26,16 +26,16 @@ use Rattle.cas_room.proofs.Flushed.{as_dropped}
 use Rattle.cas_shard.specs.Stands.{ShardState}
 use Rattle.cas_sessions.specs.declared.answer.Fault.{Fault}
 use Rattle.cas_sessions.specs.Dropping.{Drops, DropsSegments, EndsAfter, NoneMayGo, WhyNoMore}
-use Rattle.cas_sessions.specs.Entered.{entries_in, ListFiles}
-use Rattle.cas_sessions.specs.History.{DiskState, History, change_told, changes_told, shard_at}
-use Rattle.cas_sessions.specs.Nodes.{LastsFor, Moves, all_in, RememberJust, AreFilled, State, StandsFor, disk_of, files_in, Explains}
+use Rattle.cas_lasting.specs.Entered.{entries_in, ListFiles}
+use Rattle.cas_lasting.specs.History.{DiskState, History, change_told, changes_told, shard_at}
+use Rattle.cas_lasting.specs.Nodes.{LastsFor, Moves, all_in, RememberJust, AreFilled, State, StandsFor, disk_of, files_in, Explains}
 use Rattle.cas_sessions.specs.Inner.Faults.{fault_for}
-use Rattle.cas_sessions.proofs.Behind.{behind_said}
-use Rattle.cas_sessions.proofs.Crashing.{few_dropped}
-use Rattle.cas_sessions.proofs.Explaining.{explains_dropped, explains_still, goes_nowhere, keep_files}
-use Rattle.cas_sessions.proofs.Files.{list_said}
-use Rattle.cas_sessions.proofs.Lasting.{still_in_order, still_next, untrimmed}
-use Rattle.cas_sessions.proofs.Tables.{goes_before}
+use Rattle.cas_lasting.proofs.Behind.{behind_said}
+use Rattle.cas_lasting.proofs.Crashing.{few_dropped}
+use Rattle.cas_lasting.proofs.Explaining.{explains_dropped, explains_still, goes_nowhere, keep_files}
+use Rattle.cas_lasting.proofs.Files.{list_said}
+use Rattle.cas_lasting.proofs.Lasting.{still_in_order, still_next, untrimmed}
+use Rattle.cas_lasting.proofs.Tables.{goes_before}
 use Rattle.cas_recovery.specs.Restored.{IsBehind, RememberAll}
 use Rattle.cas_shard.specs.declared.entry.ShardOpening.{ShardOpening}
 

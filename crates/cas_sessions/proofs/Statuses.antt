@@ -7,9 +7,9 @@ use Rattle.cas_types.specs.declared.schema.TableSchema.{TableSchema}
 use Rattle.cas_render.specs.Listing.{in_order, in_shards, listed_cmp, listed_of, status_of}
 use Rattle.cas_render.specs.declared.reply.Listed.{Listed}
 use Rattle.cas_shard.specs.Stands.{ShardState, files_at}
-use Rattle.cas_sessions.specs.History.{History}
-use Rattle.cas_sessions.specs.Nodes.{State, StandsFor, files_in, files_of}
-use Rattle.cas_sessions.specs.Status.{file_numbers, status}
+use Rattle.cas_lasting.specs.History.{History}
+use Rattle.cas_lasting.specs.Nodes.{State, StandsFor, files_in, files_of}
+use Rattle.cas_lasting.specs.Status.{file_numbers, status}
 
 -- a table in the shard of that number
 pub listed_there : (shards : List ShardState) (place : ℕ) (x : ShardState) (t : TableSchema) (numbers : List ℕ) (l : Listed) → slice_get shards place ≡ Some x

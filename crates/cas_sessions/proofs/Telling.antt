@@ -1,5 +1,5 @@
 -- What the fault of a call tells beside its reply.
-use Rattle.std.proofs.Common.{◌≡◌, ◌+◌, ℕ, List, [], ◌∷◌, ◌++◌, Option, None, Some, Result, Ok, Err, sym, ap, ◌∙◌, subst}
+use Rattle.std.proofs.Common.{◌≡◌, ◌+◌, ℕ, List, [], ◌∷◌, ◌++◌, Option, None, Some, Result, Ok, Err, sym, ap, ◌∙◌, refl, subst}
 use Rattle.std.specs.Prelude.{IfOk}
 use Rattle.cas_atoms.specs.declared.atom.Mutation.{Mutation}
 use Rattle.cas_blocks.specs.declared.fault.TableFault.{TableFault}
@@ -17,8 +17,9 @@ use Rattle.cas_effects.specs.declared.refusal.Refusal.{Refusal}
 use Rattle.cas_sessions.specs.declared.answer.Answer.{Answer}
 use Rattle.cas_sessions.specs.declared.answer.Answer.TheVariants.{Done, Wrote as WroteOne, Rows}
 use Rattle.cas_sessions.specs.declared.answer.Fault.{Fault}
-use Rattle.cas_sessions.specs.Calls.{IsTrueOf, TellsPlace}
-use Rattle.cas_sessions.specs.Nodes.{State}
+use Rattle.cas_sessions.specs.Calls.{IsTrueOf, TellsPlace, reply_of}
+use Rattle.cas_lasting.specs.Nodes.{State}
+use Rattle.cas_lasting.specs.Inner.Printed.{reply_for}
 use Rattle.cas_sessions.specs.Inner.Faults.{IsOther, fault_for, fault_of_table}
 
 stopped_by : (T : Type 0) (first kept : Option First) (before now : ℕ) (g : First) → Ends {T = T} first kept before now (Err (Stopped g)) → first ≡ Some g
@@ -88,3 +89,11 @@ other_place (Ok Done) b other = tt
 other_place (Ok (WroteOne number table shard)) b other = absurd other
 other_place (Ok (Rows rows shard front now)) b other = tt
 other_place (Err f) b other = tt
+
+-- what is printed for the fault that the room's is answered as
+pub printed : (f : JournalFault) → reply_of (Err (fault_for f)) ≡ reply_for f
+printed (TooLarge length limit) = refl
+printed (TooMany what limit) = refl
+printed (Stopped first) = refl
+printed Failed = refl
+printed Mem = refl

@@ -23,15 +23,15 @@ use Rattle.cas_view.specs.declared.view.OpenFile.{OpenFile}
 use Rattle.cql_parse.specs.declared.syntax.TableName.{TableName}
 use Rattle.cas_sessions.specs.declared.answer.Fault.{Fault}
 use Rattle.cas_sessions.specs.declared.answer.Fault.TheVariants.{Refused, Stopped, Disk as Failed, Read, BadBlock, Mem}
-use Rattle.cas_sessions.specs.History.{History, DiskState, shard_at}
-use Rattle.cas_sessions.specs.Nodes.{State, Moves, files_in, files_of}
+use Rattle.cas_lasting.specs.History.{History, DiskState, shard_at}
+use Rattle.cas_lasting.specs.Nodes.{State, Moves, files_in, files_of}
 use Rattle.cas_sessions.specs.Verifying.{AreVerdicts, EndsVerified, IsVerdict, IsWhyUnread, Verifies, VerifiesNamed, table_files}
 use Rattle.cas_sessions.specs.Inner.Verifying.{AddVerdicts, AreNarrow, AreNarrowIn}
 use Rattle.cas_sessions.proofs.FlushMaking.{quiet_reads}
-use Rattle.cas_sessions.proofs.Explaining.{explains_still, goes_nowhere, keep_files_none}
-use Rattle.cas_sessions.proofs.Filled.{stands_filled}
-use Rattle.cas_sessions.proofs.FlushSteps.{quiet_lasts, quiet_stands, with_disk, with_state}
-use Rattle.cas_sessions.proofs.Lasting.{lasts_as}
+use Rattle.cas_lasting.proofs.Explaining.{explains_still, goes_nowhere, keep_files_none}
+use Rattle.cas_lasting.proofs.Filled.{stands_filled}
+use Rattle.cas_lasting.proofs.FlushSteps.{quiet_lasts, quiet_stands, with_disk, with_state}
+use Rattle.cas_lasting.proofs.Lasting.{lasts_as}
 
 -- ---- narrow files
 

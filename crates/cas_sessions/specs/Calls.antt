@@ -21,8 +21,8 @@ use Rattle.cas_sessions.specs.declared.answer.Answer.{Answer}
 use Rattle.cas_sessions.specs.declared.answer.Answer.TheVariants.{Done, Wrote, Rows}
 use Rattle.cas_sessions.specs.declared.answer.Fault.{Fault}
 use Rattle.cas_sessions.specs.declared.answer.Fault.TheVariants.{Refused, Stopped, Disk, Read, BadBlock, Mem}
-use Rattle.cas_sessions.specs.History.{History, Does}
-use Rattle.cas_sessions.specs.Nodes.{State, OrWant}
+use Rattle.cas_lasting.specs.History.{History, Does}
+use Rattle.cas_lasting.specs.Nodes.{State, OrWant}
 use Rattle.cql_lex.specs.declared.token.Token.{Token}
 use Rattle.cql_parse.specs.Means.{Means}
 use Rattle.cas_words.specs.declared.words.ClockKind.{ClockKind}

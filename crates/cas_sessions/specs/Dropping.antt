@@ -12,8 +12,8 @@ use Rattle.cas_journal.specs.Reach.{HasNoPlace, reach_dropped}
 use Rattle.cas_journal.specs.Stores.{Told}
 use Rattle.cas_sessions.specs.declared.answer.Fault.{Fault}
 use Rattle.cas_sessions.specs.declared.answer.Fault.TheVariants.{Refused, Stopped, Disk as Failed, Read, BadBlock, Mem}
-use Rattle.cas_sessions.specs.History.{History, DiskState, SameFiles}
-use Rattle.cas_sessions.specs.Nodes.{State, LastsFor}
+use Rattle.cas_lasting.specs.History.{History, DiskState, SameFiles}
+use Rattle.cas_lasting.specs.Nodes.{State, LastsFor}
 
 -- The manifest tells of so many segments that they are dropped, one entry each. Table files, and what is known of them, are as they were.
 pub record Drops (count : ℕ) (d e : DiskState) : Type 0 where

@@ -1,28 +1,19 @@
 -- A flush of one shard, which no line tells: a memtable that has grown over its limit is flushed.
 -- Cassandra documentation, "Storage engine: memtables"; the limit in bytes of records is own.
-use Rattle.std.specs.Prelude.{◌≡◌, ℕ, ◌+◌, ◌≤◌, ◌==◌, ◌&&◌, nat_lt, if◌then◌else◌, Bool, true, false, Option, None, Some, Result, Ok, Err}
+use Rattle.std.specs.Prelude.{◌≡◌, ℕ, ◌+◌, ◌≤◌, nat_lt, Bool, true, false, Option, None, Some, Result, Ok, Err}
 use Rattle.std.specs.Prelude.{IfOk, IfSome, List, [], ◌∷◌, length, slice_get}
 use Rattle.cas_types.specs.declared.schema.TableSchema.{TableSchema}
-use Rattle.cas_bounds.specs.ClusteringOrder.{clustering_order}
 use Rattle.cas_atoms.specs.declared.atom.Mutation.{Mutation}
 use Rattle.cas_changes.specs.declared.entry.Change.{Change}
-use Rattle.cas_shard.specs.Shards.{ShardHistory, all_entries}
-use Rattle.cas_shard.specs.Stands.{mutations_of}
+use Rattle.cas_shard.specs.Shards.{ShardHistory}
 use Rattle.cas_sessions.specs.declared.answer.Fault.{Fault}
 use Rattle.cas_sessions.specs.declared.answer.Fault.TheVariants.{Mem, Stopped}
-use Rattle.cas_sessions.specs.Flushes.{AreInFiles, AscendTo, Grows, SaySomething, WhyNoFurther, changes_by, numbers_in, reach_by}
-use Rattle.cas_sessions.specs.History.{History, DiskState, shard_at}
+use Rattle.cas_lasting.specs.Flushed.{AscendTo, SaySomething, changes_by, numbers_in}
+use Rattle.cas_sessions.specs.Flushes.{WhyNoFurther}
+use Rattle.cas_lasting.specs.History.{History, DiskState, shard_at}
+use Rattle.cas_lasting.specs.Flushed.{FlushedOne, rest_with, filled_with}
 
 -- ---- one shard
-
--- A table was flushed in a shard, with this change, if there was anything: between how the disk stood and stands.
-pub record FlushedOne (t : TableSchema) (n : ℕ) (q : ShardHistory) (c : Option Change) (d e : DiskState) : Type 0 where
-  pub files : Grows t.number n q c (d.files n t.number) (e.files n t.number)
-  pub others : (k table : ℕ) → ((k ≡ n) × (table ≡ t.number) → ⊥) → e.files k table ≡ d.files k table
-  pub all : AreInFiles (clustering_order t.columns) (e.files n t.number) (mutations_of t.number (all_entries q))
-  pub reach : e.reach ≡ reach_by d.reach c
-  pub live : e.live ≡ d.live + length (numbers_in c)
-  pub stopped : e.stopped ≡ false
 
 -- it wasn't: no file is another
 pub record NotFlushed (t : TableSchema) (n : ℕ) (q : ShardHistory) (ws : List Mutation) (d e : DiskState) (f : Fault) : Type 0 where
@@ -51,16 +42,6 @@ abbrev pub SaysNone : Result (Option ℕ) Fault → Option Change → List Mutat
 SaysNone (Ok told) None ws = SaySomething ws → ⊥
 SaysNone (Ok told) (Some c) ws = Unit {0}
 SaysNone (Err f) c ws = Unit {0}
-
--- what stands in no table file, where this change was told of the table in the shard, if there is one
-abbrev pub rest_with : ℕ → ℕ → Option Change → (ℕ → ℕ → List Mutation) → ℕ → ℕ → List Mutation
-rest_with table n None before = before
-rest_with table n (Some c) before = λ k j. if (k == n) && (j == table) then [] else before k j
-
--- the bytes of the memtables that are written to, where the table got a new one in the shard, or didn't
-abbrev pub filled_with : ℕ → ℕ → Bool → (ℕ → ℕ → ℕ) → ℕ → ℕ → ℕ
-filled_with table n false before = before
-filled_with table n true before = λ k j. if (k == n) && (j == table) then 0 else before k j
 
 -- it got one, whatever failed behind; only where memory ran out it may not have
 abbrev pub IsBegun : Result (Option ℕ) Fault → Bool → Type 0

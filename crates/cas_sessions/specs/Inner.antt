@@ -1,5 +1,3 @@
-pub mod Sound
-pub mod Definitions
 pub mod Faults
 pub mod Texts
 pub mod Flushing

@@ -1,17 +1,7 @@
-pub mod History
-pub mod Explained
-pub mod Entered
-pub mod Nodes
-pub mod Starts
-pub mod Numbering
-pub mod Listing
-pub mod Next
 pub mod Calls
-pub mod TooMuch
 pub mod Flushes
 pub mod Filling
 pub mod Dropping
-pub mod Status
 pub mod Verifying
 pub mod Laws
 pub mod Inner

@@ -19,7 +19,7 @@ use Rattle.cas_terms.specs.Columns.{table_named}
 use Rattle.cql_parse.specs.declared.syntax.TableName.{TableName}
 use Rattle.cas_sessions.specs.declared.answer.Fault.{Fault}
 use Rattle.cas_sessions.specs.declared.answer.Fault.TheVariants.{Refused, Read, Mem}
-use Rattle.cas_sessions.specs.History.{History}
+use Rattle.cas_lasting.specs.History.{History}
 
 -- ---- a file
 

@@ -6,13 +6,13 @@ ghost use Rattle.cas_changes.specs.declared.entry.Entry.TheVariants.{Schema, Add
 ghost use Rattle.cas_journal.specs.Stores.{SameTables};
 ghost use Rattle.define_laws.specs.Entries.{IsThere};
 ghost use Rattle.cas_bind.specs.declared.bound.Bound.TheVariants as bounds;
-ghost use Rattle.cas_sessions.specs.History.{Changes};
-ghost use Rattle.cas_sessions.specs.Inner.Definitions.{MayBeTold};
+ghost use Rattle.cas_lasting.specs.History.{Changes};
+ghost use Rattle.cas_lasting.specs.Inner.Definitions.{MayBeTold};
 ghost use Rattle.cas_sessions.specs.Inner.Faults.{IsOther};
 ghost use Rattle.cas_sessions.specs.Calls.{IsTrueOf, reply_of};
-ghost use Rattle.cas_sessions.specs.Listing.{KeepsListing};
-ghost use Rattle.cas_sessions.specs.Numbering.{NumbersOn};
-ghost use Rattle.cas_sessions.specs.Nodes.{Moves, CountsOn, KeepsAll};
+ghost use Rattle.cas_lasting.specs.Listing.{KeepsListing};
+ghost use Rattle.cas_lasting.specs.Numbering.{NumbersOn};
+ghost use Rattle.cas_lasting.specs.Nodes.{Moves, CountsOn, KeepsAll};
 
 use crate::answer::{Answer, Fault};
 use crate::node::{Node, Session, Stored};

@@ -5,8 +5,8 @@ ghost use Rattle.cas_disk.specs.Disk.{During};
 ghost use Rattle.cas_journal.specs.Stores.{SameTables};
 ghost use Rattle.cas_sessions.specs.Calls.{IsTrueOf};
 ghost use Rattle.cas_sessions.specs.Dropping.{DropsSegments, NoneMayGo};
-ghost use Rattle.cas_sessions.specs.Nodes.{KeepsAll, Moves};
-ghost use Rattle.cas_sessions.specs.Numbering.{NumbersOn};
+ghost use Rattle.cas_lasting.specs.Nodes.{KeepsAll, Moves};
+ghost use Rattle.cas_lasting.specs.Numbering.{NumbersOn};
 
 use crate::answer::Fault;
 use crate::node::{Node, Session, Stored};

@@ -17,10 +17,7 @@ mod verifying;
 mod writing;
 
 pub use answer::{Answer, Fault, reply_of};
-pub use laws::{
-    files_are_whole, full_no_more, left_explains, little_is_never_too_much, nothing_is_too_much,
-    sessions_share,
-};
+pub use laws::{files_are_whole, full_no_more};
 pub use node::{Closed, Node, Pass, SESSION_LIMIT, Session, SessionFault, Stored};
 pub use opened::{Opened, start};
 pub use statements::Ask;

@@ -8,10 +8,10 @@ ghost use Rattle.cas_history.specs.Items.{listed};
 ghost use Rattle.cas_history.specs.Last.{Idle};
 ghost use Rattle.cas_recovery.specs.Restored.{HaveMemory, HaveNoMore, MayBeRead};
 ghost use Rattle.cas_refs.specs.Counts.{at};
-ghost use Rattle.cas_sessions.specs.Entered.{IsLeft};
-ghost use Rattle.cas_sessions.specs.History.{History};
-ghost use Rattle.cas_sessions.specs.Nodes.{State, StandsFor, LastsFor};
-ghost use Rattle.cas_sessions.specs.Inner.Sound.{AreSeated, IsSound, read_props, sound_props};
+ghost use Rattle.cas_lasting.specs.Entered.{IsLeft};
+ghost use Rattle.cas_lasting.specs.History.{History};
+ghost use Rattle.cas_lasting.specs.Nodes.{State, StandsFor, LastsFor};
+ghost use Rattle.cas_lasting.specs.Inner.Sound.{AreSeated, IsSound, read_props, sound_props};
 
 use cas_bind::Limits;
 use cas_disk::Folder;

@@ -19,8 +19,8 @@ ghost use Rattle.cas_shard.specs.declared.entry.ShardOpening.{ShardOpening};
 ghost use Rattle.cas_recovery.specs.Recovered.{IsUnreadable};
 ghost use Rattle.cas_recovery.specs.Restored.{HaveMemory, HaveNoMore, MayBeRead};
 ghost use Rattle.cas_refs.specs.Counts.{at};
-ghost use Rattle.cas_sessions.specs.Starts.{BeginsAs, IsInMemory, IsOpenedAs, IsStarted};
-ghost use Rattle.cas_sessions.specs.Inner.Sound.{read_props, sound_props};
+ghost use Rattle.cas_lasting.specs.Starts.{BeginsAs, IsInMemory, IsOpenedAs, IsStarted};
+ghost use Rattle.cas_lasting.specs.Inner.Sound.{read_props, sound_props};
 
 use crate::node::{Closed, Node, Stored};
 use crate::seats::{Seats, make_seats};

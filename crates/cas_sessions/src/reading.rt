@@ -7,11 +7,11 @@ ghost use Rattle.cas_bind.specs.Tables.{IsWithin};
 ghost use Rattle.cas_bind.specs.declared.bound.Bound.TheVariants as bounds;
 ghost use Rattle.cas_journal.specs.Stores.{SameTables};
 ghost use Rattle.cas_shard.specs.Shards.{IsTime};
-ghost use Rattle.cas_sessions.specs.History.{ReadsAt};
+ghost use Rattle.cas_lasting.specs.History.{ReadsAt};
 ghost use Rattle.cas_sessions.specs.Calls.{IsTrueOf, reply_of};
-ghost use Rattle.cas_sessions.specs.Listing.{KeepsListing};
-ghost use Rattle.cas_sessions.specs.Numbering.{NumbersOn};
-ghost use Rattle.cas_sessions.specs.Nodes.{Moves, State};
+ghost use Rattle.cas_lasting.specs.Listing.{KeepsListing};
+ghost use Rattle.cas_lasting.specs.Numbering.{NumbersOn};
+ghost use Rattle.cas_lasting.specs.Nodes.{Moves, State};
 ghost use Rattle.cas_sessions.specs.Inner.Faults.{IsOther, fault_of_table};
 
 use crate::answer::{Answer, Fault};

@@ -10,11 +10,11 @@ ghost use Rattle.cas_journal.specs.Stores.{SameTables};
 ghost use Rattle.cas_shard.specs.Shards.{IsTime};
 ghost use Rattle.cas_words.specs.declared.words.ClockKind.TheVariants as clocks;
 ghost use Rattle.cas_sessions.specs.Calls.{IsSpelled, IsTrueOf, Performs, StandsAt, TellsPlace, reply_of};
-ghost use Rattle.cas_sessions.specs.History.{Does, IsReading, clamped};
-ghost use Rattle.cas_sessions.specs.Listing.{KeepsListing};
-ghost use Rattle.cas_sessions.specs.Numbering.{NumbersOn};
-ghost use Rattle.cas_sessions.specs.Nodes.{CountsOn, IsFew, KeepsAll, Moves, OrWant};
-ghost use Rattle.cas_sessions.specs.Inner.Definitions.{IsTold};
+ghost use Rattle.cas_lasting.specs.History.{Does, IsReading, clamped};
+ghost use Rattle.cas_lasting.specs.Listing.{KeepsListing};
+ghost use Rattle.cas_lasting.specs.Numbering.{NumbersOn};
+ghost use Rattle.cas_lasting.specs.Nodes.{CountsOn, IsFew, KeepsAll, Moves, OrWant};
+ghost use Rattle.cas_lasting.specs.Inner.Definitions.{IsTold};
 
 use crate::answer::{Answer, Fault};
 use crate::node::{Node, Session, Stored};

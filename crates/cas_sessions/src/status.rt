@@ -3,9 +3,9 @@
 ghost use Rattle.std.specs.Prelude.{◌≡◌, ◌++◌, ℕ, ℤ, map, IfOk, OnOk};
 ghost use Rattle.cas_render.specs.Listing.{in_shards};
 ghost use Rattle.cas_view.specs.Views.{files_of};
-ghost use Rattle.cas_sessions.specs.History.{History};
-ghost use Rattle.cas_sessions.specs.Nodes.{StandsFor, files_in};
-ghost use Rattle.cas_sessions.specs.Status.{file_numbers, status};
+ghost use Rattle.cas_lasting.specs.History.{History};
+ghost use Rattle.cas_lasting.specs.Nodes.{StandsFor, files_in};
+ghost use Rattle.cas_lasting.specs.Status.{file_numbers, status};
 
 use crate::node::{Node, Stored};
 use cas_disk::Folder;

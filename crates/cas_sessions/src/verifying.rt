@@ -6,9 +6,9 @@ ghost use Rattle.cas_disk.specs.Disk.{During};
 ghost use Rattle.cas_journal.specs.Stores.{SameTables};
 ghost use Rattle.cas_view.specs.Views.{files_of};
 ghost use Rattle.cas_sessions.specs.Calls.{IsTrueOf};
-ghost use Rattle.cas_sessions.specs.Listing.{KeepsListing};
-ghost use Rattle.cas_sessions.specs.Numbering.{NumbersOn};
-ghost use Rattle.cas_sessions.specs.Nodes.{KeepsAll, Moves, State, files_in};
+ghost use Rattle.cas_lasting.specs.Listing.{KeepsListing};
+ghost use Rattle.cas_lasting.specs.Numbering.{NumbersOn};
+ghost use Rattle.cas_lasting.specs.Nodes.{KeepsAll, Moves, State, files_in};
 ghost use Rattle.cas_sessions.specs.Verifying.{AreVerdicts, EndsVerified, IsFoundSo, IsWhyUnread, Verifies, table_files};
 ghost use Rattle.cas_sessions.specs.Inner.Verifying.{AddVerdicts, AreNarrow, AreNarrowIn};
 

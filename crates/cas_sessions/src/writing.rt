@@ -7,11 +7,11 @@ ghost use Rattle.cas_bind.specs.Tables.{IsWithin};
 ghost use Rattle.cas_bind.specs.declared.bound.Bound.TheVariants as bounds;
 ghost use Rattle.cas_journal.specs.Stores.{SameTables};
 ghost use Rattle.cas_shard.specs.Shards.{IsTime};
-ghost use Rattle.cas_sessions.specs.History.{WritesAt};
+ghost use Rattle.cas_lasting.specs.History.{WritesAt};
 ghost use Rattle.cas_sessions.specs.Calls.{IsTrueOf, TellsPlace, reply_of};
-ghost use Rattle.cas_sessions.specs.Listing.{KeepsListing};
-ghost use Rattle.cas_sessions.specs.Numbering.{NumbersOn};
-ghost use Rattle.cas_sessions.specs.Nodes.{Moves, IsFew, CountsOn, KeepsAll};
+ghost use Rattle.cas_lasting.specs.Listing.{KeepsListing};
+ghost use Rattle.cas_lasting.specs.Numbering.{NumbersOn};
+ghost use Rattle.cas_lasting.specs.Nodes.{Moves, IsFew, CountsOn, KeepsAll};
 ghost use Rattle.cas_sessions.specs.Inner.Faults.{fault_for};
 
 use crate::answer::{Answer, Fault};

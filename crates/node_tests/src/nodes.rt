@@ -2,7 +2,7 @@
 //! flushes, and the folder that is handed back is opened again.
 
 ghost use Rattle.std.specs.Prelude.{◌≡◌, ◌≤◌, pos};
-ghost use Rattle.cas_sessions.specs.Nodes.{CountsOn};
+ghost use Rattle.cas_lasting.specs.Nodes.{CountsOn};
 
 use cas_bind::Limits;
 use cas_disk::{FaultPlan, MemFolder};

@@ -29,12 +29,12 @@ use Rattle.cas_sessions.specs.declared.answer.Fault.{Fault}
 use Rattle.cas_sessions.specs.declared.answer.Answer.{Answer}
 use Rattle.cas_sessions.specs.declared.answer.Answer.TheVariants.{Wrote}
 use Rattle.cas_sessions.specs.Filling.{is_full}
-use Rattle.cas_sessions.specs.History.{Does, History}
-use Rattle.cas_sessions.specs.Nodes.{State, StandsFor, LastsFor, LastsForOne, GoesOnTo, files_in}
-use Rattle.cas_sessions.specs.Next.{IsExplained}
-use Rattle.cas_sessions.specs.Starts.{AreExplained, Begins, IsInMemory}
-use Rattle.cas_sessions.specs.Entered.{AreEntered, IsLeft}
-use Rattle.cas_sessions.specs.Listing.{SameListing}
+use Rattle.cas_lasting.specs.History.{Does, History}
+use Rattle.cas_lasting.specs.Nodes.{State, StandsFor, LastsFor, LastsForOne, GoesOnTo, files_in}
+use Rattle.cas_lasting.specs.Next.{IsExplained}
+use Rattle.cas_lasting.specs.Starts.{AreExplained, Begins, IsInMemory}
+use Rattle.cas_lasting.specs.Entered.{AreEntered, IsLeft}
+use Rattle.cas_lasting.specs.Listing.{SameListing}
 use Rattle.cas_node.specs.Lines.{IsCarriedOut, LeavesRoom, NoneFlushes, SettlesAndDrops, Tells, replied}
 use Rattle.cas_node.specs.Ran.{RanFrom, with_faults}
 use Rattle.cas_recovery.specs.Restored.{IsTold}

@@ -14,7 +14,7 @@ use Rattle.cas_node.specs.declared.cause.Cause.TheVariants as cause
 use Rattle.cas_node.specs.declared.script.PrintFault.{PrintFault}
 use Rattle.cas_node.specs.declared.upshot.Upshot.{Upshot}
 use Rattle.cas_node.specs.declared.script.PrintFault.TheVariants as print
-use Rattle.cas_sessions.specs.History.{History, tells_want}
+use Rattle.cas_lasting.specs.History.{History, tells_want}
 use Rattle.cas_node.specs.Lines.{Answers}
 use Rattle.cas_node.specs.Ran.{upshot_cause, worse}
 

@@ -1,16 +1,14 @@
 -- What is answered that the room didn't take, or of which nothing is shown (own).
-use Rattle.std.specs.Prelude.{None, Err}
+use Rattle.std.specs.Prelude.{None}
 use Rattle.cas_blocks.specs.declared.fault.TableFault.{TableFault}
 use Rattle.cas_blocks.specs.declared.fault.TableFault.TheVariants as table_fault
 use Rattle.cas_effects.specs.declared.refusal.TheConstants.{TOO_LARGE, TOO_MANY}
 use Rattle.cas_journal.specs.declared.fault.JournalFault.{JournalFault}
 use Rattle.cas_journal.specs.declared.fault.JournalFault.TheVariants.{TooLarge, TooMany, Stopped, Failed, Mem}
-use Rattle.cas_render.specs.declared.reply.Reply.{Reply}
 use Rattle.cas_sessions.specs.declared.answer.Answer.{Answer}
 use Rattle.cas_sessions.specs.declared.answer.Answer.TheVariants.{Wrote}
 use Rattle.cas_sessions.specs.declared.answer.Fault.{Fault}
 use Rattle.cas_sessions.specs.declared.answer.Fault.TheVariants as fault_of
-use Rattle.cas_sessions.specs.Calls.{reply_of}
 
 -- what a write or a definition is answered that the room didn't take
 abbrev pub fault_for : JournalFault → Fault
@@ -19,10 +17,6 @@ fault_for (TooMany what limit) = fault_of.Refused TOO_MANY
 fault_for (Stopped first) = fault_of.Stopped first
 fault_for Failed = fault_of.Disk None
 fault_for Mem = fault_of.Mem
-
--- and what is printed then
-abbrev pub reply_for : JournalFault → Reply
-reply_for f = reply_of (Err (fault_for f))
 
 -- what a SELECT is answered of which nothing is shown
 abbrev pub fault_of_table : TableFault → Fault

@@ -1,6 +1,6 @@
 use Rattle.std.proofs.Common.{◌∙◌, pos, sym, ap, subst}
 use Rattle.std.specs.Prelude.{IsSome}
-use Rattle.cas_sessions.specs.Listing.{SameUpTo}
+use Rattle.cas_lasting.specs.Listing.{SameUpTo}
 use Rattle.cas_node.specs.Ran.{with_faults}
 use Rattle.cas_node.proofs.RunLemmas.{begins_as, left_by, opened_as, pass_by, serves_as, write_told}
 use Rattle.cas_node.proofs.Staying.{same_folder, tables_as, up_to_as}

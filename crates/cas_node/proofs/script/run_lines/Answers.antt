@@ -2,8 +2,8 @@ use Rattle.std.proofs.Common.{rules, arith, subst, sym, ◌∙◌}
 use Rattle.cas_disk.proofs.Moments.{no_call}
 use Rattle.cas_node.specs.Inner.Turns.{IsToldSo}
 use Rattle.cas_node.proofs.SessionLemmas.{all_so_far_none, all_so_far_more, all_ran_cut, all_ran_whole, lists_more, none_left, tells_on, worse_told}
-use Rattle.cas_sessions.proofs.Listing.{up_to_twice}
-use Rattle.cas_sessions.specs.Listing.{SameUpTo}
+use Rattle.cas_lasting.proofs.Listing.{up_to_twice}
+use Rattle.cas_lasting.specs.Listing.{SameUpTo}
 use Rattle.cas_node.proofs.script.run_lines.Goals as goal
 
 pub loop-rest-init : goal.loop-rest-init

@@ -1,7 +1,7 @@
 use Rattle.std.proofs.Common.{◌≤◌, ◌<◌, ◌+◌, ◌^◌, length, map}
 use Rattle.cas_disk.specs.Disk.{During}
 use Rattle.cas_history.specs.Items.{listed, log_list}
-use Rattle.cas_sessions.specs.Listing.{SameUpTo}
+use Rattle.cas_lasting.specs.Listing.{SameUpTo}
 use Rattle.cas_node.specs.Inner.Turns.{IsToldSo}
 use Rattle.cas_node.proofs.SessionLemmas.{AllSoFar}
 use Rattle.cas_node.proofs.script.run_lines.Given as goal

@@ -1,7 +1,7 @@
 use Rattle.std.proofs.Common.{◌∙◌, ℕ, refl, sym, ap, subst}
 use Rattle.cas_history.specs.Items.{listed, log_list}
-use Rattle.cas_sessions.specs.Starts.{IsInMemory}
-use Rattle.cas_sessions.proofs.Serving.{begins}
+use Rattle.cas_lasting.specs.Starts.{IsInMemory}
+use Rattle.cas_lasting.proofs.Serving.{begins}
 use Rattle.cas_sessions.proofs.opened.assembled.Goals as goal
 
 pub returns-clause-begins : goal.returns-clause-begins

@@ -3,8 +3,8 @@ use Rattle.cas_disk.specs.Disk.{During, Same}
 use Rattle.cas_opening.specs.Opening.{MayBeMadeNew, MayBeOpened}
 use Rattle.cas_changes.specs.Saying.{said_by}
 use Rattle.cas_recovery.specs.Openings.{unflushed_of}
-use Rattle.cas_sessions.proofs.Remembering.{have_memory, some_of_all}
-use Rattle.cas_sessions.proofs.Serving.{started}
+use Rattle.cas_lasting.proofs.Remembering.{have_memory, some_of_all}
+use Rattle.cas_lasting.proofs.Serving.{started}
 use Rattle.cas_sessions.proofs.opened.start.Goals as goal
 
 pub returns-in-Ok-new-clause-started : goal.returns-in-Ok-new-clause-started

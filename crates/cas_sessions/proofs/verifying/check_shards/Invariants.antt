@@ -1,5 +1,5 @@
 use Rattle.std.proofs.Common.{◌≤◌}
-use Rattle.cas_sessions.specs.Nodes.{files_in}
+use Rattle.cas_lasting.specs.Nodes.{files_in}
 use Rattle.cas_sessions.specs.Verifying.{AreVerdicts, table_files}
 use Rattle.cas_sessions.proofs.verifying.check_shards.Given as goal
 

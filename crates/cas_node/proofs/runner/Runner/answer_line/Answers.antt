@@ -1,6 +1,6 @@
 use Rattle.cas_disk.proofs.Moments.{no_call}
-use Rattle.cas_sessions.specs.Listing.{SameUpTo}
-use Rattle.cas_sessions.proofs.Listing.{lists_nothing}
+use Rattle.cas_lasting.specs.Listing.{SameUpTo}
+use Rattle.cas_lasting.proofs.Listing.{lists_nothing}
 use Rattle.cas_node.proofs.runner.Runner.answer_line.Goals as goal
 
 pub returns-in-Err-clause-tables : goal.returns-in-Err-clause-tables

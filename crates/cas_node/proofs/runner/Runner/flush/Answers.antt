@@ -1,6 +1,6 @@
 use Rattle.std.proofs.Common.{Ok, Err, Some, ap, ◌∙◌, refl}
 use Rattle.cas_render.specs.declared.reply.Reply.TheVariants as reply
-use Rattle.cas_sessions.proofs.Listing.{up_to_twice}
+use Rattle.cas_lasting.proofs.Listing.{up_to_twice}
 use Rattle.cas_node.specs.Lines.{lists_any}
 use Rattle.cas_node.proofs.Answered.{flushed_alone, flushed_and_dropped}
 use Rattle.cas_node.proofs.runner.Runner.flush.Goals as goal

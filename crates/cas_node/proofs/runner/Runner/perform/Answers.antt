@@ -1,7 +1,7 @@
 use Rattle.std.proofs.Common.{arith}
 use Rattle.std.proofs.lemmas.Int.{ints}
 use Rattle.cas_sessions.proofs.Answering.{stands_at}
-use Rattle.cas_sessions.proofs.Listing.{up_to_same, up_to_twice}
+use Rattle.cas_lasting.proofs.Listing.{up_to_same, up_to_twice}
 use Rattle.cas_node.proofs.Carrying.{carried_listing, carried_out}
 use Rattle.cas_node.proofs.SessionLemmas.{tells_on}
 use Rattle.cas_node.proofs.runner.Runner.perform.Goals as goal

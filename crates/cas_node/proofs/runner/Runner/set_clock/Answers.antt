@@ -2,8 +2,8 @@ use Rattle.std.proofs.Common.{arith}
 use Rattle.std.proofs.lemmas.Int.{ints}
 use Rattle.cas_node.proofs.Answered.{refuses_clock, sets_clock}
 use Rattle.cas_disk.proofs.Moments.{no_call}
-use Rattle.cas_sessions.specs.Listing.{SameUpTo}
-use Rattle.cas_sessions.proofs.Listing.{lists_nothing}
+use Rattle.cas_lasting.specs.Listing.{SameUpTo}
+use Rattle.cas_lasting.proofs.Listing.{lists_nothing}
 use Rattle.cas_node.proofs.runner.Runner.set_clock.Goals as goal
 
 pub returns-in-Manual-clause-sets : goal.returns-in-Manual-clause-sets

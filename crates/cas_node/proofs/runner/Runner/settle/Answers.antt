@@ -1,7 +1,7 @@
 use Rattle.std.proofs.Common.{◌<◌, ◌∙◌, length, map, ap, arith, subst}
 use Rattle.std.specs.Prelude.{◌||◌, IfSome}
 use Rattle.cas_history.specs.Items.{listed, log_list}
-use Rattle.cas_sessions.proofs.Listing.{up_to_twice}
+use Rattle.cas_lasting.proofs.Listing.{up_to_twice}
 use Rattle.cas_node.proofs.Carrying.{settled_at, settles}
 use Rattle.cas_node.proofs.runner.Runner.settle.Goals as goal
 

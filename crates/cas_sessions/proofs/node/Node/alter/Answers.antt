@@ -7,20 +7,20 @@ use Rattle.cas_changes.specs.declared.entry.Entry.TheVariants.{AddColumns}
 use Rattle.cas_history.specs.Items.{listed, log_list}
 use Rattle.cas_shard.specs.Stands.{Stands}
 use Rattle.cas_recovery.proofs.Places.{get_within}
-use Rattle.cas_sessions.proofs.Tables.{adds_no_keys, altered_by, has_spelling, is_short, mapped, moves_done, moves_not, moves_nowhere, under_altered}
+use Rattle.cas_lasting.proofs.Tables.{adds_no_keys, altered_by, has_spelling, is_short, mapped, moves_done, moves_not, moves_nowhere, under_altered}
 use Rattle.cas_sessions.specs.Calls.{reply_of}
 use Rattle.cas_sessions.specs.declared.answer.Fault.{Fault}
 use Rattle.cas_recovery.specs.Restored.{HaveMemory, HaveNoMore, MayBeRead, RememberAll}
-use Rattle.cas_sessions.specs.Nodes.{RememberJust}
-use Rattle.cas_sessions.proofs.Filing.{readable_altered, unmade_altered}
-use Rattle.cas_sessions.proofs.Remembering.{all_altered, memory_altered, remember_altered}
-use Rattle.cas_sessions.proofs.Sounding.{sound_told}
-use Rattle.cas_sessions.proofs.Telling.{true_of_end}
-use Rattle.cas_sessions.proofs.Crashing.{amid_defined, amid_nothing, fits_told}
+use Rattle.cas_lasting.specs.Nodes.{RememberJust}
+use Rattle.cas_lasting.proofs.Filing.{readable_altered, unmade_altered}
+use Rattle.cas_lasting.proofs.Remembering.{all_altered, memory_altered, remember_altered}
+use Rattle.cas_lasting.proofs.Sounding.{sound_told}
+use Rattle.cas_sessions.proofs.Telling.{printed, true_of_end}
+use Rattle.cas_lasting.proofs.Crashing.{amid_defined, amid_nothing, fits_told}
 use Rattle.cas_disk.proofs.Moments.{no_call}
 use Rattle.cas_journal.specs.Stores.{SameTables}
-use Rattle.cas_sessions.proofs.Listing.{going_on, lists_nothing, lists_told, lists_untold}
-use Rattle.cas_sessions.proofs.Going.{numbers_none}
+use Rattle.cas_lasting.proofs.Listing.{going_on, lists_nothing, lists_told, lists_untold}
+use Rattle.cas_lasting.proofs.Going.{numbers_none}
 use Rattle.cas_sessions.proofs.node.Node.alter.Goals as goal
 
 pub returns-in-Err-clause-changes : goal.returns-in-Err-clause-changes
@@ -53,7 +53,7 @@ returns-in-Err-define-clause-changes g c = λ clock.
       last_file = ap (λ q. q.last) c.define.ensures.numbers;
       live = refl;
     })
-    c.define.ensures.count (reply_of (Err c.fault_for.result)) c.in-Err-define.fault c.define.ensures.tables tt (ap (λ (x : Fault). reply_of (Err x)) c.fault_for.ensures) refl short c.in-Err-define.ensures.outcome c.in-Err-define.ensures.reach
+    c.define.ensures.count (reply_of (Err c.fault_for.result)) c.in-Err-define.fault c.define.ensures.tables tt (ap (λ (x : Fault). reply_of (Err x)) c.fault_for.ensures ∙ printed c.in-Err-define.fault) refl short c.in-Err-define.ensures.outcome c.in-Err-define.ensures.reach
     (λ what most e. c.in-Err-define.ensures.full what most (ap Err e)) c.in-Err-define.ensures.kept refl
 
 pub index_mut-requires : goal.index_mut-requires

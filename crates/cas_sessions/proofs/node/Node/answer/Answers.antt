@@ -2,7 +2,7 @@ use Rattle.std.proofs.Common.{refl, ap, sym, ◌∙◌, arith}
 use Rattle.std.proofs.lemmas.Int.{ints}
 use Rattle.cas_bind.specs.Meaning.{meaning}
 use Rattle.cas_sessions.proofs.Answering.{bound_told, does_bound, stands_as}
-use Rattle.cas_sessions.proofs.Going.{numbers_none}
+use Rattle.cas_lasting.proofs.Going.{numbers_none}
 use Rattle.cas_sessions.proofs.node.Node.answer.Goals as goal
 
 pub perform-requires-clause-told : goal.perform-requires-clause-told

@@ -1,10 +1,10 @@
 use Rattle.std.proofs.Common.{refl, arith}
-use Rattle.cas_sessions.proofs.Crashing.{amid_nothing}
+use Rattle.cas_lasting.proofs.Crashing.{amid_nothing}
 use Rattle.cas_sessions.proofs.Performing.{found_spelled, performs_nothing, performs_statement, tells_nothing}
 use Rattle.cas_disk.proofs.Moments.{no_call}
 use Rattle.cas_journal.specs.Stores.{SameTables}
-use Rattle.cas_sessions.proofs.Listing.{lists_nothing}
-use Rattle.cas_sessions.proofs.Going.{numbers_none}
+use Rattle.cas_lasting.proofs.Listing.{lists_nothing}
+use Rattle.cas_lasting.proofs.Going.{numbers_none}
 use Rattle.cas_sessions.proofs.node.Node.answer_text.Goals as goal
 
 pub answer-requires-clause-spelled : goal.answer-requires-clause-spelled

@@ -1,5 +1,5 @@
 use Rattle.std.proofs.Common.{subst}
-use Rattle.cas_sessions.proofs.Serving.{is_left}
+use Rattle.cas_lasting.proofs.Serving.{is_left}
 use Rattle.cas_sessions.proofs.node.Node.close.Goals as goal
 
 pub returns-clause-left : goal.returns-clause-left

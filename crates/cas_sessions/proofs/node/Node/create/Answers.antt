@@ -5,22 +5,22 @@ use Rattle.cas_bind.specs.declared.bound.Bound.TheVariants as bounds
 use Rattle.cas_changes.specs.declared.entry.Entry.TheVariants.{Schema}
 use Rattle.cas_history.specs.Items.{listed, log_list}
 use Rattle.cas_shard.specs.Stands.{Stands}
-use Rattle.cas_sessions.proofs.Tables.{created, has_spelling, is_short, moves_done, moves_not, moves_reserved, pushed, under_created}
+use Rattle.cas_lasting.proofs.Tables.{created, has_spelling, is_short, moves_done, moves_not, moves_reserved, pushed, under_created}
 use Rattle.cas_sessions.specs.Calls.{reply_of}
 use Rattle.cas_sessions.specs.declared.answer.Fault.{Fault}
 use Rattle.cas_recovery.specs.Restored.{HaveMemory, HaveNoMore, MayBeRead, RememberAll}
-use Rattle.cas_sessions.specs.Nodes.{RememberJust}
-use Rattle.cas_sessions.proofs.Filing.{readable_created, unmade_created}
-use Rattle.cas_sessions.proofs.Remembering.{all_created, memory_created, remember_created}
-use Rattle.cas_sessions.proofs.Sounding.{sound_reserved, sound_told}
-use Rattle.cas_sessions.proofs.Telling.{true_of_end}
-use Rattle.cas_sessions.proofs.Crashing.{amid_defined, amid_nothing, fits_told}
+use Rattle.cas_lasting.specs.Nodes.{RememberJust}
+use Rattle.cas_lasting.proofs.Filing.{readable_created, unmade_created}
+use Rattle.cas_lasting.proofs.Remembering.{all_created, memory_created, remember_created}
+use Rattle.cas_lasting.proofs.Sounding.{sound_reserved, sound_told}
+use Rattle.cas_sessions.proofs.Telling.{printed, true_of_end}
+use Rattle.cas_lasting.proofs.Crashing.{amid_defined, amid_nothing, fits_told}
 use Rattle.cas_disk.proofs.Moments.{no_call}
 use Rattle.cas_journal.specs.Stores.{SameTables}
-use Rattle.cas_sessions.proofs.Listing.{going_on, lists_nothing, lists_told, lists_untold}
-use Rattle.cas_sessions.proofs.Going.{numbers_none}
+use Rattle.cas_lasting.proofs.Listing.{going_on, lists_nothing, lists_told, lists_untold}
+use Rattle.cas_lasting.proofs.Going.{numbers_none}
 use Rattle.std.specs.Prelude.{◌++◌, replicate}
-use Rattle.cas_sessions.proofs.Frontiers.{frontiers_created}
+use Rattle.cas_lasting.proofs.Frontiers.{frontiers_created}
 use Rattle.cas_sessions.proofs.node.Node.create.Goals as goal
 
 pub returns-in-Err-clause-changes : goal.returns-in-Err-clause-changes
@@ -52,7 +52,7 @@ returns-in-Err-define-clause-changes g c = λ clock.
       last_file = ap (λ q. q.last) c.define.ensures.numbers;
       live = refl;
     })
-    c.define.ensures.count (reply_of (Err c.fault_for.result)) c.in-Err-define.fault c.define.ensures.tables tt (ap (λ (x : Fault). reply_of (Err x)) c.fault_for.ensures) c.make_place.ensures.same.0 short c.in-Err-define.ensures.outcome c.in-Err-define.ensures.reach
+    c.define.ensures.count (reply_of (Err c.fault_for.result)) c.in-Err-define.fault c.define.ensures.tables tt (ap (λ (x : Fault). reply_of (Err x)) c.fault_for.ensures ∙ printed c.in-Err-define.fault) c.make_place.ensures.same.0 short c.in-Err-define.ensures.outcome c.in-Err-define.ensures.reach
     (λ what most e. c.in-Err-define.ensures.full what most (ap Err e)) c.in-Err-define.ensures.kept c.make_place.ensures.same.1
 
 pub returns-clause-changes : goal.returns-clause-changes

@@ -1,8 +1,8 @@
 -- Segments that are dropped, by what the room says of them.
 use Rattle.std.proofs.Common.{Err, ap, refl, ◌∙◌}
 use Rattle.cas_history.specs.Items.{listed, log_list}
-use Rattle.cas_sessions.proofs.Crashing.{amid_dropped}
-use Rattle.cas_sessions.proofs.Going.{numbers_none}
+use Rattle.cas_lasting.proofs.Crashing.{amid_dropped}
+use Rattle.cas_lasting.proofs.Going.{numbers_none}
 use Rattle.cas_sessions.proofs.Shrinking.{moves_dropped, moves_dropped_less}
 use Rattle.cas_sessions.proofs.node.Node.drop_segments.Goals as goal
 

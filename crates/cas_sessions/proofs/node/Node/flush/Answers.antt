@@ -3,7 +3,7 @@ use Rattle.std.specs.Prelude.{slice_get}
 use Rattle.std.proofs.lemmas.Option.{slice_get_within}
 use Rattle.cas_terms.specs.Columns.{table_named}
 use Rattle.cas_sessions.proofs.FlushAll.{flushes_all, flushes_some, keeps_all, named_there, true_of_flush}
-use Rattle.cas_sessions.proofs.Going.{numbers_kept, numbers_none}
+use Rattle.cas_lasting.proofs.Going.{numbers_kept, numbers_none}
 use Rattle.cas_sessions.proofs.node.Node.flush.Goals as goal
 
 pub flush_table-requires-clause-within : goal.flush_table-requires-clause-within

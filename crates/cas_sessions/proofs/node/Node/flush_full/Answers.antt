@@ -1,11 +1,11 @@
 use Rattle.std.proofs.Common.{◌≡◌, ◌∙◌, pos, Some, refl, sym, ap, arith}
 use Rattle.std.specs.Prelude.{slice_get}
 use Rattle.std.proofs.lemmas.Option.{slice_get_read}
-use Rattle.cas_sessions.specs.Nodes.{bytes_in}
+use Rattle.cas_lasting.specs.Nodes.{bytes_in}
 use Rattle.cas_sessions.proofs.FlushFull.{full_keeps, settles_full, settles_idle, settles_stopped, true_of_full}
 use Rattle.cas_sessions.proofs.FlushSound.{numbered}
-use Rattle.cas_sessions.proofs.Going.{numbers_kept, numbers_none}
-use Rattle.cas_sessions.proofs.Parts.{there_at}
+use Rattle.cas_lasting.proofs.Going.{numbers_kept, numbers_none}
+use Rattle.cas_lasting.proofs.Parts.{there_at}
 use Rattle.cas_sessions.proofs.node.Node.flush_full.Goals as goal
 
 pub returns-then-bytes-self-clause-settles : goal.returns-then-bytes-self-clause-settles

@@ -3,17 +3,17 @@ use Rattle.std.specs.Prelude.{IfNone, slice_get}
 use Rattle.cas_bounds.specs.ClusteringOrder.{clustering_order}
 use Rattle.cas_memtable.specs.Kept.{HoldJust}
 use Rattle.cas_shard.specs.Flushing.{frozen_at, memtables_at}
-use Rattle.cas_sessions.specs.Filling.{filled_with}
+use Rattle.cas_lasting.specs.Flushed.{filled_with}
 use Rattle.cas_sessions.specs.Inner.Flushing.{HoldsNothing}
-use Rattle.cas_sessions.specs.Nodes.{AreFilled}
-use Rattle.cas_sessions.proofs.FlushFiles.{holds_nothing, no_frozen}
+use Rattle.cas_lasting.specs.Nodes.{AreFilled}
+use Rattle.cas_lasting.proofs.FlushFiles.{holds_nothing, no_frozen}
 use Rattle.cas_sessions.proofs.FlushMaking.{one_in_memory}
 use Rattle.cas_sessions.proofs.FlushShard.{all_begun, flushes_quietly, flushes_then, not_made_since, quiet_fails, quiet_none_at, quiet_starves}
 use Rattle.cas_sessions.proofs.FlushSound.{numbered}
-use Rattle.cas_sessions.proofs.Parts.{there_at}
-use Rattle.cas_sessions.proofs.FlushSteps.{quiet_just, quiet_remembers, quiet_then}
-use Rattle.cas_sessions.proofs.Listing.{up_to_twice}
-use Rattle.cas_sessions.proofs.TooMuch.{why_full_then}
+use Rattle.cas_lasting.proofs.Parts.{there_at}
+use Rattle.cas_lasting.proofs.FlushSteps.{quiet_just, quiet_remembers, quiet_then}
+use Rattle.cas_lasting.proofs.Listing.{up_to_twice}
+use Rattle.cas_lasting.proofs.TooMuch.{why_full_then}
 use Rattle.cas_sessions.proofs.node.Node.flush_shard.Goals as goal
 
 pub returns-in-Ok-eq0-clause-flushes : goal.returns-in-Ok-eq0-clause-flushes

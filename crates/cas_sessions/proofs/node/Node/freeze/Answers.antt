@@ -7,12 +7,12 @@ use Rattle.cas_disk.proofs.Moments.{no_call}
 use Rattle.cas_shard.specs.Flushing.{bytes_at, frozen_at}
 use Rattle.cas_shard.specs.Stands.{ShardState}
 use Rattle.cas_recovery.proofs.Places.{get_here}
-use Rattle.cas_sessions.specs.Listing.{SameUpTo}
-use Rattle.cas_sessions.proofs.Filled.{filled_new, filled_still}
-use Rattle.cas_sessions.proofs.Filing.{still_readable, still_unmade}
+use Rattle.cas_lasting.specs.Listing.{SameUpTo}
+use Rattle.cas_lasting.proofs.Filled.{filled_new, filled_still}
+use Rattle.cas_lasting.proofs.Filing.{still_readable, still_unmade}
 use Rattle.cas_sessions.proofs.FlushShard.{quiet_one}
 use Rattle.cas_sessions.proofs.FlushSound.{still_remembers}
-use Rattle.cas_sessions.proofs.Sounding.{sound_looked}
+use Rattle.cas_lasting.proofs.Sounding.{sound_looked}
 use Rattle.cas_sessions.proofs.node.Node.freeze.Goals as goal
 
 pub invariant_of-self : goal.invariant_of-self

@@ -8,15 +8,15 @@ use Rattle.cas_changes.specs.declared.entry.Change.{Change}
 use Rattle.cas_history.specs.Items.{changes_list, listed, log_list}
 use Rattle.cas_history.specs.Last.{frontier_of}
 use Rattle.cas_journal.specs.Reach.{IsOver, reach_of}
-use Rattle.cas_sessions.specs.History.{reach_with}
+use Rattle.cas_lasting.specs.History.{reach_with}
 use Rattle.cas_journal.specs.Stores.{appended, committed_all}
 use Rattle.cas_refs.specs.Counts.{at}
 use Rattle.cas_room.specs.Changing.{MayBeTold, StandsAmid}
 use Rattle.cas_room.specs.Keeping.{Keeps}
 use Rattle.cas_room.specs.Rooms.{accepted_in}
 use Rattle.cas_shard.specs.Stands.{ShardState}
-use Rattle.cas_sessions.proofs.Entering.{number_is, place_is, seated}
-use Rattle.cas_sessions.proofs.FlushChange.{change_short}
+use Rattle.cas_lasting.proofs.Entering.{number_is, place_is, seated}
+use Rattle.cas_lasting.proofs.FlushChange.{change_short}
 use Rattle.cas_sessions.proofs.FlushSound.{same_change, seated_again, sound_listed}
 use Rattle.cas_sessions.proofs.node.Node.install_change.Goals as goal
 

@@ -2,8 +2,8 @@ use Rattle.std.proofs.Common.{ap, map, sym, ◌∙◌}
 use Rattle.std.proofs.lemmas.Option.{slice_get_read}
 use Rattle.cas_render.specs.Listing.{listed_of}
 use Rattle.cas_render.proofs.Shards.{one_more}
-use Rattle.cas_sessions.specs.Nodes.{files_in}
-use Rattle.cas_sessions.specs.Status.{file_numbers}
+use Rattle.cas_lasting.specs.Nodes.{files_in}
+use Rattle.cas_lasting.specs.Status.{file_numbers}
 use Rattle.cas_sessions.proofs.Statuses.{listed_there}
 use Rattle.cas_sessions.proofs.node.Node.list_table.Goals as goal
 

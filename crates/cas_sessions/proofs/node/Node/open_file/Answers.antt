@@ -4,7 +4,7 @@ use Rattle.std.proofs.lemmas.Option.{same_Some, slice_get_read}
 use Rattle.cas_disk.specs.Disk.{MayBeAnything}
 use Rattle.cas_disk.specs.declared.name.Name.TheVariants.{Table as table_name}
 use Rattle.cas_sessions.proofs.FlushMaking.{one_more, why_not_loaded_as}
-use Rattle.cas_sessions.proofs.Listing.{up_to_below}
+use Rattle.cas_lasting.proofs.Listing.{up_to_below}
 use Rattle.cas_sessions.proofs.node.Node.open_file.Goals as goal
 
 pub returns-in-Ok-view_of_flush-clause-view : goal.returns-in-Ok-view_of_flush-clause-view

@@ -1,7 +1,7 @@
 use Rattle.std.proofs.Common.{Ok, ap, arith}
 use Rattle.std.proofs.lemmas.Int.{ints}
 use Rattle.cas_sessions.proofs.Answering.{does_alter, does_create, does_read, does_write}
-use Rattle.cas_sessions.proofs.Crashing.{amid_still}
+use Rattle.cas_lasting.proofs.Crashing.{amid_still}
 use Rattle.cas_sessions.proofs.Telling.{other_place}
 use Rattle.cas_sessions.proofs.node.Node.perform.Goals as goal
 

@@ -5,16 +5,17 @@ use Rattle.std.specs.Prelude.{slice_get}
 use Rattle.cas_render.specs.declared.reply.Reply.TheVariants.{Rows}
 use Rattle.cas_shard.specs.Shards.{look_at, raised}
 use Rattle.cas_shard.specs.Stands.{Stands, files_at}
-use Rattle.cas_sessions.proofs.Filing.{query_reads, still_readable, still_unmade}
-use Rattle.cas_sessions.proofs.Remembering.{same_stores}
-use Rattle.cas_sessions.proofs.Moving.{moves_look, rose_by, shows_fault, shows_rows}
-use Rattle.cas_sessions.proofs.Sounding.{sound_looked}
+use Rattle.cas_lasting.proofs.Filing.{query_reads, still_readable, still_unmade}
+use Rattle.cas_lasting.proofs.Remembering.{same_stores}
+use Rattle.cas_lasting.proofs.Moving.{moves_look, shows_rows}
+use Rattle.cas_sessions.proofs.Showing.{rose_by, shows_fault}
+use Rattle.cas_lasting.proofs.Sounding.{sound_looked}
 use Rattle.cas_sessions.specs.Calls.{reply_of}
 use Rattle.cas_sessions.proofs.Telling.{true_of_read}
 use Rattle.cas_disk.proofs.Moments.{no_call}
 use Rattle.cas_journal.specs.Stores.{SameTables}
-use Rattle.cas_sessions.proofs.Listing.{lists_nothing}
-use Rattle.cas_sessions.proofs.Going.{numbers_raised}
+use Rattle.cas_lasting.proofs.Listing.{lists_nothing}
+use Rattle.cas_lasting.proofs.Going.{numbers_raised}
 use Rattle.cas_sessions.proofs.node.Node.read.Goals as goal
 
 pub returns-in-Ok-clause-shows : goal.returns-in-Ok-clause-shows

@@ -1,7 +1,7 @@
 use Rattle.std.proofs.lemmas.Result.{IfOk-weaker}
 use Rattle.cas_render.specs.Listing.{in_shards}
-use Rattle.cas_sessions.specs.Nodes.{files_in}
-use Rattle.cas_sessions.specs.Status.{file_numbers}
+use Rattle.cas_lasting.specs.Nodes.{files_in}
+use Rattle.cas_lasting.specs.Status.{file_numbers}
 use Rattle.cas_sessions.proofs.Statuses.{all_listed, more_listed, status_stands}
 use Rattle.cas_sessions.proofs.node.Node.status.Goals as goal
 

@@ -1,7 +1,7 @@
 use Rattle.std.proofs.Common.{◌≡◌, take, flat_map}
 use Rattle.cas_render.specs.Listing.{in_shards}
-use Rattle.cas_sessions.specs.Nodes.{files_in}
-use Rattle.cas_sessions.specs.Status.{file_numbers}
+use Rattle.cas_lasting.specs.Nodes.{files_in}
+use Rattle.cas_lasting.specs.Status.{file_numbers}
 use Rattle.cas_sessions.proofs.node.Node.status.Given as goal
 
 abbrev pub invariant-loop-table : goal.invariant-loop-table

@@ -4,11 +4,12 @@ use Rattle.std.specs.Prelude.{slice_get}
 use Rattle.std.proofs.lemmas.Option.{same_Some, slice_get_read}
 use Rattle.cas_types.specs.Limits.{IsNarrow}
 use Rattle.cas_shard.specs.Stands.{ShardState}
-use Rattle.cas_sessions.specs.Inner.Flushing.{AddsFile, NewFile}
+use Rattle.cas_lasting.specs.Inner.Going.{AddsFile}
+use Rattle.cas_sessions.specs.Inner.Flushing.{NewFile}
 use Rattle.cas_sessions.proofs.FlushShard.{Swapped, ok_goes, swapped_has, takes_file_at, takes_none_as}
 use Rattle.cas_sessions.proofs.FlushSound.{all_at, numbered, readable_flushed, still_remembers, unmade_flushed}
-use Rattle.cas_sessions.proofs.Parts.{there_at}
-use Rattle.cas_sessions.proofs.Sounding.{sound_looked}
+use Rattle.cas_lasting.proofs.Parts.{there_at}
+use Rattle.cas_lasting.proofs.Sounding.{sound_looked}
 use Rattle.cas_sessions.proofs.node.Node.take_file.Goals as goal
 
 pub install_change-requires-clause-adds : goal.install_change-requires-clause-adds

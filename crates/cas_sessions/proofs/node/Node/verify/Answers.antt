@@ -2,7 +2,7 @@ use Rattle.std.proofs.Common.{◌≡◌, ◌∙◌, List, Ok, Err, Some, length,
 use Rattle.std.specs.Prelude.{slice_get}
 use Rattle.cas_shard.specs.Stands.{ShardState}
 use Rattle.cas_terms.specs.Columns.{table_named}
-use Rattle.cas_sessions.specs.Nodes.{files_in}
+use Rattle.cas_lasting.specs.Nodes.{files_in}
 use Rattle.cas_sessions.specs.Verifying.{AreVerdicts, table_files}
 use Rattle.cas_sessions.specs.Inner.Verifying.{AreNarrowIn}
 use Rattle.cas_sessions.proofs.FlushAll.{named_there}

@@ -11,18 +11,18 @@ use Rattle.cas_journal.specs.Stores.{took, committed_all}
 use Rattle.cas_recovery.proofs.Places.{length_set}
 use Rattle.cas_sessions.specs.Calls.{reply_of}
 use Rattle.cas_sessions.specs.declared.answer.Fault.{Fault}
-use Rattle.cas_sessions.proofs.Entering.{may_take, refused_at_once, starved_at_once, of_a_table, seated, place_is, number_is, not_taken, taken_and_committed, taken_and_failed, set_twice}
-use Rattle.cas_sessions.proofs.Filing.{still_readable, still_unmade}
-use Rattle.cas_sessions.proofs.Remembering.{entered_just, memory_entered, memory_prepared, prepared_just}
-use Rattle.cas_sessions.proofs.Sounding.{sound_looked, sound_with}
-use Rattle.cas_sessions.proofs.Telling.{true_of_accepted, true_of_prepare, true_of_wrote}
+use Rattle.cas_lasting.proofs.Entering.{may_take, refused_at_once, starved_at_once, of_a_table, seated, place_is, number_is, not_taken, taken_and_committed, taken_and_failed, set_twice}
+use Rattle.cas_lasting.proofs.Filing.{still_readable, still_unmade}
+use Rattle.cas_lasting.proofs.Remembering.{entered_just, memory_entered, memory_prepared, prepared_just}
+use Rattle.cas_lasting.proofs.Sounding.{sound_looked, sound_with}
+use Rattle.cas_sessions.proofs.Telling.{printed, true_of_accepted, true_of_prepare, true_of_wrote}
 use Rattle.cas_sessions.proofs.Idling.{idle_taken}
-use Rattle.cas_sessions.proofs.Crashing.{amid_nothing, amid_room, amid_taken}
+use Rattle.cas_lasting.proofs.Crashing.{amid_nothing, amid_room, amid_taken}
 use Rattle.cas_disk.proofs.Moments.{no_call}
 use Rattle.cas_journal.specs.Stores.{SameTables}
 use Rattle.cas_room.proofs.Settling.{tables_twice}
-use Rattle.cas_sessions.proofs.Listing.{going_on, lists_held, lists_nothing, lists_room, lists_untaken, listing_twice}
-use Rattle.cas_sessions.proofs.Going.{numbers_raised, numbers_taken}
+use Rattle.cas_lasting.proofs.Listing.{going_on, lists_held, lists_nothing, lists_room, lists_untaken, listing_twice}
+use Rattle.cas_lasting.proofs.Going.{numbers_raised, numbers_taken}
 use Rattle.cas_sessions.proofs.node.Node.write.Goals as goal
 
 -- src/writing.rt:56:49
@@ -95,7 +95,7 @@ returns-in-Err-clause-writes g c = λ clock.
     not_taken _ c.args.write c.args.reading c.index_mut.result.now c.prepare.new.self c.prepare.result
     (record { sound = c.args.self.now.sound; within = c.requires.within.0; fits = c.requires.fits; seat = c.index_mut.ensures.value; files = c.prepare.ensures.files; answered = λ ts q stands quiet. c.prepare.ensures.answered ts q stands quiet ∙ ap (λ (k : ℤ). prepare_answer c.args.self.now.limits.segment k q c.args.write) at; stands = λ ts n q stands suits. subst (λ (k : ℤ). Stands ts (raised k q) c.prepare.new.self) at (c.prepare.ensures.stands ts n q stands suits); number = c.prepare.ensures.number; memory = prepared_just c.args.self.now.tables.items c.index_mut.result.now c.prepare.new.self c.args.write c.args.self.now.limits.shards c.requires.fits c.prepare.ensures.memory; bytes = c.prepare.ensures.bytes })
     c.in-Ok.mutation c.in-Ok.is c.in-Ok.ensures.prepared c.in-Ok.ensures.ready
-    _ _ _ c.in-Err.fault (reply_of (Err c.fault_for.result)) (ap (λ (x : Fault). reply_of (Err x)) c.fault_for.ensures)
+    _ _ _ c.in-Err.fault (reply_of (Err c.fault_for.result)) (ap (λ (x : Fault). reply_of (Err x)) c.fault_for.ensures ∙ printed c.in-Err.fault)
     (record {
       shards = refl;
       limits = refl;

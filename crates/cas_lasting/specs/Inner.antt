@@ -1,0 +1,4 @@
+pub mod Sound
+pub mod Definitions
+pub mod Going
+pub mod Printed

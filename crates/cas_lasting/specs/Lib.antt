@@ -1,0 +1,13 @@
+pub mod History
+pub mod Explained
+pub mod Entered
+pub mod Nodes
+pub mod Starts
+pub mod Numbering
+pub mod Listing
+pub mod Next
+pub mod TooMuch
+pub mod Flushed
+pub mod Status
+pub mod Laws
+pub mod Inner

@@ -1,5 +1,0 @@
-use Rattle.cas_sessions.proofs.Next.{left_explains}
-use Rattle.cas_sessions.proofs.laws.left_explains.Goals as goal
-
-pub returns : goal.returns
-returns g c = left_explains _

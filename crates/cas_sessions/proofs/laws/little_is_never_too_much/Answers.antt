@@ -1,5 +1,0 @@
-use Rattle.cas_sessions.proofs.LittleMuch.{little_is_never_too_much}
-use Rattle.cas_sessions.proofs.laws.little_is_never_too_much.Goals as goal
-
-pub returns : goal.returns
-returns c = little_is_never_too_much

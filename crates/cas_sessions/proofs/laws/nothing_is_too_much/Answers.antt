@@ -1,5 +1,0 @@
-use Rattle.cas_sessions.proofs.NothingMuch.{nothing_is_too_much}
-use Rattle.cas_sessions.proofs.laws.nothing_is_too_much.Goals as goal
-
-pub returns : goal.returns
-returns c = nothing_is_too_much
