@@ -3,7 +3,6 @@ mod Idling
 pub mod Answering
 mod Showing
 mod Performing
-mod Seating
 mod Shrinking
 mod FlushShard
 mod FlushAll

@@ -9,7 +9,6 @@ mod laws;
 mod node;
 mod opened;
 mod reading;
-mod seats;
 mod statements;
 mod status;
 mod texts;

@@ -23,12 +23,12 @@ ghost use Rattle.cas_lasting.specs.Starts.{BeginsAs, IsInMemory, IsOpenedAs, IsS
 ghost use Rattle.cas_lasting.specs.Inner.Sound.{read_props, sound_props};
 
 use crate::node::{Closed, Node, Stored};
-use crate::seats::{Seats, make_seats};
 use cas_bind::Limits;
 use cas_disk::{Count, Folder};
 use cas_history::{Item, Opened as Table, Store};
 use cas_recovery::{RecoveryFault, Started, recover};
 use cas_room::{Event, Room};
+use cas_seats::{Seats, make_seats};
 use cas_types::Mem;
 use std::alloc::{AllocError, Global};
 

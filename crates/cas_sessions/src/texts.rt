@@ -32,17 +32,21 @@ pub(crate) fn statement_of(alloc: Global, text: &str, defines: bool) -> Result<S
             if is_taken(&statement, defines) {
                 Ok(statement)
             } else {
+                drop(statement);
                 Err(Fault::Refused(NOT_HERE))
             }
         }
-        Ok(
-            Line::Blank
-            | Line::Syntax
-            | Line::Clock(_)
-            | Line::Flush(_)
-            | Line::Verify(_)
-            | Line::Status,
-        ) => Err(Fault::Refused(SYNTAX)),
+        Ok(Line::Flush(name)) => {
+            drop(name);
+            Err(Fault::Refused(SYNTAX))
+        }
+        Ok(Line::Verify(name)) => {
+            drop(name);
+            Err(Fault::Refused(SYNTAX))
+        }
+        Ok(Line::Blank | Line::Syntax | Line::Clock(_) | Line::Status) => {
+            Err(Fault::Refused(SYNTAX))
+        }
         Err(Mem) => Err(Fault::Mem),
     }
 }

@@ -1,6 +1,6 @@
 use Rattle.std.proofs.Common.{◌∙◌, arith}
-use Rattle.cas_sessions.proofs.Seating.{more_numbers, more_places}
-use Rattle.cas_sessions.proofs.seats.fronts.Goals as goal
+use Rattle.cas_seats.proofs.Seating.{more_numbers, more_places}
+use Rattle.cas_seats.proofs.seats.fronts.Goals as goal
 
 pub loop-place-preserved : goal.loop-place-preserved
 loop-place-preserved g c = record {

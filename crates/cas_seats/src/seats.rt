@@ -16,7 +16,7 @@ use std::alloc::Global;
 
 /// The seats of a store, before anything was accepted.
 #[derive(Drop)]
-pub(crate) struct Seats<J: Store> {
+pub struct Seats<J: Store> {
     pub log: Log<Event, J>,
     pub faults: Faults<Event, J>,
     pub numbers: Numbers<Event, J>,
@@ -128,7 +128,7 @@ fn copies<J: Store>(
 }
 
 /// The seats of a store with these shards, where this is the last number of a table file so far.
-pub(crate) fn make_seats<J: Store, S: Sealed>(
+pub fn make_seats<J: Store, S: Sealed>(
     alloc: Global,
     table: Table<Item<Event>>,
     shards: &[Shard<S>],

@@ -1,6 +1,6 @@
 use Rattle.std.proofs.Common.{◌≡◌, ◌≤◌, ◌+◌, map, take}
 use Rattle.cas_history.specs.Hands.{numbers}
-use Rattle.cas_sessions.proofs.seats.fronts.Given as goal
+use Rattle.cas_seats.proofs.seats.fronts.Given as goal
 
 abbrev pub invariant-loop-place : goal.invariant-loop-place
 invariant-loop-place g l = record {

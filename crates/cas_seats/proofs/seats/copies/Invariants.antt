@@ -1,6 +1,6 @@
 use Rattle.std.proofs.Common.{◌≡◌, ◌≤◌, ◌+◌, map}
 use Rattle.cas_history.specs.Hands.{numbers}
-use Rattle.cas_sessions.proofs.seats.copies.Given as goal
+use Rattle.cas_seats.proofs.seats.copies.Given as goal
 
 abbrev pub invariant-loop-place : goal.invariant-loop-place
 invariant-loop-place g l = record {
