@@ -5,6 +5,7 @@ mod Carrying
 mod EntryRoom
 mod FilesFew
 mod FlushedAlike
+mod Granting
 mod LittleFits
 mod MemtablesFit
 mod NumbersRise

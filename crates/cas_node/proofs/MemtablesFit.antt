@@ -284,7 +284,7 @@ dropped false want k after a so = subst KeepsLittle (sym a.1) so
 dropped true want k after a so = subst KeepsLittle (sym a.2.follows) (still k (record k { trimmed = is_ok a.0; disk = a.2.disk }) refl refl refl so)
 
 -- a step by which nothing stopped
-goes_on : (d e : DiskState) → Counts d e → StaysWell d e → e.stopped ≡ false
+pub goes_on : (d e : DiskState) → Counts d e → StaysWell d e → e.stopped ≡ false
 goes_on d e counts well = ⊎_elim (λ on. on) (λ rose. absurd (well.1 rose)) (counts.stops well.0)
 
 settles : (n table : ℕ) (want : Bool) (h after : History) → Behind n table h → SettlesAndDrops n table want h after → want ≡ false

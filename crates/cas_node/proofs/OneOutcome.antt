@@ -53,7 +53,7 @@ use Rattle.cas_node.proofs.Blaming.{has_front, still_bad}
 use Rattle.cas_node.proofs.FlushedAlike.{Agree, agreeing, as_one, at_both, flushed_alike, on, one_alike, one_told, told_alike}
 use Rattle.cas_node.proofs.Standing.{still_good}
 use Rattle.cas_node.proofs.Stopping as stopping
-use Rattle.cas_node.proofs.Stopping.{AreMore, Counts, IsBegun, IsFurther}
+use Rattle.cas_node.proofs.Stopping.{AreMore, Counts, IsBegun}
 use Rattle.cas_node.proofs.WellDisk.{agreed, dropped_well, first_stays, full_flushed, no_true, rest_stays, settled, table_flushed}
 use Rattle.cas_node.proofs.Verified.{all_good, are_good, in_some_shard, told_of}
 

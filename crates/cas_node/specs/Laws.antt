@@ -1,6 +1,7 @@
 -- What holds of every run of a script, and of every open store (own).
-use Rattle.std.specs.Prelude.{◌≡◌, ◌<◌, ◌≤◌, ◌+◌, ◌*◌, ◌^◌, ℕ, ℤ, true, false, Option, Some, Result, Ok, IsOk, List, [], ◌∷◌, length, map, slice_get}
+use Rattle.std.specs.Prelude.{◌≡◌, ◌<◌, ◌≤◌, ◌+◌, ◌*◌, ◌^◌, ℕ, ℤ, true, false, Option, Some, IsSome, Result, Ok, IsOk, List, [], ◌∷◌, length, map, slice_get}
 use Rattle.std.specs.List.{list_any}
+use Rattle.std.specs.Str.Lines.{lines}
 use Rattle.cas_io.specs.Causes.{Rose}
 use Rattle.cas_disk.specs.Disk.{Disk}
 use Rattle.cas_atoms.specs.declared.atom.Mutation.{Mutation}
@@ -18,6 +19,7 @@ use Rattle.cas_memtable.specs.Kept.{bytes_of}
 use Rattle.cas_effects.specs.declared.refusal.Refusal.{Refusal}
 use Rattle.cas_info.specs.declared.info.TheConstants.{FILE_NUMBER_LIMIT}
 use Rattle.cas_journal.specs.Reach.{Reach}
+use Rattle.cas_lines.specs.declared.line.Line.{Line}
 use Rattle.cas_lines.specs.declared.line.Line.TheVariants as line
 use Rattle.cas_lines.specs.Lines.{Says}
 use Rattle.cas_render.specs.declared.reply.Reply.{Reply}
@@ -39,8 +41,8 @@ use Rattle.cas_words.specs.declared.words.ClockKind.TheVariants as clock
 use Rattle.cas_lasting.specs.History.{History, DiskState, Does, shard_at}
 use Rattle.cas_shard.specs.declared.entry.ShardOpening.{ShardOpening}
 use Rattle.cas_node.specs.declared.upshot.Upshot.{Upshot}
-use Rattle.cas_node.specs.Lines.{Answers, NoneFlushes, Runs, is_starved, is_want}
-use Rattle.cas_node.specs.Ran.{AreGood}
+use Rattle.cas_node.specs.Lines.{Answered, Answers, NoneFlushes, Runs, is_starved, is_want}
+use Rattle.cas_node.specs.Ran.{AreGood, GoodOrMem, IsCalm, IsGranted, upshot_cause, worst}
 use Rattle.cas_recovery.specs.Found.{AreOfAStore}
 use Rattle.cas_recovery.specs.Openings.{AreOpenings}
 use Rattle.cas_lasting.specs.Starts.{Begins, start, unflushed_in}
@@ -223,3 +225,30 @@ pub record AreFew (h : History) (lines : ℕ) : Type 0 where
 abbrev pub FewHaveFiles : (ℤ → Type 0) → Type 0
 FewHaveFiles Gives =
     (kind : ClockKind) (h : History) (lines : List (List ℕ)) → AreFew h (length lines) → FlushesFind HasFiles kind Gives h lines
+
+-- ---- scripts of which no line is refused
+
+-- a line that tells to flush a table names one that is there; no other is refused or blames a file, where the disk stays well and memory doesn't run out
+abbrev pub LineIsGranted : ClockKind → (ℤ → Type 0) → History → Line → Type 0
+LineIsGranted kind Gives h (line.Flush name) = IsSome (table_named h.tables name)
+LineIsGranted kind Gives h l = (o : Upshot) (after : History) → Answered kind Gives h l o after → StaysWell h.disk after.disk → GoodOrMem (upshot_cause o)
+
+-- so is each of these lines, whatever comes of those before it but a failure or want of memory
+abbrev pub LinesAreGranted : ClockKind → (ℤ → Type 0) → History → List (List ℕ) → Type 0
+LinesAreGranted kind Gives h [] = Unit {0}
+LinesAreGranted kind Gives h (l ∷ ls) =
+    ((said : Line) → Says l said → LineIsGranted kind Gives h said)
+    × ((o : Upshot) (after : History) → Answers kind Gives h l o after → is_starved o ≡ false → StaysWell h.disk after.disk → LinesAreGranted kind Gives after ls)
+
+-- if what they flush fits, a run of them ends well through which the disk stays well, unless memory runs out: no flush is refused
+abbrev pub FlushesEndWell : (ℤ → Type 0) → Type 0
+FlushesEndWell Gives =
+    (kind : ClockKind) (h : History) (lines : List (List ℕ)) → FlushesFit kind Gives h lines → LinesAreGranted kind Gives h lines
+    → (upshots : List Upshot) (final : History) → Runs kind Gives h lines upshots final → StaysWell h.disk final.disk → GoodOrMem (worst upshots)
+
+-- so no line of such a script is refused, as `complete` of `run` asks, if runs through which the disk is calm leave room in its files
+abbrev pub FlushesAreGranted : (ℤ → Type 0) → Type 0
+FlushesAreGranted Gives =
+    (kind : ClockKind) (h : History) (script : List ℕ) → FlushesFit kind Gives h (lines script) → LinesAreGranted kind Gives h (lines script)
+    → ((upshots : List Upshot) (final : History) → Runs kind Gives h (lines script) upshots final → IsCalm h.disk final.disk → IsRoomy final.disk.reach)
+    → IsGranted h kind Gives script

@@ -1,6 +1,6 @@
 //! What holds of every run of a script.
 
-ghost use Rattle.cas_node.specs.Laws.{AllAreRead, BeginsLittle, FewHaveFiles, FilesAreFew, FoundRise, FoundSaid, LittleFits};
+ghost use Rattle.cas_node.specs.Laws.{AllAreRead, BeginsLittle, FewHaveFiles, FilesAreFew, FlushesAreGranted, FlushesEndWell, FoundRise, FoundSaid, LittleFits};
 ghost use Rattle.cas_node.specs.Laws.{LittleFlushesFit, MemtablesFit, NoFlushFits, NumbersStay, OneOutcome, SaidStay, WhatFitsIsFlushed};
 
 use cas_disk::Folder;
@@ -51,3 +51,10 @@ pub fn memtables_fit<C: Clock>()
 {
     little_is_never_too_much();
 }
+
+/// A run whose flushes fit ends well where its other lines do, as long as the disk is well and memory doesn't run
+/// out: so no line of its script is refused, as `run` asks where all is well.
+pub fn flushes_are_granted<C: Clock>()
+    ensures ends { (clock : C) → FlushesEndWell (C.may_give clock) }
+    ensures granted { (clock : C) → FlushesAreGranted (C.may_give clock) }
+{}
