@@ -15,7 +15,7 @@ use Rattle.cas_words.specs.declared.words.ClockKind.{ClockKind}
 use Rattle.cql_parse.specs.declared.syntax.TableName.{TableName}
 use Rattle.cas_sessions.specs.declared.answer.Fault.{Fault}
 use Rattle.cas_sessions.specs.Flushes.{FlushesNamed}
-use Rattle.cas_lasting.specs.History.{History, DiskState, tells_want}
+use Rattle.cas_lasting.specs.History.{History, tells_want}
 use Rattle.cas_node.specs.declared.cause.Cause.{Cause}
 use Rattle.cas_node.specs.declared.cause.Cause.TheVariants as cause
 use Rattle.cas_node.specs.declared.upshot.Upshot.{Upshot}

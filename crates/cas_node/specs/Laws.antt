@@ -82,7 +82,8 @@ abbrev pub FlushesFind : (History → TableSchema → Type 0) → ClockKind → 
 FlushesFind Finds kind Gives h [] = Unit {0}
 FlushesFind Finds kind Gives h (l ∷ ls) =
     FlushFinds Finds kind Gives h l
-    × ((o : Upshot) (after : History) → Answers kind Gives h l o after → is_starved o ≡ false → StaysWell h.disk after.disk → FlushesFind Finds kind Gives after ls)
+    × ((o : Upshot) (after : History) → Answers kind Gives h l o after → is_starved o ≡ false → StaysWell h.disk after.disk
+    → FlushesFind Finds kind Gives after ls)
 
 -- each flush of these lines fits
 abbrev pub FlushesFit : ClockKind → (ℤ → Type 0) → History → List (List ℕ) → Type 0
@@ -217,11 +218,12 @@ MemtablesFit Gives =
     (kind : ClockKind) (h : History) (lines : List (List ℕ)) → AreSaid h → KeepsLittle h → FlushesFind HasFiles kind Gives h lines
     → FlushesFit kind Gives h lines
 
--- that each finds so, where there may be a file for each shard, and one, as often as there are lines
+-- there may be a file for each shard, and one, and numbers for them, as often as there are lines
 pub record AreFew (h : History) (lines : ℕ) : Type 0 where
   pub live : h.disk.live + lines * (length h.shards + 1) ≤ LIVE_LIMIT
   pub numbers : h.disk.last_file + lines * (length h.shards + 1) < FILE_NUMBER_LIMIT
 
+-- then each flush of so many lines finds that there may be its files
 abbrev pub FewHaveFiles : (ℤ → Type 0) → Type 0
 FewHaveFiles Gives =
     (kind : ClockKind) (h : History) (lines : List (List ℕ)) → AreFew h (length lines) → FlushesFind HasFiles kind Gives h lines
@@ -238,7 +240,8 @@ abbrev pub LinesAreGranted : ClockKind → (ℤ → Type 0) → History → List
 LinesAreGranted kind Gives h [] = Unit {0}
 LinesAreGranted kind Gives h (l ∷ ls) =
     ((said : Line) → Says l said → LineIsGranted kind Gives h said)
-    × ((o : Upshot) (after : History) → Answers kind Gives h l o after → is_starved o ≡ false → StaysWell h.disk after.disk → LinesAreGranted kind Gives after ls)
+    × ((o : Upshot) (after : History) → Answers kind Gives h l o after → is_starved o ≡ false → StaysWell h.disk after.disk
+    → LinesAreGranted kind Gives after ls)
 
 -- if what they flush fits, a run of them ends well through which the disk stays well, unless memory runs out: no flush is refused
 abbrev pub FlushesEndWell : (ℤ → Type 0) → Type 0
